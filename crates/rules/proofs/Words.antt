@@ -1,0 +1,44 @@
+-- A word that is one of L and then one of M, by its first letter; and facts on tests.
+-- Assumes nothing.
+use mathlib.Core.Path.{_≡_, refl, ap, subst}
+use mathlib.Core.Logic.{_⊎_, inl, inr}
+use mathlib.Core.Bool.{Bool, true, false, _&&_, _||_, false≢true}
+use mathlib.Core.List.{List, [], _∷_, _++_, cons≢nil, head-eq-of-cons-eq, tail-eq-of-cons-eq}
+use Rattle.rules.specs.Language.{Language, Then}
+
+module _ {A : Type 0} {L M : Language A} where
+  pub here : {w : List A} → L [] → M w → Then L M w
+  here {w} l m = ([], w, refl, l, m)
+
+  pub there : (y : A) {w : List A} → Then (λ u. L (y ∷ u)) M w → Then L M (y ∷ w)
+  there y (u, v, e, l, m) = (y ∷ u, v, ap (λ (t : List A). y ∷ t) e, l, m)
+
+  pub then-nil : Then L M [] → L [] × M []
+  then-nil ([], v, e, l, m) = (l, rw e at m)
+  then-nil (x ∷ u, v, e, l, m) = absurd (cons≢nil e)
+
+  pub then-cons : (y : A) (w : List A) → Then L M (y ∷ w) → (L [] × M (y ∷ w)) ⊎ Then (λ u. L (y ∷ u)) M w
+  then-cons y w ([], v, e, l, m) = inl (l, rw e at m)
+  then-cons y w (x ∷ u, v, e, l, m) = inr (u, v, tail-eq-of-cons-eq e, rw (head-eq-of-cons-eq e) at l, m)
+
+pub or-left : {a : Bool} (b : Bool) → a ≡ true → (a || b) ≡ true
+or-left b e = rw e
+
+pub or-right : (a : Bool) {b : Bool} → b ≡ true → (a || b) ≡ true
+or-right true e = refl
+or-right false e = e
+
+pub or-cases : (a b : Bool) → (a || b) ≡ true → (a ≡ true) ⊎ (b ≡ true)
+or-cases true b e = inl refl
+or-cases false b e = inr e
+
+pub and-both : {a b : Bool} → a ≡ true → b ≡ true → (a && b) ≡ true
+and-both e h = rw (e, h)
+
+pub and-split : (a b : Bool) → (a && b) ≡ true → (a ≡ true) × (b ≡ true)
+and-split true b e = (refl, e)
+and-split false b e = absurd (false≢true e)
+
+pub either : {A B C D : Type 0} → (A → C) → (B → D) → A ⊎ B → C ⊎ D
+either f g (inl x) = inl (f x)
+either f g (inr y) = inr (g y)

@@ -25,3 +25,4 @@ pub mod Whole
 pub mod Rows
 pub mod RenamingPlaces
 pub mod Sound
+pub mod Height

@@ -1,6 +1,15 @@
 pub mod Model
+pub mod Bytes
+pub mod Store
+pub mod Preorder
+pub mod Layout
+pub mod Decode
 pub mod Language
 pub mod Automaton
+pub mod WellFormed
+pub mod Conforming
+pub mod Passing
+pub mod Filling
 pub mod Quantifiers
 pub mod Place
 pub mod Edit

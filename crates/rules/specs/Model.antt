@@ -57,9 +57,13 @@ abbrev pub unless : {A : Type 0} → Bool → List A → List A
 unless true w = []
 unless false w = w
 
+-- of the fillings of a CHOICE's first member and of the others: the first's
+abbrev pub chosen : {A : Type 0} → List A → List A → List A
+chosen first others = first
+
 abbrev pub beside : {A : Type 0} → GroupKind → List A → List A → List A
 beside Sequence u v = u ++ v
-beside Choice u v = u
+beside Choice u v = chosen u v
 
 unfoldable pub filling : {A : Type 0} → GroupKind → Members A → List A
 filling k done = []

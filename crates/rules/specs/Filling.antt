@@ -1,0 +1,51 @@
+-- 'Filling': the rows that a change makes for a definition, without serials.
+-- Assumes nothing.
+use Prim.Native.Nat.{ℕ, zero, suc}
+use mathlib.Core.Bool.{Bool, true, false}
+use mathlib.Core.Option.{Option, none, some}
+use mathlib.Core.List.{List, [], _∷_}
+use lib.ListN.{length}
+use Rattle.rules.specs.declared.GroupKind.the-variants.{Sequence, Choice}
+use Rattle.rules.specs.Bytes.{Bytes}
+use Rattle.rules.specs.Model.{Members, filling}
+use Rattle.rules.specs.Store.{Content, empty, pcdata, complex, AttributeSort, implied, required, fixed, Attribute, Definition, Form, element, attribute, text, Row, Forest, bare, tree, _⧺_}
+use Rattle.rules.specs.WellFormed.{lookup}
+use Rattle.rules.specs.Conforming.{mustBePresent}
+
+-- 'its REQUIRED attributes with their fills'
+abbrev pub createdValue : Attribute → Bytes
+createdValue a = a .value
+
+abbrev pub attributeRow : Attribute → Row
+attributeRow a = record { serial = 0; sort = attribute; name = a .name; value = createdValue a }
+
+unfoldable pub fillAttributes : List Attribute → Forest Row → Forest Row
+fillAttributes [] content = content
+fillAttributes (a ∷ table) content = elim (mustBePresent (a .sort)) [ true ↦ tree (attributeRow a) bare (fillAttributes table content) | false ↦ fillAttributes table content ]
+
+-- fillings one after the other; `fill` is that of a definition
+unfoldable pub fillEach : (Bytes → Forest Row) → List Bytes → Forest Row
+fillEach fill [] = bare
+fillEach fill (n ∷ ns) = fill n ⧺ fillEach fill ns
+
+-- 'then (PCDATA) a text row with the call's text, or (COMPLEX) the filling of the top list'
+unfoldable pub fillContent : (Bytes → Forest Row) → Bytes → Content → Forest Row
+fillContent fill txt empty = bare
+fillContent fill txt pcdata = tree (record { serial = 0; sort = text; name = []; value = txt }) bare bare
+fillContent fill txt (complex ms) = fillEach fill (filling Sequence ms)
+
+abbrev pub elementRow : Bytes → Row
+elementRow n = record { serial = 0; sort = element; name = n; value = [] }
+
+-- the filling of a definition of at most this height
+unfoldable pub fillWithin : ℕ → Form → Bytes → Bytes → Forest Row
+fillWithin zero form txt n = bare
+fillWithin (suc h) form txt n =
+    elim (lookup n form) [
+      | none ↦ bare
+      | some d ↦ tree (elementRow n) (fillAttributes (d .attributes) (fillContent (λ m. fillWithin h form txt m) txt (d .content))) bare
+    ]
+
+-- no definition is higher than the form has definitions
+abbrev pub fillDefinition : Form → Bytes → Bytes → Forest Row
+fillDefinition form txt n = fillWithin (length form) form txt n

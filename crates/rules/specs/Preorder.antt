@@ -1,0 +1,24 @@
+-- Preorder with depths, and back: models and documents are stored so.
+-- Assumes nothing.
+use Prim.Native.Nat.{ℕ, zero, suc}
+use mathlib.Core.Bool.{Bool, true, false}
+use mathlib.Core.List.{List, [], _∷_, _++_}
+use lib.Dec.{ltb, eqb}
+use Rattle.rules.specs.Store.{Forest, bare, tree}
+
+pub record Deep (A : Type 0) : Type 0 where
+  pub depth : ℕ
+  pub row : A
+
+abbrev pub flatten : {A : Type 0} → ℕ → Forest A → List (Deep A)
+flatten d bare = []
+flatten d (tree r b t) = record { depth = d; row = r } ∷ (flatten (suc d) b ++ flatten d t)
+
+-- Of rows with depths: those of depth k that stand beside one another from here on, each with the deeper ones that follow it.
+abbrev pub build : {A : Type 0} → List (Deep A) → ℕ → Forest A
+build [] k = bare
+build (x ∷ xs) k =
+    elim (ltb k (x .depth)) [
+      | true ↦ build xs k
+      | false ↦ elim (eqb k (x .depth)) [ true ↦ tree (x .row) (build xs (suc k)) (build xs k) | false ↦ bare ]
+    ]

@@ -1,0 +1,123 @@
+-- 'Well-formed', with the names, values and ceilings it speaks of: in the paper's words, and as a test.
+-- Assumes nothing.
+use Prim.Native.Nat.{ℕ, zero, suc}
+use mathlib.Core.Path.{_≡_}
+use mathlib.Core.Bool.{Bool, true, false, _&&_, _||_, not}
+use mathlib.Core.Option.{Option, none, some}
+use mathlib.Core.List.{List, [], _∷_, _++_, map, List·Memᴰ}
+use lib.Dec.{eqb, leb}
+use lib.ListN.{length}
+use Rattle.rules.specs.Bytes.{Bytes, same, bytes, all, any, between, isNone}
+use Rattle.rules.specs.Model.{Members, names, Distinct, Full, distinct, full}
+use Rattle.rules.specs.Store.{AttributeSort, implied, required, fixed, Attribute, Definition, Form, Store, members}
+use Rattle.rules.specs.Preorder.{Deep}
+use Rattle.rules.specs.Layout.{nameWidth, FlatParticle, FlatStore, flat}
+
+-- ---- names and values
+abbrev pub startsName : ℕ → Bool
+startsName x = between 65 90 x || between 97 122 x || eqb x 95
+
+abbrev pub inName : ℕ → Bool
+inName x = startsName x || between 48 57 x || eqb x 45 || eqb x 46
+
+abbrev pub isName : Bytes → Bool
+isName [] = false
+isName (x ∷ xs) = startsName x && all inName xs && leb (length (x ∷ xs)) nameWidth
+
+-- the name test of the check, and that of changes 1 and 9
+abbrev pub storedName : Bytes → Bool
+storedName n = isName n
+
+abbrev pub givenName : Bytes → Bool
+givenName n = isName n
+
+-- a value of at most w bytes
+abbrev pub isValue : ℕ → Bytes → Bool
+isValue w v = leb (length v) w && all (between 0x20 0x7E) v
+
+-- ---- ceilings, of what the bodies hold
+abbrev pub highestNumber : ℕ
+highestNumber = 4294967295
+
+abbrev pub withinCeilings : FlatStore → Bool
+withinCeilings f =
+    leb (length (f .definitions)) 64
+    && (leb (length (f .particles)) 256
+    && (all (λ (p : Deep FlatParticle). leb (p .depth) 4) (f .particles)
+    && (leb (length (f .attributes)) 64 && leb (length (f .rows)) 4096)))
+
+-- ---- definitions by name
+abbrev pub definitionName : Definition → Bytes
+definitionName d = d .name
+
+abbrev pub attributeName : Attribute → Bytes
+attributeName a = a .name
+
+abbrev pub lookup : Bytes → Form → Option Definition
+lookup n [] = none
+lookup n (d ∷ ds) = elim (same n (d .name)) [ true ↦ some d | false ↦ lookup n ds ]
+
+abbrev pub isThere : {A : Type 0} → Option A → Bool
+isThere none = false
+isThere (some x) = true
+
+abbrev pub known : Form → Bytes → Bool
+known form n = isThere (lookup n form)
+
+-- the names in a definition's model
+abbrev pub namesIn : Option Definition → List Bytes
+namesIn none = []
+namesIn (some d) = names (members d)
+
+abbrev pub membersOf : Bytes → Form → List Bytes
+membersOf n form = namesIn (lookup n form)
+
+-- ---- reaching through models
+pub data Reaches (form : Form) : Bytes → Bytes → Type 0 where
+  directly : {n m : Bytes} → List·Memᴰ m (membersOf n form) → Reaches form n m
+  through : {n m k : Bytes} → List·Memᴰ m (membersOf n form) → Reaches form m k → Reaches form n k
+
+-- n reaches the target through at most so many models
+abbrev pub reaches : ℕ → Form → Bytes → Bytes → Bool
+reaches zero form target n = false
+reaches (suc h) form target n = any (λ m. same m target || reaches h form target m) (membersOf n form)
+
+-- through any number of models: no more than there are definitions are needed
+abbrev pub reachesIn : Form → Bytes → Bytes → Bool
+reachesIn form n target = reaches (length form) form target n
+
+-- ---- well-formed
+-- a REQUIRED fill is not empty, an IMPLIED value is
+abbrev pub isFill : AttributeSort → Bytes → Bool
+isFill implied v = isNone v
+isFill required v = not (isNone v)
+isFill fixed v = true
+
+abbrev pub isAttributeOf : ℕ → Attribute → Bool
+isAttributeOf w a = storedName (a .name) && (isValue w (a .value) && isFill (a .sort) (a .value))
+
+pub record GoodDefinition (w : ℕ) (form : Form) (d : Definition) : Type 0 where
+  pub name : storedName (d .name) ≡ true
+  pub inRange : (m : Bytes) → List·Memᴰ m (names (members d)) → known form m ≡ true
+  pub once : Distinct (names (members d))
+  pub groups : Full (members d)
+  pub circle : Reaches form (d .name) (d .name) → ⊥
+  pub attributeNames : Distinct (map attributeName (d .attributes))
+  pub attributes : (a : Attribute) → List·Memᴰ a (d .attributes) → isAttributeOf w a ≡ true
+
+pub record WellFormed (w : ℕ) (form : Form) : Type 0 where
+  pub names : Distinct (map definitionName form)
+  pub definitions : (d : Definition) → List·Memᴰ d form → GoodDefinition w form d
+
+-- the same as a test
+unfoldable pub goodDefinition : ℕ → Form → Definition → Bool
+goodDefinition w form d =
+    storedName (d .name)
+    && (all (known form) (names (members d))
+    && (distinct bytes (names (members d))
+    && (full (members d)
+    && (not (reachesIn form (d .name) (d .name))
+    && (distinct bytes (map attributeName (d .attributes)) && all (isAttributeOf w) (d .attributes))))))
+
+unfoldable pub wellFormed : ℕ → Form → Bool
+wellFormed w form = distinct bytes (map definitionName form) && all (goodDefinition w form) form

@@ -6,6 +6,8 @@ use mathlib.Core.Logic.{_⊎_}
 use mathlib.Core.Bool.{Bool, true, false, _&&_, _||_, not}
 use mathlib.Core.Option.{Option, none, some}
 use mathlib.Core.List.{List, [], _∷_, _++_}
+use lib.Dec.{leb}
+use lib.ListN.{length}
 use Rattle.rules.specs.declared.Quantifier.{Quantifier}
 use Rattle.rules.specs.declared.Quantifier.the-variants.{None, Qmark, Star, Plus}
 use Rattle.rules.specs.declared.GroupKind.{GroupKind}
@@ -86,6 +88,10 @@ place remove p ms = find nth p ms
 place (quantify r) p ms = find nth p ms
 place (convert j n) p ms = find nth p ms
 place flatten p ms = find nth p ms
+
+-- 'A place of no numbers, or of over five, is absent'
+unfoldable pub placeOf : {A : Type 0} → Edit A → List ℕ → Members A → Option (Found A)
+placeOf e p ms = elim (leb (length p) 5) [ true ↦ place e p ms | false ↦ none ]
 
 abbrev pub modelAfter : {A : Type 0} → Edit A → Found A → Members A
 modelAfter e f = plug (f .context) (edited e (f .picked))

@@ -13,3 +13,10 @@ pub mod Filling
 pub mod Quantifiers
 pub mod Place
 pub mod Edit
+pub mod Lines
+pub mod Change
+pub mod Refusal
+pub mod Outcome
+pub mod LookUp
+pub mod Print
+pub mod Book

@@ -1,0 +1,105 @@
+-- 'The book': it is fed each call and whether it was accepted, and reads no store.
+-- Assumes nothing.
+use Prim.Native.Nat.{ℕ, zero, suc, _+_, _*_}
+use mathlib.Core.Bool.{Bool, true, false, _&&_, _||_, not}
+use mathlib.Core.Option.{Option, none, some}
+use mathlib.Core.List.{List, [], _∷_, _++_, map}
+use lib.Dec.{eqb}
+use Rattle.rules.specs.Bytes.{Bytes, any}
+use Rattle.rules.specs.Store.{Form, Row, Forest, bare, tree}
+use Rattle.rules.specs.Layout.{baseVersion}
+use Rattle.rules.specs.Lines.{Line, lines, ground}
+use Rattle.rules.specs.Change.{Call, formAfter, Plan, plan, revalue, newRows, number}
+
+-- a line of the book: a row made, not taken or taken
+pub data Entry : Type 0 where
+  stands : Line → Entry
+  taken : Line → Entry
+
+pub record Book : Type 0 where
+  pub version : ℕ
+  pub next : ℕ
+  pub form : Form
+  pub entries : List Entry
+
+abbrev pub freshBook : Book
+freshBook = record { version = baseVersion; next = 1; form = []; entries = [] }
+
+unfoldable pub untaken : List Entry → List Line
+untaken [] = []
+untaken (stands l ∷ es) = l ∷ untaken es
+untaken (taken l ∷ es) = untaken es
+
+-- ---- the taking rule on lines
+unfoldable pub rowBySerial : ℕ → List Row → Option Row
+rowBySerial k [] = none
+rowBySerial k (r ∷ rs) = elim (eqb k (r .serial)) [ true ↦ some r | false ↦ rowBySerial k rs ]
+
+-- a line is taken if its parent is not among the rows kept so far, or if the rule names it
+unfoldable pub falls : (Row → Row → Bool) → List Row → Line → Bool
+falls takes kept l = elim (rowBySerial (l .parent) kept) [ none ↦ true | some u ↦ takes u (l .row) ]
+
+unfoldable pub mark : (Row → Row → Bool) → List Row → List Entry → List Entry
+mark takes kept [] = []
+mark takes kept (taken l ∷ es) = taken l ∷ mark takes kept es
+mark takes kept (stands l ∷ es) = elim (falls takes kept l) [ true ↦ taken l ∷ mark takes kept es | false ↦ stands l ∷ mark takes (l .row ∷ kept) es ]
+
+-- ---- values set
+abbrev pub revalueEntry : ℕ → Bytes → Entry → Entry
+revalueEntry k v (taken l) = taken l
+revalueEntry k v (stands l) = stands (record { parent = l .parent; row = revalue k v (l .row) })
+
+-- ---- rows made: first the spots where they come, then their lines
+-- `spot u`: the new rows below the row with serial u come here
+pub data Mark : Type 0 where
+  old : Entry → Mark
+  spot : ℕ → Mark
+
+-- Past the lines below the row with serial u, up to its first later child; `below` are the serials passed.
+unfoldable pub place : (Row → Bool) → ℕ → List ℕ → List Mark → List Mark
+place later u below [] = spot u ∷ []
+place later u below (spot v ∷ ms) = spot v ∷ place later u below ms
+place later u below (old (taken l) ∷ ms) = old (taken l) ∷ place later u below ms
+place later u below (old (stands l) ∷ ms) =
+    elim (any (eqb (l .parent)) below && not (eqb (l .parent) u && later (l .row))) [
+      | true ↦ old (stands l) ∷ place later u (l .row .serial ∷ below) ms
+      | false ↦ spot u ∷ old (stands l) ∷ ms
+    ]
+
+abbrev pub placed : Plan → Row → List Mark → List Mark
+placed p r ms = elim (p .fills r) [ true ↦ place (p .later r) (r .serial) (r .serial ∷ []) ms | false ↦ ms ]
+
+unfoldable pub spots : Plan → List Entry → List Mark
+spots p [] = []
+spots p (taken l ∷ es) = old (taken l) ∷ spots p es
+spots p (stands l ∷ es) = old (stands l) ∷ placed p (l .row) (spots p es)
+
+-- the new lines, numbered from n on
+unfoldable pub expand : Forest Row → ℕ → List Mark → List Entry
+expand w n [] = []
+expand w n (old e ∷ ms) = e ∷ expand w n ms
+expand w n (spot u ∷ ms) = map (λ (l : Line). stands l) (lines u (number n w)) ++ expand w (n + newRows w) ms
+
+unfoldable pub spotCount : List Mark → ℕ
+spotCount [] = 0
+spotCount (old e ∷ ms) = spotCount ms
+spotCount (spot u ∷ ms) = suc (spotCount ms)
+
+abbrev pub marks : Plan → List Entry → List Mark
+marks p es = placed p ground (spots p (map (revalueEntry (p .set) (p .value)) (mark (p .takes) (ground ∷ []) es)))
+
+-- an accepted call
+unfoldable pub note : Call → Book → Book
+note c b =
+    let p : Plan = plan c (b .form) (untaken (b .entries)) in
+    record {
+      version = b .version;
+      next = b .next + newRows (p .filling) * spotCount (marks p (b .entries));
+      form = formAfter c (b .form);
+      entries = expand (p .filling) (b .next) (marks p (b .entries));
+    }
+
+-- 'A refused call changes nothing'
+abbrev pub follow : Bool → Call → Book → Book
+follow true c b = note c b
+follow false c b = b

@@ -26,3 +26,5 @@ pub mod Rows
 pub mod RenamingPlaces
 pub mod Sound
 pub mod Height
+pub mod SerialLaws
+pub mod ConformingLaws

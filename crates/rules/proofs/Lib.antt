@@ -28,3 +28,4 @@ pub mod Sound
 pub mod Height
 pub mod SerialLaws
 pub mod ConformingLaws
+pub mod FillingLaws

@@ -4,7 +4,7 @@ use Prim.Native.Nat.{ℕ, _<_, _≤_}
 use mathlib.Core.Path.{_≡_, refl, sym, _∙_}
 use mathlib.Core.Logic.{⊎-elim, _↔_, Iff·rfl}
 use mathlib.Core.Bool.{Bool, true, false, not, _&&_, false≢true}
-use mathlib.Core.List.{List, [], _∷_, List·Memᴰ, List·Memᴰ·head, List·Memᴰ·tail, List·Memᴰ·not-nil, List·Memᴰ·cases-cons}
+use mathlib.Core.List.{List, [], _∷_, List·Memᴰ, List·Memᴰ·head, List·Memᴰ·tail, List·Memᴰ·not-nil, List·Memᴰ·cases-cons, List·Memᴰ·append-cases, Memᴰ·append-left, Memᴰ·append-right}
 use lib.Dec.{leb, ltb, leb→le, le→leb, ltb→lt, lt→ltb}
 use Rattle.rules.specs.Bytes.{numbers, all, of-T, to-T}
 use Rattle.rules.specs.Model.{Equality, Distinct, member, distinct}
@@ -76,6 +76,24 @@ ltb-of m n h = of-T (lt→ltb m n h)
 
 serial-in : (next k : ℕ) → (leb 1 k && ltb k next) ≡ true → (1 ≤ k) × (k < next)
 serial-in next k e = let (a, b) = and-split (leb 1 k) (ltb k next) e in (leb→le 1 k (to-T a), ltb→lt k next (to-T b))
+
+module _ (P : ℕ → Type 0) where
+  serial→ : (f : Forest Row) → EveryRow (λ r b. P (r .serial)) f → (k : ℕ) → List·Memᴰ k (serials f) → P k
+  serial→ bare x k m = absurd (List·Memᴰ·not-nil m)
+  serial→ (tree r b t) (x, y, z) k m =
+      ⊎-elim (λ e. rw e x) (λ n. ⊎-elim (serial→ b y k) (serial→ t z k) (List·Memᴰ·append-cases (serials b) n)) (List·Memᴰ·cases-cons m)
+
+  serial← : (f : Forest Row) → ((k : ℕ) → List·Memᴰ k (serials f) → P k) → EveryRow (λ r b. P (r .serial)) f
+  serial← bare x = tt
+  serial← (tree r b t) x = (
+    x (r .serial) (List·Memᴰ·head refl),
+    serial← b (λ k m. x k (List·Memᴰ·tail (Memᴰ·append-left (serials t) m))),
+    serial← t (λ k m. x k (List·Memᴰ·tail (Memᴰ·append-right (serials b) m))),
+  )
+
+  -- what holds of each row's serial holds of the serials, and the other way round
+  pub every-serial : (f : Forest Row) → EveryRow (λ r b. P (r .serial)) f ↔ ((k : ℕ) → List·Memᴰ k (serials f) → P k)
+  every-serial f = (serial→ f, serial← f)
 
 pub good-serials : (next : ℕ) (docs : Forest Row) → (goodSerials next docs ≡ true) ↔ GoodSerials next docs
 unfolding goodSerials

@@ -28,3 +28,6 @@ pub mod Sound
 pub mod Height
 pub mod TestLaws
 pub mod WellFormedLaws
+pub mod SerialLaws
+pub mod ConformingLaws
+pub mod FillingLaws

@@ -31,3 +31,5 @@ pub mod WellFormedLaws
 pub mod SerialLaws
 pub mod ConformingLaws
 pub mod FillingLaws
+pub mod Examples
+pub mod Clubform

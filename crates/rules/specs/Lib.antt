@@ -20,3 +20,4 @@ pub mod Outcome
 pub mod LookUp
 pub mod Print
 pub mod Book
+pub mod Run

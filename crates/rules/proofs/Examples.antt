@@ -1,0 +1,186 @@
+-- The examples of paper 01 as one table, and its 'plausible and false' list, each shown false.
+-- Assumes nothing.
+use Prim.Native.Nat.{ℕ, zero, suc, _+_}
+use Prim.Native.String.{String}
+use mathlib.Core.Path.{_≡_, refl}
+use mathlib.Core.Bool.{Bool, true, false}
+use mathlib.Core.List.{List, [], _∷_, _++_, map}
+use lib.ListN.{length}
+use Rattle.rules.specs.declared.Quantifier.{Quantifier}
+use Rattle.rules.specs.declared.Quantifier.the-variants.{None, Qmark, Star, Plus}
+use Rattle.rules.specs.declared.GroupKind.the-variants.{Sequence, Choice}
+use Rattle.rules.specs.Bytes.{Bytes, same, ascii, bytes, numbers}
+use Rattle.rules.specs.Model.{Members, done, el, group, names, nothing, filling, member, full, distinct}
+use Rattle.rules.specs.Automaton.{accepts, continues, facts}
+use Rattle.rules.specs.Store.{Content, empty, pcdata, complex, Definition, Form, element, text, Row, Forest, bare, tree, Store, members, heads}
+use Rattle.rules.specs.Layout.{baseVersion, valueWidth, flat, each, rowBytes}
+use Rattle.rules.specs.WellFormed.{reaches, goodDefinition, wellFormed}
+use Rattle.rules.specs.Conforming.{strip, fitsRow, conforming, nameOf}
+use Rattle.rules.specs.Passing.{serials, good, goodSerials}
+use Rattle.rules.specs.Filling.{fillAttributes, fillEach, fillContent, fillWithin}
+use Rattle.rules.specs.Place.{plug, kindAt, spine, before, leaves, opens, afterMembers, find}
+use Rattle.rules.specs.Edit.{_⊕_, edited, place, placeOf}
+use Rattle.rules.specs.Lines.{findRow, childrenOf}
+use Rattle.rules.specs.Change.{Call, destroyDefinition, insertElement, removeElement, changeQuantifier, convertToGroup, definitionAt, attributeAt, formAfter, plan, prune, eachRow, plant, newRows, given, number, after}
+use Rattle.rules.specs.Refusal.{conditions, refusal}
+
+-- ---- small forms and documents; a, b, c, x are EMPTY
+abbrev a : Bytes
+a = ascii "a"
+
+abbrev b : Bytes
+b = ascii "b"
+
+abbrev c : Bytes
+c = ascii "c"
+
+abbrev x : Bytes
+x = ascii "x"
+
+abbrev defined : String → Content → Definition
+defined n k = record { name = ascii n; content = k; attributes = [] }
+
+-- definition 0 has the model, 1 to 4 are a, b, c, x
+abbrev formOf : Members Bytes → Form
+formOf ms = defined "r" (complex ms) ∷ defined "a" empty ∷ defined "b" empty ∷ defined "c" empty ∷ defined "x" empty ∷ []
+
+-- elements without anything below them, with serials from n on
+abbrev elements : ℕ → List Bytes → Forest Row
+elements n [] = bare
+elements n (m ∷ ms) = tree (record { serial = n; sort = element; name = m; value = [] }) bare (elements (suc n) ms)
+
+-- one document: an instance of r, serial 1, with children of these names, serials from 2 on
+abbrev documentOf : List Bytes → Forest Row
+documentOf ns = tree (record { serial = 1; sort = element; name = ascii "r"; value = [] }) (elements 2 ns) bare
+
+abbrev storeOf : Members Bytes → List Bytes → Store
+storeOf ms ns = record { version = baseVersion; next = 2 + length ns; form = formOf ms; docs = documentOf ns }
+
+-- the same form without documents
+abbrev emptyOf : Members Bytes → Store
+emptyOf ms = record { version = baseVersion; next = 1; form = formOf ms; docs = bare }
+
+abbrev refuses : Call → Store → ℕ
+refuses k s = refusal 9999 k s
+
+-- after a change: the model of r, and the serials of the rows in document order
+abbrev modelThen : Call → Store → Members Bytes
+modelThen k s = members (definitionAt 0 (after k s .form))
+
+abbrev serialsThen : Call → Store → List ℕ
+serialsThen k s = serials (after k s .docs)
+
+-- (a?,(b|c)*)
+abbrev optionalThenEither : Members Bytes
+optionalThenEither = el Qmark a (group Star Choice (el None b (el None c done)) done)
+
+-- (b,a*,c)
+abbrev starBetween : Members Bytes
+starBetween = el None b (el Star a (el None c done))
+
+-- (a,(b,c))
+abbrev nested : Members Bytes
+nested = el None a (group None Sequence (el None b (el None c done)) done)
+
+-- race (finisher*), finisher (bib), bib ()
+abbrev races : Store
+races =
+    record {
+      version = baseVersion;
+      next = 1;
+      form = defined "race" (complex (el Star (ascii "finisher") done)) ∷ defined "finisher" (complex (el None (ascii "bib") done)) ∷ defined "bib" (complex done) ∷ [];
+      docs = bare;
+    }
+
+-- ---- P1 to P12
+pub record Examples : Type 0 where
+  pub p1 : accepts bytes optionalThenEither (a ∷ b ∷ c ∷ []) ≡ true
+  pub p1-empty : accepts bytes optionalThenEither [] ≡ true
+  pub p2 : accepts bytes optionalThenEither (b ∷ a ∷ []) ≡ false
+  pub p3 : filling Sequence (group None Choice (el None a (el None b done)) (el Qmark c done)) ≡ a ∷ []
+  pub p4 : refuses (changeQuantifier 0 (2 ∷ []) 0 (ascii "t")) (storeOf starBetween (b ∷ a ∷ a ∷ a ∷ c ∷ [])) ≡ 0
+  pub p4-first : serialsThen (changeQuantifier 0 (2 ∷ []) 0 (ascii "t")) (storeOf starBetween (b ∷ a ∷ a ∷ a ∷ c ∷ [])) ≡ 1 ∷ 2 ∷ 3 ∷ 6 ∷ []
+  pub p5 : refuses (changeQuantifier 0 (2 ∷ []) 0 (ascii "t")) (storeOf starBetween (b ∷ c ∷ [])) ≡ 0
+  pub p5-one : serialsThen (changeQuantifier 0 (2 ∷ []) 0 (ascii "t")) (storeOf starBetween (b ∷ c ∷ [])) ≡ 1 ∷ 2 ∷ 4 ∷ 3 ∷ []
+  pub p6 : refuses (changeQuantifier 0 (1 ∷ 1 ∷ []) 1 []) (storeOf (group Star Sequence (el Star a (el None b done)) done) []) ≡ 13
+  pub p7 : refuses (insertElement 1 (0 ∷ []) 0 2 []) races ≡ 11
+  pub p8 : refuses (convertToGroup 0 (1 ∷ []) 2 2) (emptyOf (el None a (el None b done))) ≡ 14
+  pub p9 : refuses (convertToGroup 0 (1 ∷ []) 1 2) (emptyOf (el None a (el None b done))) ≡ 0
+  pub p10 : modelThen (insertElement 0 (2 ∷ 0 ∷ []) 4 0 (ascii "t")) (emptyOf nested) ≡ el None a (group None Sequence (el None x (el None b (el None c done))) done)
+  pub p11 : modelThen (insertElement 0 (2 ∷ []) 4 0 (ascii "t")) (emptyOf nested) ≡ el None a (group None Sequence (el None b (el None c done)) (el None x done))
+  pub p12 : refuses (insertElement 0 (2 ∷ 3 ∷ []) 4 0 (ascii "t")) (emptyOf nested) ≡ 8
+
+pub examples : Examples
+unfolding names nothing filling member full distinct facts continues accepts plug kindAt spine before leaves opens afterMembers find _⊕_ edited place placeOf goodDefinition wellFormed strip fitsRow conforming goodSerials good fillAttributes fillEach fillContent fillWithin findRow childrenOf attributeAt formAfter plan prune eachRow plant newRows given number after conditions refusal
+examples =
+    record {
+      p1 = refl;
+      p1-empty = refl;
+      p2 = refl;
+      p3 = refl;
+      p4 = refl;
+      p4-first = refl;
+      p5 = refl;
+      p5-one = refl;
+      p6 = refl;
+      p7 = refl;
+      p8 = refl;
+      p9 = refl;
+      p10 = refl;
+      p11 = refl;
+      p12 = refl;
+    }
+
+-- ---- 'plausible and false'
+-- finisher (bib?,time) with one instance that has no bib, and club; serials: finisher 1, time 2, its text 3
+abbrev withoutBib : Store
+withoutBib =
+    record {
+      version = baseVersion;
+      next = 4;
+      form = defined "finisher" (complex (el Qmark (ascii "bib") (el None (ascii "time") done))) ∷ defined "bib" pcdata ∷ defined "time" pcdata ∷ defined "club" pcdata ∷ [];
+      docs = tree (record { serial = 1; sort = element; name = ascii "finisher"; value = [] })
+          (tree (record { serial = 2; sort = element; name = ascii "time"; value = [] }) (tree (record { serial = 3; sort = text; name = []; value = ascii "-" }) bare bare) bare) bare;
+    }
+
+abbrev insertClub : Call
+insertClub = insertElement 0 (1 ∷ []) 3 0 (ascii "none")
+
+-- an unused definition 0 before r, which has an instance
+abbrev unusedFirst : Store
+unusedFirst = record { version = baseVersion; next = 3; form = defined "u" empty ∷ formOf (el None a done); docs = documentOf (a ∷ []) }
+
+abbrev treeBody : Store → Bytes
+treeBody s = each (rowBytes (valueWidth (s .version))) (flat s .rows)
+
+pub record PlausibleAndFalse : Type 0 where
+  -- club comes as child 0, before time (serials 4 and 5), and is accepted there
+  pub club-as-child-0 : serialsThen insertClub withoutBib ≡ 1 ∷ 4 ∷ 5 ∷ 2 ∷ 3 ∷ []
+  pub club-accepted : refuses insertClub withoutBib ≡ 0
+  -- as child 1 the children would not be in the new model's language
+  pub club-as-child-1 : accepts bytes (modelThen insertClub withoutBib) (ascii "time" ∷ ascii "club" ∷ []) ≡ false
+  -- a cut does not keep the last, serial 5
+  pub cut-keeps-last : member numbers 5 (serialsThen (changeQuantifier 0 (2 ∷ []) 0 (ascii "t")) (storeOf starBetween (b ∷ a ∷ a ∷ a ∷ c ∷ []))) ≡ false
+  -- race into bib closes a circle of three, which one step does not show
+  pub circle-one-step : reaches 1 (races .form) (ascii "bib") (ascii "race") ≡ false
+  pub circle : refuses (insertElement 2 (0 ∷ []) 0 2 []) races ≡ 11
+  -- after change 2 the indices in the tree have moved
+  pub unused-accepted : refuses (destroyDefinition 0) unusedFirst ≡ 0
+  pub tree-unmoved : same (treeBody unusedFirst) (treeBody (after (destroyDefinition 0) unusedFirst)) ≡ false
+  -- b is not dropped from (a|b) while an instance exists
+  pub choice-left : refuses (removeElement 0 (1 ∷ 2 ∷ [])) (storeOf (group None Choice (el None a (el None b done)) done) (b ∷ [])) ≡ 15
+
+pub plausible-and-false : PlausibleAndFalse
+unfolding names nothing filling member full distinct facts continues accepts plug kindAt spine before leaves opens afterMembers find _⊕_ edited place placeOf goodDefinition wellFormed strip fitsRow conforming goodSerials good fillAttributes fillEach fillContent fillWithin findRow childrenOf attributeAt formAfter plan prune eachRow plant newRows given number after conditions refusal
+plausible-and-false =
+    record {
+      club-as-child-0 = refl;
+      club-accepted = refl;
+      club-as-child-1 = refl;
+      cut-keeps-last = refl;
+      circle-one-step = refl;
+      circle = refl;
+      unused-accepted = refl;
+      tree-unmoved = refl;
+      choice-left = refl;
+    }

@@ -33,3 +33,4 @@ pub mod ConformingLaws
 pub mod FillingLaws
 pub mod Examples
 pub mod Clubform
+pub mod PassingLaws

@@ -26,3 +26,4 @@ pub mod Rows
 pub mod RenamingPlaces
 pub mod Sound
 pub mod Height
+pub mod PreorderLaws

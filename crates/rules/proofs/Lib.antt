@@ -27,3 +27,4 @@ pub mod RenamingPlaces
 pub mod Sound
 pub mod Height
 pub mod PreorderLaws
+pub mod LayoutLaws

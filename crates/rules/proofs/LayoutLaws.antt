@@ -1,0 +1,180 @@
+-- Reading the bodies of a byte string undoes writing them, and how long each of them is, whatever the width of a value.
+-- Assumes nothing.
+use Prim.Native.Nat.{ℕ, zero, suc, _+_, _*_, _/_, _%_, _^_, _≤_, _<_}
+use native.Mathlib.Nat.{div-lt-iff-lt-mul, pow-suc, le-of-suc-le-suc, mul-suc, mul-zero}
+use native.Mathlib.Omega.{arith}
+use mathlib.Core.Path.{_≡_, refl, ap, ap₂, _∙_, sym}
+use mathlib.Core.List.{List, [], _∷_, _++_, append-assoc, append-nil}
+use lib.Dec.{lit<}
+use lib.ListN.{length, take, drop, getD, length-append}
+use lib.Seq.{take-at, drop-at}
+use Rattle.rules.specs.Bytes.{Bytes}
+use Rattle.rules.specs.Preorder.{Deep}
+use Rattle.rules.specs.Layout.{le, field, nameWidth, FlatDefinition, FlatParticle, FlatAttribute, FlatRow, FlatStore, headerSize, definitionSize, particleSize, attributeSize, rowSize, definitionBytes, particleBytes, attributeBytes, rowBytes, each, entry, flatBytes}
+use Rattle.rules.specs.Decode.{unle, numberAt, readDefinition, readParticle, readAttribute, readRow, readMany, readBodies, readFlat}
+
+-- ---- numbers
+pub length-le : (k n : ℕ) → length (le k n) ≡ k
+length-le zero n = refl
+length-le (suc k) n = ap suc (length-le k (n / 256))
+
+pub unle-le : (k n : ℕ) → n < 256 ^ k → unle (le k n) ≡ n
+unle-le zero n h = omega arith
+unle-le (suc k) n h = omega (arith, unle-le k (n / 256) (div-lt-iff-lt-mul {k = 256} {x = n} {y = 256 ^ k} (lit< tt) .1 (omega (arith, pow-suc 256 k))))
+
+-- ---- fields
+pub length-field : (w : ℕ) (v : Bytes) → length (field w v) ≡ w
+length-field zero v = refl
+length-field (suc w) [] = ap suc (length-field w [])
+length-field (suc w) (x ∷ xs) = ap suc (length-field w xs)
+
+pub take-field : (w : ℕ) (v rest : Bytes) → length v ≤ w → take (length v) (field w v ++ rest) ≡ v
+take-field zero [] rest h = refl
+take-field zero (x ∷ xs) rest h = absurd (omega arith)
+take-field (suc w) [] rest h = refl
+take-field (suc w) (x ∷ xs) rest h = ap (λ (z : Bytes). x ∷ z) (take-field w xs rest (le-of-suc-le-suc h))
+
+take-all-field : (w : ℕ) (v : Bytes) → length v ≤ w → take (length v) (field w v) ≡ v
+take-all-field w v h = ap (λ (z : Bytes). take (length v) z) (sym (append-nil (field w v))) ∙ take-field w v [] h
+
+-- ---- the four records: their lengths, and what reads back
+pub record GoodFlatDefinition (d : FlatDefinition) : Type 0 where
+  pub name : length (d .name) ≤ nameWidth
+  pub particles : d .particles < 65536
+
+pub record GoodFlatAttribute (w : ℕ) (a : FlatAttribute) : Type 0 where
+  pub name : length (a .name) ≤ nameWidth
+  pub value : length (a .value) ≤ w
+
+pub record GoodFlatRow (w : ℕ) (r : Deep FlatRow) : Type 0 where
+  pub index : r .row .index < 65536
+  pub serial : r .row .serial < 4294967296
+  pub value : length (r .row .value) ≤ w
+
+pub length-definition : (d : FlatDefinition) → length (definitionBytes d) ≡ definitionSize
+length-definition d = omega (arith, length-append (field 16 (d .name)) (d .kind ∷ le 2 (d .particles)), length-field 16 (d .name))
+
+pub length-particle : (p : Deep FlatParticle) → length (particleBytes p) ≡ particleSize
+length-particle p = refl
+
+pub length-attribute : (w : ℕ) (a : FlatAttribute) → length (attributeBytes w a) ≡ attributeSize w
+length-attribute w a = omega (arith, length-append (field 16 (a .name)) (a .sort ∷ length (a .value) ∷ field w (a .value)), length-field w (a .value), length-field 16 (a .name))
+
+pub length-row : (w : ℕ) (r : Deep FlatRow) → length (rowBytes w r) ≡ rowSize w
+length-row w r = omega (arith, length-append (field w (r .row .value)) (0 ∷ 0 ∷ []), length-field w (r .row .value))
+
+pub read-definition : (d : FlatDefinition) → GoodFlatDefinition d → readDefinition (definitionBytes d) ≡ d
+read-definition d g =
+    rw (drop-at (field 16 (d .name)) (d .kind ∷ le 2 (d .particles)) 16 (length-field 16 (d .name)))
+    (λ i. record { name = take-field 16 (d .name) (d .kind ∷ le 2 (d .particles)) (g .name) i; kind = d .kind; particles = unle-le 2 (d .particles) (g .particles) i })
+
+pub read-attribute : (w : ℕ) (a : FlatAttribute) → GoodFlatAttribute w a → readAttribute (attributeBytes w a) ≡ a
+read-attribute w a g =
+    rw (drop-at (field 16 (a .name)) (a .sort ∷ length (a .value) ∷ field w (a .value)) 16 (length-field 16 (a .name)))
+    (λ i. record { owner = a .owner; name = take-field 16 (a .name) (a .sort ∷ length (a .value) ∷ field w (a .value)) (g .name) i; sort = a .sort; value = take-all-field w (a .value) (g .value) i })
+
+pub read-row : (w : ℕ) (r : Deep FlatRow) → GoodFlatRow w r → readRow (rowBytes w r) ≡ r
+read-row w r g = λ i.
+    record {
+      depth = r .depth;
+      row = record {
+        sort = r .row .sort;
+        index = unle-le 2 (r .row .index) (g .index) i;
+        serial = unle-le 4 (r .row .serial) (g .serial) i;
+        value = take-field w (r .row .value) (0 ∷ 0 ∷ []) (g .value) i;
+      };
+    }
+
+-- ---- a body
+-- every entry is as it should be
+abbrev pub Every : {A : Type 0} → (A → Type 0) → List A → Type 0
+Every P [] = Unit {0}
+Every P (x ∷ xs) = P x × Every P xs
+
+pub length-each : {A : Type 0} (g : A → Bytes) (n : ℕ) → ((x : A) → length (g x) ≡ n) → (xs : List A) → length (each g xs) ≡ n * length xs
+length-each g n h [] = sym (mul-zero n)
+length-each g n h (x ∷ xs) = omega (arith, length-append (g x) (each g xs), h x, length-each g n h xs, mul-suc n (length xs))
+
+pub read-each : {A : Type 0} (f : Bytes → A) (g : A → Bytes) (n : ℕ) (Good : A → Type 0) → ((x : A) → length (g x) ≡ n) → ((x : A) → Good x → f (g x) ≡ x) → (xs : List A) (rest : Bytes) → Every Good xs
+    → readMany f n (length xs) (each g xs ++ rest) ≡ xs
+read-each f g n Good l h [] rest a = refl
+read-each {A} f g n Good l h (x ∷ xs) rest a =
+    rw (append-assoc (g x) (each g xs) rest, take-at (g x) (each g xs ++ rest) n (l x), drop-at (g x) (each g xs ++ rest) n (l x))
+    (ap₂ (λ (y : A) (ys : List A). y ∷ ys) (h x (a .0)) (read-each f g n Good l h xs rest (a .1)))
+
+every-any : {A : Type 0} (xs : List A) → Every (λ x. Unit {0}) xs
+every-any [] = tt
+every-any (x ∷ xs) = (tt, every-any xs)
+
+-- ---- the whole string
+-- what the fields of a byte string can hold
+pub record GoodFlat (w : ℕ) (f : FlatStore) : Type 0 where
+  pub version : f .version < 4294967296
+  pub next : f .next < 4294967296
+  pub definitionCount : length (f .definitions) < 4294967296
+  pub particleCount : length (f .particles) < 4294967296
+  pub attributeCount : length (f .attributes) < 4294967296
+  pub rowCount : length (f .rows) < 4294967296
+  pub definitions : Every GoodFlatDefinition (f .definitions)
+  pub attributes : Every (GoodFlatAttribute w) (f .attributes)
+  pub rows : Every (GoodFlatRow w) (f .rows)
+
+-- the bodies, one after another
+module _ (w : ℕ) (f : FlatStore) where
+  abbrev rowBody : Bytes
+  rowBody = each (rowBytes w) (f .rows)
+
+  abbrev fromAttributes : Bytes
+  fromAttributes = each (attributeBytes w) (f .attributes) ++ rowBody
+
+  abbrev fromParticles : Bytes
+  fromParticles = each particleBytes (f .particles) ++ fromAttributes
+
+  abbrev bodies : Bytes
+  bodies = each definitionBytes (f .definitions) ++ fromParticles
+
+  length-definitions : length (each definitionBytes (f .definitions)) ≡ definitionSize * length (f .definitions)
+  length-definitions = length-each definitionBytes definitionSize length-definition (f .definitions)
+
+  length-particles : length (each particleBytes (f .particles)) ≡ particleSize * length (f .particles)
+  length-particles = length-each particleBytes particleSize length-particle (f .particles)
+
+  length-attributes : length (each (attributeBytes w) (f .attributes)) ≡ attributeSize w * length (f .attributes)
+  length-attributes = length-each (attributeBytes w) (attributeSize w) (length-attribute w) (f .attributes)
+
+  length-rows : length rowBody ≡ rowSize w * length (f .rows)
+  length-rows = length-each (rowBytes w) (rowSize w) (length-row w) (f .rows)
+
+  length-bodies : length bodies ≡ definitionSize * length (f .definitions) + (particleSize * length (f .particles) + (attributeSize w * length (f .attributes) + rowSize w * length (f .rows)))
+  length-bodies =
+      simp length-append
+      (ap₂ _+_ length-definitions (ap₂ _+_ length-particles (ap₂ _+_ length-attributes length-rows)))
+
+  pub length-flatBytes : length (flatBytes w f) ≡ headerSize + (definitionSize * length (f .definitions) + (particleSize * length (f .particles) + (attributeSize w * length (f .attributes) + rowSize w * length (f .rows))))
+  length-flatBytes = omega (arith, length-bodies)
+
+  module _ (g : GoodFlat w f) where
+    read-bodies : readBodies w (f .version) (f .next) (length (f .definitions)) (length (f .particles)) (length (f .attributes)) (length (f .rows)) bodies ≡ f
+    read-bodies =
+        rw (
+          drop-at (each definitionBytes (f .definitions)) fromParticles (definitionSize * length (f .definitions)) length-definitions,
+          drop-at (each particleBytes (f .particles)) fromAttributes (particleSize * length (f .particles)) length-particles,
+          drop-at (each (attributeBytes w) (f .attributes)) rowBody (attributeSize w * length (f .attributes)) length-attributes,
+        )
+        (λ i.
+        record {
+          version = f .version;
+          next = f .next;
+          definitions = read-each readDefinition definitionBytes definitionSize GoodFlatDefinition length-definition read-definition (f .definitions) fromParticles (g .definitions) i;
+          particles = read-each readParticle particleBytes particleSize (λ p. Unit {0}) length-particle (λ p h. refl) (f .particles) fromAttributes (every-any (f .particles)) i;
+          attributes = read-each readAttribute (attributeBytes w) (attributeSize w) (GoodFlatAttribute w) (length-attribute w) (read-attribute w) (f .attributes) rowBody (g .attributes) i;
+          rows = (ap (λ (z : Bytes). readMany readRow (rowSize w) (length (f .rows)) z) (sym (append-nil rowBody)) ∙ read-each readRow (rowBytes w) (rowSize w) (GoodFlatRow w) (length-row w) (read-row w) (f .rows) [] (g .rows)) i;
+        })
+
+    -- reading undoes writing
+    pub read-bytes : readFlat w (flatBytes w f) ≡ f
+    read-bytes =
+        (λ i.
+        readBodies w (unle-le 4 (f .version) (g .version) i) (unle-le 4 (f .next) (g .next) i) (unle-le 4 (length (f .definitions)) (g .definitionCount) i) (unle-le 4 (length (f .particles)) (g .particleCount) i)
+        (unle-le 4 (length (f .attributes)) (g .attributeCount) i) (unle-le 4 (length (f .rows)) (g .rowCount) i) bodies)
+        ∙ read-bodies

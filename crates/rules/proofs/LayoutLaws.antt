@@ -1,17 +1,19 @@
 -- Reading the bodies of a byte string undoes writing them, and how long each of them is, whatever the width of a value.
 -- Assumes nothing.
-use Prim.Native.Nat.{ℕ, zero, suc, _+_, _*_, _/_, _%_, _^_, _≤_, _<_}
+use Prim.Native.Nat.{ℕ, zero, suc, _+_, _*_, _/_, _^_, _≤_, _<_}
 use native.Mathlib.Nat.{div-lt-iff-lt-mul, pow-suc, le-of-suc-le-suc, mul-suc, mul-zero}
 use native.Mathlib.Omega.{arith}
 use mathlib.Core.Path.{_≡_, refl, ap, ap₂, _∙_, sym}
+use mathlib.Core.Bool.{true}
 use mathlib.Core.List.{List, [], _∷_, _++_, append-assoc, append-nil}
 use lib.Dec.{lit<}
-use lib.ListN.{length, take, drop, getD, length-append}
+use lib.ListN.{length, take, length-append}
 use lib.Seq.{take-at, drop-at}
+use borrow.Author.Tests.{eq-eqb}
 use Rattle.rules.specs.Bytes.{Bytes}
 use Rattle.rules.specs.Preorder.{Deep}
-use Rattle.rules.specs.Layout.{le, field, nameWidth, FlatDefinition, FlatParticle, FlatAttribute, FlatRow, FlatStore, headerSize, definitionSize, particleSize, attributeSize, rowSize, definitionBytes, particleBytes, attributeBytes, rowBytes, each, entry, flatBytes}
-use Rattle.rules.specs.Decode.{unle, numberAt, readDefinition, readParticle, readAttribute, readRow, readMany, readBodies, readFlat}
+use Rattle.rules.specs.Layout.{le, field, nameWidth, FlatDefinition, FlatParticle, FlatAttribute, FlatRow, FlatStore, headerSize, definitionSize, particleSize, attributeSize, rowSize, definitionBytes, particleBytes, attributeBytes, rowBytes, each, flatBytes}
+use Rattle.rules.specs.Decode.{unle, readDefinition, readParticle, readAttribute, readRow, readMany, readBodies, readFlat, sized}
 
 -- ---- numbers
 pub length-le : (k n : ℕ) → length (le k n) ≡ k
@@ -170,6 +172,18 @@ module _ (w : ℕ) (f : FlatStore) where
           attributes = read-each readAttribute (attributeBytes w) (attributeSize w) (GoodFlatAttribute w) (length-attribute w) (read-attribute w) (f .attributes) rowBody (g .attributes) i;
           rows = (ap (λ (z : Bytes). readMany readRow (rowSize w) (length (f .rows)) z) (sym (append-nil rowBody)) ∙ read-each readRow (rowBytes w) (rowSize w) (GoodFlatRow w) (length-row w) (read-row w) (f .rows) [] (g .rows)) i;
         })
+
+    -- the length is what the counts say
+    pub sized-bytes : sized w (flatBytes w f) ≡ true
+    sized-bytes =
+        eq-eqb (length (flatBytes w f)) _
+        (length-flatBytes
+        ∙ sym
+        (λ i.
+        headerSize
+        + (definitionSize * unle-le 4 (length (f .definitions)) (g .definitionCount) i
+        + (particleSize * unle-le 4 (length (f .particles)) (g .particleCount) i
+        + (attributeSize w * unle-le 4 (length (f .attributes)) (g .attributeCount) i + rowSize w * unle-le 4 (length (f .rows)) (g .rowCount) i)))))
 
     -- reading undoes writing
     pub read-bytes : readFlat w (flatBytes w f) ≡ f

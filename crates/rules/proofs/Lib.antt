@@ -28,3 +28,4 @@ pub mod Sound
 pub mod Height
 pub mod PreorderLaws
 pub mod LayoutLaws
+pub mod DecodeLaws

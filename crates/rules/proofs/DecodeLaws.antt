@@ -28,7 +28,7 @@ use Rattle.rules.specs.Conforming.{nameOf, EveryRow, isElement, isAttrib
 use Rattle.rules.specs.Passing.{knownVersion, laidRow, serials, goodSerials, good, goodRead, readStore, isRead, passes}
 use Rattle.rules.proofs.Words.{or-left, or-right, and-split}
 use Rattle.rules.proofs.PreorderLaws.{build-flatten}
-use Rattle.rules.proofs.LayoutLaws.{unle-le, Every, GoodFlatDefinition, GoodFlatAttribute, GoodFlatRow, GoodFlat, length-flatBytes, sized-bytes, read-bytes}
+use Rattle.rules.proofs.LayoutLaws.{Every, every-of, every-map, every-append, unle-le, GoodFlatDefinition, GoodFlatAttribute, GoodFlatRow, GoodFlat, length-flatBytes, sized-bytes, read-bytes}
 
 -- ---- names by index
 -- the name of a known definition is found under its index
@@ -154,19 +154,7 @@ unflat-flat s g n =
       docs = (ap (readRows (map definitionName (s .form)) (attributeNames (s .form))) (build-flatten (indexed (s .form) [] (s .docs))) ∙ read-rows (s .form) [] (s .docs) n) i;
     })
 
--- ---- tests on lists, entry by entry
-every-of : {A : Type 0} (p : A → Bool) (xs : List A) → all p xs ≡ true → Every (λ x. p x ≡ true) xs
-every-of p [] h = tt
-every-of p (x ∷ xs) h = (and-left (p x) (all p xs) h, every-of p xs (and-right (p x) (all p xs) h))
-
-every-map : {A : Type 0} (P Q : A → Type 0) (xs : List A) → ((x : A) → P x → Q x) → Every P xs → Every Q xs
-every-map P Q [] f a = tt
-every-map P Q (x ∷ xs) f a = (f x (a .0), every-map P Q xs f (a .1))
-
-every-append : {A : Type 0} (P : A → Type 0) (xs ys : List A) → Every P xs → Every P ys → Every P (xs ++ ys)
-every-append P [] ys a b = b
-every-append P (x ∷ xs) ys a b = (a .0, every-append P xs ys (a .1) b)
-
+-- ---- tests, row by row
 every-row : (p : Row → List Row → Bool) (f : Forest Row) → everyRow p f ≡ true → EveryRow (λ r below. p r below ≡ true) f
 every-row p bare h = tt
 every-row p (tree r b t) h =
@@ -228,28 +216,26 @@ fits-not pcdata (r ∷ x ∷ rows) h = absurd (false≢true (and-right (isText (
 fits-not (complex ms) rows h =
     every-map (λ r. isElement (r .sort) ≡ true) (λ r. isAttribute (r .sort) ≡ true → ⊥) rows (λ r e. element-not (r .sort) e) (every-of (λ (r : Row). isElement (r .sort)) rows (and-left (all (λ (r : Row). isElement (r .sort)) rows) (accepts bytes ms (map nameOf rows)) h))
 
-strip-owned : (c : Content) (table : List Attribute) (rows : List Row) → fitsStripped c (strip table rows) ≡ true → Every (λ r. isAttribute (r .sort) ≡ true → owns table (r .name) ≡ true) rows
-unfolding strip
-strip-owned c [] rows h = every-map (λ r. isAttribute (r .sort) ≡ true → ⊥) (λ r. isAttribute (r .sort) ≡ true → owns [] (r .name) ≡ true) rows (λ r f e. absurd (f e)) (fits-not c rows h)
-strip-owned c (a ∷ table) [] h = tt
-strip-owned c (a ∷ table) (r ∷ rows) h =
-    by (isAttribute (r .sort) && same (a .name) (r .name)) refl (allows (a .sort) (a .value) (r .value)) refl (mustBePresent (a .sort)) refl (strip-owned c table rows) (strip-owned c table (r ∷ rows))
-  where
-    Goal : List Attribute → Row → Type 0
-    Goal t x = isAttribute (x .sort) ≡ true → owns t (x .name) ≡ true
+-- What holds of the attribute rows with names in the table, and of the rows that fit the content, holds of all rows.
+module _ (P : Row → Type 0) (c : Content) (others : (rows : List Row) → fits c rows ≡ true → Every P rows) where
+  strip-every : (table : List Attribute) (rows : List Row) → ((r : Row) → isAttribute (r .sort) ≡ true → owns table (r .name) ≡ true → P r) → fitsStripped c (strip table rows) ≡ true → Every P rows
+  unfolding strip
+  strip-every [] rows own h = others rows h
+  strip-every (a ∷ table) [] own h = tt
+  strip-every (a ∷ table) (r ∷ rows) own h =
+      by (isAttribute (r .sort) && same (a .name) (r .name)) refl (allows (a .sort) (a .value) (r .value)) refl (mustBePresent (a .sort)) refl (strip-every table rows later) (strip-every table (r ∷ rows) later)
+    where
+      later : (x : Row) → isAttribute (x .sort) ≡ true → owns table (x .name) ≡ true → P x
+      later x e o = own x e (or-right (same (x .name) (a .name)) o)
 
-    later : (x : Row) → Goal table x → Goal (a ∷ table) x
-    later x f e = or-right (same (x .name) (a .name)) (f e)
-
-    by : (t : Bool) → (isAttribute (r .sort) && same (a .name) (r .name)) ≡ t → (u : Bool) → allows (a .sort) (a .value) (r .value) ≡ u → (v : Bool) → mustBePresent (a .sort) ≡ v
-        → (fitsStripped c (strip table rows) ≡ true → Every (Goal table) rows) → (fitsStripped c (strip table (r ∷ rows)) ≡ true → Every (Goal table) (r ∷ rows)) → Every (Goal (a ∷ table)) (r ∷ rows)
-    by true q true p v m f g = (
-      λ e. or-left (owns table (r .name)) (bytes .same← (r .name) (a .name) (sym (same-eq (a .name) (r .name) (and-right (isAttribute (r .sort)) (same (a .name) (r .name)) q)))),
-      every-map (Goal table) (Goal (a ∷ table)) rows later (f (rw (q, strip, p) at h)),
-    )
-    by true q false p v m f g = absurd (false≢true (rw (q, strip, p) at h))
-    by false q u p true m f g = absurd (false≢true (rw (q, strip, m) at h))
-    by false q u p false m f g = every-map (Goal table) (Goal (a ∷ table)) (r ∷ rows) later (g (rw (q, strip, m) at h))
+      by : (t : Bool) → (isAttribute (r .sort) && same (a .name) (r .name)) ≡ t → (u : Bool) → allows (a .sort) (a .value) (r .value) ≡ u → (v : Bool) → mustBePresent (a .sort) ≡ v
+          → (fitsStripped c (strip table rows) ≡ true → Every P rows) → (fitsStripped c (strip table (r ∷ rows)) ≡ true → Every P (r ∷ rows)) → Every P (r ∷ rows)
+      by true q true p v m f g =
+          let (k, e) = and-split (isAttribute (r .sort)) (same (a .name) (r .name)) q in
+          (own r k (or-left (owns table (r .name)) (bytes .same← (r .name) (a .name) (sym (same-eq (a .name) (r .name) e)))), f (rw (q, strip, p) at h))
+      by true q false p v m f g = absurd (false≢true (rw (q, strip, p) at h))
+      by false q u p true m f g = absurd (false≢true (rw (q, strip, m) at h))
+      by false q u p false m f g = g (rw (q, strip, m) at h)
 
 none-nil : {A : Type 0} (xs : List A) → isNone xs ≡ true → xs ≡ []
 none-nil [] h = refl
@@ -261,7 +247,8 @@ below-owned form r below h = by (r .sort) refl
   where
     at : (o : Option Definition) → fitsDefinition o below ≡ true → Every (Owned o) below
     at none e = absurd (false≢true e)
-    at (some d) e = strip-owned (d .content) (d .attributes) below e
+    at (some d) e =
+        strip-every (Owned (some d)) (d .content) (λ rows f. every-map (λ r. isAttribute (r .sort) ≡ true → ⊥) (Owned (some d)) rows (λ r n a. absurd (n a)) (fits-not (d .content) rows f)) (d .attributes) below (λ r a o b. o) e
 
     no-rows : isNone below ≡ true → Every (Owned (lookup (r .name) form)) below
     no-rows e = rw (none-nil below e) tt

@@ -4,16 +4,33 @@ use Prim.Native.Nat.{ℕ, zero, suc, _+_, _*_, _/_, _^_, _≤_, _<_}
 use native.Mathlib.Nat.{div-lt-iff-lt-mul, pow-suc, le-of-suc-le-suc, mul-suc, mul-zero}
 use native.Mathlib.Omega.{arith}
 use mathlib.Core.Path.{_≡_, refl, ap, ap₂, _∙_, sym}
-use mathlib.Core.Bool.{true}
+use mathlib.Core.Bool.{Bool, true}
 use mathlib.Core.List.{List, [], _∷_, _++_, append-assoc, append-nil}
 use lib.Dec.{lit<}
 use lib.ListN.{length, take, length-append}
 use lib.Seq.{take-at, drop-at}
 use borrow.Author.Tests.{eq-eqb}
-use Rattle.rules.specs.Bytes.{Bytes}
+use Rattle.rules.specs.Bytes.{Bytes, all, and-left, and-right}
 use Rattle.rules.specs.Preorder.{Deep}
 use Rattle.rules.specs.Layout.{le, field, nameWidth, FlatDefinition, FlatParticle, FlatAttribute, FlatRow, FlatStore, headerSize, definitionSize, particleSize, attributeSize, rowSize, definitionBytes, particleBytes, attributeBytes, rowBytes, each, flatBytes}
 use Rattle.rules.specs.Decode.{unle, readDefinition, readParticle, readAttribute, readRow, readMany, readBodies, readFlat, sized}
+
+-- ---- lists, entry by entry
+abbrev pub Every : {A : Type 0} → (A → Type 0) → List A → Type 0
+Every P [] = Unit {0}
+Every P (x ∷ xs) = P x × Every P xs
+
+pub every-of : {A : Type 0} (p : A → Bool) (xs : List A) → all p xs ≡ true → Every (λ x. p x ≡ true) xs
+every-of p [] h = tt
+every-of p (x ∷ xs) h = (and-left (p x) (all p xs) h, every-of p xs (and-right (p x) (all p xs) h))
+
+pub every-map : {A : Type 0} (P Q : A → Type 0) (xs : List A) → ((x : A) → P x → Q x) → Every P xs → Every Q xs
+every-map P Q [] f a = tt
+every-map P Q (x ∷ xs) f a = (f x (a .0), every-map P Q xs f (a .1))
+
+pub every-append : {A : Type 0} (P : A → Type 0) (xs ys : List A) → Every P xs → Every P ys → Every P (xs ++ ys)
+every-append P [] ys a b = b
+every-append P (x ∷ xs) ys a b = (a .0, every-append P xs ys (a .1) b)
 
 -- ---- numbers
 pub length-le : (k n : ℕ) → length (le k n) ≡ k
@@ -88,11 +105,6 @@ read-row w r g = λ i.
     }
 
 -- ---- a body
--- every entry is as it should be
-abbrev pub Every : {A : Type 0} → (A → Type 0) → List A → Type 0
-Every P [] = Unit {0}
-Every P (x ∷ xs) = P x × Every P xs
-
 pub length-each : {A : Type 0} (g : A → Bytes) (n : ℕ) → ((x : A) → length (g x) ≡ n) → (xs : List A) → length (each g xs) ≡ n * length xs
 length-each g n h [] = sym (mul-zero n)
 length-each g n h (x ∷ xs) = omega (arith, length-append (g x) (each g xs), h x, length-each g n h xs, mul-suc n (length xs))

@@ -1,7 +1,7 @@
 -- Reading the bodies of a byte string undoes writing them, and how long each of them is, whatever the width of a value.
 -- Assumes nothing.
 use Prim.Native.Nat.{ℕ, zero, suc, _+_, _*_, _/_, _^_, _≤_, _<_}
-use native.Mathlib.Nat.{div-lt-iff-lt-mul, pow-suc, le-of-suc-le-suc, mul-suc, mul-zero}
+use native.Mathlib.Nat.{mod-lt, div-lt-iff-lt-mul, pow-suc, le-of-suc-le-suc, mul-suc, mul-zero}
 use native.Mathlib.Omega.{arith}
 use mathlib.Core.Path.{_≡_, refl, ap, ap₂, _∙_, sym}
 use mathlib.Core.Bool.{Bool, true}
@@ -12,7 +12,7 @@ use lib.Seq.{take-at, drop-at}
 use borrow.Author.Tests.{eq-eqb}
 use Rattle.rules.specs.Bytes.{Bytes, all, and-left, and-right}
 use Rattle.rules.specs.Preorder.{Deep}
-use Rattle.rules.specs.Layout.{le, field, nameWidth, FlatDefinition, FlatParticle, FlatAttribute, FlatRow, FlatStore, headerSize, definitionSize, particleSize, attributeSize, rowSize, definitionBytes, particleBytes, attributeBytes, rowBytes, each, flatBytes}
+use Rattle.rules.specs.Layout.{le, field, nameWidth, FlatDefinition, FlatParticle, FlatAttribute, FlatRow, FlatStore, headerSize, definitionSize, particleSize, attributeSize, rowSize, definitionBytes, particleBytes, attributeBytes, rowBytes, each, entry, flatBytes}
 use Rattle.rules.specs.Decode.{unle, readDefinition, readParticle, readAttribute, readRow, readMany, readBodies, readFlat, sized}
 
 -- ---- lists, entry by entry
@@ -204,3 +204,107 @@ module _ (w : ℕ) (f : FlatStore) where
         readBodies w (unle-le 4 (f .version) (g .version) i) (unle-le 4 (f .next) (g .next) i) (unle-le 4 (length (f .definitions)) (g .definitionCount) i) (unle-le 4 (length (f .particles)) (g .particleCount) i)
         (unle-le 4 (length (f .attributes)) (g .attributeCount) i) (unle-le 4 (length (f .rows)) (g .rowCount) i) bodies)
         ∙ read-bodies
+
+-- ---- numbers below 256
+pub record Small (bs : Bytes) : Type 0 where
+  pub small : Every (λ b. b < 256) bs
+
+small-nil : Small []
+small-nil = record { small = tt }
+
+small-cons : {x : ℕ} {xs : Bytes} → x < 256 → Small xs → Small (x ∷ xs)
+small-cons h a = record { small = (h, a .small) }
+
+small-append : {xs ys : Bytes} → Small xs → Small ys → Small (xs ++ ys)
+small-append {xs} {ys} a b = record { small = every-append (λ b. b < 256) xs ys (a .small) (b .small) }
+
+small-le : (k n : ℕ) → Small (le k n)
+small-le zero n = small-nil
+small-le (suc k) n = small-cons (mod-lt n (lit< tt)) (small-le k (n / 256))
+
+small-field : (w : ℕ) (v : Bytes) → Small v → Small (field w v)
+small-field zero v a = small-nil
+small-field (suc w) [] a = small-cons (lit< tt) (small-field w [] a)
+small-field (suc w) (x ∷ xs) a = small-cons (a .small .0) (small-field w xs (record { small = a .small .1 }))
+
+small-each : {A : Type 0} (g : A → Bytes) (xs : List A) → Every (λ x. Small (g x)) xs → Small (each g xs)
+small-each g [] a = small-nil
+small-each g (x ∷ xs) a = small-append (a .0) (small-each g xs (a .1))
+
+pub record SmallDefinition (d : FlatDefinition) : Type 0 where
+  pub length-name : length (d .name) < 256
+  pub name : Small (d .name)
+  pub kind : d .kind < 256
+
+pub record SmallParticle (p : Deep FlatParticle) : Type 0 where
+  pub sort : p .row .sort < 256
+  pub quantifier : p .row .quantifier < 256
+  pub index : p .row .index < 256
+  pub depth : p .depth < 256
+
+pub record SmallAttribute (a : FlatAttribute) : Type 0 where
+  pub owner : a .owner < 256
+  pub length-name : length (a .name) < 256
+  pub name : Small (a .name)
+  pub sort : a .sort < 256
+  pub length-value : length (a .value) < 256
+  pub value : Small (a .value)
+
+pub record SmallRow (r : Deep FlatRow) : Type 0 where
+  pub sort : r .row .sort < 256
+  pub depth : r .depth < 256
+  pub length-value : length (r .row .value) < 256
+  pub value : Small (r .row .value)
+
+small-definition : (d : FlatDefinition) → SmallDefinition d → Small (definitionBytes d)
+small-definition d h = small-cons (h .length-name) (small-append (small-field nameWidth (d .name) (h .name)) (small-cons (h .kind) (small-le 2 (d .particles))))
+
+small-particle : (p : Deep FlatParticle) → SmallParticle p → Small (particleBytes p)
+small-particle p h = small-cons (h .sort) (small-cons (h .quantifier) (small-cons (h .index) (small-cons (h .depth) small-nil)))
+
+small-attribute : (w : ℕ) (a : FlatAttribute) → SmallAttribute a → Small (attributeBytes w a)
+small-attribute w a h =
+    small-cons (h .owner) (small-cons (h .length-name) (small-append (small-field nameWidth (a .name) (h .name)) (small-cons (h .sort) (small-cons (h .length-value) (small-field w (a .value) (h .value))))))
+
+small-row : (w : ℕ) (r : Deep FlatRow) → SmallRow r → Small (rowBytes w r)
+small-row w r h =
+    small-cons (h .sort)
+    (small-cons (h .depth)
+    (small-append (small-le 2 (r .row .index))
+    (small-append (small-le 4 (r .row .serial))
+    (small-cons (h .length-value) (small-cons zeroSmall (small-append (small-field w (r .row .value) (h .value)) (small-cons zeroSmall (small-cons zeroSmall small-nil))))))))
+  where
+    zeroSmall : 0 < 256
+    zeroSmall = lit< tt
+
+-- what the fields of one byte, and those that hold bytes, hold
+pub record SmallFlat (f : FlatStore) : Type 0 where
+  pub definitions : Every SmallDefinition (f .definitions)
+  pub particles : Every SmallParticle (f .particles)
+  pub attributes : Every SmallAttribute (f .attributes)
+  pub rows : Every SmallRow (f .rows)
+
+pub small-bytes : (w : ℕ) (f : FlatStore) → SmallFlat f → Small (flatBytes w f)
+small-bytes w f h =
+    small-append (small-le 4 (f .version))
+    (small-append (small-le 4 (f .next))
+    (small-append (small-entry headerSize d)
+    (small-append (small-entry (headerSize + definitionSize * d) p)
+    (small-append (small-entry (headerSize + definitionSize * d + particleSize * p) a)
+    (small-append (small-entry (headerSize + definitionSize * d + particleSize * p + attributeSize w * a) (length (f .rows)))
+    (small-append (small-each definitionBytes (f .definitions) (every-map SmallDefinition (λ x. Small (definitionBytes x)) (f .definitions) small-definition (h .definitions)))
+    (small-append (small-each particleBytes (f .particles) (every-map SmallParticle (λ x. Small (particleBytes x)) (f .particles) small-particle (h .particles)))
+    (small-append (small-each (attributeBytes w) (f .attributes) (every-map SmallAttribute (λ x. Small (attributeBytes w x)) (f .attributes) (small-attribute w) (h .attributes)))
+    (small-each (rowBytes w) (f .rows) (every-map SmallRow (λ x. Small (rowBytes w x)) (f .rows) (small-row w) (h .rows)))))))))))
+  where
+    d : ℕ
+    d = length (f .definitions)
+
+    p : ℕ
+    p = length (f .particles)
+
+    a : ℕ
+    a = length (f .attributes)
+
+    small-entry : (offset count : ℕ) → Small (entry offset count)
+    small-entry offset count = small-append (small-le 4 offset) (small-le 4 count)

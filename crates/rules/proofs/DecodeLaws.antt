@@ -1,5 +1,5 @@
 -- Decoding undoes encoding on stores that pass, and encoding undoes decoding: a byte string passes if and only if it is the
--- encoding of a store that does.
+-- encoding of a store that does. Such a store's rows are no deeper than it has definitions, and its bytes are below 256.
 -- Assumes nothing.
 use Prim.Native.Nat.{ℕ, suc, _+_, _*_, _≤_, _<_, zero}
 use native.Mathlib.Nat.{zero-add, suc-add}
@@ -15,27 +15,28 @@ use lib.Seq.{take-append-seam, drop-append-seam}
 use borrow.Author.Tests.{eq-eqb, ne-eqb, eqb-true, leb-true, ltb-true}
 use Rattle.rules.specs.declared.Quantifier.{Quantifier}
 use Rattle.rules.specs.declared.Quantifier.the-variants.{None, Qmark, Star, Plus}
-use Rattle.rules.specs.declared.GroupKind.the-variants.{Sequence, Choice}
 use Rattle.rules.specs.declared.GroupKind.{GroupKind}
-use Rattle.rules.proofs.Children.{Sound, sound}
-use Rattle.rules.proofs.Sound.{sound-test}
+use Rattle.rules.specs.declared.GroupKind.the-variants.{Sequence, Choice}
 use Rattle.rules.specs.Bytes.{Bytes, same, all, any, between, bytes, numbers, isNone, and-left, and-right, same-eq, same-refl}
 use Rattle.rules.specs.Model.{Members, done, el, group, names, distinct, full, Distinct}
+use Rattle.rules.specs.Language.{Conforms}
+use Rattle.rules.specs.Automaton.{accepts}
 use Rattle.rules.specs.Store.{Content, empty, pcdata, complex, AttributeSort, implied, required, fixed, Attribute, Definition, Form, RowSort, element, attribute, text, Row, Forest, bare, tree, Store, modelOf, members, heads}
 use Rattle.rules.specs.Preorder.{Deep, flatten, build}
 use Rattle.rules.specs.Layout.{baseVersion, valueWidth, nameWidth, FlatParticle, FlatAttribute, headerSize, definitionSize, particleSize, attributeSize, rowSize, indexOf, indexIn, attributeIndex, quantifierCode, kindCode, sortCode, rowCode, particles, contentParticles, flatDefinition, allParticles, ownAttributes, allAttributes, rowIndex, indexed, flat, encode, howMany, groupCode, FlatRow}
 use Rattle.rules.specs.Decode.{numberAt, readFlat, sized, nameAt, quantifierOf, contentOf, sortOf, rowSortOf, readMembers, ofOwner, readForm, rowName, readRows, flatName, flatAttributeName, unflat, confirm, decode}
 use Rattle.rules.specs.WellFormed.{startsName, inName, isName, storedName, isValue, highestNumber, withinCeilings, definitionName, attributeName, lookup, isThere, known, reachesIn, isFill, isAttributeOf, goodDefinition, wellFormed, namesIn, membersOf, reaches}
-use Rattle.rules.specs.Automaton.{accepts}
 use Rattle.rules.specs.Conforming.{nameOf, EveryRow, isElement, isAttribute, isText, everyRow, mustBePresent, allows, strip, fits, fitsStripped, fitsDefinition, fitsRow, conforming}
 use Rattle.rules.specs.Passing.{knownVersion, laidRow, serials, goodSerials, good, goodRead, readStore, isRead, passes}
 use Rattle.rules.proofs.Words.{or-left, or-right, and-split, and-both, or-cases}
-use Rattle.rules.proofs.PreorderLaws.{build-flatten}
-use Rattle.rules.proofs.LayoutLaws.{Every, every-of, every-map, every-append, unle-le, GoodFlatDefinition, GoodFlatAttribute, GoodFlatRow, GoodFlat, length-flatBytes, sized-bytes, read-bytes, Small, SmallDefinition, SmallParticle, SmallAttribute, SmallRow, SmallFlat, small-bytes}
-use Rattle.rules.specs.Language.{Conforms}
+use Rattle.rules.proofs.Children.{Sound, sound}
 use Rattle.rules.proofs.Correct.{accepts-conforms}
 use Rattle.rules.proofs.Letters.{letters}
+use Rattle.rules.proofs.Sound.{sound-test}
 use Rattle.rules.proofs.Height.{deep}
+use Rattle.rules.proofs.BooleanLaws.{Every, every-of, every-map, every-append, every-zip, every-in, every-at, all-left, all-right, all-of, all-in, any-in, any-more, none-nil, guard-true, guard-some}
+use Rattle.rules.proofs.PreorderLaws.{build-flatten}
+use Rattle.rules.proofs.LayoutLaws.{unle-le, GoodFlatDefinition, GoodFlatAttribute, GoodFlatRow, GoodFlat, length-flatBytes, sized-bytes, read-bytes, Small, SmallDefinition, SmallParticle, SmallAttribute, SmallRow, SmallFlat, small-bytes}
 
 -- ---- names by index
 -- the name of a known definition is found under its index
@@ -55,14 +56,6 @@ quantifier-code None = refl
 quantifier-code Qmark = refl
 quantifier-code Star = refl
 quantifier-code Plus = refl
-
-all-left : {A : Type 0} (p : A → Bool) (xs ys : List A) → all p (xs ++ ys) ≡ true → all p xs ≡ true
-all-left p [] ys h = refl
-all-left p (x ∷ xs) ys h = rw (and-left (p x) (all p (xs ++ ys)) h) (all-left p xs ys (and-right (p x) (all p (xs ++ ys)) h))
-
-all-right : {A : Type 0} (p : A → Bool) (xs ys : List A) → all p (xs ++ ys) ≡ true → all p ys ≡ true
-all-right p [] ys h = h
-all-right p (x ∷ xs) ys h = all-right p xs ys (and-right (p x) (all p (xs ++ ys)) h)
 
 module _ (form : Form) where
   read-members : (ms : Members Bytes) → all (known form) (names ms) ≡ true → readMembers (map definitionName form) (particles form ms) ≡ ms
@@ -243,10 +236,6 @@ module _ (P : Row → Type 0) (c : Content) (others : (rows : List Row) → fits
       by true q false p v m f g = absurd (false≢true (rw (q, strip, p) at h))
       by false q u p true m f g = absurd (false≢true (rw (q, strip, m) at h))
       by false q u p false m f g = g (rw (q, strip, m) at h)
-
-none-nil : {A : Type 0} (xs : List A) → isNone xs ≡ true → xs ≡ []
-none-nil [] h = refl
-none-nil (x ∷ xs) h = absurd (false≢true h)
 
 below-owned : (form : Form) (r : Row) (below : List Row) → fitsRow form r below ≡ true → Every (Owned (lookup (r .name) form)) below
 unfolding fitsRow
@@ -473,15 +462,6 @@ pub length-encode : (s : Store)
     → length (encode s) ≡ headerSize + (definitionSize * length (flat s .definitions) + (particleSize * length (flat s .particles) + (attributeSize (valueWidth (s .version)) * length (flat s .attributes) + rowSize (valueWidth (s .version)) * length (flat s .rows))))
 length-encode s = length-flatBytes (valueWidth (s .version)) (flat s)
 
--- a value behind a test is there if and only if the test holds
-guard-true : {A : Type 0} (b : Bool) (o : Option A) → b ≡ true → elim b [ true ↦ o | false ↦ none ] ≡ o
-guard-true true o e = refl
-guard-true false o e = absurd (false≢true e)
-
-guard-some : {A : Type 0} (b : Bool) (o : Option A) (x : A) → elim b [ true ↦ o | false ↦ none ] ≡ some x → (b ≡ true) × (o ≡ some x)
-guard-some true o x h = (refl, h)
-guard-some false o x h = let e : _≡_ {A = ℕ} 0 1 = cc in absurd (omega arith)
-
 -- `decode` with the version that it reads
 abbrev decodeAt : ℕ → Bytes → Option Store
 decodeAt version bs = elim (sized (valueWidth version) bs) [ true ↦ confirm bs (unflat (readFlat (valueWidth version) bs)) | false ↦ none ]
@@ -641,32 +621,6 @@ small-attributes w form o (d ∷ fs) u l a =
     every-append SmallAttribute (ownAttributes o (d .attributes)) (allAttributes (suc o) fs) (small-own w o (d .attributes) u (omega arith) (a .0 .attributes)) (small-attributes w form (suc o) fs u (omega arith) (a .1))
 
 -- ---- how deep the rows stand
-every-in : {A : Type 0} (P : A → Type 0) (xs : List A) → ((x : A) → List·Memᴰ x xs → P x) → Every P xs
-every-in P [] f = tt
-every-in P (x ∷ xs) f = (f x (List·Memᴰ·head refl), every-in P xs (λ y m. f y (List·Memᴰ·tail m)))
-
-every-at : {A : Type 0} (P : A → Type 0) (x : A) (xs : List A) → Every P xs → List·Memᴰ x xs → P x
-every-at P x [] a m = absurd (List·Memᴰ·not-nil m)
-every-at P x (y ∷ ys) a m = ⊎-elim (λ e. rw e (a .0)) (every-at P x ys (a .1)) (List·Memᴰ·cases-cons m)
-
-all-of : {A : Type 0} (p : A → Bool) (xs : List A) → ((x : A) → List·Memᴰ x xs → p x ≡ true) → all p xs ≡ true
-all-of p [] f = refl
-all-of p (x ∷ xs) f = and-both (f x (List·Memᴰ·head refl)) (all-of p xs (λ y m. f y (List·Memᴰ·tail m)))
-
-any-in : {A : Type 0} (p : A → Bool) (x : A) (xs : List A) → List·Memᴰ x xs → p x ≡ true → any p xs ≡ true
-any-in p x [] m h = absurd (List·Memᴰ·not-nil m)
-any-in p x (y ∷ ys) m h = ⊎-elim (λ e. or-left (any p ys) (ap p (sym e) ∙ h)) (λ k. or-right (p y) (any-in p x ys k h)) (List·Memᴰ·cases-cons m)
-
-any-more : {A : Type 0} (p q : A → Bool) (xs : List A) → ((x : A) → p x ≡ true → q x ≡ true) → any p xs ≡ true → any q xs ≡ true
-any-more p q [] f h = h
-any-more p q (x ∷ xs) f h = ⊎-elim (λ e. or-left (any q xs) (f x e)) (λ k. or-right (q x) (any-more p q xs f k)) (or-cases (p x) (any p xs) h)
-
-all-in : {A : Type 0} (p : A → Bool) (x : A) (xs : List A) → all p xs ≡ true → List·Memᴰ x xs → p x ≡ true
-all-in p x [] h m = absurd (List·Memᴰ·not-nil m)
-all-in p x (y ∷ ys) h m =
-    let (a, b) = and-split (p y) (all p ys) h in
-    ⊎-elim (λ e. ap p e ∙ a) (all-in p x ys b) (List·Memᴰ·cases-cons m)
-
 text-no-element : (s : RowSort) → isText s ≡ true → isElement s ≡ true → ⊥
 text-no-element element e h = false≢true e
 text-no-element attribute e h = false≢true h
@@ -822,10 +776,6 @@ module _ (form : Form) where
     deep-enough n k = deep-from (length form) [] n (record { size = omega arith; once = (λ m. List·Memᴰ·not-nil m, tt); there = (k, tt); goes = tt })
 
 -- ---- and so every byte is below 256
-every-zip : {A : Type 0} (P Q R : A → Type 0) (xs : List A) → ((x : A) → P x → Q x → R x) → Every P xs → Every Q xs → Every R xs
-every-zip P Q R [] f a b = tt
-every-zip P Q R (x ∷ xs) f a b = (f x (a .0) (b .0), every-zip P Q R xs f (a .1) (b .1))
-
 laid-small : (w : ℕ) (r : Row) → laidRow w r ≡ true → Small (r .value)
 laid-small w r h = by (r .sort) refl
   where

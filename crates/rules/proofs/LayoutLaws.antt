@@ -4,33 +4,17 @@ use Prim.Native.Nat.{ℕ, zero, suc, _+_, _*_, _/_, _^_, _≤_, _<_}
 use native.Mathlib.Nat.{mod-lt, div-lt-iff-lt-mul, pow-suc, le-of-suc-le-suc, mul-suc, mul-zero}
 use native.Mathlib.Omega.{arith}
 use mathlib.Core.Path.{_≡_, refl, ap, ap₂, _∙_, sym}
-use mathlib.Core.Bool.{Bool, true}
+use mathlib.Core.Bool.{true}
 use mathlib.Core.List.{List, [], _∷_, _++_, append-assoc, append-nil}
 use lib.Dec.{lit<}
 use lib.ListN.{length, take, length-append}
 use lib.Seq.{take-at, drop-at}
 use borrow.Author.Tests.{eq-eqb}
-use Rattle.rules.specs.Bytes.{Bytes, all, and-left, and-right}
+use Rattle.rules.specs.Bytes.{Bytes}
 use Rattle.rules.specs.Preorder.{Deep}
 use Rattle.rules.specs.Layout.{le, field, nameWidth, FlatDefinition, FlatParticle, FlatAttribute, FlatRow, FlatStore, headerSize, definitionSize, particleSize, attributeSize, rowSize, definitionBytes, particleBytes, attributeBytes, rowBytes, each, entry, flatBytes}
 use Rattle.rules.specs.Decode.{unle, readDefinition, readParticle, readAttribute, readRow, readMany, readBodies, readFlat, sized}
-
--- ---- lists, entry by entry
-abbrev pub Every : {A : Type 0} → (A → Type 0) → List A → Type 0
-Every P [] = Unit {0}
-Every P (x ∷ xs) = P x × Every P xs
-
-pub every-of : {A : Type 0} (p : A → Bool) (xs : List A) → all p xs ≡ true → Every (λ x. p x ≡ true) xs
-every-of p [] h = tt
-every-of p (x ∷ xs) h = (and-left (p x) (all p xs) h, every-of p xs (and-right (p x) (all p xs) h))
-
-pub every-map : {A : Type 0} (P Q : A → Type 0) (xs : List A) → ((x : A) → P x → Q x) → Every P xs → Every Q xs
-every-map P Q [] f a = tt
-every-map P Q (x ∷ xs) f a = (f x (a .0), every-map P Q xs f (a .1))
-
-pub every-append : {A : Type 0} (P : A → Type 0) (xs ys : List A) → Every P xs → Every P ys → Every P (xs ++ ys)
-every-append P [] ys a b = b
-every-append P (x ∷ xs) ys a b = (a .0, every-append P xs ys (a .1) b)
+use Rattle.rules.proofs.BooleanLaws.{Every, every-map, every-append, every-any}
 
 -- ---- numbers
 pub length-le : (k n : ℕ) → length (le k n) ≡ k
@@ -115,10 +99,6 @@ read-each f g n Good l h [] rest a = refl
 read-each {A} f g n Good l h (x ∷ xs) rest a =
     rw (append-assoc (g x) (each g xs) rest, take-at (g x) (each g xs ++ rest) n (l x), drop-at (g x) (each g xs ++ rest) n (l x))
     (ap₂ (λ (y : A) (ys : List A). y ∷ ys) (h x (a .0)) (read-each f g n Good l h xs rest (a .1)))
-
-every-any : {A : Type 0} (xs : List A) → Every (λ x. Unit {0}) xs
-every-any [] = tt
-every-any (x ∷ xs) = (tt, every-any xs)
 
 -- ---- the whole string
 -- what the fields of a byte string can hold

@@ -26,6 +26,7 @@ pub mod Rows
 pub mod RenamingPlaces
 pub mod Sound
 pub mod Height
+pub mod BooleanLaws
 pub mod PreorderLaws
 pub mod LayoutLaws
 pub mod DecodeLaws

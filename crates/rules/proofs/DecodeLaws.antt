@@ -276,6 +276,7 @@ module _ (w : ℕ) (form : Form) where
       (row-found owner r (heads b) (h .0) (l .0) (o .0), found-below (r .name) b (h .1) (l .1) (below-owned form r (heads b) (h .0)), found-below owner t (h .2) (l .2) (o .1))
 
 -- ---- the parts of the test
+-- what `good` says, apart from distinct names and serials
 pub record GoodParts (s : Store) : Type 0 where
   pub version : knownVersion (s .version) ≡ true
   pub definitionCount : length (flat s .definitions) ≤ 64
@@ -321,6 +322,7 @@ good-parts s h =
       next = leb-true _ _ s₅;
     }
 
+-- what `goodDefinition` says, apart from distinct attribute names
 pub record DefinitionParts (w : ℕ) (form : Form) (d : Definition) : Type 0 where
   pub name : isName (d .name) ≡ true
   pub known : all (known form) (names (members d)) ≡ true
@@ -328,7 +330,7 @@ pub record DefinitionParts (w : ℕ) (form : Form) (d : Definition) : Type 0 whe
   pub circle : not (reachesIn form (d .name) (d .name)) ≡ true
   pub attributes : Every (λ a. isAttributeOf w a ≡ true) (d .attributes)
 
-definition-parts : (w : ℕ) (form : Form) (d : Definition) → goodDefinition w form d ≡ true → DefinitionParts w form d
+pub definition-parts : (w : ℕ) (form : Form) (d : Definition) → goodDefinition w form d ≡ true → DefinitionParts w form d
 unfolding goodDefinition sound
 definition-parts w form d h =
     let (name, h₁) = and-split (storedName (d .name)) _ h in
@@ -428,7 +430,7 @@ module _ (s : Store) (g : good s ≡ true) where
   parts : GoodParts s
   parts = good-parts s g
 
-  every-definition : Every (DefinitionParts (valueWidth (s .version)) (s .form)) (s .form)
+  pub every-definition : Every (DefinitionParts (valueWidth (s .version)) (s .form)) (s .form)
   every-definition =
       every-map (λ d. goodDefinition (valueWidth (s .version)) (s .form) d ≡ true) (DefinitionParts (valueWidth (s .version)) (s .form)) (s .form) (λ d e. definition-parts (valueWidth (s .version)) (s .form) d e) (parts .definitions)
 

@@ -275,6 +275,13 @@ module _ (w : ℕ) (form : Form) where
   found-below owner (tree r b t) h l o =
       (row-found owner r (heads b) (h .0) (l .0) (o .0), found-below (r .name) b (h .1) (l .1) (below-owned form r (heads b) (h .0)), found-below owner t (h .2) (l .2) (o .1))
 
+-- ---- all that the laws use of the versions: the number fits its field, and the length of a value fits a byte
+version-bound : (v : ℕ) → knownVersion v ≡ true → v < 4294967296
+version-bound v h = omega (arith, eqb-true v baseVersion h)
+
+width-bound : (v : ℕ) → valueWidth v < 256
+width-bound v = lit< tt
+
 -- ---- the parts of the test
 -- what `good` says, apart from distinct names and serials
 pub record GoodParts (s : Store) : Type 0 where
@@ -436,11 +443,10 @@ module _ (s : Store) (g : good s ≡ true) where
 
   pub good-flat : GoodFlat (valueWidth (s .version)) (flat s)
   good-flat =
-      let v : s .version ≡ baseVersion = eqb-true (s .version) baseVersion (parts .version) in
       let n : length (map (flatDefinition (s .form)) (s .form)) ≡ length (s .form) = length-map (s .form) (flatDefinition (s .form)) in
       let p : GoodParts s = parts in
       record {
-        version = omega arith;
+        version = version-bound (s .version) (p .version);
         next = omega arith;
         definitionCount = omega arith;
         particleCount = omega arith;
@@ -827,7 +833,7 @@ module _ (s : Store) (g : good s ≡ true) where
       let p : GoodParts s = good-parts s g in
       let n : length (map (flatDefinition (s .form)) (s .form)) ≡ length (s .form) = length-map (s .form) (flatDefinition (s .form)) in
       let few : length (s .form) ≤ 64 = omega arith in
-      let narrow : valueWidth (s .version) < 256 = omega arith in
+      let narrow : valueWidth (s .version) < 256 = width-bound (s .version) in
       record {
         definitions = small-definitions (valueWidth (s .version)) (s .form) (s .form) (every-definition s g);
         particles = every-zip LaidParticle (λ x. x .depth ≤ 4) SmallParticle (flat s .particles) (λ x a l. record { sort = a .sort; quantifier = a .quantifier; index = a .index; depth = omega arith }) (laid-particles (s .form) few (s .form) (p .particleCount)) (p .particleDepths);

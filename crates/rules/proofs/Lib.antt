@@ -34,3 +34,7 @@ pub mod FillingLaws
 pub mod Examples
 pub mod Clubform
 pub mod PassingLaws
+pub mod BooleanLaws
+pub mod PreorderLaws
+pub mod LayoutLaws
+pub mod DecodeLaws

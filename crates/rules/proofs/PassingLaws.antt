@@ -1,4 +1,4 @@
--- The test of the check decides what passes: `good` is `Good`.
+-- The tests of the check decide what passes: `good` is `Good`, and `passes` is `Passes`.
 -- Assumes nothing.
 use Prim.Native.Nat.{ℕ}
 use mathlib.Core.Path.{_≡_, refl}
@@ -12,11 +12,12 @@ use Rattle.rules.specs.Store.{Definition, Form, Row, Forest, Store, memb
 use Rattle.rules.specs.Layout.{valueWidth, flat}
 use Rattle.rules.specs.WellFormed.{withinCeilings, wellFormed, WellFormed, lookup, attributeName}
 use Rattle.rules.specs.Conforming.{everyRow, conforming, Conforming}
-use Rattle.rules.specs.Passing.{knownVersion, laidRow, goodSerials, good, Good}
+use Rattle.rules.specs.Passing.{knownVersion, laidRow, goodSerials, good, Good, passes, Passes}
 use Rattle.rules.proofs.Words.{and-split, and-both}
 use Rattle.rules.proofs.WellFormedLaws.{well-formed, definition-good}
 use Rattle.rules.proofs.ConformingLaws.{conforming-is}
 use Rattle.rules.proofs.SerialLaws.{every-row, good-serials}
+use Rattle.rules.proofs.DecodeLaws.{passes-tests}
 
 module _ (w : ℕ) (form : Form) (ok : wellFormed w form ≡ true) where
   pub once : (n : Bytes) (d : Definition) → lookup n form ≡ some d → Distinct (names (members d))
@@ -60,3 +61,14 @@ module _ (s : Store) where
 
   pub good-is : (good s ≡ true) ↔ Good s
   good-is = (good→, good←)
+
+-- a byte string passes the test exactly when it is the encoding of a good store
+pub passes-is : (bs : Bytes) → (passes bs ≡ true) ↔ Passes bs
+passes-is bs = (
+  λ e.
+      let (s, h, g) = passes-tests bs .0 e in
+      (s, h, good-is s .0 g),
+  λ p.
+      let (s, h, g) = p in
+      passes-tests bs .1 (s, h, good-is s .1 g),
+)

@@ -1,2 +1,3 @@
 pub mod RowEdits
 pub mod Conditions
+pub mod FormLaws

@@ -1,3 +1,4 @@
 pub mod RowEdits
 pub mod Conditions
 pub mod FormLaws
+pub mod ModelAfter

@@ -10,12 +10,12 @@ use lib.Dec.{leb}
 use lib.ListN.{length}
 use Rattle.rules.specs.declared.Quantifier.{Quantifier}
 use Rattle.rules.specs.Bytes.{Bytes, bytes}
-use Rattle.rules.specs.Model.{Members, done, el, group, Equality, names, member}
+use Rattle.rules.specs.Model.{Members, done, el, group, Equality, names}
 use Rattle.rules.specs.Place.{Context, plug, before, after, Found}
-use Rattle.rules.specs.Edit.{Edit, insert, remove, quantify, convert, flatten, _⊕_, firstMembers, laterMembers, hasMembers, edited, place, placeOf, modelAfter, removeLast, groupUnlike}
-use Rattle.rules.specs.Store.{Definition, Store, members}
+use Rattle.rules.specs.Edit.{Edit, insert, remove, quantify, convert, flatten, firstMembers, laterMembers, hasMembers, edited, place, placeOf, modelAfter, removeLast, groupUnlike}
+use Rattle.rules.specs.Store.{Store, members}
 use Rattle.rules.specs.Decode.{quantifierOf, groupOf}
-use Rattle.rules.specs.Change.{Call, insertElement, removeElement, changeQuantifier, convertToGroup, flattenGroup, changeGroupQuantifier, definitionAt, nameAtIndex, editFound, editAt}
+use Rattle.rules.specs.Change.{insertElement, removeElement, changeQuantifier, convertToGroup, flattenGroup, changeGroupQuantifier, definitionAt, nameAtIndex}
 use Rattle.rules.specs.Refusal.{noPlace, noElementAt, noGroupAt, atPlace, onElement, onGroup, tailOf, flattenUnlike, conditions, refusal, foundAt}
 use Rattle.rules.proofs.Words.{either}
 use Rattle.rules.proofs.Apart.{names-plug}
@@ -23,7 +23,7 @@ use Rattle.rules.proofs.Spine.{names-append}
 use Rattle.rules.proofs.Children.{misplaced, Sound}
 use Rattle.rules.proofs.Places.{found-gap, found-nth}
 use Rattle.rules.proofs.Whole.{change-sound}
-use Rattle.history.proofs.Conditions.{or-false, not-false, unmet}
+use Rattle.history.proofs.Conditions.{or-false, unmet}
 
 module _ {A : Type 0} where
   -- ---- names

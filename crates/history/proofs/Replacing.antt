@@ -1,7 +1,6 @@
 -- A well-formed form stays so when a definition is replaced, added or removed, under the conditions of the changes.
 -- Assumes nothing.
 use Prim.Native.Nat.{ℕ, zero, suc, _<_}
-use native.Mathlib.Omega.{arith}
 use mathlib.Core.Path.{_≡_, refl, sym, ap, _∙_}
 use mathlib.Core.Logic.{_⊎_, inl, inr, ⊎-elim}
 use mathlib.Core.Bool.{Bool, true, false, false≢true}
@@ -11,11 +10,11 @@ use lib.ListN.{length}
 use Rattle.rules.specs.Bytes.{Bytes}
 use Rattle.rules.specs.Model.{names, Distinct, Full}
 use Rattle.rules.specs.Store.{Attribute, Definition, Form, members}
-use Rattle.rules.specs.WellFormed.{definitionName, attributeName, lookup, isThere, known, namesIn, membersOf, Reaches, directly, through, storedName, isAttributeOf, GoodDefinition, WellFormed, wellFormed}
-use Rattle.rules.specs.Change.{definitionAt, nameAtIndex, update, without}
+use Rattle.rules.specs.WellFormed.{definitionName, attributeName, lookup, isThere, known, namesIn, membersOf, Reaches, directly, through, isAttributeOf, GoodDefinition, WellFormed, wellFormed}
+use Rattle.rules.specs.Change.{definitionAt, update, without}
 use Rattle.rules.proofs.Height.{reaches-then}
-use Rattle.rules.proofs.WellFormedLaws.{well-formed, lookup-member, lookup-distinct, lookup-of, definition-good, members-known, no-circle}
-use Rattle.history.proofs.FormLaws.{same-or, lookup-here, lookup-there, known-named, definition-at, definition-found, update-names, update-other, update-this, update-known, lookup-old, lookup-new, without-other, without-this}
+use Rattle.rules.proofs.WellFormedLaws.{well-formed, lookup-member, lookup-distinct, definition-good, no-circle}
+use Rattle.history.proofs.FormLaws.{same-or, known-named, definition-found, update-names, update-other, update-this, update-known, lookup-old, lookup-new, without-other, without-this}
 
 -- ---- lists without an entry twice
 module _ {A : Type 0} where

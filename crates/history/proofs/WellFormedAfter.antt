@@ -2,30 +2,29 @@
 -- Assumes nothing.
 use Prim.Native.Nat.{ℕ, zero, suc, _<_}
 use mathlib.Core.Path.{_≡_, refl, sym, ap, _∙_}
-use mathlib.Core.Logic.{_⊎_, inl, inr, ⊎-elim}
-use mathlib.Core.Bool.{Bool, true, false, not, false≢true}
+use mathlib.Core.Logic.{⊎-elim}
+use mathlib.Core.Bool.{Bool, true, false, false≢true}
 use mathlib.Core.Option.{Option, none, some}
 use mathlib.Core.List.{List, [], _∷_, _++_, map, map-append, List·Memᴰ, List·Memᴰ·head, List·Memᴰ·tail, List·Memᴰ·not-nil, List·Memᴰ·cases-cons, List·Memᴰ·append-cases, List·Memᴰ·eq-of-singleton, Memᴰ·cast, Memᴰ·map, Memᴰ·of-map}
 use lib.ListN.{length}
 use Rattle.rules.specs.Bytes.{Bytes, same, bytes, any, isNone}
 use Rattle.rules.specs.Model.{Members, done, names, Distinct, Full, member}
 use Rattle.rules.specs.Edit.{Edit, insert, remove, quantify, convert, flatten, modelAfter}
-use Rattle.rules.specs.Store.{Content, empty, pcdata, complex, Attribute, Definition, Form, Store, modelOf, members, heads}
+use Rattle.rules.specs.Store.{Content, empty, pcdata, complex, Attribute, Definition, Form, Store, modelOf, members}
 use Rattle.rules.specs.Layout.{valueWidth, indexOf}
 use Rattle.rules.specs.Decode.{quantifierOf, groupOf, contentOf, sortOf}
 use Rattle.rules.specs.WellFormed.{attributeName, givenName, storedName, isValue, isFill, isAttributeOf, isThere, known, reachesIn, Reaches, directly, through, GoodDefinition, wellFormed}
-use Rattle.rules.specs.Lines.{elementNamed}
 use Rattle.rules.specs.Change.{Call, createDefinition, destroyDefinition, insertElement, removeElement, changeQuantifier, convertToGroup, flattenGroup, changeGroupQuantifier, addAttribute, destroyAttribute, addDocument, addElement, destroyElement, setAttribute, destroyAttributeRow, setText, definitionAt, nameAtIndex, Owned, attributeAt, update, inContent, inModel, withAttributes, editAt, editFound, editModel, lacking, dropOwned, newAttribute, formAfter}
-use Rattle.rules.specs.Refusal.{past, isOther, wrongDefault, conditions, refusal}
-use Rattle.rules.proofs.Words.{and-both, or-left, or-right}
+use Rattle.rules.specs.Refusal.{past, wrongDefault, conditions, refusal}
+use Rattle.rules.proofs.Words.{and-both}
 use Rattle.rules.proofs.Children.{Sound}
 use Rattle.rules.proofs.TestLaws.{any-test, member-test}
 use Rattle.rules.proofs.Height.{reaches-test}
 use Rattle.rules.proofs.WellFormedLaws.{well-formed}
 use Rattle.history.proofs.Conditions.{not-false, or-false, not-past, unmet}
-use Rattle.history.proofs.FormLaws.{definition-at, definition-found, owner-at, owner-below}
+use Rattle.history.proofs.FormLaws.{definition-found, owner-below}
 use Rattle.history.proofs.ModelAfter.{brings, Placed, placed-sound, placed-names, placed-insert, placed-remove, placed-quantify, placed-quantify-group, placed-convert, placed-flatten}
-use Rattle.history.proofs.Replacing.{distinct-last, Joins, Replaces, old-good, old-joins, replaced, removed, added}
+use Rattle.history.proofs.Replacing.{distinct-last, Joins, old-good, old-joins, replaced, removed, added}
 
 false-not : (b : Bool) → b ≡ false → b ≡ true → ⊥
 false-not b e t = false≢true (sym e ∙ t)

@@ -1,0 +1,3 @@
+//! stub
+pub struct Book;
+pub struct Line;

@@ -14,6 +14,8 @@ pub mod layout;
 pub mod model;
 pub mod outcome;
 pub mod print;
+pub mod random;
+pub mod rng;
 pub mod rows;
 pub mod store;
 pub mod vectors;

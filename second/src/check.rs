@@ -1,7 +1,7 @@
 //! The check: *well-formed* forms and *conforming* documents.
 
 use crate::layout;
-use crate::model::{depth_of, elements_of, for_each_element, reached_from, Language};
+use crate::model::{depth_of, for_each_element, reached_from, Language};
 use crate::store::*;
 use std::collections::HashSet;
 
@@ -203,13 +203,4 @@ fn serials_right(store: &Store) -> bool {
         }
     });
     right
-}
-
-/// The elements that may stand in the model of `owner`, for whoever builds
-/// forms: those not reaching it.
-pub fn may_stand_in(form: &Form, owner: usize, definition: usize) -> bool {
-    let owned = elements_of(&form.definitions[owner].model);
-    owned >> definition & 1 == 0
-        && owner != definition
-        && reached_from(form, definition) >> owner & 1 == 0
 }

@@ -247,11 +247,12 @@ pub fn find_member<'a>(model: &'a [Particle], place: &[u32]) -> Option<(Spot<'a>
 }
 
 impl Spot<'_> {
-    /// The number of members before the gap, or before the member picked.
+    /// The number of members before the gap.
     pub fn gap(&self) -> usize {
         self.last
     }
 
+    /// The number of members before the member picked.
     pub fn position(&self) -> usize {
         self.last - 1
     }

@@ -25,11 +25,12 @@ fn histories_from_built_stores() {
     let mut number = 0;
     while number < 1000 || start.elapsed() < TIME {
         let mut rng = Rng::new(seed.wrapping_add(number));
-        let store = match rng.below(20) {
+        let store = match rng.below(40) {
             0 => documents::store(&mut rng, 64, 64, 4096),
+            1 => documents::crowded_store(&mut rng),
             _ => documents::store(&mut rng, 9, 8, 400),
         };
-        let mut moment = Moment::at(&mut rng, store);
+        let mut moment = Moment::at(store);
         for _ in 0..12 {
             let call = moment.random_call(&mut rng);
             let answer = moment.step(&mut rng, &call);
@@ -94,7 +95,7 @@ fn models_with_every_short_word() {
         let store = store_of_words(&mut rng);
         let before = words_of(&store.form);
         let calls = all_calls(&store.form.definitions[OWNER].model);
-        let mut moment = Moment::at(&mut rng, store.clone());
+        let mut moment = Moment::at(store.clone());
         for call in calls {
             let answer = moment.step(&mut rng, &call);
             counts.note(&call, answer);
@@ -107,7 +108,7 @@ fn models_with_every_short_word() {
             ) {
                 assert_eq!(before, words_of(&moment.store.form), "{call:?}");
             }
-            moment = Moment::at(&mut rng, store.clone());
+            moment = Moment::at(store.clone());
         }
         models += 1;
     }

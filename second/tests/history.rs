@@ -34,7 +34,7 @@ fn book_agrees_after_every_call() {
 }
 
 fn history(rng: &mut Rng, counts: &mut Counts) {
-    let mut moment = Moment::fresh(rng);
+    let mut moment = Moment::fresh();
     // Most histories are kept small; the others may run into the ceilings.
     let small = rng.chance(85);
     for _ in 0..CALLS {

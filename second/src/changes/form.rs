@@ -30,10 +30,11 @@ pub fn destroy_definition(store: &[u8], definition: u32, out: &mut [u8]) -> Answ
         let in_model = form.definitions.iter().any(stands_in);
         let is_root = store.documents.iter().any(|root| root.definition == index);
         refuse_if(in_model || is_root, Refusal::InUse)?;
-        let lost = |attribute: &&Attribute| attribute.owner < index;
-        let start = form.attributes.iter().filter(lost).count();
-        let owned = |attribute: &&Attribute| attribute.owner == index;
-        let count = form.attributes.iter().filter(owned).count();
+        // Its attributes stand together; the indices behind them move down.
+        let before = |attribute: &&Attribute| attribute.owner < index;
+        let start = form.attributes.iter().filter(before).count();
+        let own = |attribute: &&Attribute| attribute.owner == index;
+        let count = form.attributes.iter().filter(own).count();
         edit::destroy_definition(&mut store.form, index);
         for document in &mut store.documents {
             document.for_each_mut(&mut |element| {

@@ -3,7 +3,8 @@
 
 use super::forms::{full_value, value, NAMES};
 use crate::call::Call;
-use crate::check::{may_stand_in, Judge};
+use crate::check::Judge;
+use crate::model::{elements_of, reached_from};
 use crate::rng::Rng;
 use crate::store::*;
 
@@ -24,9 +25,31 @@ struct Drawer<'a> {
     hostile: usize,
 }
 
-/// A random call of any of the sixteen changes.
+/// How often each change is drawn, of a hundred: what makes forms and documents
+/// grow more often than what makes them shrink.
+const WEIGHTS: [usize; 16] = [6, 2, 12, 4, 8, 8, 6, 7, 7, 2, 6, 12, 5, 7, 4, 4];
+
+/// A random call of any of the sixteen changes. One with nothing to work on
+/// gives way to the growing of it, most times.
 pub fn call(rng: &mut Rng, store: &Store) -> Call {
-    let change = 1 + rng.below(16);
+    let mut number = rng.below(WEIGHTS.iter().sum());
+    let mut change = 1;
+    for weight in WEIGHTS {
+        if number < weight {
+            break;
+        }
+        number -= weight;
+        change += 1;
+    }
+    if rng.chance(90) {
+        let form = &store.form;
+        change = match change {
+            2..=16 if form.definitions.len() < 3 => 1,
+            12..=16 if store.documents.is_empty() => 11,
+            10 | 14 | 15 if form.attributes.is_empty() => 9,
+            _ => change,
+        };
+    }
     call_of(rng, store, change)
 }
 
@@ -229,7 +252,7 @@ impl Drawer<'_> {
         let definitions = &self.store.form.definitions;
         let mut used = 0;
         for definition in definitions {
-            used |= crate::model::elements_of(&definition.model);
+            used |= elements_of(&definition.model);
         }
         for root in &self.store.documents {
             used |= 1 << root.definition;
@@ -433,4 +456,12 @@ fn fitting_children(form: &Form, element: &Element) -> Vec<(u32, u32)> {
         }
     }
     fitting
+}
+
+/// Can change 3 insert the definition into the owner's model?
+fn may_stand_in(form: &Form, owner: usize, definition: usize) -> bool {
+    let standing = elements_of(&form.definitions[owner].model);
+    standing >> definition & 1 == 0
+        && owner != definition
+        && reached_from(form, definition) >> owner & 1 == 0
 }

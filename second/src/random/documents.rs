@@ -2,6 +2,8 @@
 //! spoiling of them.
 
 use super::forms;
+use crate::edit;
+use crate::layout::particle_count;
 use crate::rng::Rng;
 use crate::store::*;
 
@@ -134,16 +136,108 @@ pub fn number(rng: &mut Rng, store: &mut Store) {
 
 /// A random store that passes.
 pub fn store(rng: &mut Rng, definitions: usize, attributes: usize, limit: usize) -> Store {
-    let mut store = Store::fresh();
-    store.form = forms::form(rng, definitions, attributes);
+    let form = forms::form(rng, definitions, attributes);
+    let mut store = store_of(rng, form, limit);
+    number(rng, &mut store);
+    store
+}
+
+/// A store of up to three documents, without serials.
+fn store_of(rng: &mut Rng, form: Form, limit: usize) -> Store {
+    let mut store = Store {
+        form,
+        ..Store::fresh()
+    };
     for _ in 0..rng.below(4) {
         let root = rng.below(store.form.definitions.len());
-        if let Some(document) = document(rng, &store.form, root, limit / 4) {
+        if let Some(document) = document(rng, &store.form, root, limit / 3) {
             store.documents.push(document);
         }
     }
+    store
+}
+
+/// A random store near one of the ceilings or at it.
+pub fn crowded_store(rng: &mut Rng) -> Store {
+    let mut form = forms::form(rng, 12, 12);
+    let (ceiling, missing) = (rng.below(4), rng.below(4));
+    match ceiling {
+        0 => add_definitions(&mut form, MAX_DEFINITIONS - missing),
+        1 => add_particles(&mut form, MAX_PARTICLES - missing),
+        2 => add_attributes(rng, &mut form, MAX_ATTRIBUTES - missing),
+        _ => add_definitions(&mut form, 13),
+    }
+    let mut store = store_of(rng, form, 200);
+    if ceiling == 3 {
+        add_documents(rng, &mut store, MAX_ROWS - missing);
+    }
     number(rng, &mut store);
     store
+}
+
+fn add_definitions(form: &mut Form, count: usize) {
+    for number in form.definitions.len()..count {
+        let name = format!("more-{number}");
+        edit::create_definition(form, name.as_bytes(), Kind::Empty);
+    }
+}
+
+/// Puts the particles into models of new definitions.
+fn add_particles(form: &mut Form, count: usize) {
+    add_definitions(form, 12);
+    let known = form.definitions.len();
+    let mut left = count;
+    for definition in &form.definitions {
+        left -= particle_count(&definition.model);
+    }
+    for number in 0.. {
+        let elements: Vec<usize> = (0..known.min(left)).collect();
+        if elements.is_empty() {
+            break;
+        }
+        left -= elements.len();
+        let particle = |index| Particle {
+            quantifier: Quantifier::Star,
+            term: Term::Element(index),
+        };
+        form.definitions.push(Definition {
+            name: format!("list-{number}").into_bytes(),
+            kind: Kind::Complex,
+            model: elements.into_iter().map(particle).collect(),
+        });
+    }
+}
+
+fn add_attributes(rng: &mut Rng, form: &mut Form, count: usize) {
+    for number in form.attributes.len()..count {
+        let attribute = Attribute {
+            owner: rng.below(form.definitions.len()),
+            name: format!("more-{number}").into_bytes(),
+            sort: AttributeSort::Implied,
+            value: Vec::new(),
+        };
+        edit::add_attribute(form, attribute);
+    }
+}
+
+/// Copies documents as long as there is room, then adds single rows: the last
+/// definition is EMPTY and has no attributes.
+fn add_documents(rng: &mut Rng, store: &mut Store, count: usize) {
+    let mut rows = store.row_count();
+    while rows < count {
+        let copy = rng.pick(&store.documents).cloned();
+        let room = count - rows;
+        let document = copy
+            .filter(|document| document.row_count() <= room)
+            .unwrap_or(Element {
+                definition: store.form.definitions.len() - 1,
+                serial: 0,
+                attributes: Vec::new(),
+                content: Vec::new(),
+            });
+        rows += document.row_count();
+        store.documents.push(document);
+    }
 }
 
 /// Changes one element of the document in a way that XML text shows; the

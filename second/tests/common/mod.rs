@@ -1,11 +1,15 @@
 //! What the tests share: the seed, and one step of a history with its book.
 #![allow(dead_code)]
 
+pub mod notation;
+pub mod play;
+
 use second::layout;
 use second::random::calls;
 use second::rng::Rng;
 use second::store::Store;
 use second::{apply, check, rows, Answer, Book, Call};
+use std::sync::OnceLock;
 
 /// The longest store that the ceilings allow.
 pub const LONGEST: usize = 40 + 64 * 20 + 256 * 4 + 64 * 52 + 4096 * 44;
@@ -57,17 +61,21 @@ pub struct Moment {
     pub bytes: Vec<u8>,
     pub store: Store,
     pub book: Book,
-    /// What the output buffers hold before a call.
-    background: Vec<u8>,
+}
+
+/// What the output buffers hold before a call.
+fn background() -> &'static [u8] {
+    static BYTES: OnceLock<Vec<u8>> = OnceLock::new();
+    BYTES.get_or_init(|| Rng::new(1).bytes(LONGEST))
 }
 
 impl Moment {
-    pub fn fresh(rng: &mut Rng) -> Moment {
-        Moment::at(rng, Store::fresh())
+    pub fn fresh() -> Moment {
+        Moment::at(Store::fresh())
     }
 
     /// The start of a history at a store that was built.
-    pub fn at(rng: &mut Rng, store: Store) -> Moment {
+    pub fn at(store: Store) -> Moment {
         let bytes = layout::encode(&store);
         assert_eq!(check(&bytes), 0, "a built store passes");
         let lines = rows(&bytes).expect("it passes");
@@ -75,7 +83,6 @@ impl Moment {
             book: Book::starting(store.next_serial, store.form.clone(), lines),
             bytes,
             store,
-            background: rng.bytes(LONGEST),
         }
     }
 
@@ -86,13 +93,11 @@ impl Moment {
     /// Runs the call with a buffer of this length; the part of the buffer that
     /// the answer does not speak of keeps its content.
     pub fn run(&self, call: &Call, length: usize) -> (Answer, Vec<u8>) {
-        let mut out = self.background[..length].to_vec();
+        let mut out = background()[..length].to_vec();
         let answer = apply(call, &self.bytes, &mut out);
         assert!(answer.number == 0 || answer.length == 0, "{call:?}");
-        let (kept, before) = (
-            &out[answer.length..],
-            &self.background[answer.length..length],
-        );
+        let kept = &out[answer.length..];
+        let before = &background()[answer.length..length];
         assert!(kept == before, "{call:?} wrote past its length");
         out.truncate(answer.length);
         (answer, out)

@@ -65,6 +65,14 @@ impl Book {
         if !accepted {
             return;
         }
+        match call.number() {
+            1 | 2 | 9 | 10 => self.note_form(call),
+            3..=8 => self.note_model(call),
+            _ => self.note_documents(call),
+        }
+    }
+
+    fn note_form(&mut self, call: &Call) {
         match call {
             Call::CreateDefinition { name, kind } => {
                 edit::create_definition(&mut self.form, name, code(*kind));
@@ -79,29 +87,7 @@ impl Book {
                 value,
             } => self.add_attribute(*owner as usize, name, code(*sort), value),
             Call::DestroyAttribute { attribute } => self.destroy_attribute(*attribute as usize),
-            Call::AddDocument { definition, text } => {
-                let at = self.lines.len();
-                self.insert_filling(at, 0, *definition as usize, text);
-            }
-            Call::AddElement {
-                parent,
-                child,
-                definition,
-                text,
-            } => self.add_element(*parent, *child as usize, *definition as usize, text),
-            Call::DestroyElement { element } => self.take(*element),
-            Call::SetAttribute {
-                element,
-                attribute,
-                value,
-            } => self.set_attribute(*element, *attribute as usize, value),
-            Call::DestroyAttributeRow { element, attribute } => {
-                let name = self.form.attributes[*attribute as usize].name.clone();
-                let row = self.attribute_line(*element, &name);
-                self.take(row.expect("an accepted call names a row"));
-            }
-            Call::SetText { element, text } => self.set_text(*element, text),
-            _ => self.note_model(call),
+            _ => unreachable!("no change of definitions or attributes"),
         }
     }
 
@@ -115,13 +101,7 @@ impl Book {
                 text,
             } => {
                 let (owner, definition) = (*owner as usize, *definition as usize);
-                let quantifier = code(*quantifier);
-                edit::insert_element(&mut self.form, owner, place, definition, quantifier);
-                let model = &self.form.definitions[owner].model;
-                if quantifier.is_required() && in_spine_list(model, place) {
-                    let term = Term::Element(definition);
-                    self.fill(owner, &Particle { quantifier, term }, text);
-                }
+                self.insert_element(owner, place, definition, code(*quantifier), text);
             }
             Call::RemoveElement { owner, place } => self.remove_element(*owner as usize, place),
             Call::ChangeQuantifier {
@@ -149,6 +129,34 @@ impl Book {
                 edit::flatten_group(&mut self.form, *owner as usize, place);
             }
             _ => unreachable!("no change of a model"),
+        }
+    }
+
+    fn note_documents(&mut self, call: &Call) {
+        match call {
+            Call::AddDocument { definition, text } => {
+                let at = self.lines.len();
+                self.insert_filling(at, 0, *definition as usize, text);
+            }
+            Call::AddElement {
+                parent,
+                child,
+                definition,
+                text,
+            } => self.add_element(*parent, *child as usize, *definition as usize, text),
+            Call::DestroyElement { element } => self.take(*element),
+            Call::SetAttribute {
+                element,
+                attribute,
+                value,
+            } => self.set_attribute(*element, *attribute as usize, value),
+            Call::DestroyAttributeRow { element, attribute } => {
+                let name = self.form.attributes[*attribute as usize].name.clone();
+                let row = self.attribute_line(*element, &name);
+                self.take(row.expect("an accepted call names a row"));
+            }
+            Call::SetText { element, text } => self.set_text(*element, text),
+            _ => unreachable!("no change of a document"),
         }
     }
 }
@@ -367,6 +375,23 @@ impl Book {
 
 /// The row rules of the single changes.
 impl Book {
+    /// 3: a NONE or PLUS member in a spine list gives each instance a filling.
+    fn insert_element(
+        &mut self,
+        owner: usize,
+        place: &[u32],
+        definition: usize,
+        quantifier: Quantifier,
+        text: &[u8],
+    ) {
+        edit::insert_element(&mut self.form, owner, place, definition, quantifier);
+        let model = &self.form.definitions[owner].model;
+        if quantifier.is_required() && in_spine_list(model, place) {
+            let term = Term::Element(definition);
+            self.fill(owner, &Particle { quantifier, term }, text);
+        }
+    }
+
     /// 4: those children of instances go.
     fn remove_element(&mut self, owner: usize, place: &[u32]) {
         let particle = picked(&self.form.definitions[owner].model, place).clone();

@@ -4,7 +4,7 @@
 use crate::model::list_mut;
 use crate::store::*;
 
-/// 1. Create definition (appended).
+/// Change 1. Create definition (appended).
 pub fn create_definition(form: &mut Form, name: &[u8], kind: Kind) {
     form.definitions.push(Definition {
         name: name.to_vec(),
@@ -13,7 +13,7 @@ pub fn create_definition(form: &mut Form, name: &[u8], kind: Kind) {
     });
 }
 
-/// 2. Destroy definition, with its model and attributes.
+/// Change 2. Destroy definition, with its model and attributes.
 pub fn destroy_definition(form: &mut Form, index: usize) {
     form.definitions.remove(index);
     form.attributes.retain(|attribute| attribute.owner != index);
@@ -49,7 +49,7 @@ fn list_at<'a>(form: &'a mut Form, owner: usize, place: &[u32]) -> (&'a mut Vec<
     (members, place[place.len() - 1] as usize)
 }
 
-/// 3. Insert element.
+/// Change 3. Insert element.
 pub fn insert_element(
     form: &mut Form,
     owner: usize,
@@ -62,19 +62,19 @@ pub fn insert_element(
     members.insert(gap, Particle { quantifier, term });
 }
 
-/// 4. Remove element.
+/// Change 4. Remove element.
 pub fn remove_element(form: &mut Form, owner: usize, place: &[u32]) {
     let (members, number) = list_at(form, owner, place);
     members.remove(number - 1);
 }
 
-/// 5 and 8. Change the quantifier of an element or of a group.
+/// Changes 5 and 8. Change the quantifier of an element or of a group.
 pub fn change_quantifier(form: &mut Form, owner: usize, place: &[u32], quantifier: Quantifier) {
     let (members, number) = list_at(form, owner, place);
     members[number - 1].quantifier = quantifier;
 }
 
-/// 6. Convert `count` members into an unquantified group.
+/// Change 6. Convert `count` members into an unquantified group.
 pub fn convert_to_group(
     form: &mut Form,
     owner: usize,
@@ -92,7 +92,7 @@ pub fn convert_to_group(
     members.insert(start, group);
 }
 
-/// 7. Flatten a group into its list.
+/// Change 7. Flatten a group into its list.
 pub fn flatten_group(form: &mut Form, owner: usize, place: &[u32]) {
     let (members, number) = list_at(form, owner, place);
     if let Term::Group(_, inner) = members.remove(number - 1).term {
@@ -100,7 +100,7 @@ pub fn flatten_group(form: &mut Form, owner: usize, place: &[u32]) {
     }
 }
 
-/// 9. Add attribute, as its owner's last. Gives its index.
+/// Change 9. Add attribute, as its owner's last. Gives its index.
 pub fn add_attribute(form: &mut Form, attribute: Attribute) -> usize {
     let later = |other: &Attribute| other.owner > attribute.owner;
     let first_later = form.attributes.iter().position(later);
@@ -109,7 +109,7 @@ pub fn add_attribute(form: &mut Form, attribute: Attribute) -> usize {
     index
 }
 
-/// 10. Destroy attribute.
+/// Change 10. Destroy attribute.
 pub fn destroy_attribute(form: &mut Form, index: usize) {
     form.attributes.remove(index);
 }

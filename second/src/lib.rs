@@ -30,7 +30,7 @@ pub use changes::models::{
     change_group_quantifier, change_quantifier, convert_to_group, flatten_group, insert_element,
     remove_element,
 };
-pub use check::check;
+pub use check::{check, read};
 pub use outcome::{Answer, Refusal};
 pub use print::{look_up, print};
 pub use rows::{rows, Row, RowSort};

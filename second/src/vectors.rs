@@ -207,7 +207,11 @@ fn compare_output(parts: &mut Parts, run: impl FnOnce(&mut [u8]) -> Answer) -> R
 
 /// The vectors write 1 for a store that passes, the call answers 0.
 fn compare_check(store: &[u8], parts: &mut Parts) -> Result<(), String> {
-    let passes = parts.number()? == 1;
+    let passes = match parts.number()? {
+        0 => false,
+        1 => true,
+        other => return Err(format!("no answer of a check: {other}")),
+    };
     parts.end()?;
     if (check(store) == 0) == passes {
         Ok(())

@@ -3,7 +3,7 @@
 
 mod common;
 
-use common::{seed, Counts, Moment, LONGEST};
+use common::{seed, Counts, Moment, Named, LONGEST};
 use second::check::Judge;
 use second::layout::encode;
 use second::random::calls::{call, places_of};
@@ -23,8 +23,10 @@ fn histories_from_built_stores() {
     let mut counts = Counts::new();
     let start = Instant::now();
     let mut number = 0;
-    while number < 1000 || start.elapsed() < TIME {
-        let mut rng = Rng::new(seed.wrapping_add(number));
+    while number < 3000 || start.elapsed() < TIME {
+        let seed = seed.wrapping_add(number);
+        let _named = Named(seed);
+        let mut rng = Rng::new(seed);
         let store = match rng.below(40) {
             0 => documents::store(&mut rng, 64, 64, 4096),
             1 => documents::crowded_store(&mut rng),
@@ -90,8 +92,10 @@ fn models_with_every_short_word() {
     let mut counts = Counts::new();
     let start = Instant::now();
     let mut models = 0;
-    while models < 150 || (models < 600 && start.elapsed() < TIME) {
-        let mut rng = Rng::new(seed.wrapping_add(models));
+    while models < 300 || start.elapsed() < TIME {
+        let seed = seed.wrapping_add(models);
+        let _named = Named(seed);
+        let mut rng = Rng::new(seed);
         let store = store_of_words(&mut rng);
         let before = words_of(&store.form);
         let calls = all_calls(&store.form.definitions[OWNER].model);

@@ -2,7 +2,7 @@
 
 mod common;
 
-use common::{seed, Counts, Moment};
+use common::{seed, Counts, Moment, Named};
 use second::rng::Rng;
 use second::Call;
 use std::collections::HashSet;
@@ -19,7 +19,9 @@ fn book_agrees_after_every_call() {
     let start = Instant::now();
     let mut histories = 0;
     while histories < HISTORIES || start.elapsed() < TIME {
-        let mut rng = Rng::new(seed.wrapping_add(histories as u64));
+        let seed = seed.wrapping_add(histories as u64);
+        let _named = Named(seed);
+        let mut rng = Rng::new(seed);
         history(&mut rng, &mut counts);
         histories += 1;
     }
@@ -28,8 +30,9 @@ fn book_agrees_after_every_call() {
     for change in 1..=16 {
         assert!(counts.accepted[change] >= 200, "change {change}");
     }
+    // No history from the fresh store comes to a bad store or to the last serial.
     for number in (2..=16).chain([18]) {
-        assert!(counts.numbers[number] >= 20, "refusal {number}");
+        assert!(counts.numbers[number] >= 5, "refusal {number}");
     }
 }
 

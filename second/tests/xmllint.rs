@@ -92,7 +92,7 @@ fn is_valid(file: &Path) -> bool {
         .status();
     let status = status.expect("xmllint must be installed (Debian: libxml2-utils)");
     let code = status.code().expect("xmllint ends by itself");
-    // 1: not well-formed, 3: not valid, 4: both; all else is trouble of another sort.
+    // 1: not well-formed; 3, 4: not valid; all else is trouble of another sort.
     assert!(matches!(code, 0 | 1 | 3 | 4), "xmllint ends with {code}");
     code == 0
 }

@@ -3,8 +3,13 @@
 use std::process::ExitCode;
 
 fn main() -> ExitCode {
+    let files: Vec<String> = std::env::args().skip(1).collect();
+    if files.is_empty() {
+        eprintln!("usage: vectors FILE..");
+        return ExitCode::from(2);
+    }
     let (mut passed, mut failed) = (0, 0);
-    for file in std::env::args().skip(1) {
+    for file in files {
         let text = match std::fs::read_to_string(&file) {
             Ok(text) => text,
             Err(error) => {

@@ -6,7 +6,7 @@ use crate::filling::Maker;
 use crate::outcome::{refuse_if, Answer, Refusal};
 use crate::store::*;
 
-/// 11. New last document, a filling.
+/// Change 11. New last document, a filling.
 pub fn add_document(store: &[u8], definition: u32, text: &[u8], out: &mut [u8]) -> Answer {
     run(store, out, |store| {
         good_value(text)?;
@@ -22,7 +22,7 @@ fn word_of(element: &Element) -> Vec<usize> {
     element.children().map(|child| child.definition).collect()
 }
 
-/// 12. Add a filling as child number `child` of the row `parent`.
+/// Change 12. Add a filling as child number `child` of the row `parent`.
 pub fn add_element(
     store: &[u8],
     parent: u32,
@@ -50,7 +50,7 @@ pub fn add_element(
     })
 }
 
-/// 13. Destroy element or whole document.
+/// Change 13. Destroy element or whole document.
 pub fn destroy_element(store: &[u8], element: u32, out: &mut [u8]) -> Answer {
     run(store, out, |store| {
         refuse_if(store.element(element).is_none(), Refusal::NoRow)?;
@@ -84,7 +84,7 @@ fn attribute_of(store: &Store, element: u32, attribute: u32) -> Result<usize, Re
     Ok(index)
 }
 
-/// 14. Set attribute, keeping the serial if present.
+/// Change 14. Set attribute, keeping the serial if present.
 pub fn set_attribute(
     store: &[u8],
     element: u32,
@@ -115,7 +115,7 @@ pub fn set_attribute(
     })
 }
 
-/// 15. Destroy attribute row.
+/// Change 15. Destroy attribute row.
 pub fn destroy_attribute_row(store: &[u8], element: u32, attribute: u32, out: &mut [u8]) -> Answer {
     run(store, out, |store| {
         let index = attribute_of(store, element, attribute)?;
@@ -129,7 +129,7 @@ pub fn destroy_attribute_row(store: &[u8], element: u32, attribute: u32, out: &m
     })
 }
 
-/// 16. Set a PCDATA element's text.
+/// Change 16. Set a PCDATA element's text.
 pub fn set_text(store: &[u8], element: u32, text: &[u8], out: &mut [u8]) -> Answer {
     run(store, out, |store| {
         good_value(text)?;

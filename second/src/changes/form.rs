@@ -8,7 +8,7 @@ use crate::model::elements_of;
 use crate::outcome::{refuse_if, Answer, Refusal};
 use crate::store::*;
 
-/// 1. Create definition.
+/// Change 1. Create definition.
 pub fn create_definition(store: &[u8], name: &[u8], kind: u32, out: &mut [u8]) -> Answer {
     run(store, out, |store| {
         refuse_if(!name_ok(name), Refusal::BadName)?;
@@ -21,7 +21,7 @@ pub fn create_definition(store: &[u8], name: &[u8], kind: u32, out: &mut [u8]) -
     })
 }
 
-/// 2. Destroy definition, with its model and attributes.
+/// Change 2. Destroy definition, with its model and attributes.
 pub fn destroy_definition(store: &[u8], definition: u32, out: &mut [u8]) -> Answer {
     run(store, out, |store| {
         let form = &store.form;
@@ -50,7 +50,7 @@ pub fn destroy_definition(store: &[u8], definition: u32, out: &mut [u8]) -> Answ
     })
 }
 
-/// 9. Add attribute: REQUIRED adds a row to each instance.
+/// Change 9. Add attribute: REQUIRED adds a row to each instance.
 pub fn add_attribute(
     store: &[u8],
     owner: u32,
@@ -112,7 +112,7 @@ fn add_rows(store: &mut Store, owner: usize, attribute: usize) -> Result<usize, 
     Ok(maker.made)
 }
 
-/// 10. Destroy attribute, rows too.
+/// Change 10. Destroy attribute, rows too.
 pub fn destroy_attribute(store: &[u8], attribute: u32, out: &mut [u8]) -> Answer {
     run(store, out, |store| {
         let index = known(attribute, store.form.attributes.len())?;

@@ -3,7 +3,7 @@
 use super::{coded, for_each_instance, good_value, known, run};
 use crate::edit;
 use crate::filling::Maker;
-use crate::model::{elements_of, find_gap, find_member, reached_from, Set};
+use crate::model::{elements_of, find_gap, find_member, reached_from, Set, Spot};
 use crate::outcome::{refuse_if, Answer, Refusal};
 use crate::store::*;
 
@@ -44,7 +44,32 @@ fn fill_gaps(
     Ok(maker.made)
 }
 
-/// 3. Insert element with quantifier and default text.
+/// The element that a place picks, with its quantifier; a group is of the wrong
+/// sort there.
+fn find_element<'a>(
+    model: &'a [Particle],
+    place: &[u32],
+) -> Result<(Spot<'a>, Quantifier, usize), Refusal> {
+    match find_member(model, place) {
+        Some((spot, particle)) => match particle.term {
+            Term::Element(index) => Ok((spot, particle.quantifier, index)),
+            Term::Group(..) => Err(Refusal::NoPlace),
+        },
+        None => Err(Refusal::NoPlace),
+    }
+}
+
+/// The group that a place picks; an element is of the wrong sort there.
+fn find_group<'a>(
+    model: &'a [Particle],
+    place: &[u32],
+) -> Result<(Spot<'a>, &'a Particle), Refusal> {
+    find_member(model, place)
+        .filter(|(_, particle)| matches!(particle.term, Term::Group(..)))
+        .ok_or(Refusal::NoPlace)
+}
+
+/// Change 3. Insert element with quantifier and default text.
 pub fn insert_element(
     store: &[u8],
     owner: u32,
@@ -82,15 +107,12 @@ pub fn insert_element(
     })
 }
 
-/// 4. Remove element: those children of instances go, with all below them.
+/// Change 4. Remove element: those children of instances go, with all below them.
 pub fn remove_element(store: &[u8], owner: u32, place: &[u32], out: &mut [u8]) -> Answer {
     run(store, out, |store| {
         let owner = known(owner, store.form.definitions.len())?;
         let model = &store.form.definitions[owner].model;
-        let (spot, particle) = find_member(model, place).ok_or(Refusal::NoPlace)?;
-        let Term::Element(index) = particle.term else {
-            return Err(Refusal::NoPlace);
-        };
+        let (spot, _, index) = find_element(model, place)?;
         if let Some(group) = spot.group {
             refuse_if(spot.members.len() == 1, Refusal::Grouping)?;
             let mut rest = spot.members.to_vec();
@@ -112,7 +134,7 @@ pub fn remove_element(store: &[u8], owner: u32, place: &[u32], out: &mut [u8]) -
     })
 }
 
-/// 5. Change an element's quantifier. In a spine list: cut keeps each
+/// Change 5. Change an element's quantifier. In a spine list: cut keeps each
 /// instance's first; gain puts a filling where none stands.
 pub fn change_quantifier(
     store: &[u8],
@@ -127,11 +149,7 @@ pub fn change_quantifier(
         let new: Quantifier = coded(quantifier)?;
         let owner = known(owner, store.form.definitions.len())?;
         let model = &store.form.definitions[owner].model;
-        let (spot, particle) = find_member(model, place).ok_or(Refusal::NoPlace)?;
-        let Term::Element(index) = particle.term else {
-            return Err(Refusal::NoPlace);
-        };
-        let old = particle.quantifier;
+        let (spot, old, index) = find_element(model, place)?;
         let (gains, cuts) = (old.gains_to(new), old.cuts_to(new));
         refuse_if(gains && text.is_empty(), Refusal::Default)?;
         let blocked = !old.relaxes_to(new) && !spot.on_spine && store.has_instance(owner);
@@ -165,7 +183,7 @@ fn keep_first(definition: usize, content: &mut Vec<Node>) {
     });
 }
 
-/// 6. Convert `count` members from a place on into a group, unquantified.
+/// Change 6. Convert `count` members from a place on into a group, unquantified.
 pub fn convert_to_group(
     store: &[u8],
     owner: u32,
@@ -188,24 +206,24 @@ pub fn convert_to_group(
     })
 }
 
-/// 7. Flatten a group into its list.
+/// Change 7. Flatten a group into its list.
 pub fn flatten_group(store: &[u8], owner: u32, place: &[u32], out: &mut [u8]) -> Answer {
     run(store, out, |store| {
         let owner = known(owner, store.form.definitions.len())?;
         let model = &store.form.definitions[owner].model;
-        let (spot, particle) = find_member(model, place).ok_or(Refusal::NoPlace)?;
-        let Term::Group(kind, members) = &particle.term else {
-            return Err(Refusal::NoPlace);
+        let (spot, group) = find_group(model, place)?;
+        let quantified = group.quantifier != Quantifier::None;
+        let other_sort = match &group.term {
+            Term::Group(kind, members) => members.len() > 1 && *kind != spot.kind,
+            Term::Element(_) => false,
         };
-        let quantified = particle.quantifier != Quantifier::None;
-        let other_sort = members.len() > 1 && *kind != spot.kind;
         refuse_if(quantified || other_sort, Refusal::Grouping)?;
         edit::flatten_group(&mut store.form, owner, place);
         Ok(0)
     })
 }
 
-/// 8. Change a group's quantifier. A gain in a spine list gives an instance
+/// Change 8. Change a group's quantifier. A gain in a spine list gives an instance
 /// without a child of the group the group's filling.
 pub fn change_group_quantifier(
     store: &[u8],
@@ -220,10 +238,7 @@ pub fn change_group_quantifier(
         let new: Quantifier = coded(quantifier)?;
         let owner = known(owner, store.form.definitions.len())?;
         let model = &store.form.definitions[owner].model;
-        let (spot, particle) = find_member(model, place).ok_or(Refusal::NoPlace)?;
-        if !matches!(particle.term, Term::Group(..)) {
-            return Err(Refusal::NoPlace);
-        }
+        let (spot, particle) = find_group(model, place)?;
         let old = particle.quantifier;
         let gains = old.gains_to(new);
         refuse_if(gains && text.is_empty(), Refusal::Default)?;

@@ -124,8 +124,9 @@ impl Drawer<'_> {
         text
     }
 
+    /// Mostly not empty.
     fn full_text(&mut self) -> Vec<u8> {
-        if self.is_hostile() {
+        if self.is_hostile() || self.rng.chance(5) {
             return self.text();
         }
         full_value(self.rng)
@@ -306,8 +307,8 @@ impl Drawer<'_> {
             6 => Call::ConvertToGroup {
                 owner,
                 place,
-                count: self.rng.below(3) as u32 + self.index(2),
-                sort: 1 + self.index(2).min(u32::MAX - 1),
+                count: self.index(3).wrapping_add(self.index(2)),
+                sort: self.index(2).wrapping_add(1),
             },
             7 => Call::FlattenGroup { owner, place },
             _ => Call::ChangeGroupQuantifier {

@@ -24,7 +24,7 @@ fn damage(rng: &mut Rng, bytes: &mut Vec<u8>) {
     let at = rng.below(bytes.len());
     match rng.below(8) {
         0 => bytes[at] ^= 1 << rng.below(8),
-        1 => bytes[at] = rng.next() as u8,
+        1 => bytes[at] = rng.draw() as u8,
         2 => bytes[at] = bytes[at].wrapping_add(1),
         3 => bytes[at] = bytes[at].wrapping_sub(1),
         4 => bytes.truncate(at),
@@ -67,7 +67,7 @@ fn set_header_number(rng: &mut Rng, bytes: &mut [u8]) {
         1 => old.wrapping_sub(1),
         2 => 0,
         3 => u32::MAX,
-        _ => rng.next() as u32,
+        _ => rng.draw() as u32,
     };
     bytes[at..at + 4].copy_from_slice(&new.to_le_bytes());
 }

@@ -29,6 +29,17 @@ pub fn seed() -> u64 {
     seed
 }
 
+/// Names the seed of one history, so that it can be run first and alone.
+pub struct Named(pub u64);
+
+impl Drop for Named {
+    fn drop(&mut self) {
+        if std::thread::panicking() {
+            println!("it fails at once with FORM_SEED={}", self.0);
+        }
+    }
+}
+
 /// How often each change was accepted, and how often each number was given.
 pub struct Counts {
     pub accepted: [usize; 17],

@@ -7,7 +7,9 @@ use common::notation::{model, store};
 use common::play::Play;
 use second::layout::encode;
 use second::model::Language;
-use second::store::{Definition, Kind, Particle, Quantifier, Store, Term};
+use second::store::{
+    Attribute, AttributeSort, Definition, Kind, Particle, Quantifier, Store, Term,
+};
 use second::*;
 
 const A: usize = 1;
@@ -215,6 +217,46 @@ fn serials_at_the_end() {
     assert_eq!(second::layout::u32_at(&play.bytes, 4), u32::MAX);
 }
 
+/// The answers of the seven changes that make rows, on a store of documents
+/// `m` without children.
+fn answers_of_makers(words: &[&str], next_serial: u32) -> [u32; 7] {
+    let mut built = store("(a?,(b)?)", words);
+    built.next_serial = next_serial;
+    built.form.attributes.push(Attribute {
+        owner: 0,
+        name: b"n".to_vec(),
+        sort: AttributeSort::Implied,
+        value: Vec::new(),
+    });
+    let play = || Play {
+        bytes: encode(&built),
+    };
+    [
+        play().call(|s, o| insert_element(s, 0, &[0], X, PLUS, b"-", o)),
+        play().call(|s, o| change_quantifier(s, 0, &[1], PLUS, b"-", o)),
+        play().call(|s, o| change_group_quantifier(s, 0, &[2], NONE, b"-", o)),
+        play().call(|s, o| add_attribute(s, 0, b"r", 1, b"-", o)),
+        play().call(|s, o| add_document(s, 0, b"", o)),
+        play().call(|s, o| add_element(s, 1, 0, A as u32, b"", o)),
+        play().call(|s, o| set_attribute(s, 1, 0, b"", o)),
+    ]
+}
+
+#[test]
+fn ceilings_and_serials_of_all_makers() {
+    assert_eq!(answers_of_makers(&[""], 2), [0; 7]);
+    assert_eq!(answers_of_makers(&[""], u32::MAX - 1), [0; 7]);
+    assert_eq!(answers_of_makers(&[""], u32::MAX), [17; 7]);
+    let full = vec![""; 4096];
+    assert_eq!(answers_of_makers(&full, 5000), [16; 7]);
+    assert_eq!(answers_of_makers(&full, u32::MAX), [16; 7]);
+    let half = vec![""; 2048];
+    assert_eq!(answers_of_makers(&half, 5000), [0; 7]);
+    let over_half = vec![""; 2049];
+    let wanted = [16, 16, 16, 16, 0, 0, 0];
+    assert_eq!(answers_of_makers(&over_half, 5000), wanted);
+}
+
 #[test]
 fn short_and_long_strings() {
     assert_eq!(fresh().len(), 40);
@@ -227,8 +269,8 @@ fn short_and_long_strings() {
     assert_eq!(number, 1);
 }
 
-/// Each definition has all later ones in its model, so the filling of the first
-/// has 2^63 rows. It must be refused, and at once.
+/// Each definition has the four behind it in its model, so the filling of the
+/// first has over 2^50 rows. It must be refused, and at once.
 #[test]
 fn enormous_filling() {
     let mut store = Store::fresh();
@@ -250,6 +292,56 @@ fn enormous_filling() {
     assert_eq!(check(&play.bytes), 0);
     assert_eq!(play.call(|s, o| add_document(s, 0, b"", o)), 16);
     play.accept(|s, o| add_document(s, 55, b"", o));
+}
+
+#[test]
+fn lowest_refusal_in_forms() {
+    let mut play = built("((a|b)*)", &["a"]);
+    play.accept(|s, o| add_attribute(s, 1, b"n", 0, b"", o));
+    // Change 3: a place in an EMPTY owner; texts that are not used; row 12 in a CHOICE.
+    assert_eq!(
+        play.call(|s, o| insert_element(s, 1, &[1], X, NONE, b"", o)),
+        8
+    );
+    assert_eq!(
+        play.call(|s, o| insert_element(s, 1, &[0], X, NONE, b"", o)),
+        9
+    );
+    assert_eq!(
+        play.call(|s, o| insert_element(s, 0, &[0], X, STAR, b"\n", o)),
+        3
+    );
+    assert_eq!(
+        play.call(|s, o| insert_element(s, 0, &[1, 0], X, NONE, b"", o)),
+        12
+    );
+    assert_eq!(
+        play.call(|s, o| insert_element(s, 0, &[1, 0], X, 4, b"", o)),
+        4
+    );
+    // Change 9: the name is asked before the owner, but no owner has no names.
+    assert_eq!(play.call(|s, o| add_attribute(s, 1, b"n", 0, b"v", o)), 5);
+    assert_eq!(play.call(|s, o| add_attribute(s, 5, b"n", 0, b"v", o)), 6);
+    assert_eq!(play.call(|s, o| add_attribute(s, 1, b"i", 0, b"v", o)), 12);
+    assert_eq!(play.call(|s, o| add_attribute(s, 1, b"f", 2, b"", o)), 0);
+}
+
+#[test]
+fn lowest_refusal_in_documents() {
+    let mut play = built("((a|b)*)", &["a"]);
+    play.accept(|s, o| add_attribute(s, 1, b"n", 0, b"", o));
+    play.accept(|s, o| add_attribute(s, 1, b"f", 2, b"", o));
+    // Change 12: the definition before the row, the row before the number.
+    assert_eq!(play.call(|s, o| add_element(s, 9, 9, 5, b"", o)), 6);
+    assert_eq!(play.call(|s, o| add_element(s, 9, 9, 2, b"", o)), 7);
+    assert_eq!(play.call(|s, o| add_element(s, 2, 1, 2, b"", o)), 8);
+    assert_eq!(play.call(|s, o| add_element(s, 2, 0, 2, b"", o)), 15);
+    // Changes 14 and 15.
+    assert_eq!(play.call(|s, o| set_attribute(s, 9, 2, b"", o)), 6);
+    assert_eq!(play.call(|s, o| set_attribute(s, 9, 0, b"", o)), 7);
+    assert_eq!(play.call(|s, o| set_attribute(s, 1, 0, b"", o)), 6);
+    assert_eq!(play.call(|s, o| set_attribute(s, 2, 1, b"v", o)), 15);
+    assert_eq!(play.call(|s, o| destroy_attribute_row(s, 2, 1, o)), 7);
 }
 
 #[test]

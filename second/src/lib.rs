@@ -3,6 +3,10 @@
 //! bytes, so it shares nothing with it.
 //!
 //! The names and the order of arguments are those of INTERFACE.md.
+//!
+//! The tests take the vectors from the folder FORM_VECTORS, or from
+//! `shared/vectors` beside the repository, and the seed of what is random from
+//! FORM_SEED, or from the clock; they print it.
 
 pub mod book;
 pub mod call;

@@ -119,7 +119,7 @@ fn models_with_every_short_word() {
     println!("{models} models");
     counts.print();
     for change in 3..=8 {
-        assert!(counts.accepted[change] >= 100, "change {change}");
+        assert!(counts.accepted[change] >= 20, "change {change}");
     }
 }
 

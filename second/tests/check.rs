@@ -117,8 +117,11 @@ fn good_stores_pass() {
     assert_eq!(check(&encode(&store)), 0);
 }
 
+/// The name of a rule, and a change of the trees that breaks it.
+type Break = (&'static str, fn(&mut Store));
+
 /// Each change of the trees leaves a store that does not pass.
-fn all_fail(breaks: &[(&str, fn(&mut Store))]) {
+fn all_fail(breaks: &[Break]) {
     for (rule, break_it) in breaks {
         let mut store = good();
         break_it(&mut store);

@@ -1,1 +1,3 @@
 pub mod RowEdits
+pub mod NumberTests
+pub mod Taking

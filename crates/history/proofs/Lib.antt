@@ -1,3 +1,4 @@
 pub mod RowEdits
 pub mod NumberTests
 pub mod Taking
+pub mod Making

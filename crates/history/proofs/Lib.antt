@@ -2,3 +2,4 @@ pub mod RowEdits
 pub mod NumberTests
 pub mod Taking
 pub mod Making
+pub mod Numbering

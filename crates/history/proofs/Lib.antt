@@ -3,3 +3,4 @@ pub mod NumberTests
 pub mod Taking
 pub mod Making
 pub mod Numbering
+pub mod Stable

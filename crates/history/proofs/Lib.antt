@@ -4,3 +4,4 @@ pub mod Taking
 pub mod Making
 pub mod Numbering
 pub mod Stable
+pub mod Agreement

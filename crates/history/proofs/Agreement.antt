@@ -15,7 +15,7 @@ use Rattle.rules.specs.Change.{Call, formAfter, Plan, plan, prune, revalue, eac
 use Rattle.rules.specs.Book.{Entry, stands, taken, Book, freshBook, untaken, mark, revalueEntry, expand, spotCount, marks, note}
 use Rattle.rules.specs.Run.{emptyStore}
 use Rattle.history.specs.History.{everMade}
-use Rattle.history.proofs.NumberTests.{ones, ones-least, times}
+use Rattle.history.proofs.NumberTests.{ones, ones-most, times}
 use Rattle.history.proofs.Taking
 use Rattle.history.proofs.Taking.{occurs, occurs-serials, count, Apart}
 use Rattle.history.proofs.Making
@@ -114,7 +114,7 @@ good-apart s g k = by (eqb k 0) refl
     by : (c : Bool) → eqb k 0 ≡ c → ones (eqb k 0) + 0 + occurs k (s .docs) ≤ 1
     by true q =
         let e : times k (serials (s .docs)) ≡ 0 = rw (eqb-eq k 0 q) (S .zero) in
-        omega (arith, ones-least (eqb k 0), occurs-serials k (s .docs))
+        omega (arith, ones-most (eqb k 0), occurs-serials k (s .docs))
     by false q = omega (arith, ap ones q, occurs-serials k (s .docs), S .once k)
 
 -- the book with the store's rows and no taken line
@@ -136,15 +136,16 @@ untaken-times k [] = omega arith
 untaken-times k (stands l ∷ es) = omega (arith, untaken-times k es)
 untaken-times k (taken l ∷ es) = omega (arith, untaken-times k es)
 
--- the serials of a store whose book has each once
+-- the serials of the untaken lines are the store's, in document order
+pub agree-rows : (s : Store) (b : Book) → Agree s b → lineSerials (untaken (b .entries)) ≡ serials (s .docs)
+agree-rows s b g = ap lineSerials (g .rows) ∙ lines-serials 0 (s .docs)
+
+-- a store whose book has each serial once has good serials
 pub agree-serials : (s : Store) (b : Book) → Agree s b → Once b → s .next ≤ highestNumber → GoodSerials (s .next) (s .docs)
 agree-serials s b g o most = record { once = spent-distinct S; below = spent-below S; least = S .least; most = most }
   where
-    same : lineSerials (untaken (b .entries)) ≡ serials (s .docs)
-    same = ap lineSerials (g .rows) ∙ lines-serials 0 (s .docs)
-
     S : Spent (s .next) (serials (s .docs))
-    S = rw (← (g .next), ← same) (spent-part (once-spent b o) (λ k. untaken-times k (b .entries)))
+    S = rw (← (g .next), ← (agree-rows s b g)) (spent-part (once-spent b o) (λ k. untaken-times k (b .entries)))
 
 pub serials-after : (c : Call) (s : Store) → GoodSerials (s .next) (s .docs) → after c s .next ≤ highestNumber → GoodSerials (after c s .next) (after c s .docs)
 serials-after c s g most =

@@ -288,17 +288,20 @@ placed-sketch p r b ms o s = by (p .fills r) refl
     by true q = rw (q, placed) (place-here p r b (r .serial ∷ []) ms (any-own (r .serial) []) o s)
     by false q = rw (q, placed)
 
+standing-append : (xs ys : List Line) (es : List Entry) → standing (xs ++ ys) ++ es ≡ standing xs ++ (standing ys ++ es)
+standing-append xs ys es = ap (λ (z : List Entry). z ++ es) (map-append (λ (l : Line). stands l) xs ys) ∙ append-assoc (standing xs) (standing ys) es
+
 spots-sketch : (p : Plan) (u : Row) (f : Forest Row) (es : List Entry) → ((k : ℕ) → occurs k f ≤ 1) → occurs (u .serial) f ≡ 0 → Next f es
     → spots p (standing (lines (u .serial) f) ++ es) ≡ sketch p u false f ++ spots p es
 unfolding sketch occurs spots
 spots-sketch p u bare es d o h = refl
 spots-sketch p u (tree r b t) es d o h =
     ap (λ (z : List Mark). old (stands (record { parent = u .serial; row = r })) ∷ z)
-    (ap (λ (z : List Entry). placed p r (spots p z))
-    (ap (λ (z : List Entry). z ++ es) (map-append (λ (l : Line). stands l) (lines (r .serial) b) (lines (u .serial) t)) ∙ append-assoc (standing (lines (r .serial) b)) (standing (lines (u .serial) t)) es)
-    ∙ rw (spots-sketch p r b (standing (lines (u .serial) t) ++ es) (λ k. omega (arith, d k)) (omega (arith, d (r .serial), ones-own (r .serial))) (next-below p u r b t es o h), spots-sketch p u t es (λ k. omega (arith, d k)) (omega arith) (next-part (tree r b t) t es (λ k e. omega arith) h))
+    (ap (λ (z : List Entry). placed p r (spots p z)) (standing-append (lines (r .serial) b) (lines (u .serial) t) es)
+    ∙ rw (spots-sketch p r b (standing (lines (u .serial) t) ++ es) (λ k. omega (arith, d k)) (omega (arith, d (r .serial), ones-own (r .serial))) (next-below p u r b t es o h))
+    (rw (spots-sketch p u t es (λ k. omega (arith, d k)) (omega arith) (next-part (tree r b t) t es (λ k e. omega arith) h))
     (placed-sketch p r b (sketch p u false t ++ spots p es) (omega (arith, d (r .serial), ones-own (r .serial))) (stop-here p u r b t es o h)
-    ∙ sym (append-assoc (sketch p r (p .fills r) b) (sketch p u false t) (spots p es))))
+    ∙ sym (append-assoc (sketch p r (p .fills r) b) (sketch p u false t) (spots p es)))))
 
 -- ---- marks without the taken lines
 unfoldable clean : List Mark → List Mark

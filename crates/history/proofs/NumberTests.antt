@@ -1,4 +1,4 @@
--- Equality of numbers as a test, and how often a number stands in a list.
+-- Equality of numbers as a test, how often a number stands in a list, and the numbers from one on.
 -- Assumes nothing.
 use Prim.Native.Nat.{ℕ, zero, suc, _+_, _≤_, _<_}
 use native.Mathlib.Omega.{arith}
@@ -29,9 +29,9 @@ abbrev pub ones : Bool → ℕ
 ones true = 1
 ones false = 0
 
-pub ones-least : (c : Bool) → ones c ≤ 1
-ones-least true = lit≤ tt
-ones-least false = lit≤ tt
+pub ones-most : (c : Bool) → ones c ≤ 1
+ones-most true = lit≤ tt
+ones-most false = lit≤ tt
 
 pub ones-zero : (c : Bool) → ones c ≡ 0 → c ≡ false
 ones-zero true h = absurd (let z : _≡_ {A = ℕ} 1 0 = h in omega arith)
@@ -73,7 +73,7 @@ distinct-times (n ∷ ns) = (
 )
   where
     by : (k : ℕ) (c : Bool) → eqb k n ≡ c → (List·Memᴰ n ns → ⊥) → times k ns ≤ 1 → ones (eqb k n) + times k ns ≤ 1
-    by k true q new x = omega (arith, ones-least (eqb k n), times-out k ns (rw (eqb-eq k n q) new))
+    by k true q new x = omega (arith, ones-most (eqb k n), times-out k ns (rw (eqb-eq k n q) new))
     by k false q new x = omega (arith, ap ones q)
 
 -- ---- the numbers from n on, m of them

@@ -1,15 +1,15 @@
 -- The book over time: its lines keep their order, serial, sort, name and parent, and stay taken; no serial is given twice, taken lines
 -- counted; the rows common to two moments are in the same order at both.
 -- Assumes nothing.
-use Prim.Native.Nat.{ℕ, zero, suc, _+_, _*_, _≤_, _<_}
+use Prim.Native.Nat.{ℕ, suc, _+_, _*_, _≤_, _<_}
 use native.Mathlib.Omega.{arith}
 use native.Mathlib.Nat.{mul-suc, mul-zero}
-use mathlib.Core.Path.{_≡_, refl, sym, ap, ap₂, _∙_, subst}
+use mathlib.Core.Path.{_≡_, refl, sym, ap, _∙_, subst}
 use mathlib.Core.Logic.{⊎-elim}
 use mathlib.Core.Bool.{Bool, true, false, _&&_, not}
-use mathlib.Core.List.{List, [], _∷_, _++_, map, map-append, List·Memᴰ, List·Memᴰ·head, List·Memᴰ·tail, List·Memᴰ·not-nil, List·Memᴰ·cases-cons, Memᴰ·cast}
+use mathlib.Core.List.{List, [], _∷_, _++_, map, map-append, List·Memᴰ, List·Memᴰ·head, List·Memᴰ·tail, List·Memᴰ·not-nil, List·Memᴰ·cases-cons}
 use lib.Dec.{eqb, lit≤}
-use Rattle.rules.specs.Bytes.{Bytes, numbers, any, eqb-of}
+use Rattle.rules.specs.Bytes.{Bytes, numbers, any}
 use Rattle.rules.specs.Model.{Distinct, member}
 use Rattle.rules.specs.Store.{Row, Forest}
 use Rattle.rules.specs.Lines.{Line, lines, ground}

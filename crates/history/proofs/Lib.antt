@@ -4,3 +4,9 @@ pub mod FormLaws
 pub mod ModelAfter
 pub mod Replacing
 pub mod WellFormedAfter
+pub mod NumberTests
+pub mod Taking
+pub mod Making
+pub mod Numbering
+pub mod Stable
+pub mod Agreement

@@ -10,3 +10,4 @@ pub mod Making
 pub mod Numbering
 pub mod Stable
 pub mod Agreement
+pub mod Theorem

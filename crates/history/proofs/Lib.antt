@@ -1,1 +1,2 @@
 pub mod RowEdits
+pub mod InstanceRows

@@ -1,23 +1,24 @@
 -- Changes 3 to 8: the rows that an edit fills with are neither the owner's nor of definitions that reach it, and conform before and after it.
 -- Assumes nothing.
-use Prim.Native.Nat.{ℕ, zero, suc}
+use Prim.Native.Nat.{ℕ, zero, suc, _<_}
+use native.Mathlib.Omega.{arith}
 use mathlib.Core.Path.{_≡_, refl, sym, ap, _∙_}
 use mathlib.Core.Logic.{_⊎_, inl, inr, ⊎-elim}
 use mathlib.Core.Bool.{Bool, true, false, _||_, false≢true}
 use mathlib.Core.Option.{Option, none, some}
-use mathlib.Core.List.{List, [], _∷_, _++_, map, List·Memᴰ, List·Memᴰ·head, List·Memᴰ·tail, List·Memᴰ·not-nil, List·Memᴰ·eq-of-singleton, Memᴰ·append-left, Memᴰ·append-right, Memᴰ·cast}
+use mathlib.Core.List.{List, [], _∷_, _++_, map, List·Memᴰ, List·Memᴰ·head, List·Memᴰ·tail, List·Memᴰ·not-nil, List·Memᴰ·eq-of-singleton, Memᴰ·append-left, Memᴰ·append-right, Memᴰ·cast, Memᴰ·map}
 use lib.Dec.{leb}
 use lib.ListN.{length}
 use Rattle.rules.specs.Bytes.{Bytes, same, bytes, isNone}
-use Rattle.rules.specs.Model.{Members, done, el, group, names, skips, nothing, unless, filling}
+use Rattle.rules.specs.Model.{Members, done, el, group, Distinct, names, skips, nothing, unless, filling}
 use Rattle.rules.specs.Place.{Context, plug, before, after, Found}
 use Rattle.rules.specs.Edit.{Edit, insert, remove, quantify, convert, flatten, place, placeOf}
 use Rattle.rules.specs.Store.{Content, complex, Definition, Form, RowSort, element, attribute, text, Row, Forest, bare, tree, modelOf, members}
-use Rattle.rules.specs.WellFormed.{lookup, known, membersOf, namesIn, Reaches, directly, through, GoodDefinition, wellFormed}
+use Rattle.rules.specs.WellFormed.{definitionName, lookup, known, membersOf, Reaches, directly, through, GoodDefinition, wellFormed}
 use Rattle.rules.specs.Conforming.{EveryRow, isElement, everyRow, fitsDefinition, fitsRow}
-use Rattle.rules.specs.Filling.{elementRow, fillEach, fillWithin, fillDefinition}
+use Rattle.rules.specs.Filling.{fillWithin, fillDefinition}
 use Rattle.rules.specs.Lines.{Line}
-use Rattle.rules.specs.Change.{Plan, groupFilling, nameAtIndex, update, editModel}
+use Rattle.rules.specs.Change.{groupFilling, definitionAt, nameAtIndex, update, editModel}
 use Rattle.rules.proofs.Apart.{differs, names-plug}
 use Rattle.rules.proofs.Height.{reaches-then}
 use Rattle.rules.proofs.Places.{found-gap, found-nth}
@@ -119,6 +120,18 @@ pub lookup-other : (n : Bytes) (o : ℕ) (u : Definition → Definition) (form :
 lookup-other n o u [] keeps f = refl
 lookup-other n zero u (d ∷ form) keeps f = lookup-past n (u d) form (λ e. f (e ∙ keeps d)) ∙ sym (lookup-past n d form f)
 lookup-other n (suc o) u (d ∷ form) keeps f = ap (λ (z : Option Definition). elim (same n (d .name)) as (λ x. Option Definition) [ true ↦ some d | false ↦ z ]) (lookup-other n o u form keeps f)
+
+pub definition-in : (i : ℕ) (form : Form) → i < length form → List·Memᴰ (definitionAt i form) form
+definition-in i [] l = absurd (omega arith)
+definition-in zero (d ∷ form) l = List·Memᴰ·head refl
+definition-in (suc i) (d ∷ form) l = List·Memᴰ·tail (definition-in i form (omega arith))
+
+pub lookup-this : (o : ℕ) (u : Definition → Definition) (form : Form) → o < length form → ((d : Definition) → u d .name ≡ d .name) → Distinct (map definitionName form) → lookup (nameAtIndex o form) (update o u form) ≡ some (u (definitionAt o form))
+lookup-this o u [] l keeps x = absurd (omega arith)
+lookup-this zero u (d ∷ form) l keeps x = rw (bytes .same← (d .name) (u d .name) (sym (keeps d)), lookup)
+lookup-this (suc o) u (d ∷ form) l keeps (new, x) =
+    lookup-past (nameAtIndex o form) d (update o u form) (λ q. new (Memᴰ·cast (sym q) (Memᴰ·map definitionName (definition-in o form (omega arith)))))
+    ∙ lookup-this o u form (omega arith) keeps x
 
 module _ (w : ℕ) (form : Form) (ok : wellFormed w form ≡ true) (d : Definition) (at : lookup (d .name) form ≡ some d) where
   member-outside : (m : Bytes) → List·Memᴰ m (names (members d)) → Outside form (d .name) m

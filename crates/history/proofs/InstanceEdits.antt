@@ -2,8 +2,8 @@
 -- Assumes nothing.
 use Prim.Native.Nat.{ℕ}
 use mathlib.Core.Path.{_≡_, refl, sym, ap, ap₂, _∙_}
-use mathlib.Core.Bool.{Bool, true, false, _&&_, _||_, not, false≢true}
-use mathlib.Core.Option.{Option, none, some}
+use mathlib.Core.Bool.{Bool, true, false, _&&_, not, false≢true}
+use mathlib.Core.Option.{some}
 use mathlib.Core.List.{List, [], _∷_, _++_, map, List·Memᴰ, List·Memᴰ·head, List·Memᴰ·tail}
 use lib.Dec.{eqb}
 use lib.ListN.{length}
@@ -14,11 +14,11 @@ use Rattle.rules.specs.Model.{Members, done, el, group, Distinct, names, skips,
 use Rattle.rules.specs.Quantifiers.{gains, cuts}
 use Rattle.rules.specs.Place.{Context, spine, before}
 use Rattle.rules.specs.Edit.{Edit, insert, remove, quantify, convert, flatten}
-use Rattle.rules.specs.Store.{Form, RowSort, element, attribute, Row, heads}
+use Rattle.rules.specs.Store.{Form, RowSort, element, attribute, Row}
 use Rattle.rules.specs.Conforming.{nameOf, Sorted, isElement}
-use Rattle.rules.specs.Filling.{elementRow, fillEach, fillDefinition}
+use Rattle.rules.specs.Filling.{elementRow}
 use Rattle.rules.specs.Lines.{Line, elementNamed, elementAmong, childrenOf, serialAt}
-use Rattle.rules.specs.Change.{Plan, keeping, taking, making, laterThan, insertPlan, removePlan, groupFilling, quantifyPlan}
+use Rattle.rules.specs.Change.{Plan, keeping, laterThan, insertPlan, removePlan, groupFilling, quantifyPlan}
 use Rattle.rules.proofs.Apart.{differs}
 use Rattle.rules.proofs.Letters.{member-in}
 use Rattle.rules.proofs.Children.{anyOf}
@@ -26,8 +26,8 @@ use Rattle.rules.proofs.ChildRows.{placeRows, firstRows, refitRows, refitGroupR
 use Rattle.rules.proofs.Height.{deep}
 use Rattle.rules.proofs.TestLaws.{all-test}
 use Rattle.rules.proofs.FillingLaws.{filling-heads, each-heads}
-use Rattle.history.proofs.RowEdits.{keep, revalued, childrenAfter}
-use Rattle.history.proofs.InstanceRows.{rowSerial, keep-all, keep-none, keep-beside, named-is, keep-erase, keep-first, named-none, among-none, whenDue, after-split}
+use Rattle.history.proofs.RowEdits.{keep, childrenAfter}
+use Rattle.history.proofs.InstanceRows.{rowSerial, keep-all, keep-none, keep-beside, named-is, keep-erase, keep-first, named-none, among-none, whenDue, after-split, untouched}
 
 -- the plan of an edit of the owner's model, at the place c before the members t
 abbrev pub editPlan : Form → List Line → Bytes → Bytes → Edit Bytes → Context Bytes → Members Bytes → Plan
@@ -196,3 +196,29 @@ module _ (form : Form) (ls : List Line) (owner txt : Bytes) (u : Row) (front bac
     edit-rows (quantify r) (group q k ms t) d = group-rows q r k ms t d
     edit-rows (convert j n) t d = keeping-rows
     edit-rows flatten t d = keeping-rows
+
+-- ---- other rows
+and-no : (a b : Bool) → b ≡ false → (a && b) ≡ false
+and-no true b e = e
+and-no false b e = refl
+
+no-and : (a b c : Bool) → b ≡ false → (a && (b && c)) ≡ false
+no-and a b c e = and-no a (b && c) (ap (λ (z : Bool). z && c) e)
+
+module _ (form : Form) (ls : List Line) (owner txt : Bytes) (u : Row) (rows : List Row) (other : elementNamed owner u ≡ false) (given : (x : Row) → List·Memᴰ x rows → x .serial ≡ 0 → ⊥) (c : Context Bytes) where
+  -- what is no instance keeps the rows below it
+  pub edit-others : (e : Edit Bytes) (t : Members Bytes) → childrenAfter (editPlan form ls owner txt e c t) u rows ≡ rows
+  edit-others (insert q n) t = untouched (editPlan form ls owner txt (insert q n) c t) u rows refl given (λ x m. refl) (and-no (not (skips q) && spine c) (elementNamed owner u) other)
+  edit-others remove done = untouched keeping u rows refl given (λ x m. refl) refl
+  edit-others remove (el q x t) = untouched (editPlan form ls owner txt remove c (el q x t)) u rows refl given (λ y m. ap (λ (z : Bool). z && elementNamed x y) other) refl
+  edit-others remove (group q k ms t) = untouched keeping u rows refl given (λ x m. refl) refl
+  edit-others (quantify r) done = untouched keeping u rows refl given (λ x m. refl) refl
+  edit-others (quantify r) (el q x t) =
+      untouched (editPlan form ls owner txt (quantify r) c (el q x t)) u rows refl given
+      (λ y m. no-and (spine c && cuts q r) (elementNamed owner u) (elementNamed x y && not (eqb (y .serial) (serialAt 0 (childrenOf (elementNamed x) (u .serial) ls)))) other)
+      (no-and (spine c && gains q r) (elementNamed owner u) (isNone (childrenOf (elementNamed x) (u .serial) ls)) other)
+  edit-others (quantify r) (group q k ms t) =
+      untouched (editPlan form ls owner txt (quantify r) c (group q k ms t)) u rows refl given (λ y m. refl)
+      (no-and (spine c && gains q r) (elementNamed owner u) (isNone (childrenOf (elementAmong (names ms)) (u .serial) ls)) other)
+  edit-others (convert j n) t = untouched keeping u rows refl given (λ x m. refl) refl
+  edit-others flatten t = untouched keeping u rows refl given (λ x m. refl) refl

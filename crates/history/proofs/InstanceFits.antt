@@ -3,35 +3,29 @@
 use Prim.Native.Nat.{ℕ}
 use mathlib.Core.Path.{_≡_, refl, sym, ap, _∙_}
 use mathlib.Core.Logic.{_⊎_, inl, inr, ⊎-elim}
-use mathlib.Core.Bool.{Bool, true, false, _&&_, _||_, not, false≢true}
-use mathlib.Core.Option.{Option, none, some}
-use mathlib.Core.List.{List, [], _∷_, _++_, map, List·Memᴰ, List·Memᴰ·head, List·Memᴰ·tail, List·Memᴰ·not-nil, List·Memᴰ·cases-cons, List·Memᴰ·eq-of-singleton, List·Memᴰ·append-cases, Memᴰ·append-left, Memᴰ·append-right, Memᴰ·cast}
-use lib.Dec.{leb}
-use lib.ListN.{length}
-use Rattle.rules.specs.declared.Quantifier.{Quantifier}
+use mathlib.Core.Bool.{Bool, true, false, _&&_, not}
+use mathlib.Core.Option.{some}
+use mathlib.Core.List.{List, [], _∷_, _++_, map, List·Memᴰ, List·Memᴰ·head, List·Memᴰ·tail, List·Memᴰ·not-nil, List·Memᴰ·cases-cons, List·Memᴰ·append-cases}
 use Rattle.rules.specs.Bytes.{Bytes, same, bytes}
-use Rattle.rules.specs.Model.{Members, done, el, group, Distinct, names, skips, nothing, unless, filling, member}
+use Rattle.rules.specs.Model.{Members, done, el, group, names, skips, member}
 use Rattle.rules.specs.Language.{Conforms}
 use Rattle.rules.specs.Quantifiers.{gains, cuts}
-use Rattle.rules.specs.Place.{Context, plug, spine, before, after, Found}
-use Rattle.rules.specs.Edit.{Edit, insert, remove, quantify, convert, flatten, place, placeOf, modelAfter}
+use Rattle.rules.specs.Place.{Context, spine, before, Found}
+use Rattle.rules.specs.Edit.{Edit, insert, remove, quantify, convert, flatten, placeOf, modelAfter}
 use Rattle.rules.specs.Automaton.{accepts}
-use Rattle.rules.specs.Store.{Content, complex, Definition, Form, RowSort, element, attribute, Row, modelOf, members}
-use Rattle.rules.specs.WellFormed.{lookup, known, membersOf, namesIn, attributeName, Reaches, directly, through, GoodDefinition, wellFormed}
-use Rattle.rules.specs.Conforming.{nameOf, Sorted, ContentRows, ElementRows, fitsDefinition}
+use Rattle.rules.specs.Store.{complex, Definition, Form, element, Row}
+use Rattle.rules.specs.WellFormed.{lookup, wellFormed}
+use Rattle.rules.specs.Conforming.{nameOf, Sorted, ElementRows, fitsDefinition}
 use Rattle.rules.specs.Filling.{elementRow}
 use Rattle.rules.specs.Lines.{Line, elementNamed}
 use Rattle.rules.specs.Change.{groupFilling}
-use Rattle.rules.proofs.Apart.{names-plug}
-use Rattle.rules.proofs.Children.{anyOf, misplaced, unfit, children, Sound}
+use Rattle.rules.proofs.Children.{anyOf, misplaced, unfit, Sound}
 use Rattle.rules.proofs.ChildRows.{eraseRows, placeRows, firstRows, refitRows, refitGroupRows, childRows}
 use Rattle.rules.proofs.Rows.{child-rows}
-use Rattle.rules.proofs.Places.{found-gap, found-nth}
 use Rattle.rules.proofs.Correct.{accepts-conforms}
 use Rattle.rules.proofs.Whole.{change-sound, change-accepts}
-use Rattle.rules.proofs.WellFormedLaws.{definition-good, no-circle, definition-deep}
+use Rattle.rules.proofs.WellFormedLaws.{definition-good, definition-deep}
 use Rattle.rules.proofs.ConformingLaws.{element-is}
-use Rattle.rules.proofs.FillingLaws.{in-filling}
 use Rattle.history.proofs.RowEdits.{childrenAfter}
 use Rattle.history.proofs.InstanceEdits.{editPlan, Below, edit-rows}
 use Rattle.history.proofs.EditFillings.{place-is, Insertable, filled-outside}

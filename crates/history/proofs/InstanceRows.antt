@@ -2,13 +2,13 @@
 -- Assumes nothing.
 use Prim.Native.Nat.{ℕ}
 use mathlib.Core.Path.{_≡_, refl, sym, ap, ap₂, _∙_}
-use mathlib.Core.Logic.{_⊎_, inl, inr, ⊎-elim}
-use mathlib.Core.Bool.{Bool, true, false, _&&_, _||_, not, false≢true}
-use mathlib.Core.List.{List, [], _∷_, _++_, map, List·Memᴰ, List·Memᴰ·head, List·Memᴰ·tail, List·Memᴰ·not-nil, List·Memᴰ·cases-cons, Memᴰ·append-left, Memᴰ·append-right, Memᴰ·cast, Memᴰ·map}
+use mathlib.Core.Logic.{⊎-elim}
+use mathlib.Core.Bool.{Bool, true, false, _&&_, not, _||_, false≢true}
+use mathlib.Core.List.{List, [], _∷_, _++_, map, List·Memᴰ, List·Memᴰ·head, List·Memᴰ·tail, List·Memᴰ·not-nil, List·Memᴰ·cases-cons, Memᴰ·cast, Memᴰ·map}
 use lib.Dec.{eqb}
 use Rattle.rules.specs.Bytes.{Bytes, same, bytes, same-eq, numbers, isNone}
 use Rattle.rules.specs.Model.{Distinct, member}
-use Rattle.rules.specs.Store.{RowSort, element, attribute, text, Row, heads}
+use Rattle.rules.specs.Store.{RowSort, element, Row, heads}
 use Rattle.rules.specs.Conforming.{nameOf, Sorted, isElement}
 use Rattle.rules.specs.Lines.{elementNamed, elementAmong, serialAt}
 use Rattle.rules.specs.Change.{Plan, revalue}
@@ -213,3 +213,11 @@ after-split p u ns front back z given stay later = ap (plantRows p v (p .fills v
         plant-front p v true front (keep left back) (later e .0)
         ∙ ap (λ (w : List Row). front ++ w) (plant-back p v ns (keep left back) (λ x m. later e .1 x (keep-in left back x m)))
     by false e = plant-not p v (front ++ keep left back)
+
+-- nothing is taken from below u, and nothing comes
+pub untouched : (p : Plan) (u : Row) (rows : List Row) → p .set ≡ 0 → ((x : Row) → List·Memᴰ x rows → x .serial ≡ 0 → ⊥) → ((x : Row) → List·Memᴰ x rows → p .takes u x ≡ false) → p .fills (revalued p u) ≡ false
+    → childrenAfter p u rows ≡ rows
+untouched p u rows z given stay none =
+    after-split p u [] [] rows z given (λ x m. absurd (List·Memᴰ·not-nil m)) (λ e. absurd (false≢true (sym none ∙ e)))
+    ∙ ap (λ (b : Bool). whenDue b [] (heads (p .filling)) (keep (λ r. not (p .takes u r)) rows)) none
+    ∙ keep-all (λ r. not (p .takes u r)) rows (λ x m. ap not (stay x m))

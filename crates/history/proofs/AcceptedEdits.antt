@@ -1,6 +1,6 @@
 -- A call of changes 3 to 8 that is not refused is an edit of the owner's model at a place where it fits.
 -- Assumes nothing.
-use Prim.Native.Nat.{ℕ, zero, suc}
+use Prim.Native.Nat.{ℕ}
 use mathlib.Core.Path.{_≡_, refl, sym, ap, _∙_}
 use mathlib.Core.Bool.{Bool, true, false, _&&_, not, _||_, false≢true}
 use mathlib.Core.Option.{Option, none, some}
@@ -9,20 +9,21 @@ use lib.Dec.{ltb, ltb→lt}
 use lib.ListN.{length}
 use Rattle.rules.specs.declared.Quantifier.{Quantifier}
 use Rattle.rules.specs.Bytes.{Bytes, same, bytes, to-T}
-use Rattle.rules.specs.Model.{Members, done, el, group, names, isDone, member}
-use Rattle.rules.specs.Place.{Context, here, past, over, into, plug, Found}
+use Rattle.rules.specs.Model.{Members, names, isDone, member}
+use Rattle.rules.specs.Place.{Found}
 use Rattle.rules.specs.Edit.{Edit, insert, remove, quantify, convert, flatten, placeOf, firstMembers, hasMembers, insertOff, removeLast, removeUnmatched, quantifyOff, quantifyGroupOff, groupUnlike}
-use Rattle.rules.specs.Store.{Content, empty, pcdata, complex, Store, modelOf, members}
+use Rattle.rules.specs.Store.{complex, Store, members}
 use Rattle.rules.specs.Decode.{quantifierOf, groupOf}
 use Rattle.rules.specs.WellFormed.{lookup, isThere, reachesIn, wellFormed}
 use Rattle.rules.specs.Lines.{Line}
-use Rattle.rules.specs.Change.{Call, insertElement, removeElement, changeQuantifier, convertToGroup, flattenGroup, changeGroupQuantifier, definitionAt, nameAtIndex, editModel, formAfter, insertPlan, removePlan, quantifyPlan, pickedPlan, plan}
+use Rattle.rules.specs.Change.{Call, createDefinition, destroyDefinition, insertElement, removeElement, changeQuantifier, convertToGroup, flattenGroup, changeGroupQuantifier, addAttribute, destroyAttribute, addDocument, addElement, destroyElement, setAttribute, destroyAttributeRow, setText, definitionAt, nameAtIndex, editModel, formAfter, insertPlan, removePlan, quantifyPlan, pickedPlan, plan}
 use Rattle.rules.specs.Refusal.{past as beyond, instanceExists, atPlace, noPlace, onElement, onGroup, noElementAt, noGroupAt, tailOf, flattenUnlike, isComplex, conditions}
 use Rattle.rules.proofs.Children.{misplaced, unfit}
 use Rattle.rules.proofs.Height.{reaches-test}
 use Rattle.rules.proofs.WellFormedLaws.{lookup-of}
 use Rattle.history.proofs.InstanceEdits.{editPlan}
 use Rattle.history.proofs.Clear.{Clear}
+use Rattle.history.proofs.EditConditions.{or-false, or-both, and-false, not-false, complex-content, picked-complex, element-some, group-some, has-some, remove-placed, remove-fits, quantify-placed, element-fits, group-fits, flatten-placed}
 use Rattle.history.proofs.EditFillings.{place-is, place-plugs, Outside, Insertable, definition-in}
 
 -- `o`, `at`, `edit`: the owner's index, the place and the edit; `txt`: the text of new rows
@@ -41,99 +42,6 @@ pub record Accepted (s : Store) (c : Call) : Type 0 where
   pub insertable : Insertable (s .form) (nameAtIndex o (s .form)) edit
   pub planned : (ls : List Line) → plan c (s .form) ls ≡ editPlan (s .form) ls (nameAtIndex o (s .form)) txt edit (found .context) (found .picked)
   pub formed : formAfter c (s .form) ≡ editModel o at edit (s .form)
-
--- ---- tests
-or-false : (a b : Bool) → (a || b) ≡ false → (a ≡ false) × (b ≡ false)
-or-false true b e = absurd (false≢true (sym e))
-or-false false b e = (refl, e)
-
-or-both : (a b : Bool) → a ≡ false → b ≡ false → (a || b) ≡ false
-or-both a b e f = rw (e, f)
-
-and-false : (a b : Bool) → (a && b) ≡ false → a ≡ true → b ≡ false
-and-false true b e f = e
-and-false false b e f = absurd (false≢true f)
-
-not-false : (b : Bool) → not b ≡ false → b ≡ true
-not-false true e = refl
-not-false false e = sym e
-
--- ---- the owner is COMPLEX
-plug-done : {A : Type 0} (c : Context A) (t : Members A) → plug c t ≡ done → isDone t ≡ true
-unfolding plug
-plug-done here t e = ap isDone e
-plug-done (past q n c) t e = absurd (false≢true (ap isDone e))
-plug-done (over q k ms c) t e = absurd (false≢true (ap isDone e))
-plug-done (into q k c rest) t e = absurd (false≢true (ap isDone e))
-
-complex-content : (x : Content) → isComplex x ≡ true → x ≡ complex (modelOf x)
-complex-content empty e = absurd (false≢true e)
-complex-content pcdata e = absurd (false≢true e)
-complex-content (complex ms) e = refl
-
-picked-complex : (x : Content) (c : Context Bytes) (t : Members Bytes) → plug c t ≡ modelOf x → isDone t ≡ false → isComplex x ≡ true
-picked-complex empty c t e n = absurd (false≢true (sym n ∙ plug-done c t e))
-picked-complex pcdata c t e n = absurd (false≢true (sym n ∙ plug-done c t e))
-picked-complex (complex ms) c t e n = refl
-
-element-some : (t : Members Bytes) → onElement true (λ q. false) t ≡ false → isDone t ≡ false
-element-some done a = a
-element-some (el q x t) a = refl
-element-some (group q k ms t) a = refl
-
-group-some : (t : Members Bytes) → onGroup true (λ q. false) t ≡ false → isDone t ≡ false
-group-some done a = a
-group-some (el q x t) a = refl
-group-some (group q k ms t) a = refl
-
-has-some : (n : ℕ) (t : Members Bytes) → not (hasMembers n t) ≡ false → isDone t ≡ false
-has-some zero t a = absurd (false≢true (sym a))
-has-some (suc n) done a = a
-has-some (suc n) (el q x t) a = refl
-has-some (suc n) (group q k ms t) a = refl
-
--- ---- the conditions, at the members found
-remove-placed : (c : Context Bytes) (t : Members Bytes) → onElement true (λ q. false) t ≡ false → removeLast c (tailOf t) ≡ false → misplaced bytes remove c t ≡ false
-unfolding misplaced
-remove-placed c done a b = a
-remove-placed c (el q x t) a b = b
-remove-placed c (group q k ms t) a b = a
-
-remove-fits : (c : Context Bytes) (t : Members Bytes) → removeUnmatched c (tailOf t) ≡ false → unfit remove c t ≡ false
-unfolding unfit
-remove-fits c done a = refl
-remove-fits c (el q x t) a = a
-remove-fits c (group q k ms t) a = refl
-
-element-placed : (c : Context Bytes) (r : Quantifier) (t : Members Bytes) → onElement true (λ q. false) t ≡ false → misplaced bytes (quantify r) c t ≡ false
-unfolding misplaced
-element-placed c r done a = a
-element-placed c r (el q x t) a = refl
-element-placed c r (group q k ms t) a = refl
-
-element-fits : (c : Context Bytes) (r : Quantifier) (t : Members Bytes) → onElement true (λ q. false) t ≡ false → onElement false (λ old. quantifyOff c old r) t ≡ false → unfit (quantify r) c t ≡ false
-unfolding unfit
-element-fits c r done a b = refl
-element-fits c r (el q x t) a b = b
-element-fits c r (group q k ms t) a b = absurd (false≢true (sym a))
-
-group-placed : (c : Context Bytes) (r : Quantifier) (t : Members Bytes) → onGroup true (λ q. false) t ≡ false → misplaced bytes (quantify r) c t ≡ false
-unfolding misplaced
-group-placed c r done a = a
-group-placed c r (el q x t) a = refl
-group-placed c r (group q k ms t) a = refl
-
-group-fits : (c : Context Bytes) (r : Quantifier) (t : Members Bytes) → onGroup true (λ q. false) t ≡ false → onGroup false (λ old. quantifyGroupOff c old r) t ≡ false → unfit (quantify r) c t ≡ false
-unfolding unfit
-group-fits c r done a b = refl
-group-fits c r (el q x t) a b = absurd (false≢true (sym a))
-group-fits c r (group q k ms t) a b = b
-
-flatten-placed : (c : Context Bytes) (t : Members Bytes) → onGroup true (λ q. false) t ≡ false → flattenUnlike c t ≡ false → misplaced bytes flatten c t ≡ false
-unfolding misplaced
-flatten-placed c done a b = a
-flatten-placed c (el q x t) a b = a
-flatten-placed c (group q k ms t) a b = b
 
 -- ---- the calls
 module _ (w : ℕ) (s : Store) (ok : wellFormed w (s .form) ≡ true) (o : ℕ) (p : List ℕ) where
@@ -206,35 +114,40 @@ module _ (w : ℕ) (s : Store) (ok : wellFormed w (s .form) ≡ true) (o : ℕ) 
           (λ x. remove-fits (f .context) (f .picked) (and-false (instanceExists (nameAtIndex o (s .form)) s) (removeUnmatched (f .context) (tailOf (f .picked))) d x)) tt
           (λ ls. ap (pickedPlan (λ c t. removePlan (nameAtIndex o (s .form)) t)) at) refl
 
+  -- the plans and the forms of 5 and 8 are the same
+  quantified : (c : Call) (r : Quantifier) (t : Bytes) → ((ls : List Line) → plan c (s .form) ls ≡ pickedPlan (quantifyPlan (s .form) ls (nameAtIndex o (s .form)) t r) (placeOf (quantify r) p (members (definitionAt o (s .form)))))
+      → formAfter c (s .form) ≡ editModel o p (quantify r) (s .form) → beyond o (s .form) ≡ false → (f : Found Bytes) → placeOf (quantify r) p (members (definitionAt o (s .form))) ≡ some f → isDone (f .picked) ≡ false
+      → (instanceExists (nameAtIndex o (s .form)) s ≡ true → unfit (quantify r) (f .context) (f .picked) ≡ false) → Accepted s c
+  quantified c r t pl fo l f at a u =
+      accept c (quantify r) t f l at (some-complex (quantify r) f at a) (quantify-placed (f .context) r (f .picked) a) u tt (λ ls. pl ls ∙ ap (pickedPlan (quantifyPlan (s .form) ls (nameAtIndex o (s .form)) t r)) at) fo
+
   pub accepted-quantify : (q : ℕ) (t : Bytes) → Clear (conditions (changeQuantifier o p q t) s) → Accepted s (changeQuantifier o p q t)
   unfolding conditions plan formAfter
-  accepted-quantify q t (c3, (c4, (c6, (c8, (c12, (c13, z)))))) = by (placeOf e p (members (definitionAt o (s .form)))) refl c8 c13
+  accepted-quantify q t (c3, (c4, (c6, (c8, (c12, (c13, z)))))) = by (placeOf (quantify r) p (members (definitionAt o (s .form)))) refl c8 c13
     where
-      e : Edit Bytes
-      e = quantify (quantifierOf q)
+      r : Quantifier
+      r = quantifierOf q
 
-      by : (x : Option (Found Bytes)) → placeOf e p (members (definitionAt o (s .form))) ≡ x → noElementAt x ≡ false
-          → (instanceExists (nameAtIndex o (s .form)) s && atPlace (λ c y. onElement false (λ old. quantifyOff c old (quantifierOf q)) y) x) ≡ false → Accepted s (changeQuantifier o p q t)
+      by : (x : Option (Found Bytes)) → placeOf (quantify r) p (members (definitionAt o (s .form))) ≡ x → noElementAt x ≡ false
+          → (instanceExists (nameAtIndex o (s .form)) s && atPlace (λ c y. onElement false (λ old. quantifyOff c old r) y) x) ≡ false → Accepted s (changeQuantifier o p q t)
       by none at a d = absurd (false≢true (sym a))
       by (some f) at a d =
-          accept (changeQuantifier o p q t) e t f c6 at (some-complex e f at (element-some (f .picked) a)) (element-placed (f .context) (quantifierOf q) (f .picked) a)
-          (λ x. element-fits (f .context) (quantifierOf q) (f .picked) a (and-false (instanceExists (nameAtIndex o (s .form)) s) (onElement false (λ old. quantifyOff (f .context) old (quantifierOf q)) (f .picked)) d x)) tt
-          (λ ls. ap (pickedPlan (quantifyPlan (s .form) ls (nameAtIndex o (s .form)) t (quantifierOf q))) at) refl
+          quantified (changeQuantifier o p q t) r t (λ ls. refl) refl c6 f at (element-some (f .picked) a)
+          (λ x. element-fits (f .context) r (f .picked) a (and-false (instanceExists (nameAtIndex o (s .form)) s) (onElement false (λ old. quantifyOff (f .context) old r) (f .picked)) d x))
 
   pub accepted-quantify-group : (q : ℕ) (t : Bytes) → Clear (conditions (changeGroupQuantifier o p q t) s) → Accepted s (changeGroupQuantifier o p q t)
   unfolding conditions plan formAfter
-  accepted-quantify-group q t (c3, (c4, (c6, (c8, (c12, (c13, z)))))) = by (placeOf e p (members (definitionAt o (s .form)))) refl c8 c13
+  accepted-quantify-group q t (c3, (c4, (c6, (c8, (c12, (c13, z)))))) = by (placeOf (quantify r) p (members (definitionAt o (s .form)))) refl c8 c13
     where
-      e : Edit Bytes
-      e = quantify (quantifierOf q)
+      r : Quantifier
+      r = quantifierOf q
 
-      by : (x : Option (Found Bytes)) → placeOf e p (members (definitionAt o (s .form))) ≡ x → noGroupAt x ≡ false
-          → (instanceExists (nameAtIndex o (s .form)) s && atPlace (λ c y. onGroup false (λ old. quantifyGroupOff c old (quantifierOf q)) y) x) ≡ false → Accepted s (changeGroupQuantifier o p q t)
+      by : (x : Option (Found Bytes)) → placeOf (quantify r) p (members (definitionAt o (s .form))) ≡ x → noGroupAt x ≡ false
+          → (instanceExists (nameAtIndex o (s .form)) s && atPlace (λ c y. onGroup false (λ old. quantifyGroupOff c old r) y) x) ≡ false → Accepted s (changeGroupQuantifier o p q t)
       by none at a d = absurd (false≢true (sym a))
       by (some f) at a d =
-          accept (changeGroupQuantifier o p q t) e t f c6 at (some-complex e f at (group-some (f .picked) a)) (group-placed (f .context) (quantifierOf q) (f .picked) a)
-          (λ x. group-fits (f .context) (quantifierOf q) (f .picked) a (and-false (instanceExists (nameAtIndex o (s .form)) s) (onGroup false (λ old. quantifyGroupOff (f .context) old (quantifierOf q)) (f .picked)) d x)) tt
-          (λ ls. ap (pickedPlan (quantifyPlan (s .form) ls (nameAtIndex o (s .form)) t (quantifierOf q))) at) refl
+          quantified (changeGroupQuantifier o p q t) r t (λ ls. refl) refl c6 f at (group-some (f .picked) a)
+          (λ x. group-fits (f .context) r (f .picked) a (and-false (instanceExists (nameAtIndex o (s .form)) s) (onGroup false (λ old. quantifyGroupOff (f .context) old r) (f .picked)) d x))
 
   pub accepted-convert : (n k : ℕ) → Clear (conditions (convertToGroup o p n k) s) → Accepted s (convertToGroup o p n k)
   unfolding conditions plan formAfter misplaced unfit
@@ -258,3 +171,40 @@ module _ (w : ℕ) (s : Store) (ok : wellFormed w (s .form) ≡ true) (o : ℕ) 
       by none at a b = absurd (false≢true (sym a))
       by (some f) at a b =
           accept (flattenGroup o p) flatten [] f c6 at (some-complex flatten f at (group-some (f .picked) a)) (flatten-placed (f .context) (f .picked) a b) (λ x. refl) tt (λ ls. refl) refl
+
+-- changes 3 to 8
+abbrev pub editsModel : Call → Bool
+editsModel (createDefinition n k) = false
+editsModel (destroyDefinition i) = false
+editsModel (insertElement o p i q t) = true
+editsModel (removeElement o p) = true
+editsModel (changeQuantifier o p q t) = true
+editsModel (convertToGroup o p n k) = true
+editsModel (flattenGroup o p) = true
+editsModel (changeGroupQuantifier o p q t) = true
+editsModel (addAttribute o n k v) = false
+editsModel (destroyAttribute a) = false
+editsModel (addDocument i t) = false
+editsModel (addElement k j i t) = false
+editsModel (destroyElement k) = false
+editsModel (setAttribute k a v) = false
+editsModel (destroyAttributeRow k a) = false
+editsModel (setText k t) = false
+
+pub accepted-edit : (w : ℕ) (s : Store) → wellFormed w (s .form) ≡ true → (c : Call) → editsModel c ≡ true → Clear (conditions c s) → Accepted s c
+accepted-edit w s ok (createDefinition n k) e h = absurd (false≢true e)
+accepted-edit w s ok (destroyDefinition i) e h = absurd (false≢true e)
+accepted-edit w s ok (insertElement o p i q t) e h = accepted-insert w s ok o p i q t h
+accepted-edit w s ok (removeElement o p) e h = accepted-remove w s ok o p h
+accepted-edit w s ok (changeQuantifier o p q t) e h = accepted-quantify w s ok o p q t h
+accepted-edit w s ok (convertToGroup o p n k) e h = accepted-convert w s ok o p n k h
+accepted-edit w s ok (flattenGroup o p) e h = accepted-flatten w s ok o p h
+accepted-edit w s ok (changeGroupQuantifier o p q t) e h = accepted-quantify-group w s ok o p q t h
+accepted-edit w s ok (addAttribute o n k v) e h = absurd (false≢true e)
+accepted-edit w s ok (destroyAttribute a) e h = absurd (false≢true e)
+accepted-edit w s ok (addDocument i t) e h = absurd (false≢true e)
+accepted-edit w s ok (addElement k j i t) e h = absurd (false≢true e)
+accepted-edit w s ok (destroyElement k) e h = absurd (false≢true e)
+accepted-edit w s ok (setAttribute k a v) e h = absurd (false≢true e)
+accepted-edit w s ok (destroyAttributeRow k a) e h = absurd (false≢true e)
+accepted-edit w s ok (setText k t) e h = absurd (false≢true e)

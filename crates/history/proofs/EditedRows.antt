@@ -69,7 +69,7 @@ module _ (w : ℕ) (s : Store) (ok : wellFormed w (s .form) ≡ true) (c : Call)
           ∙ ap (fitsRow (s .form) u) (edit-others (s .form) ls (d .name) (a .txt) u rows other (below .given) (a .found .context) (a .edit) (a .found .picked))
           ∙ h
 
-  -- the rows made conform in both forms
+  -- the rows made fit too
   pub filling-fits-after : (ls : List Line) → everyRow (λ x b. fitsRow (formAfter c (s .form)) x b) (plan c (s .form) ls .filling) ≡ true
   filling-fits-after ls =
       ap (λ (z : Plan). everyRow (λ x b. fitsRow (formAfter c (s .form)) x b) (z .filling)) (a .planned ls)

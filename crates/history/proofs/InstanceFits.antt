@@ -3,7 +3,7 @@
 use Prim.Native.Nat.{ℕ}
 use mathlib.Core.Path.{_≡_, refl, sym, ap, _∙_}
 use mathlib.Core.Logic.{_⊎_, inl, inr, ⊎-elim}
-use mathlib.Core.Bool.{Bool, true, false, _&&_, not}
+use mathlib.Core.Bool.{Bool, true, false, _&&_, not, false≢true}
 use mathlib.Core.Option.{some}
 use mathlib.Core.List.{List, [], _∷_, _++_, map, List·Memᴰ, List·Memᴰ·head, List·Memᴰ·tail, List·Memᴰ·not-nil, List·Memᴰ·cases-cons, List·Memᴰ·append-cases}
 use Rattle.rules.specs.Bytes.{Bytes, same, bytes}
@@ -92,6 +92,22 @@ element-sorts : (ns : List Bytes) → Sorted element (map elementRow ns)
 element-sorts [] y m = absurd (List·Memᴰ·not-nil m)
 element-sorts (n ∷ ns) y m = ⊎-elim (λ q. ap (λ (z : Row). z .sort) q) (λ i. element-sorts ns y i) (List·Memᴰ·cases-cons m)
 
+-- 6 and 7
+abbrev pub leavesRows : Edit Bytes → Bool
+leavesRows (insert q n) = false
+leavesRows remove = false
+leavesRows (quantify r) = false
+leavesRows (convert j n) = true
+leavesRows flatten = true
+
+rows-left : (e : Edit Bytes) (c : Context Bytes) (t : Members Bytes) → leavesRows e ≡ true → (rs : List Row) → childRows bytes nameOf (map elementRow) e c t rs ≡ rs
+unfolding childRows
+rows-left (insert q n) c t l rs = absurd (false≢true l)
+rows-left remove c t l rs = absurd (false≢true l)
+rows-left (quantify r) c t l rs = absurd (false≢true l)
+rows-left (convert j n) c t l rs = refl
+rows-left flatten c t l rs = refl
+
 -- the owner with its new model
 abbrev pub editedDefinition : Definition → Edit Bytes → Found Bytes → Definition
 editedDefinition d e f = record { name = d .name; content = complex (modelAfter e f); attributes = d .attributes }
@@ -144,9 +160,9 @@ module _ (w : ℕ) (form : Form) (ok : wellFormed w form ≡ true) (d : Definiti
           ∙ edit-rows form ls (d .name) txt u (x .front) (x .back) named (rw (x .split) below) (x .attributes .sorts) (elements x) (f .context) e (f .picked) (λ m k. definition-deep w form ok m (filled-outside w form ok d at ms is e p f found i m k .there)))
           ∙ element-fits rows x
 
-  -- 6 and 7 leave the rows as they are
-  pub instance-still-fits : ((rs : List Row) → childRows bytes nameOf (map elementRow) e (f .context) (f .picked) rs ≡ rs) → (rows : List Row) → fitsDefinition (some d) rows ≡ true → fitsDefinition (some (editedDefinition d e f)) rows ≡ true
-  instance-still-fits same rows h = by (rows-of rows h)
+  -- without a plan: 6 and 7 leave the rows as they are
+  pub instance-still-fits : leavesRows e ≡ true → (rows : List Row) → fitsDefinition (some d) rows ≡ true → fitsDefinition (some (editedDefinition d e f)) rows ≡ true
+  instance-still-fits l rows h = by (rows-of rows h)
     where
       by : ElementRows d rows → fitsDefinition (some (editedDefinition d e f)) rows ≡ true
-      by x = ap (fitsDefinition (some (editedDefinition d e f))) (sym (x .split) ∙ ap (λ (z : List Row). x .front ++ z) (sym (same (x .back)))) ∙ element-fits rows x
+      by x = ap (fitsDefinition (some (editedDefinition d e f))) (sym (x .split) ∙ ap (λ (z : List Row). x .front ++ z) (sym (rows-left e (f .context) (f .picked) l (x .back)))) ∙ element-fits rows x

@@ -1,4 +1,4 @@
--- The plans of changes 3 to 8 on the rows right below an instance: the attribute rows stay, the element rows are edited as `childRows` says.
+-- A plan on the rows right below one row: rows taken by name, rows that come before the first later one, attribute rows that stay in front.
 -- Assumes nothing.
 use Prim.Native.Nat.{ℕ}
 use mathlib.Core.Path.{_≡_, refl, sym, ap, ap₂, _∙_}

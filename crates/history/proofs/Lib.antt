@@ -4,5 +4,6 @@ pub mod InstanceEdits
 pub mod EditFillings
 pub mod InstanceFits
 pub mod Clear
+pub mod EditConditions
 pub mod AcceptedEdits
 pub mod EditedRows

@@ -11,3 +11,11 @@ pub mod Numbering
 pub mod Stable
 pub mod Agreement
 pub mod Theorem
+pub mod InstanceRows
+pub mod InstanceEdits
+pub mod EditFillings
+pub mod InstanceFits
+pub mod Clear
+pub mod EditConditions
+pub mod AcceptedEdits
+pub mod EditedRows

@@ -1,0 +1,181 @@
+-- Changes 3 to 8: the rows that an edit fills with are neither the owner's nor of definitions that reach it, and conform before and after it.
+-- Assumes nothing.
+use Prim.Native.Nat.{ℕ, zero, suc, _<_}
+use native.Mathlib.Omega.{arith}
+use mathlib.Core.Path.{_≡_, refl, sym, ap, _∙_}
+use mathlib.Core.Logic.{_⊎_, inl, inr, ⊎-elim}
+use mathlib.Core.Bool.{Bool, true, false, _||_, false≢true}
+use mathlib.Core.Option.{Option, none, some}
+use mathlib.Core.List.{List, [], _∷_, _++_, map, List·Memᴰ, List·Memᴰ·head, List·Memᴰ·tail, List·Memᴰ·not-nil, List·Memᴰ·eq-of-singleton, Memᴰ·append-left, Memᴰ·append-right, Memᴰ·cast, Memᴰ·map}
+use lib.Dec.{leb}
+use lib.ListN.{length}
+use Rattle.rules.specs.Bytes.{Bytes, same, bytes, isNone}
+use Rattle.rules.specs.Model.{Members, done, el, group, Distinct, names, skips, nothing, unless, filling}
+use Rattle.rules.specs.Place.{Context, plug, before, after, Found}
+use Rattle.rules.specs.Edit.{Edit, insert, remove, quantify, convert, flatten, place, placeOf}
+use Rattle.rules.specs.Store.{Content, complex, Definition, Form, RowSort, element, attribute, text, Row, Forest, bare, tree, modelOf, members}
+use Rattle.rules.specs.WellFormed.{definitionName, lookup, known, membersOf, Reaches, directly, through, GoodDefinition, wellFormed}
+use Rattle.rules.specs.Conforming.{EveryRow, isElement, everyRow, fitsDefinition, fitsRow}
+use Rattle.rules.specs.Filling.{fillWithin, fillDefinition}
+use Rattle.rules.specs.Lines.{Line}
+use Rattle.rules.specs.Change.{groupFilling, definitionAt, nameAtIndex, update, editModel}
+use Rattle.rules.proofs.Apart.{differs, names-plug}
+use Rattle.rules.proofs.Height.{reaches-then}
+use Rattle.rules.proofs.Places.{found-gap, found-nth}
+use Rattle.rules.proofs.SerialLaws.{every-row}
+use Rattle.rules.proofs.WellFormedLaws.{definition-good, no-circle, definition-deep}
+use Rattle.rules.proofs.FillingLaws.{in-filling, every-each, every-filled, filling-fits}
+use Rattle.history.proofs.InstanceEdits.{editPlan, filled}
+
+-- ---- a place that is there
+pub place-is : {A : Type 0} (e : Edit A) (p : List ℕ) (ms : Members A) (f : Found A) → placeOf e p ms ≡ some f → place e p ms ≡ some f
+unfolding placeOf
+place-is e p ms f x = by (leb (length p) 5) refl
+  where
+    by : (b : Bool) → leb (length p) 5 ≡ b → place e p ms ≡ some f
+    by true q = rw (q, placeOf) at x
+    by false q = let y : none ≡ some f = rw (q, placeOf) at x in let z : false ≡ true = cc y in absurd (false≢true z)
+
+pub place-plugs : {A : Type 0} (e : Edit A) (p : List ℕ) (ms : Members A) (f : Found A) → place e p ms ≡ some f → plug (f .context) (f .picked) ≡ ms
+unfolding place
+place-plugs (insert q n) p ms f x = found-gap p ms f x
+place-plugs remove p ms f x = found-nth p ms f x
+place-plugs (quantify r) p ms f x = found-nth p ms f x
+place-plugs (convert j n) p ms f x = found-nth p ms f x
+place-plugs flatten p ms f x = found-nth p ms f x
+
+-- ---- the names that an edit fills
+-- a definition that neither is the owner nor reaches it
+pub record Outside (form : Form) (owner m : Bytes) : Type 0 where
+  pub there : known form m ≡ true
+  pub other : m ≡ owner → ⊥
+  pub apart : Reaches form m owner → ⊥
+
+-- 6 and 11: what an edit inserts
+abbrev pub Insertable : Form → Bytes → Edit Bytes → Type 0
+Insertable form owner (insert q n) = Outside form owner n
+Insertable form owner remove = Unit {0}
+Insertable form owner (quantify r) = Unit {0}
+Insertable form owner (convert j n) = Unit {0}
+Insertable form owner flatten = Unit {0}
+
+in-unless : (b : Bool) (w : List Bytes) (x : Bytes) → List·Memᴰ x (unless b w) → List·Memᴰ x w
+in-unless true w x m = absurd (List·Memᴰ·not-nil m)
+in-unless false w x m = m
+
+-- what is filled was inserted or stood at the place
+filled-from : (form : Form) (owner : Bytes) (e : Edit Bytes) (t : Members Bytes) → Insertable form owner e → (m : Bytes) → List·Memᴰ m (filled e t) → Outside form owner m ⊎ List·Memᴰ m (names t)
+unfolding names
+filled-from form owner (insert q n) t i m k = inl (rw (List·Memᴰ·eq-of-singleton k) i)
+filled-from form owner remove t i m k = absurd (List·Memᴰ·not-nil k)
+filled-from form owner (quantify r) done i m k = absurd (List·Memᴰ·not-nil k)
+filled-from form owner (quantify r) (el q x t) i m k = inr (List·Memᴰ·head (List·Memᴰ·eq-of-singleton k))
+filled-from form owner (quantify r) (group q j ms t) i m k = inr (Memᴰ·append-left (names t) (in-filling m j ms (in-unless (skips r || nothing j ms) (filling j ms) m k)))
+filled-from form owner (convert j n) t i m k = absurd (List·Memᴰ·not-nil k)
+filled-from form owner flatten t i m k = absurd (List·Memᴰ·not-nil k)
+
+-- ---- the rows of a filling
+pub filling-reaches : (h : ℕ) (form : Form) (txt n : Bytes) → EveryRow (λ x b. x .sort ≡ element → (x .name ≡ n) ⊎ Reaches form n (x .name)) (fillWithin h form txt n)
+filling-reaches h form txt n =
+    every-filled form txt (λ x b. x .sort ≡ element → (x .name ≡ n) ⊎ Reaches form n (x .name)) (λ k m. (m ≡ n) ⊎ Reaches form n m) (λ k m d q e i j. inr (step m d e q i j)) (λ k m d q e s. q)
+    (λ m d e a i s. absurd (false≢true (ap isElement s))) (λ s. absurd (false≢true (ap isElement s))) h n (inl refl)
+  where
+    step : (m : Bytes) (d : Definition) → lookup m form ≡ some d → (m ≡ n) ⊎ Reaches form n m → (i : Bytes) → List·Memᴰ i (names (members d)) → Reaches form n i
+    step m d e (inl q) i j = let own : List·Memᴰ i (membersOf m form) = rw e j in directly (rw q at own)
+    step m d e (inr r) i j = let own : List·Memᴰ i (membersOf m form) = rw e j in reaches-then form r (directly own)
+
+-- every row of the plan is one of a filling
+every-planned : (P : Row → List Row → Type 0) (form : Form) (ls : List Line) (owner txt : Bytes) (e : Edit Bytes) (c : Context Bytes) (t : Members Bytes) → ((m : Bytes) → List·Memᴰ m (filled e t) → EveryRow P (fillDefinition form txt m))
+    → EveryRow P (editPlan form ls owner txt e c t .filling)
+every-planned P form ls owner txt (insert q n) c t f = f n (List·Memᴰ·head refl)
+every-planned P form ls owner txt remove c done f = tt
+every-planned P form ls owner txt remove c (el q x t) f = tt
+every-planned P form ls owner txt remove c (group q k ms t) f = tt
+every-planned P form ls owner txt (quantify r) c done f = tt
+every-planned P form ls owner txt (quantify r) c (el q x t) f = f x (List·Memᴰ·head refl)
+every-planned P form ls owner txt (quantify r) c (group q k ms t) f = every-each P (λ n. fillDefinition form txt n) (groupFilling r k ms) f
+every-planned P form ls owner txt (convert j n) c t f = tt
+every-planned P form ls owner txt flatten c t f = tt
+
+every-two : (P Q S : Row → List Row → Type 0) → ((r : Row) (b : List Row) → P r b → Q r b → S r b) → (f : Forest Row) → EveryRow P f → EveryRow Q f → EveryRow S f
+every-two P Q S g bare x y = tt
+every-two P Q S g (tree r b t) (p, x, u) (q, y, v) = (g r _ p q, every-two P Q S g b x y, every-two P Q S g t u v)
+
+-- a row fits alike in forms that have the same definition for it
+pub fits-alike : (form form′ : Form) (r : Row) (b : List Row) → (r .sort ≡ element → lookup (r .name) form′ ≡ lookup (r .name) form) → fitsRow form′ r b ≡ fitsRow form r b
+unfolding fitsRow
+fits-alike form form′ r b = by (r .sort) (lookup (r .name) form′) (lookup (r .name) form)
+  where
+    by : (s : RowSort) (o o′ : Option Definition) → (s ≡ element → o ≡ o′)
+        → _≡_ {A = Bool} (elim s [ element ↦ fitsDefinition o b | attribute ↦ isNone b | text ↦ isNone b ]) (elim s [ element ↦ fitsDefinition o′ b | attribute ↦ isNone b | text ↦ isNone b ])
+    by element o o′ e = ap (λ (z : Option Definition). fitsDefinition z b) (e refl)
+    by attribute o o′ e = refl
+    by text o o′ e = refl
+
+lookup-past : (n : Bytes) (d : Definition) (form : Form) → (n ≡ d .name → ⊥) → lookup n (d ∷ form) ≡ lookup n form
+lookup-past n d form f = rw (differs bytes n (d .name) f, lookup)
+
+-- a change of one definition that keeps its name changes no other
+pub lookup-other : (n : Bytes) (o : ℕ) (u : Definition → Definition) (form : Form) → ((d : Definition) → u d .name ≡ d .name) → (n ≡ nameAtIndex o form → ⊥) → lookup n (update o u form) ≡ lookup n form
+lookup-other n o u [] keeps f = refl
+lookup-other n zero u (d ∷ form) keeps f = lookup-past n (u d) form (λ e. f (e ∙ keeps d)) ∙ sym (lookup-past n d form f)
+lookup-other n (suc o) u (d ∷ form) keeps f = ap (λ (z : Option Definition). elim (same n (d .name)) as (λ x. Option Definition) [ true ↦ some d | false ↦ z ]) (lookup-other n o u form keeps f)
+
+pub definition-in : (i : ℕ) (form : Form) → i < length form → List·Memᴰ (definitionAt i form) form
+definition-in i [] l = absurd (omega arith)
+definition-in zero (d ∷ form) l = List·Memᴰ·head refl
+definition-in (suc i) (d ∷ form) l = List·Memᴰ·tail (definition-in i form (omega arith))
+
+pub lookup-this : (o : ℕ) (u : Definition → Definition) (form : Form) → o < length form → ((d : Definition) → u d .name ≡ d .name) → Distinct (map definitionName form) → lookup (nameAtIndex o form) (update o u form) ≡ some (u (definitionAt o form))
+lookup-this o u [] l keeps x = absurd (omega arith)
+lookup-this zero u (d ∷ form) l keeps x = rw (bytes .same← (d .name) (u d .name) (sym (keeps d)), lookup)
+lookup-this (suc o) u (d ∷ form) l keeps (new, x) =
+    lookup-past (nameAtIndex o form) d (update o u form) (λ q. new (Memᴰ·cast (sym q) (Memᴰ·map definitionName (definition-in o form (omega arith)))))
+    ∙ lookup-this o u form (omega arith) keeps x
+
+module _ (w : ℕ) (form : Form) (ok : wellFormed w form ≡ true) (d : Definition) (at : lookup (d .name) form ≡ some d) where
+  member-outside : (m : Bytes) → List·Memᴰ m (names (members d)) → Outside form (d .name) m
+  member-outside m i =
+      record {
+        there = definition-good w form ok (d .name) d at .inRange m i;
+        other = λ e. no-circle w form ok (d .name) (directly (Memᴰ·cast (sym e) own));
+        apart = λ r. no-circle w form ok (d .name) (through own r);
+      }
+    where
+      own : List·Memᴰ m (membersOf (d .name) form)
+      own = rw at i
+
+  module _ (ms : Members Bytes) (is : d .content ≡ complex ms) (e : Edit Bytes) (p : List ℕ) (f : Found Bytes) (found : placeOf e p ms ≡ some f) where
+    pub filled-outside : Insertable form (d .name) e → (m : Bytes) → List·Memᴰ m (filled e (f .picked)) → Outside form (d .name) m
+    filled-outside i m k =
+        ⊎-elim (λ o. o) (λ j. member-outside m (rw own-names (Memᴰ·append-right (before (f .context)) (Memᴰ·append-left (after (f .context)) j)))) (filled-from form (d .name) e (f .picked) i m k)
+      where
+        own-names : names (members d) ≡ before (f .context) ++ (names (f .picked) ++ after (f .context))
+        own-names = ap (λ (z : Content). names (modelOf z)) is ∙ sym (ap names (place-plugs e p ms f (place-is e p ms f found))) ∙ names-plug (f .context) (f .picked)
+
+    module _ (ls : List Line) (txt : Bytes) (i : Insertable form (d .name) e) where
+      -- the filling in a form that differs in the owner's definition alone
+      pub filling-fits-in : (form′ : Form) → ((n : Bytes) → (n ≡ d .name → ⊥) → lookup n form′ ≡ lookup n form) → everyRow (λ x b. fitsRow form′ x b) (editPlan form ls (d .name) txt e (f .context) (f .picked) .filling) ≡ true
+      filling-fits-in form′ others =
+          every-row (λ x b. fitsRow form′ x b) (editPlan form ls (d .name) txt e (f .context) (f .picked) .filling) .1
+          (every-planned (λ x b. fitsRow form′ x b ≡ true) form ls (d .name) txt e (f .context) (f .picked) (λ m k. one m (filled-outside i m k)))
+        where
+          good : (n : Bytes) (c : Definition) → lookup n form ≡ some c → GoodDefinition w form c
+          good = definition-good w form ok
+
+          away : (m : Bytes) → Outside form (d .name) m → (n : Bytes) → (n ≡ m) ⊎ Reaches form m n → n ≡ d .name → ⊥
+          away m o n (inl q) x = o .other (sym q ∙ x)
+          away m o n (inr r) x = o .apart (rw x at r)
+
+          one : (m : Bytes) → Outside form (d .name) m → EveryRow (λ x b. fitsRow form′ x b ≡ true) (fillDefinition form txt m)
+          one m o =
+              every-two (λ x b. x .sort ≡ element → (x .name ≡ m) ⊎ Reaches form m (x .name)) (λ x b. fitsRow form x b ≡ true) (λ x b. fitsRow form′ x b ≡ true)
+              (λ x b r q. fits-alike form form′ x b (λ s. others (x .name) (away m o (x .name) (r s))) ∙ q) (fillDefinition form txt m) (filling-reaches (length form) form txt m)
+              (every-row (λ x b. fitsRow form x b) (fillDefinition form txt m) .0
+              (filling-fits form (λ n c q. good n c q .once) (λ n c q. good n c q .attributeNames) (λ n c q. good n c q .groups) txt (length form) m (definition-deep w form ok m (o .there))))
+
+      pub filling-rows-fit : everyRow (λ x b. fitsRow form x b) (editPlan form ls (d .name) txt e (f .context) (f .picked) .filling) ≡ true
+      filling-rows-fit = filling-fits-in form (λ n g. refl)
+
+      pub filling-rows-fit-after : (o : ℕ) (at : List ℕ) → nameAtIndex o form ≡ d .name → everyRow (λ x b. fitsRow (editModel o at e form) x b) (editPlan form ls (d .name) txt e (f .context) (f .picked) .filling) ≡ true
+      filling-rows-fit-after o at q = filling-fits-in (editModel o at e form) (λ n g. lookup-other n o _ form (λ c. refl) (λ x. g (x ∙ q)))

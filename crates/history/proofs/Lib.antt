@@ -19,3 +19,4 @@ pub mod Clear
 pub mod EditConditions
 pub mod AcceptedEdits
 pub mod EditedRows
+pub mod Example

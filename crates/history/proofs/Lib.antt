@@ -1,1 +1,3 @@
 pub mod RowEdits
+pub mod Rowwise
+pub mod StandingLaws

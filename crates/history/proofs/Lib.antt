@@ -1,3 +1,4 @@
 pub mod RowEdits
 pub mod Rowwise
 pub mod StandingLaws
+pub mod Numbered

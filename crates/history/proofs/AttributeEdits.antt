@@ -17,7 +17,7 @@ use Rattle.rules.proofs.Words.{and-both, and-split}
 use Rattle.rules.proofs.Apart.{differs}
 use Rattle.rules.proofs.ConformingLaws.{headAttribute, begins, begins-none, begins-other, begins-this, strip-past, strip-take}
 use Rattle.history.proofs.RowEdits.{keep, plantRows}
-use Rattle.history.proofs.StandingLaws.{keep-all, plant-none}
+use Rattle.history.proofs.StandingLaws.{keep-all, keep-in, plant-none}
 
 -- ---- one entry of the table, when the rest is known
 pub data Step (a : Attribute) (table : List Attribute) (rows rest : List Row) : Type 0 where
@@ -161,15 +161,6 @@ module _ (n : Bytes) where
   abbrev other : Row → Bool
   other r = not (attributeNamed n r)
 
-  keep-in : (rows : List Row) (r : Row) → List·Memᴰ r (keep other rows) → List·Memᴰ r rows
-  unfolding keep
-  keep-in [] r m = m
-  keep-in (s ∷ rows) r m = by (other s) refl (keep-in rows r)
-    where
-      by : (c : Bool) → other s ≡ c → (List·Memᴰ r (keep other rows) → List·Memᴰ r rows) → List·Memᴰ r (s ∷ rows)
-      by true q f = ⊎-elim (λ i. List·Memᴰ·head i) (λ i. List·Memᴰ·tail (f i)) (List·Memᴰ·cases-cons (rw (q, keep) at m))
-      by false q f = List·Memᴰ·tail (f (rw (q, keep) at m))
-
   keep-this : (r : Row) (rows : List Row) → other r ≡ true → keep other (r ∷ rows) ≡ r ∷ keep other rows
   unfolding keep
   keep-this r rows e = rw (e, keep)
@@ -187,7 +178,7 @@ module _ (n : Bytes) where
       by r m true h = rw (h, differs bytes n (r .name) (λ q. f (Memᴰ·cast q (owned-rows table rows rest p e r m h))))
 
   begins-kept : (k : Bytes) (rows : List Row) → ((r : Row) → List·Memᴰ r rows → isAttribute (r .sort) ≡ true → k ≡ r .name → ⊥) → begins k (keep other rows) ≡ false
-  begins-kept k rows f = by (keep other rows) (λ r m. f r (keep-in rows r m))
+  begins-kept k rows f = by (keep other rows) (λ r m. f r (keep-in other rows r m))
     where
       by : (rows : List Row) → ((r : Row) → List·Memᴰ r rows → isAttribute (r .sort) ≡ true → k ≡ r .name → ⊥) → begins k rows ≡ false
       by [] f = begins-none k [] (plain-head [] refl)

@@ -3,4 +3,7 @@ pub mod Rowwise
 pub mod StandingLaws
 pub mod Numbered
 pub mod AttributeEdits
+pub mod DefinitionEdits
 pub mod ConformingAfter
+pub mod ConformingForms
+pub mod ConformingRows

@@ -6,16 +6,16 @@ use mathlib.Core.Path.{_≡_, refl, sym, ap, ap₂, _∙_}
 use mathlib.Core.Logic.{_⊎_, inl, inr, ⊎-elim}
 use mathlib.Core.Bool.{Bool, true, false, _&&_, not, false≢true}
 use mathlib.Core.Option.{Option, none, some}
-use mathlib.Core.List.{List, [], _∷_, _++_, map, append-nil, append-assoc, List·Memᴰ, List·Memᴰ·head, List·Memᴰ·tail, List·Memᴰ·not-nil, List·Memᴰ·cases-cons, Memᴰ·cast, Memᴰ·append-left, Memᴰ·append-right}
+use mathlib.Core.List.{List, [], _∷_, _++_, map, append-nil, append-assoc, List·Memᴰ, List·Memᴰ·head, List·Memᴰ·tail, List·Memᴰ·not-nil, List·Memᴰ·cases-cons, List·Memᴰ·append-cases, Memᴰ·cast, Memᴰ·append-left, Memᴰ·append-right}
 use lib.Dec.{eqb}
 use Rattle.rules.specs.Bytes.{Bytes, numbers, eqb-of, eqb-eq}
 use Rattle.rules.specs.Model.{Distinct}
 use Rattle.rules.specs.Store.{Row, Forest, bare, tree, heads}
 use Rattle.rules.specs.Conforming.{EveryRow, everyRow, isElement}
-use Rattle.rules.specs.Lines.{Line, lines, elementWith, findRow, childrenOf}
+use Rattle.rules.specs.Lines.{Line, lines, elementWith, findRow, childrenOf, serialAt}
 use Rattle.rules.specs.Change.{Plan}
 use Rattle.rules.specs.Passing.{serials, GoodSerials}
-use Rattle.rules.proofs.Words.{and-both, and-split}
+use Rattle.rules.proofs.Words.{and-both, and-split, either}
 use Rattle.rules.proofs.Correct.{distinct-left, distinct-right, distinct-apart}
 use Rattle.rules.proofs.Apart.{differs}
 use Rattle.history.proofs.RowEdits.{keep, plantRows, revalued, childrenAfter}
@@ -57,6 +57,13 @@ standing-below (tree u d t) r b (inr (inr i)) s c j = inr (inr (standing-below t
 -- the rows right below a row that stands there stand there
 pub standing-child : (f : Forest Row) (r : Row) (b : Forest Row) → Standing f r b → (s : Row) → List·Memᴰ s (heads b) → (c : Forest Row) × Standing f s c
 standing-child f r b i s m = let (c, j) = standing-head b s m in (c, standing-below f r b i s c j)
+
+-- a row stands at the top, or right below one that stands there
+pub standing-parent : (f : Forest Row) (r : Row) (b : Forest Row) → Standing f r b → List·Memᴰ r (heads f) ⊎ ((u : Row) × (c : Forest Row) × Standing f u c × List·Memᴰ r (heads c))
+standing-parent bare r b i = absurd i
+standing-parent (tree s c t) r b (inl (e, g)) = inl (List·Memᴰ·head (sym e))
+standing-parent (tree s c t) r b (inr (inl i)) = inr (⊎-elim (λ m. (s, c, inl (refl, refl), m)) (λ (u, d, j, m). (u, d, inr (inl j), m)) (standing-parent c r b i))
+standing-parent (tree s c t) r b (inr (inr i)) = either (λ m. List·Memᴰ·tail m) (λ (u, d, j, m). (u, d, inr (inr j), m)) (standing-parent t r b i)
 
 -- ---- serials that stand once
 -- a serial has one row
@@ -159,6 +166,25 @@ find-in test up (tree s c t) rest r e = by (test s) refl (find-in test (s .seria
         let g : findRow test ((lines (s .serial) c ++ lines up t) ++ rest) ≡ some r = rw (q, findRow) at e in
         ⊎-elim (λ (b, i, q). inl (b, inr (inl i), q)) (λ h. ⊎-elim (λ (b, i, q). inl (b, inr (inr i), q)) (λ z. inr z) (y h)) (x (rw append-assoc at g))
 
+-- the serials of the rows right below a row are those of rows that stand there
+pub child-stands : (test : Row → Bool) (k up : ℕ) (f : Forest Row) (n : ℕ) → List·Memᴰ n (childrenOf test k (lines up f)) → (r : Row) × (b : Forest Row) × Standing f r b × (test r ≡ true) × (r .serial ≡ n)
+unfolding childrenOf
+child-stands test k up bare n m = absurd (List·Memᴰ·not-nil m)
+child-stands test k up (tree s c t) n m = by (eqb up k && test s) refl (child-stands test k (s .serial) c n) (child-stands test k up t n)
+  where
+    Found : Forest Row → Type 0
+    Found f = (r : Row) × (b : Forest Row) × Standing f r b × (test r ≡ true) × (r .serial ≡ n)
+
+    rest : (List·Memᴰ n (childrenOf test k (lines (s .serial) c)) → Found c) → (List·Memᴰ n (childrenOf test k (lines up t)) → Found t) → List·Memᴰ n (childrenOf test k (lines (s .serial) c ++ lines up t)) → Found (tree s c t)
+    rest x y i =
+        ⊎-elim (λ j. let (r, b, g, q, e) = x j in (r, b, inr (inl g), q, e)) (λ j. let (r, b, g, q, e) = y j in (r, b, inr (inr g), q, e))
+        (List·Memᴰ·append-cases (childrenOf test k (lines (s .serial) c)) (rw (children-append test k (lines (s .serial) c) (lines up t)) at i))
+
+    by : (x : Bool) → (eqb up k && test s) ≡ x → (List·Memᴰ n (childrenOf test k (lines (s .serial) c)) → Found c) → (List·Memᴰ n (childrenOf test k (lines up t)) → Found t) → Found (tree s c t)
+    by true q x y =
+        ⊎-elim (λ e. (s, c, inl (refl, refl), and-split (eqb up k) (test s) q .1, sym e)) (λ i. rest x y i) (List·Memᴰ·cases-cons (rw (q, childrenOf) at m))
+    by false q x y = rest x y (rw (q, childrenOf) at m)
+
 -- the row that is found stands there
 pub found-stands : (test : Row → Bool) (docs : Forest Row) (r : Row) → findRow test (lines 0 docs) ≡ some r → (b : Forest Row) × Standing docs r b × (test r ≡ true)
 unfolding findRow
@@ -175,6 +201,16 @@ module _ (next : ℕ) (docs : Forest Row) (good : GoodSerials next docs) where
   pub one-row : (r s : Row) (b c : Forest Row) → Standing docs r b → Standing docs s c → r .serial ≡ s .serial → (r ≡ s) × (b ≡ c)
   one-row r s b c i j e = standing-once docs (good .once) r s b c i j e
 
+  -- the first of the rows right below a row, if there is one
+  pub first-child : (test : Row → Bool) (k : ℕ) (r : Row) (b : Forest Row) → Standing docs r b → r .serial ≡ serialAt 0 (childrenOf test k (lines 0 docs)) → test r ≡ true
+  first-child test k r b i e = by (childrenOf test k (lines 0 docs)) refl e
+    where
+      by : (ns : List ℕ) → childrenOf test k (lines 0 docs) ≡ ns → r .serial ≡ serialAt 0 ns → test r ≡ true
+      by [] q e = absurd (no-zero r b i e)
+      by (n ∷ ns) q e =
+          let (t, c, j, h, g) = child-stands test k 0 docs n (rw q (List·Memᴰ·head refl)) in
+          ap test (one-row r t b c i j (e ∙ sym g) .0) ∙ h
+
 -- ---- what a plan leaves alone
 pub revalued-other : (p : Plan) (r : Row) → (r .serial ≡ p .set → ⊥) → revalued p r ≡ r
 revalued-other p r f = rw (differs numbers (r .serial) (p .set) f)
@@ -183,6 +219,20 @@ pub keep-all : (test : Row → Bool) (rows : List Row) → ((r : Row) → List·
 unfolding keep
 keep-all test [] f = refl
 keep-all test (r ∷ rows) f = rw (f r (List·Memᴰ·head refl), keep) (ap (λ (z : List Row). r ∷ z) (keep-all test rows (λ s m. f s (List·Memᴰ·tail m))))
+
+pub keep-in : (test : Row → Bool) (rows : List Row) (r : Row) → List·Memᴰ r (keep test rows) → List·Memᴰ r rows
+unfolding keep
+keep-in test [] r m = m
+keep-in test (s ∷ rows) r m = by (test s) refl (keep-in test rows r)
+  where
+    by : (c : Bool) → test s ≡ c → (List·Memᴰ r (keep test rows) → List·Memᴰ r rows) → List·Memᴰ r (s ∷ rows)
+    by true q f = ⊎-elim (λ i. List·Memᴰ·head i) (λ i. List·Memᴰ·tail (f i)) (List·Memᴰ·cases-cons (rw (q, keep) at m))
+    by false q f = List·Memᴰ·tail (f (rw (q, keep) at m))
+
+pub keep-alike : (test other : Row → Bool) → ((r : Row) → test r ≡ other r) → (rows : List Row) → keep test rows ≡ keep other rows
+unfolding keep
+keep-alike test other f [] = refl
+keep-alike test other f (r ∷ rows) = rw (f r, keep) (ap (λ (z : List Row). elim (other r) as (λ c. List Row) [ true ↦ r ∷ z | false ↦ z ]) (keep-alike test other f rows))
 
 pub map-same : (w : Row → Row) (rows : List Row) → ((r : Row) → List·Memᴰ r rows → w r ≡ r) → map w rows ≡ rows
 map-same w [] f = refl

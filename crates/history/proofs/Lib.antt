@@ -7,3 +7,4 @@ pub mod DefinitionEdits
 pub mod ConformingAfter
 pub mod ConformingForms
 pub mod ConformingRows
+pub mod LaidAfter

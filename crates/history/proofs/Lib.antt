@@ -1,4 +1,14 @@
 pub mod RowEdits
+pub mod Conditions
+pub mod FormLaws
+pub mod ModelAfter
+pub mod Replacing
+pub mod WellFormedAfter
+pub mod NumberTests
+pub mod Taking
+pub mod Making
+pub mod Numbering
+pub mod Stable
 pub mod Rowwise
 pub mod StandingLaws
 pub mod Numbered
@@ -8,3 +18,5 @@ pub mod ConformingAfter
 pub mod ConformingForms
 pub mod ConformingRows
 pub mod LaidAfter
+pub mod Agreement
+pub mod Theorem

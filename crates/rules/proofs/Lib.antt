@@ -33,3 +33,8 @@ pub mod ConformingLaws
 pub mod FillingLaws
 pub mod Examples
 pub mod Clubform
+pub mod PassingLaws
+pub mod BooleanLaws
+pub mod PreorderLaws
+pub mod LayoutLaws
+pub mod DecodeLaws

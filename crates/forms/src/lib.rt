@@ -1,0 +1,1 @@
+// tests of the bodies of a form

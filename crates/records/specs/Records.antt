@@ -1,0 +1,69 @@
+-- The tests of single records and of the header that the check makes, on their bytes.
+-- Assumes nothing.
+use Prim.Native.Nat.{ℕ, zero, suc, _+_, _*_, _-_}
+use mathlib.Core.Bool.{Bool, true, false, _&&_, _||_, not}
+use mathlib.Core.List.{List, [], _∷_, _++_}
+use lib.Dec.{eqb, leb, ltb}
+use lib.ListN.{length, take, drop, getD}
+use Rattle.rules.specs.Bytes.{Bytes, all, isNone}
+use Rattle.rules.specs.Layout.{nameWidth, headerSize, definitionSize, particleSize, attributeSize}
+use Rattle.rules.specs.Decode.{numberAt, definitionCount, particleCount, attributeCount, rowCount, sized, sortOf}
+use Rattle.rules.specs.WellFormed.{storedName, isValue, isFill}
+use Rattle.rules.specs.Passing.{knownVersion}
+
+abbrev pub zeros : Bytes → Bool
+zeros bs = all (λ x. eqb x 0) bs
+
+-- a field of `width` bytes at `at`, of which the first `used` are used and the others zero
+abbrev pub used : Bytes → ℕ → ℕ → Bytes
+used bs at l = take l (drop at bs)
+
+abbrev pub filled : Bytes → ℕ → ℕ → ℕ → Bool
+filled bs at l width = leb l width && zeros (take (width - l) (drop (at + l) bs))
+
+-- a name with its length before it
+unfoldable pub nameFits : Bytes → ℕ → Bool
+nameFits bs at = storedName (used bs (suc at) (getD bs at 0)) && filled bs (suc at) (getD bs at 0) nameWidth
+
+-- a value of at most w bytes at `at`, of length l
+unfoldable pub valueFits : ℕ → Bytes → ℕ → ℕ → Bool
+valueFits w bs at l = isValue w (used bs at l) && filled bs at l w
+
+-- ---- records
+unfoldable pub definitionFits : Bytes → Bool
+definitionFits bs = nameFits bs 0 && (leb (getD bs 17 0) 2 && (eqb (getD bs 17 0) 2 || eqb (numberAt 18 2 bs) 0))
+
+-- n definitions are there
+unfoldable pub attributeFits : ℕ → ℕ → Bytes → Bool
+attributeFits w n bs =
+    ltb (getD bs 0 0) n
+    && (nameFits bs 1 && (leb (getD bs 18 0) 2 && (valueFits w bs 20 (getD bs 19 0) && isFill (sortOf (getD bs 18 0)) (used bs 20 (getD bs 19 0)))))
+
+-- the fields of a tree row apart from its depth, index and serial: an element has no value, a text has index 0
+unfoldable pub rowFits : ℕ → Bytes → Bool
+rowFits w bs =
+    (leb 1 (getD bs 0 0) && leb (getD bs 0 0) 3)
+    && (valueFits w bs 10 (getD bs 8 0)
+    && ((not (eqb (getD bs 0 0) 1) || eqb (getD bs 8 0) 0)
+    && ((not (eqb (getD bs 0 0) 3) || eqb (numberAt 2 2 bs) 0)
+    && (eqb (getD bs 9 0) 0 && (eqb (getD bs (10 + w) 0) 0 && eqb (getD bs (11 + w) 0) 0)))))
+
+-- ---- the header: version, offsets, counts within the ceilings, and the length they give
+unfoldable pub countsFit : Bytes → Bool
+countsFit bs = leb (definitionCount bs) 64 && (leb (particleCount bs) 256 && (leb (attributeCount bs) 64 && leb (rowCount bs) 4096))
+
+unfoldable pub offsetsFit : ℕ → Bytes → Bool
+offsetsFit w bs =
+    let atParticles : ℕ = headerSize + definitionSize * definitionCount bs in
+    let atAttributes : ℕ = atParticles + particleSize * particleCount bs in
+    let atRows : ℕ = atAttributes + attributeSize w * attributeCount bs in
+    eqb (numberAt 8 4 bs) headerSize && (eqb (numberAt 16 4 bs) atParticles && (eqb (numberAt 24 4 bs) atAttributes && eqb (numberAt 32 4 bs) atRows))
+
+unfoldable pub headerFits : ℕ → Bytes → Bool
+headerFits w bs = leb headerSize (length bs) && (knownVersion (numberAt 0 4 bs) && (countsFit bs && (offsetsFit w bs && (sized w bs && leb 1 (numberAt 4 4 bs)))))
+
+-- ---- bodies of records
+-- every one of `count` records of `size` bytes passes
+unfoldable pub eachFits : (Bytes → Bool) → ℕ → ℕ → Bytes → Bool
+eachFits p size zero bs = true
+eachFits p size (suc count) bs = p (take size bs) && eachFits p size count (drop size bs)

@@ -1,0 +1,1 @@
+// the tests of single records

@@ -1,0 +1,1 @@
+// one pass over the tree rows

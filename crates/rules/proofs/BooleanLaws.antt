@@ -1,0 +1,84 @@
+-- Facts on tests over lists: entry by entry, by membership, and of a value behind a test.
+-- Assumes nothing.
+use Prim.Native.Nat.{ℕ}
+use native.Mathlib.Omega.{arith}
+use mathlib.Core.Path.{_≡_, refl, ap, sym, _∙_}
+use mathlib.Core.Logic.{⊎-elim}
+use mathlib.Core.Bool.{Bool, true, false, false≢true}
+use mathlib.Core.Option.{Option, none, some}
+use mathlib.Core.List.{List, [], _∷_, _++_, List·Memᴰ, List·Memᴰ·head, List·Memᴰ·tail, List·Memᴰ·not-nil, List·Memᴰ·cases-cons}
+use Rattle.rules.specs.Bytes.{all, any, isNone, and-left, and-right}
+use Rattle.rules.proofs.Words.{and-both, and-split, or-left, or-right, or-cases}
+
+-- ---- every entry
+abbrev pub Every : {A : Type 0} → (A → Type 0) → List A → Type 0
+Every P [] = Unit {0}
+Every P (x ∷ xs) = P x × Every P xs
+
+pub every-of : {A : Type 0} (p : A → Bool) (xs : List A) → all p xs ≡ true → Every (λ x. p x ≡ true) xs
+every-of p [] h = tt
+every-of p (x ∷ xs) h = (and-left (p x) (all p xs) h, every-of p xs (and-right (p x) (all p xs) h))
+
+pub every-map : {A : Type 0} (P Q : A → Type 0) (xs : List A) → ((x : A) → P x → Q x) → Every P xs → Every Q xs
+every-map P Q [] f a = tt
+every-map P Q (x ∷ xs) f a = (f x (a .0), every-map P Q xs f (a .1))
+
+pub every-append : {A : Type 0} (P : A → Type 0) (xs ys : List A) → Every P xs → Every P ys → Every P (xs ++ ys)
+every-append P [] ys a b = b
+every-append P (x ∷ xs) ys a b = (a .0, every-append P xs ys (a .1) b)
+
+pub every-zip : {A : Type 0} (P Q R : A → Type 0) (xs : List A) → ((x : A) → P x → Q x → R x) → Every P xs → Every Q xs → Every R xs
+every-zip P Q R [] f a b = tt
+every-zip P Q R (x ∷ xs) f a b = (f x (a .0) (b .0), every-zip P Q R xs f (a .1) (b .1))
+
+pub every-in : {A : Type 0} (P : A → Type 0) (xs : List A) → ((x : A) → List·Memᴰ x xs → P x) → Every P xs
+every-in P [] f = tt
+every-in P (x ∷ xs) f = (f x (List·Memᴰ·head refl), every-in P xs (λ y m. f y (List·Memᴰ·tail m)))
+
+pub every-at : {A : Type 0} (P : A → Type 0) (x : A) (xs : List A) → Every P xs → List·Memᴰ x xs → P x
+every-at P x [] a m = absurd (List·Memᴰ·not-nil m)
+every-at P x (y ∷ ys) a m = ⊎-elim (λ e. rw e (a .0)) (every-at P x ys (a .1)) (List·Memᴰ·cases-cons m)
+
+pub every-any : {A : Type 0} (xs : List A) → Every (λ x. Unit {0}) xs
+every-any [] = tt
+every-any (x ∷ xs) = (tt, every-any xs)
+
+-- ---- the tests
+pub all-left : {A : Type 0} (p : A → Bool) (xs ys : List A) → all p (xs ++ ys) ≡ true → all p xs ≡ true
+all-left p [] ys h = refl
+all-left p (x ∷ xs) ys h = rw (and-left (p x) (all p (xs ++ ys)) h) (all-left p xs ys (and-right (p x) (all p (xs ++ ys)) h))
+
+pub all-right : {A : Type 0} (p : A → Bool) (xs ys : List A) → all p (xs ++ ys) ≡ true → all p ys ≡ true
+all-right p [] ys h = h
+all-right p (x ∷ xs) ys h = all-right p xs ys (and-right (p x) (all p (xs ++ ys)) h)
+
+pub all-of : {A : Type 0} (p : A → Bool) (xs : List A) → ((x : A) → List·Memᴰ x xs → p x ≡ true) → all p xs ≡ true
+all-of p [] f = refl
+all-of p (x ∷ xs) f = and-both (f x (List·Memᴰ·head refl)) (all-of p xs (λ y m. f y (List·Memᴰ·tail m)))
+
+pub all-in : {A : Type 0} (p : A → Bool) (x : A) (xs : List A) → all p xs ≡ true → List·Memᴰ x xs → p x ≡ true
+all-in p x [] h m = absurd (List·Memᴰ·not-nil m)
+all-in p x (y ∷ ys) h m =
+    let (a, b) = and-split (p y) (all p ys) h in
+    ⊎-elim (λ e. ap p e ∙ a) (all-in p x ys b) (List·Memᴰ·cases-cons m)
+
+pub any-in : {A : Type 0} (p : A → Bool) (x : A) (xs : List A) → List·Memᴰ x xs → p x ≡ true → any p xs ≡ true
+any-in p x [] m h = absurd (List·Memᴰ·not-nil m)
+any-in p x (y ∷ ys) m h = ⊎-elim (λ e. or-left (any p ys) (ap p (sym e) ∙ h)) (λ k. or-right (p y) (any-in p x ys k h)) (List·Memᴰ·cases-cons m)
+
+pub any-more : {A : Type 0} (p q : A → Bool) (xs : List A) → ((x : A) → p x ≡ true → q x ≡ true) → any p xs ≡ true → any q xs ≡ true
+any-more p q [] f h = h
+any-more p q (x ∷ xs) f h = ⊎-elim (λ e. or-left (any q xs) (f x e)) (λ k. or-right (q x) (any-more p q xs f k)) (or-cases (p x) (any p xs) h)
+
+pub none-nil : {A : Type 0} (xs : List A) → isNone xs ≡ true → xs ≡ []
+none-nil [] h = refl
+none-nil (x ∷ xs) h = absurd (false≢true h)
+
+-- a value behind a test is there if and only if the test holds
+pub guard-true : {A : Type 0} (b : Bool) (o : Option A) → b ≡ true → elim b [ true ↦ o | false ↦ none ] ≡ o
+guard-true true o e = refl
+guard-true false o e = absurd (false≢true e)
+
+pub guard-some : {A : Type 0} (b : Bool) (o : Option A) (x : A) → elim b [ true ↦ o | false ↦ none ] ≡ some x → (b ≡ true) × (o ≡ some x)
+guard-some true o x h = (refl, h)
+guard-some false o x h = let e : _≡_ {A = ℕ} 0 1 = cc in absurd (omega arith)

@@ -1,0 +1,99 @@
+-- `build` undoes `flatten`, and `flatten` undoes `build` on rows whose depths rise by one at most.
+-- Assumes nothing.
+use Prim.Native.Nat.{ℕ, zero, suc, _+_, _-_, _≤_, _<_}
+use native.Mathlib.Omega.{arith}
+use mathlib.Core.Path.{_≡_, refl, ap, ap₂, _∙_, sym}
+use mathlib.Core.Bool.{Bool, true, _&&_}
+use mathlib.Core.List.{List, [], _∷_, _++_, append-assoc, append-nil}
+use lib.Dec.{leb}
+use borrow.Author.Tests.{lt-ltb, le-ltb, eq-eqb, ne-eqb, leb-true}
+use Rattle.rules.specs.Bytes.{and-left, and-right}
+use Rattle.rules.specs.Store.{Forest, bare, tree, _⧺_}
+use Rattle.rules.specs.Preorder.{Deep, flatten, build}
+
+module _ {A : Type 0} where
+  pub ⧺-bare : (f : Forest A) → f ⧺ bare ≡ f
+  ⧺-bare bare = refl
+  ⧺-bare (tree r b t) = ap (λ (x : Forest A). tree r b x) (⧺-bare t)
+
+  -- a row of depth k, a deeper one, one less deep
+  build-same : (d : ℕ) (r : A) (xs : List (Deep A)) → build (record { depth = d; row = r } ∷ xs) d ≡ tree r (build xs (suc d)) (build xs d)
+  build-same d r xs = rw (le-ltb d d (omega arith), build) (rw (eq-eqb d d refl))
+
+  build-less : (x : Deep A) (xs : List (Deep A)) (k : ℕ) → k < x .depth → build (x ∷ xs) k ≡ build xs k
+  build-less x xs k h = rw (lt-ltb k (x .depth) h, build)
+
+  build-more : (x : Deep A) (xs : List (Deep A)) (k : ℕ) → x .depth < k → build (x ∷ xs) k ≡ bare
+  build-more x xs k h = rw (le-ltb k (x .depth) (omega arith), build) (rw (ne-eqb k (x .depth) (λ e. omega arith)))
+
+  -- no row comes next, or one of depth d at most
+  Shallow : ℕ → List (Deep A) → Type 0
+  Shallow d rest = (k : ℕ) → d < k → build rest k ≡ bare
+
+  shallow-flatten : (d : ℕ) (t : Forest A) (rest : List (Deep A)) → Shallow d rest → Shallow d (flatten d t ++ rest)
+  unfolding Shallow
+  shallow-flatten d bare rest h k l = h k l
+  shallow-flatten d (tree r b t) rest h k l = build-more (record { depth = d; row = r }) (flatten (suc d) b ++ flatten d t ++ rest) k l
+
+  build-above : (d k : ℕ) (f : Forest A) (rest : List (Deep A)) → k < d → build (flatten d f ++ rest) k ≡ build rest k
+  build-above d k bare rest h = refl
+  build-above d k (tree r b t) rest h =
+      build-less (record { depth = d; row = r }) (flatten (suc d) b ++ flatten d t ++ rest) k h
+      ∙ rw append-assoc (build-above (suc d) k b (flatten d t ++ rest) (omega arith) ∙ build-above d k t rest h)
+
+  build-at : (d : ℕ) (f : Forest A) (rest : List (Deep A)) → Shallow d rest → build (flatten d f ++ rest) d ≡ f ⧺ build rest d
+  unfolding Shallow
+  build-at d bare rest h = refl
+  build-at d (tree r b t) rest h =
+      build-same d r (flatten (suc d) b ++ flatten d t ++ rest)
+      ∙ ap₂ (λ (x y : Forest A). tree r x y)
+      (rw append-assoc (build-at (suc d) b (flatten d t ++ rest) (λ k l. shallow-flatten d t rest h k (omega arith)) ∙ ap (λ (x : Forest A). b ⧺ x) (shallow-flatten d t rest h (suc d) (omega arith)) ∙ ⧺-bare b))
+      (rw append-assoc (build-above (suc d) d b (flatten d t ++ rest) (omega arith) ∙ build-at d t rest h))
+
+  pub build-flatten : (f : Forest A) → build (flatten 0 f) 0 ≡ f
+  unfolding Shallow
+  build-flatten f =
+      ap (λ (l : List (Deep A)). build l 0) (sym (append-nil (flatten 0 f))) ∙ build-at 0 f [] (λ k l. refl) ∙ ⧺-bare f
+
+  -- the depths start at d at most, and each is at most one more than the one before
+  abbrev pub rising : ℕ → List (Deep A) → Bool
+  rising d [] = true
+  rising d (x ∷ xs) = leb (x .depth) d && rising (suc (x .depth)) xs
+
+  -- the forests at every depth below d, the deepest first
+  under : ℕ → List (Deep A) → List (Deep A)
+  under zero xs = []
+  under (suc d) xs = flatten d (build xs d) ++ under d xs
+
+  under-nil : (d : ℕ) → under d [] ≡ []
+  unfolding under
+  under-nil zero = refl
+  under-nil (suc d) = under-nil d
+
+  under-less : (d : ℕ) (x : Deep A) (xs : List (Deep A)) → d ≤ x .depth → under d (x ∷ xs) ≡ under d xs
+  unfolding under
+  under-less zero x xs h = refl
+  under-less (suc d) x xs h = ap₂ (λ (f : Forest A) (l : List (Deep A)). flatten d f ++ l) (build-less x xs d h) (under-less d x xs (omega arith))
+
+  under-more : (k : ℕ) (x : Deep A) (xs : List (Deep A)) (d : ℕ) → d ≡ k + x .depth → under (suc d) (x ∷ xs) ≡ under (suc (x .depth)) (x ∷ xs)
+  unfolding under
+  under-more zero x xs d e = ap (λ (n : ℕ). under (suc n) (x ∷ xs)) (omega arith)
+  under-more (suc k) x xs d e =
+      ap (λ (f : Forest A). flatten d f ++ under d (x ∷ xs)) (build-more x xs d (omega arith))
+      ∙ ap (λ (n : ℕ). under n (x ∷ xs)) (let q : d ≡ suc (k + x .depth) = omega arith in q)
+      ∙ under-more k x xs (k + x .depth) refl
+
+  under-all : (d : ℕ) (xs : List (Deep A)) → rising d xs ≡ true → under (suc d) xs ≡ xs
+  unfolding under
+  under-all d [] h = under-nil (suc d)
+  under-all d (x ∷ xs) h =
+      let g : x .depth ≤ d = leb-true (x .depth) d (and-left (leb (x .depth) d) (rising (suc (x .depth)) xs) h) in
+      under-more (d - x .depth) x xs d (omega arith)
+      ∙ ap₂ (λ (f : Forest A) (l : List (Deep A)). flatten (x .depth) f ++ l) (build-same (x .depth) (x .row) xs) (under-less (x .depth) x xs (omega arith))
+      ∙ ap (λ (l : List (Deep A)). x ∷ l)
+      (append-assoc (flatten (suc (x .depth)) (build xs (suc (x .depth)))) (flatten (x .depth) (build xs (x .depth))) (under (x .depth) xs)
+      ∙ under-all (suc (x .depth)) xs (and-right (leb (x .depth) d) (rising (suc (x .depth)) xs) h))
+
+  pub flatten-build : (xs : List (Deep A)) → rising 0 xs ≡ true → flatten 0 (build xs 0) ≡ xs
+  unfolding under
+  flatten-build xs h = sym (append-nil (flatten 0 (build xs 0))) ∙ under-all 0 xs h

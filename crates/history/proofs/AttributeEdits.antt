@@ -1,14 +1,14 @@
 -- The rows right below one element when an attribute is added to its table or taken out of it.
 -- Assumes nothing.
 use mathlib.Core.Path.{_≡_, refl, sym, ap, _∙_}
-use mathlib.Core.Logic.{_⊎_, inl, inr, ⊎-elim}
-use mathlib.Core.Bool.{Bool, true, false, _&&_, not, false≢true}
-use mathlib.Core.Option.{Option, none, some}
+use mathlib.Core.Logic.{⊎-elim}
+use mathlib.Core.Bool.{Bool, true, false, not, false≢true}
+use mathlib.Core.Option.{none, some}
 use mathlib.Core.List.{List, [], _∷_, _++_, map, List·Memᴰ, List·Memᴰ·head, List·Memᴰ·tail, List·Memᴰ·not-nil, List·Memᴰ·cases-cons, Memᴰ·cast}
-use Rattle.rules.specs.Bytes.{Bytes, same, bytes, same-eq, same-refl, all, isNone}
+use Rattle.rules.specs.Bytes.{Bytes, same, bytes, same-eq, same-refl, all}
 use Rattle.rules.specs.Model.{Distinct}
 use Rattle.rules.specs.Automaton.{accepts}
-use Rattle.rules.specs.Store.{Content, empty, pcdata, complex, Attribute, RowSort, element, attribute, text, Row, Forest, bare, tree, heads}
+use Rattle.rules.specs.Store.{Content, empty, pcdata, complex, Attribute, RowSort, element, attribute, text, Row, heads}
 use Rattle.rules.specs.WellFormed.{attributeName}
 use Rattle.rules.specs.Conforming.{nameOf, isElement, isAttribute, isText, mustBePresent, allows, strip, fits}
 use Rattle.rules.specs.Lines.{attributeNamed}

@@ -1,20 +1,22 @@
 -- Documents that conform to a form conform to another after a plan, if each row does with the rows that it then has below it.
 -- Assumes nothing.
-use Prim.Native.Nat.{ℕ}
+use Prim.Native.Nat.{ℕ, _<_}
 use mathlib.Core.Path.{_≡_, refl, sym, ap, ap₂, _∙_}
-use mathlib.Core.Logic.{_⊎_, inl, inr, ⊎-elim}
-use mathlib.Core.Bool.{Bool, true, false, _&&_, not, false≢true}
+use mathlib.Core.Bool.{Bool, true, false, not, false≢true}
 use mathlib.Core.Option.{Option, none, some}
-use mathlib.Core.List.{List, [], _∷_, _++_, map, List·Memᴰ}
+use mathlib.Core.List.{List, [], _∷_, _++_, map}
+use lib.ListN.{length}
 use Rattle.rules.specs.Bytes.{Bytes, same, bytes, same-eq, all, isNone}
+use Rattle.rules.specs.Model.{Distinct}
 use Rattle.rules.specs.Store.{Definition, Form, RowSort, element, attribute, text, Row, Forest, heads}
-use Rattle.rules.specs.WellFormed.{lookup}
+use Rattle.rules.specs.WellFormed.{definitionName, lookup}
 use Rattle.rules.specs.Conforming.{isElement, everyRow, fitsDefinition, fitsRow, conforming}
 use Rattle.rules.specs.Lines.{ground, elementNamed}
-use Rattle.rules.specs.Change.{Plan, changed}
+use Rattle.rules.specs.Change.{definitionAt, update, Plan, changed}
 use Rattle.rules.specs.Passing.{GoodSerials}
 use Rattle.rules.proofs.Words.{and-both, and-split}
 use Rattle.history.proofs.RowEdits.{keep, plantRows, revalued, childrenAfter}
+use Rattle.history.proofs.FormLaws.{definition-found, update-other, update-this}
 use Rattle.history.proofs.Rowwise.{Standing, roots-changed, every-changed}
 use Rattle.history.proofs.StandingLaws.{children-cut, same-row, children-kept}
 use Rattle.history.proofs.Numbered.{mapped-elements}
@@ -123,6 +125,11 @@ pub record Replaced (form form′ : Form) (d d′ : Definition) : Type 0 where
   pub was : lookup (d .name) form ≡ some d
   pub is : lookup (d .name) form′ ≡ some d′
   pub others : (n : Bytes) → (n ≡ d .name → ⊥) → lookup n form′ ≡ lookup n form
+
+pub replaced-at : (form : Form) → Distinct (map definitionName form) → (i : ℕ) → i < length form → (u : Definition → Definition) → ((d : Definition) → u d .name ≡ d .name)
+    → Replaced form (update i u form) (definitionAt i form) (u (definitionAt i form))
+replaced-at form once i below u keeps =
+    record { was = definition-found i form once below; is = update-this u keeps i form once below; others = update-other u keeps i form }
 
 -- a plan that does nothing but below elements of the name n
 pub record Within (n : Bytes) (p : Plan) : Type 0 where

@@ -4,14 +4,14 @@ use Prim.Native.Nat.{ℕ}
 use mathlib.Core.Path.{_≡_, refl, sym, ap, ap₂, _∙_}
 use mathlib.Core.Logic.{_⊎_, inl, inr, ⊎-elim}
 use mathlib.Core.Bool.{Bool, true, false, _&&_, not, false≢true}
-use mathlib.Core.Option.{Option, none, some}
+use mathlib.Core.Option.{Option, some}
 use mathlib.Core.List.{List, [], _∷_, _++_, map, List·Memᴰ, List·Memᴰ·not-nil, List·Memᴰ·append-cases, List·Memᴰ·eq-of-singleton, Memᴰ·map, Memᴰ·cast}
 use Rattle.rules.specs.declared.GroupKind.the-variants.{Sequence}
 use Rattle.rules.specs.Bytes.{Bytes, bytes, all, any}
 use Rattle.rules.specs.Model.{Members, names, member}
 use Rattle.rules.specs.Automaton.{accepts}
 use Rattle.rules.specs.Place.{Context, Found}
-use Rattle.rules.specs.Edit.{Edit, convert, flatten, place, placeOf, modelAfter}
+use Rattle.rules.specs.Edit.{Edit, convert, flatten, modelAfter}
 use Rattle.rules.specs.Store.{Content, empty, pcdata, complex, Definition, Form, RowSort, element, attribute, text, Row, Forest, bare, tree, Store, modelOf, members, heads}
 use Rattle.rules.specs.WellFormed.{lookup, isThere, known, attributeName, GoodDefinition, wellFormed}
 use Rattle.rules.specs.Conforming.{nameOf, ContentRows, ElementRows, RowConforms, isElement, isAttribute, everyRow, mustBePresent, fitsDefinition, fitsRow, conforming}
@@ -22,13 +22,14 @@ use Rattle.rules.specs.Change.{createDefinition, destroyDefinition, convertToGr
 use Rattle.rules.specs.Passing.{GoodSerials}
 use Rattle.rules.proofs.Words.{and-both, and-split}
 use Rattle.rules.proofs.Letters.{letters}
-use Rattle.rules.proofs.Children.{misplaced, unfit, children, Sound}
+use Rattle.rules.proofs.Children.{unfit, children}
 use Rattle.rules.proofs.Whole.{change-accepts}
 use Rattle.rules.proofs.TestLaws.{any-test, member-test}
 use Rattle.rules.proofs.WellFormedLaws.{lookup-member, definition-good}
 use Rattle.rules.proofs.SerialLaws.{every-row}
 use Rattle.rules.proofs.ConformingLaws.{row-is}
 use Rattle.history.proofs.RowEdits.{keep, plantRows, revalued, childrenAfter}
+use Rattle.history.proofs.ModelAfter.{Placed, place-of}
 use Rattle.history.proofs.Rowwise.{Standing}
 use Rattle.history.proofs.StandingLaws.{standing-every, standing-parent, keep-in, keep-alike, map-same, children-left, children-cut, same-row, same-child, children-kept}
 use Rattle.history.proofs.DefinitionEdits.{definition-edited, added-absent, added-present, definition-lacking}
@@ -104,9 +105,8 @@ module _ (w : ℕ) (s : Store) (ok : wellFormed w (s .form) ≡ true) (serials :
 
   -- 6 and 7: an edit that leaves the children of instances as they are
   regrouped : (e : Edit Bytes) → ((c : Context Bytes) (t : Members Bytes) → unfit e c t ≡ false) → ((c : Context Bytes) (t : Members Bytes) (l : List Bytes) → children bytes e c t l ≡ l)
-      → (o : ℕ) (p : List ℕ) (f : Found Bytes) → placeOf e p (members (definitionAt o (s .form))) ≡ some f → place e p (members (definitionAt o (s .form))) ≡ some f → misplaced bytes e (f .context) (f .picked) ≡ false
-      → (form′ : Form) → Replaced (s .form) form′ (definitionAt o (s .form)) (inModel (editAt e p) (definitionAt o (s .form))) → conforming form′ (changed keeping (s .docs)) ≡ true
-  regrouped e free same o p f at there fit form′ replaced =
+      → (o : ℕ) (p : List ℕ) → Placed bytes e p (members (definitionAt o (s .form))) → (form′ : Form) → Replaced (s .form) form′ (definitionAt o (s .form)) (inModel (editAt e p) (definitionAt o (s .form))) → conforming form′ (changed keeping (s .docs)) ≡ true
+  regrouped e free same o p x form′ replaced =
       conforming-replaced (s .form) form′ d (inModel (editAt e p) d) replaced (s .next) (s .docs) serials keeping (record { takes = λ r t q. refl; fills = λ r q. refl; set = refl }) refl
       (λ r b i q h.
       ap (fitsDefinition (some (inModel (editAt e p) d))) (children-kept (s .next) (s .docs) serials keeping refl r b i (λ t m. refl) refl)
@@ -121,23 +121,21 @@ module _ (w : ℕ) (s : Store) (ok : wellFormed w (s .form) ≡ true) (serials :
 
       kept : (l : List Bytes) → accepts bytes (members d) l ≡ true → accepts bytes (editAt e p (members d)) l ≡ true
       kept l a =
-          ap (λ (x : Option (Found Bytes)). accepts bytes (editFound e (members d) x) l) at
-          ∙ ap (accepts bytes (modelAfter e f)) (sym (same (f .context) (f .picked) l))
-          ∙ change-accepts bytes e p (members d) f there fit (record { distinct = good .once; full = good .groups }) (free (f .context) (f .picked)) l a
+          ap (λ (y : Option (Found Bytes)). accepts bytes (editFound e (members d) y) l) (x .at)
+          ∙ ap (accepts bytes (modelAfter e (x .found))) (sym (same (x .found .context) (x .found .picked) l))
+          ∙ change-accepts bytes e p (members d) (x .found) (place-of e p (members d) (x .found) (x .at)) (x .fits) (record { distinct = good .once; full = good .groups }) (free (x .found .context) (x .found .picked)) l a
 
-  pub conforming-6 : (o : ℕ) (p : List ℕ) (n k : ℕ) (f : Found Bytes) → placeOf (convert (groupOf k) n) p (members (definitionAt o (s .form))) ≡ some f → place (convert (groupOf k) n) p (members (definitionAt o (s .form))) ≡ some f
-      → misplaced bytes (convert (groupOf k) n) (f .context) (f .picked) ≡ false
+  pub conforming-6 : (o : ℕ) (p : List ℕ) (n k : ℕ) → Placed bytes (convert (groupOf k) n) p (members (definitionAt o (s .form)))
       → Replaced (s .form) (formAfter (convertToGroup o p n k) (s .form)) (definitionAt o (s .form)) (inModel (editAt (convert (groupOf k) n) p) (definitionAt o (s .form)))
       → conforming (formAfter (convertToGroup o p n k) (s .form)) (docsAfter (convertToGroup o p n k) s) ≡ true
   unfolding plan unfit children
-  conforming-6 o p n k f at there fit = regrouped (convert (groupOf k) n) (λ c t. refl) (λ c t l. refl) o p f at there fit (formAfter (convertToGroup o p n k) (s .form))
+  conforming-6 o p n k x = regrouped (convert (groupOf k) n) (λ c t. refl) (λ c t l. refl) o p x (formAfter (convertToGroup o p n k) (s .form))
 
-  pub conforming-7 : (o : ℕ) (p : List ℕ) (f : Found Bytes) → placeOf flatten p (members (definitionAt o (s .form))) ≡ some f → place flatten p (members (definitionAt o (s .form))) ≡ some f
-      → misplaced bytes flatten (f .context) (f .picked) ≡ false
+  pub conforming-7 : (o : ℕ) (p : List ℕ) → Placed bytes flatten p (members (definitionAt o (s .form)))
       → Replaced (s .form) (formAfter (flattenGroup o p) (s .form)) (definitionAt o (s .form)) (inModel (editAt flatten p) (definitionAt o (s .form)))
       → conforming (formAfter (flattenGroup o p) (s .form)) (docsAfter (flattenGroup o p) s) ≡ true
   unfolding plan unfit children
-  conforming-7 o p f at there fit = regrouped flatten (λ c t. refl) (λ c t l. refl) o p f at there fit (formAfter (flattenGroup o p) (s .form))
+  conforming-7 o p x = regrouped flatten (λ c t. refl) (λ c t l. refl) o p x (formAfter (flattenGroup o p) (s .form))
 
   -- 9: each instance gets a row of a REQUIRED attribute
   module _ (o : ℕ) (n : Bytes) (k : ℕ) (v : Bytes) where

@@ -3,18 +3,17 @@
 use Prim.Native.Nat.{ℕ}
 use mathlib.Core.Path.{_≡_, refl, sym, ap, ap₂, _∙_}
 use mathlib.Core.Bool.{Bool, true, false, not, false≢true}
-use mathlib.Core.Option.{Option, some}
-use mathlib.Core.List.{List, [], _∷_, map, List·Memᴰ, List·Memᴰ·head}
+use mathlib.Core.Option.{Option}
+use mathlib.Core.List.{List, map, List·Memᴰ}
 use lib.Dec.{eqb}
 use lib.ListN.{length}
 use Rattle.rules.specs.Bytes.{Bytes, numbers, all}
-use Rattle.rules.specs.Model.{Distinct}
-use Rattle.rules.specs.Store.{Definition, Form, RowSort, element, attribute, text, Row, Forest, Store, heads}
-use Rattle.rules.specs.WellFormed.{lookup, known, wellFormed}
+use Rattle.rules.specs.Store.{Definition, RowSort, element, attribute, text, Row, Forest, Store, heads}
+use Rattle.rules.specs.WellFormed.{known, wellFormed}
 use Rattle.rules.specs.Conforming.{isElement, isAttribute, isText, fitsDefinition, fitsRow, conforming}
 use Rattle.rules.specs.Filling.{fillDefinition}
-use Rattle.rules.specs.Lines.{Line, lines, isTextRow, childrenOf, serialAt}
-use Rattle.rules.specs.Change.{Call, addDocument, addElement, destroyElement, setAttribute, destroyAttributeRow, setText, nameAtIndex, formAfter, Plan, making, setting, neither, plan, changed, docsAfter, after}
+use Rattle.rules.specs.Lines.{lines, isTextRow, childrenOf, serialAt}
+use Rattle.rules.specs.Change.{Call, addDocument, setText, nameAtIndex, formAfter, Plan, making, setting, neither, plan, docsAfter, after}
 use Rattle.rules.specs.Passing.{GoodSerials}
 use Rattle.rules.proofs.Apart.{differs}
 use Rattle.rules.proofs.Height.{deep}

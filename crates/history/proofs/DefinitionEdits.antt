@@ -1,7 +1,7 @@
 -- The rows right below one element fit its definition when the model accepts more, and when an attribute is added or taken out.
 -- Assumes nothing.
 use mathlib.Core.Path.{_≡_, refl, ap, _∙_}
-use mathlib.Core.Bool.{Bool, true, false, not, false≢true}
+use mathlib.Core.Bool.{true, false, not, false≢true}
 use mathlib.Core.Option.{Option, none, some}
 use mathlib.Core.List.{List, [], _∷_, _++_, map, List·Memᴰ}
 use Rattle.rules.specs.Bytes.{Bytes, bytes, all}

@@ -2,7 +2,7 @@
 -- Assumes nothing.
 use Prim.Native.Nat.{ℕ}
 use mathlib.Core.Path.{_≡_, refl, sym, ap, _∙_}
-use mathlib.Core.Bool.{Bool, true, false, _&&_, not, false≢true}
+use mathlib.Core.Bool.{Bool, true, false, _&&_, false≢true}
 use mathlib.Core.Option.{Option, none, some}
 use mathlib.Core.List.{List, [], _∷_, List·Memᴰ}
 use lib.Dec.{eqb}
@@ -10,9 +10,9 @@ use lib.ListN.{length}
 use Rattle.rules.specs.declared.Quantifier.{Quantifier}
 use Rattle.rules.specs.Bytes.{Bytes, same, eqb-eq, isNone}
 use Rattle.rules.specs.Model.{Members, done, el, group}
-use Rattle.rules.specs.Place.{Context, Found}
+use Rattle.rules.specs.Place.{Found}
 use Rattle.rules.specs.Edit.{insert, remove, quantify, placeOf}
-use Rattle.rules.specs.Store.{Attribute, Definition, Form, RowSort, element, attribute, text, Row, Forest, Store, members, heads}
+use Rattle.rules.specs.Store.{Attribute, Definition, Form, RowSort, element, attribute, text, Row, Forest, Store, members}
 use Rattle.rules.specs.WellFormed.{storedName, isValue, isFill, lookup, wellFormed}
 use Rattle.rules.specs.Conforming.{isElement, isAttribute, isText, everyRow}
 use Rattle.rules.specs.Filling.{fillEach, fillDefinition}
@@ -21,7 +21,6 @@ use Rattle.rules.specs.Decode.{quantifierOf}
 use Rattle.rules.specs.Change.{Call, createDefinition, destroyDefinition, insertElement, removeElement, changeQuantifier, convertToGroup, flattenGroup, changeGroupQuantifier, addAttribute, destroyAttribute, addDocument, addElement, destroyElement, setAttribute, destroyAttributeRow, setText, definitionAt, nameAtIndex, Owned, attributeAt, Plan, keeping, insertPlan, removePlan, groupFilling, quantifyPlan, pickedPlan, setAt, setPlan, dropPlan, plan, changed, docsAfter, after}
 use Rattle.rules.specs.Passing.{laidRow, GoodSerials}
 use Rattle.rules.proofs.Words.{and-both, and-split}
-use Rattle.rules.proofs.Apart.{differs}
 use Rattle.rules.proofs.WellFormedLaws.{definition-good}
 use Rattle.rules.proofs.SerialLaws.{every-row}
 use Rattle.rules.proofs.FillingLaws.{every-each, filling-laid}

@@ -18,5 +18,6 @@ pub mod ConformingAfter
 pub mod ConformingForms
 pub mod ConformingRows
 pub mod LaidAfter
+pub mod ConformingSimple
 pub mod Agreement
 pub mod Theorem

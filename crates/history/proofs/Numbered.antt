@@ -10,7 +10,7 @@ use Rattle.rules.specs.Bytes.{Bytes, same, bytes, all, isNone}
 use Rattle.rules.specs.Automaton.{accepts}
 use Rattle.rules.specs.Store.{Content, empty, pcdata, complex, Attribute, Definition, Form, RowSort, element, attribute, text, Row, Forest, bare, tree, heads}
 use Rattle.rules.specs.WellFormed.{lookup}
-use Rattle.rules.specs.Conforming.{nameOf, isElement, isAttribute, isText, everyRow, mustBePresent, allows, strip, isOneText, fits, fitsStripped, fitsDefinition, fitsRow, conforming}
+use Rattle.rules.specs.Conforming.{nameOf, isElement, isAttribute, isText, everyRow, mustBePresent, allows, strip, fits, fitsStripped, fitsDefinition, fitsRow, conforming}
 use Rattle.rules.specs.Change.{eachRow, isNew, newRows, given, number}
 
 -- ---- rows mapped

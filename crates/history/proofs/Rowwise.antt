@@ -1,16 +1,13 @@
 -- What a plan does to the documents, row by row: the rows right below each row, and a test on every row.
 -- Assumes nothing.
-use Prim.Native.Nat.{ℕ}
-use mathlib.Core.Path.{_≡_, refl, sym, ap, ap₂, _∙_}
-use mathlib.Core.Logic.{_⊎_, inl, inr, ⊎-elim}
+use mathlib.Core.Path.{_≡_, refl, sym, ap, _∙_}
+use mathlib.Core.Logic.{_⊎_, inl, inr}
 use mathlib.Core.Bool.{Bool, true, false, _&&_, not, false≢true}
-use mathlib.Core.List.{List, [], _∷_, _++_, map, List·Memᴰ, List·Memᴰ·head, List·Memᴰ·tail}
-use lib.Dec.{eqb}
-use Rattle.rules.specs.Bytes.{Bytes}
+use mathlib.Core.List.{List, _∷_, _++_, map}
 use Rattle.rules.specs.Store.{Row, Forest, bare, tree, _⧺_, heads}
 use Rattle.rules.specs.Conforming.{everyRow}
 use Rattle.rules.specs.Lines.{ground}
-use Rattle.rules.specs.Change.{Plan, revalue, prune, eachRow, plant, changed}
+use Rattle.rules.specs.Change.{Plan, prune, eachRow, plant, changed}
 use Rattle.rules.proofs.Words.{and-both, and-split}
 use Rattle.history.proofs.RowEdits.{keep, plantRows, revalued, childrenAfter}
 

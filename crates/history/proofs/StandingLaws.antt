@@ -1,21 +1,21 @@
 -- Rows that stand in a forest: their serials, what the lines say of them, and what a plan leaves alone.
 -- Assumes nothing.
-use Prim.Native.Nat.{ℕ, _<_, _≤_}
+use Prim.Native.Nat.{ℕ}
 use native.Mathlib.Omega.{arith}
 use mathlib.Core.Path.{_≡_, refl, sym, ap, ap₂, _∙_}
 use mathlib.Core.Logic.{_⊎_, inl, inr, ⊎-elim}
 use mathlib.Core.Bool.{Bool, true, false, _&&_, not, false≢true}
-use mathlib.Core.Option.{Option, none, some}
+use mathlib.Core.Option.{some}
 use mathlib.Core.List.{List, [], _∷_, _++_, map, append-nil, append-assoc, List·Memᴰ, List·Memᴰ·head, List·Memᴰ·tail, List·Memᴰ·not-nil, List·Memᴰ·cases-cons, List·Memᴰ·append-cases, Memᴰ·cast, Memᴰ·append-left, Memᴰ·append-right}
 use lib.Dec.{eqb}
-use Rattle.rules.specs.Bytes.{Bytes, numbers, eqb-of, eqb-eq}
+use Rattle.rules.specs.Bytes.{numbers, eqb-of, eqb-eq}
 use Rattle.rules.specs.Model.{Distinct}
 use Rattle.rules.specs.Store.{Row, Forest, bare, tree, heads}
-use Rattle.rules.specs.Conforming.{EveryRow, everyRow, isElement}
+use Rattle.rules.specs.Conforming.{EveryRow, isElement}
 use Rattle.rules.specs.Lines.{Line, lines, elementWith, findRow, childrenOf, serialAt}
 use Rattle.rules.specs.Change.{Plan}
 use Rattle.rules.specs.Passing.{serials, GoodSerials}
-use Rattle.rules.proofs.Words.{and-both, and-split, either}
+use Rattle.rules.proofs.Words.{and-split, either}
 use Rattle.rules.proofs.Correct.{distinct-left, distinct-right, distinct-apart}
 use Rattle.rules.proofs.Apart.{differs}
 use Rattle.history.proofs.RowEdits.{keep, plantRows, revalued, childrenAfter}
@@ -189,6 +189,12 @@ child-stands test k up (tree s c t) n m = by (eqb up k && test s) refl (child-st
 pub found-stands : (test : Row → Bool) (docs : Forest Row) (r : Row) → findRow test (lines 0 docs) ≡ some r → (b : Forest Row) × Standing docs r b × (test r ≡ true)
 unfolding findRow
 found-stands test docs r e = ⊎-elim (λ x. x) (λ z. let y : false ≡ true = cc z in absurd (false≢true y)) (find-in test 0 docs [] r (rw append-nil e))
+
+pub found-element : (k : ℕ) (docs : Forest Row) (r : Row) → findRow (elementWith k) (lines 0 docs) ≡ some r → (b : Forest Row) × Standing docs r b × (isElement (r .sort) ≡ true) × (r .serial ≡ k)
+found-element k docs r e =
+    let (b, i, h) = found-stands (elementWith k) docs r e in
+    let (x, y) = and-split (isElement (r .sort)) (eqb (r .serial) k) h in
+    (b, i, x, eqb-eq (r .serial) k y)
 
 -- ---- documents whose serials are good
 module _ (next : ℕ) (docs : Forest Row) (good : GoodSerials next docs) where

@@ -17,7 +17,7 @@ use Rattle.rules.proofs.Words.{and-both, and-split}
 use Rattle.rules.proofs.Apart.{differs}
 use Rattle.rules.proofs.ConformingLaws.{headAttribute, begins, begins-none, begins-other, begins-this, strip-past, strip-take}
 use Rattle.history.proofs.RowEdits.{keep, plantRows}
-use Rattle.history.proofs.StandingLaws.{keep-all, keep-in, plant-none}
+use Rattle.history.proofs.Untouched.{keep-all, keep-in, plant-none}
 
 -- ---- one entry of the table, when the rest is known
 pub data Step (a : Attribute) (table : List Attribute) (rows rest : List Row) : Type 0 where

@@ -18,7 +18,7 @@ use Rattle.rules.proofs.Words.{and-both, and-split}
 use Rattle.history.proofs.RowEdits.{keep, plantRows, revalued, childrenAfter}
 use Rattle.history.proofs.FormLaws.{definition-found, update-other, update-this}
 use Rattle.history.proofs.Rowwise.{Standing, roots-changed, every-changed}
-use Rattle.history.proofs.StandingLaws.{children-cut, same-row, children-kept}
+use Rattle.history.proofs.Untouched.{children-cut, same-row, children-kept}
 use Rattle.history.proofs.Numbered.{mapped-elements}
 
 -- ---- the documents' own rows

@@ -31,7 +31,8 @@ use Rattle.rules.proofs.ConformingLaws.{row-is}
 use Rattle.history.proofs.RowEdits.{keep, plantRows, revalued, childrenAfter}
 use Rattle.history.proofs.ModelAfter.{Placed, place-of}
 use Rattle.history.proofs.Rowwise.{Standing}
-use Rattle.history.proofs.StandingLaws.{standing-every, standing-parent, keep-in, keep-alike, map-same, children-left, children-cut, same-row, same-child, children-kept}
+use Rattle.history.proofs.StandingLaws.{standing-every, standing-parent}
+use Rattle.history.proofs.Untouched.{keep-in, keep-alike, map-same, children-left, children-cut, same-row, same-child, children-kept}
 use Rattle.history.proofs.DefinitionEdits.{definition-edited, added-absent, added-present, definition-lacking}
 use Rattle.history.proofs.ConformingAfter.{conforming-elements, Replaced, Within, conforming-replaced}
 

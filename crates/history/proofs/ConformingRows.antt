@@ -21,7 +21,8 @@ use Rattle.rules.proofs.WellFormedLaws.{definition-good, definition-deep}
 use Rattle.rules.proofs.FillingLaws.{filling-heads, filling-fits}
 use Rattle.history.proofs.RowEdits.{revalued, childrenAfter}
 use Rattle.history.proofs.Rowwise.{Standing}
-use Rattle.history.proofs.StandingLaws.{standing-child, no-zero, first-child, keep-all, children-cut, children-kept, revalued-other}
+use Rattle.history.proofs.StandingLaws.{standing-child, no-zero, first-child}
+use Rattle.history.proofs.Untouched.{keep-all, children-cut, children-kept, revalued-other}
 use Rattle.history.proofs.Numbered.{mapped-row, conforming-number}
 use Rattle.history.proofs.ConformingAfter.{conforming-changed, conforming-elements}
 

@@ -11,6 +11,7 @@ pub mod Numbering
 pub mod Stable
 pub mod Rowwise
 pub mod StandingLaws
+pub mod Untouched
 pub mod Numbered
 pub mod AttributeEdits
 pub mod DefinitionEdits

@@ -8,13 +8,13 @@ use mathlib.Core.Bool.{Bool, true, false, _&&_, false≢true}
 use mathlib.Core.Option.{some}
 use mathlib.Core.List.{List, [], _∷_, _++_, map, append-nil, append-assoc, List·Memᴰ, List·Memᴰ·head, List·Memᴰ·tail, List·Memᴰ·not-nil, List·Memᴰ·cases-cons, List·Memᴰ·append-cases, Memᴰ·cast, Memᴰ·append-left, Memᴰ·append-right}
 use lib.Dec.{eqb}
-use Rattle.rules.specs.Bytes.{numbers, eqb-of, eqb-eq}
+use Rattle.rules.specs.Bytes.{numbers, any, eqb-of, eqb-eq}
 use Rattle.rules.specs.Model.{Distinct}
 use Rattle.rules.specs.Store.{Row, Forest, bare, tree, heads}
 use Rattle.rules.specs.Conforming.{EveryRow, isElement}
 use Rattle.rules.specs.Lines.{Line, lines, elementWith, findRow, childrenOf, serialAt}
 use Rattle.rules.specs.Passing.{serials, GoodSerials}
-use Rattle.rules.proofs.Words.{and-split, either}
+use Rattle.rules.proofs.Words.{or-left, or-right, or-cases, and-split, either}
 use Rattle.rules.proofs.Correct.{distinct-left, distinct-right, distinct-apart}
 use Rattle.rules.proofs.Apart.{differs}
 use Rattle.history.proofs.RowEdits.{keep}
@@ -84,7 +84,35 @@ standing-once (tree u a t) (n, d) r s b c (inr (inr i)) (inr (inl j)) e =
     absurd (distinct-apart (serials a) (serials t) d (r .serial) (Memᴰ·cast e (standing-serial a s c j)) (standing-serial t r b i))
 standing-once (tree u a t) (n, d) r s b c (inr (inr i)) (inr (inr j)) e = standing-once t (distinct-right (serials a) (serials t) d) r s b c i j e
 
+heads-serials : (f : Forest Row) (k : ℕ) → List·Memᴰ k (map serialOf (heads f)) → List·Memᴰ k (serials f)
+heads-serials bare k m = m
+heads-serials (tree r b t) k m = ⊎-elim (λ e. List·Memᴰ·head e) (λ i. List·Memᴰ·tail (Memᴰ·append-right (serials b) (heads-serials t k i))) (List·Memᴰ·cases-cons m)
+
+heads-once : (f : Forest Row) → Distinct (serials f) → Distinct (map serialOf (heads f))
+heads-once bare d = tt
+heads-once (tree r b t) (n, d) = (λ m. n (Memᴰ·append-right (serials b) (heads-serials t (r .serial) m)), heads-once t (distinct-right (serials b) (serials t) d))
+
+below-once : (f : Forest Row) → Distinct (serials f) → (r : Row) (b : Forest Row) → Standing f r b → Distinct (serials b)
+below-once bare d r b i = absurd i
+below-once (tree s c t) (n, d) r b (inl (e, g)) = rw (← g) (distinct-left (serials c) (serials t) d)
+below-once (tree s c t) (n, d) r b (inr (inl i)) = below-once c (distinct-left (serials c) (serials t) d) r b i
+below-once (tree s c t) (n, d) r b (inr (inr i)) = below-once t (distinct-right (serials c) (serials t) d) r b i
+
 -- ---- lines
+any-both : (test : Line → Bool) (a b : List Line) → (any test a ≡ true) ⊎ (any test b ≡ true) → any test (a ++ b) ≡ true
+any-both test [] b (inl e) = absurd (false≢true e)
+any-both test [] b (inr e) = e
+any-both test (l ∷ a) b (inl e) = ⊎-elim (λ h. or-left (any test (a ++ b)) h) (λ h. or-right (test l) (any-both test a b (inl h))) (or-cases (test l) (any test a) e)
+any-both test (l ∷ a) b (inr e) = or-right (test l) (any-both test a b (inr e))
+
+-- a row that stands there has a line
+pub standing-line : (test : Row → Bool) (up : ℕ) (f : Forest Row) (r : Row) (b : Forest Row) → Standing f r b → test r ≡ true → any (λ (l : Line). test (l .row)) (lines up f) ≡ true
+standing-line test up bare r b i e = absurd i
+standing-line test up (tree s c t) r b (inl (q, g)) e = or-left (any (λ (l : Line). test (l .row)) (lines (s .serial) c ++ lines up t)) (ap test q ∙ e)
+standing-line test up (tree s c t) r b (inr (inl i)) e =
+    or-right (test s) (any-both (λ (l : Line). test (l .row)) (lines (s .serial) c) (lines up t) (inl (standing-line test (s .serial) c r b i e)))
+standing-line test up (tree s c t) r b (inr (inr i)) e = or-right (test s) (any-both (λ (l : Line). test (l .row)) (lines (s .serial) c) (lines up t) (inr (standing-line test up t r b i e)))
+
 children-append : (test : Row → Bool) (k : ℕ) (a b : List Line) → childrenOf test k (a ++ b) ≡ childrenOf test k a ++ childrenOf test k b
 unfolding childrenOf
 children-append test k [] b = refl
@@ -205,6 +233,13 @@ module _ (next : ℕ) (docs : Forest Row) (good : GoodSerials next docs) where
 
   pub one-row : (r s : Row) (b c : Forest Row) → Standing docs r b → Standing docs s c → r .serial ≡ s .serial → (r ≡ s) × (b ≡ c)
   one-row r s b c i j e = standing-once docs (good .once) r s b c i j e
+
+  -- the rows right below a row have serials that stand once, none of them 0
+  pub children-once : (r : Row) (b : Forest Row) → Standing docs r b → Distinct (map serialOf (heads b))
+  children-once r b i = heads-once b (below-once docs (good .once) r b i)
+
+  pub children-given : (r : Row) (b : Forest Row) → Standing docs r b → (s : Row) → List·Memᴰ s (heads b) → s .serial ≡ 0 → ⊥
+  children-given r b i s m = let (c, j) = standing-child docs r b i s m in no-zero s c j
 
   -- the first of the rows right below a row, if there is one
   pub first-child : (test : Row → Bool) (k : ℕ) (r : Row) (b : Forest Row) → Standing docs r b → r .serial ≡ serialAt 0 (childrenOf test k (lines 0 docs)) → test r ≡ true

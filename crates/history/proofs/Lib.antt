@@ -9,6 +9,17 @@ pub mod Taking
 pub mod Making
 pub mod Numbering
 pub mod Stable
+pub mod Rowwise
+pub mod StandingLaws
+pub mod Untouched
+pub mod Numbered
+pub mod AttributeEdits
+pub mod DefinitionEdits
+pub mod ConformingAfter
+pub mod ConformingForms
+pub mod ConformingRows
+pub mod LaidAfter
+pub mod ConformingSimple
 pub mod Agreement
 pub mod Theorem
 pub mod InstanceRows

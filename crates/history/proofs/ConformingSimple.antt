@@ -1,4 +1,4 @@
--- AN ACCEPTED CALL LEAVES ROWS THAT CAN BE LAID, AND, IF IT IS NONE OF 3, 4, 5 AND 8, DOCUMENTS THAT CONFORM.
+-- An accepted call leaves rows that can be laid, and, if it is none of 3 to 8, documents that conform.
 -- Assumes nothing.
 use Prim.Native.Nat.{ℕ}
 use mathlib.Core.Path.{_≡_, refl, sym, ap, subst}
@@ -7,10 +7,8 @@ use mathlib.Core.Option.{Option, none, some}
 use mathlib.Core.List.{List, [], _∷_, _++_, map}
 use Rattle.rules.specs.Bytes.{Bytes, bytes, any}
 use Rattle.rules.specs.Model.{names, Distinct, member}
-use Rattle.rules.specs.Edit.{convert, flatten}
 use Rattle.rules.specs.Store.{Definition, Store, members, heads}
 use Rattle.rules.specs.Layout.{valueWidth, indexOf, flat}
-use Rattle.rules.specs.Decode.{groupOf}
 use Rattle.rules.specs.WellFormed.{definitionName, isThere, isValue, withinCeilings, wellFormed}
 use Rattle.rules.specs.Conforming.{everyRow, conforming}
 use Rattle.rules.specs.Lines.{elementNamed}
@@ -22,10 +20,10 @@ use Rattle.rules.proofs.SerialLaws.{good-serials}
 use Rattle.rules.proofs.WellFormedLaws.{well-formed}
 use Rattle.history.proofs.Conditions.{not-false, or-false, not-past, unmet}
 use Rattle.history.proofs.FormLaws.{definition-found, lookup-old, without-other, owner-at, owner-below}
-use Rattle.history.proofs.ModelAfter.{placed-convert, placed-flatten}
+use Rattle.history.proofs.AcceptedEdits.{editsModel}
 use Rattle.history.proofs.Numbered.{conforming-number}
 use Rattle.history.proofs.ConformingAfter.{Replaced, replaced-at}
-use Rattle.history.proofs.ConformingForms.{conforming-1, conforming-2, conforming-6, conforming-7, conforming-9, conforming-10}
+use Rattle.history.proofs.ConformingForms.{conforming-1, conforming-2, conforming-9, conforming-10}
 use Rattle.history.proofs.ConformingRows.{conforming-11, conforming-checked, conforming-16}
 use Rattle.history.proofs.LaidAfter.{givenValue, laid-after}
 
@@ -45,25 +43,6 @@ good-tests s e =
     let (d, e₄) = and-split (conforming (s .form) (s .docs)) _ e₃ in
     let (l, n) = and-split (everyRow (λ r below. laidRow (valueWidth (s .version)) r) (s .docs)) (goodSerials (s .next) (s .docs)) e₄ in
     record { form = f; docs = d; values = l; serials = good-serials (s .next) (s .docs) .0 n }
-
--- none of 3, 4, 5 and 8, which change the model of instances or the rows below them with it
-abbrev pub simple : Call → Bool
-simple (createDefinition n k) = true
-simple (destroyDefinition i) = true
-simple (insertElement o p i q t) = false
-simple (removeElement o p) = false
-simple (changeQuantifier o p q t) = false
-simple (convertToGroup o p n k) = true
-simple (flattenGroup o p) = true
-simple (changeGroupQuantifier o p q t) = false
-simple (addAttribute o n k v) = true
-simple (destroyAttribute a) = true
-simple (addDocument i t) = true
-simple (addElement k j i t) = true
-simple (destroyElement k) = true
-simple (setAttribute k a v) = true
-simple (destroyAttributeRow k a) = true
-simple (setText k t) = true
 
 -- the test on the store that is left is that on the rows without new serials
 pub conforming-after : (c : Call) (s : Store) → conforming (after c s .form) (after c s .docs) ≡ conforming (formAfter c (s .form)) (docsAfter c s)
@@ -87,18 +66,6 @@ module _ (room : ℕ) (s : Store) (x : GoodTests s) where
       let (there, (used, end)) = unmet room (destroyDefinition i) s a in
       let (models, roots) = or-false (any (λ (d : Definition). member bytes (nameAtIndex i (s .form)) (names (members d))) (s .form)) (any (elementNamed (nameAtIndex i (s .form))) (heads (s .docs))) used in
       conforming-2 w s (x .form) (x .serials) (x .docs) i models roots (without-other i (s .form))
-
-  after-6 : (o : ℕ) (p : List ℕ) (n k : ℕ) → refusal room (convertToGroup o p n k) s ≡ 0 → conforming (formAfter (convertToGroup o p n k) (s .form)) (docsAfter (convertToGroup o p n k) s) ≡ true
-  unfolding formAfter conditions
-  after-6 o p n k a =
-      let (code, (there, more)) = unmet room (convertToGroup o p n k) s a in
-      conforming-6 w s (x .form) (x .serials) (x .docs) o p n k (placed-convert room s o p n k a) (replaced-at (s .form) once o (not-past o (s .form) there) (inModel (editAt (convert (groupOf k) n) p)) (λ d. refl))
-
-  after-7 : (o : ℕ) (p : List ℕ) → refusal room (flattenGroup o p) s ≡ 0 → conforming (formAfter (flattenGroup o p) (s .form)) (docsAfter (flattenGroup o p) s) ≡ true
-  unfolding formAfter conditions
-  after-7 o p a =
-      let (there, more) = unmet room (flattenGroup o p) s a in
-      conforming-7 w s (x .form) (x .serials) (x .docs) o p (placed-flatten room s o p a) (replaced-at (s .form) once o (not-past o (s .form) there) (inModel (editAt flatten p)) (λ d. refl))
 
   after-9 : (o : ℕ) (n : Bytes) (k : ℕ) (v : Bytes) → refusal room (addAttribute o n k v) s ≡ 0 → conforming (formAfter (addAttribute o n k v) (s .form)) (docsAfter (addAttribute o n k v) s) ≡ true
   unfolding formAfter conditions
@@ -128,16 +95,16 @@ module _ (room : ℕ) (s : Store) (x : GoodTests s) where
       let (value, (there, end)) = unmet room (addDocument i t) s a in
       conforming-11 w s (x .form) (x .serials) (x .docs) i t (ap isThere (definition-found i (s .form) once (not-past i (s .form) there)))
 
-  pub conforming-after-simple : (c : Call) → simple c ≡ true → refusal room c s ≡ 0 → conforming (formAfter c (s .form)) (docsAfter c s) ≡ true
+  pub conforming-after-simple : (c : Call) → editsModel c ≡ false → refusal room c s ≡ 0 → conforming (formAfter c (s .form)) (docsAfter c s) ≡ true
   unfolding formAfter conditions
   conforming-after-simple (createDefinition n k) e a = after-1 n k
   conforming-after-simple (destroyDefinition i) e a = after-2 i a
-  conforming-after-simple (insertElement o p i q t) e a = absurd (false≢true e)
-  conforming-after-simple (removeElement o p) e a = absurd (false≢true e)
-  conforming-after-simple (changeQuantifier o p q t) e a = absurd (false≢true e)
-  conforming-after-simple (convertToGroup o p n k) e a = after-6 o p n k a
-  conforming-after-simple (flattenGroup o p) e a = after-7 o p a
-  conforming-after-simple (changeGroupQuantifier o p q t) e a = absurd (false≢true e)
+  conforming-after-simple (insertElement o p i q t) e a = absurd (false≢true (sym e))
+  conforming-after-simple (removeElement o p) e a = absurd (false≢true (sym e))
+  conforming-after-simple (changeQuantifier o p q t) e a = absurd (false≢true (sym e))
+  conforming-after-simple (convertToGroup o p n k) e a = absurd (false≢true (sym e))
+  conforming-after-simple (flattenGroup o p) e a = absurd (false≢true (sym e))
+  conforming-after-simple (changeGroupQuantifier o p q t) e a = absurd (false≢true (sym e))
   conforming-after-simple (addAttribute o n k v) e a = after-9 o n k v a
   conforming-after-simple (destroyAttribute i) e a = after-10 i (attributeAt i (s .form)) refl (unmet room (destroyAttribute i) s a .0)
   conforming-after-simple (addDocument i t) e a = after-11 i t a

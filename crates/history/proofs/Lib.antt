@@ -30,4 +30,5 @@ pub mod Clear
 pub mod EditConditions
 pub mod AcceptedEdits
 pub mod EditedRows
-pub mod Example
+pub mod ConformingEdits
+pub mod Accepted

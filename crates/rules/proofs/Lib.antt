@@ -33,6 +33,7 @@ pub mod ConformingLaws
 pub mod FillingLaws
 pub mod Examples
 pub mod Clubform
+pub mod LapsExample
 pub mod PassingLaws
 pub mod BooleanLaws
 pub mod PreorderLaws

@@ -1,0 +1,57 @@
+-- AN ACCEPTED CHANGE LEAVES A STORE THAT PASSES, and so Demand 3.
+-- Assumes nothing.
+use Prim.Native.Nat.{ℕ}
+use mathlib.Core.Path.{_≡_, refl, sym, ap, _∙_}
+use mathlib.Core.Bool.{Bool, true, false, _&&_}
+use mathlib.Core.List.{List}
+use Rattle.rules.specs.Store.{Store}
+use Rattle.rules.specs.Layout.{valueWidth, flat}
+use Rattle.rules.specs.WellFormed.{wellFormed, withinCeilings}
+use Rattle.rules.specs.Conforming.{everyRow, conforming}
+use Rattle.rules.specs.Passing.{knownVersion, laidRow, goodSerials, good}
+use Rattle.rules.specs.Change.{Call, formAfter, docsAfter, after}
+use Rattle.rules.specs.Refusal.{conditions, refusal}
+use Rattle.rules.specs.Run.{Asked}
+use Rattle.rules.proofs.Words.{and-both, and-split}
+use Rattle.rules.proofs.SerialLaws.{good-serials}
+use Rattle.history.specs.History.{Demand3}
+use Rattle.history.proofs.Conditions.{ceilings-after, next-after}
+use Rattle.history.proofs.WellFormedAfter.{well-formed-after}
+use Rattle.history.proofs.Agreement.{serials-after}
+use Rattle.history.proofs.Clear.{accepted-clear}
+use Rattle.history.proofs.AcceptedEdits.{editsModel, accepted-edit}
+use Rattle.history.proofs.ConformingEdits.{conforming-edited}
+use Rattle.history.proofs.ConformingSimple.{GoodTests, good-tests, conforming-after, conforming-after-simple, values-after}
+use Rattle.history.proofs.Theorem.{demand-3-from}
+
+module _ (room : ℕ) (c : Call) (s : Store) (x : GoodTests s) (a : refusal room c s ≡ 0) where
+  conforms : (e : Bool) → editsModel c ≡ e → conforming (formAfter c (s .form)) (docsAfter c s) ≡ true
+  conforms true e = conforming-edited (valueWidth (s .version)) s (x .form) (x .serials) c (accepted-edit (valueWidth (s .version)) s (x .form) c e (accepted-clear room c s a)) (x .docs)
+  conforms false e = conforming-after-simple room s x c e a
+
+version-of : (s : Store) → good s ≡ true → knownVersion (s .version) ≡ true
+unfolding good
+version-of s g = and-split (knownVersion (s .version)) _ g .0
+
+pub good-after : (room : ℕ) (c : Call) (s : Store) → good s ≡ true → refusal room c s ≡ 0 → good (after c s) ≡ true
+unfolding good after
+good-after room c s g a =
+    let x : GoodTests s = good-tests s g in
+    and-both (version-after c s ∙ version-of s g)
+    (and-both (ceilings-after room c s a)
+    (and-both (form-after c s ∙ well-formed-after room c s (x .form) a)
+    (and-both (conforming-after c s ∙ conforms room c s x a (editsModel c) refl)
+    (and-both (values-left c s (values-after room s x c a)) (good-serials (after c s .next) (after c s .docs) .1 (serials-after c s (x .serials) (next-after room c s a)))))))
+  where
+    version-after : (c : Call) (s : Store) → knownVersion (after c s .version) ≡ knownVersion (s .version)
+    version-after c s = refl
+
+    form-after : (c : Call) (s : Store) → wellFormed (valueWidth (after c s .version)) (after c s .form) ≡ wellFormed (valueWidth (s .version)) (formAfter c (s .form))
+    form-after c s = refl
+
+    values-left : (c : Call) (s : Store) → everyRow (λ r below. laidRow (valueWidth (s .version)) r) (after c s .docs) ≡ true → everyRow (λ r below. laidRow (valueWidth (after c s .version)) r) (after c s .docs) ≡ true
+    values-left c s e = e
+
+-- DEMAND 3
+pub demand-3 : (history later : List Asked) → Demand3 history later
+demand-3 = demand-3-from good-after

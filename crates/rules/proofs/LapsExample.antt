@@ -1,0 +1,112 @@
+-- A history that makes, takes, revalues and is refused, computed through the byte strings, with its book.
+-- Assumes nothing.
+use Prim.Native.Nat.{ℕ}
+use mathlib.Core.Path.{_≡_, refl}
+use mathlib.Core.Bool.{Bool, true, false}
+use mathlib.Core.Option.{Option, none, some}
+use mathlib.Core.List.{List, [], _∷_, _++_, map}
+use Rattle.rules.specs.Bytes.{Bytes, ascii}
+use Rattle.rules.specs.Model.{names, nothing, filling, member, full, distinct}
+use Rattle.rules.specs.Automaton.{accepts, continues, facts}
+use Rattle.rules.specs.Store.{Store}
+use Rattle.rules.specs.Decode.{confirm, numberAt}
+use Rattle.rules.specs.WellFormed.{goodDefinition, wellFormed}
+use Rattle.rules.specs.Conforming.{strip, fitsRow, conforming}
+use Rattle.rules.specs.Passing.{good, goodSerials, serials, readStore}
+use Rattle.rules.specs.Filling.{fillAttributes, fillEach, fillContent, fillWithin}
+use Rattle.rules.specs.Place.{plug, kindAt, spine, before, leaves, opens, afterMembers, find}
+use Rattle.rules.specs.Edit.{_⊕_, edited, place, placeOf}
+use Rattle.rules.specs.Lines.{Line, findRow, childrenOf}
+use Rattle.rules.specs.Change.{Call, createDefinition, insertElement, changeQuantifier, addAttribute, addDocument, addElement, destroyElement, setAttribute, setText, attributeAt, formAfter, plan, prune, eachRow, plant, newRows, given, number, after}
+use Rattle.rules.specs.Refusal.{conditions, refusal}
+use Rattle.rules.specs.Outcome.{outcome}
+use Rattle.rules.specs.Book.{Entry, stands, taken, Book, untaken, rowBySerial, falls, mark, spots, expand, spotCount, note}
+use Rattle.rules.specs.Run.{Asked, Moment, start, step, run}
+
+abbrev asked : Call → Asked
+asked c = record { call = c; room = 1000 }
+
+-- Two races; the first has two laps, each with a chip. Rows: race 1; race 2; lap 3 with chip 4 and text 5; lap 6 with 7 and 8.
+pub laps : List Asked
+laps =
+    map asked
+    (createDefinition (ascii "race") 2
+    ∷ createDefinition (ascii "lap") 1
+    ∷ createDefinition (ascii "split") 0
+    ∷ insertElement 0 (0 ∷ []) 1 2 []
+    ∷ addAttribute 1 (ascii "chip") 1 (ascii "x")
+    ∷ addDocument 0 []
+    ∷ addDocument 0 []
+    ∷ addElement 1 0 1 (ascii "10")
+    ∷ addElement 1 1 1 (ascii "11")
+    ∷ setText 3 (ascii "12")
+    ∷ setAttribute 6 0 (ascii "y")
+    ∷ [])
+
+-- each race gets a split after its laps: 9 and 10
+pub splits : List Asked
+splits = asked (insertElement 0 (1 ∷ []) 2 0 (ascii "t")) ∷ []
+
+-- exactly one lap: the first race loses lap 6 with all below it, the second gets lap 11 with chip 12 and text 13, before its split
+pub oneLap : List Asked
+oneLap = asked (changeQuantifier 0 (1 ∷ []) 0 (ascii "0")) ∷ []
+
+-- three calls that are refused: the name exists, the lap is needed, the buffer is short
+pub refusedCalls : List Asked
+refusedCalls = asked (createDefinition (ascii "lap") 1) ∷ asked (destroyElement 3) ∷ record { call = addDocument 0 (ascii "1"); room = 100 } ∷ []
+
+abbrev serialsOf : List Line → List ℕ
+serialsOf ls = map (λ (l : Line). l .row .serial) ls
+
+abbrev takenOf : List Entry → List ℕ
+takenOf [] = []
+takenOf (stands l ∷ es) = takenOf es
+takenOf (taken l ∷ es) = l .row .serial ∷ takenOf es
+
+abbrev parentsOf : List Line → List ℕ
+parentsOf ls = map (λ (l : Line). l .parent) ls
+
+abbrev valuesOf : List Line → List Bytes
+valuesOf ls = map (λ (l : Line). l .row .value) ls
+
+abbrev rowsIn : Option Store → List ℕ
+rowsIn none = []
+rowsIn (some s) = serials (s .docs)
+
+abbrev made : Moment
+made = run (laps ++ splits) start
+
+abbrev cut : Moment
+cut = run (laps ++ (splits ++ oneLap)) start
+
+abbrev end : Moment
+end = run (laps ++ (splits ++ (oneLap ++ refusedCalls))) start
+
+pub record Laps : Type 0 where
+  pub lines : serialsOf (untaken (made .book .entries)) ≡ 1 ∷ 3 ∷ 4 ∷ 5 ∷ 6 ∷ 7 ∷ 8 ∷ 9 ∷ 2 ∷ 10 ∷ []
+  pub parents : parentsOf (untaken (made .book .entries)) ≡ 0 ∷ 1 ∷ 3 ∷ 3 ∷ 1 ∷ 6 ∷ 6 ∷ 1 ∷ 0 ∷ 2 ∷ []
+  pub values : valuesOf (untaken (made .book .entries)) ≡ [] ∷ [] ∷ ascii "x" ∷ ascii "12" ∷ [] ∷ ascii "y" ∷ ascii "11" ∷ [] ∷ [] ∷ [] ∷ []
+  pub rows : rowsIn (readStore (made .store)) ≡ 1 ∷ 3 ∷ 4 ∷ 5 ∷ 6 ∷ 7 ∷ 8 ∷ 9 ∷ 2 ∷ 10 ∷ []
+  pub lines-cut : serialsOf (untaken (cut .book .entries)) ≡ 1 ∷ 3 ∷ 4 ∷ 5 ∷ 9 ∷ 2 ∷ 11 ∷ 12 ∷ 13 ∷ 10 ∷ []
+  pub taken-cut : takenOf (cut .book .entries) ≡ 6 ∷ 7 ∷ 8 ∷ []
+  pub rows-cut : rowsIn (readStore (cut .store)) ≡ 1 ∷ 3 ∷ 4 ∷ 5 ∷ 9 ∷ 2 ∷ 11 ∷ 12 ∷ 13 ∷ 10 ∷ []
+  -- the refused calls leave all as it was
+  pub lines-end : serialsOf (untaken (end .book .entries)) ≡ 1 ∷ 3 ∷ 4 ∷ 5 ∷ 9 ∷ 2 ∷ 11 ∷ 12 ∷ 13 ∷ 10 ∷ []
+  pub next-book : end .book .next ≡ 14
+  pub next-store : numberAt 4 4 (end .store) ≡ 14
+
+pub laps-end : Laps
+unfolding names nothing filling member full distinct facts continues accepts plug kindAt spine before leaves opens afterMembers find _⊕_ edited place placeOf goodDefinition wellFormed strip fitsRow conforming goodSerials good fillAttributes fillEach fillContent fillWithin findRow childrenOf attributeAt formAfter plan prune eachRow plant newRows given number after conditions refusal confirm outcome untaken rowBySerial falls mark Rattle.rules.specs.Book.place spots expand spotCount note step run laps splits oneLap refusedCalls
+laps-end =
+    record {
+      lines = refl;
+      parents = refl;
+      values = refl;
+      rows = refl;
+      lines-cut = refl;
+      taken-cut = refl;
+      rows-cut = refl;
+      lines-end = refl;
+      next-book = refl;
+      next-store = refl;
+    }

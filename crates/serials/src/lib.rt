@@ -1,0 +1,1 @@
+// the serials of tree rows

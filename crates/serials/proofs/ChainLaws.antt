@@ -184,9 +184,3 @@ module _ {rows : List ℕ} {next count : ℕ} {heads links : List ℕ} {k : ℕ}
 
 pub chains-done : {rows : List ℕ} {next count : ℕ} {heads links : List ℕ} {k : ℕ} → Chains rows next count heads links k → count ≤ k → Serials rows next count
 chains-done c h = serials-less _ _ h (c .good)
-
-pub refuses : {P : Type 0} → (P → ⊥) → (false ≡ true) ↔ P
-refuses f = (λ e. absurd (false≢true e), λ p. absurd (f p))
-
-pub accepts : {P : Type 0} → P → (true ≡ true) ↔ P
-accepts p = (λ e. p, λ q. refl)

@@ -155,11 +155,13 @@ module _ (rows : Bytes) (next count : ℕ) where
       apart : Apart (serialsOf count rows) → (i k : ℕ) → i < k → k < count → serialAt rows i ≡ serialAt rows k → ⊥
       apart f i k h l e = f i k h (omega (arith, serials-length count rows)) (serials-at count rows i (omega arith) ∙ e ∙ sym (serials-at count rows k l))
 
-  -- what the walk decides is the test
-  pub serials-fitting : (r : Bool) → (r ≡ true) ↔ Serials rows next count → r ≡ fitting next (serialsOf count rows)
-  serials-fitting true w = sym (serials→ (w .0 refl))
-  serials-fitting false w = by (fitting next (serialsOf count rows)) refl
-    where
-      by : (b : Bool) → fitting next (serialsOf count rows) ≡ b → false ≡ b
-      by true e = w .1 (serials← e)
-      by false e = refl
+-- what the walk decides is the test
+pub accepts : {rows : Bytes} {next count : ℕ} → Serials rows next count → true ≡ fitting next (serialsOf count rows)
+accepts {rows} {next} {count} s = sym (serials→ rows next count s)
+
+pub refuses : {rows : Bytes} {next count : ℕ} → (Serials rows next count → ⊥) → false ≡ fitting next (serialsOf count rows)
+refuses {rows} {next} {count} n = by (fitting next (serialsOf count rows)) refl
+  where
+    by : (b : Bool) → fitting next (serialsOf count rows) ≡ b → false ≡ b
+    by true e = absurd (n (serials← rows next count e))
+    by false e = refl

@@ -1,0 +1,3 @@
+pub mod MemberLaws
+pub mod RoundLaws
+pub mod CircleLaws

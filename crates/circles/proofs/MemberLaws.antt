@@ -1,0 +1,76 @@
+-- The particles of a model, one after the other; where each model begins.
+-- Assumes nothing.
+use Prim.Native.Nat.{ℕ, zero, suc, _+_, _*_, _-_, _≤_, _<_}
+use native.Mathlib.Omega.{arith}
+use native.Mathlib.Numerals.{add-one}
+use mathlib.Core.Path.{_≡_, refl, ap, _∙_, sym}
+use mathlib.Core.Bool.{Bool, true, false, not, _&&_}
+use mathlib.Core.List.{List, [], _∷_}
+use lib.Dec.{eqb}
+use lib.ListN.{length, getD, take, drop}
+use borrow.Author.Tests.{eq-eqb, ne-eqb}
+use Rattle.rules.specs.Bytes.{Bytes, all}
+use Rattle.codec.proofs.Writers.{tail-seen}
+use Rattle.codec.specs.Part.{partOf}
+use Rattle.circles.specs.Members.{countAt, startAt, modelPart, elementsOf, membersIn}
+use Rattle.circles.specs.Deep.{marked, firstPasses}
+
+elements-more : (t : Bytes) → 4 ≤ length t → elementsOf t ≡ elim (eqb (getD t 0 0) 0) [ true ↦ getD t 2 0 ∷ elementsOf (drop 4 t) | false ↦ elementsOf (drop 4 t) ]
+unfolding elementsOf
+elements-more [] h = absurd (omega arith)
+elements-more (a ∷ []) h = absurd (omega arith)
+elements-more (a ∷ b ∷ []) h = absurd (omega arith)
+elements-more (a ∷ b ∷ c ∷ []) h = absurd (omega arith)
+elements-more (a ∷ b ∷ c ∷ e ∷ t) h = refl
+
+elements-few : (t : Bytes) → length t < 4 → elementsOf t ≡ []
+unfolding elementsOf
+elements-few [] h = refl
+elements-few (a ∷ []) h = refl
+elements-few (a ∷ b ∷ []) h = refl
+elements-few (a ∷ b ∷ c ∷ []) h = refl
+elements-few (a ∷ b ∷ c ∷ e ∷ t) h = absurd (omega arith)
+
+all-more : (p : ℕ → Bool) (t : Bytes) → 4 ≤ length t → all p (elementsOf t) ≡ (firstPasses p t && all p (elementsOf (drop 4 t)))
+all-more p t h = ap (λ (l : List ℕ). all p l) (elements-more t h) ∙ by (eqb (getD t 0 0) 0)
+  where
+    by : (b : Bool) → all p (elim b [ true ↦ getD t 2 0 ∷ elementsOf (drop 4 t) | false ↦ elementsOf (drop 4 t) ]) ≡ (elim b [ true ↦ p (getD t 2 0) | false ↦ true ] && all p (elementsOf (drop 4 t)))
+    by true = refl
+    by false = refl
+
+-- ---- the loop over the particles: t is left
+module _ (p : ℕ → Bool) (goal : Bool) (t : Bytes) (e : goal ≡ all p (elementsOf t)) where
+  pub settle-on : 4 ≤ length t → (b : Bool) → b ≡ firstPasses p t → b ≡ true → goal ≡ all p (elementsOf (take (length t - 4) (drop 4 t)))
+  settle-on h b q f = rw (tail-seen t 4) (e ∙ all-more p t h ∙ ap (λ (x : Bool). x && all p (elementsOf (drop 4 t))) (sym q ∙ f))
+
+  pub settle-no : 4 ≤ length t → (b : Bool) → b ≡ firstPasses p t → b ≡ false → false ≡ goal
+  settle-no h b q f = sym (e ∙ all-more p t h ∙ ap (λ (x : Bool). x && all p (elementsOf (drop 4 t))) (sym q ∙ f))
+
+  pub settle-ends : length t < 4 → true ≡ goal
+  settle-ends h = sym (e ∙ ap (λ (l : List ℕ). all p l) (elements-few t h))
+
+-- ---- one particle
+module _ (old : Bytes) (s a : ℕ) (e : s ≡ a) where
+  pub first-group : (x : Bool) → (s ≡ 0 → ⊥) → true ≡ elim (eqb a 0) [ true ↦ x | false ↦ true ]
+  first-group x n = rw (← e, ne-eqb s 0 n)
+
+  pub first-element : (j b v : ℕ) → s ≡ 0 → j ≡ b → v ≡ getD old j 0 → not (eqb v 0) ≡ elim (eqb a 0) [ true ↦ marked old b | false ↦ true ]
+  unfolding marked
+  first-element j b v z f g = rw (← e, eq-eqb s 0 z, g, f)
+
+-- ---- where the models begin
+pub record Starts (defs : Bytes) (start i : ℕ) : Type 0 where
+  pub is : start ≡ startAt defs i
+  pub small : start ≤ 4294967295 * i
+
+pub starts-none : (defs : Bytes) → Starts defs 0 0
+unfolding startAt
+starts-none defs = record { is = refl; small = omega arith }
+
+pub starts-more : {defs : Bytes} {start i : ℕ} (c : ℕ) → Starts defs start i → c ≡ countAt defs i → c ≤ 4294967295 → Starts defs (start + c) (i + 1)
+unfolding startAt
+starts-more {defs} {start} {i} c s e h = record { is = rw (add-one i) (rw (s .is, e)); small = omega (arith, s .small) }
+
+pub model-members : (defs parts : Bytes) (i start c : ℕ) (model : Bytes) → Starts defs start i → c ≡ countAt defs i → model ≡ partOf (4 * start) (4 * c) parts → elementsOf model ≡ membersIn defs parts i
+unfolding modelPart membersIn
+model-members defs parts i start c model s e m = rw (m, s .is, e)

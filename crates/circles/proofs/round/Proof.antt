@@ -1,0 +1,84 @@
+-- `circles::round` meets its contract. Assumes nothing.
+use borrow.Author.Needs.{needs}
+use Prim.Native.Nat.{_-_}
+use native.Mathlib.Omega.{arith}
+use Rattle.circles.proofs.RoundLaws.{Rounding, rounding-starts, rounding-on, rounding-ends}
+use Rattle.circles.proofs.round.Statement.{statement}
+use Rattle.circles.proofs.round.Tie as tie
+
+abbrev Inv-loop : tie.InvT-loop
+Inv-loop n defs parts old h new₀ start₀ i₀ new start i = Rounding n defs parts h old new start i
+
+abbrev μ-loop : tie.MeasureT-loop
+μ-loop n defs parts old h new₀ start₀ i₀ new start i = n - i
+
+loop-holds : tie.Need-loop-holds Inv-loop μ-loop
+loop-holds c = rounding-starts _ _ _ _ _
+
+mul-get-u16 : tie.Need-mul-get-u16 Inv-loop μ-loop
+mul-get-u16 c = search needs
+
+add-get-u16 : tie.Need-add-get-u16 Inv-loop μ-loop
+add-get-u16 c = search needs
+
+get-u16-requires : tie.Need-get-u16-requires Inv-loop μ-loop
+get-u16-requires c κs = search needs
+
+cast-count : tie.Need-cast-count Inv-loop μ-loop
+cast-count c = search needs
+
+mul-part : tie.Need-mul-part Inv-loop μ-loop
+mul-part c = search needs
+
+mul-part-2 : tie.Need-mul-part-2 Inv-loop μ-loop
+mul-part-2 c = search needs
+
+part-requires : tie.Need-part-requires Inv-loop μ-loop
+part-requires c κs = search needs
+
+element-copy-out-raised : tie.Need-element-copy-out-raised Inv-loop μ-loop
+element-copy-out-raised c = search needs
+
+raised-requires : tie.Need-raised-requires Inv-loop μ-loop
+raised-requires c κs = search needs
+
+array-write-new : tie.Need-array-write-new Inv-loop μ-loop
+array-write-new c = search needs
+
+add-start : tie.Need-add-start Inv-loop μ-loop
+add-start c = search needs
+
+add-i : tie.Need-add-i Inv-loop μ-loop
+add-i c = search needs
+
+loop-less : tie.Need-loop-less Inv-loop μ-loop
+loop-less c = search needs
+
+loop-again : tie.Need-loop-again Inv-loop μ-loop
+loop-again c = rounding-on (c .before .before .before .before .before .loop .inv) _ _ _ (omega arith) (omega arith) (c .before .before .before .get-u16 .ensures) (omega arith) (c .before .before .part .ensures) (c .raised .ensures)
+
+returns : tie.Need-returns Inv-loop μ-loop
+returns c = rounding-ends (c .before .loop .inv) (omega arith)
+
+pub round-spec : {M : Type 1} → statement M
+round-spec =
+    tie.close
+    (tie.spec
+    Inv-loop
+    μ-loop
+    loop-holds
+    mul-get-u16
+    add-get-u16
+    get-u16-requires
+    cast-count
+    mul-part
+    mul-part-2
+    part-requires
+    element-copy-out-raised
+    raised-requires
+    array-write-new
+    add-start
+    add-i
+    loop-less
+    loop-again
+    returns)

@@ -1,0 +1,2 @@
+pub mod SerialsLaws
+pub mod ChainLaws

@@ -1,0 +1,22 @@
+-- The serials of tree rows: from 1, below the next serial, no two alike.
+-- Assumes nothing.
+use Prim.Native.Nat.{ℕ}
+use mathlib.Core.Bool.{Bool, _&&_}
+use mathlib.Core.List.{List, map}
+use lib.Dec.{leb, ltb}
+use Rattle.rules.specs.Bytes.{Bytes, numbers, all}
+use Rattle.rules.specs.Model.{distinct}
+use Rattle.rules.specs.Preorder.{Deep}
+use Rattle.rules.specs.Layout.{baseVersion, valueWidth, rowSize, FlatRow}
+use Rattle.rules.specs.Decode.{readRow, readMany}
+
+abbrev pub serialOf : Deep FlatRow → ℕ
+serialOf r = r .row .serial
+
+-- the serials of the first `count` rows of a body
+unfoldable pub serialsOf : ℕ → Bytes → List ℕ
+serialsOf count rows = map serialOf (readMany readRow (rowSize (valueWidth baseVersion)) count rows)
+
+-- 'Serials are distinct, from 1, below the next serial'
+unfoldable pub fitting : ℕ → List ℕ → Bool
+fitting next ks = distinct numbers ks && all (λ k. leb 1 k && ltb k next) ks

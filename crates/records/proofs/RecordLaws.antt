@@ -4,21 +4,21 @@ use Prim.Native.Nat.{ℕ, zero, suc, _+_, _*_, _-_, _/_, _%_, _^_, _≤_, _<_}
 use native.Mathlib.Nat.{pow-suc, sub-add-cancel, le-of-suc-le-suc, mul-suc, mul-zero}
 use native.Mathlib.Omega.{arith}
 use mathlib.Core.Path.{_≡_, refl, ap, ap₂, _∙_, sym, subst}
-use mathlib.Core.Logic.{_↔_, ⊎-elim}
+use mathlib.Core.Logic.{_↔_}
 use mathlib.Core.Bool.{Bool, true, false, _&&_, _||_, not, false≢true}
 use mathlib.Core.List.{List, [], _∷_, _++_, append-assoc, append-nil}
 use lib.Dec.{eqb, leb, ltb, lit<}
-use lib.ListN.{length, take, drop, getD, drop-of-length-le, take-append-drop, length-take, length-drop, length-append}
-use lib.Seq.{getD-at, take-all, take-take, take-nil, take-at, drop-at, drop-nil, drop-cons, drop-drop, drop-append-le, drop-append-add, getD-append-add, getD-drop, length-take-le, drop-length}
-use borrow.Author.Tests.{leb-true, ltb-true, eqb-true, le-leb, lt-ltb, eq-eqb, ne-eqb}
-use Rattle.rules.specs.Bytes.{Bytes, all, isNone}
+use lib.ListN.{length, take, drop, getD, drop-of-length-le, take-append-drop, length-drop}
+use lib.Seq.{getD-at, take-take, take-nil, take-at, drop-at, drop-cons, drop-drop, drop-append-le, drop-append-add, getD-append-add, getD-drop, length-take-le}
+use borrow.Author.Tests.{leb-true, ltb-true, eqb-true, le-leb, lt-ltb, eq-eqb}
+use Rattle.rules.specs.Bytes.{Bytes, all}
 use Rattle.rules.specs.Preorder.{Deep}
-use Rattle.rules.specs.Layout.{le, field, nameWidth, FlatDefinition, FlatParticle, FlatAttribute, FlatRow, definitionSize, particleSize, attributeSize, rowSize, definitionBytes, particleBytes, attributeBytes, rowBytes, each}
+use Rattle.rules.specs.Layout.{le, field, nameWidth, FlatDefinition, FlatAttribute, FlatRow, definitionSize, particleSize, attributeSize, rowSize, definitionBytes, particleBytes, attributeBytes, rowBytes, each}
 use Rattle.rules.specs.Decode.{unle, numberAt, readDefinition, readParticle, readAttribute, readRow, readMany, sortOf}
-use Rattle.rules.specs.WellFormed.{startsName, inName, isName, storedName, isValue, isFill}
-use Rattle.rules.proofs.Words.{and-both, and-split, or-cases, or-left, or-right}
-use Rattle.rules.proofs.BooleanLaws.{Every, every-map, none-nil}
-use Rattle.rules.proofs.LayoutLaws.{Small, unle-le, length-le, length-field, take-field}
+use Rattle.rules.specs.WellFormed.{startsName, inName, storedName, isValue, isFill}
+use Rattle.rules.proofs.Words.{and-both, and-split}
+use Rattle.rules.proofs.BooleanLaws.{Every}
+use Rattle.rules.proofs.LayoutLaws.{Small, unle-le, length-field, take-field}
 use Rattle.records.specs.Records.{zeros, used, filled, nameFits, valueFits, definitionFits, attributeFits, rowFits, eachFits}
 
 -- ---- bytes
@@ -92,25 +92,25 @@ length-part : (bs : Bytes) (at k : ℕ) → at + k ≤ length bs → length (tak
 length-part bs at k h = length-take-le k (drop at bs) (omega (arith, length-drop at bs))
 
 module _ (bs : Bytes) where
-  byte-then : (at next x : ℕ) {t : Bytes} → x ≡ getD bs at 0 → next ≡ suc at → at < length bs → t ≡ drop next bs → x ∷ t ≡ drop at bs
+  pub byte-then : (at next x : ℕ) {t : Bytes} → x ≡ getD bs at 0 → next ≡ suc at → at < length bs → t ≡ drop next bs → x ∷ t ≡ drop at bs
   byte-then at next x e n h q = ap₂ (λ (y : ℕ) (ys : Bytes). y ∷ ys) e (q ∙ ap (λ (k : ℕ). drop k bs) n) ∙ sym (drop-cons bs at 0 h)
 
-  number-then : (at k n : ℕ) {t : Bytes} → Small bs → n ≡ numberAt at k bs → at + k ≤ length bs → t ≡ drop (at + k) bs → le k n ++ t ≡ drop at bs
+  pub number-then : (at k n : ℕ) {t : Bytes} → Small bs → n ≡ numberAt at k bs → at + k ≤ length bs → t ≡ drop (at + k) bs → le k n ++ t ≡ drop at bs
   number-then at k n a e h q =
       ap₂ (λ (x y : Bytes). x ++ y) (ap (λ (m : ℕ). le k m) e ∙ number-canonical k (take k (drop at bs)) (small-take k (small-drop at a)) (length-part bs at k h)) (q ∙ sym (drop-drop k at bs))
       ∙ take-append-drop k (drop at bs)
 
-  length-used : (at l w : ℕ) → filled bs at l w ≡ true → at + w ≤ length bs → length (used bs at l) ≡ l
+  pub length-used : (at l w : ℕ) → filled bs at l w ≡ true → at + w ≤ length bs → length (used bs at l) ≡ l
   length-used at l w f h = length-part bs at l (omega (arith, leb-true l w (and-split (leb l w) _ f .0)))
 
-  field-then : (at l w : ℕ) {t : Bytes} → filled bs at l w ≡ true → at + w ≤ length bs → t ≡ drop (at + w) bs → field w (used bs at l) ++ t ≡ drop at bs
+  pub field-then : (at l w : ℕ) {t : Bytes} → filled bs at l w ≡ true → at + w ≤ length bs → t ≡ drop (at + w) bs → field w (used bs at l) ++ t ≡ drop at bs
   field-then at l w {t} f h q =
       let (a, z) = and-split (leb l w) (zeros (take (w - l) (drop (at + l) bs))) f in
       let m : w ≡ w - l + l = sym (sub-add-cancel (leb-true l w a)) in
       ap (λ (ys : Bytes). field w (used bs at l) ++ ys) (q ∙ sym (drop-drop w at bs))
       ∙ field-whole (w - l) l w (drop at bs) m (omega (arith, length-drop at bs)) (ap (λ (ys : Bytes). zeros (take (w - l) ys)) (drop-drop l at bs) ∙ z)
 
-  all-read : (at : ℕ) → length bs ≤ at → [] ≡ drop at bs
+  pub all-read : (at : ℕ) → length bs ≤ at → [] ≡ drop at bs
   all-read at h = sym (drop-of-length-le bs h)
 
 -- ---- what was written into a field
@@ -126,17 +126,17 @@ filled-field bs v post at w e h = and-both (le-leb _ _ h) (ap zeros tail ∙ zer
         (sym (drop-drop (length v) at bs) ∙ ap (λ (ys : Bytes). drop (length v) ys) e ∙ drop-append-le (length v) (field w v) post (omega (arith, length-field w v)))
         ∙ take-at (drop (length v) (field w v)) post (w - length v) (length-drop (length v) (field w v) ∙ ap (λ (k : ℕ). k - length v) (length-field w v))
 
-drop-past : (xs ys : Bytes) (k n : ℕ) → length xs ≡ k → drop (k + n) (xs ++ ys) ≡ drop n ys
+pub drop-past : (xs ys : Bytes) (k n : ℕ) → length xs ≡ k → drop (k + n) (xs ++ ys) ≡ drop n ys
 drop-past xs ys k n e = ap (λ (m : ℕ). drop (m + n) (xs ++ ys)) (sym e) ∙ drop-append-add xs ys n
 
 getD-past : (xs ys : Bytes) (k n : ℕ) → length xs ≡ k → getD (xs ++ ys) (k + n) 0 ≡ getD ys n 0
 getD-past xs ys k n e = ap (λ (m : ℕ). getD (xs ++ ys) (m + n) 0) (sym e) ∙ getD-append-add xs ys n 0
 
-name-length : (n : Bytes) → storedName n ≡ true → length n ≤ nameWidth
+pub name-length : (n : Bytes) → storedName n ≡ true → length n ≤ nameWidth
 name-length [] h = absurd (false≢true h)
 name-length (x ∷ xs) h = leb-true (length (x ∷ xs)) nameWidth (and-split (startsName x && all inName xs) (leb (length (x ∷ xs)) nameWidth) h .1)
 
-value-length : (w : ℕ) (v : Bytes) → isValue w v ≡ true → length v ≤ w
+pub value-length : (w : ℕ) (v : Bytes) → isValue w v ≡ true → length v ≤ w
 value-length w v h = leb-true (length v) w (and-split (leb (length v) w) _ h .0)
 
 name-fits : (bs n post : Bytes) (at : ℕ) → getD bs at 0 ≡ length n → drop (suc at) bs ≡ field nameWidth n ++ post → storedName n ≡ true → nameFits bs at ≡ true
@@ -176,7 +176,7 @@ definition-canonical bs a e h =
     (field-then bs 1 (getD bs 0 0) nameWidth f (omega arith)
     (byte-then bs 17 18 (getD bs 17 0) refl refl (omega arith) (number-then bs 18 2 (numberAt 18 2 bs) a refl (omega arith) (all-read bs 20 (omega arith)))))
 
-number-bound : (k : ℕ) (bs : Bytes) (at : ℕ) → Small bs → at + k ≤ length bs → numberAt at k bs < 256 ^ k
+pub number-bound : (k : ℕ) (bs : Bytes) (at : ℕ) → Small bs → at + k ≤ length bs → numberAt at k bs < 256 ^ k
 number-bound k bs at a h = rw (length-part bs at k h) at (unle-bound (take k (drop at bs)) (small-take k (small-drop at a) .small))
 
 pub definition-fields : (bs : Bytes) → Small bs → length bs ≡ definitionSize → definitionFits bs ≡ true → FittingDefinition (readDefinition bs)

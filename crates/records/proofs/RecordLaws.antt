@@ -399,6 +399,12 @@ pub length-many : {A : Type 0} (f : Bytes → A) (size count : ℕ) (bs : Bytes)
 length-many f size zero bs = refl
 length-many f size (suc count) bs = ap suc (length-many f size count (drop size bs))
 
+pub drop-take : (k m : ℕ) (xs : Bytes) → k ≤ m → drop k (take m xs) ≡ take (m - k) (drop k xs)
+drop-take zero m xs h = let e : m ≡ m - 0 = omega arith in ap (λ (n : ℕ). take n xs) e
+drop-take (suc k) zero xs h = absurd (omega arith)
+drop-take (suc k) (suc m) [] h = sym (take-nil (suc m - suc k))
+drop-take (suc k) (suc m) (x ∷ xs) h = let e : suc m - suc k ≡ m - k = omega arith in drop-take k m xs (omega arith) ∙ ap (λ (n : ℕ). take n (drop k xs)) (sym e)
+
 -- only the records count: what stands after them may be cut off
 pub each-fits-cut : (p : Bytes → Bool) (size count n : ℕ) (bs : Bytes) → size * count ≤ n → eachFits p size count (take n bs) ≡ eachFits p size count bs
 unfolding eachFits
@@ -406,12 +412,6 @@ each-fits-cut p size zero n bs h = refl
 each-fits-cut p size (suc count) n bs h =
     let l : size ≤ n = omega (arith, mul-suc size count) in
     ap₂ (λ (a b : Bool). a && b) (ap p (take-take size n bs l)) (ap (eachFits p size count) (drop-take size n bs l) ∙ each-fits-cut p size count (n - size) (drop size bs) (omega (arith, mul-suc size count)))
-  where
-    drop-take : (k m : ℕ) (xs : Bytes) → k ≤ m → drop k (take m xs) ≡ take (m - k) (drop k xs)
-    drop-take zero m xs h = let e : m ≡ m - 0 = omega arith in ap (λ (n : ℕ). take n xs) e
-    drop-take (suc k) zero xs h = absurd (omega arith)
-    drop-take (suc k) (suc m) [] h = sym (take-nil (suc m - suc k))
-    drop-take (suc k) (suc m) (x ∷ xs) h = let e : suc m - suc k ≡ m - k = omega arith in drop-take k m xs (omega arith) ∙ ap (λ (n : ℕ). take n (drop k xs)) (sym e)
 
 module _ {A : Type 0} (f : Bytes → A) (g : A → Bytes) (p : Bytes → Bool) (size : ℕ) where
   -- the records that fit, and what follows them

@@ -111,3 +111,65 @@ fn all_printable(s: &[u8]) -> bool
     }
     true
 }
+
+/// Whether the bytes are a name that may stand in a store.
+pub fn stored_name(s: &[u8]) -> bool
+    ensures { λ r. ⌜ r ≡ storedName (now (s .entry)) ⌝ }
+{
+    if s.len() == 0 {
+        return false;
+    }
+    starts_name(s[0]) & all_in_name(after(s, 1)) & (s.len() <= NAME_WIDTH)
+}
+
+/// Whether the bytes are a value.
+pub fn is_value(s: &[u8]) -> bool
+    ensures { λ r. ⌜ r ≡ isValue baseWidth (now (s .entry)) ⌝ }
+{
+    (s.len() <= VALUE_WIDTH) & all_printable(s)
+}
+
+// Whether a value may stand in an attribute of a sort: none if IMPLIED (0), one if REQUIRED (1).
+fn is_fill(sort: u8, value: &[u8]) -> bool
+    ensures { λ r. ⌜ r ≡ isFill (sortOf sort) (now (value .entry)) ⌝ }
+{
+    if sort == 0 {
+        return value.len() == 0;
+    }
+    if sort == 1 {
+        return value.len() != 0;
+    }
+    true
+}
+
+// ---- fields
+
+// Whether a field of `width` bytes at `at` has zeros after its first `used` bytes, and room for these.
+fn filled(rec: &[u8], at: usize, used: usize, width: usize) -> bool
+    ensures { λ r. ⌜ r ≡ filled (now (rec .entry)) at used width ⌝ }
+{
+    if width < used {
+        return false;
+    }
+    let field = first(after(rec, at), width);
+    zeros(after(field, used))
+}
+
+// Whether a name stands at `at`, with its length before it.
+fn name_fits(rec: &[u8], at: usize) -> bool
+    ensures { λ r. ⌜ r ≡ nameFits (now (rec .entry)) at ⌝ }
+{
+    if rec.len() <= at {
+        return false;
+    }
+    let start = at + 1;
+    let used = wide(byte(rec, at));
+    stored_name(first(after(rec, start), used)) & filled(rec, start, used, NAME_WIDTH)
+}
+
+// Whether a value of `used` bytes stands at `at`.
+fn value_fits(rec: &[u8], at: usize, used: usize) -> bool
+    ensures { λ r. ⌜ r ≡ valueFits baseWidth (now (rec .entry)) at used ⌝ }
+{
+    is_value(first(after(rec, at), used)) & filled(rec, at, used, VALUE_WIDTH)
+}

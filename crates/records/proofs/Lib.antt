@@ -1,3 +1,3 @@
 pub mod RecordLaws
 pub mod StringLaws
-pub mod ByteTests
+pub mod CodeLaws

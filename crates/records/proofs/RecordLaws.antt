@@ -19,7 +19,7 @@ use Rattle.rules.specs.WellFormed.{startsName, inName, storedName, isValue, isF
 use Rattle.rules.proofs.Words.{and-both, and-split}
 use Rattle.rules.proofs.BooleanLaws.{Every}
 use Rattle.rules.proofs.LayoutLaws.{Small, unle-le, length-field, take-field}
-use Rattle.records.specs.Records.{zeros, used, filled, nameFits, valueFits, definitionFits, attributeFits, rowFits, eachFits}
+use Rattle.records.specs.Records.{zeros, used, filled, nameFits, valueFits, definitionFits, attributeFits, unusedFit, rowFits, eachFits}
 
 -- ---- bytes
 abbrev IsByte : ℕ → Type 0
@@ -323,7 +323,7 @@ record RowParts (w : ℕ) (bs : Bytes) : Type 0 where
   unused₂ : getD bs (11 + w) 0 ≡ 0
 
 row-parts : (w : ℕ) (bs : Bytes) → rowFits w bs ≡ true → RowParts w bs
-unfolding rowFits valueFits
+unfolding rowFits valueFits unusedFit
 row-parts w bs h =
     let (s, h₁) = and-split (leb 1 (getD bs 0 0) && leb (getD bs 0 0) 3) _ h in
     let (s₀, s₁) = and-split (leb 1 (getD bs 0 0)) (leb (getD bs 0 0) 3) s in
@@ -372,7 +372,7 @@ row-fields w bs a e h =
     }
 
 pub row-fits : (w : ℕ) (r : Deep FlatRow) → FittingRow w r → rowFits w (rowBytes w r) ≡ true
-unfolding rowFits
+unfolding rowFits unusedFit
 row-fits w r f =
     and-both (and-both (le-leb _ _ (f .least)) (le-leb _ _ (f .most)))
     (and-both (value-fits w (rowBytes w r) v (0 ∷ 0 ∷ []) 10 (length v) refl refl (f .value))

@@ -48,14 +48,16 @@ attributeFits w n bs =
     ltb (getD bs 0 0) n
     && (nameFits bs 1 && (leb (getD bs 18 0) 2 && (valueFits w bs 20 (getD bs 19 0) && isFill (sortOf (getD bs 18 0)) (used bs 20 (getD bs 19 0)))))
 
+-- the bytes of a tree row that no field has
+unfoldable pub unusedFit : ℕ → Bytes → Bool
+unusedFit w bs = eqb (getD bs 9 0) 0 && (eqb (getD bs (10 + w) 0) 0 && eqb (getD bs (11 + w) 0) 0)
+
 -- the fields of a tree row apart from its depth, index and serial: an element has no value, a text has index 0
 unfoldable pub rowFits : ℕ → Bytes → Bool
 rowFits w bs =
     (leb 1 (getD bs 0 0) && leb (getD bs 0 0) 3)
     && (valueFits w bs 10 (getD bs 8 0)
-    && ((not (eqb (getD bs 0 0) 1) || eqb (getD bs 8 0) 0)
-    && ((not (eqb (getD bs 0 0) 3) || eqb (numberAt 2 2 bs) 0)
-    && (eqb (getD bs 9 0) 0 && (eqb (getD bs (10 + w) 0) 0 && eqb (getD bs (11 + w) 0) 0)))))
+    && ((not (eqb (getD bs 0 0) 1) || eqb (getD bs 8 0) 0) && ((not (eqb (getD bs 0 0) 3) || eqb (numberAt 2 2 bs) 0) && unusedFit w bs)))
 
 -- ---- bodies of records
 -- every one of `count` records of `size` bytes passes

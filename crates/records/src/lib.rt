@@ -8,7 +8,7 @@ ghost use Rattle.rules.specs.Bytes.{all, between};
 ghost use Rattle.rules.specs.Layout.{definitionSize, attributeSize};
 ghost use Rattle.rules.specs.Decode.{sized, sortOf};
 ghost use Rattle.rules.specs.WellFormed.{startsName, inName, storedName, isValue, isFill};
-ghost use Rattle.records.specs.Records.{baseWidth, NumberAt, zeros, filled, nameFits, valueFits, definitionFits, attributeFits, rowFits, eachFits, countsFit, offsetsFit, headerFits};
+ghost use Rattle.records.specs.Records.{baseWidth, NumberAt, zeros, filled, nameFits, valueFits, definitionFits, attributeFits, unusedFit, rowFits, eachFits, countsFit, offsetsFit, headerFits};
 
 const NAME_WIDTH: usize = 16;
 
@@ -172,4 +172,47 @@ fn value_fits(rec: &[u8], at: usize, used: usize) -> bool
     ensures { λ r. ⌜ r ≡ valueFits baseWidth (now (rec .entry)) at used ⌝ }
 {
     is_value(first(after(rec, at), used)) & filled(rec, at, used, VALUE_WIDTH)
+}
+
+// ---- records
+
+/// Whether a record is a definition's.
+pub fn definition_fits(rec: &[u8]) -> bool
+    ensures { λ r. ⌜ r ≡ definitionFits (now (rec .entry)) ⌝ }
+{
+    let kind = byte(rec, 17);
+    let particles = get_u16(rec, 18);
+    name_fits(rec, 0) & ((kind <= 2) & ((kind == 2) | (particles == 0)))
+}
+
+/// Whether a record is that of an attribute, among n definitions.
+pub fn attribute_fits(rec: &[u8], n: usize) -> bool
+    ensures { λ r. ⌜ r ≡ attributeFits baseWidth n (now (rec .entry)) ⌝ }
+{
+    let owner = wide(byte(rec, 0));
+    let sort = byte(rec, 18);
+    let used = wide(byte(rec, 19));
+    let value = first(after(rec, 20), used);
+    (owner < n)
+        & (name_fits(rec, 1) & ((sort <= 2) & (value_fits(rec, 20, used) & is_fill(sort, value))))
+}
+
+// Whether the bytes of a row that no field has are zeros.
+fn unused_fit(rec: &[u8]) -> bool
+    ensures { λ r. ⌜ r ≡ unusedFit baseWidth (now (rec .entry)) ⌝ }
+{
+    (byte(rec, 9) == 0) & ((byte(rec, 10 + VALUE_WIDTH) == 0) & (byte(rec, 11 + VALUE_WIDTH) == 0))
+}
+
+/// Whether a record is a row's, apart from its depth.
+pub fn row_fits(rec: &[u8]) -> bool
+    ensures { λ r. ⌜ r ≡ rowFits baseWidth (now (rec .entry)) ⌝ }
+{
+    let sort = byte(rec, 0);
+    let used = wide(byte(rec, 8));
+    let index = get_u16(rec, 2);
+    let known = (1 <= sort) & (sort <= 3);
+    let element = (sort != 1) | (used == 0);
+    let text = (sort != 3) | (index == 0);
+    known & (value_fits(rec, 10, used) & (element & (text & unused_fit(rec))))
 }

@@ -1,6 +1,6 @@
 use mathlib.Core.Path.{sym}
 use lib.ListN.{drop-of-length-le}
-use Rattle.records.proofs.ByteTests.{tail-whole}
+use Rattle.records.proofs.CodeLaws.{tail-whole}
 use borrow.Author.Needs.{needs}
 use Rattle.records.proofs.after.Statement.{statement}
 use Rattle.records.proofs.after.Tie as tie

@@ -4,7 +4,7 @@ use mathlib.Core.Path.{_≡_, sym, _∙_}
 use lib.ListN.{length, drop}
 use native.Mathlib.Omega.{arith}
 use Rattle.rules.specs.Bytes.{all, between}
-use Rattle.records.proofs.ByteTests.{all-on, all-off, all-end}
+use Rattle.records.proofs.CodeLaws.{all-on, all-off, all-end}
 use borrow.Author.Needs.{needs}
 use Rattle.records.proofs.all_printable.Statement.{statement}
 use Rattle.records.proofs.all_printable.Tie as tie

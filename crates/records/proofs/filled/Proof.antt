@@ -1,6 +1,6 @@
 use mathlib.Core.Path.{sym}
 use native.Mathlib.Omega.{arith}
-use Rattle.records.proofs.ByteTests.{filled-wide, filled-of}
+use Rattle.records.proofs.CodeLaws.{filled-wide, filled-of}
 use borrow.Author.Needs.{needs}
 use Rattle.records.proofs.filled.Statement.{statement}
 use Rattle.records.proofs.filled.Tie as tie

@@ -3,7 +3,7 @@ use Prim.Native.Nat.{ℕ}
 use mathlib.Core.Bool.{not}
 use Rattle.rules.specs.Decode.{sortOf}
 use Rattle.rules.specs.WellFormed.{isFill}
-use Rattle.records.proofs.ByteTests.{none-length, fill-any}
+use Rattle.records.proofs.CodeLaws.{none-length, fill-any}
 use borrow.Author.Needs.{needs}
 use Rattle.records.proofs.is_fill.Statement.{statement}
 use Rattle.records.proofs.is_fill.Tie as tie

@@ -1,5 +1,5 @@
 use mathlib.Core.Path.{sym, _∙_}
-use Rattle.records.proofs.ByteTests.{name-past, name-fits-of}
+use Rattle.records.proofs.CodeLaws.{name-past, name-fits-of}
 use borrow.Author.Needs.{needs}
 use Rattle.records.proofs.name_fits.Statement.{statement}
 use Rattle.records.proofs.name_fits.Tie as tie

@@ -1,5 +1,5 @@
 use mathlib.Core.Path.{sym}
-use Rattle.records.proofs.ByteTests.{name-none, name-of}
+use Rattle.records.proofs.CodeLaws.{name-none, name-of}
 use borrow.Author.Needs.{needs}
 use Rattle.records.proofs.stored_name.Statement.{statement}
 use Rattle.records.proofs.stored_name.Tie as tie

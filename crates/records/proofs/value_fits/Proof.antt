@@ -1,5 +1,5 @@
 use Rattle.records.specs.Records.{baseWidth}
-use Rattle.records.proofs.ByteTests.{value-fits-of}
+use Rattle.records.proofs.CodeLaws.{value-fits-of}
 use borrow.Author.Needs.{needs}
 use Rattle.records.proofs.value_fits.Statement.{statement}
 use Rattle.records.proofs.value_fits.Tie as tie

@@ -5,7 +5,7 @@ use lib.ListN.{length, drop}
 use native.Mathlib.Omega.{arith}
 use borrow.Author.Tests.{eq-eqb, ne-eqb}
 use Rattle.records.specs.Records.{zeros}
-use Rattle.records.proofs.ByteTests.{all-on, all-off, all-end}
+use Rattle.records.proofs.CodeLaws.{all-on, all-off, all-end}
 use borrow.Author.Needs.{needs}
 use Rattle.records.proofs.zeros.Statement.{statement}
 use Rattle.records.proofs.zeros.Tie as tie

@@ -4,17 +4,17 @@ use Prim.Native.Nat.{ℕ, zero, suc, _+_, _-_, _≤_, _<_}
 use native.Mathlib.Numerals.{add-one}
 use native.Mathlib.Omega.{arith}
 use mathlib.Core.Path.{_≡_, refl, sym, ap, ap₂, _∙_}
-use mathlib.Core.Bool.{Bool, true, false, _&&_}
+use mathlib.Core.Bool.{Bool, true, false, _&&_, _||_, not}
 use mathlib.Core.List.{[], _∷_}
-use lib.Dec.{eqb, leb, eqb·suc-zero}
+use lib.Dec.{eqb, leb, ltb, eqb·suc-zero}
 use lib.ListN.{length, take, drop, getD, length-drop, drop-of-length-le, List·getD-eq-default}
 use lib.Seq.{drop-cons, drop-drop, take-all}
 use borrow.Author.Tests.{le-leb, lt-leb}
 use Rattle.rules.specs.Bytes.{Bytes, all, isNone}
 use Rattle.rules.specs.Layout.{nameWidth}
 use Rattle.rules.specs.WellFormed.{startsName, inName, storedName, isValue, isFill}
-use Rattle.rules.specs.Decode.{sortOf}
-use Rattle.records.specs.Records.{zeros, used, filled, nameFits, valueFits}
+use Rattle.rules.specs.Decode.{numberAt, sortOf}
+use Rattle.records.specs.Records.{zeros, used, filled, nameFits, valueFits, definitionFits, attributeFits, unusedFit, rowFits}
 use Rattle.records.proofs.RecordLaws.{drop-take}
 
 -- ---- each byte
@@ -81,3 +81,25 @@ name-fits-of bs at l rest part e r p a b =
 pub value-fits-of : (w : ℕ) (bs : Bytes) (at l : ℕ) (rest part : Bytes) {a b : Bool} → rest ≡ drop at bs → part ≡ take l rest → a ≡ isValue w part → b ≡ filled bs at l w → (a && b) ≡ valueFits w bs at l
 unfolding valueFits
 value-fits-of w bs at l rest part r p a b = ap₂ (λ (x y : Bool). x && y) (a ∙ ap (isValue w) (p ∙ ap (take l) r)) b
+
+pub definition-of : (bs : Bytes) (kind particles : ℕ) {a : Bool} → kind ≡ getD bs 17 0 → particles ≡ numberAt 18 2 bs → a ≡ nameFits bs 0 → (a && (leb kind 2 && (eqb kind 2 || eqb particles 0))) ≡ definitionFits bs
+unfolding definitionFits
+definition-of bs kind particles k p a = λ i. a i && (leb (k i) 2 && (eqb (k i) 2 || eqb (p i) 0))
+
+pub attribute-of : (w n : ℕ) (bs : Bytes) (owner sort l : ℕ) (rest value : Bytes) {a b c : Bool} → owner ≡ getD bs 0 0 → sort ≡ getD bs 18 0 → l ≡ getD bs 19 0 → rest ≡ drop 20 bs → value ≡ take l rest
+    → a ≡ nameFits bs 1 → b ≡ valueFits w bs 20 l → c ≡ isFill (sortOf sort) value → (ltb owner n && (a && (leb sort 2 && (b && c)))) ≡ attributeFits w n bs
+unfolding attributeFits
+attribute-of w n bs owner sort l rest value o s u r v a b c =
+    ap₂ (λ (y z : Bool). ltb owner n && (y && (leb sort 2 && z))) a (ap₂ (λ (y z : Bool). y && z) b (c ∙ ap (isFill (sortOf sort)) (v ∙ ap (take l) r)))
+    ∙ (λ i. ltb (o i) n && (nameFits bs 1 && (leb (s i) 2 && (valueFits w bs 20 (u i) && isFill (sortOf (s i)) (used bs 20 (u i))))))
+
+pub unused-of : (w : ℕ) (bs : Bytes) (x y z : ℕ) → x ≡ getD bs 9 0 → y ≡ getD bs (10 + w) 0 → z ≡ getD bs (11 + w) 0 → (eqb x 0 && (eqb y 0 && eqb z 0)) ≡ unusedFit w bs
+unfolding unusedFit
+unused-of w bs x y z p q r = λ i. eqb (p i) 0 && (eqb (q i) 0 && eqb (r i) 0)
+
+pub row-of : (w : ℕ) (bs : Bytes) (sort l index : ℕ) {b u : Bool} → sort ≡ getD bs 0 0 → l ≡ getD bs 8 0 → index ≡ numberAt 2 2 bs → b ≡ valueFits w bs 10 l → u ≡ unusedFit w bs
+    → ((leb 1 sort && leb sort 3) && (b && ((not (eqb sort 1) || eqb l 0) && ((not (eqb sort 3) || eqb index 0) && u)))) ≡ rowFits w bs
+unfolding rowFits
+row-of w bs sort l index s e n b u =
+    ap₂ (λ (y z : Bool). (leb 1 sort && leb sort 3) && (y && ((not (eqb sort 1) || eqb l 0) && ((not (eqb sort 3) || eqb index 0) && z)))) b u
+    ∙ (λ i. (leb 1 (s i) && leb (s i) 3) && (valueFits w bs 10 (e i) && ((not (eqb (s i) 1) || eqb (e i) 0) && ((not (eqb (s i) 3) || eqb (n i) 0) && unusedFit w bs))))

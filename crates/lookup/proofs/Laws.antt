@@ -1,0 +1,209 @@
+-- Laws of the look-up.
+-- Assumes nothing.
+use mathlib.Core.Path.{_≡_, refl, sym, ap, ap₂, _∙_, subst}
+use mathlib.Core.Bool.{Bool, true, false, false≢true}
+use mathlib.Core.Option.{Option, none, some}
+use mathlib.Core.List.{List, [], _∷_}
+use Prim.Native.Nat.{ℕ, zero, suc, _+_, _-_, _*_, _<_, _≤_}
+use native.Mathlib.Omega.{arith}
+use native.Mathlib.Nat.{mul-suc, mul-zero, add-zero, zero-add}
+use native.Mathlib.Numerals.{add-one}
+use borrow.Author.Tests.{eq-eqb, ne-eqb, eqb-true}
+use lib.Dec.{eqb}
+use lib.ListN.{length, take, drop, getD}
+use lib.Seq.{take-nil, drop-drop}
+use Rattle.rules.specs.Bytes.{Bytes}
+use Rattle.rules.specs.Preorder.{Deep}
+use Rattle.rules.specs.Layout.{FlatRow, FlatStore, flat}
+use Rattle.rules.specs.Decode.{numberAt, readDefinition, readParticle, readAttribute, readRow, readMany, definitionCount, particleCount, attributeCount, rowCount, readFlat}
+use Rattle.rules.specs.Store.{Store}
+use Rattle.rules.specs.Passing.{readStore}
+use Rattle.rules.specs.LookUp.{Found, Numbered, rowWith, foundRow, valueStart, partOf, notFound, foundIn, lookUp}
+use Rattle.rules.proofs.LayoutLaws.{read-bytes}
+use Rattle.rules.proofs.DecodeLaws.{good-flat, read-good}
+use Rattle.lookup.specs.Bodies.{bodiesOf, rowStart, rowBody, rowPart}
+use Rattle.lookup.specs.Finding.{Looks, foundOn, foundAt}
+
+-- ---- records read one after the other
+pub length-many : {A : Type 0} (f : Bytes → A) (size n : ℕ) (bs : Bytes) → length (readMany f size n bs) ≡ n
+length-many f size zero bs = refl
+length-many f size (suc n) bs = ap suc (length-many f size n (drop size bs))
+
+-- the records from number i on, of those up to number `end`
+unfoldable pub recordsFrom : {A : Type 0} → (Bytes → A) → ℕ → Bytes → ℕ → ℕ → List A
+recordsFrom f size body end i = readMany f size (end - i) (drop (size * i) body)
+
+module _ {A : Type 0} (f : Bytes → A) (size : ℕ) (body : Bytes) (end i : ℕ) where
+  pub from-step : i < end → recordsFrom f size body end i ≡ f (take size (drop (size * i) body)) ∷ recordsFrom f size body end (i + 1)
+  unfolding recordsFrom
+  from-step h =
+      let e : end - i ≡ suc (end - (i + 1)) = omega arith in
+      let g : size * i + size ≡ size * (i + 1) = rw add-one (sym (mul-suc size i)) in
+      rw (e, drop-drop size (size * i) body, g)
+
+  pub from-none : end ≤ i → recordsFrom f size body end i ≡ []
+  unfolding recordsFrom
+  from-none h = let e : end - i ≡ 0 = omega arith in rw e
+
+  pub from-all : recordsFrom f size body end 0 ≡ readMany f size end body
+  unfolding recordsFrom
+  from-all = let e : end - 0 ≡ end = omega arith in rw (e, mul-zero)
+
+-- ---- the place of row number i
+pub row-place : (bs : Bytes) (i : ℕ) → take 44 (drop (rowStart bs + 44 * i) bs) ≡ rowPart bs i
+unfolding rowStart rowBody rowPart
+row-place bs i = simp drop-drop
+
+-- ---- answers in the code's numbers
+pub looks-as : {f : Found} {number s s′ l l′ : ℕ} → s ≡ s′ → l ≡ l′ → Looks f number s′ l′ → Looks f number s l
+looks-as e g h = record { number-is = h .number-is; start-is = e ∙ h .start-is; length-is = g ∙ h .length-is }
+
+-- ---- one row of the walk
+row-this : (k i : ℕ) (r : Deep FlatRow) (rs : List (Deep FlatRow)) → r .row .serial ≡ k → rowWith k i (r ∷ rs) ≡ some (record { at = i; row = r .row })
+unfolding rowWith
+row-this k i r rs e = rw (eq-eqb (r .row .serial) k e, rowWith)
+
+row-other : (k i : ℕ) (r : Deep FlatRow) (rs : List (Deep FlatRow)) → (r .row .serial ≡ k → ⊥) → rowWith k i (r ∷ rs) ≡ rowWith k (i + 1) rs
+unfolding rowWith
+row-other k i r rs e = rw (ne-eqb (r .row .serial) k e, rowWith, add-one i)
+
+row-none : (k i : ℕ) → rowWith k i [] ≡ none
+unfolding rowWith
+row-none k i = refl
+
+-- what is found of a row, by its sort
+sort-element : (w : ℕ) (f : FlatStore) (n : Numbered) → n .row .sort ≡ 1 → foundRow w f (some n) ≡ notFound 7
+sort-element w f n e = rw (eq-eqb (n .row .sort) 1 e, foundRow)
+
+sort-other : (w : ℕ) (f : FlatStore) (n : Numbered) → (n .row .sort ≡ 1 → ⊥) → foundRow w f (some n) ≡ record { number = 0; start = valueStart w f (n .at); size = length (n .row .value) }
+sort-other w f n e = rw (ne-eqb (n .row .sort) 1 e, foundRow)
+
+-- ---- the walk
+-- what is left to look through gives the same row
+pub record Seeking (bs : Bytes) (k count i : ℕ) : Type 0 where
+  pub counts : count ≡ rowCount bs
+  pub rest : rowWith k i (recordsFrom readRow 44 (rowBody bs) count i) ≡ rowWith k 0 (bodiesOf bs .rows)
+
+pub seek-start : (bs : Bytes) (k count : ℕ) → count ≡ rowCount bs → Seeking bs k count 0
+unfolding bodiesOf rowBody
+seek-start bs k count e = record { counts = e; rest = ap (rowWith k 0) (from-all readRow 44 (rowBody bs) count 0 ∙ ap (λ (n : ℕ). readMany readRow 44 n (rowBody bs)) e) }
+
+module _ (bs : Bytes) (k count i : ℕ) (s : Seeking bs k count i) where
+  step : i < count → rowWith k i (recordsFrom readRow 44 (rowBody bs) count i) ≡ rowWith k i (readRow (rowPart bs i) ∷ recordsFrom readRow 44 (rowBody bs) count (i + 1))
+  unfolding rowPart
+  step h = ap (rowWith k i) (from-step readRow 44 (rowBody bs) count i h)
+
+  pub seek-past : i < count → (numberAt 4 4 (rowPart bs i) ≡ k → ⊥) → Seeking bs k count (i + 1)
+  seek-past h e = record { counts = s .counts; rest = sym (row-other k i (readRow (rowPart bs i)) (recordsFrom readRow 44 (rowBody bs) count (i + 1)) e) ∙ sym (step h) ∙ s .rest }
+
+  pub seek-hit : i < count → numberAt 4 4 (rowPart bs i) ≡ k → foundAt bs i ≡ foundOn bs k
+  unfolding foundAt foundOn
+  seek-hit h e =
+      ap (foundRow 32 (bodiesOf bs)) (sym (row-this k i (readRow (rowPart bs i)) (recordsFrom readRow 44 (rowBody bs) count (i + 1)) e) ∙ sym (step h) ∙ s .rest)
+
+  pub seek-none : count ≤ i → Looks (foundOn bs k) 7 0 0
+  unfolding foundOn
+  seek-none h =
+      let e : rowWith k 0 (bodiesOf bs .rows) ≡ none = sym (s .rest) ∙ ap (rowWith k i) (from-none readRow 44 (rowBody bs) count i h) ∙ row-none k i in
+      subst (λ (o : Option Numbered). Looks (foundRow 32 (bodiesOf bs) o) 7 0 0) (sym e) (record { number-is = refl; start-is = refl; length-is = refl })
+
+-- ---- the row that has the serial
+module _ (bs : Bytes) (i : ℕ) where
+  found-row : Numbered
+  found-row = record { at = i; row = readRow (rowPart bs i) .row }
+
+  value-start : valueStart 32 (bodiesOf bs) i ≡ rowStart bs + 44 * i + 10
+  unfolding rowStart bodiesOf
+  value-start =
+      simp (
+        length-many readDefinition 20 (definitionCount bs) (drop 40 bs),
+        length-many readParticle 4 (particleCount bs) (drop (20 * definitionCount bs) (drop 40 bs)),
+        length-many readAttribute 52 (attributeCount bs) (drop (4 * particleCount bs) (drop (20 * definitionCount bs) (drop 40 bs))),
+      )
+
+  pub found-element : getD (rowPart bs i) 0 0 ≡ 1 → Looks (foundAt bs i) 7 0 0
+  unfolding foundAt found-row
+  found-element e =
+      subst (λ (f : Found). Looks f 7 0 0) (sym (sort-element 32 (bodiesOf bs) found-row e)) (record { number-is = refl; start-is = refl; length-is = refl })
+
+  pub found-value : (getD (rowPart bs i) 0 0 ≡ 1 → ⊥) → Looks (foundAt bs i) 0 (rowStart bs + 44 * i + 10) (length (take (getD (rowPart bs i) 8 0) (drop 10 (rowPart bs i))))
+  unfolding foundAt found-row
+  found-value e =
+      subst (λ (f : Found). Looks f 0 (rowStart bs + 44 * i + 10) (length (take (getD (rowPart bs i) 8 0) (drop 10 (rowPart bs i)))))
+      (sym (sort-other 32 (bodiesOf bs) found-row e)) (record { number-is = refl; start-is = sym value-start; length-is = refl })
+
+-- ---- the part is the row's value
+some-same : {A : Type 0} {x y : A} → some x ≡ some y → x ≡ y
+some-same e = cc
+
+take-front : (n : ℕ) (x : Bytes) (k : ℕ) → take (length (take n (take k x))) x ≡ take n (take k x)
+take-front zero x k = refl
+take-front (suc n) [] zero = refl
+take-front (suc n) [] (suc k) = refl
+take-front (suc n) (b ∷ x) zero = refl
+take-front (suc n) (b ∷ x) (suc k) = ap (λ (l : Bytes). b ∷ l) (take-front n x k)
+
+take-inside : (o n k : ℕ) (x : Bytes) → take (length (take n (drop o (take k x)))) (drop o x) ≡ take n (drop o (take k x))
+take-inside zero n k x = take-front n x k
+take-inside (suc o) n zero x = rw take-nil
+take-inside (suc o) n (suc k) [] = take-nil (length (take n (drop (suc o) (take (suc k) [])))) ∙ sym (take-nil n)
+take-inside (suc o) n (suc k) (b ∷ x) = take-inside o n k x
+
+-- the row that is found stands where its number says
+unfoldable rowAt : Bytes → ℕ → FlatRow
+rowAt t j = readRow (take 44 (drop (44 * j) t)) .row
+
+row-first : (t : Bytes) → readRow (take 44 t) .row ≡ rowAt t 0
+unfolding rowAt
+row-first t = refl
+
+row-next : (t : Bytes) (j : ℕ) → rowAt (drop 44 t) j ≡ rowAt t (suc j)
+unfolding rowAt
+row-next t j = let e : 44 + 44 * j ≡ 44 * suc j = omega arith in ap (λ (l : Bytes). readRow (take 44 l) .row) (drop-drop (44 * j) 44 t ∙ ap (λ (n : ℕ). drop n t) e)
+
+found-where : (k i m : ℕ) (t : Bytes) (n : Numbered) → rowWith k i (readMany readRow 44 m t) ≡ some n → (j : ℕ) × (n .at ≡ i + j) × (n .row ≡ rowAt t j)
+found-where k i zero t n h = let z : _≡_ {A = ℕ} 0 1 = cc (row-none k i) in absurd (omega arith)
+found-where k i (suc m) t n h = by (eqb (readRow (take 44 t) .row .serial) k) refl (found-where k (i + 1) m (drop 44 t) n)
+  where
+    by : (c : Bool) → eqb (readRow (take 44 t) .row .serial) k ≡ c
+        → (rowWith k (i + 1) (readMany readRow 44 m (drop 44 t)) ≡ some n → (j : ℕ) × (n .at ≡ i + 1 + j) × (n .row ≡ rowAt (drop 44 t) j))
+        → (j : ℕ) × (n .at ≡ i + j) × (n .row ≡ rowAt t j)
+    by true e later =
+        let q : n ≡ record { at = i; row = readRow (take 44 t) .row } = some-same (sym h ∙ row-this k i (readRow (take 44 t)) (readMany readRow 44 m (drop 44 t)) (eqb-true _ _ e)) in
+        (0, ap (λ (x : Numbered). x .at) q ∙ sym (add-zero i), ap (λ (x : Numbered). x .row) q ∙ row-first t)
+    by false e later =
+        let (j, p, q) = later (sym (row-other k i (readRow (take 44 t)) (readMany readRow 44 m (drop 44 t)) (λ g. false≢true (sym e ∙ eq-eqb _ _ g))) ∙ h) in
+        (suc j, omega arith, q ∙ row-next t j)
+
+row-found : (bs : Bytes) (k : ℕ) (n : Numbered) → rowWith k 0 (bodiesOf bs .rows) ≡ some n → n .row ≡ readRow (rowPart bs (n .at)) .row
+unfolding bodiesOf rowBody rowPart rowAt
+row-found bs k n h =
+    let (j, p, q) = found-where k 0 (rowCount bs) (rowBody bs) n h in
+    q ∙ ap (λ (x : ℕ). readRow (take 44 (drop (44 * x) (rowBody bs))) .row) (sym (p ∙ zero-add j))
+
+value-there : (bs : Bytes) (i : ℕ) (v : Bytes) → v ≡ take (getD (rowPart bs i) 8 0) (drop 10 (rowPart bs i)) → take (length v) (drop (valueStart 32 (bodiesOf bs) i) bs) ≡ v
+value-there bs i v e =
+    let x : Bytes = drop (rowStart bs + 44 * i) bs in
+    let q : v ≡ take (getD (rowPart bs i) 8 0) (drop 10 (take 44 x)) = e ∙ ap (λ (l : Bytes). take (getD (rowPart bs i) 8 0) (drop 10 l)) (sym (row-place bs i)) in
+    let p : drop (valueStart 32 (bodiesOf bs) i) bs ≡ drop 10 x = ap (λ (n : ℕ). drop n bs) (value-start bs i) ∙ sym (drop-drop 10 (rowStart bs + 44 * i) bs) in
+    ap₂ (λ (l m : Bytes). take (length l) m) q p ∙ take-inside 10 (getD (rowPart bs i) 8 0) 44 x ∙ sym q
+
+-- the part that is handed back is the value of the row with the serial
+pub part-value : (bs : Bytes) (k : ℕ) (n : Numbered) → rowWith k 0 (bodiesOf bs .rows) ≡ some n → (n .row .sort ≡ 1 → ⊥) → partOf bs (foundOn bs k) ≡ n .row .value
+unfolding foundOn
+part-value bs k n h e =
+    ap (λ (o : Option Numbered). partOf bs (foundRow 32 (bodiesOf bs) o)) h
+    ∙ ap (partOf bs) (sort-other 32 (bodiesOf bs) n e)
+    ∙ value-there bs (n .at) (n .row .value) (ap (λ (r : FlatRow). r .value) (row-found bs k n h))
+
+-- ---- on a store that passes
+-- what a byte string that passes holds is what is read
+pub bodies-flat : (bs : Bytes) (s : Store) → readStore bs ≡ some s → bodiesOf bs ≡ flat s
+unfolding bodiesOf
+bodies-flat bs s h =
+    let (e, g) = read-good bs s h in
+    ap (readFlat 32) (sym e) ∙ read-bytes 32 (flat s) (good-flat s g)
+
+pub look-up-is : (bs : Bytes) (s : Store) (k : ℕ) → readStore bs ≡ some s → lookUp bs k ≡ foundOn bs k
+unfolding lookUp foundOn
+look-up-is bs s k h = ap (foundIn k) h ∙ ap (λ (f : FlatStore). foundRow 32 f (rowWith k 0 (f .rows))) (sym (bodies-flat bs s h))

@@ -1,0 +1,19 @@
+use mathlib.Core.Path.{ap₂, _∙_}
+use Prim.Native.Nat.{ℕ}
+use lib.ListN.{take, drop}
+use borrow.Author.Needs.{needs}
+use Rattle.lookup.proofs.value_of.Statement.{statement}
+use Rattle.lookup.proofs.value_of.Tie as tie
+
+find-requires : tie.Need-find-requires
+find-requires c κs = search needs
+
+window-requires : tie.Need-window-requires
+window-requires c κs = search needs
+
+returns : tie.Need-returns
+returns c = let f = c .before .find .ensures in
+    record { part-is = c .window .ensures ∙ ap₂ (λ (n k : ℕ). take n (drop k (c .before .before .before .args .store .now))) (f .length-is) (f .start-is); number-is = f .number-is }
+
+pub value-of-spec : {M : Type 1} → statement M
+value-of-spec = tie.close (tie.spec find-requires window-requires returns)

@@ -1,0 +1,28 @@
+-- The look-up on a byte string, whether it passes or not.
+-- Assumes nothing.
+use Prim.Native.Nat.{ℕ}
+use mathlib.Core.Path.{_≡_}
+use mathlib.Core.Option.{some}
+use Rattle.rules.specs.Bytes.{Bytes}
+use Rattle.rules.specs.Layout.{valueWidth}
+use Rattle.rules.specs.Decode.{numberAt, readRow}
+use Rattle.rules.specs.LookUp.{Found, rowWith, foundRow, partOf}
+use Rattle.lookup.specs.Bodies.{bodiesOf, rowPart}
+
+unfoldable pub foundOn : Bytes → ℕ → Found
+foundOn bs k = foundRow (valueWidth (numberAt 0 4 bs)) (bodiesOf bs) (rowWith k 0 (bodiesOf bs .rows))
+
+-- what is found when row number i is the one
+unfoldable pub foundAt : Bytes → ℕ → Found
+foundAt bs i = foundRow (valueWidth (numberAt 0 4 bs)) (bodiesOf bs) (some (record { at = i; row = readRow (rowPart bs i) .row }))
+
+-- an answer in the code's numbers
+pub record Looks (f : Found) (number start length : ℕ) : Type 0 where
+  pub number-is : number ≡ f .number
+  pub start-is : start ≡ f .start
+  pub length-is : length ≡ f .size
+
+-- what is handed back: the part of the store, and the number
+pub record Hands (f : Found) (bs part : Bytes) (number : ℕ) : Type 0 where
+  pub part-is : part ≡ partOf bs f
+  pub number-is : number ≡ f .number

@@ -15,10 +15,9 @@ use Rattle.rules.specs.Run.{Asked}
 use Rattle.rules.proofs.Words.{and-both, and-split}
 use Rattle.rules.proofs.SerialLaws.{good-serials}
 use Rattle.history.specs.History.{Demand3}
-use Rattle.history.proofs.Conditions.{ceilings-after, next-after}
+use Rattle.history.proofs.Conditions.{unmet, ceilings-after, next-after}
 use Rattle.history.proofs.WellFormedAfter.{well-formed-after}
 use Rattle.history.proofs.Agreement.{serials-after}
-use Rattle.history.proofs.Clear.{accepted-clear}
 use Rattle.history.proofs.AcceptedEdits.{editsModel, accepted-edit}
 use Rattle.history.proofs.ConformingEdits.{conforming-edited}
 use Rattle.history.proofs.ConformingSimple.{GoodTests, good-tests, conforming-after, conforming-after-simple, values-after}
@@ -26,7 +25,7 @@ use Rattle.history.proofs.Theorem.{demand-3-from}
 
 module _ (room : ℕ) (c : Call) (s : Store) (x : GoodTests s) (a : refusal room c s ≡ 0) where
   conforms : (e : Bool) → editsModel c ≡ e → conforming (formAfter c (s .form)) (docsAfter c s) ≡ true
-  conforms true e = conforming-edited (valueWidth (s .version)) s (x .form) (x .serials) c (accepted-edit (valueWidth (s .version)) s (x .form) c e (accepted-clear room c s a)) (x .docs)
+  conforms true e = conforming-edited (valueWidth (s .version)) s (x .form) (x .serials) c (accepted-edit (valueWidth (s .version)) s (x .form) c e (unmet room c s a)) (x .docs)
   conforms false e = conforming-after-simple room s x c e a
 
 version-of : (s : Store) → good s ≡ true → knownVersion (s .version) ≡ true

@@ -20,11 +20,14 @@ use Rattle.rules.specs.Change.{Call, createDefinition, destroyDefinition, inser
 use Rattle.rules.specs.Refusal.{past as beyond, instanceExists, atPlace, noPlace, onElement, onGroup, noElementAt, noGroupAt, tailOf, flattenUnlike, isComplex, conditions}
 use Rattle.rules.proofs.Children.{misplaced, unfit}
 use Rattle.rules.proofs.Height.{reaches-test}
-use Rattle.rules.proofs.WellFormedLaws.{lookup-of}
+use Rattle.rules.proofs.WellFormedLaws.{well-formed}
 use Rattle.history.proofs.InstanceEdits.{editPlan}
-use Rattle.history.proofs.Clear.{Clear}
-use Rattle.history.proofs.EditConditions.{or-false, or-both, and-false, not-false, complex-content, picked-complex, element-some, group-some, has-some, remove-placed, remove-fits, quantify-placed, element-fits, group-fits, flatten-placed}
-use Rattle.history.proofs.EditFillings.{place-is, place-plugs, Outside, Insertable, definition-in}
+use Rattle.history.proofs.Conditions.{Unmet, or-false, not-false, not-past}
+use Rattle.history.proofs.EditConditions.{or-both, and-false, complex-content, picked-complex, element-some, group-some, has-some, remove-placed, remove-fits, quantify-placed, element-fits, group-fits, flatten-placed}
+use Rattle.history.proofs.FormLaws.{definition-found}
+use Rattle.history.proofs.ModelAfter.{place-right}
+use Rattle.history.proofs.Replacing.{Joins}
+use Rattle.history.proofs.EditFillings.{Insertable}
 
 -- `o`, `at`, `edit`: the owner's index, the place and the edit; `txt`: the text of new rows
 pub record Accepted (s : Store) (c : Call) : Type 0 where
@@ -46,7 +49,7 @@ pub record Accepted (s : Store) (c : Call) : Type 0 where
 -- ---- the calls
 module _ (w : ℕ) (s : Store) (ok : wellFormed w (s .form) ≡ true) (o : ℕ) (p : List ℕ) where
   inside-lookup : (i : ℕ) → beyond i (s .form) ≡ false → lookup (nameAtIndex i (s .form)) (s .form) ≡ some (definitionAt i (s .form))
-  inside-lookup i e = lookup-of w (s .form) ok (definitionAt i (s .form)) (definition-in i (s .form) (ltb→lt i (length (s .form)) (to-T (not-false (ltb i (length (s .form))) e))))
+  inside-lookup i e = definition-found i (s .form) (well-formed w (s .form) .0 ok .names) (not-past i (s .form) e)
 
   accept : (c : Call) (e : Edit Bytes) (txt : Bytes) (f : Found Bytes) → beyond o (s .form) ≡ false → placeOf e p (members (definitionAt o (s .form))) ≡ some f → isComplex (definitionAt o (s .form) .content) ≡ true
       → misplaced bytes e (f .context) (f .picked) ≡ false → (instanceExists (nameAtIndex o (s .form)) s ≡ true → unfit e (f .context) (f .picked) ≡ false) → Insertable (s .form) (nameAtIndex o (s .form)) e
@@ -70,9 +73,9 @@ module _ (w : ℕ) (s : Store) (ok : wellFormed w (s .form) ≡ true) (o : ℕ) 
       }
 
   some-complex : (e : Edit Bytes) (f : Found Bytes) → placeOf e p (members (definitionAt o (s .form))) ≡ some f → isDone (f .picked) ≡ false → isComplex (definitionAt o (s .form) .content) ≡ true
-  some-complex e f at = picked-complex (definitionAt o (s .form) .content) (f .context) (f .picked) (place-plugs e p (members (definitionAt o (s .form))) f (place-is e p (members (definitionAt o (s .form))) f at))
+  some-complex e f at = picked-complex (definitionAt o (s .form) .content) (f .context) (f .picked) (place-right e p (members (definitionAt o (s .form))) f at)
 
-  pub accepted-insert : (i q : ℕ) (t : Bytes) → Clear (conditions (insertElement o p i q t) s) → Accepted s (insertElement o p i q t)
+  pub accepted-insert : (i q : ℕ) (t : Bytes) → Unmet (conditions (insertElement o p i q t) s) → Accepted s (insertElement o p i q t)
   unfolding conditions plan formAfter misplaced unfit
   accepted-insert i q t (c3, (c4, (c6, (c8, (c9, (c10, (c11, (c12, (c13, z))))))))) = by (placeOf e p model) refl c8 c13
     where
@@ -85,24 +88,24 @@ module _ (w : ℕ) (s : Store) (ok : wellFormed w (s .form) ≡ true) (o : ℕ) 
       model : Members Bytes
       model = members (definitionAt o (s .form))
 
-      outside : Outside (s .form) (nameAtIndex o (s .form)) n
+      outside : Joins (s .form) (nameAtIndex o (s .form)) n
       outside =
           let (a, b) = or-false (beyond o (s .form)) (beyond i (s .form)) c6 in
           let (x, y) = or-false (same n (nameAtIndex o (s .form))) (reachesIn (s .form) n (nameAtIndex o (s .form))) c11 in
           record {
-            there = ap isThere (inside-lookup i b);
+            known = ap isThere (inside-lookup i b);
             other = λ h. false≢true (sym x ∙ bytes .same← n (nameAtIndex o (s .form)) h);
-            apart = λ r. false≢true (sym y ∙ reaches-test (s .form) n (nameAtIndex o (s .form)) .1 r);
+            straight = λ r. false≢true (sym y ∙ reaches-test (s .form) n (nameAtIndex o (s .form)) .1 r);
           }
 
       by : (x : Option (Found Bytes)) → placeOf e p model ≡ x → noPlace x ≡ false → (instanceExists (nameAtIndex o (s .form)) s && atPlace (λ c y. insertOff c (quantifierOf q)) x) ≡ false → Accepted s (insertElement o p i q t)
       by none at a b = absurd (false≢true (sym a))
       by (some f) at a b =
           accept (insertElement o p i q t) e t f (or-false (beyond o (s .form)) (beyond i (s .form)) c6 .0) at (not-false (isComplex (definitionAt o (s .form) .content)) c9)
-          (ap (λ (z : Members Bytes). member bytes n (names z)) (place-plugs e p model f (place-is e p model f at)) ∙ c10) (λ x. and-false (instanceExists (nameAtIndex o (s .form)) s) (insertOff (f .context) (quantifierOf q)) b x) outside
+          (ap (λ (z : Members Bytes). member bytes n (names z)) (place-right e p model f at) ∙ c10) (λ x. and-false (instanceExists (nameAtIndex o (s .form)) s) (insertOff (f .context) (quantifierOf q)) b x) outside
           (λ ls. ap (insertPlan (s .form) (nameAtIndex o (s .form)) t (quantifierOf q) n) at) refl
 
-  pub accepted-remove : Clear (conditions (removeElement o p) s) → Accepted s (removeElement o p)
+  pub accepted-remove : Unmet (conditions (removeElement o p) s) → Accepted s (removeElement o p)
   unfolding conditions plan formAfter
   accepted-remove (c6, (c8, (c14, (c15, z)))) = by (placeOf remove p (members (definitionAt o (s .form)))) refl c8 c14 c15
     where
@@ -121,7 +124,7 @@ module _ (w : ℕ) (s : Store) (ok : wellFormed w (s .form) ≡ true) (o : ℕ) 
   quantified c r t pl fo l f at a u =
       accept c (quantify r) t f l at (some-complex (quantify r) f at a) (quantify-placed (f .context) r (f .picked) a) u tt (λ ls. pl ls ∙ ap (pickedPlan (quantifyPlan (s .form) ls (nameAtIndex o (s .form)) t r)) at) fo
 
-  pub accepted-quantify : (q : ℕ) (t : Bytes) → Clear (conditions (changeQuantifier o p q t) s) → Accepted s (changeQuantifier o p q t)
+  pub accepted-quantify : (q : ℕ) (t : Bytes) → Unmet (conditions (changeQuantifier o p q t) s) → Accepted s (changeQuantifier o p q t)
   unfolding conditions plan formAfter
   accepted-quantify q t (c3, (c4, (c6, (c8, (c12, (c13, z)))))) = by (placeOf (quantify r) p (members (definitionAt o (s .form)))) refl c8 c13
     where
@@ -135,7 +138,7 @@ module _ (w : ℕ) (s : Store) (ok : wellFormed w (s .form) ≡ true) (o : ℕ) 
           quantified (changeQuantifier o p q t) r t (λ ls. refl) refl c6 f at (element-some (f .picked) a)
           (λ x. element-fits (f .context) r (f .picked) a (and-false (instanceExists (nameAtIndex o (s .form)) s) (onElement false (λ old. quantifyOff (f .context) old r) (f .picked)) d x))
 
-  pub accepted-quantify-group : (q : ℕ) (t : Bytes) → Clear (conditions (changeGroupQuantifier o p q t) s) → Accepted s (changeGroupQuantifier o p q t)
+  pub accepted-quantify-group : (q : ℕ) (t : Bytes) → Unmet (conditions (changeGroupQuantifier o p q t) s) → Accepted s (changeGroupQuantifier o p q t)
   unfolding conditions plan formAfter
   accepted-quantify-group q t (c3, (c4, (c6, (c8, (c12, (c13, z)))))) = by (placeOf (quantify r) p (members (definitionAt o (s .form)))) refl c8 c13
     where
@@ -149,7 +152,7 @@ module _ (w : ℕ) (s : Store) (ok : wellFormed w (s .form) ≡ true) (o : ℕ) 
           quantified (changeGroupQuantifier o p q t) r t (λ ls. refl) refl c6 f at (group-some (f .picked) a)
           (λ x. group-fits (f .context) r (f .picked) a (and-false (instanceExists (nameAtIndex o (s .form)) s) (onGroup false (λ old. quantifyGroupOff (f .context) old r) (f .picked)) d x))
 
-  pub accepted-convert : (n k : ℕ) → Clear (conditions (convertToGroup o p n k) s) → Accepted s (convertToGroup o p n k)
+  pub accepted-convert : (n k : ℕ) → Unmet (conditions (convertToGroup o p n k) s) → Accepted s (convertToGroup o p n k)
   unfolding conditions plan formAfter misplaced unfit
   accepted-convert n k (c4, (c6, (c8, (c14, z)))) = by (placeOf e p (members (definitionAt o (s .form)))) refl c8 c14
     where
@@ -163,7 +166,7 @@ module _ (w : ℕ) (s : Store) (ok : wellFormed w (s .form) ≡ true) (o : ℕ) 
           accept (convertToGroup o p n k) e [] f c6 at (some-complex e f at (has-some n (f .picked) a)) (or-both (not (hasMembers n (f .picked))) (groupUnlike (f .context) (groupOf k) (firstMembers n (f .picked))) a b)
           (λ x. refl) tt (λ ls. refl) refl
 
-  pub accepted-flatten : Clear (conditions (flattenGroup o p) s) → Accepted s (flattenGroup o p)
+  pub accepted-flatten : Unmet (conditions (flattenGroup o p) s) → Accepted s (flattenGroup o p)
   unfolding conditions plan formAfter unfit
   accepted-flatten (c6, (c8, (c14, z))) = by (placeOf flatten p (members (definitionAt o (s .form)))) refl c8 c14
     where
@@ -191,7 +194,7 @@ editsModel (setAttribute k a v) = false
 editsModel (destroyAttributeRow k a) = false
 editsModel (setText k t) = false
 
-pub accepted-edit : (w : ℕ) (s : Store) → wellFormed w (s .form) ≡ true → (c : Call) → editsModel c ≡ true → Clear (conditions c s) → Accepted s c
+pub accepted-edit : (w : ℕ) (s : Store) → wellFormed w (s .form) ≡ true → (c : Call) → editsModel c ≡ true → Unmet (conditions c s) → Accepted s c
 accepted-edit w s ok (createDefinition n k) e h = absurd (false≢true e)
 accepted-edit w s ok (destroyDefinition i) e h = absurd (false≢true e)
 accepted-edit w s ok (insertElement o p i q t) e h = accepted-insert w s ok o p i q t h

@@ -33,7 +33,7 @@ use Rattle.history.proofs.ModelAfter.{Placed, place-of}
 use Rattle.history.proofs.Rowwise.{Standing}
 use Rattle.history.proofs.StandingLaws.{standing-every, standing-parent}
 use Rattle.history.proofs.Untouched.{keep-in, keep-alike, map-same, children-left, children-cut, same-row, same-child, children-kept}
-use Rattle.history.proofs.DefinitionEdits.{definition-edited, added-absent, added-present, definition-lacking}
+use Rattle.history.proofs.DefinitionEdits.{added-absent, added-present, definition-lacking}
 use Rattle.history.proofs.ConformingAfter.{conforming-elements, Replaced, Within, conforming-replaced}
 
 -- ---- an element row's name is a root's or a member's
@@ -103,40 +103,6 @@ module _ (w : ℕ) (s : Store) (ok : wellFormed w (s .form) ≡ true) (serials :
   conforming-2 i models roots others =
       conforming-kept (s .form) (formAfter (destroyDefinition i) (s .form)) (s .next) (s .docs) serials
       (λ r b d j q e. others (r .name) (λ z. nowhere w (s .form) ok (s .docs) conforms (nameAtIndex i (s .form)) models roots r b j q (sym z)) ∙ e) conforms
-
-  -- 6 and 7: an edit that leaves the children of instances as they are
-  regrouped : (e : Edit Bytes) → ((c : Context Bytes) (t : Members Bytes) → unfit e c t ≡ false) → ((c : Context Bytes) (t : Members Bytes) (l : List Bytes) → children bytes e c t l ≡ l)
-      → (o : ℕ) (p : List ℕ) → Placed bytes e p (members (definitionAt o (s .form))) → (form′ : Form) → Replaced (s .form) form′ (definitionAt o (s .form)) (inModel (editAt e p) (definitionAt o (s .form))) → conforming form′ (changed keeping (s .docs)) ≡ true
-  regrouped e free same o p x form′ replaced =
-      conforming-replaced (s .form) form′ d (inModel (editAt e p) d) replaced (s .next) (s .docs) serials keeping (record { takes = λ r t q. refl; fills = λ r q. refl; set = refl }) refl
-      (λ r b i q h.
-      ap (fitsDefinition (some (inModel (editAt e p) d))) (children-kept (s .next) (s .docs) serials keeping refl r b i (λ t m. refl) refl)
-      ∙ definition-edited (editAt e p) d kept (heads b) h)
-      conforms
-    where
-      d : Definition
-      d = definitionAt o (s .form)
-
-      good : GoodDefinition w (s .form) d
-      good = definition-good w (s .form) ok (d .name) d (replaced .was)
-
-      kept : (l : List Bytes) → accepts bytes (members d) l ≡ true → accepts bytes (editAt e p (members d)) l ≡ true
-      kept l a =
-          ap (λ (y : Option (Found Bytes)). accepts bytes (editFound e (members d) y) l) (x .at)
-          ∙ ap (accepts bytes (modelAfter e (x .found))) (sym (same (x .found .context) (x .found .picked) l))
-          ∙ change-accepts bytes e p (members d) (x .found) (place-of e p (members d) (x .found) (x .at)) (x .fits) (record { distinct = good .once; full = good .groups }) (free (x .found .context) (x .found .picked)) l a
-
-  pub conforming-6 : (o : ℕ) (p : List ℕ) (n k : ℕ) → Placed bytes (convert (groupOf k) n) p (members (definitionAt o (s .form)))
-      → Replaced (s .form) (formAfter (convertToGroup o p n k) (s .form)) (definitionAt o (s .form)) (inModel (editAt (convert (groupOf k) n) p) (definitionAt o (s .form)))
-      → conforming (formAfter (convertToGroup o p n k) (s .form)) (docsAfter (convertToGroup o p n k) s) ≡ true
-  unfolding plan unfit children
-  conforming-6 o p n k x = regrouped (convert (groupOf k) n) (λ c t. refl) (λ c t l. refl) o p x (formAfter (convertToGroup o p n k) (s .form))
-
-  pub conforming-7 : (o : ℕ) (p : List ℕ) → Placed bytes flatten p (members (definitionAt o (s .form)))
-      → Replaced (s .form) (formAfter (flattenGroup o p) (s .form)) (definitionAt o (s .form)) (inModel (editAt flatten p) (definitionAt o (s .form)))
-      → conforming (formAfter (flattenGroup o p) (s .form)) (docsAfter (flattenGroup o p) s) ≡ true
-  unfolding plan unfit children
-  conforming-7 o p x = regrouped flatten (λ c t. refl) (λ c t l. refl) o p x (formAfter (flattenGroup o p) (s .form))
 
   -- 9: each instance gets a row of a REQUIRED attribute
   module _ (o : ℕ) (n : Bytes) (k : ℕ) (v : Bytes) where

@@ -31,18 +31,6 @@ stripped d rows e = by (strip (d .attributes) rows) refl e
     by none q h = absurd (false≢true h)
     by (some rest) q h = record { rest = rest; off = q; content = h }
 
--- a model that accepts what the model accepted
-pub definition-edited : (g : Members Bytes → Members Bytes) (d : Definition) → ((w : List Bytes) → accepts bytes (members d) w ≡ true → accepts bytes (g (members d)) w ≡ true)
-    → (rows : List Row) → fitsDefinition (some d) rows ≡ true → fitsDefinition (some (inModel g d)) rows ≡ true
-definition-edited g d f rows e = let x : Stripped d rows = stripped d rows e in ap (fitsStripped (inContent g (d .content))) (x .off) ∙ by (d .content) f (x .rest) (x .content)
-  where
-    by : (c : Content) → ((w : List Bytes) → accepts bytes (modelOf c) w ≡ true → accepts bytes (g (modelOf c)) w ≡ true) → (rest : List Row) → fits c rest ≡ true → fits (inContent g c) rest ≡ true
-    by empty f rest h = h
-    by pcdata f rest h = h
-    by (complex ms) f rest h =
-        let (x, y) = and-split (all (λ (r : Row). isElement (r .sort)) rest) (accepts bytes ms (map nameOf rest)) h in
-        and-both x (f (map nameOf rest) y)
-
 -- an attribute added at the end of the table
 module _ (a : Attribute) (d : Definition) (new : List·Memᴰ (a .name) (map attributeName (d .attributes)) → ⊥) (rows : List Row) (fit : fitsDefinition (some d) rows ≡ true) where
   was : Stripped d rows

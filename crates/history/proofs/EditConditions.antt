@@ -13,20 +13,12 @@ use Rattle.rules.specs.Refusal.{onElement, onGroup, tailOf, flattenUnlike, isCo
 use Rattle.rules.proofs.Children.{misplaced, unfit}
 
 -- ---- tests
-pub or-false : (a b : Bool) → (a || b) ≡ false → (a ≡ false) × (b ≡ false)
-or-false true b e = absurd (false≢true (sym e))
-or-false false b e = (refl, e)
-
 pub or-both : (a b : Bool) → a ≡ false → b ≡ false → (a || b) ≡ false
 or-both a b e f = rw (e, f)
 
 pub and-false : (a b : Bool) → (a && b) ≡ false → a ≡ true → b ≡ false
 and-false true b e f = e
 and-false false b e f = absurd (false≢true f)
-
-pub not-false : (b : Bool) → not b ≡ false → b ≡ true
-not-false true e = refl
-not-false false e = sym e
 
 -- ---- the owner is COMPLEX
 plug-done : {A : Type 0} (c : Context A) (t : Members A) → plug c t ≡ done → isDone t ≡ true

@@ -18,42 +18,23 @@ use Rattle.rules.specs.WellFormed.{definitionName, lookup, known, membersOf, Re
 use Rattle.rules.specs.Conforming.{EveryRow, isElement, everyRow, fitsDefinition, fitsRow}
 use Rattle.rules.specs.Filling.{fillWithin, fillDefinition}
 use Rattle.rules.specs.Lines.{Line}
-use Rattle.rules.specs.Change.{groupFilling, definitionAt, nameAtIndex, update, editModel}
+use Rattle.rules.specs.Change.{groupFilling, definitionAt, nameAtIndex, update, inModel, editAt, editModel}
 use Rattle.rules.proofs.Apart.{differs, names-plug}
 use Rattle.rules.proofs.Height.{reaches-then}
 use Rattle.rules.proofs.Places.{found-gap, found-nth}
 use Rattle.rules.proofs.SerialLaws.{every-row}
 use Rattle.rules.proofs.WellFormedLaws.{definition-good, no-circle, definition-deep}
 use Rattle.rules.proofs.FillingLaws.{in-filling, every-each, every-filled, filling-fits}
+use Rattle.history.proofs.FormLaws.{update-other}
+use Rattle.history.proofs.ModelAfter.{place-right}
+use Rattle.history.proofs.Replacing.{Joins}
 use Rattle.history.proofs.InstanceEdits.{editPlan, filled}
 
 -- ---- a place that is there
-pub place-is : {A : Type 0} (e : Edit A) (p : List ℕ) (ms : Members A) (f : Found A) → placeOf e p ms ≡ some f → place e p ms ≡ some f
-unfolding placeOf
-place-is e p ms f x = by (leb (length p) 5) refl
-  where
-    by : (b : Bool) → leb (length p) 5 ≡ b → place e p ms ≡ some f
-    by true q = rw (q, placeOf) at x
-    by false q = let y : none ≡ some f = rw (q, placeOf) at x in let z : false ≡ true = cc y in absurd (false≢true z)
-
-pub place-plugs : {A : Type 0} (e : Edit A) (p : List ℕ) (ms : Members A) (f : Found A) → place e p ms ≡ some f → plug (f .context) (f .picked) ≡ ms
-unfolding place
-place-plugs (insert q n) p ms f x = found-gap p ms f x
-place-plugs remove p ms f x = found-nth p ms f x
-place-plugs (quantify r) p ms f x = found-nth p ms f x
-place-plugs (convert j n) p ms f x = found-nth p ms f x
-place-plugs flatten p ms f x = found-nth p ms f x
-
 -- ---- the names that an edit fills
--- a definition that neither is the owner nor reaches it
-pub record Outside (form : Form) (owner m : Bytes) : Type 0 where
-  pub there : known form m ≡ true
-  pub other : m ≡ owner → ⊥
-  pub apart : Reaches form m owner → ⊥
-
 -- 6 and 11: what an edit inserts
 abbrev pub Insertable : Form → Bytes → Edit Bytes → Type 0
-Insertable form owner (insert q n) = Outside form owner n
+Insertable form owner (insert q n) = Joins form owner n
 Insertable form owner remove = Unit {0}
 Insertable form owner (quantify r) = Unit {0}
 Insertable form owner (convert j n) = Unit {0}
@@ -64,7 +45,7 @@ in-unless true w x m = absurd (List·Memᴰ·not-nil m)
 in-unless false w x m = m
 
 -- what is filled was inserted or stood at the place
-filled-from : (form : Form) (owner : Bytes) (e : Edit Bytes) (t : Members Bytes) → Insertable form owner e → (m : Bytes) → List·Memᴰ m (filled e t) → Outside form owner m ⊎ List·Memᴰ m (names t)
+filled-from : (form : Form) (owner : Bytes) (e : Edit Bytes) (t : Members Bytes) → Insertable form owner e → (m : Bytes) → List·Memᴰ m (filled e t) → Joins form owner m ⊎ List·Memᴰ m (names t)
 unfolding names
 filled-from form owner (insert q n) t i m k = inl (rw (List·Memᴰ·eq-of-singleton k) i)
 filled-from form owner remove t i m k = absurd (List·Memᴰ·not-nil k)
@@ -112,46 +93,25 @@ fits-alike form form′ r b = by (r .sort) (lookup (r .name) form′) (lookup (r
     by attribute o o′ e = refl
     by text o o′ e = refl
 
-lookup-past : (n : Bytes) (d : Definition) (form : Form) → (n ≡ d .name → ⊥) → lookup n (d ∷ form) ≡ lookup n form
-lookup-past n d form f = rw (differs bytes n (d .name) f, lookup)
-
--- a change of one definition that keeps its name changes no other
-pub lookup-other : (n : Bytes) (o : ℕ) (u : Definition → Definition) (form : Form) → ((d : Definition) → u d .name ≡ d .name) → (n ≡ nameAtIndex o form → ⊥) → lookup n (update o u form) ≡ lookup n form
-lookup-other n o u [] keeps f = refl
-lookup-other n zero u (d ∷ form) keeps f = lookup-past n (u d) form (λ e. f (e ∙ keeps d)) ∙ sym (lookup-past n d form f)
-lookup-other n (suc o) u (d ∷ form) keeps f = ap (λ (z : Option Definition). elim (same n (d .name)) as (λ x. Option Definition) [ true ↦ some d | false ↦ z ]) (lookup-other n o u form keeps f)
-
-pub definition-in : (i : ℕ) (form : Form) → i < length form → List·Memᴰ (definitionAt i form) form
-definition-in i [] l = absurd (omega arith)
-definition-in zero (d ∷ form) l = List·Memᴰ·head refl
-definition-in (suc i) (d ∷ form) l = List·Memᴰ·tail (definition-in i form (omega arith))
-
-pub lookup-this : (o : ℕ) (u : Definition → Definition) (form : Form) → o < length form → ((d : Definition) → u d .name ≡ d .name) → Distinct (map definitionName form) → lookup (nameAtIndex o form) (update o u form) ≡ some (u (definitionAt o form))
-lookup-this o u [] l keeps x = absurd (omega arith)
-lookup-this zero u (d ∷ form) l keeps x = rw (bytes .same← (d .name) (u d .name) (sym (keeps d)), lookup)
-lookup-this (suc o) u (d ∷ form) l keeps (new, x) =
-    lookup-past (nameAtIndex o form) d (update o u form) (λ q. new (Memᴰ·cast (sym q) (Memᴰ·map definitionName (definition-in o form (omega arith)))))
-    ∙ lookup-this o u form (omega arith) keeps x
-
 module _ (w : ℕ) (form : Form) (ok : wellFormed w form ≡ true) (d : Definition) (at : lookup (d .name) form ≡ some d) where
-  member-outside : (m : Bytes) → List·Memᴰ m (names (members d)) → Outside form (d .name) m
+  member-outside : (m : Bytes) → List·Memᴰ m (names (members d)) → Joins form (d .name) m
   member-outside m i =
       record {
-        there = definition-good w form ok (d .name) d at .inRange m i;
+        known = definition-good w form ok (d .name) d at .inRange m i;
         other = λ e. no-circle w form ok (d .name) (directly (Memᴰ·cast (sym e) own));
-        apart = λ r. no-circle w form ok (d .name) (through own r);
+        straight = λ r. no-circle w form ok (d .name) (through own r);
       }
     where
       own : List·Memᴰ m (membersOf (d .name) form)
       own = rw at i
 
   module _ (ms : Members Bytes) (is : d .content ≡ complex ms) (e : Edit Bytes) (p : List ℕ) (f : Found Bytes) (found : placeOf e p ms ≡ some f) where
-    pub filled-outside : Insertable form (d .name) e → (m : Bytes) → List·Memᴰ m (filled e (f .picked)) → Outside form (d .name) m
+    pub filled-outside : Insertable form (d .name) e → (m : Bytes) → List·Memᴰ m (filled e (f .picked)) → Joins form (d .name) m
     filled-outside i m k =
         ⊎-elim (λ o. o) (λ j. member-outside m (rw own-names (Memᴰ·append-right (before (f .context)) (Memᴰ·append-left (after (f .context)) j)))) (filled-from form (d .name) e (f .picked) i m k)
       where
         own-names : names (members d) ≡ before (f .context) ++ (names (f .picked) ++ after (f .context))
-        own-names = ap (λ (z : Content). names (modelOf z)) is ∙ sym (ap names (place-plugs e p ms f (place-is e p ms f found))) ∙ names-plug (f .context) (f .picked)
+        own-names = ap (λ (z : Content). names (modelOf z)) is ∙ sym (ap names (place-right e p ms f found)) ∙ names-plug (f .context) (f .picked)
 
     module _ (ls : List Line) (txt : Bytes) (i : Insertable form (d .name) e) where
       -- the filling in a form that differs in the owner's definition alone
@@ -163,19 +123,19 @@ module _ (w : ℕ) (form : Form) (ok : wellFormed w form ≡ true) (d : Definiti
           good : (n : Bytes) (c : Definition) → lookup n form ≡ some c → GoodDefinition w form c
           good = definition-good w form ok
 
-          away : (m : Bytes) → Outside form (d .name) m → (n : Bytes) → (n ≡ m) ⊎ Reaches form m n → n ≡ d .name → ⊥
+          away : (m : Bytes) → Joins form (d .name) m → (n : Bytes) → (n ≡ m) ⊎ Reaches form m n → n ≡ d .name → ⊥
           away m o n (inl q) x = o .other (sym q ∙ x)
-          away m o n (inr r) x = o .apart (rw x at r)
+          away m o n (inr r) x = o .straight (rw x at r)
 
-          one : (m : Bytes) → Outside form (d .name) m → EveryRow (λ x b. fitsRow form′ x b ≡ true) (fillDefinition form txt m)
+          one : (m : Bytes) → Joins form (d .name) m → EveryRow (λ x b. fitsRow form′ x b ≡ true) (fillDefinition form txt m)
           one m o =
               every-two (λ x b. x .sort ≡ element → (x .name ≡ m) ⊎ Reaches form m (x .name)) (λ x b. fitsRow form x b ≡ true) (λ x b. fitsRow form′ x b ≡ true)
               (λ x b r q. fits-alike form form′ x b (λ s. others (x .name) (away m o (x .name) (r s))) ∙ q) (fillDefinition form txt m) (filling-reaches (length form) form txt m)
               (every-row (λ x b. fitsRow form x b) (fillDefinition form txt m) .0
-              (filling-fits form (λ n c q. good n c q .once) (λ n c q. good n c q .attributeNames) (λ n c q. good n c q .groups) txt (length form) m (definition-deep w form ok m (o .there))))
+              (filling-fits form (λ n c q. good n c q .once) (λ n c q. good n c q .attributeNames) (λ n c q. good n c q .groups) txt (length form) m (definition-deep w form ok m (o .known))))
 
       pub filling-rows-fit : everyRow (λ x b. fitsRow form x b) (editPlan form ls (d .name) txt e (f .context) (f .picked) .filling) ≡ true
       filling-rows-fit = filling-fits-in form (λ n g. refl)
 
       pub filling-rows-fit-after : (o : ℕ) (at : List ℕ) → nameAtIndex o form ≡ d .name → everyRow (λ x b. fitsRow (editModel o at e form) x b) (editPlan form ls (d .name) txt e (f .context) (f .picked) .filling) ≡ true
-      filling-rows-fit-after o at q = filling-fits-in (editModel o at e form) (λ n g. lookup-other n o _ form (λ c. refl) (λ x. g (x ∙ q)))
+      filling-rows-fit-after o at q = filling-fits-in (editModel o at e form) (λ n g. update-other (inModel (editAt e at)) (λ c. refl) o form n (λ x. g (x ∙ q)))

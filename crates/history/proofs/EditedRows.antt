@@ -19,7 +19,8 @@ use Rattle.rules.proofs.Words.{and-both, and-split}
 use Rattle.rules.proofs.WellFormedLaws.{well-formed}
 use Rattle.history.proofs.RowEdits.{childrenAfter}
 use Rattle.history.proofs.InstanceEdits.{editPlan, Below, edit-others}
-use Rattle.history.proofs.EditFillings.{fits-alike, lookup-other, lookup-this, filling-fits-in}
+use Rattle.history.proofs.FormLaws.{update-this, update-other}
+use Rattle.history.proofs.EditFillings.{fits-alike, filling-fits-in}
 use Rattle.history.proofs.InstanceFits.{editedDefinition, instance-fits}
 use Rattle.history.proofs.AcceptedEdits.{Accepted}
 
@@ -37,7 +38,7 @@ module _ (w : ℕ) (s : Store) (ok : wellFormed w (s .form) ≡ true) (c : Call)
   pub owner-after : lookup (nameAtIndex (a .o) (s .form)) (formAfter c (s .form)) ≡ some (editedDefinition (definitionAt (a .o) (s .form)) (a .edit) (a .found))
   owner-after =
       ap (lookup (d .name)) (a .formed)
-      ∙ lookup-this (a .o) (inModel (editAt (a .edit) (a .at))) (s .form) (ltb→lt (a .o) (length (s .form)) (to-T (a .inside))) (λ x. refl) (well-formed w (s .form) .0 ok .names)
+      ∙ update-this (inModel (editAt (a .edit) (a .at))) (λ x. refl) (a .o) (s .form) (well-formed w (s .form) .0 ok .names) (ltb→lt (a .o) (length (s .form)) (to-T (a .inside)))
       ∙ ap (λ (z : Content). some (record { name = d .name; content = z; attributes = d .attributes })) (ap (inContent (editAt (a .edit) (a .at))) (a .content) ∙ ap (λ (z : Option (Found Bytes)). complex (editFound (a .edit) (members d) z)) (a .there))
     where
       d : Definition
@@ -45,7 +46,7 @@ module _ (w : ℕ) (s : Store) (ok : wellFormed w (s .form) ≡ true) (c : Call)
 
   -- the other definitions
   pub others-after : (n : Bytes) → (n ≡ nameAtIndex (a .o) (s .form) → ⊥) → lookup n (formAfter c (s .form)) ≡ lookup n (s .form)
-  others-after n f = ap (lookup n) (a .formed) ∙ lookup-other n (a .o) (inModel (editAt (a .edit) (a .at))) (s .form) (λ x. refl) f
+  others-after n f = ap (lookup n) (a .formed) ∙ update-other (inModel (editAt (a .edit) (a .at))) (λ x. refl) (a .o) (s .form) n f
 
   pub row-fits-after : (ls : List Line) (u : Row) (rows : List Row) → (elementNamed (nameAtIndex (a .o) (s .form)) u ≡ true → instanceExists (nameAtIndex (a .o) (s .form)) s ≡ true) → Below ls u rows
       → fitsRow (s .form) u rows ≡ true → fitsRow (formAfter c (s .form)) u (childrenAfter (plan c (s .form) ls) u rows) ≡ true

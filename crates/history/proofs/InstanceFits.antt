@@ -28,7 +28,8 @@ use Rattle.rules.proofs.WellFormedLaws.{definition-good, definition-deep}
 use Rattle.rules.proofs.ConformingLaws.{element-is}
 use Rattle.history.proofs.RowEdits.{childrenAfter}
 use Rattle.history.proofs.InstanceEdits.{editPlan, Below, edit-rows}
-use Rattle.history.proofs.EditFillings.{place-is, Insertable, filled-outside}
+use Rattle.history.proofs.EditFillings.{Insertable, filled-outside}
+use Rattle.history.proofs.ModelAfter.{place-of}
 
 -- ---- where the edited rows come from
 erase-in : (x : Bytes) (rs : List Row) (y : Row) → List·Memᴰ y (eraseRows bytes nameOf x rs) → List·Memᴰ y rs
@@ -118,7 +119,7 @@ module _ (w : ℕ) (form : Form) (ok : wellFormed w form ≡ true) (d : Definiti
   before-sound = record { distinct = rw is at (definition-good w form ok (d .name) d at .once); full = rw is at (definition-good w form ok (d .name) d at .groups) }
 
   after-sound : Sound (modelAfter e f)
-  after-sound = change-sound bytes e p ms f (place-is e p ms f found) fits before-sound
+  after-sound = change-sound bytes e p ms f (place-of e p ms f found) fits before-sound
 
   element-fits : (rows : List Row) (x : ElementRows d rows) → fitsDefinition (some (editedDefinition d e f)) (x .front ++ childRows bytes nameOf (map elementRow) e (f .context) (f .picked) (x .back)) ≡ true
   element-fits rows x =
@@ -132,7 +133,7 @@ module _ (w : ℕ) (form : Form) (ok : wellFormed w form ≡ true) (d : Definiti
           each-child (λ y. y .sort ≡ element) (map elementRow) element-sorts e (f .context) (f .picked) (x .back) (content .0),
           accepts-conforms bytes (modelAfter e f) (after-sound .distinct) (map nameOf rest) .0 (
               ap (accepts bytes (modelAfter e f)) (child-rows nameOf bytes (map elementRow) element-names e (f .context) (f .picked) (x .back))
-              ∙ change-accepts bytes e p ms f (place-is e p ms f found) fits before-sound kept (map nameOf (x .back)) (accepts-conforms bytes ms (before-sound .distinct) (map nameOf (x .back)) .1 (content .1))),
+              ∙ change-accepts bytes e p ms f (place-of e p ms f found) fits before-sound kept (map nameOf (x .back)) (accepts-conforms bytes ms (before-sound .distinct) (map nameOf (x .back)) .1 (content .1))),
         );
       }
     where
@@ -157,7 +158,7 @@ module _ (w : ℕ) (form : Form) (ok : wellFormed w form ≡ true) (d : Definiti
       by x =
           ap (fitsDefinition (some (editedDefinition d e f))) (
           ap (childrenAfter (editPlan form ls (d .name) txt e (f .context) (f .picked)) u) (sym (x .split))
-          ∙ edit-rows form ls (d .name) txt u (x .front) (x .back) named (rw (x .split) below) (x .attributes .sorts) (elements x) (f .context) e (f .picked) (λ m k. definition-deep w form ok m (filled-outside w form ok d at ms is e p f found i m k .there)))
+          ∙ edit-rows form ls (d .name) txt u (x .front) (x .back) named (rw (x .split) below) (x .attributes .sorts) (elements x) (f .context) e (f .picked) (λ m k. definition-deep w form ok m (filled-outside w form ok d at ms is e p f found i m k .known)))
           ∙ element-fits rows x
 
   -- without a plan: 6 and 7 leave the rows as they are

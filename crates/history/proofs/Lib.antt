@@ -26,7 +26,6 @@ pub mod InstanceRows
 pub mod InstanceEdits
 pub mod EditFillings
 pub mod InstanceFits
-pub mod Clear
 pub mod EditConditions
 pub mod AcceptedEdits
 pub mod EditedRows

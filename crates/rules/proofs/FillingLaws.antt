@@ -23,6 +23,7 @@ use Rattle.rules.proofs.Filled.{filling-conforms as filling-in-language
 use Rattle.rules.proofs.Height.{deep}
 use Rattle.rules.proofs.SerialLaws.{every-row}
 use Rattle.rules.proofs.ConformingLaws.{headAttribute, begins, begins-none, begins-other, begins-this, strip-past, strip-take, content-is, content-head}
+use Rattle.rules.proofs.TestLaws.{all-test}
 
 -- ---- the names of a filling are names of its model
 module _ {A : Type 0} (x : A) where
@@ -80,16 +81,6 @@ pub fill-unknown : (h : ℕ) (form : Form) (txt n : Bytes) → lookup n form ≡
 unfolding fillWithin
 fill-unknown h form txt n q = rw (q, fillWithin)
 
-all→ : {A : Type 0} (p : A → Bool) (l : List A) → all p l ≡ true → (x : A) → List·Memᴰ x l → p x ≡ true
-all→ p [] e x m = absurd (List·Memᴰ·not-nil m)
-all→ p (y ∷ l) e x m =
-    let (a, b) = and-split (p y) (all p l) e in
-    ⊎-elim (λ q. rw q a) (λ n. all→ p l b x n) (List·Memᴰ·cases-cons m)
-
-all← : {A : Type 0} (p : A → Bool) (l : List A) → ((x : A) → List·Memᴰ x l → p x ≡ true) → all p l ≡ true
-all← p [] f = refl
-all← p (y ∷ l) f = and-both (f y (List·Memᴰ·head refl)) (all← p l (λ x m. f x (List·Memᴰ·tail m)))
-
 -- a deep definition is there, and its members are deep
 deep-there : (h : ℕ) (form : Form) (n : Bytes) → deep (suc h) form n ≡ true → (d : Definition) × (lookup n form ≡ some d)
 unfolding deep
@@ -101,7 +92,7 @@ deep-there h form n e = by (lookup n form) refl
 
 deep-below : (h : ℕ) (form : Form) (n : Bytes) (d : Definition) → deep (suc h) form n ≡ true → lookup n form ≡ some d → (m : Bytes) → List·Memᴰ m (names (members d)) → deep h form m ≡ true
 unfolding deep
-deep-below h form n d e q = all→ (λ m. deep h form m) (names (members d)) (rw (q, deep) at e)
+deep-below h form n d e q = all-test (λ m. deep h form m) (names (members d)) .0 (rw (q, deep) at e)
 
 not-deep : (form : Form) (n : Bytes) → deep zero form n ≡ true → ⊥
 unfolding deep
@@ -227,7 +218,7 @@ module _ (form : Form) (once : (n : Bytes) (d : Definition) → lookup n form �
       (ap (accepts bytes ms) (each-names h form txt (filling Sequence ms) all-deep) ∙ accepts-conforms bytes ms o (filling Sequence ms) .1 (filling-in-language ms g))
     where
       all-deep : all (λ m. deep h form m) (filling Sequence ms) ≡ true
-      all-deep = all← (λ m. deep h form m) (filling Sequence ms) (λ m i. f m (in-filling m Sequence ms i))
+      all-deep = all-test (λ m. deep h form m) (filling Sequence ms) .1 (λ m i. f m (in-filling m Sequence ms i))
 
   definition-fits : (h : ℕ) (d : Definition) → Distinct (names (members d)) → Distinct (map attributeName (d .attributes)) → fits (d .content) (heads (fillContent (λ m. fillWithin h form txt m) txt (d .content))) ≡ true
       → fitsDefinition (some d) (heads (fillBelow h form txt d)) ≡ true
@@ -253,7 +244,7 @@ module _ (form : Form) (once : (n : Bytes) (d : Definition) → lookup n form �
   fillings-fit h ns e =
       every-row (λ r below. fitsRow form r below) (fillEach (λ m. fillWithin h form txt m) ns) .1
       (every-each (λ r below. fitsRow form r below ≡ true) (λ m. fillWithin h form txt m) ns
-      (λ m i. every-row (λ r below. fitsRow form r below) (fillWithin h form txt m) .0 (filling-fits h m (all→ (λ m. deep h form m) ns e m i))))
+      (λ m i. every-row (λ r below. fitsRow form r below) (fillWithin h form txt m) .0 (filling-fits h m (all-test (λ m. deep h form m) ns .0 e m i))))
 
   pub fillings-conform : (h : ℕ) (ns : List Bytes) → all (λ m. deep h form m) ns ≡ true → conforming form (fillEach (λ m. fillWithin h form txt m) ns) ≡ true
   unfolding conforming

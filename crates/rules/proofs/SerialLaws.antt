@@ -14,6 +14,7 @@ use Rattle.rules.specs.Conforming.{EveryRow, everyRow}
 use Rattle.rules.specs.Passing.{serials, GoodSerials, goodSerials}
 use Rattle.rules.proofs.Words.{and-both, and-split}
 use Rattle.rules.proofs.Letters.{member-in, member-out}
+use Rattle.rules.proofs.TestLaws.{all-test, distinct-test}
 
 -- ---- every row
 module _ (p : Row → List Row → Bool) (P : Row → List Row → Type 0) (is : (r : Row) (b : List Row) → (p r b ≡ true) ↔ P r b) where
@@ -36,38 +37,6 @@ pub every-row : (p : Row → List Row → Bool) (docs : Forest Row) → (everyRo
 every-row p docs = every-row-is p (λ r b. p r b ≡ true) (λ r b. Iff·rfl) docs
 
 -- ---- serials
-not-true : (b : Bool) → not b ≡ true → b ≡ false
-not-true true e = sym e
-not-true false e = refl
-
-true-not : (b : Bool) → b ≡ false → not b ≡ true
-true-not true e = sym e
-true-not false e = refl
-
-module _ {A : Type 0} (E : Equality A) where
-  distinct→ : (l : List A) → distinct E l ≡ true → Distinct l
-  unfolding distinct
-  distinct→ [] e = tt
-  distinct→ (x ∷ l) e =
-      let (n, d) = and-split (not (member E x l)) (distinct E l) e in
-      (λ m. false≢true (sym (not-true (member E x l) n) ∙ member-in E x l m), distinct→ l d)
-
-  distinct← : (l : List A) → Distinct l → distinct E l ≡ true
-  unfolding distinct
-  distinct← [] d = refl
-  distinct← (x ∷ l) (n, d) = and-both (true-not (member E x l) (member-out E x l n)) (distinct← l d)
-
-module _ {A : Type 0} (p : A → Bool) where
-  all→ : (l : List A) → all p l ≡ true → (x : A) → List·Memᴰ x l → p x ≡ true
-  all→ [] e x m = absurd (List·Memᴰ·not-nil m)
-  all→ (y ∷ l) e x m =
-      let (a, b) = and-split (p y) (all p l) e in
-      ⊎-elim (λ q. rw q a) (λ n. all→ l b x n) (List·Memᴰ·cases-cons m)
-
-  all← : (l : List A) → ((x : A) → List·Memᴰ x l → p x ≡ true) → all p l ≡ true
-  all← [] f = refl
-  all← (y ∷ l) f = and-both (f y (List·Memᴰ·head refl)) (all← l (λ x m. f x (List·Memᴰ·tail m)))
-
 leb-of : (m n : ℕ) → m ≤ n → leb m n ≡ true
 leb-of m n h = of-T (le→leb m n h)
 
@@ -103,13 +72,13 @@ good-serials next docs = (
       let (a, g) = and-split (all (λ k. leb 1 k && ltb k next) (serials docs)) (leb 1 next && leb next highestNumber) f in
       let (l, m) = and-split (leb 1 next) (leb next highestNumber) g in
       record {
-        once = distinct→ numbers (serials docs) d;
-        below = λ k i. serial-in next k (all→ (λ k. leb 1 k && ltb k next) (serials docs) a k i);
+        once = distinct-test numbers (serials docs) .0 d;
+        below = λ k i. serial-in next k (all-test (λ k. leb 1 k && ltb k next) (serials docs) .0 a k i);
         least = leb→le 1 next (to-T l);
         most = leb→le next highestNumber (to-T m);
       },
   λ g.
-      and-both (distinct← numbers (serials docs) (g .once))
-      (and-both (all← (λ k. leb 1 k && ltb k next) (serials docs) (λ k i. let (a, b) = g .below k i in and-both (leb-of 1 k a) (ltb-of k next b)))
+      and-both (distinct-test numbers (serials docs) .1 (g .once))
+      (and-both (all-test (λ k. leb 1 k && ltb k next) (serials docs) .1 (λ k i. let (a, b) = g .below k i in and-both (leb-of 1 k a) (ltb-of k next b)))
       (and-both (leb-of 1 next (g .least)) (leb-of next highestNumber (g .most)))),
 )

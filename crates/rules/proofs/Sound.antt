@@ -10,28 +10,9 @@ use Rattle.rules.specs.Model.{Members, done, el, group, names, Equality,
 use Rattle.rules.proofs.Children.{Sound, sound}
 use Rattle.rules.proofs.Words.{and-both, and-split}
 use Rattle.rules.proofs.Letters.{member-in, member-out}
-
-not-true : (b : Bool) → not b ≡ true → b ≡ false
-not-true true e = sym e
-not-true false e = refl
-
-true-not : (b : Bool) → b ≡ false → not b ≡ true
-true-not true e = sym e
-true-not false e = refl
+use Rattle.rules.proofs.TestLaws.{distinct-test}
 
 module _ {A : Type 0} (E : Equality A) where
-  distinct→ : (l : List A) → distinct E l ≡ true → Distinct l
-  unfolding distinct
-  distinct→ [] e = tt
-  distinct→ (x ∷ l) e =
-      let (n, d) = and-split (not (member E x l)) (distinct E l) e in
-      (λ m. false≢true (sym (not-true (member E x l) n) ∙ member-in E x l m), distinct→ l d)
-
-  distinct← : (l : List A) → Distinct l → distinct E l ≡ true
-  unfolding distinct
-  distinct← [] d = refl
-  distinct← (x ∷ l) (n, d) = and-both (true-not (member E x l) (member-out E x l n)) (distinct← l d)
-
   some→ : (ms : Members A) → isSome ms ≡ true → Some ms
   some→ done e = false≢true e
   some→ (el q n rest) e = tt
@@ -60,6 +41,6 @@ module _ {A : Type 0} (E : Equality A) where
   pub sound-test : (ms : Members A) → (sound E ms ≡ true) ↔ Sound ms
   unfolding sound
   sound-test ms = (
-    λ e. let (d, f) = and-split (distinct E (names ms)) (full ms) e in record { distinct = distinct→ (names ms) d; full = full→ ms f },
-    λ s. and-both (distinct← (names ms) (s .distinct)) (full← ms (s .full)),
+    λ e. let (d, f) = and-split (distinct E (names ms)) (full ms) e in record { distinct = distinct-test E (names ms) .0 d; full = full→ ms f },
+    λ s. and-both (distinct-test E (names ms) .1 (s .distinct)) (full← ms (s .full)),
   )

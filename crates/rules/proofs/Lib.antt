@@ -39,3 +39,4 @@ pub mod BooleanLaws
 pub mod PreorderLaws
 pub mod LayoutLaws
 pub mod DecodeLaws
+pub mod SmallBytes

@@ -1,2 +1,6 @@
 pub mod IndexLaws
 pub mod ModelReads
+pub mod AttributeReads
+pub mod ModelWrites
+pub mod FormReads
+pub mod FormGood

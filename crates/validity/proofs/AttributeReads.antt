@@ -152,12 +152,12 @@ sort-most implied = omega arith
 sort-most required = omega arith
 sort-most fixed = omega arith
 
-sort-of : (s : AttributeSort) → sortOf (sortCode s) ≡ s
+pub sort-of : (s : AttributeSort) → sortOf (sortCode s) ≡ s
 sort-of implied = refl
 sort-of required = refl
 sort-of fixed = refl
 
-own-owners : (o : ℕ) (table : List Attribute) (c : FlatAttribute) → List·Memᴰ c (ownAttributes o table) → (c .owner ≡ o) × List·Memᴰ (c .name) (map attributeName table)
+pub own-owners : (o : ℕ) (table : List Attribute) (c : FlatAttribute) → List·Memᴰ c (ownAttributes o table) → (c .owner ≡ o) × List·Memᴰ (c .name) (map attributeName table)
 own-owners o [] c m = absurd (List·Memᴰ·not-nil m)
 own-owners o (a ∷ table) c m =
     ⊎-elim (λ e. (ap (λ (z : FlatAttribute). z .owner) e, List·Memᴰ·head (ap (λ (z : FlatAttribute). z .name) e)))

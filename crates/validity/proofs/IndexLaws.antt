@@ -48,18 +48,18 @@ abbrev pub namesOf : Form → List Bytes
 namesOf form = map definitionName form
 
 -- a later name is not that of the first definition
-later : (d : Definition) (ds : Form) → Distinct (namesOf (d ∷ ds)) → (i : ℕ) → i < length ds → same (nameAt i (namesOf ds)) (d .name) ≡ false
-later d ds (out, u) i h = differs bytes (nameAt i (namesOf ds)) (d .name) (λ e. out (Memᴰ·cast (sym e) (name-in i (namesOf ds) (rw length-map h))))
+pub later-name : (d : Definition) (ds : Form) → Distinct (namesOf (d ∷ ds)) → (i : ℕ) → i < length ds → same (nameAt i (namesOf ds)) (d .name) ≡ false
+later-name d ds (out, u) i h = differs bytes (nameAt i (namesOf ds)) (d .name) (λ e. out (Memᴰ·cast (sym e) (name-in i (namesOf ds) (rw length-map h))))
 
 pub index-name : (form : Form) → Distinct (namesOf form) → (i : ℕ) → i < length form → indexOf (nameAt i (namesOf form)) form ≡ i
 index-name [] u i h = absurd (omega arith)
 index-name (d ∷ ds) u zero h = rw (same-refl (d .name), indexOf)
-index-name (d ∷ ds) u (suc i) h = rw (later d ds u i (omega arith), indexOf) (ap suc (index-name ds (u .1) i (omega arith)))
+index-name (d ∷ ds) u (suc i) h = rw (later-name d ds u i (omega arith), indexOf) (ap suc (index-name ds (u .1) i (omega arith)))
 
 pub lookup-at : (form : Form) → Distinct (namesOf form) → (i : ℕ) → i < length form → lookup (nameAt i (namesOf form)) form ≡ some (definitionAt i form)
 lookup-at [] u i h = absurd (omega arith)
 lookup-at (d ∷ ds) u zero h = rw (same-refl (d .name), lookup)
-lookup-at (d ∷ ds) u (suc i) h = rw (later d ds u i (omega arith), lookup) (lookup-at ds (u .1) i (omega arith))
+lookup-at (d ∷ ds) u (suc i) h = rw (later-name d ds u i (omega arith), lookup) (lookup-at ds (u .1) i (omega arith))
 
 pub known-at : (form : Form) → Distinct (namesOf form) → (i : ℕ) → i < length form → known form (nameAt i (namesOf form)) ≡ true
 known-at form u i h = ap isThere (lookup-at form u i h)

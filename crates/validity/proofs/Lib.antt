@@ -4,3 +4,5 @@ pub mod AttributeReads
 pub mod ModelWrites
 pub mod FormReads
 pub mod FormGood
+pub mod AttributeBlocks
+pub mod AttributeRows

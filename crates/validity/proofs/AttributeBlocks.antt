@@ -8,12 +8,12 @@ use mathlib.Core.Logic.{_⊎_, inl, inr, ⊎-elim}
 use mathlib.Core.Bool.{Bool, true, false}
 use mathlib.Core.List.{List, [], _∷_, _++_, map, List·Memᴰ, List·Memᴰ·head, List·Memᴰ·tail, Memᴰ·cast}
 use lib.Dec.{ltb}
-use lib.ListN.{length, getD, length-append, length-map}
+use lib.ListN.{length, length-append, length-map}
 use borrow.Author.Tests.{ltb-true, ltb-false}
-use Rattle.rules.specs.Bytes.{Bytes, same, bytes, same-refl}
+use Rattle.rules.specs.Bytes.{Bytes, bytes, same-refl}
 use Rattle.rules.specs.Model.{Distinct}
-use Rattle.rules.specs.Store.{AttributeSort, implied, required, fixed, Attribute, Definition, Form}
-use Rattle.rules.specs.Layout.{FlatAttribute, sortCode, indexIn, attributeIndex, ownAttributes, allAttributes}
+use Rattle.rules.specs.Store.{AttributeSort, Attribute, Form}
+use Rattle.rules.specs.Layout.{FlatAttribute, indexIn, attributeIndex, ownAttributes, allAttributes}
 use Rattle.rules.specs.Decode.{nameAt, sortOf, flatAttributeName}
 use Rattle.rules.specs.WellFormed.{attributeName}
 use Rattle.rules.specs.Conforming.{mustBePresent, allows}

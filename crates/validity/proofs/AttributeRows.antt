@@ -1,12 +1,12 @@
 -- Attribute rows: those of rising index that an index form asks for are those that a form strips off the front.
 -- Assumes nothing.
-use Prim.Native.Nat.{ℕ, zero, suc, _+_, _<_, _≤_}
+use Prim.Native.Nat.{ℕ, suc, _<_, _≤_}
 use native.Mathlib.Nat.{eq-or-lt-of-le}
 use native.Mathlib.Omega.{arith}
 use mathlib.Core.Path.{_≡_, refl, ap, _∙_, sym, subst}
 use mathlib.Core.Logic.{_⊎_, inl, inr, ⊎-elim}
 use mathlib.Core.Bool.{Bool, true, false, _&&_, false≢true}
-use mathlib.Core.Option.{Option, none, some}
+use mathlib.Core.Option.{none, some}
 use mathlib.Core.List.{List, [], _∷_, _++_, map, List·Memᴰ, List·Memᴰ·head, List·Memᴰ·tail, List·Memᴰ·not-nil, List·Memᴰ·cases-cons, Memᴰ·cast, cons≢nil, head-eq-of-cons-eq}
 use Rattle.rules.specs.Bytes.{Bytes, same, same-eq}
 use Rattle.rules.specs.Model.{Distinct}
@@ -129,6 +129,19 @@ module _ (F : IndexForm) (form : Form) where
   none-some : {A : Type 0} {x : A} → none ≡ some x → ⊥
   none-some e = let z : false ≡ true = cc e in false≢true z
 
+  taken-first : (i j : ℕ) (a : Attribute) (table : List Attribute) → Entry F form i j a → (r : Row) (front : List Row) → r .sort ≡ attribute → a .name ≡ r .name → allows (a .sort) (a .value) (r .value) ≡ true
+      → Taken (suc j) table (map (rowWritten form (nameAt i (namesOf form))) front)
+      → (x : FlatRow) × (rest : List FlatRow) × (map (rowWritten form (nameAt i (namesOf form))) (r ∷ front) ≡ x ∷ rest) × (x .sort ≡ 2) × (x .index ≡ j) × (allows (a .sort) (a .value) (x .value) ≡ true) × Taken (suc j) table rest
+  taken-first i j a table e r front s n p t = (
+    rowWritten form (nameAt i (namesOf form)) r,
+    map (rowWritten form (nameAt i (namesOf form))) front,
+    refl,
+    ap rowCode s,
+    index-written form (nameAt i (namesOf form)) r s ∙ ap (λ (l : Bytes). attributeIndex (nameAt i (namesOf form)) l form) (sym n) ∙ e .found,
+    p,
+    t,
+  )
+
   pub taken-strip : (i j : ℕ) (table : List Attribute) → Block F form i j table → (rows rest : List Row) → strip table rows ≡ some rest
       → (front : List Row) × (front ++ rest ≡ rows) × Taken j table (map (rowWritten form (nameAt i (namesOf form))) front)
   unfolding strip
@@ -145,24 +158,14 @@ module _ (F : IndexForm) (form : Form) where
       Goal : List Row → ℕ → List Attribute → Type 0
       Goal rows j table = (front : List Row) × (front ++ rest ≡ rows) × Taken j table (map (rowWritten form (nameAt i (namesOf form))) front)
 
+      first : r .sort ≡ attribute → a .name ≡ r .name → allows (a .sort) (a .value) (r .value) ≡ true → Goal rows (suc j) table → Goal (r ∷ rows) j (a ∷ table)
+      first s n p (front, u, t) = (r ∷ front, ap (λ (l : List Row). r ∷ l) u, inr (taken-first i j a table e r front s n p t))
+
       by : (x : Bool) → (isAttribute (r .sort) && same (a .name) (r .name)) ≡ x → (y : Bool) → allows (a .sort) (a .value) (r .value) ≡ y → (z : Bool) → mustBePresent (a .sort) ≡ z → (strip table rows ≡ some rest → Goal rows (suc j) table)
           → (strip table (r ∷ rows) ≡ some rest → Goal (r ∷ rows) (suc j) table) → Goal (r ∷ rows) j (a ∷ table)
       by true q true p z m f g =
           let (k, n) = and-split (isAttribute (r .sort)) (same (a .name) (r .name)) q in
-          let s : r .sort ≡ attribute = is-attribute (r .sort) k in
-          let (front, u, t) = f (rw (q, strip, p) at h) in (
-            r ∷ front,
-            ap (λ (l : List Row). r ∷ l) u,
-            inr (
-              rowWritten form (nameAt i (namesOf form)) r,
-              map (rowWritten form (nameAt i (namesOf form))) front,
-              refl,
-              ap rowCode s,
-              index-written form (nameAt i (namesOf form)) r s ∙ ap (λ (l : Bytes). attributeIndex (nameAt i (namesOf form)) l form) (sym (same-eq (a .name) (r .name) n)) ∙ e .found,
-              p,
-              t,
-            ),
-          )
+          first (is-attribute (r .sort) k) (same-eq (a .name) (r .name) n) p (f (rw (q, strip, p) at h))
       by true q false p z m f g = absurd (none-some (rw (q, strip, p) at h))
       by false q y p true m f g = absurd (none-some (rw (q, strip, m) at h))
       by false q y p false m f g = let (front, u, t) = g (rw (q, strip, m) at h) in (front, u, inl (m, t))

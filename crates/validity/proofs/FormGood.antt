@@ -1,21 +1,21 @@
 -- The form that is read from bodies that pass the tests is well-formed just where no definition reaches itself, and says by name
 -- what the bodies say by index. The bodies of a store that passes pass the tests.
 -- Assumes nothing.
-use Prim.Native.Nat.{ℕ, zero, suc, _+_, _<_, _≤_}
+use Prim.Native.Nat.{ℕ, _<_}
 use native.Mathlib.Omega.{arith}
 use mathlib.Core.Path.{_≡_, refl, ap, _∙_, sym}
 use mathlib.Core.Logic.{_↔_}
-use mathlib.Core.Bool.{Bool, true, false, _&&_}
-use mathlib.Core.List.{List, [], _∷_, _++_, map, List·Memᴰ}
+use mathlib.Core.Bool.{true}
+use mathlib.Core.List.{List, [], _∷_, map, List·Memᴰ}
 use lib.Dec.{leb}
-use lib.ListN.{length, getD, length-map}
+use lib.ListN.{length, length-map}
 use Rattle.rules.specs.Bytes.{Bytes, bytes, all}
-use Rattle.rules.specs.Model.{Members, names, Distinct, distinct, Full}
-use Rattle.rules.specs.Store.{AttributeSort, Attribute, Definition, Form, Store, members}
+use Rattle.rules.specs.Model.{names, Distinct, distinct, Full}
+use Rattle.rules.specs.Store.{Attribute, Definition, Form, Store, members}
 use Rattle.rules.specs.Preorder.{Deep, build}
 use Rattle.rules.specs.Layout.{valueWidth, FlatParticle, FlatAttribute, FlatStore, flatDefinition, allParticles, allAttributes, flat}
-use Rattle.rules.specs.Decode.{nameAt, ofOwner, flatName, unflat, readMembers, sortOf}
-use Rattle.rules.specs.WellFormed.{definitionName, attributeName, storedName, isAttributeOf, known, Reaches, GoodDefinition, WellFormed, wellFormed, withinCeilings}
+use Rattle.rules.specs.Decode.{ofOwner, flatName, readMembers, sortOf}
+use Rattle.rules.specs.WellFormed.{attributeName, storedName, isAttributeOf, known, Reaches, GoodDefinition, wellFormed}
 use Rattle.rules.specs.Conforming.{mustBePresent, allows}
 use Rattle.rules.specs.Passing.{good, Good}
 use Rattle.rules.specs.Change.{definitionAt}
@@ -24,14 +24,13 @@ use Rattle.rules.proofs.BooleanLaws.{Every, every-at, every-in, every-map}
 use Rattle.rules.proofs.TestLaws.{distinct-test}
 use Rattle.rules.proofs.WellFormedLaws.{well-formed, no-circle}
 use Rattle.rules.proofs.PassingLaws.{good-is}
-use Rattle.forms.specs.FormTests.{definitionsApart, modelsFit, ownersRise, attributesApart, bodiesFit}
-use Rattle.rowpass.specs.Indices.{IndexForm}
-use Rattle.validity.specs.Reading.{DefinitionFits, AttributeFits, FieldsFit, indexMembers, partAt, noDefinition, entryOf, indexForm, Agrees}
+use Rattle.forms.specs.FormTests.{definitionsApart, modelsFit, bodiesFit}
+use Rattle.validity.specs.Reading.{DefinitionFits, FieldsFit, indexMembers, partAt, noDefinition, entryOf, indexForm, Agrees}
 use Rattle.validity.proofs.IndexLaws.{namesOf}
 use Rattle.validity.proofs.ModelReads.{ModelRead}
 use Rattle.validity.proofs.AttributeReads.{own-apart, own-good, all-rise, all-apart, all-fit}
 use Rattle.validity.proofs.ModelWrites.{ModelGood, models-written, definitions-written}
-use Rattle.validity.proofs.FormReads.{every-nth, every-index, formOf, form-size, form-apart, bodies-of, read-at, model-at, kind-at, members-at, model-renamed, readAt, read-attributes}
+use Rattle.validity.proofs.FormReads.{every-nth, every-index, formOf, form-size, form-apart, bodies-of, read-at, model-at, kind-at, members-at, model-renamed, read-attributes}
 
 -- all that well-formed asks of a definition but that it does not reach itself
 pub record GoodButCircle (w : ℕ) (form : Form) (d : Definition) : Type 0 where

@@ -6,3 +6,6 @@ pub mod FormReads
 pub mod FormGood
 pub mod AttributeBlocks
 pub mod AttributeRows
+pub mod ElementReads
+pub mod RowsRead
+pub mod StoreReads

@@ -8,16 +8,16 @@ use mathlib.Core.Bool.{Bool, true, false, _&&_, not, false≢true}
 use mathlib.Core.List.{List, [], _∷_, _++_, map, List·Memᴰ, Memᴰ·of-map}
 use lib.Dec.{eqb, leb, ltb, eqb·suc-zero}
 use lib.ListN.{length, length-map}
-use borrow.Author.Tests.{eqb-true, eqb-false, leb-true, ltb-true, eq-eqb, ne-eqb, not-true}
+use borrow.Author.Tests.{eqb-true, leb-true, ltb-true, eq-eqb, ne-eqb, not-true}
 use Rattle.rules.specs.Bytes.{Bytes, all, isNone, numbers}
-use Rattle.rules.specs.Model.{Members, done, el, group, names, rename, Distinct, distinct, Some, Full}
-use Rattle.rules.specs.Store.{Content, empty, pcdata, complex, Form, Forest, bare, tree, heads, modelOf}
+use Rattle.rules.specs.Model.{Members, el, group, names, rename, Distinct, distinct, Some, Full}
+use Rattle.rules.specs.Store.{Form, Forest, bare, tree, heads, modelOf}
 use Rattle.rules.specs.Preorder.{Deep, flatten, build}
-use Rattle.rules.specs.Layout.{FlatParticle, quantifierCode, groupCode, kindCode, howMany, particles, contentParticles}
+use Rattle.rules.specs.Layout.{FlatParticle, quantifierCode, groupCode, kindCode, howMany, particles}
 use Rattle.rules.specs.Decode.{nameAt, quantifierOf, groupOf, contentOf, memberOf, readMembers}
 use Rattle.rules.specs.WellFormed.{known}
 use Rattle.rules.proofs.Words.{and-split}
-use Rattle.rules.proofs.BooleanLaws.{Every, every-append, every-at, none-nil}
+use Rattle.rules.proofs.BooleanLaws.{Every, every-append, every-at}
 use Rattle.rules.proofs.TestLaws.{distinct-test}
 use Rattle.rules.proofs.PreorderLaws.{flatten-build, rising}
 use Rattle.rules.proofs.RenamingPlaces.{names-rename}

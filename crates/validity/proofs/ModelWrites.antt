@@ -1,10 +1,10 @@
 -- What a well-formed form writes into the particle body passes the tests of a model's part.
 -- Assumes nothing.
-use Prim.Native.Nat.{ℕ, zero, suc, _+_, _<_, _≤_}
+use Prim.Native.Nat.{ℕ, suc, _≤_}
 use native.Mathlib.Omega.{arith}
 use mathlib.Core.Path.{_≡_, refl, ap, ap₂, _∙_, sym, subst}
 use mathlib.Core.Logic.{_⊎_, inl, inr}
-use mathlib.Core.Bool.{Bool, true, false, _&&_, not, false≢true}
+use mathlib.Core.Bool.{true, false, not}
 use mathlib.Core.List.{List, [], _∷_, _++_, map, List·Memᴰ, List·Memᴰ·head, List·Memᴰ·tail, Memᴰ·append-left, Memᴰ·append-right, append-assoc, append-nil, map-append}
 use lib.Dec.{leb}
 use lib.ListN.{length, length-append}
@@ -16,8 +16,8 @@ use Rattle.rules.specs.declared.GroupKind.{GroupKind}
 use Rattle.rules.specs.declared.GroupKind.the-variants.{Sequence, Choice}
 use Rattle.rules.specs.Bytes.{Bytes, all, isNone, numbers}
 use Rattle.rules.specs.Model.{Members, done, el, group, names, Distinct, distinct, Some, Full}
-use Rattle.rules.specs.Store.{Content, empty, pcdata, complex, Definition, Form, Forest, bare, tree, heads, modelOf, members}
-use Rattle.rules.specs.Preorder.{Deep, flatten, build}
+use Rattle.rules.specs.Store.{Content, empty, pcdata, complex, Form, Forest, bare, tree, heads, modelOf, members}
+use Rattle.rules.specs.Preorder.{Deep, flatten}
 use Rattle.rules.specs.Layout.{FlatParticle, quantifierCode, groupCode, kindCode, indexOf, howMany, particles, contentParticles, flatDefinition, allParticles}
 use Rattle.rules.specs.WellFormed.{known, storedName}
 use Rattle.rules.proofs.Words.{and-both}
@@ -26,8 +26,8 @@ use Rattle.rules.proofs.TestLaws.{distinct-test}
 use Rattle.rules.proofs.PreorderLaws.{build-flatten, rising}
 use Rattle.forms.specs.FormTests.{particleFits, shaped, elementsIn, modelFits, modelsFit}
 use Rattle.validity.specs.Reading.{DefinitionFits}
-use Rattle.validity.proofs.IndexLaws.{Indexed, known-index, index-once, distinct-map}
-use Rattle.validity.proofs.ModelReads.{elements-append, elements-here, elements-past}
+use Rattle.validity.proofs.IndexLaws.{known-index, index-once, distinct-map}
+use Rattle.validity.proofs.ModelReads.{elements-append}
 
 pub rising-flatten : {A : Type 0} (d k : ℕ) (t : Forest A) (rest : List (Deep A)) → d ≤ k → ((j : ℕ) → d ≤ j → rising j rest ≡ true) → rising k (flatten d t ++ rest) ≡ true
 rising-flatten d k bare rest l h = h k l

@@ -40,7 +40,7 @@ index-own (a ∷ table) (out, d) (suc k) l =
     rw (differs bytes (nameAt k (map attributeName table)) (a .name) (λ e. out (Memᴰ·cast (sym e) (name-in k (map attributeName table) (rw length-map (omega arith))))), indexIn)
     (ap suc (index-own table d k (omega arith)))
 
--- the attributes of the definitions before i
+-- how many attributes the definitions before i have
 abbrev pub offset : ℕ → Form → ℕ
 offset i [] = 0
 offset zero (d ∷ ds) = 0

@@ -5,26 +5,26 @@ use Prim.Native.Nat.{ℕ, _<_}
 use native.Mathlib.Omega.{arith}
 use mathlib.Core.Path.{_≡_, refl, ap, _∙_, sym}
 use mathlib.Core.Logic.{_↔_}
-use mathlib.Core.Bool.{true}
-use mathlib.Core.List.{List, [], _∷_, map, List·Memᴰ}
+use mathlib.Core.Bool.{Bool, true, _&&_}
+use mathlib.Core.List.{List, [], _∷_, _++_, map, List·Memᴰ}
 use lib.Dec.{leb}
-use lib.ListN.{length, length-map}
+use lib.ListN.{length, take, drop, length-map, take-append-drop}
 use Rattle.rules.specs.Bytes.{Bytes, bytes, all}
 use Rattle.rules.specs.Model.{names, Distinct, distinct, Full}
 use Rattle.rules.specs.Store.{Attribute, Definition, Form, Store, members}
 use Rattle.rules.specs.Preorder.{Deep, build}
-use Rattle.rules.specs.Layout.{valueWidth, FlatParticle, FlatAttribute, FlatStore, flatDefinition, allParticles, allAttributes, flat}
+use Rattle.rules.specs.Layout.{valueWidth, FlatDefinition, FlatParticle, FlatAttribute, FlatStore, flatDefinition, allParticles, allAttributes, flat}
 use Rattle.rules.specs.Decode.{ofOwner, flatName, readMembers, sortOf}
-use Rattle.rules.specs.WellFormed.{attributeName, storedName, isAttributeOf, known, Reaches, GoodDefinition, wellFormed}
+use Rattle.rules.specs.WellFormed.{attributeName, storedName, isAttributeOf, known, Reaches, GoodDefinition, wellFormed, withinCeilings}
 use Rattle.rules.specs.Conforming.{mustBePresent, allows}
 use Rattle.rules.specs.Passing.{good, Good}
 use Rattle.rules.specs.Change.{definitionAt}
 use Rattle.rules.proofs.Words.{and-both, and-split}
-use Rattle.rules.proofs.BooleanLaws.{Every, every-at, every-in, every-map}
+use Rattle.rules.proofs.BooleanLaws.{Every, every-at, every-in, every-map, none-nil}
 use Rattle.rules.proofs.TestLaws.{distinct-test}
 use Rattle.rules.proofs.WellFormedLaws.{well-formed, no-circle}
 use Rattle.rules.proofs.PassingLaws.{good-is}
-use Rattle.forms.specs.FormTests.{definitionsApart, modelsFit, bodiesFit}
+use Rattle.forms.specs.FormTests.{definitionsApart, modelFits, modelsFit, bodiesFit}
 use Rattle.validity.specs.Reading.{DefinitionFits, FieldsFit, indexMembers, partAt, noDefinition, entryOf, indexForm, Agrees}
 use Rattle.validity.proofs.IndexLaws.{namesOf}
 use Rattle.validity.proofs.ModelReads.{ModelRead}
@@ -95,6 +95,25 @@ module _ (w : ℕ) (f : FlatStore) (fit : FieldsFit w f) (bodies : bodiesFit f �
         needed = λ j l. sym (ap (λ (z : List FlatAttribute). mustBePresent (sortOf (entryOf j z .sort))) e);
         allows = λ j l v. sym (ap (λ (z : List FlatAttribute). allows (sortOf (entryOf j z .sort)) (entryOf j z .value) v) e);
       }
+
+-- ---- ceilings: the bodies' tests hold the depths, so that the counts are left
+all-append : {A : Type 0} (p : A → Bool) (xs ys : List A) → all p xs ≡ true → all p ys ≡ true → all p (xs ++ ys) ≡ true
+all-append p [] ys h g = g
+all-append p (x ∷ xs) ys h g = let (a, b) = and-split (p x) (all p xs) h in and-both a (all-append p xs ys b g)
+
+depths-fit : (n : ℕ) (ds : List FlatDefinition) (ps : List (Deep FlatParticle)) → modelsFit n ds ps ≡ true → all (λ (p : Deep FlatParticle). leb (p .depth) 4) ps ≡ true
+unfolding modelsFit modelFits
+depths-fit n [] ps h = rw (none-nil ps h)
+depths-fit n (d ∷ ds) ps h =
+    let (x, y) = and-split (leb (d .particles) (length ps)) _ h in
+    let (u, v) = and-split (modelFits n (take (d .particles) ps)) (modelsFit n ds (drop (d .particles) ps)) y in
+    ap (all (λ (p : Deep FlatParticle). leb (p .depth) 4)) (sym (take-append-drop (d .particles) ps))
+    ∙ all-append (λ (p : Deep FlatParticle). leb (p .depth) 4) (take (d .particles) ps) (drop (d .particles) ps) (and-split (all (λ (p : Deep FlatParticle). leb (p .depth) 4) (take (d .particles) ps)) _ u .0) (depths-fit n ds (drop (d .particles) ps) v)
+
+pub ceilings-counted : (f : FlatStore) → bodiesFit f ≡ true → withinCeilings f ≡ (leb (length (f .definitions)) 64 && (leb (length (f .particles)) 256 && (leb (length (f .attributes)) 64 && leb (length (f .rows)) 4096)))
+ceilings-counted f h =
+    ap (λ (t : Bool). leb (length (f .definitions)) 64 && (leb (length (f .particles)) 256 && (t && (leb (length (f .attributes)) 64 && leb (length (f .rows)) 4096))))
+    (depths-fit (length (f .definitions)) (f .definitions) (f .particles) (bodies-of f h .models))
 
 -- ---- the bodies of a store that passes
 flat-names : (form fs : Form) → map flatName (map (flatDefinition form) fs) ≡ namesOf fs

@@ -171,7 +171,7 @@ many-read ns (tree p b t) = by (p .sort) (many-read ns t)
     by zero e = ap suc e
     by (suc k) e = ap suc e
 
--- a model without members has no particles, and the other way round
+-- only a COMPLEX definition has particles
 pub record Fills (kind : ℕ) (part : List (Deep FlatParticle)) : Type 0 where
   pub most : kind ≤ 2
   pub filled : (kind ≡ 2) ⊎ (part ≡ [])

@@ -59,26 +59,26 @@ unnamed-read form (tree x b t) = (λ e. ap (λ (s : RowSort). rowName (namesOf f
 
 module _ (w : ℕ) (form : Form) (ok : wellFormed w form ≡ true) (F : IndexForm) (agrees : Agrees F form) where
   -- ---- from indices to names
-  row-read : (s i : ℕ) (v : Bytes) (rs : List FlatRow) → 1 ≤ s → s ≤ 3 → (s ≡ 1 → Below F i rs) → ((s ≡ 1 → ⊥) → rs ≡ [])
+  row-read : (s i : ℕ) (rs : List FlatRow) → 1 ≤ s → s ≤ 3 → (s ≡ 1 → Below F i rs) → ((s ≡ 1 → ⊥) → rs ≡ [])
       → elim (rowSortOf s) as (λ z. Type 0) [
         | element ↦ (d : Definition) × (lookup (rowName (namesOf form) (attributeNames form) (rowSortOf s) i) form ≡ some d) × ElementRows d (map (rowRead form) rs)
         | attribute ↦ map (rowRead form) rs ≡ []
         | text ↦ map (rowRead form) rs ≡ []
       ]
-  row-read zero i v rs l m f g = absurd (omega arith)
-  row-read (suc zero) i v rs l m f g =
+  row-read zero i rs l m f g = absurd (omega arith)
+  row-read (suc zero) i rs l m f g =
       let x : Below F i rs = f refl in
       let k : i < length form = omega (arith, agrees .size) in
       (definitionAt i form, lookup-at form (apart w form ok F agrees) i k, below-read w form ok F agrees i k rs x)
-  row-read (suc (suc zero)) i v rs l m f g = ap (λ (z : List FlatRow). map (rowRead form) z) (g (λ e. omega arith))
-  row-read (suc (suc (suc s))) i v rs l m f g = ap (λ (z : List FlatRow). map (rowRead form) z) (g (λ e. omega arith))
+  row-read (suc (suc zero)) i rs l m f g = ap (λ (z : List FlatRow). map (rowRead form) z) (g (λ e. omega arith))
+  row-read (suc (suc (suc s))) i rs l m f g = ap (λ (z : List FlatRow). map (rowRead form) z) (g (λ e. omega arith))
 
   rows-read : (d : ℕ) (t : Forest FlatRow) → Everywhere F t → Every (λ x. PlainRow (x .row)) (flatten d t) → EveryRow (λ r below. RowConforms form r below) (docsRead form t)
   unfolding Everywhere
   rows-read d bare e p = tt
   rows-read d (tree x b t) (u, e, g) p = (
     subst (λ (z : List Row). RowConforms form (rowRead form x) z) (sym (heads-read form b))
-        (row-read (x .sort) (x .index) (x .value) (heads b) (p .0 .low) (p .0 .high) (λ q. under-element F x (heads b) q u) (λ q. under-other F x (heads b) q u)),
+        (row-read (x .sort) (x .index) (heads b) (p .0 .low) (p .0 .high) (λ q. under-element F x (heads b) q u) (λ q. under-other F x (heads b) q u)),
     rows-read (suc d) b e (every-left (λ x. PlainRow (x .row)) (flatten (suc d) b) (flatten d t) (p .1)),
     rows-read d t g (every-right (λ x. PlainRow (x .row)) (flatten (suc d) b) (flatten d t) (p .1)),
   )

@@ -11,18 +11,19 @@ use borrow.Author.Tests.{le-leb}
 use Rattle.rules.specs.Bytes.{Bytes, isNone}
 use Rattle.rules.specs.Store.{Form, RowSort, element, attribute, text, Row, Forest, bare, tree, Store}
 use Rattle.rules.specs.Preorder.{Deep, flatten, build}
-use Rattle.rules.specs.Layout.{valueWidth, FlatRow, FlatStore, rowCode, indexOf, attributeIndex, indexed, flat, flatBytes}
-use Rattle.rules.specs.Decode.{rowSortOf, rowName, readRows, flatAttributeName, unflat}
+use Rattle.rules.specs.Layout.{valueWidth, FlatRow, FlatStore, rowCode, indexOf, attributeIndex, indexed, flat, flatBytes, encode}
+use Rattle.rules.specs.Decode.{numberAt, readFlat, rowSortOf, rowName, readRows, flatAttributeName, unflat}
 use Rattle.rules.specs.WellFormed.{isValue, withinCeilings, wellFormed}
 use Rattle.rules.specs.Conforming.{EveryRow}
 use Rattle.rules.specs.Passing.{laidRow, serials, goodSerials, good, Good, passes}
 use Rattle.rules.proofs.Words.{and-both, and-split}
 use Rattle.rules.proofs.BooleanLaws.{Every, every-append, every-map, none-nil}
 use Rattle.rules.proofs.PreorderLaws.{build-flatten}
+use Rattle.rules.proofs.LayoutLaws.{unle-le, read-bytes}
 use Rattle.rules.proofs.SerialLaws.{good-serials}
 use Rattle.rules.proofs.WellFormedLaws.{well-formed, no-circle}
 use Rattle.rules.proofs.PassingLaws.{good-is}
-use Rattle.rules.proofs.DecodeLaws.{attributeNames, unflat-flat, good-known, good-found, passes-tests}
+use Rattle.rules.proofs.DecodeLaws.{attributeNames, unflat-flat, good-flat, good-known, good-found, passes-tests}
 use Rattle.forms.specs.FormTests.{bodiesFit}
 use Rattle.rowpass.specs.Indices.{IndexForm}
 use Rattle.validity.specs.Reading.{FieldsFit, indexForm, Agrees, PlainRow, RowFits, ReadsAs, serialsIn, serialsFit, Checks, FlatPasses}
@@ -181,3 +182,21 @@ passes-flat bs = (
       let (s, q, g) = flat-passes f .1 p in
       passes-tests bs .1 (s, ap (λ (z : FlatStore). flatBytes (valueWidth (z .version)) z) q ∙ e, g),
 )
+
+-- the bodies that a byte string is read as
+abbrev pub flatOf : Bytes → FlatStore
+flatOf bs = readFlat (valueWidth (numberAt 0 4 bs)) bs
+
+read-encoded : (s : Store) → good s ≡ true → flatOf (encode s) ≡ flat s
+read-encoded s g =
+    ap (λ (v : ℕ). readFlat (valueWidth v) (encode s)) (unle-le 4 (s .version) (good-flat s g .version)) ∙ read-bytes (valueWidth (s .version)) (flat s) (good-flat s g)
+
+-- a byte string passes just where it is what its reading is written as, and its bodies pass
+pub passes-read : (bs : Bytes) → (passes bs ≡ true) ↔ ((flatBytes (valueWidth (numberAt 0 4 bs)) (flatOf bs) ≡ bs) × FlatPasses (flatOf bs))
+passes-read bs = (to, λ (e, p). passes-flat bs .1 (flatOf bs, e, p))
+  where
+    to : passes bs ≡ true → (flatBytes (valueWidth (numberAt 0 4 bs)) (flatOf bs) ≡ bs) × FlatPasses (flatOf bs)
+    to h =
+        let (s, e, g) = passes-tests bs .0 h in
+        let q : flatOf bs ≡ flat s = ap flatOf (sym e) ∙ read-encoded s g in
+        (ap (λ (f : FlatStore). flatBytes (valueWidth (f .version)) f) q ∙ e, subst FlatPasses (sym q) (flat-passes (flat s) .0 (s, refl, g)))

@@ -1,1 +1,2 @@
 pub mod FormTests
+pub mod Bodies

@@ -1,0 +1,86 @@
+-- Loops over pairs of records: what is left to compare from one on.
+-- Assumes nothing.
+use Prim.Native.Nat.{ℕ, _≤_, _<_}
+use borrow.Author.Tests.{le-leb, lt-leb}
+use mathlib.Core.Path.{_≡_, refl, sym, ap, ap₂}
+use mathlib.Core.Bool.{Bool, true, false, _&&_, _||_, not}
+use mathlib.Core.List.{List, [], _∷_, map}
+use Rattle.rules.specs.Bytes.{Bytes, same, bytes, any}
+use Rattle.rules.specs.Model.{member, distinct}
+use Rattle.rules.specs.Layout.{FlatDefinition, FlatAttribute, FlatStore}
+use Rattle.rules.specs.Decode.{flatName}
+use Rattle.forms.specs.FormTests.{definitionsApart, modelsFit, clashes, ownersRise, attributesApart, bodiesFit}
+use Rattle.forms.specs.Bodies.{definitions, particles, attributes, formOf, apart, sameName}
+use Rattle.forms.proofs.Reading.{definitions-length}
+
+-- ---- an entry like this one, further on
+module _ {A : Type 0} (p : A → Bool) {l rest : List A} {y : A} (e : l ≡ y ∷ rest) where
+  pub any-on : p y ≡ true → any p l ≡ true
+  any-on h = rw (e, h)
+
+  pub any-off : p y ≡ false → any p rest ≡ any p l
+  any-off h = rw (e, h)
+
+pub any-end : {A : Type 0} (p : A → Bool) {l : List A} → l ≡ [] → any p l ≡ false
+any-end p e = rw e
+
+-- ---- no two alike
+module _ {A : Type 0} (c : A → A → Bool) {l rest : List A} {x : A} (e : l ≡ x ∷ rest) where
+  pub apart-off : any (c x) rest ≡ true → apart c l ≡ false
+  unfolding apart
+  apart-off h = rw (e, h)
+
+  pub apart-on : any (c x) rest ≡ false → apart c rest ≡ apart c l
+  unfolding apart
+  apart-on h = rw (e, h)
+
+pub apart-end : {A : Type 0} (c : A → A → Bool) {l : List A} → l ≡ [] → apart c l ≡ true
+unfolding apart
+apart-end c e = rw e
+
+-- ---- the tests are of this form
+named : (x : Bytes) (ds : List FlatDefinition) → member bytes x (map flatName ds) ≡ any (λ (d : FlatDefinition). same x (d .name)) ds
+unfolding member
+named x [] = refl
+named x (d ∷ ds) = by (same x (d .name)) (named x ds)
+  where
+    by : (b : Bool) → member bytes x (map flatName ds) ≡ any (λ (d : FlatDefinition). same x (d .name)) ds
+        → elim b [ true ↦ true | false ↦ member bytes x (map flatName ds) ] ≡ (b || any (λ (d : FlatDefinition). same x (d .name)) ds)
+    by true h = refl
+    by false h = h
+
+pub definitions-apart : (ds : List FlatDefinition) → apart sameName ds ≡ definitionsApart ds
+unfolding apart definitionsApart distinct
+definitions-apart [] = refl
+definitions-apart (d ∷ ds) = ap₂ (λ (a b : Bool). not a && b) (sym (named (d .name) ds)) (definitions-apart ds)
+
+pub attributes-apart : (cs : List FlatAttribute) → apart clashes cs ≡ attributesApart cs
+unfolding apart attributesApart
+attributes-apart [] = refl
+attributes-apart (a ∷ cs) = ap (λ (b : Bool). not (any (clashes a) cs) && b) (attributes-apart cs)
+
+-- ---- owners
+module _ (least : ℕ) {o : ℕ} {l rest : List FlatAttribute} {x : FlatAttribute} (e : l ≡ x ∷ rest) (f : o ≡ x .owner) where
+  pub owners-off : o < least → ownersRise least l ≡ false
+  unfolding ownersRise
+  owners-off h = rw (e, ← f, lt-leb least o h)
+
+  pub owners-on : least ≤ o → ownersRise o rest ≡ ownersRise least l
+  unfolding ownersRise
+  owners-on h = rw (e, ← f, le-leb least o h)
+
+pub owners-end : (least : ℕ) {l : List FlatAttribute} → l ≡ [] → ownersRise least l ≡ true
+unfolding ownersRise
+owners-end least e = rw e
+
+-- ---- the whole
+pub bodies-by : (n : ℕ) (defs : Bytes) (p : ℕ) (parts : Bytes) (a : ℕ) (attrs : Bytes) {t u v w : Bool}
+    → t ≡ definitionsApart (definitions n defs) → u ≡ modelsFit n (definitions n defs) (particles p parts) → v ≡ ownersRise 0 (attributes a attrs) → w ≡ attributesApart (attributes a attrs)
+    → (t && (u && (v && w))) ≡ bodiesFit (formOf n defs p parts a attrs)
+unfolding bodiesFit
+bodies-by n defs p parts a attrs ht hu hv hw = rw (ht, hu, hv, hw, bodiesFit, definitions-length n defs)
+
+-- the tests look at the three bodies and no further
+pub bodies-only : (f g : FlatStore) → f .definitions ≡ g .definitions → f .particles ≡ g .particles → f .attributes ≡ g .attributes → bodiesFit f ≡ bodiesFit g
+unfolding bodiesFit
+bodies-only f g d p a = rw (bodiesFit, d, p, a)

@@ -1,0 +1,151 @@
+-- Records of a body, one by one: their bytes where the code reads them, and what is left from one on.
+-- Assumes nothing.
+use mathlib.Core.Path.{_≡_, refl, sym, ap, ap₂, _∙_}
+use mathlib.Core.List.{List, [], _∷_}
+use Prim.Native.Nat.{ℕ, zero, suc, _+_, _*_, _-_, _≤_, _<_}
+use native.Mathlib.Omega.{arith}
+use native.Mathlib.Numerals.{add-one}
+use native.Mathlib.Nat.{le-of-suc-le-suc, not-suc-le-zero, mul-zero, mul-suc}
+use lib.ListN.{length, take, drop, getD, length-take, drop-of-length-le}
+use lib.Seq.{getD-take, getD-drop, take-nil, take-take, take-all, drop-drop}
+use Rattle.rules.specs.Bytes.{Bytes}
+use Rattle.rules.specs.Layout.{definitionSize, particleSize}
+use Rattle.rules.specs.Decode.{numberAt, unle, readDefinition, readParticle, readAttribute, readMany}
+use Rattle.codec.specs.Part.{partOf}
+use Rattle.codec.proofs.Strings.{part-there}
+use Rattle.forms.specs.Bodies.{attributeWidth, recordAt, definitionAt, particleAt, attributeAt, definitions, particles, attributes}
+
+-- ---- parts of a list
+drop-take : {A : Type 0} (k m : ℕ) (l : List A) → drop k (take (k + m) l) ≡ take m (drop k l)
+drop-take zero m l = let e : 0 + m ≡ m = omega arith in rw e
+drop-take (suc k) m [] = rw (take-nil (suc k + m), take-nil m)
+drop-take (suc k) m (x ∷ l) = let e : suc k + m ≡ suc (k + m) = omega arith in rw e (drop-take k m l)
+
+-- ---- readMany
+module _ {A : Type 0} (f : Bytes → A) (size : ℕ) where
+  many-length : (n : ℕ) (s : Bytes) → length (readMany f size n s) ≡ n
+  many-length zero s = refl
+  many-length (suc n) s = ap suc (many-length n (drop size s))
+
+  -- the places of the next record
+  next-place : (i : ℕ) (s : Bytes) → drop (size * i) (drop size s) ≡ drop (size * suc i) s
+  next-place i s = let e : size + size * i ≡ size * suc i = omega (arith, mul-suc size i) in drop-drop (size * i) size s ∙ rw e
+
+  many-from : (i n : ℕ) (s : Bytes) → i < n → drop i (readMany f size n s) ≡ f (take size (drop (size * i) s)) ∷ drop (suc i) (readMany f size n s)
+  many-from i zero s h = absurd (not-suc-le-zero h)
+  many-from zero (suc n) s h = rw mul-zero
+  many-from (suc i) (suc n) s h =
+      many-from i n (drop size s) (le-of-suc-le-suc h)
+      ∙ ap (λ (t : Bytes). f (take size t) ∷ drop (suc i) (readMany f size n (drop size s))) (next-place i s)
+
+  many-drop : (i n : ℕ) (s : Bytes) → drop i (readMany f size (i + n) s) ≡ readMany f size n (drop (size * i) s)
+  many-drop zero n s = let e : 0 + n ≡ n = omega arith in rw (mul-zero, e)
+  many-drop (suc i) n s =
+      let e : suc i + n ≡ suc (i + n) = omega arith in
+      rw e (many-drop i n (drop size s) ∙ ap (λ (t : Bytes). readMany f size n t) (next-place i s))
+
+  many-take : (c k : ℕ) (s : Bytes) → take c (readMany f size (c + k) s) ≡ readMany f size c (take (size * c) s)
+  many-take zero k s = refl
+  many-take (suc c) k s =
+      let e : suc c + k ≡ suc (c + k) = omega arith in
+      let g : size * suc c ≡ size + size * c = omega (arith, mul-suc size c) in
+      rw (e, g)
+      (ap₂ (λ (t : Bytes) (l : List A). f t ∷ l) (sym (take-take size (size + size * c) s (omega arith)))
+      (many-take c k (drop size s) ∙ ap (λ (t : Bytes). readMany f size c t) (sym (drop-take size (size * c) s))))
+
+  -- a part of a body is a part of its records
+  many-part : (at c n : ℕ) (s : Bytes) → at + c ≤ n → take c (drop at (readMany f size n s)) ≡ readMany f size c (take (size * c) (drop (size * at) s))
+  many-part at c n s h =
+      let e : n ≡ at + (c + (n - (at + c))) = omega arith in
+      ap (λ (k : ℕ). take c (drop at (readMany f size k s))) e
+      ∙ ap (λ (l : List A). take c l) (many-drop at (c + (n - (at + c))) s)
+      ∙ many-take c (n - (at + c)) (drop (size * at) s)
+
+  -- the records of a body that more bytes follow
+  pub many-front : (c : ℕ) (s : Bytes) → readMany f size c (take (size * c) s) ≡ readMany f size c s
+  many-front c s =
+      let e : c + 0 ≡ c = omega arith in
+      sym (many-take c 0 s) ∙ rw e (take-all c (readMany f size c s) (omega (arith, many-length c s)))
+
+-- ---- the three bodies
+pub definitions-length : (n : ℕ) (s : Bytes) → length (definitions n s) ≡ n
+unfolding definitions
+definitions-length n s = many-length readDefinition definitionSize n s
+
+pub particles-length : (n : ℕ) (s : Bytes) → length (particles n s) ≡ n
+unfolding particles
+particles-length n s = many-length readParticle particleSize n s
+
+pub attributes-length : (n : ℕ) (s : Bytes) → length (attributes n s) ≡ n
+unfolding attributes
+attributes-length n s = many-length readAttribute attributeWidth n s
+
+pub definitions-from : (i n : ℕ) (s : Bytes) → i < n → drop i (definitions n s) ≡ definitionAt i s ∷ drop (i + 1) (definitions n s)
+unfolding definitions recordAt
+definitions-from i n s h = rw add-one (many-from readDefinition definitionSize i n s h)
+
+pub particles-from : (i n : ℕ) (s : Bytes) → i < n → drop i (particles n s) ≡ particleAt i s ∷ drop (i + 1) (particles n s)
+unfolding particles recordAt
+particles-from i n s h = rw add-one (many-from readParticle particleSize i n s h)
+
+pub attributes-from : (i n : ℕ) (s : Bytes) → i < n → drop i (attributes n s) ≡ attributeAt i s ∷ drop (i + 1) (attributes n s)
+unfolding attributes recordAt
+attributes-from i n s h = rw add-one (many-from readAttribute attributeWidth i n s h)
+
+pub definitions-end : (i n : ℕ) (s : Bytes) → n ≤ i → drop i (definitions n s) ≡ []
+definitions-end i n s h = drop-of-length-le (definitions n s) {i = i} (omega (arith, definitions-length n s))
+
+pub particles-end : (i n : ℕ) (s : Bytes) → n ≤ i → drop i (particles n s) ≡ []
+particles-end i n s h = drop-of-length-le (particles n s) {i = i} (omega (arith, particles-length n s))
+
+pub attributes-end : (i n : ℕ) (s : Bytes) → n ≤ i → drop i (attributes n s) ≡ []
+attributes-end i n s h = drop-of-length-le (attributes n s) {i = i} (omega (arith, attributes-length n s))
+
+-- the particles of one model
+pub particles-part : (at c n : ℕ) (s : Bytes) → at + c ≤ n → particleSize * n ≡ length s → particles c (partOf (particleSize * at) (particleSize * c) s) ≡ take c (drop at (particles n s))
+unfolding particles
+particles-part at c n s h e =
+    rw (part-there (particleSize * at) (particleSize * c) s (omega arith)) (sym (many-part readParticle particleSize at c n s h))
+
+-- ---- fields
+pub field-at : (size i k : ℕ) (s : Bytes) → k < size → getD (recordAt size i s) k 0 ≡ getD s (size * i + k) 0
+unfolding recordAt
+field-at size i k s h = getD-take size (drop (size * i) s) k 0 h ∙ getD-drop (size * i) s k 0
+
+-- the rest of a record, from its byte k on
+rest-at : (k m i : ℕ) (s : Bytes) → drop k (recordAt (k + m) i s) ≡ take m (drop ((k + m) * i + k) s)
+unfolding recordAt
+rest-at k m i s = drop-take k m (drop ((k + m) * i) s) ∙ ap (λ (t : Bytes). take m t) (drop-drop k ((k + m) * i) s)
+
+-- a text's bytes, where its length byte ends it and where the record does
+pub text-short : (at : ℕ) (s : Bytes) {n most : ℕ} {r : Bytes} → r ≡ partOf (at + 1) n s → n ≡ getD s at 0 → n < most → at + 1 + most ≤ length s → r ≡ take (getD s at 0) (take most (drop (at + 1) s))
+text-short at s {n} {most} e g h k =
+    e ∙ part-there (at + 1) n s (omega arith) ∙ sym (take-take n most (drop (at + 1) s) (omega arith)) ∙ ap (λ (z : ℕ). take z (take most (drop (at + 1) s))) g
+
+pub text-long : (at : ℕ) (s : Bytes) {n most : ℕ} {r : Bytes} → r ≡ partOf (at + 1) most s → n ≡ getD s at 0 → most ≤ n → at + 1 + most ≤ length s → r ≡ take (getD s at 0) (take most (drop (at + 1) s))
+text-long at s {n} {most} e g h k =
+    e ∙ part-there (at + 1) most s (omega arith)
+    ∙ sym (take-all n (take most (drop (at + 1) s)) (omega (arith, length-take most (drop (at + 1) s))))
+    ∙ ap (λ (z : ℕ). take z (take most (drop (at + 1) s))) g
+
+pub definition-name : (i : ℕ) (s : Bytes) → take (getD s (definitionSize * i) 0) (take 19 (drop (definitionSize * i + 1) s)) ≡ definitionAt i s .name
+definition-name i s =
+    let e : definitionSize * i + 0 ≡ definitionSize * i = omega arith in
+    ap₂ (λ (k : ℕ) (t : Bytes). take k t) (ap (λ (k : ℕ). getD s k 0) (sym e) ∙ sym (field-at definitionSize i 0 s (omega arith))) (sym (rest-at 1 19 i s))
+
+pub attribute-name : (i : ℕ) (s : Bytes) → take (getD s (attributeWidth * i + 1) 0) (take 50 (drop (attributeWidth * i + 1 + 1) s)) ≡ attributeAt i s .name
+attribute-name i s =
+    let e : attributeWidth * i + 1 + 1 ≡ attributeWidth * i + 2 = omega arith in
+    rw e (ap₂ (λ (k : ℕ) (t : Bytes). take k t) (sym (field-at attributeWidth i 1 s (omega arith))) (sym (rest-at 2 50 i s)))
+
+pub attribute-owner : (i : ℕ) (s : Bytes) → getD s (attributeWidth * i) 0 ≡ attributeAt i s .owner
+attribute-owner i s =
+    let e : attributeWidth * i + 0 ≡ attributeWidth * i = omega arith in
+    ap (λ (k : ℕ). getD s k 0) (sym e) ∙ sym (field-at attributeWidth i 0 s (omega arith))
+
+pub definition-size : (i : ℕ) (s : Bytes) → numberAt (definitionSize * i + 18) 2 s ≡ definitionAt i s .particles
+definition-size i s =
+    ap unle
+    (sym
+    (ap (λ (t : Bytes). take 2 t) (drop-drop 1 17 (recordAt definitionSize i s) ∙ rest-at 18 2 i s)
+    ∙ take-take 2 2 (drop (definitionSize * i + 18) s) (omega arith)))

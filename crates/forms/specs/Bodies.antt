@@ -1,0 +1,94 @@
+-- The bodies of a form as lists of records, and the tests of FormTests as the code goes through them: record by record.
+-- Assumes nothing.
+use Prim.Native.Nat.{ℕ, suc, _*_, _≤_}
+use mathlib.Core.Path.{_≡_}
+use mathlib.Core.Bool.{Bool, true, false, _&&_, not}
+use mathlib.Core.List.{List, [], _∷_}
+use lib.Dec.{eqb, leb, ltb}
+use lib.ListN.{length, take, drop}
+use Rattle.rules.specs.Bytes.{Bytes, same, any}
+use Rattle.rules.specs.Store.{heads}
+use Rattle.rules.specs.Preorder.{Deep, build}
+use Rattle.rules.specs.Layout.{baseVersion, valueWidth, definitionSize, particleSize, attributeSize, FlatDefinition, FlatParticle, FlatAttribute, FlatStore}
+use Rattle.rules.specs.Decode.{readDefinition, readParticle, readAttribute, readMany}
+
+-- ---- bodies
+-- the size of an attribute in a store of this version
+abbrev pub attributeWidth : ℕ
+attributeWidth = attributeSize (valueWidth baseVersion)
+
+-- a body of n records of one size, at most `most` of them
+pub record Body (most size n : ℕ) (s : Bytes) : Type 0 where
+  pub few : n ≤ most
+  pub whole : size * n ≡ length s
+
+-- the bytes of record i
+unfoldable pub recordAt : ℕ → ℕ → Bytes → Bytes
+recordAt size i s = take size (drop (size * i) s)
+
+abbrev pub definitionAt : ℕ → Bytes → FlatDefinition
+definitionAt i s = readDefinition (recordAt definitionSize i s)
+
+abbrev pub particleAt : ℕ → Bytes → Deep FlatParticle
+particleAt i s = readParticle (recordAt particleSize i s)
+
+abbrev pub attributeAt : ℕ → Bytes → FlatAttribute
+attributeAt i s = readAttribute (recordAt attributeWidth i s)
+
+unfoldable pub definitions : ℕ → Bytes → List FlatDefinition
+definitions n s = readMany readDefinition definitionSize n s
+
+unfoldable pub particles : ℕ → Bytes → List (Deep FlatParticle)
+particles p s = readMany readParticle particleSize p s
+
+unfoldable pub attributes : ℕ → Bytes → List FlatAttribute
+attributes a s = readMany readAttribute attributeWidth a s
+
+-- the three bodies of a form, no larger than the ceilings
+pub record Bodies (n : ℕ) (defs : Bytes) (p : ℕ) (parts : Bytes) (a : ℕ) (attrs : Bytes) : Type 0 where
+  pub forDefinitions : Body 64 definitionSize n defs
+  pub forParticles : Body 256 particleSize p parts
+  pub forAttributes : Body 64 attributeWidth a attrs
+
+-- a store of this version that has these bodies, and no rows
+abbrev pub formOf : ℕ → Bytes → ℕ → Bytes → ℕ → Bytes → FlatStore
+formOf n defs p parts a attrs =
+    record {
+      version = baseVersion;
+      next = 0;
+      definitions = definitions n defs;
+      particles = particles p parts;
+      attributes = attributes a attrs;
+      rows = [];
+    }
+
+-- ---- pairs
+-- no two entries clash
+unfoldable pub apart : {A : Type 0} → (A → A → Bool) → List A → Bool
+apart c [] = true
+apart c (x ∷ xs) = not (any (c x) xs) && apart c xs
+
+abbrev pub sameName : FlatDefinition → FlatDefinition → Bool
+sameName d e = same (d .name) (e .name)
+
+abbrev pub sameElement : Deep FlatParticle → Deep FlatParticle → Bool
+sameElement p q = eqb (p .row .sort) 0 && (eqb (q .row .sort) 0 && eqb (p .row .index) (q .row .index))
+
+-- ---- a model, particle by particle
+-- particleFits, of the number of members
+unfoldable pub countFits : ℕ → FlatParticle → ℕ → Bool
+countFits n p members =
+    leb (p .quantifier) 3
+    && elim (eqb (p .sort) 0) [ true ↦ ltb (p .index) n && eqb members 0 | false ↦ leb (p .sort) 2 && (eqb (p .index) members && not (eqb members 0)) ]
+
+-- how many of the particles stand beside one another at depth k from here on
+unfoldable pub membersFrom : ℕ → List (Deep FlatParticle) → ℕ
+membersFrom k ps = length (heads (build ps k))
+
+-- a particle where depth d is allowed, with the particles after it
+unfoldable pub stands : ℕ → ℕ → Deep FlatParticle → List (Deep FlatParticle) → Bool
+stands n d p after = leb (p .depth) 4 && (leb (p .depth) d && (countFits n (p .row) (membersFrom (suc (p .depth)) after) && not (any (sameElement p) after)))
+
+unfoldable pub walks : ℕ → ℕ → List (Deep FlatParticle) → Bool
+walks n d [] = true
+walks n d (p ∷ ps) = stands n d p ps && walks n (suc (p .depth)) ps

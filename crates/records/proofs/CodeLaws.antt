@@ -1,6 +1,7 @@
 -- What a loop that tests each byte has left, from byte i on; parts of a byte string.
 -- Assumes nothing.
-use Prim.Native.Nat.{ℕ, zero, suc, _+_, _-_, _≤_, _<_}
+use Prim.Native.Nat.{ℕ, zero, suc, min, _+_, _*_, _-_, _≤_, _<_}
+use native.Mathlib.Nat.{min-eq-left, min-eq-right}
 use native.Mathlib.Numerals.{add-one}
 use native.Mathlib.Omega.{arith}
 use mathlib.Core.Path.{_≡_, refl, sym, ap, ap₂, _∙_}
@@ -9,12 +10,13 @@ use mathlib.Core.List.{[], _∷_}
 use lib.Dec.{eqb, leb, ltb, eqb·suc-zero}
 use lib.ListN.{length, take, drop, getD, length-drop, drop-of-length-le, List·getD-eq-default}
 use lib.Seq.{drop-cons, drop-drop, take-all}
-use borrow.Author.Tests.{le-leb, lt-leb}
+use borrow.Author.Tests.{le-leb, lt-leb, leb-true, leb-false}
 use Rattle.rules.specs.Bytes.{Bytes, all, isNone}
-use Rattle.rules.specs.Layout.{nameWidth}
+use Rattle.rules.specs.Layout.{nameWidth, headerSize, definitionSize, particleSize, attributeSize, rowSize}
 use Rattle.rules.specs.WellFormed.{startsName, inName, storedName, isValue, isFill}
-use Rattle.rules.specs.Decode.{numberAt, sortOf}
-use Rattle.records.specs.Records.{zeros, used, filled, nameFits, valueFits, definitionFits, attributeFits, unusedFit, rowFits}
+use Rattle.rules.specs.Decode.{numberAt, definitionCount, particleCount, attributeCount, rowCount, sized, sortOf}
+use Rattle.rules.specs.Passing.{knownVersion}
+use Rattle.records.specs.Records.{zeros, used, filled, nameFits, valueFits, definitionFits, attributeFits, unusedFit, rowFits, eachFits, countsFit, offsetsFit, headerFits}
 use Rattle.records.proofs.RecordLaws.{drop-take}
 
 -- ---- each byte
@@ -103,3 +105,57 @@ unfolding rowFits
 row-of w bs sort l index s e n b u =
     ap₂ (λ (y z : Bool). (leb 1 sort && leb sort 3) && (y && ((not (eqb sort 1) || eqb l 0) && ((not (eqb sort 3) || eqb index 0) && z)))) b u
     ∙ (λ i. (leb 1 (s i) && leb (s i) 3) && (valueFits w bs 10 (e i) && ((not (eqb (s i) 1) || eqb (e i) 0) && ((not (eqb (s i) 3) || eqb (n i) 0) && unusedFit w bs))))
+
+pub counts-of : (bs : Bytes) (d p a r : ℕ) → d ≡ definitionCount bs → p ≡ particleCount bs → a ≡ attributeCount bs → r ≡ rowCount bs → (leb d 64 && (leb p 256 && (leb a 64 && leb r 4096))) ≡ countsFit bs
+unfolding countsFit
+counts-of bs d p a r e f g h = λ i. leb (e i) 64 && (leb (f i) 256 && (leb (g i) 64 && leb (h i) 4096))
+
+module _ (w : ℕ) (bs : Bytes) (d p a : ℕ) (e : d ≡ definitionCount bs) (f : p ≡ particleCount bs) (g : a ≡ attributeCount bs) where
+  pub offsets-of : (x y z u : ℕ) → x ≡ numberAt 8 4 bs → y ≡ numberAt 16 4 bs → z ≡ numberAt 24 4 bs → u ≡ numberAt 32 4 bs
+      → (eqb x headerSize && (eqb y (headerSize + definitionSize * d) && (eqb z (headerSize + definitionSize * d + particleSize * p) && eqb u (headerSize + definitionSize * d + particleSize * p + attributeSize w * a)))) ≡ offsetsFit w bs
+  unfolding offsetsFit
+  offsets-of x y z u k l m n = λ i.
+      eqb (k i) headerSize
+      && (eqb (l i) (headerSize + definitionSize * e i)
+      && (eqb (m i) (headerSize + definitionSize * e i + particleSize * f i) && eqb (n i) (headerSize + definitionSize * e i + particleSize * f i + attributeSize w * g i)))
+
+  pub sized-of : (r : ℕ) → r ≡ rowCount bs → eqb (length bs) (headerSize + (definitionSize * d + (particleSize * p + (attributeSize w * a + rowSize w * r)))) ≡ sized w bs
+  sized-of r h = λ i. eqb (length bs) (headerSize + (definitionSize * e i + (particleSize * f i + (attributeSize w * g i + rowSize w * h i))))
+
+pub header-of : (w : ℕ) (bs : Bytes) (version next : ℕ) {c o s : Bool} → version ≡ numberAt 0 4 bs → next ≡ numberAt 4 4 bs → c ≡ countsFit bs → o ≡ offsetsFit w bs → s ≡ sized w bs
+    → (leb headerSize (length bs) && (knownVersion version && (c && (o && (s && leb 1 next))))) ≡ headerFits w bs
+unfolding headerFits
+header-of w bs version next v n c o s = λ i. leb headerSize (length bs) && (knownVersion (v i) && (c i && (o i && (s i && leb 1 (n i)))))
+
+-- ---- what a loop over records has left: `left` records of `rest`
+drop-least : (n : ℕ) (bs : Bytes) → drop (min n (length bs)) bs ≡ drop n bs
+drop-least n bs = by (leb n (length bs)) refl
+  where
+    by : (t : Bool) → leb n (length bs) ≡ t → drop (min n (length bs)) bs ≡ drop n bs
+    by true q = ap (λ (k : ℕ). drop k bs) (min-eq-left (leb-true n (length bs) q))
+    by false q =
+        let h : length bs ≤ n = omega (arith, leb-false n (length bs) q) in
+        let g : length bs ≤ min n (length bs) = omega (arith, min-eq-right h) in
+        drop-of-length-le bs g ∙ sym (drop-of-length-le bs h)
+
+module _ (p : Bytes → Bool) (size left : ℕ) (rest : Bytes) {b : Bool} (inv : b ≡ eachFits p size left rest) where
+  each-here : 0 < left → eachFits p size left rest ≡ (p (take size rest) && eachFits p size (left - 1) (drop size rest))
+  unfolding eachFits
+  each-here h = by left h
+    where
+      by : (n : ℕ) → 0 < n → eachFits p size n rest ≡ (p (take size rest) && eachFits p size (n - 1) (drop size rest))
+      by zero l = absurd (omega arith)
+      by (suc k) l = let e : k ≡ suc k - 1 = omega arith in ap (λ (n : ℕ). p (take size rest) && eachFits p size n (drop size rest)) e
+
+  pub each-on : (rec : Bytes) (n : ℕ) {t : Bool} → 0 < left → rec ≡ take size rest → t ≡ p rec → t ≡ true → n ≡ min size (length rest) → b ≡ eachFits p size (left - 1) (take (length rest - n) (drop n rest))
+  each-on rec n h r t e m =
+      inv
+      ∙ each-here h
+      ∙ ap₂ (λ (x : Bool) (ys : Bytes). x && eachFits p size (left - 1) ys) (ap p (sym r) ∙ sym t ∙ e) (sym (drop-least size rest) ∙ ap (λ (k : ℕ). drop k rest) (sym m) ∙ sym (tail-whole rest n))
+
+  pub each-off : (rec : Bytes) {t : Bool} → 0 < left → rec ≡ take size rest → t ≡ p rec → t ≡ false → false ≡ b
+  each-off rec h r t e = sym (inv ∙ each-here h ∙ ap (λ (x : Bool). x && eachFits p size (left - 1) (drop size rest)) (ap p (sym r) ∙ sym t ∙ e))
+
+  pub each-end : left ≤ 0 → true ≡ b
+  unfolding eachFits
+  each-end h = let e : left ≡ 0 = omega arith in sym (inv ∙ ap (λ (n : ℕ). eachFits p size n rest) e)

@@ -3,12 +3,15 @@ use codec::byte;
 use codec::get_u16;
 use codec::get_u32;
 ghost use mathlib.Core.Path.{_≡_};
+ghost use Prim.Native.Nat.{min};
 ghost use lib.ListN.{take, drop};
 ghost use Rattle.rules.specs.Bytes.{all, between};
 ghost use Rattle.rules.specs.Layout.{definitionSize, attributeSize};
 ghost use Rattle.rules.specs.Decode.{sized, sortOf};
 ghost use Rattle.rules.specs.WellFormed.{startsName, inName, storedName, isValue, isFill};
 ghost use Rattle.records.specs.Records.{baseWidth, NumberAt, zeros, filled, nameFits, valueFits, definitionFits, attributeFits, unusedFit, rowFits, eachFits, countsFit, offsetsFit, headerFits};
+
+const BASE_VERSION: usize = 1;
 
 const NAME_WIDTH: usize = 16;
 
@@ -215,4 +218,102 @@ pub fn row_fits(rec: &[u8]) -> bool
     let element = (sort != 1) | (used == 0);
     let text = (sort != 3) | (index == 0);
     known & (value_fits(rec, 10, used) & (element & (text & unused_fit(rec))))
+}
+
+// ---- bodies
+
+fn least(a: usize, b: usize) -> usize
+    ensures { λ r. ⌜ r ≡ min a b ⌝ }
+{
+    if a < b { a } else { b }
+}
+
+/// Whether the first `count` records of a body are definitions'.
+pub fn definitions_fit(body: &[u8], count: usize) -> bool
+    ensures { λ r. ⌜ r ≡ eachFits definitionFits definitionSize count (now (body .entry)) ⌝ }
+{
+    let mut rest = body;
+    let mut left = count;
+    while 0 < left {
+        if !definition_fits(first(rest, DEFINITION_SIZE)) {
+            return false;
+        }
+        let n = least(DEFINITION_SIZE, rest.len());
+        rest = &rest[n..];
+        left -= 1;
+    }
+    true
+}
+
+/// Whether the first `count` records of a body are those of attributes, among n definitions.
+pub fn attributes_fit(body: &[u8], count: usize, n: usize) -> bool
+    ensures { λ r. ⌜ r ≡ eachFits (attributeFits baseWidth n) (attributeSize baseWidth) count (now (body .entry)) ⌝ }
+{
+    let mut rest = body;
+    let mut left = count;
+    while 0 < left {
+        if !attribute_fits(first(rest, ATTRIBUTE_SIZE), n) {
+            return false;
+        }
+        let n = least(ATTRIBUTE_SIZE, rest.len());
+        rest = &rest[n..];
+        left -= 1;
+    }
+    true
+}
+
+// ---- the header
+
+fn number(store: &[u8], at: usize) -> usize
+    ensures { λ r. ⌜ NumberAt at (now (store .entry)) r ⌝ }
+{
+    get_u32(store, at) as usize
+}
+
+// Whether the counts are within the ceilings.
+fn counts_fit(store: &[u8]) -> bool
+    ensures { λ r. ⌜ r ≡ countsFit (now (store .entry)) ⌝ }
+{
+    let definitions = number(store, 12);
+    let particles = number(store, 20);
+    let attributes = number(store, 28);
+    let rows = number(store, 36);
+    (definitions <= 64) & ((particles <= 256) & ((attributes <= 64) & (rows <= 4096)))
+}
+
+// Whether each body begins where the one before it ends.
+fn offsets_fit(store: &[u8]) -> bool
+    ensures { λ r. ⌜ r ≡ offsetsFit baseWidth (now (store .entry)) ⌝ }
+{
+    let at_particles = HEADER_SIZE + DEFINITION_SIZE * number(store, 12);
+    let at_attributes = at_particles + PARTICLE_SIZE * number(store, 20);
+    let at_rows = at_attributes + ATTRIBUTE_SIZE * number(store, 28);
+    let definitions = number(store, 8);
+    let particles = number(store, 16);
+    let attributes = number(store, 24);
+    let rows = number(store, 32);
+    (definitions == HEADER_SIZE)
+        & ((particles == at_particles) & ((attributes == at_attributes) & (rows == at_rows)))
+}
+
+// Whether the string is as long as its counts say.
+fn is_sized(store: &[u8]) -> bool
+    ensures { λ r. ⌜ r ≡ sized baseWidth (now (store .entry)) ⌝ }
+{
+    let definitions = DEFINITION_SIZE * number(store, 12);
+    let particles = PARTICLE_SIZE * number(store, 20);
+    let attributes = ATTRIBUTE_SIZE * number(store, 28);
+    let rows = ROW_SIZE * number(store, 36);
+    store.len() == HEADER_SIZE + (definitions + (particles + (attributes + rows)))
+}
+
+/// Whether a header stands at the front of a string: a known version, a next serial, counts and offsets that the length agrees with.
+pub fn header_fits(store: &[u8]) -> bool
+    ensures { λ r. ⌜ r ≡ headerFits baseWidth (now (store .entry)) ⌝ }
+{
+    let version = number(store, 0);
+    let next = number(store, 4);
+    (HEADER_SIZE <= store.len())
+        & ((version == BASE_VERSION)
+            & (counts_fit(store) & (offsets_fit(store) & (is_sized(store) & (1 <= next)))))
 }

@@ -1,0 +1,75 @@
+use mathlib.Core.Path.{_≡_, sym, _∙_}
+use Rattle.records.proofs.CodeLaws.{each-on, each-off, each-end}
+use Rattle.records.specs.Records.{baseWidth, attributeFits, eachFits}
+use Rattle.rules.specs.Layout.{attributeSize}
+use native.Mathlib.Omega.{arith}
+use borrow.Author.Tests.{not-true, not-false}
+use borrow.Author.Needs.{needs}
+use Rattle.records.proofs.attributes_fit.Statement.{statement}
+use Rattle.records.proofs.attributes_fit.Tie as tie
+use Rattle.records.proofs.attributes_fit.Reads as reads
+use Rattle.records.proofs.attributes_fit.Lts as lts
+use Rattle.records.proofs.attribute_fits.Reads as attribute-fits-reads
+use Rattle.records.proofs.first.Reads as first-reads
+use Rattle.records.proofs.least.Reads as least-reads
+
+abbrev Inv-loop : tie.InvT-loop
+Inv-loop body count n rest₀ left₀ rest left = eachFits (attributeFits baseWidth n) (attributeSize baseWidth) count body ≡ eachFits (attributeFits baseWidth n) (attributeSize baseWidth) left rest
+
+abbrev μ-loop : tie.MeasureT-loop
+μ-loop body count n rest₀ left₀ rest left = left
+
+loop-holds : tie.Need-loop-holds Inv-loop μ-loop
+loop-holds c = search needs
+
+first-requires : tie.Need-first-requires Inv-loop μ-loop
+first-requires c κs = search needs
+
+attribute-fits-requires : tie.Need-attribute-fits-requires Inv-loop μ-loop
+attribute-fits-requires c κs = search needs
+
+returns : tie.Need-returns Inv-loop μ-loop
+returns c = each-off (attributeFits baseWidth (c .before .before .before .before .before .before .args .n)) (attributeSize baseWidth) (c .before .before .before .before .loop .left) (c .before .before .before .before .loop .rest .now) (c .before .before .before .before .loop .inv) _ (omega arith) (c .before .before .first .ensures) (c .before .attribute-fits .ensures) (not-true _ (c .if1 .taken))
+
+least-requires : tie.Need-least-requires Inv-loop μ-loop
+least-requires c κs = search needs
+
+sub-rest : tie.Need-sub-rest Inv-loop μ-loop
+sub-rest c = search needs
+
+part-rest-start : tie.Need-part-rest-start Inv-loop μ-loop
+part-rest-start c = search needs
+
+part-rest-end : tie.Need-part-rest-end Inv-loop μ-loop
+part-rest-end c = search needs
+
+sub-left : tie.Need-sub-left Inv-loop μ-loop
+sub-left c = search needs
+
+loop-less : tie.Need-loop-less Inv-loop μ-loop
+loop-less c = search needs
+
+loop-again : tie.Need-loop-again Inv-loop μ-loop
+loop-again c = each-on (attributeFits baseWidth (c .before .before .before .before .before .before .before .before .args .n)) (attributeSize baseWidth) (c .before .before .before .before .before .before .loop .left) (c .before .before .before .before .before .before .loop .rest .now) (c .before .before .before .before .before .before .loop .inv) _ _ (omega arith) (c .before .before .before .before .first .ensures) (c .before .before .before .attribute-fits .ensures) (not-false _ (c .before .before .if1 .left)) (c .before .least .ensures)
+
+returns-2 : tie.Need-returns-2 Inv-loop μ-loop
+returns-2 c = each-end (attributeFits baseWidth (c .before .before .before .args .n)) (attributeSize baseWidth) (c .before .loop .left) (c .before .loop .rest .now) (c .before .loop .inv) (omega arith)
+
+pub attributes-fit-spec : {M : Type 1} → statement M
+attributes-fit-spec =
+    tie.close
+    (tie.spec
+    Inv-loop
+    μ-loop
+    loop-holds
+    first-requires
+    attribute-fits-requires
+    returns
+    least-requires
+    sub-rest
+    part-rest-start
+    part-rest-end
+    sub-left
+    loop-less
+    loop-again
+    returns-2)

@@ -4,24 +4,27 @@ use Prim.Native.Nat.{ℕ, zero, suc, _+_, _*_, _-_, _≤_, _<_}
 use native.Mathlib.Omega.{arith}
 use native.Mathlib.Nat.{zero-add, suc-add, mul-suc, mul-zero, not-suc-le-zero, le-of-suc-le-suc}
 use mathlib.Core.Path.{_≡_, refl, ap, ap₂, _∙_, sym, subst}
+use mathlib.Core.Logic.{_↔_}
 use mathlib.Core.Bool.{Bool, true, false}
 use mathlib.Core.List.{List, [], _∷_, _++_, map, List·Memᴰ}
 use lib.Dec.{eqb}
-use lib.ListN.{length, getD, take, drop, length-take, length-drop}
-use lib.Seq.{take-nil, take-take, drop-drop, drop-nil}
+use lib.ListN.{length, take, drop, length-take, length-drop}
+use lib.Seq.{take-nil, take-take, drop-drop}
 use borrow.Author.Tests.{ne-eqb}
 use Rattle.rules.specs.Bytes.{Bytes}
 use Rattle.rules.specs.Model.{names, Distinct}
-use Rattle.rules.specs.Store.{Attribute, Definition, Form, Forest, bare, tree, modelOf, members}
+use Rattle.rules.specs.Store.{Attribute, Form, Forest, bare, tree, modelOf, members}
 use Rattle.rules.specs.Preorder.{Deep, flatten, build}
 use Rattle.rules.specs.Layout.{definitionSize, particleSize, FlatDefinition, FlatParticle, FlatAttribute}
-use Rattle.rules.specs.Decode.{unle, numberAt, nameAt, readDefinition, readParticle, readMany, contentOf, memberOf, readMembers, ofOwner, readForm, flatName}
-use Rattle.rules.specs.WellFormed.{definitionName}
+use Rattle.rules.specs.Decode.{unle, nameAt, readDefinition, readParticle, readMany, contentOf, memberOf, readMembers, ofOwner, readForm, flatName}
+use Rattle.rules.specs.WellFormed.{definitionName, Reaches}
 use Rattle.rules.proofs.PreorderLaws.{rising, flatten-build}
 use Rattle.codec.specs.Part.{partOf}
 use Rattle.codec.proofs.Strings.{part-there}
 use Rattle.circles.specs.Members.{countAt, startAt, modelPart, elementsOf, membersIn}
-use Rattle.circles.proofs.CircleLaws.{Models, Indexed}
+use Rattle.circles.specs.declared.Heights.{Heights}
+use Rattle.circles.specs.Deep.{deepIndex, Ranked}
+use Rattle.circles.proofs.CircleLaws.{Models, Indexed, fit-within, fit-acyclic}
 
 -- ---- elements among particles
 unfoldable pub elements : List (Deep FlatParticle) → List ℕ
@@ -217,28 +220,54 @@ module _ (defs parts : Bytes) (n p : ℕ) (few : startAt defs n ≤ p) (long : 4
       part-elements parts p (startAt defs i) (countAt defs i) long (omega (arith, start-room defs n i l))
       ∙ ap elements (sym (model-read n i defs (readMany readParticle 4 p parts) l))
 
-  abbrev definitionsRead : List FlatDefinition
-  definitionsRead = readMany readDefinition definitionSize n defs
+-- the definitions and particles that are read, and the form of them
+abbrev pub definitionsRead : Bytes → ℕ → List FlatDefinition
+definitionsRead defs n = readMany readDefinition definitionSize n defs
 
-  abbrev particlesRead : List (Deep FlatParticle)
-  particlesRead = readMany readParticle particleSize p parts
+abbrev pub particlesRead : Bytes → ℕ → List (Deep FlatParticle)
+particlesRead parts p = readMany readParticle particleSize p parts
 
-  -- the form that is read has these members
-  pub form-read : (cs : List FlatAttribute) → Distinct (map flatName (readMany readDefinition definitionSize n defs)) → AllShaped (readMany readDefinition definitionSize n defs) (readMany readParticle particleSize p parts)
-      → ((i : ℕ) → i < n → (j : ℕ) → List·Memᴰ j (membersIn defs parts i) → j < n)
-      → Indexed (membersIn defs parts) (readForm (map flatName (readMany readDefinition definitionSize n defs)) 0 (readMany readDefinition definitionSize n defs) (readMany readParticle particleSize p parts) cs)
-  form-read cs once shaped within =
+abbrev pub formRead : Bytes → Bytes → ℕ → ℕ → List FlatAttribute → Form
+formRead defs parts n p cs = readForm (map flatName (definitionsRead defs n)) 0 (definitionsRead defs n) (particlesRead parts p) cs
+
+-- the indices in the models are those of definitions
+abbrev pub Within : ℕ → (ℕ → List ℕ) → Type 0
+Within n indices = (i : ℕ) → i < n → (j : ℕ) → List·Memᴰ j (indices i) → j < n
+
+pub record Readable (defs parts : Bytes) (n p : ℕ) : Type 0 where
+  pub few : startAt defs n ≤ p
+  pub long : particleSize * p ≤ length parts
+  pub once : Distinct (map flatName (definitionsRead defs n))
+  pub shaped : AllShaped (definitionsRead defs n) (particlesRead parts p)
+
+module _ {defs parts : Bytes} {n p : ℕ} (g : Readable defs parts n p) (cs : List FlatAttribute) where
+  count-read : length (formRead defs parts n p cs) ≡ n
+  count-read = length-read (map flatName (definitionsRead defs n)) 0 (definitionsRead defs n) (particlesRead parts p) cs ∙ length-many readDefinition definitionSize n defs
+
+  -- the form that is read has the members that the bytes have
+  pub form-read : Within n (membersIn defs parts) → Indexed (membersIn defs parts) (formRead defs parts n p cs)
+  form-read within =
       record {
-        once = rw named once;
-        within = rw count within;
-        models = rw named (models-read (map flatName definitionsRead) (membersIn defs parts) 0 definitionsRead particlesRead cs shaped (λ i l. at i (omega (arith, length-many readDefinition definitionSize n defs))));
+        once = rw named (g .once);
+        within = rw count-read within;
+        models = rw named (models-read (map flatName (definitionsRead defs n)) (membersIn defs parts) 0 (definitionsRead defs n) (particlesRead parts p) cs (g .shaped) (λ i l. at i (omega (arith, length-many readDefinition definitionSize n defs))));
       }
     where
-      named : map definitionName (readForm (map flatName definitionsRead) 0 definitionsRead particlesRead cs) ≡ map flatName definitionsRead
-      named = names-read (map flatName definitionsRead) 0 definitionsRead particlesRead cs
+      named : map definitionName (formRead defs parts n p cs) ≡ map flatName (definitionsRead defs n)
+      named = names-read (map flatName (definitionsRead defs n)) 0 (definitionsRead defs n) (particlesRead parts p) cs
 
-      count : length (readForm (map flatName definitionsRead) 0 definitionsRead particlesRead cs) ≡ n
-      count = length-read (map flatName definitionsRead) 0 definitionsRead particlesRead cs ∙ length-many readDefinition definitionSize n defs
+      at : (i : ℕ) → i < n → membersIn defs parts (0 + i) ≡ elements (modelAt i (definitionsRead defs n) (particlesRead parts p))
+      at i l = let z : 0 + i ≡ i = omega arith in ap (membersIn defs parts) z ∙ members-read defs parts n p (g .few) (g .long) i l
 
-      at : (i : ℕ) → i < n → membersIn defs parts (0 + i) ≡ elements (modelAt i definitionsRead particlesRead)
-      at i l = let z : 0 + i ≡ i = omega arith in ap (membersIn defs parts) z ∙ members-read i l
+  -- the heights fit just where all indices are those of definitions and no definition reaches itself
+  pub fit-read : {r : Heights} → Ranked n (membersIn defs parts) r → (r .fit ≡ true) ↔ (Within n (membersIn defs parts) × ((x : Bytes) → Reaches (formRead defs parts n p cs) x x → ⊥))
+  fit-read {r} k = (to, from)
+    where
+      to : r .fit ≡ true → Within n (membersIn defs parts) × ((x : Bytes) → Reaches (formRead defs parts n p cs) x x → ⊥)
+      to e =
+          let f = k .fit .0 e in
+          let w = fit-within n (membersIn defs parts) f in
+          (w, fit-acyclic (form-read w) .0 (subst (λ (m : ℕ). (i : ℕ) → i < m → deepIndex (membersIn defs parts) m m i ≡ true) (sym count-read) f))
+
+      from : Within n (membersIn defs parts) × ((x : Bytes) → Reaches (formRead defs parts n p cs) x x → ⊥) → r .fit ≡ true
+      from (w, a) = k .fit .1 (subst (λ (m : ℕ). (i : ℕ) → i < m → deepIndex (membersIn defs parts) m m i ≡ true) count-read (fit-acyclic (form-read w) .1 a))

@@ -6,7 +6,7 @@ use native.Mathlib.Nat.{zero-add, suc-add, mul-suc, mul-zero, not-suc-le-zero, l
 use mathlib.Core.Path.{_≡_, refl, ap, ap₂, _∙_, sym, subst}
 use mathlib.Core.Logic.{_↔_}
 use mathlib.Core.Bool.{Bool, true, false}
-use mathlib.Core.List.{List, [], _∷_, _++_, map, List·Memᴰ}
+use mathlib.Core.List.{List, [], _∷_, _++_, map, map-append, List·Memᴰ}
 use lib.Dec.{eqb}
 use lib.ListN.{length, take, drop, length-take, length-drop}
 use lib.Seq.{take-nil, take-take, drop-drop}
@@ -45,10 +45,6 @@ elements-append (x ∷ xs) ys = by (eqb (x .row .sort) 0) (elements-append xs ys
 abbrev pub Leaves : Forest FlatParticle → Type 0
 Leaves bare = Unit {0}
 Leaves (tree p b t) = (p .sort ≡ 0 → b ≡ bare) × Leaves b × Leaves t
-
-map-append : {A B : Type 0} (f : A → B) (xs ys : List A) → map f (xs ++ ys) ≡ map f xs ++ map f ys
-map-append f [] ys = refl
-map-append {B = B} f (x ∷ xs) ys = ap (λ (l : List B). f x ∷ l) (map-append f xs ys)
 
 module _ (ns : List Bytes) where
   names-tree : (d : ℕ) (p : FlatParticle) (b t : Forest FlatParticle) (k : ℕ) → p .sort ≡ k → (k ≡ 0 → b ≡ bare)

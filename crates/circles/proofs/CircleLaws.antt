@@ -4,11 +4,11 @@ use Prim.Native.Nat.{ℕ, zero, suc, _+_, _≤_, _<_}
 use native.Mathlib.Omega.{arith}
 use native.Mathlib.Nat.{not-suc-le-zero, le-of-suc-le-suc}
 use mathlib.Core.Path.{_≡_, refl, ap, ap₂, _∙_, sym, subst}
-use mathlib.Core.Logic.{_↔_, ⊎-elim}
+use mathlib.Core.Logic.{_↔_}
 use mathlib.Core.Bool.{Bool, true, false, _&&_, false≢true}
 use mathlib.Core.Option.{Option, none, some}
-use mathlib.Core.List.{List, [], _∷_, map, List·Memᴰ, List·Memᴰ·head, List·Memᴰ·tail, List·Memᴰ·not-nil, Memᴰ·map, Memᴰ·of-map}
-use lib.Dec.{ltb, leb}
+use mathlib.Core.List.{List, [], _∷_, map, List·Memᴰ, List·Memᴰ·head, List·Memᴰ·tail, Memᴰ·of-map}
+use lib.Dec.{leb}
 use lib.ListN.{length, getD}
 use borrow.Author.Tests.{lt-ltb, le-leb, leb-true}
 use Rattle.rules.specs.Bytes.{Bytes, same, same-eq, same-refl, all, between}
@@ -20,7 +20,7 @@ use Rattle.rules.proofs.Words.{and-both, and-split}
 use Rattle.rules.proofs.Height.{deep, member-known, height}
 use Rattle.circles.specs.declared.Heights.{Heights}
 use Rattle.circles.specs.Deep.{deepIndex, Ranked}
-use Rattle.circles.proofs.RoundLaws.{deep-index-member, deep-index-known, deep-index-more, deep-known}
+use Rattle.circles.proofs.RoundLaws.{deep-index-member, deep-index-known}
 
 -- ---- what the heights say
 -- chains that end lead to no index that is not a definition's
@@ -153,3 +153,7 @@ module _ {indices : ℕ → List ℕ} {form : Form} (w : Indexed indices form) w
     λ f. height form names-known .1 (λ n k. let (i, l, e) = known-index form n k in ap (deep (length form) form) (sym e) ∙ sym (deep-index-is (length form) i l) ∙ f i l),
     λ a i l. deep-index-is (length form) i l ∙ height form names-known .0 a (nameOf i) (index-known i l),
   )
+
+  -- the heights fit just where no definition reaches itself
+  pub heights-acyclic : {r : Heights} → Ranked (length form) indices r → (r .fit ≡ true) ↔ ((n : Bytes) → Reaches form n n → ⊥)
+  heights-acyclic k = (λ e. fit-acyclic .0 (k .fit .0 e), λ a. k .fit .1 (fit-acyclic .1 a))

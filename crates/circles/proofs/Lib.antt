@@ -1,3 +1,4 @@
 pub mod MemberLaws
 pub mod RoundLaws
 pub mod CircleLaws
+pub mod ReadLaws

@@ -1,6 +1,6 @@
 -- Rounds of marking: after round h each definition whose chains end within h has its height.
 -- Assumes nothing.
-use Prim.Native.Nat.{ℕ, zero, suc, _+_, _*_, _-_, _≤_, _<_}
+use Prim.Native.Nat.{ℕ, zero, suc, _+_, _*_, _≤_, _<_}
 use native.Mathlib.Omega.{arith}
 use native.Mathlib.Numerals.{add-one}
 use native.Mathlib.Nat.{not-suc-le-zero}
@@ -11,13 +11,12 @@ use mathlib.Core.List.{List, [], _∷_, List·Memᴰ}
 use lib.Dec.{ltb, leb, eqb}
 use lib.ListN.{length, getD, set, replicate, length-set, length-replicate}
 use lib.Seq.{getD-set-same, getD-set-other}
-use borrow.Author.Tests.{lt-ltb, le-ltb, le-leb, lt-leb, eq-eqb, ne-eqb, ltb-true, ltb-false, leb-true, eqb-true, eqb-false, not-true}
+use borrow.Author.Tests.{lt-ltb, le-ltb, le-leb, lt-leb, eq-eqb, ne-eqb, ltb-true, ltb-false, eqb-true, eqb-false}
 use Rattle.rules.specs.Bytes.{Bytes, all, between}
 use Rattle.codec.specs.Part.{partOf}
 use Rattle.rules.proofs.Words.{and-both, and-split}
 use Rattle.rules.proofs.TestLaws.{all-test}
-use Rattle.circles.specs.declared.Heights.{Heights}
-use Rattle.circles.specs.Members.{elementsOf, membersIn, modelPart, countAt}
+use Rattle.circles.specs.Members.{elementsOf, membersIn, countAt}
 use Rattle.circles.specs.Deep.{deepIndex, marked, raisedTo, Round, Ranked}
 use Rattle.circles.proofs.MemberLaws.{Starts, starts-none, starts-more, model-members}
 

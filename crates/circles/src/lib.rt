@@ -3,21 +3,25 @@ ghost use mathlib.Core.Path.{_≡_};
 ghost use mathlib.Core.Logic.{_↔_};
 ghost use mathlib.Core.Bool.{true};
 ghost use Prim.Native.Nat.{ℕ, _<_, _≤_};
-ghost use lib.ListN.{getD};
 ghost use Rattle.rules.specs.Bytes.{all};
 ghost use Rattle.circles.specs.Members.{elementsOf, membersIn};
 ghost use Rattle.circles.specs.Deep.{marked, firstPasses, raisedTo, Round, Ranked};
 
 const MAX_DEFINITIONS: usize = 64;
 
-/// Whether every chain of members ends, and then the height of each definition: more than that of each member.
+const DEFINITION_SIZE: usize = 20;
+
+const PARTICLE_SIZE: usize = 4;
+
+/// Whether every chain of members ends, and the height of each definition, which is more than that of each member; 0 for one from
+/// which a chain does not end.
 pub struct Heights {
     pub fit: bool,
-    pub of: [u8; 64],
+    pub of: [u8; MAX_DEFINITIONS],
 }
 
-// Whether the first particle of t is a group, or an element that has a height.
-fn first_passes(t: &[u8], old: &[u8; 64]) -> bool
+// Whether the first particle of t is a group, or an element (sort 0) whose index has a height.
+fn first_passes(t: &[u8], old: &[u8; MAX_DEFINITIONS]) -> bool
     ensures { λ r. ⌜ r ≡ firstPasses (marked (now (old .entry))) (now (t .entry)) ⌝ }
 {
     if codec::byte(t, 0) != 0 {
@@ -28,21 +32,21 @@ fn first_passes(t: &[u8], old: &[u8; 64]) -> bool
 }
 
 // Whether all elements that the particles name have a height.
-fn settled(model: &[u8], old: &[u8; 64]) -> bool
+fn settled(model: &[u8], old: &[u8; MAX_DEFINITIONS]) -> bool
     ensures { λ r. ⌜ r ≡ all (marked (now (old .entry))) (elementsOf (now (model .entry))) ⌝ }
 {
     let mut t = model;
-    while t.len() >= 4 {
+    while t.len() >= PARTICLE_SIZE {
         if !first_passes(t, old) {
             return false;
         }
-        t = &t[4..];
+        t = &t[PARTICLE_SIZE..];
     }
     true
 }
 
 // The height of a definition after round h: the one it had, or h if all members have one.
-fn raised(model: &[u8], old: &[u8; 64], was: u8, h: u8) -> u8
+fn raised(model: &[u8], old: &[u8; MAX_DEFINITIONS], was: u8, h: u8) -> u8
     ensures { λ r. ⌜ r ≡ raisedTo h was (all (marked (now (old .entry))) (elementsOf (now (model .entry)))) ⌝ }
 {
     if was != 0 {
@@ -51,17 +55,24 @@ fn raised(model: &[u8], old: &[u8; 64], was: u8, h: u8) -> u8
     if settled(model, old) { h } else { 0 }
 }
 
-// Round h: height h for the definitions without one whose members all have one.
-fn round(n: usize, defs: &[u8], parts: &[u8], old: &[u8; 64], h: u8) -> [u8; 64]
+// Round h: height h for the definitions without one whose members all have one. A definition has its number of particles at 18, and
+// its particles stand after those of the definitions before it.
+fn round(
+    n: usize,
+    defs: &[u8],
+    parts: &[u8],
+    old: &[u8; MAX_DEFINITIONS],
+    h: u8,
+) -> [u8; MAX_DEFINITIONS]
     requires { ⌜ n ≤ 64 ⌝ }
     ensures { λ r. ⌜ Round n (membersIn (now (defs .entry)) (now (parts .entry))) h (now (old .entry)) r ⌝ }
 {
-    let mut new = [0; 64];
+    let mut new = [0; MAX_DEFINITIONS];
     let mut start: usize = 0;
     let mut i = 0;
     while i < n {
-        let count = codec::get_u16(defs, 20 * i + 18) as usize;
-        let model = codec::part(parts, 4 * start, 4 * count);
+        let count = codec::get_u16(defs, DEFINITION_SIZE * i + 18) as usize;
+        let model = codec::part(parts, PARTICLE_SIZE * start, PARTICLE_SIZE * count);
         new[i] = raised(model, old, old[i], h);
         start += count;
         i += 1;
@@ -70,7 +81,7 @@ fn round(n: usize, defs: &[u8], parts: &[u8], old: &[u8; 64], h: u8) -> [u8; 64]
 }
 
 // Whether each of the first n has a height.
-fn whole(n: usize, heights: &[u8; 64]) -> bool
+fn whole(n: usize, heights: &[u8; MAX_DEFINITIONS]) -> bool
     requires { ⌜ n ≤ 64 ⌝ }
     ensures { λ r. ⌜ (r ≡ true) ↔ ((i : ℕ) → i < n → marked (now (heights .entry)) i ≡ true) ⌝ }
 {
@@ -84,13 +95,12 @@ fn whole(n: usize, heights: &[u8; 64]) -> bool
     true
 }
 
-/// Whether every chain of members from the n definitions ends, and their heights. No definition is higher than n, so n rounds over
-/// all particles settle it.
+/// The heights of the n definitions. None is higher than n, so n rounds over all particles settle it.
 pub fn heights_of(n: usize, defs: &[u8], parts: &[u8]) -> Heights
     requires { ⌜ n ≤ 64 ⌝ }
     ensures { λ r. ⌜ Ranked n (membersIn (now (defs .entry)) (now (parts .entry))) r ⌝ }
 {
-    let mut of = [0; 64];
+    let mut of = [0; MAX_DEFINITIONS];
     let mut h: usize = 0;
     while h < n {
         of = round(n, defs, parts, &of, (h + 1) as u8);

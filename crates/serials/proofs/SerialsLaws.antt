@@ -4,11 +4,10 @@ use Prim.Native.Nat.{ℕ, zero, suc, _+_, _*_, _≤_, _<_}
 use native.Mathlib.Omega.{arith}
 use native.Mathlib.Nat.{zero-add, suc-add, not-suc-le-zero, le-of-suc-le-suc}
 use mathlib.Core.Path.{_≡_, refl, ap, ap₂, _∙_, sym}
-use mathlib.Core.Logic.{_↔_, ⊎-elim}
-use mathlib.Core.Bool.{Bool, true, false, _&&_, false≢true}
-use mathlib.Core.List.{List, [], _∷_, _++_, map, List·Memᴰ, List·Memᴰ·head, List·Memᴰ·tail}
+use mathlib.Core.Bool.{Bool, true, false, _&&_}
+use mathlib.Core.List.{List, [], _∷_, _++_, map, map-append, List·Memᴰ, List·Memᴰ·head, List·Memᴰ·tail}
 use lib.Dec.{leb, ltb}
-use lib.ListN.{length, take, drop, getD, length-map}
+use lib.ListN.{length, take, drop, getD}
 use lib.Seq.{drop-drop, take-take, take-nil}
 use borrow.Author.Tests.{le-leb, lt-ltb, leb-true, ltb-true}
 use Rattle.rules.specs.Bytes.{Bytes, numbers, all}
@@ -16,7 +15,7 @@ use Rattle.rules.specs.Model.{Distinct, distinct}
 use Rattle.rules.specs.Store.{Form, Row, Forest, bare, tree}
 use Rattle.rules.specs.Preorder.{Deep, flatten, build}
 use Rattle.rules.specs.Layout.{baseVersion, valueWidth, rowSize, FlatRow, indexed}
-use Rattle.rules.specs.Decode.{unle, numberAt, readRow, readMany, readRows}
+use Rattle.rules.specs.Decode.{unle, readRow, readMany, readRows}
 use Rattle.rules.specs.WellFormed.{highestNumber}
 use Rattle.rules.specs.Passing.{serials, goodSerials}
 use Rattle.rules.proofs.Words.{and-both, and-split}
@@ -26,10 +25,6 @@ use Rattle.serials.specs.Serials.{serialOf, serialsOf, fitting}
 use Rattle.serials.specs.Chains.{serialAt, Serials}
 
 -- ---- the serials of documents
-map-append : {A B : Type 0} (f : A → B) (xs ys : List A) → map f (xs ++ ys) ≡ map f xs ++ map f ys
-map-append f [] ys = refl
-map-append {B = B} f (x ∷ xs) ys = ap (λ (l : List B). f x ∷ l) (map-append f xs ys)
-
 -- the serials of documents are those of their rows in preorder
 pub serials-flat : (d : ℕ) (form : Form) (owner : Bytes) (docs : Forest Row) → serials docs ≡ map serialOf (flatten d (indexed form owner docs))
 serials-flat d form owner bare = refl

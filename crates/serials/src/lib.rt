@@ -6,12 +6,14 @@ ghost use Rattle.serials.specs.Chains.{serialAt, Back, Sought};
 
 const MAX_ROWS: usize = 4096;
 
-// A row is 44 bytes, its serial the four at 4.
+const ROW_SIZE: usize = 44;
+
+// A row has its serial at 4.
 fn serial_at(rows: &[u8], k: usize) -> u32
     requires { ⌜ k < 4096 ⌝ }
     ensures { λ r. ⌜ r ≡ serialAt (now (rows .entry)) k ⌝ }
 {
-    codec::get_u32(rows, 44 * k + 4)
+    codec::get_u32(rows, ROW_SIZE * k + 4)
 }
 
 // Whether a row on the chain from `from` has the serial s.

@@ -11,7 +11,7 @@ abbrev Inv-loop : tie.InvT-loop
 Inv-loop n defs parts of₀ h₀ of h = Rounds n (membersIn defs parts) of h
 
 abbrev μ-loop : tie.MeasureT-loop
-μ-loop n defs parts of₀ h₀ of h = n - h
+μ-loop n defs parts of₀ h₀ of h = 64 - h
 
 loop-holds : tie.Need-loop-holds Inv-loop μ-loop
 loop-holds c = rounds-start _ _

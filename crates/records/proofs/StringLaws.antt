@@ -4,6 +4,7 @@ use Prim.Native.Nat.{ℕ, zero, suc, _+_, _*_, _≤_, _<_}
 use native.Mathlib.Nat.{mul-le-mul}
 use native.Mathlib.Omega.{arith}
 use mathlib.Core.Path.{_≡_, refl, ap, ap₂, _∙_, sym, subst}
+use mathlib.Core.Logic.{_↔_}
 use mathlib.Core.Bool.{true, _&&_, _||_}
 use mathlib.Core.List.{List, [], _∷_, _++_, map, append-nil}
 use lib.Dec.{eqb, leb, ltb, lit<}
@@ -323,6 +324,13 @@ module _ (w : ℕ) (f : FlatStore) (x : FittingFlat w f) where
       (ap₂ (λ (n : ℕ) (ys : Bytes). eachFits (rowFits w) (rowSize w) n ys) rows-counted (rows-from ∙ sym (append-nil rowBody))
       ∙ body-fits readRow (rowBytes w) (rowFits w) (rowSize w) (length-row w) (f .rows) []
       (every-map (FittingRow w) (λ y. rowFits w (rowBytes w y) ≡ true) (f .rows) (row-fits w) (x .rows))))
+
+-- header and bodies fit if and only if what is read is good and the string is what it is written as
+pub string-test : (w : ℕ) (bs : Bytes) → w < 256 → Small bs → ((headerFits w bs && bodiesFit w bs) ≡ true) ↔ (FittingFlat w (readFlat w bs) × (flatBytes w (readFlat w bs) ≡ bs))
+string-test w bs narrow small = (
+  λ t. let (h, b) = and-split (headerFits w bs) (bodiesFit w bs) t in (string-fields w bs small h b, string-canonical w bs small h b),
+  λ (x, e). ap (λ (ys : Bytes). headerFits w ys && bodiesFit w ys) (sym e) ∙ and-both (header-fits w (readFlat w bs) x narrow) (bodies-fit w (readFlat w bs) x),
+)
 
 -- ---- a store that passes
 kind-few : (c : Content) → kindCode c ≤ 2

@@ -29,8 +29,8 @@ const ROW_SIZE: usize = 12 + VALUE_WIDTH;
 
 // ---- bytes
 
-// What stands from n on.
-fn after(s: &[u8], n: usize) -> &[u8]
+/// What stands from n on.
+pub fn after(s: &[u8], n: usize) -> &[u8]
     ensures { λ r. ⌜ now r ≡ drop n (now (s .entry)) ⌝ }
 {
     if n < s.len() {
@@ -39,8 +39,8 @@ fn after(s: &[u8], n: usize) -> &[u8]
     &s[..0]
 }
 
-// The first n bytes, or all if there are fewer.
-fn first(s: &[u8], n: usize) -> &[u8]
+/// The first n bytes, or all if there are fewer.
+pub fn first(s: &[u8], n: usize) -> &[u8]
     ensures { λ r. ⌜ now r ≡ take n (now (s .entry)) ⌝ }
 {
     if n < s.len() {
@@ -264,7 +264,8 @@ pub fn attributes_fit(body: &[u8], count: usize, n: usize) -> bool
 
 // ---- the header
 
-fn number(store: &[u8], at: usize) -> usize
+/// The number of four bytes at `at`.
+pub fn number(store: &[u8], at: usize) -> usize
     ensures { λ r. ⌜ NumberAt at (now (store .entry)) r ⌝ }
 {
     get_u32(store, at) as usize

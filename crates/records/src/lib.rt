@@ -222,6 +222,7 @@ pub fn row_fits(rec: &[u8]) -> bool
 
 // ---- bodies
 
+// A body that is too short is read as far as it goes.
 fn least(a: usize, b: usize) -> usize
     ensures { λ r. ⌜ r ≡ min a b ⌝ }
 {
@@ -238,8 +239,8 @@ pub fn definitions_fit(body: &[u8], count: usize) -> bool
         if !definition_fits(first(rest, DEFINITION_SIZE)) {
             return false;
         }
-        let n = least(DEFINITION_SIZE, rest.len());
-        rest = &rest[n..];
+        let read = least(DEFINITION_SIZE, rest.len());
+        rest = &rest[read..];
         left -= 1;
     }
     true
@@ -255,8 +256,8 @@ pub fn attributes_fit(body: &[u8], count: usize, n: usize) -> bool
         if !attribute_fits(first(rest, ATTRIBUTE_SIZE), n) {
             return false;
         }
-        let n = least(ATTRIBUTE_SIZE, rest.len());
-        rest = &rest[n..];
+        let read = least(ATTRIBUTE_SIZE, rest.len());
+        rest = &rest[read..];
         left -= 1;
     }
     true

@@ -451,3 +451,6 @@ module _ {A : Type 0} (f : Bytes → A) (g : A → Bytes) (p : Bytes → Bool) (
   body-fits l [] rest a = refl
   body-fits l (x ∷ xs) rest a =
       rw (append-assoc (g x) (each g xs) rest, take-at (g x) (each g xs ++ rest) size (l x), drop-at (g x) (each g xs ++ rest) size (l x)) (and-both (a .0) (body-fits l xs rest (a .1)))
+
+  pub body-fits-whole : ((x : A) → length (g x) ≡ size) → (xs : List A) → Every (λ x. p (g x) ≡ true) xs → eachFits p size (length xs) (each g xs) ≡ true
+  body-fits-whole l xs a = ap (eachFits p size (length xs)) (sym (append-nil (each g xs))) ∙ body-fits l xs [] a

@@ -4,8 +4,9 @@ use Prim.Native.Nat.{ℕ, zero, suc, _+_, _*_, _≤_, _<_}
 use native.Mathlib.Nat.{mul-le-mul}
 use native.Mathlib.Omega.{arith}
 use mathlib.Core.Path.{_≡_, refl, ap, ap₂, _∙_, sym, subst}
+use mathlib.Core.Logic.{_↔_}
 use mathlib.Core.Bool.{true, _&&_, _||_}
-use mathlib.Core.List.{List, [], _∷_, _++_, map, append-nil}
+use mathlib.Core.List.{List, [], _∷_, _++_, map}
 use lib.Dec.{eqb, leb, ltb, lit<}
 use lib.ListN.{length, drop, length-drop, length-map}
 use lib.Seq.{drop-drop, drop-at}
@@ -24,7 +25,7 @@ use Rattle.rules.proofs.BooleanLaws.{Every, every-map, every-append, every-zip,
 use Rattle.rules.proofs.LayoutLaws.{Small, unle-le, GoodFlatDefinition, GoodFlatAttribute, GoodFlatRow, GoodFlat, length-definition, length-particle, length-attribute, length-row, length-each, length-flatBytes, sized-bytes}
 use Rattle.rules.proofs.DecodeLaws.{GoodParts, good-parts, DefinitionParts, every-definition, good-flat}
 use Rattle.records.specs.Records.{definitionFits, attributeFits, rowFits, eachFits, atParticles, atAttributes, atRows, bodiesFit, countsFit, offsetsFit, headerFits}
-use Rattle.records.proofs.RecordLaws.{small-drop, number-then, number-bound, name-length, value-length, FittingDefinition, definition-canonical, definition-fields, definition-fits, particle-canonical, FittingAttribute, attribute-canonical, attribute-fields, attribute-fits, FittingRow, row-canonical, row-fields, row-fits, length-many, body-then, body-canonical, body-fields, body-fits}
+use Rattle.records.proofs.RecordLaws.{small-drop, number-then, number-bound, name-length, value-length, FittingDefinition, definition-canonical, definition-fields, definition-fits, particle-canonical, FittingAttribute, attribute-canonical, attribute-fields, attribute-fits, FittingRow, row-canonical, row-fields, row-fits, length-many, body-then, body-canonical, body-fields, body-fits, body-fits-whole}
 
 -- ---- the header
 pub record FittingHeader (w : ℕ) (bs : Bytes) : Type 0 where
@@ -320,9 +321,16 @@ module _ (w : ℕ) (f : FlatStore) (x : FittingFlat w f) where
       ((λ i. eachFits (attributeFits w (definitions-counted i)) (attributeSize w) (attributes-counted i) (attributes-from i))
       ∙ body-fits readAttribute (attributeBytes w) (attributeFits w d) (attributeSize w) (length-attribute w) (f .attributes) rowBody
       (every-map (FittingAttribute w d) (λ y. attributeFits w d (attributeBytes w y) ≡ true) (f .attributes) (attribute-fits w d) (x .attributes)))
-      (ap₂ (λ (n : ℕ) (ys : Bytes). eachFits (rowFits w) (rowSize w) n ys) rows-counted (rows-from ∙ sym (append-nil rowBody))
-      ∙ body-fits readRow (rowBytes w) (rowFits w) (rowSize w) (length-row w) (f .rows) []
+      (ap₂ (λ (n : ℕ) (ys : Bytes). eachFits (rowFits w) (rowSize w) n ys) rows-counted rows-from
+      ∙ body-fits-whole readRow (rowBytes w) (rowFits w) (rowSize w) (length-row w) (f .rows)
       (every-map (FittingRow w) (λ y. rowFits w (rowBytes w y) ≡ true) (f .rows) (row-fits w) (x .rows))))
+
+-- header and bodies fit if and only if what is read is good and the string is what it is written as
+pub string-test : (w : ℕ) (bs : Bytes) → w < 256 → Small bs → ((headerFits w bs && bodiesFit w bs) ≡ true) ↔ (FittingFlat w (readFlat w bs) × (flatBytes w (readFlat w bs) ≡ bs))
+string-test w bs narrow small = (
+  λ t. let (h, b) = and-split (headerFits w bs) (bodiesFit w bs) t in (string-fields w bs small h b, string-canonical w bs small h b),
+  λ (x, e). ap (λ (ys : Bytes). headerFits w ys && bodiesFit w ys) (sym e) ∙ and-both (header-fits w (readFlat w bs) x narrow) (bodies-fit w (readFlat w bs) x),
+)
 
 -- ---- a store that passes
 kind-few : (c : Content) → kindCode c ≤ 2

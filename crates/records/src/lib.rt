@@ -29,8 +29,8 @@ const ROW_SIZE: usize = 12 + VALUE_WIDTH;
 
 // ---- bytes
 
-// What stands from n on.
-fn after(s: &[u8], n: usize) -> &[u8]
+/// What stands from n on.
+pub fn after(s: &[u8], n: usize) -> &[u8]
     ensures { λ r. ⌜ now r ≡ drop n (now (s .entry)) ⌝ }
 {
     if n < s.len() {
@@ -39,8 +39,8 @@ fn after(s: &[u8], n: usize) -> &[u8]
     &s[..0]
 }
 
-// The first n bytes, or all if there are fewer.
-fn first(s: &[u8], n: usize) -> &[u8]
+/// The first n bytes, or all if there are fewer.
+pub fn first(s: &[u8], n: usize) -> &[u8]
     ensures { λ r. ⌜ now r ≡ take n (now (s .entry)) ⌝ }
 {
     if n < s.len() {
@@ -222,6 +222,7 @@ pub fn row_fits(rec: &[u8]) -> bool
 
 // ---- bodies
 
+// A body that is too short is read as far as it goes.
 fn least(a: usize, b: usize) -> usize
     ensures { λ r. ⌜ r ≡ min a b ⌝ }
 {
@@ -238,8 +239,8 @@ pub fn definitions_fit(body: &[u8], count: usize) -> bool
         if !definition_fits(first(rest, DEFINITION_SIZE)) {
             return false;
         }
-        let n = least(DEFINITION_SIZE, rest.len());
-        rest = &rest[n..];
+        let read = least(DEFINITION_SIZE, rest.len());
+        rest = &rest[read..];
         left -= 1;
     }
     true
@@ -255,8 +256,8 @@ pub fn attributes_fit(body: &[u8], count: usize, n: usize) -> bool
         if !attribute_fits(first(rest, ATTRIBUTE_SIZE), n) {
             return false;
         }
-        let n = least(ATTRIBUTE_SIZE, rest.len());
-        rest = &rest[n..];
+        let read = least(ATTRIBUTE_SIZE, rest.len());
+        rest = &rest[read..];
         left -= 1;
     }
     true
@@ -264,7 +265,8 @@ pub fn attributes_fit(body: &[u8], count: usize, n: usize) -> bool
 
 // ---- the header
 
-fn number(store: &[u8], at: usize) -> usize
+/// The number of four bytes at `at`.
+pub fn number(store: &[u8], at: usize) -> usize
     ensures { λ r. ⌜ NumberAt at (now (store .entry)) r ⌝ }
 {
     get_u32(store, at) as usize

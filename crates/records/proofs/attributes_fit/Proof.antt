@@ -1,4 +1,4 @@
-use mathlib.Core.Path.{_≡_, sym, _∙_}
+use mathlib.Core.Path.{_≡_}
 use Rattle.records.proofs.CodeLaws.{each-on, each-off, each-end}
 use Rattle.records.specs.Records.{baseWidth, attributeFits, eachFits}
 use Rattle.rules.specs.Layout.{attributeSize}

@@ -4,7 +4,6 @@ use mathlib.Core.Bool.{not}
 use Rattle.rules.specs.Decode.{sortOf}
 use Rattle.rules.specs.WellFormed.{isFill}
 use Rattle.records.proofs.CodeLaws.{none-length, fill-any}
-use borrow.Author.Needs.{needs}
 use Rattle.records.proofs.is_fill.Statement.{statement}
 use Rattle.records.proofs.is_fill.Tie as tie
 use Rattle.records.proofs.is_fill.Reads as reads

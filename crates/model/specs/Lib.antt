@@ -1,3 +1,4 @@
 pub mod Particle
 pub mod Members
 pub mod Steps
+pub mod Places

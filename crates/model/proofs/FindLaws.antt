@@ -51,7 +51,7 @@ module _ (x : Deep FlatParticle) (xs : Particles) (d : ℕ) where
   in-stop : ltb d (x .depth) ≡ false → eqb d (x .depth) ≡ false → membersIn d (x ∷ xs) ≡ done
   in-stop e f = let g : build (x ∷ xs) d ≡ bare = build-more x xs d ∙ rw (e, f) in ap indexMembers g
 
-  reach-deeper : (n : ℕ) → ltb d (x .depth) ≡ true → reach d n (x ∷ xs) ≡ onward 1 (reach d n xs)
+  pub reach-deeper : (n : ℕ) → ltb d (x .depth) ≡ true → reach d n (x ∷ xs) ≡ onward 1 (reach d n xs)
   unfolding reach
   reach-deeper zero e = rw (e, reach)
   reach-deeper (suc n) e = rw (e, reach)
@@ -61,11 +61,11 @@ module _ (x : Deep FlatParticle) (xs : Particles) (d : ℕ) where
   reach-stop zero e f = rw (e, f, reach)
   reach-stop (suc n) e f = rw (e, f, reach)
 
-  reach-here : ltb d (x .depth) ≡ false → eqb d (x .depth) ≡ true → reach d zero (x ∷ xs) ≡ Member 0
+  pub reach-here : ltb d (x .depth) ≡ false → eqb d (x .depth) ≡ true → reach d zero (x ∷ xs) ≡ Member 0
   unfolding reach
   reach-here e f = rw (e, f, reach)
 
-  reach-past : (n : ℕ) → ltb d (x .depth) ≡ false → eqb d (x .depth) ≡ true → reach d (suc n) (x ∷ xs) ≡ onward 1 (reach d n xs)
+  pub reach-past : (n : ℕ) → ltb d (x .depth) ≡ false → eqb d (x .depth) ≡ true → reach d (suc n) (x ∷ xs) ≡ onward 1 (reach d n xs)
   unfolding reach
   reach-past n e f = rw (e, f, reach)
 

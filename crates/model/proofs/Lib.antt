@@ -5,3 +5,5 @@ pub mod PlacesLaws
 pub mod ParticleLaws
 pub mod EnteringLaws
 pub mod FindLaws
+pub mod PositionLaws
+pub mod WrittenLaws

@@ -36,7 +36,7 @@ facts-from-no-members-requires : (t : ℕ) → facts-from-lts.Need-no-members-re
 facts-from-no-members-requires t c κs = search needs
 
 facts-from-returns : (t : ℕ) → facts-from-lts.Need-returns (facts-from-calls t) (facts-from-at t) facts-from.Post
-facts-from-returns t c = let a = c .before .before .before .args in c .no-members .ensures ∙ sym (facts-few (a .d) (a .kind) (a .x) (a .y) (a .s .now) (omega arith))
+facts-from-returns t c = let a = c .before .before .before .args in facts-few (a .d) (a .kind) (a .x) (a .y) (a .s .now) _ (omega arith) (c .no-members .ensures)
 
 facts-from-byte-requires : (t : ℕ) → facts-from-lts.Need-byte-requires (facts-from-calls t) (facts-from-at t) facts-from.Post
 facts-from-byte-requires t c κs = search needs
@@ -57,13 +57,13 @@ facts-from-facts-from-requires : (t : ℕ) → facts-from-lts.Need-facts-from-re
 facts-from-facts-from-requires t c κs = let s = c .before .before .before .before .before .args .s .now in omega (arith, length-take (length s - 4) (drop 4 s), length-drop 4 s)
 
 facts-from-returns-2 : (t : ℕ) → facts-from-lts.Need-returns-2 (facts-from-calls t) (facts-from-at t) facts-from.Post
-facts-from-returns-2 t c = let a = c .before .before .before .before .before .before .args in c .facts-from .ensures ∙ facts-deeper (a .d) (a .kind) (a .x) (a .y) (a .s .now) (c .before .before .before .byte .result) (omega arith) (c .before .before .before .byte .ensures) (omega arith)
+facts-from-returns-2 t c = let a = c .before .before .before .before .before .before .args in facts-deeper (a .d) (a .kind) (a .x) (a .y) (a .s .now) (c .before .before .before .byte .result) (omega arith) (c .before .before .before .byte .ensures) _ (omega arith) (c .facts-from .ensures)
 
 facts-from-no-members-requires-2 : (t : ℕ) → facts-from-lts.Need-no-members-requires-2 (facts-from-calls t) (facts-from-at t) facts-from.Post
 facts-from-no-members-requires-2 t c κs = search needs
 
 facts-from-returns-3 : (t : ℕ) → facts-from-lts.Need-returns-3 (facts-from-calls t) (facts-from-at t) facts-from.Post
-facts-from-returns-3 t c = let a = c .before .before .before .before .before .before .before .args in c .no-members2 .ensures ∙ sym (facts-stop (a .d) (a .kind) (a .x) (a .y) (a .s .now) (c .before .before .before .before .byte .result) (omega arith) (c .before .before .before .before .byte .ensures) (omega arith))
+facts-from-returns-3 t c = let a = c .before .before .before .before .before .before .before .args in facts-stop (a .d) (a .kind) (a .x) (a .y) (a .s .now) (c .before .before .before .before .byte .result) (omega arith) (c .before .before .before .before .byte .ensures) _ (omega arith) (c .no-members2 .ensures)
 
 facts-from-read-particle-requires : (t : ℕ) → facts-from-lts.Need-read-particle-requires (facts-from-calls t) (facts-from-at t) facts-from.Post
 facts-from-read-particle-requires t c κs = search needs

@@ -1,17 +1,18 @@
 -- Loops over pairs of records: what is left to compare from one on.
 -- Assumes nothing.
-use Prim.Native.Nat.{ℕ, _≤_, _<_}
+use Prim.Native.Nat.{ℕ, _*_, _≤_, _<_}
+use lib.ListN.{take, drop}
 use borrow.Author.Tests.{le-leb, lt-leb}
 use mathlib.Core.Path.{_≡_, refl, sym, ap, ap₂}
 use mathlib.Core.Bool.{Bool, true, false, _&&_, _||_, not}
 use mathlib.Core.List.{List, [], _∷_, map}
 use Rattle.rules.specs.Bytes.{Bytes, same, bytes, any}
 use Rattle.rules.specs.Model.{member, distinct}
-use Rattle.rules.specs.Layout.{FlatDefinition, FlatAttribute, FlatStore}
-use Rattle.rules.specs.Decode.{flatName}
+use Rattle.rules.specs.Layout.{baseVersion, valueWidth, definitionSize, particleSize, FlatDefinition, FlatAttribute, FlatStore}
+use Rattle.rules.specs.Decode.{flatName, readDefinition, readParticle, readAttribute, readBodies}
 use Rattle.forms.specs.FormTests.{definitionsApart, modelsFit, clashes, ownersRise, attributesApart, bodiesFit}
-use Rattle.forms.specs.Bodies.{definitions, particles, attributes, formOf, apart, sameName}
-use Rattle.forms.proofs.Reading.{definitions-length}
+use Rattle.forms.specs.Bodies.{attributeWidth, definitions, particles, attributes, formOf, apart, sameName}
+use Rattle.forms.proofs.Reading.{definitions-length, many-front}
 
 -- ---- an entry like this one, further on
 module _ {A : Type 0} (p : A → Bool) {l rest : List A} {y : A} (e : l ≡ y ∷ rest) where
@@ -84,3 +85,15 @@ bodies-by n defs p parts a attrs ht hu hv hw = rw (ht, hu, hv, hw, bodiesFit, de
 pub bodies-only : (f g : FlatStore) → f .definitions ≡ g .definitions → f .particles ≡ g .particles → f .attributes ≡ g .attributes → bodiesFit f ≡ bodiesFit g
 unfolding bodiesFit
 bodies-only f g d p a = rw (bodiesFit, d, p, a)
+
+-- the bodies that follow one another in a byte string
+pub bodies-read : (version next n p a r : ℕ) (bs : Bytes)
+    → bodiesFit (readBodies (valueWidth baseVersion) version next n p a r bs)
+    ≡ bodiesFit (formOf n (take (definitionSize * n) bs) p (take (particleSize * p) (drop (definitionSize * n) bs)) a (take (attributeWidth * a) (drop (particleSize * p) (drop (definitionSize * n) bs))))
+unfolding definitions particles attributes
+bodies-read version next n p a r bs =
+    bodies-only (readBodies (valueWidth baseVersion) version next n p a r bs)
+    (formOf n (take (definitionSize * n) bs) p (take (particleSize * p) (drop (definitionSize * n) bs)) a (take (attributeWidth * a) (drop (particleSize * p) (drop (definitionSize * n) bs))))
+    (sym (many-front readDefinition definitionSize n bs))
+    (sym (many-front readParticle particleSize p (drop (definitionSize * n) bs)))
+    (sym (many-front readAttribute attributeWidth a (drop (particleSize * p) (drop (definitionSize * n) bs))))

@@ -23,7 +23,7 @@ drop-take (suc k) m (x ∷ l) = let e : suc k + m ≡ suc (k + m) = omega arith 
 
 -- ---- readMany
 module _ {A : Type 0} (f : Bytes → A) (size : ℕ) where
-  many-length : (n : ℕ) (s : Bytes) → length (readMany f size n s) ≡ n
+  pub many-length : (n : ℕ) (s : Bytes) → length (readMany f size n s) ≡ n
   many-length zero s = refl
   many-length (suc n) s = ap suc (many-length n (drop size s))
 
@@ -31,20 +31,20 @@ module _ {A : Type 0} (f : Bytes → A) (size : ℕ) where
   next-place : (i : ℕ) (s : Bytes) → drop (size * i) (drop size s) ≡ drop (size * suc i) s
   next-place i s = let e : size + size * i ≡ size * suc i = omega (arith, mul-suc size i) in drop-drop (size * i) size s ∙ rw e
 
-  many-from : (i n : ℕ) (s : Bytes) → i < n → drop i (readMany f size n s) ≡ f (take size (drop (size * i) s)) ∷ drop (suc i) (readMany f size n s)
+  pub many-from : (i n : ℕ) (s : Bytes) → i < n → drop i (readMany f size n s) ≡ f (take size (drop (size * i) s)) ∷ drop (suc i) (readMany f size n s)
   many-from i zero s h = absurd (not-suc-le-zero h)
   many-from zero (suc n) s h = rw mul-zero
   many-from (suc i) (suc n) s h =
       many-from i n (drop size s) (le-of-suc-le-suc h)
       ∙ ap (λ (t : Bytes). f (take size t) ∷ drop (suc i) (readMany f size n (drop size s))) (next-place i s)
 
-  many-drop : (i n : ℕ) (s : Bytes) → drop i (readMany f size (i + n) s) ≡ readMany f size n (drop (size * i) s)
+  pub many-drop : (i n : ℕ) (s : Bytes) → drop i (readMany f size (i + n) s) ≡ readMany f size n (drop (size * i) s)
   many-drop zero n s = let e : 0 + n ≡ n = omega arith in rw (mul-zero, e)
   many-drop (suc i) n s =
       let e : suc i + n ≡ suc (i + n) = omega arith in
       rw e (many-drop i n (drop size s) ∙ ap (λ (t : Bytes). readMany f size n t) (next-place i s))
 
-  many-take : (c k : ℕ) (s : Bytes) → take c (readMany f size (c + k) s) ≡ readMany f size c (take (size * c) s)
+  pub many-take : (c k : ℕ) (s : Bytes) → take c (readMany f size (c + k) s) ≡ readMany f size c (take (size * c) s)
   many-take zero k s = refl
   many-take (suc c) k s =
       let e : suc c + k ≡ suc (c + k) = omega arith in
@@ -54,7 +54,7 @@ module _ {A : Type 0} (f : Bytes → A) (size : ℕ) where
       (many-take c k (drop size s) ∙ ap (λ (t : Bytes). readMany f size c t) (sym (drop-take size (size * c) s))))
 
   -- a part of a body is a part of its records
-  many-part : (at c n : ℕ) (s : Bytes) → at + c ≤ n → take c (drop at (readMany f size n s)) ≡ readMany f size c (take (size * c) (drop (size * at) s))
+  pub many-part : (at c n : ℕ) (s : Bytes) → at + c ≤ n → take c (drop at (readMany f size n s)) ≡ readMany f size c (take (size * c) (drop (size * at) s))
   many-part at c n s h =
       let e : n ≡ at + (c + (n - (at + c))) = omega arith in
       ap (λ (k : ℕ). take c (drop at (readMany f size k s))) e

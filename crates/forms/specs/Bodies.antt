@@ -46,9 +46,9 @@ attributes a s = readMany readAttribute attributeWidth a s
 
 -- the three bodies of a form, no larger than the ceilings
 pub record Bodies (n : ℕ) (defs : Bytes) (p : ℕ) (parts : Bytes) (a : ℕ) (attrs : Bytes) : Type 0 where
-  pub forDefinitions : Body 64 definitionSize n defs
-  pub forParticles : Body 256 particleSize p parts
-  pub forAttributes : Body 64 attributeWidth a attrs
+  pub definitionBody : Body 64 definitionSize n defs
+  pub particleBody : Body 256 particleSize p parts
+  pub attributeBody : Body 64 attributeWidth a attrs
 
 -- a store of this version that has these bodies, and no rows
 abbrev pub formOf : ℕ → Bytes → ℕ → Bytes → ℕ → Bytes → FlatStore

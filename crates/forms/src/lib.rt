@@ -1,6 +1,5 @@
 // The tests of a form's bodies that look at more than one record. Every loop is bounded by a count of records.
 ghost use mathlib.Core.Path.{_≡_};
-ghost use mathlib.Core.Bool.{not};
 ghost use Prim.Native.Nat.{_+_, _*_, _<_, _≤_};
 ghost use lib.ListN.{length, take, drop, getD};
 ghost use Rattle.rules.specs.Bytes.{any};
@@ -8,11 +7,24 @@ ghost use Rattle.rules.specs.Layout.{definitionSize, particleSize};
 ghost use Rattle.forms.specs.FormTests.{clashes, definitionsApart, modelFits, modelsFit, ownersRise, attributesApart, bodiesFit};
 ghost use Rattle.forms.specs.Bodies.{Body, attributeWidth, recordAt, definitionAt, particleAt, attributeAt, definitions, particles, attributes, Bodies, formOf, sameName, sameElement, countFits, membersFrom, stands};
 
+// the sizes of the three records
 const DEFINITION: usize = 20;
 
 const PARTICLE: usize = 4;
 
 const ATTRIBUTE: usize = 52;
+
+// the fields of a particle, a byte each
+const SORT: usize = 0;
+
+const QUANTIFIER: usize = 1;
+
+const INDEX: usize = 2;
+
+const DEPTH: usize = 3;
+
+// the sort of a particle that is an element; the others are groups
+const ELEMENT: usize = 0;
 
 fn wide(x: u8) -> usize
     ensures { λ r. ⌜ r ≡ x ⌝ }
@@ -20,7 +32,7 @@ fn wide(x: u8) -> usize
     x as usize
 }
 
-// A text: its length at `at`, then its bytes, which end with the record after `most` bytes.
+// The text whose length stands at `at`, its bytes after that. A length of more than `most`, which runs past the record, is cut there.
 fn text(s: &[u8], at: usize, most: usize) -> &[u8]
     requires { ⌜ at + 1 + most ≤ length (now s) ⌝ }
     ensures { λ r. ⌜ now r ≡ take (getD (now (s .entry)) at 0) (take most (drop (at + 1) (now (s .entry)))) ⌝ }
@@ -90,6 +102,7 @@ fn attribute_name(attrs: &[u8], i: usize) -> &[u8]
     text(attrs, ATTRIBUTE * i + 1, ATTRIBUTE - 2)
 }
 
+// Whether attributes i and j have one owner and one name.
 fn same_attribute(attrs: &[u8], i: usize, j: usize) -> bool
     requires { ⌜ (attributeWidth * (i + 1) ≤ length (now attrs)) × (attributeWidth * (j + 1) ≤ length (now attrs)) ⌝ }
     ensures { λ r. ⌜ r ≡ clashes (attributeAt i (now (attrs .entry))) (attributeAt j (now (attrs .entry))) ⌝ }
@@ -146,6 +159,7 @@ pub fn owners_rise(a: usize, attrs: &[u8]) -> bool
     true
 }
 
+// Field k of particle i.
 fn particle_byte(parts: &[u8], i: usize, k: usize) -> usize
     requires { ⌜ (i < 256) × (k < particleSize) ⌝ }
     ensures { λ r. ⌜ r ≡ getD (recordAt particleSize i (now (parts .entry))) k 0 ⌝ }
@@ -161,7 +175,7 @@ fn members(m: usize, parts: &[u8], from: usize, k: usize) -> usize
     let mut count: usize = 0;
     let mut j = from;
     while j < m {
-        let depth = particle_byte(parts, j, 3);
+        let depth = particle_byte(parts, j, DEPTH);
         if depth < k {
             return count;
         }
@@ -173,26 +187,28 @@ fn members(m: usize, parts: &[u8], from: usize, k: usize) -> usize
     count
 }
 
+// Whether the codes and the index of particle i fit, with `below` particles directly in it.
 fn count_fits(n: usize, parts: &[u8], i: usize, below: usize) -> bool
     requires { ⌜ i < 256 ⌝ }
     ensures { λ r. ⌜ r ≡ countFits n (particleAt i (now (parts .entry)) .row) below ⌝ }
 {
-    let sort = particle_byte(parts, i, 0);
-    let marked = particle_byte(parts, i, 1) <= 3;
-    let index = particle_byte(parts, i, 2);
-    if sort == 0 {
+    let sort = particle_byte(parts, i, SORT);
+    let marked = particle_byte(parts, i, QUANTIFIER) <= 3;
+    let index = particle_byte(parts, i, INDEX);
+    if sort == ELEMENT {
         return marked & ((index < n) & (below == 0));
     }
     marked & ((sort <= 2) & ((index == below) & (below != 0)))
 }
 
+// Whether particles i and j are one element.
 fn same_element(parts: &[u8], i: usize, j: usize) -> bool
     requires { ⌜ (i < 256) × (j < 256) ⌝ }
     ensures { λ r. ⌜ r ≡ sameElement (particleAt i (now (parts .entry))) (particleAt j (now (parts .entry))) ⌝ }
 {
-    let first = particle_byte(parts, i, 0) == 0;
-    let second = particle_byte(parts, j, 0) == 0;
-    first & (second & (particle_byte(parts, i, 2) == particle_byte(parts, j, 2)))
+    let first = particle_byte(parts, i, SORT) == ELEMENT;
+    let second = particle_byte(parts, j, SORT) == ELEMENT;
+    first & (second & (particle_byte(parts, i, INDEX) == particle_byte(parts, j, INDEX)))
 }
 
 // Whether a later particle is the element of particle i again.
@@ -215,7 +231,7 @@ fn particle_stands(n: usize, m: usize, parts: &[u8], i: usize, d: usize) -> bool
     requires { ⌜ (m ≤ 256) × (i < m) ⌝ }
     ensures { λ r. ⌜ r ≡ stands n d (particleAt i (now (parts .entry))) (drop (i + 1) (particles m (now (parts .entry)))) ⌝ }
 {
-    let depth = particle_byte(parts, i, 3);
+    let depth = particle_byte(parts, i, DEPTH);
     if 4 < depth {
         return false;
     }
@@ -227,7 +243,8 @@ fn particle_stands(n: usize, m: usize, parts: &[u8], i: usize, d: usize) -> bool
     fits & !element_again(m, parts, i)
 }
 
-/// Whether m particles are the preorder of a model in a form of n definitions: at most 2 * 256 * 255 / 2 particles are looked at.
+/// Whether m particles are the preorder of a model in a form of n definitions. For each particle those after it are looked at
+/// twice: at most 256 * 255 in all.
 pub fn model_fits(n: usize, m: usize, parts: &[u8]) -> bool
     requires { ⌜ m ≤ 256 ⌝ }
     ensures { λ r. ⌜ r ≡ modelFits n (particles m (now (parts .entry))) ⌝ }
@@ -238,7 +255,7 @@ pub fn model_fits(n: usize, m: usize, parts: &[u8]) -> bool
         if !particle_stands(n, m, parts, i, d) {
             return false;
         }
-        d = particle_byte(parts, i, 3) + 1;
+        d = particle_byte(parts, i, DEPTH) + 1;
         i += 1;
     }
     true
@@ -252,7 +269,7 @@ fn model_size(defs: &[u8], i: usize) -> usize
     codec::get_u16(defs, DEFINITION * i + 18) as usize
 }
 
-/// Whether the particles are the models of the definitions, one after the other.
+/// Whether the particles are the models of the definitions, one after the other: each particle is in one model at most.
 pub fn models_fit(n: usize, defs: &[u8], p: usize, parts: &[u8]) -> bool
     requires { ⌜ Body 64 definitionSize n (now defs) × Body 256 particleSize p (now parts) ⌝ }
     ensures { λ r. ⌜ r ≡ modelsFit n (definitions n (now (defs .entry))) (particles p (now (parts .entry))) ⌝ }
@@ -273,8 +290,8 @@ pub fn models_fit(n: usize, defs: &[u8], p: usize, parts: &[u8]) -> bool
     at == p
 }
 
-/// Whether the three bodies of a form fit together. The work is that of the pairs of records: at most 64 * 63 / 2 definitions and
-/// attributes each, and 256 * 255 / 2 particles twice.
+/// Whether the three bodies of a form fit together. At the ceilings: 64 * 63 / 2 pairs of definitions and as many of attributes,
+/// and 256 * 255 particles looked at.
 pub fn bodies_fit(n: usize, defs: &[u8], p: usize, parts: &[u8], a: usize, attrs: &[u8]) -> bool
     requires { ⌜ Bodies n (now defs) p (now parts) a (now attrs) ⌝ }
     ensures { λ r. ⌜ r ≡ bodiesFit (formOf n (now (defs .entry)) p (now (parts .entry)) a (now (attrs .entry))) ⌝ }

@@ -5,16 +5,16 @@ use Rattle.forms.proofs.bodies_fit.Statement.{statement}
 use Rattle.forms.proofs.bodies_fit.Tie as tie
 
 definitions-apart-requires : tie.Need-definitions-apart-requires
-definitions-apart-requires c κs = c .before .before .before .pre .forDefinitions
+definitions-apart-requires c κs = c .before .before .before .pre .definitionBody
 
 models-fit-requires : tie.Need-models-fit-requires
-models-fit-requires c κs = (c .before .before .before .before .pre .forDefinitions, c .before .before .before .before .pre .forParticles)
+models-fit-requires c κs = (c .before .before .before .before .pre .definitionBody, c .before .before .before .before .pre .particleBody)
 
 owners-rise-requires : tie.Need-owners-rise-requires
-owners-rise-requires c κs = c .before .before .before .before .before .pre .forAttributes
+owners-rise-requires c κs = c .before .before .before .before .before .pre .attributeBody
 
 attributes-apart-requires : tie.Need-attributes-apart-requires
-attributes-apart-requires c κs = c .before .before .before .before .before .before .pre .forAttributes
+attributes-apart-requires c κs = c .before .before .before .before .before .before .pre .attributeBody
 
 returns : tie.Need-returns
 returns c = let a = c .before .before .before .before .before .before .before .args in

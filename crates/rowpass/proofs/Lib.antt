@@ -1,2 +1,6 @@
 pub mod Depths
 pub mod MachineLaws
+pub mod Numbers
+pub mod Attributes
+pub mod Children
+pub mod JudgeLaws

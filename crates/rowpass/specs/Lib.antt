@@ -1,2 +1,3 @@
 pub mod Indices
 pub mod Machine
+pub mod Judge

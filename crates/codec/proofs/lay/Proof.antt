@@ -1,0 +1,62 @@
+use Rattle.codec.proofs.Writers.{lay-step}
+use borrow.Author.Needs.{needs}
+use mathlib.Core.Path.{_≡_, refl, _∙_}
+use mathlib.Core.List.{_++_, []}
+use Prim.Native.Nat.{ℕ, _≤_, _<_, _-_, _+_}
+use native.Mathlib.Omega.{arith}
+use native.Mathlib.Numerals.{add-one}
+use lib.ListN.{length, drop, length-set, drop-of-length-le}
+use lib.Seq.{sets, drop-cons}
+use Rattle.codec.proofs.lay.Statement.{statement}
+use Rattle.codec.proofs.lay.Tie as tie
+use Rattle.codec.proofs.lay.Reads as reads
+use Rattle.codec.proofs.lay.Lts as lts
+use Rattle.codec.proofs.byte.Reads as byte-reads
+use Rattle.codec.proofs.store.Reads as store-reads
+
+abbrev Inv-loop : tie.InvT-loop
+Inv-loop src out₀ i₀ out i = (i ≤ length src) × (sets out i (drop i src) ≡ sets out₀ 0 src) × (length out ≡ length out₀)
+
+abbrev μ-loop : tie.MeasureT-loop
+μ-loop src out₀ i₀ out i = length src - i
+
+loop-holds : tie.Need-loop-holds Inv-loop μ-loop
+loop-holds c = search needs
+
+byte-requires : tie.Need-byte-requires Inv-loop μ-loop
+byte-requires c κs = search needs
+
+store-requires : tie.Need-store-requires Inv-loop μ-loop
+store-requires c κs = search needs
+
+add-i : tie.Need-add-i Inv-loop μ-loop
+add-i c = omega arith
+
+loop-less : tie.Need-loop-less Inv-loop μ-loop
+loop-less c = omega arith
+
+loop-again : tie.Need-loop-again Inv-loop μ-loop
+loop-again c =
+    let b = c .before .before .before .before .before .before in
+    (omega arith, lay-step (b .before .before .before .args .src .now) (b .loop .out) (c .before .before .store .last .0) _ (b .loop .i) _ (omega arith) (cc) (c .before .before .store .ensures) (b .loop .inv .1), c .before .before .store .kept .0 ∙ b .loop .inv .2)
+
+same-length : tie.Need-same-length Inv-loop μ-loop
+same-length c = c .before .loop .inv .2
+
+returns : tie.Need-returns Inv-loop μ-loop
+returns c = let e : drop (c .before .loop .i) (c .before .before .before .before .args .src .now) ≡ [] = drop-of-length-le _ {i = c .before .loop .i} (omega arith) in rw e at (c .before .loop .inv .1)
+
+pub lay-spec : {M : Type 1} → statement M
+lay-spec =
+    tie.close
+    (tie.spec
+    Inv-loop
+    μ-loop
+    loop-holds
+    byte-requires
+    store-requires
+    add-i
+    loop-less
+    loop-again
+    same-length
+    returns)

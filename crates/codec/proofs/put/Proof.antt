@@ -1,0 +1,46 @@
+use mathlib.Core.Path.{refl, sym}
+use Rattle.codec.proofs.Writers.{tail-sets, sets-past}
+use native.Mathlib.Omega.{arith}
+use borrow.Author.Needs.{needs}
+use Rattle.codec.proofs.put.Statement.{statement}
+use Rattle.codec.proofs.put.Tie as tie
+use Rattle.codec.proofs.put.Reads as reads
+use Rattle.codec.proofs.put.Lts as lts
+use Rattle.codec.proofs.lay.Reads as lay-reads
+
+add-next : tie.Need-add-next
+add-next c = search needs
+
+sub-lay : tie.Need-sub-lay
+sub-lay c = search needs
+
+part-lay-start : tie.Need-part-lay-start
+part-lay-start c = search needs
+
+part-lay-end : tie.Need-part-lay-end
+part-lay-end c = search needs
+
+lay-requires : tie.Need-lay-requires
+lay-requires c κs = search needs
+
+same-length : tie.Need-same-length
+same-length c = search needs
+
+returns : tie.Need-returns
+returns c = let s = c .before .before .before .before .before .before .before .args in record { next = refl; stored = tail-sets (s .out .now) _ (s .src .now) (s .at) (omega arith) (c .before .before .lay .ensures) }
+
+returns-2 : tie.Need-returns-2
+returns-2 c = let s = c .before .before .before .args in record { next = refl; stored = sym (sets-past (s .src .now) (s .out .now) (s .at) (omega arith)) }
+
+pub put-spec : {M : Type 1} → statement M
+put-spec =
+    tie.close
+    (tie.spec
+    add-next
+    sub-lay
+    part-lay-start
+    part-lay-end
+    lay-requires
+    same-length
+    returns
+    returns-2)

@@ -1,0 +1,23 @@
+use Rattle.codec.proofs.Numbers.{le-four}
+use Rattle.codec.proofs.Writers.{laid-as, laid-then}
+use borrow.Author.Needs.{needs}
+use Rattle.codec.proofs.put_u32.Statement.{statement}
+use Rattle.codec.proofs.put_u32.Tie as tie
+use Rattle.codec.proofs.put_u32.Reads as reads
+use Rattle.codec.proofs.put_u32.Lts as lts
+use Rattle.codec.proofs.put_u16.Reads as put-u16-reads
+
+put-u16-requires : tie.Need-put-u16-requires
+put-u16-requires c κs = search needs
+
+put-u16-requires-2 : tie.Need-put-u16-requires-2
+put-u16-requires-2 c κs = search needs
+
+same-length : tie.Need-same-length
+same-length c = search needs
+
+returns : tie.Need-returns
+returns c = laid-as (le-four (c .before .before .before .before .before .before .before .before .before .args .x)) (laid-then (c .before .before .before .before .before .before .put-u16 .ensures) (c .before .before .put-u162 .ensures))
+
+pub put-u32-spec : {M : Type 1} → statement M
+put-u32-spec = tie.close (tie.spec put-u16-requires put-u16-requires-2 same-length returns)

@@ -1,0 +1,158 @@
+// Bytes and little-endian numbers in a byte string: read, written, copied, compared.
+ghost use mathlib.Core.Path.{_≡_};
+ghost use mathlib.Core.List.{[], _∷_, _++_};
+ghost use Prim.Native.Nat.{_+_, _<_, _≤_, _^_};
+ghost use lib.ListN.{length, drop, getD, set};
+ghost use lib.Seq.{sets};
+ghost use Rattle.rules.specs.Bytes.{same};
+ghost use Rattle.rules.specs.Layout.{le};
+ghost use Rattle.rules.specs.Decode.{numberAt};
+ghost use Rattle.codec.specs.Laid.{Laid};
+ghost use Rattle.codec.specs.Part.{partOf};
+
+/// The byte at i, or 0 past the end.
+pub fn byte(s: &[u8], i: usize) -> u8
+    ensures { λ r. ⌜ r ≡ getD (now (s .entry)) i 0 ⌝ }
+{
+    if i < s.len() { s[i] } else { 0 }
+}
+
+fn wide(x: u8) -> u32
+    ensures { λ r. ⌜ r ≡ x ⌝ }
+{
+    x as u32
+}
+
+/// The number of two bytes at `at`; bytes past the end count 0.
+pub fn get_u16(s: &[u8], at: usize) -> u32
+    ensures { λ r. ⌜ r ≡ numberAt at 2 (now (s .entry)) ⌝ }
+{
+    if at < s.len() {
+        let a = wide(byte(s, at));
+        let b = wide(byte(s, at + 1));
+        a + 256 * b
+    } else {
+        0
+    }
+}
+
+/// The number of four bytes at `at`; bytes past the end count 0.
+pub fn get_u32(s: &[u8], at: usize) -> u32
+    ensures { λ r. ⌜ r ≡ numberAt at 4 (now (s .entry)) ⌝ }
+{
+    if at < s.len() {
+        let a = wide(byte(s, at));
+        let b = wide(byte(s, at + 1));
+        let c = wide(byte(s, at + 2));
+        let d = wide(byte(s, at + 3));
+        a + 256 * b + 65536 * c + 16777216 * d
+    } else {
+        0
+    }
+}
+
+/// The n bytes from `at` on, or none where s is too short for them.
+pub fn part(s: &[u8], at: usize, n: usize) -> &[u8]
+    ensures { λ r. ⌜ now r ≡ partOf at n (now (s .entry)) ⌝ }
+{
+    if s.len() < at {
+        return &s[..0];
+    }
+    if s.len() - at < n {
+        return &s[..0];
+    }
+    let end = at + n;
+    &s[at..end]
+}
+
+/// Whether two byte strings are equal.
+pub fn equal(a: &[u8], b: &[u8]) -> bool
+    ensures { λ r. ⌜ r ≡ same (now (a .entry)) (now (b .entry)) ⌝ }
+{
+    if a.len() != b.len() {
+        return false;
+    }
+    let mut i = 0;
+    while i < a.len() {
+        if byte(a, i) != byte(b, i) {
+            return false;
+        }
+        i += 1;
+    }
+    true
+}
+
+/// Stores a byte where there is room.
+pub fn store(out: &mut [u8], at: usize, x: u8)
+    ensures { λ _. ⌜ now (out .exit) ≡ set (now (out .entry)) at x ⌝ }
+{
+    if at < out.len() {
+        out[at] = x;
+    }
+}
+
+/// Copies all of src to the front of out.
+pub fn copy(src: &[u8], out: &mut [u8]) -> usize
+    requires { ⌜ length (now src) ≤ length (now out) ⌝ }
+    ensures { λ r. ⌜ (r ≡ length (now (src .entry))) × (now (out .exit) ≡ now (src .entry) ++ drop (length (now (src .entry))) (now (out .entry))) ⌝ }
+{
+    let n = src.len();
+    let mut i = 0;
+    while i < n {
+        out[i] = src[i];
+        i += 1;
+    }
+    n
+}
+
+/// Writes src over the front of out, as far as out goes.
+pub fn lay(src: &[u8], out: &mut [u8])
+    ensures { λ _. ⌜ now (out .exit) ≡ sets (now (out .entry)) 0 (now (src .entry)) ⌝ }
+{
+    let mut i = 0;
+    while i < src.len() {
+        store(out, i, byte(src, i));
+        i += 1;
+    }
+}
+
+// The writers below write as far as out goes and say where the next bytes go, so that writing into an empty buffer measures.
+
+/// Writes src from `at` on. The free tail of out is lent on.
+pub fn put(src: &[u8], out: &mut [u8], at: usize) -> usize
+    requires { ⌜ at + length (now src) < 2 ^ 64 ⌝ }
+    ensures { λ r. ⌜ Laid (now (src .entry)) (now (out .entry)) at r (now (out .exit)) ⌝ }
+{
+    let next = at + src.len();
+    if at <= out.len() {
+        lay(src, &mut out[at..]);
+    }
+    next
+}
+
+/// Writes one byte at `at`.
+pub fn put_u8(out: &mut [u8], at: usize, x: u8) -> usize
+    requires { ⌜ at + 1 < 2 ^ 64 ⌝ }
+    ensures { λ r. ⌜ Laid (x ∷ []) (now (out .entry)) at r (now (out .exit)) ⌝ }
+{
+    store(out, at, x);
+    at + 1
+}
+
+/// Writes the two low bytes of a number at `at`.
+pub fn put_u16(out: &mut [u8], at: usize, x: u32) -> usize
+    requires { ⌜ at + 2 < 2 ^ 64 ⌝ }
+    ensures { λ r. ⌜ Laid (le 2 x) (now (out .entry)) at r (now (out .exit)) ⌝ }
+{
+    let next = put_u8(out, at, (x % 256) as u8);
+    put_u8(out, next, (x / 256 % 256) as u8)
+}
+
+/// Writes the four bytes of a number at `at`.
+pub fn put_u32(out: &mut [u8], at: usize, x: u32) -> usize
+    requires { ⌜ at + 4 < 2 ^ 64 ⌝ }
+    ensures { λ r. ⌜ Laid (le 4 x) (now (out .entry)) at r (now (out .exit)) ⌝ }
+{
+    let next = put_u16(out, at, x);
+    put_u16(out, next, x / 65536)
+}

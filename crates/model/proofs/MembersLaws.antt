@@ -1,0 +1,80 @@
+-- The members that a part of the particle body holds, one particle on; and under names.
+-- Assumes nothing.
+use mathlib.Core.Path.{_≡_, refl, sym, ap, _∙_}
+use mathlib.Core.Bool.{Bool, true, false}
+use mathlib.Core.List.{List, [], _∷_}
+use Prim.Native.Nat.{ℕ, zero, suc, _+_, _-_, _*_, _/_, _<_, _≤_}
+use native.Mathlib.Omega.{arith}
+use borrow.Author.Tests.{lt-ltb, le-ltb, eq-eqb, ne-eqb}
+use lib.Dec.{ltb, eqb}
+use lib.ListN.{length, take, drop, getD}
+use Rattle.rules.specs.Bytes.{Bytes}
+use Rattle.rules.specs.Model.{Members, done, el, group, rename}
+use Rattle.rules.specs.Store.{Forest, bare, tree}
+use Rattle.rules.specs.Preorder.{Deep, build}
+use Rattle.rules.specs.Layout.{particleSize, FlatParticle}
+use Rattle.rules.specs.Decode.{nameAt, memberOf, readMembers, readParticle, readMany}
+use Rattle.model.specs.Members.{indexMember, indexMembers, particlesOf, membersFrom, membersOf}
+
+-- ---- names and indices
+-- the members that a form has are those of the bytes, each index as the name that it stands for
+pub members-named : (ns : List Bytes) (t : Forest FlatParticle) → readMembers ns t ≡ rename (λ i. nameAt i ns) (indexMembers t)
+unfolding rename
+members-named ns bare = refl
+members-named ns (tree p b t) = by (p .sort) (members-named ns b) (members-named ns t)
+  where
+    by : (sort : ℕ) → readMembers ns b ≡ rename (λ i. nameAt i ns) (indexMembers b) → readMembers ns t ≡ rename (λ i. nameAt i ns) (indexMembers t)
+        → memberOf ns p sort (readMembers ns b) (readMembers ns t) ≡ rename (λ i. nameAt i ns) (indexMember p sort (indexMembers b) (indexMembers t))
+    by zero f g = rw g
+    by (suc k) f g = rw (f, g)
+
+-- ---- one particle on
+pub particles-few : (s : Bytes) → length s < 4 → particlesOf s ≡ []
+unfolding particlesOf
+particles-few s h = let e : length s / 4 ≡ 0 = omega arith in rw e
+
+pub particles-more : (s : Bytes) → 4 ≤ length s → particlesOf s ≡ readParticle s ∷ particlesOf (drop 4 s)
+unfolding particlesOf
+particles-more [] h = absurd (omega arith)
+particles-more (a ∷ []) h = absurd (omega arith)
+particles-more (a ∷ b ∷ []) h = absurd (omega arith)
+particles-more (a ∷ b ∷ c ∷ []) h = absurd (omega arith)
+particles-more (a ∷ b ∷ c ∷ e ∷ s) h =
+    let n : length (a ∷ b ∷ c ∷ e ∷ s) / 4 ≡ suc (length s / 4) = omega arith in
+    ap (λ (k : ℕ). readMany readParticle 4 k (a ∷ b ∷ c ∷ e ∷ s)) n
+
+-- the four cases: too short, the first too deep, not deep enough, at d
+module _ (d : ℕ) (s : Bytes) where
+  pub members-few : length s < 4 → membersFrom d s ≡ done
+  unfolding membersFrom
+  members-few h = rw (particles-few s h)
+
+  module _ (h : 4 ≤ length s) where
+    members-more : membersFrom d s
+        ≡ elim (ltb d (getD s 3 0)) [
+          | true ↦ membersFrom d (drop 4 s)
+          | false ↦ elim (eqb d (getD s 3 0)) [ true ↦ indexMember (readParticle s .row) (getD s 0 0) (membersFrom (suc d) (drop 4 s)) (membersFrom d (drop 4 s)) | false ↦ done ]
+        ]
+    unfolding membersFrom
+    members-more = ap (λ (l : List (Deep FlatParticle)). indexMembers (build l d)) (particles-more s h) ∙ by (ltb d (getD s 3 0)) (eqb d (getD s 3 0))
+      where
+        by : (deeper same : Bool)
+            → indexMembers (elim deeper [ true ↦ build (particlesOf (drop 4 s)) d | false ↦ elim same [ true ↦ tree (readParticle s .row) (build (particlesOf (drop 4 s)) (suc d)) (build (particlesOf (drop 4 s)) d) | false ↦ bare ] ])
+            ≡ elim deeper [
+              | true ↦ indexMembers (build (particlesOf (drop 4 s)) d)
+              | false ↦ elim same [ true ↦ indexMember (readParticle s .row) (getD s 0 0) (indexMembers (build (particlesOf (drop 4 s)) (suc d))) (indexMembers (build (particlesOf (drop 4 s)) d)) | false ↦ done ]
+            ]
+        by true b = refl
+        by false true = refl
+        by false false = refl
+
+    pub members-deeper : d < getD s 3 0 → membersFrom d s ≡ membersFrom d (drop 4 s)
+    members-deeper l = rw (lt-ltb d (getD s 3 0) l) at members-more
+
+    pub members-stop : getD s 3 0 < d → membersFrom d s ≡ done
+    members-stop l =
+        let n : d ≡ getD s 3 0 → ⊥ = λ q. omega arith in
+        rw (le-ltb d (getD s 3 0) (omega arith), ne-eqb d (getD s 3 0) n) at members-more
+
+    pub members-here : getD s 3 0 ≡ d → membersFrom d s ≡ indexMember (readParticle s .row) (getD s 0 0) (membersFrom (suc d) (drop 4 s)) (membersFrom d (drop 4 s))
+    members-here e = rw (le-ltb d (getD s 3 0) (omega arith), eq-eqb d (getD s 3 0) (omega arith)) at members-more

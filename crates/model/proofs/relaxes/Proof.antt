@@ -1,0 +1,65 @@
+use mathlib.Core.Path.{_≡_, refl}
+use mathlib.Core.Bool.{Bool, true, false}
+use mathlib.Core.List.{List, [], _∷_}
+use native.Mathlib.Omega.{arith}
+use lib.ListN.{getD}
+use Rattle.rules.specs.declared.Quantifier.{Quantifier}
+use Rattle.rules.specs.declared.Quantifier.the-variants.{None, Qmark, Star, Plus}
+use Rattle.rules.specs.Layout.{quantifierCode}
+use Rattle.rules.specs.Quantifiers.{relaxes}
+use Rattle.model.proofs.Codes.{each-quantifier, code-small}
+use borrow.Author.Needs.{needs}
+use Rattle.model.proofs.relaxes.Statement.{statement}
+use Rattle.model.proofs.relaxes.Tie as tie
+use Rattle.model.proofs.relaxes.Reads as reads
+use Rattle.model.proofs.relaxes.Lts as lts
+use Rattle.model.proofs.quantifier_code.Reads as quantifier-code-reads
+
+abbrev entries : List (List Bool)
+entries =
+    (true ∷ true ∷ true ∷ true ∷ [])
+    ∷ (false ∷ true ∷ true ∷ false ∷ [])
+    ∷ (false ∷ false ∷ true ∷ false ∷ [])
+    ∷ (false ∷ false ∷ true ∷ true ∷ [])
+    ∷ []
+
+-- the rule, tested at every entry
+abbrev Right : Quantifier → Quantifier → Type 0
+Right old new = getD (getD entries (quantifierCode old) []) (quantifierCode new) false ≡ relaxes old new
+
+right : (old new : Quantifier) → Right old new
+right =
+    each-quantifier (λ old. (new : Quantifier) → Right old new)
+    (each-quantifier (Right None) refl refl refl refl)
+    (each-quantifier (Right Qmark) refl refl refl refl)
+    (each-quantifier (Right Star) refl refl refl refl)
+    (each-quantifier (Right Plus) refl refl refl refl)
+
+quantifier-code-requires : tie.Need-quantifier-code-requires
+quantifier-code-requires c κs = search needs
+
+quantifier-code-requires-2 : tie.Need-quantifier-code-requires-2
+quantifier-code-requires-2 c κs = search needs
+
+mul-result : tie.Need-mul-result
+mul-result c = omega (arith, c .before .quantifier-code .ensures, code-small (c .before .before .args .old))
+
+index-1-result : tie.Need-index-1-result
+index-1-result c = omega (arith, c .before .quantifier-code .ensures, code-small (c .before .before .args .old))
+
+index-2-result : tie.Need-index-2-result
+index-2-result c = omega (arith, c .quantifier-code2 .ensures, code-small (c .before .before .args .new))
+
+returns : tie.Need-returns
+returns c = rw (c .before .before .quantifier-code .ensures, c .before .quantifier-code2 .ensures) (right (c .before .before .before .args .old) (c .before .before .before .args .new))
+
+pub relaxes-spec : {M : Type 1} → statement M
+relaxes-spec =
+    tie.close
+    (tie.spec
+    quantifier-code-requires
+    quantifier-code-requires-2
+    mul-result
+    index-1-result
+    index-2-result
+    returns)

@@ -1,0 +1,3 @@
+pub mod Particle
+pub mod Members
+pub mod Steps

@@ -1,15 +1,24 @@
 -- The tests of single records and of the header that the check makes, on their bytes.
 -- Assumes nothing.
-use Prim.Native.Nat.{ℕ, zero, suc, _+_, _*_, _-_}
-use mathlib.Core.Bool.{Bool, true, false, _&&_, _||_, not}
-use mathlib.Core.List.{List, [], _∷_, _++_}
+use Prim.Native.Nat.{ℕ, zero, suc, _+_, _*_, _-_, _<_}
+use mathlib.Core.Path.{_≡_}
+use mathlib.Core.Bool.{Bool, true, _&&_, _||_, not}
 use lib.Dec.{eqb, leb, ltb}
 use lib.ListN.{length, take, drop, getD}
-use Rattle.rules.specs.Bytes.{Bytes, all, isNone}
-use Rattle.rules.specs.Layout.{nameWidth, headerSize, definitionSize, particleSize, attributeSize}
+use Rattle.rules.specs.Bytes.{Bytes, all}
+use Rattle.rules.specs.Layout.{baseVersion, valueWidth, nameWidth, headerSize, definitionSize, particleSize, attributeSize, rowSize}
 use Rattle.rules.specs.Decode.{numberAt, definitionCount, particleCount, attributeCount, rowCount, sized, sortOf}
 use Rattle.rules.specs.WellFormed.{storedName, isValue, isFill}
 use Rattle.rules.specs.Passing.{knownVersion}
+
+-- the width of a value in a store of the base version
+abbrev pub baseWidth : ℕ
+baseWidth = valueWidth baseVersion
+
+-- a number of four bytes was read
+pub record NumberAt (at : ℕ) (bs : Bytes) (r : ℕ) : Type 0 where
+  pub value : r ≡ numberAt at 4 bs
+  pub small : r < 4294967296
 
 abbrev pub zeros : Bytes → Bool
 zeros bs = all (λ x. eqb x 0) bs
@@ -39,31 +48,45 @@ attributeFits w n bs =
     ltb (getD bs 0 0) n
     && (nameFits bs 1 && (leb (getD bs 18 0) 2 && (valueFits w bs 20 (getD bs 19 0) && isFill (sortOf (getD bs 18 0)) (used bs 20 (getD bs 19 0)))))
 
+-- the bytes of a tree row that no field has
+unfoldable pub unusedFit : ℕ → Bytes → Bool
+unusedFit w bs = eqb (getD bs 9 0) 0 && (eqb (getD bs (10 + w) 0) 0 && eqb (getD bs (11 + w) 0) 0)
+
 -- the fields of a tree row apart from its depth, index and serial: an element has no value, a text has index 0
 unfoldable pub rowFits : ℕ → Bytes → Bool
 rowFits w bs =
     (leb 1 (getD bs 0 0) && leb (getD bs 0 0) 3)
     && (valueFits w bs 10 (getD bs 8 0)
-    && ((not (eqb (getD bs 0 0) 1) || eqb (getD bs 8 0) 0)
-    && ((not (eqb (getD bs 0 0) 3) || eqb (numberAt 2 2 bs) 0)
-    && (eqb (getD bs 9 0) 0 && (eqb (getD bs (10 + w) 0) 0 && eqb (getD bs (11 + w) 0) 0)))))
-
--- ---- the header: version, offsets, counts within the ceilings, and the length they give
-unfoldable pub countsFit : Bytes → Bool
-countsFit bs = leb (definitionCount bs) 64 && (leb (particleCount bs) 256 && (leb (attributeCount bs) 64 && leb (rowCount bs) 4096))
-
-unfoldable pub offsetsFit : ℕ → Bytes → Bool
-offsetsFit w bs =
-    let atParticles : ℕ = headerSize + definitionSize * definitionCount bs in
-    let atAttributes : ℕ = atParticles + particleSize * particleCount bs in
-    let atRows : ℕ = atAttributes + attributeSize w * attributeCount bs in
-    eqb (numberAt 8 4 bs) headerSize && (eqb (numberAt 16 4 bs) atParticles && (eqb (numberAt 24 4 bs) atAttributes && eqb (numberAt 32 4 bs) atRows))
-
-unfoldable pub headerFits : ℕ → Bytes → Bool
-headerFits w bs = leb headerSize (length bs) && (knownVersion (numberAt 0 4 bs) && (countsFit bs && (offsetsFit w bs && (sized w bs && leb 1 (numberAt 4 4 bs)))))
+    && ((not (eqb (getD bs 0 0) 1) || eqb (getD bs 8 0) 0) && ((not (eqb (getD bs 0 0) 3) || eqb (numberAt 2 2 bs) 0) && unusedFit w bs)))
 
 -- ---- bodies of records
 -- every one of `count` records of `size` bytes passes
 unfoldable pub eachFits : (Bytes → Bool) → ℕ → ℕ → Bytes → Bool
 eachFits p size zero bs = true
 eachFits p size (suc count) bs = p (take size bs) && eachFits p size count (drop size bs)
+
+-- where the bodies begin, by the counts; the definitions begin after the header
+abbrev pub atParticles : Bytes → ℕ
+atParticles bs = headerSize + definitionSize * definitionCount bs
+
+abbrev pub atAttributes : Bytes → ℕ
+atAttributes bs = atParticles bs + particleSize * particleCount bs
+
+abbrev pub atRows : ℕ → Bytes → ℕ
+atRows w bs = atAttributes bs + attributeSize w * attributeCount bs
+
+unfoldable pub bodiesFit : ℕ → Bytes → Bool
+bodiesFit w bs =
+    eachFits definitionFits definitionSize (definitionCount bs) (drop headerSize bs)
+    && (eachFits (attributeFits w (definitionCount bs)) (attributeSize w) (attributeCount bs) (drop (atAttributes bs) bs)
+    && eachFits (rowFits w) (rowSize w) (rowCount bs) (drop (atRows w bs) bs))
+
+-- ---- the header: version, offsets, counts within the ceilings, and the length they give
+unfoldable pub countsFit : Bytes → Bool
+countsFit bs = leb (definitionCount bs) 64 && (leb (particleCount bs) 256 && (leb (attributeCount bs) 64 && leb (rowCount bs) 4096))
+
+unfoldable pub offsetsFit : ℕ → Bytes → Bool
+offsetsFit w bs = eqb (numberAt 8 4 bs) headerSize && (eqb (numberAt 16 4 bs) (atParticles bs) && (eqb (numberAt 24 4 bs) (atAttributes bs) && eqb (numberAt 32 4 bs) (atRows w bs)))
+
+unfoldable pub headerFits : ℕ → Bytes → Bool
+headerFits w bs = leb headerSize (length bs) && (knownVersion (numberAt 0 4 bs) && (countsFit bs && (offsetsFit w bs && (sized w bs && leb 1 (numberAt 4 4 bs)))))

@@ -1,0 +1,105 @@
+-- What a loop that tests each byte has left, from byte i on; parts of a byte string.
+-- Assumes nothing.
+use Prim.Native.Nat.{ℕ, zero, suc, _+_, _-_, _≤_, _<_}
+use native.Mathlib.Numerals.{add-one}
+use native.Mathlib.Omega.{arith}
+use mathlib.Core.Path.{_≡_, refl, sym, ap, ap₂, _∙_}
+use mathlib.Core.Bool.{Bool, true, false, _&&_, _||_, not}
+use mathlib.Core.List.{[], _∷_}
+use lib.Dec.{eqb, leb, ltb, eqb·suc-zero}
+use lib.ListN.{length, take, drop, getD, length-drop, drop-of-length-le, List·getD-eq-default}
+use lib.Seq.{drop-cons, drop-drop, take-all}
+use borrow.Author.Tests.{le-leb, lt-leb}
+use Rattle.rules.specs.Bytes.{Bytes, all, isNone}
+use Rattle.rules.specs.Layout.{nameWidth}
+use Rattle.rules.specs.WellFormed.{startsName, inName, storedName, isValue, isFill}
+use Rattle.rules.specs.Decode.{numberAt, sortOf}
+use Rattle.records.specs.Records.{zeros, used, filled, nameFits, valueFits, definitionFits, attributeFits, unusedFit, rowFits}
+use Rattle.records.proofs.RecordLaws.{drop-take}
+
+-- ---- each byte
+module _ (p : ℕ → Bool) (bs : Bytes) (i : ℕ) where
+  all-here : i < length bs → all p (drop i bs) ≡ (p (getD bs i 0) && all p (drop (i + 1) bs))
+  all-here h = rw (add-one, drop-cons bs i 0 h)
+
+  pub all-on : {b : Bool} → b ≡ all p (drop i bs) → i < length bs → p (getD bs i 0) ≡ true → b ≡ all p (drop (i + 1) bs)
+  all-on e h t = e ∙ all-here h ∙ rw t
+
+  pub all-off : {b : Bool} → b ≡ all p (drop i bs) → i < length bs → p (getD bs i 0) ≡ false → false ≡ b
+  all-off e h t = sym (e ∙ all-here h ∙ rw t)
+
+  pub all-end : {b : Bool} → b ≡ all p (drop i bs) → length bs ≤ i → true ≡ b
+  all-end e h = sym (e ∙ ap (all p) (drop-of-length-le bs h))
+
+-- ---- parts
+pub tail-whole : (bs : Bytes) (n : ℕ) → take (length bs - n) (drop n bs) ≡ drop n bs
+tail-whole bs n = take-all (length bs - n) (drop n bs) (omega (arith, length-drop n bs))
+
+-- ---- names, values, fields
+pub name-none : (bs : Bytes) → length bs ≡ 0 → storedName bs ≡ false
+name-none [] e = refl
+name-none (x ∷ xs) e = absurd (omega arith)
+
+pub name-some : (bs : Bytes) → (length bs ≡ 0 → ⊥) → storedName bs ≡ (startsName (getD bs 0 0) && all inName (drop 1 bs) && leb (length bs) nameWidth)
+name-some [] h = absurd (h refl)
+name-some (x ∷ xs) h = refl
+
+pub none-length : (bs : Bytes) → isNone bs ≡ eqb (length bs) 0
+none-length [] = refl
+none-length (x ∷ xs) = sym (eqb·suc-zero (length xs))
+
+pub filled-wide : (bs : Bytes) (at l width : ℕ) → width < l → filled bs at l width ≡ false
+filled-wide bs at l width h = rw (lt-leb l width h)
+
+-- the zeros after the used bytes, cut out of the field
+pub filled-narrow : (bs : Bytes) (at l width : ℕ) → l ≤ width → filled bs at l width ≡ zeros (drop l (take width (drop at bs)))
+filled-narrow bs at l width h = rw (le-leb l width h) (ap zeros (ap (take (width - l)) (sym (drop-drop l at bs)) ∙ sym (drop-take l width (drop at bs) h)))
+
+-- past the end there is no name
+pub name-past : (bs : Bytes) (at : ℕ) → length bs ≤ at → nameFits bs at ≡ false
+unfolding nameFits
+name-past bs at h = rw (List·getD-eq-default bs 0 h)
+
+-- ---- what the calls of a function give together
+pub name-of : (bs rest : Bytes) {a b : Bool} → (length bs ≡ 0 → ⊥) → a ≡ startsName (getD bs 0 0) → rest ≡ drop 1 bs → b ≡ all inName rest → (a && b && leb (length bs) nameWidth) ≡ storedName bs
+name-of bs rest h a r b = ap₂ (λ (x y : Bool). x && y && leb (length bs) nameWidth) a (b ∙ ap (all inName) r) ∙ sym (name-some bs h)
+
+pub fill-any : (sort : ℕ) (v : Bytes) → (sort ≡ 0 → ⊥) → (sort ≡ 1 → ⊥) → isFill (sortOf sort) v ≡ true
+fill-any zero v f g = absurd (f refl)
+fill-any (suc zero) v f g = absurd (g refl)
+fill-any (suc (suc k)) v f g = refl
+
+pub filled-of : (bs : Bytes) (at l width : ℕ) (rest field tail : Bytes) {b : Bool} → l ≤ width → rest ≡ drop at bs → field ≡ take width rest → tail ≡ drop l field → b ≡ zeros tail → b ≡ filled bs at l width
+filled-of bs at l width rest field tail h r f t z = z ∙ ap zeros (t ∙ ap (drop l) (f ∙ ap (take width) r)) ∙ sym (filled-narrow bs at l width h)
+
+pub name-fits-of : (bs : Bytes) (at l : ℕ) (rest part : Bytes) {a b : Bool} → l ≡ getD bs at 0 → rest ≡ drop (at + 1) bs → part ≡ take l rest → a ≡ storedName part → b ≡ filled bs (at + 1) l nameWidth → (a && b) ≡ nameFits bs at
+unfolding nameFits
+name-fits-of bs at l rest part e r p a b =
+    ap₂ (λ (x y : Bool). x && y) (a ∙ ap storedName (p ∙ ap (take l) r)) b
+    ∙ ap₂ (λ (k n : ℕ). storedName (used bs k n) && filled bs k n nameWidth) (add-one at) e
+
+pub value-fits-of : (w : ℕ) (bs : Bytes) (at l : ℕ) (rest part : Bytes) {a b : Bool} → rest ≡ drop at bs → part ≡ take l rest → a ≡ isValue w part → b ≡ filled bs at l w → (a && b) ≡ valueFits w bs at l
+unfolding valueFits
+value-fits-of w bs at l rest part r p a b = ap₂ (λ (x y : Bool). x && y) (a ∙ ap (isValue w) (p ∙ ap (take l) r)) b
+
+pub definition-of : (bs : Bytes) (kind particles : ℕ) {a : Bool} → kind ≡ getD bs 17 0 → particles ≡ numberAt 18 2 bs → a ≡ nameFits bs 0 → (a && (leb kind 2 && (eqb kind 2 || eqb particles 0))) ≡ definitionFits bs
+unfolding definitionFits
+definition-of bs kind particles k p a = λ i. a i && (leb (k i) 2 && (eqb (k i) 2 || eqb (p i) 0))
+
+pub attribute-of : (w n : ℕ) (bs : Bytes) (owner sort l : ℕ) (rest value : Bytes) {a b c : Bool} → owner ≡ getD bs 0 0 → sort ≡ getD bs 18 0 → l ≡ getD bs 19 0 → rest ≡ drop 20 bs → value ≡ take l rest
+    → a ≡ nameFits bs 1 → b ≡ valueFits w bs 20 l → c ≡ isFill (sortOf sort) value → (ltb owner n && (a && (leb sort 2 && (b && c)))) ≡ attributeFits w n bs
+unfolding attributeFits
+attribute-of w n bs owner sort l rest value o s u r v a b c =
+    ap₂ (λ (y z : Bool). ltb owner n && (y && (leb sort 2 && z))) a (ap₂ (λ (y z : Bool). y && z) b (c ∙ ap (isFill (sortOf sort)) (v ∙ ap (take l) r)))
+    ∙ (λ i. ltb (o i) n && (nameFits bs 1 && (leb (s i) 2 && (valueFits w bs 20 (u i) && isFill (sortOf (s i)) (used bs 20 (u i))))))
+
+pub unused-of : (w : ℕ) (bs : Bytes) (x y z : ℕ) → x ≡ getD bs 9 0 → y ≡ getD bs (10 + w) 0 → z ≡ getD bs (11 + w) 0 → (eqb x 0 && (eqb y 0 && eqb z 0)) ≡ unusedFit w bs
+unfolding unusedFit
+unused-of w bs x y z p q r = λ i. eqb (p i) 0 && (eqb (q i) 0 && eqb (r i) 0)
+
+pub row-of : (w : ℕ) (bs : Bytes) (sort l index : ℕ) {b u : Bool} → sort ≡ getD bs 0 0 → l ≡ getD bs 8 0 → index ≡ numberAt 2 2 bs → b ≡ valueFits w bs 10 l → u ≡ unusedFit w bs
+    → ((leb 1 sort && leb sort 3) && (b && ((not (eqb sort 1) || eqb l 0) && ((not (eqb sort 3) || eqb index 0) && u)))) ≡ rowFits w bs
+unfolding rowFits
+row-of w bs sort l index s e n b u =
+    ap₂ (λ (y z : Bool). (leb 1 sort && leb sort 3) && (y && ((not (eqb sort 1) || eqb l 0) && ((not (eqb sort 3) || eqb index 0) && z)))) b u
+    ∙ (λ i. (leb 1 (s i) && leb (s i) 3) && (valueFits w bs 10 (e i) && ((not (eqb (s i) 1) || eqb (e i) 0) && ((not (eqb (s i) 3) || eqb (n i) 0) && unusedFit w bs))))

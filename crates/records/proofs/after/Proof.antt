@@ -1,0 +1,37 @@
+use mathlib.Core.Path.{sym}
+use lib.ListN.{drop-of-length-le}
+use Rattle.records.proofs.CodeLaws.{tail-whole}
+use borrow.Author.Needs.{needs}
+use Rattle.records.proofs.after.Statement.{statement}
+use Rattle.records.proofs.after.Tie as tie
+use Rattle.records.proofs.after.Reads as reads
+use Rattle.records.proofs.after.Lts as lts
+
+sub-result : tie.Need-sub-result
+sub-result c = search needs
+
+part-result-start : tie.Need-part-result-start
+part-result-start c = search needs
+
+part-result-end : tie.Need-part-result-end
+part-result-end c = search needs
+
+returns : tie.Need-returns
+returns c = tail-whole (c .before .before .args .s .now) (c .before .before .args .n)
+
+slice-aggregate-result : tie.Need-slice-aggregate-result
+slice-aggregate-result c = search needs
+
+returns-2 : tie.Need-returns-2
+returns-2 c = sym (drop-of-length-le (c .before .before .args .s .now) (c .before .if1 .left))
+
+pub after-spec : {M : Type 1} → statement M
+after-spec =
+    tie.close
+    (tie.spec
+    sub-result
+    part-result-start
+    part-result-end
+    returns
+    slice-aggregate-result
+    returns-2)

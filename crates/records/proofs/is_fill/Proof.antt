@@ -1,0 +1,23 @@
+use mathlib.Core.Path.{sym, ap, _∙_}
+use Prim.Native.Nat.{ℕ}
+use mathlib.Core.Bool.{not}
+use Rattle.rules.specs.Decode.{sortOf}
+use Rattle.rules.specs.WellFormed.{isFill}
+use Rattle.records.proofs.CodeLaws.{none-length, fill-any}
+use borrow.Author.Needs.{needs}
+use Rattle.records.proofs.is_fill.Statement.{statement}
+use Rattle.records.proofs.is_fill.Tie as tie
+use Rattle.records.proofs.is_fill.Reads as reads
+use Rattle.records.proofs.is_fill.Lts as lts
+
+returns : tie.Need-returns
+returns c = let v = c .before .args .value .now in sym (ap (λ (k : ℕ). isFill (sortOf k) v) (c .if1 .taken) ∙ none-length v)
+
+returns-2 : tie.Need-returns-2
+returns-2 c = let v = c .before .before .args .value .now in sym (ap (λ (k : ℕ). isFill (sortOf k) v) (c .if2 .taken) ∙ ap not (none-length v))
+
+returns-3 : tie.Need-returns-3
+returns-3 c = sym (fill-any (c .before .before .args .sort) (c .before .before .args .value .now) (c .before .if1 .left) (c .if2 .left))
+
+pub is-fill-spec : {M : Type 1} → statement M
+is-fill-spec = tie.close (tie.spec returns returns-2 returns-3)

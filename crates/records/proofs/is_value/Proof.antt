@@ -1,0 +1,19 @@
+use mathlib.Core.Path.{ap}
+use mathlib.Core.Bool.{Bool, _&&_}
+use lib.Dec.{leb}
+use lib.ListN.{length}
+use borrow.Author.Needs.{needs}
+use Rattle.records.proofs.is_value.Statement.{statement}
+use Rattle.records.proofs.is_value.Tie as tie
+use Rattle.records.proofs.is_value.Reads as reads
+use Rattle.records.proofs.is_value.Lts as lts
+use Rattle.records.proofs.all_printable.Reads as all-printable-reads
+
+all-printable-requires : tie.Need-all-printable-requires
+all-printable-requires c κs = search needs
+
+returns : tie.Need-returns
+returns c = ap (λ (t : Bool). leb (length (c .before .before .args .s .now)) 32 && t) (c .all-printable .ensures)
+
+pub is-value-spec : {M : Type 1} → statement M
+is-value-spec = tie.close (tie.spec all-printable-requires returns)

@@ -1,0 +1,54 @@
+use mathlib.Core.Path.{sym, _∙_}
+use Rattle.records.proofs.CodeLaws.{name-past, name-fits-of}
+use borrow.Author.Needs.{needs}
+use Rattle.records.proofs.name_fits.Statement.{statement}
+use Rattle.records.proofs.name_fits.Tie as tie
+use Rattle.records.proofs.name_fits.Reads as reads
+use Rattle.records.proofs.name_fits.Lts as lts
+use Rattle.codec.proofs.byte.Reads as byte-reads
+use Rattle.records.proofs.after.Reads as after-reads
+use Rattle.records.proofs.filled.Reads as filled-reads
+use Rattle.records.proofs.first.Reads as first-reads
+use Rattle.records.proofs.stored_name.Reads as stored-name-reads
+use Rattle.records.proofs.wide.Reads as wide-reads
+
+returns : tie.Need-returns
+returns c = sym (name-past (c .before .before .args .rec .now) (c .before .before .args .at) (c .if1 .taken))
+
+add-start : tie.Need-add-start
+add-start c = search needs
+
+byte-requires : tie.Need-byte-requires
+byte-requires c κs = search needs
+
+wide-requires : tie.Need-wide-requires
+wide-requires c κs = search needs
+
+after-requires : tie.Need-after-requires
+after-requires c κs = search needs
+
+first-requires : tie.Need-first-requires
+first-requires c κs = search needs
+
+stored-name-requires : tie.Need-stored-name-requires
+stored-name-requires c κs = search needs
+
+filled-requires : tie.Need-filled-requires
+filled-requires c κs = search needs
+
+returns-2 : tie.Need-returns-2
+returns-2 c = let a = c .before .before .before .before .before .before .before .before .args in name-fits-of (a .rec .now) (a .at) _ _ _ (c .before .before .before .before .wide .ensures ∙ c .before .before .before .before .before .byte .ensures) (c .before .before .before .after .ensures) (c .before .before .first .ensures) (c .before .stored-name .ensures) (c .filled .ensures)
+
+pub name-fits-spec : {M : Type 1} → statement M
+name-fits-spec =
+    tie.close
+    (tie.spec
+    returns
+    add-start
+    byte-requires
+    wide-requires
+    after-requires
+    first-requires
+    stored-name-requires
+    filled-requires
+    returns-2)

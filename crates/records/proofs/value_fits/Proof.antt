@@ -1,0 +1,30 @@
+use Rattle.records.specs.Records.{baseWidth}
+use Rattle.records.proofs.CodeLaws.{value-fits-of}
+use borrow.Author.Needs.{needs}
+use Rattle.records.proofs.value_fits.Statement.{statement}
+use Rattle.records.proofs.value_fits.Tie as tie
+use Rattle.records.proofs.value_fits.Reads as reads
+use Rattle.records.proofs.value_fits.Lts as lts
+use Rattle.records.proofs.after.Reads as after-reads
+use Rattle.records.proofs.filled.Reads as filled-reads
+use Rattle.records.proofs.first.Reads as first-reads
+use Rattle.records.proofs.is_value.Reads as is-value-reads
+
+after-requires : tie.Need-after-requires
+after-requires c κs = search needs
+
+first-requires : tie.Need-first-requires
+first-requires c κs = search needs
+
+is-value-requires : tie.Need-is-value-requires
+is-value-requires c κs = search needs
+
+filled-requires : tie.Need-filled-requires
+filled-requires c κs = search needs
+
+returns : tie.Need-returns
+returns c = let a = c .before .before .before .before .before .args in value-fits-of baseWidth (a .rec .now) (a .at) (a .used) _ _ (c .before .before .before .after .ensures) (c .before .before .first .ensures) (c .before .is-value .ensures) (c .filled .ensures)
+
+pub value-fits-spec : {M : Type 1} → statement M
+value-fits-spec =
+    tie.close (tie.spec after-requires first-requires is-value-requires filled-requires returns)

@@ -2,7 +2,7 @@
 -- Assumes nothing.
 use Prim.Native.Nat.{ℕ, zero, suc}
 use native.Mathlib.Omega.{arith}
-use mathlib.Core.Path.{_≡_, refl, ap, _∙_}
+use mathlib.Core.Path.{_≡_, refl, ap, sym, _∙_}
 use mathlib.Core.Logic.{⊎-elim}
 use mathlib.Core.Bool.{Bool, true, false, not, _&&_, false≢true}
 use mathlib.Core.List.{List, [], _∷_, map, List·Memᴰ, List·Memᴰ·head, List·Memᴰ·tail, List·Memᴰ·cases-cons, List·Memᴰ·not-nil}
@@ -10,12 +10,13 @@ use lib.Dec.{eqb}
 use borrow.Author.Tests.{eq-eqb, ne-eqb, eqb-true}
 use Rattle.rules.specs.Bytes.{numbers}
 use Rattle.rules.specs.Model.{Members, Distinct, names}
-use Rattle.rules.specs.Automaton.{continues, accepts}
+use Rattle.model.specs.Steps.{steps, finishes, runs}
 use Rattle.rules.specs.Layout.{FlatRow}
 use Rattle.rules.proofs.Words.{and-both, and-split}
 use Rattle.rules.proofs.Correct.{accepts-conforms}
+use Rattle.model.proofs.FactsLaws.{runs-accepts}
 use Rattle.rowpass.specs.Indices.{indexIn, Sort, ContentOf}
-use Rattle.rowpass.specs.Judge.{steps, finishes, childMay, childrenEnd}
+use Rattle.rowpass.specs.Judge.{childMay, childrenEnd}
 
 -- ---- rows of one sort
 pub sort-none : {s : ℕ} → Sort s []
@@ -42,36 +43,21 @@ walks k ms last [] = childrenEnd k ms last
 walks k ms last (r ∷ rs) = childMay k ms last (r .sort) (r .index) && walks k ms (suc (r .index)) rs
 
 module _ (ms : Members ℕ) where
-  -- the one-pass test of a model, after `last`
-  abbrev rest : ℕ → List ℕ → Bool
-  rest zero w = accepts numbers ms w
-  rest (suc x) w = continues numbers ms x w
-
-  rest-none : (last : ℕ) → finishes ms last ≡ rest last []
-  unfolding accepts continues
-  rest-none zero = refl
-  rest-none (suc x) = refl
-
-  rest-more : (last y : ℕ) (w : List ℕ) → (steps ms last y && rest (suc y) w) ≡ rest last (y ∷ w)
-  unfolding accepts continues
-  rest-more zero y w = refl
-  rest-more (suc x) y w = refl
-
   module _ (k : ℕ) where
-    word→ : (last : ℕ) (rs : List FlatRow) → walks (suc (suc k)) ms last rs ≡ true → Sort 1 rs × (rest last (map indexIn rs) ≡ true)
-    unfolding walks
-    word→ last [] e = (sort-none, rw rest-none at e)
+    word→ : (last : ℕ) (rs : List FlatRow) → walks (suc (suc k)) ms last rs ≡ true → Sort 1 rs × (runs ms last (map indexIn rs) ≡ true)
+    unfolding walks runs
+    word→ last [] e = (sort-none, e)
     word→ last (r ∷ rs) e =
         let (u, v) = and-split (eqb (r .sort) 1 && steps ms last (r .index)) (walks (suc (suc k)) ms (suc (r .index)) rs) e in
         let (s, t) = and-split (eqb (r .sort) 1) (steps ms last (r .index)) u in
         let (p, q) = word→ (suc (r .index)) rs v in
-        (sort-more (eqb-true (r .sort) 1 s) p, rw rest-more at (and-both t q))
+        (sort-more (eqb-true (r .sort) 1 s) p, and-both t q)
 
-    word← : (last : ℕ) (rs : List FlatRow) → Sort 1 rs → rest last (map indexIn rs) ≡ true → walks (suc (suc k)) ms last rs ≡ true
-    unfolding walks
-    word← last [] p e = rw rest-none e
+    word← : (last : ℕ) (rs : List FlatRow) → Sort 1 rs → runs ms last (map indexIn rs) ≡ true → walks (suc (suc k)) ms last rs ≡ true
+    unfolding walks runs
+    word← last [] p e = e
     word← last (r ∷ rs) p e =
-        let (t, q) = and-split (steps ms last (r .index)) (rest (suc (r .index)) (map indexIn rs)) (rest-more last (r .index) (map indexIn rs) ∙ e) in
+        let (t, q) = and-split (steps ms last (r .index)) (runs ms (suc (r .index)) (map indexIn rs)) e in
         and-both (and-both (eq-eqb (r .sort) 1 (sort-first p)) t) (word← (suc (r .index)) rs (sort-rest p) q)
 
   module _ (d : Distinct (names ms)) where
@@ -90,10 +76,10 @@ module _ (ms : Members ℕ) where
         let (s, t) = and-split (eqb (x .sort) 3) (eqb (suc (r .index)) 0) p in
         let z = eqb-true (suc (r .index)) 0 t in
         absurd (omega arith)
-    content→ (suc (suc k)) rs e = let (p, q) = word→ k 0 rs e in (p, accepts-conforms numbers ms d (map indexIn rs) .0 q)
+    content→ (suc (suc k)) rs e = let (p, q) = word→ k 0 rs e in (p, accepts-conforms numbers ms d (map indexIn rs) .0 (sym (runs-accepts ms (map indexIn rs)) ∙ q))
 
     pub content← : (k : ℕ) (rs : List FlatRow) → ContentOf k ms rs → walks k ms 0 rs ≡ true
     unfolding walks
     content← zero rs e = rw e
     content← (suc zero) rs (r, e, s) = rw e (and-both (and-both (eq-eqb (r .sort) 3 s) refl) (rw (ne-eqb (suc (r .index)) 0 (λ z. omega arith))))
-    content← (suc (suc k)) rs (p, q) = word← k 0 rs p (accepts-conforms numbers ms d (map indexIn rs) .1 q)
+    content← (suc (suc k)) rs (p, q) = word← k 0 rs p (runs-accepts ms (map indexIn rs) ∙ accepts-conforms numbers ms d (map indexIn rs) .1 q)

@@ -4,3 +4,4 @@ pub mod Numbers
 pub mod Attributes
 pub mod Children
 pub mod JudgeLaws
+pub mod ReadingLaws

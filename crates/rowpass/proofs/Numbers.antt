@@ -5,7 +5,7 @@ use native.Mathlib.Omega.{arith}
 use native.Mathlib.Numerals.{sub-one}
 use native.Mathlib.Nat.{not-suc-le-zero}
 use mathlib.Core.Path.{_≡_, refl, sym, _∙_}
-use mathlib.Core.Bool.{Bool, true, false, _&&_}
+use mathlib.Core.Bool.{Bool, true, false, not, _&&_}
 use lib.Dec.{leb}
 use borrow.Author.Tests.{le-leb, lt-leb, leb-true}
 use Rattle.rules.proofs.Words.{and-both, and-split}
@@ -42,3 +42,19 @@ module _ (p : ℕ → Bool) where
   unfolding every
   every-stop a zero h = refl
   every-stop a (suc k) h = rw (lt-leb a k h, every)
+
+-- ---- a loop over the numbers from the back
+pub record Left (p : ℕ → Bool) (a b k : ℕ) : Type 0 where
+  pub is : every p b a ≡ every p k a
+  pub low : k ≤ b
+
+module _ (p : ℕ → Bool) (a b k : ℕ) (l : Left p a b k) where
+  pub left-ends : k ≤ a → true ≡ every p b a
+  left-ends h = sym (l .is ∙ every-stop p a k h)
+
+  module _ (h : a < k) (fails : Bool) (e : not fails ≡ p (k - 1)) where
+    pub left-on : fails ≡ false → Left p a b (k - 1)
+    left-on f = record { is = l .is ∙ every-step p a k h ∙ rw (← e, f); low = omega (arith, l .low) }
+
+    pub left-no : fails ≡ true → false ≡ every p b a
+    left-no f = sym (l .is ∙ every-step p a k h ∙ rw (← e, f))

@@ -3,11 +3,9 @@
 use Prim.Native.Nat.{ℕ, zero, suc}
 use mathlib.Core.Bool.{Bool, true, false, not, _&&_}
 use lib.Dec.{ltb, leb, eqb}
-use Rattle.rules.specs.Bytes.{numbers}
-use Rattle.rules.specs.Model.{Members, nothing}
-use Rattle.rules.specs.Automaton.{facts}
-use Rattle.rules.specs.declared.GroupKind.the-variants.{Sequence}
+use Rattle.rules.specs.Model.{Members}
 use Rattle.rules.specs.Layout.{FlatRow}
+use Rattle.model.specs.Steps.{steps, finishes}
 use Rattle.rowpass.specs.declared.Level.{Level}
 use Rattle.rowpass.specs.Indices.{IndexForm}
 use Rattle.rowpass.specs.Machine.{Automaton}
@@ -17,16 +15,7 @@ unfoldable pub every : (ℕ → Bool) → ℕ → ℕ → Bool
 every p zero a = true
 every p (suc b) a = elim (leb a b) [ true ↦ p b && every p b a | false ↦ true ]
 
--- ---- children, after `last` (0: none, else 1 and the index of the last)
-abbrev pub steps : Members ℕ → ℕ → ℕ → Bool
-steps ms zero y = facts numbers Sequence ms y y .first
-steps ms (suc x) y = facts numbers Sequence ms x y .follow
-
-abbrev pub finishes : Members ℕ → ℕ → Bool
-finishes ms zero = nothing Sequence ms
-finishes ms (suc x) = facts numbers Sequence ms x x .last
-
--- by the kind of the definition
+-- ---- children, after `last` (0: none, else 1 and the index of the last), by the kind of the definition
 abbrev pub childMay : ℕ → Members ℕ → ℕ → ℕ → ℕ → Bool
 childMay zero ms last sort index = false
 childMay (suc zero) ms last sort index = eqb sort 3 && eqb last 0

@@ -1,6 +1,6 @@
 -- The pass with the automaton of a form accepts exactly the rows of documents that conform to it.
 -- Assumes nothing.
-use Prim.Native.Nat.{ℕ, zero, suc, _≤_, _<_}
+use Prim.Native.Nat.{ℕ, suc}
 use native.Mathlib.Omega.{arith}
 use mathlib.Core.Path.{_≡_, refl, ap, _∙_, sym}
 use mathlib.Core.Logic.{_↔_}
@@ -15,9 +15,9 @@ use Rattle.rules.specs.Preorder.{Deep}
 use Rattle.rules.specs.Layout.{FlatRow}
 use Rattle.rules.proofs.Words.{and-both, and-split}
 use Rattle.rowpass.specs.declared.Level.{Level}
-use Rattle.rowpass.specs.Indices.{IndexForm, Sort, ContentOf, Owned, Whole, Below, Under, Everywhere, Documents}
+use Rattle.rowpass.specs.Indices.{IndexForm, Sort, Below, Everywhere, Documents}
 use Rattle.rowpass.specs.Machine.{runs, Fine, machine}
-use Rattle.rowpass.specs.Judge.{every, spare, attributeMay, childMay, childrenEnd, rowMay, rowsEnd, after, entered, ground, judge}
+use Rattle.rowpass.specs.Judge.{every, spare, attributeMay, childMay, childrenEnd, rowMay, after, entered, ground, judge}
 use Rattle.rowpass.proofs.MachineLaws.{Within, accepted}
 use Rattle.rowpass.proofs.Attributes.{Taken, taken→, taken←}
 use Rattle.rowpass.proofs.Children.{sort-none, sort-more, sort-first, sort-rest, child-not, walks, content→, content←}

@@ -5,3 +5,4 @@ pub mod Attributes
 pub mod Children
 pub mod JudgeLaws
 pub mod ReadingLaws
+pub mod PassLaws

@@ -5,7 +5,7 @@ use native.Mathlib.Omega.{arith}
 use native.Mathlib.Numerals.{add-one, sub-one}
 use mathlib.Core.Path.{_≡_, refl, ap, sym, _∙_}
 use mathlib.Core.Bool.{Bool, true, false, not, _&&_}
-use mathlib.Core.List.{List, [], _∷_}
+use mathlib.Core.List.{[]}
 use lib.Dec.{ltb, leb, eqb}
 use lib.ListN.{length, take, drop, getD, length-drop, drop-of-length-le}
 use lib.Seq.{getD-drop, drop-drop, take-all, take-nil}
@@ -20,9 +20,8 @@ use Rattle.model.specs.Steps.{steps, finishes}
 use Rattle.model.specs.Members.{membersOf}
 use Rattle.rowpass.specs.declared.Level.{Level}
 use Rattle.rowpass.specs.Indices.{IndexForm}
-use Rattle.rowpass.specs.Judge.{every, spare, childMay, childrenEnd, attributeMay, freed, rowMay, rowsEnd, may, ends, after, entered}
-use Rattle.rowpass.specs.Reading.{recordAt, definitionIn, attributeIn, particlesBefore, modelPart, attributesOf, indexForm}
-use Rattle.rowpass.proofs.Numbers.{every-step, every-stop}
+use Rattle.rowpass.specs.Judge.{every, spare, childMay, childrenEnd, attributeMay, freed, rowMay, may, ends, after, entered}
+use Rattle.rowpass.specs.Reading.{recordAt, definitionIn, attributeIn, particlesBefore, modelPart}
 
 -- ---- parts of a byte string, as far as it goes
 module _ (s : Bytes) (at n : ℕ) where

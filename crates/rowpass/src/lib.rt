@@ -276,3 +276,99 @@ fn row_index(row: &[u8]) -> u16
 {
     codec::get_u16(row, 2) as u16
 }
+
+// Whether a row's fields fit and it may come next at a level.
+fn row_passes(
+    n: usize,
+    defs: &[u8],
+    parts: &[u8],
+    a: usize,
+    attrs: &[u8],
+    l: Level,
+    row: &[u8],
+) -> bool
+    requires { ⌜ (n ≤ 64) × (a ≤ 64) ⌝ }
+    ensures { λ r. ⌜ r ≡ (rowFits baseWidth (now (row .entry)) && judge (indexForm n (now (defs .entry)) (now (parts .entry)) (now (attrs .entry)) a) .may l (readRow (now (row .entry)) .row)) ⌝ }
+{
+    records::row_fits(row) & may_come(n, defs, parts, a, attrs, l, row)
+}
+
+// How many levels stay open: none where no row is left, and those up to the next row's own.
+fn kept(t: &[u8], m: usize) -> usize
+    ensures { λ r. ⌜ (r ≡ keeps (rowsIn m (now (t .entry)))) × (r ≤ 256) ⌝ }
+{
+    if m == 0 {
+        return 0;
+    }
+    codec::byte(t, 1) as usize + 1
+}
+
+// The one pass: a row closes the levels deeper than its own, comes next at its own, and opens one more.
+fn pass(
+    n: usize,
+    defs: &[u8],
+    parts: &[u8],
+    a: usize,
+    attrs: &[u8],
+    rows: &[u8],
+    count: usize,
+) -> bool
+    requires { ⌜ (n ≤ 64) × (a ≤ 64) × (44 * count ≤ length (now rows)) ⌝ }
+    ensures { λ r. ⌜ r ≡ verdict (indexForm n (now (defs .entry)) (now (parts .entry)) (now (attrs .entry)) a) count (now (rows .entry)) ⌝ }
+{
+    // a depth is a byte: 257 levels of 12 bytes, 3,084 in all
+    let mut levels = [Level {
+        holds: 0,
+        index: 0,
+        seen: 0,
+        last: 0,
+    }; 257];
+    let mut live = 1;
+    let mut t = rows;
+    let mut m = count;
+    loop {
+        let keep = kept(t, m);
+        if keep < live {
+            live -= 1;
+            let l = levels[live];
+            if !may_end(n, defs, parts, a, attrs, l) {
+                return false;
+            }
+        } else {
+            if live < keep {
+                return false;
+            }
+            if m == 0 {
+                return true;
+            }
+            let d = keep - 1;
+            let l = levels[d];
+            let row = &t[..44];
+            if !row_passes(n, defs, parts, a, attrs, l, row) {
+                return false;
+            }
+            levels[d] = after_row(l, row);
+            levels[keep] = below_row(row);
+            live = keep + 1;
+            t = &t[44..];
+            m -= 1;
+        }
+    }
+}
+
+/// Whether the rows' fields fit and they are those of documents that conform to a form of n definitions and a attributes in which
+/// no model names an element twice.
+pub fn rows_pass(
+    n: usize,
+    defs: &[u8],
+    parts: &[u8],
+    a: usize,
+    attrs: &[u8],
+    rows: &[u8],
+    count: usize,
+) -> bool
+    requires { ⌜ (n ≤ 64) × (a ≤ 64) × (44 * count ≤ length (now rows)) × ((i : ℕ) → Distinct (names (indexForm n (now defs) (now parts) (now attrs) a .model i))) ⌝ }
+    ensures { λ r. ⌜ (r ≡ true) ↔ ((eachFits (rowFits baseWidth) (rowSize baseWidth) count (now (rows .entry)) ≡ true) × Documents (indexForm n (now (defs .entry)) (now (parts .entry)) (now (attrs .entry)) a) (readMany readRow (rowSize baseWidth) count (now (rows .entry)))) ⌝ }
+{
+    pass(n, defs, parts, a, attrs, rows, count)
+}

@@ -1,4 +1,3 @@
-use mathlib.Core.Path.{ap, _∙_}
 use Rattle.rowpass.specs.Reading.{attributesOf}
 use Rattle.rules.specs.Decode.{readRow}
 use Rattle.rowpass.proofs.ReadingLaws.{attribute-late, attribute-past, attribute-comes, owner-read, value-read}
@@ -6,79 +5,55 @@ use native.Mathlib.Omega.{arith}
 use borrow.Author.Needs.{needs}
 use Rattle.rowpass.proofs.attribute_may.Statement.{statement}
 use Rattle.rowpass.proofs.attribute_may.Tie as tie
-use Rattle.rowpass.proofs.attribute_may.Reads as reads
-use Rattle.rowpass.proofs.attribute_may.Lts as lts
-use Rattle.codec.proofs.byte.Reads as byte-reads
-use Rattle.codec.proofs.get_u16.Reads as get-u16-reads
-use Rattle.rowpass.proofs.cut.Reads as cut-reads
-use Rattle.rowpass.proofs.spares.Reads as spares-reads
-use Rattle.rowpass.proofs.value_may.Reads as value-may-reads
 
--- src/lib.rt:168:13
 get-u16-requires : tie.Need-get-u16-requires
 get-u16-requires c κs = search needs
 
--- src/lib.rt:168:13
 cast-j : tie.Need-cast-j
 cast-j c = search needs
 
--- src/lib.rt:170:9
 returns : tie.Need-returns
 returns c = search needs
 
--- src/lib.rt:172:12
 sub-if2 : tie.Need-sub-if2
 sub-if2 c = search needs
 
--- src/lib.rt:173:9
 returns-2 : tie.Need-returns-2
 returns-2 c = let a = c .before .before .before .before .before .args in attribute-late (attributesOf (a .attrs .now) (a .a)) (a .i) (a .seen) (readRow (a .row .now) .row) _ (c .before .before .get-u16 .ensures) (c .before .if1 .left) (omega arith)
 
--- src/lib.rt:176:9
 returns-3 : tie.Need-returns-3
 returns-3 c = let a = c .before .before .before .before .before .before .args in attribute-past (attributesOf (a .attrs .now) (a .a)) (a .i) (a .seen) (readRow (a .row .now) .row) _ (c .before .before .before .get-u16 .ensures) (c .before .before .if1 .left) (omega arith) (omega arith)
 
--- src/lib.rt:178:40
 mul-cut : tie.Need-mul-cut
 mul-cut c = search needs
 
--- src/lib.rt:178:29
 cut-requires : tie.Need-cut-requires
 cut-requires c κs = search needs
 
--- src/lib.rt:178:17
 byte-requires : tie.Need-byte-requires
 byte-requires c κs = search needs
 
--- src/lib.rt:178:17
 cast-owner : tie.Need-cast-owner
 cast-owner c = search needs
 
--- src/lib.rt:179:26
 byte-requires-2 : tie.Need-byte-requires-2
 byte-requires-2 c κs = search needs
 
--- src/lib.rt:179:26
 cast-cut : tie.Need-cast-cut
 cast-cut c = search needs
 
--- src/lib.rt:179:9
 cut-requires-2 : tie.Need-cut-requires-2
 cut-requires-2 c κs = search needs
 
--- src/lib.rt:180:21
 value-may-requires : tie.Need-value-may-requires
 value-may-requires c κs = search needs
 
--- src/lib.rt:180:63
 sub-spares : tie.Need-sub-spares
 sub-spares c = search needs
 
--- src/lib.rt:180:46
 spares-requires : tie.Need-spares-requires
 spares-requires c κs = search needs
 
--- src/lib.rt:164:1
 returns-4 : tie.Need-returns-4
 returns-4 c = let a = c .before .before .before .before .before .before .before .before .before .before .before .before .args in attribute-comes (attributesOf (a .attrs .now) (a .a)) (a .i) (a .seen) (readRow (a .row .now) .row) (c .before .before .before .before .before .before .before .before .before .get-u16 .result) (c .before .before .before .before .before .before .before .before .before .get-u16 .ensures) (c .before .before .before .before .before .before .before .before .if1 .left) (omega arith) (omega arith) _ _ _ (owner-read _ (a .attrs .now) (c .before .before .before .before .before .before .before .before .before .get-u16 .result) (c .before .before .before .before .before .cut .ensures) _ (c .before .before .before .before .byte .ensures)) (value-read (attributesOf (a .attrs .now) (a .a)) (c .before .before .before .before .before .before .before .before .before .get-u16 .result) (a .row .now) _ _ _ (c .before .before .before .byte2 .ensures) (c .before .before .cut2 .ensures) (c .before .value-may .ensures)) (c .spares .ensures)
 

@@ -1,26 +1,17 @@
 use Rattle.rowpass.proofs.ReadingLaws.{below-element, below-other}
-use native.Mathlib.Omega.{arith}
 use borrow.Author.Needs.{needs}
 use Rattle.rowpass.proofs.below_row.Statement.{statement}
 use Rattle.rowpass.proofs.below_row.Tie as tie
-use Rattle.rowpass.proofs.below_row.Reads as reads
-use Rattle.rowpass.proofs.below_row.Lts as lts
-use Rattle.codec.proofs.byte.Reads as byte-reads
-use Rattle.rowpass.proofs.row_index.Reads as row-index-reads
 
--- src/lib.rt:248:8
 byte-requires : tie.Need-byte-requires
 byte-requires c κs = search needs
 
--- src/lib.rt:249:41
 row-index-requires : tie.Need-row-index-requires
 row-index-requires c κs = search needs
 
--- src/lib.rt:249:9
 returns : tie.Need-returns
 returns c = below-element _ _ _ (c .before .before .byte .ensures) (c .before .if1 .taken) _ (c .row-index .ensures)
 
--- src/lib.rt:245:1
 returns-2 : tie.Need-returns-2
 returns-2 c = below-other _ _ _ (c .before .byte .ensures) (c .if1 .left)
 

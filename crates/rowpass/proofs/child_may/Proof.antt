@@ -1,35 +1,23 @@
 use Rattle.rowpass.proofs.ReadingLaws.{child-none, child-text, child-word}
-use native.Mathlib.Omega.{arith}
 use borrow.Author.Needs.{needs}
 use Rattle.rowpass.proofs.child_may.Statement.{statement}
 use Rattle.rowpass.proofs.child_may.Tie as tie
-use Rattle.rowpass.proofs.child_may.Reads as reads
-use Rattle.rowpass.proofs.child_may.Lts as lts
-use Rattle.rowpass.proofs.kind_of.Reads as kind-of-reads
-use Rattle.rowpass.proofs.model_part.Reads as model-part-reads
-use Rattle.model.proofs.steps.Reads as steps-reads
 
--- src/lib.rt:83:9
 kind-of-requires : tie.Need-kind-of-requires
 kind-of-requires c κs = search needs
 
--- src/lib.rt:87:40
 model-part-requires : tie.Need-model-part-requires
 model-part-requires c κs = search needs
 
--- src/lib.rt:87:28
 steps-requires : tie.Need-steps-requires
 steps-requires c κs = search needs
 
--- src/lib.rt:79:1
 returns : tie.Need-returns
 returns c = let a = c .before .before .before .before .args in child-none _ _ (c .before .kind-of .ensures) _ (a .last) (a .sort) (a .index) (c .match .keys1)
 
--- src/lib.rt:79:1
 returns-2 : tie.Need-returns-2
 returns-2 c = let a = c .before .before .before .before .args in child-text _ _ (c .before .kind-of .ensures) _ (a .last) (a .sort) (a .index) (c .match .keys2)
 
--- src/lib.rt:79:1
 returns-3 : tie.Need-returns-3
 returns-3 c = let a = c .before .before .before .before .before .before .args in child-word _ _ (c .before .before .before .kind-of .ensures) (c .before .before .match .rest .0 .1) (c .before .before .match .rest .1) _ _ (c .before .model-part .ensures) (a .last) _ (a .sort) (a .index) (c .steps .ensures)
 

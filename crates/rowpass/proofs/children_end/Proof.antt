@@ -1,35 +1,23 @@
 use Rattle.rowpass.proofs.ReadingLaws.{end-empty, end-text, end-word}
-use native.Mathlib.Omega.{arith}
 use borrow.Author.Needs.{needs}
 use Rattle.rowpass.proofs.children_end.Statement.{statement}
 use Rattle.rowpass.proofs.children_end.Tie as tie
-use Rattle.rowpass.proofs.children_end.Reads as reads
-use Rattle.rowpass.proofs.children_end.Lts as lts
-use Rattle.rowpass.proofs.kind_of.Reads as kind-of-reads
-use Rattle.model.proofs.finishes.Reads as finishes-reads
-use Rattle.rowpass.proofs.model_part.Reads as model-part-reads
 
--- src/lib.rt:95:9
 kind-of-requires : tie.Need-kind-of-requires
 kind-of-requires c κs = search needs
 
--- src/lib.rt:99:29
 model-part-requires : tie.Need-model-part-requires
 model-part-requires c κs = search needs
 
--- src/lib.rt:99:14
 finishes-requires : tie.Need-finishes-requires
 finishes-requires c κs = search needs
 
--- src/lib.rt:91:1
 returns : tie.Need-returns
 returns c = let a = c .before .before .before .before .args in end-empty _ _ (c .before .kind-of .ensures) _ (a .last) (c .match .keys1)
 
--- src/lib.rt:91:1
 returns-2 : tie.Need-returns-2
 returns-2 c = let a = c .before .before .before .before .args in end-text _ _ (c .before .kind-of .ensures) _ (a .last) (c .match .keys2)
 
--- src/lib.rt:91:1
 returns-3 : tie.Need-returns-3
 returns-3 c = let a = c .before .before .before .before .before .before .args in end-word _ _ (c .before .before .before .kind-of .ensures) (c .before .before .match .rest .0 .1) (c .before .before .match .rest .1) _ _ (c .before .model-part .ensures) (a .last) _ (c .finishes .ensures)
 

@@ -1,27 +1,18 @@
 use Rattle.rowpass.specs.Reading.{attributesOf}
-use Rattle.rules.specs.Decode.{readRow}
 use Rattle.rowpass.proofs.ReadingLaws.{freed-open}
-use native.Mathlib.Omega.{arith}
 use borrow.Author.Needs.{needs}
 use Rattle.rowpass.proofs.is_freed.Statement.{statement}
 use Rattle.rowpass.proofs.is_freed.Tie as tie
-use Rattle.rowpass.proofs.is_freed.Reads as reads
-use Rattle.rowpass.proofs.is_freed.Lts as lts
-use Rattle.rowpass.proofs.spares.Reads as spares-reads
 
--- src/lib.rt:158:9
 returns : tie.Need-returns
 returns c = search needs
 
--- src/lib.rt:160:22
 sub-spares : tie.Need-sub-spares
 sub-spares c = search needs
 
--- src/lib.rt:160:5
 spares-requires : tie.Need-spares-requires
 spares-requires c κs = search needs
 
--- src/lib.rt:153:1
 returns-2 : tie.Need-returns-2
 returns-2 c = let a = c .before .before .before .args in freed-open (attributesOf (a .attrs .now) (a .a)) (a .i) (a .seen) _ (c .before .if1 .left) (c .spares .ensures)
 

@@ -1,44 +1,31 @@
 use Rattle.rowpass.specs.Reading.{indexForm}
-use Rattle.rules.specs.Decode.{readRow}
 use Rattle.rowpass.proofs.ReadingLaws.{ends-other, ends-unknown, ends-known}
 use native.Mathlib.Omega.{arith}
 use borrow.Author.Needs.{needs}
 use Rattle.rowpass.proofs.may_end.Statement.{statement}
 use Rattle.rowpass.proofs.may_end.Tie as tie
-use Rattle.rowpass.proofs.may_end.Reads as reads
-use Rattle.rowpass.proofs.may_end.Lts as lts
-use Rattle.rowpass.proofs.children_end.Reads as children-end-reads
-use Rattle.rowpass.proofs.is_freed.Reads as is-freed-reads
 
--- src/lib.rt:223:13
 cast-i : tie.Need-cast-i
 cast-i c = search needs
 
--- src/lib.rt:225:9
 returns : tie.Need-returns
 returns c = let a = c .before .before .before .before .before .before .args in ends-other (indexForm (a .n) (a .defs .now) (a .parts .now) (a .attrs .now) (a .a)) (a .l) _ (c .if1 .taken)
 
--- src/lib.rt:228:9
 returns-2 : tie.Need-returns-2
 returns-2 c = let a = c .before .before .before .before .before .before .before .args in ends-unknown (indexForm (a .n) (a .defs .now) (a .parts .now) (a .attrs .now) (a .a)) (a .l) _ (c .before .if1 .left) (omega arith)
 
--- src/lib.rt:230:27
 cast-is-freed : tie.Need-cast-is-freed
 cast-is-freed c = search needs
 
--- src/lib.rt:230:5
 is-freed-requires : tie.Need-is-freed-requires
 is-freed-requires c κs = search needs
 
--- src/lib.rt:230:75
 cast-children-end : tie.Need-cast-children-end
 cast-children-end c = search needs
 
--- src/lib.rt:230:46
 children-end-requires : tie.Need-children-end-requires
 children-end-requires c κs = search needs
 
--- src/lib.rt:219:1
 returns-3 : tie.Need-returns-3
 returns-3 c = let a = c .before .before .before .before .before .before .before .before .before .before .before .args in ends-known (indexForm (a .n) (a .defs .now) (a .parts .now) (a .attrs .now) (a .a)) (a .l) _ (c .before .before .before .before .before .if1 .left) (omega arith) _ _ (c .before .before .is-freed .ensures) (c .children-end .ensures)
 

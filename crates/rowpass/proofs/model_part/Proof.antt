@@ -1,36 +1,24 @@
 use mathlib.Core.Path.{_∙_}
 use Rattle.rowpass.proofs.ReadingLaws.{model-read}
-use native.Mathlib.Omega.{arith}
 use borrow.Author.Needs.{needs}
 use Rattle.rowpass.proofs.model_part.Statement.{statement}
 use Rattle.rowpass.proofs.model_part.Tie as tie
-use Rattle.rowpass.proofs.model_part.Reads as reads
-use Rattle.rowpass.proofs.model_part.Lts as lts
-use Rattle.rowpass.proofs.cut.Reads as cut-reads
-use Rattle.rowpass.proofs.particles_before.Reads as particles-before-reads
-use Rattle.rowpass.proofs.particles_of.Reads as particles-of-reads
 
--- src/lib.rt:75:20
 particles-before-requires : tie.Need-particles-before-requires
 particles-before-requires c κs = search needs
 
--- src/lib.rt:75:16
 mul-cut : tie.Need-mul-cut
 mul-cut c = search needs
 
--- src/lib.rt:75:51
 particles-of-requires : tie.Need-particles-of-requires
 particles-of-requires c κs = search needs
 
--- src/lib.rt:75:47
 mul-cut-2 : tie.Need-mul-cut-2
 mul-cut-2 c = search needs
 
--- src/lib.rt:75:5
 cut-requires : tie.Need-cut-requires
 cut-requires c κs = search needs
 
--- src/lib.rt:71:1
 returns : tie.Need-returns
 returns c = let a = c .before .before .before .before .before .args in c .cut .ensures ∙ model-read (a .defs .now) (a .parts .now) (a .i) _ _ (c .before .before .particles-before .ensures .0) (c .before .particles-of .ensures .0)
 

@@ -4,9 +4,6 @@ use Rattle.rowpass.proofs.ReadingLaws.{Summed, summed-none, summed-ends
 use native.Mathlib.Omega.{arith}
 use Rattle.rowpass.proofs.particles_before.Statement.{statement}
 use Rattle.rowpass.proofs.particles_before.Tie as tie
-use Rattle.rowpass.proofs.particles_before.Reads as reads
-use Rattle.rowpass.proofs.particles_before.Lts as lts
-use Rattle.rowpass.proofs.particles_of.Reads as particles-of-reads
 
 abbrev Inv-loop : tie.InvT-loop
 Inv-loop defs i sum₀ j₀ sum j = Summed defs i sum j
@@ -14,31 +11,24 @@ Inv-loop defs i sum₀ j₀ sum j = Summed defs i sum j
 abbrev μ-loop : tie.MeasureT-loop
 μ-loop defs i sum₀ j₀ sum j = i - j
 
--- src/lib.rt:63:5
 loop-holds : tie.Need-loop-holds Inv-loop μ-loop
 loop-holds c = summed-none (c .before .args .defs .now) (c .before .args .i)
 
--- src/lib.rt:64:16
 particles-of-requires : tie.Need-particles-of-requires Inv-loop μ-loop
 particles-of-requires c κs = search needs
 
--- src/lib.rt:64:9
 add-sum : tie.Need-add-sum Inv-loop μ-loop
 add-sum c = omega (arith, c .before .before .loop .inv .small, c .before .before .loop .inv .low, c .particles-of .ensures .1)
 
--- src/lib.rt:65:9
 add-j : tie.Need-add-j Inv-loop μ-loop
 add-j c = search needs
 
--- src/lib.rt:63:5
 loop-less : tie.Need-loop-less Inv-loop μ-loop
 loop-less c = search needs
 
--- src/lib.rt:63:5
 loop-again : tie.Need-loop-again Inv-loop μ-loop
 loop-again c = let v = c .before .before .loop .inv in record { is = before-more (c .before .before .before .before .args .defs .now) _ _ _ (v .is) (c .particles-of .ensures .0); low = omega arith; small = omega (arith, v .small, c .particles-of .ensures .1) }
 
--- src/lib.rt:57:1
 returns : tie.Need-returns Inv-loop μ-loop
 returns c = summed-ends (c .before .before .before .args .defs .now) (c .before .before .before .args .i) _ _ (c .before .loop .inv) (omega arith) (omega arith)
 

@@ -7,9 +7,6 @@ use mathlib.Core.Path.{refl, ap}
 use native.Mathlib.Omega.{arith}
 use Rattle.rowpass.proofs.spares.Statement.{statement}
 use Rattle.rowpass.proofs.spares.Tie as tie
-use Rattle.rowpass.proofs.spares.Reads as reads
-use Rattle.rowpass.proofs.spares.Lts as lts
-use Rattle.rowpass.proofs.needs.Reads as needs-reads
 
 abbrev Inv-loop : tie.InvT-loop
 Inv-loop attrs i from to k₀ k = Left (spare (attributesOf attrs 0) i) from to k
@@ -17,31 +14,24 @@ Inv-loop attrs i from to k₀ k = Left (spare (attributesOf attrs 0) i) from to 
 abbrev μ-loop : tie.MeasureT-loop
 μ-loop attrs i from to k₀ k = k
 
--- src/lib.rt:143:5
 loop-holds : tie.Need-loop-holds Inv-loop μ-loop
 loop-holds c = record { is = refl; low = omega arith }
 
--- src/lib.rt:144:9
 sub-k : tie.Need-sub-k Inv-loop μ-loop
 sub-k c = search needs
 
--- src/lib.rt:145:12
 needs-requires : tie.Need-needs-requires Inv-loop μ-loop
 needs-requires c κs = search needs
 
--- src/lib.rt:146:13
 returns : tie.Need-returns Inv-loop μ-loop
 returns c = let a = c .before .before .before .before .before .args in left-no (spare (attributesOf (a .attrs .now) 0) (a .i)) (a .from) (a .to) _ (c .before .before .before .loop .inv) (omega arith) _ (ap not (c .before .needs .ensures)) (c .if1 .taken)
 
--- src/lib.rt:143:5
 loop-less : tie.Need-loop-less Inv-loop μ-loop
 loop-less c = search needs
 
--- src/lib.rt:143:5
 loop-again : tie.Need-loop-again Inv-loop μ-loop
 loop-again c = let a = c .before .before .before .before .before .args in left-on (spare (attributesOf (a .attrs .now) 0) (a .i)) (a .from) (a .to) _ (c .before .before .before .loop .inv) (omega arith) _ (ap not (c .before .needs .ensures)) (c .if1 .left)
 
--- src/lib.rt:138:1
 returns-2 : tie.Need-returns-2 Inv-loop μ-loop
 returns-2 c = let a = c .before .before .before .args in left-ends (spare (attributesOf (a .attrs .now) 0) (a .i)) (a .from) (a .to) _ (c .before .loop .inv) (omega arith)
 

@@ -3,45 +3,31 @@ use native.Mathlib.Omega.{arith}
 use borrow.Author.Needs.{needs}
 use Rattle.rowpass.proofs.value_may.Statement.{statement}
 use Rattle.rowpass.proofs.value_may.Tie as tie
-use Rattle.rowpass.proofs.value_may.Reads as reads
-use Rattle.rowpass.proofs.value_may.Lts as lts
-use Rattle.codec.proofs.byte.Reads as byte-reads
-use Rattle.codec.proofs.equal.Reads as equal-reads
-use Rattle.rowpass.proofs.cut.Reads as cut-reads
 
--- src/lib.rt:121:29
 mul-cut : tie.Need-mul-cut
 mul-cut c = search needs
 
--- src/lib.rt:121:9
 cut-requires : tie.Need-cut-requires
 cut-requires c κs = search needs
 
--- src/lib.rt:122:8
 byte-requires : tie.Need-byte-requires
 byte-requires c κs = search needs
 
--- src/lib.rt:123:9
 returns : tie.Need-returns
 returns c = let a = c .before .before .before .before .before .args in value-any _ (a .attrs .now) (a .j) (c .before .before .cut .ensures) _ (a .v .now) (c .before .byte .ensures) (omega arith)
 
--- src/lib.rt:125:34
 byte-requires-2 : tie.Need-byte-requires-2
 byte-requires-2 c κs = search needs
 
--- src/lib.rt:125:34
 cast-cut : tie.Need-cast-cut
 cast-cut c = search needs
 
--- src/lib.rt:125:18
 cut-requires-2 : tie.Need-cut-requires-2
 cut-requires-2 c κs = search needs
 
--- src/lib.rt:125:5
 equal-requires : tie.Need-equal-requires
 equal-requires c κs = search needs
 
--- src/lib.rt:117:1
 returns-2 : tie.Need-returns-2
 returns-2 c = let a = c .before .before .before .before .before .before .before .before .args in value-fixed _ (a .attrs .now) (a .j) (c .before .before .before .before .before .cut .ensures) _ _ _ (a .v .now) _ (c .before .before .before .before .byte .ensures) (omega arith) (c .before .before .byte2 .ensures) (c .before .cut2 .ensures) (c .equal .ensures)
 

@@ -6,3 +6,5 @@ pub mod Children
 pub mod JudgeLaws
 pub mod ReadingLaws
 pub mod PassLaws
+pub mod Alike
+pub mod Bodies

@@ -1,6 +1,6 @@
 -- Records of one size, one after the other: how many, which stands where, and those of a part.
 -- Assumes nothing.
-use mathlib.Core.Path.{_≡_, refl, sym, ap, ap₂, _∙_}
+use mathlib.Core.Path.{_≡_, refl, sym, ap, _∙_}
 use mathlib.Core.List.{List, [], _∷_}
 use Prim.Native.Nat.{ℕ, zero, suc, _+_, _-_, _*_, _<_, _≤_}
 use native.Mathlib.Omega.{arith}
@@ -15,7 +15,7 @@ times size k = omega (arith, mul-suc size k)
 
 drop-take : {A : Type 0} (k n : ℕ) (l : List A) → drop k (take (k + n) l) ≡ take n (drop k l)
 drop-take zero n l = rw zero-add
-drop-take (suc k) n [] = rw (take-nil, take-nil)
+drop-take (suc k) n [] = ap (λ l. drop (suc k) l) (take-nil (suc k + n)) ∙ sym (take-nil n)
 drop-take (suc k) n (x ∷ l) = rw suc-add (drop-take k n l)
 
 module _ {A : Type 0} (f : Bytes → A) (size : ℕ) where

@@ -1,30 +1,28 @@
 -- What the code of a place hands back, as the definitions have it.
 -- Assumes nothing.
 use mathlib.Core.Path.{_≡_, refl, sym, ap, _∙_}
-use mathlib.Core.Bool.{Bool, true, false, _&&_}
+use mathlib.Core.Bool.{Bool, false, _&&_}
 use mathlib.Core.List.{List, [], _∷_}
 use Prim.Native.Nat.{ℕ, zero, suc, _+_, _-_, _*_, _<_, _≤_}
 use native.Mathlib.Omega.{arith}
 use borrow.Author.Tests.{le-leb, lt-leb}
-use lib.Dec.{leb}
 use lib.ListN.{length, take, drop, getD, length-drop}
 use Rattle.rules.specs.declared.Quantifier.{Quantifier}
 use Rattle.rules.specs.declared.GroupKind.{GroupKind}
 use Rattle.rules.specs.Bytes.{Bytes}
 use Rattle.rules.specs.Decode.{readParticle}
 use Rattle.rules.specs.Place.{plain}
-use Rattle.codec.specs.Part.{partOf}
 use Rattle.codec.proofs.Writers.{tail-seen}
 use Rattle.model.specs.declared.What.{What}
 use Rattle.model.specs.declared.What.the-variants.{Element, Group}
 use Rattle.model.specs.declared.Particle.{Particle}
-use Rattle.model.specs.declared.Holder.{Holder}
-use Rattle.model.specs.declared.Reached.{Reached}
-use Rattle.model.specs.declared.Reached.the-variants.{Member, End, Few}
-use Rattle.model.specs.declared.Entered.{Entered}
-use Rattle.model.specs.declared.Entered.the-variants.{Inside, Outside}
-use Rattle.model.specs.declared.Found.{Found}
-use Rattle.model.specs.declared.Found.the-variants.{At, Absent}
+use Rattle.model.specs.declared.place.Holder.{Holder}
+use Rattle.model.specs.declared.place.Reached.{Reached}
+use Rattle.model.specs.declared.place.Reached.the-variants.{Member, End, Few}
+use Rattle.model.specs.declared.place.Entered.{Entered}
+use Rattle.model.specs.declared.place.Entered.the-variants.{Inside, Outside}
+use Rattle.model.specs.declared.place.Found.{Found}
+use Rattle.model.specs.declared.place.Found.the-variants.{At, Absent}
 use Rattle.model.specs.Particle.{particleOf}
 use Rattle.model.specs.Members.{particlesOf}
 use Rattle.model.specs.Places.{Particles, noParticle, reach, spanOf, atMember, atGap, lastOf, inGroup, enteredAt, enteredOf, spotOf, top, placeOf}

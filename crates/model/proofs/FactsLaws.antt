@@ -1,7 +1,7 @@
 -- The facts of a part of the particle body, one particle on; and what the automaton's steps come to.
 -- Assumes nothing.
-use mathlib.Core.Path.{_≡_, refl, sym, ap, ap₂, _∙_}
-use mathlib.Core.Bool.{Bool, true, false, _&&_, _||_}
+use mathlib.Core.Path.{_≡_, refl, ap, ap₂, _∙_}
+use mathlib.Core.Bool.{Bool, _&&_, _||_}
 use mathlib.Core.List.{List, [], _∷_}
 use Prim.Native.Nat.{ℕ, zero, suc, _+_, _-_, _<_, _≤_}
 use native.Mathlib.Omega.{arith}
@@ -14,13 +14,12 @@ use Rattle.rules.specs.declared.GroupKind.{GroupKind}
 use Rattle.rules.specs.declared.GroupKind.the-variants.{Sequence, Choice}
 use Rattle.rules.specs.Bytes.{Bytes, numbers}
 use Rattle.rules.specs.Model.{Members, done, el, group, Equality, skips, both, nothing}
-use Rattle.rules.specs.Layout.{FlatParticle}
 use Rattle.rules.specs.Decode.{readParticle}
 use Rattle.rules.specs.Automaton.{single, empty, join, quantify, facts, continues, accepts}
 use Rattle.codec.proofs.Writers.{tail-seen}
 use Rattle.model.specs.declared.Particle.{Particle}
 use Rattle.model.specs.Particle.{whatOf, particleOf, kindIn, particleFacts}
-use Rattle.model.specs.Members.{indexMember, membersFrom, membersOf}
+use Rattle.model.specs.Members.{indexMember, membersFrom}
 use Rattle.model.specs.Steps.{steps, finishes, runs}
 use Rattle.model.proofs.MembersLaws.{members-few, members-deeper, members-stop, members-here}
 

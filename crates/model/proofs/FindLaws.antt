@@ -4,29 +4,27 @@ use mathlib.Core.Path.{_≡_, refl, sym, ap, ap₂, _∙_}
 use mathlib.Core.Bool.{Bool, true, false, _&&_}
 use mathlib.Core.Option.{Option, none, some}
 use mathlib.Core.List.{List, [], _∷_}
-use Prim.Native.Nat.{ℕ, zero, suc, _+_, _-_, _<_, _≤_}
+use Prim.Native.Nat.{ℕ, zero, suc, _+_, _<_, _≤_}
 use native.Mathlib.Omega.{arith}
-use native.Mathlib.Numerals.{add-one}
-use borrow.Author.Tests.{lt-ltb, le-ltb, eq-eqb, ne-eqb, ltb-true, ltb-false}
+use borrow.Author.Tests.{le-ltb, ne-eqb, ltb-false}
 use lib.Dec.{ltb, eqb, leb}
 use lib.ListN.{length, take, drop, getD, length-take, length-drop}
 use lib.Seq.{drop-drop}
 use Rattle.rules.specs.declared.Quantifier.{Quantifier}
 use Rattle.rules.specs.declared.GroupKind.{GroupKind}
-use Rattle.rules.specs.declared.GroupKind.the-variants.{Sequence, Choice}
+use Rattle.rules.specs.declared.GroupKind.the-variants.{Sequence}
 use Rattle.rules.specs.Bytes.{Bytes}
-use Rattle.rules.specs.Model.{Members, done, el, group}
+use Rattle.rules.specs.Model.{Members, done}
 use Rattle.rules.specs.Store.{Forest, bare, tree}
 use Rattle.rules.specs.Preorder.{Deep, build}
 use Rattle.rules.specs.Layout.{FlatParticle}
 use Rattle.rules.specs.Decode.{quantifierOf, groupOf}
-use Rattle.rules.specs.Place.{Found as Spot, Context, here, past, over, into, kindAt, spine, plain, within, afterMembers, inGroup as inside, right, present, gap, nth, find}
-use Rattle.model.specs.declared.What.the-variants.{Element, Group}
-use Rattle.model.specs.declared.Holder.{Holder}
-use Rattle.model.specs.declared.Reached.{Reached}
-use Rattle.model.specs.declared.Reached.the-variants.{Member, End, Few}
-use Rattle.model.specs.declared.Found.{Found}
-use Rattle.model.specs.declared.Found.the-variants.{At, Absent}
+use Rattle.rules.specs.Place.{Found as Spot, past, over, into, kindAt, spine, plain, within, afterMembers, inGroup as inside, right, present, gap, nth, find}
+use Rattle.model.specs.declared.place.Holder.{Holder}
+use Rattle.model.specs.declared.place.Reached.{Reached}
+use Rattle.model.specs.declared.place.Reached.the-variants.{Member, End, Few}
+use Rattle.model.specs.declared.place.Found.{Found}
+use Rattle.model.specs.declared.place.Found.the-variants.{At, Absent}
 use Rattle.model.specs.Particle.{whatOf, particleOf}
 use Rattle.model.specs.Members.{indexMember, indexMembers, particlesOf, membersFrom, membersOf}
 use Rattle.model.specs.Places.{Particles, onward, ended, reach, spanOf, atMember, atGap, lastOf, inGroup, noParticle, enteredAt, enteredOf, goOn, spotOf, top, placeOf, Told, told, shown, lastBy}

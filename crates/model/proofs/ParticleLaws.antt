@@ -1,26 +1,25 @@
 -- The particles of a byte string: how many, which stands where, and those of a part. Bounds on what is passed and measured.
 -- Assumes nothing.
-use mathlib.Core.Path.{_≡_, refl, sym, ap, ap₂, _∙_}
+use mathlib.Core.Path.{_≡_, refl, sym, ap, _∙_}
 use mathlib.Core.Bool.{Bool, true, false}
 use mathlib.Core.List.{List, [], _∷_}
-use Prim.Native.Nat.{ℕ, zero, suc, _+_, _-_, _*_, _/_, _<_, _≤_}
+use Prim.Native.Nat.{ℕ, zero, suc, _+_, _*_, _/_, _<_, _≤_}
 use native.Mathlib.Omega.{arith}
-use native.Mathlib.Nat.{le-of-suc-le-suc}
 use lib.Dec.{ltb, eqb}
 use lib.ListN.{length, take, drop, getD, length-drop}
 use lib.Seq.{drop-drop, length-take-le}
 use Rattle.rules.specs.Bytes.{Bytes}
 use Rattle.rules.specs.Model.{rename}
-use Rattle.rules.specs.Preorder.{Deep, build}
-use Rattle.rules.specs.Layout.{particleSize, FlatParticle}
+use Rattle.rules.specs.Preorder.{build}
+use Rattle.rules.specs.Layout.{particleSize}
 use Rattle.rules.specs.Decode.{nameAt, readMembers, readParticle, readMany}
 use Rattle.codec.specs.Part.{partOf}
 use Rattle.codec.proofs.Records.{length-many, many-part}
 use Rattle.codec.proofs.Strings.{part-there}
-use Rattle.model.specs.declared.Reached.{Reached}
-use Rattle.model.specs.declared.Reached.the-variants.{Member, End, Few}
+use Rattle.model.specs.declared.place.Reached.{Reached}
+use Rattle.model.specs.declared.place.Reached.the-variants.{Member, End, Few}
 use Rattle.model.specs.Members.{indexMembers, particlesOf, membersFrom, membersOf}
-use Rattle.model.specs.Places.{Particles, noParticle, onward, ended, reach, spanOf}
+use Rattle.model.specs.Places.{Particles, noParticle, onward, reach, spanOf}
 use Rattle.model.proofs.MembersLaws.{members-named, particles-few, particles-more}
 
 -- ---- the particles of a byte string

@@ -1,19 +1,15 @@
 -- Members passed and parts measured, one particle on.
 -- Assumes nothing.
 use mathlib.Core.Path.{_≡_, refl, sym, ap, _∙_}
-use mathlib.Core.Bool.{Bool, true, false}
-use mathlib.Core.List.{List, [], _∷_}
 use Prim.Native.Nat.{ℕ, zero, suc, _+_, _-_, _*_, _<_, _≤_}
 use native.Mathlib.Omega.{arith}
 use native.Mathlib.Nat.{add-zero}
 use borrow.Author.Tests.{lt-ltb, le-ltb, eq-eqb, ne-eqb}
-use lib.Dec.{ltb, eqb}
 use lib.ListN.{length, take, drop, getD, length-drop}
 use Rattle.rules.specs.Bytes.{Bytes}
-use Rattle.rules.specs.Decode.{readParticle}
 use Rattle.codec.proofs.Writers.{tail-seen}
-use Rattle.model.specs.declared.Reached.{Reached}
-use Rattle.model.specs.declared.Reached.the-variants.{Member, End, Few}
+use Rattle.model.specs.declared.place.Reached.{Reached}
+use Rattle.model.specs.declared.place.Reached.the-variants.{Member, End, Few}
 use Rattle.model.specs.Members.{particlesOf}
 use Rattle.model.specs.Places.{onward, ended, reach, spanOf}
 use Rattle.model.proofs.MembersLaws.{particles-few, particles-more}

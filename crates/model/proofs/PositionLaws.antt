@@ -4,10 +4,9 @@ use mathlib.Core.Path.{_≡_, refl, sym, ap, ap₂, _∙_}
 use mathlib.Core.Bool.{Bool, true, false, _&&_}
 use mathlib.Core.Option.{Option, none, some}
 use mathlib.Core.List.{List, [], _∷_, _++_, append-assoc, append-nil}
-use Prim.Native.Nat.{ℕ, zero, suc, _+_, _-_, _<_, _≤_}
+use Prim.Native.Nat.{ℕ, zero, suc, _+_, _<_}
 use native.Mathlib.Omega.{arith}
 use borrow.Author.Tests.{lt-ltb, le-ltb, eq-eqb}
-use lib.Dec.{ltb, eqb}
 use lib.ListN.{length, take, drop, getD, length-append}
 use lib.Seq.{take-at, drop-append-add, drop-drop, getD-drop}
 use Rattle.rules.specs.declared.Quantifier.{Quantifier}
@@ -19,16 +18,16 @@ use Rattle.rules.specs.Model.{Members, done, el, group, rename}
 use Rattle.rules.specs.Store.{Form}
 use Rattle.rules.specs.Preorder.{Deep, flatten}
 use Rattle.rules.specs.Layout.{FlatParticle, quantifierCode, groupCode, howMany, indexOf, particles}
-use Rattle.rules.specs.Decode.{quantifierOf, groupOf}
-use Rattle.rules.specs.Place.{Found as Spot, Context, here, past, over, into, plug, plain, within, afterMembers, inGroup as inside, right, present, gap, nth, find}
-use Rattle.model.specs.declared.What.the-variants.{Element, Group}
-use Rattle.model.specs.declared.Holder.{Holder}
-use Rattle.model.specs.declared.Reached.{Reached}
-use Rattle.model.specs.declared.Reached.the-variants.{Member, End, Few}
-use Rattle.model.specs.declared.Found.{Found}
-use Rattle.model.specs.declared.Found.the-variants.{At, Absent}
+use Rattle.rules.specs.Decode.{quantifierOf}
+use Rattle.rules.specs.Place.{Found as Spot, Context, here, past, over, into, plug, plain, within, afterMembers, inGroup as inside, right, present, gap, find}
+use Rattle.model.specs.declared.What.the-variants.{Group}
+use Rattle.model.specs.declared.place.Holder.{Holder}
+use Rattle.model.specs.declared.place.Reached.{Reached}
+use Rattle.model.specs.declared.place.Reached.the-variants.{Member, End, Few}
+use Rattle.model.specs.declared.place.Found.{Found}
+use Rattle.model.specs.declared.place.Found.the-variants.{At}
 use Rattle.model.specs.Particle.{whatOf, particleOf}
-use Rattle.model.specs.Places.{Particles, onward, ended, reach, spanOf, atMember, atGap, lastOf, inGroup, noParticle, enteredAt, enteredOf, goOn, spotOf, lastBy}
+use Rattle.model.specs.Places.{Particles, onward, reach, spanOf, atMember, atGap, lastOf, noParticle, enteredAt, enteredOf, goOn, spotOf, lastBy}
 use Rattle.model.specs.Positions.{elementParticle, groupParticle, spread, count, offset, holder, spotIn, leading, trailing, level}
 use Rattle.model.proofs.FindLaws.{reach-deeper, reach-here, reach-past}
 

@@ -3,23 +3,21 @@
 use mathlib.Core.Path.{_≡_, refl, sym, ap, ap₂, _∙_}
 use mathlib.Core.Bool.{Bool, true, false}
 use mathlib.Core.List.{List, [], _∷_, _++_}
-use Prim.Native.Nat.{ℕ, zero, suc, _<_, _≤_}
+use Prim.Native.Nat.{ℕ, suc}
 use native.Mathlib.Omega.{arith}
 use lib.Dec.{leb}
 use lib.ListN.{length}
 use Rattle.rules.specs.declared.Quantifier.{Quantifier}
 use Rattle.rules.specs.declared.GroupKind.{GroupKind}
 use Rattle.rules.specs.declared.GroupKind.the-variants.{Sequence, Choice}
-use Rattle.rules.specs.Bytes.{Bytes}
 use Rattle.rules.specs.Model.{Members, done, el, group}
 use Rattle.rules.specs.Store.{Forest, bare, tree}
-use Rattle.rules.specs.Preorder.{Deep, flatten, build}
-use Rattle.rules.specs.Layout.{FlatParticle, particleBytes, each, quantifierCode, groupCode, howMany}
-use Rattle.rules.specs.Decode.{readParticle}
+use Rattle.rules.specs.Preorder.{flatten, build}
+use Rattle.rules.specs.Layout.{FlatParticle, particleBytes, each, groupCode, howMany}
 use Rattle.rules.specs.Place.{find}
 use Rattle.rules.proofs.PreorderLaws.{build-flatten}
-use Rattle.model.specs.declared.Found.{Found}
-use Rattle.model.specs.declared.Found.the-variants.{Absent}
+use Rattle.model.specs.declared.place.Found.{Found}
+use Rattle.model.specs.declared.place.Found.the-variants.{Absent}
 use Rattle.model.specs.Members.{indexMember, indexMembers, particlesOf, membersFrom, membersOf}
 use Rattle.model.specs.Places.{Particles, spotOf, top, placeOf, lastBy}
 use Rattle.model.specs.Positions.{elementParticle, groupParticle, spread, spotIn}

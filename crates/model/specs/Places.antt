@@ -8,7 +8,7 @@ use lib.Dec.{ltb, eqb, leb}
 use lib.ListN.{length, take, drop, getD}
 use Rattle.rules.specs.declared.Quantifier.{Quantifier}
 use Rattle.rules.specs.declared.GroupKind.{GroupKind}
-use Rattle.rules.specs.declared.GroupKind.the-variants.{Sequence, Choice}
+use Rattle.rules.specs.declared.GroupKind.the-variants.{Sequence}
 use Rattle.rules.specs.Bytes.{Bytes}
 use Rattle.rules.specs.Model.{Members}
 use Rattle.rules.specs.Preorder.{Deep, build}
@@ -17,13 +17,13 @@ use Rattle.rules.specs.Place.{Found as Spot, kindAt, spine, plain, gap, nth}
 use Rattle.model.specs.declared.What.{What}
 use Rattle.model.specs.declared.What.the-variants.{Element, Group}
 use Rattle.model.specs.declared.Particle.{Particle}
-use Rattle.model.specs.declared.Holder.{Holder}
-use Rattle.model.specs.declared.Reached.{Reached}
-use Rattle.model.specs.declared.Reached.the-variants.{Member, End, Few}
-use Rattle.model.specs.declared.Entered.{Entered}
-use Rattle.model.specs.declared.Entered.the-variants.{Inside, Outside}
-use Rattle.model.specs.declared.Found.{Found}
-use Rattle.model.specs.declared.Found.the-variants.{At, Absent}
+use Rattle.model.specs.declared.place.Holder.{Holder}
+use Rattle.model.specs.declared.place.Reached.{Reached}
+use Rattle.model.specs.declared.place.Reached.the-variants.{Member, End, Few}
+use Rattle.model.specs.declared.place.Entered.{Entered}
+use Rattle.model.specs.declared.place.Entered.the-variants.{Inside, Outside}
+use Rattle.model.specs.declared.place.Found.{Found}
+use Rattle.model.specs.declared.place.Found.the-variants.{At, Absent}
 use Rattle.model.specs.Particle.{particleOf}
 use Rattle.model.specs.Members.{indexMembers, particlesOf}
 

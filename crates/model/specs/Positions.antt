@@ -1,18 +1,18 @@
 -- The particles of a model, and where a place stands among them.
 -- Assumes nothing.
-use Prim.Native.Nat.{ℕ, zero, suc, _+_}
-use mathlib.Core.Bool.{Bool, _&&_}
+use Prim.Native.Nat.{ℕ, suc, _+_}
+use mathlib.Core.Bool.{_&&_}
 use mathlib.Core.Option.{Option, none, some}
-use mathlib.Core.List.{List, [], _∷_, _++_}
+use mathlib.Core.List.{[], _∷_, _++_}
 use Rattle.rules.specs.declared.Quantifier.{Quantifier}
 use Rattle.rules.specs.declared.GroupKind.{GroupKind}
 use Rattle.rules.specs.Model.{Members, done, el, group}
 use Rattle.rules.specs.Preorder.{Deep}
 use Rattle.rules.specs.Layout.{FlatParticle, quantifierCode, groupCode, howMany}
 use Rattle.rules.specs.Place.{Context, here, past, over, into, plug, plain, Found as Spot}
-use Rattle.model.specs.declared.Holder.{Holder}
-use Rattle.model.specs.declared.Found.{Found}
-use Rattle.model.specs.declared.Found.the-variants.{At, Absent}
+use Rattle.model.specs.declared.place.Holder.{Holder}
+use Rattle.model.specs.declared.place.Found.{Found}
+use Rattle.model.specs.declared.place.Found.the-variants.{At, Absent}
 use Rattle.model.specs.Places.{Particles}
 
 -- ---- the particles of members of depth d, in order

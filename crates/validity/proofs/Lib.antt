@@ -9,3 +9,5 @@ pub mod AttributeRows
 pub mod ElementReads
 pub mod RowsRead
 pub mod StoreReads
+pub mod Parts
+pub mod FormLaws

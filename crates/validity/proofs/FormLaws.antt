@@ -141,9 +141,11 @@ module _ {n : ℕ} {defs : Bytes} {p : ℕ} {parts : Bytes} {a : ℕ} {attrs : B
       within i l j m =
           let size : length (reads.formOf (formOf n defs p parts a attrs)) ≡ n = form-size (formOf n defs p parts a attrs) ∙ definitions-length n defs in
           let x : ModelRead (reads.formOf (formOf n defs p parts a attrs)) (form-apart baseWidth (formOf n defs p parts a attrs) fields-fit b) (partAt i (definitions n defs) (particles p parts)) = model-at baseWidth (formOf n defs p parts a attrs) fields-fit b i (omega arith) in
-          omega
-          (arith, every-at (λ k. k < length (reads.formOf (formOf n defs p parts a attrs))) j (names (indexMembers (build (partAt i (definitions n defs) (particles p parts)) 0))) (x .below)
-          (subst (λ (ks : List ℕ). List·Memᴰ j ks) (members-are i l ∙ sym (x .indices)) m))
+          omega (
+            arith,
+            every-at (λ k. k < length (reads.formOf (formOf n defs p parts a attrs))) j (names (indexMembers (build (partAt i (definitions n defs) (particles p parts)) 0))) (x .below)
+                (subst (λ (ks : List ℕ). List·Memᴰ j ks) (members-are i l ∙ sym (x .indices)) m),
+          )
 
       -- the heights fit just where no definition reaches itself
       pub circle-fit : {r : Heights} → Ranked n (membersIn defs parts) r → (r .fit ≡ true) ↔ ((x : Bytes) → Reaches (unflat (formOf n defs p parts a attrs) .form) x x → ⊥)

@@ -11,3 +11,5 @@ pub mod RowsRead
 pub mod StoreReads
 pub mod Parts
 pub mod FormLaws
+pub mod RecordsTold
+pub mod StringChecks

@@ -5,14 +5,15 @@ use mathlib.Core.Path.{_≡_}
 use mathlib.Core.Bool.{true}
 use Rattle.rules.specs.Bytes.{Bytes}
 use Rattle.rules.specs.Layout.{definitionSize, particleSize, attributeSize, rowSize}
-use Rattle.rules.specs.Decode.{numberAt, definitionCount, particleCount, attributeCount, rowCount, unflat}
+use Rattle.rules.specs.Decode.{numberAt, readRow, readMany, definitionCount, particleCount, attributeCount, rowCount, unflat}
 use Rattle.rules.specs.WellFormed.{Reaches}
 use Rattle.rules.proofs.LayoutLaws.{Small}
 use Rattle.codec.specs.Part.{partOf}
-use Rattle.records.specs.Records.{baseWidth, definitionFits, attributeFits, eachFits, headerFits}
+use Rattle.records.specs.Records.{baseWidth, definitionFits, attributeFits, rowFits, eachFits, headerFits}
 use Rattle.forms.specs.FormTests.{bodiesFit}
 use Rattle.forms.specs.Bodies.{Bodies, formOf}
 use Rattle.serials.specs.Serials.{serialsOf, fitting}
+use Rattle.rowpass.specs.Indices.{IndexForm, Documents}
 
 -- bytes whose header fits
 pub record Headed (bs : Bytes) : Type 0 where
@@ -55,5 +56,10 @@ pub record FormIn (bs : Bytes) : Type 0 where
   pub passes : FormPasses (definitionCount bs) (definitionsIn bs) (particleCount bs) (particlesIn bs) (attributeCount bs) (attributesIn bs)
 
 -- ---- the rows
+-- each by itself, and documents that conform to a form by index
+pub record RowsPass (F : IndexForm) (count : ℕ) (rows : Bytes) : Type 0 where
+  pub fields : eachFits (rowFits baseWidth) (rowSize baseWidth) count rows ≡ true
+  pub documents : Documents F (readMany readRow (rowSize baseWidth) count rows)
+
 pub record SerialsIn (bs : Bytes) : Type 0 where
   pub fits : fitting (numberAt 4 4 bs) (serialsOf (rowCount bs) (rowsIn bs)) ≡ true

@@ -1,1 +1,4 @@
 pub mod Indices
+pub mod Machine
+pub mod Judge
+pub mod Reading

@@ -1,0 +1,34 @@
+use mathlib.Core.Path.{_∙_}
+use Rattle.rowpass.proofs.ReadingLaws.{model-read}
+use borrow.Author.Needs.{needs}
+use Rattle.rowpass.proofs.model_part.Statement.{statement}
+use Rattle.rowpass.proofs.model_part.Tie as tie
+
+particles-before-requires : tie.Need-particles-before-requires
+particles-before-requires c κs = search needs
+
+mul-cut : tie.Need-mul-cut
+mul-cut c = search needs
+
+particles-of-requires : tie.Need-particles-of-requires
+particles-of-requires c κs = search needs
+
+mul-cut-2 : tie.Need-mul-cut-2
+mul-cut-2 c = search needs
+
+cut-requires : tie.Need-cut-requires
+cut-requires c κs = search needs
+
+returns : tie.Need-returns
+returns c = let a = c .before .before .before .before .before .args in c .cut .ensures ∙ model-read (a .defs .now) (a .parts .now) (a .i) _ _ (c .before .before .particles-before .ensures .0) (c .before .particles-of .ensures .0)
+
+pub model-part-spec : {M : Type 1} → statement M
+model-part-spec =
+    tie.close
+    (tie.spec
+    particles-before-requires
+    mul-cut
+    particles-of-requires
+    mul-cut-2
+    cut-requires
+    returns)

@@ -1,0 +1,49 @@
+-- The rows of trees, judged in one pass: an automaton for what stands below a row, and a level for each row that is open.
+-- Assumes nothing.
+use Prim.Native.Nat.{ℕ, zero, suc}
+use mathlib.Core.Path.{_≡_}
+use mathlib.Core.Bool.{Bool, true, false, _&&_}
+use mathlib.Core.List.{List, [], _∷_}
+use lib.Dec.{ltb, leb}
+use lib.ListN.{getD, set}
+use Rattle.rules.specs.Store.{Forest, bare, tree, heads}
+use Rattle.rules.specs.Preorder.{Deep}
+
+-- What may stand below a row: the state that it opens with, whether a row may come next, the state after it, whether no more is owed.
+pub record Automaton (A S : Type 0) : Type 0 where
+  pub enter : A → S
+  pub may : S → A → Bool
+  pub next : S → A → S
+  pub ends : S → Bool
+
+module _ {A S : Type 0} (m : Automaton A S) where
+  -- a whole list of rows, side by side
+  unfoldable pub runs : S → List A → Bool
+  runs s [] = m .ends s
+  runs s (r ∷ rs) = m .may s r && runs (m .next s r) rs
+
+  -- below every row stands what may
+  unfoldable pub Fine : Forest A → Type 0
+  Fine bare = Unit {0}
+  Fine (tree r b t) = (runs (m .enter r) (heads b) ≡ true) × Fine b × Fine t
+
+  module _ (none : S) where
+    -- of the n open levels those from a on are owed nothing
+    unfoldable pub closed : List S → ℕ → ℕ → Bool
+    closed l zero a = true
+    closed l (suc n) a = elim (leb a n) [ true ↦ m .ends (getD l n none) && closed l n a | false ↦ true ]
+
+    -- the levels after a row of depth d
+    abbrev pub opened : List S → ℕ → A → List S
+    opened l d r = set (set l d (m .next (getD l d none) r)) (suc d) (m .enter r)
+
+    -- the rows from here on, with n levels open: each closes those deeper than its own
+    unfoldable pub machine : List S → ℕ → List (Deep A) → Bool
+    machine l n [] = closed l n 0
+    machine l n (x ∷ xs) =
+        ltb (x .depth) n && (closed l n (suc (x .depth)) && (m .may (getD l (x .depth) none) (x .row) && machine (opened l (x .depth) (x .row)) (suc (suc (x .depth))) xs))
+
+-- how many levels the next row leaves open
+abbrev pub keeps : {A : Type 0} → List (Deep A) → ℕ
+keeps [] = 0
+keeps (x ∷ xs) = suc (x .depth)

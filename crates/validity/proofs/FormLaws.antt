@@ -1,39 +1,37 @@
 -- The bodies of a form that fit record by record have fields that fit; where they fit together too, the heights fit just where no
 -- definition reaches itself.
 -- Assumes nothing.
-use Prim.Native.Nat.{ℕ, zero, suc, _+_, _*_, _<_, _≤_}
+use Prim.Native.Nat.{ℕ, zero, suc, _*_, _<_, _≤_}
 use native.Mathlib.Omega.{arith}
 use mathlib.Core.Path.{_≡_, refl, ap, _∙_, sym, subst}
 use mathlib.Core.Logic.{_↔_, _⊎_, inl, inr}
-use mathlib.Core.Bool.{Bool, true, false, _&&_, _||_}
-use mathlib.Core.List.{List, [], _∷_, map, List·Memᴰ}
+use mathlib.Core.Bool.{Bool, true, false}
+use mathlib.Core.List.{List, [], _∷_, List·Memᴰ}
 use lib.Dec.{eqb, leb}
-use lib.ListN.{length, take, drop, getD, length-drop}
-use lib.Seq.{take-nil, drop-drop}
-use borrow.Author.Tests.{eqb-true, leb-true}
-use Rattle.rules.specs.Bytes.{Bytes, all, numbers, isNone}
+use lib.ListN.{length, take, drop, getD}
+use borrow.Author.Tests.{eqb-true}
+use Rattle.rules.specs.Bytes.{Bytes, all, numbers}
 use Rattle.rules.specs.Model.{names, distinct}
 use Rattle.rules.specs.Store.{Forest, bare, tree}
 use Rattle.rules.specs.Preorder.{Deep, build}
 use Rattle.rules.specs.Layout.{definitionSize, particleSize, attributeSize, FlatDefinition, FlatParticle, FlatAttribute, definitionBytes, attributeBytes}
-use Rattle.rules.specs.Decode.{numberAt, readDefinition, readAttribute, readMany, unflat}
+use Rattle.rules.specs.Decode.{readDefinition, readAttribute, unflat}
 use Rattle.rules.specs.WellFormed.{Reaches}
 use Rattle.rules.proofs.Words.{and-split, or-cases}
-use Rattle.rules.proofs.BooleanLaws.{Every, every-map, every-at, none-nil}
+use Rattle.rules.proofs.BooleanLaws.{Every, every-map, every-at}
 use Rattle.rules.proofs.LayoutLaws.{Small}
 use Rattle.rules.proofs.PreorderLaws.{rising}
 use Rattle.records.specs.Records.{baseWidth, definitionFits, attributeFits, eachFits}
 use Rattle.records.proofs.RecordLaws.{FittingDefinition, definition-fields, FittingAttribute, attribute-fields, body-fields}
 use Rattle.forms.specs.FormTests.{elementsIn, shaped, modelFits, modelsFit, bodiesFit}
-use Rattle.forms.specs.Bodies.{Body, Bodies, attributeWidth, recordAt, definitions, particles, attributes, formOf}
-use Rattle.forms.proofs.Reading.{definitions-length, particles-length, attributes-length, definitions-from, definition-size}
+use Rattle.forms.specs.Bodies.{Bodies, recordAt, definitions, particles, attributes, formOf}
+use Rattle.forms.proofs.Reading.{definitions-length, particles-length, definition-size}
 use Rattle.circles.specs.declared.Heights.{Heights}
 use Rattle.circles.specs.Members.{countAt, startAt, membersIn}
 use Rattle.circles.specs.Deep.{Ranked}
-use Rattle.circles.proofs.ReadLaws.{elements, Leaves, AllShaped, modelAt, members-read, definitionsRead, particlesRead, formRead, Within, Readable, fit-read}
+use Rattle.circles.proofs.ReadLaws.{elements, Leaves, AllShaped, modelAt, members-read, Within, Readable, fit-read}
 use Rattle.circles.proofs.ReadLaws as circle
 use Rattle.validity.specs.Reading.{DefinitionFits, AttributeFits, FieldsFit, indexMembers, partAt, noDefinition}
-use Rattle.validity.specs.Check.{Laid, FormPasses}
 use Rattle.validity.proofs.ModelReads.{Shaped, Single, Grouped, shaped-tree, ModelRead}
 use Rattle.validity.proofs.FormReads.{bodies-of, form-size, form-apart, model-at}
 use Rattle.validity.proofs.FormReads as reads
@@ -100,6 +98,12 @@ unfolding definitions recordAt
 count-at n defs i l = definition-size i defs ∙ ap (λ (d : FlatDefinition). d .particles) (sym (nth-many readDefinition definitionSize noDefinition n i defs l))
 
 -- ---- the bodies of a form
+-- bodies of bytes
+pub record Laid (n : ℕ) (defs : Bytes) (p : ℕ) (parts : Bytes) (a : ℕ) (attrs : Bytes) : Type 0 where
+  pub bodies : Bodies n defs p parts a attrs
+  pub definitions : Small defs
+  pub attributes : Small attrs
+
 module _ {n : ℕ} {defs : Bytes} {p : ℕ} {parts : Bytes} {a : ℕ} {attrs : Bytes} (laid : Laid n defs p parts a attrs) where
   module _ (d : eachFits definitionFits definitionSize n defs ≡ true) (c : eachFits (attributeFits baseWidth n) (attributeSize baseWidth) a attrs ≡ true) where
     pub fields-fit : FieldsFit baseWidth (formOf n defs p parts a attrs)

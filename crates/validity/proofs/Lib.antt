@@ -13,3 +13,5 @@ pub mod Parts
 pub mod FormLaws
 pub mod RecordsTold
 pub mod StringChecks
+pub mod IndexReads
+pub mod CallLaws

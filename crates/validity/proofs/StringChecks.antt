@@ -1,10 +1,10 @@
 -- A byte string whose header fits passes just where its form, its rows and its serials do.
 -- Assumes nothing.
-use Prim.Native.Nat.{ℕ, _+_, _*_, _<_, _≤_}
+use Prim.Native.Nat.{ℕ, _+_, _*_, _≤_}
 use native.Mathlib.Omega.{arith}
-use mathlib.Core.Path.{_≡_, refl, ap, _∙_, sym, subst}
+use mathlib.Core.Path.{_≡_, ap, _∙_, sym, subst}
 use mathlib.Core.Logic.{_↔_}
-use mathlib.Core.Bool.{Bool, true, _&&_}
+use mathlib.Core.Bool.{true, _&&_}
 use mathlib.Core.List.{List, map}
 use lib.Dec.{leb, ltb}
 use lib.ListN.{length, take, drop, length-take, length-drop}
@@ -12,14 +12,14 @@ use lib.Seq.{drop-drop}
 use borrow.Author.Tests.{le-leb}
 use Rattle.rules.specs.Bytes.{Bytes, numbers, all}
 use Rattle.rules.specs.Model.{distinct}
-use Rattle.rules.specs.Store.{Form, Store}
+use Rattle.rules.specs.Store.{Form}
 use Rattle.rules.specs.Preorder.{Deep}
-use Rattle.rules.specs.Layout.{headerSize, definitionSize, particleSize, attributeSize, rowSize, FlatDefinition, FlatParticle, FlatAttribute, FlatRow, FlatStore, encode}
+use Rattle.rules.specs.Layout.{headerSize, definitionSize, particleSize, attributeSize, rowSize, FlatRow, FlatStore}
 use Rattle.rules.specs.Decode.{numberAt, readDefinition, readParticle, readAttribute, readRow, readMany, definitionCount, particleCount, attributeCount, rowCount, readForm, flatName, unflat}
-use Rattle.rules.specs.WellFormed.{highestNumber, withinCeilings, Reaches}
-use Rattle.rules.specs.Passing.{good, passes}
+use Rattle.rules.specs.WellFormed.{highestNumber, Reaches}
+use Rattle.rules.specs.Passing.{passes}
 use Rattle.rules.proofs.Words.{and-both, and-split}
-use Rattle.rules.proofs.BooleanLaws.{Every, every-map}
+use Rattle.rules.proofs.BooleanLaws.{every-map}
 use Rattle.rules.proofs.LayoutLaws.{Small}
 use Rattle.rules.proofs.DecodeLaws.{passes-tests}
 use Rattle.codec.specs.Part.{partOf}
@@ -29,16 +29,16 @@ use Rattle.records.specs.Records as records
 use Rattle.records.proofs.RecordLaws.{small-take, small-drop, FittingDefinition, FittingAttribute, FittingRow, each-fits-cut}
 use Rattle.records.proofs.StringLaws.{FittingHeader, header-fields, string-canonical, FittingFlat, string-fields, store-header-fits, store-bodies-fit}
 use Rattle.forms.specs.FormTests.{bodiesFit}
-use Rattle.forms.specs.Bodies.{Body, Bodies, attributeWidth, definitions, particles, attributes, formOf}
+use Rattle.forms.specs.Bodies.{definitions, particles, attributes, formOf}
 use Rattle.forms.proofs.Reading.{many-front}
 use Rattle.forms.proofs.Laws.{bodies-only}
 use Rattle.serials.specs.Serials.{serialOf, serialsOf, fitting}
 use Rattle.rowpass.specs.Indices.{IndexForm, Documents}
 use Rattle.validity.specs.Reading.{DefinitionFits, AttributeFits, FieldsFit, indexForm, Agrees, RowFits, serialsIn, serialsFit, Checks, FlatPasses}
-use Rattle.validity.specs.Check.{Headed, bodyAt, definitionsIn, particlesIn, attributesIn, rowsIn, Laid, FormPasses, FormIn, RowsPass, SerialsIn}
+use Rattle.validity.specs.Check.{bodyAt, definitionsIn, particlesIn, attributesIn, rowsIn, FormIn, RowsPass, SerialsIn}
 use Rattle.validity.proofs.FormGood.{form-agrees, ceilings-counted}
 use Rattle.validity.proofs.StoreReads.{checks-read, flatOf, passes-read}
-use Rattle.validity.proofs.FormLaws.{definition-told, attribute-told}
+use Rattle.validity.proofs.FormLaws.{definition-told, attribute-told, Laid}
 use Rattle.validity.proofs.RecordsTold.{EachFits, each-fits}
 
 row-told : (w : ℕ) (x : Deep FlatRow) → FittingRow w x → RowFits w (x .row)
@@ -60,6 +60,11 @@ pub passes-header : (bs : Bytes) → passes bs ≡ true → headerFits baseWidth
 passes-header bs q =
     let (s, e, g) = passes-tests bs .0 q in
     subst (λ (ys : Bytes). headerFits baseWidth ys ≡ true) e (store-header-fits s g)
+
+-- bytes whose header fits
+pub record Headed (bs : Bytes) : Type 0 where
+  pub small : Small bs
+  pub header : headerFits baseWidth bs ≡ true
 
 module _ {bs : Bytes} (h : Headed bs) where
   pub header : FittingHeader baseWidth bs

@@ -7,21 +7,16 @@ use Rattle.rules.specs.Bytes.{Bytes}
 use Rattle.rules.specs.Layout.{definitionSize, particleSize, attributeSize, rowSize}
 use Rattle.rules.specs.Decode.{numberAt, readRow, readMany, definitionCount, particleCount, attributeCount, rowCount, unflat}
 use Rattle.rules.specs.WellFormed.{Reaches}
-use Rattle.rules.proofs.LayoutLaws.{Small}
 use Rattle.codec.specs.Part.{partOf}
-use Rattle.records.specs.Records.{baseWidth, definitionFits, attributeFits, rowFits, eachFits, headerFits}
+use Rattle.records.specs.Records.{baseWidth, definitionFits, attributeFits, rowFits, eachFits}
 use Rattle.forms.specs.FormTests.{bodiesFit}
-use Rattle.forms.specs.Bodies.{Bodies, formOf}
+use Rattle.forms.specs.Bodies.{formOf}
 use Rattle.serials.specs.Serials.{serialsOf, fitting}
 use Rattle.rowpass.specs.Indices.{IndexForm, Documents}
-
--- bytes whose header fits
-pub record Headed (bs : Bytes) : Type 0 where
-  pub small : Small bs
-  pub header : headerFits baseWidth bs ≡ true
+use Rattle.rowpass.specs.Reading.{indexForm}
 
 -- ---- the bodies
--- the body whose offset stands at `entry` and whose count after it
+-- the body whose offset stands at `entry`, and its count after that; none if the string is too short for it
 unfoldable pub bodyAt : ℕ → ℕ → Bytes → Bytes
 bodyAt entry size bs = partOf (numberAt entry 4 bs) (size * numberAt (entry + 4) 4 bs) bs
 
@@ -38,12 +33,6 @@ abbrev pub rowsIn : Bytes → Bytes
 rowsIn bs = bodyAt 32 (rowSize baseWidth) bs
 
 -- ---- the form
--- bodies of bytes
-pub record Laid (n : ℕ) (defs : Bytes) (p : ℕ) (parts : Bytes) (a : ℕ) (attrs : Bytes) : Type 0 where
-  pub bodies : Bodies n defs p parts a attrs
-  pub definitions : Small defs
-  pub attributes : Small attrs
-
 -- each record by itself, the records together, and no definition that reaches itself
 pub record FormPasses (n : ℕ) (defs : Bytes) (p : ℕ) (parts : Bytes) (a : ℕ) (attrs : Bytes) : Type 0 where
   pub definitions : eachFits definitionFits definitionSize n defs ≡ true
@@ -60,6 +49,10 @@ pub record FormIn (bs : Bytes) : Type 0 where
 pub record RowsPass (F : IndexForm) (count : ℕ) (rows : Bytes) : Type 0 where
   pub fields : eachFits (rowFits baseWidth) (rowSize baseWidth) count rows ≡ true
   pub documents : Documents F (readMany readRow (rowSize baseWidth) count rows)
+
+-- of a byte string
+pub record RowsIn (bs : Bytes) : Type 0 where
+  pub passes : RowsPass (indexForm (definitionCount bs) (definitionsIn bs) (particlesIn bs) (attributesIn bs) (attributeCount bs)) (rowCount bs) (rowsIn bs)
 
 pub record SerialsIn (bs : Bytes) : Type 0 where
   pub fits : fitting (numberAt 4 4 bs) (serialsOf (rowCount bs) (rowsIn bs)) ≡ true

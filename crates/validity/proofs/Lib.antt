@@ -9,3 +9,9 @@ pub mod AttributeRows
 pub mod ElementReads
 pub mod RowsRead
 pub mod StoreReads
+pub mod Parts
+pub mod FormLaws
+pub mod RecordsTold
+pub mod StringChecks
+pub mod IndexReads
+pub mod CallLaws

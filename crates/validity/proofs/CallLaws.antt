@@ -1,0 +1,162 @@
+-- What the calls of the check find, put together.
+-- Assumes nothing.
+use Prim.Native.Nat.{ℕ, _+_, _*_, _<_, _≤_}
+use native.Mathlib.Nat.{mul-le-mul}
+use native.Mathlib.Omega.{arith}
+use mathlib.Core.Path.{_≡_, refl, ap, _∙_, sym, subst}
+use mathlib.Core.Logic.{_↔_}
+use mathlib.Core.Bool.{Bool, true, false, not, false≢true}
+use lib.ListN.{length, getD}
+use mir.Syntax.{w8}
+use mir.Val.{Fits}
+use borrow.Author.Tests.{not-true, not-false}
+use Rattle.rules.specs.Bytes.{Bytes}
+use Rattle.rules.specs.Model.{Distinct, names}
+use Rattle.rules.specs.Layout.{definitionSize, attributeSize, rowSize}
+use Rattle.rules.specs.Decode.{numberAt, readRow, readMany, definitionCount, particleCount, attributeCount, rowCount}
+use Rattle.rules.specs.Passing.{passes}
+use Rattle.codec.specs.Part.{partOf}
+use Rattle.records.specs.Records.{baseWidth, NumberAt, definitionFits, attributeFits, rowFits, eachFits, headerFits}
+use Rattle.records.proofs.RecordLaws.{small-of}
+use Rattle.forms.specs.FormTests.{bodiesFit}
+use Rattle.forms.specs.Bodies.{Bodies, formOf}
+use Rattle.circles.specs.declared.Heights.{Heights}
+use Rattle.circles.specs.Members.{membersIn}
+use Rattle.circles.specs.Deep.{Ranked}
+use Rattle.serials.specs.Serials.{serialsOf, fitting}
+use Rattle.rowpass.specs.Indices.{Documents}
+use Rattle.rowpass.specs.Reading.{indexForm}
+use Rattle.validity.specs.Check.{bodyAt, definitionsIn, particlesIn, attributesIn, rowsIn, FormPasses, FormIn, RowsPass, RowsIn, SerialsIn}
+use Rattle.validity.proofs.FormLaws.{Laid, circle-fit}
+use Rattle.validity.proofs.StringChecks.{Headed, header, laid-in, rows-whole, passes-header, passes-in}
+use Rattle.validity.proofs.IndexReads.{index-agrees, index-once}
+
+-- ---- tests
+-- a test that fails
+pub refused : {b e : Bool} {P : Type 0} → not b ≡ true → b ≡ e → (P → e ≡ true) → (false ≡ true) ↔ P
+refused {b} {e} h q f = (λ z. absurd (false≢true z), λ x. sym (not-true b h) ∙ q ∙ f x)
+
+-- one that does not
+pub kept : {b e : Bool} → not b ≡ false → b ≡ e → e ≡ true
+kept {b} {e} h q = sym q ∙ not-false b h
+
+same-truth : {P : Type 0} (a b : Bool) → (a ≡ true) ↔ P → (b ≡ true) ↔ P → a ≡ b
+same-truth true b (f, g) (h, k) = sym (k (f refl))
+same-truth false true (f, g) (h, k) = g (h refl)
+same-truth false false (f, g) (h, k) = refl
+
+-- ---- the form
+pub laid-of : {n : ℕ} {defs : Bytes} {p : ℕ} {parts : Bytes} {a : ℕ} {attrs : Bytes} → Bodies n defs p parts a attrs → ((i : ℕ) → Fits w8 (getD defs i 0)) → ((i : ℕ) → Fits w8 (getD attrs i 0)) → Laid n defs p parts a attrs
+laid-of {n} {defs} {p} {parts} {a} {attrs} b d c = record { bodies = b; definitions = small-of defs (λ i. omega (arith, d i)); attributes = small-of attrs (λ i. omega (arith, c i)) }
+
+pub form-by : {n : ℕ} {defs : Bytes} {p : ℕ} {parts : Bytes} {a : ℕ} {attrs : Bytes} {r : Heights} → Laid n defs p parts a attrs → eachFits definitionFits definitionSize n defs ≡ true → eachFits (attributeFits baseWidth n) (attributeSize baseWidth) a attrs ≡ true
+    → bodiesFit (formOf n defs p parts a attrs) ≡ true → Ranked n (membersIn defs parts) r → (r .fit ≡ true) ↔ FormPasses n defs p parts a attrs
+form-by laid d c b k = (λ e. record { definitions = d; attributes = c; bodies = b; circle = circle-fit laid d c b k .0 e }, λ x. circle-fit laid d c b k .1 (x .circle))
+
+-- ---- the bodies of a string
+pub body-of : (bs : Bytes) (entry size : ℕ) {at count : ℕ} {r : Bytes} → NumberAt entry bs at → NumberAt (entry + 4) bs count → r ≡ partOf at (size * count) bs → r ≡ bodyAt entry size bs
+unfolding bodyAt
+body-of bs entry size x y e = e ∙ (λ i. partOf (x .value i) (size * y .value i) bs)
+
+pub product-small : {bs : Bytes} {at count : ℕ} (size : ℕ) → size ≤ 52 → NumberAt at bs count → size * count < 18446744073709551616
+product-small {bs} {at} {count} size l x =
+    let k : size * count ≤ 52 * 4294967296 = mul-le-mul {n₁ = size} {m₁ = count} {n₂ = 52} {m₂ = 4294967296} l (omega (arith, x .small)) in
+    omega arith
+
+-- the counts and bodies of a form
+pub record Cut : Type 0 where
+  pub n : ℕ
+  pub defs : Bytes
+  pub p : ℕ
+  pub parts : Bytes
+  pub a : ℕ
+  pub attrs : Bytes
+
+abbrev pub cutOf : Bytes → Cut
+cutOf bs = record { n = definitionCount bs; defs = definitionsIn bs; p = particleCount bs; parts = particlesIn bs; a = attributeCount bs; attrs = attributesIn bs }
+
+-- rows for the form that is cut out
+abbrev RowsAt : Cut → ℕ → Bytes → Type 0
+RowsAt c m s = RowsPass (indexForm (c .n) (c .defs) (c .parts) (c .attrs) (c .a)) m s
+
+pub record CutOf (bs : Bytes) (n : ℕ) (defs : Bytes) (p : ℕ) (parts : Bytes) (a : ℕ) (attrs : Bytes) : Type 0 where
+  pub same : cutOf bs ≡ record { n = n; defs = defs; p = p; parts = parts; a = a; attrs = attrs }
+
+pub cut-of : (bs : Bytes) {n : ℕ} {defs : Bytes} {p : ℕ} {parts : Bytes} {a : ℕ} {attrs : Bytes} → n ≡ definitionCount bs → p ≡ particleCount bs → a ≡ attributeCount bs → defs ≡ definitionsIn bs → parts ≡ particlesIn bs → attrs ≡ attributesIn bs → CutOf bs n defs p parts a attrs
+cut-of bs x y z d q c = record { same = λ i. record { n = sym x i; defs = sym d i; p = sym y i; parts = sym q i; a = sym z i; attrs = sym c i } }
+
+pub headed : (bs : Bytes) → headerFits baseWidth bs ≡ true → ((i : ℕ) → Fits w8 (getD bs i 0)) → Headed bs
+headed bs h s = record { small = small-of bs (λ i. omega (arith, s i)); header = h }
+
+module _ {bs : Bytes} {n : ℕ} {defs : Bytes} {p : ℕ} {parts : Bytes} {a : ℕ} {attrs : Bytes} (h : Headed bs) (k : CutOf bs n defs p parts a attrs) where
+  abbrev given : Cut
+  given = record { n = n; defs = defs; p = p; parts = parts; a = a; attrs = attrs }
+
+  pub cut-laid : Laid n defs p parts a attrs
+  cut-laid = subst (λ (c : Cut). Laid (c .n) (c .defs) (c .p) (c .parts) (c .a) (c .attrs)) (k .same) (laid-in h)
+
+  pub cut-form : {r : Bool} → (r ≡ true) ↔ FormPasses n defs p parts a attrs → (r ≡ true) ↔ FormIn bs
+  cut-form {r} (f, g) = (
+    λ e. record { passes = subst (λ (c : Cut). FormPasses (c .n) (c .defs) (c .p) (c .parts) (c .a) (c .attrs)) (sym (k .same)) (f e) },
+    λ x. g (subst (λ (c : Cut). FormPasses (c .n) (c .defs) (c .p) (c .parts) (c .a) (c .attrs)) (k .same) (x .passes)),
+  )
+
+  -- ---- the rows
+  module _ {count : ℕ} {rows : Bytes} (u : count ≡ rowCount bs) (v : rows ≡ rowsIn bs) where
+    pub rows-asked : FormIn bs → (n ≤ 64) × (a ≤ 64) × (44 * count ≤ length rows) × ((i : ℕ) → Distinct (names (indexForm n defs parts attrs a .model i)))
+    rows-asked x =
+        let form : FormPasses n defs p parts a attrs = subst (λ (c : Cut). FormPasses (c .n) (c .defs) (c .p) (c .parts) (c .a) (c .attrs)) (k .same) (x .passes) in
+        (cut-laid .bodies .forDefinitions .few, cut-laid .bodies .forAttributes .few, omega (arith, ap (λ (s : Bytes). length s) v, rows-whole h), index-once cut-laid form)
+
+    pub rows-in : {r : Bool} → (r ≡ true) ↔ ((eachFits (rowFits baseWidth) (rowSize baseWidth) count rows ≡ true) × Documents (indexForm n defs parts attrs a) (readMany readRow (rowSize baseWidth) count rows)) → (r ≡ true) ↔ RowsIn bs
+    rows-in {r} (f, g) = (
+      λ e. let (x, y) = f e in record { passes = back (record { fields = x; documents = y }) },
+      λ x. let y : RowsPass (indexForm n defs parts attrs a) count rows = there (x .passes) in g (y .fields, y .documents),
+    )
+      where
+        back : RowsAt given count rows → RowsAt (cutOf bs) (rowCount bs) (rowsIn bs)
+        back y = subst (λ (c : Cut). RowsAt c (rowCount bs) (rowsIn bs)) (sym (k .same)) (subst (λ (s : Bytes). RowsAt given (rowCount bs) s) v (subst (λ (m : ℕ). RowsAt given m rows) u y))
+
+        there : RowsAt (cutOf bs) (rowCount bs) (rowsIn bs) → RowsAt given count rows
+        there y = subst (λ (m : ℕ). RowsAt given m rows) (sym u) (subst (λ (s : Bytes). RowsAt given (rowCount bs) s) (sym v) (subst (λ (c : Cut). RowsAt c (rowCount bs) (rowsIn bs)) (k .same) y))
+
+-- ---- serials
+module _ {bs : Bytes} (h : Headed bs) {count : ℕ} (u : count ≡ rowCount bs) where
+  pub serials-asked : count ≤ 4096
+  serials-asked = omega (arith, header h .fewRows)
+
+  pub serials-in : {next : ℕ} {rows : Bytes} {r : Bool} → next ≡ numberAt 4 4 bs → rows ≡ rowsIn bs → r ≡ fitting next (serialsOf count rows) → (r ≡ true) ↔ SerialsIn bs
+  serials-in {next} {rows} {r} x y e =
+      let q : r ≡ fitting (numberAt 4 4 bs) (serialsOf (rowCount bs) (rowsIn bs)) = e ∙ (λ i. fitting (x i) (serialsOf (u i) (y i))) in
+      (λ z. record { fits = sym q ∙ z }, λ z. q ∙ z .fits)
+
+-- ---- all
+pub headless : (bs : Bytes) {b : Bool} → not b ≡ true → b ≡ headerFits baseWidth bs → false ≡ passes bs
+headless bs {b} h q = by (passes bs) refl
+  where
+    by : (z : Bool) → passes bs ≡ z → false ≡ z
+    by true e = absurd (false≢true (sym (not-true b h) ∙ q ∙ passes-header bs e))
+    by false e = refl
+
+module _ {bs : Bytes} (h : Headed bs) where
+  all-in : (passes bs ≡ true) ↔ (FormIn bs × RowsPass (indexForm (definitionCount bs) (definitionsIn bs) (particlesIn bs) (attributesIn bs) (attributeCount bs)) (rowCount bs) (rowsIn bs) × SerialsIn bs)
+  all-in = passes-in h (indexForm (definitionCount bs) (definitionsIn bs) (particlesIn bs) (attributesIn bs) (attributeCount bs)) (λ x. index-agrees (laid-in h) (x .passes))
+
+  not-passed : (passes bs ≡ true → ⊥) → false ≡ passes bs
+  not-passed f = by (passes bs) refl
+    where
+      by : (z : Bool) → passes bs ≡ z → false ≡ z
+      by true e = absurd (f e)
+      by false e = refl
+
+  pub formless : {b : Bool} → not b ≡ true → (b ≡ true) ↔ FormIn bs → false ≡ passes bs
+  formless {b} t (f, g) = not-passed (λ e. false≢true (sym (not-true b t) ∙ g (all-in .0 e .0)))
+
+  pub rowless : {b : Bool} → not b ≡ true → (b ≡ true) ↔ RowsIn bs → false ≡ passes bs
+  rowless {b} t (f, g) = not-passed (λ e. false≢true (sym (not-true b t) ∙ g (record { passes = all-in .0 e .1 })))
+
+  pub passed : {a b r : Bool} → not a ≡ false → (a ≡ true) ↔ FormIn bs → not b ≡ false → (b ≡ true) ↔ RowsIn bs → (r ≡ true) ↔ SerialsIn bs → r ≡ passes bs
+  passed {a} {b} {r} s x t y z =
+      same-truth r (passes bs)
+      (λ e. (x .0 (not-false a s), y .0 (not-false b t) .passes, z .0 e), λ (u, v, w). z .1 w)
+      all-in

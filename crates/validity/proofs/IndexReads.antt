@@ -1,0 +1,132 @@
+-- The form by index that the one pass over the rows reads off the bytes says what the form that is read says.
+-- Assumes nothing.
+use Prim.Native.Nat.{ℕ, zero, suc, _+_, _*_, _/_, _<_, _≤_}
+use native.Mathlib.Omega.{arith}
+use mathlib.Core.Path.{_≡_, refl, ap, ap₂, _∙_, sym, subst}
+use mathlib.Core.Logic.{_⊎_, inl, inr}
+use mathlib.Core.List.{List, [], List·Memᴰ}
+use lib.ListN.{length, take, drop, getD, length-take, length-drop, drop-of-length-le}
+use Rattle.rules.specs.Bytes.{Bytes}
+use Rattle.rules.specs.Model.{Members, done, el, group, names, rename, Distinct}
+use Rattle.rules.specs.Store.{Forest, bare, tree}
+use Rattle.rules.specs.Preorder.{Deep, build}
+use Rattle.rules.specs.Layout.{definitionSize, particleSize, attributeSize, FlatDefinition, FlatParticle, FlatAttribute, FlatStore, allAttributes}
+use Rattle.rules.specs.Decode.{nameAt, quantifierOf, groupOf, readDefinition, readParticle, readAttribute, readMany, sortOf, unflat}
+use Rattle.rules.specs.Conforming.{mustBePresent, allows}
+use Rattle.codec.proofs.Strings.{part-there}
+use Rattle.model.specs.Members.{particlesOf, membersFrom, membersOf}
+use Rattle.model.specs.Members as model
+use Rattle.model.proofs.MembersLaws.{members-few}
+use Rattle.records.specs.Records.{baseWidth}
+use Rattle.forms.specs.Bodies.{definitions, particles, attributes, formOf}
+use Rattle.forms.proofs.Reading.{definitions-length, attributes-length, particles-part}
+use Rattle.rowpass.specs.Reading.{definitionIn, attributeIn, particlesBefore, modelPart}
+use Rattle.rowpass.specs.Reading as bytes
+use Rattle.validity.specs.Reading.{FieldsFit, indexMember, indexMembers, partAt, noDefinition, noAttribute, entryOf, indexForm, Agrees}
+use Rattle.validity.specs.Check.{FormPasses}
+use Rattle.validity.proofs.IndexLaws.{namesOf, distinct-unmap}
+use Rattle.validity.proofs.ModelReads.{ModelRead, read-names}
+use Rattle.validity.proofs.FormReads.{form-size, form-apart, model-at}
+use Rattle.validity.proofs.FormGood.{form-agrees}
+use Rattle.validity.proofs.AttributeBlocks.{below-or}
+use Rattle.validity.proofs.Parts.{nth-many, before, before-within, before-is, part-cut}
+use Rattle.validity.proofs.FormLaws.{Laid, fields-fit, before-all}
+
+-- ---- models
+members-same : (t : Forest FlatParticle) → model.indexMembers t ≡ indexMembers t
+unfolding indexMembers
+members-same bare = refl
+members-same (tree p b t) = by (p .sort) (members-same b) (members-same t)
+  where
+    by : (s : ℕ) → model.indexMembers b ≡ indexMembers b → model.indexMembers t ≡ indexMembers t → model.indexMember p s (model.indexMembers b) (model.indexMembers t) ≡ indexMember p s (indexMembers b) (indexMembers t)
+    by zero x y = ap (λ (z : Members ℕ). el (quantifierOf (p .quantifier)) (p .index) z) y
+    by (suc k) x y = ap₂ (λ (z u : Members ℕ). group (quantifierOf (p .quantifier)) (groupOf (suc k)) z u) x y
+
+-- of c particles after b others
+part-members : (p : ℕ) (parts : Bytes) (b c : ℕ) → particleSize * p ≡ length parts → b + c ≤ p → membersOf (take (particleSize * c) (drop (particleSize * b) parts)) ≡ indexMembers (build (take c (drop b (particles p parts))) 0)
+unfolding membersFrom particlesOf particles
+part-members p parts b c whole l =
+    ap (λ (k : ℕ). model.indexMembers (build (readMany readParticle particleSize k (take (particleSize * c) (drop (particleSize * b) parts))) 0)) count
+    ∙ ap (λ (s : Bytes). model.indexMembers (build (readMany readParticle particleSize c s) 0)) (sym (part-there (particleSize * b) (particleSize * c) parts (omega arith)))
+    ∙ ap (λ (ps : List (Deep FlatParticle)). model.indexMembers (build ps 0)) (particles-part b c p parts l whole)
+    ∙ members-same (build (take c (drop b (particles p parts))) 0)
+  where
+    count : length (take (particleSize * c) (drop (particleSize * b) parts)) / particleSize ≡ c
+    count = let e : length (take (particleSize * c) (drop (particleSize * b) parts)) ≡ 4 * c = omega (arith, length-take (particleSize * c) (drop (particleSize * b) parts), length-drop (particleSize * b) parts) in omega arith
+
+module _ {n : ℕ} {defs : Bytes} {p : ℕ} {parts : Bytes} {a : ℕ} {attrs : Bytes} (laid : Laid n defs p parts a attrs) (x : FormPasses n defs p parts a attrs) where
+  abbrev f : FlatStore
+  f = formOf n defs p parts a attrs
+
+  fields : FieldsFit baseWidth f
+  fields = fields-fit laid (x .definitions) (x .attributes)
+
+  agrees : Agrees (indexForm f) (unflat f .form)
+  agrees = form-agrees baseWidth f fields (x .bodies)
+
+  definition-in : (i : ℕ) → i < n → definitionIn defs i ≡ getD (definitions n defs) i noDefinition
+  unfolding definitions
+  definition-in i l = sym (nth-many readDefinition definitionSize noDefinition n i defs l)
+
+  attribute-in : (j : ℕ) → j < a → attributeIn attrs j ≡ entryOf j (attributes a attrs)
+  unfolding attributes
+  attribute-in j l = sym (nth-many readAttribute (attributeSize baseWidth) noAttribute a j attrs l)
+
+  before-in : (i : ℕ) → i ≤ n → particlesBefore defs i ≡ before i (definitions n defs)
+  unfolding particlesBefore
+  before-in = before-is (particlesBefore defs) (λ i. definitionIn defs i .particles) n (definitions n defs) refl (λ i. refl) (λ i l. ap (λ (d : FlatDefinition). d .particles) (definition-in i l))
+
+  model-in : (i : ℕ) → i < n → membersOf (modelPart defs parts i) ≡ indexMembers (build (partAt i (definitions n defs) (particles p parts)) 0)
+  unfolding modelPart
+  model-in i l =
+      let c : definitionIn defs i .particles ≡ getD (definitions n defs) i noDefinition .particles = ap (λ (d : FlatDefinition). d .particles) (definition-in i l) in
+      let b : particlesBefore defs i ≡ before i (definitions n defs) = before-in i (omega arith) in
+      ap₂ (λ (k m : ℕ). membersOf (take (particleSize * k) (drop (particleSize * m) parts))) c b
+      ∙ part-members p parts (before i (definitions n defs)) (getD (definitions n defs) i noDefinition .particles) (laid .bodies .forParticles .whole)
+      (room i l)
+      ∙ ap (λ (ps : List (Deep FlatParticle)). indexMembers (build ps 0)) (sym (part-cut i (definitions n defs) (particles p parts)))
+    where
+      room : (i : ℕ) → i < n → before i (definitions n defs) + getD (definitions n defs) i noDefinition .particles ≤ p
+      room i l =
+          let e : before (length (definitions n defs)) (definitions n defs) ≡ p = ap (λ (k : ℕ). before k (definitions n defs)) (definitions-length n defs) ∙ before-all laid (x .definitions) (x .attributes) (x .bodies) in
+          omega (arith, before-within i (definitions n defs) (omega (arith, definitions-length n defs)))
+
+  form-count : length (unflat f .form) ≡ n
+  form-count = form-size f ∙ definitions-length n defs
+
+  pub index-agrees : Agrees (bytes.indexForm n defs parts attrs a) (unflat f .form)
+  index-agrees =
+      record {
+        size = sym form-count;
+        kind = λ i l. ap (λ (d : FlatDefinition). d .kind) (definition-in i (omega (arith, form-count))) ∙ agrees .kind i l;
+        model = λ i l. agrees .model i l ∙ ap (λ (m : Members ℕ). rename (λ j. nameAt j (namesOf (unflat f .form))) m) (sym (model-in i (omega (arith, form-count))));
+        inRange = λ i l j m. agrees .inRange i l j (subst (λ (z : Members ℕ). List·Memᴰ j (names z)) (model-in i (omega (arith, form-count))) m);
+        attributes = sym (attributes-length a attrs) ∙ agrees .attributes;
+        owner = λ j l. ap (λ (c : FlatAttribute). c .owner) (attribute-in j (short j l)) ∙ agrees .owner j l;
+        needed = λ j l. ap (λ (c : FlatAttribute). mustBePresent (sortOf (c .sort))) (attribute-in j (short j l)) ∙ agrees .needed j l;
+        allows = λ j l v. ap (λ (c : FlatAttribute). allows (sortOf (c .sort)) (c .value) v) (attribute-in j (short j l)) ∙ agrees .allows j l v;
+      }
+    where
+      short : (j : ℕ) → j < length (allAttributes 0 (unflat f .form)) → j < a
+      short j l = omega (arith, agrees .attributes, attributes-length a attrs)
+
+  -- ---- no model names an element twice
+  once-in : (i : ℕ) → i < n → Distinct (names (indexMembers (build (partAt i (definitions n defs) (particles p parts)) 0)))
+  once-in i l =
+      let r : ModelRead (unflat f .form) (form-apart baseWidth f fields (x .bodies)) (partAt i (definitions n defs) (particles p parts)) = model-at baseWidth f fields (x .bodies) i (omega (arith, form-count)) in
+      distinct-unmap (λ j. nameAt j (namesOf (unflat f .form))) (names (indexMembers (build (partAt i (definitions n defs) (particles p parts)) 0)))
+      (subst (λ (ns : List Bytes). Distinct ns) (read-names (namesOf (unflat f .form)) (build (partAt i (definitions n defs) (particles p parts)) 0)) (r .once))
+
+  past : (i : ℕ) → n ≤ i → membersOf (modelPart defs parts i) ≡ done
+  unfolding modelPart
+  past i l =
+      let none : drop (definitionSize * i) defs ≡ [] = drop-of-length-le defs {i = definitionSize * i} (omega (arith, laid .bodies .forDefinitions .whole)) in
+      ap (λ (s : Bytes). membersOf (take (particleSize * readDefinition (take definitionSize s) .particles) (drop (particleSize * particlesBefore defs i) parts))) none ∙ members-few 0 [] (omega arith)
+
+  pub index-once : (i : ℕ) → Distinct (names (bytes.indexForm n defs parts attrs a .model i))
+  unfolding names
+  index-once i = by (below-or i n)
+    where
+      by : (i < n) ⊎ (n ≤ i) → Distinct (names (membersOf (modelPart defs parts i)))
+      by (inl l) = subst (λ (m : Members ℕ). Distinct (names m)) (sym (model-in i l)) (once-in i l)
+      by (inr l) = subst (λ (m : Members ℕ). Distinct (names m)) (sym (past i l)) tt

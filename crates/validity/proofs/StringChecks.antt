@@ -1,0 +1,226 @@
+-- A byte string whose header fits passes just where its form, its rows and its serials do.
+-- Assumes nothing.
+use Prim.Native.Nat.{ℕ, _+_, _*_, _≤_}
+use native.Mathlib.Omega.{arith}
+use mathlib.Core.Path.{_≡_, ap, _∙_, sym, subst}
+use mathlib.Core.Logic.{_↔_}
+use mathlib.Core.Bool.{true, _&&_}
+use mathlib.Core.List.{List, map}
+use lib.Dec.{leb, ltb}
+use lib.ListN.{length, take, drop, length-take, length-drop}
+use lib.Seq.{drop-drop}
+use borrow.Author.Tests.{le-leb}
+use Rattle.rules.specs.Bytes.{Bytes, numbers, all}
+use Rattle.rules.specs.Model.{distinct}
+use Rattle.rules.specs.Store.{Form}
+use Rattle.rules.specs.Preorder.{Deep}
+use Rattle.rules.specs.Layout.{headerSize, definitionSize, particleSize, attributeSize, rowSize, FlatRow, FlatStore}
+use Rattle.rules.specs.Decode.{numberAt, readDefinition, readParticle, readAttribute, readRow, readMany, definitionCount, particleCount, attributeCount, rowCount, readForm, flatName, unflat}
+use Rattle.rules.specs.WellFormed.{highestNumber, Reaches}
+use Rattle.rules.specs.Passing.{passes}
+use Rattle.rules.proofs.Words.{and-both, and-split}
+use Rattle.rules.proofs.BooleanLaws.{every-map}
+use Rattle.rules.proofs.LayoutLaws.{Small}
+use Rattle.rules.proofs.DecodeLaws.{passes-tests}
+use Rattle.codec.specs.Part.{partOf}
+use Rattle.codec.proofs.Strings.{part-there}
+use Rattle.records.specs.Records.{baseWidth, definitionFits, attributeFits, rowFits, eachFits, atParticles, atAttributes, atRows, headerFits}
+use Rattle.records.specs.Records as records
+use Rattle.records.proofs.RecordLaws.{small-take, small-drop, FittingDefinition, FittingAttribute, FittingRow, each-fits-cut}
+use Rattle.records.proofs.StringLaws.{FittingHeader, header-fields, string-canonical, FittingFlat, string-fields, store-header-fits, store-bodies-fit}
+use Rattle.forms.specs.FormTests.{bodiesFit}
+use Rattle.forms.specs.Bodies.{definitions, particles, attributes, formOf}
+use Rattle.forms.proofs.Reading.{many-front}
+use Rattle.forms.proofs.Laws.{bodies-only}
+use Rattle.serials.specs.Serials.{serialOf, serialsOf, fitting}
+use Rattle.rowpass.specs.Indices.{IndexForm, Documents}
+use Rattle.validity.specs.Reading.{DefinitionFits, AttributeFits, FieldsFit, indexForm, Agrees, RowFits, serialsIn, serialsFit, Checks, FlatPasses}
+use Rattle.validity.specs.Check.{bodyAt, definitionsIn, particlesIn, attributesIn, rowsIn, FormIn, RowsPass, SerialsIn}
+use Rattle.validity.proofs.FormGood.{form-agrees, ceilings-counted}
+use Rattle.validity.proofs.StoreReads.{checks-read, flatOf, passes-read}
+use Rattle.validity.proofs.FormLaws.{definition-told, attribute-told, Laid}
+use Rattle.validity.proofs.RecordsTold.{EachFits, each-fits}
+
+row-told : (w : ℕ) (x : Deep FlatRow) → FittingRow w x → RowFits w (x .row)
+row-told w x r = record { plain = record { low = r .least; high = r .most; text = r .text }; value = r .value; element = r .element }
+
+serials-told : (next : ℕ) (ks : List ℕ) → 1 ≤ next → next ≤ highestNumber → (serialsFit next ks ≡ true) ↔ (fitting next ks ≡ true)
+unfolding serialsFit fitting
+serials-told next ks l m = (
+  λ h.
+      let (once, h₁) = and-split (distinct numbers ks) _ h in
+      and-both once (and-split (all (λ k. leb 1 k && ltb k next) ks) _ h₁ .0),
+  λ h.
+      let (once, below) = and-split (distinct numbers ks) _ h in
+      and-both once (and-both below (and-both (le-leb 1 next l) (le-leb next highestNumber m))),
+)
+
+-- a string that passes has a header that fits
+pub passes-header : (bs : Bytes) → passes bs ≡ true → headerFits baseWidth bs ≡ true
+passes-header bs q =
+    let (s, e, g) = passes-tests bs .0 q in
+    subst (λ (ys : Bytes). headerFits baseWidth ys ≡ true) e (store-header-fits s g)
+
+-- bytes whose header fits
+pub record Headed (bs : Bytes) : Type 0 where
+  pub small : Small bs
+  pub header : headerFits baseWidth bs ≡ true
+
+module _ {bs : Bytes} (h : Headed bs) where
+  pub header : FittingHeader baseWidth bs
+  header = header-fields baseWidth bs (h .header)
+
+  -- ---- the bodies
+  definitions-cut : definitionsIn bs ≡ take (definitionSize * definitionCount bs) (drop headerSize bs)
+  unfolding bodyAt
+  definitions-cut = ap (λ (k : ℕ). partOf k (definitionSize * definitionCount bs) bs) (header .definitionsAt) ∙ part-there headerSize (definitionSize * definitionCount bs) bs (omega (arith, header .size))
+
+  particles-cut : particlesIn bs ≡ take (particleSize * particleCount bs) (drop (atParticles bs) bs)
+  unfolding bodyAt
+  particles-cut = ap (λ (k : ℕ). partOf k (particleSize * particleCount bs) bs) (header .particlesAt) ∙ part-there (atParticles bs) (particleSize * particleCount bs) bs (omega (arith, header .size))
+
+  attributes-cut : attributesIn bs ≡ take (attributeSize baseWidth * attributeCount bs) (drop (atAttributes bs) bs)
+  unfolding bodyAt
+  attributes-cut = ap (λ (k : ℕ). partOf k (attributeSize baseWidth * attributeCount bs) bs) (header .attributesAt) ∙ part-there (atAttributes bs) (attributeSize baseWidth * attributeCount bs) bs (omega (arith, header .size))
+
+  rows-cut : rowsIn bs ≡ take (rowSize baseWidth * rowCount bs) (drop (atRows baseWidth bs) bs)
+  unfolding bodyAt
+  rows-cut = ap (λ (k : ℕ). partOf k (rowSize baseWidth * rowCount bs) bs) (header .rowsAt) ∙ part-there (atRows baseWidth bs) (rowSize baseWidth * rowCount bs) bs (omega (arith, header .size))
+
+  cut-length : (at n : ℕ) {ys : Bytes} → ys ≡ take n (drop at bs) → at + n ≤ length bs → n ≡ length ys
+  cut-length at n e l = omega (arith, ap (λ (zs : Bytes). length zs) e, length-take n (drop at bs), length-drop at bs)
+
+  cut-small : (at n : ℕ) {ys : Bytes} → ys ≡ take n (drop at bs) → Small ys
+  cut-small at n e = subst Small (sym e) (small-take n (small-drop at (h .small)))
+
+  pub laid-in : Laid (definitionCount bs) (definitionsIn bs) (particleCount bs) (particlesIn bs) (attributeCount bs) (attributesIn bs)
+  laid-in =
+      record {
+        bodies = record {
+          forDefinitions = record { few = header .fewDefinitions; whole = cut-length headerSize (definitionSize * definitionCount bs) definitions-cut (omega (arith, header .size)) };
+          forParticles = record { few = header .fewParticles; whole = cut-length (atParticles bs) (particleSize * particleCount bs) particles-cut (omega (arith, header .size)) };
+          forAttributes = record { few = header .fewAttributes; whole = cut-length (atAttributes bs) (attributeSize baseWidth * attributeCount bs) attributes-cut (omega (arith, header .size)) };
+        };
+        definitions = cut-small headerSize (definitionSize * definitionCount bs) definitions-cut;
+        attributes = cut-small (atAttributes bs) (attributeSize baseWidth * attributeCount bs) attributes-cut;
+      }
+
+  pub rows-whole : rowSize baseWidth * rowCount bs ≡ length (rowsIn bs)
+  rows-whole = cut-length (atRows baseWidth bs) (rowSize baseWidth * rowCount bs) rows-cut (omega (arith, header .size))
+
+  -- ---- what is read of them
+  same-definitions : flatOf bs .definitions ≡ definitions (definitionCount bs) (definitionsIn bs)
+  unfolding definitions
+  same-definitions =
+      sym (ap (readMany readDefinition definitionSize (definitionCount bs)) definitions-cut ∙ many-front readDefinition definitionSize (definitionCount bs) (drop headerSize bs))
+
+  same-particles : flatOf bs .particles ≡ particles (particleCount bs) (particlesIn bs)
+  unfolding particles
+  same-particles =
+      ap (readMany readParticle particleSize (particleCount bs)) (drop-drop (definitionSize * definitionCount bs) headerSize bs)
+      ∙ sym (ap (readMany readParticle particleSize (particleCount bs)) particles-cut ∙ many-front readParticle particleSize (particleCount bs) (drop (atParticles bs) bs))
+
+  from-attributes : drop (particleSize * particleCount bs) (drop (definitionSize * definitionCount bs) (drop headerSize bs)) ≡ drop (atAttributes bs) bs
+  from-attributes =
+      ap (λ (ys : Bytes). drop (particleSize * particleCount bs) ys) (drop-drop (definitionSize * definitionCount bs) headerSize bs)
+      ∙ drop-drop (particleSize * particleCount bs) (atParticles bs) bs
+
+  same-attributes : flatOf bs .attributes ≡ attributes (attributeCount bs) (attributesIn bs)
+  unfolding attributes
+  same-attributes =
+      ap (readMany readAttribute (attributeSize baseWidth) (attributeCount bs)) from-attributes
+      ∙ sym (ap (readMany readAttribute (attributeSize baseWidth) (attributeCount bs)) attributes-cut ∙ many-front readAttribute (attributeSize baseWidth) (attributeCount bs) (drop (atAttributes bs) bs))
+
+  same-rows : flatOf bs .rows ≡ readMany readRow (rowSize baseWidth) (rowCount bs) (rowsIn bs)
+  same-rows =
+      ap (readMany readRow (rowSize baseWidth) (rowCount bs))
+      (ap (λ (ys : Bytes). drop (attributeSize baseWidth * attributeCount bs) ys) from-attributes ∙ drop-drop (attributeSize baseWidth * attributeCount bs) (atAttributes bs) bs)
+      ∙ sym (ap (readMany readRow (rowSize baseWidth) (rowCount bs)) rows-cut ∙ many-front readRow (rowSize baseWidth) (rowCount bs) (drop (atRows baseWidth bs) bs))
+
+  -- the form alone
+  abbrev pub formIn : FlatStore
+  formIn = formOf (definitionCount bs) (definitionsIn bs) (particleCount bs) (particlesIn bs) (attributeCount bs) (attributesIn bs)
+
+  same-form : unflat (flatOf bs) .form ≡ unflat formIn .form
+  same-form = λ i. readForm (map flatName (same-definitions i)) 0 (same-definitions i) (same-particles i) (same-attributes i)
+
+  same-bodies : bodiesFit (flatOf bs) ≡ bodiesFit formIn
+  same-bodies = bodies-only (flatOf bs) formIn same-definitions same-particles same-attributes
+
+  same-serials : serialsIn (flatOf bs .rows) ≡ serialsOf (rowCount bs) (rowsIn bs)
+  unfolding serialsOf
+  same-serials = ap (λ (xs : List (Deep FlatRow)). map serialOf xs) same-rows
+
+  -- ---- record by record
+  definitions-each : eachFits definitionFits definitionSize (definitionCount bs) (definitionsIn bs) ≡ eachFits definitionFits definitionSize (definitionCount bs) (drop headerSize bs)
+  definitions-each =
+      ap (eachFits definitionFits definitionSize (definitionCount bs)) definitions-cut ∙ each-fits-cut definitionFits definitionSize (definitionCount bs) (definitionSize * definitionCount bs) (drop headerSize bs) (omega arith)
+
+  attributes-each : eachFits (attributeFits baseWidth (definitionCount bs)) (attributeSize baseWidth) (attributeCount bs) (attributesIn bs) ≡ eachFits (attributeFits baseWidth (definitionCount bs)) (attributeSize baseWidth) (attributeCount bs) (drop (atAttributes bs) bs)
+  attributes-each =
+      ap (eachFits (attributeFits baseWidth (definitionCount bs)) (attributeSize baseWidth) (attributeCount bs)) attributes-cut
+      ∙ each-fits-cut (attributeFits baseWidth (definitionCount bs)) (attributeSize baseWidth) (attributeCount bs) (attributeSize baseWidth * attributeCount bs) (drop (atAttributes bs) bs) (omega arith)
+
+  rows-each : eachFits (rowFits baseWidth) (rowSize baseWidth) (rowCount bs) (rowsIn bs) ≡ eachFits (rowFits baseWidth) (rowSize baseWidth) (rowCount bs) (drop (atRows baseWidth bs) bs)
+  rows-each =
+      ap (eachFits (rowFits baseWidth) (rowSize baseWidth) (rowCount bs)) rows-cut
+      ∙ each-fits-cut (rowFits baseWidth) (rowSize baseWidth) (rowCount bs) (rowSize baseWidth * rowCount bs) (drop (atRows baseWidth bs) bs) (omega arith)
+
+  -- ---- the tests; F: the form by index
+  module _ (F : IndexForm) (agrees : FormIn bs → Agrees F (unflat formIn .form)) where
+    abbrev Tests : Type 0
+    Tests = FormIn bs × RowsPass F (rowCount bs) (rowsIn bs) × SerialsIn bs
+
+    checks-as : (G H : IndexForm) → FieldsFit baseWidth (flatOf bs) → bodiesFit (flatOf bs) ≡ true → Agrees G (unflat (flatOf bs) .form) → Agrees H (unflat (flatOf bs) .form) → Checks G (flatOf bs) → Checks H (flatOf bs)
+    checks-as G H fields bodies x y c = checks-read (flatOf bs) fields bodies H y .0 (checks-read (flatOf bs) fields bodies G x .1 c)
+
+    agrees-read : FormIn bs → Agrees F (unflat (flatOf bs) .form)
+    agrees-read x = subst (λ (z : Form). Agrees F z) (sym same-form) (agrees x)
+
+    passes→ : passes bs ≡ true → Tests
+    passes→ q =
+        let (s, e, g) = passes-tests bs .0 q in
+        let each : EachFits baseWidth bs = each-fits baseWidth bs .0 (subst (λ (ys : Bytes). records.bodiesFit baseWidth ys ≡ true) e (store-bodies-fit s g)) in
+        let p : FlatPasses (flatOf bs) = passes-read bs .0 q .1 in
+        let form : FormIn bs =
+        record {
+          passes = record {
+            definitions = definitions-each ∙ each .definitions;
+            attributes = attributes-each ∙ each .attributes;
+            bodies = sym same-bodies ∙ p .bodies;
+            circle = subst (λ (z : Form). (x : Bytes) → Reaches z x x → ⊥) same-form (p .checks .circle);
+          };
+        } in
+        let c : Checks F (flatOf bs) = checks-as (indexForm (flatOf bs)) F (p .fields) (p .bodies) (form-agrees baseWidth (flatOf bs) (p .fields) (p .bodies)) (agrees-read form) (p .checks) in (
+          form,
+          record { fields = rows-each ∙ each .rows; documents = subst (λ (xs : List (Deep FlatRow)). Documents F xs) same-rows (c .documents) },
+          record { fits = ap (fitting (numberAt 4 4 bs)) (sym same-serials) ∙ serials-told (numberAt 4 4 bs) (serialsIn (flatOf bs .rows)) (header .next) (next-most each) .0 (c .serials) },
+        )
+      where
+        next-most : EachFits baseWidth bs → numberAt 4 4 bs ≤ highestNumber
+        next-most each = omega (arith, string-fields baseWidth bs (h .small) (h .header) (each-fits baseWidth bs .1 each) .most)
+
+    passes← : Tests → passes bs ≡ true
+    passes← (form, rows, serials) =
+        let each : records.bodiesFit baseWidth bs ≡ true = each-fits baseWidth bs .1 (record { definitions = sym definitions-each ∙ form .passes .definitions; attributes = sym attributes-each ∙ form .passes .attributes; rows = sym rows-each ∙ rows .fields }) in
+        let f : FittingFlat baseWidth (flatOf bs) = string-fields baseWidth bs (h .small) (h .header) each in
+        let fields : FieldsFit baseWidth (flatOf bs) =
+        record {
+          definitions = every-map FittingDefinition DefinitionFits (flatOf bs .definitions) definition-told (f .definitions);
+          attributes = every-map (FittingAttribute baseWidth (length (flatOf bs .definitions))) (AttributeFits baseWidth (length (flatOf bs .definitions))) (flatOf bs .attributes) (attribute-told baseWidth (length (flatOf bs .definitions))) (f .attributes);
+        } in
+        let bodies : bodiesFit (flatOf bs) ≡ true = same-bodies ∙ form .passes .bodies in
+        let c : Checks F (flatOf bs) =
+        record {
+          version = f .version;
+          ceilings = ceilings-counted (flatOf bs) bodies ∙ and-both (le-leb _ 64 (f .fewDefinitions)) (and-both (le-leb _ 256 (f .fewParticles)) (and-both (le-leb _ 64 (f .fewAttributes)) (le-leb _ 4096 (f .fewRows))));
+          circle = subst (λ (z : Form). (x : Bytes) → Reaches z x x → ⊥) (sym same-form) (form .passes .circle);
+          rows = every-map (FittingRow baseWidth) (λ x. RowFits baseWidth (x .row)) (flatOf bs .rows) (row-told baseWidth) (f .rows);
+          documents = subst (λ (xs : List (Deep FlatRow)). Documents F xs) (sym same-rows) (rows .documents);
+          serials = serials-told (numberAt 4 4 bs) (serialsIn (flatOf bs .rows)) (header .next) (omega (arith, f .most)) .1 (ap (fitting (numberAt 4 4 bs)) same-serials ∙ serials .fits);
+        } in
+        passes-read bs .1
+        (string-canonical baseWidth bs (h .small) (h .header) each, record { fields = fields; bodies = bodies; checks = checks-as F (indexForm (flatOf bs)) fields bodies (agrees-read form) (form-agrees baseWidth (flatOf bs) fields bodies) c })
+
+    pub passes-in : (passes bs ≡ true) ↔ (FormIn bs × RowsPass F (rowCount bs) (rowsIn bs) × SerialsIn bs)
+    passes-in = (passes→, passes←)

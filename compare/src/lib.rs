@@ -1,0 +1,74 @@
+//! The proved library's exported functions, behind safe wrappers. Every call runs on a copy of its input with guard bytes around it, and the
+//! wrapper panics where a guard byte or the input has changed.
+
+/// What `formstore_look_up` answers.
+#[repr(C)]
+#[derive(Clone, Copy, Debug, PartialEq, Eq)]
+pub struct Found {
+    pub number: u32,
+    pub start: usize,
+    pub length: usize,
+}
+
+extern "C" {
+    fn formstore_check(store: *const u8, length: usize) -> u32;
+    fn formstore_look_up(store: *const u8, length: usize, serial: u32) -> Found;
+}
+
+const GUARD: usize = 64;
+
+/// A byte string with guard bytes before and after it.
+struct Guarded {
+    bytes: Vec<u8>,
+    length: usize,
+}
+
+impl Guarded {
+    fn new(content: &[u8]) -> Guarded {
+        let mut bytes = vec![0xA5; GUARD];
+        bytes.extend_from_slice(content);
+        bytes.extend_from_slice(&[0x5A; GUARD]);
+        Guarded {
+            bytes,
+            length: content.len(),
+        }
+    }
+
+    fn start(&self) -> *const u8 {
+        self.bytes[GUARD..].as_ptr()
+    }
+
+    fn verify(&self, content: &[u8]) {
+        assert!(
+            self.bytes[..GUARD].iter().all(|&b| b == 0xA5),
+            "bytes before the buffer were written"
+        );
+        assert!(
+            self.bytes[GUARD + self.length..].iter().all(|&b| b == 0x5A),
+            "bytes past the buffer were written"
+        );
+        assert_eq!(
+            &self.bytes[GUARD..GUARD + self.length],
+            content,
+            "the store was written"
+        );
+    }
+}
+
+/// 0 if the store passes, else 1.
+pub fn check(store: &[u8]) -> u32 {
+    let guarded = Guarded::new(store);
+    // SAFETY: the pointer has `length` bytes, and nobody else uses them.
+    let number = unsafe { formstore_check(guarded.start(), guarded.length) };
+    guarded.verify(store);
+    number
+}
+
+/// The number, and where the value stands.
+pub fn look_up(store: &[u8], serial: u32) -> Found {
+    let guarded = Guarded::new(store);
+    // SAFETY: as in `check`.
+    let found = unsafe { formstore_look_up(guarded.start(), guarded.length, serial) };
+    guarded.verify(store);
+    found
+}

@@ -1,0 +1,63 @@
+//! Random stores, damaged stores and random bytes: the library and the second implementation give the same answers.
+
+use second::random::damage::damaged;
+use second::random::documents;
+use second::rng::Rng;
+
+const COMPARED: usize = 200_000;
+
+fn seed() -> u64 {
+    let seed = match std::env::var("FORM_SEED") {
+        Ok(text) => text.parse().expect("FORM_SEED is a number"),
+        Err(_) => std::time::SystemTime::now()
+            .duration_since(std::time::UNIX_EPOCH)
+            .unwrap()
+            .as_nanos() as u64,
+    };
+    println!("FORM_SEED={seed}");
+    seed
+}
+
+fn compare_all(store: &[u8], rng: &mut Rng, passing: &mut usize) {
+    let number = second::check(store);
+    assert_eq!(compare::check(store), number, "check of {store:02x?}");
+    *passing += (number == 0) as usize;
+    let serial = rng.below(24) as u32;
+    let mut expected = 0;
+    let part = second::look_up(store, serial, &mut expected);
+    let found = compare::look_up(store, serial);
+    assert_eq!(
+        found.number, expected,
+        "look-up of {serial} in {store:02x?}"
+    );
+    assert_eq!(
+        &store[found.start..found.start + found.length],
+        part,
+        "look-up of {serial} in {store:02x?}"
+    );
+}
+
+#[test]
+fn the_same_answers_on_any_bytes() {
+    let mut rng = Rng::new(seed());
+    let mut passing = 0;
+    let mut compared = 0;
+    while compared < COMPARED {
+        let definitions = 1 + rng.below(8);
+        let attributes = rng.below(6);
+        let rows = 1 + rng.below(40);
+        let store =
+            second::layout::encode(&documents::store(&mut rng, definitions, attributes, rows));
+        compare_all(&store, &mut rng, &mut passing);
+        for _ in 0..8 {
+            let worse = damaged(&mut rng, &store);
+            compare_all(&worse, &mut rng, &mut passing);
+        }
+        let length = rng.below(201);
+        let noise = rng.bytes(length);
+        compare_all(&noise, &mut rng, &mut passing);
+        compared += 10;
+    }
+    println!("{compared} byte strings, {passing} of them passing");
+    assert!(passing > COMPARED / 20);
+}

@@ -1,0 +1,63 @@
+/* The form store of a timing box: the calls that a box links (rt staticlib formstore writes target/staticlib/libformstore.a).
+ *
+ * One rule that nothing can check for a C caller: each pointer has as many bytes as its length says. With it no call reads or writes outside its
+ * buffers, and every call ends. */
+#ifndef FORMSTORE_H
+#define FORMSTORE_H
+
+#include <stddef.h>
+#include <stdint.h>
+
+#ifdef __cplusplus
+extern "C" {
+#endif
+
+/* The refusal numbers. The lowest that applies is given. */
+enum formstore_refusal {
+    FORMSTORE_ACCEPTED = 0,
+    FORMSTORE_BAD_STORE = 1,
+    FORMSTORE_BAD_NAME = 2,
+    FORMSTORE_BAD_VALUE = 3,
+    FORMSTORE_BAD_CODE = 4,
+    FORMSTORE_TAKEN = 5,
+    FORMSTORE_UNKNOWN = 6,
+    FORMSTORE_NO_ROW = 7,
+    FORMSTORE_NO_PLACE = 8,
+    FORMSTORE_WRONG_KIND = 9,
+    FORMSTORE_IN_USE = 10,
+    FORMSTORE_ROUND = 11,
+    FORMSTORE_DEFAULT = 12,
+    FORMSTORE_OFF_SPINE = 13,
+    FORMSTORE_GROUPING = 14,
+    FORMSTORE_NO_MATCH = 15,
+    FORMSTORE_CEILING = 16,
+    FORMSTORE_SERIALS = 17,
+    FORMSTORE_BUFFER = 18
+};
+
+/* The ceilings of a store. */
+#define FORMSTORE_MAX_DEFINITIONS 64
+#define FORMSTORE_MAX_PARTICLES 256
+#define FORMSTORE_MAX_ATTRIBUTES 64
+#define FORMSTORE_MAX_ROWS 4096
+#define FORMSTORE_MAX_MODEL_DEPTH 4
+#define FORMSTORE_MAX_NAME 16
+#define FORMSTORE_MAX_VALUE 32
+
+/* 0 if the store passes the check, 1 if it does not. */
+uint32_t formstore_check(const uint8_t *store, size_t store_length);
+
+/* Where the value of a row stands: 0 and its place, or 1 (bad store) or 7 (no such attribute or text row), with start and length 0. */
+struct formstore_found {
+    uint32_t number;
+    size_t start;
+    size_t length;
+};
+
+struct formstore_found formstore_look_up(const uint8_t *store, size_t store_length, uint32_t serial);
+
+#ifdef __cplusplus
+}
+#endif
+
+#endif

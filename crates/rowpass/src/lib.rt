@@ -99,7 +99,7 @@ fn child_may(defs: &[u8], parts: &[u8], i: usize, last: usize, sort: u8, index: 
     match k {
         0 => false,
         1 => (sort == 3) & (last == 0),
-        _ => (sort == 1) & model::steps(model_part(defs, parts, i), last, index),
+        _ => (sort == 1) & model::automaton::steps(model_part(defs, parts, i), last, index),
     }
 }
 
@@ -112,7 +112,7 @@ fn children_end(defs: &[u8], parts: &[u8], i: usize, last: usize) -> bool
     match k {
         0 => true,
         1 => last != 0,
-        _ => model::finishes(model_part(defs, parts, i), last),
+        _ => model::automaton::finishes(model_part(defs, parts, i), last),
     }
 }
 

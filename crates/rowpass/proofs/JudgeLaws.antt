@@ -27,7 +27,7 @@ abbrev inside : ℕ → ℕ → ℕ → Level
 inside i seen last = record { holds = 1; index = i; seen = seen; last = last }
 
 -- the rows right below a row, by whether it is an element
-abbrev pub UnderAs : IndexForm → Bool → ℕ → List FlatRow → Type 0
+abbrev UnderAs : IndexForm → Bool → ℕ → List FlatRow → Type 0
 UnderAs f c i rs = elim c [ true ↦ Below f i rs | false ↦ rs ≡ [] ]
 
 module _ (f : IndexForm) where

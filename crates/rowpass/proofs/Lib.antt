@@ -6,5 +6,3 @@ pub mod Children
 pub mod JudgeLaws
 pub mod ReadingLaws
 pub mod PassLaws
-pub mod Alike
-pub mod Bodies

@@ -201,7 +201,7 @@ module _ (whole : Particles) (h : Holder) (xs : Particles) (v : Seen whole h xs)
   last-found false n = nth-found n
 
 -- ---- a number that picks a group
-abbrev Finds : Bool → List ℕ → Type 0
+abbrev pub Finds : Bool → List ℕ → Type 0
 Finds insert place = (whole : Particles) (h : Holder) (xs : Particles) → Seen whole h xs → shown whole (spotOf insert place h xs) ≡ told (h .kind) (h .spine) (find (lastBy insert) place (membersIn (h .depth) xs))
 
 module _ (insert : Bool) (m : ℕ) (ns : List ℕ) (ih : Finds insert (m ∷ ns)) (whole : Particles) (h : Holder) (xs : Particles) (v : Seen whole h xs) where

@@ -7,3 +7,4 @@ pub mod EnteringLaws
 pub mod FindLaws
 pub mod PositionLaws
 pub mod WrittenLaws
+pub mod NamedPlaces

@@ -250,7 +250,7 @@ first-of xs p x ys e =
 rest-of : (xs : Particles) (p : ℕ) (x : Deep FlatParticle) (ys : Particles) → drop p xs ≡ x ∷ ys → drop (p + 1) xs ≡ ys
 rest-of xs p x ys e = sym (drop-drop 1 p xs) ∙ ap (λ (l : Particles). drop 1 l) e
 
-abbrev Placed : Bool → List ℕ → Type 0
+abbrev pub Placed : Bool → List ℕ → Type 0
 Placed insert place = (h : Holder) (ms : Members ℕ) → spotOf insert place h (spread (h .depth) ms) ≡ spotIn h (find (lastBy insert) place ms)
 
 module _ (insert : Bool) (m : ℕ) (ns : List ℕ) (ih : Placed insert (m ∷ ns)) (h : Holder) (ms : Members ℕ) where

@@ -111,10 +111,10 @@ module _ {n : ℕ} {defs : Bytes} {p : ℕ} {parts : Bytes} {a : ℕ} {attrs : B
     fields-fit =
         record {
           definitions = every-map FittingDefinition DefinitionFits (definitions n defs) definition-told
-              (body-fields readDefinition definitionBytes definitionFits definitionSize FittingDefinition definition-fields n defs (laid .definitions) (omega (arith, laid .bodies .forDefinitions .whole)) d);
+              (body-fields readDefinition definitionBytes definitionFits definitionSize FittingDefinition definition-fields n defs (laid .definitions) (omega (arith, laid .bodies .definitionBody .whole)) d);
           attributes = subst (λ (m : ℕ). Every (AttributeFits baseWidth m) (attributes a attrs)) (sym (definitions-length n defs))
               (every-map (FittingAttribute baseWidth n) (AttributeFits baseWidth n) (attributes a attrs) (attribute-told baseWidth n)
-              (body-fields readAttribute (attributeBytes baseWidth) (attributeFits baseWidth n) (attributeSize baseWidth) (FittingAttribute baseWidth n) (λ x s l. attribute-fields baseWidth n x) a attrs (laid .attributes) (omega (arith, laid .bodies .forAttributes .whole)) c));
+              (body-fields readAttribute (attributeBytes baseWidth) (attributeFits baseWidth n) (attributeSize baseWidth) (FittingAttribute baseWidth n) (λ x s l. attribute-fields baseWidth n x) a attrs (laid .attributes) (omega (arith, laid .bodies .attributeBody .whole)) c));
         }
 
     module _ (b : bodiesFit (formOf n defs p parts a attrs) ≡ true) where
@@ -130,7 +130,7 @@ module _ {n : ℕ} {defs : Bytes} {p : ℕ} {parts : Bytes} {a : ℕ} {attrs : B
       start-all = omega (arith, before-is (startAt defs) (countAt defs) n (definitions n defs) refl (λ i. refl) (count-at n defs) n (omega arith), before-all)
 
       long : particleSize * p ≤ length parts
-      long = omega (arith, laid .bodies .forParticles .whole)
+      long = omega (arith, laid .bodies .particleBody .whole)
 
       readable : Readable defs parts n p
       unfolding definitions particles

@@ -82,7 +82,7 @@ module _ {n : ℕ} {defs : Bytes} {p : ℕ} {parts : Bytes} {a : ℕ} {attrs : B
       let c : definitionIn defs i .particles ≡ getD (definitions n defs) i noDefinition .particles = ap (λ (d : FlatDefinition). d .particles) (definition-in i l) in
       let b : particlesBefore defs i ≡ before i (definitions n defs) = before-in i (omega arith) in
       ap₂ (λ (k m : ℕ). membersOf (take (particleSize * k) (drop (particleSize * m) parts))) c b
-      ∙ part-members p parts (before i (definitions n defs)) (getD (definitions n defs) i noDefinition .particles) (laid .bodies .forParticles .whole)
+      ∙ part-members p parts (before i (definitions n defs)) (getD (definitions n defs) i noDefinition .particles) (laid .bodies .particleBody .whole)
       (room i l)
       ∙ ap (λ (ps : List (Deep FlatParticle)). indexMembers (build ps 0)) (sym (part-cut i (definitions n defs) (particles p parts)))
     where
@@ -117,16 +117,5 @@ module _ {n : ℕ} {defs : Bytes} {p : ℕ} {parts : Bytes} {a : ℕ} {attrs : B
       distinct-unmap (λ j. nameAt j (namesOf (unflat f .form))) (names (indexMembers (build (partAt i (definitions n defs) (particles p parts)) 0)))
       (subst (λ (ns : List Bytes). Distinct ns) (read-names (namesOf (unflat f .form)) (build (partAt i (definitions n defs) (particles p parts)) 0)) (r .once))
 
-  past : (i : ℕ) → n ≤ i → membersOf (modelPart defs parts i) ≡ done
-  unfolding modelPart
-  past i l =
-      let none : drop (definitionSize * i) defs ≡ [] = drop-of-length-le defs {i = definitionSize * i} (omega (arith, laid .bodies .forDefinitions .whole)) in
-      ap (λ (s : Bytes). membersOf (take (particleSize * readDefinition (take definitionSize s) .particles) (drop (particleSize * particlesBefore defs i) parts))) none ∙ members-few 0 [] (omega arith)
-
-  pub index-once : (i : ℕ) → Distinct (names (bytes.indexForm n defs parts attrs a .model i))
-  unfolding names
-  index-once i = by (below-or i n)
-    where
-      by : (i < n) ⊎ (n ≤ i) → Distinct (names (membersOf (modelPart defs parts i)))
-      by (inl l) = subst (λ (m : Members ℕ). Distinct (names m)) (sym (model-in i l)) (once-in i l)
-      by (inr l) = subst (λ (m : Members ℕ). Distinct (names m)) (sym (past i l)) tt
+  pub index-once : (i : ℕ) → i < n → Distinct (names (bytes.indexForm n defs parts attrs a .model i))
+  index-once i l = subst (λ (m : Members ℕ). Distinct (names m)) (sym (model-in i l)) (once-in i l)

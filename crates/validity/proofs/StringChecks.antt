@@ -97,9 +97,9 @@ module _ {bs : Bytes} (h : Headed bs) where
   laid-in =
       record {
         bodies = record {
-          forDefinitions = record { few = header .fewDefinitions; whole = cut-length headerSize (definitionSize * definitionCount bs) definitions-cut (omega (arith, header .size)) };
-          forParticles = record { few = header .fewParticles; whole = cut-length (atParticles bs) (particleSize * particleCount bs) particles-cut (omega (arith, header .size)) };
-          forAttributes = record { few = header .fewAttributes; whole = cut-length (atAttributes bs) (attributeSize baseWidth * attributeCount bs) attributes-cut (omega (arith, header .size)) };
+          definitionBody = record { few = header .fewDefinitions; whole = cut-length headerSize (definitionSize * definitionCount bs) definitions-cut (omega (arith, header .size)) };
+          particleBody = record { few = header .fewParticles; whole = cut-length (atParticles bs) (particleSize * particleCount bs) particles-cut (omega (arith, header .size)) };
+          attributeBody = record { few = header .fewAttributes; whole = cut-length (atAttributes bs) (attributeSize baseWidth * attributeCount bs) attributes-cut (omega (arith, header .size)) };
         };
         definitions = cut-small headerSize (definitionSize * definitionCount bs) definitions-cut;
         attributes = cut-small (atAttributes bs) (attributeSize baseWidth * attributeCount bs) attributes-cut;

@@ -1,0 +1,18 @@
+-- `formstore::check` meets its contract.
+-- Assumes nothing.
+use borrow.Author.Needs.{needs}
+use Rattle.formstore.proofs.check.Statement.{statement}
+use Rattle.formstore.proofs.check.Tie as tie
+use Rattle.formstore.proofs.Laws.{check-yes, check-no}
+
+passes-requires : tie.Need-passes-requires
+passes-requires c κs = search needs
+
+returns : tie.Need-returns
+returns c = check-yes (c .before .before .before .args .store .now) (c .if1 .taken) (c .before .passes .ensures)
+
+returns-2 : tie.Need-returns-2
+returns-2 c = check-no (c .before .before .before .args .store .now) (c .if1 .left) (c .before .passes .ensures)
+
+pub check-spec : {M : Type 1} → statement M
+check-spec = tie.close (tie.spec passes-requires returns returns-2)

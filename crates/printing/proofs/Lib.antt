@@ -4,3 +4,4 @@ pub mod PartLaws
 pub mod SignLaws
 pub mod MemberLaws
 pub mod RowLaws
+pub mod FormLaws

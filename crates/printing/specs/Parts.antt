@@ -1,13 +1,12 @@
 -- The records of the four bodies of a byte string, by their numbers.
 -- Assumes nothing.
-use Prim.Native.Nat.{ℕ, _+_, _*_, _≤_, _<_}
+use Prim.Native.Nat.{ℕ, _*_, _≤_}
 use mathlib.Core.Path.{_≡_}
 use mathlib.Core.List.{List, map}
 use lib.ListN.{length, take, drop}
 use Rattle.rules.specs.Bytes.{Bytes}
-use Rattle.rules.specs.Store.{Store}
 use Rattle.rules.specs.Preorder.{Deep}
-use Rattle.rules.specs.Layout.{headerSize, definitionSize, particleSize, attributeSize, rowSize, FlatDefinition, FlatParticle, FlatAttribute, FlatRow}
+use Rattle.rules.specs.Layout.{headerSize, definitionSize, particleSize, FlatDefinition, FlatParticle, FlatAttribute, FlatRow}
 use Rattle.rules.specs.Decode.{readDefinition, readParticle, readAttribute, readRow, definitionCount, particleCount, attributeCount, rowCount, flatName, flatAttributeName}
 use Rattle.lookup.specs.Bodies.{recordsFrom, bodiesOf, rowBody}
 
@@ -55,6 +54,11 @@ attributeNamesOf bs = map flatAttributeName (bodiesOf bs .attributes)
 pub record Named (w : Bytes) (r : Bytes) : Type 0 where
   pub name-is : r ≡ w
   pub short : length r ≤ 50
+
+-- r is past n particles from number `from` on, or past the last
+pub record Ends (bs : Bytes) (from n r : ℕ) : Type 0 where
+  pub taken : take n (particlesFrom bs (particleCount bs) from) ≡ particlesFrom bs r from
+  pub upto : r ≤ particleCount bs
 
 -- the counts of a byte string are within the ceilings
 pub record Within (bs : Bytes) : Type 0 where

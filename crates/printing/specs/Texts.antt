@@ -1,10 +1,10 @@
 -- The text of a store in terms of the records of its bodies.
 -- Assumes nothing.
-use Prim.Native.Nat.{ℕ, zero, suc, _+_, _*_, _≤_}
+use Prim.Native.Nat.{ℕ, zero, suc, _+_, _≤_}
+use lib.ListN.{take}
 use mathlib.Core.Bool.{Bool, true, false}
-use mathlib.Core.List.{List, [], _∷_, _++_, map}
+use mathlib.Core.List.{List, [], _++_, map}
 use Rattle.rules.specs.declared.GroupKind.{GroupKind}
-use Rattle.rules.specs.declared.GroupKind.the-variants.{Sequence, Choice}
 use Rattle.rules.specs.Bytes.{Bytes, ascii, concat}
 use Rattle.rules.specs.Store.{Attribute, RowSort, element, attribute, text, Forest, bare, tree}
 use Rattle.rules.specs.Preorder.{Deep, build}
@@ -97,6 +97,10 @@ contentText ns kind f = concat (contentTokens (contentOf kind (readMembers ns f)
 
 unfoldable pub definitionText : List Bytes → FlatDefinition → List (Deep FlatParticle) → Bytes
 definitionText ns d ps = ascii "<!ELEMENT " ++ (d .name ++ (ascii " " ++ (contentText ns (d .kind) (build ps 0) ++ (ascii ">\n" ++ []))))
+
+-- a definition with its attributes; its number is o, and its particles are the first of ps
+unfoldable pub declarationsText : List Bytes → ℕ → FlatDefinition → List (Deep FlatParticle) → List FlatAttribute → Bytes
+declarationsText ns o d ps cs = definitionText ns d (take (d .particles) ps) ++ attributesText (d .name) (ofOwner o cs)
 
 -- the form, of definitions numbered from o on
 unfoldable pub formText : List Bytes → ℕ → List FlatDefinition → List (Deep FlatParticle) → List FlatAttribute → Bytes

@@ -6,12 +6,12 @@ ghost use Prim.Native.Nat.{suc, _+_, _*_, _<_, _≤_};
 ghost use lib.ListN.{length};
 ghost use Rattle.codec.specs.Laid.{Laid};
 ghost use Rattle.rules.specs.Preorder.{build};
-ghost use Rattle.rules.specs.Decode.{nameAt, quantifierOf, groupOf, rowName, rowSortOf, readParticle, readRow};
+ghost use Rattle.rules.specs.Decode.{nameAt, quantifierOf, groupOf, rowName, rowSortOf, readDefinition, readParticle, readAttribute, readRow, definitionCount, particleCount, attributeCount, ofOwner};
 ghost use Rattle.rules.specs.Print.{escape, escapeByte, markOf};
-ghost use Rattle.printing.specs.Parts.{Named, definitionPart, particlePart, attributePart, namesOf, attributeNamesOf, particlesFrom, rowsFrom};
+ghost use Rattle.printing.specs.Parts.{Named, Ends, Within, definitionPart, particlePart, attributePart, namesOf, attributeNamesOf, definitionsFrom, particlesFrom, attributesFrom, rowsFrom};
 ghost use Rattle.lookup.specs.Bodies.{rowPart};
 ghost use Rattle.printing.specs.Walking.{Room, Passed, Stepped, Enclosed};
-ghost use Rattle.printing.specs.Texts.{signText, endText, memberText, membersText, stays, attributeText, elementText, rowText, rowsText, documentText, documentsText};
+ghost use Rattle.printing.specs.Texts.{signText, endText, memberText, membersText, stays, attributeText, elementText, rowText, rowsText, documentText, documentsText, LaidWithin, defaultText, attributeLineText, attributesText, isTree, contentText, definitionText, declarationsText, formText, textOf};
 
 // ---- records
 
@@ -387,4 +387,161 @@ fn put_documents(store: &[u8], count: usize, out: &mut [u8], start: usize) -> us
         }
     }
     at
+}
+
+// ---- declarations
+
+/// Writes the default of attribute i.
+fn put_default(store: &[u8], i: usize, out: &mut [u8], at: usize) -> usize
+    requires { ⌜ (i < 4294967296) × (at < 4611686018427387904) ⌝ }
+    ensures { λ r. ⌜ LaidWithin 330 (defaultText (readAttribute (attributePart (now (store .entry)) i))) (now (out .entry)) at r (now (out .exit)) ⌝ }
+{
+    let bytes = attribute(store, i);
+    let sort = codec::byte(bytes, 18);
+    if sort == 0 {
+        return codec::put(b"#IMPLIED", out, at);
+    }
+    if sort == 1 {
+        return codec::put(b"#REQUIRED", out, at);
+    }
+    let n = codec::byte(bytes, 19) as usize;
+    let value = lookup::window(bytes, 20, n);
+    let quoted = codec::put(b"#FIXED \"", out, at);
+    let valued = put_escaped(value, out, quoted);
+    codec::put_u8(out, valued, b'"')
+}
+
+/// Writes the line of attribute i of a definition of this name.
+fn put_attribute_line(store: &[u8], i: usize, owner: &[u8], out: &mut [u8], at: usize) -> usize
+    requires { ⌜ (i < attributeCount (now store)) × (at < 2305843009213693952) × (length (now owner) ≤ 50) × (attributeCount (now store) ≤ 64) ⌝ }
+    ensures { λ r. ⌜ LaidWithin 500 (attributeLineText (now (owner .entry)) (readAttribute (attributePart (now (store .entry)) i))) (now (out .entry)) at r (now (out .exit)) ⌝ }
+{
+    let signed = codec::put(b"<!ATTLIST ", out, at);
+    let owned = codec::put(owner, out, signed);
+    let spaced = codec::put_u8(out, owned, b' ');
+    let named = codec::put(attribute_name_of(store, i), out, spaced);
+    let typed = codec::put(b" CDATA ", out, named);
+    let valued = put_default(store, i, out, typed);
+    codec::put(b">\n", out, valued)
+}
+
+/// Writes the lines of the attributes of definition o, which has this name.
+fn put_attributes(store: &[u8], o: usize, owner: &[u8], out: &mut [u8], start: usize) -> usize
+    requires { ⌜ (attributeCount (now store) ≤ 64) × (start < 1152921504606846976) × (length (now owner) ≤ 50) ⌝ }
+    ensures { λ r. ⌜ LaidWithin 32000 (attributesText (now (owner .entry)) (ofOwner o (attributesFrom (now (store .entry)) (attributeCount (now (store .entry))) 0))) (now (out .entry)) start r (now (out .exit)) ⌝ }
+{
+    let count = codec::get_u32(store, 28) as usize;
+    let mut at = start;
+    let mut i = 0;
+    while i < count {
+        if codec::byte(attribute(store, i), 0) as usize == o {
+            at = put_attribute_line(store, i, owner, out, at);
+            i += 1;
+        } else {
+            i += 1;
+        }
+    }
+    at
+}
+
+/// Whether a content model has members.
+fn has_member(store: &[u8], from: usize, end: usize) -> bool
+    requires { ⌜ end < 4294967296 ⌝ }
+    ensures { λ r. ⌜ r ≡ isTree (build (particlesFrom (now (store .entry)) end from) 0) ⌝ }
+{
+    let mut i = from;
+    while i < end {
+        if codec::byte(particle(store, i), 3) == 0 {
+            return true;
+        }
+        i += 1;
+    }
+    false
+}
+
+/// Writes a content model of the particles from number `from` to `end`.
+fn put_content(store: &[u8], kind: u8, from: usize, end: usize, out: &mut [u8], at: usize) -> usize
+    requires { ⌜ (end ≤ 256) × (at < 2305843009213693952) ⌝ }
+    ensures { λ r. ⌜ LaidWithin 102500 (contentText (namesOf (now (store .entry))) kind (build (particlesFrom (now (store .entry)) end from) 0)) (now (out .entry)) at r (now (out .exit)) ⌝ }
+{
+    if kind == 0 {
+        return codec::put(b"EMPTY", out, at);
+    }
+    if kind == 1 {
+        return codec::put(b"(#PCDATA)", out, at);
+    }
+    if !has_member(store, from, end) {
+        return codec::put(b"EMPTY", out, at);
+    }
+    let opened = codec::put_u8(out, at, b'(');
+    let members = put_members(store, end, from, 0, 1, out, opened);
+    codec::put_u8(out, members.at, b')')
+}
+
+/// Writes the line of definition o, whose particles are those from number `from` to `end`.
+fn put_definition(
+    store: &[u8],
+    o: usize,
+    from: usize,
+    end: usize,
+    out: &mut [u8],
+    at: usize,
+) -> usize
+    requires { ⌜ (o < definitionCount (now store)) × (end ≤ 256) × (at < 1152921504606846976) × (definitionCount (now store) ≤ 64) ⌝ }
+    ensures { λ r. ⌜ LaidWithin 102600 (definitionText (namesOf (now (store .entry))) (readDefinition (definitionPart (now (store .entry)) o)) (particlesFrom (now (store .entry)) end from)) (now (out .entry)) at r (now (out .exit)) ⌝ }
+{
+    let kind = codec::byte(definition(store, o), 17);
+    let signed = codec::put(b"<!ELEMENT ", out, at);
+    let named = codec::put(name_of(store, o), out, signed);
+    let spaced = codec::put_u8(out, named, b' ');
+    let filled = put_content(store, kind, from, end, out, spaced);
+    codec::put(b">\n", out, filled)
+}
+
+/// The number past n particles from number `from` on, or past the last particle.
+fn model_end(store: &[u8], from: usize, n: usize) -> usize
+    requires { ⌜ (from < 1099511627776) × (n < 4294967296) ⌝ }
+    ensures { λ r. ⌜ Ends (now (store .entry)) from n r ⌝ }
+{
+    let count = codec::get_u32(store, 20) as usize;
+    let end = from + n;
+    if end < count { end } else { count }
+}
+
+/// Writes the lines of definition o and of its attributes; its particles begin at number `from`.
+fn put_declarations(store: &[u8], o: usize, from: usize, out: &mut [u8], at: usize) -> usize
+    requires { ⌜ Within (now store) × (o < definitionCount (now store)) × (from < 1099511627776) × (at < 576460752303423488) ⌝ }
+    ensures { λ r. ⌜ LaidWithin 140000 (declarationsText (namesOf (now (store .entry))) o (readDefinition (definitionPart (now (store .entry)) o)) (particlesFrom (now (store .entry)) (particleCount (now (store .entry))) from) (attributesFrom (now (store .entry)) (attributeCount (now (store .entry))) 0)) (now (out .entry)) at r (now (out .exit)) ⌝ }
+{
+    let n = codec::get_u16(definition(store, o), 18) as usize;
+    let end = model_end(store, from, n);
+    let defined = put_definition(store, o, from, end, out, at);
+    put_attributes(store, o, name_of(store, o), out, defined)
+}
+
+/// Writes the declarations of the form.
+fn put_form(store: &[u8], out: &mut [u8], start: usize) -> usize
+    requires { ⌜ Within (now store) × (start < 288230376151711744) ⌝ }
+    ensures { λ r. ⌜ LaidWithin 8960000 (formText (namesOf (now (store .entry))) 0 (definitionsFrom (now (store .entry)) (definitionCount (now (store .entry))) 0) (particlesFrom (now (store .entry)) (particleCount (now (store .entry))) 0) (attributesFrom (now (store .entry)) (attributeCount (now (store .entry))) 0)) (now (out .entry)) start r (now (out .exit)) ⌝ }
+{
+    let count = codec::get_u32(store, 12) as usize;
+    let mut at = start;
+    let mut from = 0;
+    let mut o = 0;
+    while o < count {
+        at = put_declarations(store, o, from, out, at);
+        from += codec::get_u16(definition(store, o), 18) as usize;
+        o += 1;
+    }
+    at
+}
+
+/// Writes the text of a store, as far as out goes, and returns its length.
+pub fn print_store(store: &[u8], out: &mut [u8]) -> usize
+    requires { ⌜ Within (now store) ⌝ }
+    ensures { λ r. ⌜ Laid (textOf (now (store .entry))) (now (out .entry)) 0 r (now (out .exit)) ⌝ }
+{
+    let count = codec::get_u32(store, 36) as usize;
+    let formed = put_form(store, out, 0);
+    put_documents(store, count, out, formed)
 }

@@ -21,17 +21,13 @@ use Rattle.rules.specs.Passing.{readStore}
 use Rattle.rules.specs.LookUp.{Found, Numbered, rowWith, foundRow, valueStart, partOf, notFound, foundIn, lookUp}
 use Rattle.rules.proofs.LayoutLaws.{read-bytes}
 use Rattle.rules.proofs.DecodeLaws.{good-flat, read-good}
-use Rattle.lookup.specs.Bodies.{bodiesOf, rowStart, rowBody, rowPart}
+use Rattle.lookup.specs.Bodies.{recordsFrom, bodiesOf, rowStart, rowBody, rowPart}
 use Rattle.lookup.specs.Finding.{Looks, foundOn, foundAt}
 
 -- ---- records read one after the other
 pub length-many : {A : Type 0} (f : Bytes → A) (size n : ℕ) (bs : Bytes) → length (readMany f size n bs) ≡ n
 length-many f size zero bs = refl
 length-many f size (suc n) bs = ap suc (length-many f size n (drop size bs))
-
--- the records from number i on, of those up to number `end`
-unfoldable pub recordsFrom : {A : Type 0} → (Bytes → A) → ℕ → Bytes → ℕ → ℕ → List A
-recordsFrom f size body end i = readMany f size (end - i) (drop (size * i) body)
 
 module _ {A : Type 0} (f : Bytes → A) (size : ℕ) (body : Bytes) (end i : ℕ) where
   pub from-step : i < end → recordsFrom f size body end i ≡ f (take size (drop (size * i) body)) ∷ recordsFrom f size body end (i + 1)

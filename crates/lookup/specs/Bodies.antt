@@ -1,11 +1,16 @@
 -- The tree rows of a byte string, by their numbers.
 -- Assumes nothing.
-use Prim.Native.Nat.{ℕ, _+_, _*_, _<_}
+use Prim.Native.Nat.{ℕ, _+_, _-_, _*_, _<_}
 use mathlib.Core.Path.{_≡_}
+use mathlib.Core.List.{List}
 use lib.ListN.{take, drop}
 use Rattle.rules.specs.Bytes.{Bytes}
 use Rattle.rules.specs.Layout.{valueWidth, headerSize, definitionSize, particleSize, attributeSize, rowSize, FlatStore}
-use Rattle.rules.specs.Decode.{numberAt, definitionCount, particleCount, attributeCount, readFlat}
+use Rattle.rules.specs.Decode.{numberAt, readMany, definitionCount, particleCount, attributeCount, readFlat}
+
+-- the records from number i on, of those up to number `end`
+unfoldable pub recordsFrom : {A : Type 0} → (Bytes → A) → ℕ → Bytes → ℕ → ℕ → List A
+recordsFrom f size body end i = readMany f size (end - i) (drop (size * i) body)
 
 -- a byte string read at the width that its version says, whether it passes or not
 unfoldable pub bodiesOf : Bytes → FlatStore

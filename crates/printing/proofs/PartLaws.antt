@@ -1,0 +1,87 @@
+-- The records of the bodies, by their numbers.
+-- Assumes nothing.
+use mathlib.Core.Path.{_≡_, refl, ap, _∙_}
+use mathlib.Core.List.{[], _∷_, map}
+use Prim.Native.Nat.{ℕ, zero, suc, _+_, _-_, _*_, _<_, _≤_}
+use native.Mathlib.Omega.{arith}
+use native.Mathlib.Nat.{mul-suc, mul-zero}
+use lib.ListN.{length, take, drop, getD, length-take, length-drop}
+use lib.Seq.{drop-drop}
+use Rattle.rules.specs.Bytes.{Bytes}
+use Rattle.rules.specs.Decode.{readDefinition, readParticle, readAttribute, readRow, readMany, definitionCount, particleCount, attributeCount, nameAt, flatName, flatAttributeName}
+use Rattle.lookup.specs.Bodies.{bodiesOf, rowBody, rowPart}
+use Rattle.lookup.proofs.Laws.{from-step}
+use Rattle.printing.specs.Parts.{definitionBody, particleBody, attributeBody, definitionPart, particlePart, attributePart, namesOf, attributeNamesOf, definitionsFrom, particlesFrom, attributesFrom, rowsFrom}
+
+-- ---- their places
+pub definition-place : (bs : Bytes) (i : ℕ) → take 20 (drop (40 + 20 * i) bs) ≡ definitionPart bs i
+unfolding definitionBody definitionPart
+definition-place bs i = simp drop-drop
+
+pub particle-place : (bs : Bytes) (i : ℕ) → take 4 (drop (40 + 20 * definitionCount bs + 4 * i) bs) ≡ particlePart bs i
+unfolding particleBody particlePart
+particle-place bs i = simp drop-drop
+
+pub attribute-place : (bs : Bytes) (i : ℕ) → take 52 (drop (40 + 20 * definitionCount bs + 4 * particleCount bs + 52 * i) bs) ≡ attributePart bs i
+unfolding attributeBody attributePart
+attribute-place bs i = simp drop-drop
+
+-- ---- one after the other
+pub particle-step : (bs : Bytes) (end i : ℕ) → i < end → particlesFrom bs end i ≡ readParticle (particlePart bs i) ∷ particlesFrom bs end (i + 1)
+unfolding particlePart
+particle-step bs end i h = from-step readParticle 4 (particleBody bs) end i h
+
+pub row-step : (bs : Bytes) (end i : ℕ) → i < end → rowsFrom bs end i ≡ readRow (rowPart bs i) ∷ rowsFrom bs end (i + 1)
+unfolding rowPart
+row-step bs end i h = from-step readRow 44 (rowBody bs) end i h
+
+pub attribute-step : (bs : Bytes) (end i : ℕ) → i < end → attributesFrom bs end i ≡ readAttribute (attributePart bs i) ∷ attributesFrom bs end (i + 1)
+unfolding attributePart
+attribute-step bs end i h = from-step readAttribute 52 (attributeBody bs) end i h
+
+pub definition-step : (bs : Bytes) (end i : ℕ) → i < end → definitionsFrom bs end i ≡ readDefinition (definitionPart bs i) ∷ definitionsFrom bs end (i + 1)
+unfolding definitionPart
+definition-step bs end i h = from-step readDefinition 20 (definitionBody bs) end i h
+
+-- ---- names out of a table
+module _ {A : Type 0} (name : A → Bytes) (f : Bytes → A) (size : ℕ) where
+  pub name-there : (n i : ℕ) (bs : Bytes) → i < n → nameAt i (map name (readMany f size n bs)) ≡ name (f (take size (drop (size * i) bs)))
+  name-there zero i bs h = absurd (omega arith)
+  name-there (suc n) zero bs h = rw mul-zero
+  name-there (suc n) (suc i) bs h = name-there n i (drop size bs) (omega arith) ∙ ap (λ (l : Bytes). name (f (take size l))) (drop-drop (size * i) size bs ∙ ap (λ (k : ℕ). drop k bs) place)
+    where
+      place : size + size * i ≡ size * suc i
+      place = omega (arith, mul-suc size i)
+
+  pub name-past : (n i : ℕ) (bs : Bytes) → n ≤ i → nameAt i (map name (readMany f size n bs)) ≡ []
+  name-past zero i bs h = refl
+  name-past (suc n) zero bs h = absurd (omega arith)
+  name-past (suc n) (suc i) bs h = name-past n i (drop size bs) (omega arith)
+
+pub inside : (a o k : ℕ) (x : Bytes) → length (take a (drop o (take k x))) ≤ k - o
+inside a o k x = omega (arith, length-take a (drop o (take k x)), length-drop o (take k x), length-take k x)
+
+module _ (bs : Bytes) (i : ℕ) where
+  pub definition-name : i < definitionCount bs → nameAt i (namesOf bs) ≡ take (getD (definitionPart bs i) 0 0) (drop 1 (definitionPart bs i))
+  unfolding namesOf bodiesOf definitionPart definitionBody
+  definition-name h = name-there flatName readDefinition 20 (definitionCount bs) i (drop 40 bs) h
+
+  pub definition-short : (n : ℕ) → length (take n (drop 1 (definitionPart bs i))) ≤ 50
+  unfolding definitionPart
+  definition-short n = omega (arith, inside n 1 20 (drop (20 * i) (definitionBody bs)))
+
+  pub definition-none : definitionCount bs ≤ i → nameAt i (namesOf bs) ≡ []
+  unfolding namesOf bodiesOf
+  definition-none h = name-past flatName readDefinition 20 (definitionCount bs) i (drop 40 bs) h
+
+  pub attribute-name : i < attributeCount bs → nameAt i (attributeNamesOf bs) ≡ take (getD (attributePart bs i) 1 0) (drop 2 (attributePart bs i))
+  unfolding attributeNamesOf bodiesOf attributePart attributeBody
+  attribute-name h = name-there flatAttributeName readAttribute 52 (attributeCount bs) i (drop (4 * particleCount bs) (drop (20 * definitionCount bs) (drop 40 bs))) h
+
+  pub attribute-short : (n : ℕ) → length (take n (drop 2 (attributePart bs i))) ≤ 50
+  unfolding attributePart
+  attribute-short n = omega (arith, inside n 2 52 (drop (52 * i) (attributeBody bs)))
+
+  pub attribute-none : attributeCount bs ≤ i → nameAt i (attributeNamesOf bs) ≡ []
+  unfolding attributeNamesOf bodiesOf
+  attribute-none h = name-past flatAttributeName readAttribute 52 (attributeCount bs) i (drop (4 * particleCount bs) (drop (20 * definitionCount bs) (drop 40 bs))) h

@@ -1,0 +1,68 @@
+use borrow.Author.Needs.{needs}
+use mathlib.Core.Path.{_≡_, refl, sym, ap, _∙_}
+use mathlib.Core.List.{List}
+use Prim.Native.Nat.{ℕ, _-_, _+_}
+use native.Mathlib.Omega.{arith}
+use lib.ListN.{getD}
+use Rattle.rules.specs.Preorder.{Deep, build}
+use Rattle.rules.specs.Layout.{FlatParticle}
+use Rattle.rules.specs.Decode.{readParticle}
+use Rattle.lookup.proofs.Laws.{from-none}
+use Rattle.printing.specs.Parts.{particlesFrom, particlePart}
+use Rattle.printing.specs.Texts.{isTree}
+use Rattle.printing.proofs.PartLaws.{particle-step}
+use Rattle.printing.proofs.WalkLaws.{build-here, build-deeper}
+use Rattle.printing.proofs.has_member.Statement.{statement}
+use Rattle.printing.proofs.has_member.Tie as tie
+
+abbrev Inv-loop : tie.InvT-loop
+Inv-loop store from end i₀ i = isTree (build (particlesFrom store end i) 0) ≡ isTree (build (particlesFrom store end from) 0)
+
+abbrev μ-loop : tie.MeasureT-loop
+μ-loop store from end i₀ i = end - i
+
+loop-holds : tie.Need-loop-holds Inv-loop μ-loop
+loop-holds c = refl
+
+particle-requires : tie.Need-particle-requires Inv-loop μ-loop
+particle-requires c κs = search needs
+
+byte-requires : tie.Need-byte-requires Inv-loop μ-loop
+byte-requires c κs = search needs
+
+returns : tie.Need-returns Inv-loop μ-loop
+returns c = let l = c .before .before .before .before in let a = l .before .before .args in
+    let d : c .before .byte .result ≡ getD (particlePart (a .store .now) (l .loop .i)) 3 0 = c .before .byte .ensures ∙ ap (λ (b : List ℕ). getD b 3 0) (c .before .before .particle .ensures) in
+    let e = ap (λ (xs : List (Deep FlatParticle)). build xs 0) (particle-step (a .store .now) (a .end) (l .loop .i) (omega arith)) in
+    sym (ap isTree (e ∙ build-here (readParticle (particlePart (a .store .now) (l .loop .i))) (particlesFrom (a .store .now) (a .end) (l .loop .i + 1)) 0 (sym d ∙ c .if1 .taken))) ∙ l .loop .inv
+
+add-i : tie.Need-add-i Inv-loop μ-loop
+add-i c = search needs
+
+loop-less : tie.Need-loop-less Inv-loop μ-loop
+loop-less c = search needs
+
+loop-again : tie.Need-loop-again Inv-loop μ-loop
+loop-again c = let l = c .before .before .before .before in let a = l .before .before .args in
+    let d : c .before .byte .result ≡ getD (particlePart (a .store .now) (l .loop .i)) 3 0 = c .before .byte .ensures ∙ ap (λ (b : List ℕ). getD b 3 0) (c .before .before .particle .ensures) in
+    let e = ap (λ (xs : List (Deep FlatParticle)). build xs 0) (particle-step (a .store .now) (a .end) (l .loop .i) (omega arith)) in
+    sym (ap isTree (e ∙ build-deeper (readParticle (particlePart (a .store .now) (l .loop .i))) (particlesFrom (a .store .now) (a .end) (l .loop .i + 1)) 0 (omega (arith, c .if1 .left)))) ∙ l .loop .inv
+
+returns-2 : tie.Need-returns-2 Inv-loop μ-loop
+returns-2 c = let l = c .before in let a = l .before .before .args in
+    sym (ap (λ (xs : List (Deep FlatParticle)). isTree (build xs 0)) (from-none readParticle 4 _ (a .end) (l .loop .i) (omega arith))) ∙ l .loop .inv
+
+pub has-member-spec : {M : Type 1} → statement M
+has-member-spec =
+    tie.close
+    (tie.spec
+    Inv-loop
+    μ-loop
+    loop-holds
+    particle-requires
+    byte-requires
+    returns
+    add-i
+    loop-less
+    loop-again
+    returns-2)

@@ -1,0 +1,84 @@
+use borrow.Author.Tests.{not-true, not-false}
+use Rattle.rules.specs.Preorder.{build}
+use Rattle.printing.specs.Parts.{particlesFrom, namesOf}
+use Rattle.printing.proofs.FormLaws.{content-empty-laid, content-pcdata-laid, content-none-laid, content-some-laid}
+use borrow.Author.Needs.{needs}
+use Rattle.printing.proofs.put_content.Statement.{statement}
+use Rattle.printing.proofs.put_content.Tie as tie
+
+slice-aggregate-put : tie.Need-slice-aggregate-put
+slice-aggregate-put c = search needs
+
+put-requires : tie.Need-put-requires
+put-requires c κs = search needs
+
+same-length : tie.Need-same-length
+same-length c = search needs
+
+returns : tie.Need-returns
+returns c = let a = c .before .before .before .before .before .before .before .before .args in content-empty-laid (namesOf (a .store .now)) (a .kind) (build (particlesFrom (a .store .now) (a .end) (a .from)) 0) (c .before .before .before .before .before .if1 .taken) (c .before .before .put .ensures)
+
+slice-aggregate-put-2 : tie.Need-slice-aggregate-put-2
+slice-aggregate-put-2 c = search needs
+
+put-requires-2 : tie.Need-put-requires-2
+put-requires-2 c κs = search needs
+
+same-length-2 : tie.Need-same-length-2
+same-length-2 c = search needs
+
+returns-2 : tie.Need-returns-2
+returns-2 c = let a = c .before .before .before .before .before .before .before .before .before .args in content-pcdata-laid (namesOf (a .store .now)) (a .kind) (build (particlesFrom (a .store .now) (a .end) (a .from)) 0) (c .before .before .before .before .before .if2 .taken) (c .before .before .put2 .ensures)
+
+has-member-requires : tie.Need-has-member-requires
+has-member-requires c κs = search needs
+
+slice-aggregate-put-3 : tie.Need-slice-aggregate-put-3
+slice-aggregate-put-3 c = search needs
+
+put-requires-3 : tie.Need-put-requires-3
+put-requires-3 c κs = search needs
+
+same-length-3 : tie.Need-same-length-3
+same-length-3 c = search needs
+
+returns-3 : tie.Need-returns-3
+returns-3 c = let a = c .before .before .before .before .before .before .before .before .before .before .before .args in content-none-laid (namesOf (a .store .now)) (a .kind) (build (particlesFrom (a .store .now) (a .end) (a .from)) 0) _ (c .before .before .before .before .before .before .before .before .if1 .left) (c .before .before .before .before .before .before .before .if2 .left) (c .before .before .before .before .before .before .has-member .ensures) (not-true _ (c .before .before .before .before .before .if3 .taken)) (c .before .before .put3 .ensures)
+
+put-u8-requires : tie.Need-put-u8-requires
+put-u8-requires c κs = search needs
+
+put-members-requires : tie.Need-put-members-requires
+put-members-requires c κs = search needs
+
+put-u8-requires-2 : tie.Need-put-u8-requires-2
+put-u8-requires-2 c κs = search needs
+
+same-length-4 : tie.Need-same-length-4
+same-length-4 c = search needs
+
+returns-4 : tie.Need-returns-4
+returns-4 c = let a = c .before .before .before .before .before .before .before .before .before .before .before .before .before .before .before .before .before .before .args in content-some-laid (a .store .now) (a .kind) (a .end) (a .from) _ (c .before .before .before .before .before .before .before .before .before .before .before .before .before .before .before .before .before .before .pre .0) (c .before .before .before .before .before .before .before .before .before .before .before .before .before .before .before .if1 .left) (c .before .before .before .before .before .before .before .before .before .before .before .before .before .before .if2 .left) (c .before .before .before .before .before .before .before .before .before .before .before .before .before .has-member .ensures) (not-false _ (c .before .before .before .before .before .before .before .before .before .before .before .before .if3 .left)) (c .before .before .before .before .before .before .before .before .before .before .put-u8 .ensures) (c .before .before .before .before .before .before .put-members .ensures) (c .before .before .put-u82 .ensures)
+
+pub put-content-spec : {M : Type 1} → statement M
+put-content-spec =
+    tie.close
+    (tie.spec
+    slice-aggregate-put
+    put-requires
+    same-length
+    returns
+    slice-aggregate-put-2
+    put-requires-2
+    same-length-2
+    returns-2
+    has-member-requires
+    slice-aggregate-put-3
+    put-requires-3
+    same-length-3
+    returns-3
+    put-u8-requires
+    put-members-requires
+    put-u8-requires-2
+    same-length-4
+    returns-4)

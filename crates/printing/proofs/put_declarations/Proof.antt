@@ -1,0 +1,46 @@
+use Rattle.printing.proofs.FormLaws.{declarations-laid}
+use borrow.Author.Needs.{needs}
+use Rattle.printing.proofs.put_declarations.Statement.{statement}
+use Rattle.printing.proofs.put_declarations.Tie as tie
+
+definition-requires : tie.Need-definition-requires
+definition-requires c κs = search needs
+
+get-u16-requires : tie.Need-get-u16-requires
+get-u16-requires c κs = search needs
+
+cast-n : tie.Need-cast-n
+cast-n c = search needs
+
+model-end-requires : tie.Need-model-end-requires
+model-end-requires c κs = search needs
+
+put-definition-requires : tie.Need-put-definition-requires
+put-definition-requires c κs = search needs
+
+name-of-requires : tie.Need-name-of-requires
+name-of-requires c κs = search needs
+
+put-attributes-requires : tie.Need-put-attributes-requires
+put-attributes-requires c κs = search needs
+
+same-length : tie.Need-same-length
+same-length c = search needs
+
+returns : tie.Need-returns
+returns c = let a = c .before .before .before .before .before .before .before .before .before .before .before .before .before .before .args in
+    declarations-laid (a .store .now) (a .o) (a .from) _ (c .before .before .before .before .before .before .before .before .before .before .before .definition .ensures) (c .before .before .before .before .before .before .before .before .before .before .before .before .before .before .pre .1) _ _ (c .before .before .before .before .before .before .before .before .before .before .get-u16 .ensures) (c .before .before .before .before .before .before .before .before .before .model-end .ensures .taken) (c .before .before .before .before .before .before .before .put-definition .ensures) (c .before .before .before .before .name-of .ensures) (c .before .before .put-attributes .ensures)
+
+pub put-declarations-spec : {M : Type 1} → statement M
+put-declarations-spec =
+    tie.close
+    (tie.spec
+    definition-requires
+    get-u16-requires
+    cast-n
+    model-end-requires
+    put-definition-requires
+    name-of-requires
+    put-attributes-requires
+    same-length
+    returns)

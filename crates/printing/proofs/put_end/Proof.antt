@@ -1,0 +1,21 @@
+use mathlib.Core.Path.{ap}
+use Rattle.codec.proofs.Writers.{laid-as, laid-none}
+use Rattle.printing.specs.Texts.{endText}
+use borrow.Author.Needs.{needs}
+use Rattle.printing.proofs.put_end.Statement.{statement}
+use Rattle.printing.proofs.put_end.Tie as tie
+
+put-u8-requires : tie.Need-put-u8-requires
+put-u8-requires c κs = search needs
+
+same-length : tie.Need-same-length
+same-length c = search needs
+
+returns : tie.Need-returns
+returns c = laid-as (ap endText (c .before .before .before .before .if1 .taken)) (c .before .before .put-u8 .ensures)
+
+returns-2 : tie.Need-returns-2
+returns-2 c = laid-as (ap endText (c .if1 .left)) laid-none
+
+pub put-end-spec : {M : Type 1} → statement M
+put-end-spec = tie.close (tie.spec put-u8-requires same-length returns returns-2)

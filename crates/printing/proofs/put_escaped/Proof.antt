@@ -1,0 +1,54 @@
+use mathlib.Core.Path.{refl}
+use Prim.Native.Nat.{_-_}
+use native.Mathlib.Omega.{arith}
+use borrow.Author.Needs.{needs}
+use lib.ListN.{length}
+use Rattle.printing.proofs.SignLaws.{Escaping, escaping-on, escaping-done}
+use Rattle.printing.proofs.put_escaped.Statement.{statement}
+use Rattle.printing.proofs.put_escaped.Tie as tie
+
+abbrev Inv-loop : tie.InvT-loop
+Inv-loop value out₀ start at₀ i₀ out at i = Escaping value out₀ start out at i
+
+abbrev μ-loop : tie.MeasureT-loop
+μ-loop value out₀ start at₀ i₀ out at i = length value - i
+
+loop-holds : tie.Need-loop-holds Inv-loop μ-loop
+loop-holds c = record { goes = λ r o l. l; small = omega arith; inside = omega arith; long = refl }
+
+byte-requires : tie.Need-byte-requires Inv-loop μ-loop
+byte-requires c κs = search needs
+
+put-escaped-byte-requires : tie.Need-put-escaped-byte-requires Inv-loop μ-loop
+put-escaped-byte-requires c κs = omega arith
+
+add-i : tie.Need-add-i Inv-loop μ-loop
+add-i c = search needs
+
+loop-less : tie.Need-loop-less Inv-loop μ-loop
+loop-less c = search needs
+
+loop-again : tie.Need-loop-again Inv-loop μ-loop
+loop-again c = let l = c .before .before .before .before .before .before in
+    escaping-on (l .before .before .before .args .value .now) _ (l .loop .inv) (omega arith) (c .before .before .before .before .byte .ensures) (c .before .before .put-escaped-byte .ensures)
+
+same-length : tie.Need-same-length Inv-loop μ-loop
+same-length c = c .before .loop .inv .long
+
+returns : tie.Need-returns Inv-loop μ-loop
+returns c = escaping-done _ (c .before .loop .inv) (omega arith)
+
+pub put-escaped-spec : {M : Type 1} → statement M
+put-escaped-spec =
+    tie.close
+    (tie.spec
+    Inv-loop
+    μ-loop
+    loop-holds
+    byte-requires
+    put-escaped-byte-requires
+    add-i
+    loop-less
+    loop-again
+    same-length
+    returns)

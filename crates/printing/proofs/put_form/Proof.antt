@@ -1,0 +1,75 @@
+use borrow.Author.Needs.{needs}
+use Prim.Native.Nat.{_-_}
+use native.Mathlib.Omega.{arith}
+use Rattle.rules.specs.Decode.{definitionCount, particleCount, attributeCount}
+use Rattle.printing.specs.Parts.{namesOf, definitionsFrom, particlesFrom, attributesFrom}
+use Rattle.printing.specs.Texts.{formText}
+use Rattle.printing.proofs.FormLaws.{Declaring, declaring-start, declaring-on, declaring-done}
+use Rattle.printing.proofs.put_form.Statement.{statement}
+use Rattle.printing.proofs.put_form.Tie as tie
+
+abbrev Inv-loop : tie.InvT-loop
+Inv-loop store out₀ start count at₀ from₀ o₀ out at from o = Declaring store count (formText (namesOf store) 0 (definitionsFrom store (definitionCount store) 0) (particlesFrom store (particleCount store) 0) (attributesFrom store (attributeCount store) 0)) out₀ start out at o from
+
+abbrev μ-loop : tie.MeasureT-loop
+μ-loop store out₀ start count at₀ from₀ o₀ out at from o = count - o
+
+get-u32-requires : tie.Need-get-u32-requires Inv-loop μ-loop
+get-u32-requires c κs = search needs
+
+cast-count : tie.Need-cast-count Inv-loop μ-loop
+cast-count c = search needs
+
+loop-holds : tie.Need-loop-holds Inv-loop μ-loop
+loop-holds c = declaring-start _ _ _ _ (c .get-u32 .ensures)
+
+put-declarations-requires : tie.Need-put-declarations-requires Inv-loop μ-loop
+put-declarations-requires c κs = (c .before .before .before .before .before .before .pre .0, omega (arith, c .before .before .before .before .before .before .pre .0 .definitions, c .before .before .before .before .before .before .pre .1, c .before .before .loop .inv .counts, c .before .before .loop .inv .upto, c .before .before .loop .inv .small, c .before .before .loop .inv .few), omega (arith, c .before .before .before .before .before .before .pre .0 .definitions, c .before .before .before .before .before .before .pre .1, c .before .before .loop .inv .counts, c .before .before .loop .inv .upto, c .before .before .loop .inv .small, c .before .before .loop .inv .few), omega (arith, c .before .before .before .before .before .before .pre .0 .definitions, c .before .before .before .before .before .before .pre .1, c .before .before .loop .inv .counts, c .before .before .loop .inv .upto, c .before .before .loop .inv .small, c .before .before .loop .inv .few))
+
+definition-requires : tie.Need-definition-requires Inv-loop μ-loop
+definition-requires c κs = omega (arith, c .before .before .before .before .before .before .before .before .before .pre .0 .definitions, c .before .before .before .before .before .before .before .before .before .pre .1, c .before .before .before .before .before .loop .inv .counts, c .before .before .before .before .before .loop .inv .upto, c .before .before .before .before .before .loop .inv .small, c .before .before .before .before .before .loop .inv .few)
+
+get-u16-requires : tie.Need-get-u16-requires Inv-loop μ-loop
+get-u16-requires c κs = search needs
+
+cast-from : tie.Need-cast-from Inv-loop μ-loop
+cast-from c = search needs
+
+add-from : tie.Need-add-from Inv-loop μ-loop
+add-from c = omega (arith, c .before .before .before .before .before .before .before .before .before .before .before .pre .0 .definitions, c .before .before .before .before .before .before .before .before .before .before .before .pre .1, c .before .before .before .before .before .before .before .loop .inv .counts, c .before .before .before .before .before .before .before .loop .inv .upto, c .before .before .before .before .before .before .before .loop .inv .small, c .before .before .before .before .before .before .before .loop .inv .few)
+
+add-o : tie.Need-add-o Inv-loop μ-loop
+add-o c = omega (arith, c .before .before .before .before .before .before .before .before .before .before .before .pre .0 .definitions, c .before .before .before .before .before .before .before .before .before .before .before .pre .1, c .before .before .before .before .before .before .before .loop .inv .counts, c .before .before .before .before .before .before .before .loop .inv .upto, c .before .before .before .before .before .before .before .loop .inv .small, c .before .before .before .before .before .before .before .loop .inv .few)
+
+loop-less : tie.Need-loop-less Inv-loop μ-loop
+loop-less c = search needs
+
+loop-again : tie.Need-loop-again Inv-loop μ-loop
+loop-again c = let l = c .before .before .before .before .before .before .before in let a = l .before .before .before .before .args in
+    declaring-on (a .store .now) _ (l .loop .inv) (omega arith) _ (c .before .definition .ensures) _ (c .get-u16 .ensures) (omega arith) (c .before .before .before .before .put-declarations .ensures)
+
+same-length : tie.Need-same-length Inv-loop μ-loop
+same-length c = c .before .loop .inv .long
+
+returns : tie.Need-returns Inv-loop μ-loop
+returns c = let l = c .before in declaring-done (l .before .before .before .before .args .store .now) _ (l .loop .inv) (omega arith) (c .before .before .before .before .before .pre .0 .definitions)
+
+pub put-form-spec : {M : Type 1} → statement M
+put-form-spec =
+    tie.close
+    (tie.spec
+    Inv-loop
+    μ-loop
+    get-u32-requires
+    cast-count
+    loop-holds
+    put-declarations-requires
+    definition-requires
+    get-u16-requires
+    cast-from
+    add-from
+    add-o
+    loop-less
+    loop-again
+    same-length
+    returns)

@@ -1,0 +1,68 @@
+-- The records of the four bodies of a byte string, by their numbers.
+-- Assumes nothing.
+use Prim.Native.Nat.{ℕ, _*_, _≤_}
+use mathlib.Core.Path.{_≡_}
+use mathlib.Core.List.{List, map}
+use lib.ListN.{length, take, drop}
+use Rattle.rules.specs.Bytes.{Bytes}
+use Rattle.rules.specs.Preorder.{Deep}
+use Rattle.rules.specs.Layout.{headerSize, definitionSize, particleSize, FlatDefinition, FlatParticle, FlatAttribute, FlatRow}
+use Rattle.rules.specs.Decode.{readDefinition, readParticle, readAttribute, readRow, definitionCount, particleCount, attributeCount, rowCount, flatName, flatAttributeName}
+use Rattle.lookup.specs.Bodies.{recordsFrom, bodiesOf, rowBody}
+
+-- the bytes from a body on
+unfoldable pub definitionBody : Bytes → Bytes
+definitionBody bs = drop headerSize bs
+
+unfoldable pub particleBody : Bytes → Bytes
+particleBody bs = drop (definitionSize * definitionCount bs) (drop headerSize bs)
+
+unfoldable pub attributeBody : Bytes → Bytes
+attributeBody bs = drop (particleSize * particleCount bs) (drop (definitionSize * definitionCount bs) (drop headerSize bs))
+
+-- the bytes of a record
+unfoldable pub definitionPart : Bytes → ℕ → Bytes
+definitionPart bs i = take definitionSize (drop (definitionSize * i) (definitionBody bs))
+
+unfoldable pub particlePart : Bytes → ℕ → Bytes
+particlePart bs i = take particleSize (drop (particleSize * i) (particleBody bs))
+
+unfoldable pub attributePart : Bytes → ℕ → Bytes
+attributePart bs i = take 52 (drop (52 * i) (attributeBody bs))
+
+-- the records from number i on, of those up to number `end`
+abbrev pub definitionsFrom : Bytes → ℕ → ℕ → List FlatDefinition
+definitionsFrom bs end i = recordsFrom readDefinition definitionSize (definitionBody bs) end i
+
+abbrev pub particlesFrom : Bytes → ℕ → ℕ → List (Deep FlatParticle)
+particlesFrom bs end i = recordsFrom readParticle particleSize (particleBody bs) end i
+
+abbrev pub attributesFrom : Bytes → ℕ → ℕ → List FlatAttribute
+attributesFrom bs end i = recordsFrom readAttribute 52 (attributeBody bs) end i
+
+abbrev pub rowsFrom : Bytes → ℕ → ℕ → List (Deep FlatRow)
+rowsFrom bs end i = recordsFrom readRow 44 (rowBody bs) end i
+
+-- the names of definitions, and of attributes, in the order of their tables
+unfoldable pub namesOf : Bytes → List Bytes
+namesOf bs = map flatName (bodiesOf bs .definitions)
+
+unfoldable pub attributeNamesOf : Bytes → List Bytes
+attributeNamesOf bs = map flatAttributeName (bodiesOf bs .attributes)
+
+-- a name out of a table, no longer than its record
+pub record Named (w : Bytes) (r : Bytes) : Type 0 where
+  pub name-is : r ≡ w
+  pub short : length r ≤ 50
+
+-- r is past n particles from number `from` on, or past the last
+pub record Ends (bs : Bytes) (from n r : ℕ) : Type 0 where
+  pub taken : take n (particlesFrom bs (particleCount bs) from) ≡ particlesFrom bs r from
+  pub upto : r ≤ particleCount bs
+
+-- the counts of a byte string are within the ceilings
+pub record Within (bs : Bytes) : Type 0 where
+  pub definitions : definitionCount bs ≤ 64
+  pub particles : particleCount bs ≤ 256
+  pub attributes : attributeCount bs ≤ 64
+  pub rows : rowCount bs ≤ 4096

@@ -1,15 +1,24 @@
 -- What the calls answer, by whether the store passes.
 -- Assumes nothing.
-use Prim.Native.Nat.{ℕ}
+use Prim.Native.Nat.{ℕ, _+_, _<_, _≤_}
 use mathlib.Core.Path.{_≡_, refl, sym, ap, _∙_}
 use mathlib.Core.Bool.{Bool, true, false, not, false≢true}
 use mathlib.Core.Option.{Option, none, some}
 use mathlib.Core.List.{List, []}
-use lib.ListN.{take, drop}
-use Rattle.rules.specs.Bytes.{Bytes}
+use native.Mathlib.Omega.{arith}
+use lib.Dec.{ltb, lt→ltb, ltb→lt}
+use lib.ListN.{length, take, drop}
+use lib.Seq.{sets, sets-eq}
+use Rattle.rules.specs.Bytes.{Bytes, of-T, to-T}
 use Rattle.rules.specs.Store.{Store}
 use Rattle.rules.specs.Passing.{readStore, isRead, passes}
+use Rattle.rules.specs.Outcome.{Outcome, refused, wrote, unlessRefused, onStore, Answers}
+use Rattle.rules.specs.Print.{printed, tooLong, printOutcome}
 use Rattle.rules.specs.LookUp.{Found, notFound, foundIn, lookUp, partOf}
+use Rattle.codec.specs.Laid.{Laid}
+use Rattle.printing.specs.Parts.{Within}
+use Rattle.printing.specs.Texts.{textOf}
+use Rattle.printing.proofs.FormLaws.{text-is, passing-within}
 use Rattle.lookup.specs.Finding.{foundOn, Looks, Hands}
 use Rattle.lookup.proofs.Laws.{look-up-is}
 use Rattle.formstore.specs.Calls.{checkAnswer}
@@ -56,3 +65,52 @@ looks-bad bs k taken e = rw (look-bad bs k (refuted bs taken e)) (record { numbe
 
 pub looks-good : (bs : Bytes) (k : ℕ) {r : Bool} {number start length : ℕ} → not r ≡ false → r ≡ passes bs → Looks (foundOn bs k) number start length → Looks (lookUp bs k) number start length
 looks-good bs k left e h = rw (look-good bs k (shown bs left e)) h
+
+-- ---- printing
+ltb-yes : (m n : ℕ) → m < n → ltb m n ≡ true
+ltb-yes m n h = of-T (lt→ltb m n h)
+
+ltb-no : (m n : ℕ) → n ≤ m → ltb m n ≡ false
+ltb-no m n h = by (ltb m n) refl
+  where
+    by : (b : Bool) → ltb m n ≡ b → ltb m n ≡ false
+    by true q = absurd (omega (arith, ltb→lt m n (to-T q)))
+    by false q = q
+
+print-bad : (bs : Bytes) (room : ℕ) → passes bs ≡ false → printOutcome bs room ≡ refused 1
+unfolding printOutcome
+print-bad bs room e = by (readStore bs) refl
+  where
+    by : (o : Option Store) → readStore bs ≡ o → printOutcome bs room ≡ refused 1
+    by none q = ap (onStore (λ s. unlessRefused (tooLong room (printed s)) (printed s))) q
+    by (some s) q = absurd (false≢true (sym e ∙ ap isRead q))
+
+print-good : (bs : Bytes) (room : ℕ) → passes bs ≡ true → printOutcome bs room ≡ unlessRefused (tooLong room (textOf bs)) (textOf bs)
+unfolding printOutcome
+print-good bs room e = by (readStore bs) refl
+  where
+    by : (o : Option Store) → readStore bs ≡ o → printOutcome bs room ≡ unlessRefused (tooLong room (textOf bs)) (textOf bs)
+    by none q = absurd (false≢true (sym (ap isRead q) ∙ e))
+    by (some s) q =
+        ap (onStore (λ s. unlessRefused (tooLong room (printed s)) (printed s))) q
+        ∙ ap (λ (w : Bytes). unlessRefused (tooLong room w) w) (sym (text-is bs s q))
+
+pub within-counts : (bs : Bytes) {r : Bool} → not r ≡ false → r ≡ passes bs → Within bs
+within-counts bs left e = by (readStore bs) refl
+  where
+    by : (o : Option Store) → readStore bs ≡ o → Within bs
+    by none q = absurd (false≢true (sym (ap isRead q) ∙ shown bs left e))
+    by (some s) q = passing-within bs s q
+
+pub prints-bad : (bs : Bytes) (out : Bytes) {r : Bool} → not r ≡ true → r ≡ passes bs → Answers (printOutcome bs (length out)) out 1 0 out
+prints-bad bs out taken e = rw (print-bad bs (length out) (refuted bs taken e)) (record { number-is = refl; length-is = refl; buffer-is = refl })
+
+pub prints-short : (bs out : Bytes) {r : Bool} {n : ℕ} {small small′ : Bytes} → not r ≡ false → r ≡ passes bs → Laid (textOf bs) small 0 n small′ → length out < n → Answers (printOutcome bs (length out)) out 18 0 out
+prints-short bs out left e laid h =
+    rw (print-good bs (length out) (shown bs left e)) (rw (ltb-yes (length out) (length (textOf bs)) (omega (arith, laid .next))) (record { number-is = refl; length-is = refl; buffer-is = refl }))
+
+pub prints-all : (bs out : Bytes) {r : Bool} {n m : ℕ} {small small′ out′ : Bytes} → not r ≡ false → r ≡ passes bs → Laid (textOf bs) small 0 n small′ → n ≤ length out → Laid (textOf bs) out 0 m out′
+    → Answers (printOutcome bs (length out)) out 0 n out′
+prints-all bs out left e measured h laid =
+    rw (print-good bs (length out) (shown bs left e)) (rw (ltb-no (length out) (length (textOf bs)) (omega (arith, measured .next)))
+    (record { number-is = refl; length-is = measured .next; buffer-is = laid .stored ∙ sets-eq (textOf bs) out 0 (omega (arith, measured .next)) }))

@@ -2,6 +2,9 @@
 ghost use mathlib.Core.Path.{_≡_};
 ghost use Rattle.rules.specs.Passing.{passes};
 ghost use Rattle.rules.specs.LookUp.{lookUp};
+ghost use Rattle.rules.specs.Outcome.{Answers};
+ghost use Rattle.rules.specs.Print.{printOutcome};
+ghost use lib.ListN.{length};
 ghost use Rattle.lookup.specs.Finding.{Looks, Hands};
 ghost use Rattle.formstore.specs.Calls.{checkAnswer};
 
@@ -55,4 +58,40 @@ pub extern "C" fn formstore_look_up(store: &[u8], serial: u32) -> Found
         start: found.start,
         length: found.length,
     }
+}
+
+/// 0 and the length of what was written, or the number of a refusal and 0.
+#[repr(C)]
+pub struct Answer {
+    pub number: u32,
+    pub length: usize,
+}
+
+/// Prints the store. A first print into a buffer of one byte, which clips it, tells the length.
+pub fn print(store: &[u8], out: &mut [u8]) -> Answer
+    ensures { λ r. ⌜ Answers (printOutcome (now (store .entry)) (length (now (out .entry)))) (now (out .entry)) (r .number) (r .length) (now (out .exit)) ⌝ }
+{
+    if !validity::passes(store) {
+        return Answer {
+            number: 1,
+            length: 0,
+        };
+    }
+    let mut clipped = [0; 1];
+    let length = printing::print_store(store, &mut clipped);
+    if length > out.len() {
+        return Answer {
+            number: 18,
+            length: 0,
+        };
+    }
+    printing::print_store(store, out);
+    Answer { number: 0, length }
+}
+
+#[no_mangle]
+pub extern "C" fn formstore_print(store: &[u8], out: &mut [u8]) -> Answer
+    ensures { λ r. ⌜ Answers (printOutcome (now (store .entry)) (length (now (out .entry)))) (now (out .entry)) (r .number) (r .length) (now (out .exit)) ⌝ }
+{
+    print(store, out)
 }

@@ -1,15 +1,15 @@
 -- Numbers of a byte string, byte by byte.
 -- Assumes nothing.
-use mathlib.Core.Path.{_≡_, refl, sym, ap, _∙_}
-use mathlib.Core.List.{List, [], _∷_, _++_}
-use Prim.Native.Nat.{ℕ, zero, suc, _+_, _*_, _/_, _%_, _<_, _≤_}
+use mathlib.Core.Path.{_≡_, refl}
+use mathlib.Core.List.{[], _∷_, _++_}
+use Prim.Native.Nat.{ℕ, zero, suc, _+_, _*_, _/_, _≤_}
 use native.Mathlib.Omega.{arith}
 use native.Mathlib.Numerals.{add-one}
-use lib.ListN.{length, take, drop, getD, drop-of-length-le}
+use lib.ListN.{length, getD, drop-of-length-le}
 use lib.Seq.{take-nil}
 use Rattle.rules.specs.Bytes.{Bytes}
 use Rattle.rules.specs.Layout.{le}
-use Rattle.rules.specs.Decode.{unle, numberAt}
+use Rattle.rules.specs.Decode.{numberAt}
 
 -- the first byte, and the number of the others
 pub number-more : (k : ℕ) (s : Bytes) (at : ℕ) → numberAt at (suc k) s ≡ getD s at 0 + 256 * numberAt (suc at) k s

@@ -2,15 +2,14 @@
 -- Assumes nothing.
 use mathlib.Core.Path.{_≡_, refl, sym, ap, _∙_}
 use mathlib.Core.Bool.{Bool, true, false, _&&_}
-use mathlib.Core.List.{List, [], _∷_, _++_}
-use Prim.Native.Nat.{ℕ, zero, suc, _+_, _-_, _<_, _≤_}
+use mathlib.Core.List.{[], _∷_}
+use Prim.Native.Nat.{ℕ, suc, _+_, _<_, _≤_}
 use native.Mathlib.Omega.{arith}
 use native.Mathlib.Numerals.{add-one}
-use native.Mathlib.Nat.{le-of-suc-le-suc, not-suc-le-zero}
 use borrow.Author.Tests.{le-leb, lt-leb, eq-eqb, ne-eqb}
-use lib.Dec.{eqb, leb}
-use lib.ListN.{length, take, drop, getD, drop-of-length-le}
-use lib.Seq.{drop-cons}
+use lib.Dec.{eqb}
+use lib.ListN.{length, take, drop, getD, length-drop, drop-of-length-le}
+use lib.Seq.{drop-cons, length-take-le}
 use Rattle.rules.specs.Bytes.{Bytes, same}
 use Rattle.codec.specs.Part.{partOf}
 
@@ -22,6 +21,9 @@ part-there at n s h = rw (le-leb (at + n) (length s) h, partOf)
 pub part-short : (at n : ℕ) (s : Bytes) → length s < at + n → partOf at n s ≡ []
 unfolding partOf
 part-short at n s h = rw (lt-leb (at + n) (length s) h, partOf)
+
+pub part-length : (at n : ℕ) (s t : Bytes) → at + n ≤ length s → t ≡ partOf at n s → length t ≡ n
+part-length at n s t h e = ap length (e ∙ part-there at n s h) ∙ length-take-le n (drop at s) (omega (arith, length-drop at s))
 
 -- ---- equal strings
 -- strings of two lengths differ

@@ -1,7 +1,7 @@
 -- A part of a byte string.
 -- Assumes nothing.
 use Prim.Native.Nat.{ℕ, _+_}
-use mathlib.Core.Bool.{Bool, true, false}
+use mathlib.Core.Bool.{true, false}
 use mathlib.Core.List.{[]}
 use lib.Dec.{leb}
 use lib.ListN.{length, take, drop}

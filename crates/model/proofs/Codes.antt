@@ -1,6 +1,6 @@
 -- Particles, of what their bytes hold.
 -- Assumes nothing.
-use mathlib.Core.Path.{_≡_, refl, sym, ap, _∙_}
+use mathlib.Core.Path.{_≡_, refl}
 use Prim.Native.Nat.{ℕ, zero, suc, _+_, _<_}
 use native.Mathlib.Omega.{arith}
 use native.Mathlib.Nat.{add-zero}
@@ -8,12 +8,12 @@ use lib.ListN.{drop, getD}
 use lib.Seq.{getD-drop}
 use Rattle.rules.specs.declared.Quantifier.{Quantifier}
 use Rattle.rules.specs.declared.Quantifier.the-variants.{None, Qmark, Star, Plus}
-use Rattle.rules.specs.declared.GroupKind.the-variants.{Sequence, Choice}
+use Rattle.rules.specs.declared.GroupKind.the-variants.{Choice}
 use Rattle.rules.specs.Bytes.{Bytes}
 use Rattle.rules.specs.Layout.{quantifierCode}
 use Rattle.rules.specs.Decode.{quantifierOf, readParticle}
 use Rattle.model.specs.declared.What.{What}
-use Rattle.model.specs.declared.What.the-variants.{Element, Group}
+use Rattle.model.specs.declared.What.the-variants.{Group}
 use Rattle.model.specs.declared.Particle.{Particle}
 use Rattle.model.specs.Particle.{whatOf, particleOf}
 

@@ -1,7 +1,7 @@
 -- The facts of a part of the particle body, one particle on; and what the automaton's steps come to.
 -- Assumes nothing.
-use mathlib.Core.Path.{_≡_, refl, sym, ap, ap₂, _∙_}
-use mathlib.Core.Bool.{Bool, true, false, _&&_, _||_}
+use mathlib.Core.Path.{_≡_, refl, ap, ap₂, _∙_}
+use mathlib.Core.Bool.{Bool, _&&_, _||_}
 use mathlib.Core.List.{List, [], _∷_}
 use Prim.Native.Nat.{ℕ, zero, suc, _+_, _-_, _<_, _≤_}
 use native.Mathlib.Omega.{arith}
@@ -14,28 +14,27 @@ use Rattle.rules.specs.declared.GroupKind.{GroupKind}
 use Rattle.rules.specs.declared.GroupKind.the-variants.{Sequence, Choice}
 use Rattle.rules.specs.Bytes.{Bytes, numbers}
 use Rattle.rules.specs.Model.{Members, done, el, group, Equality, skips, both, nothing}
-use Rattle.rules.specs.Layout.{FlatParticle}
 use Rattle.rules.specs.Decode.{readParticle}
 use Rattle.rules.specs.Automaton.{single, empty, join, quantify, facts, continues, accepts}
 use Rattle.codec.proofs.Writers.{tail-seen}
 use Rattle.model.specs.declared.Particle.{Particle}
 use Rattle.model.specs.Particle.{whatOf, particleOf, kindIn, particleFacts}
-use Rattle.model.specs.Members.{indexMember, membersFrom, membersOf}
+use Rattle.model.specs.Members.{indexMember, membersFrom}
 use Rattle.model.specs.Steps.{steps, finishes, runs}
 use Rattle.model.proofs.MembersLaws.{members-few, members-deeper, members-stop, members-here}
 
 module _ (d : ℕ) (k : GroupKind) (x y : ℕ) (s : Bytes) where
-  pub facts-few : length s < 4 → facts numbers k (membersFrom d s) x y ≡ empty k
+  pub facts-few : (r : Facts) → length s < 4 → r ≡ empty k → r ≡ facts numbers k (membersFrom d s) x y
   unfolding facts
-  facts-few h = rw (members-few d s h)
+  facts-few r h e = rw (members-few d s h) e
 
   module _ (e : ℕ) (h : 4 ≤ length s) (g : e ≡ getD s 3 0) where
-    pub facts-deeper : d < e → facts numbers k (membersFrom d (take (length s - 4) (drop 4 s))) x y ≡ facts numbers k (membersFrom d s) x y
-    facts-deeper l = rw (tail-seen s 4, members-deeper d s h (omega arith))
+    pub facts-deeper : (r : Facts) → d < e → r ≡ facts numbers k (membersFrom d (take (length s - 4) (drop 4 s))) x y → r ≡ facts numbers k (membersFrom d s) x y
+    facts-deeper r l f = f ∙ rw (tail-seen s 4, members-deeper d s h (omega arith))
 
-    pub facts-stop : e < d → facts numbers k (membersFrom d s) x y ≡ empty k
+    pub facts-stop : (r : Facts) → e < d → r ≡ empty k → r ≡ facts numbers k (membersFrom d s) x y
     unfolding facts
-    facts-stop l = rw (members-stop d s h (omega arith))
+    facts-stop r l f = rw (members-stop d s h (omega arith)) f
 
     -- p is the first particle, at depth d; below, here and rest are the facts of its members, of it, and of the members after it
     pub facts-here : (p : Particle) (inside : GroupKind) (below here rest r : Facts) → e ≤ d → d ≤ e → p ≡ particleOf (readParticle s) → inside ≡ kindIn (p .what)

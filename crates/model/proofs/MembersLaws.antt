@@ -1,20 +1,20 @@
 -- The members that a part of the particle body holds, one particle on; and under names.
 -- Assumes nothing.
-use mathlib.Core.Path.{_≡_, refl, sym, ap, _∙_}
+use mathlib.Core.Path.{_≡_, refl, ap, _∙_}
 use mathlib.Core.Bool.{Bool, true, false}
 use mathlib.Core.List.{List, [], _∷_}
-use Prim.Native.Nat.{ℕ, zero, suc, _+_, _-_, _*_, _/_, _<_, _≤_}
+use Prim.Native.Nat.{ℕ, zero, suc, _/_, _<_, _≤_}
 use native.Mathlib.Omega.{arith}
 use borrow.Author.Tests.{lt-ltb, le-ltb, eq-eqb, ne-eqb}
 use lib.Dec.{ltb, eqb}
-use lib.ListN.{length, take, drop, getD}
+use lib.ListN.{length, drop, getD}
 use Rattle.rules.specs.Bytes.{Bytes}
-use Rattle.rules.specs.Model.{Members, done, el, group, rename}
+use Rattle.rules.specs.Model.{done, rename}
 use Rattle.rules.specs.Store.{Forest, bare, tree}
 use Rattle.rules.specs.Preorder.{Deep, build}
-use Rattle.rules.specs.Layout.{particleSize, FlatParticle}
+use Rattle.rules.specs.Layout.{FlatParticle}
 use Rattle.rules.specs.Decode.{nameAt, memberOf, readMembers, readParticle, readMany}
-use Rattle.model.specs.Members.{indexMember, indexMembers, particlesOf, membersFrom, membersOf}
+use Rattle.model.specs.Members.{indexMember, indexMembers, particlesOf, membersFrom}
 
 -- ---- names and indices
 -- the members that a form has are those of the bytes, each index as the name that it stands for

@@ -3,7 +3,7 @@
 use Prim.Native.Nat.{ℕ, zero, suc}
 use Rattle.rules.specs.declared.Facts.{Facts}
 use Rattle.rules.specs.declared.GroupKind.{GroupKind}
-use Rattle.rules.specs.declared.GroupKind.the-variants.{Sequence, Choice}
+use Rattle.rules.specs.declared.GroupKind.the-variants.{Sequence}
 use Rattle.rules.specs.Bytes.{numbers}
 use Rattle.rules.specs.Preorder.{Deep}
 use Rattle.rules.specs.Layout.{FlatParticle}

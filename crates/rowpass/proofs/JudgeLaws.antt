@@ -1,6 +1,6 @@
 -- The pass with the automaton of a form accepts exactly the rows of documents that conform to it.
 -- Assumes nothing.
-use Prim.Native.Nat.{ℕ, suc}
+use Prim.Native.Nat.{ℕ, suc, _<_}
 use native.Mathlib.Omega.{arith}
 use mathlib.Core.Path.{_≡_, refl, ap, _∙_, sym}
 use mathlib.Core.Logic.{_↔_}
@@ -104,7 +104,7 @@ module _ (f : IndexForm) where
           by false e (u, v) = and-both (and-both t u) (past back (suc (r .index)) ∙ v)
       parted← (r ∷ front) back a (e, m, t) w = rw (known, eq-eqb (r .sort) 2 e) (and-both m (parted← front back (suc (r .index)) t w))
 
-  module _ (sound : (i : ℕ) → Distinct (names (f .model i))) where
+  module _ (sound : (i : ℕ) → i < f .size → Distinct (names (f .model i))) where
     below→ : (i : ℕ) (rs : List FlatRow) → runs (judge f) (inside i 1 0) rs ≡ true → Below f i rs
     below→ i rs h = by (ltb i (f .size)) refl
       where
@@ -112,13 +112,13 @@ module _ (f : IndexForm) where
         by true e =
             let p = parted→ i e rs 0 h in
             let (o, n) = taken→ f i (p .front) (p .taken) in
-            record { known = ltb-true i (f .size) e; front = p .front; back = p .back; split = p .split; owned = o; whole = n; content = content→ (f .model i) (sound i) (f .kind i) (p .back) (p .walked) }
+            record { known = ltb-true i (f .size) e; front = p .front; back = p .back; split = p .split; owned = o; whole = n; content = content→ (f .model i) (sound i (ltb-true i (f .size) e)) (f .kind i) (p .back) (p .walked) }
         by false e = absurd (false≢true (sym (unknown i rs 1 0 e) ∙ h))
 
     below← : (i : ℕ) (rs : List FlatRow) → Below f i rs → runs (judge f) (inside i 1 0) rs ≡ true
     below← i rs b =
         rw (← b .split)
-        (parted← i (lt-ltb i (f .size) (b .known)) (b .front) (b .back) 0 (taken← f i (b .front) (b .owned) (b .whole)) (content← (f .model i) (sound i) (f .kind i) (b .back) (b .content)))
+        (parted← i (lt-ltb i (f .size) (b .known)) (b .front) (b .back) 0 (taken← f i (b .front) (b .owned) (b .whole)) (content← (f .model i) (sound i (b .known)) (f .kind i) (b .back) (b .content)))
 
     under→ : (r : FlatRow) (rs : List FlatRow) (c : Bool) → runs (judge f) (entered c (r .index)) rs ≡ true → UnderAs f c (r .index) rs
     unfolding runs

@@ -151,7 +151,7 @@ rows-within zero t h = tt
 rows-within (suc m) t h = ((rw (getD-take 44 t 1 0 (omega arith)) (h 1)), rows-within m (drop 44 t) (λ i. rw (getD-drop 44 t i 0) (h (44 + i))))
 
 -- THE VERDICT: the fields fit, and the rows are those of documents that conform
-pub verdict-says : (f : IndexForm) (count : ℕ) (rows : Bytes) (r : Bool) → r ≡ verdict f count rows → ((i : ℕ) → Distinct (names (f .model i))) → ((i : ℕ) → getD rows i 0 < 256)
+pub verdict-says : (f : IndexForm) (count : ℕ) (rows : Bytes) (r : Bool) → r ≡ verdict f count rows → ((i : ℕ) → i < f .size → Distinct (names (f .model i))) → ((i : ℕ) → getD rows i 0 < 256)
     → (r ≡ true) ↔ ((fieldsFit count rows ≡ true) × Documents f (rowsIn count rows))
 unfolding verdict noLevels
 verdict-says f count rows r e sound small =

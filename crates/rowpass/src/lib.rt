@@ -2,7 +2,7 @@
 ghost use mathlib.Core.Path.{_≡_};
 ghost use mathlib.Core.Logic.{_↔_};
 ghost use mathlib.Core.Bool.{true, _&&_};
-ghost use Prim.Native.Nat.{ℕ, _+_, _*_, _<_, _≤_};
+ghost use Prim.Native.Nat.{ℕ, _*_, _<_, _≤_};
 ghost use lib.Dec.{eqb};
 ghost use lib.ListN.{length, take, drop};
 ghost use Rattle.rules.specs.Model.{Distinct, names};
@@ -13,7 +13,7 @@ ghost use Rattle.records.specs.Records.{baseWidth, rowFits, eachFits};
 ghost use Rattle.model.specs.Members.{membersOf};
 ghost use Rattle.rowpass.specs.Indices.{Documents};
 ghost use Rattle.rowpass.specs.Machine.{keeps};
-ghost use Rattle.rowpass.specs.Judge.{every, spare, childMay, childrenEnd, attributeMay, freed, rowMay, rowsEnd, may, ends, after, entered, judge};
+ghost use Rattle.rowpass.specs.Judge.{every, spare, childMay, childrenEnd, attributeMay, freed, rowMay, may, ends, after, entered, judge};
 ghost use Rattle.rowpass.specs.Reading.{definitionIn, attributeIn, particlesBefore, modelPart, attributesOf, indexForm, rowsIn, verdict};
 
 /// A place that is open. `holds`: 0 documents, 1 the rows below an element, 2 nothing. Of an element: its definition, 1 and the
@@ -24,6 +24,13 @@ pub struct Level {
     pub seen: u32,
     pub last: u32,
 }
+
+const DOCUMENTS: Level = Level {
+    holds: 0,
+    index: 0,
+    seen: 0,
+    last: 0,
+};
 
 // The n bytes from `at` on, as far as s goes.
 fn cut(s: &[u8], at: usize, n: usize) -> &[u8]
@@ -40,6 +47,7 @@ fn cut(s: &[u8], at: usize, n: usize) -> &[u8]
 }
 
 // ---- definitions
+// The code of definition i's kind.
 fn kind_of(defs: &[u8], i: usize) -> u8
     requires { ⌜ i ≤ 64 ⌝ }
     ensures { λ r. ⌜ r ≡ definitionIn (now (defs .entry)) i .kind ⌝ }
@@ -47,6 +55,7 @@ fn kind_of(defs: &[u8], i: usize) -> u8
     codec::byte(cut(defs, 20 * i, 20), 17)
 }
 
+// How many particles definition i has.
 fn particles_of(defs: &[u8], i: usize) -> usize
     requires { ⌜ i ≤ 64 ⌝ }
     ensures { λ r. ⌜ (r ≡ definitionIn (now (defs .entry)) i .particles) × (r < 4294967296) ⌝ }
@@ -54,6 +63,7 @@ fn particles_of(defs: &[u8], i: usize) -> usize
     codec::get_u16(cut(defs, 20 * i, 20), 18) as usize
 }
 
+// How many particles stand before definition i's.
 fn particles_before(defs: &[u8], i: usize) -> usize
     requires { ⌜ i ≤ 64 ⌝ }
     ensures { λ r. ⌜ (r ≡ particlesBefore (now (defs .entry)) i) × (r ≤ 4294967296 * 64) ⌝ }
@@ -79,7 +89,8 @@ fn model_part<'a>(defs: &[u8], parts: &'a [u8], i: usize) -> &'a [u8]
     )
 }
 
-// ---- children, after `last`
+// ---- children
+// Whether a row may come next after the child `last`.
 fn child_may(defs: &[u8], parts: &[u8], i: usize, last: usize, sort: u8, index: usize) -> bool
     requires { ⌜ i ≤ 64 ⌝ }
     ensures { λ r. ⌜ r ≡ childMay (definitionIn (now (defs .entry)) i .kind) (membersOf (modelPart (now (defs .entry)) (now (parts .entry)) i)) last sort index ⌝ }
@@ -88,10 +99,11 @@ fn child_may(defs: &[u8], parts: &[u8], i: usize, last: usize, sort: u8, index: 
     match k {
         0 => false,
         1 => (sort == 3) & (last == 0),
-        _ => (sort == 1) & model::steps(model_part(defs, parts, i), last, index),
+        _ => (sort == 1) & model::automaton::steps(model_part(defs, parts, i), last, index),
     }
 }
 
+// Whether the children may end with `last`.
 fn children_end(defs: &[u8], parts: &[u8], i: usize, last: usize) -> bool
     requires { ⌜ i ≤ 64 ⌝ }
     ensures { λ r. ⌜ r ≡ childrenEnd (definitionIn (now (defs .entry)) i .kind) (membersOf (modelPart (now (defs .entry)) (now (parts .entry)) i)) last ⌝ }
@@ -100,7 +112,7 @@ fn children_end(defs: &[u8], parts: &[u8], i: usize, last: usize) -> bool
     match k {
         0 => true,
         1 => last != 0,
-        _ => model::finishes(model_part(defs, parts, i), last),
+        _ => model::automaton::finishes(model_part(defs, parts, i), last),
     }
 }
 
@@ -271,6 +283,7 @@ fn below_row(row: &[u8]) -> Level
     }
 }
 
+// A row's index, in the size of a level's field.
 fn row_index(row: &[u8]) -> u16
     ensures { λ r. ⌜ r ≡ numberAt 2 2 (now (row .entry)) ⌝ }
 {
@@ -317,12 +330,7 @@ fn pass(
     ensures { λ r. ⌜ r ≡ verdict (indexForm n (now (defs .entry)) (now (parts .entry)) (now (attrs .entry)) a) count (now (rows .entry)) ⌝ }
 {
     // a depth is a byte: 257 levels of 12 bytes, 3,084 in all
-    let mut levels = [Level {
-        holds: 0,
-        index: 0,
-        seen: 0,
-        last: 0,
-    }; 257];
+    let mut levels = [DOCUMENTS; 257];
     let mut live = 1;
     let mut t = rows;
     let mut m = count;
@@ -367,7 +375,7 @@ pub fn rows_pass(
     rows: &[u8],
     count: usize,
 ) -> bool
-    requires { ⌜ (n ≤ 64) × (a ≤ 64) × (44 * count ≤ length (now rows)) × ((i : ℕ) → Distinct (names (indexForm n (now defs) (now parts) (now attrs) a .model i))) ⌝ }
+    requires { ⌜ (n ≤ 64) × (a ≤ 64) × (44 * count ≤ length (now rows)) × ((i : ℕ) → i < n → Distinct (names (indexForm n (now defs) (now parts) (now attrs) a .model i))) ⌝ }
     ensures { λ r. ⌜ (r ≡ true) ↔ ((eachFits (rowFits baseWidth) (rowSize baseWidth) count (now (rows .entry)) ≡ true) × Documents (indexForm n (now (defs .entry)) (now (parts .entry)) (now (attrs .entry)) a) (readMany readRow (rowSize baseWidth) count (now (rows .entry)))) ⌝ }
 {
     pass(n, defs, parts, a, attrs, rows, count)

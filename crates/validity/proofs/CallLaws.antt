@@ -103,7 +103,7 @@ module _ {bs : Bytes} {n : ℕ} {defs : Bytes} {p : ℕ} {parts : Bytes} {a : �
 
   -- ---- the rows
   module _ {count : ℕ} {rows : Bytes} (u : count ≡ rowCount bs) (v : rows ≡ rowsIn bs) where
-    pub rows-asked : FormIn bs → (n ≤ 64) × (a ≤ 64) × (44 * count ≤ length rows) × ((i : ℕ) → Distinct (names (indexForm n defs parts attrs a .model i)))
+    pub rows-asked : FormIn bs → (n ≤ 64) × (a ≤ 64) × (44 * count ≤ length rows) × ((i : ℕ) → i < n → Distinct (names (indexForm n defs parts attrs a .model i)))
     rows-asked x =
         let form : FormPasses n defs p parts a attrs = subst (λ (c : Cut). FormPasses (c .n) (c .defs) (c .p) (c .parts) (c .a) (c .attrs)) (k .same) (x .passes) in
         (cut-laid .bodies .forDefinitions .few, cut-laid .bodies .forAttributes .few, omega (arith, ap (λ (s : Bytes). length s) v, rows-whole h), index-once cut-laid form)

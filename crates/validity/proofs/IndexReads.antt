@@ -3,20 +3,19 @@
 use Prim.Native.Nat.{ℕ, zero, suc, _+_, _*_, _/_, _<_, _≤_}
 use native.Mathlib.Omega.{arith}
 use mathlib.Core.Path.{_≡_, refl, ap, ap₂, _∙_, sym, subst}
-use mathlib.Core.Logic.{_⊎_, inl, inr}
-use mathlib.Core.List.{List, [], List·Memᴰ}
-use lib.ListN.{length, take, drop, getD, length-take, length-drop, drop-of-length-le}
+use mathlib.Core.List.{List, List·Memᴰ}
+use lib.ListN.{length, take, drop, getD, length-take, length-drop}
 use Rattle.rules.specs.Bytes.{Bytes}
-use Rattle.rules.specs.Model.{Members, done, el, group, names, rename, Distinct}
+use Rattle.rules.specs.Model.{Members, el, group, names, rename, Distinct}
 use Rattle.rules.specs.Store.{Forest, bare, tree}
 use Rattle.rules.specs.Preorder.{Deep, build}
 use Rattle.rules.specs.Layout.{definitionSize, particleSize, attributeSize, FlatDefinition, FlatParticle, FlatAttribute, FlatStore, allAttributes}
 use Rattle.rules.specs.Decode.{nameAt, quantifierOf, groupOf, readDefinition, readParticle, readAttribute, readMany, sortOf, unflat}
 use Rattle.rules.specs.Conforming.{mustBePresent, allows}
 use Rattle.codec.proofs.Strings.{part-there}
+use Rattle.codec.proofs.Records.{many-at}
 use Rattle.model.specs.Members.{particlesOf, membersFrom, membersOf}
 use Rattle.model.specs.Members as model
-use Rattle.model.proofs.MembersLaws.{members-few}
 use Rattle.records.specs.Records.{baseWidth}
 use Rattle.forms.specs.Bodies.{definitions, particles, attributes, formOf}
 use Rattle.forms.proofs.Reading.{definitions-length, attributes-length, particles-part}
@@ -28,8 +27,7 @@ use Rattle.validity.proofs.IndexLaws.{namesOf, distinct-unmap}
 use Rattle.validity.proofs.ModelReads.{ModelRead, read-names}
 use Rattle.validity.proofs.FormReads.{form-size, form-apart, model-at}
 use Rattle.validity.proofs.FormGood.{form-agrees}
-use Rattle.validity.proofs.AttributeBlocks.{below-or}
-use Rattle.validity.proofs.Parts.{nth-many, before, before-within, before-is, part-cut}
+use Rattle.validity.proofs.Parts.{before, before-within, before-is, part-cut}
 use Rattle.validity.proofs.FormLaws.{Laid, fields-fit, before-all}
 
 -- ---- models
@@ -66,11 +64,11 @@ module _ {n : ℕ} {defs : Bytes} {p : ℕ} {parts : Bytes} {a : ℕ} {attrs : B
 
   definition-in : (i : ℕ) → i < n → definitionIn defs i ≡ getD (definitions n defs) i noDefinition
   unfolding definitions
-  definition-in i l = sym (nth-many readDefinition definitionSize noDefinition n i defs l)
+  definition-in i l = sym (many-at readDefinition definitionSize i n defs noDefinition l)
 
   attribute-in : (j : ℕ) → j < a → attributeIn attrs j ≡ entryOf j (attributes a attrs)
   unfolding attributes
-  attribute-in j l = sym (nth-many readAttribute (attributeSize baseWidth) noAttribute a j attrs l)
+  attribute-in j l = sym (many-at readAttribute (attributeSize baseWidth) j a attrs noAttribute l)
 
   before-in : (i : ℕ) → i ≤ n → particlesBefore defs i ≡ before i (definitions n defs)
   unfolding particlesBefore
@@ -117,16 +115,5 @@ module _ {n : ℕ} {defs : Bytes} {p : ℕ} {parts : Bytes} {a : ℕ} {attrs : B
       distinct-unmap (λ j. nameAt j (namesOf (unflat f .form))) (names (indexMembers (build (partAt i (definitions n defs) (particles p parts)) 0)))
       (subst (λ (ns : List Bytes). Distinct ns) (read-names (namesOf (unflat f .form)) (build (partAt i (definitions n defs) (particles p parts)) 0)) (r .once))
 
-  past : (i : ℕ) → n ≤ i → membersOf (modelPart defs parts i) ≡ done
-  unfolding modelPart
-  past i l =
-      let none : drop (definitionSize * i) defs ≡ [] = drop-of-length-le defs {i = definitionSize * i} (omega (arith, laid .bodies .forDefinitions .whole)) in
-      ap (λ (s : Bytes). membersOf (take (particleSize * readDefinition (take definitionSize s) .particles) (drop (particleSize * particlesBefore defs i) parts))) none ∙ members-few 0 [] (omega arith)
-
-  pub index-once : (i : ℕ) → Distinct (names (bytes.indexForm n defs parts attrs a .model i))
-  unfolding names
-  index-once i = by (below-or i n)
-    where
-      by : (i < n) ⊎ (n ≤ i) → Distinct (names (membersOf (modelPart defs parts i)))
-      by (inl l) = subst (λ (m : Members ℕ). Distinct (names m)) (sym (model-in i l)) (once-in i l)
-      by (inr l) = subst (λ (m : Members ℕ). Distinct (names m)) (sym (past i l)) tt
+  pub index-once : (i : ℕ) → i < n → Distinct (names (bytes.indexForm n defs parts attrs a .model i))
+  index-once i l = subst (λ (m : Members ℕ). Distinct (names m)) (sym (model-in i l)) (once-in i l)

@@ -1,10 +1,10 @@
+-- `codec::byte` meets its contract.
+-- Assumes nothing.
 use mathlib.Core.Path.{sym}
 use lib.ListN.{List·getD-eq-default}
 use borrow.Author.Needs.{needs}
 use Rattle.codec.proofs.byte.Statement.{statement}
 use Rattle.codec.proofs.byte.Tie as tie
-use Rattle.codec.proofs.byte.Reads as reads
-use Rattle.codec.proofs.byte.Lts as lts
 
 shared-slice-read-result : tie.Need-shared-slice-read-result
 shared-slice-read-result c = search needs

@@ -1,6 +1,8 @@
+-- `codec::copy` meets its contract.
+-- Assumes nothing.
 use mathlib.Core.Path.{_≡_, refl, _∙_}
 use mathlib.Core.List.{_++_}
-use Prim.Native.Nat.{ℕ, _≤_, _<_, _-_, zero-le}
+use Prim.Native.Nat.{_≤_, _<_, _-_, zero-le}
 use native.Mathlib.Omega.{arith}
 use native.Mathlib.Numerals.{add-one}
 use lib.ListN.{length, take, drop, length-set}
@@ -8,8 +10,6 @@ use lib.Seq.{take-length}
 use Rattle.codec.proofs.Writers.{copy-more}
 use Rattle.codec.proofs.copy.Statement.{statement}
 use Rattle.codec.proofs.copy.Tie as tie
-use Rattle.codec.proofs.copy.Reads as reads
-use Rattle.codec.proofs.copy.Lts as lts
 
 abbrev Inv-loop : tie.InvT-loop
 Inv-loop src out₀ n i₀ out i = (i ≤ length src) × (out ≡ take i src ++ drop i out₀) × (length out ≡ length out₀)

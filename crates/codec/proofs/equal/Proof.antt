@@ -1,5 +1,7 @@
-use mathlib.Core.Path.{_≡_, refl, sym, _∙_}
-use Prim.Native.Nat.{_≤_, _-_}
+-- `codec::equal` meets its contract.
+-- Assumes nothing.
+use mathlib.Core.Path.{_≡_, sym, _∙_}
+use Prim.Native.Nat.{_-_}
 use native.Mathlib.Omega.{arith}
 use borrow.Author.Needs.{needs}
 use lib.ListN.{length, drop}
@@ -7,9 +9,6 @@ use Rattle.rules.specs.Bytes.{same}
 use Rattle.codec.proofs.Strings.{same-lengths, same-on, same-off, same-end}
 use Rattle.codec.proofs.equal.Statement.{statement}
 use Rattle.codec.proofs.equal.Tie as tie
-use Rattle.codec.proofs.equal.Reads as reads
-use Rattle.codec.proofs.equal.Lts as lts
-use Rattle.codec.proofs.byte.Reads as byte-reads
 
 abbrev Inv-loop : tie.InvT-loop
 Inv-loop a b i₀ i = (length a ≡ length b) × (same a b ≡ same (drop i a) (drop i b))

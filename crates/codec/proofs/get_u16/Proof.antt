@@ -1,13 +1,11 @@
+-- `codec::get_u16` meets its contract.
+-- Assumes nothing.
 use mathlib.Core.Path.{sym}
 use native.Mathlib.Omega.{arith}
 use Rattle.codec.proofs.Numbers.{number-two, number-past}
 use borrow.Author.Needs.{needs}
 use Rattle.codec.proofs.get_u16.Statement.{statement}
 use Rattle.codec.proofs.get_u16.Tie as tie
-use Rattle.codec.proofs.get_u16.Reads as reads
-use Rattle.codec.proofs.get_u16.Lts as lts
-use Rattle.codec.proofs.byte.Reads as byte-reads
-use Rattle.codec.proofs.wide.Reads as wide-reads
 
 byte-requires : tie.Need-byte-requires
 byte-requires c κs = search needs

@@ -1,18 +1,15 @@
+-- `codec::lay` meets its contract.
+-- Assumes nothing.
 use Rattle.codec.proofs.Writers.{lay-step}
 use borrow.Author.Needs.{needs}
-use mathlib.Core.Path.{_≡_, refl, _∙_}
-use mathlib.Core.List.{_++_, []}
-use Prim.Native.Nat.{ℕ, _≤_, _<_, _-_, _+_}
+use mathlib.Core.Path.{_≡_, _∙_}
+use mathlib.Core.List.{[]}
+use Prim.Native.Nat.{_≤_, _-_}
 use native.Mathlib.Omega.{arith}
-use native.Mathlib.Numerals.{add-one}
-use lib.ListN.{length, drop, length-set, drop-of-length-le}
-use lib.Seq.{sets, drop-cons}
+use lib.ListN.{length, drop, drop-of-length-le}
+use lib.Seq.{sets}
 use Rattle.codec.proofs.lay.Statement.{statement}
 use Rattle.codec.proofs.lay.Tie as tie
-use Rattle.codec.proofs.lay.Reads as reads
-use Rattle.codec.proofs.lay.Lts as lts
-use Rattle.codec.proofs.byte.Reads as byte-reads
-use Rattle.codec.proofs.store.Reads as store-reads
 
 abbrev Inv-loop : tie.InvT-loop
 Inv-loop src out₀ i₀ out i = (i ≤ length src) × (sets out i (drop i src) ≡ sets out₀ 0 src) × (length out ≡ length out₀)

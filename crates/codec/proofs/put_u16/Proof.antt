@@ -1,10 +1,9 @@
+-- `codec::put_u16` meets its contract.
+-- Assumes nothing.
 use Rattle.codec.proofs.Writers.{laid-then}
 use borrow.Author.Needs.{needs}
 use Rattle.codec.proofs.put_u16.Statement.{statement}
 use Rattle.codec.proofs.put_u16.Tie as tie
-use Rattle.codec.proofs.put_u16.Reads as reads
-use Rattle.codec.proofs.put_u16.Lts as lts
-use Rattle.codec.proofs.put_u8.Reads as put-u8-reads
 
 cast-put-u8 : tie.Need-cast-put-u8
 cast-put-u8 c = search needs

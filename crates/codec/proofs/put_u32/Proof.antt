@@ -1,11 +1,10 @@
+-- `codec::put_u32` meets its contract.
+-- Assumes nothing.
 use Rattle.codec.proofs.Numbers.{le-four}
 use Rattle.codec.proofs.Writers.{laid-as, laid-then}
 use borrow.Author.Needs.{needs}
 use Rattle.codec.proofs.put_u32.Statement.{statement}
 use Rattle.codec.proofs.put_u32.Tie as tie
-use Rattle.codec.proofs.put_u32.Reads as reads
-use Rattle.codec.proofs.put_u32.Lts as lts
-use Rattle.codec.proofs.put_u16.Reads as put-u16-reads
 
 put-u16-requires : tie.Need-put-u16-requires
 put-u16-requires c κs = search needs

@@ -1,10 +1,10 @@
+-- `codec::store` meets its contract.
+-- Assumes nothing.
 use mathlib.Core.Path.{sym}
 use lib.Seq.{set-out}
 use borrow.Author.Needs.{needs}
 use Rattle.codec.proofs.store.Statement.{statement}
 use Rattle.codec.proofs.store.Tie as tie
-use Rattle.codec.proofs.store.Reads as reads
-use Rattle.codec.proofs.store.Lts as lts
 
 slice-write-out : tie.Need-slice-write-out
 slice-write-out c = search needs

@@ -1,12 +1,9 @@
+-- `model::read_particle` meets its contract.
+-- Assumes nothing.
 use Rattle.model.proofs.Codes.{particle-read}
 use borrow.Author.Needs.{needs}
 use Rattle.model.proofs.read_particle.Statement.{statement}
 use Rattle.model.proofs.read_particle.Tie as tie
-use Rattle.model.proofs.read_particle.Reads as reads
-use Rattle.model.proofs.read_particle.Lts as lts
-use Rattle.codec.proofs.byte.Reads as byte-reads
-use Rattle.model.proofs.read_quantifier.Reads as read-quantifier-reads
-use Rattle.model.proofs.read_what.Reads as read-what-reads
 
 byte-requires : tie.Need-byte-requires
 byte-requires c κs = search needs

@@ -1,9 +1,9 @@
+-- `model::read_quantifier` meets its contract.
+-- Assumes nothing.
 use Rattle.model.proofs.Codes.{plus-of}
 use borrow.Author.Needs.{needs}
 use Rattle.model.proofs.read_quantifier.Statement.{statement}
 use Rattle.model.proofs.read_quantifier.Tie as tie
-use Rattle.model.proofs.read_quantifier.Reads as reads
-use Rattle.model.proofs.read_quantifier.Lts as lts
 
 returns : tie.Need-returns
 returns c = search needs

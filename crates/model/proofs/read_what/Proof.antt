@@ -1,8 +1,8 @@
+-- `model::read_what` meets its contract.
+-- Assumes nothing.
 use Rattle.model.proofs.Codes.{choice-of}
 use Rattle.model.proofs.read_what.Statement.{statement}
 use Rattle.model.proofs.read_what.Tie as tie
-use Rattle.model.proofs.read_what.Reads as reads
-use Rattle.model.proofs.read_what.Lts as lts
 
 returns : tie.Need-returns
 returns c = rw (c .match .keys1)

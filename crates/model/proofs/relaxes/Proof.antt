@@ -1,3 +1,5 @@
+-- `model::relaxes` meets its contract.
+-- Assumes nothing.
 use mathlib.Core.Path.{_≡_, refl}
 use mathlib.Core.Bool.{Bool, true, false}
 use mathlib.Core.List.{List, [], _∷_}
@@ -11,9 +13,6 @@ use Rattle.model.proofs.Codes.{each-quantifier, code-small}
 use borrow.Author.Needs.{needs}
 use Rattle.model.proofs.relaxes.Statement.{statement}
 use Rattle.model.proofs.relaxes.Tie as tie
-use Rattle.model.proofs.relaxes.Reads as reads
-use Rattle.model.proofs.relaxes.Lts as lts
-use Rattle.model.proofs.quantifier_code.Reads as quantifier-code-reads
 
 abbrev entries : List (List Bool)
 entries =

@@ -1,8 +1,8 @@
+-- `model::automaton::quantified` meets its contract.
+-- Assumes nothing.
 use borrow.Author.Needs.{needs}
-use Rattle.model.proofs.quantified.Statement.{statement}
-use Rattle.model.proofs.quantified.Tie as tie
-use Rattle.model.proofs.quantified.Reads as reads
-use Rattle.model.proofs.quantified.Lts as lts
+use Rattle.model.proofs.automaton.quantified.Statement.{statement}
+use Rattle.model.proofs.automaton.quantified.Tie as tie
 
 enum-told : tie.Need-enum-told
 enum-told c = search needs

@@ -1,10 +1,8 @@
+-- `model::automaton::particle_facts` meets its contract.
+-- Assumes nothing.
 use borrow.Author.Needs.{needs}
-use Rattle.model.proofs.particle_facts.Statement.{statement}
-use Rattle.model.proofs.particle_facts.Tie as tie
-use Rattle.model.proofs.particle_facts.Reads as reads
-use Rattle.model.proofs.particle_facts.Lts as lts
-use Rattle.model.proofs.one_element.Reads as one-element-reads
-use Rattle.model.proofs.quantified.Reads as quantified-reads
+use Rattle.model.proofs.automaton.particle_facts.Statement.{statement}
+use Rattle.model.proofs.automaton.particle_facts.Tie as tie
 
 enum-known-what : tie.Need-enum-known-what
 enum-known-what c = search needs

@@ -1,8 +1,8 @@
+-- `model::automaton::no_members` meets its contract.
+-- Assumes nothing.
 use borrow.Author.Needs.{needs}
-use Rattle.model.proofs.no_members.Statement.{statement}
-use Rattle.model.proofs.no_members.Tie as tie
-use Rattle.model.proofs.no_members.Reads as reads
-use Rattle.model.proofs.no_members.Lts as lts
+use Rattle.model.proofs.automaton.no_members.Statement.{statement}
+use Rattle.model.proofs.automaton.no_members.Tie as tie
 
 enum-told : tie.Need-enum-told
 enum-told c = search needs

@@ -1,10 +1,9 @@
+-- `model::automaton::finishes` meets its contract.
+-- Assumes nothing.
 use Rattle.model.proofs.FactsLaws.{finish-none, finish-last}
 use borrow.Author.Needs.{needs}
-use Rattle.model.proofs.finishes.Statement.{statement}
-use Rattle.model.proofs.finishes.Tie as tie
-use Rattle.model.proofs.finishes.Reads as reads
-use Rattle.model.proofs.finishes.Lts as lts
-use Rattle.model.proofs.facts.Reads as facts-reads
+use Rattle.model.proofs.automaton.finishes.Statement.{statement}
+use Rattle.model.proofs.automaton.finishes.Tie as tie
 
 facts-requires : tie.Need-facts-requires
 facts-requires c κs = search needs

@@ -1,10 +1,9 @@
+-- `model::automaton::steps` meets its contract.
+-- Assumes nothing.
 use Rattle.model.proofs.FactsLaws.{step-first, step-follow}
 use borrow.Author.Needs.{needs}
-use Rattle.model.proofs.steps.Statement.{statement}
-use Rattle.model.proofs.steps.Tie as tie
-use Rattle.model.proofs.steps.Reads as reads
-use Rattle.model.proofs.steps.Lts as lts
-use Rattle.model.proofs.facts.Reads as facts-reads
+use Rattle.model.proofs.automaton.steps.Statement.{statement}
+use Rattle.model.proofs.automaton.steps.Tie as tie
 
 facts-requires : tie.Need-facts-requires
 facts-requires c κs = search needs

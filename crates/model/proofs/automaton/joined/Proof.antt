@@ -1,10 +1,8 @@
+-- `model::automaton::joined` meets its contract.
+-- Assumes nothing.
 use borrow.Author.Needs.{needs}
-use Rattle.model.proofs.joined.Statement.{statement}
-use Rattle.model.proofs.joined.Tie as tie
-use Rattle.model.proofs.joined.Reads as reads
-use Rattle.model.proofs.joined.Lts as lts
-use Rattle.model.proofs.in_choice.Reads as in-choice-reads
-use Rattle.model.proofs.in_sequence.Reads as in-sequence-reads
+use Rattle.model.proofs.automaton.joined.Statement.{statement}
+use Rattle.model.proofs.automaton.joined.Tie as tie
 
 enum-told : tie.Need-enum-told
 enum-told c = search needs

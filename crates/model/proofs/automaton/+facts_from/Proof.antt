@@ -1,22 +1,23 @@
-use mathlib.Core.Path.{_≡_, sym, _∙_}
+-- `model::automaton::facts_from` meets its contract.
+-- Assumes nothing.
 use native.Mathlib.Omega.{arith}
 use borrow.Author.Needs.{needs}
-use lib.ListN.{length, take, drop, length-take, length-drop}
+use lib.ListN.{length, drop, length-take, length-drop}
 use Rattle.model.proofs.FactsLaws.{facts-few, facts-deeper, facts-stop, facts-here}
 use Prim.Native.Nat.{ℕ, _<_, _-_}
 use borrow.Fn.Kinds.{In}
 use borrow.Fn.PlainCycle.{Measures, is, falls, and}
-use Rattle.model.proofs.facts_from.Reads as facts-from
-use Rattle.model.proofs.facts_from.Kinds as facts-from-kinds
-use Rattle.model.proofs.+facts_from.Lts-facts_from as facts-from-lts
+use Rattle.model.proofs.automaton.facts_from.Reads as facts-from
+use Rattle.model.proofs.automaton.facts_from.Kinds as facts-from-kinds
+use Rattle.model.proofs.automaton.+facts_from.Lts-facts_from as facts-from-lts
 use Rattle.codec.proofs.byte.Reads as byte-reads
-use Rattle.model.proofs.joined.Reads as joined-reads
-use Rattle.model.proofs.kind_in.Reads as kind-in-reads
-use Rattle.model.proofs.no_members.Reads as no-members-reads
-use Rattle.model.proofs.particle_facts.Reads as particle-facts-reads
+use Rattle.model.proofs.automaton.joined.Reads as joined-reads
+use Rattle.model.proofs.automaton.kind_in.Reads as kind-in-reads
+use Rattle.model.proofs.automaton.no_members.Reads as no-members-reads
+use Rattle.model.proofs.automaton.particle_facts.Reads as particle-facts-reads
 use Rattle.model.proofs.read_particle.Reads as read-particle-reads
-use Rattle.model.proofs.+facts_from.{statement}
-use Rattle.model.proofs.+facts_from.Tie.{close}
+use Rattle.model.proofs.automaton.+facts_from.{statement}
+use Rattle.model.proofs.automaton.+facts_from.Tie.{close}
 
 abbrev μ-facts-from : Measures 1 facts-from-kinds.ps ℕ
 μ-facts-from κs a = length (a .0 .now)
@@ -36,7 +37,7 @@ facts-from-no-members-requires : (t : ℕ) → facts-from-lts.Need-no-members-re
 facts-from-no-members-requires t c κs = search needs
 
 facts-from-returns : (t : ℕ) → facts-from-lts.Need-returns (facts-from-calls t) (facts-from-at t) facts-from.Post
-facts-from-returns t c = let a = c .before .before .before .args in c .no-members .ensures ∙ sym (facts-few (a .d) (a .kind) (a .x) (a .y) (a .s .now) (omega arith))
+facts-from-returns t c = let a = c .before .before .before .args in facts-few (a .d) (a .kind) (a .x) (a .y) (a .s .now) _ (omega arith) (c .no-members .ensures)
 
 facts-from-byte-requires : (t : ℕ) → facts-from-lts.Need-byte-requires (facts-from-calls t) (facts-from-at t) facts-from.Post
 facts-from-byte-requires t c κs = search needs
@@ -57,13 +58,13 @@ facts-from-facts-from-requires : (t : ℕ) → facts-from-lts.Need-facts-from-re
 facts-from-facts-from-requires t c κs = let s = c .before .before .before .before .before .args .s .now in omega (arith, length-take (length s - 4) (drop 4 s), length-drop 4 s)
 
 facts-from-returns-2 : (t : ℕ) → facts-from-lts.Need-returns-2 (facts-from-calls t) (facts-from-at t) facts-from.Post
-facts-from-returns-2 t c = let a = c .before .before .before .before .before .before .args in c .facts-from .ensures ∙ facts-deeper (a .d) (a .kind) (a .x) (a .y) (a .s .now) (c .before .before .before .byte .result) (omega arith) (c .before .before .before .byte .ensures) (omega arith)
+facts-from-returns-2 t c = let a = c .before .before .before .before .before .before .args in facts-deeper (a .d) (a .kind) (a .x) (a .y) (a .s .now) (c .before .before .before .byte .result) (omega arith) (c .before .before .before .byte .ensures) _ (omega arith) (c .facts-from .ensures)
 
 facts-from-no-members-requires-2 : (t : ℕ) → facts-from-lts.Need-no-members-requires-2 (facts-from-calls t) (facts-from-at t) facts-from.Post
 facts-from-no-members-requires-2 t c κs = search needs
 
 facts-from-returns-3 : (t : ℕ) → facts-from-lts.Need-returns-3 (facts-from-calls t) (facts-from-at t) facts-from.Post
-facts-from-returns-3 t c = let a = c .before .before .before .before .before .before .before .args in c .no-members2 .ensures ∙ sym (facts-stop (a .d) (a .kind) (a .x) (a .y) (a .s .now) (c .before .before .before .before .byte .result) (omega arith) (c .before .before .before .before .byte .ensures) (omega arith))
+facts-from-returns-3 t c = let a = c .before .before .before .before .before .before .before .args in facts-stop (a .d) (a .kind) (a .x) (a .y) (a .s .now) (c .before .before .before .before .byte .result) (omega arith) (c .before .before .before .before .byte .ensures) _ (omega arith) (c .no-members2 .ensures)
 
 facts-from-read-particle-requires : (t : ℕ) → facts-from-lts.Need-read-particle-requires (facts-from-calls t) (facts-from-at t) facts-from.Post
 facts-from-read-particle-requires t c κs = search needs

@@ -1,0 +1,180 @@
+// The one-pass test of a row's children against a model: what a part of the model lets follow what.
+use super::Particle;
+use super::What;
+use super::read_particle;
+use rules::Facts;
+use rules::GroupKind;
+use rules::Quantifier;
+ghost use mathlib.Core.Path.{_≡_};
+ghost use Prim.Native.Nat.{_≤_};
+ghost use Rattle.rules.specs.declared.GroupKind.the-variants.{Sequence, Choice};
+ghost use Rattle.rules.specs.Bytes.{numbers};
+ghost use Rattle.rules.specs.Automaton.{single, empty, join, quantify, facts};
+ghost use Rattle.model.specs.Particle.{kindIn, particleFacts};
+ghost use Rattle.model.specs.Members.{membersFrom, membersOf};
+ghost use Rattle.model.specs.Steps.{steps, finishes};
+
+fn kind_in(what: What) -> GroupKind
+    ensures { λ r. ⌜ r ≡ kindIn what ⌝ }
+{
+    match what {
+        What::Element(_) => GroupKind::Sequence,
+        What::Group(kind, _) => kind,
+    }
+}
+
+fn no_members(kind: GroupKind) -> Facts
+    ensures { λ r. ⌜ r ≡ empty kind ⌝ }
+{
+    match kind {
+        GroupKind::Sequence => Facts {
+            nothing: true,
+            first: false,
+            last: false,
+            follow: false,
+        },
+        GroupKind::Choice => Facts {
+            nothing: false,
+            first: false,
+            last: false,
+            follow: false,
+        },
+    }
+}
+
+fn in_sequence(f: Facts, g: Facts) -> Facts
+    ensures { λ r. ⌜ r ≡ join Sequence f g ⌝ }
+{
+    Facts {
+        nothing: f.nothing & g.nothing,
+        first: f.first | (f.nothing & g.first),
+        last: g.last | (g.nothing & f.last),
+        follow: (f.follow | g.follow) | (f.last & g.first),
+    }
+}
+
+fn in_choice(f: Facts, g: Facts) -> Facts
+    ensures { λ r. ⌜ r ≡ join Choice f g ⌝ }
+{
+    Facts {
+        nothing: f.nothing | g.nothing,
+        first: f.first | g.first,
+        last: f.last | g.last,
+        follow: f.follow | g.follow,
+    }
+}
+
+fn joined(kind: GroupKind, f: Facts, g: Facts) -> Facts
+    ensures { λ r. ⌜ r ≡ join kind f g ⌝ }
+{
+    match kind {
+        GroupKind::Sequence => in_sequence(f, g),
+        GroupKind::Choice => in_choice(f, g),
+    }
+}
+
+fn quantified(q: Quantifier, f: Facts) -> Facts
+    ensures { λ r. ⌜ r ≡ quantify q f ⌝ }
+{
+    let again = f.follow | (f.last & f.first);
+    match q {
+        Quantifier::None => f,
+        Quantifier::Qmark => Facts {
+            nothing: true,
+            first: f.first,
+            last: f.last,
+            follow: f.follow,
+        },
+        Quantifier::Star => Facts {
+            nothing: true,
+            first: f.first,
+            last: f.last,
+            follow: again,
+        },
+        Quantifier::Plus => Facts {
+            nothing: f.nothing,
+            first: f.first,
+            last: f.last,
+            follow: again,
+        },
+    }
+}
+
+fn one_element(i: usize, x: usize, y: usize) -> Facts
+    ensures { λ r. ⌜ r ≡ single numbers i x y ⌝ }
+{
+    Facts {
+        nothing: false,
+        first: y == i,
+        last: x == i,
+        follow: false,
+    }
+}
+
+// The facts of a particle; `below` are those of its members.
+fn particle_facts(p: Particle, below: Facts, x: usize, y: usize) -> Facts
+    ensures { λ r. ⌜ r ≡ particleFacts p below x y ⌝ }
+{
+    let what = p.what;
+    let q = p.quantifier;
+    match what {
+        What::Element(i) => quantified(q, one_element(i, x, y)),
+        What::Group(_, _) => quantified(q, below),
+    }
+}
+
+// The facts of the members of depth d that s begins with, in a group of a kind. A particle's members are those one deeper; what
+// is deeper still belongs to others.
+fn facts_from(s: &[u8], d: usize, kind: GroupKind, x: usize, y: usize) -> Facts
+    requires { ⌜ d ≤ 256 ⌝ }
+    ensures { λ r. ⌜ r ≡ facts numbers kind (membersFrom d (now (s .entry))) x y ⌝ }
+{
+    if s.len() < 4 {
+        return no_members(kind);
+    }
+    let depth = codec::byte(s, 3) as usize;
+    let t = &s[4..];
+    if d < depth {
+        return facts_from(t, d, kind, x, y);
+    }
+    if depth < d {
+        return no_members(kind);
+    }
+    let p = read_particle(s, 0);
+    let what = p.what;
+    let below = facts_from(t, d + 1, kind_in(what), x, y);
+    let here = particle_facts(p, below, x, y);
+    let rest = facts_from(t, d, kind, x, y);
+    joined(kind, here, rest)
+}
+
+/// The facts of a whole model and two definition indices.
+pub fn facts(ms: &[u8], x: usize, y: usize) -> Facts
+    ensures { λ r. ⌜ r ≡ facts numbers Sequence (membersOf (now (ms .entry))) x y ⌝ }
+{
+    facts_from(ms, 0, GroupKind::Sequence, x, y)
+}
+
+/// Whether the child y may come after `last`: 0 is no child yet, i + 1 the child with definition index i.
+pub fn steps(ms: &[u8], last: usize, y: usize) -> bool
+    ensures { λ r. ⌜ r ≡ steps (membersOf (now (ms .entry))) last y ⌝ }
+{
+    if last == 0 {
+        let f = facts(ms, y, y);
+        return f.first;
+    }
+    let f = facts(ms, last - 1, y);
+    f.follow
+}
+
+/// Whether no child is owed after `last`.
+pub fn finishes(ms: &[u8], last: usize) -> bool
+    ensures { λ r. ⌜ r ≡ finishes (membersOf (now (ms .entry))) last ⌝ }
+{
+    if last == 0 {
+        let f = facts(ms, 0, 0);
+        return f.nothing;
+    }
+    let f = facts(ms, last - 1, last - 1);
+    f.last
+}

@@ -21,6 +21,7 @@ use Rattle.rules.proofs.Words.{and-split, or-cases}
 use Rattle.rules.proofs.BooleanLaws.{Every, every-map, every-at}
 use Rattle.rules.proofs.LayoutLaws.{Small}
 use Rattle.rules.proofs.PreorderLaws.{rising}
+use Rattle.codec.proofs.Records.{many-at}
 use Rattle.records.specs.Records.{baseWidth, definitionFits, attributeFits, eachFits}
 use Rattle.records.proofs.RecordLaws.{FittingDefinition, definition-fields, FittingAttribute, attribute-fields, body-fields}
 use Rattle.forms.specs.FormTests.{elementsIn, shaped, modelFits, modelsFit, bodiesFit}
@@ -35,7 +36,7 @@ use Rattle.validity.specs.Reading.{DefinitionFits, AttributeFits, Fields
 use Rattle.validity.proofs.ModelReads.{Shaped, Single, Grouped, shaped-tree, ModelRead}
 use Rattle.validity.proofs.FormReads.{bodies-of, form-size, form-apart, model-at}
 use Rattle.validity.proofs.FormReads as reads
-use Rattle.validity.proofs.Parts.{nth-many, before, before-is, models-whole}
+use Rattle.validity.proofs.Parts.{before, before-is, models-whole}
 
 -- ---- fields
 pub definition-told : (d : FlatDefinition) → FittingDefinition d → DefinitionFits d
@@ -95,7 +96,7 @@ model-is-part (suc i) (d ∷ ds) ps = model-is-part i ds (drop (d .particles) ps
 
 count-at : (n : ℕ) (defs : Bytes) (i : ℕ) → i < n → countAt defs i ≡ getD (definitions n defs) i noDefinition .particles
 unfolding definitions recordAt
-count-at n defs i l = definition-size i defs ∙ ap (λ (d : FlatDefinition). d .particles) (sym (nth-many readDefinition definitionSize noDefinition n i defs l))
+count-at n defs i l = definition-size i defs ∙ ap (λ (d : FlatDefinition). d .particles) (sym (many-at readDefinition definitionSize i n defs noDefinition l))
 
 -- ---- the bodies of a form
 -- bodies of bytes

@@ -3,20 +3,19 @@
 use Prim.Native.Nat.{ℕ, zero, suc, _+_, _*_, _/_, _<_, _≤_}
 use native.Mathlib.Omega.{arith}
 use mathlib.Core.Path.{_≡_, refl, ap, ap₂, _∙_, sym, subst}
-use mathlib.Core.Logic.{_⊎_, inl, inr}
-use mathlib.Core.List.{List, [], List·Memᴰ}
-use lib.ListN.{length, take, drop, getD, length-take, length-drop, drop-of-length-le}
+use mathlib.Core.List.{List, List·Memᴰ}
+use lib.ListN.{length, take, drop, getD, length-take, length-drop}
 use Rattle.rules.specs.Bytes.{Bytes}
-use Rattle.rules.specs.Model.{Members, done, el, group, names, rename, Distinct}
+use Rattle.rules.specs.Model.{Members, el, group, names, rename, Distinct}
 use Rattle.rules.specs.Store.{Forest, bare, tree}
 use Rattle.rules.specs.Preorder.{Deep, build}
 use Rattle.rules.specs.Layout.{definitionSize, particleSize, attributeSize, FlatDefinition, FlatParticle, FlatAttribute, FlatStore, allAttributes}
 use Rattle.rules.specs.Decode.{nameAt, quantifierOf, groupOf, readDefinition, readParticle, readAttribute, readMany, sortOf, unflat}
 use Rattle.rules.specs.Conforming.{mustBePresent, allows}
 use Rattle.codec.proofs.Strings.{part-there}
+use Rattle.codec.proofs.Records.{many-at}
 use Rattle.model.specs.Members.{particlesOf, membersFrom, membersOf}
 use Rattle.model.specs.Members as model
-use Rattle.model.proofs.MembersLaws.{members-few}
 use Rattle.records.specs.Records.{baseWidth}
 use Rattle.forms.specs.Bodies.{definitions, particles, attributes, formOf}
 use Rattle.forms.proofs.Reading.{definitions-length, attributes-length, particles-part}
@@ -28,8 +27,7 @@ use Rattle.validity.proofs.IndexLaws.{namesOf, distinct-unmap}
 use Rattle.validity.proofs.ModelReads.{ModelRead, read-names}
 use Rattle.validity.proofs.FormReads.{form-size, form-apart, model-at}
 use Rattle.validity.proofs.FormGood.{form-agrees}
-use Rattle.validity.proofs.AttributeBlocks.{below-or}
-use Rattle.validity.proofs.Parts.{nth-many, before, before-within, before-is, part-cut}
+use Rattle.validity.proofs.Parts.{before, before-within, before-is, part-cut}
 use Rattle.validity.proofs.FormLaws.{Laid, fields-fit, before-all}
 
 -- ---- models
@@ -66,11 +64,11 @@ module _ {n : ℕ} {defs : Bytes} {p : ℕ} {parts : Bytes} {a : ℕ} {attrs : B
 
   definition-in : (i : ℕ) → i < n → definitionIn defs i ≡ getD (definitions n defs) i noDefinition
   unfolding definitions
-  definition-in i l = sym (nth-many readDefinition definitionSize noDefinition n i defs l)
+  definition-in i l = sym (many-at readDefinition definitionSize i n defs noDefinition l)
 
   attribute-in : (j : ℕ) → j < a → attributeIn attrs j ≡ entryOf j (attributes a attrs)
   unfolding attributes
-  attribute-in j l = sym (nth-many readAttribute (attributeSize baseWidth) noAttribute a j attrs l)
+  attribute-in j l = sym (many-at readAttribute (attributeSize baseWidth) j a attrs noAttribute l)
 
   before-in : (i : ℕ) → i ≤ n → particlesBefore defs i ≡ before i (definitions n defs)
   unfolding particlesBefore

@@ -1,8 +1,7 @@
 -- The part of a definition in the particle body is found by the counts of the definitions before it.
 -- Assumes nothing.
-use Prim.Native.Nat.{ℕ, zero, suc, _+_, _*_, _<_, _≤_}
+use Prim.Native.Nat.{ℕ, zero, suc, _+_, _<_, _≤_}
 use native.Mathlib.Omega.{arith}
-use native.Mathlib.Nat.{mul-suc, mul-zero}
 use mathlib.Core.Path.{_≡_, refl, ap, _∙_, sym}
 use mathlib.Core.Bool.{true}
 use mathlib.Core.List.{List, [], _∷_}
@@ -10,22 +9,12 @@ use lib.Dec.{leb}
 use lib.ListN.{length, take, drop, getD, length-drop}
 use lib.Seq.{drop-drop}
 use borrow.Author.Tests.{leb-true}
-use Rattle.rules.specs.Bytes.{Bytes}
 use Rattle.rules.specs.Preorder.{Deep}
 use Rattle.rules.specs.Layout.{FlatDefinition, FlatParticle}
-use Rattle.rules.specs.Decode.{readMany}
 use Rattle.rules.proofs.Words.{and-split}
 use Rattle.rules.proofs.BooleanLaws.{none-nil}
 use Rattle.forms.specs.FormTests.{modelFits, modelsFit}
 use Rattle.validity.specs.Reading.{partAt, noDefinition}
-
--- record i of a body
-pub nth-many : {A : Type 0} (f : Bytes → A) (size : ℕ) (x : A) (n i : ℕ) (bs : Bytes) → i < n → getD (readMany f size n bs) i x ≡ f (take size (drop (size * i) bs))
-nth-many f size x zero i bs l = absurd (omega arith)
-nth-many f size x (suc n) zero bs l = ap (λ (k : ℕ). f (take size (drop k bs))) (sym (mul-zero size))
-nth-many f size x (suc n) (suc i) bs l =
-    let e : size + size * i ≡ size * suc i = omega (arith, mul-suc size i) in
-    nth-many f size x n i (drop size bs) (omega arith) ∙ ap (λ (ys : Bytes). f (take size ys)) (drop-drop (size * i) size bs ∙ ap (λ (k : ℕ). drop k bs) e)
 
 -- how many particles the definitions before i have
 abbrev pub before : ℕ → List FlatDefinition → ℕ

@@ -24,13 +24,13 @@ use Rattle.rules.proofs.LayoutLaws.{Small}
 use Rattle.rules.proofs.DecodeLaws.{passes-tests}
 use Rattle.codec.specs.Part.{partOf}
 use Rattle.codec.proofs.Strings.{part-there}
+use Rattle.codec.proofs.Records.{many-within}
 use Rattle.records.specs.Records.{baseWidth, definitionFits, attributeFits, rowFits, eachFits, atParticles, atAttributes, atRows, headerFits}
 use Rattle.records.specs.Records as records
 use Rattle.records.proofs.RecordLaws.{small-take, small-drop, FittingDefinition, FittingAttribute, FittingRow, each-fits-cut}
 use Rattle.records.proofs.StringLaws.{FittingHeader, header-fields, string-canonical, FittingFlat, string-fields, store-header-fits, store-bodies-fit}
 use Rattle.forms.specs.FormTests.{bodiesFit}
 use Rattle.forms.specs.Bodies.{definitions, particles, attributes, formOf}
-use Rattle.forms.proofs.Reading.{many-front}
 use Rattle.forms.proofs.Laws.{bodies-only}
 use Rattle.serials.specs.Serials.{serialOf, serialsOf, fitting}
 use Rattle.rowpass.specs.Indices.{IndexForm, Documents}
@@ -112,13 +112,13 @@ module _ {bs : Bytes} (h : Headed bs) where
   same-definitions : flatOf bs .definitions ≡ definitions (definitionCount bs) (definitionsIn bs)
   unfolding definitions
   same-definitions =
-      sym (ap (readMany readDefinition definitionSize (definitionCount bs)) definitions-cut ∙ many-front readDefinition definitionSize (definitionCount bs) (drop headerSize bs))
+      sym (ap (readMany readDefinition definitionSize (definitionCount bs)) definitions-cut ∙ many-within readDefinition definitionSize (definitionCount bs) (drop headerSize bs))
 
   same-particles : flatOf bs .particles ≡ particles (particleCount bs) (particlesIn bs)
   unfolding particles
   same-particles =
       ap (readMany readParticle particleSize (particleCount bs)) (drop-drop (definitionSize * definitionCount bs) headerSize bs)
-      ∙ sym (ap (readMany readParticle particleSize (particleCount bs)) particles-cut ∙ many-front readParticle particleSize (particleCount bs) (drop (atParticles bs) bs))
+      ∙ sym (ap (readMany readParticle particleSize (particleCount bs)) particles-cut ∙ many-within readParticle particleSize (particleCount bs) (drop (atParticles bs) bs))
 
   from-attributes : drop (particleSize * particleCount bs) (drop (definitionSize * definitionCount bs) (drop headerSize bs)) ≡ drop (atAttributes bs) bs
   from-attributes =
@@ -129,13 +129,13 @@ module _ {bs : Bytes} (h : Headed bs) where
   unfolding attributes
   same-attributes =
       ap (readMany readAttribute (attributeSize baseWidth) (attributeCount bs)) from-attributes
-      ∙ sym (ap (readMany readAttribute (attributeSize baseWidth) (attributeCount bs)) attributes-cut ∙ many-front readAttribute (attributeSize baseWidth) (attributeCount bs) (drop (atAttributes bs) bs))
+      ∙ sym (ap (readMany readAttribute (attributeSize baseWidth) (attributeCount bs)) attributes-cut ∙ many-within readAttribute (attributeSize baseWidth) (attributeCount bs) (drop (atAttributes bs) bs))
 
   same-rows : flatOf bs .rows ≡ readMany readRow (rowSize baseWidth) (rowCount bs) (rowsIn bs)
   same-rows =
       ap (readMany readRow (rowSize baseWidth) (rowCount bs))
       (ap (λ (ys : Bytes). drop (attributeSize baseWidth * attributeCount bs) ys) from-attributes ∙ drop-drop (attributeSize baseWidth * attributeCount bs) (atAttributes bs) bs)
-      ∙ sym (ap (readMany readRow (rowSize baseWidth) (rowCount bs)) rows-cut ∙ many-front readRow (rowSize baseWidth) (rowCount bs) (drop (atRows baseWidth bs) bs))
+      ∙ sym (ap (readMany readRow (rowSize baseWidth) (rowCount bs)) rows-cut ∙ many-within readRow (rowSize baseWidth) (rowCount bs) (drop (atRows baseWidth bs) bs))
 
   -- the form alone
   abbrev pub formIn : FlatStore

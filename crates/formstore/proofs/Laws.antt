@@ -4,7 +4,8 @@ use Prim.Native.Nat.{ℕ, _+_, _<_, _≤_}
 use mathlib.Core.Path.{_≡_, refl, sym, ap, _∙_}
 use mathlib.Core.Bool.{Bool, true, false, not, false≢true}
 use mathlib.Core.Option.{Option, none, some}
-use mathlib.Core.List.{List, []}
+use mathlib.Core.List.{List, [], _++_}
+use native.Mathlib.Nat.{zero-add}
 use native.Mathlib.Omega.{arith}
 use lib.Dec.{ltb, lt→ltb, ltb→lt}
 use lib.ListN.{length, take, drop}
@@ -105,12 +106,18 @@ within-counts bs left e = by (readStore bs) refl
 pub prints-bad : (bs : Bytes) (out : Bytes) {r : Bool} → not r ≡ true → r ≡ passes bs → Answers (printOutcome bs (length out)) out 1 0 out
 prints-bad bs out taken e = rw (print-bad bs (length out) (refuted bs taken e)) (record { number-is = refl; length-is = refl; buffer-is = refl })
 
+print-short : (room : ℕ) (w : Bytes) → room < length w → unlessRefused (tooLong room w) w ≡ refused 18
+print-short room w h = ap (λ (b : Bool). unlessRefused (elim b [ true ↦ 18 | false ↦ 0 ]) w) (ltb-yes room (length w) h)
+
+print-fits : (room : ℕ) (w : Bytes) → length w ≤ room → unlessRefused (tooLong room w) w ≡ wrote w
+print-fits room w h = ap (λ (b : Bool). unlessRefused (elim b [ true ↦ 18 | false ↦ 0 ]) w) (ltb-no room (length w) h)
+
 pub prints-short : (bs out : Bytes) {r : Bool} {n : ℕ} {small small′ : Bytes} → not r ≡ false → r ≡ passes bs → Laid (textOf bs) small 0 n small′ → length out < n → Answers (printOutcome bs (length out)) out 18 0 out
 prints-short bs out left e laid h =
-    rw (print-good bs (length out) (shown bs left e)) (rw (ltb-yes (length out) (length (textOf bs)) (omega (arith, laid .next))) (record { number-is = refl; length-is = refl; buffer-is = refl }))
+    rw (print-good bs (length out) (shown bs left e) ∙ print-short (length out) (textOf bs) (omega (arith, laid .next))) (record { number-is = refl; length-is = refl; buffer-is = refl })
 
 pub prints-all : (bs out : Bytes) {r : Bool} {n m : ℕ} {small small′ out′ : Bytes} → not r ≡ false → r ≡ passes bs → Laid (textOf bs) small 0 n small′ → n ≤ length out → Laid (textOf bs) out 0 m out′
     → Answers (printOutcome bs (length out)) out 0 n out′
 prints-all bs out left e measured h laid =
-    rw (print-good bs (length out) (shown bs left e)) (rw (ltb-no (length out) (length (textOf bs)) (omega (arith, measured .next)))
-    (record { number-is = refl; length-is = measured .next; buffer-is = laid .stored ∙ sets-eq (textOf bs) out 0 (omega (arith, measured .next)) }))
+    rw (print-good bs (length out) (shown bs left e) ∙ print-fits (length out) (textOf bs) (omega (arith, measured .next)))
+    (record { number-is = refl; length-is = measured .next ∙ zero-add (length (textOf bs)); buffer-is = laid .stored ∙ sets-eq (textOf bs) out 0 (omega (arith, measured .next)) ∙ ap (λ (k : ℕ). textOf bs ++ drop k out) (zero-add (length (textOf bs))) })

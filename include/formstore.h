@@ -1,7 +1,7 @@
 /* The form store of a timing box: the calls that a box links (rt staticlib formstore writes target/staticlib/libformstore.a).
  *
- * One rule that nothing can check for a C caller: each pointer has as many bytes as its length says. With it no call reads or writes outside its
- * buffers, and every call ends. */
+ * One rule that nothing can check for a C caller: each pointer has as many bytes as its length says, and `store` and `out` do not overlap. With it
+ * no call reads or writes outside its buffers, and every call ends. */
 #ifndef FORMSTORE_H
 #define FORMSTORE_H
 
@@ -55,6 +55,16 @@ struct formstore_found {
 };
 
 struct formstore_found formstore_look_up(const uint8_t *store, size_t store_length, uint32_t serial);
+
+/* What a call that writes answers: 0 and the length of what was written, or the number of a refusal and 0. A refusal changes no byte of `out`; bytes
+ * past the length keep their content. */
+struct formstore_answer {
+    uint32_t number;
+    size_t length;
+};
+
+/* Prints the store: the DTD, then a line per document. Refuses with 1 and 18. */
+struct formstore_answer formstore_print(const uint8_t *store, size_t store_length, uint8_t *out, size_t out_length);
 
 #ifdef __cplusplus
 }

@@ -10,9 +10,18 @@ pub struct Found {
     pub length: usize,
 }
 
+/// What a call that writes answers.
+#[repr(C)]
+#[derive(Clone, Copy, Debug, PartialEq, Eq)]
+pub struct Answer {
+    pub number: u32,
+    pub length: usize,
+}
+
 extern "C" {
     fn formstore_check(store: *const u8, length: usize) -> u32;
     fn formstore_look_up(store: *const u8, length: usize, serial: u32) -> Found;
+    fn formstore_print(store: *const u8, length: usize, out: *mut u8, room: usize) -> Answer;
 }
 
 const GUARD: usize = 64;
@@ -38,7 +47,15 @@ impl Guarded {
         self.bytes[GUARD..].as_ptr()
     }
 
-    fn verify(&self, content: &[u8]) {
+    fn start_mut(&mut self) -> *mut u8 {
+        self.bytes[GUARD..].as_mut_ptr()
+    }
+
+    fn content(&self) -> &[u8] {
+        &self.bytes[GUARD..GUARD + self.length]
+    }
+
+    fn verify_guards(&self) {
         assert!(
             self.bytes[..GUARD].iter().all(|&b| b == 0xA5),
             "bytes before the buffer were written"
@@ -47,6 +64,10 @@ impl Guarded {
             self.bytes[GUARD + self.length..].iter().all(|&b| b == 0x5A),
             "bytes past the buffer were written"
         );
+    }
+
+    fn verify(&self, content: &[u8]) {
+        self.verify_guards();
         assert_eq!(
             &self.bytes[GUARD..GUARD + self.length],
             content,
@@ -71,4 +92,23 @@ pub fn look_up(store: &[u8], serial: u32) -> Found {
     let found = unsafe { formstore_look_up(guarded.start(), guarded.length, serial) };
     guarded.verify(store);
     found
+}
+
+/// Prints into `out`, of which every byte is the caller's to compare.
+pub fn print(store: &[u8], out: &mut [u8]) -> Answer {
+    let guarded = Guarded::new(store);
+    let mut room = Guarded::new(out);
+    // SAFETY: as in `check`, and the two buffers are different.
+    let answer = unsafe {
+        formstore_print(
+            guarded.start(),
+            guarded.length,
+            room.start_mut(),
+            room.length,
+        )
+    };
+    guarded.verify(store);
+    room.verify_guards();
+    out.copy_from_slice(room.content());
+    answer
 }

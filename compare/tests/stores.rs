@@ -37,6 +37,28 @@ fn compare_all(store: &[u8], rng: &mut Rng, passing: &mut usize) {
     );
 }
 
+/// Into a buffer that is long enough, just long enough, one byte short or any.
+fn compare_printed(store: &[u8], rng: &mut Rng) {
+    let mut wanted = vec![0xEE; 20_000];
+    let full = second::print(store, &mut wanted);
+    for room in [
+        full.length,
+        full.length.saturating_sub(1),
+        full.length + 7,
+        rng.below(300),
+    ] {
+        let (mut out, mut other) = (vec![0xEE; room], vec![0xEE; room]);
+        let expected = second::print(store, &mut other);
+        let answer = compare::print(store, &mut out);
+        assert_eq!(
+            (answer.number, answer.length),
+            (expected.number, expected.length),
+            "print of {store:02x?}"
+        );
+        assert_eq!(out, other, "print of {store:02x?}");
+    }
+}
+
 #[test]
 fn the_same_answers_on_any_bytes() {
     let mut rng = Rng::new(seed());
@@ -49,9 +71,11 @@ fn the_same_answers_on_any_bytes() {
         let store =
             second::layout::encode(&documents::store(&mut rng, definitions, attributes, rows));
         compare_all(&store, &mut rng, &mut passing);
+        compare_printed(&store, &mut rng);
         for _ in 0..8 {
             let worse = damaged(&mut rng, &store);
             compare_all(&worse, &mut rng, &mut passing);
+            compare_printed(&worse, &mut rng);
         }
         let length = rng.below(201);
         let noise = rng.bytes(length);

@@ -34,12 +34,20 @@ fn agrees(line: &str) -> Option<bool> {
                 ) == (number(3), number(4), number(5)),
             )
         }
+        "print" => {
+            let mut out = bytes(words[2]);
+            let answer = compare::print(&store, &mut out);
+            Some(
+                (answer.number as usize, answer.length) == (number(3), number(4))
+                    && out == bytes(words[5]),
+            )
+        }
         _ => None,
     }
 }
 
 #[test]
-fn all_lines_of_check_and_look_up() {
+fn all_lines_of_check_look_up_and_print() {
     let sample = PathBuf::from(env!("CARGO_MANIFEST_DIR")).join("../second/tests/sample.txt");
     let mut files = vec![sample];
     match std::fs::read_dir(folder()) {

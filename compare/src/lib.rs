@@ -112,3 +112,18 @@ pub fn print(store: &[u8], out: &mut [u8]) -> Answer {
     out.copy_from_slice(room.content());
     answer
 }
+
+/// The exported functions without copies and guards, for measuring.
+pub mod direct {
+    use super::{formstore_check, formstore_print, Answer};
+
+    pub fn check(store: &[u8]) -> u32 {
+        // SAFETY: the slice is valid for its length.
+        unsafe { formstore_check(store.as_ptr(), store.len()) }
+    }
+
+    pub fn print(store: &[u8], out: &mut [u8]) -> Answer {
+        // SAFETY: the slices are valid for their lengths, and a `&mut` overlaps nothing.
+        unsafe { formstore_print(store.as_ptr(), store.len(), out.as_mut_ptr(), out.len()) }
+    }
+}

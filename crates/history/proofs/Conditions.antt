@@ -55,7 +55,7 @@ first-append (c ∷ cs) ds k e = by (c .holds) refl (first-append cs ds (and-spl
     by true q f = let z : c .number ≡ 0 = rw q at e in absurd (false≢true (sym (ap (λ (x : ℕ). leb 1 x) z) ∙ and-split (leb 1 (c .number)) (numbered cs) k .0))
     by false q f = let (u, z) = f (rw q at e) in ((q, u), z)
 
-conditions-numbered : (c : Call) (s : Store) → numbered (conditions c s) ≡ true
+pub conditions-numbered : (c : Call) (s : Store) → numbered (conditions c s) ≡ true
 unfolding conditions
 conditions-numbered (createDefinition n k) s = refl
 conditions-numbered (destroyDefinition i) s = refl

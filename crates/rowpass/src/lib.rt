@@ -33,7 +33,7 @@ const DOCUMENTS: Level = Level {
 };
 
 // The n bytes from `at` on, as far as s goes.
-fn cut(s: &[u8], at: usize, n: usize) -> &[u8]
+pub fn cut(s: &[u8], at: usize, n: usize) -> &[u8]
     ensures { λ r. ⌜ now r ≡ take n (drop at (now (s .entry))) ⌝ }
 {
     if s.len() < at {
@@ -48,7 +48,7 @@ fn cut(s: &[u8], at: usize, n: usize) -> &[u8]
 
 // ---- definitions
 // The code of definition i's kind.
-fn kind_of(defs: &[u8], i: usize) -> u8
+pub fn kind_of(defs: &[u8], i: usize) -> u8
     requires { ⌜ i ≤ 64 ⌝ }
     ensures { λ r. ⌜ r ≡ definitionIn (now (defs .entry)) i .kind ⌝ }
 {
@@ -56,7 +56,7 @@ fn kind_of(defs: &[u8], i: usize) -> u8
 }
 
 // How many particles definition i has.
-fn particles_of(defs: &[u8], i: usize) -> usize
+pub fn particles_of(defs: &[u8], i: usize) -> usize
     requires { ⌜ i ≤ 64 ⌝ }
     ensures { λ r. ⌜ (r ≡ definitionIn (now (defs .entry)) i .particles) × (r < 4294967296) ⌝ }
 {
@@ -78,7 +78,7 @@ fn particles_before(defs: &[u8], i: usize) -> usize
 }
 
 // Definition i's part of the particles.
-fn model_part<'a>(defs: &[u8], parts: &'a [u8], i: usize) -> &'a [u8]
+pub fn model_part<'a>(defs: &[u8], parts: &'a [u8], i: usize) -> &'a [u8]
     requires { ⌜ i ≤ 64 ⌝ }
     ensures { λ r. ⌜ now r ≡ modelPart (now (defs .entry)) (now (parts .entry)) i ⌝ }
 {
@@ -130,7 +130,7 @@ fn value_may(attrs: &[u8], j: usize, v: &[u8]) -> bool
 }
 
 // Whether attribute j is one that definition i needs.
-fn needs(attrs: &[u8], i: usize, j: usize) -> bool
+pub fn needs(attrs: &[u8], i: usize, j: usize) -> bool
     requires { ⌜ j ≤ 64 ⌝ }
     ensures { λ r. ⌜ r ≡ (eqb (attributeIn (now (attrs .entry)) j .owner) i && mustBePresent (sortOf (attributeIn (now (attrs .entry)) j .sort))) ⌝ }
 {

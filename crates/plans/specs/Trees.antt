@@ -1,0 +1,39 @@
+-- The walk over the rows, on trees: below each row, what is taken and where the filling comes.
+-- Assumes nothing.
+use Prim.Native.Nat.{ℕ, suc}
+use mathlib.Core.Path.{_≡_}
+use mathlib.Core.Bool.{Bool, true, false, _&&_, _||_, not}
+use mathlib.Core.List.{List, [], _∷_, _++_}
+use Rattle.rules.specs.Bytes.{Bytes}
+use Rattle.rules.specs.Store.{Forest, bare, tree}
+use Rattle.rules.specs.Preorder.{Deep}
+use Rattle.rules.specs.Layout.{FlatRow}
+use Rattle.editing.specs.declared.Plan.{Plan}
+use Rattle.editing.specs.Walk.{matches, isEverything, isGround, isLater, keptRow, owed}
+
+module _ (p : Plan) (v : Bytes) (fill : ℕ → List (Deep FlatRow)) where
+  -- the rows at depth d below a row: it is one of `above` or not, and its filling is still to come or not
+  unfoldable pub treeWalk : Bool → Bool → ℕ → Forest FlatRow → List (Deep FlatRow)
+  treeWalk sel due d bare = owed due (fill d)
+  treeWalk sel due d (tree r b t) =
+      elim ((isEverything (p .above) || sel) && matches (p .takes) r) [
+        | true ↦ treeWalk sel due d t
+        | false ↦
+            owed (due && isLater (p .later) r) (fill d)
+            ++ (keptRow p v (record { depth = d; row = r })
+            ∷ (treeWalk (matches (p .above) r) (matches (p .above) r && p .fills) (suc d) b ++ treeWalk sel (due && not (isLater (p .later) r)) d t))
+      ]
+
+  -- the documents
+  abbrev pub documentsWalk : Forest FlatRow → List (Deep FlatRow)
+  documentsWalk f = treeWalk (isGround (p .above)) (isGround (p .above) && p .fills) 0 f
+
+-- ---- no row of `above` stands below another
+-- no row of a forest is one of them
+abbrev pub NoneOf : (FlatRow → Bool) → Forest FlatRow → Type 0
+NoneOf q bare = Unit {0}
+NoneOf q (tree r b t) = (q r ≡ false) × NoneOf q b × NoneOf q t
+
+abbrev pub Apart : (FlatRow → Bool) → Forest FlatRow → Type 0
+Apart q bare = Unit {0}
+Apart q (tree r b t) = (q r ≡ true → NoneOf q b) × Apart q b × Apart q t

@@ -1,0 +1,32 @@
+-- The bodies of a store after a plan.
+-- Assumes nothing.
+use Prim.Native.Nat.{ℕ, _+_}
+use mathlib.Core.List.{List}
+use Rattle.rules.specs.Bytes.{Bytes}
+use Rattle.rules.specs.Preorder.{Deep}
+use Rattle.rules.specs.Layout.{FlatRow, FlatStore}
+use Rattle.validity.specs.Reading.{indexForm, entryOf}
+use Rattle.rows.specs.Written.{newIn, numbered}
+use Rattle.filling.specs.Fillings.{fillingRows}
+use Rattle.editing.specs.declared.Plan.{Plan}
+use Rattle.editing.specs.Walk.{walked, atFirst}
+
+-- the rows of the filling of a plan, at a depth
+abbrev pub fillOf : Plan → Bytes → FlatStore → ℕ → List (Deep FlatRow)
+fillOf p v f d = fillingRows (indexForm f) (λ j. entryOf j (f .attributes) .value) (p .filling) v d
+
+-- the rows after a plan with the value v, the new ones without serials
+unfoldable pub rowsAfter : Plan → Bytes → FlatStore → List (Deep FlatRow)
+rowsAfter p v f = walked p v (fillOf p v f) (atFirst p) (f .rows)
+
+-- a plan that leaves the form as it is
+unfoldable pub planned : Plan → Bytes → FlatStore → FlatStore
+planned p v f =
+    record {
+      version = f .version;
+      next = f .next + newIn (rowsAfter p v f);
+      definitions = f .definitions;
+      particles = f .particles;
+      attributes = f .attributes;
+      rows = numbered (f .next) (rowsAfter p v f);
+    }

@@ -1,0 +1,2 @@
+pub mod SuffixLaws
+pub mod TreeLaws

@@ -1,2 +1,4 @@
 pub mod SuffixLaws
 pub mod TreeLaws
+pub mod StoreFacts
+pub mod RefusalLaws

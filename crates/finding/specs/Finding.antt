@@ -8,8 +8,9 @@ use lib.Dec.{eqb, ltb}
 use Rattle.rules.specs.Bytes.{Bytes, any}
 use Rattle.rules.specs.Preorder.{Deep}
 use Rattle.rules.specs.Layout.{FlatRow}
-use Rattle.rules.specs.Decode.{readRow}
+use Rattle.rules.specs.Decode.{readRow, rowCount}
 use Rattle.lookup.specs.Bodies.{recordsFrom}
+use Rattle.validity.specs.Check.{rowsIn}
 
 -- the rows of a body from number i on, `count` in all
 abbrev pub rowsFrom : Bytes → ℕ → ℕ → List (Deep FlatRow)
@@ -48,3 +49,9 @@ isParent k r below = any (elementRow k) below
 unfoldable pub seek : Test → List (Deep FlatRow) → List (Deep FlatRow)
 seek p [] = []
 seek p (x ∷ xs) = elim (p (x .row) (children 1 (suc (x .depth)) xs)) [ true ↦ x ∷ xs | false ↦ seek p xs ]
+
+-- ---- in a store
+-- number r of its rows is the element row with serial k; past the last row: there is none
+pub record ElementAt (bs : Bytes) (k r : ℕ) : Type 0 where
+  pub begins : Begins (rowsIn bs) (rowCount bs) r (seek (isElementRow k) (rowsFrom (rowsIn bs) (rowCount bs) 0))
+  pub few : rowCount bs ≤ 4096

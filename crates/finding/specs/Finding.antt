@@ -1,15 +1,18 @@
 -- Rows found by their serials, and the rows right below a row, over the rows of the tree body.
 -- Assumes nothing.
-use Prim.Native.Nat.{ℕ, zero, suc, _≤_}
+use Prim.Native.Nat.{ℕ, zero, suc, _+_, _-_, _<_, _≤_}
 use mathlib.Core.Path.{_≡_}
 use mathlib.Core.Bool.{Bool, true, false, _&&_}
-use mathlib.Core.List.{List, [], _∷_}
+use mathlib.Core.List.{List, [], _∷_, _++_}
 use lib.Dec.{eqb, ltb}
 use Rattle.rules.specs.Bytes.{Bytes, any}
+use Rattle.rules.specs.Model.{Members}
 use Rattle.rules.specs.Preorder.{Deep}
 use Rattle.rules.specs.Layout.{FlatRow}
 use Rattle.rules.specs.Decode.{readRow, rowCount}
 use Rattle.lookup.specs.Bodies.{recordsFrom}
+use Rattle.model.specs.Steps.{runs}
+use Rattle.rowpass.specs.Reading.{recordAt}
 use Rattle.validity.specs.Check.{rowsIn}
 
 -- the rows of a body from number i on, `count` in all
@@ -55,3 +58,33 @@ seek p (x ∷ xs) = elim (p (x .row) (children 1 (suc (x .depth)) xs)) [ true �
 pub record ElementAt (bs : Bytes) (k r : ℕ) : Type 0 where
   pub begins : Begins (rowsIn bs) (rowCount bs) r (seek (isElementRow k) (rowsFrom (rowsIn bs) (rowCount bs) 0))
   pub few : rowCount bs ≤ 4096
+
+-- ---- children, one after the other
+-- row number i is the next child from `start` on; past the last row: there is none
+pub record Child (s d : ℕ) (rows : Bytes) (count start i : ℕ) : Type 0 where
+  pub same : children s d (rowsFrom rows count i) ≡ children s d (rowsFrom rows count start)
+  pub head : i < count → children s d (rowsFrom rows count i) ≡ readRow (recordAt 44 i rows) .row ∷ children s d (rowsFrom rows count (i + 1))
+  pub later : count - i ≤ count - start
+
+abbrev pub serialIn : FlatRow → ℕ
+serialIn r = r .serial
+
+-- the serial of the first row with an index; 0 if there is none
+abbrev pub serialOf : ℕ → List FlatRow → ℕ
+serialOf a [] = 0
+serialOf a (r ∷ rs) = elim (eqb (r .index) a) [ true ↦ r .serial | false ↦ serialOf a rs ]
+
+-- The indices of children, without the one with serial `skip`. A new one is put in before child number p - 1; p 0: none.
+unfoldable pub newName : ℕ → ℕ → List ℕ
+newName p new = elim (eqb p 1) [ true ↦ new ∷ [] | false ↦ [] ]
+
+unfoldable pub keptName : ℕ → FlatRow → List ℕ
+keptName skip r = elim (eqb (r .serial) skip) [ true ↦ [] | false ↦ r .index ∷ [] ]
+
+unfoldable pub word : ℕ → ℕ → ℕ → List FlatRow → List ℕ
+word p new skip [] = newName p new
+word p new skip (r ∷ rs) = (newName p new ++ keptName skip r) ++ word (p - 1) new skip rs
+
+-- the names v are stepped over
+pub record Stepped (ms : Members ℕ) (last : ℕ) (v : List ℕ) (fits : Bool) (after : ℕ) : Type 0 where
+  pub on : (w : List ℕ) → runs ms last (v ++ w) ≡ (fits && runs ms after w)

@@ -7,7 +7,7 @@ use native.Mathlib.Omega.{arith}
 use lib.Dec.{eqb}
 use lib.ListN.{getD}
 use Rattle.rowpass.specs.Reading.{recordAt}
-use Rattle.finding.proofs.SuffixLaws.{Stepping, step-start, step-past, step-hit, step-less, step-none}
+use Rattle.finding.proofs.SuffixLaws.{child-of, Stepping, step-start, step-past, step-hit, step-less, step-none}
 use Rattle.finding.proofs.next_child.Statement.{statement}
 use Rattle.finding.proofs.next_child.Tie as tie
 
@@ -31,7 +31,7 @@ cast-deep c = search needs
 
 returns : tie.Need-returns Inv-loop μ-loop
 returns c = let l = c .before .before .before .before in let a = l .before .before .args in
-    step-less (a .sort) (a .depth) (a .rows .now) (a .count) (a .start) (l .loop .i) (l .loop .inv) (omega arith) (omega (arith, c .before .byte .ensures ∙ ap (λ (b : List ℕ). getD b 1 0) (c .before .before .row .ensures)))
+    child-of (step-less (a .sort) (a .depth) (a .rows .now) (a .count) (a .start) (l .loop .i) (l .loop .inv) (omega arith) (omega (arith, c .before .byte .ensures ∙ ap (λ (b : List ℕ). getD b 1 0) (c .before .before .row .ensures)))) (omega arith)
 
 byte-requires-2 : tie.Need-byte-requires-2 Inv-loop μ-loop
 byte-requires-2 c κs = search needs
@@ -40,7 +40,7 @@ returns-2 : tie.Need-returns-2 Inv-loop μ-loop
 returns-2 c = let l = c .before .before .before .before .before .before in let a = l .before .before .args in
     let x : c .before .before .before .byte .result ≡ getD (recordAt 44 (l .loop .i) (a .rows .now)) 1 0 = c .before .before .before .byte .ensures ∙ ap (λ (b : List ℕ). getD b 1 0) (c .before .before .before .before .row .ensures) in
     let y : c .before .byte2 .result ≡ getD (recordAt 44 (l .loop .i) (a .rows .now)) 0 0 = c .before .byte2 .ensures ∙ ap (λ (b : List ℕ). getD b 0 0) (c .before .before .before .before .row .ensures) in
-    step-hit (a .sort) (a .depth) (a .rows .now) (a .count) (a .start) (l .loop .i) (l .loop .inv) (omega arith) (omega arith) (sym (ap₂ (λ (u v : ℕ). eqb u (a .depth) && eqb v (a .sort)) x y) ∙ c .if2 .taken)
+    child-of (step-hit (a .sort) (a .depth) (a .rows .now) (a .count) (a .start) (l .loop .i) (l .loop .inv) (omega arith) (omega arith) (sym (ap₂ (λ (u v : ℕ). eqb u (a .depth) && eqb v (a .sort)) x y) ∙ c .if2 .taken)) (omega (arith, l .loop .inv .onward))
 
 add-i : tie.Need-add-i Inv-loop μ-loop
 add-i c = search needs
@@ -55,7 +55,7 @@ loop-again c = let l = c .before .before .before .before .before .before in let 
     step-past (a .sort) (a .depth) (a .rows .now) (a .count) (a .start) (l .loop .i) (l .loop .inv) (omega arith) (omega arith) (sym (ap₂ (λ (u v : ℕ). eqb u (a .depth) && eqb v (a .sort)) x y) ∙ c .if2 .left)
 
 returns-3 : tie.Need-returns-3 Inv-loop μ-loop
-returns-3 c = step-none _ _ _ _ _ _ (c .before .loop .inv) (omega arith)
+returns-3 c = child-of (step-none _ _ _ _ _ _ (c .before .loop .inv) (omega arith)) (omega arith)
 
 pub next-child-spec : {M : Type 1} → statement M
 next-child-spec =

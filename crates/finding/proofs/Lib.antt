@@ -4,4 +4,7 @@ pub mod StepLaws
 pub mod SerialLaws
 pub mod StoreFacts
 pub mod ConformingTests
+pub mod ElementTests
+pub mod ParentLaws
+pub mod ElementsAfter
 pub mod RefusalLaws

@@ -7,4 +7,7 @@ pub mod ConformingTests
 pub mod ElementTests
 pub mod ParentLaws
 pub mod ElementsAfter
+pub mod IndexWords
+pub mod ReaderLaws
 pub mod RefusalLaws
+pub mod ElementRefusals

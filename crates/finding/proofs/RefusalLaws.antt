@@ -21,21 +21,21 @@ use Rattle.records.specs.Records.{NumberAt}
 use Rattle.rowpass.specs.Reading.{definitionIn}
 use Rattle.validity.specs.Check.{definitionsIn, rowsIn}
 use Rattle.storing.specs.Stores.{storeIn}
-use Rattle.finding.specs.Finding.{ElementAt}
+use Rattle.finding.specs.Finding.{ElementAt, ParentAt, RowOf, kindAt}
 use Rattle.finding.proofs.SuffixLaws.{rowAt}
-use Rattle.finding.proofs.StoreFacts.{formIn, docsIn, Whole, Element, NoElement, element-there, element-absent, Defined, defined}
+use Rattle.finding.proofs.StoreFacts.{formIn, docsIn, Whole, Element, NoElement, element-there, element-absent, parent-there, Defined, defined}
 
 -- n is the number of the first condition that holds, 0 if none does
 pub record Gives (n : ℕ) (cs : List Condition) : Type 0 where
   pub is : n ≡ first cs
 
-gives-hit : {n : ℕ} {b : Bool} {cs : List Condition} → b ≡ true → Gives n ((n if b) ∷ cs)
+pub gives-hit : {n : ℕ} {b : Bool} {cs : List Condition} → b ≡ true → Gives n ((n if b) ∷ cs)
 gives-hit {n} {b} {cs} e = record { is = rw e }
 
-gives-next : {n x : ℕ} {b : Bool} {cs : List Condition} → b ≡ false → Gives x cs → Gives x ((n if b) ∷ cs)
+pub gives-next : {n x : ℕ} {b : Bool} {cs : List Condition} → b ≡ false → Gives x cs → Gives x ((n if b) ∷ cs)
 gives-next {n} {x} {b} {cs} e h = record { is = rw e (h .is) }
 
-gives-none : Gives 0 []
+pub gives-none : Gives 0 []
 gives-none = record { is = refl }
 
 module _ (bs : Bytes) (w : Whole bs) where
@@ -80,14 +80,17 @@ module _ (bs : Bytes) (w : Whole bs) where
     pub unseen : n ≤ i → NoElement bs k
     unseen l = element-absent bs w k i (f .begins) (omega (arith, e .value))
 
-  -- its definition's kind
+  -- its definition
   pub kind-limit : {k i : ℕ} → Element bs k i → rowAt (rowsIn bs) i .row .index ≤ 64
   kind-limit {k} {i} e = let d = defined bs w k i e in omega (arith, d .index, d .below, w .agrees .size, w .fewDefinitions)
 
-  pub kind-read : (i : ℕ) {c j : ℕ} {defs : Bytes} → c ≡ definitionIn defs j .kind → defs ≡ definitionsIn bs → j ≡ rowAt (rowsIn bs) i .row .index → c ≡ definitionIn (definitionsIn bs) (rowAt (rowsIn bs) i .row .index) .kind
-  kind-read i e d j = e ∙ ap₂ (λ (b : Bytes) (n : ℕ). definitionIn b n .kind) d j
+  pub row-of : {k i : ℕ} → ElementAt bs k i → i < rowCount bs → RowOf bs i
+  row-of {k} {i} f l = record { small = l; few = f .few; index = kind-limit (element-there bs w k i (f .begins) l) }
 
-  kind-is : {k i : ℕ} (e : Element bs k i) → definitionIn (definitionsIn bs) (rowAt (rowsIn bs) i .row .index) .kind ≡ kindCode (defined bs w k i e .definition .content)
+  pub parent-row : {k i : ℕ} → ParentAt bs k i → i < rowCount bs → RowOf bs i
+  parent-row {k} {i} f l = record { small = l; few = f .few; index = kind-limit (parent-there bs w k i (f .begins) l .parent) }
+
+  pub kind-is : {k i : ℕ} (e : Element bs k i) → kindAt bs i ≡ kindCode (defined bs w k i e .definition .content)
   kind-is {k} {i} e =
       let d = defined bs w k i e in
       ap (λ (j : ℕ). definitionIn (definitionsIn bs) j .kind) (d .index)
@@ -125,7 +128,7 @@ module _ (bs : Bytes) (w : Whole bs) where
     unfolding conditions
     text-7 h f = gives-next (fine-text t e h) (gives-hit (f .there))
 
-    module _ (h : not a ≡ false) {i : ℕ} (x : Element bs k i) {c : ℕ} (kind : c ≡ definitionIn (definitionsIn bs) (rowAt (rowsIn bs) i .row .index) .kind) where
+    module _ (h : not a ≡ false) {i : ℕ} (x : Element bs k i) {c : ℕ} (kind : c ≡ kindAt bs i) where
       pub text-9 : (c ≡ 1 → ⊥) → Gives 9 (conditions (setText k t) (storeIn bs))
       unfolding conditions
       text-9 f = gives-next (fine-text t e h) (gives-next (x .there) (gives-hit (ap not (pcdata-is x ∙ other-code (defined bs w k i x .definition) (λ z. f (kind ∙ kind-is x ∙ z))))))

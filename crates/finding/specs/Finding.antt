@@ -2,18 +2,20 @@
 -- Assumes nothing.
 use Prim.Native.Nat.{ℕ, zero, suc, _+_, _-_, _<_, _≤_}
 use mathlib.Core.Path.{_≡_}
-use mathlib.Core.Bool.{Bool, true, false, _&&_}
-use mathlib.Core.List.{List, [], _∷_, _++_}
+use mathlib.Core.Bool.{Bool, true, false, _&&_, not}
+use mathlib.Core.List.{List, [], _∷_, _++_, map}
 use lib.Dec.{eqb, ltb}
 use Rattle.rules.specs.Bytes.{Bytes, any}
 use Rattle.rules.specs.Model.{Members}
 use Rattle.rules.specs.Preorder.{Deep}
 use Rattle.rules.specs.Layout.{FlatRow}
+use Rattle.rules.specs.Lines.{serialAt}
 use Rattle.rules.specs.Decode.{readRow, rowCount}
 use Rattle.lookup.specs.Bodies.{recordsFrom}
+use Rattle.model.specs.Members.{membersOf}
 use Rattle.model.specs.Steps.{runs}
-use Rattle.rowpass.specs.Reading.{recordAt}
-use Rattle.validity.specs.Check.{rowsIn}
+use Rattle.rowpass.specs.Reading.{recordAt, definitionIn, modelPart}
+use Rattle.validity.specs.Check.{definitionsIn, particlesIn, rowsIn}
 
 -- the rows of a body from number i on, `count` in all
 abbrev pub rowsFrom : Bytes → ℕ → ℕ → List (Deep FlatRow)
@@ -42,8 +44,8 @@ elementRow k r = eqb (r .sort) 1 && eqb (r .serial) k
 abbrev pub Test : Type 0
 Test = FlatRow → List FlatRow → Bool
 
-abbrev pub isElementRow : ℕ → Test
-isElementRow k r below = elementRow k r
+abbrev pub isThis : ℕ → Test
+isThis k r below = elementRow k r
 
 abbrev pub isParent : ℕ → Test
 isParent k r below = any (elementRow k) below
@@ -56,7 +58,7 @@ seek p (x ∷ xs) = elim (p (x .row) (children 1 (suc (x .depth)) xs)) [ true �
 -- ---- in a store
 -- number r of its rows is the element row with serial k; past the last row: there is none
 pub record ElementAt (bs : Bytes) (k r : ℕ) : Type 0 where
-  pub begins : Begins (rowsIn bs) (rowCount bs) r (seek (isElementRow k) (rowsFrom (rowsIn bs) (rowCount bs) 0))
+  pub begins : Begins (rowsIn bs) (rowCount bs) r (seek (isThis k) (rowsFrom (rowsIn bs) (rowCount bs) 0))
   pub few : rowCount bs ≤ 4096
 
 -- ---- children, one after the other
@@ -88,3 +90,36 @@ word p new skip (r ∷ rs) = (newName p new ++ keptName skip r) ++ word (p - 1) 
 -- the names v are stepped over
 pub record Stepped (ms : Members ℕ) (last : ℕ) (v : List ℕ) (fits : Bool) (after : ℕ) : Type 0 where
   pub on : (w : List ℕ) → runs ms last (v ++ w) ≡ (fits && runs ms after w)
+
+-- ---- a row of a store, by its number
+abbrev pub rowIn : Bytes → ℕ → Deep FlatRow
+rowIn bs i = readRow (recordAt 44 i (rowsIn bs))
+
+-- the rows of a sort right below it
+unfoldable pub childrenAt : Bytes → ℕ → ℕ → List FlatRow
+childrenAt bs s i = children s (suc (rowIn bs i .depth)) (rowsFrom (rowsIn bs) (rowCount bs) (i + 1))
+
+-- its definition's kind and model
+abbrev pub kindAt : Bytes → ℕ → ℕ
+kindAt bs i = definitionIn (definitionsIn bs) (rowIn bs i .row .index) .kind
+
+abbrev pub modelAt : Bytes → ℕ → Members ℕ
+modelAt bs i = membersOf (modelPart (definitionsIn bs) (particlesIn bs) (rowIn bs i .row .index))
+
+-- the model takes the element children, as `word` has them
+unfoldable pub fitsAt : Bytes → ℕ → ℕ → ℕ → ℕ → Bool
+fitsAt bs i p new skip = runs (modelAt bs i) 0 (word p new skip (childrenAt bs 1 i))
+
+-- row number i of a store that passes, of a definition
+pub record RowOf (bs : Bytes) (i : ℕ) : Type 0 where
+  pub small : i < rowCount bs
+  pub few : rowCount bs ≤ 4096
+  pub index : rowIn bs i .row .index ≤ 64
+
+pub record ParentAt (bs : Bytes) (k r : ℕ) : Type 0 where
+  pub begins : Begins (rowsIn bs) (rowCount bs) r (seek (isParent k) (rowsFrom (rowsIn bs) (rowCount bs) 0))
+  pub few : rowCount bs ≤ 4096
+
+-- it has at least n element children
+unfoldable pub hasPlace : Bytes → ℕ → ℕ → Bool
+hasPlace bs i n = elim (eqb n 0) [ true ↦ true | false ↦ not (eqb (serialAt (n - 1) (map serialIn (childrenAt bs 1 i))) 0) ]

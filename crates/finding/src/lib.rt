@@ -1,21 +1,21 @@
 // Which row of a store a change is about, and which refusal applies.
 ghost use mathlib.Core.Path.{_≡_};
-ghost use mathlib.Core.Bool.{true};
+ghost use mathlib.Core.Bool.{true, false};
 ghost use mathlib.Core.List.{map};
-ghost use Prim.Native.Nat.{_+_, _-_, _<_, _≤_};
+ghost use Prim.Native.Nat.{suc, _+_, _-_, _<_, _≤_};
 ghost use lib.ListN.{length};
 ghost use Rattle.rules.specs.Bytes.{any};
-ghost use Rattle.rules.specs.Lines.{serialAt};
+ghost use Rattle.rules.specs.Lines.{serialAt, childrenOf, isElementRow, isTextRow};
 ghost use Rattle.rules.specs.Passing.{passes};
-ghost use Rattle.rules.specs.Change.{addDocument, setText};
-ghost use Rattle.rules.specs.Refusal.{first, conditions};
+ghost use Rattle.rules.specs.Change.{addDocument, addElement, destroyElement, setText};
+ghost use Rattle.rules.specs.Refusal.{first, conditions, noElement, rowsOf};
 ghost use Rattle.rules.specs.Decode.{readRow};
 ghost use Rattle.rowpass.specs.Reading.{recordAt};
 ghost use Rattle.validity.specs.Check.{rowsIn};
 ghost use Rattle.storing.specs.Stores.{storeIn};
 ghost use Rattle.model.specs.Members.{membersOf};
 ghost use Rattle.model.specs.Steps.{runs};
-ghost use Rattle.finding.specs.Finding.{rowsFrom, Begins, ElementAt, Child, children, elementRow, isElementRow, isParent, seek, serialIn, serialOf, newName, keptName, word, Stepped};
+ghost use Rattle.finding.specs.Finding.{rowsFrom, Begins, ElementAt, ParentAt, RowOf, rowIn, childrenAt, kindAt, modelAt, fitsAt, hasPlace, Child, children, elementRow, isThis, isParent, seek, serialIn, serialOf, newName, keptName, word, Stepped};
 
 // The bytes of row i.
 fn row(rows: &[u8], i: usize) -> &[u8]
@@ -35,7 +35,7 @@ fn is_element(row: &[u8], element: u32) -> bool
 /// The number of the element row with a serial; `count` if there is none.
 pub fn element_at(rows: &[u8], count: usize, element: u32) -> usize
     requires { ⌜ count ≤ 4096 ⌝ }
-    ensures { λ r. ⌜ Begins (now (rows .entry)) count r (seek (isElementRow element) (rowsFrom (now (rows .entry)) count 0)) ⌝ }
+    ensures { λ r. ⌜ Begins (now (rows .entry)) count r (seek (isThis element) (rowsFrom (now (rows .entry)) count 0)) ⌝ }
 {
     let mut i = 0;
     while i < count {
@@ -239,6 +239,68 @@ fn definition_at(store: &[u8], i: usize) -> usize
     codec::get_u16(row(rows_of(store), i), 2) as usize
 }
 
+// The depth of the rows right below row i.
+fn depth_below(rows: &[u8], i: usize) -> usize
+    requires { ⌜ i ≤ 4096 ⌝ }
+    ensures { λ r. ⌜ r ≡ suc (readRow (recordAt 44 i (now (rows .entry))) .depth) ⌝ }
+{
+    codec::byte(row(rows, i), 1) as usize + 1
+}
+
+// The serial of child number n of a sort, right below row i; 0 if there is none.
+fn nth_at(store: &[u8], i: usize, sort: u8, n: usize) -> u32
+    requires { ⌜ RowOf (now store) i ⌝ }
+    ensures { λ r. ⌜ r ≡ serialAt n (map serialIn (childrenAt (now (store .entry)) sort i)) ⌝ }
+{
+    let rows = rows_of(store);
+    nth_serial(
+        rows,
+        records::number(store, 36),
+        i + 1,
+        depth_below(rows, i),
+        sort,
+        n,
+    )
+}
+
+// The particles of the model of row i's definition.
+fn model_at(store: &[u8], i: usize) -> &[u8]
+    requires { ⌜ RowOf (now store) i ⌝ }
+    ensures { λ r. ⌜ membersOf (now r) ≡ modelAt (now (store .entry)) i ⌝ }
+{
+    rowpass::model_part(
+        validity::body(store, 8, 20),
+        validity::body(store, 16, 4),
+        definition_at(store, i),
+    )
+}
+
+// Whether the model of row i's definition takes its children, with a new one at a place and without one.
+fn fits_at(store: &[u8], i: usize, place: usize, new: usize, skip: u32) -> bool
+    requires { ⌜ RowOf (now store) i × (new < 65536) ⌝ }
+    ensures { λ r. ⌜ r ≡ fitsAt (now (store .entry)) i place new skip ⌝ }
+{
+    let rows = rows_of(store);
+    children_fit(
+        model_at(store, i),
+        rows,
+        records::number(store, 36),
+        i + 1,
+        depth_below(rows, i),
+        place,
+        new,
+        skip,
+    )
+}
+
+// The code of the kind of row i's definition.
+fn kind_at(store: &[u8], i: usize) -> u8
+    requires { ⌜ RowOf (now store) i ⌝ }
+    ensures { λ r. ⌜ r ≡ kindAt (now (store .entry)) i ⌝ }
+{
+    rowpass::kind_of(validity::body(store, 8, 20), definition_at(store, i))
+}
+
 /// Refusals 3 and 6 of the change that adds a document.
 pub fn add_document_refusal(store: &[u8], definition: u32, text: &[u8]) -> u32
     requires { ⌜ passes (now store) ≡ true ⌝ }
@@ -265,9 +327,93 @@ pub fn set_text_refusal(store: &[u8], element: u32, text: &[u8]) -> u32
     if i >= records::number(store, 36) {
         return 7;
     }
-    let defs = validity::body(store, 8, 20);
-    if rowpass::kind_of(defs, definition_at(store, i)) != 1 {
+    if kind_at(store, i) != 1 {
         return 9;
     }
     0
+}
+
+// The number of the row right above an element row in a store; the number of rows if there is none.
+fn find_parent(store: &[u8], element: u32) -> usize
+    requires { ⌜ passes (now store) ≡ true ⌝ }
+    ensures { λ r. ⌜ ParentAt (now (store .entry)) element r ⌝ }
+{
+    parent_at(rows_of(store), records::number(store, 36), element)
+}
+
+/// Refusals 7 and 15 of the change that destroys an element.
+pub fn destroy_element_refusal(store: &[u8], element: u32) -> u32
+    requires { ⌜ passes (now store) ≡ true ⌝ }
+    ensures { λ r. ⌜ r ≡ first (conditions (destroyElement element) (storeIn (now (store .entry)))) ⌝ }
+{
+    let count = records::number(store, 36);
+    if find_element(store, element) >= count {
+        return 7;
+    }
+    let i = find_parent(store, element);
+    if i >= count {
+        return 0;
+    }
+    if !fits_at(store, i, 0, 0, element) {
+        return 15;
+    }
+    0
+}
+
+// Whether row i has at least `child` element children.
+fn has_place(store: &[u8], i: usize, child: usize) -> bool
+    requires { ⌜ RowOf (now store) i ⌝ }
+    ensures { λ r. ⌜ r ≡ hasPlace (now (store .entry)) i child ⌝ }
+{
+    if child == 0 {
+        return true;
+    }
+    nth_at(store, i, 1, child - 1) != 0
+}
+
+/// Refusals 3, 6, 7, 8 and 15 of the change that adds an element.
+pub fn add_element_refusal(
+    store: &[u8],
+    parent: u32,
+    child: u32,
+    definition: u32,
+    text: &[u8],
+) -> u32
+    requires { ⌜ passes (now store) ≡ true ⌝ }
+    ensures { λ r. ⌜ r ≡ first (conditions (addElement parent child definition (now (text .entry))) (storeIn (now (store .entry)))) ⌝ }
+{
+    let refusal = add_document_refusal(store, definition, text);
+    if refusal != 0 {
+        return refusal;
+    }
+    let i = find_element(store, parent);
+    if i >= records::number(store, 36) {
+        return 7;
+    }
+    if !has_place(store, i, child as usize) {
+        return 8;
+    }
+    if kind_at(store, i) != 2 {
+        return 15;
+    }
+    if !fits_at(store, i, child as usize + 1, definition as usize, 0) {
+        return 15;
+    }
+    0
+}
+
+/// The serial of the text row right below an element.
+pub fn text_serial(store: &[u8], element: u32) -> u32
+    requires { ⌜ (passes (now store) ≡ true) × (noElement element (storeIn (now store)) ≡ false) ⌝ }
+    ensures { λ r. ⌜ r ≡ serialAt 0 (childrenOf isTextRow element (rowsOf (storeIn (now (store .entry))))) ⌝ }
+{
+    nth_at(store, find_element(store, element), 3, 0)
+}
+
+/// The serial of element child number `child` of an element; 0 if it has no more.
+pub fn child_serial(store: &[u8], parent: u32, child: u32) -> u32
+    requires { ⌜ (passes (now store) ≡ true) × (noElement parent (storeIn (now store)) ≡ false) ⌝ }
+    ensures { λ r. ⌜ r ≡ serialAt child (childrenOf isElementRow parent (rowsOf (storeIn (now (store .entry))))) ⌝ }
+{
+    nth_at(store, find_element(store, parent), 1, child as usize)
 }

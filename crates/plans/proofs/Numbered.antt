@@ -1,6 +1,6 @@
 -- Giving serials to the rows of a forest gives them to its rows in a list.
 -- Assumes nothing.
-use Prim.Native.Nat.{ℕ, zero, suc, _+_}
+use Prim.Native.Nat.{ℕ, suc, _+_}
 use native.Mathlib.Omega.{arith}
 use mathlib.Core.Path.{_≡_, refl, sym, ap, ap₂, _∙_}
 use mathlib.Core.Bool.{Bool, true, false}
@@ -15,14 +15,14 @@ use Rattle.rules.specs.Change.{newRows, given, number}
 use Rattle.rows.specs.Written.{isNew, newIn, withSerial, numbered}
 
 -- ---- rows in a list
-pub new-then : (xs ys : List (Deep FlatRow)) → newIn (xs ++ ys) ≡ newIn xs + newIn ys
-new-then [] ys = omega arith
-new-then (x ∷ xs) ys = omega (arith, new-then xs ys)
+new-append : (xs ys : List (Deep FlatRow)) → newIn (xs ++ ys) ≡ newIn xs + newIn ys
+new-append [] ys = omega arith
+new-append (x ∷ xs) ys = omega (arith, new-append xs ys)
 
-pub numbered-then : (n : ℕ) (xs ys : List (Deep FlatRow)) → numbered n (xs ++ ys) ≡ numbered n xs ++ numbered (n + newIn xs) ys
-numbered-then n [] ys = ap (λ (k : ℕ). numbered k ys) (omega arith)
-numbered-then n (x ∷ xs) ys =
-    ap (λ (l : List (Deep FlatRow)). withSerial n x ∷ l) (numbered-then (n + isNew x) xs ys ∙ ap (λ (k : ℕ). numbered (n + isNew x) xs ++ numbered k ys) (omega arith))
+numbered-append : (n : ℕ) (xs ys : List (Deep FlatRow)) → numbered n (xs ++ ys) ≡ numbered n xs ++ numbered (n + newIn xs) ys
+numbered-append n [] ys = ap (λ (k : ℕ). numbered k ys) (omega arith)
+numbered-append n (x ∷ xs) ys =
+    ap (λ (l : List (Deep FlatRow)). withSerial n x ∷ l) (numbered-append (n + isNew x) xs ys ∙ ap (λ (k : ℕ). numbered (n + isNew x) xs ++ numbered k ys) (omega arith))
 
 -- ---- and in a forest
 module _ (form : Form) where
@@ -51,7 +51,7 @@ module _ (form : Form) where
   new-flat d owner bare = refl
   new-flat d owner (tree r b t) =
       ap₂ (λ (i j : ℕ). Change.isNew r + (i + j)) (new-flat (suc d) (r .name) b) (new-flat d owner t)
-      ∙ ap (λ (k : ℕ). Change.isNew r + k) (sym (new-then (flatten (suc d) (indexed form (r .name) b)) (flatten d (indexed form owner t))))
+      ∙ ap (λ (k : ℕ). Change.isNew r + k) (sym (new-append (flatten (suc d) (indexed form (r .name) b)) (flatten d (indexed form owner t))))
 
   pub number-flat : (d : ℕ) (owner : Bytes) (n : ℕ) (f : Forest Row) → flatten d (indexed form owner (number n f)) ≡ numbered n (flatten d (indexed form owner f))
   unfolding number
@@ -63,7 +63,7 @@ module _ (form : Form) where
       (number-flat d owner (n + (Change.isNew r + newRows b)) t
       ∙ ap (λ (k : ℕ). numbered k (flatten d (indexed form owner t))) (ap (λ (k : ℕ). n + (Change.isNew r + k)) (new-flat (suc d) (r .name) b) ∙ later)))
       ∙ ap (λ (l : List (Deep FlatRow)). withSerial n (stored d owner r) ∷ l)
-      (sym (numbered-then (n + Change.isNew r) (flatten (suc d) (indexed form (r .name) b)) (flatten d (indexed form owner t))))
+      (sym (numbered-append (n + Change.isNew r) (flatten (suc d) (indexed form (r .name) b)) (flatten d (indexed form owner t))))
     where
       later : n + (Change.isNew r + newIn (flatten (suc d) (indexed form (r .name) b))) ≡ n + Change.isNew r + newIn (flatten (suc d) (indexed form (r .name) b))
       later = omega arith

@@ -1,11 +1,11 @@
 -- The walk over the rows of a forest in a list is the walk over the forest.
 -- Assumes nothing.
-use Prim.Native.Nat.{ℕ, zero, suc, _+_, _-_, _≤_, _<_}
+use Prim.Native.Nat.{ℕ, suc, _≤_, _<_}
 use native.Mathlib.Omega.{arith}
 use mathlib.Core.Path.{_≡_, refl, sym, ap, ap₂, _∙_}
 use mathlib.Core.Bool.{Bool, true, false, _&&_, _||_, not, false≢true}
 use mathlib.Core.List.{List, [], _∷_, _++_, append-assoc, append-nil}
-use lib.Dec.{eqb, leb, ltb}
+use lib.Dec.{eqb, ltb}
 use borrow.Author.Tests.{lt-ltb, le-ltb, le-leb, lt-leb, eq-eqb, ne-eqb}
 use Rattle.rules.specs.Bytes.{Bytes}
 use Rattle.rules.specs.Store.{Forest, bare, tree}
@@ -15,7 +15,7 @@ use Rattle.editing.specs.declared.Which.{Which}
 use Rattle.editing.specs.declared.Which.the-variants.{Nothing, Everything, Ground, Elements, Attributes, Serial}
 use Rattle.editing.specs.declared.Plan.{Plan}
 use Rattle.editing.specs.declared.Open.{Open}
-use Rattle.editing.specs.Walk.{matches, isEverything, isGround, isLater, keptRow, gone, closes, closed, isBelow, isTaken, isFilled, taken, kept, owed, rowDepth, emitted, onward, walked, atFirst}
+use Rattle.editing.specs.Walk.{matches, isEverything, isGround, isLater, keptRow, gone, closes, closed, isTaken, isFilled, taken, kept, owed, rowDepth, emitted, onward, walked, atFirst}
 use Rattle.plans.specs.Trees.{treeWalk, documentsWalk, NoneOf, Apart}
 
 -- what the walk over the rows in a list needs of a plan and the documents
@@ -40,13 +40,14 @@ opened k b u = record { taking = k; below = b; due = u }
 abbrev at : ℕ → FlatRow → Deep FlatRow
 at d r = record { depth = d; row = r }
 
-and-false : (b : Bool) → (b && false) ≡ false
-and-false true = refl
-and-false false = refl
-
 -- what is open once a row has closed the open row or not
 abbrev leftOpen : Bool → ℕ → Bool → Open
 leftOpen c b u = elim c [ true ↦ opened 0 0 false | false ↦ opened 0 b u ]
+
+-- ---- tests
+and-false : (b : Bool) → (b && false) ≡ false
+and-false true = refl
+and-false false = refl
 
 and-true : (b : Bool) → (b && true) ≡ b
 and-true true = refl
@@ -85,9 +86,15 @@ ground-matches (Elements i) e r = absurd (false≢true e)
 ground-matches (Attributes j) e r = absurd (false≢true e)
 ground-matches (Serial k) e r = absurd (false≢true e)
 
-ground-none : (w : Which) → isGround w ≡ true → (f : Forest FlatRow) → NoneOf (matches w) f
-ground-none w e bare = tt
-ground-none w e (tree r b t) = (ground-matches w e r, ground-none w e b, ground-none w e t)
+-- rows of which none can be one of them
+module _ (q : FlatRow → Bool) where
+  pub none-of : ((r : FlatRow) → q r ≡ false) → (f : Forest FlatRow) → NoneOf q f
+  none-of h bare = tt
+  none-of h (tree r b t) = (h r, none-of h b, none-of h t)
+
+  pub none-apart : (f : Forest FlatRow) → NoneOf q f → Apart q f
+  none-apart bare n = tt
+  none-apart (tree r b t) (other, inside, beside) = ((λ e. inside), none-apart b inside, none-apart t beside)
 
 module _ (p : Plan) (v : Bytes) (fill : ℕ → List (Deep FlatRow)) where
   -- ---- the walk at a row, by what the row meets
@@ -290,7 +297,7 @@ module _ (p : Plan) (v : Bytes) (fill : ℕ → List (Deep FlatRow)) where
           ap (λ (c : Bool). walked p v fill (openFirst c) (flatten 0 f ++ [])) q ∙ x ∙ ap (λ (c : Bool). treeWalk p v fill c (c && p .fills) 0 f ++ []) (sym q)
 
       by : (c : Bool) → isGround (p .above) ≡ c → Clear p f → walked p v fill (atFirst p) (flatten 0 f ++ []) ≡ documentsWalk p v fill f ++ []
-      by true q (apart a) = from true q (walk-below 0 (p .fills) f [] (ground-none (p .above) q f) tt)
+      by true q (apart a) = from true q (walk-below 0 (p .fills) f [] (none-of (matches (p .above)) (ground-matches (p .above) q) f) tt)
       by true q (everywhere e n) = absurd (false≢true (sym (everything-ground (p .above) e) ∙ q))
       by false q (apart a) = from false q (walk-apart 0 f [] a tt)
       by false q (everywhere e n) = from false q (walk-everywhere 0 0 false f [] e n (omega arith) refl tt)

@@ -3,9 +3,9 @@
 use Prim.Native.Nat.{ℕ, suc}
 use mathlib.Core.Path.{_≡_, refl, sym, ap, ap₂, _∙_}
 use mathlib.Core.Bool.{Bool, true, false, _&&_, _||_, not, false≢true}
-use mathlib.Core.List.{List, [], _∷_, _++_, append-assoc}
+use mathlib.Core.List.{List, [], _∷_, _++_}
 use Rattle.rules.specs.Bytes.{Bytes}
-use Rattle.rules.specs.Store.{Form, Row, Forest, bare, tree, _⧺_}
+use Rattle.rules.specs.Store.{Form, Row, Forest, bare, tree}
 use Rattle.rules.specs.Preorder.{Deep, flatten}
 use Rattle.rules.specs.Layout.{FlatRow, indexed}
 use Rattle.rules.specs.Lines.{ground}
@@ -19,17 +19,7 @@ use Rattle.editing.specs.declared.Plan.{Plan}
 use Rattle.editing.specs.Walk.{matches, isEverything, isGround, isLater, keptRow, owed}
 use Rattle.plans.specs.Trees.{treeWalk, documentsWalk}
 use Rattle.plans.specs.Following.{Fills, RowFollows, Follows, DocumentsFollow}
-
--- ---- two forests beside one another
-pub indexed-beside : (form : Form) (owner : Bytes) (f g : Forest Row) → indexed form owner (f ⧺ g) ≡ indexed form owner f ⧺ indexed form owner g
-indexed-beside form owner bare g = refl
-indexed-beside form owner (tree r b t) g = ap (λ (z : Forest FlatRow). tree (rowWritten form owner r) (indexed form (r .name) b) z) (indexed-beside form owner t g)
-
-pub flatten-beside : {A : Type 0} (d : ℕ) (f g : Forest A) → flatten d (f ⧺ g) ≡ flatten d f ++ flatten d g
-flatten-beside d bare g = refl
-flatten-beside d (tree r b t) g =
-    ap (λ (z : List (Deep _)). record { depth = d; row = r } ∷ z)
-    (ap (λ (z : List (Deep _)). flatten (suc d) b ++ z) (flatten-beside d t g) ∙ sym (append-assoc (flatten (suc d) b) (flatten d t) (flatten d g)))
+use Rattle.plans.proofs.Fillings.{flatten-beside, indexed-beside}
 
 -- ---- the walk at one row
 module _ (p : Plan) (v : Bytes) (fill : ℕ → List (Deep FlatRow)) where

@@ -8,7 +8,7 @@ use lib.Dec.{eqb}
 use Rattle.rules.specs.Bytes.{Bytes, numbers, eqb-eq}
 use Rattle.rules.specs.Model.{Distinct}
 use Rattle.rules.specs.Store.{Form, Row, Forest, bare, tree}
-use Rattle.rules.specs.Layout.{FlatRow, rowCode, indexed}
+use Rattle.rules.specs.Layout.{rowCode, indexed}
 use Rattle.rules.specs.Passing.{serials}
 use Rattle.rules.proofs.Words.{and-split}
 use Rattle.rules.proofs.Apart.{differs}
@@ -17,15 +17,6 @@ use Rattle.editing.specs.declared.Which.the-variants.{Serial}
 use Rattle.editing.specs.Walk.{matches}
 use Rattle.plans.specs.Trees.{NoneOf, Apart}
 use Rattle.plans.proofs.FollowingLaws.{and-false}
-
--- a test that no row passes
-pub none-ever : (q : FlatRow → Bool) (f : Forest FlatRow) → ((x : FlatRow) → q x ≡ false) → NoneOf q f
-none-ever q bare h = tt
-none-ever q (tree x b t) h = (h x, none-ever q b h, none-ever q t h)
-
-pub apart-never : (q : FlatRow → Bool) (f : Forest FlatRow) → ((x : FlatRow) → q x ≡ false) → Apart q f
-apart-never q bare h = tt
-apart-never q (tree x b t) h = (λ e. none-ever q b h, apart-never q b h, apart-never q t h)
 
 module _ (form : Form) (k : ℕ) where
   none-other : (owner : Bytes) (f : Forest Row) → (List·Memᴰ k (serials f) → ⊥) → NoneOf (matches (Serial k)) (indexed form owner f)

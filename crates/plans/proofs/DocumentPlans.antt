@@ -29,13 +29,12 @@ use Rattle.editing.specs.declared.Later.the-variants as later
 use Rattle.editing.specs.declared.Plan.{Plan}
 use Rattle.editing.specs.Walk.{matches, isEverything, isGround, isLater}
 use Rattle.storing.specs.Planned.{fillOf}
-use Rattle.plans.specs.Trees.{documentsWalk, Apart}
+use Rattle.plans.specs.Trees.{documentsWalk}
 use Rattle.plans.specs.Following.{Fills, RowFollows, DocumentsFollow}
-use Rattle.plans.specs.CallPlans.{fillingPlan, takingPlan, settingPlan, addDocumentPlan, addElementPlan, destroyElementPlan, setTextPlan}
+use Rattle.plans.specs.CallPlans.{settingPlan, childSerial, textSerial, addDocumentPlan, addElementPlan, destroyElementPlan, setTextPlan}
 use Rattle.plans.proofs.Fillings.{filling-index}
 use Rattle.plans.proofs.TreePlans.{documents-follow}
 use Rattle.plans.proofs.FollowingLaws.{serial-test, follows-all, fills-follow, takes-follow, sets-follow}
-use Rattle.plans.proofs.ApartLaws.{apart-never, apart-serial}
 
 -- the plan p with the value v does on the documents what the call c does
 abbrev pub Does : Call → Store → Plan → Bytes → Type 0
@@ -71,7 +70,7 @@ module _ (s : Store) (g : good s ≡ true) where
       fill = fillOf (addDocumentPlan i) t (flat s)
 
   -- ---- 12; m: the child that the filling comes before
-  pub add-element-does : (k j i : ℕ) (t : Bytes) → i < length (s .form) → Does (addElement k j i t) s (addElementPlan k (serialAt j (childrenOf isElementRow k (lines 0 (s .docs)))) i) t
+  pub add-element-does : (k j i : ℕ) (t : Bytes) → i < length (s .form) → Does (addElement k j i t) s (addElementPlan k (childSerial k j s) i) t
   unfolding plan
   add-element-does k j i t l =
       documents-follow (s .form) (s .form) q p t fill (s .docs)
@@ -89,7 +88,7 @@ module _ (s : Store) (g : good s ≡ true) where
       }
     where
       m : ℕ
-      m = serialAt j (childrenOf isElementRow k (lines 0 (s .docs)))
+      m = childSerial k j s
 
       p : Plan
       p = addElementPlan k m i
@@ -133,6 +132,6 @@ module _ (s : Store) (g : good s ≡ true) where
       fill : ℕ → List (Deep FlatRow)
       fill = fillOf (settingPlan m) v (flat s)
 
-  pub set-text-does : (k : ℕ) (t : Bytes) → Does (setText k t) s (setTextPlan (serialAt 0 (childrenOf isTextRow k (lines 0 (s .docs))))) t
+  pub set-text-does : (k : ℕ) (t : Bytes) → Does (setText k t) s (setTextPlan (textSerial k s)) t
   unfolding plan
-  set-text-does k t = set-value-does (serialAt 0 (childrenOf isTextRow k (lines 0 (s .docs)))) t (setText k t) refl
+  set-text-does k t = set-value-does (textSerial k s) t (setText k t) refl

@@ -1,9 +1,9 @@
 -- No element with one serial stands below another, where serials stand once.
 -- Assumes nothing.
 use Prim.Native.Nat.{ℕ}
-use mathlib.Core.Path.{_≡_, refl, sym, ap, _∙_}
-use mathlib.Core.Bool.{Bool, true, false, _&&_, false≢true}
-use mathlib.Core.List.{List, [], _∷_, _++_, List·Memᴰ, List·Memᴰ·head, List·Memᴰ·tail, Memᴰ·cast, Memᴰ·append-left, Memᴰ·append-right}
+use mathlib.Core.Path.{_≡_, sym, ap, _∙_}
+use mathlib.Core.Bool.{and-false, Bool, _&&_}
+use mathlib.Core.List.{List·Memᴰ, List·Memᴰ·head, List·Memᴰ·tail, Memᴰ·cast, Memᴰ·append-left, Memᴰ·append-right}
 use lib.Dec.{eqb}
 use Rattle.rules.specs.Bytes.{Bytes, numbers, eqb-eq}
 use Rattle.rules.specs.Model.{Distinct}
@@ -16,7 +16,6 @@ use Rattle.rules.proofs.Correct.{distinct-left, distinct-right}
 use Rattle.editing.specs.declared.Which.the-variants.{Serial}
 use Rattle.editing.specs.Walk.{matches}
 use Rattle.plans.specs.Trees.{NoneOf, Apart}
-use Rattle.plans.proofs.FollowingLaws.{and-false}
 
 module _ (form : Form) (k : ℕ) where
   none-other : (owner : Bytes) (f : Forest Row) → (List·Memᴰ k (serials f) → ⊥) → NoneOf (matches (Serial k)) (indexed form owner f)

@@ -1,29 +1,29 @@
 -- Changes 14 and 15 on the documents of a store that passes: the plan by indices does what the plan of the rules does.
 -- Assumes nothing.
-use Prim.Native.Nat.{ℕ, suc}
+use Prim.Native.Nat.{ℕ}
 use mathlib.Core.Path.{_≡_, refl, sym, ap, ap₂, _∙_, subst}
-use mathlib.Core.Bool.{Bool, true, false, _&&_, _||_, not, false≢true}
+use mathlib.Core.Bool.{Bool, true, false, _&&_, false≢true}
 use mathlib.Core.Option.{Option, none, some}
 use mathlib.Core.List.{List, [], _∷_, map, List·Memᴰ, List·Memᴰ·head}
-use lib.Dec.{eqb, ltb}
-use Rattle.rules.specs.Bytes.{Bytes, same, bytes, numbers, any, same-eq, eqb-eq}
-use Rattle.rules.specs.Model.{Distinct, member}
-use Rattle.rules.specs.Store.{Definition, Form, RowSort, element, attribute, text, Row, Forest, bare, tree, Store}
+use lib.Dec.{eqb}
+use Rattle.rules.specs.Bytes.{Bytes, same, numbers, any, same-eq, eqb-eq}
+use Rattle.rules.specs.Model.{Distinct}
+use Rattle.rules.specs.Store.{Definition, Row, Forest, Store}
 use Rattle.rules.specs.Preorder.{Deep, flatten}
-use Rattle.rules.specs.Layout.{FlatRow, rowCode, rowIndex, attributeIndex, indexed, flat}
+use Rattle.rules.specs.Layout.{FlatRow, attributeIndex, indexed, flat}
 use Rattle.rules.specs.WellFormed.{definitionName, attributeName}
-use Rattle.rules.specs.Conforming.{nameOf, isElement, isAttribute}
+use Rattle.rules.specs.Conforming.{nameOf, isElement}
 use Rattle.rules.specs.Lines.{Line, lines, ground, elementWith, attributeNamed, findRow, childrenOf, serialAt}
 use Rattle.rules.specs.Passing.{good}
 use Rattle.rules.specs.Refusal.{isOther, unknownAttribute}
-use Rattle.rules.specs.Change.{setAttribute, destroyAttributeRow, Owned, attributeAt, namesBefore, making, taking, setting, setAt, setPlan, dropPlan, plan, changed}
+use Rattle.rules.specs.Change.{setAttribute, destroyAttributeRow, Owned, attributeAt, taking, setAt, setPlan, dropPlan, plan, changed}
 use Rattle.rules.specs.Change as change
 use Rattle.rules.proofs.Words.{and-split}
 use Rattle.rules.proofs.Apart.{differs}
 use Rattle.rules.proofs.PassingLaws.{good-is}
 use Rattle.history.proofs.Conditions.{not-false}
 use Rattle.history.proofs.Rowwise.{Standing}
-use Rattle.history.proofs.StandingLaws.{standing-line, child-stands, found-element, no-zero, one-row}
+use Rattle.history.proofs.StandingLaws.{standing-line, child-stands, found-element, one-row}
 use Rattle.validity.proofs.AttributeRows.{rowWritten}
 use Rattle.filling.specs.Fillings.{newAttribute}
 use Rattle.filling.specs.declared.Filling.the-variants.{Attribute}
@@ -36,7 +36,7 @@ use Rattle.plans.specs.CallPlans.{settingPlan, setAttributePlan, destroy
 use Rattle.plans.proofs.TreePlans.{documents-follow}
 use Rattle.plans.proofs.FollowingLaws.{serial-test, follows-all, fills-follow, takes-follow}
 use Rattle.plans.proofs.AttributeIndices.{own-index, attribute-test, past-test}
-use Rattle.plans.proofs.DocumentPlans.{Does, set-value-does}
+use Rattle.plans.proofs.DocumentPlans.{Does, given, set-value-does}
 
 -- a row with a line is found
 find-some : (test : Row → Bool) (ls : List Line) → any (λ (l : Line). test (l .row)) ls ≡ true → findRow test ls ≡ none → ⊥
@@ -76,9 +76,6 @@ module _ (s : Store) (g : good s ≡ true) (k a : ℕ) (o : Owned) (at : attribu
   apart : (d : Definition) → List·Memᴰ d (s .form) → Distinct (map attributeName (d .attributes))
   apart d m = good-is s .0 g .form .definitions d m .attributeNames
 
-  given : (r : Row) (b : Forest Row) → Standing (s .docs) r b → r .serial ≡ 0 → ⊥
-  given r b i = no-zero (s .next) (s .docs) (good-is s .0 g .serials) r b i
-
   -- ---- 15
   pub destroy-attribute-row-does : (v : Bytes) → Does (destroyAttributeRow k a) s (destroyAttributeRowPlan k a) v
   unfolding plan
@@ -89,7 +86,7 @@ module _ (s : Store) (g : good s ≡ true) (k a : ℕ) (o : Owned) (at : attribu
         filling = λ e. absurd (false≢true e);
         rows =
             follows-all (s .form) (s .form) q (destroyAttributeRowPlan k a) v fill (s .docs) Above
-            (λ sel w u r b (x, n) i. (takes-follow (s .form) v fill sel w u r (q .takes) (Serial k) (Attributes a) (given r b i) (takes sel u r x n), above-row u r b i)) above-ground;
+            (λ sel w u r b (x, n) i. (takes-follow (s .form) v fill sel w u r (q .takes) (Serial k) (Attributes a) (given s g r b i) (takes sel u r x n), above-row u r b i)) above-ground;
       }
       ∙ ap (λ (x : Option Owned). flatten 0 (indexed (s .form) [] (changed (dropPlan (λ o u. elementWith k u) x) (s .docs)))) (sym at)
     where
@@ -123,7 +120,7 @@ module _ (s : Store) (g : good s ≡ true) (k a : ℕ) (o : Owned) (at : attribu
         rows =
             follows-all (s .form) (s .form) q (setAttributePlan k a 0) v fill (s .docs) Above
             (λ sel w u r b (x, n) i. (
-              fills-follow (s .form) v fill sel w u r (q .fills) (q .later) (q .filling) (Serial k) (Past a) (Attribute a) (given r b i)
+              fills-follow (s .form) v fill sel w u r (q .fills) (q .later) (q .filling) (Serial k) (Past a) (Attribute a) (given s g r b i)
                   (λ e. ap (λ (z : Bytes). isLater (Past a) (rowWritten (s .form) z r)) (n (sym x ∙ e)) ∙ past-test a (s .form) o once apart at r) (serial-test (s .form) (u .name) k r)
                   (λ e d. filled (r .name) (owner-named r b i e) d),
               above-row u r b i,
@@ -146,7 +143,7 @@ module _ (s : Store) (g : good s ≡ true) (k a : ℕ) (o : Owned) (at : attribu
   old-attribute-does : (v : Bytes) (m : ℕ) (ms : List ℕ) → childrenOf (attributeNamed (o .attribute .name)) k (lines 0 (s .docs)) ≡ m ∷ ms → Does (setAttribute k a v) s (setAttributePlan k a m) v
   old-attribute-does v m ms e =
       let (r, b, i, t, n) = child-stands (attributeNamed (o .attribute .name)) k 0 (s .docs) m (rw e (List·Memᴰ·head refl)) in
-      let z : setAttributePlan k a m ≡ settingPlan m = rw (differs numbers m 0 (λ z. given r b i (n ∙ z)), setAttributePlan) in
+      let z : setAttributePlan k a m ≡ settingPlan m = rw (differs numbers m 0 (λ z. given s g r b i (n ∙ z)), setAttributePlan) in
       subst (λ (p : Plan). Does (setAttribute k a v) s p v) (sym z) (set-value-does s g m v (setAttribute k a v) (set-plan v (m ∷ ms) e))
 
   pub set-attribute-does : (v : Bytes) → Does (setAttribute k a v) s (setAttributePlan k a (serialAt 0 (childrenOf (attributeNamed (o .attribute .name)) k (lines 0 (s .docs))))) v

@@ -2,16 +2,16 @@
 -- Assumes nothing.
 use Prim.Native.Nat.{ℕ}
 use mathlib.Core.Path.{_≡_, refl, sym, ap, _∙_, subst}
-use mathlib.Core.Bool.{Bool, true, false, _||_, false≢true}
+use mathlib.Core.Bool.{Bool, true, false, false≢true}
 use mathlib.Core.Option.{Option, none, some}
-use mathlib.Core.List.{List, [], append-nil}
+use mathlib.Core.List.{[], append-nil}
 use lib.Dec.{eqb}
 use Rattle.rules.specs.Bytes.{Bytes}
 use Rattle.rules.specs.Store.{Row, Forest, Store}
 use Rattle.rules.specs.Layout.{FlatRow, indexed, flat}
 use Rattle.rules.specs.Lines.{lines, elementWith, attributeNamed, findRow, childrenOf, serialAt}
 use Rattle.rules.specs.Passing.{good}
-use Rattle.rules.specs.Refusal.{Condition, first, past, isOther, unknownAttribute, conditions}
+use Rattle.rules.specs.Refusal.{first, isOther, conditions}
 use Rattle.rules.specs.Change.{Call, addDocument, addElement, destroyElement, setAttribute, destroyAttributeRow, setText, Owned, attributeAt, formAfter, after}
 use Rattle.rules.proofs.PassingLaws.{good-is}
 use Rattle.history.proofs.Conditions.{not-past, Unmet, first-append, conditions-numbered}

@@ -2,16 +2,16 @@
 -- Assumes nothing.
 use Prim.Native.Nat.{ℕ, _<_}
 use mathlib.Core.Path.{_≡_, refl, sym, ap, _∙_}
-use mathlib.Core.Bool.{Bool, true, false, _&&_, _||_, not, false≢true}
-use mathlib.Core.List.{List, [], _∷_}
+use mathlib.Core.Bool.{true, false, false≢true}
+use mathlib.Core.List.{List, []}
 use lib.Dec.{eqb}
 use lib.ListN.{length}
 use Rattle.rules.specs.Bytes.{Bytes, numbers}
-use Rattle.rules.specs.Store.{Form, Row, Forest, Store}
+use Rattle.rules.specs.Store.{Row, Forest, Store}
 use Rattle.rules.specs.Preorder.{Deep, flatten}
 use Rattle.rules.specs.Layout.{FlatRow, indexed, flat}
-use Rattle.rules.specs.Lines.{lines, ground, isElementRow, isTextRow, elementWith, childrenOf, serialAt}
-use Rattle.rules.specs.Passing.{good, GoodSerials}
+use Rattle.rules.specs.Lines.{lines, elementWith}
+use Rattle.rules.specs.Passing.{good}
 use Rattle.rules.specs.Filling.{fillDefinition}
 use Rattle.rules.specs.Change.{Call, addDocument, addElement, destroyElement, setText, nameAtIndex, neither, making, taking, setting, plan, changed, docsAfter}
 use Rattle.rules.specs.Change as change
@@ -19,18 +19,12 @@ use Rattle.rules.proofs.Apart.{differs}
 use Rattle.rules.proofs.PassingLaws.{good-is}
 use Rattle.history.proofs.Rowwise.{Standing}
 use Rattle.history.proofs.StandingLaws.{no-zero}
-use Rattle.validity.proofs.AttributeRows.{rowWritten}
-use Rattle.filling.specs.declared.Filling.{Filling}
 use Rattle.filling.specs.declared.Filling.the-variants.{Definition}
-use Rattle.editing.specs.declared.Which.{Which}
-use Rattle.editing.specs.declared.Which.the-variants.{Nothing, Everything, Ground, Serial}
-use Rattle.editing.specs.declared.Later.{Later}
+use Rattle.editing.specs.declared.Which.the-variants.{Everything, Ground, Serial}
 use Rattle.editing.specs.declared.Later.the-variants as later
 use Rattle.editing.specs.declared.Plan.{Plan}
-use Rattle.editing.specs.Walk.{matches, isEverything, isGround, isLater}
 use Rattle.storing.specs.Planned.{fillOf}
 use Rattle.plans.specs.Trees.{documentsWalk}
-use Rattle.plans.specs.Following.{Fills, RowFollows, DocumentsFollow}
 use Rattle.plans.specs.CallPlans.{settingPlan, childSerial, textSerial, addDocumentPlan, addElementPlan, destroyElementPlan, setTextPlan}
 use Rattle.plans.proofs.Fillings.{filling-index}
 use Rattle.plans.proofs.TreePlans.{documents-follow}
@@ -42,7 +36,7 @@ Does c s p v = documentsWalk p v (fillOf p v (flat s)) (indexed (s .form) [] (s 
 
 module _ (s : Store) (g : good s ≡ true) where
   -- no row has serial 0
-  given : (r : Row) (b : Forest Row) → Standing (s .docs) r b → r .serial ≡ 0 → ⊥
+  pub given : (r : Row) (b : Forest Row) → Standing (s .docs) r b → r .serial ≡ 0 → ⊥
   given r b i = no-zero (s .next) (s .docs) (good-is s .0 g .serials) r b i
 
   -- ---- 11

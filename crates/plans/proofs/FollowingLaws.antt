@@ -2,15 +2,15 @@
 -- Assumes nothing.
 use Prim.Native.Nat.{ℕ, _+_, _-_}
 use native.Mathlib.Omega.{arith}
-use mathlib.Core.Path.{_≡_, refl, sym, ap, _∙_}
+use mathlib.Core.Path.{_≡_, refl, ap, _∙_}
 use mathlib.Core.Logic.{inl, inr}
-use mathlib.Core.Bool.{Bool, true, false, _&&_, _||_, false≢true}
+use mathlib.Core.Bool.{Bool, true, false, _&&_, _||_, and-true, and-false, false≢true}
 use mathlib.Core.List.{List, []}
 use lib.Dec.{eqb, leb}
 use Rattle.rules.specs.Bytes.{Bytes, numbers}
 use Rattle.rules.specs.Store.{Form, RowSort, element, attribute, text, Row, Forest, bare, tree}
 use Rattle.rules.specs.Preorder.{Deep}
-use Rattle.rules.specs.Layout.{FlatRow, rowCode, rowIndex}
+use Rattle.rules.specs.Layout.{FlatRow, rowCode}
 use Rattle.rules.specs.Conforming.{isElement, isAttribute}
 use Rattle.rules.specs.Lines.{ground, elementWith}
 use Rattle.rules.specs.Change.{making, taking, setting}
@@ -24,8 +24,8 @@ use Rattle.editing.specs.declared.Which.{Which}
 use Rattle.editing.specs.declared.Which.the-variants.{Serial}
 use Rattle.editing.specs.declared.Later.{Later}
 use Rattle.editing.specs.declared.Plan.{Plan}
-use Rattle.editing.specs.Walk.{matches, isEverything, isGround, isLater, shifted, movedIndex, valueAfter}
-use Rattle.plans.specs.Following.{Fills, RowFollows, Follows, DocumentsFollow}
+use Rattle.editing.specs.Walk.{matches, isEverything, isGround, isLater, shifted, movedIndex}
+use Rattle.plans.specs.Following.{Fills, RowFollows, Follows}
 use Rattle.plans.specs.CallPlans.{unmoved, fillingPlan, takingPlan, settingPlan}
 
 -- ---- rows by sort
@@ -41,14 +41,6 @@ attribute-code text = refl
 
 pub serial-test : (form : Form) (owner : Bytes) (k : ℕ) (r : Row) → matches (Serial k) (rowWritten form owner r) ≡ elementWith k r
 serial-test form owner k r = ap (λ (c : Bool). c && eqb (r .serial) k) (element-code (r .sort))
-
-pub and-false : (b : Bool) → (b && false) ≡ false
-and-false true = refl
-and-false false = refl
-
-pub and-true : (b : Bool) → (b && true) ≡ b
-and-true true = refl
-and-true false = refl
 
 -- ---- indices that do not move
 shifted-same : (i : ℕ) → shifted unmoved i ≡ i

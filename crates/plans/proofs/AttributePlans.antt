@@ -32,11 +32,12 @@ use Rattle.editing.specs.declared.Later.the-variants.{Past}
 use Rattle.editing.specs.declared.Plan.{Plan}
 use Rattle.editing.specs.Walk.{matches, isLater}
 use Rattle.storing.specs.Planned.{fillOf}
+use Rattle.plans.specs.Following.{Does}
 use Rattle.plans.specs.CallPlans.{settingPlan, setAttributePlan, destroyAttributeRowPlan}
 use Rattle.plans.proofs.TreePlans.{documents-follow}
 use Rattle.plans.proofs.FollowingLaws.{serial-test, follows-all, fills-follow, takes-follow}
 use Rattle.plans.proofs.AttributeIndices.{own-index, attribute-test, past-test}
-use Rattle.plans.proofs.DocumentPlans.{Does, given, set-value-does}
+use Rattle.plans.proofs.DocumentPlans.{given, set-value-does}
 
 -- a row with a line is found
 find-some : (test : Row → Bool) (ls : List Line) → any (λ (l : Line). test (l .row)) ls ≡ true → findRow test ls ≡ none → ⊥

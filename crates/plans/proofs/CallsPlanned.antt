@@ -21,11 +21,12 @@ use Rattle.editing.specs.declared.Later.the-variants.{Past}
 use Rattle.editing.specs.declared.Plan.{Plan}
 use Rattle.editing.specs.Walk.{matches}
 use Rattle.storing.specs.Planned.{planned}
+use Rattle.plans.specs.Following.{Does}
 use Rattle.plans.specs.CallPlans.{childSerial, attributeSerial, textSerial, fillingPlan, settingPlan, addDocumentPlan, addElementPlan, destroyElementPlan, setAttributePlan, destroyAttributeRowPlan, setTextPlan}
 use Rattle.plans.proofs.TreeWalk.{Clear, apart, everywhere, none-of, none-apart}
 use Rattle.plans.proofs.Planned.{flat-planned}
 use Rattle.plans.proofs.ApartLaws.{apart-serial}
-use Rattle.plans.proofs.DocumentPlans.{Does, add-document-does, add-element-does, destroy-element-does, set-text-does}
+use Rattle.plans.proofs.DocumentPlans.{add-document-does, add-element-does, destroy-element-does, set-text-does}
 use Rattle.plans.proofs.AttributePlans.{set-attribute-does, destroy-attribute-row-does}
 
 pub none-holds : (c : Call) (s : Store) → first (conditions c s) ≡ 0 → Unmet (conditions c s)

@@ -1,4 +1,4 @@
--- Changes 11 to 16 on the documents of a store that passes: the plan by indices does what the plan of the rules does.
+-- Changes 11, 12, 13 and 16 on the documents of a store that passes: the plan by indices does what the plan of the rules does.
 -- Assumes nothing.
 use Prim.Native.Nat.{ℕ, _<_}
 use mathlib.Core.Path.{_≡_, refl, sym, ap, _∙_}
@@ -13,7 +13,7 @@ use Rattle.rules.specs.Layout.{FlatRow, indexed, flat}
 use Rattle.rules.specs.Lines.{lines, elementWith}
 use Rattle.rules.specs.Passing.{good}
 use Rattle.rules.specs.Filling.{fillDefinition}
-use Rattle.rules.specs.Change.{Call, addDocument, addElement, destroyElement, setText, nameAtIndex, neither, making, taking, setting, plan, changed, docsAfter}
+use Rattle.rules.specs.Change.{Call, addDocument, addElement, destroyElement, setText, nameAtIndex, neither, making, taking, setting, plan, changed}
 use Rattle.rules.specs.Change as change
 use Rattle.rules.proofs.Apart.{differs}
 use Rattle.rules.proofs.PassingLaws.{good-is}
@@ -24,15 +24,11 @@ use Rattle.editing.specs.declared.Which.the-variants.{Everything, Ground, Seria
 use Rattle.editing.specs.declared.Later.the-variants as later
 use Rattle.editing.specs.declared.Plan.{Plan}
 use Rattle.storing.specs.Planned.{fillOf}
-use Rattle.plans.specs.Trees.{documentsWalk}
+use Rattle.plans.specs.Following.{Does}
 use Rattle.plans.specs.CallPlans.{settingPlan, childSerial, textSerial, addDocumentPlan, addElementPlan, destroyElementPlan, setTextPlan}
 use Rattle.plans.proofs.Fillings.{filling-index}
 use Rattle.plans.proofs.TreePlans.{documents-follow}
 use Rattle.plans.proofs.FollowingLaws.{serial-test, follows-all, fills-follow, takes-follow, sets-follow}
-
--- the plan p with the value v does on the documents what the call c does
-abbrev pub Does : Call → Store → Plan → Bytes → Type 0
-Does c s p v = documentsWalk p v (fillOf p v (flat s)) (indexed (s .form) [] (s .docs)) ≡ flatten 0 (indexed (s .form) [] (docsAfter c s))
 
 module _ (s : Store) (g : good s ≡ true) where
   -- no row has serial 0

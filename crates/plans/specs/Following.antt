@@ -5,15 +5,17 @@ use mathlib.Core.Path.{_≡_}
 use mathlib.Core.Bool.{Bool, true, _&&_, _||_}
 use mathlib.Core.List.{List, []}
 use Rattle.rules.specs.Bytes.{Bytes}
-use Rattle.rules.specs.Store.{Form, Row, Forest, bare, tree}
+use Rattle.rules.specs.Store.{Form, Row, Forest, bare, tree, Store}
 use Rattle.rules.specs.Preorder.{Deep, flatten}
-use Rattle.rules.specs.Layout.{FlatRow, rowIndex, indexed}
+use Rattle.rules.specs.Layout.{FlatRow, rowIndex, indexed, flat}
 use Rattle.rules.specs.Lines.{ground}
 use Rattle.rules.specs.Change as change
 use Rattle.history.proofs.RowEdits.{revalued}
 use Rattle.validity.proofs.AttributeRows.{rowWritten}
 use Rattle.editing.specs.declared.Plan.{Plan}
 use Rattle.editing.specs.Walk.{matches, isEverything, isGround, isLater, movedIndex, valueAfter}
+use Rattle.storing.specs.Planned.{fillOf}
+use Rattle.plans.specs.Trees.{documentsWalk}
 
 -- form, new: the form before and after; q: of the rules; p with the value v and the rows `fill d` of its filling: by indices
 module _ (form new : Form) (q : change.Plan) (p : Plan) (v : Bytes) (fill : ℕ → List (Deep FlatRow)) where
@@ -38,3 +40,7 @@ module _ (form new : Form) (q : change.Plan) (p : Plan) (v : Bytes) (fill : ℕ 
     pub fills : (isGround (p .above) && p .fills) ≡ q .fills ground
     pub filling : q .fills ground ≡ true → Fills []
     pub rows : Follows (isGround (p .above)) ground ground docs
+
+-- a plan that leaves the form as it is, with the value v, does on the documents what the call c does
+abbrev pub Does : change.Call → Store → Plan → Bytes → Type 0
+Does c s p v = documentsWalk p v (fillOf p v (flat s)) (indexed (s .form) [] (s .docs)) ≡ flatten 0 (indexed (s .form) [] (change.docsAfter c s))

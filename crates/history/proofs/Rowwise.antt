@@ -40,10 +40,10 @@ module _ (p : Plan) where
   abbrev pub below : Row → Bool → Row → Forest Row → Forest Row
   below u due v f = plant p u due (eachRow (revalued p) (prune (p .takes) v f))
 
-  below-taken : (u : Row) (due : Bool) (v r : Row) (b t : Forest Row) → p .takes v r ≡ true → below u due v (tree r b t) ≡ below u due v t
+  pub below-taken : (u : Row) (due : Bool) (v r : Row) (b t : Forest Row) → p .takes v r ≡ true → below u due v (tree r b t) ≡ below u due v t
   below-taken u due v r b t e = ap (λ (z : Forest Row). plant p u due (eachRow (revalued p) z)) (taken v r b t e)
 
-  abbrev under : Row → Forest Row → Forest Row
+  abbrev pub under : Row → Forest Row → Forest Row
   under r b = below (revalued p r) (p .fills (revalued p r)) r b
 
   plant-here : (u s : Row) (due : Bool) (c t : Forest Row) → (due && p .later u s) ≡ true → plant p u due (tree s c t) ≡ p .filling ⧺ tree s (plant p s (p .fills s) c) (plant p u false t)
@@ -56,14 +56,14 @@ module _ (p : Plan) where
   plant-past u s true c t e = rw (e, plant)
   plant-past u s false c t e = refl
 
-  below-here : (u : Row) (due : Bool) (v r : Row) (b t : Forest Row) → p .takes v r ≡ false → (due && p .later u (revalued p r)) ≡ true
+  pub below-here : (u : Row) (due : Bool) (v r : Row) (b t : Forest Row) → p .takes v r ≡ false → (due && p .later u (revalued p r)) ≡ true
       → below u due v (tree r b t) ≡ p .filling ⧺ tree (revalued p r) (under r b) (below u false v t)
   unfolding eachRow
   below-here u due v r b t e h =
       ap (λ (z : Forest Row). plant p u due (eachRow (revalued p) z)) (left v r b t e)
       ∙ plant-here u (revalued p r) due (eachRow (revalued p) (prune (p .takes) r b)) (eachRow (revalued p) (prune (p .takes) v t)) h
 
-  below-past : (u : Row) (due : Bool) (v r : Row) (b t : Forest Row) → p .takes v r ≡ false → (due && p .later u (revalued p r)) ≡ false
+  pub below-past : (u : Row) (due : Bool) (v r : Row) (b t : Forest Row) → p .takes v r ≡ false → (due && p .later u (revalued p r)) ≡ false
       → below u due v (tree r b t) ≡ tree (revalued p r) (under r b) (below u due v t)
   unfolding eachRow
   below-past u due v r b t e h =

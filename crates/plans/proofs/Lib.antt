@@ -1,3 +1,11 @@
+pub mod Fillings
 pub mod Numbered
 pub mod TreeWalk
 pub mod Planned
+pub mod TreePlans
+pub mod FollowingLaws
+pub mod ApartLaws
+pub mod AttributeIndices
+pub mod DocumentPlans
+pub mod AttributePlans
+pub mod CallsPlanned

@@ -1,1 +1,3 @@
 pub mod Trees
+pub mod Following
+pub mod CallPlans

@@ -82,7 +82,7 @@ fn put_required(i: usize, a: usize, attrs: &[u8], depth: usize, c: Cursor, out: 
 }
 
 // Writes the filling of the members of depth d that s begins with, in a group of a kind. Their rows have the depth `depth`, and no
-// definition is higher than `height`. It stops where no row may be written any more, so that the work is bounded by the rows.
+// definition is higher than h. It stops where no row may be written any more, so that the work is bounded by the rows.
 fn put_group(
     s: &[u8],
     d: usize,
@@ -92,13 +92,13 @@ fn put_group(
     a: usize,
     attrs: &[u8],
     text: &[u8],
-    height: usize,
+    h: usize,
     depth: usize,
     c: Cursor,
     out: &mut [u8],
 ) -> Cursor
-    requires { ⌜ (d ≤ 256) × Asks c (now text) a height depth ⌝ }
-    ensures { λ r. ⌜ Written (memberRows (now (defs .entry)) (now (parts .entry)) (now (attrs .entry)) a (now (text .entry)) height depth (filling kind (membersFrom d (now (s .entry))))) c (now (out .entry)) r (now (out .exit)) ⌝ }
+    requires { ⌜ (d ≤ 256) × Asks c (now text) a h depth ⌝ }
+    ensures { λ r. ⌜ Written (memberRows (now (defs .entry)) (now (parts .entry)) (now (attrs .entry)) a (now (text .entry)) h depth (filling kind (membersFrom d (now (s .entry))))) c (now (out .entry)) r (now (out .exit)) ⌝ }
 {
     if c.left == 0 {
         return c;
@@ -109,40 +109,14 @@ fn put_group(
     let own = codec::byte(s, 3) as usize;
     let t = &s[4..];
     if d < own {
-        return put_group(
-            t,
-            d,
-            kind,
-            defs,
-            parts,
-            a,
-            attrs,
-            text,
-            height,
-            depth,
-            c,
-            out,
-        );
+        return put_group(t, d, kind, defs, parts, a, attrs, text, h, depth, c, out);
     }
     if own < d {
         return c;
     }
-    let r = put_member(s, d, defs, parts, a, attrs, text, height, depth, c, out);
+    let r = put_member(s, d, defs, parts, a, attrs, text, h, depth, c, out);
     match kind {
-        GroupKind::Sequence => put_group(
-            t,
-            d,
-            kind,
-            defs,
-            parts,
-            a,
-            attrs,
-            text,
-            height,
-            depth,
-            r,
-            out,
-        ),
+        GroupKind::Sequence => put_group(t, d, kind, defs, parts, a, attrs, text, h, depth, r, out),
         GroupKind::Choice => r,
     }
 }
@@ -156,13 +130,13 @@ fn put_member(
     a: usize,
     attrs: &[u8],
     text: &[u8],
-    height: usize,
+    h: usize,
     depth: usize,
     c: Cursor,
     out: &mut [u8],
 ) -> Cursor
-    requires { ⌜ (d < 256) × (4 ≤ length (now s)) × Asks c (now text) a height depth ⌝ }
-    ensures { λ r. ⌜ Written (memberRows (now (defs .entry)) (now (parts .entry)) (now (attrs .entry)) a (now (text .entry)) height depth (memberFilling d (now (s .entry)))) c (now (out .entry)) r (now (out .exit)) ⌝ }
+    requires { ⌜ (d < 256) × (4 ≤ length (now s)) × Asks c (now text) a h depth ⌝ }
+    ensures { λ r. ⌜ Written (memberRows (now (defs .entry)) (now (parts .entry)) (now (attrs .entry)) a (now (text .entry)) h depth (memberFilling d (now (s .entry)))) c (now (out .entry)) r (now (out .exit)) ⌝ }
 {
     let p = model::read_particle(s, 0);
     let q = p.quantifier;
@@ -171,31 +145,18 @@ fn put_member(
         return c;
     }
     match w {
-        What::Element(i) => put_definition(i, defs, parts, a, attrs, text, height, depth, c, out),
-        What::Group(kind, _) => {
+        What::Element(i) => put_definition(i, defs, parts, a, attrs, text, h, depth, c, out),
+        What::Group(k, _) => {
             let t = &s[4..];
-            if accepts_nothing(t, d + 1, kind) {
+            if accepts_nothing(t, d + 1, k) {
                 return c;
             }
-            put_group(
-                t,
-                d + 1,
-                kind,
-                defs,
-                parts,
-                a,
-                attrs,
-                text,
-                height,
-                depth,
-                c,
-                out,
-            )
+            put_group(t, d + 1, k, defs, parts, a, attrs, text, h, depth, c, out)
         }
     }
 }
 
-// Writes the filling of definition i, of at most this height: its element, its attributes, and what stands below it.
+// Writes the filling of definition i, of at most the height h: its element, its attributes, and what stands below it.
 fn put_definition(
     i: usize,
     defs: &[u8],
@@ -203,31 +164,20 @@ fn put_definition(
     a: usize,
     attrs: &[u8],
     text: &[u8],
-    height: usize,
+    h: usize,
     depth: usize,
     c: Cursor,
     out: &mut [u8],
 ) -> Cursor
-    requires { ⌜ (i ≤ 256) × Asks c (now text) a height depth ⌝ }
-    ensures { λ r. ⌜ Written (definitionRows (now (defs .entry)) (now (parts .entry)) (now (attrs .entry)) a (now (text .entry)) height depth i) c (now (out .entry)) r (now (out .exit)) ⌝ }
+    requires { ⌜ (i ≤ 256) × Asks c (now text) a h depth ⌝ }
+    ensures { λ r. ⌜ Written (definitionRows (now (defs .entry)) (now (parts .entry)) (now (attrs .entry)) a (now (text .entry)) h depth i) c (now (out .entry)) r (now (out .exit)) ⌝ }
 {
-    if height == 0 {
+    if h == 0 {
         return c;
     }
     let e = rows::put_new(1, depth, i, &text[..0], c, out);
     let r = put_required(i, a, attrs, depth + 1, e, out);
-    put_below(
-        i,
-        defs,
-        parts,
-        a,
-        attrs,
-        text,
-        height - 1,
-        depth + 1,
-        r,
-        out,
-    )
+    put_below(i, defs, parts, a, attrs, text, h - 1, depth + 1, r, out)
 }
 
 // Writes the text of definition i, or the filling of its top list.
@@ -238,13 +188,13 @@ fn put_below(
     a: usize,
     attrs: &[u8],
     text: &[u8],
-    height: usize,
+    h: usize,
     depth: usize,
     c: Cursor,
     out: &mut [u8],
 ) -> Cursor
-    requires { ⌜ (i ≤ 256) × Asks c (now text) a height depth ⌝ }
-    ensures { λ r. ⌜ Written (belowRows (now (defs .entry)) (now (parts .entry)) (now (attrs .entry)) a (now (text .entry)) height depth i) c (now (out .entry)) r (now (out .exit)) ⌝ }
+    requires { ⌜ (i ≤ 256) × Asks c (now text) a h depth ⌝ }
+    ensures { λ r. ⌜ Written (belowRows (now (defs .entry)) (now (parts .entry)) (now (attrs .entry)) a (now (text .entry)) h depth i) c (now (out .entry)) r (now (out .exit)) ⌝ }
 {
     let k = rowpass::kind_of(defs, i);
     match k {
@@ -259,7 +209,7 @@ fn put_below(
             a,
             attrs,
             text,
-            height,
+            h,
             depth,
             c,
             out,

@@ -104,25 +104,25 @@ put-below-model-part-requires : (t : ℕ) → put-below-lts.Need-model-part-requ
 put-below-model-part-requires t c κs = search needs
 
 put-below-put-group-requires : (t : ℕ) → put-below-lts.Need-put-group-requires (put-below-calls t) (put-below-at t) put-below.Post
-put-below-put-group-requires t c κs = let a = c .before .before .before .before .before .before .before .before .before .args in let q = c .before .before .before .before .before .before .before .before .before .pre .1 .1 in let short = part-short (a .defs .now) (a .parts .now) (a .i) (c .before .model-part .result .now) (c .before .model-part .ensures) in (omega (arith, rank-part (a .height) (length (c .before .model-part .result .now)) (omega arith)), (omega arith, q))
+put-below-put-group-requires t c κs = let a = c .before .before .before .before .before .before .before .before .before .args in let q = c .before .before .before .before .before .before .before .before .before .pre .1 .1 in let short = part-short (a .defs .now) (a .parts .now) (a .i) (c .before .model-part .result .now) (c .before .model-part .ensures) in (omega (arith, rank-part (a .h) (length (c .before .model-part .result .now)) (omega arith)), (omega arith, q))
 
 put-below-returns : (t : ℕ) → put-below-lts.Need-returns (put-below-calls t) (put-below-at t) put-below.Post
-put-below-returns t c = let a = c .before .before .before .before .before .before .before .args in below-none (a .defs .now) (a .parts .now) (a .attrs .now) (a .a) (a .text .now) (a .height) (a .depth) (a .i) _ (c .before .kind-of .ensures) (omega arith)
+put-below-returns t c = let a = c .before .before .before .before .before .before .before .args in below-none (a .defs .now) (a .parts .now) (a .attrs .now) (a .a) (a .text .now) (a .h) (a .depth) (a .i) _ (c .before .kind-of .ensures) (omega arith)
 
 put-below-same-length : (t : ℕ) → put-below-lts.Need-same-length (put-below-calls t) (put-below-at t) put-below.Post
 put-below-same-length t c = search needs
 
 put-below-returns-2 : (t : ℕ) → put-below-lts.Need-returns-2 (put-below-calls t) (put-below-at t) put-below.Post
-put-below-returns-2 t c = let a = c .before .before .before .before .before .before .before .before .before .before .before .args in below-text (a .defs .now) (a .parts .now) (a .attrs .now) (a .a) (a .text .now) (a .height) (a .depth) (a .i) _ (c .before .before .before .before .before .kind-of .ensures) (omega arith) (c .before .before .put-new .ensures)
+put-below-returns-2 t c = let a = c .before .before .before .before .before .before .before .before .before .before .before .args in below-text (a .defs .now) (a .parts .now) (a .attrs .now) (a .a) (a .text .now) (a .h) (a .depth) (a .i) _ (c .before .before .before .before .before .kind-of .ensures) (omega arith) (c .before .before .put-new .ensures)
 
 put-below-same-length-2 : (t : ℕ) → put-below-lts.Need-same-length-2 (put-below-calls t) (put-below-at t) put-below.Post
 put-below-same-length-2 t c = search needs
 
 put-below-returns-3 : (t : ℕ) → put-below-lts.Need-returns-3 (put-below-calls t) (put-below-at t) put-below.Post
-put-below-returns-3 t c = let a = c .before .before .before .before .before .before .before .before .before .before .before .before .args in below-group (a .defs .now) (a .parts .now) (a .attrs .now) (a .a) (a .text .now) (a .height) (a .depth) (a .i) _ (c .before .before .before .before .before .before .kind-of .ensures) _ (λ e. omega arith) (λ e. omega arith) (c .before .before .before .before .model-part .ensures) (c .before .before .put-group .ensures)
+put-below-returns-3 t c = let a = c .before .before .before .before .before .before .before .before .before .before .before .before .args in below-group (a .defs .now) (a .parts .now) (a .attrs .now) (a .a) (a .text .now) (a .h) (a .depth) (a .i) _ (c .before .before .before .before .before .before .kind-of .ensures) _ (λ e. omega arith) (λ e. omega arith) (c .before .before .before .before .model-part .ensures) (c .before .before .put-group .ensures)
 
 put-definition-returns : (t : ℕ) → put-definition-lts.Need-returns (put-definition-calls t) (put-definition-at t) put-definition.Post
-put-definition-returns t c = let a = c .before .before .before .before .before .before .args in definition-low (a .defs .now) (a .parts .now) (a .attrs .now) (a .a) (a .text .now) (a .height) (a .depth) (a .i) (omega arith)
+put-definition-returns t c = let a = c .before .before .before .before .before .before .args in definition-low (a .defs .now) (a .parts .now) (a .attrs .now) (a .a) (a .text .now) (a .h) (a .depth) (a .i) (omega arith)
 
 put-definition-slice-aggregate-put-new : (t : ℕ) → put-definition-lts.Need-slice-aggregate-put-new (put-definition-calls t) (put-definition-at t) put-definition.Post
 put-definition-slice-aggregate-put-new t c = search needs
@@ -143,19 +143,19 @@ put-definition-add-put-below : (t : ℕ) → put-definition-lts.Need-add-put-bel
 put-definition-add-put-below t c = let q = c .before .before .before .before .before .before .before .before .before .before .before .before .before .before .before .pre .1 .1 in omega (arith, q .deep)
 
 put-definition-put-below-requires : (t : ℕ) → put-definition-lts.Need-put-below-requires (put-definition-calls t) (put-definition-at t) put-definition.Post
-put-definition-put-below-requires t c κs = let a = c .before .before .before .before .before .before .before .before .before .before .before .before .before .before .before .before .args in let q = c .before .before .before .before .before .before .before .before .before .before .before .before .before .before .before .before .pre .1 .1 in (omega (arith, rank-height (a .height) (λ e. omega arith)), (omega arith, record { room = written-room (c .before .before .before .put-required .ensures) (written-room (c .before .before .before .before .before .before .before .put-new .ensures) (q .room)); text = q .text; attributes = q .attributes; deep = omega (arith, q .deep) }))
+put-definition-put-below-requires t c κs = let a = c .before .before .before .before .before .before .before .before .before .before .before .before .before .before .before .before .args in let q = c .before .before .before .before .before .before .before .before .before .before .before .before .before .before .before .before .pre .1 .1 in (omega (arith, rank-height (a .h) (λ e. omega arith)), (omega arith, record { room = written-room (c .before .before .before .put-required .ensures) (written-room (c .before .before .before .before .before .before .before .put-new .ensures) (q .room)); text = q .text; attributes = q .attributes; deep = omega (arith, q .deep) }))
 
 put-definition-same-length : (t : ℕ) → put-definition-lts.Need-same-length (put-definition-calls t) (put-definition-at t) put-definition.Post
 put-definition-same-length t c = search needs
 
 put-definition-returns-2 : (t : ℕ) → put-definition-lts.Need-returns-2 (put-definition-calls t) (put-definition-at t) put-definition.Post
-put-definition-returns-2 t c = let a = c .before .before .before .before .before .before .before .before .before .before .before .before .before .before .before .before .before .before .before .args in definition-written (a .defs .now) (a .parts .now) (a .attrs .now) (a .a) (a .text .now) (a .height) (a .depth) (a .i) (λ e. omega arith) (c .before .before .before .before .before .before .before .before .before .before .put-new .ensures) (c .before .before .before .before .before .before .put-required .ensures) (c .before .before .put-below .ensures)
+put-definition-returns-2 t c = let a = c .before .before .before .before .before .before .before .before .before .before .before .before .before .before .before .before .before .before .before .args in definition-written (a .defs .now) (a .parts .now) (a .attrs .now) (a .a) (a .text .now) (a .h) (a .depth) (a .i) (λ e. omega arith) (c .before .before .before .before .before .before .before .before .before .before .put-new .ensures) (c .before .before .before .before .before .before .put-required .ensures) (c .before .before .put-below .ensures)
 
 put-group-returns : (t : ℕ) → put-group-lts.Need-returns (put-group-calls t) (put-group-at t) put-group.Post
 put-group-returns t c = written-stop (omega arith)
 
 put-group-returns-2 : (t : ℕ) → put-group-lts.Need-returns-2 (put-group-calls t) (put-group-at t) put-group.Post
-put-group-returns-2 t c = let a = c .before .before .before .before .before .before .before .before .before .args in none-written (a .defs .now) (a .parts .now) (a .attrs .now) (a .a) (a .text .now) (a .height) (a .depth) (filling (a .kind) (membersFrom (a .d) (a .s .now))) (group-few (a .d) (a .kind) (a .s .now) (omega arith))
+put-group-returns-2 t c = let a = c .before .before .before .before .before .before .before .before .before .args in none-written (a .defs .now) (a .parts .now) (a .attrs .now) (a .a) (a .text .now) (a .h) (a .depth) (filling (a .kind) (membersFrom (a .d) (a .s .now))) (group-few (a .d) (a .kind) (a .s .now) (omega arith))
 
 put-group-byte-requires : (t : ℕ) → put-group-lts.Need-byte-requires (put-group-calls t) (put-group-at t) put-group.Post
 put-group-byte-requires t c κs = search needs
@@ -173,25 +173,25 @@ put-group-part-t-end : (t : ℕ) → put-group-lts.Need-part-t-end (put-group-ca
 put-group-part-t-end t c = search needs
 
 put-group-put-group-requires : (t : ℕ) → put-group-lts.Need-put-group-requires (put-group-calls t) (put-group-at t) put-group.Post
-put-group-put-group-requires t c κs = let a = c .before .before .before .before .before .before .before .before .before .before .before .before .before .args in let q = c .before .before .before .before .before .before .before .before .before .before .before .before .before .pre .1 .1 in (omega (arith, rank-particles (a .height) (4 * length (take (length (a .s .now) - 4) (drop 4 (a .s .now))) + 1) (4 * length (a .s .now) + 1) (omega (arith, length-take (length (a .s .now) - 4) (drop 4 (a .s .now)), length-drop 4 (a .s .now)))), (omega arith, q))
+put-group-put-group-requires t c κs = let a = c .before .before .before .before .before .before .before .before .before .before .before .before .before .args in let q = c .before .before .before .before .before .before .before .before .before .before .before .before .before .pre .1 .1 in (omega (arith, rank-particles (a .h) (4 * length (take (length (a .s .now) - 4) (drop 4 (a .s .now))) + 1) (4 * length (a .s .now) + 1) (omega (arith, length-take (length (a .s .now) - 4) (drop 4 (a .s .now)), length-drop 4 (a .s .now)))), (omega arith, q))
 
 put-group-same-length : (t : ℕ) → put-group-lts.Need-same-length (put-group-calls t) (put-group-at t) put-group.Post
 put-group-same-length t c = search needs
 
 put-group-returns-3 : (t : ℕ) → put-group-lts.Need-returns-3 (put-group-calls t) (put-group-at t) put-group.Post
-put-group-returns-3 t c = let a = c .before .before .before .before .before .before .before .before .before .before .before .before .before .before .before .before .args in same-written (a .defs .now) (a .parts .now) (a .attrs .now) (a .a) (a .text .now) (a .height) (a .depth) (filling (a .kind) (membersFrom (a .d) (a .s .now))) _ (group-deeper (a .d) (a .kind) (a .s .now) _ (omega arith) (c .before .before .before .before .before .before .byte .ensures) (omega arith)) (c .before .before .put-group .ensures)
+put-group-returns-3 t c = let a = c .before .before .before .before .before .before .before .before .before .before .before .before .before .before .before .before .args in same-written (a .defs .now) (a .parts .now) (a .attrs .now) (a .a) (a .text .now) (a .h) (a .depth) (filling (a .kind) (membersFrom (a .d) (a .s .now))) _ (group-deeper (a .d) (a .kind) (a .s .now) _ (omega arith) (c .before .before .before .before .before .before .byte .ensures) (omega arith)) (c .before .before .put-group .ensures)
 
 put-group-returns-4 : (t : ℕ) → put-group-lts.Need-returns-4 (put-group-calls t) (put-group-at t) put-group.Post
-put-group-returns-4 t c = let a = c .before .before .before .before .before .before .before .before .before .before .before .before .before .args in none-written (a .defs .now) (a .parts .now) (a .attrs .now) (a .a) (a .text .now) (a .height) (a .depth) (filling (a .kind) (membersFrom (a .d) (a .s .now))) (group-stop (a .d) (a .kind) (a .s .now) _ (omega arith) (c .before .before .before .byte .ensures) (omega arith))
+put-group-returns-4 t c = let a = c .before .before .before .before .before .before .before .before .before .before .before .before .before .args in none-written (a .defs .now) (a .parts .now) (a .attrs .now) (a .a) (a .text .now) (a .h) (a .depth) (filling (a .kind) (membersFrom (a .d) (a .s .now))) (group-stop (a .d) (a .kind) (a .s .now) _ (omega arith) (c .before .before .before .byte .ensures) (omega arith))
 
 put-group-put-member-requires : (t : ℕ) → put-group-lts.Need-put-member-requires (put-group-calls t) (put-group-at t) put-group.Post
-put-group-put-member-requires t c κs = let a = c .before .before .before .before .before .before .before .before .before .before .before .before .before .before .args in let q = c .before .before .before .before .before .before .before .before .before .before .before .before .before .before .pre .1 .1 in (omega (arith, rank-particles (a .height) (4 * length (a .s .now)) (4 * length (a .s .now) + 1) (omega arith)), (omega arith, omega arith, q))
+put-group-put-member-requires t c κs = let a = c .before .before .before .before .before .before .before .before .before .before .before .before .before .before .args in let q = c .before .before .before .before .before .before .before .before .before .before .before .before .before .before .pre .1 .1 in (omega (arith, rank-particles (a .h) (4 * length (a .s .now)) (4 * length (a .s .now) + 1) (omega arith)), (omega arith, omega arith, q))
 
 put-group-enum-told : (t : ℕ) → put-group-lts.Need-enum-told (put-group-calls t) (put-group-at t) put-group.Post
 put-group-enum-told t c = search needs
 
 put-group-put-group-requires-2 : (t : ℕ) → put-group-lts.Need-put-group-requires-2 (put-group-calls t) (put-group-at t) put-group.Post
-put-group-put-group-requires-2 t c κs = let a = c .before .before .before .before .before .before .before .before .before .before .before .before .before .before .before .before .before .before .before .before .args in let q = c .before .before .before .before .before .before .before .before .before .before .before .before .before .before .before .before .before .before .before .before .pre .1 .1 in (omega (arith, rank-particles (a .height) (4 * length (take (length (a .s .now) - 4) (drop 4 (a .s .now))) + 1) (4 * length (a .s .now) + 1) (omega (arith, length-take (length (a .s .now) - 4) (drop 4 (a .s .now)), length-drop 4 (a .s .now)))), (omega arith, record { room = written-room (c .before .before .before .before .before .put-member .ensures) (q .room); text = q .text; attributes = q .attributes; deep = q .deep }))
+put-group-put-group-requires-2 t c κs = let a = c .before .before .before .before .before .before .before .before .before .before .before .before .before .before .before .before .before .before .before .before .args in let q = c .before .before .before .before .before .before .before .before .before .before .before .before .before .before .before .before .before .before .before .before .pre .1 .1 in (omega (arith, rank-particles (a .h) (4 * length (take (length (a .s .now) - 4) (drop 4 (a .s .now))) + 1) (4 * length (a .s .now) + 1) (omega (arith, length-take (length (a .s .now) - 4) (drop 4 (a .s .now)), length-drop 4 (a .s .now)))), (omega arith, record { room = written-room (c .before .before .before .before .before .put-member .ensures) (q .room); text = q .text; attributes = q .attributes; deep = q .deep }))
 
 put-group-enum-told-2 : (t : ℕ) → put-group-lts.Need-enum-told-2 (put-group-calls t) (put-group-at t) put-group.Post
 put-group-enum-told-2 t c = search needs
@@ -200,13 +200,13 @@ put-group-same-length-2 : (t : ℕ) → put-group-lts.Need-same-length-2 (put-gr
 put-group-same-length-2 t c = search needs
 
 put-group-returns-5 : (t : ℕ) → put-group-lts.Need-returns-5 (put-group-calls t) (put-group-at t) put-group.Post
-put-group-returns-5 t c = let a = c .before .before .before .before .before .before .before .before .before .before .before .before .before .before .before .before .before .before .before .before .before .before .before .args in list-written (a .defs .now) (a .parts .now) (a .attrs .now) (a .a) (a .text .now) (a .height) (a .depth) (filling (a .kind) (membersFrom (a .d) (a .s .now))) (a .kind) _ _ (group-here (a .d) (a .kind) (a .s .now) _ (omega arith) (c .before .before .before .before .before .before .before .before .before .before .before .before .before .byte .ensures) (omega arith) (omega arith)) (c .before .before .before .before .enum-told .given .1) (c .before .before .before .before .before .before .before .before .put-member .ensures) (c .before .before .put-group2 .ensures)
+put-group-returns-5 t c = let a = c .before .before .before .before .before .before .before .before .before .before .before .before .before .before .before .before .before .before .before .before .before .before .before .args in list-written (a .defs .now) (a .parts .now) (a .attrs .now) (a .a) (a .text .now) (a .h) (a .depth) (filling (a .kind) (membersFrom (a .d) (a .s .now))) (a .kind) _ _ (group-here (a .d) (a .kind) (a .s .now) _ (omega arith) (c .before .before .before .before .before .before .before .before .before .before .before .before .before .byte .ensures) (omega arith) (omega arith)) (c .before .before .before .before .enum-told .given .1) (c .before .before .before .before .before .before .before .before .put-member .ensures) (c .before .before .put-group2 .ensures)
 
 put-group-same-length-3 : (t : ℕ) → put-group-lts.Need-same-length-3 (put-group-calls t) (put-group-at t) put-group.Post
 put-group-same-length-3 t c = search needs
 
 put-group-returns-6 : (t : ℕ) → put-group-lts.Need-returns-6 (put-group-calls t) (put-group-at t) put-group.Post
-put-group-returns-6 t c = let a = c .before .before .before .before .before .before .before .before .before .before .before .before .before .before .before .before .before .before .before .args in first-written (a .defs .now) (a .parts .now) (a .attrs .now) (a .a) (a .text .now) (a .height) (a .depth) (filling (a .kind) (membersFrom (a .d) (a .s .now))) (a .kind) _ _ (group-here (a .d) (a .kind) (a .s .now) _ (omega arith) (c .before .before .before .before .before .before .before .before .before .byte .ensures) (omega arith) (omega arith)) (c .enum-told2 .given .1) (c .before .before .before .before .put-member .ensures)
+put-group-returns-6 t c = let a = c .before .before .before .before .before .before .before .before .before .before .before .before .before .before .before .before .before .before .before .args in first-written (a .defs .now) (a .parts .now) (a .attrs .now) (a .a) (a .text .now) (a .h) (a .depth) (filling (a .kind) (membersFrom (a .d) (a .s .now))) (a .kind) _ _ (group-here (a .d) (a .kind) (a .s .now) _ (omega arith) (c .before .before .before .before .before .before .before .before .before .byte .ensures) (omega arith) (omega arith)) (c .enum-told2 .given .1) (c .before .before .before .before .put-member .ensures)
 
 put-member-read-particle-requires : (t : ℕ) → put-member-lts.Need-read-particle-requires (put-member-calls t) (put-member-at t) put-member.Post
 put-member-read-particle-requires t c κs = search needs
@@ -215,13 +215,13 @@ put-member-skips-requires : (t : ℕ) → put-member-lts.Need-skips-requires (pu
 put-member-skips-requires t c κs = search needs
 
 put-member-returns : (t : ℕ) → put-member-lts.Need-returns (put-member-calls t) (put-member-at t) put-member.Post
-put-member-returns t c = let a = c .before .before .before .before .before .before .before .before .before .args in none-written (a .defs .now) (a .parts .now) (a .attrs .now) (a .a) (a .text .now) (a .height) (a .depth) _ (member-skips (a .d) (a .s .now) _ (c .before .before .read-particle .ensures) _ (c .before .skips .ensures) (c .if1 .taken))
+put-member-returns t c = let a = c .before .before .before .before .before .before .before .before .before .args in none-written (a .defs .now) (a .parts .now) (a .attrs .now) (a .a) (a .text .now) (a .h) (a .depth) _ (member-skips (a .d) (a .s .now) _ (c .before .before .read-particle .ensures) _ (c .before .skips .ensures) (c .if1 .taken))
 
 put-member-enum-known-w : (t : ℕ) → put-member-lts.Need-enum-known-w (put-member-calls t) (put-member-at t) put-member.Post
 put-member-enum-known-w t c = search needs
 
 put-member-put-definition-requires : (t : ℕ) → put-member-lts.Need-put-definition-requires (put-member-calls t) (put-member-at t) put-member.Post
-put-member-put-definition-requires t c κs = let a = c .before .before .before .before .before .before .before .before .before .before .before .before .before .args in let q = c .before .before .before .before .before .before .before .before .before .before .before .before .before .pre .1 .2 in let i = index-small (a .s .now) _ _ (c .before .before .before .before .before .before .read-particle .ensures) (c .before .before .w .given .1) (c .before .before .before .before .before .before .before .before .before .before .before .before .shared-slice-known .given 2 .fits) in (omega (arith, rank-particles (a .height) 0 (4 * length (a .s .now)) (omega arith)), (omega arith, q))
+put-member-put-definition-requires t c κs = let a = c .before .before .before .before .before .before .before .before .before .before .before .before .before .args in let q = c .before .before .before .before .before .before .before .before .before .before .before .before .before .pre .1 .2 in let i = index-small (a .s .now) _ _ (c .before .before .before .before .before .before .read-particle .ensures) (c .before .before .w .given .1) (c .before .before .before .before .before .before .before .before .before .before .before .before .shared-slice-known .given 2 .fits) in (omega (arith, rank-particles (a .h) 0 (4 * length (a .s .now)) (omega arith)), (omega arith, q))
 
 put-member-enum-known-w-2 : (t : ℕ) → put-member-lts.Need-enum-known-w-2 (put-member-calls t) (put-member-at t) put-member.Post
 put-member-enum-known-w-2 t c = search needs
@@ -242,25 +242,25 @@ put-member-accepts-nothing-requires : (t : ℕ) → put-member-lts.Need-accepts-
 put-member-accepts-nothing-requires t c κs = search needs
 
 put-member-returns-2 : (t : ℕ) → put-member-lts.Need-returns-2 (put-member-calls t) (put-member-at t) put-member.Post
-put-member-returns-2 t c = let a = c .before .before .before .before .before .before .before .before .before .before .before .before .before .before .before .args in none-written (a .defs .now) (a .parts .now) (a .attrs .now) (a .a) (a .text .now) (a .height) (a .depth) _ (member-nothing (a .d) (a .s .now) _ (c .before .before .before .before .before .before .before .before .read-particle .ensures) _ (c .before .before .before .before .before .before .before .skips .ensures) (c .before .before .before .before .before .before .if1 .left) _ _ (c .before .before .before .before .w2 .given .1) _ refl _ (c .before .accepts-nothing .ensures) (c .if2 .taken))
+put-member-returns-2 t c = let a = c .before .before .before .before .before .before .before .before .before .before .before .before .before .before .before .args in none-written (a .defs .now) (a .parts .now) (a .attrs .now) (a .a) (a .text .now) (a .h) (a .depth) _ (member-nothing (a .d) (a .s .now) _ (c .before .before .before .before .before .before .before .before .read-particle .ensures) _ (c .before .before .before .before .before .before .before .skips .ensures) (c .before .before .before .before .before .before .if1 .left) _ _ (c .before .before .before .before .w2 .given .1) _ refl _ (c .before .accepts-nothing .ensures) (c .if2 .taken))
 
 put-member-add-put-group : (t : ℕ) → put-member-lts.Need-add-put-group (put-member-calls t) (put-member-at t) put-member.Post
 put-member-add-put-group t c = search needs
 
 put-member-put-group-requires : (t : ℕ) → put-member-lts.Need-put-group-requires (put-member-calls t) (put-member-at t) put-member.Post
-put-member-put-group-requires t c κs = let a = c .before .before .before .before .before .before .before .before .before .before .before .before .before .before .before .before .args in let q = c .before .before .before .before .before .before .before .before .before .before .before .before .before .before .before .before .pre .1 .2 in (omega (arith, rank-particles (a .height) (4 * length (take (length (a .s .now) - 4) (drop 4 (a .s .now))) + 1) (4 * length (a .s .now)) (omega (arith, length-take (length (a .s .now) - 4) (drop 4 (a .s .now)), length-drop 4 (a .s .now)))), (omega arith, q))
+put-member-put-group-requires t c κs = let a = c .before .before .before .before .before .before .before .before .before .before .before .before .before .before .before .before .args in let q = c .before .before .before .before .before .before .before .before .before .before .before .before .before .before .before .before .pre .1 .2 in (omega (arith, rank-particles (a .h) (4 * length (take (length (a .s .now) - 4) (drop 4 (a .s .now))) + 1) (4 * length (a .s .now)) (omega (arith, length-take (length (a .s .now) - 4) (drop 4 (a .s .now)), length-drop 4 (a .s .now)))), (omega arith, q))
 
 put-member-same-length : (t : ℕ) → put-member-lts.Need-same-length (put-member-calls t) (put-member-at t) put-member.Post
 put-member-same-length t c = search needs
 
 put-member-returns-3 : (t : ℕ) → put-member-lts.Need-returns-3 (put-member-calls t) (put-member-at t) put-member.Post
-put-member-returns-3 t c = let a = c .before .before .before .before .before .before .before .before .before .before .before .before .before .before .before .before .args in one-written (a .defs .now) (a .parts .now) (a .attrs .now) (a .a) (a .text .now) (a .height) (a .depth) _ _ (member-element (a .d) (a .s .now) _ (c .before .before .before .before .before .before .before .before .before .read-particle .ensures) _ (c .before .before .before .before .before .before .before .before .skips .ensures) (c .before .before .before .before .before .before .before .if1 .left) _ (c .before .before .before .before .before .w .given .1)) (c .before .before .put-definition .ensures)
+put-member-returns-3 t c = let a = c .before .before .before .before .before .before .before .before .before .before .before .before .before .before .before .before .args in one-written (a .defs .now) (a .parts .now) (a .attrs .now) (a .a) (a .text .now) (a .h) (a .depth) _ _ (member-element (a .d) (a .s .now) _ (c .before .before .before .before .before .before .before .before .before .read-particle .ensures) _ (c .before .before .before .before .before .before .before .before .skips .ensures) (c .before .before .before .before .before .before .before .if1 .left) _ (c .before .before .before .before .before .w .given .1)) (c .before .before .put-definition .ensures)
 
 put-member-same-length-2 : (t : ℕ) → put-member-lts.Need-same-length-2 (put-member-calls t) (put-member-at t) put-member.Post
 put-member-same-length-2 t c = search needs
 
 put-member-returns-4 : (t : ℕ) → put-member-lts.Need-returns-4 (put-member-calls t) (put-member-at t) put-member.Post
-put-member-returns-4 t c = let a = c .before .before .before .before .before .before .before .before .before .before .before .before .before .before .before .before .before .before .before .args in same-written (a .defs .now) (a .parts .now) (a .attrs .now) (a .a) (a .text .now) (a .height) (a .depth) _ _ (member-group (a .d) (a .s .now) _ (c .before .before .before .before .before .before .before .before .before .before .before .before .read-particle .ensures) _ (c .before .before .before .before .before .before .before .before .before .before .before .skips .ensures) (c .before .before .before .before .before .before .before .before .before .before .if1 .left) _ _ (c .before .before .before .before .before .before .before .before .w2 .given .1) _ refl _ (c .before .before .before .before .before .accepts-nothing .ensures) (c .before .before .before .before .if2 .left)) (c .before .before .put-group .ensures)
+put-member-returns-4 t c = let a = c .before .before .before .before .before .before .before .before .before .before .before .before .before .before .before .before .before .before .before .args in same-written (a .defs .now) (a .parts .now) (a .attrs .now) (a .a) (a .text .now) (a .h) (a .depth) _ _ (member-group (a .d) (a .s .now) _ (c .before .before .before .before .before .before .before .before .before .before .before .before .read-particle .ensures) _ (c .before .before .before .before .before .before .before .before .before .before .before .skips .ensures) (c .before .before .before .before .before .before .before .before .before .before .if1 .left) _ _ (c .before .before .before .before .before .before .before .before .w2 .given .1) _ refl _ (c .before .before .before .before .before .accepts-nothing .ensures) (c .before .before .before .before .if2 .left)) (c .before .before .put-group .ensures)
 
 pub +put-below+put-definition+put-group+put-member-spec : {M : Type 1} → statement M
 +put-below+put-definition+put-group+put-member-spec =

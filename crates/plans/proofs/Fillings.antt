@@ -1,25 +1,25 @@
 -- The filling by indices is the filling of the rules, written.
 -- Assumes nothing.
-use Prim.Native.Nat.{ℕ, zero, suc, _+_, _<_, _≤_}
+use Prim.Native.Nat.{ℕ, zero, suc, _+_, _<_}
 use native.Mathlib.Omega.{arith}
 use borrow.Author.Tests.{eq-eqb, ne-eqb}
 use mathlib.Core.Path.{_≡_, refl, sym, ap, ap₂, subst, _∙_}
 use mathlib.Core.Bool.{Bool, true, false, _&&_}
 use mathlib.Core.List.{List, [], _∷_, _++_, map, append-assoc, append-nil, List·Memᴰ, List·Memᴰ·head, List·Memᴰ·tail}
 use lib.Dec.{eqb}
-use lib.ListN.{length, length-map}
+use lib.ListN.{length}
 use Rattle.rules.specs.declared.GroupKind.the-variants.{Sequence}
 use Rattle.rules.specs.Bytes.{Bytes}
-use Rattle.rules.specs.Model.{Members, Distinct, names, rename, filling}
-use Rattle.rules.specs.Store.{Content, empty, pcdata, complex, Attribute, AttributeSort, Form, Row, Forest, bare, tree, _⧺_, Store, modelOf}
+use Rattle.rules.specs.Model.{Members, names, rename, filling}
+use Rattle.rules.specs.Store.{Content, empty, pcdata, complex, Attribute, Form, Row, Forest, bare, tree, _⧺_, Store, modelOf}
 use Rattle.rules.specs.Preorder.{Deep, flatten}
-use Rattle.rules.specs.Layout.{valueWidth, FlatAttribute, FlatRow, flat, kindCode, indexOf, ownAttributes, allAttributes, attributeIndex, indexed}
+use Rattle.rules.specs.Layout.{valueWidth, FlatAttribute, FlatRow, flat, kindCode, ownAttributes, allAttributes, indexed}
 use Rattle.rules.specs.Decode.{nameAt, sortOf}
 use Rattle.rules.specs.WellFormed.{WellFormed}
 use Rattle.rules.specs.Conforming.{mustBePresent}
 use Rattle.rules.specs.Passing.{good}
 use Rattle.rules.specs.Change.{definitionAt, nameAtIndex}
-use Rattle.rules.specs.Filling.{attributeRow, elementRow, fillAttributes, fillEach, fillContent, fillWithin, fillDefinition}
+use Rattle.rules.specs.Filling.{attributeRow, fillAttributes, fillEach, fillContent, fillWithin, fillDefinition}
 use Rattle.rules.proofs.DecodeLaws.{unflat-flat, good-known, good-found}
 use Rattle.rules.proofs.PassingLaws.{good-is}
 use Rattle.rules.proofs.RenamingPlaces.{filling-rename}
@@ -31,7 +31,7 @@ use Rattle.validity.proofs.AttributeReads.{sort-of}
 use Rattle.validity.proofs.AttributeBlocks.{offset, Block, block-at}
 use Rattle.validity.proofs.FormGood.{form-agrees, good-bodies, good-fields}
 use Rattle.filling.specs.declared.Filling.the-variants.{Definition}
-use Rattle.filling.specs.Fillings.{newElement, newAttribute, newText, requiredRows, fillingsOf, contentRows, fillIndex, fillingRows}
+use Rattle.filling.specs.Fillings.{newElement, newAttribute, requiredRows, fillingsOf, contentRows, fillIndex, fillingRows}
 
 -- ---- forests side by side
 pub flatten-beside : {A : Type 0} (d : ℕ) (f g : Forest A) → flatten d (f ⧺ g) ≡ flatten d f ++ flatten d g

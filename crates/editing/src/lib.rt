@@ -1,13 +1,15 @@
 // The one walk over the tree rows that all changes share: it keeps, takes with all below, gives a value, puts fillings in and renumbers.
 use filling::Filling;
+use rows::Cursor;
 ghost use mathlib.Core.Path.{_≡_};
 ghost use mathlib.Core.List.{[], _∷_, _++_};
 ghost use Prim.Native.Nat.{ℕ, _+_, _*_, _-_, _≤_, _<_};
 ghost use lib.ListN.{length};
-ghost use Rattle.rules.specs.Bytes.{Bytes};
 ghost use Rattle.rules.specs.Decode.{readRow};
-ghost use Rattle.editing.specs.Walk.{matches, isEverything, isGround, isLater, shifted, movedIndex, gone, closes, closed, isBelow, isTaken, isFilled, taken, kept, rowDepth, atFirst};
-ghost use Rattle.editing.specs.Step.{rowOf, bare, Moves, Planned, Fair, Near};
+ghost use Rattle.rowpass.specs.Reading.{rowsIn};
+ghost use Rattle.rows.specs.Written.{Written, Room, OldRow};
+ghost use Rattle.editing.specs.Walk.{matches, isEverything, isGround, isLater, shifted, movedIndex, keptRow, gone, closes, closed, isBelow, isTaken, isFilled, taken, kept, owed, emitted, onward, walked, atFirst};
+ghost use Rattle.editing.specs.Step.{rowOf, bare, stepRows, stepOpen, Came, fillOf, Moves, Planned, Ready, Fair, Near, WalkRow, Seen, WalkRows};
 
 /// Some rows: none; every row, and what stands above the documents; that alone; the elements of a definition; the rows of an attribute; the
 /// element with a serial.
@@ -53,6 +55,12 @@ pub struct Open {
     pub taking: usize,
     pub below: usize,
     pub due: bool,
+}
+
+/// What has been written after a row, and what is open.
+pub struct Stepped {
+    pub cursor: Cursor,
+    pub opened: Open,
 }
 
 /// What the walk reads of a row.
@@ -271,4 +279,18 @@ fn at_first(p: Plan) -> Open
         below: 0,
         due: false,
     }
+}
+
+// ---- the walk
+
+// A row that is kept.
+fn put_row(p: Plan, text: &[u8], h: Head, row: &[u8], c: Cursor, out: &mut [u8]) -> Cursor
+    requires { ⌜ Planned p × (length (now text) ≤ 32) × Seen h (now row) × Room c ⌝ }
+    ensures { λ r. ⌜ Written (keptRow p (now (text .entry)) (readRow (now (row .entry))) ∷ []) c (now (out .entry)) r (now (out .exit)) ⌝ }
+{
+    let index = moved_index(p, h);
+    if h.serial == p.set {
+        return rows::put_valued(row, index, text, c, out);
+    }
+    rows::put_kept(row, index, c, out)
 }

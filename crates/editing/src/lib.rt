@@ -379,23 +379,11 @@ fn step(
     let due = closes(o, h) & o.due;
     let depth = minus(o.below, 1);
     let at = put_owed(n, defs, parts, a, attrs, p, text, due, depth, c, out);
-    come(
-        n,
-        defs,
-        parts,
-        a,
-        attrs,
-        p,
-        text,
-        h,
-        row,
-        closed(o, h),
-        at,
-        out,
-    )
+    let q = closed(o, h);
+    come(n, defs, parts, a, attrs, p, text, h, row, q, at, out)
 }
 
-/// The walk over `count` rows.
+/// The walk over `count` rows. It stops where no row may be written any more.
 pub fn walk(
     n: usize,
     defs: &[u8],
@@ -426,17 +414,6 @@ pub fn walk(
         t = &t[44..];
         m -= 1;
     }
-    put_owed(
-        n,
-        defs,
-        parts,
-        a,
-        attrs,
-        plan,
-        text,
-        o.due,
-        minus(o.below, 1),
-        at,
-        out,
-    )
+    let depth = minus(o.below, 1);
+    put_owed(n, defs, parts, a, attrs, plan, text, o.due, depth, at, out)
 }

@@ -2,12 +2,12 @@
 use filling::Filling;
 use rows::Cursor;
 ghost use mathlib.Core.Path.{_≡_};
-ghost use mathlib.Core.List.{[], _∷_, _++_};
-ghost use Prim.Native.Nat.{ℕ, _+_, _*_, _-_, _≤_, _<_};
+ghost use mathlib.Core.List.{[], _∷_};
+ghost use Prim.Native.Nat.{_+_, _*_, _-_, _≤_, _<_};
 ghost use lib.ListN.{length};
 ghost use Rattle.rules.specs.Decode.{readRow};
 ghost use Rattle.rowpass.specs.Reading.{rowsIn};
-ghost use Rattle.rows.specs.Written.{Written, Room, OldRow};
+ghost use Rattle.rows.specs.Written.{Written, Room};
 ghost use Rattle.editing.specs.Walk.{matches, isEverything, isGround, isLater, shifted, movedIndex, keptRow, gone, closes, closed, isBelow, isTaken, isFilled, taken, kept, owed, emitted, onward, walked, atFirst};
 ghost use Rattle.editing.specs.Step.{rowOf, bare, stepRows, stepOpen, Came, fillOf, Moves, Planned, Ready, Fair, Near, WalkRow, Seen, WalkRows};
 

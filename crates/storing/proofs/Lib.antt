@@ -1,1 +1,4 @@
 pub mod StoreLaws
+pub mod LimitLaws
+pub mod FormBytesLaws
+pub mod EditLaws

@@ -1,0 +1,3 @@
+-- What `edit` answers.
+-- Assumes nothing.
+use mathlib.Core.Path.{_≡_}

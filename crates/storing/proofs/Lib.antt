@@ -1,4 +1,5 @@
 pub mod StoreLaws
 pub mod LimitLaws
 pub mod FormBytesLaws
+pub mod RowBounds
 pub mod EditLaws

@@ -6,7 +6,7 @@ use mathlib.Core.Path.{_≡_, refl, ap, _∙_, sym}
 use mathlib.Core.Bool.{Bool, true, false, _&&_}
 use mathlib.Core.List.{List, [], _∷_, _++_, append-assoc}
 use lib.Dec.{leb}
-use lib.ListN.{length, take, drop, length-append}
+use lib.ListN.{length, take, drop, length-append, length-take}
 use lib.Seq.{take-at}
 use Rattle.rules.specs.Bytes.{Bytes, all}
 use Rattle.rules.specs.Preorder.{Deep}
@@ -16,9 +16,10 @@ use Rattle.rules.specs.WellFormed.{withinCeilings}
 use Rattle.rules.proofs.Words.{and-split}
 use Rattle.rules.proofs.LayoutLaws.{length-definition, length-particle, length-attribute, length-row, length-each, length-flatBytes}
 use Rattle.records.specs.Records.{baseWidth}
-use Rattle.lookup.specs.Bodies.{bodiesOf, rowStart}
+use Rattle.codec.specs.Laid.{Laid}
+use Rattle.lookup.specs.Bodies.{bodiesOf, rowStart, Begins}
 use Rattle.lookup.proofs.Laws.{length-many}
-use Rattle.storing.specs.FormBytes.{formBytes}
+use Rattle.storing.specs.FormBytes.{formBytes, Heads}
 use Rattle.storing.proofs.StoreLaws.{Holds}
 
 -- the same form with other rows
@@ -99,3 +100,29 @@ ceilings-rows f next rows h =
     let (c, h₃) = and-split (all (λ (p : Deep FlatParticle). leb (p .depth) 4) (f .particles)) _ h₂ in
     let (d, e) = and-split (leb (length (f .attributes)) 64) _ h₃ in
     λ i. a i && (b i && (c i && (d i && leb (length rows) 4096)))
+
+-- as the code writes them
+pub form-parts : {bs : Bytes} {start next count : ℕ} → Heads bs start next count → formBytes next count bs ≡ take 4 bs ++ le 4 next ++ take 28 (drop 8 bs) ++ le 4 count ++ take (start - 40) (drop 40 bs)
+unfolding formBytes
+form-parts {bs} {start} {next} {count} x = ap (λ (k : ℕ). take 4 bs ++ le 4 next ++ take 28 (drop 8 bs) ++ le 4 count ++ take (k - 40) (drop 40 bs)) (sym (x .begins .start))
+
+pub after-form : {bs : Bytes} {start next count r : ℕ} {out out′ : Bytes} → Heads bs start next count → Laid (formBytes next count bs) out 0 r out′ → r ≤ start
+after-form {bs} {start} {next} {count} x p =
+    omega (
+      arith,
+      p .next,
+      ap length (form-parts x),
+      length-append (take 4 bs ++ le 4 next ++ take 28 (drop 8 bs) ++ le 4 count) (take (start - 40) (drop 40 bs)),
+      length-append (take 4 bs ++ le 4 next ++ take 28 (drop 8 bs)) (le 4 count),
+      length-append (take 4 bs ++ le 4 next) (take 28 (drop 8 bs)),
+      length-append (take 4 bs) (le 4 next),
+      length-take 4 bs,
+      length-take 28 (drop 8 bs),
+      length-take (start - 40) (drop 40 bs),
+      x .least,
+    )
+
+pub heads-of : {bs : Bytes} → Holds bs → {start next count : ℕ} → Begins bs start → next ≤ 4294967295 → count ≤ 4096 → Heads bs start next count
+heads-of {bs} h b n m =
+    let e : length bs ≡ startOf (bodiesOf bs) + 44 * length (bodiesOf bs .rows) = ap length (sym (whole h)) ∙ rowed-length (bodiesOf bs) (bodiesOf bs .next) (bodiesOf bs .rows) in
+    record { begins = b; least = omega (arith, b .start, start-of bs); within = omega (arith, b .start, start-of bs); serial = omega arith; rows = m }

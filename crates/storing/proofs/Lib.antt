@@ -2,4 +2,5 @@ pub mod StoreLaws
 pub mod LimitLaws
 pub mod FormBytesLaws
 pub mod RowBounds
+pub mod WalkLaws
 pub mod EditLaws

@@ -48,3 +48,7 @@ module _ (room : ℕ) (f : FlatStore) where
 
   pub limited-none : withinCeilings f ≡ true → f .next ≤ highestNumber → length (flatBytes baseWidth f) ≤ room → limited room f ≡ wrote (flatBytes baseWidth f)
   limited-none x y z = as-tests x (le-ltb highestNumber (f .next) y) (le-ltb room (length (flatBytes baseWidth f)) z)
+
+-- in the code's numbers
+pub answers-as : {o : Outcome} {out : Bytes} {n n′ l l′ : ℕ} {left : Bytes} → n ≡ n′ → l ≡ l′ → Answers o out n′ l′ left → Answers o out n l left
+answers-as e q a = record { number-is = e ∙ a .number-is; length-is = q ∙ a .length-is; buffer-is = a .buffer-is }

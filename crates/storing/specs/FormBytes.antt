@@ -1,12 +1,20 @@
 -- The bytes before the tree rows.
 -- Assumes nothing.
-use Prim.Native.Nat.{ℕ, _-_}
+use Prim.Native.Nat.{ℕ, _-_, _<_, _≤_}
 use mathlib.Core.List.{_++_}
-use lib.ListN.{take, drop}
+use lib.ListN.{length, take, drop}
 use Rattle.rules.specs.Bytes.{Bytes}
 use Rattle.rules.specs.Layout.{le, headerSize}
-use Rattle.lookup.specs.Bodies.{rowStart}
+use Rattle.lookup.specs.Bodies.{rowStart, Begins}
 
 -- header and form of a byte string, with another next serial and another count of rows
 unfoldable pub formBytes : ℕ → ℕ → Bytes → Bytes
 formBytes next count bs = take 4 bs ++ le 4 next ++ take 28 (drop 8 bs) ++ le 4 count ++ take (rowStart bs - headerSize) (drop headerSize bs)
+
+-- the rows begin at `start`; a next serial and a count of rows that their fields hold
+pub record Heads (bs : Bytes) (start next count : ℕ) : Type 0 where
+  pub begins : Begins bs start
+  pub least : headerSize ≤ start
+  pub within : start ≤ length bs
+  pub serial : next < 4294967296
+  pub rows : count ≤ 4096

@@ -18,14 +18,14 @@ use Rattle.rules.specs.Decode.{readRow, readMany, readDefinition, readAttribute
 use Rattle.rules.specs.Conforming.{mustBePresent, allows}
 use Rattle.rules.specs.Passing.{passes}
 use Rattle.model.specs.Members.{particlesOf, membersFrom, membersOf}
-use Rattle.records.specs.Records.{baseWidth}
+use Rattle.records.specs.Records.{baseWidth, rowFits, eachFits}
 use Rattle.forms.specs.Bodies.{definitions, particles, attributes, formOf}
 use Rattle.forms.proofs.Reading.{definitions-length, attributes-length}
 use Rattle.rowpass.specs.Indices.{IndexForm}
 use Rattle.rowpass.specs.Reading.{recordAt, definitionIn, attributeIn, modelPart}
 use Rattle.rowpass.specs.Reading as bytes
 use Rattle.validity.specs.Reading.{indexMembers, partAt, noDefinition, noAttribute, entryOf, indexForm}
-use Rattle.validity.specs.Check.{definitionsIn, particlesIn, attributesIn, rowsIn, FormPasses, FormIn}
+use Rattle.validity.specs.Check.{definitionsIn, particlesIn, attributesIn, rowsIn, FormPasses, FormIn, RowsPass, SerialsIn}
 use Rattle.validity.proofs.FormLaws.{Laid}
 use Rattle.validity.proofs.IndexReads.{definition-in, attribute-in, model-in, index-agrees}
 use Rattle.validity.proofs.StringChecks.{Headed, laid-in, formIn, same-definitions, same-particles, same-attributes, same-rows, passes-in}
@@ -85,8 +85,15 @@ module _ {n : ℕ} {defs : Bytes} {p : ℕ} {parts : Bytes} {a : ℕ} {attrs : B
 
 -- ---- of a byte string that passes
 module _ {bs : Bytes} (h : Headed bs) where
+  told : passes bs ≡ true → FormIn bs × RowsPass (bytes.indexForm (definitionCount bs) (definitionsIn bs) (particlesIn bs) (attributesIn bs) (attributeCount bs)) (rowCount bs) (rowsIn bs) × SerialsIn bs
+  told = passes-in h (bytes.indexForm (definitionCount bs) (definitionsIn bs) (particlesIn bs) (attributesIn bs) (attributeCount bs)) (λ x. index-agrees (laid-in h) (x .passes)) .0
+
   pub form-in : passes bs ≡ true → FormIn bs
-  form-in q = passes-in h (bytes.indexForm (definitionCount bs) (definitionsIn bs) (particlesIn bs) (attributesIn bs) (attributeCount bs)) (λ x. index-agrees (laid-in h) (x .passes)) .0 q .0
+  form-in q = told q .0
+
+  -- each row by itself
+  pub rows-fit : passes bs ≡ true → eachFits (rowFits baseWidth) (rowSize baseWidth) (rowCount bs) (rowsIn bs) ≡ true
+  rows-fit q = told q .1 .fields
 
   pub read-form : passes bs ≡ true → bytes.indexForm (definitionCount bs) (definitionsIn bs) (particlesIn bs) (attributesIn bs) (attributeCount bs) ≡ indexForm (flatOf bs)
   read-form q =

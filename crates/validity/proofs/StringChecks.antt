@@ -108,6 +108,9 @@ module _ {bs : Bytes} (h : Headed bs) where
   pub rows-whole : rowSize baseWidth * rowCount bs ≡ length (rowsIn bs)
   rows-whole = cut-length (atRows baseWidth bs) (rowSize baseWidth * rowCount bs) rows-cut (omega (arith, header .size))
 
+  pub rows-small : Small (rowsIn bs)
+  rows-small = cut-small (atRows baseWidth bs) (rowSize baseWidth * rowCount bs) rows-cut
+
   -- ---- what is read of them
   pub same-definitions : flatOf bs .definitions ≡ definitions (definitionCount bs) (definitionsIn bs)
   unfolding definitions

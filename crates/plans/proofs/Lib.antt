@@ -9,3 +9,4 @@ pub mod AttributeIndices
 pub mod DocumentPlans
 pub mod AttributePlans
 pub mod CallsPlanned
+pub mod Instances

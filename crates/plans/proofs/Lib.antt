@@ -1,6 +1,7 @@
 pub mod Fillings
 pub mod Numbered
 pub mod TreeWalk
+pub mod FormPlanned
 pub mod Planned
 pub mod TreePlans
 pub mod FollowingLaws

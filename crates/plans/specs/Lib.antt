@@ -1,3 +1,4 @@
 pub mod Trees
+pub mod Bodies
 pub mod Following
 pub mod CallPlans

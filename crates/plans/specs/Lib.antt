@@ -1,4 +1,5 @@
 pub mod Trees
 pub mod Bodies
 pub mod Following
+pub mod Kept
 pub mod CallPlans

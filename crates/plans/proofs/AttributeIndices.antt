@@ -35,10 +35,10 @@ less-alike a b i j f g = by (ltb i j) refl
 
 -- ---- in one table
 module _ (n : Bytes) (a : Attribute) (table : List Attribute) where
-  index-here : same n (a .name) ≡ true → indexIn n (a ∷ table) ≡ 0
+  pub index-here : same n (a .name) ≡ true → indexIn n (a ∷ table) ≡ 0
   index-here q = rw (q, indexIn)
 
-  index-there : same n (a .name) ≡ false → indexIn n (a ∷ table) ≡ suc (indexIn n table)
+  pub index-there : same n (a .name) ≡ false → indexIn n (a ∷ table) ≡ suc (indexIn n table)
   index-there q = rw (q, indexIn)
 
 -- the names before n are those of lower index

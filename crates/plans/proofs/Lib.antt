@@ -7,6 +7,7 @@ pub mod TreePlans
 pub mod FollowingLaws
 pub mod ApartLaws
 pub mod AttributeIndices
+pub mod AttributeShifts
 pub mod DocumentPlans
 pub mod AttributePlans
 pub mod CallsPlanned

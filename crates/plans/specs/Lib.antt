@@ -3,3 +3,4 @@ pub mod Bodies
 pub mod Following
 pub mod Kept
 pub mod CallPlans
+pub mod AttributeCalls

@@ -6,6 +6,7 @@ pub mod Planned
 pub mod TreePlans
 pub mod FollowingLaws
 pub mod ApartLaws
+pub mod OwnedRows
 pub mod AttributeIndices
 pub mod AttributeShifts
 pub mod DocumentPlans

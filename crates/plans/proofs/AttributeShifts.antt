@@ -17,7 +17,8 @@ use Rattle.rules.specs.WellFormed.{definitionName, attributeName, lookup}
 use Rattle.rules.specs.Change.{definitionAt, nameAtIndex, update, withAttributes, lacking}
 use Rattle.rules.proofs.Apart.{differs}
 use Rattle.history.proofs.FormLaws.{definition-at, definition-found}
-use Rattle.validity.proofs.AttributeBlocks.{offset}
+use Rattle.validity.proofs.IndexLaws.{name-of}
+use Rattle.validity.proofs.AttributeBlocks.{offset, owner-index}
 use Rattle.editing.specs.declared.Shift.{Shift}
 use Rattle.editing.specs.Walk.{shifted}
 use Rattle.plans.proofs.AttributeIndices.{index-here, index-there}
@@ -85,7 +86,7 @@ index-kept e o [] n = refl
 index-kept e zero (d ∷ form) n = refl
 index-kept e (suc o) (d ∷ form) n = ap (λ (i : ℕ). elim (same n (d .name)) as (λ z. ℕ) [ true ↦ 0 | false ↦ suc i ]) (index-kept e o form n)
 
-offset-first : (form : Form) → offset 0 form ≡ 0
+pub offset-first : (form : Form) → offset 0 form ≡ 0
 offset-first [] = refl
 offset-first (d ∷ form) = refl
 
@@ -99,13 +100,13 @@ module _ (e : List Attribute → List Attribute) where
   pub data Spot (i : ℕ) (form : Form) (owner x : Bytes) (old new : ℕ) : Type 0 where
     before : old < offset i form → new ≡ old → Spot i form owner x old new
     here : nameAtIndex i form ≡ owner → old ≡ offset i form + indexIn x (definitionAt i form .attributes) → new ≡ offset i form + indexIn x (e (definitionAt i form .attributes)) → Spot i form owner x old new
-    after : (nameAtIndex i form ≡ owner → ⊥) → (k : ℕ) → old ≡ offset i form + (length (definitionAt i form .attributes) + k) → new ≡ offset i form + (length (e (definitionAt i form .attributes)) + k) → Spot i form owner x old new
+    after : (k : ℕ) → old ≡ offset i form + (length (definitionAt i form .attributes) + k) → new ≡ offset i form + (length (e (definitionAt i form .attributes)) + k) → Spot i form owner x old new
 
   spot-later : (d : Definition) (i : ℕ) (form : Form) (owner x : Bytes) (old new : ℕ) → Spot i form owner x old new
       → Spot (suc i) (d ∷ form) owner x (length (d .attributes) + old) (length (d .attributes) + new)
   spot-later d i form owner x old new (before l q) = before (omega arith) (omega arith)
   spot-later d i form owner x old new (here n p q) = here n (omega arith) (omega arith)
-  spot-later d i form owner x old new (after f k p q) = after f k (omega arith) (omega arith)
+  spot-later d i form owner x old new (after k p q) = after k (omega arith) (omega arith)
 
   pub spot : (i : ℕ) (form : Form) → i < length form → (owner : Bytes) (d : Definition) → lookup owner form ≡ some d → (x : Bytes) → List·Memᴰ x (map attributeName (d .attributes))
       → Spot i form owner x (attributeIndex owner x form) (attributeIndex owner x (update i (withAttributes e) form))
@@ -114,7 +115,7 @@ module _ (e : List Attribute → List Attribute) where
     where
       by : (b : Bool) → same owner (c .name) ≡ b → Spot zero (c ∷ form) owner x (attributeIndex owner x (c ∷ form)) (attributeIndex owner x (withAttributes e c ∷ form))
       by true q = here (sym (same-eq owner (c .name) q)) (rw (q, attributeIndex) (omega arith)) (rw (q, attributeIndex) (omega arith))
-      by false q = after (λ z. false≢true (sym q ∙ bytes .same← owner (c .name) (sym z))) (attributeIndex owner x form) (rw (q, attributeIndex) (omega arith)) (rw (q, attributeIndex) (omega arith))
+      by false q = after (attributeIndex owner x form) (rw (q, attributeIndex) (omega arith)) (rw (q, attributeIndex) (omega arith))
   spot (suc i) (c ∷ form) l owner d f x m = by (same owner (c .name)) refl (λ g. spot i form (omega arith) owner d g x m)
     where
       by : (b : Bool) → same owner (c .name) ≡ b → (lookup owner form ≡ some d → Spot i form owner x (attributeIndex owner x form) (attributeIndex owner x (update i (withAttributes e) form)))
@@ -147,6 +148,9 @@ module _ (i : ℕ) (form : Form) (once : Distinct (map definitionName form)) (be
   abbrev table : List Attribute
   table = definitionAt i form .attributes
 
+  pub own-at : (x : Bytes) → attributeIndex (nameAtIndex i form) x form ≡ offset i form + indexIn x (definitionAt i form .attributes)
+  own-at x = ap (λ (m : Bytes). attributeIndex m x form) (sym (name-of form i below)) ∙ owner-index form once i x below
+
   -- the attributes of the definition that has the name
   own-table : (owner : Bytes) (d : Definition) → lookup owner form ≡ some d → nameAtIndex i form ≡ owner → definitionAt i form ≡ d
   own-table owner d f n =
@@ -161,12 +165,9 @@ module _ (i : ℕ) (form : Form) (once : Distinct (map definitionName form)) (be
     in-table n = subst (λ (c : Definition). List·Memᴰ x (map attributeName (c .attributes))) (sym (own-table owner d found n)) there
 
     pub own-lower : nameAtIndex i form ≡ owner → old < offset (suc i) form
-    own-lower n = by (spot (λ t. t) i form below owner d found x there)
-      where
-        by : Spot (λ t. t) i form owner x old (attributeIndex owner x (update i (withAttributes (λ t. t)) form)) → old < offset (suc i) form
-        by (before l q) = omega (arith, offset-next i form)
-        by (here m p q) = omega (arith, offset-next i form, index-inside x table (in-table n))
-        by (after f k p q) = absurd (f n)
+    own-lower n =
+        let z : old ≡ offset i form + indexIn x table = ap (λ (m : Bytes). attributeIndex m x form) (sym n) ∙ own-at x in
+        omega (arith, offset-next i form, index-inside x table (in-table n))
 
     -- an attribute added to definition i
     pub added-shift : (a : Attribute) → shifted (record { from = offset (suc i) form; more = 1; less = 0 }) old ≡ attributeIndex owner x (update i (withAttributes (λ t. t ++ a ∷ [])) form)
@@ -181,7 +182,7 @@ module _ (i : ℕ) (form : Form) (once : Distinct (map definitionName form)) (be
         by : Spot (λ t. t ++ a ∷ []) i form owner x old new → shifted s old ≡ new
         by (before l q) = shifted-before s old (omega (arith, offset-next i form)) ∙ sym q
         by (here n p q) = shifted-before s old (own-lower n) ∙ omega (arith, index-longer x table (a ∷ []) (in-table n))
-        by (after f k p q) = shifted-from s old (omega (arith, offset-next i form)) ∙ omega (arith, length-append table (a ∷ []))
+        by (after k p q) = shifted-from s old (omega (arith, offset-next i form)) ∙ omega (arith, length-append table (a ∷ []))
 
     -- attribute n of definition i taken out
     pub dropped-shift : (n : Bytes) (a : ℕ) → List·Memᴰ n (map attributeName table) → a ≡ offset i form + indexIn n table → (nameAtIndex i form ≡ owner → x ≡ n → ⊥)
@@ -198,4 +199,4 @@ module _ (i : ℕ) (form : Form) (once : Distinct (map definitionName form)) (be
         by (before l q) = shifted-before s old (omega arith) ∙ sym q
         by (here z p q) =
             ⊎-elim (λ (l, e). shifted-before s old (omega arith) ∙ omega arith) (λ (l, e). shifted-from s old (omega arith) ∙ omega arith) (lacking-index n x table m (other z))
-        by (after f k p q) = shifted-from s old (omega (arith, index-inside n table m)) ∙ omega (arith, lacking-length n table m)
+        by (after k p q) = shifted-from s old (omega (arith, index-inside n table m)) ∙ omega (arith, lacking-length n table m)

@@ -9,6 +9,7 @@ pub mod ApartLaws
 pub mod OwnedRows
 pub mod AttributeIndices
 pub mod AttributeShifts
+pub mod AttributeBodies
 pub mod DocumentPlans
 pub mod AttributePlans
 pub mod CallsPlanned

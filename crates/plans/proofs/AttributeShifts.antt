@@ -44,7 +44,7 @@ index-longer x (a ∷ table) more m = by (same x (a .name)) refl (index-longer x
     by false q f = rw (q, indexIn) (ap suc (f (⊎-elim (λ e. absurd (false≢true (sym q ∙ bytes .same← x (a .name) e))) (λ i. i) (List·Memᴰ·cases-cons m))))
 
 -- a name that is not there comes after it
-index-new : (x : Bytes) (table : List Attribute) (a : Attribute) → (List·Memᴰ x (map attributeName table) → ⊥) → x ≡ a .name → indexIn x (table ++ a ∷ []) ≡ length table
+pub index-new : (x : Bytes) (table : List Attribute) (a : Attribute) → (List·Memᴰ x (map attributeName table) → ⊥) → x ≡ a .name → indexIn x (table ++ a ∷ []) ≡ length table
 index-new x [] a f e = index-here x a [] (bytes .same← x (a .name) e)
 index-new x (b ∷ table) a f e = index-there x b (table ++ a ∷ []) (differs bytes x (b .name) (λ q. f (List·Memᴰ·head q))) ∙ ap suc (index-new x table a (λ m. f (List·Memᴰ·tail m)) e)
 

@@ -14,3 +14,4 @@ pub mod DocumentPlans
 pub mod AttributePlans
 pub mod CallsPlanned
 pub mod Instances
+pub mod AttributeCallsPlanned

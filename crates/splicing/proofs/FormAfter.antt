@@ -126,11 +126,11 @@ form-after s o p e f l c at =
     let alike : (n : Bytes) → indexOf n new ≡ indexOf n form = index-kept (editAt e p) o form in
     let become : flatten 0 (particles form (editAt e p ms)) ≡ named = ap (λ (x : Option (Found Bytes)). flatten 0 (particles form (editFound e ms x))) at ∙ spread-named form 0 (modelAfter e f) in
     let ds : map (flatDefinition new) new ≡ counted o (length named) (map (flatDefinition form) form) =
-        definitions-alike new form alike new ∙ definitions-counted form (editAt e p) o form ms c ∙ ap (λ (x : Particles). counted o (length x) (map (flatDefinition form) form)) become in
+    definitions-alike new form alike new ∙ definitions-counted form (editAt e p) o form ms c ∙ ap (λ (x : Particles). counted o (length x) (map (flatDefinition form) form)) become in
     let ps : allParticles new new ≡ spliced (startOf o (map (flatDefinition form) form)) (countOf o (map (flatDefinition form) form)) named (allParticles form form) =
-        all-alike new form alike new
-        ∙ particles-spliced form (editAt e p) o form ms l c
-        ∙ ap (λ (x : Particles). spliced (startOf o (map (flatDefinition form) form)) (countOf o (map (flatDefinition form) form)) x (allParticles form form)) become in
+    all-alike new form alike new
+    ∙ particles-spliced form (editAt e p) o form ms l c
+    ∙ ap (λ (x : Particles). spliced (startOf o (map (flatDefinition form) form)) (countOf o (map (flatDefinition form) form)) x (allParticles form form)) become in
     λ i. record {
       version = s .version;
       next = s .next;

@@ -1,1 +1,4 @@
 pub mod FormAfter
+pub mod TailAfter
+pub mod HeadAfter
+pub mod PartAfter

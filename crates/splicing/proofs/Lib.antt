@@ -2,3 +2,4 @@ pub mod FormAfter
 pub mod TailAfter
 pub mod HeadAfter
 pub mod PartAfter
+pub mod WritingLaws

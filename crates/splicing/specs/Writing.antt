@@ -1,0 +1,35 @@
+-- The edit of the code, and what its writers ask for.
+-- Assumes nothing.
+use Prim.Native.Nat.{ℕ, suc, _-_, _%_}
+use mathlib.Core.Path.{_≡_}
+use mathlib.Core.Bool.{Bool, true, false}
+use lib.ListN.{length}
+use Rattle.rules.specs.Bytes.{Bytes}
+use Rattle.rules.specs.Edit.{Edit, insert, remove, quantify, convert, flatten}
+use Rattle.rules.proofs.BooleanLaws.{Every}
+use Rattle.rules.proofs.LayoutLaws.{SmallParticle}
+use Rattle.model.specs.Places.{Particles}
+use Rattle.splicing.specs.declared.Edit.{Edit as EditCode}
+use Rattle.splicing.specs.declared.Edit.the-variants.{Insert, Remove, Quantify, Convert, Flatten}
+use Rattle.splicing.specs.PartAfter.{lower}
+
+abbrev pub editOf : EditCode → Edit ℕ
+editOf (Insert q i) = insert q i
+editOf Remove = remove
+editOf (Quantify q) = quantify q
+editOf (Convert k n) = convert k n
+editOf Flatten = flatten
+
+-- one deeper, or one less deep
+abbrev pub shift : Bool → ℕ → ℕ
+shift true n = suc n
+shift false n = lower n
+
+-- how many of n members are left to pass after a particle; inner: it is no member itself
+abbrev pub passing : Bool → ℕ → ℕ
+passing true n = n
+passing false n = n - 1
+
+-- all numbers of these particles are bytes
+unfoldable pub Fitting : Particles → Type 0
+Fitting xs = Every SmallParticle xs

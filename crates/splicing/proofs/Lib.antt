@@ -3,3 +3,4 @@ pub mod TailAfter
 pub mod HeadAfter
 pub mod PartAfter
 pub mod WritingLaws
+pub mod TailWriting

@@ -1,6 +1,6 @@
 -- The edit of the code, and what its writers ask for.
 -- Assumes nothing.
-use Prim.Native.Nat.{ℕ, suc, _-_, _%_}
+use Prim.Native.Nat.{ℕ, suc, _+_, _-_, _%_, _<_}
 use mathlib.Core.Path.{_≡_}
 use mathlib.Core.Bool.{Bool, true, false}
 use lib.ListN.{length}
@@ -8,10 +8,11 @@ use Rattle.rules.specs.Bytes.{Bytes}
 use Rattle.rules.specs.Edit.{Edit, insert, remove, quantify, convert, flatten}
 use Rattle.rules.proofs.BooleanLaws.{Every}
 use Rattle.rules.proofs.LayoutLaws.{SmallParticle}
+use Rattle.model.specs.Members.{particlesOf}
 use Rattle.model.specs.Places.{Particles}
 use Rattle.splicing.specs.declared.Edit.{Edit as EditCode}
 use Rattle.splicing.specs.declared.Edit.the-variants.{Insert, Remove, Quantify, Convert, Flatten}
-use Rattle.splicing.specs.PartAfter.{lower}
+use Rattle.splicing.specs.PartAfter.{lower, tailAfter}
 
 abbrev pub editOf : EditCode → Edit ℕ
 editOf (Insert q i) = insert q i
@@ -33,3 +34,9 @@ passing false n = n - 1
 -- all numbers of these particles are bytes
 unfoldable pub Fitting : Particles → Type 0
 Fitting xs = Every SmallParticle xs
+
+-- the particles ys after an edit can be written from `at` on
+pub record Tail (e : Edit ℕ) (d : ℕ) (ys : Bytes) (at : ℕ) : Type 0 where
+  pub whole : length ys % 4 ≡ 0
+  pub room : at + length ys < 4611686018427387904
+  pub fitting : Fitting (tailAfter e d (particlesOf ys))

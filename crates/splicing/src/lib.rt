@@ -6,11 +6,12 @@ ghost use mathlib.Core.List.{[], _∷_};
 ghost use Prim.Native.Nat.{_+_, _*_, _%_, _<_, _≤_};
 ghost use lib.ListN.{length, take, drop, getD};
 ghost use Rattle.rules.specs.Layout.{each, particleBytes, quantifierCode, groupCode};
+ghost use Rattle.rules.specs.Edit.{insert, quantify, convert};
 ghost use Rattle.rules.specs.Decode.{readParticle};
 ghost use Rattle.codec.specs.Laid.{Laid};
 ghost use Rattle.model.specs.Members.{particlesOf};
-ghost use Rattle.splicing.specs.Writing.{editOf, shift, passing, Fitting};
-ghost use Rattle.splicing.specs.PartAfter.{redeep, moved};
+ghost use Rattle.splicing.specs.Writing.{editOf, shift, passing, Fitting, Tail};
+ghost use Rattle.splicing.specs.PartAfter.{redeep, moved, tailAfter};
 
 /// An edit of a model at a place, elements by their definitions' indices.
 pub enum Edit {
@@ -101,4 +102,57 @@ fn put_moved(s: &[u8], d: usize, n: usize, deeper: bool, out: &mut [u8], start: 
         t = &t[4..];
     }
     at
+}
+
+// ---- from the place on: the particles ys become those after the edit, where d is the depth there
+
+fn group_code(kind: GroupKind) -> u8
+    ensures { λ r. ⌜ r ≡ groupCode kind ⌝ }
+{
+    match kind {
+        GroupKind::Sequence => 1,
+        GroupKind::Choice => 2,
+    }
+}
+
+fn put_inserted(ys: &[u8], q: Quantifier, index: usize, d: usize, out: &mut [u8], at: usize) -> usize
+    requires { ⌜ Tail (insert q index) d (now ys) at ⌝ }
+    ensures { λ r. ⌜ Laid (each particleBytes (tailAfter (insert q index) d (particlesOf (now (ys .entry))))) (now (out .entry)) at r (now (out .exit)) ⌝ }
+{
+    let code = model::quantifier_code(q) as u8;
+    let next = put_particle(0, code, index as u8, d as u8, out, at);
+    codec::put(ys, out, next)
+}
+
+fn put_requantified(ys: &[u8], q: Quantifier, d: usize, out: &mut [u8], at: usize) -> usize
+    requires { ⌜ Tail (quantify q) d (now ys) at ⌝ }
+    ensures { λ r. ⌜ Laid (each particleBytes (tailAfter (quantify q) d (particlesOf (now (ys .entry))))) (now (out .entry)) at r (now (out .exit)) ⌝ }
+{
+    if ys.len() < 4 {
+        return at;
+    }
+    let code = model::quantifier_code(q) as u8;
+    let next = put_particle(codec::byte(ys, 0), code, codec::byte(ys, 2), codec::byte(ys, 3), out, at);
+    codec::put(past(ys, 1), out, next)
+}
+
+fn put_grouped(ys: &[u8], kind: GroupKind, n: usize, d: usize, out: &mut [u8], at: usize) -> usize
+    requires { ⌜ Tail (convert kind n) d (now ys) at ⌝ }
+    ensures { λ r. ⌜ Laid (each particleBytes (tailAfter (convert kind n) d (particlesOf (now (ys .entry))))) (now (out .entry)) at r (now (out .exit)) ⌝ }
+{
+    let next = put_particle(group_code(kind), 0, n as u8, d as u8, out, at);
+    put_moved(ys, d, n, true, out, next)
+}
+
+fn put_tail(ys: &[u8], edit: Edit, d: usize, out: &mut [u8], at: usize) -> usize
+    requires { ⌜ Tail (editOf edit) d (now ys) at ⌝ }
+    ensures { λ r. ⌜ Laid (each particleBytes (tailAfter (editOf edit) d (particlesOf (now (ys .entry))))) (now (out .entry)) at r (now (out .exit)) ⌝ }
+{
+    match edit {
+        Edit::Insert(q, index) => put_inserted(ys, q, index, d, out, at),
+        Edit::Remove => codec::put(past(ys, 1), out, at),
+        Edit::Quantify(q) => put_requantified(ys, q, d, out, at),
+        Edit::Convert(kind, n) => put_grouped(ys, kind, n, d, out, at),
+        Edit::Flatten => put_moved(past(ys, 1), d, 0, false, out, at),
+    }
 }

@@ -99,7 +99,7 @@ module _ (g : ℕ → ℕ) where
       let y : 0 + b ≡ b = omega arith in
       ap g z ∙ e ∙ y
 
-  recounted-none : (xs : Particles) → recounted g 0 xs ≡ xs
+  pub recounted-none : (xs : Particles) → recounted g 0 xs ≡ xs
   unfolding recounted
   recounted-none [] = refl
   recounted-none (x ∷ xs) = refl

@@ -4,3 +4,4 @@ pub mod HeadAfter
 pub mod PartAfter
 pub mod WritingLaws
 pub mod TailWriting
+pub mod HeadWriting

@@ -1,18 +1,19 @@
 -- The edit of the code, and what its writers ask for.
 -- Assumes nothing.
-use Prim.Native.Nat.{ℕ, suc, _+_, _-_, _%_, _<_}
+use Prim.Native.Nat.{ℕ, suc, _+_, _-_, _*_, _%_, _<_, _≤_}
 use mathlib.Core.Path.{_≡_}
 use mathlib.Core.Bool.{Bool, true, false}
-use lib.ListN.{length}
+use lib.ListN.{length, take, drop}
 use Rattle.rules.specs.Bytes.{Bytes}
 use Rattle.rules.specs.Edit.{Edit, insert, remove, quantify, convert, flatten}
 use Rattle.rules.proofs.BooleanLaws.{Every}
 use Rattle.rules.proofs.LayoutLaws.{SmallParticle}
+use Rattle.model.specs.declared.place.Holder.{Holder}
 use Rattle.model.specs.Members.{particlesOf}
 use Rattle.model.specs.Places.{Particles}
 use Rattle.splicing.specs.declared.Edit.{Edit as EditCode}
 use Rattle.splicing.specs.declared.Edit.the-variants.{Insert, Remove, Quantify, Convert, Flatten}
-use Rattle.splicing.specs.PartAfter.{lower, tailAfter}
+use Rattle.splicing.specs.PartAfter.{lower, tailAfter, countAfter, recounted, partAfter}
 
 abbrev pub editOf : EditCode → Edit ℕ
 editOf (Insert q i) = insert q i
@@ -40,3 +41,19 @@ pub record Tail (e : Edit ℕ) (d : ℕ) (ys : Bytes) (at : ℕ) : Type 0 where
   pub whole : length ys % 4 ≡ 0
   pub room : at + length ys < 4611686018427387904
   pub fitting : Fitting (tailAfter e d (particlesOf ys))
+
+-- the first n particles after an edit can be written from `at` on, where the members of the list start at particle `first`
+pub record Head (e : Edit ℕ) (first n : ℕ) (part : Bytes) (at : ℕ) : Type 0 where
+  pub whole : length part % 4 ≡ 0
+  pub room : at + length part < 4611686018427387904
+  pub after : first ≤ n
+  pub inside : 4 * n ≤ length part
+  pub fitting : Fitting (recounted (countAfter e (drop n (particlesOf part))) first (take n (particlesOf part)))
+
+-- a part after an edit at particle n, in the list h
+pub record Part (e : Edit ℕ) (h : Holder) (n : ℕ) (part : Bytes) (at : ℕ) : Type 0 where
+  pub whole : length part % 4 ≡ 0
+  pub room : at + 2 * length part < 4611686018427387904
+  pub after : h .start ≤ n
+  pub inside : 4 * n ≤ length part
+  pub fitting : Fitting (partAfter e h n (particlesOf part))

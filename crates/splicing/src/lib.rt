@@ -3,15 +3,15 @@ use rules::GroupKind;
 use rules::Quantifier;
 ghost use mathlib.Core.Path.{_≡_};
 ghost use mathlib.Core.List.{[], _∷_};
-ghost use Prim.Native.Nat.{_+_, _*_, _%_, _<_, _≤_};
+ghost use Prim.Native.Nat.{_+_, _-_, _*_, _%_, _<_, _≤_};
 ghost use lib.ListN.{length, take, drop, getD};
 ghost use Rattle.rules.specs.Layout.{each, particleBytes, quantifierCode, groupCode};
 ghost use Rattle.rules.specs.Edit.{insert, quantify, convert};
 ghost use Rattle.rules.specs.Decode.{readParticle};
 ghost use Rattle.codec.specs.Laid.{Laid};
 ghost use Rattle.model.specs.Members.{particlesOf};
-ghost use Rattle.splicing.specs.Writing.{editOf, shift, passing, Fitting, Tail};
-ghost use Rattle.splicing.specs.PartAfter.{redeep, moved, tailAfter};
+ghost use Rattle.splicing.specs.Writing.{editOf, shift, passing, Fitting, Tail, Head, Part};
+ghost use Rattle.splicing.specs.PartAfter.{redeep, recount, moved, tailAfter, countAfter, recounted, partAfter};
 
 /// An edit of a model at a place, elements by their definitions' indices.
 pub enum Edit {
@@ -36,7 +36,7 @@ fn put_particle(sort: u8, quantifier: u8, index: u8, depth: u8, out: &mut [u8], 
 
 // All but the first n particles.
 fn past(s: &[u8], n: usize) -> &[u8]
-    requires { ⌜ n < 4294967296 ⌝ }
+    requires { ⌜ n < 4611686018427387904 ⌝ }
     ensures { λ r. ⌜ now r ≡ drop (4 * n) (now (s .entry)) ⌝ }
 {
     rowpass::cut(s, 4 * n, s.len())
@@ -155,4 +155,64 @@ fn put_tail(ys: &[u8], edit: Edit, d: usize, out: &mut [u8], at: usize) -> usize
         Edit::Convert(kind, n) => put_grouped(ys, kind, n, d, out, at),
         Edit::Flatten => put_moved(past(ys, 1), d, 0, false, out, at),
     }
+}
+
+// ---- before the place
+
+fn less(a: usize, b: usize) -> usize
+    ensures { λ r. ⌜ r ≡ a - b ⌝ }
+{
+    if a < b {
+        return 0;
+    }
+    a - b
+}
+
+// How many members the list around the place has after the edit, of n before; ys: the particles from the place on.
+fn count_after(ys: &[u8], edit: Edit, n: usize) -> usize
+    requires { ⌜ (length (now ys) % 4 ≡ 0) × (n < 256) ⌝ }
+    ensures { λ r. ⌜ r ≡ countAfter (editOf edit) (particlesOf (now (ys .entry))) n ⌝ }
+{
+    match edit {
+        Edit::Insert(_, _) => n + 1,
+        Edit::Remove => less(n, 1),
+        Edit::Quantify(_) => n,
+        Edit::Convert(_, m) => less(n + 1, m),
+        Edit::Flatten => less(n + codec::byte(ys, 2) as usize, 1),
+    }
+}
+
+// The particle x of a group, with its member count after the edit.
+fn put_recounted(x: &[u8], ys: &[u8], edit: Edit, out: &mut [u8], at: usize) -> usize
+    requires { ⌜ (length (now ys) % 4 ≡ 0) × (countAfter (editOf edit) (particlesOf (now ys)) (getD (now x) 2 0) < 256) × (at < 4611686018427387904) ⌝ }
+    ensures { λ r. ⌜ Laid (particleBytes (recount (countAfter (editOf edit) (particlesOf (now (ys .entry)))) (readParticle (now (x .entry))))) (now (out .entry)) at r (now (out .exit)) ⌝ }
+{
+    let count = count_after(ys, edit, codec::byte(x, 2) as usize);
+    put_particle(codec::byte(x, 0), codec::byte(x, 1), count as u8, codec::byte(x, 3), out, at)
+}
+
+// The first n particles, where the members of the list start at particle `first`.
+fn put_head(part: &[u8], edit: Edit, first: usize, n: usize, out: &mut [u8], at: usize) -> usize
+    requires { ⌜ Head (editOf edit) first n (now part) at ⌝ }
+    ensures { λ r. ⌜ Laid (each particleBytes (recounted (countAfter (editOf edit) (drop n (particlesOf (now (part .entry))))) first (take n (particlesOf (now (part .entry)))))) (now (out .entry)) at r (now (out .exit)) ⌝ }
+{
+    if first == 0 {
+        return codec::put(rowpass::cut(part, 0, 4 * n), out, at);
+    }
+    let held = 4 * (first - 1);
+    let next = codec::put(rowpass::cut(part, 0, held), out, at);
+    let group = rowpass::cut(part, held, 4);
+    let inner = put_recounted(group, past(part, n), edit, out, next);
+    codec::put(rowpass::cut(part, held + 4, 4 * n - 4 * first), out, inner)
+}
+
+// ---- the whole part
+
+/// Writes the particles of a model after an edit at particle n, in the list `holder`, from those before it.
+pub fn put_part(part: &[u8], edit: Edit, holder: model::place::Holder, n: usize, out: &mut [u8], at: usize) -> usize
+    requires { ⌜ Part (editOf edit) holder n (now part) at ⌝ }
+    ensures { λ r. ⌜ Laid (each particleBytes (partAfter (editOf edit) holder n (particlesOf (now (part .entry))))) (now (out .entry)) at r (now (out .exit)) ⌝ }
+{
+    let next = put_head(part, edit, holder.start, n, out, at);
+    put_tail(past(part, n), edit, holder.depth, out, next)
 }

@@ -76,7 +76,7 @@ recounted-at g (suc s) (suc n) (x ∷ xs) l h =
     let z : n - suc s ≡ suc n - suc (suc s) = omega arith in
     ap (λ (r : Particles). x ∷ r) (recounted-at g s n xs (omega arith) (omega arith)) ∙ ap (λ (k : ℕ). x ∷ (take s xs ++ (recount g (getD xs s noParticle) ∷ take k (drop (suc s) xs)))) z
 
-length-recounted : (g : ℕ → ℕ) (s : ℕ) (xs : Particles) → length (recounted g s xs) ≡ length xs
+pub length-recounted : (g : ℕ → ℕ) (s : ℕ) (xs : Particles) → length (recounted g s xs) ≡ length xs
 unfolding recounted
 length-recounted g s [] = refl
 length-recounted g zero (x ∷ xs) = refl
@@ -100,7 +100,7 @@ length-cut s r k n e = omega (arith, ap (λ (z : Bytes). length z) e, length-tak
 pub length-part : (part : Bytes) → length part % 4 ≡ 0 → length part ≡ 4 * length (particlesOf part)
 length-part part h = sym (ap length (whole part h)) ∙ length-bytes (particlesOf part)
 
-take-bytes : (n : ℕ) (part : Bytes) → length part % 4 ≡ 0 → each particleBytes (take n (particlesOf part)) ≡ take (4 * n) part
+pub take-bytes : (n : ℕ) (part : Bytes) → length part % 4 ≡ 0 → each particleBytes (take n (particlesOf part)) ≡ take (4 * n) part
 take-bytes n part h = sym (each-take n (particlesOf part)) ∙ ap (take (4 * n)) (whole part h)
 
 module _ {e : Edit ℕ} {first n : ℕ} {part : Bytes} {at : ℕ} (v : Head e first n part at) where
@@ -133,9 +133,9 @@ module _ {e : Edit ℕ} {first n : ℕ} {part : Bytes} {at : ℕ} (v : Head e fi
       let p : 4 * first ≡ 4 * (first - 1) + 4 = omega arith in
       let q : 4 * (n - first) ≡ 4 * n - 4 * first = omega (arith, v .after) in
       let back : each particleBytes (take (n - first) (drop first (particlesOf part))) ≡ take (4 * n - 4 * first) (drop (4 * (first - 1) + 4) part) =
-          sym (each-take (n - first) (drop first (particlesOf part)))
-          ∙ ap (take (4 * (n - first))) (sym (each-drop first (particlesOf part)) ∙ ap (drop (4 * first)) (whole part (v .whole)))
-          ∙ (λ i. take (q i) (drop (p i) part)) in
+      sym (each-take (n - first) (drop first (particlesOf part)))
+      ∙ ap (take (4 * (n - first))) (sym (each-drop first (particlesOf part)) ∙ ap (drop (4 * first)) (whole part (v .whole)))
+      ∙ (λ i. take (q i) (drop (p i) part)) in
       ap (each particleBytes) (head-is l)
       ∙ each-append (take (first - 1) (particlesOf part)) (x ∷ take (n - first) (drop first (particlesOf part)))
       ∙ ap₂ (λ (s t : Bytes). s ++ (particleBytes x ++ t)) (take-bytes (first - 1) part (v .whole)) back
@@ -152,33 +152,34 @@ module _ {e : Edit ℕ} {first n : ℕ} {part : Bytes} {at : ℕ} (v : Head e fi
     same-count = ap (λ (s : Bytes). countAfter e (particlesOf s)) q ∙ ap (countAfter e) (particles-past n part)
 
     pub head-fits : (length ys % 4 ≡ 0) × (countAfter e (particlesOf ys) (getD x 2 0) < 256)
-    head-fits =
-        (omega (arith, v .whole, v .inside, ap (λ (s : Bytes). length s) q, length-drop (4 * n) part),
-        subst (λ (k : ℕ). k < 256) (sym (λ i. same-count i (getD (p i) 2 0))) (head-count l))
+    head-fits = (
+      omega (arith, v .whole, v .inside, ap (λ (s : Bytes). length s) q, length-drop (4 * n) part),
+      subst (λ (k : ℕ). k < 256) (sym (λ i. same-count i (getD (p i) 2 0))) (head-count l),
+    )
 
     pub head-group : particleBytes (recount newCount (readParticle (take 4 (drop (4 * (first - 1)) part)))) ≡ particleBytes (recount (countAfter e (particlesOf ys)) (readParticle x))
     head-group = λ i. particleBytes (recount (sym same-count i) (readParticle (sym p i)))
 
 -- ---- the whole part
-module _ {e : Edit ℕ} {h : Holder} {n : ℕ} {part : Bytes} {at : ℕ} (v : Part e h n part at) where
-  pub part-head : Head e (h .start) n part at
+module _ {e : Edit ℕ} {h : Holder} {n : ℕ} {part : Bytes} (v : Part e h n part) where
+  pub part-head : {at : ℕ} → at + 2 * length part < 4611686018427387904 → Head e (h .start) n part at
   unfolding partAfter Fitting
-  part-head =
+  part-head few =
       record {
         whole = v .whole;
-        room = omega (arith, v .room);
+        room = omega (arith, few);
         after = v .after;
         inside = v .inside;
         fitting = every-front SmallParticle (recounted (countAfter e (drop n (particlesOf part))) (h .start) (take n (particlesOf part))) _ (v .fitting);
       }
 
-  pub part-tail : {out : Bytes} {r : ℕ} {out′ : Bytes} → Laid (each particleBytes (recounted (countAfter e (drop n (particlesOf part))) (h .start) (take n (particlesOf part)))) out at r out′
+  pub part-tail : {at : ℕ} → at + 2 * length part < 4611686018427387904 → {out : Bytes} {r : ℕ} {out′ : Bytes} → Laid (each particleBytes (recounted (countAfter e (drop n (particlesOf part))) (h .start) (take n (particlesOf part)))) out at r out′
       → Tail e (h .depth) (drop (4 * n) part) r
   unfolding partAfter Fitting
-  part-tail x =
+  part-tail few x =
       record {
         whole = omega (arith, v .whole, v .inside, length-drop (4 * n) part);
-        room = omega (arith, v .room, x .next, length-drop (4 * n) part, length-bytes front, length-recounted g (h .start) (take n (particlesOf part)), length-take n (particlesOf part), length-part part (v .whole));
+        room = omega (arith, few, x .next, length-drop (4 * n) part, length-bytes front, length-recounted g (h .start) (take n (particlesOf part)), length-take n (particlesOf part), length-part part (v .whole));
         fitting = rw (particles-past n part) (every-back SmallParticle front _ (v .fitting));
       }
     where

@@ -5,3 +5,4 @@ pub mod PartAfter
 pub mod WritingLaws
 pub mod TailWriting
 pub mod HeadWriting
+pub mod BodyWriting

@@ -91,3 +91,11 @@ recounted g (suc (suc s)) (x ∷ xs) = x ∷ recounted g (suc s) xs
 -- ---- the whole part
 unfoldable pub partAfter : Edit ℕ → Holder → ℕ → Particles → Particles
 partAfter e h at xs = recounted (countAfter e (drop at xs)) (h .start) (take at xs) ++ tailAfter e (h .depth) (drop at xs)
+
+-- how many particles there are then, of n
+abbrev pub lengthAfter : Edit ℕ → ℕ → ℕ
+lengthAfter (insert q i) n = suc n
+lengthAfter remove n = n - 1
+lengthAfter (quantify r) n = n
+lengthAfter (convert j m) n = suc n
+lengthAfter flatten n = n - 1

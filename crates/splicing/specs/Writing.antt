@@ -51,9 +51,18 @@ pub record Head (e : Edit ℕ) (first n : ℕ) (part : Bytes) (at : ℕ) : Type 
   pub fitting : Fitting (recounted (countAfter e (drop n (particlesOf part))) first (take n (particlesOf part)))
 
 -- a part after an edit at particle n, in the list h
-pub record Part (e : Edit ℕ) (h : Holder) (n : ℕ) (part : Bytes) (at : ℕ) : Type 0 where
+pub record Part (e : Edit ℕ) (h : Holder) (n : ℕ) (part : Bytes) : Type 0 where
   pub whole : length part % 4 ≡ 0
-  pub room : at + 2 * length part < 4611686018427387904
   pub after : h .start ≤ n
   pub inside : 4 * n ≤ length part
   pub fitting : Fitting (partAfter e h n (particlesOf part))
+
+-- the bytes of k particles from number `first` on
+abbrev pub partIn : ℕ → ℕ → Bytes → Bytes
+partIn first k parts = take (4 * k) (drop (4 * first) parts)
+
+-- .. which are an edit's part
+pub record Body (e : Edit ℕ) (h : Holder) (n first k : ℕ) (parts : Bytes) : Type 0 where
+  pub whole : length parts % 4 ≡ 0
+  pub inside : 4 * (first + k) ≤ length parts
+  pub part : Part e h n (partIn first k parts)

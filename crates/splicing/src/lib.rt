@@ -10,7 +10,8 @@ ghost use Rattle.rules.specs.Edit.{insert, quantify, convert};
 ghost use Rattle.rules.specs.Decode.{readParticle};
 ghost use Rattle.codec.specs.Laid.{Laid};
 ghost use Rattle.model.specs.Members.{particlesOf};
-ghost use Rattle.splicing.specs.Writing.{editOf, shift, passing, Fitting, Tail, Head, Part};
+ghost use Rattle.splicing.specs.Writing.{editOf, shift, passing, Fitting, Tail, Head, Part, partIn, Body};
+ghost use Rattle.splicing.specs.Spliced.{spliced};
 ghost use Rattle.splicing.specs.PartAfter.{redeep, recount, moved, tailAfter, countAfter, recounted, partAfter};
 
 /// An edit of a model at a place, elements by their definitions' indices.
@@ -115,7 +116,14 @@ fn group_code(kind: GroupKind) -> u8
     }
 }
 
-fn put_inserted(ys: &[u8], q: Quantifier, index: usize, d: usize, out: &mut [u8], at: usize) -> usize
+fn put_inserted(
+    ys: &[u8],
+    q: Quantifier,
+    index: usize,
+    d: usize,
+    out: &mut [u8],
+    at: usize,
+) -> usize
     requires { ⌜ Tail (insert q index) d (now ys) at ⌝ }
     ensures { λ r. ⌜ Laid (each particleBytes (tailAfter (insert q index) d (particlesOf (now (ys .entry))))) (now (out .entry)) at r (now (out .exit)) ⌝ }
 {
@@ -132,7 +140,14 @@ fn put_requantified(ys: &[u8], q: Quantifier, d: usize, out: &mut [u8], at: usiz
         return at;
     }
     let code = model::quantifier_code(q) as u8;
-    let next = put_particle(codec::byte(ys, 0), code, codec::byte(ys, 2), codec::byte(ys, 3), out, at);
+    let next = put_particle(
+        codec::byte(ys, 0),
+        code,
+        codec::byte(ys, 2),
+        codec::byte(ys, 3),
+        out,
+        at,
+    );
     codec::put(past(ys, 1), out, next)
 }
 
@@ -188,7 +203,14 @@ fn put_recounted(x: &[u8], ys: &[u8], edit: Edit, out: &mut [u8], at: usize) -> 
     ensures { λ r. ⌜ Laid (particleBytes (recount (countAfter (editOf edit) (particlesOf (now (ys .entry)))) (readParticle (now (x .entry))))) (now (out .entry)) at r (now (out .exit)) ⌝ }
 {
     let count = count_after(ys, edit, codec::byte(x, 2) as usize);
-    put_particle(codec::byte(x, 0), codec::byte(x, 1), count as u8, codec::byte(x, 3), out, at)
+    put_particle(
+        codec::byte(x, 0),
+        codec::byte(x, 1),
+        count as u8,
+        codec::byte(x, 3),
+        out,
+        at,
+    )
 }
 
 // The first n particles, where the members of the list start at particle `first`.
@@ -209,10 +231,37 @@ fn put_head(part: &[u8], edit: Edit, first: usize, n: usize, out: &mut [u8], at:
 // ---- the whole part
 
 /// Writes the particles of a model after an edit at particle n, in the list `holder`, from those before it.
-pub fn put_part(part: &[u8], edit: Edit, holder: model::place::Holder, n: usize, out: &mut [u8], at: usize) -> usize
-    requires { ⌜ Part (editOf edit) holder n (now part) at ⌝ }
+pub fn put_part(
+    part: &[u8],
+    edit: Edit,
+    holder: model::place::Holder,
+    n: usize,
+    out: &mut [u8],
+    at: usize,
+) -> usize
+    requires { ⌜ Part (editOf edit) holder n (now part) × (at + 2 * length (now part) < 4611686018427387904) ⌝ }
     ensures { λ r. ⌜ Laid (each particleBytes (partAfter (editOf edit) holder n (particlesOf (now (part .entry))))) (now (out .entry)) at r (now (out .exit)) ⌝ }
 {
     let next = put_head(part, edit, holder.start, n, out, at);
     put_tail(past(part, n), edit, holder.depth, out, next)
+}
+
+/// Writes all particles of a form, those of one definition (k of them, from number `first` on) after an edit of its model.
+pub fn put_particles(
+    parts: &[u8],
+    first: usize,
+    k: usize,
+    edit: Edit,
+    holder: model::place::Holder,
+    n: usize,
+    out: &mut [u8],
+    at: usize,
+) -> usize
+    requires { ⌜ Body (editOf edit) holder n first k (now parts) × (at + 4 * length (now parts) < 2305843009213693952) ⌝ }
+    ensures { λ r. ⌜ Laid (each particleBytes (spliced first k (partAfter (editOf edit) holder n (particlesOf (partIn first k (now (parts .entry))))) (particlesOf (now (parts .entry))))) (now (out .entry)) at r (now (out .exit)) ⌝ }
+{
+    let next = codec::put(rowpass::cut(parts, 0, 4 * first), out, at);
+    let own = rowpass::cut(parts, 4 * first, 4 * k);
+    let end = put_part(own, edit, holder, n, out, next);
+    codec::put(past(parts, first + k), out, end)
 }

@@ -13,7 +13,7 @@ use Rattle.rules.specs.Place.{Context, here, past, over, into, plug, plain}
 use Rattle.rules.specs.Edit.{Edit, insert, remove, quantify, convert, flatten, firstMembers, laterMembers, hasMembers, edited, _⊕_}
 use Rattle.model.specs.declared.place.Holder.{Holder}
 use Rattle.model.specs.Places.{Particles, top}
-use Rattle.model.specs.Positions.{elementParticle, groupParticle, spread, count, holder, leading, trailing, level}
+use Rattle.model.specs.Positions.{elementParticle, groupParticle, spread, count, offset, holder, leading, trailing, level}
 use Rattle.model.proofs.PositionLaws.{length-spread}
 use Rattle.splicing.specs.PartAfter.{suits, countAfter, recounted}
 use Rattle.splicing.proofs.TailAfter.{has-many}
@@ -61,6 +61,20 @@ start-top c = start-holder top 0 c ∙ none (opened c)
     none : (m : ℕ) → startAt 0 0 m ≡ m
     none zero = refl
     none (suc m) = omega arith
+
+further-most : (k m : ℕ) → further k m ≤ k + m
+further-most k zero = omega arith
+further-most k (suc m) = omega arith
+
+opened-before : (c : Context ℕ) → opened c ≤ offset c
+opened-before here = omega arith
+opened-before (past q i c) = omega (arith, further-most 1 (opened c), opened-before c)
+opened-before (over q k ms c) = omega (arith, further-most (suc (count ms)) (opened c), opened-before c)
+opened-before (into q k c rest) = omega (arith, opened-before c)
+
+-- the list that holds a place starts before it
+pub start-before : (c : Context ℕ) → holder top 0 c .start ≤ offset c
+start-before c = omega (arith, start-top c, opened-before c)
 
 pub depth-holder : (h : Holder) (p : ℕ) (c : Context ℕ) → holder h p c .depth ≡ level (h .depth) c
 depth-holder h p here = refl

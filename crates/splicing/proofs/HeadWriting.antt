@@ -57,11 +57,11 @@ each-drop (suc n) (x ∷ xs) = ap (λ (k : ℕ). drop k (each particleBytes (x �
 pub length-bytes : (xs : Particles) → length (each particleBytes xs) ≡ 4 * length xs
 length-bytes xs = length-each particleBytes 4 length-particle xs
 
-every-front : {A : Type 0} (P : A → Type 0) (xs ys : List A) → Every P (xs ++ ys) → Every P xs
+pub every-front : {A : Type 0} (P : A → Type 0) (xs ys : List A) → Every P (xs ++ ys) → Every P xs
 every-front P [] ys h = tt
 every-front P (x ∷ xs) ys h = (h .0, every-front P xs ys (h .1))
 
-every-back : {A : Type 0} (P : A → Type 0) (xs ys : List A) → Every P (xs ++ ys) → Every P ys
+pub every-back : {A : Type 0} (P : A → Type 0) (xs ys : List A) → Every P (xs ++ ys) → Every P ys
 every-back P [] ys h = h
 every-back P (x ∷ xs) ys h = every-back P xs ys (h .1)
 

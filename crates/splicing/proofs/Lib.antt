@@ -6,3 +6,4 @@ pub mod WritingLaws
 pub mod TailWriting
 pub mod HeadWriting
 pub mod BodyWriting
+pub mod EditedStore

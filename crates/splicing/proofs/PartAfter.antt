@@ -104,7 +104,7 @@ module _ {A B : Type 0} (f : A → B) where
   edited-named flatten (el q x t) = refl
   edited-named flatten (group q k ms t) = beside-named ms t
 
-  suits-named : (e : Edit A) (t : Members A) → suits (renameEdit f e) (rename f t) ≡ suits e t
+  pub suits-named : (e : Edit A) (t : Members A) → suits (renameEdit f e) (rename f t) ≡ suits e t
   unfolding rename
   suits-named (insert q n) t = refl
   suits-named remove done = refl

@@ -7,3 +7,5 @@ pub mod TailWriting
 pub mod HeadWriting
 pub mod BodyWriting
 pub mod EditedStore
+pub mod Ceiling
+pub mod CountedBytes

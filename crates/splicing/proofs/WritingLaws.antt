@@ -79,7 +79,7 @@ passing-member false n e = refl
 
 -- ---- one particle of those that move
 module _ (g : ℕ → ℕ) (d : ℕ) (t : Bytes) (l : 4 ≤ length t) where
-  moved-first : (b : Bool) (m : ℕ) → ltb d (getD t 3 0) ≡ b → (eqb m 0 && not b) ≡ false
+  pub moved-first : (b : Bool) (m : ℕ) → ltb d (getD t 3 0) ≡ b → (eqb m 0 && not b) ≡ false
       → moved g d m (particlesOf t) ≡ redeep g (readParticle t) ∷ moved g d (passing b m) (particlesOf (drop 4 t))
   unfolding moved
   moved-first true zero e f = ap (moved g d 0) (particles-more t l) ∙ rw (e, moved)
@@ -87,7 +87,7 @@ module _ (g : ℕ → ℕ) (d : ℕ) (t : Bytes) (l : 4 ≤ length t) where
   moved-first true (suc m) e f = ap (moved g d (suc m)) (particles-more t l) ∙ rw (e, moved)
   moved-first false (suc m) e f = let z : suc m - 1 ≡ m = omega arith in ap (moved g d (suc m)) (particles-more t l) ∙ rw (e, moved, z)
 
-  moved-none : (b : Bool) (m : ℕ) → ltb d (getD t 3 0) ≡ b → (eqb m 0 && not b) ≡ true → moved g d m (particlesOf t) ≡ particlesOf t
+  pub moved-none : (b : Bool) (m : ℕ) → ltb d (getD t 3 0) ≡ b → (eqb m 0 && not b) ≡ true → moved g d m (particlesOf t) ≡ particlesOf t
   unfolding moved
   moved-none true zero e f = absurd (false≢true f)
   moved-none false zero e f = ap (moved g d 0) (particles-more t l) ∙ (rw (e, moved) (sym (particles-more t l)))

@@ -3,8 +3,12 @@
 use Prim.Native.Nat.{ℕ, suc, _+_, _-_, _*_, _%_, _<_, _≤_}
 use mathlib.Core.Path.{_≡_}
 use mathlib.Core.Bool.{Bool, true, false}
+use mathlib.Core.List.{_++_}
+use lib.Dec.{leb}
 use lib.ListN.{length, take, drop}
-use Rattle.rules.specs.Bytes.{Bytes}
+use Rattle.rules.specs.Bytes.{Bytes, all}
+use Rattle.rules.specs.Preorder.{Deep}
+use Rattle.rules.specs.Layout.{le, FlatParticle}
 use Rattle.rules.specs.Edit.{Edit, insert, remove, quantify, convert, flatten}
 use Rattle.rules.proofs.BooleanLaws.{Every}
 use Rattle.rules.proofs.LayoutLaws.{SmallParticle}
@@ -66,3 +70,11 @@ pub record Body (e : Edit ℕ) (h : Holder) (n first k : ℕ) (parts : Bytes) : 
   pub whole : length parts % 4 ≡ 0
   pub inside : 4 * (first + k) ≤ length parts
   pub part : Part e h n (partIn first k parts)
+
+-- ---- the definitions with another count, as bytes
+abbrev pub countedBytes : ℕ → ℕ → Bytes → Bytes
+countedBytes o n s = take (20 * o + 18) s ++ (le 2 n ++ drop (20 * o + 20) s)
+
+-- ---- the ceiling of depth
+unfoldable pub within : Particles → Bool
+within xs = all (λ (x : Deep FlatParticle). leb (x .depth) 4) xs

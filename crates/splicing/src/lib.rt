@@ -2,6 +2,7 @@
 use rules::GroupKind;
 use rules::Quantifier;
 ghost use mathlib.Core.Path.{_≡_};
+ghost use mathlib.Core.Bool.{true};
 ghost use mathlib.Core.List.{[], _∷_};
 ghost use Prim.Native.Nat.{_+_, _-_, _*_, _%_, _<_, _≤_};
 ghost use lib.ListN.{length, take, drop, getD};
@@ -10,7 +11,7 @@ ghost use Rattle.rules.specs.Edit.{insert, quantify, convert};
 ghost use Rattle.rules.specs.Decode.{readParticle};
 ghost use Rattle.codec.specs.Laid.{Laid};
 ghost use Rattle.model.specs.Members.{particlesOf};
-ghost use Rattle.splicing.specs.Writing.{editOf, shift, passing, Fitting, Tail, Head, Part, partIn, Body};
+ghost use Rattle.splicing.specs.Writing.{editOf, shift, passing, Fitting, Tail, Head, Part, partIn, Body, countedBytes, within};
 ghost use Rattle.splicing.specs.Spliced.{spliced};
 ghost use Rattle.splicing.specs.PartAfter.{redeep, recount, moved, tailAfter, countAfter, recounted, partAfter};
 
@@ -264,4 +265,55 @@ pub fn put_particles(
     let own = rowpass::cut(parts, 4 * first, 4 * k);
     let end = put_part(own, edit, holder, n, out, next);
     codec::put(past(parts, first + k), out, end)
+}
+
+// ---- the definitions
+
+/// Writes all definitions, number o with n particles.
+pub fn put_counted(defs: &[u8], o: usize, n: u32, out: &mut [u8], at: usize) -> usize
+    requires { ⌜ (o < 4294967296) × (at + length (now defs) < 4611686018427387904) ⌝ }
+    ensures { λ r. ⌜ Laid (countedBytes o n (now (defs .entry))) (now (out .entry)) at r (now (out .exit)) ⌝ }
+{
+    let place = 20 * o + 18;
+    let next = codec::put(rowpass::cut(defs, 0, place), out, at);
+    let end = codec::put_u16(out, next, n);
+    codec::put(rowpass::cut(defs, place + 2, defs.len()), out, end)
+}
+
+// ---- the ceiling of depth
+
+// Whether no particle is deeper than 4 once those of the first n members of depth d, and the deeper ones before them, are one deeper.
+fn moved_within(ys: &[u8], d: usize, n: usize) -> bool
+    requires { ⌜ within (particlesOf (now ys)) ≡ true ⌝ }
+    ensures { λ r. ⌜ r ≡ within (moved (shift true) d n (particlesOf (now (ys .entry)))) ⌝ }
+{
+    let mut t = ys;
+    let mut m = n;
+    while t.len() >= 4 {
+        let depth = codec::byte(t, 3) as usize;
+        let inner = d < depth;
+        if (m == 0) & !inner {
+            return true;
+        }
+        if 4 <= depth {
+            return false;
+        }
+        m = left(inner, m);
+        t = &t[4..];
+    }
+    true
+}
+
+/// Whether no particle of a model is deeper than 4 after an edit at particle n.
+pub fn is_within(part: &[u8], edit: Edit, holder: model::place::Holder, n: usize) -> bool
+    requires { ⌜ (within (particlesOf (now part)) ≡ true) × (n < 4611686018427387904) ⌝ }
+    ensures { λ r. ⌜ r ≡ within (partAfter (editOf edit) holder n (particlesOf (now (part .entry)))) ⌝ }
+{
+    match edit {
+        Edit::Insert(_, _) => holder.depth <= 4,
+        Edit::Remove => true,
+        Edit::Quantify(_) => true,
+        Edit::Convert(_, m) => (holder.depth <= 4) & moved_within(past(part, n), holder.depth, m),
+        Edit::Flatten => true,
+    }
 }

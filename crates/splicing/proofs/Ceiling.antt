@@ -1,10 +1,10 @@
 -- The depths of the particles of a model after an edit.
 -- Assumes nothing.
-use Prim.Native.Nat.{ℕ, zero, suc, _+_, _-_, _*_, _<_, _≤_}
+use Prim.Native.Nat.{ℕ, zero, suc, _-_, _<_, _≤_}
 use native.Mathlib.Omega.{arith}
-use mathlib.Core.Path.{_≡_, refl, sym, ap, ap₂, _∙_, subst}
+use mathlib.Core.Path.{_≡_, refl, sym, ap, _∙_}
 use mathlib.Core.Bool.{Bool, true, false, not, _&&_, false≢true}
-use mathlib.Core.List.{List, [], _∷_, _++_}
+use mathlib.Core.List.{[], _∷_, _++_}
 use borrow.Author.Tests.{le-leb, lt-leb, leb-true}
 use lib.Dec.{leb, ltb, eqb}
 use lib.ListN.{length, take, drop, getD, take-append-drop}
@@ -13,7 +13,6 @@ use Rattle.rules.specs.declared.GroupKind.{GroupKind}
 use Rattle.rules.specs.Bytes.{Bytes, all}
 use Rattle.rules.specs.Preorder.{Deep}
 use Rattle.rules.specs.Layout.{FlatParticle}
-use Rattle.rules.specs.Decode.{readParticle}
 use Rattle.rules.specs.Edit.{Edit, insert, remove, quantify, convert, flatten}
 use Rattle.rules.proofs.BooleanLaws.{all-left, all-right}
 use Rattle.codec.proofs.Writers.{tail-seen}
@@ -24,7 +23,7 @@ use Rattle.model.proofs.MembersLaws.{particles-few, particles-more}
 use Rattle.splicing.specs.declared.Edit.{Edit as EditCode}
 use Rattle.splicing.specs.PartAfter.{redeep, lower, moved, tailAfter, countAfter, recounted, partAfter}
 use Rattle.splicing.specs.Writing.{editOf, shift, passing, within}
-use Rattle.splicing.proofs.WritingLaws.{moved-first, moved-none, particles-past}
+use Rattle.splicing.proofs.WritingLaws.{moved-first, moved-none}
 
 abbrev low : Deep FlatParticle → Bool
 low x = leb (x .depth) 4

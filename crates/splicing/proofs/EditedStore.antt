@@ -1,39 +1,39 @@
 -- A store after an edit of one model, from its bodies before it: what the calls of changes 3 to 8 cite.
 -- Assumes nothing.
-use Prim.Native.Nat.{ℕ, zero, suc, _+_, _-_, _*_, _%_, _<_, _≤_}
+use Prim.Native.Nat.{ℕ, zero, suc, _+_, _*_, _<_, _≤_}
 use native.Mathlib.Omega.{arith}
-use mathlib.Core.Path.{_≡_, refl, sym, ap, ap₂, _∙_, subst}
-use mathlib.Core.Bool.{Bool, true, false, false≢true}
-use mathlib.Core.Option.{Option, none, some}
+use mathlib.Core.Path.{_≡_, sym, ap, _∙_, subst}
+use mathlib.Core.Bool.{true, false, false≢true}
+use mathlib.Core.Option.{some}
 use mathlib.Core.List.{List, [], _∷_, _++_, map}
-use lib.ListN.{length, take, drop, length-append}
-use lib.Seq.{take-append-seam, drop-append-add}
+use lib.ListN.{length, take, drop, length-append, length-drop}
+use lib.Seq.{take-append-seam, drop-append-add, length-take-le}
 use Rattle.rules.specs.Bytes.{Bytes}
 use Rattle.rules.specs.Model.{Members, done, el, group, rename}
 use Rattle.rules.specs.Place.{Found as Spot, Context, plug, renameAround}
-use Rattle.rules.specs.Edit.{Edit, insert, remove, quantify, convert, flatten as ungroup, placeOf as placed, hasMembers}
-use Rattle.rules.specs.Store.{Content, complex, Definition, Form, Store, members}
+use Rattle.rules.specs.Edit.{Edit, insert, remove, quantify, convert, flatten as ungroup, placeOf as placed}
+use Rattle.rules.specs.Store.{complex, Form, Store, members}
 use Rattle.rules.specs.Preorder.{flatten}
-use Rattle.rules.specs.Layout.{FlatDefinition, FlatStore, indexOf, particleBytes, each, particles, contentParticles, flatDefinition, allParticles, flat, howMany}
+use Rattle.rules.specs.Layout.{FlatStore, indexOf, particleBytes, each, particles, contentParticles, flatDefinition, allParticles, flat}
 use Rattle.rules.specs.Change.{definitionAt, editModel}
 use Rattle.rules.proofs.BooleanLaws.{Every}
 use Rattle.rules.proofs.LayoutLaws.{SmallParticle}
 use Rattle.history.proofs.ModelAfter.{place-right}
 use Rattle.rules.proofs.RenamingPlaces.{plug-rename}
 use Rattle.model.specs.declared.place.Holder.{Holder}
-use Rattle.model.specs.declared.place.Found.{Found}
 use Rattle.model.specs.declared.place.Found.the-variants.{At}
 use Rattle.model.specs.Members.{particlesOf}
 use Rattle.model.specs.Places.{Particles, top, placeOf}
 use Rattle.model.specs.Positions.{spread, count, offset, holder, leading, trailing, level}
 use Rattle.model.proofs.PositionLaws.{spread-named, spread-plug, length-leading, length-spread}
 use Rattle.model.proofs.WrittenLaws.{particles-written}
-use Rattle.splicing.specs.Spliced.{startOf, countOf, spliced, splicedForm}
-use Rattle.splicing.specs.PartAfter.{suits, renameEdit, inserts, partAfter}
-use Rattle.splicing.specs.Writing.{Fitting, Part, partIn, Body}
+use Rattle.splicing.specs.Spliced.{startOf, countOf, splicedForm}
+use Rattle.splicing.specs.PartAfter.{suits, renameEdit, inserts, partAfter, lengthAfter}
+use Rattle.splicing.specs.Writing.{Fitting, partIn, Body}
 use Rattle.splicing.proofs.FormAfter.{reformed, form-after}
 use Rattle.splicing.proofs.HeadAfter.{start-before}
 use Rattle.splicing.proofs.PartAfter.{place-here, edited-part, suits-named}
+use Rattle.splicing.proofs.BodyWriting.{length-after}
 use Rattle.splicing.proofs.HeadWriting.{each-take, each-drop, length-bytes, every-front, every-back}
 
 -- ---- where a definition's particles stand
@@ -98,11 +98,22 @@ module _ (s : Store) (o : ℕ) (p : List ℕ) (e : Edit Bytes) (x : Spot Bytes) 
   abbrev own : Bytes
   own = partIn first many parts
 
+  own-particles : own ≡ each particleBytes (take many (drop first (flat s .particles)))
+  own-particles = ap (take (4 * many)) (each-drop first (flat s .particles)) ∙ each-take many (drop first (flat s .particles))
+
   own-bytes : own ≡ each particleBytes (spread 0 (rename index (members (definitionAt o (s .form)))))
   own-bytes =
-      ap (take (4 * many)) (each-drop first (flat s .particles))
-      ∙ each-take many (drop first (flat s .particles))
+      own-particles
       ∙ ap (each particleBytes) (own-part (s .form) o (s .form) (members (definitionAt o (s .form))) l c ∙ spread-named (s .form) 0 (members (definitionAt o (s .form))))
+
+  all-there : length (take many (drop first (flat s .particles))) ≡ many
+  all-there = length-take-le many (drop first (flat s .particles)) (omega (arith, own-inside (s .form) o (s .form), length-drop first (flat s .particles)))
+
+  own-count : length (particlesOf own) ≡ many
+  own-count = ap (λ (bs : Bytes). length (particlesOf bs)) own-particles ∙ ap length (particles-written (take many (drop first (flat s .particles)))) ∙ all-there
+
+  own-many : length own ≡ 4 * many
+  own-many = ap length own-particles ∙ length-bytes (take many (drop first (flat s .particles))) ∙ ap (λ (k : ℕ). 4 * k) all-there
 
   module _ (h : Holder) (n : ℕ) (at : placeOf (inserts e) p own ≡ At h n) where
     -- THE BODIES AFTER THE EDIT
@@ -122,6 +133,15 @@ module _ (s : Store) (o : ℕ) (p : List ℕ) (e : Edit Bytes) (x : Spot Bytes) 
         ap length own-bytes
         ∙ length-bytes (spread 0 (rename index (members (definitionAt o (s .form)))))
         ∙ ap (λ (ms : Members ℕ). 4 * length (spread 0 ms)) (ap (rename index) (sym (place-right e p (members (definitionAt o (s .form))) x found)) ∙ plug-rename index (x .context) (x .picked))
+
+    -- HOW MANY PARTICLES the owner has then
+    pub edit-length : length (partAfter (renameEdit index e) h n (particlesOf own)) ≡ lengthAfter (renameEdit index e) many
+    edit-length =
+        let stands : offset context ≡ n = cc same-place in
+        let inside : offset context + count (rename index (x .picked)) ≤ many = omega (arith, own-long, own-many, offset-inside context (rename index (x .picked))) in
+        let some-there : inserts (renameEdit index e) ≡ false → n < length (particlesOf own) =
+        λ f. omega (arith, stands, inside, own-count, suits-some (renameEdit index e) (rename index (x .picked)) (suits-named index e (x .picked) ∙ fits) f) in
+        length-after (renameEdit index e) h n (particlesOf own) (omega (arith, stands, inside, own-count)) some-there ∙ ap (lengthAfter (renameEdit index e)) own-count
 
     -- what the writer of the particles asks for
     pub edit-body : Every SmallParticle (flat (reformed (editModel o p e (s .form)) s) .particles) → Body (renameEdit index e) h n first many parts

@@ -3,18 +3,18 @@
 use Prim.Native.Nat.{ℕ, zero, suc, _+_, _<_}
 use native.Mathlib.Omega.{arith}
 use mathlib.Core.Path.{_≡_, refl, sym, ap, ap₂, _∙_}
-use mathlib.Core.Bool.{Bool, true, false}
-use mathlib.Core.Option.{Option, none, some}
+use mathlib.Core.Bool.{true, false}
+use mathlib.Core.Option.{Option, some}
 use mathlib.Core.List.{List, [], _∷_, _++_, map, append-assoc}
-use lib.ListN.{length, take, drop, length-append}
+use lib.ListN.{length, take, drop}
 use lib.Seq.{drop-append-seam, take-append-add, drop-append-add}
 use Rattle.rules.specs.Bytes.{Bytes, same}
 use Rattle.rules.specs.Model.{Members, done, el, group, rename}
 use Rattle.rules.specs.Place.{Found}
 use Rattle.rules.specs.Edit.{Edit, placeOf, modelAfter}
-use Rattle.rules.specs.Store.{Content, empty, pcdata, complex, Definition, Form, RowSort, element, attribute, text, Row, Forest, bare, tree, Store, members}
-use Rattle.rules.specs.Preorder.{Deep, flatten}
-use Rattle.rules.specs.Layout.{FlatDefinition, FlatParticle, FlatAttribute, FlatRow, FlatStore, indexOf, indexIn, attributeIndex, howMany, particles, contentParticles, flatDefinition, allParticles, ownAttributes, allAttributes, rowIndex, indexed, flat, quantifierCode, groupCode, kindCode, rowCode}
+use Rattle.rules.specs.Store.{Content, empty, pcdata, complex, Form, RowSort, element, attribute, text, Row, Forest, bare, tree, Store, members}
+use Rattle.rules.specs.Preorder.{flatten}
+use Rattle.rules.specs.Layout.{FlatDefinition, FlatAttribute, indexOf, indexIn, attributeIndex, howMany, particles, contentParticles, flatDefinition, allParticles, ownAttributes, allAttributes, indexed, flat, quantifierCode, groupCode, kindCode, rowCode}
 use Rattle.rules.specs.Change.{definitionAt, update, inContent, inModel, editFound, editAt, editModel}
 use Rattle.model.specs.Places.{Particles}
 use Rattle.model.specs.Positions.{spread}

@@ -1,19 +1,19 @@
 -- The particles before a place, after an edit there: the group around the place gets another member count.
 -- Assumes nothing.
-use Prim.Native.Nat.{ℕ, zero, suc, _+_, _-_, _≤_}
+use Prim.Native.Nat.{ℕ, zero, suc, _+_, _≤_}
 use native.Mathlib.Omega.{arith}
 use mathlib.Core.Path.{_≡_, refl, sym, ap, ap₂, _∙_}
-use mathlib.Core.Bool.{Bool, true, false, _&&_, false≢true}
-use mathlib.Core.List.{List, [], _∷_, _++_}
+use mathlib.Core.Bool.{true, _&&_, false≢true}
+use mathlib.Core.List.{[], _∷_, _++_}
 use lib.ListN.{length}
 use Rattle.rules.specs.Model.{Members, done, el, group}
 use Rattle.rules.specs.Preorder.{Deep}
 use Rattle.rules.specs.Layout.{FlatParticle, howMany}
 use Rattle.rules.specs.Place.{Context, here, past, over, into, plug, plain}
-use Rattle.rules.specs.Edit.{Edit, insert, remove, quantify, convert, flatten, firstMembers, laterMembers, hasMembers, edited, _⊕_}
+use Rattle.rules.specs.Edit.{Edit, insert, remove, quantify, convert, flatten, laterMembers, edited, _⊕_}
 use Rattle.model.specs.declared.place.Holder.{Holder}
 use Rattle.model.specs.Places.{Particles, top}
-use Rattle.model.specs.Positions.{elementParticle, groupParticle, spread, count, offset, holder, leading, trailing, level}
+use Rattle.model.specs.Positions.{elementParticle, groupParticle, spread, count, offset, holder, leading, level}
 use Rattle.model.proofs.PositionLaws.{length-spread}
 use Rattle.splicing.specs.PartAfter.{suits, countAfter, recounted}
 use Rattle.splicing.proofs.TailAfter.{has-many}

@@ -4,15 +4,15 @@ use Prim.Native.Nat.{ℕ, zero, suc, _+_, _≤_}
 use native.Mathlib.Omega.{arith}
 use mathlib.Core.Path.{_≡_, refl, sym, ap, ap₂, _∙_}
 use mathlib.Core.Bool.{Bool, true, false, not, _||_, false≢true}
-use mathlib.Core.Option.{Option, none, some}
-use mathlib.Core.List.{List, [], _∷_, _++_}
+use mathlib.Core.Option.{none, some}
+use mathlib.Core.List.{List, _++_}
 use lib.Dec.{leb}
 use lib.ListN.{length, take, drop}
 use lib.Seq.{take-at, drop-at}
 use Rattle.rules.specs.Bytes.{Bytes, bytes}
 use Rattle.rules.specs.Model.{Members, done, el, group, rename}
-use Rattle.rules.specs.Layout.{howMany, particleBytes, each}
-use Rattle.rules.specs.Place.{Context, here, past, over, into, plug, Found as Spot, renameAround, gap, nth, find}
+use Rattle.rules.specs.Layout.{particleBytes, each}
+use Rattle.rules.specs.Place.{Context, here, past, over, into, plug, Found as Spot, renameAround, find}
 use Rattle.rules.specs.Edit.{Edit, insert, remove, quantify, convert, flatten, firstMembers, laterMembers, hasMembers, groupUnlike, edited, place, placeOf as placed, modelAfter, _⊕_}
 use Rattle.rules.proofs.Children.{misplaced}
 use Rattle.rules.proofs.RenamingPlaces.{plug-rename}

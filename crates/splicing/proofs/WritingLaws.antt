@@ -1,26 +1,23 @@
 -- Particle bytes, particle by particle; and a loop that writes moved particles.
 -- Assumes nothing.
-use Prim.Native.Nat.{ℕ, zero, suc, _+_, _-_, _*_, _/_, _%_, _<_, _≤_}
+use Prim.Native.Nat.{ℕ, zero, suc, _+_, _-_, _*_, _%_, _<_, _≤_}
 use native.Mathlib.Omega.{arith}
-use mathlib.Core.Path.{_≡_, refl, sym, ap, ap₂, _∙_}
+use mathlib.Core.Path.{_≡_, refl, sym, ap, _∙_}
 use mathlib.Core.Bool.{Bool, true, false, not, _&&_, false≢true}
-use mathlib.Core.List.{List, [], _∷_, _++_}
+use mathlib.Core.List.{[], _∷_}
 use borrow.Author.Tests.{leb-false, ne-eqb}
 use lib.Dec.{ltb, eqb, leb, leb→le}
-use lib.ListN.{length, take, drop, getD, length-drop, drop-of-length-le}
+use lib.ListN.{length, take, drop, getD, length-drop}
 use lib.Seq.{drop-drop, take-all}
 use Rattle.rules.specs.Bytes.{Bytes, to-T}
-use Rattle.rules.specs.Preorder.{Deep}
-use Rattle.rules.specs.Layout.{FlatParticle, particleBytes, each}
+use Rattle.rules.specs.Layout.{particleBytes, each}
 use Rattle.rules.specs.Decode.{readParticle}
-use Rattle.rules.proofs.BooleanLaws.{Every}
-use Rattle.rules.proofs.LayoutLaws.{SmallParticle}
 use Rattle.codec.specs.Laid.{Laid}
 use Rattle.codec.proofs.Writers.{tail-seen, laid-none, laid-then, laid-as}
 use Rattle.model.specs.Members.{particlesOf}
 use Rattle.model.specs.Places.{Particles}
 use Rattle.model.proofs.MembersLaws.{particles-few, particles-more}
-use Rattle.splicing.specs.PartAfter.{redeep, lower, moved}
+use Rattle.splicing.specs.PartAfter.{redeep, moved}
 use Rattle.splicing.specs.Writing.{shift, passing, Fitting}
 
 -- ---- a whole number of particles

@@ -3,8 +3,7 @@
 use Prim.Native.Nat.{ℕ, zero, suc, _+_}
 use mathlib.Core.List.{List, [], _∷_, _++_}
 use lib.ListN.{length, take, drop}
-use Rattle.rules.specs.Preorder.{Deep}
-use Rattle.rules.specs.Layout.{FlatDefinition, FlatParticle, FlatStore}
+use Rattle.rules.specs.Layout.{FlatDefinition, FlatStore}
 use Rattle.model.specs.Places.{Particles}
 
 -- how many particles stand before definition o's, and how many it has

@@ -30,25 +30,31 @@ past-requires : tie.Need-past-requires
 past-requires c κs = c .before .before .before .before .before .pre .1
 
 moved-within-requires : tie.Need-moved-within-requires
-moved-within-requires c κs = ap (λ (s : Bytes). within (particlesOf s)) (c .past .ensures) ∙ ap within (particles-past (c .before .before .before .before .before .before .args .n) (c .before .before .before .before .before .before .args .part .now)) ∙ within-drop (c .before .before .before .before .before .before .args .n) (particlesOf (c .before .before .before .before .before .before .args .part .now)) (c .before .before .before .before .before .before .pre .0)
+moved-within-requires c κs = let a = c .before .before .before .before .before .before in
+    ap (λ (s : Bytes). within (particlesOf s)) (c .past .ensures) ∙ ap within (particles-past (a .args .n) (a .args .part .now)) ∙ within-drop (a .args .n) (particlesOf (a .args .part .now)) (a .pre .0)
 
 enum-told-4 : tie.Need-enum-told-4
 enum-told-4 c = search needs
 
 returns : tie.Need-returns
-returns c = inserted-within (c .before .before .before .before .args .holder) (c .before .before .before .before .args .n) (particlesOf (c .before .before .before .before .args .part .now)) (c .before .before .before .before .pre .0) _ _ ∙ within-case (c .before .before .before .before .args .holder) (c .before .before .before .before .args .n) (particlesOf (c .before .before .before .before .args .part .now)) (c .before .enum-told .given .1)
+returns c = let a = c .before .before .before .before in inserted-within (a .args .holder) (a .args .n) (particlesOf (a .args .part .now)) (a .pre .0) _ _ ∙ within-case (a .args .holder) (a .args .n) (particlesOf (a .args .part .now)) (c .before .enum-told .given .1)
 
 returns-2 : tie.Need-returns-2
-returns-2 c = removed-within (c .before .before .before .args .holder) (c .before .before .before .args .n) (particlesOf (c .before .before .before .args .part .now)) (c .before .before .before .pre .0) ∙ within-case (c .before .before .before .args .holder) (c .before .before .before .args .n) (particlesOf (c .before .before .before .args .part .now)) (c .enum-told2 .given .1)
+returns-2 c = let a = c .before .before .before in removed-within (a .args .holder) (a .args .n) (particlesOf (a .args .part .now)) (a .pre .0) ∙ within-case (a .args .holder) (a .args .n) (particlesOf (a .args .part .now)) (c .enum-told2 .given .1)
 
 returns-3 : tie.Need-returns-3
-returns-3 c = requantified-within (c .before .before .before .args .holder) (c .before .before .before .args .n) (particlesOf (c .before .before .before .args .part .now)) (c .before .before .before .pre .0) _ ∙ within-case (c .before .before .before .args .holder) (c .before .before .before .args .n) (particlesOf (c .before .before .before .args .part .now)) (c .enum-told3 .given .1)
+returns-3 c = let a = c .before .before .before in requantified-within (a .args .holder) (a .args .n) (particlesOf (a .args .part .now)) (a .pre .0) _ ∙ within-case (a .args .holder) (a .args .n) (particlesOf (a .args .part .now)) (c .enum-told3 .given .1)
 
 returns-4 : tie.Need-returns-4
-returns-4 c = ap (λ (b : Bool). leb (c .before .before .before .before .before .before .before .args .holder .depth) 4 && b) (c .moved-within .ensures ∙ ap (λ (ys : Particles). within (moved (shift true) (c .before .before .before .before .before .before .before .args .holder .depth) (c .before .before .before .before .edit .given .0 .1 .0) ys)) (ap particlesOf (c .before .past .ensures) ∙ particles-past (c .before .before .before .before .before .before .before .args .n) (c .before .before .before .before .before .before .before .args .part .now))) ∙ grouped-within (c .before .before .before .before .before .before .before .args .holder) (c .before .before .before .before .before .before .before .args .n) (particlesOf (c .before .before .before .before .before .before .before .args .part .now)) (c .before .before .before .before .before .before .before .pre .0) _ _ ∙ within-case (c .before .before .before .before .before .before .before .args .holder) (c .before .before .before .before .before .before .before .args .n) (particlesOf (c .before .before .before .before .before .before .before .args .part .now)) (c .before .before .before .before .edit .given .1)
+returns-4 c = let a = c .before .before .before .before .before .before .before in
+    ap (λ (b : Bool). leb (a .args .holder .depth) 4 && b)
+    (c .moved-within .ensures
+    ∙ ap (λ (ys : Particles). within (moved (shift true) (a .args .holder .depth) (c .before .before .before .before .edit .given .0 .1 .0) ys)) (ap particlesOf (c .before .past .ensures) ∙ particles-past (a .args .n) (a .args .part .now)))
+    ∙ grouped-within (a .args .holder) (a .args .n) (particlesOf (a .args .part .now)) (a .pre .0) _ _
+    ∙ within-case (a .args .holder) (a .args .n) (particlesOf (a .args .part .now)) (c .before .before .before .before .edit .given .1)
 
 returns-5 : tie.Need-returns-5
-returns-5 c = flattened-within (c .before .before .before .args .holder) (c .before .before .before .args .n) (particlesOf (c .before .before .before .args .part .now)) (c .before .before .before .pre .0) ∙ within-case (c .before .before .before .args .holder) (c .before .before .before .args .n) (particlesOf (c .before .before .before .args .part .now)) (c .enum-told4 .given .1)
+returns-5 c = let a = c .before .before .before in flattened-within (a .args .holder) (a .args .n) (particlesOf (a .args .part .now)) (a .pre .0) ∙ within-case (a .args .holder) (a .args .n) (particlesOf (a .args .part .now)) (c .enum-told4 .given .1)
 
 pub is-within-spec : {M : Type 1} → statement M
 is-within-spec =

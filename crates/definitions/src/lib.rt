@@ -1,1 +1,172 @@
 //! Changes 1 and 2: a definition created, and one destroyed.
+use storing::Answer;
+ghost use mathlib.Core.Path.{_≡_};
+ghost use mathlib.Core.Bool.{true};
+ghost use mathlib.Core.List.{_++_};
+ghost use Prim.Native.Nat.{_≤_, _<_};
+ghost use lib.ListN.{length, take};
+ghost use Rattle.rules.specs.Layout.{entry, field, nameWidth, definitionBytes, flatBytes};
+ghost use Rattle.rules.specs.Passing.{passes};
+ghost use Rattle.rules.specs.Change.{createDefinition};
+ghost use Rattle.rules.specs.Refusal.{first, conditions};
+ghost use Rattle.rules.specs.Outcome.{outcome, Answers};
+ghost use Rattle.records.specs.Records.{baseWidth};
+ghost use Rattle.codec.specs.Laid.{Laid};
+ghost use Rattle.lookup.specs.Bodies.{bodiesOf};
+ghost use Rattle.storing.specs.Stores.{storeIn};
+ghost use Rattle.definitions.specs.Bodies.{newDefinition, created, named, contents, Limit};
+
+const HEADER_SIZE: usize = 40;
+
+const DEFINITION_SIZE: usize = 20;
+
+const NAME_WIDTH: usize = 16;
+
+// ---- the header
+
+// Writes an entry of the table of contents.
+fn put_entry(offset: u32, count: u32, out: &mut [u8], at: usize) -> usize
+    requires { ⌜ at < 4611686018427387904 ⌝ }
+    ensures { λ r. ⌜ Laid (entry offset count) (now (out .entry)) at r (now (out .exit)) ⌝ }
+{
+    let next = codec::put_u32(out, at, offset);
+    codec::put_u32(out, next, count)
+}
+
+// Writes the table of contents for d definitions, p particles, a attributes and r rows.
+fn put_contents(d: u32, p: u32, a: u32, r: u32, out: &mut [u8], at: usize) -> usize
+    requires { ⌜ (d ≤ 65) × (p ≤ 256) × (a ≤ 64) × (at ≤ 40) ⌝ }
+    ensures { λ next. ⌜ Laid (contents d p a r) (now (out .entry)) at next (now (out .exit)) ⌝ }
+{
+    let particles = 40 + 20 * d;
+    let attributes = particles + 4 * p;
+    let rows = attributes + 52 * a;
+    let first = put_entry(40, d, out, at);
+    let second = put_entry(particles, p, out, first);
+    let third = put_entry(attributes, a, out, second);
+    put_entry(rows, r, out, third)
+}
+
+// Writes the header: version and next serial as the store has them, and the table of contents.
+fn put_header(store: &[u8], d: u32, p: u32, a: u32, r: u32, out: &mut [u8]) -> usize
+    requires { ⌜ (d ≤ 65) × (p ≤ 256) × (a ≤ 64) ⌝ }
+    ensures { λ next. ⌜ Laid (take 8 (now (store .entry)) ++ contents d p a r) (now (out .entry)) 0 next (now (out .exit)) ⌝ }
+{
+    let at = codec::put(records::first(store, 8), out, 0);
+    put_contents(d, p, a, r, out, at)
+}
+
+// ---- change 1
+
+// Writes a name, zero filled.
+fn put_name(name: &[u8], out: &mut [u8], at: usize) -> usize
+    requires { ⌜ (length (now name) ≤ 16) × (at < 4611686018427387904) ⌝ }
+    ensures { λ r. ⌜ Laid (field nameWidth (now (name .entry))) (now (out .entry)) at r (now (out .exit)) ⌝ }
+{
+    let zeros = [0; 16];
+    let next = codec::put(name, out, at);
+    codec::put(records::first(&zeros, NAME_WIDTH - name.len()), out, next)
+}
+
+// Writes the record of a definition with no particles.
+fn put_definition(name: &[u8], kind: u32, out: &mut [u8], at: usize) -> usize
+    requires { ⌜ (length (now name) ≤ 16) × (kind ≤ 2) × (at < 2305843009213693952) ⌝ }
+    ensures { λ r. ⌜ Laid (definitionBytes (newDefinition (now (name .entry)) kind)) (now (out .entry)) at r (now (out .exit)) ⌝ }
+{
+    let first = codec::put_u8(out, at, name.len() as u8);
+    let second = put_name(name, out, first);
+    let third = codec::put_u8(out, second, kind as u8);
+    codec::put_u16(out, third, 0)
+}
+
+// Whether a definition has the name.
+fn is_taken(store: &[u8], name: &[u8]) -> bool
+    ensures { λ r. ⌜ r ≡ named (now (name .entry)) (bodiesOf (now (store .entry)) .definitions) ⌝ }
+{
+    let count = codec::get_u32(store, 12) as usize;
+    let mut i = 0;
+    while i < count {
+        let record = lookup::window(store, HEADER_SIZE + DEFINITION_SIZE * i, DEFINITION_SIZE);
+        let used = codec::byte(record, 0) as usize;
+        if codec::equal(name, lookup::window(record, 1, used)) {
+            return true;
+        }
+        i += 1;
+    }
+    false
+}
+
+// The number of the first condition of change 1 that holds, 0 if none does.
+fn create_condition(store: &[u8], name: &[u8], kind: u32) -> u32
+    requires { ⌜ passes (now store) ≡ true ⌝ }
+    ensures { λ r. ⌜ r ≡ first (conditions (createDefinition (now (name .entry)) kind) (storeIn (now (store .entry)))) ⌝ }
+{
+    if !records::stored_name(name) {
+        return 2;
+    }
+    if kind > 2 {
+        return 4;
+    }
+    if is_taken(store, name) {
+        return 5;
+    }
+    0
+}
+
+// The number of the first limit that change 1 passes, 0 if it keeps within all.
+fn create_limit(store: &[u8], name: &[u8], kind: u32, room: usize) -> u32
+    requires { ⌜ passes (now store) ≡ true ⌝ }
+    ensures { λ r. ⌜ Limit room (created (now (name .entry)) kind (bodiesOf (now (store .entry)))) r ⌝ }
+{
+    if codec::get_u32(store, 12) >= 64 {
+        return 16;
+    }
+    if store.len() + DEFINITION_SIZE > room {
+        return 18;
+    }
+    0
+}
+
+// Writes the store with a definition more.
+fn put_created(store: &[u8], name: &[u8], kind: u32, out: &mut [u8]) -> usize
+    requires { ⌜ (passes (now store) ≡ true) × (length (now name) ≤ 16) × (kind ≤ 2) ⌝ }
+    ensures { λ r. ⌜ Laid (flatBytes baseWidth (created (now (name .entry)) kind (bodiesOf (now (store .entry))))) (now (out .entry)) 0 r (now (out .exit)) ⌝ }
+{
+    let d = codec::get_u32(store, 12);
+    let p = codec::get_u32(store, 20);
+    let a = codec::get_u32(store, 28);
+    let r = codec::get_u32(store, 36);
+    let length = DEFINITION_SIZE * d as usize;
+    let first = put_header(store, d + 1, p, a, r, out);
+    let second = codec::put(lookup::window(store, HEADER_SIZE, length), out, first);
+    let third = put_definition(name, kind, out, second);
+    codec::put(records::after(store, HEADER_SIZE + length), out, third)
+}
+
+/// Change 1: creates a definition, the last.
+pub fn create_definition(store: &[u8], name: &[u8], kind: u32, out: &mut [u8]) -> Answer
+    ensures { λ r. ⌜ Answers (outcome (createDefinition (now (name .entry)) kind) (now (store .entry)) (length (now (out .entry)))) (now (out .entry)) (r .number) (r .length) (now (out .exit)) ⌝ }
+{
+    if !validity::passes(store) {
+        return Answer {
+            number: 1,
+            length: 0,
+        };
+    }
+    let condition = create_condition(store, name, kind);
+    if condition != 0 {
+        return Answer {
+            number: condition,
+            length: 0,
+        };
+    }
+    let limit = create_limit(store, name, kind, out.len());
+    if limit != 0 {
+        return Answer {
+            number: limit,
+            length: 0,
+        };
+    }
+    let length = put_created(store, name, kind, out);
+    Answer { number: 0, length }
+}

@@ -6,3 +6,5 @@ pub mod Naming
 pub mod Encoded
 pub mod Limits
 pub mod CreateCall
+pub mod Lowered
+pub mod Destroyed

@@ -1,11 +1,11 @@
 -- The bodies of a store after changes 1 and 2.
 -- Assumes nothing.
-use Prim.Native.Nat.{ℕ, zero, suc, _+_, _*_, _≤_}
+use Prim.Native.Nat.{ℕ, zero, suc, _+_, _-_, _*_, _≤_}
 use mathlib.Core.Path.{_≡_}
 use mathlib.Core.Bool.{Bool, true, false}
-use mathlib.Core.List.{List, [], _∷_, _++_}
-use lib.Dec.{eqb}
-use lib.ListN.{length}
+use mathlib.Core.List.{List, [], _∷_, _++_, map}
+use lib.Dec.{eqb, leb, ltb}
+use lib.ListN.{length, take, drop}
 use Rattle.rules.specs.Bytes.{Bytes, same, any}
 use Rattle.rules.specs.Preorder.{Deep}
 use Rattle.rules.specs.Layout.{FlatDefinition, FlatParticle, FlatAttribute, FlatRow, FlatStore, flatBytes, entry, headerSize, definitionSize, particleSize, attributeSize}
@@ -56,3 +56,45 @@ rowMoved g h sort i = elim (eqb sort 1) [ true ↦ g i | false ↦ elim (eqb sor
 
 unfoldable pub movedRow : (ℕ → ℕ) → (ℕ → ℕ) → Deep FlatRow → Deep FlatRow
 movedRow g h x = record { depth = x .depth; row = record { sort = x .row .sort; index = rowMoved g h (x .row .sort) (x .row .index); serial = x .row .serial; value = x .row .value } }
+
+-- ---- change 2
+-- `less` entries before number `from` go: the numbers from there on fall
+abbrev pub lowered : ℕ → ℕ → ℕ → ℕ
+lowered from less j = elim (leb from j) [ true ↦ j - less | false ↦ j ]
+
+-- a list without n entries from number a on
+unfoldable pub cutOut : {A : Type 0} → ℕ → ℕ → List A → List A
+cutOut a n xs = take a xs ++ drop (a + n) xs
+
+-- how many particles the first i definitions have
+unfoldable pub particlesOf : ℕ → List FlatDefinition → ℕ
+particlesOf zero ds = 0
+particlesOf (suc i) [] = 0
+particlesOf (suc i) (d ∷ ds) = d .particles + particlesOf i ds
+
+-- how many attributes the first i definitions have
+abbrev pub isBelow : ℕ → FlatAttribute → ℕ
+isBelow i a = elim (ltb (a .owner) i) [ true ↦ 1 | false ↦ 0 ]
+
+unfoldable pub attributesOf : ℕ → List FlatAttribute → ℕ
+attributesOf i [] = 0
+attributesOf i (a ∷ cs) = isBelow i a + attributesOf i cs
+
+unfoldable pub movedAttribute : (ℕ → ℕ) → FlatAttribute → FlatAttribute
+movedAttribute g a = record { owner = g (a .owner); name = a .name; sort = a .sort; value = a .value }
+
+unfoldable pub destroyed : ℕ → FlatStore → FlatStore
+destroyed i f =
+    let g : ℕ → ℕ = lowered (suc i) 1 in
+    let p : ℕ = particlesOf i (f .definitions) in
+    let q : ℕ = particlesOf (suc i) (f .definitions) in
+    let a : ℕ = attributesOf i (f .attributes) in
+    let b : ℕ = attributesOf (suc i) (f .attributes) in
+    record {
+      version = f .version;
+      next = f .next;
+      definitions = cutOut i 1 (f .definitions);
+      particles = map (movedParticle g) (cutOut p (q - p) (f .particles));
+      attributes = map (movedAttribute g) (cutOut a (b - a) (f .attributes));
+      rows = map (movedRow g (lowered b (b - a))) (f .rows);
+    }

@@ -8,3 +8,5 @@ pub mod Limits
 pub mod CreateCall
 pub mod Lowered
 pub mod Destroyed
+pub mod InUse
+pub mod Searching

@@ -15,6 +15,7 @@ use Rattle.rules.specs.Store.{Attribute, Definition, Form}
 use Rattle.rules.specs.Preorder.{Deep}
 use Rattle.rules.specs.Layout.{FlatDefinition, FlatParticle, FlatAttribute, indexOf, indexIn, attributeIndex, contentParticles, flatDefinition, allParticles, ownAttributes, allAttributes, sortCode}
 use Rattle.rules.specs.Change.{without, nameAtIndex, definitionAt}
+use Rattle.rules.proofs.Apart.{differs}
 use Rattle.definitions.specs.Bodies.{lowered, cutOut, particlesOf, isBelow, attributesOf, movedAttribute}
 use Rattle.definitions.proofs.Renumbered.{map-append}
 
@@ -62,17 +63,10 @@ map-without f zero (x ∷ xs) = refl
 map-without f (suc i) (x ∷ xs) = ap (λ (l : List _). f x ∷ l) (map-without f i xs)
 
 -- ---- definitions
-differs : (m n : Bytes) → (m ≡ n → ⊥) → same m n ≡ false
-differs m n h = by (same m n) refl
-  where
-    by : (b : Bool) → same m n ≡ b → same m n ≡ false
-    by true e = absurd (h (bytes .same→ m n e))
-    by false e = e
-
 pub index-lowered : (m : Bytes) (i : ℕ) (form : Form) → i < length form → (m ≡ nameAtIndex i form → ⊥) → indexOf m (without i form) ≡ lowered (suc i) 1 (indexOf m form)
 index-lowered m i [] h o = absurd (omega arith)
 index-lowered m zero (d ∷ form) h o =
-    let e : indexOf m (d ∷ form) ≡ suc (indexOf m form) = rw (differs m (d .name) o, indexOf) refl in
+    let e : indexOf m (d ∷ form) ≡ suc (indexOf m form) = rw (differs bytes m (d .name) o, indexOf) refl in
     let e′ : lowered 1 1 (suc (indexOf m form)) ≡ indexOf m form = omega (arith, lowered-high 1 1 (suc (indexOf m form)) (omega arith)) in
     sym (ap (lowered 1 1) e ∙ e′)
 index-lowered m (suc i) (d ∷ form) h o = by (same m (d .name)) refl (index-lowered m i form (omega arith) o)
@@ -174,7 +168,7 @@ unfolding ownedBefore
 attribute-lowered o m i [] h k = absurd (omega arith)
 attribute-lowered o m zero (d ∷ form) h k =
     let n : ℕ = length (d .attributes) in
-    let e : attributeIndex o m (d ∷ form) ≡ n + attributeIndex o m form = rw (differs o (d .name) k, attributeIndex) refl in
+    let e : attributeIndex o m (d ∷ form) ≡ n + attributeIndex o m form = rw (differs bytes o (d .name) k, attributeIndex) refl in
     let e′ : lowered (n + 0) (n + 0 - 0) (n + attributeIndex o m form) ≡ attributeIndex o m form = omega (arith, lowered-high (n + 0) (n + 0 - 0) (n + attributeIndex o m form) (omega arith)) in
     sym (ap (lowered (n + 0) (n + 0 - 0)) e ∙ e′)
 attribute-lowered o m (suc i) (d ∷ form) h k = by (same o (d .name)) refl (attribute-lowered o m i form (omega arith) k)

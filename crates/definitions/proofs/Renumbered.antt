@@ -5,7 +5,7 @@ use mathlib.Core.Path.{_≡_, refl, sym, ap, ap₂, _∙_}
 use mathlib.Core.Bool.{Bool, true, false, false≢true}
 use mathlib.Core.List.{List, [], _∷_, _++_, map, List·Memᴰ, List·Memᴰ·head, List·Memᴰ·tail, Memᴰ·append-left, Memᴰ·append-right}
 use lib.Dec.{eqb}
-use lib.ListN.{length}
+use lib.ListN.{length, length-map}
 use Rattle.rules.specs.declared.GroupKind.{GroupKind}
 use Rattle.rules.specs.declared.GroupKind.the-variants.{Sequence, Choice}
 use Rattle.rules.specs.Bytes.{Bytes}
@@ -20,10 +20,6 @@ use Rattle.definitions.specs.Bodies.{rowMoved, movedRow, movedParticle}
 pub map-append : {A B : Type 0} (f : A → B) (xs ys : List A) → map f (xs ++ ys) ≡ map f xs ++ map f ys
 map-append f [] ys = refl
 map-append f (x ∷ xs) ys = ap (λ (l : List _). f x ∷ l) (map-append f xs ys)
-
-pub length-map : {A B : Type 0} (f : A → B) (xs : List A) → length (map f xs) ≡ length xs
-length-map f [] = refl
-length-map f (x ∷ xs) = ap suc (length-map f xs)
 
 -- g: how the definitions move, h: how the attributes do, of the names that are `Ok`
 module _ (form form′ : Form) (g : ℕ → ℕ) (Ok : Bytes → Type 0) (elements : (n : Bytes) → Ok n → indexOf n form′ ≡ g (indexOf n form)) where
@@ -67,7 +63,7 @@ module _ (form form′ : Form) (g : ℕ → ℕ) (Ok : Bytes → Type 0) (elemen
   moved-definition : (d : Definition) → NamesOk d → flatDefinition form′ d ≡ flatDefinition form d
   moved-definition d k =
       ap (λ (n : ℕ). record { name = d .name; kind = kindCode (d .content); particles = n })
-      (ap length (moved-content (d .content) k) ∙ length-map (movedParticle g) (contentParticles form (d .content)))
+      (ap length (moved-content (d .content) k) ∙ length-map (contentParticles form (d .content)) (movedParticle g))
 
   pub moved-definitions : (ds : Form) → Every NamesOk ds → map (flatDefinition form′) ds ≡ map (flatDefinition form) ds
   moved-definitions [] k = refl

@@ -2,7 +2,7 @@
 -- Assumes nothing.
 use Prim.Native.Nat.{ℕ, zero, suc, _+_, _-_, _*_, _≤_}
 use mathlib.Core.Path.{_≡_}
-use mathlib.Core.Bool.{Bool, true, false}
+use mathlib.Core.Bool.{Bool, true, false, _&&_}
 use mathlib.Core.List.{List, [], _∷_, _++_, map}
 use lib.Dec.{eqb, leb, ltb}
 use lib.ListN.{length, take, drop}
@@ -98,3 +98,10 @@ destroyed i f =
       attributes = map (movedAttribute g) (cutOut a (b - a) (f .attributes));
       rows = map (movedRow g (lowered b (b - a))) (f .rows);
     }
+
+-- a model has definition i; a document is one of it
+abbrev pub isMember : ℕ → Deep FlatParticle → Bool
+isMember i p = eqb (p .row .sort) 0 && eqb (p .row .index) i
+
+abbrev pub isRoot : ℕ → Deep FlatRow → Bool
+isRoot i r = eqb (r .depth) 0 && (eqb (r .row .sort) 1 && eqb (r .row .index) i)

@@ -105,7 +105,7 @@ module _ {bs : Bytes} {f : FlatStore} (x : Encoded bs f) where
       ∙ ap₂ (λ (k : ℕ) (l : Bytes). drop k (drop 40 l)) (ap (λ (k : ℕ). 20 * k) (x .definitions) ∙ sym (length-each definitionBytes 20 length-definition (f .definitions))) (sym (x .written))
       ∙ drop-append-seam (each definitionBytes (f .definitions)) (others f)
 
-each-append : {A : Type 0} (g : A → Bytes) (xs ys : List A) → each g (xs ++ ys) ≡ each g xs ++ each g ys
+pub each-append : {A : Type 0} (g : A → Bytes) (xs ys : List A) → each g (xs ++ ys) ≡ each g xs ++ each g ys
 each-append g [] ys = refl
 each-append g (x ∷ xs) ys = ap (λ (l : Bytes). g x ++ l) (each-append g xs ys) ∙ sym (append-assoc (g x) (each g xs) (each g ys))
 

@@ -2,6 +2,7 @@ pub mod Kept
 pub mod Renumbered
 pub mod Created
 pub mod Writing
+pub mod Searching
 pub mod Naming
 pub mod Encoded
 pub mod Limits
@@ -9,4 +10,5 @@ pub mod CreateCall
 pub mod Lowered
 pub mod Destroyed
 pub mod InUse
-pub mod Searching
+pub mod Again
+pub mod Moving

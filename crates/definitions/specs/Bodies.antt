@@ -1,14 +1,16 @@
 -- The bodies of a store after changes 1 and 2.
 -- Assumes nothing.
-use Prim.Native.Nat.{ℕ, zero, suc, _+_, _-_, _*_, _≤_}
+use Prim.Native.Nat.{ℕ, zero, suc, _+_, _-_, _*_, _<_, _≤_}
 use mathlib.Core.Path.{_≡_}
 use mathlib.Core.Bool.{Bool, true, false, _&&_}
 use mathlib.Core.List.{List, [], _∷_, _++_, map}
 use lib.Dec.{eqb, leb, ltb}
-use lib.ListN.{length, take, drop}
+use lib.ListN.{length, take, drop, getD}
 use Rattle.rules.specs.Bytes.{Bytes, same, any}
 use Rattle.rules.specs.Preorder.{Deep}
-use Rattle.rules.specs.Layout.{FlatDefinition, FlatParticle, FlatAttribute, FlatRow, FlatStore, flatBytes, entry, headerSize, definitionSize, particleSize, attributeSize}
+use Rattle.rules.specs.Layout.{FlatDefinition, FlatParticle, FlatAttribute, FlatRow, FlatStore, flatBytes, le, entry, headerSize, definitionSize, particleSize, attributeSize}
+use Rattle.rules.specs.Decode.{numberAt, definitionCount}
+use Rattle.rules.specs.Passing.{passes}
 use Rattle.rules.specs.Outcome.{unlessRefused}
 use Rattle.records.specs.Records.{baseWidth}
 use Rattle.storing.specs.Stores.{limited}
@@ -46,9 +48,12 @@ pub record Limit (room : ℕ) (f : FlatStore) (r : ℕ) : Type 0 where
   pub fits : r ≡ 0 → length (flatBytes baseWidth f) ≤ room
 
 -- ---- indices that move
--- a particle, where element indices move by g
+-- the index of a particle of a sort, where element indices move by g
+abbrev pub memberMoved : (ℕ → ℕ) → ℕ → ℕ → ℕ
+memberMoved g sort i = elim (eqb sort 0) [ true ↦ g i | false ↦ i ]
+
 unfoldable pub movedParticle : (ℕ → ℕ) → Deep FlatParticle → Deep FlatParticle
-movedParticle g x = record { depth = x .depth; row = record { sort = x .row .sort; quantifier = x .row .quantifier; index = elim (eqb (x .row .sort) 0) [ true ↦ g (x .row .index) | false ↦ x .row .index ] } }
+movedParticle g x = record { depth = x .depth; row = record { sort = x .row .sort; quantifier = x .row .quantifier; index = memberMoved g (x .row .sort) (x .row .index) } }
 
 -- the index of a row of a sort, where element indices move by g and attribute indices by h
 abbrev pub rowMoved : (ℕ → ℕ) → (ℕ → ℕ) → ℕ → ℕ → ℕ
@@ -105,3 +110,28 @@ isMember i p = eqb (p .row .sort) 0 && eqb (p .row .index) i
 
 abbrev pub isRoot : ℕ → Deep FlatRow → Bool
 isRoot i r = eqb (r .depth) 0 && (eqb (r .row .sort) 1 && eqb (r .row .index) i)
+
+-- ---- records written again
+-- each of `count` records of `size` bytes, written as g of it
+unfoldable pub eachRecord : (Bytes → Bytes) → ℕ → ℕ → Bytes → Bytes
+eachRecord g size zero bs = []
+eachRecord g size (suc count) bs = g (take size bs) ++ eachRecord g size count (drop size bs)
+
+unfoldable pub particleRecord : (ℕ → ℕ) → Bytes → Bytes
+particleRecord g rec = take 2 rec ++ (memberMoved g (getD rec 0 0) (getD rec 2 0) ∷ getD rec 3 0 ∷ [])
+
+unfoldable pub attributeRecord : (ℕ → ℕ) → Bytes → Bytes
+attributeRecord g rec = g (getD rec 0 0) ∷ drop 1 rec
+
+unfoldable pub rowRecord : (ℕ → ℕ) → (ℕ → ℕ) → Bytes → Bytes
+rowRecord g h rec = take 2 rec ++ (le 2 (rowMoved g h (getD rec 0 0) (numberAt 2 2 rec)) ++ drop 4 rec)
+
+-- r is the number `count`, which is at most `all`
+pub record Counted (count all r : ℕ) : Type 0 where
+  pub is : r ≡ count
+  pub most : r ≤ all
+
+-- definition i of a store that passes
+pub record Standing (bs : Bytes) (i : ℕ) : Type 0 where
+  pub good : passes bs ≡ true
+  pub there : i < definitionCount bs

@@ -1,20 +1,23 @@
 //! Changes 1 and 2: a definition created, and one destroyed.
 use storing::Answer;
 ghost use mathlib.Core.Path.{_≡_};
-ghost use mathlib.Core.Bool.{true};
+ghost use mathlib.Core.Bool.{Bool, true};
 ghost use mathlib.Core.List.{_++_};
-ghost use Prim.Native.Nat.{_≤_, _<_};
-ghost use lib.ListN.{length, take};
-ghost use Rattle.rules.specs.Layout.{entry, field, nameWidth, definitionBytes, flatBytes};
+ghost use Prim.Native.Nat.{suc, _+_, _*_, _≤_, _<_};
+ghost use lib.Dec.{ltb};
+ghost use lib.ListN.{length, take, drop};
+ghost use Rattle.rules.specs.Bytes.{any};
+ghost use Rattle.rules.specs.Layout.{entry, field, nameWidth, definitionBytes, particleBytes, attributeBytes, rowBytes, each, flatBytes};
+ghost use Rattle.rules.specs.Decode.{readParticle, readAttribute, readRow, readMany, definitionCount, particleCount, attributeCount};
 ghost use Rattle.rules.specs.Passing.{passes};
-ghost use Rattle.rules.specs.Change.{createDefinition};
+ghost use Rattle.rules.specs.Change.{createDefinition, destroyDefinition};
 ghost use Rattle.rules.specs.Refusal.{first, conditions};
 ghost use Rattle.rules.specs.Outcome.{outcome, Answers};
 ghost use Rattle.records.specs.Records.{baseWidth};
 ghost use Rattle.codec.specs.Laid.{Laid};
-ghost use Rattle.lookup.specs.Bodies.{bodiesOf};
+ghost use Rattle.lookup.specs.Bodies.{bodiesOf, rowStart};
 ghost use Rattle.storing.specs.Stores.{storeIn};
-ghost use Rattle.definitions.specs.Bodies.{newDefinition, created, named, contents, Limit};
+ghost use Rattle.definitions.specs.Bodies.{newDefinition, created, named, contents, Limit, lowered, cutOut, memberMoved, rowMoved, particleRecord, attributeRecord, rowRecord, eachRecord, isMember, isRoot, isBelow, particlesOf, attributesOf, Counted, Standing, destroyed};
 
 const HEADER_SIZE: usize = 40;
 
@@ -169,4 +172,205 @@ pub fn create_definition(store: &[u8], name: &[u8], kind: u32, out: &mut [u8]) -
     }
     let length = put_created(store, name, kind, out);
     Answer { number: 0, length }
+}
+
+// ---- change 2: indices
+
+// Where an index goes when `less` entries before number `from` go.
+fn lower(index: u32, from: u32, less: u32) -> u32
+    requires { ⌜ less ≤ from ⌝ }
+    ensures { λ r. ⌜ Counted (lowered from less index) index r ⌝ }
+{
+    if index >= from { index - less } else { index }
+}
+
+// Where a definition's index goes when another definition goes.
+fn lower_byte(index: u8, definition: u32) -> u8
+    requires { ⌜ definition ≤ 64 ⌝ }
+    ensures { λ r. ⌜ r ≡ lowered (suc definition) 1 index ⌝ }
+{
+    let index = index as u32;
+    let moved = lower(index, definition + 1, 1);
+    moved as u8
+}
+
+// .. in a particle: a group has none.
+fn moved_member(sort: u8, index: u8, definition: u32) -> u8
+    requires { ⌜ definition ≤ 64 ⌝ }
+    ensures { λ r. ⌜ r ≡ memberMoved (lowered (suc definition) 1) sort index ⌝ }
+{
+    if sort == 0 {
+        return lower_byte(index, definition);
+    }
+    index
+}
+
+// .. in a row: `less` attributes before number `from` go.
+fn moved_row(sort: u8, index: u32, definition: u32, from: u32, less: u32) -> u32
+    requires { ⌜ (definition ≤ 64) × (less ≤ from) ⌝ }
+    ensures { λ r. ⌜ r ≡ rowMoved (lowered (suc definition) 1) (lowered from less) sort index ⌝ }
+{
+    if sort == 1 {
+        let moved = lower(index, definition + 1, 1);
+        return moved;
+    }
+    if sort == 2 {
+        let moved = lower(index, from, less);
+        return moved;
+    }
+    index
+}
+
+// ---- change 2: records
+
+fn put_particle(rec: &[u8], definition: u32, out: &mut [u8], at: usize) -> usize
+    requires { ⌜ (definition ≤ 64) × (at < 4611686018427387904) ⌝ }
+    ensures { λ r. ⌜ Laid (particleRecord (lowered (suc definition) 1) (now (rec .entry))) (now (out .entry)) at r (now (out .exit)) ⌝ }
+{
+    let moved = moved_member(codec::byte(rec, 0), codec::byte(rec, 2), definition);
+    let depth = codec::byte(rec, 3);
+    let first = codec::put(records::first(rec, 2), out, at);
+    let second = codec::put_u8(out, first, moved);
+    codec::put_u8(out, second, depth)
+}
+
+fn put_attribute(rec: &[u8], definition: u32, out: &mut [u8], at: usize) -> usize
+    requires { ⌜ (definition ≤ 64) × (length (now rec) ≤ 52) × (at < 4611686018427387904) ⌝ }
+    ensures { λ r. ⌜ Laid (attributeRecord (lowered (suc definition) 1) (now (rec .entry))) (now (out .entry)) at r (now (out .exit)) ⌝ }
+{
+    let owner = lower_byte(codec::byte(rec, 0), definition);
+    let first = codec::put_u8(out, at, owner);
+    codec::put(records::after(rec, 1), out, first)
+}
+
+fn put_row(rec: &[u8], definition: u32, from: u32, less: u32, out: &mut [u8], at: usize) -> usize
+    requires { ⌜ (definition ≤ 64) × (less ≤ from) × (length (now rec) ≤ 44) × (at < 4611686018427387904) ⌝ }
+    ensures { λ r. ⌜ Laid (rowRecord (lowered (suc definition) 1) (lowered from less) (now (rec .entry))) (now (out .entry)) at r (now (out .exit)) ⌝ }
+{
+    let index = codec::get_u16(rec, 2);
+    let moved = moved_row(codec::byte(rec, 0), index, definition, from, less);
+    let first = codec::put(records::first(rec, 2), out, at);
+    let second = codec::put_u16(out, first, moved);
+    codec::put(records::after(rec, 4), out, second)
+}
+
+// ---- change 2: the first `count` records of a body
+
+fn put_particles(body: &[u8], count: usize, definition: u32, out: &mut [u8], start: usize) -> usize
+    requires { ⌜ (definition ≤ 64) × (count ≤ 4096) × (start < 1152921504606846976) ⌝ }
+    ensures { λ r. ⌜ Laid (eachRecord (particleRecord (lowered (suc definition) 1)) 4 count (now (body .entry))) (now (out .entry)) start r (now (out .exit)) ⌝ }
+{
+    let mut at = start;
+    let mut i = 0;
+    while i < count {
+        at = put_particle(lookup::window(body, 4 * i, 4), definition, out, at);
+        i += 1;
+    }
+    at
+}
+
+fn put_attributes(body: &[u8], count: usize, definition: u32, out: &mut [u8], start: usize) -> usize
+    requires { ⌜ (definition ≤ 64) × (count ≤ 4096) × (start < 1152921504606846976) ⌝ }
+    ensures { λ r. ⌜ Laid (eachRecord (attributeRecord (lowered (suc definition) 1)) 52 count (now (body .entry))) (now (out .entry)) start r (now (out .exit)) ⌝ }
+{
+    let mut at = start;
+    let mut i = 0;
+    while i < count {
+        at = put_attribute(lookup::window(body, 52 * i, 52), definition, out, at);
+        i += 1;
+    }
+    at
+}
+
+fn put_rows(
+    body: &[u8],
+    count: usize,
+    definition: u32,
+    from: u32,
+    less: u32,
+    out: &mut [u8],
+    start: usize,
+) -> usize
+    requires { ⌜ (definition ≤ 64) × (less ≤ from) × (count ≤ 4096) × (start < 1152921504606846976) ⌝ }
+    ensures { λ r. ⌜ Laid (eachRecord (rowRecord (lowered (suc definition) 1) (lowered from less)) 44 count (now (body .entry))) (now (out .entry)) start r (now (out .exit)) ⌝ }
+{
+    let mut at = start;
+    let mut i = 0;
+    while i < count {
+        let rec = lookup::window(body, 44 * i, 44);
+        at = put_row(rec, definition, from, less, out, at);
+        i += 1;
+    }
+    at
+}
+
+// ---- change 2: what the bodies have
+
+// Whether a particle is an element of definition i.
+fn is_member(rec: &[u8], i: u32) -> bool
+    ensures { λ r. ⌜ r ≡ isMember i (readParticle (now (rec .entry))) ⌝ }
+{
+    let sort = codec::byte(rec, 0);
+    let index = codec::byte(rec, 2) as u32;
+    (sort == 0) & (index == i)
+}
+
+// Whether a row is a document of definition i.
+fn is_root(rec: &[u8], i: u32) -> bool
+    ensures { λ r. ⌜ r ≡ isRoot i (readRow (now (rec .entry))) ⌝ }
+{
+    let depth = codec::byte(rec, 1);
+    let sort = codec::byte(rec, 0);
+    let index = codec::get_u16(rec, 2);
+    (depth == 0) & ((sort == 1) & (index == i))
+}
+
+fn has_member(body: &[u8], count: usize, definition: u32) -> bool
+    requires { ⌜ count < 4294967296 ⌝ }
+    ensures { λ r. ⌜ r ≡ any (isMember definition) (readMany readParticle 4 count (now (body .entry))) ⌝ }
+{
+    let mut i = 0;
+    while i < count {
+        if is_member(lookup::window(body, 4 * i, 4), definition) {
+            return true;
+        }
+        i += 1;
+    }
+    false
+}
+
+fn has_root(body: &[u8], count: usize, definition: u32) -> bool
+    requires { ⌜ count < 4294967296 ⌝ }
+    ensures { λ r. ⌜ r ≡ any (isRoot definition) (readMany readRow 44 count (now (body .entry))) ⌝ }
+{
+    let mut i = 0;
+    while i < count {
+        if is_root(lookup::window(body, 44 * i, 44), definition) {
+            return true;
+        }
+        i += 1;
+    }
+    false
+}
+
+// 1 if an attribute is of one of the first i definitions.
+fn is_below(rec: &[u8], i: u32) -> usize
+    ensures { λ r. ⌜ Counted (isBelow i (readAttribute (now (rec .entry)))) 1 r ⌝ }
+{
+    let owner = codec::byte(rec, 0) as u32;
+    if owner < i { 1 } else { 0 }
+}
+
+// How many attributes the first i definitions have.
+fn attributes_below(body: &[u8], count: usize, i: u32) -> usize
+    requires { ⌜ count < 4294967296 ⌝ }
+    ensures { λ r. ⌜ Counted (attributesOf i (readMany readAttribute 52 count (now (body .entry)))) count r ⌝ }
+{
+    let mut sum = 0;
+    let mut j = 0;
+    while j < count {
+        sum += is_below(lookup::window(body, 52 * j, 52), i);
+        j += 1;
+    }
+    sum
 }

@@ -1,4 +1,8 @@
-use Rattle.definitions.proofs.Naming.{Naming, naming-start, naming-hit, naming-on, naming-none}
+use Rattle.definitions.proofs.Searching.{Searching, searching-start, searching-hit, searching-on, searching-end}
+use Rattle.definitions.proofs.Naming.{hasName, definitions-named, record-named}
+use Rattle.rules.specs.Decode.{readDefinition}
+use lib.ListN.{drop}
+use mathlib.Core.Path.{sym}
 use lib.ListN.{take, drop}
 use mathlib.Core.Path.{_∙_, ap}
 use Prim.Native.Nat.{ℕ, _-_}
@@ -14,7 +18,7 @@ use Rattle.codec.proofs.get_u32.Reads as get-u32-reads
 use Rattle.lookup.proofs.window.Reads as window-reads
 
 abbrev Inv-loop : tie.InvT-loop
-Inv-loop store name count i₀ i = Naming store name count i
+Inv-loop store name count i₀ i = Searching readDefinition 20 (hasName name) (drop 40 store) count i
 
 abbrev μ-loop : tie.MeasureT-loop
 μ-loop store name count i₀ i = count - i
@@ -26,7 +30,7 @@ cast-count : tie.Need-cast-count Inv-loop μ-loop
 cast-count c = search needs
 
 loop-holds : tie.Need-loop-holds Inv-loop μ-loop
-loop-holds c = naming-start _ _ _ (c .get-u32 .ensures)
+loop-holds c = searching-start readDefinition 20 (hasName (c .before .before .before .args .name .now)) (drop 40 (c .before .before .before .args .store .now)) _
 
 mul-window : tie.Need-mul-window Inv-loop μ-loop
 mul-window c = search needs
@@ -50,7 +54,7 @@ equal-requires : tie.Need-equal-requires Inv-loop μ-loop
 equal-requires c κs = search needs
 
 returns : tie.Need-returns Inv-loop μ-loop
-returns c = naming-hit (c .before .before .before .before .before .before .before .before .before .before .args .store .now) (c .before .before .before .before .before .before .before .before .before .before .args .name .now) _ _ (c .before .before .before .before .before .before .loop .inv) (omega arith) _ _ _ (c .before .before .before .before .window .ensures) (c .before .before .window2 .ensures ∙ ap (λ (k : ℕ). take k (drop 1 (c .before .before .before .before .window .result .now))) (c .before .before .before .byte .ensures)) (c .before .equal .ensures) (c .if1 .taken)
+returns c = definitions-named (c .before .before .before .before .before .before .before .before .before .before .args .store .now) (c .before .before .before .before .before .before .before .before .before .before .args .name .now) _ (c .before .before .before .before .before .before .before .get-u32 .ensures) (searching-hit readDefinition 20 (hasName (c .before .before .before .before .before .before .before .before .before .before .args .name .now)) (drop 40 (c .before .before .before .before .before .before .before .before .before .before .args .store .now)) _ _ (c .before .before .before .before .before .before .loop .inv) (omega arith) (record-named (c .before .before .before .before .before .before .before .before .before .before .args .store .now) (c .before .before .before .before .before .before .before .before .before .before .args .name .now) (c .before .before .before .before .before .before .loop .i) _ _ _ (c .before .before .before .before .window .ensures) (c .before .before .before .byte .ensures) (c .before .before .window2 .ensures) (c .before .equal .ensures)) (c .if1 .taken))
 
 add-i : tie.Need-add-i Inv-loop μ-loop
 add-i c = search needs
@@ -59,10 +63,10 @@ loop-less : tie.Need-loop-less Inv-loop μ-loop
 loop-less c = search needs
 
 loop-again : tie.Need-loop-again Inv-loop μ-loop
-loop-again c = naming-on (c .before .before .before .before .before .before .before .before .before .before .args .store .now) (c .before .before .before .before .before .before .before .before .before .before .args .name .now) _ _ (c .before .before .before .before .before .before .loop .inv) (omega arith) _ _ _ (c .before .before .before .before .window .ensures) (c .before .before .window2 .ensures ∙ ap (λ (k : ℕ). take k (drop 1 (c .before .before .before .before .window .result .now))) (c .before .before .before .byte .ensures)) (c .before .equal .ensures) (c .if1 .left)
+loop-again c = searching-on readDefinition 20 (hasName (c .before .before .before .before .before .before .before .before .before .before .args .name .now)) (drop 40 (c .before .before .before .before .before .before .before .before .before .before .args .store .now)) _ _ (c .before .before .before .before .before .before .loop .inv) (omega arith) (record-named (c .before .before .before .before .before .before .before .before .before .before .args .store .now) (c .before .before .before .before .before .before .before .before .before .before .args .name .now) (c .before .before .before .before .before .before .loop .i) _ _ _ (c .before .before .before .before .window .ensures) (c .before .before .before .byte .ensures) (c .before .before .window2 .ensures) (c .before .equal .ensures)) (c .if1 .left)
 
 returns-2 : tie.Need-returns-2 Inv-loop μ-loop
-returns-2 c = naming-none _ _ _ _ (c .before .loop .inv) (omega arith)
+returns-2 c = definitions-named (c .before .before .before .before .before .args .store .now) (c .before .before .before .before .before .args .name .now) _ (c .before .before .get-u32 .ensures) (searching-end readDefinition 20 (hasName (c .before .before .before .before .before .args .name .now)) (drop 40 (c .before .before .before .before .before .args .store .now)) _ _ (c .before .loop .inv) (omega arith))
 
 pub is-taken-spec : {M : Type 1} → statement M
 is-taken-spec =

@@ -12,3 +12,4 @@ pub mod Destroyed
 pub mod InUse
 pub mod Again
 pub mod Moving
+pub mod Left

@@ -58,6 +58,12 @@ module _ (g : Bytes → Bytes) (size : ℕ) (body : Bytes) (count : ℕ) {out₀
     unfolding eachRecord
     going-end h = let e : count - i ≡ 0 = omega arith in s .goes at out (laid-as (ap (λ (k : ℕ). eachRecord g size k (drop (size * i) body)) e) laid-none)
 
+pub records-short : (g : Bytes → Bytes) (size : ℕ) → ((rec : Bytes) → length rec ≤ size → length (g rec) ≤ 64) → (count : ℕ) (body : Bytes) → length (eachRecord g size count body) ≤ 64 * count
+unfolding eachRecord
+records-short g size h zero body = omega arith
+records-short g size h (suc count) body =
+    omega (arith, length-append (g (take size body)) (eachRecord g size count (drop size body)), h (take size body) (omega (arith, length-take size body)), records-short g size h count (drop size body))
+
 -- ---- the records of a list
 module _ {A : Type 0} (f : A → Bytes) (size : ℕ) (sized : (x : A) → length (f x) ≡ size) where
   pub each-drop : (k : ℕ) (xs : List A) (rest : Bytes) → k ≤ length xs → drop (size * k) (each f xs ++ rest) ≡ each f (drop k xs) ++ rest

@@ -3,6 +3,7 @@
 use Prim.Native.Nat.{ℕ, zero, suc, _+_, _-_, _*_, _<_, _≤_}
 use native.Mathlib.Omega.{arith}
 use native.Mathlib.Nat.{zero-add}
+use native.Mathlib.Numerals.{add-one}
 use mathlib.Core.Path.{_≡_, refl, sym, ap, ap₂, _∙_}
 use mathlib.Core.Bool.{Bool, true, false, _&&_}
 use mathlib.Core.List.{List, [], _∷_, _++_, map, append-nil}
@@ -29,7 +30,7 @@ use Rattle.validity.specs.Reading.{noDefinition}
 use Rattle.lookup.specs.Bodies.{bodiesOf, rowStart}
 use Rattle.storing.specs.Stores.{storeIn}
 use Rattle.storing.proofs.StoreLaws.{Holds, holds}
-use Rattle.definitions.specs.Bodies.{contents, lowered, cutOut, particlesOf, isBelow, attributesOf, eachRecord, particleRecord, attributeRecord, rowRecord, movedParticle, movedAttribute, movedRow, Counted, destroyed}
+use Rattle.definitions.specs.Bodies.{contents, lowered, cutOut, particlesOf, isBelow, attributesOf, eachRecord, particleRecord, attributeRecord, rowRecord, movedParticle, movedAttribute, movedRow, Counted, destroyed, headerLeft}
 use Rattle.definitions.proofs.Encoded.{Encoded, encoded, bytes-are, others, others-at, each-append}
 use Rattle.definitions.proofs.Again.{each-drop, each-take, cut-again, records-again, particle-again, attribute-again, row-again}
 
@@ -126,7 +127,15 @@ pub attribute-starts : (bs : Bytes) (i count : ℕ) (body : Bytes) {r : ℕ} →
 attribute-starts bs i count body e q c =
     record { is = c .is ∙ ap₂ (λ (k : ℕ) (l : Bytes). attributesOf i (readMany readAttribute 52 k l)) e q ∙ sym (ap (attributesOf i) (attributes-read bs)); most = omega (arith, c .most, e) }
 
+-- a count at the next number
+pub next-counted : (P : ℕ → ℕ) (i n : ℕ) {r : ℕ} → Counted (P (i + 1)) n r → Counted (P (suc i)) n r
+next-counted P i n c = record { is = c .is ∙ ap P (add-one i); most = c .most }
+
 -- ---- lengths
+cut-most : {A : Type 0} (a n : ℕ) (xs : List A) → length (cutOut a n xs) ≤ length xs
+unfolding cutOut
+cut-most a n xs = omega (arith, length-append (take a xs) (drop (a + n) xs), length-take a xs, length-drop (a + n) xs)
+
 length-cut : {A : Type 0} (a b : ℕ) (xs : List A) → a ≤ b → b ≤ length xs → length (cutOut a (b - a) xs) ≡ length xs - (b - a)
 unfolding cutOut
 length-cut a b xs h k = omega (arith, length-append (take a xs) (drop (a + (b - a)) xs), length-take-le a xs (omega arith), length-drop (a + (b - a)) xs)
@@ -148,8 +157,8 @@ module _ (bs : Bytes) (p : passes bs ≡ true) (i : ℕ) (h : i < definitionCoun
   unfolding destroyed
   models-left n a b e ca cb =
       let z : length (destroyed i f .particles) ≡ length (f .particles) - (particlesOf (suc i) (f .definitions) - particlesOf i (f .definitions)) =
-          length-map (cutOut (particlesOf i (f .definitions)) (particlesOf (suc i) (f .definitions) - particlesOf i (f .definitions)) (f .particles)) (movedParticle (lowered (suc i) 1))
-          ∙ length-cut (particlesOf i (f .definitions)) (particlesOf (suc i) (f .definitions)) (f .particles) (particles-step i (f .definitions)) (particles-within bs p (suc i))
+      length-map (cutOut (particlesOf i (f .definitions)) (particlesOf (suc i) (f .definitions) - particlesOf i (f .definitions)) (f .particles)) (movedParticle (lowered (suc i) 1))
+      ∙ length-cut (particlesOf i (f .definitions)) (particlesOf (suc i) (f .definitions)) (f .particles) (particles-step i (f .definitions)) (particles-within bs p (suc i))
       in
       record { is = omega (arith, z, e, ca .is, cb .is, x .particles); most = omega (arith, e, x .particles, x .fewParticles) }
 
@@ -157,11 +166,30 @@ module _ (bs : Bytes) (p : passes bs ≡ true) (i : ℕ) (h : i < definitionCoun
   unfolding destroyed
   attributes-left n a b e ca cb =
       let z : length (destroyed i f .attributes) ≡ length (f .attributes) - (attributesOf (suc i) (f .attributes) - attributesOf i (f .attributes)) =
-          length-map (cutOut (attributesOf i (f .attributes)) (attributesOf (suc i) (f .attributes) - attributesOf i (f .attributes)) (f .attributes)) (movedAttribute (lowered (suc i) 1))
-          ∙ length-cut (attributesOf i (f .attributes)) (attributesOf (suc i) (f .attributes)) (f .attributes) (attributes-step i (f .attributes)) (attributes-most (suc i) (f .attributes))
+      length-map (cutOut (attributesOf i (f .attributes)) (attributesOf (suc i) (f .attributes) - attributesOf i (f .attributes)) (f .attributes)) (movedAttribute (lowered (suc i) 1))
+      ∙ length-cut (attributesOf i (f .attributes)) (attributesOf (suc i) (f .attributes)) (f .attributes) (attributes-step i (f .attributes)) (attributes-most (suc i) (f .attributes))
       in
       record { is = omega (arith, z, e, ca .is, cb .is, x .attributes); most = omega (arith, e, x .attributes, x .fewAttributes) }
 
   pub rows-left : length (destroyed i f .rows) ≡ rowCount bs
   unfolding destroyed
   rows-left = length-map (f .rows) (movedRow (lowered (suc i) 1) (lowered (attributesOf (suc i) (f .attributes)) (attributesOf (suc i) (f .attributes) - attributesOf i (f .attributes)))) ∙ sym (x .rows)
+
+  pub few-particles : length (destroyed i f .particles) ≤ 256
+  unfolding destroyed
+  few-particles =
+      let a : ℕ = particlesOf i (f .definitions) in
+      let n : ℕ = particlesOf (suc i) (f .definitions) - particlesOf i (f .definitions) in
+      omega (arith, length-map (cutOut a n (f .particles)) (movedParticle (lowered (suc i) 1)), cut-most a n (f .particles), x .fewParticles)
+
+  pub few-attributes : length (destroyed i f .attributes) ≤ 64
+  unfolding destroyed
+  few-attributes =
+      let a : ℕ = attributesOf i (f .attributes) in
+      let n : ℕ = attributesOf (suc i) (f .attributes) - attributesOf i (f .attributes) in
+      omega (arith, length-map (cutOut a n (f .attributes)) (movedAttribute (lowered (suc i) 1)), cut-most a n (f .attributes), x .fewAttributes)
+
+  pub header-left : (d m n r : ℕ) {out out₁ : Bytes} {at : ℕ} → d ≡ definitionCount bs → Counted (length (destroyed i f .particles)) 256 m → Counted (length (destroyed i f .attributes)) 64 n → r ≡ rowCount bs
+      → Laid (take 8 bs ++ contents (d - 1) m n r) out 0 at out₁ → Laid (headerLeft i bs) out 0 at out₁
+  header-left d m n r ed em en er l =
+      laid-as (λ j. take 8 bs ++ contents ((definitions-left ∙ ap (λ (k : ℕ). k - 1) (sym ed)) j) (sym (em .is) j) (sym (en .is) j) ((rows-left ∙ sym er) j)) l

@@ -13,3 +13,5 @@ pub mod InUse
 pub mod Again
 pub mod Moving
 pub mod Left
+pub mod LeftBytes
+pub mod DestroyCall

@@ -13,6 +13,7 @@ use Rattle.rules.specs.Decode.{numberAt, definitionCount}
 use Rattle.rules.specs.Passing.{passes}
 use Rattle.rules.specs.Outcome.{unlessRefused}
 use Rattle.records.specs.Records.{baseWidth}
+use Rattle.lookup.specs.Bodies.{bodiesOf}
 use Rattle.storing.specs.Stores.{limited}
 
 -- ---- change 1
@@ -135,3 +136,9 @@ pub record Counted (count all r : ℕ) : Type 0 where
 pub record Standing (bs : Bytes) (i : ℕ) : Type 0 where
   pub good : passes bs ≡ true
   pub there : i < definitionCount bs
+
+-- the header of what is left
+abbrev pub headerLeft : ℕ → Bytes → Bytes
+headerLeft i bs =
+    let f : FlatStore = destroyed i (bodiesOf bs) in
+    take 8 bs ++ contents (length (f .definitions)) (length (f .particles)) (length (f .attributes)) (length (f .rows))

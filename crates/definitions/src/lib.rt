@@ -17,11 +17,17 @@ ghost use Rattle.records.specs.Records.{baseWidth};
 ghost use Rattle.codec.specs.Laid.{Laid};
 ghost use Rattle.lookup.specs.Bodies.{bodiesOf, rowStart};
 ghost use Rattle.storing.specs.Stores.{storeIn};
-ghost use Rattle.definitions.specs.Bodies.{newDefinition, created, named, contents, Limit, lowered, cutOut, memberMoved, rowMoved, particleRecord, attributeRecord, rowRecord, eachRecord, isMember, isRoot, isBelow, particlesOf, attributesOf, Counted, Standing, destroyed};
+ghost use Rattle.definitions.specs.Bodies.{newDefinition, created, named, contents, Limit, lowered, cutOut, memberMoved, rowMoved, particleRecord, attributeRecord, rowRecord, eachRecord, isMember, isRoot, isBelow, particlesOf, attributesOf, Counted, Standing, destroyed, headerLeft};
 
 const HEADER_SIZE: usize = 40;
 
 const DEFINITION_SIZE: usize = 20;
+
+const PARTICLE_SIZE: usize = 4;
+
+const ATTRIBUTE_SIZE: usize = 52;
+
+const ROW_SIZE: usize = 44;
 
 const NAME_WIDTH: usize = 16;
 
@@ -373,4 +379,217 @@ fn attributes_below(body: &[u8], count: usize, i: u32) -> usize
         j += 1;
     }
     sum
+}
+
+// ---- change 2: the bodies of a store
+
+fn particle_body(store: &[u8]) -> &[u8]
+    ensures { λ r. ⌜ now r ≡ drop (40 + 20 * definitionCount (now (store .entry))) (now (store .entry)) ⌝ }
+{
+    let definitions = codec::get_u32(store, 12) as usize;
+    records::after(store, HEADER_SIZE + DEFINITION_SIZE * definitions)
+}
+
+fn attribute_body(store: &[u8]) -> &[u8]
+    ensures { λ r. ⌜ now r ≡ drop (40 + 20 * definitionCount (now (store .entry)) + 4 * particleCount (now (store .entry))) (now (store .entry)) ⌝ }
+{
+    let definitions = codec::get_u32(store, 12) as usize;
+    let particles = codec::get_u32(store, 20) as usize;
+    records::after(
+        store,
+        HEADER_SIZE + DEFINITION_SIZE * definitions + PARTICLE_SIZE * particles,
+    )
+}
+
+fn row_body(store: &[u8]) -> &[u8]
+    ensures { λ r. ⌜ now r ≡ drop (rowStart (now (store .entry))) (now (store .entry)) ⌝ }
+{
+    records::after(store, lookup::row_start(store))
+}
+
+// How many particles the first i definitions have.
+fn model_start(store: &[u8], i: u32) -> u32
+    requires { ⌜ (passes (now store) ≡ true) × (i ≤ definitionCount (now store)) ⌝ }
+    ensures { λ r. ⌜ Counted (particlesOf i (bodiesOf (now (store .entry)) .definitions)) (particleCount (now (store .entry))) r ⌝ }
+{
+    let definitions = records::after(store, HEADER_SIZE);
+    rowpass::particles_before(definitions, i as usize) as u32
+}
+
+// How many attributes the first i definitions have.
+fn attribute_start(store: &[u8], i: u32) -> u32
+    ensures { λ r. ⌜ Counted (attributesOf i (bodiesOf (now (store .entry)) .attributes)) (attributeCount (now (store .entry))) r ⌝ }
+{
+    let count = codec::get_u32(store, 28) as usize;
+    attributes_below(attribute_body(store), count, i) as u32
+}
+
+// How many particles are left without definition i.
+fn particles_left(store: &[u8], i: u32) -> u32
+    requires { ⌜ Standing (now store) i ⌝ }
+    ensures { λ r. ⌜ Counted (length (destroyed i (bodiesOf (now (store .entry))) .particles)) 256 r ⌝ }
+{
+    let start = model_start(store, i);
+    let end = model_start(store, i + 1);
+    let count = codec::get_u32(store, 20);
+    count - (end - start)
+}
+
+// How many attributes are left without definition i.
+fn attributes_left(store: &[u8], i: u32) -> u32
+    requires { ⌜ Standing (now store) i ⌝ }
+    ensures { λ r. ⌜ Counted (length (destroyed i (bodiesOf (now (store .entry))) .attributes)) 64 r ⌝ }
+{
+    let start = attribute_start(store, i);
+    let end = attribute_start(store, i + 1);
+    let count = codec::get_u32(store, 28);
+    count - (end - start)
+}
+
+// ---- change 2: what is left of a store without definition i
+
+fn put_header_left(store: &[u8], i: u32, out: &mut [u8]) -> usize
+    requires { ⌜ Standing (now store) i ⌝ }
+    ensures { λ r. ⌜ Laid (headerLeft i (now (store .entry))) (now (out .entry)) 0 r (now (out .exit)) ⌝ }
+{
+    let d = codec::get_u32(store, 12);
+    let p = particles_left(store, i);
+    let a = attributes_left(store, i);
+    let r = codec::get_u32(store, 36);
+    put_header(store, d - 1, p, a, r, out)
+}
+
+fn put_definitions_left(store: &[u8], i: u32, out: &mut [u8], at: usize) -> usize
+    requires { ⌜ Standing (now store) i × (at < 16777216) ⌝ }
+    ensures { λ r. ⌜ Laid (each definitionBytes (destroyed i (bodiesOf (now (store .entry))) .definitions)) (now (out .entry)) at r (now (out .exit)) ⌝ }
+{
+    let count = codec::get_u32(store, 12) as usize;
+    let before = i as usize;
+    let front = lookup::window(store, HEADER_SIZE, DEFINITION_SIZE * before);
+    let size = DEFINITION_SIZE * (count - before - 1);
+    let back = lookup::window(store, 60 + DEFINITION_SIZE * before, size);
+    let next = codec::put(front, out, at);
+    codec::put(back, out, next)
+}
+
+fn put_particles_left(store: &[u8], i: u32, out: &mut [u8], at: usize) -> usize
+    requires { ⌜ Standing (now store) i × (at < 16777216) ⌝ }
+    ensures { λ r. ⌜ Laid (each particleBytes (destroyed i (bodiesOf (now (store .entry))) .particles)) (now (out .entry)) at r (now (out .exit)) ⌝ }
+{
+    let start = model_start(store, i) as usize;
+    let end = model_start(store, i + 1) as usize;
+    let count = codec::get_u32(store, 20) as usize;
+    let body = particle_body(store);
+    let next = put_particles(body, start, i, out, at);
+    put_particles(
+        records::after(body, PARTICLE_SIZE * end),
+        count - end,
+        i,
+        out,
+        next,
+    )
+}
+
+fn put_attributes_left(store: &[u8], i: u32, out: &mut [u8], at: usize) -> usize
+    requires { ⌜ Standing (now store) i × (at < 16777216) ⌝ }
+    ensures { λ r. ⌜ Laid (each (attributeBytes baseWidth) (destroyed i (bodiesOf (now (store .entry))) .attributes)) (now (out .entry)) at r (now (out .exit)) ⌝ }
+{
+    let start = attribute_start(store, i) as usize;
+    let end = attribute_start(store, i + 1) as usize;
+    let count = codec::get_u32(store, 28) as usize;
+    let body = attribute_body(store);
+    let next = put_attributes(body, start, i, out, at);
+    put_attributes(
+        records::after(body, ATTRIBUTE_SIZE * end),
+        count - end,
+        i,
+        out,
+        next,
+    )
+}
+
+fn put_rows_left(store: &[u8], i: u32, out: &mut [u8], at: usize) -> usize
+    requires { ⌜ Standing (now store) i × (at < 16777216) ⌝ }
+    ensures { λ r. ⌜ Laid (each (rowBytes baseWidth) (destroyed i (bodiesOf (now (store .entry))) .rows)) (now (out .entry)) at r (now (out .exit)) ⌝ }
+{
+    let start = attribute_start(store, i);
+    let end = attribute_start(store, i + 1);
+    let count = codec::get_u32(store, 36) as usize;
+    put_rows(row_body(store), count, i, end, end - start, out, at)
+}
+
+// ---- change 2: the call
+
+// The number of the first condition of change 2 that holds, 0 if none does.
+fn destroy_condition(store: &[u8], i: u32) -> u32
+    requires { ⌜ passes (now store) ≡ true ⌝ }
+    ensures { λ r. ⌜ r ≡ first (conditions (destroyDefinition i) (storeIn (now (store .entry)))) ⌝ }
+{
+    if i >= codec::get_u32(store, 12) {
+        return 6;
+    }
+    let particles = codec::get_u32(store, 20) as usize;
+    let rows = codec::get_u32(store, 36) as usize;
+    let in_model = has_member(particle_body(store), particles, i);
+    let in_root = has_root(row_body(store), rows, i);
+    if in_model | in_root {
+        return 10;
+    }
+    0
+}
+
+// 18 if the store without definition i is longer than the room, else 0.
+fn destroy_limit(store: &[u8], i: u32, room: usize) -> u32
+    requires { ⌜ Standing (now store) i ⌝ }
+    ensures { λ r. ⌜ Limit room (destroyed i (bodiesOf (now (store .entry)))) r ⌝ }
+{
+    let definitions = codec::get_u32(store, 12) as usize;
+    let particles = particles_left(store, i) as usize;
+    let attributes = attributes_left(store, i) as usize;
+    let rows = codec::get_u32(store, 36) as usize;
+    let front = HEADER_SIZE + DEFINITION_SIZE * (definitions - 1) + PARTICLE_SIZE * particles;
+    if front + ATTRIBUTE_SIZE * attributes + ROW_SIZE * rows > room {
+        return 18;
+    }
+    0
+}
+
+// Writes the store without definition i.
+fn put_destroyed(store: &[u8], i: u32, out: &mut [u8]) -> usize
+    requires { ⌜ Standing (now store) i ⌝ }
+    ensures { λ r. ⌜ Laid (flatBytes baseWidth (destroyed i (bodiesOf (now (store .entry))))) (now (out .entry)) 0 r (now (out .exit)) ⌝ }
+{
+    let first = put_header_left(store, i, out);
+    let second = put_definitions_left(store, i, out, first);
+    let third = put_particles_left(store, i, out, second);
+    let fourth = put_attributes_left(store, i, out, third);
+    put_rows_left(store, i, out, fourth)
+}
+
+/// Change 2: destroys a definition, with its model and its attributes.
+pub fn destroy_definition(store: &[u8], definition: u32, out: &mut [u8]) -> Answer
+    ensures { λ r. ⌜ Answers (outcome (destroyDefinition definition) (now (store .entry)) (length (now (out .entry)))) (now (out .entry)) (r .number) (r .length) (now (out .exit)) ⌝ }
+{
+    if !validity::passes(store) {
+        return Answer {
+            number: 1,
+            length: 0,
+        };
+    }
+    let condition = destroy_condition(store, definition);
+    if condition != 0 {
+        return Answer {
+            number: condition,
+            length: 0,
+        };
+    }
+    let limit = destroy_limit(store, definition, out.len());
+    if limit != 0 {
+        return Answer {
+            number: limit,
+            length: 0,
+        };
+    }
+    let length = put_destroyed(store, definition, out);
+    Answer { number: 0, length }
 }

@@ -5,15 +5,15 @@ use native.Mathlib.Omega.{arith}
 use native.Mathlib.Nat.{mul-suc, mul-zero}
 use native.Mathlib.Numerals.{add-one}
 use mathlib.Core.Path.{_≡_, refl, sym, ap, ap₂, _∙_}
-use mathlib.Core.List.{List, [], _∷_, _++_, map, append-nil, append-assoc}
+use mathlib.Core.List.{List, [], _∷_, _++_, map, append-assoc}
 use lib.ListN.{length, take, drop, getD, length-append, length-take, length-drop, take-append-drop}
 use lib.Seq.{drop-drop, take-append-seam, drop-append-seam, length-take-le, length-sets}
 use Rattle.rules.specs.Bytes.{Bytes}
 use Rattle.rules.specs.Preorder.{Deep}
 use Rattle.rules.specs.Layout.{FlatParticle, FlatAttribute, FlatRow, particleBytes, attributeBytes, rowBytes, each, le}
-use Rattle.rules.specs.Decode.{numberAt, unle}
-use Rattle.rules.proofs.BooleanLaws.{Every, every-any}
-use Rattle.rules.proofs.LayoutLaws.{GoodFlatRow, unle-le, length-each, length-particle, length-attribute, length-row}
+use Rattle.rules.specs.Decode.{numberAt}
+use Rattle.rules.proofs.BooleanLaws.{Every}
+use Rattle.rules.proofs.LayoutLaws.{GoodFlatRow, unle-le, length-each}
 use Rattle.records.specs.Records.{baseWidth}
 use Rattle.codec.specs.Laid.{Laid}
 use Rattle.codec.proofs.Writers.{laid-none, laid-then, laid-as}

@@ -1,17 +1,16 @@
 -- The conditions and the limits of change 1, by what the code tests.
 -- Assumes nothing.
-use Prim.Native.Nat.{ℕ, zero, suc, _+_, _*_, _<_, _≤_}
+use Prim.Native.Nat.{ℕ, _+_, _<_, _≤_}
 use native.Mathlib.Omega.{arith}
 use mathlib.Core.Path.{_≡_, refl, sym, ap, ap₂, _∙_}
-use mathlib.Core.Bool.{Bool, true, false, _&&_, not, false≢true}
-use mathlib.Core.List.{List, [], _∷_, _++_}
+use mathlib.Core.Bool.{Bool, true, false, _&&_, not}
+use mathlib.Core.List.{[], _∷_}
 use lib.Dec.{leb, ltb}
 use lib.ListN.{length, length-append}
 use borrow.Author.Tests.{lt-ltb, le-ltb, le-leb, lt-leb, ltb-false}
 use Rattle.rules.specs.Bytes.{Bytes, all}
-use Rattle.rules.specs.Store.{Store}
 use Rattle.rules.specs.Preorder.{Deep}
-use Rattle.rules.specs.Layout.{FlatDefinition, FlatParticle, FlatStore, flat, flatBytes}
+use Rattle.rules.specs.Layout.{FlatParticle, FlatStore, flat, flatBytes}
 use Rattle.rules.specs.Decode.{definitionCount}
 use Rattle.rules.specs.WellFormed.{storedName, known, withinCeilings, highestNumber}
 use Rattle.rules.specs.Passing.{passes}
@@ -23,7 +22,7 @@ use Rattle.rules.proofs.LayoutLaws.{length-flatBytes}
 use Rattle.records.specs.Records.{baseWidth}
 use Rattle.lookup.specs.Bodies.{bodiesOf}
 use Rattle.storing.specs.Stores.{storeIn}
-use Rattle.storing.proofs.StoreLaws.{Holds, holds}
+use Rattle.storing.proofs.StoreLaws.{holds}
 use Rattle.definitions.specs.Bodies.{Limit, created, newDefinition, named}
 use Rattle.definitions.proofs.Encoded.{Encoded, encoded}
 use Rattle.definitions.proofs.Limits.{limit-ceiling, limit-room, limit-none}

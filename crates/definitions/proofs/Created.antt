@@ -3,23 +3,23 @@
 use Prim.Native.Nat.{ℕ, zero, suc, _+_, _≤_}
 use native.Mathlib.Omega.{arith}
 use mathlib.Core.Path.{_≡_, refl, sym, ap, ap₂, _∙_}
-use mathlib.Core.Bool.{Bool, true, false, _||_, not, false≢true}
+use mathlib.Core.Bool.{Bool, true, false, _||_, false≢true}
 use mathlib.Core.List.{List, [], _∷_, _++_, map, append-nil, List·Memᴰ}
 use lib.Dec.{eqb}
 use lib.ListN.{length}
-use Rattle.rules.specs.Bytes.{Bytes, same, any, all}
+use Rattle.rules.specs.Bytes.{Bytes, same, all}
 use Rattle.rules.specs.Model.{done, names}
 use Rattle.rules.specs.Store.{Definition, Form, RowSort, element, attribute, text, Row, Forest, bare, tree, Store, members, heads}
 use Rattle.rules.specs.Preorder.{Deep}
-use Rattle.rules.specs.Layout.{FlatDefinition, FlatParticle, FlatAttribute, FlatRow, FlatStore, indexOf, attributeIndex, contentParticles, flatDefinition, allParticles, ownAttributes, allAttributes, flat, kindCode}
+use Rattle.rules.specs.Layout.{FlatDefinition, FlatParticle, FlatAttribute, FlatRow, indexOf, attributeIndex, contentParticles, flatDefinition, allParticles, ownAttributes, allAttributes, flat}
 use Rattle.rules.specs.Decode.{contentOf}
-use Rattle.rules.specs.WellFormed.{known, lookup, isThere}
-use Rattle.rules.specs.Conforming.{EveryRow, isElement, isAttribute, fitsRow, fitsDefinition}
+use Rattle.rules.specs.WellFormed.{known, lookup}
+use Rattle.rules.specs.Conforming.{EveryRow, isElement, fitsRow}
 use Rattle.rules.specs.Passing.{good}
 use Rattle.rules.specs.Change.{createDefinition, formAfter, plan, after}
-use Rattle.rules.proofs.BooleanLaws.{Every, every-in, every-at, every-map, all-in, none-nil}
-use Rattle.rules.proofs.DecodeLaws.{GoodParts, good-parts, good-known, fits-known, DefinitionParts}
-use Rattle.definitions.specs.Bodies.{created, newDefinition, rowMoved, movedRow, movedParticle, named}
+use Rattle.rules.proofs.BooleanLaws.{Every, every-map, all-in, none-nil}
+use Rattle.rules.proofs.DecodeLaws.{GoodParts, good-parts, good-known, fits-known}
+use Rattle.definitions.specs.Bodies.{created, newDefinition, movedRow, movedParticle, named}
 use Rattle.definitions.proofs.Kept.{after-kept}
 use Rattle.definitions.proofs.Renumbered.{map-append, OkRow, moved-models, moved-definitions, moved-rows}
 

@@ -1,28 +1,28 @@
 -- The conditions of change 2, by what the code tests, and the store that it leaves.
 -- Assumes nothing.
-use Prim.Native.Nat.{ℕ, zero, suc, _+_, _*_, _<_, _≤_}
+use Prim.Native.Nat.{ℕ, _+_, _*_, _<_, _≤_}
 use native.Mathlib.Omega.{arith}
 use mathlib.Core.Path.{_≡_, refl, sym, ap, ap₂, _∙_}
-use mathlib.Core.Bool.{Bool, true, false, _||_, not, false≢true}
-use mathlib.Core.List.{List, [], _∷_, map}
+use mathlib.Core.Bool.{Bool, true, false, _||_, not}
+use mathlib.Core.List.{[], _∷_}
 use lib.Dec.{ltb}
 use lib.ListN.{length, drop, length-map}
 use borrow.Author.Tests.{lt-ltb, le-ltb}
 use Rattle.rules.specs.Bytes.{Bytes, bytes, any}
 use Rattle.rules.specs.Model.{names, member}
-use Rattle.rules.specs.Store.{Definition, Form, Store, members, heads}
+use Rattle.rules.specs.Store.{Definition, Store, members, heads}
 use Rattle.rules.specs.Layout.{FlatStore, flat, flatDefinition}
 use Rattle.rules.specs.Decode.{readParticle, readRow, readMany, definitionCount, particleCount, rowCount}
 use Rattle.rules.specs.Lines.{elementNamed}
 use Rattle.rules.specs.Passing.{passes}
 use Rattle.rules.specs.Change.{destroyDefinition, nameAtIndex, after}
 use Rattle.rules.specs.Refusal.{first, conditions, past, _if_}
-use Rattle.history.proofs.Conditions.{Unmet, first-append, conditions-numbered, or-false, not-past}
+use Rattle.history.proofs.Conditions.{first-append, conditions-numbered, or-false, not-past}
 use Rattle.lookup.specs.Bodies.{bodiesOf, rowStart}
 use Rattle.storing.specs.Stores.{storeIn}
-use Rattle.storing.proofs.StoreLaws.{Holds, holds}
-use Rattle.definitions.specs.Bodies.{isMember, isRoot, destroyed, Standing}
-use Rattle.definitions.proofs.Encoded.{Encoded, encoded}
+use Rattle.storing.proofs.StoreLaws.{holds}
+use Rattle.definitions.specs.Bodies.{isMember, isRoot, destroyed, Defined}
+use Rattle.definitions.proofs.Encoded.{encoded}
 use Rattle.definitions.proofs.Destroyed.{flat-destroyed}
 use Rattle.definitions.proofs.InUse.{used-in-models, used-as-root}
 use Rattle.definitions.proofs.Left.{particles-read, rows-read}
@@ -80,7 +80,7 @@ module _ (bs : Bytes) (i : ℕ) (p : passes bs ≡ true) where
   unfolding conditions
   unmet z = let (there, (used, end)) = first-append (conditions (destroyDefinition i) s) [] (conditions-numbered (destroyDefinition i) s) z .0 in (there, used)
 
-  pub stands : condition ≡ 0 → Standing bs i
+  pub stands : condition ≡ 0 → Defined bs i
   stands z = record { good = p; there = omega (arith, count-is, not-past i (s .form) (unmet z .0)) }
 
   pub flat-after-destroy : condition ≡ 0 → flat (after (destroyDefinition i) s) ≡ destroyed i (bodiesOf bs)

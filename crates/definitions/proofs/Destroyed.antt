@@ -1,28 +1,27 @@
 -- The bodies of a store after change 2.
 -- Assumes nothing.
-use Prim.Native.Nat.{ℕ, zero, suc, _+_, _-_, _<_, _≤_}
-use mathlib.Core.Path.{_≡_, refl, sym, ap, ap₂, _∙_}
-use mathlib.Core.Logic.{_⊎_, inl, inr}
-use mathlib.Core.Bool.{Bool, true, false, false≢true}
-use mathlib.Core.List.{List, [], _∷_, _++_, map, List·Memᴰ, Memᴰ·cast}
+use Prim.Native.Nat.{ℕ, zero, suc, _-_, _<_}
+use mathlib.Core.Path.{_≡_, refl, sym, ap, _∙_}
+use mathlib.Core.Logic.{inl, inr}
+use mathlib.Core.Bool.{true, false, false≢true}
+use mathlib.Core.List.{List, [], _∷_, map, List·Memᴰ, Memᴰ·cast}
 use lib.ListN.{length}
 use Rattle.rules.specs.Bytes.{Bytes, bytes, any}
 use Rattle.rules.specs.Model.{names, member}
-use Rattle.rules.specs.Store.{Definition, Form, RowSort, element, attribute, text, Row, Forest, bare, tree, Store, members, heads}
-use Rattle.rules.specs.Preorder.{Deep}
-use Rattle.rules.specs.Layout.{FlatDefinition, FlatParticle, FlatAttribute, FlatRow, FlatStore, valueWidth, indexOf, attributeIndex, flatDefinition, allParticles, allAttributes, flat}
+use Rattle.rules.specs.Store.{Definition, Form, Row, Forest, bare, tree, Store, members, heads}
+use Rattle.rules.specs.Layout.{valueWidth, indexOf, attributeIndex, flatDefinition, allParticles, allAttributes, flat}
 use Rattle.rules.specs.Conforming.{EveryRow, fitsRow}
 use Rattle.rules.specs.Lines.{elementNamed}
 use Rattle.rules.specs.Passing.{good}
 use Rattle.rules.specs.Change.{destroyDefinition, nameAtIndex, without, formAfter, plan, after}
-use Rattle.rules.proofs.BooleanLaws.{Every, every-in, every-at}
+use Rattle.rules.proofs.BooleanLaws.{Every, every-in}
 use Rattle.rules.proofs.TestLaws.{any-test, member-test}
-use Rattle.rules.proofs.DecodeLaws.{GoodParts, good-parts}
+use Rattle.rules.proofs.DecodeLaws.{good-parts}
 use Rattle.history.proofs.Rowwise.{Standing}
 use Rattle.history.proofs.StandingLaws.{standing-every}
 use Rattle.history.proofs.ConformingForms.{nowhere}
 use Rattle.history.proofs.ConformingSimple.{GoodTests, good-tests}
-use Rattle.definitions.specs.Bodies.{destroyed, lowered, cutOut, particlesOf, attributesOf, movedParticle, movedRow, movedAttribute}
+use Rattle.definitions.specs.Bodies.{destroyed, lowered, cutOut, particlesOf, attributesOf, movedParticle, movedRow}
 use Rattle.definitions.proofs.Kept.{after-kept}
 use Rattle.definitions.proofs.Renumbered.{OkRow, moved-models, moved-definitions, moved-rows}
 use Rattle.definitions.proofs.Created.{others-bare, roots-elements}

@@ -1,16 +1,16 @@
 -- The bytes of a store that passes, by its bodies; and what is written of them.
 -- Assumes nothing.
-use Prim.Native.Nat.{ℕ, zero, suc, _+_, _*_, _≤_}
+use Prim.Native.Nat.{ℕ, _+_, _*_, _≤_}
 use native.Mathlib.Omega.{arith}
 use mathlib.Core.Path.{_≡_, refl, sym, ap, ap₂, _∙_}
-use mathlib.Core.Bool.{Bool, true, false}
+use mathlib.Core.Bool.{true}
 use mathlib.Core.List.{List, [], _∷_, _++_, append-assoc, append-nil}
 use lib.ListN.{length, take, drop, length-append, length-take}
 use lib.Seq.{drop-drop, take-append-seam, drop-append-seam}
 use Rattle.rules.specs.Bytes.{Bytes}
 use Rattle.rules.specs.Store.{Store}
-use Rattle.rules.specs.Layout.{FlatStore, flat, flatBytes, definitionSize, definitionBytes, particleBytes, attributeBytes, rowBytes, each}
-use Rattle.rules.specs.Decode.{readDefinition, readParticle, readAttribute, readRow, readMany, definitionCount, particleCount, attributeCount, rowCount}
+use Rattle.rules.specs.Layout.{FlatStore, flat, flatBytes, definitionBytes, particleBytes, attributeBytes, rowBytes, each}
+use Rattle.rules.specs.Decode.{readDefinition, readParticle, readAttribute, readRow, definitionCount, particleCount, attributeCount, rowCount}
 use Rattle.rules.specs.WellFormed.{highestNumber, withinCeilings}
 use Rattle.rules.specs.Passing.{passes, good, knownVersion}
 use Rattle.rules.proofs.Words.{and-split}

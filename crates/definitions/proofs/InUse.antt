@@ -1,31 +1,30 @@
 -- A definition is in use: said by names, and by indices.
 -- Assumes nothing.
-use Prim.Native.Nat.{ℕ, zero, suc, _<_}
+use Prim.Native.Nat.{ℕ, suc, _<_}
 use native.Mathlib.Omega.{arith}
 use mathlib.Core.Path.{_≡_, refl, sym, ap, ap₂, _∙_}
 use mathlib.Core.Bool.{Bool, true, false, _&&_, _||_, false≢true}
 use mathlib.Core.List.{List, [], _∷_, _++_, map}
 use lib.Dec.{eqb}
 use lib.ListN.{length}
-use borrow.Author.Tests.{eq-eqb, ne-eqb, eqb-true}
+use borrow.Author.Tests.{eq-eqb, ne-eqb}
 use Rattle.rules.specs.declared.GroupKind.{GroupKind}
 use Rattle.rules.specs.declared.GroupKind.the-variants.{Sequence, Choice}
 use Rattle.rules.specs.Bytes.{Bytes, same, bytes, any, all}
 use Rattle.rules.specs.Model.{Members, done, el, group, names, member, Distinct}
 use Rattle.rules.specs.Store.{Content, empty, pcdata, complex, Definition, Form, RowSort, element, attribute, text, Row, Forest, bare, tree, Store, modelOf, members, heads}
-use Rattle.rules.specs.Preorder.{Deep, flatten}
-use Rattle.rules.specs.Layout.{FlatParticle, FlatRow, indexOf, particles, contentParticles, allParticles, indexed, flat, rowCode, rowIndex, quantifierCode, groupCode, howMany, valueWidth}
+use Rattle.rules.specs.Preorder.{flatten}
+use Rattle.rules.specs.Layout.{indexOf, particles, contentParticles, allParticles, indexed, flat, rowCode, rowIndex, quantifierCode, groupCode, howMany, valueWidth}
 use Rattle.rules.specs.WellFormed.{known, definitionName}
-use Rattle.rules.specs.Conforming.{EveryRow, isElement, fitsRow}
+use Rattle.rules.specs.Conforming.{EveryRow, fitsRow}
 use Rattle.rules.specs.Lines.{elementNamed}
 use Rattle.rules.specs.Passing.{good}
 use Rattle.rules.specs.Change.{nameAtIndex}
 use Rattle.rules.proofs.Words.{and-split}
 use Rattle.rules.proofs.BooleanLaws.{Every, all-left, all-right}
-use Rattle.rules.proofs.Apart.{differs}
 use Rattle.rules.proofs.WellFormedLaws.{well-formed}
-use Rattle.rules.proofs.DecodeLaws.{GoodParts, good-parts, good-known}
-use Rattle.history.proofs.ConformingSimple.{GoodTests, good-tests}
+use Rattle.rules.proofs.DecodeLaws.{good-parts, good-known}
+use Rattle.history.proofs.ConformingSimple.{good-tests}
 use Rattle.validity.proofs.IndexLaws.{index-name, index-once, known-at, name-of}
 use Rattle.definitions.specs.Bodies.{isMember, isRoot}
 use Rattle.definitions.proofs.Created.{element-known}

@@ -1,21 +1,21 @@
 -- A change whose plan keeps all rows leaves the documents as they are.
 -- Assumes nothing.
-use Prim.Native.Nat.{ℕ, zero, suc, _+_, _≤_}
+use Prim.Native.Nat.{ℕ, _+_, _≤_}
 use native.Mathlib.Nat.{add-zero}
 use native.Mathlib.Omega.{arith}
-use mathlib.Core.Path.{_≡_, refl, sym, ap, _∙_}
+use mathlib.Core.Path.{_≡_, refl, ap, _∙_}
 use mathlib.Core.Bool.{Bool, true, false}
-use mathlib.Core.List.{List, [], _∷_}
+use mathlib.Core.List.{[]}
 use borrow.Author.Tests.{ne-eqb}
 use lib.Dec.{eqb}
-use Rattle.rules.specs.Bytes.{Bytes, all}
+use Rattle.rules.specs.Bytes.{all}
 use Rattle.rules.specs.Store.{Row, Forest, bare, tree, Store}
 use Rattle.rules.specs.Conforming.{EveryRow}
 use Rattle.rules.specs.Lines.{ground, lines}
 use Rattle.rules.specs.Passing.{serials, good}
 use Rattle.rules.specs.Change.{Call, Plan, keeping, neither, plan, prune, revalue, eachRow, plant, isNew, newRows, given, number, changed, formAfter, after}
 use Rattle.rules.proofs.SerialLaws.{every-serial}
-use Rattle.history.proofs.ConformingSimple.{GoodTests, good-tests}
+use Rattle.history.proofs.ConformingSimple.{good-tests}
 
 -- no row is new
 abbrev pub Given : Forest Row → Type 0

@@ -2,37 +2,31 @@
 -- Assumes nothing.
 use Prim.Native.Nat.{ℕ, zero, suc, _+_, _-_, _*_, _<_, _≤_}
 use native.Mathlib.Omega.{arith}
-use native.Mathlib.Nat.{zero-add}
 use native.Mathlib.Numerals.{add-one}
 use mathlib.Core.Path.{_≡_, refl, sym, ap, ap₂, _∙_}
-use mathlib.Core.Bool.{Bool, true, false, _&&_}
-use mathlib.Core.List.{List, [], _∷_, _++_, map, append-nil}
-use lib.Dec.{leb, ltb}
-use lib.ListN.{length, take, drop, getD, length-append, length-map, length-take, length-drop, take-append-drop}
+use mathlib.Core.Bool.{Bool, true, false}
+use mathlib.Core.List.{List, [], _∷_, _++_, map}
+use lib.Dec.{ltb}
+use lib.ListN.{length, take, drop, getD, length-append, length-map, length-take, length-drop}
 use lib.Seq.{drop-drop, drop-append-seam, length-take-le}
-use borrow.Author.Tests.{le-leb, lt-ltb, le-ltb, ltb-true, ltb-false}
-use Rattle.rules.specs.Bytes.{Bytes, all}
-use Rattle.rules.specs.Store.{Definition, Form, Store}
-use Rattle.rules.specs.Preorder.{Deep}
-use Rattle.rules.specs.Layout.{FlatDefinition, FlatParticle, FlatAttribute, FlatRow, FlatStore, flatBytes, definitionBytes, particleBytes, attributeBytes, rowBytes, each, contentParticles, flatDefinition, allParticles, flat}
+use borrow.Author.Tests.{ltb-true, ltb-false}
+use Rattle.rules.specs.Bytes.{Bytes}
+use Rattle.rules.specs.Store.{Form}
+use Rattle.rules.specs.Layout.{FlatDefinition, FlatAttribute, FlatStore, particleBytes, attributeBytes, rowBytes, each, contentParticles, flatDefinition, allParticles}
 use Rattle.rules.specs.Decode.{readDefinition, readParticle, readAttribute, readRow, readMany, definitionCount, particleCount, attributeCount, rowCount}
-use Rattle.rules.specs.WellFormed.{withinCeilings}
 use Rattle.rules.specs.Passing.{passes}
-use Rattle.rules.proofs.Words.{and-both, and-split}
-use Rattle.rules.proofs.BooleanLaws.{Every, every-any, all-left, all-right}
-use Rattle.rules.proofs.LayoutLaws.{length-definition, length-particle, length-attribute, length-row, length-each, length-flatBytes}
+use Rattle.rules.proofs.LayoutLaws.{length-particle, length-attribute, length-each}
 use Rattle.records.specs.Records.{baseWidth}
 use Rattle.codec.specs.Laid.{Laid}
-use Rattle.codec.proofs.Writers.{laid-then, laid-as}
+use Rattle.codec.proofs.Writers.{laid-as}
 use Rattle.codec.proofs.Records.{many-at}
 use Rattle.rowpass.specs.Reading.{definitionIn, particlesBefore}
 use Rattle.validity.specs.Reading.{noDefinition}
 use Rattle.lookup.specs.Bodies.{bodiesOf, rowStart}
 use Rattle.storing.specs.Stores.{storeIn}
-use Rattle.storing.proofs.StoreLaws.{Holds, holds}
-use Rattle.definitions.specs.Bodies.{contents, lowered, cutOut, particlesOf, isBelow, attributesOf, eachRecord, particleRecord, attributeRecord, rowRecord, movedParticle, movedAttribute, movedRow, Counted, destroyed, headerLeft}
-use Rattle.definitions.proofs.Encoded.{Encoded, encoded, bytes-are, others, others-at, each-append}
-use Rattle.definitions.proofs.Again.{each-drop, each-take, cut-again, records-again, particle-again, attribute-again, row-again}
+use Rattle.storing.proofs.StoreLaws.{holds}
+use Rattle.definitions.specs.Bodies.{contents, lowered, cutOut, particlesOf, isBelow, attributesOf, movedParticle, movedAttribute, movedRow, Counted, destroyed, headerLeft}
+use Rattle.definitions.proofs.Encoded.{Encoded, encoded, others-at}
 
 -- ---- where the bodies stand
 module _ {bs : Bytes} {f : FlatStore} (x : Encoded bs f) where

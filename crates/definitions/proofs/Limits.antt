@@ -5,8 +5,8 @@ use native.Mathlib.Nat.{zero-add}
 use native.Mathlib.Omega.{arith}
 use mathlib.Core.Path.{_≡_, refl, sym, ap, _∙_}
 use mathlib.Core.Bool.{Bool, true, false, not}
-use mathlib.Core.List.{List, [], _∷_, _++_}
-use lib.Dec.{ltb, lt→ltb, ltb→lt}
+use mathlib.Core.List.{[], _∷_, _++_}
+use lib.Dec.{ltb}
 use lib.ListN.{length, drop}
 use lib.Seq.{sets-eq}
 use borrow.Author.Tests.{lt-ltb, le-ltb}
@@ -20,7 +20,7 @@ use Rattle.rules.specs.Outcome.{Outcome, refused, wrote, unlessRefused, outcome
 use Rattle.records.specs.Records.{baseWidth}
 use Rattle.codec.specs.Laid.{Laid}
 use Rattle.storing.specs.Stores.{storeIn, limited}
-use Rattle.storing.proofs.StoreLaws.{Holds, holds, outcome-bad, outcome-refused, outcome-limited}
+use Rattle.storing.proofs.StoreLaws.{holds, outcome-bad, outcome-refused, outcome-limited}
 use Rattle.definitions.specs.Bodies.{Limit}
 
 module _ (room : ℕ) (f : FlatStore) where

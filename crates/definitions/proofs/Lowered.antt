@@ -2,21 +2,21 @@
 -- Assumes nothing.
 use Prim.Native.Nat.{ℕ, zero, suc, _+_, _-_, _<_, _≤_}
 use native.Mathlib.Omega.{arith}
-use native.Mathlib.Nat.{zero-add, suc-add}
+use native.Mathlib.Nat.{zero-add}
 use mathlib.Core.Path.{_≡_, refl, sym, ap, ap₂, _∙_}
 use mathlib.Core.Bool.{Bool, true, false}
 use mathlib.Core.List.{List, [], _∷_, _++_, map}
-use lib.Dec.{leb, ltb}
-use lib.ListN.{length, take, drop}
+use lib.Dec.{leb}
+use lib.ListN.{length, drop}
 use lib.Seq.{drop-append-seam}
 use borrow.Author.Tests.{le-leb, lt-leb, leb-true, leb-false, lt-ltb, le-ltb}
 use Rattle.rules.specs.Bytes.{Bytes, same, bytes}
 use Rattle.rules.specs.Store.{Attribute, Definition, Form}
 use Rattle.rules.specs.Preorder.{Deep}
 use Rattle.rules.specs.Layout.{FlatDefinition, FlatParticle, FlatAttribute, indexOf, indexIn, attributeIndex, contentParticles, flatDefinition, allParticles, ownAttributes, allAttributes, sortCode}
-use Rattle.rules.specs.Change.{without, nameAtIndex, definitionAt}
+use Rattle.rules.specs.Change.{without, nameAtIndex}
 use Rattle.rules.proofs.Apart.{differs}
-use Rattle.definitions.specs.Bodies.{lowered, cutOut, particlesOf, isBelow, attributesOf, movedAttribute}
+use Rattle.definitions.specs.Bodies.{lowered, cutOut, particlesOf, attributesOf, movedAttribute}
 use Rattle.definitions.proofs.Renumbered.{map-append}
 
 -- ---- numbers that fall

@@ -1,9 +1,8 @@
 -- The loop over the definitions that looks for a name.
 -- Assumes nothing.
 use Prim.Native.Nat.{ℕ, _+_, _*_}
-use mathlib.Core.Path.{_≡_, refl, sym, ap, _∙_}
+use mathlib.Core.Path.{_≡_, sym, ap, _∙_}
 use mathlib.Core.Bool.{Bool}
-use mathlib.Core.List.{List}
 use lib.ListN.{take, drop, getD}
 use lib.Seq.{drop-drop}
 use Rattle.rules.specs.Bytes.{Bytes, same}

@@ -1,10 +1,9 @@
 -- The bodies of a form and of documents under another form in which the names have other indices.
 -- Assumes nothing.
-use Prim.Native.Nat.{ℕ, zero, suc, _+_}
+use Prim.Native.Nat.{ℕ, suc, _+_}
 use mathlib.Core.Path.{_≡_, refl, sym, ap, ap₂, _∙_}
-use mathlib.Core.Bool.{Bool, true, false, false≢true}
+use mathlib.Core.Bool.{false}
 use mathlib.Core.List.{List, [], _∷_, _++_, map, List·Memᴰ, List·Memᴰ·head, List·Memᴰ·tail, Memᴰ·append-left, Memᴰ·append-right}
-use lib.Dec.{eqb}
 use lib.ListN.{length, length-map}
 use Rattle.rules.specs.declared.GroupKind.{GroupKind}
 use Rattle.rules.specs.declared.GroupKind.the-variants.{Sequence, Choice}
@@ -13,7 +12,7 @@ use Rattle.rules.specs.Model.{Members, done, el, group, names}
 use Rattle.rules.specs.Store.{Content, empty, pcdata, complex, Definition, Form, RowSort, element, attribute, text, Row, Forest, bare, tree, modelOf, members, heads}
 use Rattle.rules.specs.Preorder.{Deep, flatten}
 use Rattle.rules.specs.Layout.{FlatDefinition, FlatParticle, FlatRow, indexOf, attributeIndex, particles, contentParticles, flatDefinition, allParticles, rowCode, rowIndex, indexed, quantifierCode, groupCode, kindCode, howMany}
-use Rattle.rules.specs.Conforming.{EveryRow, isElement, isAttribute}
+use Rattle.rules.specs.Conforming.{EveryRow, isElement}
 use Rattle.rules.proofs.BooleanLaws.{Every, every-in}
 use Rattle.definitions.specs.Bodies.{rowMoved, movedRow, movedParticle}
 

@@ -133,7 +133,7 @@ pub record Counted (count all r : ℕ) : Type 0 where
   pub most : r ≤ all
 
 -- definition i of a store that passes
-pub record Standing (bs : Bytes) (i : ℕ) : Type 0 where
+pub record Defined (bs : Bytes) (i : ℕ) : Type 0 where
   pub good : passes bs ≡ true
   pub there : i < definitionCount bs
 

@@ -17,7 +17,7 @@ ghost use Rattle.records.specs.Records.{baseWidth};
 ghost use Rattle.codec.specs.Laid.{Laid};
 ghost use Rattle.lookup.specs.Bodies.{bodiesOf, rowStart};
 ghost use Rattle.storing.specs.Stores.{storeIn};
-ghost use Rattle.definitions.specs.Bodies.{newDefinition, created, named, contents, Limit, lowered, cutOut, memberMoved, rowMoved, particleRecord, attributeRecord, rowRecord, eachRecord, isMember, isRoot, isBelow, particlesOf, attributesOf, Counted, Standing, destroyed, headerLeft};
+ghost use Rattle.definitions.specs.Bodies.{newDefinition, created, named, contents, Limit, lowered, cutOut, memberMoved, rowMoved, particleRecord, attributeRecord, rowRecord, eachRecord, isMember, isRoot, isBelow, particlesOf, attributesOf, Counted, Defined, destroyed, headerLeft};
 
 const HEADER_SIZE: usize = 40;
 
@@ -426,7 +426,7 @@ fn attribute_start(store: &[u8], i: u32) -> u32
 
 // How many particles are left without definition i.
 fn particles_left(store: &[u8], i: u32) -> u32
-    requires { ⌜ Standing (now store) i ⌝ }
+    requires { ⌜ Defined (now store) i ⌝ }
     ensures { λ r. ⌜ Counted (length (destroyed i (bodiesOf (now (store .entry))) .particles)) 256 r ⌝ }
 {
     let start = model_start(store, i);
@@ -437,7 +437,7 @@ fn particles_left(store: &[u8], i: u32) -> u32
 
 // How many attributes are left without definition i.
 fn attributes_left(store: &[u8], i: u32) -> u32
-    requires { ⌜ Standing (now store) i ⌝ }
+    requires { ⌜ Defined (now store) i ⌝ }
     ensures { λ r. ⌜ Counted (length (destroyed i (bodiesOf (now (store .entry))) .attributes)) 64 r ⌝ }
 {
     let start = attribute_start(store, i);
@@ -449,7 +449,7 @@ fn attributes_left(store: &[u8], i: u32) -> u32
 // ---- change 2: what is left of a store without definition i
 
 fn put_header_left(store: &[u8], i: u32, out: &mut [u8]) -> usize
-    requires { ⌜ Standing (now store) i ⌝ }
+    requires { ⌜ Defined (now store) i ⌝ }
     ensures { λ r. ⌜ Laid (headerLeft i (now (store .entry))) (now (out .entry)) 0 r (now (out .exit)) ⌝ }
 {
     let d = codec::get_u32(store, 12);
@@ -460,7 +460,7 @@ fn put_header_left(store: &[u8], i: u32, out: &mut [u8]) -> usize
 }
 
 fn put_definitions_left(store: &[u8], i: u32, out: &mut [u8], at: usize) -> usize
-    requires { ⌜ Standing (now store) i × (at < 16777216) ⌝ }
+    requires { ⌜ Defined (now store) i × (at < 16777216) ⌝ }
     ensures { λ r. ⌜ Laid (each definitionBytes (destroyed i (bodiesOf (now (store .entry))) .definitions)) (now (out .entry)) at r (now (out .exit)) ⌝ }
 {
     let count = codec::get_u32(store, 12) as usize;
@@ -473,7 +473,7 @@ fn put_definitions_left(store: &[u8], i: u32, out: &mut [u8], at: usize) -> usiz
 }
 
 fn put_particles_left(store: &[u8], i: u32, out: &mut [u8], at: usize) -> usize
-    requires { ⌜ Standing (now store) i × (at < 16777216) ⌝ }
+    requires { ⌜ Defined (now store) i × (at < 16777216) ⌝ }
     ensures { λ r. ⌜ Laid (each particleBytes (destroyed i (bodiesOf (now (store .entry))) .particles)) (now (out .entry)) at r (now (out .exit)) ⌝ }
 {
     let start = model_start(store, i) as usize;
@@ -491,7 +491,7 @@ fn put_particles_left(store: &[u8], i: u32, out: &mut [u8], at: usize) -> usize
 }
 
 fn put_attributes_left(store: &[u8], i: u32, out: &mut [u8], at: usize) -> usize
-    requires { ⌜ Standing (now store) i × (at < 16777216) ⌝ }
+    requires { ⌜ Defined (now store) i × (at < 16777216) ⌝ }
     ensures { λ r. ⌜ Laid (each (attributeBytes baseWidth) (destroyed i (bodiesOf (now (store .entry))) .attributes)) (now (out .entry)) at r (now (out .exit)) ⌝ }
 {
     let start = attribute_start(store, i) as usize;
@@ -509,7 +509,7 @@ fn put_attributes_left(store: &[u8], i: u32, out: &mut [u8], at: usize) -> usize
 }
 
 fn put_rows_left(store: &[u8], i: u32, out: &mut [u8], at: usize) -> usize
-    requires { ⌜ Standing (now store) i × (at < 16777216) ⌝ }
+    requires { ⌜ Defined (now store) i × (at < 16777216) ⌝ }
     ensures { λ r. ⌜ Laid (each (rowBytes baseWidth) (destroyed i (bodiesOf (now (store .entry))) .rows)) (now (out .entry)) at r (now (out .exit)) ⌝ }
 {
     let start = attribute_start(store, i);
@@ -540,7 +540,7 @@ fn destroy_condition(store: &[u8], i: u32) -> u32
 
 // 18 if the store without definition i is longer than the room, else 0.
 fn destroy_limit(store: &[u8], i: u32, room: usize) -> u32
-    requires { ⌜ Standing (now store) i ⌝ }
+    requires { ⌜ Defined (now store) i ⌝ }
     ensures { λ r. ⌜ Limit room (destroyed i (bodiesOf (now (store .entry)))) r ⌝ }
 {
     let definitions = codec::get_u32(store, 12) as usize;
@@ -556,7 +556,7 @@ fn destroy_limit(store: &[u8], i: u32, room: usize) -> u32
 
 // Writes the store without definition i.
 fn put_destroyed(store: &[u8], i: u32, out: &mut [u8]) -> usize
-    requires { ⌜ Standing (now store) i ⌝ }
+    requires { ⌜ Defined (now store) i ⌝ }
     ensures { λ r. ⌜ Laid (flatBytes baseWidth (destroyed i (bodiesOf (now (store .entry))))) (now (out .entry)) 0 r (now (out .exit)) ⌝ }
 {
     let first = put_header_left(store, i, out);

@@ -2,11 +2,6 @@ use Rattle.definitions.proofs.Left.{attribute-starts}
 use borrow.Author.Needs.{needs}
 use Rattle.definitions.proofs.attribute_start.Statement.{statement}
 use Rattle.definitions.proofs.attribute_start.Tie as tie
-use Rattle.definitions.proofs.attribute_start.Reads as reads
-use Rattle.definitions.proofs.attribute_start.Lts as lts
-use Rattle.codec.proofs.get_u32.Reads as get-u32-reads
-use Rattle.definitions.proofs.attribute_body.Reads as attribute-body-reads
-use Rattle.definitions.proofs.attributes_below.Reads as attributes-below-reads
 
 get-u32-requires : tie.Need-get-u32-requires
 get-u32-requires c κs = search needs

@@ -4,10 +4,6 @@ use native.Mathlib.Omega.{arith}
 use Prim.Native.Nat.{_-_}
 use Rattle.definitions.proofs.attributes_below.Statement.{statement}
 use Rattle.definitions.proofs.attributes_below.Tie as tie
-use Rattle.definitions.proofs.attributes_below.Reads as reads
-use Rattle.definitions.proofs.attributes_below.Lts as lts
-use Rattle.definitions.proofs.is_below.Reads as is-below-reads
-use Rattle.lookup.proofs.window.Reads as window-reads
 
 abbrev Inv-loop : tie.InvT-loop
 Inv-loop body count i sum₀ j₀ sum j = Counting i body count sum j

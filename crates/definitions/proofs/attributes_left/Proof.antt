@@ -8,10 +8,6 @@ use Prim.Native.Nat.{ℕ}
 use borrow.Author.Needs.{needs}
 use Rattle.definitions.proofs.attributes_left.Statement.{statement}
 use Rattle.definitions.proofs.attributes_left.Tie as tie
-use Rattle.definitions.proofs.attributes_left.Reads as reads
-use Rattle.definitions.proofs.attributes_left.Lts as lts
-use Rattle.codec.proofs.get_u32.Reads as get-u32-reads
-use Rattle.definitions.proofs.attribute_start.Reads as attribute-start-reads
 
 attribute-start-requires : tie.Need-attribute-start-requires
 attribute-start-requires c κs = search needs

@@ -4,10 +4,6 @@ use native.Mathlib.Omega.{arith}
 use borrow.Author.Needs.{needs}
 use Rattle.definitions.proofs.create_condition.Statement.{statement}
 use Rattle.definitions.proofs.create_condition.Tie as tie
-use Rattle.definitions.proofs.create_condition.Reads as reads
-use Rattle.definitions.proofs.create_condition.Lts as lts
-use Rattle.definitions.proofs.is_taken.Reads as is-taken-reads
-use Rattle.records.proofs.stored_name.Reads as stored-name-reads
 
 stored-name-requires : tie.Need-stored-name-requires
 stored-name-requires c κs = search needs

@@ -5,16 +5,9 @@ use Rattle.lookup.specs.Bodies.{bodiesOf}
 use Rattle.rules.specs.Change.{createDefinition}
 use borrow.Author.Tests.{not-true, not-false}
 use mathlib.Core.Path.{sym, _∙_}
-use native.Mathlib.Omega.{arith}
 use borrow.Author.Needs.{needs}
 use Rattle.definitions.proofs.create_definition.Statement.{statement}
 use Rattle.definitions.proofs.create_definition.Tie as tie
-use Rattle.definitions.proofs.create_definition.Reads as reads
-use Rattle.definitions.proofs.create_definition.Lts as lts
-use Rattle.definitions.proofs.create_condition.Reads as create-condition-reads
-use Rattle.definitions.proofs.create_limit.Reads as create-limit-reads
-use Rattle.definitions.proofs.put_created.Reads as put-created-reads
-use Rattle.validity.proofs.passes.Reads as passes-reads
 
 passes-requires : tie.Need-passes-requires
 passes-requires c κs = search needs

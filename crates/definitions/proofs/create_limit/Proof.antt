@@ -3,9 +3,6 @@ use native.Mathlib.Omega.{arith}
 use borrow.Author.Needs.{needs}
 use Rattle.definitions.proofs.create_limit.Statement.{statement}
 use Rattle.definitions.proofs.create_limit.Tie as tie
-use Rattle.definitions.proofs.create_limit.Reads as reads
-use Rattle.definitions.proofs.create_limit.Lts as lts
-use Rattle.codec.proofs.get_u32.Reads as get-u32-reads
 
 get-u32-requires : tie.Need-get-u32-requires
 get-u32-requires c κs = search needs

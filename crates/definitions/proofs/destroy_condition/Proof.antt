@@ -3,13 +3,6 @@ use native.Mathlib.Omega.{arith}
 use borrow.Author.Needs.{needs}
 use Rattle.definitions.proofs.destroy_condition.Statement.{statement}
 use Rattle.definitions.proofs.destroy_condition.Tie as tie
-use Rattle.definitions.proofs.destroy_condition.Reads as reads
-use Rattle.definitions.proofs.destroy_condition.Lts as lts
-use Rattle.codec.proofs.get_u32.Reads as get-u32-reads
-use Rattle.definitions.proofs.has_member.Reads as has-member-reads
-use Rattle.definitions.proofs.has_root.Reads as has-root-reads
-use Rattle.definitions.proofs.particle_body.Reads as particle-body-reads
-use Rattle.definitions.proofs.row_body.Reads as row-body-reads
 
 get-u32-requires : tie.Need-get-u32-requires
 get-u32-requires c κs = search needs

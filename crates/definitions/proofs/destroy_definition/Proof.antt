@@ -8,12 +8,6 @@ use mathlib.Core.Path.{sym, _∙_}
 use borrow.Author.Needs.{needs}
 use Rattle.definitions.proofs.destroy_definition.Statement.{statement}
 use Rattle.definitions.proofs.destroy_definition.Tie as tie
-use Rattle.definitions.proofs.destroy_definition.Reads as reads
-use Rattle.definitions.proofs.destroy_definition.Lts as lts
-use Rattle.definitions.proofs.destroy_condition.Reads as destroy-condition-reads
-use Rattle.definitions.proofs.destroy_limit.Reads as destroy-limit-reads
-use Rattle.definitions.proofs.put_destroyed.Reads as put-destroyed-reads
-use Rattle.validity.proofs.passes.Reads as passes-reads
 
 passes-requires : tie.Need-passes-requires
 passes-requires c κs = search needs

@@ -8,10 +8,6 @@ use native.Mathlib.Omega.{arith}
 use Prim.Native.Nat.{ℕ, _-_}
 use Rattle.definitions.proofs.has_member.Statement.{statement}
 use Rattle.definitions.proofs.has_member.Tie as tie
-use Rattle.definitions.proofs.has_member.Reads as reads
-use Rattle.definitions.proofs.has_member.Lts as lts
-use Rattle.definitions.proofs.is_member.Reads as is-member-reads
-use Rattle.lookup.proofs.window.Reads as window-reads
 
 abbrev Inv-loop : tie.InvT-loop
 Inv-loop body count definition i₀ i = Searching readParticle 4 (isMember definition) body count i

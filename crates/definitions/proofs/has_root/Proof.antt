@@ -8,10 +8,6 @@ use native.Mathlib.Omega.{arith}
 use Prim.Native.Nat.{ℕ, _-_}
 use Rattle.definitions.proofs.has_root.Statement.{statement}
 use Rattle.definitions.proofs.has_root.Tie as tie
-use Rattle.definitions.proofs.has_root.Reads as reads
-use Rattle.definitions.proofs.has_root.Lts as lts
-use Rattle.definitions.proofs.is_root.Reads as is-root-reads
-use Rattle.lookup.proofs.window.Reads as window-reads
 
 abbrev Inv-loop : tie.InvT-loop
 Inv-loop body count definition i₀ i = Searching readRow 44 (isRoot definition) body count i

@@ -3,9 +3,6 @@ use native.Mathlib.Omega.{arith}
 use borrow.Author.Needs.{needs}
 use Rattle.definitions.proofs.is_below.Statement.{statement}
 use Rattle.definitions.proofs.is_below.Tie as tie
-use Rattle.definitions.proofs.is_below.Reads as reads
-use Rattle.definitions.proofs.is_below.Lts as lts
-use Rattle.codec.proofs.byte.Reads as byte-reads
 
 byte-requires : tie.Need-byte-requires
 byte-requires c κs = search needs

@@ -5,9 +5,6 @@ use mathlib.Core.Path.{ap₂}
 use borrow.Author.Needs.{needs}
 use Rattle.definitions.proofs.is_member.Statement.{statement}
 use Rattle.definitions.proofs.is_member.Tie as tie
-use Rattle.definitions.proofs.is_member.Reads as reads
-use Rattle.definitions.proofs.is_member.Lts as lts
-use Rattle.codec.proofs.byte.Reads as byte-reads
 
 byte-requires : tie.Need-byte-requires
 byte-requires c κs = search needs

@@ -1,14 +1,8 @@
 use lib.Dec.{eqb}
 use mathlib.Core.Bool.{_&&_}
-use Prim.Native.Nat.{ℕ}
-use mathlib.Core.Path.{_≡_}
 use borrow.Author.Needs.{needs}
 use Rattle.definitions.proofs.is_root.Statement.{statement}
 use Rattle.definitions.proofs.is_root.Tie as tie
-use Rattle.definitions.proofs.is_root.Reads as reads
-use Rattle.definitions.proofs.is_root.Lts as lts
-use Rattle.codec.proofs.byte.Reads as byte-reads
-use Rattle.codec.proofs.get_u16.Reads as get-u16-reads
 
 byte-requires : tie.Need-byte-requires
 byte-requires c κs = search needs

@@ -2,20 +2,12 @@ use Rattle.definitions.proofs.Searching.{Searching, searching-start, se
 use Rattle.definitions.proofs.Naming.{hasName, definitions-named, record-named}
 use Rattle.rules.specs.Decode.{readDefinition}
 use lib.ListN.{drop}
-use mathlib.Core.Path.{sym}
-use lib.ListN.{take, drop}
-use mathlib.Core.Path.{_∙_, ap}
-use Prim.Native.Nat.{ℕ, _-_}
+use lib.ListN.{drop}
+use Prim.Native.Nat.{_-_}
 use borrow.Author.Needs.{needs}
 use native.Mathlib.Omega.{arith}
 use Rattle.definitions.proofs.is_taken.Statement.{statement}
 use Rattle.definitions.proofs.is_taken.Tie as tie
-use Rattle.definitions.proofs.is_taken.Reads as reads
-use Rattle.definitions.proofs.is_taken.Lts as lts
-use Rattle.codec.proofs.byte.Reads as byte-reads
-use Rattle.codec.proofs.equal.Reads as equal-reads
-use Rattle.codec.proofs.get_u32.Reads as get-u32-reads
-use Rattle.lookup.proofs.window.Reads as window-reads
 
 abbrev Inv-loop : tie.InvT-loop
 Inv-loop store name count i₀ i = Searching readDefinition 20 (hasName name) (drop 40 store) count i

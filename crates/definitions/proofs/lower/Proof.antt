@@ -3,8 +3,6 @@ use native.Mathlib.Omega.{arith}
 use borrow.Author.Needs.{needs}
 use Rattle.definitions.proofs.lower.Statement.{statement}
 use Rattle.definitions.proofs.lower.Tie as tie
-use Rattle.definitions.proofs.lower.Reads as reads
-use Rattle.definitions.proofs.lower.Lts as lts
 
 sub-result : tie.Need-sub-result
 sub-result c = search needs

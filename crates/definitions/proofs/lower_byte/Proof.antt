@@ -2,9 +2,6 @@ use Rattle.definitions.proofs.Moving.{lower-next}
 use borrow.Author.Needs.{needs}
 use Rattle.definitions.proofs.lower_byte.Statement.{statement}
 use Rattle.definitions.proofs.lower_byte.Tie as tie
-use Rattle.definitions.proofs.lower_byte.Reads as reads
-use Rattle.definitions.proofs.lower_byte.Lts as lts
-use Rattle.definitions.proofs.lower.Reads as lower-reads
 
 add-lower : tie.Need-add-lower
 add-lower c = search needs

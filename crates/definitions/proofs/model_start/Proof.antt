@@ -8,10 +8,6 @@ use Prim.Native.Nat.{ℕ}
 use borrow.Author.Needs.{needs}
 use Rattle.definitions.proofs.model_start.Statement.{statement}
 use Rattle.definitions.proofs.model_start.Tie as tie
-use Rattle.definitions.proofs.model_start.Reads as reads
-use Rattle.definitions.proofs.model_start.Lts as lts
-use Rattle.records.proofs.after.Reads as after-reads
-use Rattle.rowpass.proofs.particles_before.Reads as particles-before-reads
 
 after-requires : tie.Need-after-requires
 after-requires c κs = search needs

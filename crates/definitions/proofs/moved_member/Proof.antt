@@ -4,9 +4,6 @@ use Prim.Native.Nat.{suc}
 use borrow.Author.Needs.{needs}
 use Rattle.definitions.proofs.moved_member.Statement.{statement}
 use Rattle.definitions.proofs.moved_member.Tie as tie
-use Rattle.definitions.proofs.moved_member.Reads as reads
-use Rattle.definitions.proofs.moved_member.Lts as lts
-use Rattle.definitions.proofs.lower_byte.Reads as lower-byte-reads
 
 lower-byte-requires : tie.Need-lower-byte-requires
 lower-byte-requires c κs = search needs

@@ -4,9 +4,6 @@ use Prim.Native.Nat.{suc}
 use borrow.Author.Needs.{needs}
 use Rattle.definitions.proofs.moved_row.Statement.{statement}
 use Rattle.definitions.proofs.moved_row.Tie as tie
-use Rattle.definitions.proofs.moved_row.Reads as reads
-use Rattle.definitions.proofs.moved_row.Lts as lts
-use Rattle.definitions.proofs.lower.Reads as lower-reads
 
 add-lower : tie.Need-add-lower
 add-lower c = search needs

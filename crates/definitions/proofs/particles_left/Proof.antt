@@ -8,10 +8,6 @@ use Prim.Native.Nat.{ℕ}
 use borrow.Author.Needs.{needs}
 use Rattle.definitions.proofs.particles_left.Statement.{statement}
 use Rattle.definitions.proofs.particles_left.Tie as tie
-use Rattle.definitions.proofs.particles_left.Reads as reads
-use Rattle.definitions.proofs.particles_left.Lts as lts
-use Rattle.codec.proofs.get_u32.Reads as get-u32-reads
-use Rattle.definitions.proofs.model_start.Reads as model-start-reads
 
 model-start-requires : tie.Need-model-start-requires
 model-start-requires c κs = search needs

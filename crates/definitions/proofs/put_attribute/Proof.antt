@@ -4,13 +4,6 @@ use Prim.Native.Nat.{suc}
 use borrow.Author.Needs.{needs}
 use Rattle.definitions.proofs.put_attribute.Statement.{statement}
 use Rattle.definitions.proofs.put_attribute.Tie as tie
-use Rattle.definitions.proofs.put_attribute.Reads as reads
-use Rattle.definitions.proofs.put_attribute.Lts as lts
-use Rattle.codec.proofs.byte.Reads as byte-reads
-use Rattle.codec.proofs.put.Reads as put-reads
-use Rattle.codec.proofs.put_u8.Reads as put-u8-reads
-use Rattle.definitions.proofs.lower_byte.Reads as lower-byte-reads
-use Rattle.records.proofs.after.Reads as after-reads
 
 byte-requires : tie.Need-byte-requires
 byte-requires c κs = search needs

@@ -7,10 +7,6 @@ use native.Mathlib.Omega.{arith}
 use Prim.Native.Nat.{suc, _-_, _*_}
 use Rattle.definitions.proofs.put_attributes.Statement.{statement}
 use Rattle.definitions.proofs.put_attributes.Tie as tie
-use Rattle.definitions.proofs.put_attributes.Reads as reads
-use Rattle.definitions.proofs.put_attributes.Lts as lts
-use Rattle.definitions.proofs.put_attribute.Reads as put-attribute-reads
-use Rattle.lookup.proofs.window.Reads as window-reads
 
 abbrev Inv-loop : tie.InvT-loop
 Inv-loop body count definition out₀ start at₀ i₀ out at i = Going (attributeRecord (lowered (suc definition) 1)) 52 body count out₀ start out at i

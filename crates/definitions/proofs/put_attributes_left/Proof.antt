@@ -10,13 +10,6 @@ use Prim.Native.Nat.{ℕ, suc}
 use borrow.Author.Needs.{needs}
 use Rattle.definitions.proofs.put_attributes_left.Statement.{statement}
 use Rattle.definitions.proofs.put_attributes_left.Tie as tie
-use Rattle.definitions.proofs.put_attributes_left.Reads as reads
-use Rattle.definitions.proofs.put_attributes_left.Lts as lts
-use Rattle.codec.proofs.get_u32.Reads as get-u32-reads
-use Rattle.definitions.proofs.attribute_body.Reads as attribute-body-reads
-use Rattle.definitions.proofs.attribute_start.Reads as attribute-start-reads
-use Rattle.definitions.proofs.put_attributes.Reads as put-attributes-reads
-use Rattle.records.proofs.after.Reads as after-reads
 
 attribute-start-requires : tie.Need-attribute-start-requires
 attribute-start-requires c κs = search needs

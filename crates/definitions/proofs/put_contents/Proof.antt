@@ -2,9 +2,6 @@ use Rattle.definitions.proofs.Writing.{contents-laid}
 use borrow.Author.Needs.{needs}
 use Rattle.definitions.proofs.put_contents.Statement.{statement}
 use Rattle.definitions.proofs.put_contents.Tie as tie
-use Rattle.definitions.proofs.put_contents.Reads as reads
-use Rattle.definitions.proofs.put_contents.Lts as lts
-use Rattle.definitions.proofs.put_entry.Reads as put-entry-reads
 
 mul-particles : tie.Need-mul-particles
 mul-particles c = search needs

@@ -8,14 +8,6 @@ use Prim.Native.Nat.{_*_, _+_}
 use borrow.Author.Needs.{needs}
 use Rattle.definitions.proofs.put_created.Statement.{statement}
 use Rattle.definitions.proofs.put_created.Tie as tie
-use Rattle.definitions.proofs.put_created.Reads as reads
-use Rattle.definitions.proofs.put_created.Lts as lts
-use Rattle.codec.proofs.get_u32.Reads as get-u32-reads
-use Rattle.codec.proofs.put.Reads as put-reads
-use Rattle.definitions.proofs.put_definition.Reads as put-definition-reads
-use Rattle.definitions.proofs.put_header.Reads as put-header-reads
-use Rattle.lookup.proofs.window.Reads as window-reads
-use Rattle.records.proofs.after.Reads as after-reads
 
 get-u32-requires : tie.Need-get-u32-requires
 get-u32-requires c κs = search needs

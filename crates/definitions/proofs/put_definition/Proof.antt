@@ -4,11 +4,6 @@ use native.Mathlib.Omega.{arith}
 use borrow.Author.Needs.{needs}
 use Rattle.definitions.proofs.put_definition.Statement.{statement}
 use Rattle.definitions.proofs.put_definition.Tie as tie
-use Rattle.definitions.proofs.put_definition.Reads as reads
-use Rattle.definitions.proofs.put_definition.Lts as lts
-use Rattle.codec.proofs.put_u16.Reads as put-u16-reads
-use Rattle.codec.proofs.put_u8.Reads as put-u8-reads
-use Rattle.definitions.proofs.put_name.Reads as put-name-reads
 
 cast-put-u8 : tie.Need-cast-put-u8
 cast-put-u8 c = search needs

@@ -7,11 +7,6 @@ use Prim.Native.Nat.{_+_, _-_, _*_}
 use borrow.Author.Needs.{needs}
 use Rattle.definitions.proofs.put_definitions_left.Statement.{statement}
 use Rattle.definitions.proofs.put_definitions_left.Tie as tie
-use Rattle.definitions.proofs.put_definitions_left.Reads as reads
-use Rattle.definitions.proofs.put_definitions_left.Lts as lts
-use Rattle.codec.proofs.get_u32.Reads as get-u32-reads
-use Rattle.codec.proofs.put.Reads as put-reads
-use Rattle.lookup.proofs.window.Reads as window-reads
 
 get-u32-requires : tie.Need-get-u32-requires
 get-u32-requires c κs = search needs

@@ -11,13 +11,6 @@ use native.Mathlib.Omega.{arith}
 use borrow.Author.Needs.{needs}
 use Rattle.definitions.proofs.put_destroyed.Statement.{statement}
 use Rattle.definitions.proofs.put_destroyed.Tie as tie
-use Rattle.definitions.proofs.put_destroyed.Reads as reads
-use Rattle.definitions.proofs.put_destroyed.Lts as lts
-use Rattle.definitions.proofs.put_attributes_left.Reads as put-attributes-left-reads
-use Rattle.definitions.proofs.put_definitions_left.Reads as put-definitions-left-reads
-use Rattle.definitions.proofs.put_header_left.Reads as put-header-left-reads
-use Rattle.definitions.proofs.put_particles_left.Reads as put-particles-left-reads
-use Rattle.definitions.proofs.put_rows_left.Reads as put-rows-left-reads
 
 put-header-left-requires : tie.Need-put-header-left-requires
 put-header-left-requires c κs = search needs

@@ -2,9 +2,6 @@ use Rattle.codec.proofs.Writers.{laid-then}
 use borrow.Author.Needs.{needs}
 use Rattle.definitions.proofs.put_entry.Statement.{statement}
 use Rattle.definitions.proofs.put_entry.Tie as tie
-use Rattle.definitions.proofs.put_entry.Reads as reads
-use Rattle.definitions.proofs.put_entry.Lts as lts
-use Rattle.codec.proofs.put_u32.Reads as put-u32-reads
 
 put-u32-requires : tie.Need-put-u32-requires
 put-u32-requires c κs = search needs

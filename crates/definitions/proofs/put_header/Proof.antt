@@ -8,11 +8,6 @@ use Rattle.codec.proofs.Writers.{laid-as, laid-then}
 use borrow.Author.Needs.{needs}
 use Rattle.definitions.proofs.put_header.Statement.{statement}
 use Rattle.definitions.proofs.put_header.Tie as tie
-use Rattle.definitions.proofs.put_header.Reads as reads
-use Rattle.definitions.proofs.put_header.Lts as lts
-use Rattle.codec.proofs.put.Reads as put-reads
-use Rattle.definitions.proofs.put_contents.Reads as put-contents-reads
-use Rattle.records.proofs.first.Reads as first-reads
 
 first-requires : tie.Need-first-requires
 first-requires c κs = search needs

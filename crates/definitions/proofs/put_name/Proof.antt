@@ -7,10 +7,6 @@ use Rattle.codec.proofs.Writers.{laid-as, laid-then}
 use borrow.Author.Needs.{needs}
 use Rattle.definitions.proofs.put_name.Statement.{statement}
 use Rattle.definitions.proofs.put_name.Tie as tie
-use Rattle.definitions.proofs.put_name.Reads as reads
-use Rattle.definitions.proofs.put_name.Lts as lts
-use Rattle.codec.proofs.put.Reads as put-reads
-use Rattle.records.proofs.first.Reads as first-reads
 
 put-requires : tie.Need-put-requires
 put-requires c κs = search needs

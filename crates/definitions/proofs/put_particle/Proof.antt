@@ -4,13 +4,6 @@ use Prim.Native.Nat.{suc}
 use borrow.Author.Needs.{needs}
 use Rattle.definitions.proofs.put_particle.Statement.{statement}
 use Rattle.definitions.proofs.put_particle.Tie as tie
-use Rattle.definitions.proofs.put_particle.Reads as reads
-use Rattle.definitions.proofs.put_particle.Lts as lts
-use Rattle.codec.proofs.byte.Reads as byte-reads
-use Rattle.codec.proofs.put.Reads as put-reads
-use Rattle.codec.proofs.put_u8.Reads as put-u8-reads
-use Rattle.definitions.proofs.moved_member.Reads as moved-member-reads
-use Rattle.records.proofs.first.Reads as first-reads
 
 byte-requires : tie.Need-byte-requires
 byte-requires c κs = search needs

@@ -7,10 +7,6 @@ use native.Mathlib.Omega.{arith}
 use Prim.Native.Nat.{suc, _-_, _*_}
 use Rattle.definitions.proofs.put_particles.Statement.{statement}
 use Rattle.definitions.proofs.put_particles.Tie as tie
-use Rattle.definitions.proofs.put_particles.Reads as reads
-use Rattle.definitions.proofs.put_particles.Lts as lts
-use Rattle.definitions.proofs.put_particle.Reads as put-particle-reads
-use Rattle.lookup.proofs.window.Reads as window-reads
 
 abbrev Inv-loop : tie.InvT-loop
 Inv-loop body count definition out₀ start at₀ i₀ out at i = Going (particleRecord (lowered (suc definition) 1)) 4 body count out₀ start out at i

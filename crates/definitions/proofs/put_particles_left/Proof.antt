@@ -10,13 +10,6 @@ use Prim.Native.Nat.{ℕ, suc}
 use borrow.Author.Needs.{needs}
 use Rattle.definitions.proofs.put_particles_left.Statement.{statement}
 use Rattle.definitions.proofs.put_particles_left.Tie as tie
-use Rattle.definitions.proofs.put_particles_left.Reads as reads
-use Rattle.definitions.proofs.put_particles_left.Lts as lts
-use Rattle.codec.proofs.get_u32.Reads as get-u32-reads
-use Rattle.definitions.proofs.model_start.Reads as model-start-reads
-use Rattle.definitions.proofs.particle_body.Reads as particle-body-reads
-use Rattle.definitions.proofs.put_particles.Reads as put-particles-reads
-use Rattle.records.proofs.after.Reads as after-reads
 
 model-start-requires : tie.Need-model-start-requires
 model-start-requires c κs = search needs

@@ -7,15 +7,6 @@ use Prim.Native.Nat.{suc}
 use borrow.Author.Needs.{needs}
 use Rattle.definitions.proofs.put_row.Statement.{statement}
 use Rattle.definitions.proofs.put_row.Tie as tie
-use Rattle.definitions.proofs.put_row.Reads as reads
-use Rattle.definitions.proofs.put_row.Lts as lts
-use Rattle.codec.proofs.byte.Reads as byte-reads
-use Rattle.codec.proofs.get_u16.Reads as get-u16-reads
-use Rattle.codec.proofs.put.Reads as put-reads
-use Rattle.codec.proofs.put_u16.Reads as put-u16-reads
-use Rattle.definitions.proofs.moved_row.Reads as moved-row-reads
-use Rattle.records.proofs.after.Reads as after-reads
-use Rattle.records.proofs.first.Reads as first-reads
 
 get-u16-requires : tie.Need-get-u16-requires
 get-u16-requires c κs = search needs

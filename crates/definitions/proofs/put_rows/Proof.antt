@@ -7,10 +7,6 @@ use native.Mathlib.Omega.{arith}
 use Prim.Native.Nat.{suc, _-_, _*_}
 use Rattle.definitions.proofs.put_rows.Statement.{statement}
 use Rattle.definitions.proofs.put_rows.Tie as tie
-use Rattle.definitions.proofs.put_rows.Reads as reads
-use Rattle.definitions.proofs.put_rows.Lts as lts
-use Rattle.definitions.proofs.put_row.Reads as put-row-reads
-use Rattle.lookup.proofs.window.Reads as window-reads
 
 abbrev Inv-loop : tie.InvT-loop
 Inv-loop body count definition from less out₀ start at₀ i₀ out at i = Going (rowRecord (lowered (suc definition) 1) (lowered from less)) 44 body count out₀ start out at i

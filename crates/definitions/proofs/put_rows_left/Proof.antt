@@ -9,12 +9,6 @@ use Prim.Native.Nat.{ℕ}
 use borrow.Author.Needs.{needs}
 use Rattle.definitions.proofs.put_rows_left.Statement.{statement}
 use Rattle.definitions.proofs.put_rows_left.Tie as tie
-use Rattle.definitions.proofs.put_rows_left.Reads as reads
-use Rattle.definitions.proofs.put_rows_left.Lts as lts
-use Rattle.codec.proofs.get_u32.Reads as get-u32-reads
-use Rattle.definitions.proofs.attribute_start.Reads as attribute-start-reads
-use Rattle.definitions.proofs.put_rows.Reads as put-rows-reads
-use Rattle.definitions.proofs.row_body.Reads as row-body-reads
 
 attribute-start-requires : tie.Need-attribute-start-requires
 attribute-start-requires c κs = search needs

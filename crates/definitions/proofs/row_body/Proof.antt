@@ -4,10 +4,6 @@ use Prim.Native.Nat.{ℕ}
 use borrow.Author.Needs.{needs}
 use Rattle.definitions.proofs.row_body.Statement.{statement}
 use Rattle.definitions.proofs.row_body.Tie as tie
-use Rattle.definitions.proofs.row_body.Reads as reads
-use Rattle.definitions.proofs.row_body.Lts as lts
-use Rattle.lookup.proofs.row_start.Reads as row-start-reads
-use Rattle.records.proofs.after.Reads as after-reads
 
 row-start-requires : tie.Need-row-start-requires
 row-start-requires c κs = search needs

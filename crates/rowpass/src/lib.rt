@@ -64,7 +64,7 @@ pub fn particles_of(defs: &[u8], i: usize) -> usize
 }
 
 // How many particles stand before definition i's.
-fn particles_before(defs: &[u8], i: usize) -> usize
+pub fn particles_before(defs: &[u8], i: usize) -> usize
     requires { ⌜ i ≤ 256 ⌝ }
     ensures { λ r. ⌜ (r ≡ particlesBefore (now (defs .entry)) i) × (r ≤ 4294967296 * 256) ⌝ }
 {

@@ -13,7 +13,8 @@ use Rattle.rules.specs.Bytes.{Bytes, same, ascii, bytes, numbers}
 use Rattle.rules.specs.Model.{Members, done, el, group, names, nothing, filling, member, full, distinct}
 use Rattle.rules.specs.Automaton.{accepts, continues, facts}
 use Rattle.rules.specs.Store.{Content, empty, pcdata, complex, Definition, Form, element, text, Row, Forest, bare, tree, Store, members, heads}
-use Rattle.rules.specs.Layout.{baseVersion, valueWidth, flat, each, rowBytes}
+use Rattle.rules.specs.Decode.{confirm}
+use Rattle.rules.specs.Layout.{baseVersion, valueWidth, flat, encode, each, rowBytes}
 use Rattle.rules.specs.WellFormed.{reaches, goodDefinition, wellFormed}
 use Rattle.rules.specs.Conforming.{strip, fitsRow, conforming, nameOf}
 use Rattle.rules.specs.Passing.{serials, good, goodSerials}
@@ -23,6 +24,7 @@ use Rattle.rules.specs.Edit.{_⊕_, edited, place, placeOf}
 use Rattle.rules.specs.Lines.{findRow, childrenOf}
 use Rattle.rules.specs.Change.{Call, destroyDefinition, insertElement, removeElement, changeQuantifier, convertToGroup, definitionAt, attributeAt, formAfter, plan, prune, eachRow, plant, newRows, given, number, after}
 use Rattle.rules.specs.Refusal.{conditions, refusal}
+use Rattle.rules.specs.Outcome.{wrote, outcome}
 
 -- ---- small forms and documents; a, b, c, x are EMPTY
 abbrev a : Bytes
@@ -150,6 +152,9 @@ insertClub = insertElement 0 (1 ∷ []) 3 0 (ascii "none")
 abbrev unusedFirst : Store
 unusedFirst = record { version = baseVersion; next = 3; form = defined "u" empty ∷ formOf (el None a done); docs = documentOf (a ∷ []) }
 
+abbrev unusedGone : Store
+unusedGone = record { version = baseVersion; next = 3; form = formOf (el None a done); docs = documentOf (a ∷ []) }
+
 abbrev treeBody : Store → Bytes
 treeBody s = each (rowBytes (valueWidth (s .version))) (flat s .rows)
 
@@ -167,11 +172,12 @@ pub record PlausibleAndFalse : Type 0 where
   -- after change 2 the indices in the tree have moved
   pub unused-accepted : refuses (destroyDefinition 0) unusedFirst ≡ 0
   pub tree-unmoved : same (treeBody unusedFirst) (treeBody (after (destroyDefinition 0) unusedFirst)) ≡ false
+  pub tree-moved : outcome (destroyDefinition 0) (encode unusedFirst) 9999 ≡ wrote (encode unusedGone)
   -- b is not dropped from (a|b) while an instance exists
   pub choice-left : refuses (removeElement 0 (1 ∷ 2 ∷ [])) (storeOf (group None Choice (el None a (el None b done)) done) (b ∷ [])) ≡ 15
 
 pub plausible-and-false : PlausibleAndFalse
-unfolding names nothing filling member full distinct facts continues accepts plug kindAt spine before leaves opens afterMembers find _⊕_ edited place placeOf goodDefinition wellFormed strip fitsRow conforming goodSerials good fillAttributes fillEach fillContent fillWithin findRow childrenOf attributeAt formAfter plan prune eachRow plant newRows given number after conditions refusal
+unfolding names nothing filling member full distinct facts continues accepts plug kindAt spine before leaves opens afterMembers find _⊕_ edited place placeOf goodDefinition wellFormed strip fitsRow conforming goodSerials good fillAttributes fillEach fillContent fillWithin findRow childrenOf attributeAt formAfter plan prune eachRow plant newRows given number after conditions refusal confirm outcome
 plausible-and-false =
     record {
       club-as-child-0 = refl;
@@ -182,5 +188,6 @@ plausible-and-false =
       circle = refl;
       unused-accepted = refl;
       tree-unmoved = refl;
+      tree-moved = refl;
       choice-left = refl;
     }

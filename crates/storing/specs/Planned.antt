@@ -30,3 +30,15 @@ planned p v f =
       attributes = f .attributes;
       rows = numbered (f .next) (rowsAfter p v f);
     }
+
+-- a plan with a change of the form: g has the definitions, particles and attributes that take the place of the old ones
+unfoldable pub plannedIn : FlatStore → Plan → Bytes → FlatStore → FlatStore
+plannedIn g p v f =
+    record {
+      version = f .version;
+      next = f .next + newIn (rowsAfter p v f);
+      definitions = g .definitions;
+      particles = g .particles;
+      attributes = g .attributes;
+      rows = numbered (f .next) (rowsAfter p v f);
+    }

@@ -19,7 +19,8 @@ const ROW_SIZE: usize = 44;
 // ---- the header: the version at 0, the next serial at 4, and an entry of offset and count for each body, definitions at 8,
 // particles at 16, attributes at 24, rows at 32
 
-fn number(store: &[u8], at: usize) -> usize
+/// The number of four bytes at `at`.
+pub fn number(store: &[u8], at: usize) -> usize
     ensures { λ r. ⌜ NumberAt at (now (store .entry)) r ⌝ }
 {
     codec::get_u32(store, at) as usize

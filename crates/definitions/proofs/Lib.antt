@@ -1,0 +1,17 @@
+pub mod Kept
+pub mod Renumbered
+pub mod Created
+pub mod Writing
+pub mod Searching
+pub mod Naming
+pub mod Encoded
+pub mod Limits
+pub mod CreateCall
+pub mod Lowered
+pub mod Destroyed
+pub mod InUse
+pub mod Again
+pub mod Moving
+pub mod Left
+pub mod LeftBytes
+pub mod DestroyCall

@@ -1,0 +1,69 @@
+-- Giving serials to the rows of a forest gives them to its rows in a list.
+-- Assumes nothing.
+use Prim.Native.Nat.{ℕ, suc, _+_}
+use native.Mathlib.Omega.{arith}
+use mathlib.Core.Path.{_≡_, refl, sym, ap, ap₂, _∙_}
+use mathlib.Core.Bool.{Bool, true, false}
+use mathlib.Core.List.{List, [], _∷_, _++_}
+use lib.Dec.{eqb}
+use Rattle.rules.specs.Bytes.{Bytes}
+use Rattle.rules.specs.Store.{Form, Row, Forest, bare, tree}
+use Rattle.rules.specs.Preorder.{Deep, flatten}
+use Rattle.rules.specs.Layout.{FlatRow, rowCode, rowIndex, indexed}
+use Rattle.rules.specs.Change
+use Rattle.rules.specs.Change.{newRows, given, number}
+use Rattle.rows.specs.Written.{isNew, newIn, withSerial, numbered}
+
+-- ---- rows in a list
+new-append : (xs ys : List (Deep FlatRow)) → newIn (xs ++ ys) ≡ newIn xs + newIn ys
+new-append [] ys = omega arith
+new-append (x ∷ xs) ys = omega (arith, new-append xs ys)
+
+numbered-append : (n : ℕ) (xs ys : List (Deep FlatRow)) → numbered n (xs ++ ys) ≡ numbered n xs ++ numbered (n + newIn xs) ys
+numbered-append n [] ys = ap (λ (k : ℕ). numbered k ys) (omega arith)
+numbered-append n (x ∷ xs) ys =
+    ap (λ (l : List (Deep FlatRow)). withSerial n x ∷ l) (numbered-append (n + isNew x) xs ys ∙ ap (λ (k : ℕ). numbered (n + isNew x) xs ++ numbered k ys) (omega arith))
+
+-- ---- and in a forest
+module _ (form : Form) where
+  -- a row as it is stored
+  abbrev stored : ℕ → Bytes → Row → Deep FlatRow
+  stored d owner r = record { depth = d; row = record { sort = rowCode (r .sort); index = rowIndex form owner r; serial = r .serial; value = r .value } }
+
+  given-stored : (d n : ℕ) (owner : Bytes) (r : Row) → stored d owner (given n r) ≡ withSerial n (stored d owner r)
+  unfolding given
+  given-stored d n owner r = by (eqb (r .serial) 0) refl
+    where
+      by : (c : Bool) → eqb (r .serial) 0 ≡ c → stored d owner (given n r) ≡ withSerial n (stored d owner r)
+      by true q = rw (q, given)
+      by false q = rw (q, given)
+
+  given-name : (n : ℕ) (r : Row) → given n r .name ≡ r .name
+  unfolding given
+  given-name n r = by (eqb (r .serial) 0) refl
+    where
+      by : (c : Bool) → eqb (r .serial) 0 ≡ c → given n r .name ≡ r .name
+      by true q = rw (q, given)
+      by false q = rw (q, given)
+
+  pub new-flat : (d : ℕ) (owner : Bytes) (f : Forest Row) → newRows f ≡ newIn (flatten d (indexed form owner f))
+  unfolding newRows
+  new-flat d owner bare = refl
+  new-flat d owner (tree r b t) =
+      ap₂ (λ (i j : ℕ). Change.isNew r + (i + j)) (new-flat (suc d) (r .name) b) (new-flat d owner t)
+      ∙ ap (λ (k : ℕ). Change.isNew r + k) (sym (new-append (flatten (suc d) (indexed form (r .name) b)) (flatten d (indexed form owner t))))
+
+  pub number-flat : (d : ℕ) (owner : Bytes) (n : ℕ) (f : Forest Row) → flatten d (indexed form owner (number n f)) ≡ numbered n (flatten d (indexed form owner f))
+  unfolding number
+  number-flat d owner n bare = refl
+  number-flat d owner n (tree r b t) =
+      ap₂ (λ (x : Deep FlatRow) (l : List (Deep FlatRow)). x ∷ l) (given-stored d n owner r)
+      (ap₂ (λ (k l : List (Deep FlatRow)). k ++ l)
+      (ap (λ (m : Bytes). flatten (suc d) (indexed form m (number (n + Change.isNew r) b))) (given-name n r) ∙ number-flat (suc d) (r .name) (n + Change.isNew r) b)
+      (number-flat d owner (n + (Change.isNew r + newRows b)) t
+      ∙ ap (λ (k : ℕ). numbered k (flatten d (indexed form owner t))) (ap (λ (k : ℕ). n + (Change.isNew r + k)) (new-flat (suc d) (r .name) b) ∙ later)))
+      ∙ ap (λ (l : List (Deep FlatRow)). withSerial n (stored d owner r) ∷ l)
+      (sym (numbered-append (n + Change.isNew r) (flatten (suc d) (indexed form (r .name) b)) (flatten d (indexed form owner t))))
+    where
+      later : n + (Change.isNew r + newIn (flatten (suc d) (indexed form (r .name) b))) ≡ n + Change.isNew r + newIn (flatten (suc d) (indexed form (r .name) b))
+      later = omega arith

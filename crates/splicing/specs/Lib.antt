@@ -1,0 +1,3 @@
+pub mod Spliced
+pub mod PartAfter
+pub mod Writing

@@ -26,7 +26,7 @@ use Rattle.rows.proofs.WrittenLaws.{All, written-all, written-full, written-fit
 use Rattle.editing.specs.declared.Plan.{Plan}
 use Rattle.storing.specs.Stores.{storeIn, limited}
 use Rattle.storing.specs.Planned.{rowsAfter, planned}
-use Rattle.storing.specs.FormBytes.{formBytes}
+use Rattle.storing.specs.Writing.{formBytes, walkFrom}
 use Rattle.storing.proofs.StoreLaws.{Holds}
 use Rattle.storing.proofs.LimitLaws.{answers-refused, answers-wrote, limited-ceiling, limited-serials, limited-buffer, limited-none}
 use Rattle.storing.proofs.FormBytesLaws.{rowed, start-of, rowed-length, form-bytes, ceilings-rows}
@@ -74,20 +74,20 @@ module _ {bs : Bytes} (h : Holds bs) (p : Plan) (v : Bytes) where
       ap (flatBytes baseWidth) after-is ∙ form-bytes h (f .next + newIn xs) (numbered (f .next) xs)
       ∙ ap (λ (n : ℕ). formBytes (f .next + newIn xs) n bs ++ each (rowBytes baseWidth) (numbered (f .next) xs)) (length-numbered (f .next) xs)
 
-  -- ---- the walk was counted from c to r: at most one row more than the ceiling
-  module _ {c r : Cursor} {small small′ : Bytes} (out : Bytes) (w : Written xs c small r small′) (left : c .left ≡ 4097) where
+  -- ---- the walk was counted, to r
+  module _ {at : ℕ} {r : Cursor} {small small′ : Bytes} (out : Bytes) (w : Written xs (walkFrom at bs) small r small′) where
     pub edit-ceiling : r .left ≡ 0 → Answers (limited (length out) after) out 16 0 out
-    edit-ceiling e = answers-refused 16 (limited-ceiling (length out) after (ceilings ∙ lt-leb (length xs) 4096 (omega (arith, written-full w e))))
+    edit-ceiling e = answers-refused 16 (limited-ceiling (length out) after (ceilings ∙ lt-leb (length xs) 4096 (written-full w e)))
 
-    module _ (more : r .left ≡ 0 → ⊥) (serial : c .serial ≡ numberAt 4 4 bs) where
-      all : All xs c small r small′
+    module _ (more : r .left ≡ 0 → ⊥) where
+      all : All xs (walkFrom at bs) small r small′
       all = written-all w more
 
       few : withinCeilings after ≡ true
       few = ceilings ∙ le-leb (length xs) 4096 (omega (arith, all .rows))
 
       next-is : r .serial ≡ f .next + newIn xs
-      next-is = all .serial ∙ ap (λ (n : ℕ). n + newIn xs) (serial ∙ sym (next-of bs))
+      next-is = all .serial ∙ ap (λ (n : ℕ). n + newIn xs) (sym (next-of bs))
 
       count-is : 4097 - r .left ≡ length xs
       count-is = omega (arith, all .rows)
@@ -99,9 +99,9 @@ module _ {bs : Bytes} (h : Holds bs) (p : Plan) (v : Bytes) where
         pub edit-buffer : length out < rowStart bs + 44 * (4097 - r .left) → Answers (limited (length out) after) out 18 0 out
         edit-buffer e = answers-refused 18 (limited-buffer (length out) after few (omega (arith, next, next-is)) (omega (arith, size, count-is)))
 
-        pub edit-written : rowStart bs + 44 * (4097 - r .left) ≤ length out → {c′ r′ : Cursor} {out₁ out′ : Bytes} → Laid (formBytes (r .serial) (4097 - r .left) bs) out 0 (c′ .at) out₁ → Written xs c′ out₁ r′ out′ → c′ .left ≡ 4097 → c′ .serial ≡ numberAt 4 4 bs
+        pub edit-written : rowStart bs + 44 * (4097 - r .left) ≤ length out → {a : ℕ} {r′ : Cursor} {out₁ out′ : Bytes} → Laid (formBytes (r .serial) (4097 - r .left) bs) out 0 a out₁ → Written xs (walkFrom a bs) out₁ r′ out′
             → Answers (limited (length out) after) out 0 (r′ .at) out′
-        edit-written e {c′} laid w′ left′ serial′ =
+        edit-written e laid w′ =
             answers-wrote (limited-none (length out) after few (omega (arith, next, next-is)) (omega (arith, size, count-is)))
-            (laid-as (bytes ∙ (λ i. formBytes (sym next-is i) (sym count-is i) bs ++ rowsBytes (sym (serial′ ∙ sym (next-of bs)) i) xs)) (laid-then laid (written-fitting w′ (omega (arith, all .rows)))))
+            (laid-as (bytes ∙ (λ i. formBytes (sym next-is i) (sym count-is i) bs ++ rowsBytes (next-of bs i) xs)) (laid-then laid (written-fitting w′ (omega (arith, all .rows)))))
             (omega (arith, size, count-is))

@@ -19,7 +19,7 @@ use Rattle.records.specs.Records.{baseWidth}
 use Rattle.codec.specs.Laid.{Laid}
 use Rattle.lookup.specs.Bodies.{bodiesOf, rowStart, Begins}
 use Rattle.lookup.proofs.Laws.{length-many}
-use Rattle.storing.specs.FormBytes.{formBytes, Heads}
+use Rattle.storing.specs.Writing.{formBytes, Heads}
 use Rattle.storing.proofs.StoreLaws.{Holds}
 
 -- the same form with other rows

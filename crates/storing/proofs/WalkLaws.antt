@@ -1,6 +1,6 @@
 -- The walk over the rows of a byte string that passes: what it asks, and the rows that it leaves.
 -- Assumes nothing.
-use Prim.Native.Nat.{ℕ, zero, suc, _+_, _*_, _≤_}
+use Prim.Native.Nat.{ℕ, zero, suc, _+_, _*_, _<_, _≤_}
 use native.Mathlib.Nat.{mul-suc}
 use native.Mathlib.Omega.{arith}
 use mathlib.Core.Path.{_≡_, refl, ap, _∙_, sym, subst}
@@ -19,19 +19,23 @@ use Rattle.rules.proofs.BooleanLaws.{Every}
 use Rattle.rules.proofs.LayoutLaws.{Small}
 use Rattle.rules.proofs.DecodeLaws.{value-width}
 use Rattle.rules.proofs.SmallBytes.{encode-small}
-use Rattle.records.specs.Records.{baseWidth, rowFits, eachFits}
+use Rattle.records.specs.Records.{baseWidth, NumberAt, rowFits, eachFits}
 use Rattle.records.proofs.RecordLaws.{small-take, small-drop, row-canonical}
 use Rattle.rowpass.specs.Reading as bytes
 use Rattle.validity.specs.Check.{definitionsIn, particlesIn, attributesIn, rowsIn}
 use Rattle.validity.proofs.StringChecks.{Headed, passes-header, laid-in, rows-whole, rows-small}
 use Rattle.validity.proofs.BodiesRead.{rows-fit, read-form, read-value, read-rows}
 use Rattle.lookup.specs.Bodies.{bodiesOf}
+use Rattle.rows.specs.declared.Cursor.{Cursor}
+use Rattle.rows.specs.Written.{Written, Room}
+use Rattle.rows.proofs.WrittenLaws.{written-as}
 use Rattle.filling.specs.Fillings.{fillingRows}
 use Rattle.editing.specs.declared.Plan.{Plan}
 use Rattle.editing.specs.Walk.{walked, atFirst}
 use Rattle.editing.specs.Step.{fillOf, Planned, Ready, WalkRow, WalkRows}
 use Rattle.storing.specs.Stores.{storeIn}
 use Rattle.storing.specs.Planned.{rowsAfter}
+use Rattle.storing.specs.Writing.{walkFrom}
 use Rattle.storing.proofs.StoreLaws.{Holds, holds}
 use Rattle.storing.proofs.RowBounds.{Bounded, rows-bounded}
 
@@ -58,6 +62,10 @@ pub record Reads (bs : Bytes) (n : ℕ) (defs parts : Bytes) (a : ℕ) (attrs ro
   pub rows-is : rows ≡ rowsIn bs
   pub count-is : count ≡ rowCount bs
 
+pub reads-of : {bs : Bytes} {n : ℕ} {defs parts : Bytes} {a : ℕ} {attrs rows : Bytes} {count : ℕ} → NumberAt 12 bs n → NumberAt 28 bs a → NumberAt 36 bs count → defs ≡ definitionsIn bs → parts ≡ particlesIn bs → attrs ≡ attributesIn bs → rows ≡ rowsIn bs
+    → Reads bs n defs parts a attrs rows count
+reads-of n a count defs parts attrs rows = record { n-is = n .value; defs-is = defs; parts-is = parts; a-is = a .value; attrs-is = attrs; rows-is = rows; count-is = count .value }
+
 headed-of : {bs : Bytes} → passes bs ≡ true → Headed bs
 headed-of {bs} q = let h : Holds bs = holds bs q in record { small = subst Small (h .written) (encode-small (storeIn bs) (h .good)); header = passes-header bs q }
 
@@ -81,9 +89,18 @@ module _ {bs : Bytes} (q : passes bs ≡ true) {n : ℕ} {defs parts : Bytes} {a
       (walk-rows (rowCount bs) (rowsIn bs) (rows-small h) (omega (arith, rows-whole h)) (rows-fit h q) (subst (λ (ys : List (Deep FlatRow)). Every Bounded ys) (sym b) (rows-bounded (storeIn bs) (holds bs q .good)))))
 
   -- the rows that the walk leaves are those after the plan
-  pub rows-after : (p : Plan) (v : Bytes) → rowsAfter p v (bodiesOf bs) ≡ walked p v (fillOf n defs parts a attrs p v) (atFirst p) (bytes.rowsIn count rows)
+  rows-after : (p : Plan) (v : Bytes) → rowsAfter p v (bodiesOf bs) ≡ walked p v (fillOf n defs parts a attrs p v) (atFirst p) (bytes.rowsIn count rows)
   unfolding rowsAfter bodiesOf
   rows-after p v =
       sym
       ((λ i. walked p v (fillOf (x .n-is i) (x .defs-is i) (x .parts-is i) (x .a-is i) (x .attrs-is i) p v) (atFirst p) (bytes.rowsIn (x .count-is i) (x .rows-is i)))
       ∙ (λ i. walked p v (λ d. fillingRows (read-form h q i) (λ j. read-value h q j i) (p .filling) v d) (atFirst p) (read-rows h i)))
+
+  -- .. and written from the serials of the store on
+  pub walk-from : (p : Plan) (v : Bytes) {at next : ℕ} {out : Bytes} {r : Cursor} {out′ : Bytes} → NumberAt 4 bs next → Written (walked p v (fillOf n defs parts a attrs p v) (atFirst p) (bytes.rowsIn count rows)) (record { at = at; left = 4097; serial = next }) out r out′
+      → Written (rowsAfter p v (bodiesOf bs)) (walkFrom at bs) out r out′
+  walk-from p v {at} {next} {out} {r} {out′} m w =
+      written-as (rows-after p v) (subst (λ (k : ℕ). Written (walked p v (fillOf n defs parts a attrs p v) (atFirst p) (bytes.rowsIn count rows)) (record { at = at; left = 4097; serial = k }) out r out′) (m .value) w)
+
+pub walk-room : {bs : Bytes} {at next : ℕ} → at < 549755813888 → NumberAt 4 bs next → Room (record { at = at; left = 4097; serial = next })
+walk-room l m = record { places = omega arith; serials = omega (arith, m .small) }

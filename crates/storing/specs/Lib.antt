@@ -1,3 +1,3 @@
 pub mod Stores
 pub mod Planned
-pub mod FormBytes
+pub mod Writing

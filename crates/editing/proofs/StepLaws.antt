@@ -52,6 +52,14 @@ module _ (p : Plan) (o : Open) (h : Head) (u : Bytes) where
       opened : Bool → Bool → Open
       opened b f = elim b [ true ↦ record { taking = 0; below = suc (suc (h .depth)); due = p .fills } | false ↦ record { taking = 0; below = o .below; due = o .due && not f } ]
 
+-- ---- a filling that is due, and one that is not
+module _ {due : Bool} {c : Cursor} {out : Bytes} where
+  pub owed-put : {w : List (Deep FlatRow)} {r : Cursor} {out′ : Bytes} → due ≡ true → Written w c out r out′ → Written (owed due w) c out r out′
+  owed-put {w} e p = written-as (ap (λ (b : Bool). owed b w) e) p
+
+  pub owed-none : (w : List (Deep FlatRow)) → due ≡ false → Written (owed due w) c out c out
+  owed-none w e = written-as (ap (λ (b : Bool). owed b w) e) written-none
+
 -- ---- a row that is kept
 module _ (p : Plan) (v : Bytes) (h : Head) (row : Bytes) (s : Seen h row) (index : ℕ) (e : index ≡ movedIndex p (bare h .row)) where
   moved-as : index ≡ movedIndex p (readRow row .row)

@@ -13,6 +13,7 @@ use Rattle.rowpass.specs.Reading.{indexForm, attributeIn}
 use Rattle.rows.specs.declared.Cursor.{Cursor}
 use Rattle.rows.specs.Written.{Written, OldRow}
 use Rattle.filling.specs.Fillings.{fillingRows}
+use Rattle.filling.specs.Parts.{Indexed}
 use Rattle.editing.specs.declared.Plan.{Plan}
 use Rattle.editing.specs.declared.Shift.{Shift}
 use Rattle.editing.specs.declared.Open.{Open}
@@ -59,6 +60,7 @@ pub record Ready (n a : ℕ) (txt : Bytes) (p : Plan) : Type 0 where
   pub attributes : a ≤ 64
   pub text : length txt ≤ 32
   pub plan : Planned p
+  pub filling : Indexed (p .filling)
 
 pub record Fair (h : Head) : Type 0 where
   pub depth : h .depth ≤ 80

@@ -283,6 +283,30 @@ fn at_first(p: Plan) -> Open
 
 // ---- the walk
 
+// The filling at a depth, if it is due.
+fn put_owed(
+    n: usize,
+    defs: &[u8],
+    parts: &[u8],
+    a: usize,
+    attrs: &[u8],
+    p: Plan,
+    text: &[u8],
+    due: bool,
+    depth: usize,
+    c: Cursor,
+    out: &mut [u8],
+) -> Cursor
+    requires { ⌜ Ready n a (now text) p × Room c × (depth ≤ 81) ⌝ }
+    ensures { λ r. ⌜ Written (owed due (fillOf n (now (defs .entry)) (now (parts .entry)) a (now (attrs .entry)) p (now (text .entry)) depth)) c (now (out .entry)) r (now (out .exit)) ⌝ }
+{
+    if due {
+        let what = p.filling;
+        return filling::put_filling(n, defs, parts, a, attrs, what, text, depth, c, out);
+    }
+    c
+}
+
 // A row that is kept.
 fn put_row(p: Plan, text: &[u8], h: Head, row: &[u8], c: Cursor, out: &mut [u8]) -> Cursor
     requires { ⌜ Planned p × (length (now text) ≤ 32) × Seen h (now row) × Room c ⌝ }
@@ -293,4 +317,126 @@ fn put_row(p: Plan, text: &[u8], h: Head, row: &[u8], c: Cursor, out: &mut [u8])
         return rows::put_valued(row, index, text, c, out);
     }
     rows::put_kept(row, index, c, out)
+}
+
+// What comes of a row, where what it closes is closed.
+fn come(
+    n: usize,
+    defs: &[u8],
+    parts: &[u8],
+    a: usize,
+    attrs: &[u8],
+    p: Plan,
+    text: &[u8],
+    h: Head,
+    row: &[u8],
+    o: Open,
+    c: Cursor,
+    out: &mut [u8],
+) -> Stepped
+    requires { ⌜ Ready n a (now text) p × Seen h (now row) × Room c ⌝ }
+    ensures { λ r. ⌜ Came (emitted p (now (text .entry)) (fillOf n (now (defs .entry)) (now (parts .entry)) a (now (attrs .entry)) p (now (text .entry))) o (readRow (now (row .entry)))) (onward p (now (text .entry)) (fillOf n (now (defs .entry)) (now (parts .entry)) a (now (attrs .entry)) p (now (text .entry))) o (readRow (now (row .entry)))) c (now (out .entry)) r (now (out .exit)) ⌝ }
+{
+    if is_taken(p, o, h) {
+        return Stepped {
+            cursor: c,
+            opened: taken(o, h),
+        };
+    }
+    let filled = is_filled(p, o, h);
+    let at = put_owed(n, defs, parts, a, attrs, p, text, filled, h.depth, c, out);
+    let next = put_row(p, text, h, row, at, out);
+    Stepped {
+        cursor: next,
+        opened: kept(p, o, h, filled),
+    }
+}
+
+// One row.
+fn step(
+    n: usize,
+    defs: &[u8],
+    parts: &[u8],
+    a: usize,
+    attrs: &[u8],
+    p: Plan,
+    text: &[u8],
+    row: &[u8],
+    o: Open,
+    c: Cursor,
+    out: &mut [u8],
+) -> Stepped
+    requires { ⌜ Ready n a (now text) p × WalkRow (now row) × Near o × Room c ⌝ }
+    ensures { λ r. ⌜ Came (stepRows p (now (text .entry)) (fillOf n (now (defs .entry)) (now (parts .entry)) a (now (attrs .entry)) p (now (text .entry))) o (readRow (now (row .entry)))) (stepOpen p (now (text .entry)) (fillOf n (now (defs .entry)) (now (parts .entry)) a (now (attrs .entry)) p (now (text .entry))) o (readRow (now (row .entry)))) c (now (out .entry)) r (now (out .exit)) ⌝ }
+{
+    let h = read_head(row);
+    if gone(o, h) {
+        return Stepped {
+            cursor: c,
+            opened: o,
+        };
+    }
+    let due = closes(o, h) & o.due;
+    let depth = minus(o.below, 1);
+    let at = put_owed(n, defs, parts, a, attrs, p, text, due, depth, c, out);
+    come(
+        n,
+        defs,
+        parts,
+        a,
+        attrs,
+        p,
+        text,
+        h,
+        row,
+        closed(o, h),
+        at,
+        out,
+    )
+}
+
+/// The walk over `count` rows.
+pub fn walk(
+    n: usize,
+    defs: &[u8],
+    parts: &[u8],
+    a: usize,
+    attrs: &[u8],
+    rows: &[u8],
+    count: usize,
+    plan: Plan,
+    text: &[u8],
+    c: Cursor,
+    out: &mut [u8],
+) -> Cursor
+    requires { ⌜ Ready n a (now text) plan × WalkRows count (now rows) × (44 * count ≤ length (now rows)) × Room c ⌝ }
+    ensures { λ r. ⌜ Written (walked plan (now (text .entry)) (fillOf n (now (defs .entry)) (now (parts .entry)) a (now (attrs .entry)) plan (now (text .entry))) (atFirst plan) (rowsIn count (now (rows .entry)))) c (now (out .entry)) r (now (out .exit)) ⌝ }
+{
+    let mut t = rows;
+    let mut m = count;
+    let mut at = c;
+    let mut o = at_first(plan);
+    while 0 < m {
+        if at.left == 0 {
+            return at;
+        }
+        let s = step(n, defs, parts, a, attrs, plan, text, &t[..44], o, at, out);
+        at = s.cursor;
+        o = s.opened;
+        t = &t[44..];
+        m -= 1;
+    }
+    put_owed(
+        n,
+        defs,
+        parts,
+        a,
+        attrs,
+        plan,
+        text,
+        o.due,
+        minus(o.below, 1),
+        at,
+        out,
+    )
 }

@@ -123,9 +123,9 @@ fn particle_facts(p: Particle, below: Facts, x: usize, y: usize) -> Facts
     }
 }
 
-// The facts of the members of depth d that s begins with, in a group of a kind. A particle's members are those one deeper; what
-// is deeper still belongs to others.
-fn facts_from(s: &[u8], d: usize, kind: GroupKind, x: usize, y: usize) -> Facts
+/// The facts of the members of depth d that s begins with, in a group of a kind. A particle's members are those one deeper; what
+/// is deeper still belongs to others.
+pub fn facts_from(s: &[u8], d: usize, kind: GroupKind, x: usize, y: usize) -> Facts
     requires { ⌜ d ≤ 256 ⌝ }
     ensures { λ r. ⌜ r ≡ facts numbers kind (membersFrom d (now (s .entry))) x y ⌝ }
 {

@@ -116,7 +116,7 @@ pub summed-none : (defs : Bytes) (i : ℕ) → Summed defs i 0 0
 unfolding particlesBefore
 summed-none defs i = record { is = refl; low = omega arith; small = omega arith }
 
-pub summed-ends : (defs : Bytes) (i sum j : ℕ) → Summed defs i sum j → i ≤ j → i ≤ 64 → (sum ≡ particlesBefore defs i) × (sum ≤ 4294967296 * 64)
+pub summed-ends : (defs : Bytes) (i sum j : ℕ) → Summed defs i sum j → i ≤ j → i ≤ 256 → (sum ≡ particlesBefore defs i) × (sum ≤ 4294967296 * 256)
 summed-ends defs i sum j s h l = let e : j ≡ i = omega (arith, s .low) in (s .is ∙ ap (particlesBefore defs) e, omega (arith, s .small, s .low))
 
 -- ---- children

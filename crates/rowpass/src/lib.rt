@@ -49,7 +49,7 @@ pub fn cut(s: &[u8], at: usize, n: usize) -> &[u8]
 // ---- definitions
 // The code of definition i's kind.
 pub fn kind_of(defs: &[u8], i: usize) -> u8
-    requires { ⌜ i ≤ 64 ⌝ }
+    requires { ⌜ i ≤ 256 ⌝ }
     ensures { λ r. ⌜ r ≡ definitionIn (now (defs .entry)) i .kind ⌝ }
 {
     codec::byte(cut(defs, 20 * i, 20), 17)
@@ -57,7 +57,7 @@ pub fn kind_of(defs: &[u8], i: usize) -> u8
 
 // How many particles definition i has.
 pub fn particles_of(defs: &[u8], i: usize) -> usize
-    requires { ⌜ i ≤ 64 ⌝ }
+    requires { ⌜ i ≤ 256 ⌝ }
     ensures { λ r. ⌜ (r ≡ definitionIn (now (defs .entry)) i .particles) × (r < 4294967296) ⌝ }
 {
     codec::get_u16(cut(defs, 20 * i, 20), 18) as usize
@@ -65,8 +65,8 @@ pub fn particles_of(defs: &[u8], i: usize) -> usize
 
 // How many particles stand before definition i's.
 fn particles_before(defs: &[u8], i: usize) -> usize
-    requires { ⌜ i ≤ 64 ⌝ }
-    ensures { λ r. ⌜ (r ≡ particlesBefore (now (defs .entry)) i) × (r ≤ 4294967296 * 64) ⌝ }
+    requires { ⌜ i ≤ 256 ⌝ }
+    ensures { λ r. ⌜ (r ≡ particlesBefore (now (defs .entry)) i) × (r ≤ 4294967296 * 256) ⌝ }
 {
     let mut sum = 0;
     let mut j = 0;
@@ -79,7 +79,7 @@ fn particles_before(defs: &[u8], i: usize) -> usize
 
 // Definition i's part of the particles.
 pub fn model_part<'a>(defs: &[u8], parts: &'a [u8], i: usize) -> &'a [u8]
-    requires { ⌜ i ≤ 64 ⌝ }
+    requires { ⌜ i ≤ 256 ⌝ }
     ensures { λ r. ⌜ now r ≡ modelPart (now (defs .entry)) (now (parts .entry)) i ⌝ }
 {
     cut(

@@ -2,19 +2,13 @@ use Rattle.editing.proofs.RowLaws.{first-ground, first-other}
 use borrow.Author.Needs.{needs}
 use Rattle.editing.proofs.at_first.Statement.{statement}
 use Rattle.editing.proofs.at_first.Tie as tie
-use Rattle.editing.proofs.at_first.Reads as reads
-use Rattle.editing.proofs.at_first.Lts as lts
-use Rattle.editing.proofs.is_ground.Reads as is-ground-reads
 
--- src/lib.rt:252:8
 is-ground-requires : tie.Need-is-ground-requires
 is-ground-requires c κs = search needs
 
--- src/lib.rt:253:9
 returns : tie.Need-returns
 returns c = first-ground (c .before .before .args .p) _ (c .before .is-ground .ensures) (c .if1 .taken)
 
--- src/lib.rt:248:1
 returns-2 : tie.Need-returns-2
 returns-2 c = first-other (c .before .before .args .p) _ (c .before .is-ground .ensures) (c .if1 .left)
 

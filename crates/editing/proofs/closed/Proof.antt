@@ -2,19 +2,13 @@ use Rattle.editing.proofs.RowLaws.{closed-all, closed-not}
 use borrow.Author.Needs.{needs}
 use Rattle.editing.proofs.closed.Statement.{statement}
 use Rattle.editing.proofs.closed.Tie as tie
-use Rattle.editing.proofs.closed.Reads as reads
-use Rattle.editing.proofs.closed.Lts as lts
-use Rattle.editing.proofs.closes.Reads as closes-reads
 
--- src/lib.rt:176:8
 closes-requires : tie.Need-closes-requires
 closes-requires c κs = search needs
 
--- src/lib.rt:177:9
 returns : tie.Need-returns
 returns c = closed-all (c .before .before .args .o) (c .before .before .args .h) _ (c .before .closes .ensures) (c .if1 .taken)
 
--- src/lib.rt:172:1
 returns-2 : tie.Need-returns-2
 returns-2 c = closed-not (c .before .before .args .o) (c .before .before .args .h) _ (c .before .closes .ensures) (c .if1 .left)
 

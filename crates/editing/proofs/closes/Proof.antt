@@ -5,14 +5,10 @@ use lib.Dec.{ltb}
 use borrow.Author.Needs.{needs}
 use Rattle.editing.proofs.closes.Statement.{statement}
 use Rattle.editing.proofs.closes.Tie as tie
-use Rattle.editing.proofs.closes.Reads as reads
-use Rattle.editing.proofs.closes.Lts as lts
 
--- src/lib.rt:169:5
 add-result : tie.Need-add-result
 add-result c = search needs
 
--- src/lib.rt:165:1
 returns : tie.Need-returns
 returns c = let a = c .before .before .args in ap (λ (k : ℕ). ltb k (a .o .below)) (add-one (a .h .depth))
 

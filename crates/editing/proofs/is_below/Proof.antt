@@ -5,14 +5,10 @@ use lib.Dec.{eqb}
 use borrow.Author.Needs.{needs}
 use Rattle.editing.proofs.is_below.Statement.{statement}
 use Rattle.editing.proofs.is_below.Tie as tie
-use Rattle.editing.proofs.is_below.Reads as reads
-use Rattle.editing.proofs.is_below.Lts as lts
 
--- src/lib.rt:195:16
 add-result : tie.Need-add-result
 add-result c = search needs
 
--- src/lib.rt:191:1
 returns : tie.Need-returns
 returns c = let a = c .before .before .args in ap (λ (k : ℕ). eqb (a .o .below) k) (add-one (a .h .depth))
 

@@ -1,54 +1,40 @@
 use borrow.Author.Needs.{needs}
 use Rattle.editing.proofs.matches.Statement.{statement}
 use Rattle.editing.proofs.matches.Tie as tie
-use Rattle.editing.proofs.matches.Reads as reads
-use Rattle.editing.proofs.matches.Lts as lts
 
--- src/lib.rt:84:27
 enum-told : tie.Need-enum-told
 enum-told c = search needs
 
--- src/lib.rt:85:30
 enum-told-2 : tie.Need-enum-told-2
 enum-told-2 c = search needs
 
--- src/lib.rt:86:26
 enum-told-3 : tie.Need-enum-told-3
 enum-told-3 c = search needs
 
--- src/lib.rt:87:25
 enum-known-w : tie.Need-enum-known-w
 enum-known-w c = search needs
 
--- src/lib.rt:88:27
 enum-known-w-2 : tie.Need-enum-known-w-2
 enum-known-w-2 c = search needs
 
--- src/lib.rt:89:23
 enum-known-w-3 : tie.Need-enum-known-w-3
 enum-known-w-3 c = search needs
 
--- src/lib.rt:80:1
 returns : tie.Need-returns
 returns c = search needs
 
--- src/lib.rt:80:1
 returns-2 : tie.Need-returns-2
 returns-2 c = search needs
 
--- src/lib.rt:80:1
 returns-3 : tie.Need-returns-3
 returns-3 c = search needs
 
--- src/lib.rt:80:1
 returns-4 : tie.Need-returns-4
 returns-4 c = rw (c .before .before .before .w .given .1)
 
--- src/lib.rt:80:1
 returns-5 : tie.Need-returns-5
 returns-5 c = rw (c .before .before .before .w2 .given .1)
 
--- src/lib.rt:80:1
 returns-6 : tie.Need-returns-6
 returns-6 c = rw (c .before .before .before .w3 .given .1)
 

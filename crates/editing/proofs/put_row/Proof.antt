@@ -2,37 +2,25 @@ use Rattle.editing.proofs.StepLaws.{row-valued, row-kept}
 use borrow.Author.Needs.{needs}
 use Rattle.editing.proofs.put_row.Statement.{statement}
 use Rattle.editing.proofs.put_row.Tie as tie
-use Rattle.editing.proofs.put_row.Reads as reads
-use Rattle.editing.proofs.put_row.Lts as lts
-use Rattle.editing.proofs.moved_index.Reads as moved-index-reads
-use Rattle.rows.proofs.put_kept.Reads as put-kept-reads
-use Rattle.rows.proofs.put_valued.Reads as put-valued-reads
 
--- src/lib.rt:311:9
 moved-index-requires : tie.Need-moved-index-requires
 moved-index-requires c κs = search needs
 
--- src/lib.rt:313:9
 put-valued-requires : tie.Need-put-valued-requires
 put-valued-requires c κs = search needs
 
--- src/lib.rt:313:9
 same-length : tie.Need-same-length
 same-length c = search needs
 
--- src/lib.rt:313:9
 returns : tie.Need-returns
 returns c = let s = c .before .before .before .before .before .before .before .before .before .before .before in row-valued (s .args .p) (s .args .text .now) (s .args .h) (s .args .row .now) (s .pre .2) _ (c .before .before .before .before .before .before .before .moved-index .ensures .0) (c .before .before .before .before .if1 .taken) (c .before .before .put-valued .ensures)
 
--- src/lib.rt:315:5
 put-kept-requires : tie.Need-put-kept-requires
 put-kept-requires c κs = search needs
 
--- src/lib.rt:307:1
 same-length-2 : tie.Need-same-length-2
 same-length-2 c = search needs
 
--- src/lib.rt:307:1
 returns-2 : tie.Need-returns-2
 returns-2 c = let s = c .before .before .before .before .before .before .before .before .before .before .before in row-kept (s .args .p) (s .args .text .now) (s .args .h) (s .args .row .now) (s .pre .2) _ (c .before .before .before .before .before .before .before .moved-index .ensures .0) (c .before .before .before .before .if1 .left) (c .before .before .put-kept .ensures)
 

@@ -2,37 +2,25 @@ use Rattle.editing.proofs.RowLaws.{head-read}
 use borrow.Author.Needs.{needs}
 use Rattle.editing.proofs.read_head.Statement.{statement}
 use Rattle.editing.proofs.read_head.Tie as tie
-use Rattle.editing.proofs.read_head.Reads as reads
-use Rattle.editing.proofs.read_head.Lts as lts
-use Rattle.codec.proofs.byte.Reads as byte-reads
-use Rattle.codec.proofs.get_u16.Reads as get-u16-reads
-use Rattle.codec.proofs.get_u32.Reads as get-u32-reads
 
--- src/lib.rt:72:16
 byte-requires : tie.Need-byte-requires
 byte-requires c κs = search needs
 
--- src/lib.rt:72:16
 cast-t3 : tie.Need-cast-t3
 cast-t3 c = search needs
 
--- src/lib.rt:73:15
 byte-requires-2 : tie.Need-byte-requires-2
 byte-requires-2 c κs = search needs
 
--- src/lib.rt:74:16
 get-u16-requires : tie.Need-get-u16-requires
 get-u16-requires c κs = search needs
 
--- src/lib.rt:74:16
 cast-t6 : tie.Need-cast-t6
 cast-t6 c = search needs
 
--- src/lib.rt:75:17
 get-u32-requires : tie.Need-get-u32-requires
 get-u32-requires c κs = search needs
 
--- src/lib.rt:68:1
 returns : tie.Need-returns
 returns c = head-read (c .before .before .before .before .before .args .row .now) _ _ _ _ (c .before .before .before .byte .ensures) (c .before .before .byte2 .ensures) (c .before .get-u16 .ensures) (c .get-u32 .ensures)
 

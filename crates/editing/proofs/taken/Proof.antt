@@ -2,14 +2,10 @@ use Rattle.editing.proofs.RowLaws.{taken-is}
 use borrow.Author.Needs.{needs}
 use Rattle.editing.proofs.taken.Statement.{statement}
 use Rattle.editing.proofs.taken.Tie as tie
-use Rattle.editing.proofs.taken.Reads as reads
-use Rattle.editing.proofs.taken.Lts as lts
 
--- src/lib.rt:223:17
 add-t3 : tie.Need-add-t3
 add-t3 c = search needs
 
--- src/lib.rt:218:1
 returns : tie.Need-returns
 returns c = taken-is (c .before .args .o) (c .before .args .h)
 

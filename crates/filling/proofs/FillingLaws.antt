@@ -1,0 +1,337 @@
+-- The filling of particles and of definitions, one step on; and the rows that are written of it.
+-- Assumes nothing.
+use Prim.Native.Nat.{ℕ, zero, suc, _+_, _-_, _*_, _<_, _≤_}
+use native.Mathlib.Omega.{arith}
+use native.Mathlib.Numerals.{add-one}
+use mathlib.Core.Path.{_≡_, refl, sym, ap, ap₂, subst, _∙_}
+use mathlib.Core.Bool.{Bool, true, false, _&&_, not}
+use mathlib.Core.List.{List, [], _∷_, _++_, append-assoc, append-nil}
+use lib.Dec.{eqb}
+use lib.ListN.{length, take, drop, getD, length-take, length-drop}
+use lib.Seq.{getD-drop, drop-drop}
+use Rattle.rules.specs.declared.Facts.{Facts}
+use Rattle.rules.specs.declared.GroupKind.{GroupKind}
+use Rattle.rules.specs.declared.GroupKind.the-variants.{Sequence, Choice}
+use Rattle.rules.specs.Bytes.{Bytes, numbers}
+use Rattle.rules.specs.Model.{Members, skips, nothing, unless, beside, filling}
+use Rattle.rules.specs.Automaton.{facts}
+use Rattle.rules.specs.Preorder.{Deep}
+use Rattle.rules.specs.Layout.{FlatRow}
+use Rattle.rules.specs.Decode.{readParticle, sortOf}
+use Rattle.rules.specs.Conforming.{mustBePresent}
+use Rattle.codec.proofs.Writers.{tail-seen}
+use Rattle.model.specs.declared.What.{What}
+use Rattle.model.specs.declared.What.the-variants.{Element, Group}
+use Rattle.model.specs.declared.Particle.{Particle}
+use Rattle.model.specs.Particle.{whatOf, particleOf}
+use Rattle.model.specs.Members.{indexMember, membersFrom, membersOf}
+use Rattle.model.proofs.FactsLaws.{facts-nothing}
+use Rattle.model.proofs.MembersLaws.{members-few, members-deeper, members-stop, members-here}
+use Rattle.rowpass.specs.Indices.{IndexForm}
+use Rattle.rowpass.specs.Reading.{recordAt, definitionIn, attributeIn, particlesBefore, modelPart, attributesOf, indexForm}
+use Rattle.rows.specs.declared.Cursor.{Cursor}
+use Rattle.rows.specs.Written.{Written, newRow}
+use Rattle.rows.proofs.WrittenLaws.{written-none, written-then, written-as}
+use Rattle.filling.specs.declared.Filling.{Filling}
+use Rattle.filling.specs.declared.Filling.the-variants.{Nothing, Definition, Attribute}
+use Rattle.filling.specs.Fillings.{newElement, newAttribute, requiredRows, fillingsOf, contentRows, fillIndex, fillingRows}
+use Rattle.filling.specs.Parts.{whatFilling, memberFilling, valueIn, requiredAt, requiredIn, formIn, definitionRows, memberRows, belowRows, Indexed}
+
+-- ---- readers
+pub nothing-told : (k : GroupKind) (ms : Members ℕ) (x y : ℕ) (f : Facts) → f ≡ facts numbers k ms x y → f .nothing ≡ nothing k ms
+nothing-told k ms x y f e = ap (λ (z : Facts). z .nothing) e ∙ facts-nothing numbers k ms x y
+
+-- b: the record of attribute j
+pub fill-told : (attrs : Bytes) (j l : ℕ) (b v : Bytes) → b ≡ take 52 (drop (52 * j) attrs) → l ≡ getD b 19 0 → v ≡ take l (drop 20 b) → (v ≡ valueIn attrs j) × (length v ≤ 32)
+fill-told attrs j l b v e m t =
+    let long : length b ≤ 52 = omega (arith, ap length e, length-take 52 (drop (52 * j) attrs)) in
+    (t ∙ rw (m, e, getD-drop 18 (recordAt 52 j attrs) 1 0, drop-drop 2 18 (recordAt 52 j attrs)), omega (arith, ap length t, length-take l (drop 20 b), length-drop 20 b))
+
+-- ---- attributes
+module _ (F : IndexForm) (value : ℕ → Bytes) (d i : ℕ) where
+  required-last : (j n : ℕ) → requiredRows F value d i j (suc n) ≡ requiredRows F value d i j n ++ requiredRows F value d i (j + n) 1
+  unfolding requiredRows
+  required-last j zero = let e : j + 0 ≡ j = omega arith in rw e
+  required-last j (suc n) =
+      let e : suc j + n ≡ j + suc n = omega arith in
+      by (eqb (F .owner j) i && F .needed j) (required-last (suc j) n ∙ ap (λ (k : ℕ). requiredRows F value d i (suc j) n ++ requiredRows F value d i k 1) e)
+    where
+      L : List (Deep FlatRow)
+      L = requiredRows F value d i (suc j) (suc n)
+
+      M : List (Deep FlatRow)
+      M = requiredRows F value d i (suc j) n
+
+      R : List (Deep FlatRow)
+      R = requiredRows F value d i (j + suc n) 1
+
+      by : (b : Bool) → L ≡ M ++ R
+          → elim b as (λ z. List (Deep FlatRow)) [ true ↦ newAttribute d j (value j) ∷ L | false ↦ L ] ≡ (elim b as (λ z. List (Deep FlatRow)) [ true ↦ newAttribute d j (value j) ∷ M | false ↦ M ]) ++ R
+      by true e = ap (λ (z : List (Deep FlatRow)). newAttribute d j (value j) ∷ z) e
+      by false e = e
+
+module _ (attrs : Bytes) (d i : ℕ) where
+  abbrev rowIf : Bool → Deep FlatRow → List (Deep FlatRow)
+  rowIf true x = x ∷ []
+  rowIf false x = []
+
+  required-at : (j : ℕ) {b : Bool} → b ≡ (eqb (attributeIn attrs j .owner) i && mustBePresent (sortOf (attributeIn attrs j .sort))) → requiredAt attrs d i j ≡ rowIf b (newAttribute d j (valueIn attrs j))
+  unfolding requiredAt requiredRows
+  required-at j {b} e = by (eqb (attributeIn attrs j .owner) i && mustBePresent (sortOf (attributeIn attrs j .sort))) ∙ ap (λ (z : Bool). rowIf z (newAttribute d j (valueIn attrs j))) (sym e)
+    where
+      by : (c : Bool) → elim c as (λ z. List (Deep FlatRow)) [ true ↦ newAttribute d j (valueIn attrs j) ∷ [] | false ↦ [] ] ≡ rowIf c (newAttribute d j (valueIn attrs j))
+      by true = refl
+      by false = refl
+
+  pub spare-written : (j : ℕ) {b : Bool} {c : Cursor} {out : Bytes} → b ≡ (eqb (attributeIn attrs j .owner) i && mustBePresent (sortOf (attributeIn attrs j .sort))) → b ≡ false → Written (requiredAt attrs d i j) c out c out
+  spare-written j e f = written-as (required-at j e ∙ ap (λ (z : Bool). rowIf z (newAttribute d j (valueIn attrs j))) f) written-none
+
+  pub needed-written : (j : ℕ) {b : Bool} {v : Bytes} {c r : Cursor} {out out′ : Bytes} → b ≡ (eqb (attributeIn attrs j .owner) i && mustBePresent (sortOf (attributeIn attrs j .sort))) → b ≡ true → v ≡ valueIn attrs j → Written (newRow 2 d j v ∷ []) c out r out′
+      → Written (requiredAt attrs d i j) c out r out′
+  needed-written j e t w p = written-as (required-at j e ∙ ap (λ (z : Bool). rowIf z (newAttribute d j (valueIn attrs j))) t ∙ ap (λ (z : Bytes). newAttribute d j z ∷ []) (sym w)) p
+
+  pub required-none : {c : Cursor} {out : Bytes} → Written (requiredIn attrs d i 0) c out c out
+  unfolding requiredIn requiredRows
+  required-none = written-none
+
+  pub required-on : (j : ℕ) {c r r′ : Cursor} {out out′ out″ : Bytes} → Written (requiredIn attrs d i j) c out r out′ → Written (requiredAt attrs d i j) r out′ r′ out″ → Written (requiredIn attrs d i (j + 1)) c out r′ out″
+  unfolding requiredIn requiredAt
+  required-on j p q =
+      let e : 0 + j ≡ j = omega arith in
+      rw (add-one j) (written-as (required-last (attributesOf attrs 0) (valueIn attrs) d i 0 j) (written-then p (rw e q)))
+
+-- the attributes below j are written
+pub record Putting (attrs : Bytes) (d i a : ℕ) (c : Cursor) (out : Bytes) (r : Cursor) (out′ : Bytes) (j : ℕ) : Type 0 where
+  pub written : Written (requiredIn attrs d i j) c out r out′
+  pub low : j ≤ a
+
+-- ---- the members of depth d that s begins with
+module _ (d : ℕ) (k : GroupKind) (s : Bytes) where
+  pub group-few : length s < 4 → filling k (membersFrom d s) ≡ []
+  unfolding filling
+  group-few h = rw (members-few d s h)
+
+  module _ (own : ℕ) (h : 4 ≤ length s) (g : own ≡ getD s 3 0) where
+    pub group-deeper : d < own → filling k (membersFrom d s) ≡ filling k (membersFrom d (take (length s - 4) (drop 4 s)))
+    group-deeper l = rw (tail-seen s 4, members-deeper d s h (omega arith))
+
+    pub group-stop : own < d → filling k (membersFrom d s) ≡ []
+    unfolding filling
+    group-stop l = rw (members-stop d s h (omega arith))
+
+    pub group-here : own ≤ d → d ≤ own → filling k (membersFrom d s) ≡ beside k (memberFilling d s) (filling k (membersFrom d (take (length s - 4) (drop 4 s))))
+    unfolding filling memberFilling particleOf
+    group-here l m = rw (tail-seen s 4, members-here d s h (omega arith)) (by (getD s 0 0))
+      where
+        by : (sort : ℕ)
+            → filling k (indexMember (readParticle s .row) sort (membersFrom (suc d) (drop 4 s)) (membersFrom d (drop 4 s)))
+            ≡ beside k (whatFilling (particleOf (readParticle s) .quantifier) (whatOf sort (getD s 2 0)) (membersFrom (suc d) (drop 4 s))) (filling k (membersFrom d (drop 4 s)))
+        by zero = refl
+        by (suc n) = refl
+
+-- ---- one particle, p, and its members
+module _ (d : ℕ) (s : Bytes) (p : Particle) (e : p ≡ particleOf (readParticle s)) where
+  told : memberFilling d s ≡ whatFilling (p .quantifier) (p .what) (membersFrom (suc d) (drop 4 s))
+  unfolding memberFilling
+  told = ap (λ (z : Particle). whatFilling (z .quantifier) (z .what) (membersFrom (suc d) (drop 4 s))) (sym e)
+
+  module _ (b : Bool) (q : b ≡ skips (p .quantifier)) where
+    pub member-skips : b ≡ true → memberFilling d s ≡ []
+    member-skips t = told ∙ by (p .what)
+      where
+        z : skips (p .quantifier) ≡ true
+        z = sym q ∙ t
+
+        by : (w : What) → whatFilling (p .quantifier) w (membersFrom (suc d) (drop 4 s)) ≡ []
+        by (Element i) = rw z
+        by (Group k n) = rw z
+
+    module _ (f : b ≡ false) where
+      pub member-element : (i : ℕ) → p .what ≡ Element i → memberFilling d s ≡ i ∷ []
+      member-element i w = let z : skips (p .quantifier) ≡ false = sym q ∙ f in told ∙ rw (w, z)
+
+      module _ (k : GroupKind) (n : ℕ) (w : p .what ≡ Group k n) (t : Bytes) (et : t ≡ take (length s - 4) (drop 4 s)) (u : Bool) (eu : u ≡ nothing k (membersFrom (d + 1) t)) where
+        at-tail : membersFrom (d + 1) t ≡ membersFrom (suc d) (drop 4 s)
+        at-tail = ap₂ (λ (x : ℕ) (y : Bytes). membersFrom x y) (add-one d) (et ∙ tail-seen s 4)
+
+        inside : memberFilling d s ≡ unless u (filling k (membersFrom (d + 1) t))
+        inside =
+            let z : skips (p .quantifier) ≡ false = sym q ∙ f in
+            told ∙ rw (w, z, ← at-tail, ← eu)
+
+        pub member-nothing : u ≡ true → memberFilling d s ≡ []
+        member-nothing h = inside ∙ rw h
+
+        pub member-group : u ≡ false → memberFilling d s ≡ filling k (membersFrom (d + 1) t)
+        member-group h = inside ∙ rw h
+
+-- ---- definitions
+-- the attributes of a form do not depend on its definitions
+form-required : (n a b : ℕ) (defs parts attrs : Bytes) (value : ℕ → Bytes) (d i j k : ℕ) → requiredRows (indexForm n defs parts attrs a) value d i j k ≡ requiredRows (attributesOf attrs b) value d i j k
+unfolding requiredRows
+form-required n a b defs parts attrs value d i j zero = refl
+form-required n a b defs parts attrs value d i j (suc k) =
+    let e : requiredRows (indexForm n defs parts attrs a) value d i (suc j) k ≡ requiredRows (attributesOf attrs b) value d i (suc j) k = form-required n a b defs parts attrs value d i (suc j) k in
+    λ z. elim (eqb (attributeIn attrs j .owner) i && mustBePresent (sortOf (attributeIn attrs j .sort))) as (λ x. List (Deep FlatRow)) [ true ↦ newAttribute d j (value j) ∷ e z | false ↦ e z ]
+
+-- nor fillings on the number of definitions
+form-fillings : (n m a : ℕ) (defs parts attrs : Bytes) (value : ℕ → Bytes) (f g : ℕ → List (Deep FlatRow)) → ((j : ℕ) → f j ≡ g j) → (is : List ℕ) → fillingsOf (indexForm n defs parts attrs a) value f is ≡ fillingsOf (indexForm m defs parts attrs a) value g is
+unfolding fillingsOf
+form-fillings n m a defs parts attrs value f g e [] = refl
+form-fillings n m a defs parts attrs value f g e (i ∷ is) = ap₂ (λ (u v : List (Deep FlatRow)). u ++ v) (e i) (form-fillings n m a defs parts attrs value f g e is)
+
+form-content : (n m a : ℕ) (defs parts attrs : Bytes) (value : ℕ → Bytes) (f g : ℕ → List (Deep FlatRow)) → ((j : ℕ) → f j ≡ g j) → (txt : Bytes) (d : ℕ) (ms : Members ℕ) (k : ℕ)
+    → contentRows (indexForm n defs parts attrs a) value f txt d ms k ≡ contentRows (indexForm m defs parts attrs a) value g txt d ms k
+unfolding contentRows
+form-content n m a defs parts attrs value f g e txt d ms zero = refl
+form-content n m a defs parts attrs value f g e txt d ms (suc zero) = refl
+form-content n m a defs parts attrs value f g e txt d ms (suc (suc k)) = form-fillings n m a defs parts attrs value f g e (filling Sequence ms)
+
+module _ (defs parts attrs : Bytes) (a : ℕ) (txt : Bytes) where
+  -- how many definitions there are is not looked at
+  sized : (n h d i : ℕ) → fillIndex (indexForm n defs parts attrs a) (valueIn attrs) h txt d i ≡ fillIndex (indexForm 0 defs parts attrs a) (valueIn attrs) h txt d i
+  unfolding fillIndex
+  sized n zero d i = refl
+  sized n (suc h) d i =
+      ap₂ (λ (u v : List (Deep FlatRow)). newElement d i ∷ (u ++ v)) (form-required n a 0 defs parts attrs (valueIn attrs) (suc d) i 0 a ∙ sym (form-required 0 a 0 defs parts attrs (valueIn attrs) (suc d) i 0 a))
+      (form-content n 0 a defs parts attrs (valueIn attrs) (λ j. fillIndex (indexForm n defs parts attrs a) (valueIn attrs) h txt (suc d) j) (λ j. fillIndex (indexForm 0 defs parts attrs a) (valueIn attrs) h txt (suc d) j) (λ j. sized n h (suc d) j) txt (suc d) (membersOf (modelPart defs parts i)) (definitionIn defs i .kind))
+
+  pub definition-sized : (n d i : ℕ) {c r : Cursor} {out out′ : Bytes} → Written (definitionRows defs parts attrs a txt n d i) c out r out′ → Written (fillIndex (indexForm n defs parts attrs a) (valueIn attrs) n txt d i) c out r out′
+  unfolding definitionRows
+  definition-sized n d i p = written-as (sized n n d i) p
+
+  module _ (h d : ℕ) where
+    definition-more : (i : ℕ) → definitionRows defs parts attrs a txt (suc h) d i ≡ newElement d i ∷ (requiredIn attrs (suc d) i a ++ belowRows defs parts attrs a txt h (suc d) i)
+    unfolding definitionRows belowRows requiredIn fillIndex
+    definition-more i = ap (λ (u : List (Deep FlatRow)). newElement d i ∷ (u ++ belowRows defs parts attrs a txt h (suc d) i)) (form-required 0 a 0 defs parts attrs (valueIn attrs) (suc d) i 0 a)
+
+  module _ (h d : ℕ) where
+    -- ---- a definition
+    pub definition-low : (i : ℕ) {c : Cursor} {out : Bytes} → h ≡ 0 → Written (definitionRows defs parts attrs a txt h d i) c out c out
+    unfolding definitionRows fillIndex
+    definition-low i e = rw e written-none
+
+    pub definition-written : (i : ℕ) {c e r r′ : Cursor} {out out₁ out₂ out′ : Bytes} → (h ≡ 0 → ⊥) → Written (newRow 1 d i [] ∷ []) c out e out₁ → Written (requiredIn attrs (d + 1) i a) e out₁ r out₂
+        → Written (belowRows defs parts attrs a txt (h - 1) (d + 1) i) r out₂ r′ out′ → Written (definitionRows defs parts attrs a txt h d i) c out r′ out′
+    definition-written i {c} {e} {r} {r′} {out} {out₁} {out₂} {out′} n p q s = written-as (by h n) (written-then p (written-then q s))
+      where
+        by : (k : ℕ) → (k ≡ 0 → ⊥) → definitionRows defs parts attrs a txt k d i ≡ newElement d i ∷ (requiredIn attrs (d + 1) i a ++ belowRows defs parts attrs a txt (k - 1) (d + 1) i)
+        by zero x = absurd (x refl)
+        by (suc k) x =
+            let m : suc k - 1 ≡ k = omega arith in
+            rw (m, add-one d) (definition-more k d i)
+
+    -- ---- what stands below an element of definition i, whose kind is k
+    module _ (i k : ℕ) (e : k ≡ definitionIn defs i .kind) where
+      kind-told : belowRows defs parts attrs a txt h d i ≡ contentRows (formIn defs parts attrs a) (valueIn attrs) (λ j. definitionRows defs parts attrs a txt h d j) txt d (membersOf (modelPart defs parts i)) k
+      unfolding belowRows
+      kind-told = ap (λ (z : ℕ). contentRows (formIn defs parts attrs a) (valueIn attrs) (λ j. definitionRows defs parts attrs a txt h d j) txt d (membersOf (modelPart defs parts i)) z) (sym e)
+
+      pub below-none : {c : Cursor} {out : Bytes} → k ≡ 0 → Written (belowRows defs parts attrs a txt h d i) c out c out
+      unfolding contentRows
+      below-none z = written-as (kind-told ∙ rw z) written-none
+
+      pub below-text : {c r : Cursor} {out out′ : Bytes} → k ≡ 1 → Written (newRow 3 d 0 txt ∷ []) c out r out′ → Written (belowRows defs parts attrs a txt h d i) c out r out′
+      unfolding contentRows
+      below-text z p = written-as (kind-told ∙ rw z) p
+
+      pub below-group : (s : Bytes) {c r : Cursor} {out out′ : Bytes} → (k ≡ 0 → ⊥) → (k ≡ 1 → ⊥) → s ≡ modelPart defs parts i → Written (memberRows defs parts attrs a txt h d (filling Sequence (membersFrom 0 s))) c out r out′
+          → Written (belowRows defs parts attrs a txt h d i) c out r out′
+      unfolding contentRows memberRows
+      below-group s n m q p = written-as (kind-told ∙ by k n m ∙ ap (λ (z : Bytes). memberRows defs parts attrs a txt h d (filling Sequence (membersFrom 0 z))) (sym q)) p
+        where
+          by : (k : ℕ) → (k ≡ 0 → ⊥) → (k ≡ 1 → ⊥)
+              → contentRows (formIn defs parts attrs a) (valueIn attrs) (λ j. definitionRows defs parts attrs a txt h d j) txt d (membersOf (modelPart defs parts i)) k
+              ≡ memberRows defs parts attrs a txt h d (filling Sequence (membersFrom 0 (modelPart defs parts i)))
+          by zero n m = absurd (n refl)
+          by (suc zero) n m = absurd (m refl)
+          by (suc (suc k)) n m = refl
+
+    -- ---- members; f: the definitions that they fill with
+    members-more : (u v : List ℕ) → memberRows defs parts attrs a txt h d (u ++ v) ≡ memberRows defs parts attrs a txt h d u ++ memberRows defs parts attrs a txt h d v
+    unfolding memberRows fillingsOf
+    members-more [] v = refl
+    members-more (i ∷ u) v =
+        ap (λ (z : List (Deep FlatRow)). definitionRows defs parts attrs a txt h d i ++ z) (members-more u v)
+        ∙ sym (append-assoc (definitionRows defs parts attrs a txt h d i) (memberRows defs parts attrs a txt h d u) (memberRows defs parts attrs a txt h d v))
+
+    module _ (f : List ℕ) where
+      pub none-written : {c : Cursor} {out : Bytes} → f ≡ [] → Written (memberRows defs parts attrs a txt h d f) c out c out
+      unfolding memberRows fillingsOf
+      none-written e = rw e written-none
+
+      pub one-written : (i : ℕ) {c r : Cursor} {out out′ : Bytes} → f ≡ i ∷ [] → Written (definitionRows defs parts attrs a txt h d i) c out r out′ → Written (memberRows defs parts attrs a txt h d f) c out r out′
+      unfolding memberRows fillingsOf
+      one-written i e p = written-as (ap (λ (z : List ℕ). memberRows defs parts attrs a txt h d z) e ∙ append-nil (definitionRows defs parts attrs a txt h d i)) p
+
+      pub same-written : (g : List ℕ) {c r : Cursor} {out out′ : Bytes} → f ≡ g → Written (memberRows defs parts attrs a txt h d g) c out r out′ → Written (memberRows defs parts attrs a txt h d f) c out r out′
+      same-written g e p = written-as (ap (λ (z : List ℕ). memberRows defs parts attrs a txt h d z) e) p
+
+      -- of a group's first member, u, and of the others, v
+      module _ (k : GroupKind) (u v : List ℕ) (e : f ≡ beside k u v) where
+        pub list-written : {c r r′ : Cursor} {out out′ out″ : Bytes} → k ≡ Sequence → Written (memberRows defs parts attrs a txt h d u) c out r out′ → Written (memberRows defs parts attrs a txt h d v) r out′ r′ out″
+            → Written (memberRows defs parts attrs a txt h d f) c out r′ out″
+        list-written q p s = written-as (ap (λ (z : List ℕ). memberRows defs parts attrs a txt h d z) (e ∙ ap (λ (z : GroupKind). beside z u v) q) ∙ members-more u v) (written-then p s)
+
+        pub first-written : {c r : Cursor} {out out′ : Bytes} → k ≡ Choice → Written (memberRows defs parts attrs a txt h d u) c out r out′ → Written (memberRows defs parts attrs a txt h d f) c out r out′
+        first-written q p = same-written u (e ∙ ap (λ (z : GroupKind). beside z u v) q) p
+
+-- ---- an index in a particle is a byte
+abbrev elementIn : What → ℕ
+elementIn (Element i) = i
+elementIn (Group k n) = 0
+
+pub index-small : (s : Bytes) (p : Particle) (i : ℕ) → p ≡ particleOf (readParticle s) → p .what ≡ Element i → getD s 2 0 < 256 → i < 256
+unfolding particleOf
+index-small s p i e w l = by (getD s 0 0) (ap (λ (z : Particle). elementIn (z .what)) (sym e) ∙ ap elementIn w)
+  where
+    by : (sort : ℕ) → elementIn (whatOf sort (getD s 2 0)) ≡ i → i < 256
+    by zero q = omega arith
+    by (suc k) q = omega arith
+
+-- ---- what falls: the height, then the particles. A part is shorter than a slice can be, 2 ^ 64.
+unfoldable pub top : ℕ
+top = 147573952589676412927
+
+unfoldable pub rank : ℕ → ℕ → ℕ
+rank h n = 147573952589676412928 * h + n
+
+pub rank-particles : (h m n : ℕ) → m < n → rank h m < rank h n
+unfolding rank
+rank-particles h m n l = omega arith
+
+pub rank-part : (h l : ℕ) → l < 18446744073709551616 → rank h (4 * l + 1) < rank h top
+unfolding rank top
+rank-part h l m = omega arith
+
+pub rank-height : (h : ℕ) → (h ≡ 0 → ⊥) → rank (h - 1) top < rank h 0
+unfolding rank top
+rank-height zero n = absurd (n refl)
+rank-height (suc h) n = let e : suc h - 1 ≡ h = omega arith in rw e (omega arith)
+
+pub part-short : (defs parts : Bytes) (i : ℕ) (s : Bytes) → s ≡ modelPart defs parts i → length s ≤ length parts
+unfolding modelPart
+part-short defs parts i s e =
+    let n : ℕ = 4 * definitionIn defs i .particles in
+    let m : ℕ = 4 * particlesBefore defs i in
+    omega (arith, ap length e, length-take n (drop m parts), length-drop m parts)
+
+-- ---- what a change fills with
+module _ (n : ℕ) (defs parts attrs : Bytes) (a : ℕ) (what : Filling) (txt : Bytes) (d : ℕ) where
+  abbrev rowsFor : Filling → List (Deep FlatRow)
+  rowsFor x = fillingRows (indexForm n defs parts attrs a) (valueIn attrs) x txt d
+
+  pub nothing-filled : {c : Cursor} {out : Bytes} → what ≡ Nothing → Written (rowsFor what) c out c out
+  nothing-filled e = written-as (ap (λ (x : Filling). rowsFor x) e) written-none
+
+  pub definition-filled : (i : ℕ) {c r : Cursor} {out out′ : Bytes} → what ≡ Definition i → Written (definitionRows defs parts attrs a txt n d i) c out r out′ → Written (rowsFor what) c out r out′
+  definition-filled i e p = written-as (ap (λ (x : Filling). rowsFor x) e) (definition-sized defs parts attrs a txt n d i p)
+
+  pub attribute-filled : (j : ℕ) {c r : Cursor} {out out′ : Bytes} → what ≡ Attribute j → Written (newRow 2 d j txt ∷ []) c out r out′ → Written (rowsFor what) c out r out′
+  attribute-filled j e p = written-as (ap (λ (x : Filling). rowsFor x) e) p
+
+pub filled-definition : (what : Filling) (i : ℕ) → what ≡ Definition i → Indexed what → i ≤ 256
+filled-definition what i e x = subst Indexed e x
+
+pub filled-attribute : (what : Filling) (j : ℕ) → what ≡ Attribute j → Indexed what → j < 65536
+filled-attribute what j e x = subst Indexed e x

@@ -1,0 +1,50 @@
+use native.Mathlib.Omega.{arith}
+use Rattle.filling.proofs.FillingLaws.{nothing-filled, definition-filled, attribute-filled, filled-definition, filled-attribute}
+use borrow.Author.Needs.{needs}
+use Rattle.filling.proofs.put_filling.Statement.{statement}
+use Rattle.filling.proofs.put_filling.Tie as tie
+
+enum-told : tie.Need-enum-told
+enum-told c = search needs
+
+enum-known-what : tie.Need-enum-known-what
+enum-known-what c = search needs
+
+put-definition-requires : tie.Need-put-definition-requires
+put-definition-requires c κs = (filled-definition (c .before .before .before .before .before .before .before .before .before .args .what) _ (c .before .before .what .given .1) (c .before .before .before .before .before .before .before .before .before .pre .0), c .before .before .before .before .before .before .before .before .before .pre .1)
+
+enum-known-what-2 : tie.Need-enum-known-what-2
+enum-known-what-2 c = search needs
+
+put-new-requires : tie.Need-put-new-requires
+put-new-requires c κs = let q = c .before .before .before .before .before .before .before .before .before .pre .1 in (q .room, omega (arith, q .deep), filled-attribute (c .before .before .before .before .before .before .before .before .before .args .what) _ (c .before .before .what2 .given .1) (c .before .before .before .before .before .before .before .before .before .pre .0), q .text)
+
+returns : tie.Need-returns
+returns c = let a = c .before .before .before .before .before .before .before .args in nothing-filled (a .n) (a .defs .now) (a .parts .now) (a .attrs .now) (a .a) (a .what) (a .text .now) (a .depth) (c .enum-told .given .1)
+
+same-length : tie.Need-same-length
+same-length c = search needs
+
+returns-2 : tie.Need-returns-2
+returns-2 c = let a = c .before .before .before .before .before .before .before .before .before .before .before .before .args in definition-filled (a .n) (a .defs .now) (a .parts .now) (a .attrs .now) (a .a) (a .what) (a .text .now) (a .depth) _ (c .before .before .before .before .before .what .given .1) (c .before .before .put-definition .ensures)
+
+same-length-2 : tie.Need-same-length-2
+same-length-2 c = search needs
+
+returns-3 : tie.Need-returns-3
+returns-3 c = let a = c .before .before .before .before .before .before .before .before .before .before .before .before .args in attribute-filled (a .n) (a .defs .now) (a .parts .now) (a .attrs .now) (a .a) (a .what) (a .text .now) (a .depth) _ (c .before .before .before .before .before .what2 .given .1) (c .before .before .put-new .ensures)
+
+pub put-filling-spec : {M : Type 1} → statement M
+put-filling-spec =
+    tie.close
+    (tie.spec
+    enum-told
+    enum-known-what
+    put-definition-requires
+    enum-known-what-2
+    put-new-requires
+    returns
+    same-length
+    returns-2
+    same-length-2
+    returns-3)

@@ -1,0 +1,50 @@
+use Prim.Native.Nat.{ℕ, _-_}
+use native.Mathlib.Omega.{arith}
+use mathlib.Core.Path.{_≡_, ap}
+use borrow.Author.Needs.{needs}
+use Rattle.filling.specs.Parts.{requiredIn}
+use Rattle.rows.proofs.WrittenLaws.{written-room, written-long, written-as}
+use Rattle.filling.proofs.FillingLaws.{Putting, required-none, required-on}
+use Rattle.filling.proofs.put_required.Statement.{statement}
+use Rattle.filling.proofs.put_required.Tie as tie
+
+abbrev Inv-loop : tie.InvT-loop
+Inv-loop i a attrs depth out₀ r₀ j₀ out r j = Putting attrs depth i a r₀ out₀ r out j
+
+abbrev μ-loop : tie.MeasureT-loop
+μ-loop i a attrs depth out₀ r₀ j₀ out r j = a - j
+
+loop-holds : tie.Need-loop-holds Inv-loop μ-loop
+loop-holds c = let a = c .before .before .args in record { written = required-none (a .attrs .now) (a .depth) (a .i); low = omega arith }
+
+put-attribute-requires : tie.Need-put-attribute-requires Inv-loop μ-loop
+put-attribute-requires c κs = (written-room (c .before .before .loop .inv .written) (c .before .before .before .before .before .pre .0), omega arith, omega arith)
+
+add-j : tie.Need-add-j Inv-loop μ-loop
+add-j c = search needs
+
+loop-less : tie.Need-loop-less Inv-loop μ-loop
+loop-less c = search needs
+
+loop-again : tie.Need-loop-again Inv-loop μ-loop
+loop-again c = let a = c .before .before .before .before .before .before .before .before .args in record { written = required-on (a .attrs .now) (a .depth) (a .i) _ (c .before .before .before .before .before .loop .inv .written) (c .before .before .put-attribute .ensures); low = omega arith }
+
+same-length : tie.Need-same-length Inv-loop μ-loop
+same-length c = written-long (c .before .loop .inv .written)
+
+returns : tie.Need-returns Inv-loop μ-loop
+returns c = let a = c .before .before .before .before .args in let e : a .a ≡ c .before .loop .j = omega (arith, c .before .loop .inv .low) in written-as (ap (λ (n : ℕ). requiredIn (a .attrs .now) (a .depth) (a .i) n) e) (c .before .loop .inv .written)
+
+pub put-required-spec : {M : Type 1} → statement M
+put-required-spec =
+    tie.close
+    (tie.spec
+    Inv-loop
+    μ-loop
+    loop-holds
+    put-attribute-requires
+    add-j
+    loop-less
+    loop-again
+    same-length
+    returns)

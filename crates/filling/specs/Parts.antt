@@ -1,0 +1,73 @@
+-- The filling of what the bytes of a form hold: of particles, of definitions, of what a change fills with.
+-- Assumes nothing.
+use Prim.Native.Nat.{ℕ, suc, _+_, _<_, _≤_}
+use mathlib.Core.Bool.{_||_}
+use mathlib.Core.List.{List, [], _∷_}
+use lib.ListN.{length, drop}
+use Rattle.rules.specs.declared.Quantifier.{Quantifier}
+use Rattle.rules.specs.Bytes.{Bytes}
+use Rattle.rules.specs.Model.{Members, skips, nothing, unless, filling}
+use Rattle.rules.specs.Preorder.{Deep}
+use Rattle.rules.specs.Layout.{FlatRow}
+use Rattle.rules.specs.Decode.{readParticle}
+use Rattle.model.specs.declared.What.{What}
+use Rattle.model.specs.declared.What.the-variants.{Element, Group}
+use Rattle.model.specs.Particle.{particleOf}
+use Rattle.model.specs.Members.{membersFrom, membersOf}
+use Rattle.rowpass.specs.Indices.{IndexForm}
+use Rattle.rowpass.specs.Reading.{definitionIn, attributeIn, modelPart, attributesOf, indexForm}
+use Rattle.rows.specs.declared.Cursor.{Cursor}
+use Rattle.rows.specs.Written.{Room}
+use Rattle.filling.specs.declared.Filling.{Filling}
+use Rattle.filling.specs.declared.Filling.the-variants.{Nothing, Definition, Attribute}
+use Rattle.filling.specs.Fillings.{requiredRows, fillingsOf, contentRows, fillIndex}
+
+-- ---- 'a particle that accepts nothing fills with nothing'
+-- a particle by what it is; `below` are its members
+abbrev pub whatFilling : Quantifier → What → Members ℕ → List ℕ
+whatFilling q (Element i) below = unless (skips q) (i ∷ [])
+whatFilling q (Group k n) below = unless (skips q || nothing k below) (filling k below)
+
+-- the particle of depth d that s begins with
+unfoldable pub memberFilling : ℕ → Bytes → List ℕ
+memberFilling d s = whatFilling (particleOf (readParticle s) .quantifier) (particleOf (readParticle s) .what) (membersFrom (suc d) (drop 4 s))
+
+-- ---- rows of depth d
+abbrev pub valueIn : Bytes → ℕ → Bytes
+valueIn attrs j = attributeIn attrs j .value
+
+-- of the attributes those that are REQUIRED of definition i: number j alone, and all below n
+unfoldable pub requiredAt : Bytes → ℕ → ℕ → ℕ → List (Deep FlatRow)
+requiredAt attrs d i j = requiredRows (attributesOf attrs 0) (valueIn attrs) d i j 1
+
+unfoldable pub requiredIn : Bytes → ℕ → ℕ → ℕ → List (Deep FlatRow)
+requiredIn attrs d i n = requiredRows (attributesOf attrs 0) (valueIn attrs) d i 0 n
+
+-- how many definitions there are is not looked at
+abbrev pub formIn : Bytes → Bytes → Bytes → ℕ → IndexForm
+formIn defs parts attrs a = indexForm 0 defs parts attrs a
+
+-- of definitions of at most height h
+module _ (defs parts attrs : Bytes) (a : ℕ) (txt : Bytes) (h d : ℕ) where
+  unfoldable pub definitionRows : ℕ → List (Deep FlatRow)
+  definitionRows i = fillIndex (formIn defs parts attrs a) (valueIn attrs) h txt d i
+
+  unfoldable pub memberRows : List ℕ → List (Deep FlatRow)
+  memberRows is = fillingsOf (formIn defs parts attrs a) (valueIn attrs) (λ i. definitionRows i) is
+
+  -- what stands below an element of definition i, after its attributes
+  unfoldable pub belowRows : ℕ → List (Deep FlatRow)
+  belowRows i = contentRows (formIn defs parts attrs a) (valueIn attrs) (λ j. definitionRows j) txt d (membersOf (modelPart defs parts i)) (definitionIn defs i .kind)
+
+-- ---- what the writers ask
+pub record Asks (c : Cursor) (txt : Bytes) (a h d : ℕ) : Type 0 where
+  pub room : Room c
+  pub text : length txt ≤ 32
+  pub attributes : a ≤ 64
+  pub deep : d + h < 256
+
+-- an index that its reader or its row takes
+abbrev pub Indexed : Filling → Type 0
+Indexed Nothing = Unit {0}
+Indexed (Definition i) = i ≤ 256
+Indexed (Attribute j) = j < 65536

@@ -1,5 +1,15 @@
 // The one walk over the tree rows that all changes share: it keeps, takes with all below, gives a value, puts fillings in and renumbers.
 use filling::Filling;
+use rows::Cursor;
+ghost use mathlib.Core.Path.{_≡_};
+ghost use mathlib.Core.List.{[], _∷_, _++_};
+ghost use Prim.Native.Nat.{ℕ, _+_, _*_, _-_, _≤_, _<_};
+ghost use lib.ListN.{length};
+ghost use Rattle.rules.specs.Decode.{readRow};
+ghost use Rattle.rowpass.specs.Reading.{rowsIn};
+ghost use Rattle.rows.specs.Written.{Written, Room, OldRow};
+ghost use Rattle.editing.specs.Walk.{matches, isEverything, isGround, isLater, shifted, movedIndex, keptRow, gone, closes, closed, isBelow, isTaken, isFilled, taken, kept, owed, emitted, onward, walked, atFirst};
+ghost use Rattle.editing.specs.Step.{rowOf, bare, stepRows, stepOpen, Came, fillOf, Moves, Planned, Ready, Fair, Near, WalkRow, Seen, WalkRows};
 
 /// Some rows: none; every row, and what stands above the documents; that alone; the elements of a definition; the rows of an attribute; the
 /// element with a serial.
@@ -45,4 +55,388 @@ pub struct Open {
     pub taking: usize,
     pub below: usize,
     pub due: bool,
+}
+
+/// What has been written after a row, and what is open.
+pub struct Stepped {
+    pub cursor: Cursor,
+    pub opened: Open,
+}
+
+/// What the walk reads of a row.
+pub struct Head {
+    pub depth: usize,
+    pub sort: u8,
+    pub index: usize,
+    pub serial: u32,
+}
+
+// ---- rows
+
+fn read_head(row: &[u8]) -> Head
+    ensures { λ r. ⌜ rowOf r (readRow (now (row .entry)) .row .value) ≡ readRow (now (row .entry)) ⌝ }
+{
+    Head {
+        depth: codec::byte(row, 1) as usize,
+        sort: codec::byte(row, 0),
+        index: codec::get_u16(row, 2) as usize,
+        serial: codec::get_u32(row, 4),
+    }
+}
+
+// Whether a row is one of them.
+fn matches(w: Which, h: Head) -> bool
+    ensures { λ r. ⌜ r ≡ matches w (bare h .row) ⌝ }
+{
+    match w {
+        Which::Nothing => false,
+        Which::Everything => true,
+        Which::Ground => false,
+        Which::Elements(i) => (h.sort == 1) & (h.index == i),
+        Which::Attributes(j) => (h.sort == 2) & (h.index == j),
+        Which::Serial(k) => (h.sort == 1) & (h.serial == k),
+    }
+}
+
+fn is_everything(w: Which) -> bool
+    ensures { λ r. ⌜ r ≡ isEverything w ⌝ }
+{
+    match w {
+        Which::Nothing => false,
+        Which::Everything => true,
+        Which::Ground => false,
+        Which::Elements(_) => false,
+        Which::Attributes(_) => false,
+        Which::Serial(_) => false,
+    }
+}
+
+fn is_ground(w: Which) -> bool
+    ensures { λ r. ⌜ r ≡ isGround w ⌝ }
+{
+    match w {
+        Which::Nothing => false,
+        Which::Everything => false,
+        Which::Ground => true,
+        Which::Elements(_) => false,
+        Which::Attributes(_) => false,
+        Which::Serial(_) => false,
+    }
+}
+
+// Whether a filling comes before a row.
+fn is_later(l: Later, h: Head) -> bool
+    ensures { λ r. ⌜ r ≡ isLater l (bare h .row) ⌝ }
+{
+    match l {
+        Later::Never => false,
+        Later::Row(k) => h.serial == k,
+        Later::Past(j) => !((h.sort == 2) & (h.index < j)),
+    }
+}
+
+// ---- renumbering
+
+// a - b, or 0.
+fn minus(a: usize, b: usize) -> usize
+    ensures { λ r. ⌜ r ≡ a - b ⌝ }
+{
+    if b < a { a - b } else { 0 }
+}
+
+fn shifted(s: Shift, i: usize) -> usize
+    requires { ⌜ (i ≤ 1000) × Moves s ⌝ }
+    ensures { λ r. ⌜ (r ≡ shifted s i) × (r ≤ 2000) ⌝ }
+{
+    if s.from <= i {
+        return minus(i + s.more, s.less);
+    }
+    i
+}
+
+// The index of a row after the change.
+fn moved_index(p: Plan, h: Head) -> usize
+    requires { ⌜ Planned p × Fair h ⌝ }
+    ensures { λ r. ⌜ (r ≡ movedIndex p (bare h .row)) × (r ≤ 2000) ⌝ }
+{
+    if h.sort == 1 {
+        let s = p.definitions;
+        return shifted(s, h.index);
+    }
+    if h.sort == 2 {
+        let s = p.attributes;
+        return shifted(s, h.index);
+    }
+    h.index
+}
+
+// ---- what a row meets
+
+// Whether a row stands below a row taken.
+fn gone(o: Open, h: Head) -> bool
+    ensures { λ r. ⌜ r ≡ gone o (bare h) ⌝ }
+{
+    (0 < o.taking) & (o.taking <= h.depth)
+}
+
+// Whether a row is not below the open row any more.
+fn closes(o: Open, h: Head) -> bool
+    requires { ⌜ Fair h ⌝ }
+    ensures { λ r. ⌜ r ≡ closes o (bare h) ⌝ }
+{
+    h.depth + 1 < o.below
+}
+
+fn closed(o: Open, h: Head) -> Open
+    requires { ⌜ Fair h ⌝ }
+    ensures { λ r. ⌜ r ≡ closed o (bare h) ⌝ }
+{
+    if closes(o, h) {
+        return Open {
+            taking: 0,
+            below: 0,
+            due: false,
+        };
+    }
+    Open {
+        taking: 0,
+        below: o.below,
+        due: o.due,
+    }
+}
+
+// Whether a row stands right below the open row.
+fn is_below(o: Open, h: Head) -> bool
+    requires { ⌜ Fair h ⌝ }
+    ensures { λ r. ⌜ r ≡ isBelow o (bare h) ⌝ }
+{
+    o.below == h.depth + 1
+}
+
+fn is_taken(p: Plan, o: Open, h: Head) -> bool
+    requires { ⌜ Fair h ⌝ }
+    ensures { λ r. ⌜ r ≡ isTaken p o (bare h) ⌝ }
+{
+    let above = p.above;
+    let takes = p.takes;
+    (is_everything(above) | is_below(o, h)) & matches(takes, h)
+}
+
+// Whether a filling comes right before a row.
+fn is_filled(p: Plan, o: Open, h: Head) -> bool
+    requires { ⌜ Fair h ⌝ }
+    ensures { λ r. ⌜ r ≡ isFilled p o (bare h) ⌝ }
+{
+    let later = p.later;
+    (o.due & is_below(o, h)) & is_later(later, h)
+}
+
+// ---- what is open after a row that is taken, after one that is kept, and before the first
+
+fn taken(o: Open, h: Head) -> Open
+    requires { ⌜ Fair h ⌝ }
+    ensures { λ r. ⌜ r ≡ taken o (bare h) ⌝ }
+{
+    Open {
+        taking: h.depth + 1,
+        below: o.below,
+        due: o.due,
+    }
+}
+
+fn kept(p: Plan, o: Open, h: Head, filled: bool) -> Open
+    requires { ⌜ Fair h × (filled ≡ isFilled p o (bare h)) ⌝ }
+    ensures { λ r. ⌜ r ≡ kept p o (bare h) ⌝ }
+{
+    let above = p.above;
+    if matches(above, h) {
+        return Open {
+            taking: 0,
+            below: h.depth + 2,
+            due: p.fills,
+        };
+    }
+    Open {
+        taking: 0,
+        below: o.below,
+        due: o.due & !filled,
+    }
+}
+
+fn at_first(p: Plan) -> Open
+    ensures { λ r. ⌜ r ≡ atFirst p ⌝ }
+{
+    let above = p.above;
+    if is_ground(above) {
+        return Open {
+            taking: 0,
+            below: 1,
+            due: p.fills,
+        };
+    }
+    Open {
+        taking: 0,
+        below: 0,
+        due: false,
+    }
+}
+
+// ---- the walk
+
+// The filling at a depth, if it is due.
+fn put_owed(
+    n: usize,
+    defs: &[u8],
+    parts: &[u8],
+    a: usize,
+    attrs: &[u8],
+    p: Plan,
+    text: &[u8],
+    due: bool,
+    depth: usize,
+    c: Cursor,
+    out: &mut [u8],
+) -> Cursor
+    requires { ⌜ Ready n a (now text) p × Room c × (depth ≤ 81) ⌝ }
+    ensures { λ r. ⌜ Written (owed due (fillOf n (now (defs .entry)) (now (parts .entry)) a (now (attrs .entry)) p (now (text .entry)) depth)) c (now (out .entry)) r (now (out .exit)) ⌝ }
+{
+    if due {
+        let what = p.filling;
+        return filling::put_filling(n, defs, parts, a, attrs, what, text, depth, c, out);
+    }
+    c
+}
+
+// A row that is kept.
+fn put_row(p: Plan, text: &[u8], h: Head, row: &[u8], c: Cursor, out: &mut [u8]) -> Cursor
+    requires { ⌜ Planned p × (length (now text) ≤ 32) × Seen h (now row) × Room c ⌝ }
+    ensures { λ r. ⌜ Written (keptRow p (now (text .entry)) (readRow (now (row .entry))) ∷ []) c (now (out .entry)) r (now (out .exit)) ⌝ }
+{
+    let index = moved_index(p, h);
+    if h.serial == p.set {
+        return rows::put_valued(row, index, text, c, out);
+    }
+    rows::put_kept(row, index, c, out)
+}
+
+// What comes of a row, where what it closes is closed.
+fn come(
+    n: usize,
+    defs: &[u8],
+    parts: &[u8],
+    a: usize,
+    attrs: &[u8],
+    p: Plan,
+    text: &[u8],
+    h: Head,
+    row: &[u8],
+    o: Open,
+    c: Cursor,
+    out: &mut [u8],
+) -> Stepped
+    requires { ⌜ Ready n a (now text) p × Seen h (now row) × Room c ⌝ }
+    ensures { λ r. ⌜ Came (emitted p (now (text .entry)) (fillOf n (now (defs .entry)) (now (parts .entry)) a (now (attrs .entry)) p (now (text .entry))) o (readRow (now (row .entry)))) (onward p (now (text .entry)) (fillOf n (now (defs .entry)) (now (parts .entry)) a (now (attrs .entry)) p (now (text .entry))) o (readRow (now (row .entry)))) c (now (out .entry)) r (now (out .exit)) ⌝ }
+{
+    if is_taken(p, o, h) {
+        return Stepped {
+            cursor: c,
+            opened: taken(o, h),
+        };
+    }
+    let filled = is_filled(p, o, h);
+    let at = put_owed(n, defs, parts, a, attrs, p, text, filled, h.depth, c, out);
+    let next = put_row(p, text, h, row, at, out);
+    Stepped {
+        cursor: next,
+        opened: kept(p, o, h, filled),
+    }
+}
+
+// One row.
+fn step(
+    n: usize,
+    defs: &[u8],
+    parts: &[u8],
+    a: usize,
+    attrs: &[u8],
+    p: Plan,
+    text: &[u8],
+    row: &[u8],
+    o: Open,
+    c: Cursor,
+    out: &mut [u8],
+) -> Stepped
+    requires { ⌜ Ready n a (now text) p × WalkRow (now row) × Near o × Room c ⌝ }
+    ensures { λ r. ⌜ Came (stepRows p (now (text .entry)) (fillOf n (now (defs .entry)) (now (parts .entry)) a (now (attrs .entry)) p (now (text .entry))) o (readRow (now (row .entry)))) (stepOpen p (now (text .entry)) (fillOf n (now (defs .entry)) (now (parts .entry)) a (now (attrs .entry)) p (now (text .entry))) o (readRow (now (row .entry)))) c (now (out .entry)) r (now (out .exit)) ⌝ }
+{
+    let h = read_head(row);
+    if gone(o, h) {
+        return Stepped {
+            cursor: c,
+            opened: o,
+        };
+    }
+    let due = closes(o, h) & o.due;
+    let depth = minus(o.below, 1);
+    let at = put_owed(n, defs, parts, a, attrs, p, text, due, depth, c, out);
+    come(
+        n,
+        defs,
+        parts,
+        a,
+        attrs,
+        p,
+        text,
+        h,
+        row,
+        closed(o, h),
+        at,
+        out,
+    )
+}
+
+/// The walk over `count` rows.
+pub fn walk(
+    n: usize,
+    defs: &[u8],
+    parts: &[u8],
+    a: usize,
+    attrs: &[u8],
+    rows: &[u8],
+    count: usize,
+    plan: Plan,
+    text: &[u8],
+    c: Cursor,
+    out: &mut [u8],
+) -> Cursor
+    requires { ⌜ Ready n a (now text) plan × WalkRows count (now rows) × (44 * count ≤ length (now rows)) × Room c ⌝ }
+    ensures { λ r. ⌜ Written (walked plan (now (text .entry)) (fillOf n (now (defs .entry)) (now (parts .entry)) a (now (attrs .entry)) plan (now (text .entry))) (atFirst plan) (rowsIn count (now (rows .entry)))) c (now (out .entry)) r (now (out .exit)) ⌝ }
+{
+    let mut t = rows;
+    let mut m = count;
+    let mut at = c;
+    let mut o = at_first(plan);
+    while 0 < m {
+        if at.left == 0 {
+            return at;
+        }
+        let s = step(n, defs, parts, a, attrs, plan, text, &t[..44], o, at, out);
+        at = s.cursor;
+        o = s.opened;
+        t = &t[44..];
+        m -= 1;
+    }
+    put_owed(
+        n,
+        defs,
+        parts,
+        a,
+        attrs,
+        plan,
+        text,
+        o.due,
+        minus(o.below, 1),
+        at,
+        out,
+    )
 }

@@ -82,7 +82,7 @@ new-few (x ∷ xs) = by (eqb (x .row .serial) 0) (new-few xs)
     by true h = omega arith
     by false h = omega arith
 
-length-numbered : (n : ℕ) (xs : List (Deep FlatRow)) → length (numbered n xs) ≡ length xs
+pub length-numbered : (n : ℕ) (xs : List (Deep FlatRow)) → length (numbered n xs) ≡ length xs
 length-numbered n [] = refl
 length-numbered n (x ∷ xs) = ap suc (length-numbered (n + isNew x) xs)
 

@@ -1,2 +1,7 @@
 pub mod StoreLaws
 pub mod CallLaws
+pub mod LimitLaws
+pub mod FormBytesLaws
+pub mod RowBounds
+pub mod WalkLaws
+pub mod EditLaws

@@ -1,2 +1,3 @@
 pub mod Stores
 pub mod Planned
+pub mod Writing

@@ -62,11 +62,11 @@ module _ {n : ℕ} {defs : Bytes} {p : ℕ} {parts : Bytes} {a : ℕ} {attrs : B
   agrees : Agrees (indexForm f) (unflat f .form)
   agrees = form-agrees baseWidth f fields (x .bodies)
 
-  definition-in : (i : ℕ) → i < n → definitionIn defs i ≡ getD (definitions n defs) i noDefinition
+  pub definition-in : (i : ℕ) → i < n → definitionIn defs i ≡ getD (definitions n defs) i noDefinition
   unfolding definitions
   definition-in i l = sym (many-at readDefinition definitionSize i n defs noDefinition l)
 
-  attribute-in : (j : ℕ) → j < a → attributeIn attrs j ≡ entryOf j (attributes a attrs)
+  pub attribute-in : (j : ℕ) → j < a → attributeIn attrs j ≡ entryOf j (attributes a attrs)
   unfolding attributes
   attribute-in j l = sym (many-at readAttribute (attributeSize baseWidth) j a attrs noAttribute l)
 
@@ -74,7 +74,7 @@ module _ {n : ℕ} {defs : Bytes} {p : ℕ} {parts : Bytes} {a : ℕ} {attrs : B
   unfolding particlesBefore
   before-in = before-is (particlesBefore defs) (λ i. definitionIn defs i .particles) n (definitions n defs) refl (λ i. refl) (λ i l. ap (λ (d : FlatDefinition). d .particles) (definition-in i l))
 
-  model-in : (i : ℕ) → i < n → membersOf (modelPart defs parts i) ≡ indexMembers (build (partAt i (definitions n defs) (particles p parts)) 0)
+  pub model-in : (i : ℕ) → i < n → membersOf (modelPart defs parts i) ≡ indexMembers (build (partAt i (definitions n defs) (particles p parts)) 0)
   unfolding modelPart
   model-in i l =
       let c : definitionIn defs i .particles ≡ getD (definitions n defs) i noDefinition .particles = ap (λ (d : FlatDefinition). d .particles) (definition-in i l) in

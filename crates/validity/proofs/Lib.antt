@@ -14,4 +14,5 @@ pub mod FormLaws
 pub mod RecordsTold
 pub mod StringChecks
 pub mod IndexReads
+pub mod BodiesRead
 pub mod CallLaws

@@ -108,13 +108,16 @@ module _ {bs : Bytes} (h : Headed bs) where
   pub rows-whole : rowSize baseWidth * rowCount bs ≡ length (rowsIn bs)
   rows-whole = cut-length (atRows baseWidth bs) (rowSize baseWidth * rowCount bs) rows-cut (omega (arith, header .size))
 
+  pub rows-small : Small (rowsIn bs)
+  rows-small = cut-small (atRows baseWidth bs) (rowSize baseWidth * rowCount bs) rows-cut
+
   -- ---- what is read of them
-  same-definitions : flatOf bs .definitions ≡ definitions (definitionCount bs) (definitionsIn bs)
+  pub same-definitions : flatOf bs .definitions ≡ definitions (definitionCount bs) (definitionsIn bs)
   unfolding definitions
   same-definitions =
       sym (ap (readMany readDefinition definitionSize (definitionCount bs)) definitions-cut ∙ many-within readDefinition definitionSize (definitionCount bs) (drop headerSize bs))
 
-  same-particles : flatOf bs .particles ≡ particles (particleCount bs) (particlesIn bs)
+  pub same-particles : flatOf bs .particles ≡ particles (particleCount bs) (particlesIn bs)
   unfolding particles
   same-particles =
       ap (readMany readParticle particleSize (particleCount bs)) (drop-drop (definitionSize * definitionCount bs) headerSize bs)
@@ -125,13 +128,13 @@ module _ {bs : Bytes} (h : Headed bs) where
       ap (λ (ys : Bytes). drop (particleSize * particleCount bs) ys) (drop-drop (definitionSize * definitionCount bs) headerSize bs)
       ∙ drop-drop (particleSize * particleCount bs) (atParticles bs) bs
 
-  same-attributes : flatOf bs .attributes ≡ attributes (attributeCount bs) (attributesIn bs)
+  pub same-attributes : flatOf bs .attributes ≡ attributes (attributeCount bs) (attributesIn bs)
   unfolding attributes
   same-attributes =
       ap (readMany readAttribute (attributeSize baseWidth) (attributeCount bs)) from-attributes
       ∙ sym (ap (readMany readAttribute (attributeSize baseWidth) (attributeCount bs)) attributes-cut ∙ many-within readAttribute (attributeSize baseWidth) (attributeCount bs) (drop (atAttributes bs) bs))
 
-  same-rows : flatOf bs .rows ≡ readMany readRow (rowSize baseWidth) (rowCount bs) (rowsIn bs)
+  pub same-rows : flatOf bs .rows ≡ readMany readRow (rowSize baseWidth) (rowCount bs) (rowsIn bs)
   same-rows =
       ap (readMany readRow (rowSize baseWidth) (rowCount bs))
       (ap (λ (ys : Bytes). drop (attributeSize baseWidth * attributeCount bs) ys) from-attributes ∙ drop-drop (attributeSize baseWidth * attributeCount bs) (atAttributes bs) bs)

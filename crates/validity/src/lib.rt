@@ -19,14 +19,15 @@ const ROW_SIZE: usize = 44;
 // ---- the header: the version at 0, the next serial at 4, and an entry of offset and count for each body, definitions at 8,
 // particles at 16, attributes at 24, rows at 32
 
-fn number(store: &[u8], at: usize) -> usize
+/// The number of four bytes at `at`.
+pub fn number(store: &[u8], at: usize) -> usize
     ensures { λ r. ⌜ NumberAt at (now (store .entry)) r ⌝ }
 {
     codec::get_u32(store, at) as usize
 }
 
-// The body whose entry stands at `entry`, of records of `size` bytes; none where the string is too short for it.
-fn body(store: &[u8], entry: usize, size: usize) -> &[u8]
+/// The body whose entry stands at `entry`, of records of `size` bytes; none where the string is too short for it.
+pub fn body(store: &[u8], entry: usize, size: usize) -> &[u8]
     requires { ⌜ (entry ≤ 32) × (size ≤ 52) ⌝ }
     ensures { λ r. ⌜ now r ≡ bodyAt entry size (now (store .entry)) ⌝ }
 {

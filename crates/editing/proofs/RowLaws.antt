@@ -1,0 +1,77 @@
+-- What the small functions answer of a row is what the walk says of it.
+-- Assumes nothing.
+use Prim.Native.Nat.{ℕ, suc, _+_, _-_, _≤_, _<_}
+use native.Mathlib.Omega.{arith}
+use native.Mathlib.Numerals.{add-one}
+use mathlib.Core.Path.{_≡_, refl, ap, sym, _∙_}
+use mathlib.Core.Bool.{Bool, true, false, not, _&&_, _||_}
+use lib.Dec.{eqb, leb}
+use lib.ListN.{getD}
+use borrow.Author.Tests.{le-leb, lt-leb, eq-eqb, ne-eqb}
+use Rattle.rules.specs.Bytes.{Bytes}
+use Rattle.rules.specs.Decode.{numberAt, readRow}
+use Rattle.editing.specs.declared.Which.{Which}
+use Rattle.editing.specs.declared.Which.the-variants.{Nothing, Everything, Ground, Elements, Attributes, Serial}
+use Rattle.editing.specs.declared.Later.{Later}
+use Rattle.editing.specs.declared.Later.the-variants.{Never, Row, Past}
+use Rattle.editing.specs.declared.Shift.{Shift}
+use Rattle.editing.specs.declared.Plan.{Plan}
+use Rattle.editing.specs.declared.Open.{Open}
+use Rattle.editing.specs.declared.Head.{Head}
+use Rattle.editing.specs.Walk.{matches, isEverything, isGround, isLater, shifted, movedIndex, closes, closed, isBelow, isTaken, isFilled, taken, kept, atFirst}
+use Rattle.editing.specs.Step.{rowOf, bare, Moves}
+
+-- ---- renumbering
+module _ (s : Shift) (i : ℕ) (small : i ≤ 1000) where
+  pub shifted-on : Moves s → s .from ≤ i → (j r : ℕ) → j ≡ i + s .more → r ≡ j - s .less → (r ≡ shifted s i) × (r ≤ 2000)
+  shifted-on m h j r ej e = (rw (le-leb (s .from) i h, shifted) (e ∙ ap (λ (k : ℕ). k - s .less) ej), omega (arith, m .more))
+
+  pub shifted-not : i < s .from → (i ≡ shifted s i) × (i ≤ 2000)
+  shifted-not h = (rw (lt-leb (s .from) i h, shifted), omega arith)
+
+module _ (p : Plan) (h : Head) (r : ℕ) where
+  pub moved-element : h .sort ≡ 1 → (r ≡ shifted (p .definitions) (h .index)) × (r ≤ 2000) → (r ≡ movedIndex p (bare h .row)) × (r ≤ 2000)
+  moved-element e (q, l) = (rw (eq-eqb (h .sort) 1 e, movedIndex) q, l)
+
+  pub moved-attribute : (h .sort ≡ 1 → ⊥) → h .sort ≡ 2 → (r ≡ shifted (p .attributes) (h .index)) × (r ≤ 2000) → (r ≡ movedIndex p (bare h .row)) × (r ≤ 2000)
+  moved-attribute n e (q, l) = (rw (ne-eqb (h .sort) 1 n, eq-eqb (h .sort) 2 e, movedIndex) q, l)
+
+  pub moved-text : (h .sort ≡ 1 → ⊥) → (h .sort ≡ 2 → ⊥) → h .index ≤ 1000 → (h .index ≡ movedIndex p (bare h .row)) × (h .index ≤ 2000)
+  moved-text n m l = (rw (ne-eqb (h .sort) 1 n, ne-eqb (h .sort) 2 m, movedIndex), omega arith)
+
+-- ---- what is open
+module _ (o : Open) (h : Head) where
+  pub taken-is : _≡_ {A = Open} (record { taking = h .depth + 1; below = o .below; due = o .due }) (taken o (bare h))
+  taken-is = rw (add-one (h .depth))
+
+  module _ (b : Bool) (e : b ≡ closes o (bare h)) where
+    pub closed-all : b ≡ true → _≡_ {A = Open} (record { taking = 0; below = 0; due = false }) (closed o (bare h))
+    closed-all t = let u : closes o (bare h) ≡ true = sym e ∙ t in rw (u, closed)
+
+    pub closed-not : b ≡ false → _≡_ {A = Open} (record { taking = 0; below = o .below; due = o .due }) (closed o (bare h))
+    closed-not t = let u : closes o (bare h) ≡ false = sym e ∙ t in rw (u, closed)
+
+  module _ (p : Plan) (b f : Bool) (e : b ≡ matches (p .above) (bare h .row)) where
+    pub kept-opens : b ≡ true → _≡_ {A = Open} (record { taking = 0; below = h .depth + 2; due = p .fills }) (kept p o (bare h))
+    kept-opens t = let u : matches (p .above) (bare h .row) ≡ true = sym e ∙ t in let z : h .depth + 2 ≡ suc (suc (h .depth)) = omega arith in rw (u, z, kept)
+
+    pub kept-on : b ≡ false → f ≡ isFilled p o (bare h) → _≡_ {A = Open} (record { taking = 0; below = o .below; due = o .due && not f }) (kept p o (bare h))
+    kept-on t g = let u : matches (p .above) (bare h .row) ≡ false = sym e ∙ t in rw (u, g, kept)
+
+  pub taken-by : (p : Plan) (a b m : Bool) → a ≡ isEverything (p .above) → b ≡ isBelow o (bare h) → m ≡ matches (p .takes) (bare h .row) → ((a || b) && m) ≡ isTaken p o (bare h)
+  taken-by p a b m ea eb em = rw (ea, eb, em)
+
+  pub filled-by : (p : Plan) (b l : Bool) → b ≡ isBelow o (bare h) → l ≡ isLater (p .later) (bare h .row) → ((o .due && b) && l) ≡ isFilled p o (bare h)
+  filled-by p b l eb el = rw (eb, el)
+
+module _ (p : Plan) (b : Bool) (e : b ≡ isGround (p .above)) where
+  pub first-ground : b ≡ true → _≡_ {A = Open} (record { taking = 0; below = 1; due = p .fills }) (atFirst p)
+  first-ground t = let u : isGround (p .above) ≡ true = sym e ∙ t in rw (u, atFirst)
+
+  pub first-other : b ≡ false → _≡_ {A = Open} (record { taking = 0; below = 0; due = false }) (atFirst p)
+  first-other t = let u : isGround (p .above) ≡ false = sym e ∙ t in rw (u, atFirst)
+
+-- ---- reading
+pub head-read : (row : Bytes) (d s i k : ℕ) → d ≡ getD row 1 0 → s ≡ getD row 0 0 → i ≡ numberAt 2 2 row → k ≡ numberAt 4 4 row
+    → rowOf (record { depth = d; sort = s; index = i; serial = k }) (readRow row .row .value) ≡ readRow row
+head-read row d s i k ed es ei ek = rw (ed, es, ei, ek)

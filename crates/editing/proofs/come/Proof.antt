@@ -1,0 +1,47 @@
+use Rattle.rows.proofs.WrittenLaws.{written-room}
+use Rattle.editing.specs.Step.{fillOf}
+use Rattle.editing.proofs.StepLaws.{came-taken, came-kept}
+use borrow.Author.Needs.{needs}
+use Rattle.editing.proofs.come.Statement.{statement}
+use Rattle.editing.proofs.come.Tie as tie
+
+is-taken-requires : tie.Need-is-taken-requires
+is-taken-requires c κs = search needs
+
+taken-requires : tie.Need-taken-requires
+taken-requires c κs = search needs
+
+returns : tie.Need-returns
+returns c = let s = c .before .before .before .before .before .before .before .before .before in let a = s .args in came-taken (a .p) (a .text .now) (fillOf (a .n) (a .defs .now) (a .parts .now) (a .a) (a .attrs .now) (a .p) (a .text .now)) (a .o) (a .h) (a .row .now) (s .pre .1) _ (c .before .before .is-taken .ensures) (c .before .if1 .taken) _ (c .taken .ensures)
+
+is-filled-requires : tie.Need-is-filled-requires
+is-filled-requires c κs = search needs
+
+put-owed-requires : tie.Need-put-owed-requires
+put-owed-requires c κs = search needs
+
+put-row-requires : tie.Need-put-row-requires
+put-row-requires c κs = let s = c .before .before .before .before .before .before .before .before .before .before .before .before .before .before in (s .pre .0 .plan, s .pre .0 .text, s .pre .1, written-room (c .before .before .before .put-owed .ensures) (s .pre .2))
+
+kept-requires : tie.Need-kept-requires
+kept-requires c κs = (c .before .before .before .before .before .before .before .before .before .before .before .before .before .before .before .before .before .pre .1 .fair, c .before .before .before .before .before .before .before .before .is-filled .ensures)
+
+same-length : tie.Need-same-length
+same-length c = search needs
+
+returns-2 : tie.Need-returns-2
+returns-2 c = let s = c .before .before .before .before .before .before .before .before .before .before .before .before .before .before .before .before .before .before in let a = s .args in came-kept (a .p) (a .text .now) (fillOf (a .n) (a .defs .now) (a .parts .now) (a .a) (a .attrs .now) (a .p) (a .text .now)) (a .o) (a .h) (a .row .now) (s .pre .1) _ (c .before .before .before .before .before .before .before .before .before .before .before .is-taken .ensures) (c .before .before .before .before .before .before .before .before .before .before .if1 .left) _ (c .before .before .before .before .before .before .before .before .before .is-filled .ensures) (c .before .before .before .before .before .before .before .put-owed .ensures) (c .before .before .before .put-row .ensures) _ (c .kept .ensures)
+
+pub come-spec : {M : Type 1} → statement M
+come-spec =
+    tie.close
+    (tie.spec
+    is-taken-requires
+    taken-requires
+    returns
+    is-filled-requires
+    put-owed-requires
+    put-row-requires
+    kept-requires
+    same-length
+    returns-2)

@@ -1,0 +1,87 @@
+-- One step of the walk: what the code reads of a row, and what comes of it.
+-- Assumes nothing.
+use Prim.Native.Nat.{ℕ, zero, suc, _≤_}
+use mathlib.Core.Path.{_≡_}
+use mathlib.Core.Bool.{true, false, _&&_}
+use mathlib.Core.List.{List, [], _++_}
+use lib.ListN.{length, take, drop}
+use Rattle.rules.specs.Bytes.{Bytes}
+use Rattle.rules.specs.Preorder.{Deep}
+use Rattle.rules.specs.Layout.{FlatRow}
+use Rattle.rules.specs.Decode.{readRow}
+use Rattle.rowpass.specs.Reading.{indexForm, attributeIn}
+use Rattle.rows.specs.declared.Cursor.{Cursor}
+use Rattle.rows.specs.Written.{Written, OldRow}
+use Rattle.filling.specs.Fillings.{fillingRows}
+use Rattle.filling.specs.Parts.{Indexed}
+use Rattle.editing.specs.declared.Plan.{Plan}
+use Rattle.editing.specs.declared.Shift.{Shift}
+use Rattle.editing.specs.declared.Open.{Open}
+use Rattle.editing.specs.declared.Head.{Head}
+use Rattle.editing.specs.declared.Stepped.{Stepped}
+use Rattle.editing.specs.Walk.{gone, closes, closed, owed, rowDepth, emitted, onward}
+
+-- a row with what was read of it, and a value
+abbrev pub rowOf : Head → Bytes → Deep FlatRow
+rowOf h v = record { depth = h .depth; row = record { sort = h .sort; index = h .index; serial = h .serial; value = v } }
+
+abbrev pub bare : Head → Deep FlatRow
+bare h = rowOf h []
+
+module _ (p : Plan) (v : Bytes) (fill : ℕ → List (Deep FlatRow)) where
+  -- the rows that come of a row, and what is open after it
+  unfoldable pub stepRows : Open → Deep FlatRow → List (Deep FlatRow)
+  stepRows o x = elim (gone o x) [ true ↦ [] | false ↦ owed (closes o x && o .due) (fill (rowDepth o)) ++ emitted p v fill (closed o x) x ]
+
+  unfoldable pub stepOpen : Open → Deep FlatRow → Open
+  stepOpen o x = elim (gone o x) [ true ↦ o | false ↦ onward p v fill (closed o x) x ]
+
+-- the rows xs were written, and o is open after them
+pub record Came (xs : List (Deep FlatRow)) (o : Open) (c : Cursor) (out : Bytes) (r : Stepped) (out′ : Bytes) : Type 0 where
+  pub written : Written xs c out (r .cursor) out′
+  pub opened : r .opened ≡ o
+
+-- the filling of a plan at a depth, from the bytes of the form
+abbrev pub fillOf : ℕ → Bytes → Bytes → ℕ → Bytes → Plan → Bytes → ℕ → List (Deep FlatRow)
+fillOf n defs parts a attrs p text d = fillingRows (indexForm n defs parts attrs a) (λ j. attributeIn attrs j .value) (p .filling) text d
+
+-- ---- how large the numbers are that the walk meets
+-- indices of at most 1,000 move up by at most 1,000; those of a store that passes are at most 64
+pub record Moves (s : Shift) : Type 0 where
+  pub more : s .more ≤ 1000
+
+pub record Planned (p : Plan) : Type 0 where
+  pub definitions : Moves (p .definitions)
+  pub attributes : Moves (p .attributes)
+
+-- the form, the plan and the text of a call
+pub record Ready (n a : ℕ) (txt : Bytes) (p : Plan) : Type 0 where
+  pub definitions : n ≤ 64
+  pub attributes : a ≤ 64
+  pub text : length txt ≤ 32
+  pub plan : Planned p
+  pub filling : Indexed (p .filling)
+
+pub record Fair (h : Head) : Type 0 where
+  pub depth : h .depth ≤ 80
+  pub index : h .index ≤ 1000
+
+pub record Near (o : Open) : Type 0 where
+  pub below : o .below ≤ 82
+
+-- the bytes of an old row; a store that passes has no row deeper than 64
+pub record WalkRow (row : Bytes) : Type 0 where
+  pub old : OldRow row
+  pub depth : readRow row .depth ≤ 80
+  pub index : readRow row .row .index ≤ 1000
+
+-- h is what was read of it
+pub record Seen (h : Head) (row : Bytes) : Type 0 where
+  pub is : rowOf h (readRow row .row .value) ≡ readRow row
+  pub old : OldRow row
+  pub fair : Fair h
+
+-- count rows, one after the other
+unfoldable pub WalkRows : ℕ → Bytes → Type 0
+WalkRows zero bs = Unit
+WalkRows (suc count) bs = WalkRow (take 44 bs) × WalkRows count (drop 44 bs)

@@ -1,0 +1,10 @@
+pub mod SuffixLaws
+pub mod TreeLaws
+pub mod StepLaws
+pub mod SerialLaws
+pub mod StoreFacts
+pub mod ConformingTests
+pub mod ElementTests
+pub mod ParentLaws
+pub mod ElementsAfter
+pub mod RefusalLaws

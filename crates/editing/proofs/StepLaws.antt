@@ -1,8 +1,8 @@
 -- One step of the walk, from what its parts write.
 -- Assumes nothing.
-use Prim.Native.Nat.{ℕ, suc, _+_, _-_, _≤_, _<_}
+use Prim.Native.Nat.{ℕ, suc, _+_, _-_, _≤_}
 use native.Mathlib.Omega.{arith}
-use mathlib.Core.Path.{_≡_, refl, ap, ap₂, sym, subst, _∙_}
+use mathlib.Core.Path.{_≡_, refl, ap, ap₂, sym, _∙_}
 use mathlib.Core.Bool.{Bool, true, false, not, _&&_, _||_}
 use mathlib.Core.List.{List, [], _∷_, _++_}
 use lib.Dec.{eqb}
@@ -22,8 +22,8 @@ use Rattle.editing.specs.declared.Plan.{Plan}
 use Rattle.editing.specs.declared.Open.{Open}
 use Rattle.editing.specs.declared.Head.{Head}
 use Rattle.editing.specs.declared.Stepped.{Stepped}
-use Rattle.editing.specs.Walk.{matches, isEverything, isLater, movedIndex, valueAfter, keptRow, gone, closes, closed, isBelow, isTaken, isFilled, taken, kept, owed, rowDepth, emitted, onward}
-use Rattle.editing.specs.Step.{rowOf, bare, stepRows, stepOpen, Came, Near, Fair, WalkRow, Seen}
+use Rattle.editing.specs.Walk.{matches, isEverything, isLater, movedIndex, keptRow, gone, closes, closed, isBelow, isTaken, isFilled, taken, kept, owed, rowDepth, emitted, onward}
+use Rattle.editing.specs.Step.{rowOf, bare, stepRows, stepOpen, Came, Near, WalkRow, Seen}
 
 -- ---- no test looks at a row's value
 matches-any : (w : Which) (h : Head) (u : Bytes) → matches w (rowOf h u .row) ≡ matches w (bare h .row)

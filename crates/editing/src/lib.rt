@@ -2,12 +2,12 @@
 use filling::Filling;
 use rows::Cursor;
 ghost use mathlib.Core.Path.{_≡_};
-ghost use mathlib.Core.List.{[], _∷_, _++_};
-ghost use Prim.Native.Nat.{ℕ, _+_, _*_, _-_, _≤_, _<_};
+ghost use mathlib.Core.List.{[], _∷_};
+ghost use Prim.Native.Nat.{_+_, _*_, _-_, _≤_, _<_};
 ghost use lib.ListN.{length};
 ghost use Rattle.rules.specs.Decode.{readRow};
 ghost use Rattle.rowpass.specs.Reading.{rowsIn};
-ghost use Rattle.rows.specs.Written.{Written, Room, OldRow};
+ghost use Rattle.rows.specs.Written.{Written, Room};
 ghost use Rattle.editing.specs.Walk.{matches, isEverything, isGround, isLater, shifted, movedIndex, keptRow, gone, closes, closed, isBelow, isTaken, isFilled, taken, kept, owed, emitted, onward, walked, atFirst};
 ghost use Rattle.editing.specs.Step.{rowOf, bare, stepRows, stepOpen, Came, fillOf, Moves, Planned, Ready, Fair, Near, WalkRow, Seen, WalkRows};
 
@@ -379,23 +379,11 @@ fn step(
     let due = closes(o, h) & o.due;
     let depth = minus(o.below, 1);
     let at = put_owed(n, defs, parts, a, attrs, p, text, due, depth, c, out);
-    come(
-        n,
-        defs,
-        parts,
-        a,
-        attrs,
-        p,
-        text,
-        h,
-        row,
-        closed(o, h),
-        at,
-        out,
-    )
+    let q = closed(o, h);
+    come(n, defs, parts, a, attrs, p, text, h, row, q, at, out)
 }
 
-/// The walk over `count` rows.
+/// The walk over `count` rows. It stops where no row may be written any more.
 pub fn walk(
     n: usize,
     defs: &[u8],
@@ -426,17 +414,6 @@ pub fn walk(
         t = &t[44..];
         m -= 1;
     }
-    put_owed(
-        n,
-        defs,
-        parts,
-        a,
-        attrs,
-        plan,
-        text,
-        o.due,
-        minus(o.below, 1),
-        at,
-        out,
-    )
+    let depth = minus(o.below, 1);
+    put_owed(n, defs, parts, a, attrs, plan, text, o.due, depth, at, out)
 }

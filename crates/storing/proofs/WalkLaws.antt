@@ -32,10 +32,10 @@ use Rattle.rows.proofs.WrittenLaws.{written-as}
 use Rattle.filling.specs.Fillings.{fillingRows}
 use Rattle.editing.specs.declared.Plan.{Plan}
 use Rattle.editing.specs.Walk.{walked, atFirst}
-use Rattle.editing.specs.Step.{fillOf, Planned, Ready, WalkRow, WalkRows}
+use Rattle.editing.specs.Step.{fillOf, Ready, WalkRow, WalkRows}
 use Rattle.storing.specs.Stores.{storeIn}
 use Rattle.storing.specs.Planned.{rowsAfter}
-use Rattle.storing.specs.Writing.{walkFrom}
+use Rattle.storing.specs.Writing.{walkFrom, Sized}
 use Rattle.storing.proofs.StoreLaws.{Holds, holds}
 use Rattle.storing.proofs.RowBounds.{Bounded, rows-bounded}
 
@@ -73,9 +73,9 @@ module _ {bs : Bytes} (q : passes bs ≡ true) {n : ℕ} {defs parts : Bytes} {a
   h : Headed bs
   h = headed-of q
 
-  pub walk-ready : {v : Bytes} {p : Plan} → isValue baseWidth v ≡ true → Planned p → Ready n a v p
+  pub walk-ready : {v : Bytes} {p : Plan} → isValue baseWidth v ≡ true → Sized p → Ready n a v p
   walk-ready {v} t p =
-      record { definitions = omega (arith, x .n-is, laid-in h .bodies .definitionBody .few); attributes = omega (arith, x .a-is, laid-in h .bodies .attributeBody .few); text = value-width baseWidth v t; plan = p }
+      record { definitions = omega (arith, x .n-is, laid-in h .bodies .definitionBody .few); attributes = omega (arith, x .a-is, laid-in h .bodies .attributeBody .few); text = value-width baseWidth v t; plan = p .moves; filling = p .filling }
 
   pub walk-whole : 44 * count ≤ length rows
   walk-whole = omega (arith, ap (λ (s : Bytes). length s) (x .rows-is), x .count-is, rows-whole h)

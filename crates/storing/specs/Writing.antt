@@ -8,6 +8,9 @@ use Rattle.rules.specs.Layout.{le, headerSize}
 use Rattle.rules.specs.Decode.{numberAt}
 use Rattle.lookup.specs.Bodies.{rowStart, Begins}
 use Rattle.rows.specs.declared.Cursor.{Cursor}
+use Rattle.filling.specs.Parts.{Indexed}
+use Rattle.editing.specs.declared.Plan.{Plan}
+use Rattle.editing.specs.Step.{Planned}
 
 -- header and form of a byte string, with another next serial and another count of rows
 unfoldable pub formBytes : ℕ → ℕ → Bytes → Bytes
@@ -24,3 +27,8 @@ pub record Heads (bs : Bytes) (start next count : ℕ) : Type 0 where
 -- a walk writes from `at` on at most one row more than the ceiling, new rows with the serials of the store
 abbrev pub walkFrom : ℕ → Bytes → Cursor
 walkFrom at bs = record { at = at; left = 4097; serial = numberAt 4 4 bs }
+
+-- the numbers of a plan are small enough for the walk
+pub record Sized (p : Plan) : Type 0 where
+  pub moves : Planned p
+  pub filling : Indexed (p .filling)

@@ -12,10 +12,9 @@ ghost use Rattle.records.specs.Records.{baseWidth};
 ghost use Rattle.codec.specs.Laid.{Laid};
 ghost use Rattle.lookup.specs.Bodies.{bodiesOf};
 ghost use Rattle.rows.specs.Written.{Written, Room};
-ghost use Rattle.editing.specs.Step.{Planned};
 ghost use Rattle.storing.specs.Stores.{limited};
 ghost use Rattle.storing.specs.Planned.{rowsAfter, planned};
-ghost use Rattle.storing.specs.Writing.{formBytes, Heads, walkFrom};
+ghost use Rattle.storing.specs.Writing.{formBytes, Heads, walkFrom, Sized};
 
 /// 0 and the length of what was written, or the number of a refusal and 0.
 #[repr(C)]
@@ -47,7 +46,7 @@ fn put_form(store: &[u8], start: usize, next: usize, count: usize, out: &mut [u8
 
 // The walk over the rows of a store, which writes from `at` on.
 fn walk_rows(store: &[u8], plan: Plan, text: &[u8], at: usize, out: &mut [u8]) -> Cursor
-    requires { ⌜ (passes (now store) ≡ true) × (isValue baseWidth (now text) ≡ true) × Planned plan × (at < 549755813888) ⌝ }
+    requires { ⌜ (passes (now store) ≡ true) × (isValue baseWidth (now text) ≡ true) × Sized plan × (at < 549755813888) ⌝ }
     ensures { λ r. ⌜ Written (rowsAfter plan (now (text .entry)) (bodiesOf (now (store .entry)))) (walkFrom at (now (store .entry))) (now (out .entry)) r (now (out .exit)) ⌝ }
 {
     let n = validity::number(store, 12);
@@ -67,7 +66,7 @@ fn walk_rows(store: &[u8], plan: Plan, text: &[u8], at: usize, out: &mut [u8]) -
 
 /// The store after a plan that leaves its form as it is. A first walk into a buffer of one byte counts the rows.
 pub fn edit(store: &[u8], plan: Plan, text: &[u8], out: &mut [u8]) -> Answer
-    requires { ⌜ (passes (now store) ≡ true) × (isValue baseWidth (now text) ≡ true) × Planned plan ⌝ }
+    requires { ⌜ (passes (now store) ≡ true) × (isValue baseWidth (now text) ≡ true) × Sized plan ⌝ }
     ensures { λ r. ⌜ Answers (limited (length (now (out .entry))) (planned plan (now (text .entry)) (bodiesOf (now (store .entry))))) (now (out .entry)) (r .number) (r .length) (now (out .exit)) ⌝ }
 {
     let start = lookup::row_start(store);

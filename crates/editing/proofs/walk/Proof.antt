@@ -1,6 +1,5 @@
 use mathlib.Core.Path.{_∙_}
 use Rattle.rows.proofs.WrittenLaws.{written-long}
-use Prim.Native.Nat.{_-_}
 use native.Mathlib.Omega.{arith}
 use mathlib.Core.Path.{sym}
 use lib.Seq.{length-take-le}

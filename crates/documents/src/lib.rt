@@ -101,18 +101,3 @@ pub fn add_document(store: &[u8], definition: u32, text: &[u8], out: &mut [u8]) 
     let plan = filling_plan(Which::Ground, Later::Never, filling);
     storing::edit(store, plan, text, out)
 }
-
-/// 16: sets a PCDATA element's text.
-pub fn set_text(store: &[u8], element: u32, text: &[u8], out: &mut [u8]) -> Answer
-    ensures { λ r. ⌜ Answers (outcome (setText element (now (text .entry))) (now (store .entry)) (length (now (out .entry)))) (now (out .entry)) (r .number) (r .length) (now (out .exit)) ⌝ }
-{
-    if !validity::passes(store) {
-        return refused(1);
-    }
-    let number = finding::set_text_refusal(store, element, text);
-    if number != 0 {
-        return refused(number);
-    }
-    let row = finding::text_serial(store, element);
-    storing::edit(store, setting_plan(row), text, out)
-}

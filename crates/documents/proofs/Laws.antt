@@ -21,6 +21,7 @@ use Rattle.records.specs.Records.{baseWidth}
 use Rattle.lookup.specs.Bodies.{bodiesOf}
 use Rattle.editing.specs.Step.{Planned}
 use Rattle.filling.specs.declared.Filling.the-variants.{Attribute}
+use Rattle.editing.specs.declared.Which.{Which}
 use Rattle.editing.specs.declared.Which.the-variants.{Serial}
 use Rattle.editing.specs.declared.Later.the-variants.{Past}
 use Rattle.editing.specs.declared.Plan.{Plan}
@@ -28,7 +29,7 @@ use Rattle.storing.specs.Stores.{storeIn, limited}
 use Rattle.storing.specs.Planned.{planned}
 use Rattle.storing.specs.Writing.{Sized}
 use Rattle.storing.proofs.StoreLaws.{Holds, holds}
-use Rattle.plans.specs.CallPlans.{fillingPlan, settingPlan, addDocumentPlan, addElementPlan, destroyElementPlan, setAttributePlan, destroyAttributeRowPlan, setTextPlan}
+use Rattle.plans.specs.CallPlans.{fillingPlan, takingPlan, settingPlan, textSerial, childSerial, attributeSerial, addDocumentPlan, addElementPlan, destroyElementPlan, setAttributePlan, destroyAttributeRowPlan, setTextPlan}
 use Rattle.plans.proofs.CallsPlanned.{none-holds}
 use Rattle.storing.proofs.CallLaws.{answers-as, answers-bad, answers-refused, answers-written}
 
@@ -78,9 +79,27 @@ module _ (bs : Bytes) {b : Bool} {m : ℕ} (h : not b ≡ false) (e : b ≡ pass
       let i-few : i ≤ 256 = omega (arith, not-past i (storeIn bs .form) index, few-definitions (storeIn bs) (kept .good)) in
       (passed bs h e, not-false (isValue baseWidth t) text, subst Sized (sym same) (record { moves = unmoved-small (addDocumentPlan i) refl refl; filling = i-few }))
 
+  pub add-element-asks : (k j i : ℕ) (t : Bytes) {q : Plan} → m ≡ first (conditions (addElement k j i t) (storeIn bs)) → m ≡ 0 → q ≡ addElementPlan k (childSerial k j (storeIn bs)) i → Asks bs t q
+  unfolding conditions
+  add-element-asks k j i t {q} f z same =
+      let kept : Holds bs = holds bs (passed bs h e) in
+      let (text, (index, more)) = none-holds (addElement k j i t) (storeIn bs) (sym f ∙ z) in
+      let i-few : i ≤ 256 = omega (arith, not-past i (storeIn bs .form) index, few-definitions (storeIn bs) (kept .good)) in
+      (passed bs h e, not-false (isValue baseWidth t) text, subst Sized (sym same) (record { moves = unmoved-small (addElementPlan k (childSerial k j (storeIn bs)) i) refl refl; filling = i-few }))
+
+  pub set-text-asks : (k : ℕ) (t : Bytes) {q : Plan} → m ≡ first (conditions (setText k t) (storeIn bs)) → m ≡ 0 → q ≡ setTextPlan (textSerial k (storeIn bs)) → Asks bs t q
+  unfolding conditions
+  set-text-asks k t {q} f z same =
+      let (text, more) = none-holds (setText k t) (storeIn bs) (sym f ∙ z) in
+      (passed bs h e, not-false (isValue baseWidth t) text, subst Sized (sym same) (record { moves = unmoved-small (setTextPlan (textSerial k (storeIn bs))) refl refl; filling = tt }))
+
+  -- a call without a text: none is used
+  pub takes-asks : (c : Call) (w : Which) (x : Which) {q : Plan} → m ≡ first (conditions c (storeIn bs)) → m ≡ 0 → q ≡ takingPlan w x → Asks bs [] q
+  takes-asks c w x f z same = (passed bs h e, refl, subst Sized (sym same) (record { moves = unmoved-small (takingPlan w x) refl refl; filling = tt }))
+
 -- ---- the plan of change 14
 pub set-plan-none : (k a m : ℕ) → m ≡ 0 → fillingPlan (Serial k) (Past a) (Attribute a) ≡ setAttributePlan k a m
 set-plan-none k a m z = rw z
 
 pub set-plan-some : (k a m : ℕ) → (m ≡ 0 → ⊥) → settingPlan m ≡ setAttributePlan k a m
-set-plan-some k a m z = rw (ne-eqb m 0 z)
+set-plan-some k a m z = ap (λ (t : Bool). elim t [ true ↦ fillingPlan (Serial k) (Past a) (Attribute a) | false ↦ settingPlan m ]) (sym (ne-eqb m 0 z))

@@ -1,0 +1,103 @@
+// Changes 11 to 16: documents, elements, attribute rows and texts. Each call is the check, the first refusal that applies, and the plan of the change.
+use editing::Later;
+use editing::Plan;
+use editing::Shift;
+use editing::Which;
+use filling::Filling;
+use storing::Answer;
+ghost use mathlib.Core.Path.{_≡_};
+ghost use lib.ListN.{length};
+ghost use Rattle.rules.specs.Change.{addDocument, addElement, destroyElement, setAttribute, destroyAttributeRow, setText};
+ghost use Rattle.rules.specs.Outcome.{outcome, Answers};
+ghost use Rattle.plans.specs.CallPlans.{fillingPlan, takingPlan, settingPlan, setAttributePlan};
+
+const UNMOVED: Shift = Shift {
+    from: 0,
+    more: 0,
+    less: 0,
+};
+
+fn refused(number: u32) -> Answer
+    ensures { λ r. ⌜ (r .number ≡ number) × (r .length ≡ 0) ⌝ }
+{
+    Answer { number, length: 0 }
+}
+
+// ---- plans
+
+fn filling_plan(above: Which, later: Later, filling: Filling) -> Plan
+    ensures { λ r. ⌜ r ≡ fillingPlan above later filling ⌝ }
+{
+    Plan {
+        above,
+        takes: Which::Nothing,
+        fills: true,
+        later,
+        filling,
+        set: 0,
+        definitions: UNMOVED,
+        attributes: UNMOVED,
+    }
+}
+
+fn taking_plan(above: Which, takes: Which) -> Plan
+    ensures { λ r. ⌜ r ≡ takingPlan above takes ⌝ }
+{
+    Plan {
+        above,
+        takes,
+        fills: false,
+        later: Later::Never,
+        filling: Filling::Nothing,
+        set: 0,
+        definitions: UNMOVED,
+        attributes: UNMOVED,
+    }
+}
+
+fn setting_plan(set: u32) -> Plan
+    ensures { λ r. ⌜ r ≡ settingPlan set ⌝ }
+{
+    Plan {
+        above: Which::Nothing,
+        takes: Which::Nothing,
+        fills: false,
+        later: Later::Never,
+        filling: Filling::Nothing,
+        set,
+        definitions: UNMOVED,
+        attributes: UNMOVED,
+    }
+}
+
+// The attribute's row with serial `row` gets the value; where there is none (0), one is made.
+fn set_attribute_plan(element: u32, attribute: usize, row: u32) -> Plan
+    ensures { λ r. ⌜ r ≡ setAttributePlan element attribute row ⌝ }
+{
+    if row == 0 {
+        return filling_plan(
+            Which::Serial(element),
+            Later::Past(attribute),
+            Filling::Attribute(attribute),
+        );
+    }
+    setting_plan(row)
+}
+
+// ---- the calls
+
+/// 11: a new last document, the filling of a definition.
+pub fn add_document(store: &[u8], definition: u32, text: &[u8], out: &mut [u8]) -> Answer
+    ensures { λ r. ⌜ Answers (outcome (addDocument definition (now (text .entry))) (now (store .entry)) (length (now (out .entry)))) (now (out .entry)) (r .number) (r .length) (now (out .exit)) ⌝ }
+{
+    if !validity::passes(store) {
+        return refused(1);
+    }
+    let number = finding::add_document_refusal(store, definition, text);
+    if number != 0 {
+        return refused(number);
+    }
+    let filling = Filling::Definition(definition as usize);
+    let plan = filling_plan(Which::Ground, Later::Never, filling);
+    storing::edit(store, plan, text, out)
+}

@@ -13,7 +13,7 @@ use Rattle.rules.specs.Layout.{FlatStore, flat, flatDefinition}
 use Rattle.rules.specs.WellFormed.{isValue}
 use Rattle.rules.specs.Passing.{good, passes}
 use Rattle.rules.specs.Change.{Call, addDocument, addElement, destroyElement, setAttribute, destroyAttributeRow, setText, after}
-use Rattle.rules.specs.Refusal.{first, conditions}
+use Rattle.rules.specs.Refusal.{first, conditions, noElement}
 use Rattle.rules.specs.Outcome.{Outcome, outcome, Answers}
 use Rattle.rules.proofs.DecodeLaws.{good-parts}
 use Rattle.history.proofs.Conditions.{not-false, not-past}
@@ -92,6 +92,19 @@ module _ (bs : Bytes) {b : Bool} {m : ℕ} (h : not b ≡ false) (e : b ≡ pass
   set-text-asks k t {q} f z same =
       let (text, more) = none-holds (setText k t) (storeIn bs) (sym f ∙ z) in
       (passed bs h e, not-false (isValue baseWidth t) text, subst Sized (sym same) (record { moves = unmoved-small (setTextPlan (textSerial k (storeIn bs))) refl refl; filling = tt }))
+
+  -- the element is there
+  pub add-element-there : (k j i : ℕ) (t : Bytes) → m ≡ first (conditions (addElement k j i t) (storeIn bs)) → m ≡ 0 → (passes bs ≡ true) × (noElement k (storeIn bs) ≡ false)
+  unfolding conditions
+  add-element-there k j i t f z =
+      let (text, (index, (there, more))) = none-holds (addElement k j i t) (storeIn bs) (sym f ∙ z) in
+      (passed bs h e, there)
+
+  pub set-text-there : (k : ℕ) (t : Bytes) → m ≡ first (conditions (setText k t) (storeIn bs)) → m ≡ 0 → (passes bs ≡ true) × (noElement k (storeIn bs) ≡ false)
+  unfolding conditions
+  set-text-there k t f z =
+      let (text, (there, more)) = none-holds (setText k t) (storeIn bs) (sym f ∙ z) in
+      (passed bs h e, there)
 
   -- a call without a text: none is used
   pub takes-asks : (c : Call) (w : Which) (x : Which) {q : Plan} → m ≡ first (conditions c (storeIn bs)) → m ≡ 0 → q ≡ takingPlan w x → Asks bs [] q

@@ -101,3 +101,57 @@ pub fn add_document(store: &[u8], definition: u32, text: &[u8], out: &mut [u8]) 
     let plan = filling_plan(Which::Ground, Later::Never, filling);
     storing::edit(store, plan, text, out)
 }
+
+/// 12: adds the filling of a definition as child number `child` of an element.
+pub fn add_element(
+    store: &[u8],
+    parent: u32,
+    child: u32,
+    definition: u32,
+    text: &[u8],
+    out: &mut [u8],
+) -> Answer
+    ensures { λ r. ⌜ Answers (outcome (addElement parent child definition (now (text .entry))) (now (store .entry)) (length (now (out .entry)))) (now (out .entry)) (r .number) (r .length) (now (out .exit)) ⌝ }
+{
+    if !validity::passes(store) {
+        return refused(1);
+    }
+    let number = finding::add_element_refusal(store, parent, child, definition, text);
+    if number != 0 {
+        return refused(number);
+    }
+    let row = finding::child_serial(store, parent, child);
+    let filling = Filling::Definition(definition as usize);
+    let plan = filling_plan(Which::Serial(parent), Later::Row(row), filling);
+    storing::edit(store, plan, text, out)
+}
+
+/// 13: destroys an element with all below it, or a whole document.
+pub fn destroy_element(store: &[u8], element: u32, out: &mut [u8]) -> Answer
+    ensures { λ r. ⌜ Answers (outcome (destroyElement element) (now (store .entry)) (length (now (out .entry)))) (now (out .entry)) (r .number) (r .length) (now (out .exit)) ⌝ }
+{
+    if !validity::passes(store) {
+        return refused(1);
+    }
+    let number = finding::destroy_element_refusal(store, element);
+    if number != 0 {
+        return refused(number);
+    }
+    let plan = taking_plan(Which::Everything, Which::Serial(element));
+    storing::edit(store, plan, &store[..0], out)
+}
+
+/// 16: sets the text of a PCDATA element.
+pub fn set_text(store: &[u8], element: u32, text: &[u8], out: &mut [u8]) -> Answer
+    ensures { λ r. ⌜ Answers (outcome (setText element (now (text .entry))) (now (store .entry)) (length (now (out .entry)))) (now (out .entry)) (r .number) (r .length) (now (out .exit)) ⌝ }
+{
+    if !validity::passes(store) {
+        return refused(1);
+    }
+    let number = finding::set_text_refusal(store, element, text);
+    if number != 0 {
+        return refused(number);
+    }
+    let plan = setting_plan(finding::text_serial(store, element));
+    storing::edit(store, plan, text, out)
+}

@@ -45,7 +45,7 @@ content-named pcdata rows (t, e, q) r m s =
     absurd (false≢true (sym y))
 content-named (complex ms) rows (q, l) r m s = letters Sequence ms .inside (map nameOf rows) l (r .name) (Memᴰ·map nameOf m)
 
-element-named : (d : Definition) (rows : List Row) → ElementRows d rows → (r : Row) → List·Memᴰ r rows → r .sort ≡ element → List·Memᴰ (r .name) (names (members d))
+pub element-named : (d : Definition) (rows : List Row) → ElementRows d rows → (r : Row) → List·Memᴰ r rows → r .sort ≡ element → List·Memᴰ (r .name) (names (members d))
 element-named d rows x r m s =
     ⊎-elim (λ i. let y : isElement element ≡ isElement attribute = ap isElement (sym s ∙ x .attributes .sorts r i) in absurd (false≢true (sym y))) (λ i. content-named (d .content) (x .back) (x .content) r i s)
     (List·Memᴰ·append-cases (x .front) (rw (← (x .split)) at m))

@@ -2,7 +2,7 @@
 -- Assumes nothing.
 use Prim.Native.Nat.{ℕ, zero, suc, _+_, _-_, _≤_, _<_}
 use native.Mathlib.Omega.{arith}
-use mathlib.Core.Path.{_≡_, refl, sym, ap, _∙_}
+use mathlib.Core.Path.{_≡_, refl, sym, ap, ap₂, _∙_}
 use mathlib.Core.Bool.{Bool, true, false, _&&_, not, false≢true}
 use mathlib.Core.Option.{Option, none, some}
 use mathlib.Core.List.{List, [], _∷_, map, List·Memᴰ, List·Memᴰ·head, List·Memᴰ·tail, List·Memᴰ·not-nil, List·Memᴰ·cases-cons, Memᴰ·cast, Memᴰ·map}
@@ -35,10 +35,10 @@ less-alike a b i j f g = by (ltb i j) refl
 
 -- ---- in one table
 module _ (n : Bytes) (a : Attribute) (table : List Attribute) where
-  index-here : same n (a .name) ≡ true → indexIn n (a ∷ table) ≡ 0
+  pub index-here : same n (a .name) ≡ true → indexIn n (a ∷ table) ≡ 0
   index-here q = rw (q, indexIn)
 
-  index-there : same n (a .name) ≡ false → indexIn n (a ∷ table) ≡ suc (indexIn n table)
+  pub index-there : same n (a .name) ≡ false → indexIn n (a ∷ table) ≡ suc (indexIn n table)
   index-there q = rw (q, indexIn)
 
 -- the names before n are those of lower index
@@ -155,3 +155,8 @@ module _ (a : ℕ) (form : Form) (o : Owned) (once : Distinct (map definitionNam
       by element q = rw q
       by attribute q = rw q (ap not (before-lower (r .name)))
       by text q = rw q
+
+  -- below a row that is the owner's where c holds
+  pub take-test : (sel c : Bool) (u r : Row) → sel ≡ c → (c ≡ true → u .name ≡ o .owner .name) → (sel && matches (Attributes a) (rowWritten form (u .name) r)) ≡ (c && attributeNamed (o .attribute .name) r)
+  take-test sel true u r x n = ap₂ (λ (b d : Bool). b && d) x (ap (λ (z : Bytes). matches (Attributes a) (rowWritten form z r)) (n refl) ∙ attribute-test r)
+  take-test sel false u r x n = ap (λ (b : Bool). b && matches (Attributes a) (rowWritten form (u .name) r)) x

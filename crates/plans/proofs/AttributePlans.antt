@@ -36,7 +36,7 @@ use Rattle.plans.specs.Following.{Does}
 use Rattle.plans.specs.CallPlans.{settingPlan, setAttributePlan, destroyAttributeRowPlan}
 use Rattle.plans.proofs.TreePlans.{documents-follow}
 use Rattle.plans.proofs.FollowingLaws.{serial-test, follows-all, fills-follow, takes-follow}
-use Rattle.plans.proofs.AttributeIndices.{own-index, attribute-test, past-test}
+use Rattle.plans.proofs.AttributeIndices.{own-index, take-test, past-test}
 use Rattle.plans.proofs.DocumentPlans.{given, set-value-does}
 
 -- a row with a line is found
@@ -87,7 +87,7 @@ module _ (s : Store) (g : good s ≡ true) (k a : ℕ) (o : Owned) (at : attribu
         filling = λ e. absurd (false≢true e);
         rows =
             follows-all (s .form) (s .form) q (destroyAttributeRowPlan k a) v fill (s .docs) Above
-            (λ sel w u r b (x, n) i. (takes-follow (s .form) v fill sel w u r (q .takes) (Serial k) (Attributes a) (given s g r b i) (takes sel u r x n), above-row u r b i)) above-ground;
+            (λ sel w u r b (x, n) i. (takes-follow (s .form) v fill sel w u r (q .takes) (Serial k) (Attributes a) (given s g r b i) (take-test a (s .form) o once apart at sel (elementWith k u) u r x n), above-row u r b i)) above-ground;
       }
       ∙ ap (λ (x : Option Owned). flatten 0 (indexed (s .form) [] (changed (dropPlan (λ o u. elementWith k u) x) (s .docs)))) (sym at)
     where
@@ -96,15 +96,6 @@ module _ (s : Store) (g : good s ≡ true) (k a : ℕ) (o : Owned) (at : attribu
 
       fill : ℕ → List (Deep FlatRow)
       fill = fillOf (destroyAttributeRowPlan k a) v (flat s)
-
-      takes : (sel : Bool) (u r : Row) → sel ≡ elementWith k u → (elementWith k u ≡ true → u .name ≡ o .owner .name)
-          → (sel && matches (Attributes a) (rowWritten (s .form) (u .name) r)) ≡ (elementWith k u && attributeNamed (o .attribute .name) r)
-      takes sel u r x n = by (elementWith k u) refl
-        where
-          by : (c : Bool) → elementWith k u ≡ c → (sel && matches (Attributes a) (rowWritten (s .form) (u .name) r)) ≡ (elementWith k u && attributeNamed (o .attribute .name) r)
-          by true e =
-              ap₂ (λ (c d : Bool). c && d) x (ap (λ (z : Bytes). matches (Attributes a) (rowWritten (s .form) z r)) (n e) ∙ attribute-test a (s .form) o once apart at r)
-          by false e = ap (λ (c : Bool). c && matches (Attributes a) (rowWritten (s .form) (u .name) r)) (x ∙ e) ∙ sym (ap (λ (c : Bool). c && attributeNamed (o .attribute .name) r) e)
 
   -- ---- 14; ms: the serials of the attribute's rows below the element
   set-plan : (v : Bytes) (ms : List ℕ) → childrenOf (attributeNamed (o .attribute .name)) k (lines 0 (s .docs)) ≡ ms → plan (setAttribute k a v) (s .form) (lines 0 (s .docs)) ≡ setAt k o v ms

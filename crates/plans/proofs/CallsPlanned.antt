@@ -33,7 +33,7 @@ pub none-holds : (c : Call) (s : Store) → first (conditions c s) ≡ 0 → Unm
 none-holds c s e = first-append (conditions c s) [] (conditions-numbered c s) (ap first (append-nil (conditions c s)) ∙ e) .0
 
 -- an attribute that is not unknown is there
-owned-there : (x : Option Owned) (r : Option Row) → isOther x r ≡ false → (o : Owned) × (x ≡ some o)
+pub owned-there : (x : Option Owned) (r : Option Row) → isOther x r ≡ false → (o : Owned) × (x ≡ some o)
 owned-there none r e = absurd (false≢true (sym e))
 owned-there (some o) r e = (o, refl)
 

@@ -2,19 +2,20 @@
 -- Assumes nothing.
 use Prim.Native.Nat.{ℕ, _+_, _-_}
 use native.Mathlib.Omega.{arith}
-use mathlib.Core.Path.{_≡_, refl, ap, _∙_}
-use mathlib.Core.Logic.{inl, inr}
+use mathlib.Core.Path.{_≡_, refl, sym, ap, _∙_}
+use mathlib.Core.Logic.{_⊎_, inl, inr}
 use mathlib.Core.Bool.{Bool, true, false, _&&_, _||_, and-true, and-false, false≢true}
 use mathlib.Core.List.{List, []}
 use lib.Dec.{eqb, leb}
 use Rattle.rules.specs.Bytes.{Bytes, numbers}
 use Rattle.rules.specs.Store.{Form, RowSort, element, attribute, text, Row, Forest, bare, tree}
 use Rattle.rules.specs.Preorder.{Deep}
-use Rattle.rules.specs.Layout.{FlatRow, rowCode}
+use Rattle.rules.specs.Layout.{FlatRow, rowCode, indexOf, attributeIndex, rowIndex}
 use Rattle.rules.specs.Conforming.{isElement, isAttribute}
 use Rattle.rules.specs.Lines.{ground, elementWith}
 use Rattle.rules.specs.Change.{making, taking, setting}
 use Rattle.rules.specs.Change as change
+use Rattle.rules.proofs.Words.{either}
 use Rattle.rules.proofs.Apart.{differs}
 use Rattle.history.proofs.RowEdits.{revalued}
 use Rattle.history.proofs.Rowwise.{Standing}
@@ -23,9 +24,11 @@ use Rattle.filling.specs.declared.Filling.{Filling}
 use Rattle.editing.specs.declared.Which.{Which}
 use Rattle.editing.specs.declared.Which.the-variants.{Serial}
 use Rattle.editing.specs.declared.Later.{Later}
+use Rattle.editing.specs.declared.Shift.{Shift}
 use Rattle.editing.specs.declared.Plan.{Plan}
 use Rattle.editing.specs.Walk.{matches, isEverything, isGround, isLater, shifted, movedIndex}
 use Rattle.plans.specs.Following.{Fills, RowFollows, Follows}
+use Rattle.plans.specs.Kept.{EachBelow, BothTake, FollowsKept}
 use Rattle.plans.specs.CallPlans.{unmoved, fillingPlan, takingPlan, settingPlan}
 
 -- ---- rows by sort
@@ -43,7 +46,7 @@ pub serial-test : (form : Form) (owner : Bytes) (k : ℕ) (r : Row) → matches 
 serial-test form owner k r = ap (λ (c : Bool). c && eqb (r .serial) k) (element-code (r .sort))
 
 -- ---- indices that do not move
-shifted-same : (i : ℕ) → shifted unmoved i ≡ i
+pub shifted-same : (i : ℕ) → shifted unmoved i ≡ i
 shifted-same i = by (leb 0 i)
   where
     by : (c : Bool) → _≡_ {A = ℕ} (elim c [ true ↦ i + 0 - 0 | false ↦ i ]) i
@@ -58,8 +61,18 @@ index-same p e f x = by (eqb (x .sort) 1) (eqb (x .sort) 2)
     by false true = rw f (shifted-same (x .index))
     by false false = refl
 
+-- definitions stay where they are, and attributes move as the plan says
+pub index-moved : (form new : Form) (p : Plan) (owner : Bytes) (r : Row) → p .definitions ≡ unmoved → indexOf (r .name) new ≡ indexOf (r .name) form
+    → (isAttribute (r .sort) ≡ true → shifted (p .attributes) (attributeIndex owner (r .name) form) ≡ attributeIndex owner (r .name) new) → movedIndex p (rowWritten form owner r) ≡ rowIndex new owner r
+index-moved form new p owner r e f h = by (r .sort) refl
+  where
+    by : (t : RowSort) → r .sort ≡ t → movedIndex p (rowWritten form owner r) ≡ rowIndex new owner r
+    by element q = rw q (ap (λ (s : Shift). shifted s (indexOf (r .name) form)) e ∙ shifted-same (indexOf (r .name) form) ∙ sym f)
+    by attribute q = rw q (h (ap isAttribute q))
+    by text q = rw q
+
 -- ---- no row has serial 0
-value-same : (r : Row) (v w : Bytes) → (r .serial ≡ 0 → ⊥) → _≡_ {A = Bytes} (elim (eqb (r .serial) 0) [ true ↦ v | false ↦ r .value ]) (elim (eqb (r .serial) 0) [ true ↦ w | false ↦ r .value ])
+pub value-same : (r : Row) (v w : Bytes) → (r .serial ≡ 0 → ⊥) → _≡_ {A = Bytes} (elim (eqb (r .serial) 0) [ true ↦ v | false ↦ r .value ]) (elim (eqb (r .serial) 0) [ true ↦ w | false ↦ r .value ])
 value-same r v w f = rw (differs numbers (r .serial) 0 f)
 
 -- ---- row by row; S: what is known of a row above, which is one of `above` or not
@@ -73,6 +86,20 @@ module _ (form new : Form) (q : change.Plan) (p : Plan) (v : Bytes) (fill : ℕ 
 
   pub follows-all : S (isGround (p .above)) ground → Follows form new q p v fill (isGround (p .above)) ground ground docs
   follows-all k = follows-in (isGround (p .above)) ground ground docs k (λ r b j. j)
+
+-- the same where rows may be taken; P: what is known of a row and the row right above it
+module _ (form new : Form) (q : change.Plan) (p : Plan) (v : Bytes) (fill : ℕ → List (Deep FlatRow)) (docs : Forest Row) (S : Bool → Row → Type 0) (P : Row → Row → Type 0)
+    (step : (sel : Bool) (w u r : Row) (b : Forest Row) → S sel u → P u r → Standing docs r b
+    → BothTake form new q p v fill sel u r ⊎ (RowFollows form new q p v fill sel w u r × S (matches (p .above) (rowWritten form (u .name) r)) r)) where
+  kept-in : (sel : Bool) (w u : Row) (f : Forest Row) → S sel u → EachBelow P u f → ((r : Row) (b : Forest Row) → Standing f r b → Standing docs r b) → FollowsKept form new q p v fill sel w u f
+  kept-in sel w u bare k e i = tt
+  kept-in sel w u (tree r b t) k (e, eb, et) i = (
+    either (λ h. h) (λ (h, n). (h, kept-in (matches (p .above) (rowWritten form (u .name) r)) (revalued q r) r b n eb (λ s c j. i s c (inr (inl j))))) (step sel w u r b k e (i r b (inl (refl, refl)))),
+    kept-in sel w u t k et (λ s c j. i s c (inr (inr j))),
+  )
+
+  pub kept-all : S (isGround (p .above)) ground → EachBelow P ground docs → FollowsKept form new q p v fill (isGround (p .above)) ground ground docs
+  kept-all k e = kept-in (isGround (p .above)) ground ground docs k e (λ r b j. j)
 
 -- ---- the three kinds of plans, at row r below row u
 module _ (form : Form) (v : Bytes) (fill : ℕ → List (Deep FlatRow)) (sel : Bool) (w u r : Row) where

@@ -1,11 +1,17 @@
 pub mod Fillings
 pub mod Numbered
 pub mod TreeWalk
+pub mod FormPlanned
 pub mod Planned
 pub mod TreePlans
 pub mod FollowingLaws
 pub mod ApartLaws
+pub mod OwnedRows
 pub mod AttributeIndices
+pub mod AttributeShifts
+pub mod AttributeBodies
 pub mod DocumentPlans
 pub mod AttributePlans
 pub mod CallsPlanned
+pub mod Instances
+pub mod AttributeCallsPlanned

@@ -1,40 +1,26 @@
--- The store that a call leaves is the one after a plan that does on the documents what the call does.
+-- The store that a call leaves is the one after a plan that does on the documents what the call does, where the form stays as it is.
 -- Assumes nothing.
-use Prim.Native.Nat.{ℕ, _+_}
-use mathlib.Core.Path.{_≡_, sym, ap, ap₂, _∙_}
-use mathlib.Core.List.{List, []}
+use mathlib.Core.Path.{_≡_, refl, sym, ap, _∙_, subst}
+use mathlib.Core.List.{[]}
 use Rattle.rules.specs.Bytes.{Bytes}
-use Rattle.rules.specs.Store.{Form, Forest, Store}
-use Rattle.rules.specs.Preorder.{Deep, flatten}
-use Rattle.rules.specs.Layout.{FlatRow, FlatStore, indexed, flat}
-use Rattle.rules.specs.Change.{Call, formAfter, docsAfter, newRows, number, after}
-use Rattle.rows.specs.Written.{newIn, numbered}
+use Rattle.rules.specs.Store.{Form, Store}
+use Rattle.rules.specs.Preorder.{flatten}
+use Rattle.rules.specs.Layout.{FlatStore, indexed, flat}
+use Rattle.rules.specs.Change.{Call, formAfter, docsAfter, after}
 use Rattle.editing.specs.declared.Plan.{Plan}
-use Rattle.storing.specs.Planned.{fillOf, rowsAfter, planned}
+use Rattle.storing.specs.Planned.{fillOf, planned, plannedIn}
 use Rattle.plans.specs.Trees.{documentsWalk}
-use Rattle.plans.proofs.Numbered.{new-flat, number-flat}
-use Rattle.plans.proofs.TreeWalk.{Clear, walk-tree}
+use Rattle.plans.specs.Bodies.{Holds}
+use Rattle.plans.proofs.TreeWalk.{Clear}
+use Rattle.plans.proofs.FormPlanned.{flat-planned-in}
 
-module _ (c : Call) (s : Store) (p : Plan) (v : Bytes) where
-  -- the documents, as they are and as the call leaves them without the new serials
-  abbrev standing : Forest FlatRow
-  standing = indexed (s .form) [] (s .docs)
+planned-same : (p : Plan) (v : Bytes) (f : FlatStore) → plannedIn f p v f ≡ planned p v f
+unfolding plannedIn planned
+planned-same p v f = refl
 
-  abbrev left : List (Deep FlatRow)
-  left = flatten 0 (indexed (s .form) [] (docsAfter c s))
-
-  -- the bodies with other rows, n of them new
-  abbrev withRows : ℕ → List (Deep FlatRow) → FlatStore
-  withRows n rows = record { version = s .version; next = s .next + n; definitions = flat s .definitions; particles = flat s .particles; attributes = flat s .attributes; rows = rows }
-
-  rows-left : Clear p standing → documentsWalk p v (fillOf p v (flat s)) standing ≡ left → left ≡ rowsAfter p v (flat s)
-  unfolding rowsAfter
-  rows-left clear e = sym e ∙ sym (walk-tree p v (fillOf p v (flat s)) standing clear)
-
-  pub flat-planned : formAfter c (s .form) ≡ s .form → Clear p (indexed (s .form) [] (s .docs))
-      → documentsWalk p v (fillOf p v (flat s)) (indexed (s .form) [] (s .docs)) ≡ flatten 0 (indexed (s .form) [] (docsAfter c s)) → flat (after c s) ≡ planned p v (flat s)
-  unfolding after planned
-  flat-planned same clear e =
-      ap (λ (form : Form). flat (record { version = s .version; next = s .next + newRows (docsAfter c s); form = form; docs = number (s .next) (docsAfter c s) })) same
-      ∙ ap₂ withRows (new-flat (s .form) 0 [] (docsAfter c s)) (number-flat (s .form) 0 [] (s .next) (docsAfter c s))
-      ∙ ap (λ (rows : List (Deep FlatRow)). withRows (newIn rows) (numbered (s .next) rows)) (rows-left clear e)
+pub flat-planned : (c : Call) (s : Store) (p : Plan) (v : Bytes) → formAfter c (s .form) ≡ s .form → Clear p (indexed (s .form) [] (s .docs))
+    → documentsWalk p v (fillOf p v (flat s)) (indexed (s .form) [] (s .docs)) ≡ flatten 0 (indexed (s .form) [] (docsAfter c s)) → flat (after c s) ≡ planned p v (flat s)
+flat-planned c s p v same clear e =
+    flat-planned-in c s p v (flat s) (subst (Holds (flat s)) (sym same) record { definitions = refl; particles = refl; attributes = refl }) clear
+    (e ∙ ap (λ (form : Form). flatten 0 (indexed form [] (docsAfter c s))) (sym same))
+    ∙ planned-same p v (flat s)

@@ -2,6 +2,7 @@
 -- Assumes nothing.
 use Prim.Native.Nat.{ℕ, suc}
 use mathlib.Core.Path.{_≡_, refl, sym, ap, ap₂, _∙_}
+use mathlib.Core.Logic.{inl, inr}
 use mathlib.Core.Bool.{Bool, true, false, _&&_, _||_, not, false≢true}
 use mathlib.Core.List.{List, [], _∷_, _++_}
 use Rattle.rules.specs.Bytes.{Bytes}
@@ -19,6 +20,7 @@ use Rattle.editing.specs.declared.Plan.{Plan}
 use Rattle.editing.specs.Walk.{matches, isEverything, isGround, isLater, keptRow, owed}
 use Rattle.plans.specs.Trees.{treeWalk, documentsWalk}
 use Rattle.plans.specs.Following.{Fills, RowFollows, Follows, DocumentsFollow}
+use Rattle.plans.specs.Kept.{FollowsKept}
 use Rattle.plans.proofs.Fillings.{flatten-beside, indexed-beside}
 
 -- ---- the walk at one row
@@ -44,12 +46,16 @@ module _ (form new : Form) (q : change.Plan) (p : Plan) (v : Bytes) (fill : ℕ 
   kept-row sel w u r d h = λ i. record { depth = d; row = record { sort = rowWritten form (u .name) r .sort; index = h .index i; serial = r .serial; value = h .value i } }
 
   -- below a row u, which is w after the change
-  walk-follows : (sel due : Bool) (d : ℕ) (w u : Row) (f : Forest Row) → (due ≡ true → sel ≡ true) → (due ≡ true → Fills form new q p v fill (u .name)) → Follows form new q p v fill sel w u f
+  walk-follows : (sel due : Bool) (d : ℕ) (w u : Row) (f : Forest Row) → (due ≡ true → sel ≡ true) → (due ≡ true → Fills form new q p v fill (u .name)) → FollowsKept form new q p v fill sel w u f
       → treeWalk p v fill sel due d (indexed form (u .name) f) ≡ flatten d (indexed new (u .name) (below q w due u f))
   unfolding treeWalk eachRow prune plant
   walk-follows sel true d w u bare s g h = g refl d
   walk-follows sel false d w u bare s g h = refl
-  walk-follows sel due d w u (tree r b t) s g (h, hb, ht) =
+  walk-follows sel due d w u (tree r b t) s g (inl h, ht) =
+      walk-taken p v fill sel due d (rowWritten form (u .name) r) (indexed form (r .name) b) (indexed form (u .name) t) (h .takes)
+      ∙ walk-follows sel due d w u t s g ht
+      ∙ sym (ap (λ (z : Forest Row). flatten d (indexed new (u .name) z)) (below-taken q w due u r b t (h .taken)))
+  walk-follows sel due d w u (tree r b t) s g (inr (h, hb), ht) =
       by (q .takes u r) refl (walk-follows m (m && p .fills) (suc d) (revalued q r) r b (λ e. and-split m (p .fills) e .0) (λ e. h .filling (sym (h .fills) ∙ e)) hb)
       (walk-follows sel false d w u t (λ e. absurd (false≢true e)) (λ e. absurd (false≢true e)) ht) (walk-follows sel due d w u t s g ht)
     where
@@ -111,7 +117,15 @@ module _ (form new : Form) (q : change.Plan) (p : Plan) (v : Bytes) (fill : ℕ 
       by false e kb kt kd =
           here due refl (q .later w (revalued q r)) refl e (kb ∙ ap (λ (c : Bool). flatten (suc d) (indexed new (r .name) (below q (revalued q r) c r b))) (h .fills)) kt kd
 
+  pub documents-kept : (docs : Forest Row) → (isGround (p .above) && p .fills) ≡ q .fills ground → (q .fills ground ≡ true → Fills form new q p v fill []) → FollowsKept form new q p v fill (isGround (p .above)) ground ground docs
+      → documentsWalk p v fill (indexed form [] docs) ≡ flatten 0 (indexed new [] (changed q docs))
+  documents-kept docs e f h =
+      walk-follows (isGround (p .above)) (isGround (p .above) && p .fills) 0 ground ground docs (λ z. and-split (isGround (p .above)) (p .fills) z .0) (λ z. f (sym e ∙ z)) h
+      ∙ ap (λ (c : Bool). flatten 0 (indexed new [] (below q ground c ground docs))) e
+
+  follows-kept : (sel : Bool) (w u : Row) (f : Forest Row) → Follows form new q p v fill sel w u f → FollowsKept form new q p v fill sel w u f
+  follows-kept sel w u bare h = tt
+  follows-kept sel w u (tree r b t) (h, hb, ht) = (inr (h, follows-kept (matches (p .above) (rowWritten form (u .name) r)) (revalued q r) r b hb), follows-kept sel w u t ht)
+
   pub documents-follow : (docs : Forest Row) → DocumentsFollow form new q p v fill docs → documentsWalk p v fill (indexed form [] docs) ≡ flatten 0 (indexed new [] (changed q docs))
-  documents-follow docs h =
-      walk-follows (isGround (p .above)) (isGround (p .above) && p .fills) 0 ground ground docs (λ e. and-split (isGround (p .above)) (p .fills) e .0) (λ e. h .filling (sym (h .fills) ∙ e)) (h .rows)
-      ∙ ap (λ (c : Bool). flatten 0 (indexed new [] (below q ground c ground docs))) (h .fills)
+  documents-follow docs h = documents-kept docs (h .fills) (h .filling) (follows-kept (isGround (p .above)) ground ground docs (h .rows))

@@ -1,3 +1,6 @@
 pub mod Trees
+pub mod Bodies
 pub mod Following
+pub mod Kept
 pub mod CallPlans
+pub mod AttributeCalls

@@ -46,12 +46,12 @@ offset i [] = 0
 offset zero (d ∷ ds) = 0
 offset (suc i) (d ∷ ds) = length (d .attributes) + offset i ds
 
-owner-index : (form : Form) → Distinct (namesOf form) → (i : ℕ) (n : Bytes) → i < length form → attributeIndex (nameAt i (namesOf form)) n form ≡ offset i form + indexIn n (definitionAt i form .attributes)
+pub owner-index : (form : Form) → Distinct (namesOf form) → (i : ℕ) (n : Bytes) → i < length form → attributeIndex (nameAt i (namesOf form)) n form ≡ offset i form + indexIn n (definitionAt i form .attributes)
 owner-index [] u i n l = absurd (omega arith)
 owner-index (d ∷ ds) u zero n l = rw (same-refl (d .name), attributeIndex) (omega arith)
 owner-index (d ∷ ds) u (suc i) n l = rw (later-name d ds u i (omega arith), attributeIndex) (omega (arith, owner-index ds (u .1) i n (omega arith)))
 
-length-own : (o : ℕ) (table : List Attribute) → length (ownAttributes o table) ≡ length table
+pub length-own : (o : ℕ) (table : List Attribute) → length (ownAttributes o table) ≡ length table
 length-own o [] = refl
 length-own o (a ∷ table) = ap suc (length-own o table)
 

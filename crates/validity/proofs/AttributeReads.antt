@@ -31,7 +31,7 @@ pub every-left : {A : Type 0} (P : A → Type 0) (xs ys : List A) → Every P (x
 every-left P [] ys a = tt
 every-left P (x ∷ xs) ys a = (a .0, every-left P xs ys (a .1))
 
-sort-back : (s : ℕ) → s ≤ 2 → sortCode (sortOf s) ≡ s
+pub sort-back : (s : ℕ) → s ≤ 2 → sortCode (sortOf s) ≡ s
 sort-back zero h = refl
 sort-back (suc zero) h = refl
 sort-back (suc (suc zero)) h = refl

@@ -32,9 +32,9 @@ module _ (p : Plan) (v : Bytes) (fill : ℕ → List (Deep FlatRow)) where
 
   walk-kept : (sel due : Bool) (d : ℕ) (x : FlatRow) (b t : Forest FlatRow) → ((isEverything (p .above) || sel) && matches (p .takes) x) ≡ false
       → treeWalk p v fill sel due d (tree x b t)
-      ≡ owed (due && isLater (p .later) x) (fill d)
+      ≡ owed (due && isLater (p .marks) (p .later) x) (fill d)
       ++ (keptRow p v (record { depth = d; row = x })
-      ∷ (treeWalk p v fill (matches (p .above) x) (matches (p .above) x && p .fills) (suc d) b ++ treeWalk p v fill sel (due && not (isLater (p .later) x)) d t))
+      ∷ (treeWalk p v fill (matches (p .above) x) (matches (p .above) x && p .fills) (suc d) b ++ treeWalk p v fill sel (due && not (isLater (p .marks) (p .later) x)) d t))
   unfolding treeWalk
   walk-kept sel due d x b t e = rw (e, treeWalk)
 
@@ -86,26 +86,26 @@ module _ (form new : Form) (q : change.Plan) (p : Plan) (v : Bytes) (fill : ℕ 
       out : Bool → Bool → List (Deep FlatRow)
       out a c = owed a (fill d) ++ (keptRow p v (record { depth = d; row = x }) ∷ (wb ++ treeWalk p v fill sel c d (indexed form (u .name) t)))
 
-      walks : q .takes u r ≡ false → (a c : Bool) → (due && isLater (p .later) x) ≡ a → (due && not (isLater (p .later) x)) ≡ c → treeWalk p v fill sel due d (indexed form (u .name) (tree r b t)) ≡ out a c
+      walks : q .takes u r ≡ false → (a c : Bool) → (due && isLater (p .marks) (p .later) x) ≡ a → (due && not (isLater (p .marks) (p .later) x)) ≡ c → treeWalk p v fill sel due d (indexed form (u .name) (tree r b t)) ≡ out a c
       walks e a c i j = walk-kept p v fill sel due d x (indexed form (r .name) b) (indexed form (u .name) t) (h .takes ∙ e) ∙ ap₂ out i j
 
       filled : q .takes u r ≡ false → due ≡ true → q .later w (revalued q r) ≡ true → Kept → Rest false → Goal
       filled e k l kb kt =
-          let z : isLater (p .later) x ≡ true = h .later (s k) ∙ l in
+          let z : isLater (p .marks) (p .later) x ≡ true = h .later (s k) ∙ l in
           walks e true false (ap₂ (λ (a c : Bool). a && c) k z) (ap₂ (λ (a c : Bool). a && not c) k z)
           ∙ (λ i. g k d i ++ on kb false kt i)
           ∙ sym (flatten-beside d (indexed new (u .name) (q .filling)) (indexed new (u .name) (tree (revalued q r) (under q r b) (below q w false u t))))
           ∙ sym (ap (flatten d) (indexed-beside new (u .name) (q .filling) (tree (revalued q r) (under q r b) (below q w false u t))))
           ∙ sym (ap (λ (z : Forest Row). flatten d (indexed new (u .name) z)) (below-here q w due u r b t e (ap₂ (λ (a c : Bool). a && c) k l)))
 
-      unfilled : q .takes u r ≡ false → (due && isLater (p .later) x) ≡ false → (due && not (isLater (p .later) x)) ≡ due → (due && q .later w (revalued q r)) ≡ false → Kept → Rest due → Goal
+      unfilled : q .takes u r ≡ false → (due && isLater (p .marks) (p .later) x) ≡ false → (due && not (isLater (p .marks) (p .later) x)) ≡ due → (due && q .later w (revalued q r)) ≡ false → Kept → Rest due → Goal
       unfilled e i j l kb kt =
           walks e false due i j ∙ on kb due kt ∙ sym (ap (λ (z : Forest Row). flatten d (indexed new (u .name) z)) (below-past q w due u r b t e l))
 
       here : (c : Bool) → due ≡ c → (l : Bool) → q .later w (revalued q r) ≡ l → q .takes u r ≡ false → Kept → Rest false → Rest due → Goal
       here true k true l e kb kt kd = filled e k l kb kt
       here true k false l e kb kt kd =
-          let z : isLater (p .later) x ≡ false = h .later (s k) ∙ l in
+          let z : isLater (p .marks) (p .later) x ≡ false = h .later (s k) ∙ l in
           unfilled e (ap₂ (λ (a c : Bool). a && c) k z) (ap₂ (λ (a c : Bool). a && not c) k z ∙ sym k) (ap₂ (λ (a c : Bool). a && c) k l) kb kd
       here false k c l e kb kt kd = unfilled e (rw k) (rw k) (rw k) kb kd
 

@@ -164,25 +164,25 @@ module _ (p : Plan) (v : Bytes) (fill : ℕ → List (Deep FlatRow)) where
     inner = treeWalk p v fill (matches (p .above) r) (matches (p .above) r && p .fills) (suc d) g
 
     abbrev others : List (Deep FlatRow)
-    others = treeWalk p v fill sel (due && not (isLater (p .later) r)) d t
+    others = treeWalk p v fill sel (due && not (isLater (p .marks) (p .later) r)) d t
 
     abbrev onTree : Bool → List (Deep FlatRow)
-    onTree c = elim c [ true ↦ treeWalk p v fill sel due d t | false ↦ owed (due && isLater (p .later) r) (fill d) ++ (keptRow p v (at d r) ∷ (inner ++ others)) ]
+    onTree c = elim c [ true ↦ treeWalk p v fill sel due d t | false ↦ owed (due && isLater (p .marks) (p .later) r) (fill d) ++ (keptRow p v (at d r) ∷ (inner ++ others)) ]
 
     tree-taken : isTakenAt ≡ true → treeWalk p v fill sel due d (tree r g t) ≡ treeWalk p v fill sel due d t
     unfolding treeWalk
     tree-taken q = ap onTree q
 
-    tree-kept : isTakenAt ≡ false → (z : List (Deep FlatRow)) → treeWalk p v fill sel due d (tree r g t) ++ z ≡ owed (due && isLater (p .later) r) (fill d) ++ (keptRow p v (at d r) ∷ (inner ++ (others ++ z)))
+    tree-kept : isTakenAt ≡ false → (z : List (Deep FlatRow)) → treeWalk p v fill sel due d (tree r g t) ++ z ≡ owed (due && isLater (p .marks) (p .later) r) (fill d) ++ (keptRow p v (at d r) ∷ (inner ++ (others ++ z)))
     unfolding treeWalk
     tree-kept q z =
         ap (λ (c : Bool). onTree c ++ z) q
-        ∙ append-assoc (owed (due && isLater (p .later) r) (fill d)) (keptRow p v (at d r) ∷ (inner ++ others)) z
-        ∙ ap (λ (l : List (Deep FlatRow)). owed (due && isLater (p .later) r) (fill d) ++ (keptRow p v (at d r) ∷ l)) (append-assoc inner others z)
+        ∙ append-assoc (owed (due && isLater (p .marks) (p .later) r) (fill d)) (keptRow p v (at d r) ∷ (inner ++ others)) z
+        ∙ ap (λ (l : List (Deep FlatRow)). owed (due && isLater (p .marks) (p .later) r) (fill d) ++ (keptRow p v (at d r) ∷ l)) (append-assoc inner others z)
 
     -- what is open after r, kept, as it is one of `above` or not
     abbrev openAfter : ℕ → Bool → Bool → Open
-    openAfter b u m = elim m [ true ↦ opened 0 (suc (suc d)) (p .fills) | false ↦ opened 0 b (u && not ((u && eqb b (suc d)) && isLater (p .later) r)) ]
+    openAfter b u m = elim m [ true ↦ opened 0 (suc (suc d)) (p .fills) | false ↦ opened 0 b (u && not ((u && eqb b (suc d)) && isLater (p .marks) (p .later) r)) ]
 
     -- of a row that closes nothing: the walk of it, of the rows below it and of those after it
     node : (b : ℕ) (u m : Bool) (rest z : List (Deep FlatRow)) → b ≤ suc d → (isEverything (p .above) || eqb b (suc d)) ≡ (isEverything (p .above) || sel) → (u && eqb b (suc d)) ≡ due
@@ -212,7 +212,7 @@ module _ (p : Plan) (v : Bytes) (fill : ℕ → List (Deep FlatRow)) where
             ∙ ap (λ (l : List (Deep FlatRow)). l ++ z) (sym (tree-taken q))
         by false q =
             row-kept (opened 0 b u) (at d r) (flatten (suc d) g ++ (flatten d t ++ rest)) (tested ∙ q)
-            ∙ ap₂ (λ (c : Bool) (l : List (Deep FlatRow)). owed (c && isLater (p .later) r) (fill d) ++ (keptRow p v (at d r) ∷ l)) owes below
+            ∙ ap₂ (λ (c : Bool) (l : List (Deep FlatRow)). owed (c && isLater (p .marks) (p .later) r) (fill d) ++ (keptRow p v (at d r) ∷ l)) owes below
             ∙ sym (tree-kept q z)
 
   -- ---- forests, by what is open: a row further up
@@ -223,8 +223,8 @@ module _ (p : Plan) (v : Bytes) (fill : ℕ → List (Deep FlatRow)) where
   walk-deeper d b u (tree r g t) rest h (other, inside, beside) end =
       node false false d r g t b u false rest (walked p v fill (opened 0 b u) rest) (omega arith) (ap (λ (c : Bool). isEverything (p .above) || c) apart-is)
       (ap (λ (c : Bool). u && c) apart-is ∙ and-false u) other end (walk-deeper d b u t rest h beside end)
-      (ap (λ (c : Bool). walked p v fill (opened 0 b (u && not ((u && c) && isLater (p .later) r))) (flatten (suc d) g ++ (flatten d t ++ rest))) apart-is
-      ∙ ap (λ (c : Bool). walked p v fill (opened 0 b c) (flatten (suc d) g ++ (flatten d t ++ rest))) (stays u (isLater (p .later) r))
+      (ap (λ (c : Bool). walked p v fill (opened 0 b (u && not ((u && c) && isLater (p .marks) (p .later) r))) (flatten (suc d) g ++ (flatten d t ++ rest))) apart-is
+      ∙ ap (λ (c : Bool). walked p v fill (opened 0 b c) (flatten (suc d) g ++ (flatten d t ++ rest))) (stays u (isLater (p .marks) (p .later) r))
       ∙ walk-deeper (suc d) b u g (flatten d t ++ rest) (omega arith) inside (shallow-flatten d t rest end)
       ∙ ap (λ (l : List (Deep FlatRow)). treeWalk p v fill false false (suc d) g ++ l) (walk-deeper d b u t rest h beside end))
     where
@@ -239,10 +239,10 @@ module _ (p : Plan) (v : Bytes) (fill : ℕ → List (Deep FlatRow)) where
   walk-below d u (tree r g t) rest (other, inside, beside) end =
       node true u d r g t (suc d) u false rest (walked p v fill (opened 0 0 false) rest) (omega arith) (ap (λ (c : Bool). isEverything (p .above) || c) here)
       (ap (λ (c : Bool). u && c) here ∙ and-true u) other end (walk-below d u t rest beside end)
-      (ap (λ (c : Bool). walked p v fill (opened 0 (suc d) (u && not ((u && c) && isLater (p .later) r))) (flatten (suc d) g ++ (flatten d t ++ rest))) here
-      ∙ ap (λ (c : Bool). walked p v fill (opened 0 (suc d) c) (flatten (suc d) g ++ (flatten d t ++ rest))) (still u (isLater (p .later) r))
-      ∙ walk-deeper (suc d) (suc d) (u && not (isLater (p .later) r)) g (flatten d t ++ rest) (omega arith) inside (shallow-flatten d t rest end)
-      ∙ ap (λ (l : List (Deep FlatRow)). treeWalk p v fill false false (suc d) g ++ l) (walk-below d (u && not (isLater (p .later) r)) t rest beside end))
+      (ap (λ (c : Bool). walked p v fill (opened 0 (suc d) (u && not ((u && c) && isLater (p .marks) (p .later) r))) (flatten (suc d) g ++ (flatten d t ++ rest))) here
+      ∙ ap (λ (c : Bool). walked p v fill (opened 0 (suc d) c) (flatten (suc d) g ++ (flatten d t ++ rest))) (still u (isLater (p .marks) (p .later) r))
+      ∙ walk-deeper (suc d) (suc d) (u && not (isLater (p .marks) (p .later) r)) g (flatten d t ++ rest) (omega arith) inside (shallow-flatten d t rest end)
+      ∙ ap (λ (l : List (Deep FlatRow)). treeWalk p v fill false false (suc d) g ++ l) (walk-below d (u && not (isLater (p .marks) (p .later) r)) t rest beside end))
     where
       here : eqb (suc d) (suc d) ≡ true
       here = eq-eqb (suc d) (suc d) refl

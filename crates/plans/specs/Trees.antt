@@ -19,9 +19,9 @@ module _ (p : Plan) (v : Bytes) (fill : ℕ → List (Deep FlatRow)) where
       elim ((isEverything (p .above) || sel) && matches (p .takes) r) [
         | true ↦ treeWalk sel due d t
         | false ↦
-            owed (due && isLater (p .later) r) (fill d)
+            owed (due && isLater (p .marks) (p .later) r) (fill d)
             ++ (keptRow p v (record { depth = d; row = r })
-            ∷ (treeWalk (matches (p .above) r) (matches (p .above) r && p .fills) (suc d) b ++ treeWalk sel (due && not (isLater (p .later) r)) d t))
+            ∷ (treeWalk (matches (p .above) r) (matches (p .above) r && p .fills) (suc d) b ++ treeWalk sel (due && not (isLater (p .marks) (p .later) r)) d t))
       ]
 
   -- the documents

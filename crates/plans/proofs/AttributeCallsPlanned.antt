@@ -98,7 +98,7 @@ module _ (s : Store) (g : good s ≡ true) where
     fill = fillOf p v (flat s)
 
     -- attribute rows below an instance come before the new one
-    later : (u r : Row) → Owns (s .form) u r → name ≡ u .name → isLater (Past a) (rowWritten (s .form) (u .name) r) ≡ not (isAttribute (r .sort))
+    later : (u r : Row) → Owns (s .form) u r → name ≡ u .name → isLater (p .marks) (Past a) (rowWritten (s .form) (u .name) r) ≡ not (isAttribute (r .sort))
     later u r own e = by (r .sort) refl
       where
         by : (t : RowSort) → r .sort ≡ t → not (eqb (rowCode (r .sort)) 2 && ltb (rowIndex (s .form) (u .name) r) a) ≡ not (isAttribute (r .sort))
@@ -130,7 +130,7 @@ module _ (s : Store) (g : good s ≡ true) where
     add-attribute-does : documentsWalk p v fill (indexed (s .form) [] (s .docs)) ≡ flatten 0 (indexed (formAfter (addAttribute o n k v) (s .form)) [] (docsAfter (addAttribute o n k v) s))
     unfolding plan formAfter
     add-attribute-does =
-        documents-kept (s .form) new q p v fill (s .docs) (sym (and-false (mustBePresent (sortOf k)))) (λ e. absurd (false≢true (sym (and-false (mustBePresent (sortOf k))) ∙ e)))
+        documents-kept (s .form) new q p v fill record { keeps = refl; spares = refl } (s .docs) (sym (and-false (mustBePresent (sortOf k)))) (λ e. absurd (false≢true (sym (and-false (mustBePresent (sortOf k))) ∙ e)))
         (kept-all (s .form) new q p v fill (s .docs) (λ sel u. sel ≡ elementNamed name u) (Owns (s .form)) (λ sel w u r b x own i. inr (step sel w u r b x own i, element-test (s .form) once o l (u .name) r)) refl
         (each-owned s g))
 
@@ -232,7 +232,7 @@ module _ (s : Store) (g : good s ≡ true) where
       destroy-attribute-does : documentsWalk dropping v none-filled (indexed (s .form) [] (s .docs)) ≡ flatten 0 (indexed (formAfter (destroyAttribute a) (s .form)) [] (docsAfter (destroyAttribute a) s))
       unfolding plan formAfter
       destroy-attribute-does =
-          documents-kept (s .form) left taker dropping v none-filled (s .docs) refl (λ e. absurd (false≢true e))
+          documents-kept (s .form) left taker dropping v none-filled record { keeps = refl; spares = refl } (s .docs) refl (λ e. absurd (false≢true e))
           (kept-all (s .form) left taker dropping v none-filled (s .docs) (λ sel u. sel ≡ elementNamed owner u) (Owns (s .form)) drop-step refl (each-owned s g))
           ∙ ap (λ (x : Option Owned). flatten 0 (indexed (dropOwned x (s .form)) [] (changed (dropPlan (λ o u. elementNamed (o .owner .name) u) x) (s .docs)))) (sym at)
 

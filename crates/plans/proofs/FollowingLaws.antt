@@ -29,7 +29,7 @@ use Rattle.editing.specs.declared.Plan.{Plan}
 use Rattle.editing.specs.Walk.{matches, isEverything, isGround, isLater, shifted, movedIndex}
 use Rattle.plans.specs.Following.{Fills, RowFollows, Follows}
 use Rattle.plans.specs.Kept.{EachBelow, BothTake, FollowsKept}
-use Rattle.plans.specs.CallPlans.{unmoved, fillingPlan, takingPlan, settingPlan}
+use Rattle.plans.specs.CallPlans.{unmoved, unmarked, fillingPlan, takingPlan, settingPlan}
 
 -- ---- rows by sort
 pub element-code : (s : RowSort) → eqb (rowCode s) 1 ≡ isElement s
@@ -104,7 +104,7 @@ module _ (form new : Form) (q : change.Plan) (p : Plan) (v : Bytes) (fill : ℕ 
 -- ---- the three kinds of plans, at row r below row u
 module _ (form : Form) (v : Bytes) (fill : ℕ → List (Deep FlatRow)) (sel : Bool) (w u r : Row) where
   pub fills-follow : (f : Row → Bool) (l : Row → Row → Bool) (rows : Forest Row) (above : Which) (later : Later) (what : Filling) → (r .serial ≡ 0 → ⊥)
-      → (sel ≡ true → isLater later (rowWritten form (u .name) r) ≡ l w (revalued (making f l rows) r))
+      → (sel ≡ true → isLater unmarked later (rowWritten form (u .name) r) ≡ l w (revalued (making f l rows) r))
       → matches above (rowWritten form (u .name) r) ≡ f (revalued (making f l rows) r)
       → (f (revalued (making f l rows) r) ≡ true → Fills form form (making f l rows) (fillingPlan above later what) v fill (r .name))
       → RowFollows form form (making f l rows) (fillingPlan above later what) v fill sel w u r

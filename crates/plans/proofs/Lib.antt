@@ -3,6 +3,7 @@ pub mod Numbered
 pub mod TreeWalk
 pub mod FormPlanned
 pub mod Planned
+pub mod SimulationLaws
 pub mod TreePlans
 pub mod FollowingLaws
 pub mod ApartLaws

@@ -2,7 +2,7 @@
 -- Assumes nothing.
 use Prim.Native.Nat.{ℕ}
 use mathlib.Core.Path.{_≡_}
-use mathlib.Core.Bool.{Bool, true, _&&_, _||_}
+use mathlib.Core.Bool.{Bool, true, false, _&&_, _||_}
 use mathlib.Core.List.{List, []}
 use Rattle.rules.specs.Bytes.{Bytes}
 use Rattle.rules.specs.Store.{Form, Row, Forest, bare, tree, Store}
@@ -16,6 +16,11 @@ use Rattle.editing.specs.declared.Plan.{Plan}
 use Rattle.editing.specs.Walk.{matches, isEverything, isGround, isLater, movedIndex, valueAfter}
 use Rattle.storing.specs.Planned.{fillOf}
 use Rattle.plans.specs.Trees.{documentsWalk}
+
+-- no row is kept or spared
+pub record Plain (p : Plan) : Type 0 where
+  pub keeps : p .keeps ≡ false
+  pub spares : p .spares ≡ false
 
 -- form, new: the form before and after; q: of the rules; p with the value v and the rows `fill d` of its filling: by indices
 module _ (form new : Form) (q : change.Plan) (p : Plan) (v : Bytes) (fill : ℕ → List (Deep FlatRow)) where

@@ -1,6 +1,7 @@
 pub mod Trees
 pub mod Bodies
 pub mod Following
+pub mod Simulation
 pub mod Kept
 pub mod CallPlans
 pub mod AttributeCalls

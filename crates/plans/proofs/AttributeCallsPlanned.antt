@@ -117,7 +117,7 @@ module _ (s : Store) (g : good s ≡ true) where
     step sel w u r b x own i =
         record {
           takes = and-false sel;
-          later = λ e. later u r own (same-eq name (u .name) (and-split (isElement (u .sort)) (same name (u .name)) (sym x ∙ e) .1));
+          later = λ e f. later u r own (same-eq name (u .name) (and-split (isElement (u .sort)) (same name (u .name)) (sym x ∙ e) .1));
           index =
               index-moved (s .form) new p (u .name) r refl (index-kept more o (s .form) (r .name))
               (λ e. let (j, (d, f, m)) = own e in added-shift o (s .form) once l (u .name) d f (r .name) m (newAttribute n k v));
@@ -218,7 +218,7 @@ module _ (s : Store) (g : good s ≡ true) where
               inr (
                 record {
                   takes = test;
-                  later = λ z. refl;
+                  later = λ z y. refl;
                   index =
                       index-moved (s .form) left dropping (u .name) r refl (index-kept (lacking lost) i (s .form) (r .name))
                       (λ z. let (y, (d, f, m)) = own z in dropped-shift i (s .form) once below (u .name) d f (r .name) m lost a there at-index (stays u r e y z));

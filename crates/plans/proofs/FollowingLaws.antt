@@ -53,7 +53,7 @@ shifted-same i = by (leb 0 i)
     by true = omega arith
     by false = refl
 
-index-same : (p : Plan) → p .definitions ≡ unmoved → p .attributes ≡ unmoved → (x : FlatRow) → movedIndex p x ≡ x .index
+pub index-same : (p : Plan) → p .definitions ≡ unmoved → p .attributes ≡ unmoved → (x : FlatRow) → movedIndex p x ≡ x .index
 index-same p e f x = by (eqb (x .sort) 1) (eqb (x .sort) 2)
   where
     by : (a c : Bool) → _≡_ {A = ℕ} (elim a [ true ↦ shifted (p .definitions) (x .index) | false ↦ elim c [ true ↦ shifted (p .attributes) (x .index) | false ↦ x .index ] ]) (x .index)
@@ -111,7 +111,7 @@ module _ (form : Form) (v : Bytes) (fill : ℕ → List (Deep FlatRow)) (sel : B
   fills-follow f l rows above later what n h m g =
       record {
         takes = and-false (isEverything above || sel);
-        later = h;
+        later = λ e f. h e;
         index = index-same (fillingPlan above later what) refl refl (rowWritten form (u .name) r);
         value = value-same r v [] n;
         fills = and-true (matches above (rowWritten form (u .name) r)) ∙ m;
@@ -123,7 +123,7 @@ module _ (form : Form) (v : Bytes) (fill : ℕ → List (Deep FlatRow)) (sel : B
   takes-follow t above takes n h =
       record {
         takes = h;
-        later = λ e. refl;
+        later = λ e f. refl;
         index = index-same (takingPlan above takes) refl refl (rowWritten form (u .name) r);
         value = value-same r v [] n;
         fills = and-false (matches above (rowWritten form (u .name) r));
@@ -134,7 +134,7 @@ module _ (form : Form) (v : Bytes) (fill : ℕ → List (Deep FlatRow)) (sel : B
   sets-follow m =
       record {
         takes = and-false sel;
-        later = λ e. refl;
+        later = λ e f. refl;
         index = index-same (settingPlan m) refl refl (rowWritten form (u .name) r);
         value = refl;
         fills = refl;

@@ -16,3 +16,5 @@ pub mod AttributePlans
 pub mod CallsPlanned
 pub mod Instances
 pub mod AttributeCallsPlanned
+pub mod ModelForms
+pub mod MemberPlans

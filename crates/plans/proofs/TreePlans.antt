@@ -38,7 +38,7 @@ module _ (form new : Form) (q : change.Plan) (p : Plan) (v : Bytes) (fill : ℕ 
   -- what is due is the same, below rows of `above` alone, and so are the fillings
   pub record Alike (sel due owes : Bool) (w u : Row) (f : Forest Row) : Type 0 where
     pub same : owes ≡ due
-    pub chosen : due ≡ true → sel ≡ true
+    pub chosen : due ≡ true → (sel ≡ true) × (p .fills ≡ true)
     pub fills : due ≡ true → Fills form new q p v fill (u .name)
     pub rows : FollowsKept form new q p v fill sel w u f
 
@@ -84,13 +84,13 @@ module _ (form new : Form) (q : change.Plan) (p : Plan) (v : Bytes) (fill : ℕ 
                   takes = taken-plain p plain sel due x ∙ h .takes ∙ e;
                   filling = λ d.
                       ap (λ (c : Bool). owed c (fill d)) (filled-plain p plain due x)
-                      ∙ filling-alike due owes u (isLater (p .marks) (p .later) x) (q .later w (revalued q r)) (k .same) (k .fills) (λ z. h .later (k .chosen z)) d;
+                      ∙ filling-alike due owes u (isLater (p .marks) (p .later) x) (q .later w (revalued q r)) (k .same) (k .fills) (λ z. let (a, c) = k .chosen z in h .later a c) d;
                   index = h .index;
                   value = h .value;
                 },
-                record { same = sym (h .fills); chosen = λ z. and-split m (p .fills) z .0; fills = λ z. h .filling (sym (h .fills) ∙ z); rows = hb },
+                record { same = sym (h .fills); chosen = λ z. and-split m (p .fills) z; fills = λ z. h .filling (sym (h .fills) ∙ z); rows = hb },
                 record {
-                  same = due-alike due owes (isLater (p .marks) (p .later) x) (q .later w (revalued q r)) (k .same) (λ z. h .later (k .chosen z));
+                  same = due-alike due owes (isLater (p .marks) (p .later) x) (q .later w (revalued q r)) (k .same) (λ z. let (a, c) = k .chosen z in h .later a c);
                   chosen = λ z. k .chosen (and-split due (not (isLater (p .marks) (p .later) x)) z .0);
                   fills = λ z. k .fills (and-split due (not (isLater (p .marks) (p .later) x)) z .0);
                   rows = ht;
@@ -107,7 +107,7 @@ module _ (form new : Form) (q : change.Plan) (p : Plan) (v : Bytes) (fill : ℕ 
       → documentsWalk p v fill (indexed form [] docs) ≡ flatten 0 (indexed new [] (changed q docs))
   documents-kept docs e f h =
       documents-simulate form new q p v fill Alike record { ends = alike-end; steps = alike-step } docs
-      record { same = sym e; chosen = λ z. and-split (isGround (p .above)) (p .fills) z .0; fills = λ z. f (sym e ∙ z); rows = h }
+      record { same = sym e; chosen = λ z. and-split (isGround (p .above)) (p .fills) z; fills = λ z. f (sym e ∙ z); rows = h }
 
   follows-kept : (sel : Bool) (w u : Row) (f : Forest Row) → Follows form new q p v fill sel w u f → FollowsKept form new q p v fill sel w u f
   follows-kept sel w u bare h = tt

@@ -31,7 +31,7 @@ module _ (form new : Form) (q : change.Plan) (p : Plan) (v : Bytes) (fill : ℕ 
   -- at row r below row u, which is one of `above` (sel) or not, and which is w after the change
   pub record RowFollows (sel : Bool) (w u r : Row) : Type 0 where
     pub takes : ((isEverything (p .above) || sel) && matches (p .takes) (rowWritten form (u .name) r)) ≡ q .takes u r
-    pub later : sel ≡ true → isLater (p .marks) (p .later) (rowWritten form (u .name) r) ≡ q .later w (revalued q r)
+    pub later : sel ≡ true → p .fills ≡ true → isLater (p .marks) (p .later) (rowWritten form (u .name) r) ≡ q .later w (revalued q r)
     pub index : movedIndex p (rowWritten form (u .name) r) ≡ rowIndex new (u .name) r
     pub value : valueAfter p v (rowWritten form (u .name) r) ≡ revalued q r .value
     pub fills : (matches (p .above) (rowWritten form (u .name) r) && p .fills) ≡ q .fills (revalued q r)

@@ -5,3 +5,4 @@ pub mod Simulation
 pub mod Kept
 pub mod CallPlans
 pub mod AttributeCalls
+pub mod ModelCalls

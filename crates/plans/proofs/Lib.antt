@@ -18,3 +18,5 @@ pub mod Instances
 pub mod AttributeCallsPlanned
 pub mod ModelForms
 pub mod MemberPlans
+pub mod PlacedRows
+pub mod RequantifyPlans

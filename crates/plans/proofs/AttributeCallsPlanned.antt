@@ -61,7 +61,7 @@ required-code zero = refl
 required-code (suc zero) = refl
 required-code (suc (suc k)) = ne-eqb (suc (suc k)) 1 (λ e. omega arith)
 
-and-swap : (a b : Bool) → (a && b) ≡ (b && a)
+pub and-swap : (a b : Bool) → (a && b) ≡ (b && a)
 and-swap true true = refl
 and-swap true false = refl
 and-swap false true = refl
@@ -71,7 +71,7 @@ module _ (s : Store) (g : good s ≡ true) where
   once : Distinct (map definitionName (s .form))
   once = good-is s .0 g .form .names
 
-  clear-elements : (o : ℕ) (p : Plan) → o < length (s .form) → p .above ≡ Elements o → Clear p (indexed (s .form) [] (s .docs))
+  pub clear-elements : (o : ℕ) (p : Plan) → o < length (s .form) → p .above ≡ Elements o → Clear p (indexed (s .form) [] (s .docs))
   clear-elements o p l e = apart (rw e (apart-instances s g o l))
 
   -- ---- 9

@@ -20,3 +20,5 @@ pub mod ModelForms
 pub mod MemberPlans
 pub mod PlacedRows
 pub mod RequantifyPlans
+pub mod QuantifierPlans
+pub mod ModelCallsPlanned

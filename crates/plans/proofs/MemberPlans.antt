@@ -35,13 +35,8 @@ use Rattle.plans.proofs.TreePlans.{documents-follow}
 use Rattle.plans.proofs.FollowingLaws.{index-same, value-same, follows-all, takes-follow}
 use Rattle.plans.proofs.DocumentPlans.{given}
 use Rattle.plans.proofs.Instances.{element-test}
+use Rattle.plans.proofs.AttributeCallsPlanned.{and-swap}
 use Rattle.plans.proofs.ModelForms.{rows-still, known-element, picked-known, named-test, later-test}
-
-and-swap : (a b : Bool) → (a && b) ≡ (b && a)
-and-swap true true = refl
-and-swap true false = refl
-and-swap false true = refl
-and-swap false false = refl
 
 module _ (s : Store) (g : good s ≡ true) (o : ℕ) (l : o < length (s .form)) (p : List ℕ) where
   abbrev owner : Bytes

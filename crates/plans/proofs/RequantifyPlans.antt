@@ -20,6 +20,7 @@ use Rattle.rules.specs.Passing.{good, GoodSerials}
 use Rattle.rules.specs.Change.{nameAtIndex, laterThan, changed}
 use Rattle.rules.specs.Change as change
 use Rattle.rules.proofs.PassingLaws.{good-is}
+use Rattle.history.proofs.Conditions.{or-false}
 use Rattle.history.proofs.RowEdits.{keep, revalued}
 use Rattle.history.proofs.Rowwise.{Standing}
 use Rattle.history.proofs.StandingLaws.{children-are, children-once}
@@ -55,14 +56,6 @@ first-stands bs ns test same (r ∷ rows) (inl (l, a)) = ap (λ (z : List Row). 
 first-stands bs ns test same (r ∷ rows) (inr (l, a, f)) = ap (λ (z : List Row). isNone (map rowSerial z)) (keep-other-row test r rows (same r ∙ a)) ∙ first-stands bs ns test same rows f
 
 -- ---- tests
-or-right : (a b : Bool) → (a || b) ≡ false → b ≡ false
-or-right true b e = absurd (false≢true (sym e))
-or-right false b e = e
-
-or-left : (a b : Bool) → (a || b) ≡ false → a ≡ false
-or-left true b e = e
-or-left false b e = refl
-
 owed-twice : (a b : Bool) (w : List (Deep FlatRow)) → owed a (owed b w) ≡ owed (b && a) w
 owed-twice true true w = refl
 owed-twice true false w = refl
@@ -149,8 +142,8 @@ module _ (s : Store) (g : good s ≡ true) (o : ℕ) (l : o < length (s .form)) 
       due : elementNamed owner r ≡ true → (d : Bool) → (cut || gain) ≡ d → Entered
       due e true f = placed e f (instances f r b i e)
       due e false f =
-          over (is ∙ e) (ap₂ (λ (a d : Bool). a && d) (is ∙ e) f) (ap (λ (a : Bool). a && (elementNamed owner r && isNone (childrenOf test (r .serial) ls))) (or-right cut gain f)) e
-          (λ k y j h z. false≢true (sym (or-left cut gain f) ∙ k))
+          over (is ∙ e) (ap₂ (λ (a d : Bool). a && d) (is ∙ e) f) (ap (λ (a : Bool). a && (elementNamed owner r && isNone (childrenOf test (r .serial) ls))) (or-false cut gain f .1)) e
+          (λ k y j h z. false≢true (sym (or-false cut gain f .0) ∙ k))
 
       by : (d : Bool) → elementNamed owner r ≡ d → Entered
       by true e = due e (cut || gain) refl

@@ -147,8 +147,8 @@ module _ (a : ℕ) (form : Form) (o : Owned) (once : Distinct (map definitionNam
       by attribute q = rw q (name-index (r .name))
       by text q = rw q
 
-  pub past-test : (r : Row) → isLater (Past a) (rowWritten form (o .owner .name) r) ≡ not (isAttribute (r .sort) && member bytes (r .name) (namesBefore (o .attribute .name) (map attributeName (o .owner .attributes))))
-  past-test r = by (r .sort) refl
+  pub past-test : (ms : Bytes) (r : Row) → isLater ms (Past a) (rowWritten form (o .owner .name) r) ≡ not (isAttribute (r .sort) && member bytes (r .name) (namesBefore (o .attribute .name) (map attributeName (o .owner .attributes))))
+  past-test ms r = by (r .sort) refl
     where
       by : (t : RowSort) → r .sort ≡ t
           → not (eqb (rowCode (r .sort)) 2 && ltb (rowIndex form (o .owner .name) r) a) ≡ not (isAttribute (r .sort) && member bytes (r .name) (namesBefore (o .attribute .name) (map attributeName (o .owner .attributes))))

@@ -15,3 +15,4 @@ pub mod AttributePlans
 pub mod CallsPlanned
 pub mod Instances
 pub mod AttributeCallsPlanned
+pub mod FormsAfter

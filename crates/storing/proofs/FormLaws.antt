@@ -3,13 +3,14 @@
 use Prim.Native.Nat.{ℕ, _+_, _-_, _≤_}
 use native.Mathlib.Omega.{arith}
 use mathlib.Core.Path.{_≡_, refl, ap, _∙_, sym, subst}
-use mathlib.Core.Bool.{true}
+use mathlib.Core.Bool.{Bool, true, false, _&&_, false≢true}
 use mathlib.Core.List.{[], _++_, append-nil}
-use lib.Dec.{lit<}
+use lib.Dec.{leb, lit<}
 use lib.ListN.{length, take, drop}
 use lib.Seq.{take-at}
-use Rattle.rules.specs.Bytes.{Bytes}
-use Rattle.rules.specs.Layout.{baseVersion, headerSize, FlatStore, flat, definitionBytes, particleBytes, attributeBytes, rowBytes, each}
+use Rattle.rules.specs.Bytes.{Bytes, all}
+use Rattle.rules.specs.Preorder.{Deep}
+use Rattle.rules.specs.Layout.{baseVersion, headerSize, FlatParticle, FlatStore, flat, definitionBytes, particleBytes, attributeBytes, rowBytes, each}
 use Rattle.rules.specs.Decode.{readDefinition, readParticle, readAttribute, readBodies, definitionCount, particleCount, attributeCount}
 use Rattle.rules.specs.WellFormed.{withinCeilings}
 use Rattle.rules.specs.Passing.{good, knownVersion}
@@ -26,6 +27,7 @@ use Rattle.storing.specs.Stores.{storeIn, limited}
 use Rattle.storing.specs.Planned.{planned, plannedIn}
 use Rattle.storing.specs.Forms.{formBytes, formIn, Forms}
 use Rattle.storing.proofs.StoreLaws.{Holds}
+use Rattle.storing.proofs.LimitLaws.{answers-refused, limited-ceiling}
 use Rattle.storing.proofs.CallLaws.{answers-as}
 use Rattle.storing.proofs.FormBytesLaws.{Few, few-of, few-definitions, few-particles, few-attributes, form-then, length-form, whole, ceilings-rows}
 
@@ -85,6 +87,21 @@ module _ {g : FlatStore} {form : Bytes} {d p a : ℕ} (x : FormOf g form d p a) 
       → Answers (limited room (plannedIn g plan v f)) out number len left
   form-answers plan v f room r = answers-as (ap (limited room) (sym (planned-of plan v f))) r
 
+-- ---- a form past the ceilings
+without-rows : (a b c d e : Bool) → (a && (b && (c && (d && true)))) ≡ false → (a && (b && (c && (d && e)))) ≡ false
+without-rows false b c d e h = refl
+without-rows true false c d e h = refl
+without-rows true true false d e h = refl
+without-rows true true true false e h = refl
+without-rows true true true true e h = absurd (false≢true (sym h))
+
+pub form-ceiling : (g : FlatStore) → withinCeilings (bareForm g) ≡ false → (plan : Plan) (v : Bytes) (f : FlatStore) (room : ℕ) {out : Bytes} → Answers (limited room (plannedIn g plan v f)) out 16 0 out
+unfolding plannedIn
+form-ceiling g h plan v f room =
+    answers-refused 16
+    (limited-ceiling room (plannedIn g plan v f)
+    (without-rows (leb (length (g .definitions)) 64) (leb (length (g .particles)) 256) (all (λ (p : Deep FlatParticle). leb (p .depth) 4) (g .particles)) (leb (length (g .attributes)) 64) _ h))
+
 -- ---- the form of a store that passes
 pub within : {bs : Bytes} → Holds bs → withinCeilings (bodiesOf bs) ≡ true
 unfolding good
@@ -116,9 +133,12 @@ form-at {bs} h =
     ap (λ (l : Bytes). take (rowStart bs - headerSize) (drop headerSize l)) (sym (whole h)) ∙ ap (take (rowStart bs - headerSize)) (form-then f (each (rowBytes baseWidth) (f .rows)))
     ∙ take-at (formBytes f) (each (rowBytes baseWidth) (f .rows)) (rowStart bs - headerSize) e
 
+pub good-bodies : {bs : Bytes} → Holds bs → GoodFlat baseWidth (bodiesOf bs)
+good-bodies {bs} h = subst (GoodFlat baseWidth) (sym (h .bodies)) (good-flat (storeIn bs) (h .good))
+
 pub own-form : {bs : Bytes} → Holds bs → {start d p a : ℕ} → Begins bs start → NumberAt 12 bs d → NumberAt 20 bs p → NumberAt 28 bs a → FormOf (bodiesOf bs) (take (start - headerSize) (drop headerSize bs)) d p a
 own-form {bs} h b n m k =
-    let w : GoodFlat baseWidth (bodiesOf bs) = subst (GoodFlat baseWidth) (sym (h .bodies)) (good-flat (storeIn bs) (h .good)) in
+    let w : GoodFlat baseWidth (bodiesOf bs) = good-bodies h in
     record {
       bytes = ap (λ (j : ℕ). take (j - headerSize) (drop headerSize bs)) (b .start) ∙ form-at h;
       definitionCount = n .value ∙ counted-definitions bs;

@@ -22,3 +22,4 @@ pub mod PlacedRows
 pub mod RequantifyPlans
 pub mod QuantifierPlans
 pub mod ModelCallsPlanned
+pub mod FormsAfter

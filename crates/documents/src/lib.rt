@@ -9,7 +9,7 @@ ghost use mathlib.Core.Path.{_≡_};
 ghost use lib.ListN.{length};
 ghost use Rattle.rules.specs.Change.{addDocument, addElement, destroyElement, setAttribute, destroyAttributeRow, setText};
 ghost use Rattle.rules.specs.Outcome.{outcome, Answers};
-ghost use Rattle.plans.specs.CallPlans.{fillingPlan, takingPlan, settingPlan, setAttributePlan};
+ghost use Rattle.plans.specs.CallPlans.{unmarked, fillingPlan, takingPlan, settingPlan, setAttributePlan};
 
 const UNMOVED: Shift = Shift {
     from: 0,
@@ -25,6 +25,12 @@ fn refused(number: u32) -> Answer
 
 // ---- plans
 
+fn unmarked() -> [u8; 64]
+    ensures { λ r. ⌜ r ≡ unmarked ⌝ }
+{
+    [0; 64]
+}
+
 fn filling_plan(above: Which, later: Later, filling: Filling) -> Plan
     ensures { λ r. ⌜ r ≡ fillingPlan above later filling ⌝ }
 {
@@ -34,6 +40,9 @@ fn filling_plan(above: Which, later: Later, filling: Filling) -> Plan
         fills: true,
         later,
         filling,
+        marks: unmarked(),
+        keeps: false,
+        spares: false,
         set: 0,
         definitions: UNMOVED,
         attributes: UNMOVED,
@@ -49,6 +58,9 @@ fn taking_plan(above: Which, takes: Which) -> Plan
         fills: false,
         later: Later::Never,
         filling: Filling::Nothing,
+        marks: unmarked(),
+        keeps: false,
+        spares: false,
         set: 0,
         definitions: UNMOVED,
         attributes: UNMOVED,
@@ -64,6 +76,9 @@ fn setting_plan(set: u32) -> Plan
         fills: false,
         later: Later::Never,
         filling: Filling::Nothing,
+        marks: unmarked(),
+        keeps: false,
+        spares: false,
         set,
         definitions: UNMOVED,
         attributes: UNMOVED,

@@ -94,7 +94,7 @@ parent-at-is bs w k {rows} {count} {r} e g b =
     record { begins = subst (λ (n : ℕ). Begins (rowsIn bs) n r (seek (isParent k) (rowsFrom (rowsIn bs) n 0))) g (subst (λ (z : Bytes). Begins z count r (seek (isParent k) (rowsFrom z count 0))) e b); few = w .few }
 
 -- ---- lines
-any-found : (test : Row → Bool) (ls : List Line) → any (λ (l : Line). test (l .row)) ls ≡ isThere (findRow test ls)
+pub any-found : (test : Row → Bool) (ls : List Line) → any (λ (l : Line). test (l .row)) ls ≡ isThere (findRow test ls)
 unfolding findRow
 any-found test [] = refl
 any-found test (l ∷ ls) = by (test (l .row)) refl (any-found test ls)

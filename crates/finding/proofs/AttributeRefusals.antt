@@ -236,7 +236,6 @@ module _ (bs : Bytes) (w : Whole bs) (a : ℕ) where
     pub found : findRow (elementWith k) (rowsOf (storeIn bs)) ≡ some row
     pub mine : owned .owner .name ≡ row .name
 
-
   -- ---- 6 and 7
   module _ {k : ℕ} where
     refused : {n : ℕ} → Gives n ((6 if unknownAttribute k a (storeIn bs)) ∷ (7 if noElement k (storeIn bs)) ∷ []) → AttributeRefused k a (storeIn bs) n

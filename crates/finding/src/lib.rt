@@ -3,7 +3,6 @@ ghost use mathlib.Core.Path.{_≡_};
 ghost use mathlib.Core.Bool.{true, false};
 ghost use mathlib.Core.List.{map};
 ghost use Prim.Native.Nat.{suc, _+_, _-_, _<_, _≤_};
-ghost use lib.ListN.{length};
 ghost use Rattle.rules.specs.Bytes.{any};
 ghost use Rattle.rules.specs.Lines.{serialAt, childrenOf, isElementRow, isTextRow};
 ghost use Rattle.rules.specs.Passing.{passes};
@@ -16,7 +15,7 @@ ghost use Rattle.storing.specs.Stores.{storeIn};
 ghost use Rattle.plans.specs.CallPlans.{attributeSerial};
 ghost use Rattle.model.specs.Members.{membersOf};
 ghost use Rattle.model.specs.Steps.{runs};
-ghost use Rattle.finding.specs.Finding.{rowsFrom, Begins, ElementAt, ParentAt, AttributeRefused, RowOf, rowIn, childrenAt, kindAt, modelAt, fitsAt, hasPlace, Child, children, elementRow, isThis, isParent, seek, serialIn, serialOf, newName, keptName, word, Stepped};
+ghost use Rattle.finding.specs.Finding.{rowsFrom, Begins, ElementAt, ParentAt, AttributeRefused, RowOf, childrenAt, kindAt, modelAt, fitsAt, hasPlace, Child, children, elementRow, isThis, isParent, seek, serialIn, serialOf, newName, keptName, word, Stepped};
 
 // The bytes of row i.
 fn row(rows: &[u8], i: usize) -> &[u8]
@@ -506,9 +505,5 @@ pub fn attribute_serial(store: &[u8], element: u32, attribute: u32) -> u32
     requires { ⌜ (passes (now store) ≡ true) × AttributeRefused element attribute (storeIn (now store)) 0 ⌝ }
     ensures { λ r. ⌜ r ≡ attributeSerial element attribute (storeIn (now (store .entry))) ⌝ }
 {
-    attribute_at(
-        store,
-        find_element(store, element),
-        attribute as usize,
-    )
+    attribute_at(store, find_element(store, element), attribute as usize)
 }

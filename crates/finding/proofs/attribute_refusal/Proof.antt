@@ -1,4 +1,4 @@
-use mathlib.Core.Path.{_≡_, sym, _∙_}
+use mathlib.Core.Path.{sym, _∙_}
 use native.Mathlib.Omega.{arith}
 use Rattle.finding.proofs.StoreFacts.{Whole, whole}
 use Rattle.finding.proofs.RefusalLaws.{seen, unseen}

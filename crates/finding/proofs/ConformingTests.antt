@@ -4,14 +4,14 @@ use Prim.Native.Nat.{ℕ}
 use mathlib.Core.Path.{_≡_, refl, sym, ap, ap₂, _∙_}
 use mathlib.Core.Logic.{_⊎_, inl, inr}
 use mathlib.Core.Bool.{Bool, true, false, _&&_, false≢true}
-use mathlib.Core.List.{List, [], _∷_, _++_}
+use mathlib.Core.List.{List}
 use lib.Dec.{eqb}
-use Rattle.rules.specs.Bytes.{Bytes, numbers, all, eqb-eq}
-use Rattle.rules.specs.Store.{Form, Row, Forest, bare, tree, Store, _⧺_, heads}
+use Rattle.rules.specs.Bytes.{numbers, all, eqb-eq}
+use Rattle.rules.specs.Store.{Form, Row, Forest, bare, tree, _⧺_, heads}
 use Rattle.rules.specs.Conforming.{isElement, everyRow, fitsRow, conforming}
 use Rattle.rules.specs.Passing.{GoodSerials}
 use Rattle.rules.specs.Lines.{ground}
-use Rattle.rules.specs.Change.{Plan, prune, eachRow, plant, changed}
+use Rattle.rules.specs.Change.{Plan, changed}
 use Rattle.rules.proofs.Words.{and-split}
 use Rattle.history.proofs.RowEdits.{revalued, childrenAfter}
 use Rattle.history.proofs.Rowwise.{Standing, below, under, below-taken, below-here, below-past, heads-changed}

@@ -1,45 +1,40 @@
 -- The conditions of 12 and 13: what the code finds, put together.
 -- Assumes nothing.
-use Prim.Native.Nat.{ℕ, zero, suc, _+_, _-_, _<_, _≤_}
+use Prim.Native.Nat.{ℕ, zero, suc, _-_, _<_, _≤_}
 use native.Mathlib.Omega.{arith}
-use borrow.Author.Tests.{lt-ltb, le-ltb, eq-eqb, ne-eqb, eqb-true}
-use mathlib.Core.Path.{_≡_, refl, sym, ap, ap₂, _∙_, subst}
-use mathlib.Core.Logic.{_⊎_, inl, inr, ⊎-elim}
-use mathlib.Core.Bool.{Bool, true, false, _&&_, _||_, not, false≢true}
-use mathlib.Core.Option.{Option, none, some}
+use borrow.Author.Tests.{lt-ltb, le-ltb, ne-eqb}
+use mathlib.Core.Path.{_≡_, refl, sym, ap, ap₂, _∙_}
+use mathlib.Core.Logic.{⊎-elim}
+use mathlib.Core.Bool.{Bool, true, false, _&&_, not, false≢true}
+use mathlib.Core.Option.{some}
 use mathlib.Core.List.{List, [], _∷_, map, List·Memᴰ, List·Memᴰ·head, List·Memᴰ·tail, List·Memᴰ·not-nil, List·Memᴰ·cases-cons}
 use lib.Dec.{eqb, ltb}
 use lib.ListN.{length, length-map}
 use Rattle.rules.specs.Bytes.{Bytes, bytes}
-use Rattle.rules.specs.Model.{Members}
 use Rattle.rules.specs.Automaton.{accepts}
-use Rattle.rules.specs.Store.{Content, empty, pcdata, complex, Definition, element, Row, Forest, Store, heads, members}
+use Rattle.rules.specs.Store.{Content, empty, pcdata, complex, Definition, element, Row, heads, members}
 use Rattle.rules.specs.Layout.{FlatRow, valueWidth, kindCode, indexOf}
-use Rattle.rules.specs.Decode.{nameAt, rowCount}
+use Rattle.rules.specs.Decode.{rowCount}
 use Rattle.rules.specs.WellFormed.{lookup, isThere, known}
-use Rattle.rules.specs.Conforming.{nameOf, isElement, ElementRows, RowConforms, conforming}
+use Rattle.rules.specs.Conforming.{nameOf, ElementRows, RowConforms, conforming}
 use Rattle.rules.specs.Lines.{isElementRow, isTextRow, elementWith, childrenOf, serialAt}
-use Rattle.rules.specs.Change.{addDocument, addElement, destroyElement, definitionAt, nameAtIndex, after}
+use Rattle.rules.specs.Change.{addDocument, addElement, destroyElement, nameAtIndex, after}
 use Rattle.rules.specs.Refusal.{Condition, _if_, first, conditions, past, rowsOf, noElement, badText, isComplex}
 use Rattle.history.proofs.RowEdits.{keep}
-use Rattle.history.proofs.Conditions.{not-false, not-past}
-use Rattle.history.proofs.Rowwise.{Standing}
+use Rattle.history.proofs.Conditions.{not-past}
 use Rattle.history.proofs.ConformingAfter.{is-element}
 use Rattle.history.proofs.Untouched.{keep-in}
 use Rattle.history.proofs.StandingLaws.{serialOf, standing-child, standing-every, no-zero, children-are}
 use Rattle.model.specs.Steps.{runs}
-use Rattle.records.specs.Records.{NumberAt}
-use Rattle.validity.specs.Check.{rowsIn}
 use Rattle.validity.proofs.AttributeBlocks.{below-or}
-use Rattle.validity.proofs.IndexLaws.{namesOf, name-of}
-use Rattle.validity.proofs.AttributeRows.{rowWritten}
+use Rattle.validity.proofs.IndexLaws.{name-of}
 use Rattle.storing.specs.Stores.{storeIn}
-use Rattle.finding.specs.Finding.{ElementAt, ParentAt, RowOf, rowIn, childrenAt, modelAt, kindAt, fitsAt, hasPlace, serialIn, word}
-use Rattle.finding.proofs.StoreFacts.{formIn, docsIn, byIndex, Whole, Element, NoElement, element-there, element-absent, Parent, parent-there, parent-absent, Defined, defined, elements-at, texts-at, serials-at}
+use Rattle.finding.specs.Finding.{ElementAt, ParentAt, childrenAt, modelAt, kindAt, fitsAt, hasPlace, serialIn, word}
+use Rattle.finding.proofs.StoreFacts.{formIn, docsIn, byIndex, Whole, Element, NoElement, element-absent, Parent, parent-there, parent-absent, defined, elements-at, texts-at, serials-at}
 use Rattle.finding.proofs.ElementTests.{putAt}
 use Rattle.finding.proofs.ElementsAfter.{ok, add-conforms, destroy-conforms, root-conforms}
-use Rattle.finding.proofs.IndexWords.{Plain, AllPlain, Named, word-less, word-more, named-runs}
-use Rattle.finding.proofs.RefusalLaws.{Gives, gives-hit, gives-next, gives-none, kind-limit, kind-is}
+use Rattle.finding.proofs.IndexWords.{AllPlain, Named, word-less, word-more, named-runs}
+use Rattle.finding.proofs.RefusalLaws.{Gives, gives-hit, gives-next, gives-none, kind-is}
 
 keep-is : (test : Row → Bool) (rows : List Row) (r : Row) → List·Memᴰ r (keep test rows) → test r ≡ true
 unfolding keep

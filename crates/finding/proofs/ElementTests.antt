@@ -1,26 +1,26 @@
 -- The rows right below an element with a new element among them, or without one of them: what is tested.
 -- Assumes nothing.
-use Prim.Native.Nat.{ℕ, zero, suc, _<_, _≤_}
+use Prim.Native.Nat.{ℕ, zero, suc, _≤_}
 use native.Mathlib.Omega.{arith}
 use mathlib.Core.Path.{_≡_, refl, sym, ap, ap₂, _∙_, subst}
 use mathlib.Core.Logic.{_⊎_, inl, inr, ⊎-elim}
 use mathlib.Core.Bool.{Bool, true, false, _&&_, not, false≢true}
-use mathlib.Core.Option.{Option, none, some}
-use mathlib.Core.List.{List, [], _∷_, _++_, map, append-nil, append-assoc, map-append, List·Memᴰ, List·Memᴰ·head, List·Memᴰ·tail, List·Memᴰ·not-nil, List·Memᴰ·cases-cons, Memᴰ·cast, Memᴰ·map, Memᴰ·of-map, Memᴰ·append-left, Memᴰ·append-right, List·Memᴰ·append-cases}
+use mathlib.Core.Option.{some}
+use mathlib.Core.List.{List, [], _∷_, _++_, map, append-nil, map-append, List·Memᴰ, List·Memᴰ·head, List·Memᴰ·tail, List·Memᴰ·not-nil, List·Memᴰ·cases-cons, Memᴰ·cast, Memᴰ·map, Memᴰ·of-map, Memᴰ·append-left, Memᴰ·append-right, List·Memᴰ·append-cases}
 use lib.Dec.{eqb}
 use lib.ListN.{length}
-use Rattle.rules.specs.Bytes.{Bytes, bytes, numbers, all, isNone, eqb-of}
-use Rattle.rules.specs.Model.{Members, Distinct, names}
+use Rattle.rules.specs.Bytes.{bytes, numbers, all}
+use Rattle.rules.specs.Model.{Distinct}
 use Rattle.rules.specs.Automaton.{accepts}
-use Rattle.rules.specs.Store.{Content, empty, pcdata, complex, Attribute, Definition, RowSort, element, attribute, text, Row, Forest, heads, modelOf, members}
+use Rattle.rules.specs.Store.{Content, empty, pcdata, complex, Definition, RowSort, element, attribute, Row, heads, modelOf, members}
 use Rattle.rules.specs.WellFormed.{attributeName}
-use Rattle.rules.specs.Conforming.{nameOf, Sorted, AttributeRows, ContentRows, ElementRows, isElement, isAttribute, isText, strip, fits, fitsStripped, fitsDefinition}
+use Rattle.rules.specs.Conforming.{nameOf, Sorted, ContentRows, ElementRows, isElement, isAttribute, isText, fits, fitsStripped, fitsDefinition}
 use Rattle.rules.specs.Lines.{isElementRow, elementWith, serialAt}
 use Rattle.rules.specs.Change.{Plan}
 use Rattle.rules.specs.Refusal.{isComplex}
 use Rattle.rules.proofs.Words.{and-both, and-split}
 use Rattle.rules.proofs.Apart.{differs}
-use Rattle.rules.proofs.Correct.{distinct-left, distinct-right, distinct-apart}
+use Rattle.rules.proofs.Correct.{distinct-right, distinct-apart}
 use Rattle.rules.proofs.ConformingLaws.{headAttribute, strip-is, content-head, sorted-is}
 use Rattle.history.proofs.RowEdits.{keep, plantRows}
 use Rattle.history.proofs.InstanceRows.{keep-all, keep-none, keep-beside, keep-in}

@@ -2,23 +2,23 @@
 -- Assumes nothing.
 use Prim.Native.Nat.{ℕ, _<_, _≤_}
 use mathlib.Core.Path.{_≡_, refl, sym, ap, ap₂, _∙_, subst}
-use mathlib.Core.Logic.{_⊎_, inl, inr, ⊎-elim}
+use mathlib.Core.Logic.{_⊎_, inl, inr}
 use mathlib.Core.Bool.{Bool, true, false, _&&_, not, false≢true}
-use mathlib.Core.Option.{Option, none, some}
-use mathlib.Core.List.{List, [], _∷_, map, List·Memᴰ, Memᴰ·cast, Memᴰ·map}
+use mathlib.Core.Option.{Option, some}
+use mathlib.Core.List.{List, map, List·Memᴰ, Memᴰ·cast, Memᴰ·map}
 use lib.Dec.{eqb}
 use lib.ListN.{length}
-use Rattle.rules.specs.Bytes.{Bytes, bytes, numbers, all, eqb-eq}
+use Rattle.rules.specs.Bytes.{Bytes, bytes, numbers, eqb-eq}
 use Rattle.rules.specs.Model.{Distinct, names}
 use Rattle.rules.specs.Automaton.{accepts}
-use Rattle.rules.specs.Store.{Definition, Form, element, Row, Forest, Store, heads, members}
+use Rattle.rules.specs.Store.{Definition, element, Row, Forest, Store, heads, members}
 use Rattle.rules.specs.Layout.{valueWidth}
-use Rattle.rules.specs.WellFormed.{attributeName, lookup, known, isThere, wellFormed}
-use Rattle.rules.specs.Conforming.{nameOf, ElementRows, isElement, everyRow, fitsRow, fitsDefinition, conforming}
+use Rattle.rules.specs.WellFormed.{attributeName, lookup, isThere, wellFormed}
+use Rattle.rules.specs.Conforming.{nameOf, ElementRows, isElement, fitsRow, fitsDefinition, conforming}
 use Rattle.rules.specs.Passing.{serials, Good}
 use Rattle.rules.specs.Filling.{elementRow, fillDefinition}
-use Rattle.rules.specs.Lines.{lines, ground, isElementRow, elementWith, childrenOf, serialAt}
-use Rattle.rules.specs.Change.{Call, addElement, destroyElement, nameAtIndex, Plan, making, taking, plan, changed, docsAfter, after}
+use Rattle.rules.specs.Lines.{lines, isElementRow, elementWith, childrenOf, serialAt}
+use Rattle.rules.specs.Change.{Call, addElement, destroyElement, nameAtIndex, Plan, making, taking, plan, docsAfter, after}
 use Rattle.rules.specs.Refusal.{isComplex}
 use Rattle.rules.proofs.Words.{and-both, and-split}
 use Rattle.rules.proofs.Apart.{differs}
@@ -29,7 +29,7 @@ use Rattle.rules.proofs.FillingLaws.{filling-heads, filling-fits}
 use Rattle.history.proofs.RowEdits.{keep, plantRows, revalued, childrenAfter}
 use Rattle.history.proofs.Rowwise.{Standing}
 use Rattle.history.proofs.FormLaws.{definition-found}
-use Rattle.history.proofs.StandingLaws.{serialOf, standing-child, standing-head, standing-below, standing-serial, no-zero, one-row, children-are, children-once, children-given}
+use Rattle.history.proofs.StandingLaws.{serialOf, standing-head, standing-below, standing-serial, one-row, children-are, children-once, children-given}
 use Rattle.history.proofs.Untouched.{keep-in, map-same, children-left, children-cut, children-kept, same-row, same-child}
 use Rattle.history.proofs.Numbered.{conforming-number}
 use Rattle.history.proofs.ConformingAfter.{conforming-changed, fits-element}

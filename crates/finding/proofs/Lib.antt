@@ -8,6 +8,9 @@ pub mod ElementTests
 pub mod ParentLaws
 pub mod ElementsAfter
 pub mod IndexWords
+pub mod AttributeTests
+pub mod AttributesAfter
 pub mod ReaderLaws
 pub mod RefusalLaws
 pub mod ElementRefusals
+pub mod AttributeRefusals

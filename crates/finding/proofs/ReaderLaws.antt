@@ -1,8 +1,8 @@
 -- What is read right below a row of a store.
 -- Assumes nothing.
-use Prim.Native.Nat.{ℕ, suc, _+_, _-_, _<_, _≤_}
+use Prim.Native.Nat.{ℕ, suc, _+_, _-_}
 use borrow.Author.Tests.{eq-eqb, ne-eqb}
-use mathlib.Core.Path.{_≡_, refl, sym, ap, _∙_}
+use mathlib.Core.Path.{_≡_, ap, _∙_}
 use mathlib.Core.Bool.{Bool, true, not}
 use mathlib.Core.List.{List, map}
 use lib.Dec.{eqb}
@@ -13,7 +13,6 @@ use Rattle.rules.specs.Decode.{readRow, rowCount}
 use Rattle.rules.specs.Lines.{serialAt}
 use Rattle.rowpass.specs.Reading.{recordAt}
 use Rattle.model.specs.Steps.{runs}
-use Rattle.records.specs.Records.{NumberAt}
 use Rattle.validity.specs.Check.{rowsIn}
 use Rattle.finding.specs.Finding.{rowsFrom, children, childrenAt, modelAt, fitsAt, hasPlace, serialIn, serialOf, word}
 

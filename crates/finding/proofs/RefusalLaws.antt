@@ -1,21 +1,20 @@
 -- The first condition that holds, of the changes of documents: what the code finds, put together.
 -- Assumes nothing.
-use Prim.Native.Nat.{ℕ, zero, suc, _+_, _<_, _≤_}
+use Prim.Native.Nat.{ℕ, _<_, _≤_}
 use native.Mathlib.Omega.{arith}
 use borrow.Author.Tests.{lt-ltb, le-ltb}
-use mathlib.Core.Path.{_≡_, refl, sym, ap, ap₂, _∙_, subst}
-use mathlib.Core.Logic.{_⊎_, inl, inr}
-use mathlib.Core.Bool.{Bool, true, false, _&&_, _||_, not, false≢true}
+use mathlib.Core.Path.{_≡_, refl, sym, ap, _∙_}
+use mathlib.Core.Bool.{Bool, true, false, not}
 use mathlib.Core.Option.{Option, none, some}
 use mathlib.Core.List.{List, [], _∷_}
-use lib.Dec.{eqb, ltb}
+use lib.Dec.{ltb}
 use lib.ListN.{length}
 use Rattle.rules.specs.Bytes.{Bytes}
-use Rattle.rules.specs.Store.{Content, empty, pcdata, complex, Definition, Row, Store}
+use Rattle.rules.specs.Store.{Content, empty, pcdata, complex, Definition, Row}
 use Rattle.rules.specs.Layout.{kindCode, indexOf}
-use Rattle.rules.specs.Decode.{rowCount, definitionCount}
+use Rattle.rules.specs.Decode.{rowCount}
 use Rattle.rules.specs.WellFormed.{isValue, lookup}
-use Rattle.rules.specs.Change.{addDocument, setText, definitionAt}
+use Rattle.rules.specs.Change.{addDocument, setText}
 use Rattle.rules.specs.Refusal.{Condition, _if_, first, conditions, isPcdata, pcdataElement}
 use Rattle.records.specs.Records.{NumberAt}
 use Rattle.rowpass.specs.Reading.{definitionIn}
@@ -23,7 +22,7 @@ use Rattle.validity.specs.Check.{definitionsIn, rowsIn}
 use Rattle.storing.specs.Stores.{storeIn}
 use Rattle.finding.specs.Finding.{ElementAt, ParentAt, RowOf, kindAt}
 use Rattle.finding.proofs.SuffixLaws.{rowAt}
-use Rattle.finding.proofs.StoreFacts.{formIn, docsIn, Whole, Element, NoElement, element-there, element-absent, parent-there, Defined, defined}
+use Rattle.finding.proofs.StoreFacts.{formIn, Whole, Element, NoElement, element-there, element-absent, parent-there, defined}
 
 -- n is the number of the first condition that holds, 0 if none does
 pub record Gives (n : ℕ) (cs : List Condition) : Type 0 where

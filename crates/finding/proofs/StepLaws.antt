@@ -1,15 +1,13 @@
 -- Steps over the children of a row, one more and one less, in a model.
 -- Assumes nothing.
-use Prim.Native.Nat.{ℕ, zero, suc, _+_, _-_, _<_, _≤_}
+use Prim.Native.Nat.{ℕ, _+_, _-_}
 use native.Mathlib.Numerals.{add-one}
-use native.Mathlib.Omega.{arith}
 use borrow.Author.Tests.{eq-eqb, ne-eqb}
 use mathlib.Core.Path.{_≡_, refl, sym, ap, ap₂, _∙_, subst}
 use Rattle.rules.specs.Bytes.{Bytes}
 use Rattle.rules.specs.Decode.{readRow}
 use mathlib.Core.Bool.{Bool, true, false, _&&_, not, false≢true}
 use mathlib.Core.List.{List, [], _∷_, _++_, append-assoc, append-nil}
-use lib.Dec.{eqb}
 use Rattle.rules.specs.Model.{Members}
 use Rattle.rules.specs.Layout.{FlatRow}
 use Rattle.model.specs.Steps.{steps, finishes, runs}

@@ -1,8 +1,7 @@
 -- What the bytes of a store that passes say of its rows, and of the element row with a serial.
 -- Assumes nothing.
-use Prim.Native.Nat.{ℕ, zero, suc, _+_, _<_, _≤_}
+use Prim.Native.Nat.{ℕ, suc, _+_, _<_, _≤_}
 use native.Mathlib.Omega.{arith}
-use borrow.Author.Tests.{eq-eqb, ne-eqb}
 use mathlib.Core.Path.{_≡_, refl, sym, ap, ap₂, _∙_, subst}
 use mathlib.Core.Logic.{_⊎_, inl, inr, ⊎-elim}
 use mathlib.Core.Bool.{Bool, true, false, _&&_, _||_, not, false≢true}
@@ -11,11 +10,11 @@ use mathlib.Core.List.{List, [], _∷_, _++_, map, append-nil, List·Memᴰ, Lis
 use lib.Dec.{eqb}
 use lib.ListN.{length}
 use Rattle.rules.specs.Bytes.{Bytes, any, eqb-eq, eqb-of}
-use Rattle.rules.specs.Store.{Definition, Form, RowSort, element, attribute, text, Row, Forest, Store, heads}
+use Rattle.rules.specs.Store.{Definition, Form, RowSort, element, attribute, text, Row, Forest, heads}
 use Rattle.rules.specs.Preorder.{Deep, flatten}
-use Rattle.rules.specs.Layout.{FlatRow, FlatStore, flat, rowCode, rowIndex, indexed, indexOf, encode}
-use Rattle.rules.specs.Decode.{readRow, readMany, definitionCount, attributeCount, rowCount}
-use Rattle.rules.specs.WellFormed.{lookup, isThere, known}
+use Rattle.rules.specs.Layout.{FlatRow, FlatStore, rowCode, rowIndex, indexed, indexOf}
+use Rattle.rules.specs.Decode.{readRow, definitionCount, attributeCount, rowCount}
+use Rattle.rules.specs.WellFormed.{lookup, isThere}
 use Rattle.rules.specs.Conforming.{isElement, isText, ElementRows, RowConforms}
 use Rattle.rules.specs.Change.{definitionAt}
 use Rattle.rules.specs.Passing.{Good, passes}
@@ -31,7 +30,7 @@ use Rattle.history.proofs.Rowwise.{Standing}
 use Rattle.history.proofs.ConformingAfter.{is-element}
 use Rattle.history.proofs.Untouched.{keep-alike}
 use Rattle.history.proofs.StandingLaws as standing
-use Rattle.history.proofs.StandingLaws.{serialOf, standing-every, standing-line, found-stands, found-element, one-row}
+use Rattle.history.proofs.StandingLaws.{serialOf, standing-every, standing-line, found-stands, one-row}
 use Rattle.lookup.specs.Bodies.{bodiesOf}
 use Rattle.lookup.proofs.Laws.{from-step, from-none, from-all}
 use Rattle.rowpass.specs.Indices.{IndexForm}
@@ -94,7 +93,7 @@ parent-at-is bs w k {rows} {count} {r} e g b =
     record { begins = subst (λ (n : ℕ). Begins (rowsIn bs) n r (seek (isParent k) (rowsFrom (rowsIn bs) n 0))) g (subst (λ (z : Bytes). Begins z count r (seek (isParent k) (rowsFrom z count 0))) e b); few = w .few }
 
 -- ---- lines
-any-found : (test : Row → Bool) (ls : List Line) → any (λ (l : Line). test (l .row)) ls ≡ isThere (findRow test ls)
+pub any-found : (test : Row → Bool) (ls : List Line) → any (λ (l : Line). test (l .row)) ls ≡ isThere (findRow test ls)
 unfolding findRow
 any-found test [] = refl
 any-found test (l ∷ ls) = by (test (l .row)) refl (any-found test ls)

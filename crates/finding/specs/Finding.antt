@@ -1,12 +1,14 @@
 -- Rows found by their serials, and the rows right below a row, over the rows of the tree body.
 -- Assumes nothing.
-use Prim.Native.Nat.{ℕ, zero, suc, _+_, _-_, _<_, _≤_}
+use Prim.Native.Nat.{ℕ, suc, _+_, _-_, _<_, _≤_}
 use mathlib.Core.Path.{_≡_}
 use mathlib.Core.Bool.{Bool, true, false, _&&_, not}
 use mathlib.Core.List.{List, [], _∷_, _++_, map}
 use lib.Dec.{eqb, ltb}
 use Rattle.rules.specs.Bytes.{Bytes, any}
 use Rattle.rules.specs.Model.{Members}
+use Rattle.rules.specs.Store.{Store}
+use Rattle.rules.specs.Refusal.{_if_, first, noElement, unknownAttribute}
 use Rattle.rules.specs.Preorder.{Deep}
 use Rattle.rules.specs.Layout.{FlatRow}
 use Rattle.rules.specs.Lines.{serialAt}
@@ -123,3 +125,7 @@ pub record ParentAt (bs : Bytes) (k r : ℕ) : Type 0 where
 -- it has at least n element children
 unfoldable pub hasPlace : Bytes → ℕ → ℕ → Bool
 hasPlace bs i n = elim (eqb n 0) [ true ↦ true | false ↦ not (eqb (serialAt (n - 1) (map serialIn (childrenAt bs 1 i))) 0) ]
+
+-- n is the number of the first condition that holds of an attribute of element k, of those on which both may be named; 0 if none does
+pub record AttributeRefused (k a : ℕ) (s : Store) (n : ℕ) : Type 0 where
+  pub is : n ≡ first ((6 if unknownAttribute k a s) ∷ (7 if noElement k s) ∷ [])

@@ -3,19 +3,19 @@ ghost use mathlib.Core.Path.{_≡_};
 ghost use mathlib.Core.Bool.{true, false};
 ghost use mathlib.Core.List.{map};
 ghost use Prim.Native.Nat.{suc, _+_, _-_, _<_, _≤_};
-ghost use lib.ListN.{length};
 ghost use Rattle.rules.specs.Bytes.{any};
 ghost use Rattle.rules.specs.Lines.{serialAt, childrenOf, isElementRow, isTextRow};
 ghost use Rattle.rules.specs.Passing.{passes};
-ghost use Rattle.rules.specs.Change.{addDocument, addElement, destroyElement, setText};
+ghost use Rattle.rules.specs.Change.{addDocument, addElement, destroyElement, setAttribute, destroyAttributeRow, setText};
 ghost use Rattle.rules.specs.Refusal.{first, conditions, noElement, rowsOf};
 ghost use Rattle.rules.specs.Decode.{readRow};
-ghost use Rattle.rowpass.specs.Reading.{recordAt};
-ghost use Rattle.validity.specs.Check.{rowsIn};
+ghost use Rattle.rowpass.specs.Reading.{recordAt, attributeIn};
+ghost use Rattle.validity.specs.Check.{attributesIn, rowsIn};
 ghost use Rattle.storing.specs.Stores.{storeIn};
+ghost use Rattle.plans.specs.CallPlans.{attributeSerial};
 ghost use Rattle.model.specs.Members.{membersOf};
 ghost use Rattle.model.specs.Steps.{runs};
-ghost use Rattle.finding.specs.Finding.{rowsFrom, Begins, ElementAt, ParentAt, RowOf, rowIn, childrenAt, kindAt, modelAt, fitsAt, hasPlace, Child, children, elementRow, isThis, isParent, seek, serialIn, serialOf, newName, keptName, word, Stepped};
+ghost use Rattle.finding.specs.Finding.{rowsFrom, Begins, ElementAt, ParentAt, AttributeRefused, RowOf, childrenAt, kindAt, modelAt, fitsAt, hasPlace, Child, children, elementRow, isThis, isParent, seek, serialIn, serialOf, newName, keptName, word, Stepped};
 
 // The bytes of row i.
 fn row(rows: &[u8], i: usize) -> &[u8]
@@ -416,4 +416,94 @@ pub fn child_serial(store: &[u8], parent: u32, child: u32) -> u32
     ensures { λ r. ⌜ r ≡ serialAt child (childrenOf isElementRow parent (rowsOf (storeIn (now (store .entry))))) ⌝ }
 {
     nth_at(store, find_element(store, parent), 1, child as usize)
+}
+
+// ---- attributes
+// The definition index of an attribute's owner.
+fn owner_of(store: &[u8], attribute: usize) -> usize
+    requires { ⌜ attribute ≤ 64 ⌝ }
+    ensures { λ r. ⌜ r ≡ attributeIn (attributesIn (now (store .entry))) attribute .owner ⌝ }
+{
+    let attrs = validity::body(store, 24, 52);
+    codec::byte(rowpass::cut(attrs, 52 * attribute, 52), 0) as usize
+}
+
+// The serial of the row of an attribute right below row i; 0 if there is none.
+fn attribute_at(store: &[u8], i: usize, attribute: usize) -> u32
+    requires { ⌜ RowOf (now store) i ⌝ }
+    ensures { λ r. ⌜ r ≡ serialOf attribute (childrenAt (now (store .entry)) 2 i) ⌝ }
+{
+    let rows = rows_of(store);
+    indexed_serial(
+        rows,
+        records::number(store, 36),
+        i + 1,
+        depth_below(rows, i),
+        attribute,
+    )
+}
+
+// Refusals 6 and 7 of an attribute of an element.
+fn attribute_refusal(store: &[u8], element: u32, attribute: u32) -> u32
+    requires { ⌜ passes (now store) ≡ true ⌝ }
+    ensures { λ r. ⌜ AttributeRefused element attribute (storeIn (now (store .entry))) r ⌝ }
+{
+    if attribute as usize >= records::number(store, 28) {
+        return 6;
+    }
+    let i = find_element(store, element);
+    if i >= records::number(store, 36) {
+        return 7;
+    }
+    if owner_of(store, attribute as usize) != definition_at(store, i) {
+        return 6;
+    }
+    0
+}
+
+/// Refusals 3, 6, 7 and 15 of the change that sets an attribute.
+pub fn set_attribute_refusal(store: &[u8], element: u32, attribute: u32, value: &[u8]) -> u32
+    requires { ⌜ passes (now store) ≡ true ⌝ }
+    ensures { λ r. ⌜ r ≡ first (conditions (setAttribute element attribute (now (value .entry))) (storeIn (now (store .entry)))) ⌝ }
+{
+    if !records::is_value(value) {
+        return 3;
+    }
+    let refusal = attribute_refusal(store, element, attribute);
+    if refusal != 0 {
+        return refusal;
+    }
+    let attrs = validity::body(store, 24, 52);
+    if !rowpass::value_may(attrs, attribute as usize, value) {
+        return 15;
+    }
+    0
+}
+
+/// Refusals 6, 7 and 15 of the change that destroys an attribute row.
+pub fn destroy_attribute_row_refusal(store: &[u8], element: u32, attribute: u32) -> u32
+    requires { ⌜ passes (now store) ≡ true ⌝ }
+    ensures { λ r. ⌜ r ≡ first (conditions (destroyAttributeRow element attribute) (storeIn (now (store .entry)))) ⌝ }
+{
+    let refusal = attribute_refusal(store, element, attribute);
+    if refusal != 0 {
+        return refusal;
+    }
+    let i = find_element(store, element);
+    if attribute_at(store, i, attribute as usize) == 0 {
+        return 7;
+    }
+    let attrs = validity::body(store, 24, 52);
+    if rowpass::needs(attrs, definition_at(store, i), attribute as usize) {
+        return 15;
+    }
+    0
+}
+
+/// The serial of the row of an attribute right below an element; 0 if there is none.
+pub fn attribute_serial(store: &[u8], element: u32, attribute: u32) -> u32
+    requires { ⌜ (passes (now store) ≡ true) × AttributeRefused element attribute (storeIn (now store)) 0 ⌝ }
+    ensures { λ r. ⌜ r ≡ attributeSerial element attribute (storeIn (now (store .entry))) ⌝ }
+{
+    attribute_at(store, find_element(store, element), attribute as usize)
 }

@@ -127,7 +127,7 @@ module _ (a : ℕ) (form : Form) (o : Owned) (once : Distinct (map definitionNam
       ∙ sym (before-index (o .attribute .name) x (o .owner .attributes))
 
   -- the same name has the same index
-  name-index : (x : Bytes) → eqb (attributeIndex (o .owner .name) x form) a ≡ same (o .attribute .name) x
+  pub name-index : (x : Bytes) → eqb (attributeIndex (o .owner .name) x form) a ≡ same (o .attribute .name) x
   name-index x = by (same (o .attribute .name) x) refl
     where
       by : (c : Bool) → same (o .attribute .name) x ≡ c → eqb (attributeIndex (o .owner .name) x form) a ≡ same (o .attribute .name) x

@@ -1,9 +1,8 @@
-use mathlib.Core.Path.{_≡_, refl, sym, ap, _∙_}
+use mathlib.Core.Path.{refl, ap, _∙_}
 use native.Mathlib.Omega.{arith}
 use native.Mathlib.Numerals.{add-one}
 use borrow.Author.Tests.{not-true, not-false}
 use Prim.Native.Nat.{ℕ, suc}
-use mathlib.Core.Bool.{Bool}
 use Rattle.finding.specs.Finding.{fitsAt}
 use Rattle.finding.proofs.StoreFacts.{Whole, whole}
 use Rattle.finding.proofs.RefusalLaws.{seen, unseen, row-of}

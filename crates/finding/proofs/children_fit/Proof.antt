@@ -1,14 +1,9 @@
 use borrow.Author.Needs.{needs}
-use mathlib.Core.Path.{_≡_, sym, ap, _∙_}
-use mathlib.Core.Bool.{Bool}
-use mathlib.Core.List.{List, []}
-use Prim.Native.Nat.{ℕ, _+_, _-_}
+use mathlib.Core.Path.{_∙_}
+use Prim.Native.Nat.{_+_, _-_}
 use native.Mathlib.Omega.{arith}
-use Rattle.rules.specs.Decode.{readRow}
-use Rattle.rules.specs.Layout.{FlatRow}
 use Rattle.model.specs.Members.{membersOf}
-use Rattle.model.specs.Steps.{runs}
-use Rattle.finding.specs.Finding.{rowsFrom, children, word}
+use Rattle.finding.specs.Finding.{rowsFrom, children}
 use Rattle.finding.proofs.SuffixLaws.{rowAt, Looking, look-start, look-here, look-past, look-none}
 use Rattle.finding.proofs.StepLaws.{accepted, step-at, word-fails, word-past, word-ends, less-as}
 use Rattle.finding.proofs.children_fit.Statement.{statement}

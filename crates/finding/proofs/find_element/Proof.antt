@@ -1,7 +1,4 @@
 use native.Mathlib.Omega.{arith}
-use mathlib.Core.Path.{_≡_, sym, ap, _∙_, subst}
-use mathlib.Core.List.{List}
-use Prim.Native.Nat.{ℕ}
 use Rattle.finding.proofs.StoreFacts.{whole, element-at-is}
 use borrow.Author.Needs.{needs}
 use Rattle.finding.proofs.find_element.Statement.{statement}

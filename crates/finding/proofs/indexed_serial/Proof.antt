@@ -1,10 +1,9 @@
 use borrow.Author.Needs.{needs}
-use mathlib.Core.Path.{_≡_, sym, ap, _∙_}
-use mathlib.Core.List.{List, []}
+use mathlib.Core.Path.{sym, ap, _∙_}
+use mathlib.Core.List.{List}
 use Prim.Native.Nat.{ℕ, _+_, _-_}
 use native.Mathlib.Omega.{arith}
 use Rattle.rules.specs.Decode.{numberAt}
-use Rattle.rowpass.specs.Reading.{recordAt}
 use Rattle.finding.specs.Finding.{rowsFrom, children, serialOf}
 use Rattle.finding.proofs.SuffixLaws.{rowAt, Looking, look-start, look-here, look-past, look-none}
 use Rattle.finding.proofs.SerialLaws.{indexed-this, indexed-next}

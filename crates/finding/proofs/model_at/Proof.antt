@@ -1,6 +1,4 @@
-use mathlib.Core.Path.{ap, ap₂, _∙_}
-use mathlib.Core.List.{List}
-use Prim.Native.Nat.{ℕ}
+use mathlib.Core.Path.{ap, _∙_}
 use Rattle.model.specs.Members.{membersOf}
 use Rattle.rowpass.specs.Reading.{modelPart}
 use borrow.Author.Needs.{needs}

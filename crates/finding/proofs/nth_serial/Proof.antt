@@ -1,12 +1,10 @@
 use borrow.Author.Needs.{needs}
-use mathlib.Core.Path.{_≡_, sym, ap, _∙_}
-use mathlib.Core.List.{List, [], map}
+use mathlib.Core.Path.{sym, ap, _∙_}
+use mathlib.Core.List.{List}
 use Prim.Native.Nat.{ℕ, _+_, _-_}
 use native.Mathlib.Omega.{arith}
 use Rattle.rules.specs.Decode.{numberAt}
-use Rattle.rules.specs.Layout.{FlatRow}
-use Rattle.rules.specs.Lines.{serialAt}
-use Rattle.finding.specs.Finding.{rowsFrom, children, serialIn}
+use Rattle.finding.specs.Finding.{rowsFrom, children}
 use Rattle.finding.proofs.SuffixLaws.{rowAt, Looking, look-start, look-here, look-past, look-none}
 use Rattle.finding.proofs.SerialLaws.{nth, nth-nil, nth-next, nth-this}
 use Rattle.finding.proofs.nth_serial.Statement.{statement}

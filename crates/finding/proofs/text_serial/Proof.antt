@@ -1,4 +1,3 @@
-use native.Mathlib.Omega.{arith}
 use Rattle.finding.proofs.StoreFacts.{Whole, whole, element-there}
 use Rattle.finding.proofs.RefusalLaws.{row-of}
 use Rattle.finding.proofs.ElementRefusals.{there, text-serial}

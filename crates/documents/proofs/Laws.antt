@@ -5,6 +5,9 @@ use native.Mathlib.Omega.{arith}
 use mathlib.Core.Path.{_≡_, refl, sym, ap, _∙_, subst}
 use mathlib.Core.Bool.{Bool, true, false, not, false≢true}
 use mathlib.Core.List.{List, [], _∷_}
+use mathlib.Core.Option.{Option}
+use mathlib.Core.Logic.{⊎-elim}
+use lib.Dec.{eqb}
 use lib.ListN.{length, length-map}
 use borrow.Author.Tests.{ne-eqb}
 use Rattle.rules.specs.Bytes.{Bytes}
@@ -12,8 +15,10 @@ use Rattle.rules.specs.Store.{Store}
 use Rattle.rules.specs.Layout.{FlatStore, flat, flatDefinition}
 use Rattle.rules.specs.WellFormed.{isValue}
 use Rattle.rules.specs.Passing.{good, passes}
-use Rattle.rules.specs.Change.{Call, addDocument, addElement, destroyElement, setAttribute, destroyAttributeRow, setText, after}
-use Rattle.rules.specs.Refusal.{first, conditions, noElement}
+use Rattle.rules.specs.Change.{Call, addDocument, addElement, destroyElement, setAttribute, destroyAttributeRow, setText, Owned, after}
+use Rattle.rules.specs.Decode.{attributeCount}
+use Rattle.rules.specs.Lines.{elementWith, findRow}
+use Rattle.rules.specs.Refusal.{first, conditions, rowsOf, noElement, isOther, unknownAttribute}
 use Rattle.rules.specs.Outcome.{Outcome, outcome, Answers}
 use Rattle.rules.proofs.DecodeLaws.{good-parts}
 use Rattle.history.proofs.Conditions.{not-false, not-past}
@@ -29,6 +34,10 @@ use Rattle.storing.specs.Stores.{storeIn, limited}
 use Rattle.storing.specs.Planned.{planned}
 use Rattle.storing.specs.Writing.{Sized}
 use Rattle.storing.proofs.StoreLaws.{Holds, holds}
+use Rattle.validity.proofs.AttributeBlocks.{below-or}
+use Rattle.finding.specs.Finding.{AttributeRefused}
+use Rattle.finding.proofs.StoreFacts.{Whole, whole}
+use Rattle.finding.proofs.AttributeRefusals.{unowned}
 use Rattle.plans.specs.CallPlans.{fillingPlan, takingPlan, settingPlan, textSerial, childSerial, attributeSerial, addDocumentPlan, addElementPlan, destroyElementPlan, setAttributePlan, destroyAttributeRowPlan, setTextPlan}
 use Rattle.plans.proofs.CallsPlanned.{none-holds}
 use Rattle.storing.proofs.CallLaws.{answers-as, answers-bad, answers-refused, answers-written}
@@ -66,6 +75,20 @@ few-definitions s g = omega (arith, length-map (s .form) (flatDefinition (s .for
 
 unmoved-small : (p : Plan) → p .definitions .more ≡ 0 → p .attributes .more ≡ 0 → Planned p
 unmoved-small p d a = record { definitions = record { more = omega (arith, d) }; attributes = record { more = omega (arith, a) } }
+
+-- an attribute that is known has a small index
+attribute-few : (bs : Bytes) (k a : ℕ) → passes bs ≡ true → unknownAttribute k a (storeIn bs) ≡ false → a < 65536
+attribute-few bs k a q known = ⊎-elim (λ (l : a < attributeCount bs). omega (arith, w .fewAttributes)) (λ (l : attributeCount bs ≤ a). absurd (false≢true (sym known ∙ ap (λ (o : Option Owned). isOther o (findRow (elementWith k) (rowsOf (storeIn bs)))) (unowned bs w a l)))) (below-or a (attributeCount bs))
+  where
+    w : Whole bs
+    w = whole bs q
+
+set-sized : (k a m : ℕ) → a < 65536 → Sized (setAttributePlan k a m)
+set-sized k a m l = by (eqb m 0)
+  where
+    by : (t : Bool) → Sized (elim t [ true ↦ fillingPlan (Serial k) (Past a) (Attribute a) | false ↦ settingPlan m ])
+    by true = record { moves = unmoved-small (fillingPlan (Serial k) (Past a) (Attribute a)) refl refl; filling = l }
+    by false = record { moves = unmoved-small (settingPlan m) refl refl; filling = tt }
 
 abbrev Asks : Bytes → Bytes → Plan → Type 0
 Asks bs v p = (passes bs ≡ true) × (isValue baseWidth v ≡ true) × Sized p
@@ -105,6 +128,19 @@ module _ (bs : Bytes) {b : Bool} {m : ℕ} (h : not b ≡ false) (e : b ≡ pass
   set-text-there k t f z =
       let (text, (there, more)) = none-holds (setText k t) (storeIn bs) (sym f ∙ z) in
       (passed bs h e, there)
+
+  pub set-attribute-there : (k a : ℕ) (v : Bytes) → m ≡ first (conditions (setAttribute k a v) (storeIn bs)) → m ≡ 0 → (passes bs ≡ true) × AttributeRefused k a (storeIn bs) 0
+  unfolding conditions
+  set-attribute-there k a v f z =
+      let (value, (known, (there, more))) = none-holds (setAttribute k a v) (storeIn bs) (sym f ∙ z) in
+      (passed bs h e, record { is = rw (known, there) })
+
+  pub set-attribute-asks : (k a : ℕ) (v : Bytes) {q : Plan} → m ≡ first (conditions (setAttribute k a v) (storeIn bs)) → m ≡ 0 → q ≡ setAttributePlan k a (attributeSerial k a (storeIn bs)) → Asks bs v q
+  unfolding conditions
+  set-attribute-asks k a v {q} f z same =
+      let kept : Holds bs = holds bs (passed bs h e) in
+      let (value, (known, more)) = none-holds (setAttribute k a v) (storeIn bs) (sym f ∙ z) in
+      (passed bs h e, not-false (isValue baseWidth v) value, subst Sized (sym same) (set-sized k a (attributeSerial k a (storeIn bs)) (attribute-few bs k a (passed bs h e) known)))
 
   -- a call without a text: none is used
   pub takes-asks : (c : Call) (w : Which) (x : Which) {q : Plan} → m ≡ first (conditions c (storeIn bs)) → m ≡ 0 → q ≡ takingPlan w x → Asks bs [] q

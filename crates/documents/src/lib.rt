@@ -156,6 +156,44 @@ pub fn destroy_element(store: &[u8], element: u32, out: &mut [u8]) -> Answer
     storing::edit(store, plan, &store[..0], out)
 }
 
+/// 14: sets an attribute of an element; a row that is there keeps its serial.
+pub fn set_attribute(
+    store: &[u8],
+    element: u32,
+    attribute: u32,
+    value: &[u8],
+    out: &mut [u8],
+) -> Answer
+    ensures { λ r. ⌜ Answers (outcome (setAttribute element attribute (now (value .entry))) (now (store .entry)) (length (now (out .entry)))) (now (out .entry)) (r .number) (r .length) (now (out .exit)) ⌝ }
+{
+    if !validity::passes(store) {
+        return refused(1);
+    }
+    let number = finding::set_attribute_refusal(store, element, attribute, value);
+    if number != 0 {
+        return refused(number);
+    }
+    let row = finding::attribute_serial(store, element, attribute);
+    let plan = set_attribute_plan(element, attribute as usize, row);
+    storing::edit(store, plan, value, out)
+}
+
+/// 15: destroys the row of an attribute of an element.
+pub fn destroy_attribute_row(store: &[u8], element: u32, attribute: u32, out: &mut [u8]) -> Answer
+    ensures { λ r. ⌜ Answers (outcome (destroyAttributeRow element attribute) (now (store .entry)) (length (now (out .entry)))) (now (out .entry)) (r .number) (r .length) (now (out .exit)) ⌝ }
+{
+    if !validity::passes(store) {
+        return refused(1);
+    }
+    let number = finding::destroy_attribute_row_refusal(store, element, attribute);
+    if number != 0 {
+        return refused(number);
+    }
+    let takes = Which::Attributes(attribute as usize);
+    let plan = taking_plan(Which::Serial(element), takes);
+    storing::edit(store, plan, &store[..0], out)
+}
+
 /// 16: sets the text of a PCDATA element.
 pub fn set_text(store: &[u8], element: u32, text: &[u8], out: &mut [u8]) -> Answer
     ensures { λ r. ⌜ Answers (outcome (setText element (now (text .entry))) (now (store .entry)) (length (now (out .entry)))) (now (out .entry)) (r .number) (r .length) (now (out .exit)) ⌝ }

@@ -24,8 +24,8 @@ use Rattle.lookup.specs.Bodies.{bodiesOf}
 use Rattle.validity.proofs.AttributeBlocks.{below-or}
 use Rattle.storing.specs.Stores.{storeIn}
 use Rattle.finding.proofs.StoreFacts.{formIn, Whole}
-use Rattle.placing.specs.Placing.{attributeBody, ownNamed}
-use Rattle.placing.proofs.FirstLaws.{First, hit, next, none-holds, test-is, not-is}
+use Rattle.placing.specs.Placing.{attributeBody, ownNamed, First}
+use Rattle.placing.proofs.FirstLaws.{hit, next, none-holds, test-is, not-is}
 
 -- ---- attributes of a form
 pub any-append : {A : Type 0} (p : A → Bool) (xs ys : List A) → any p (xs ++ ys) ≡ (any p xs || any p ys)

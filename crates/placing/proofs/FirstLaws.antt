@@ -5,10 +5,7 @@ use mathlib.Core.Path.{_≡_, refl, sym, ap, _∙_}
 use mathlib.Core.Bool.{Bool, true, false, not}
 use mathlib.Core.List.{List, [], _∷_}
 use Rattle.rules.specs.Refusal.{Condition, _if_, first}
-
--- n is the number of the first condition that holds, 0 if none does
-pub record First (n : ℕ) (cs : List Condition) : Type 0 where
-  pub is : n ≡ first cs
+use Rattle.placing.specs.Placing.{First}
 
 pub hit : {n : ℕ} {b : Bool} {cs : List Condition} → b ≡ true → First n ((n if b) ∷ cs)
 hit {n} {b} {cs} e = record { is = rw e }

@@ -4,3 +4,6 @@ pub mod AttributeLaws
 pub mod OwnParts
 pub mod PlaceLaws
 pub mod InstanceLaws
+pub mod PickLaws
+pub mod CountLaws
+pub mod GroupLaws

@@ -2,20 +2,26 @@
 -- Assumes nothing.
 use Prim.Native.Nat.{ℕ, _+_, _*_, _≤_}
 use mathlib.Core.Path.{_≡_}
-use mathlib.Core.Bool.{Bool, true, false, _&&_}
+use mathlib.Core.Bool.{Bool, true, false, _&&_, _||_, not}
 use mathlib.Core.Option.{Option, none, some}
 use mathlib.Core.List.{List}
 use lib.Dec.{eqb, leb}
 use lib.ListN.{length, drop}
+use Rattle.rules.specs.declared.Quantifier.{Quantifier}
+use Rattle.rules.specs.declared.GroupKind.{GroupKind}
 use Rattle.rules.specs.declared.GroupKind.the-variants.{Sequence}
 use Rattle.rules.specs.Bytes.{Bytes, same}
-use Rattle.rules.specs.Model.{Members, rename}
+use Rattle.rules.specs.Model.{Members, el, group, rename}
 use Rattle.rules.specs.Store.{members}
 use Rattle.rules.specs.Preorder.{Deep}
-use Rattle.rules.specs.Layout.{headerSize, definitionSize, particleSize, FlatAttribute, FlatRow, indexOf}
+use Rattle.rules.specs.Layout.{headerSize, definitionSize, particleSize, FlatAttribute, FlatRow, indexOf, howMany}
 use Rattle.rules.specs.Decode.{definitionCount, particleCount}
 use Rattle.rules.specs.Place.{Context, Found as Spot, gap, nth, find, plug, kindAt, spine, renameAround}
+use Rattle.rules.specs.Edit.{sameKind}
 use Rattle.rules.specs.Change.{definitionAt}
+use Rattle.rules.specs.Refusal.{Condition, first}
+use Rattle.model.specs.declared.What.{What}
+use Rattle.model.specs.declared.What.the-variants as what
 use Rattle.model.specs.declared.place.Holder.{Holder}
 use Rattle.model.specs.Members.{particlesOf, membersFrom}
 use Rattle.model.specs.Places.{top}
@@ -23,6 +29,8 @@ use Rattle.model.specs.Positions.{spread, offset, holder}
 use Rattle.rowpass.specs.Reading.{modelPart}
 use Rattle.validity.specs.Check.{definitionsIn, particlesIn}
 use Rattle.storing.specs.Stores.{storeIn}
+use Rattle.placing.specs.declared.Picked.{Picked}
+use Rattle.placing.specs.declared.Picked.the-variants as pick
 
 -- ---- attributes
 unfoldable pub attributeBody : Bytes → Bytes
@@ -68,3 +76,44 @@ pub record Placed (bs : Bytes) (o : ℕ) (insert : Bool) (place : List ℕ) (h :
   pub kind : h .kind ≡ kindAt Sequence (found .context)
   pub spine : h .spine ≡ spine (found .context)
   pub picked : membersFrom (h .depth) (drop (4 * p) (partIn bs o)) ≡ rename (indexIn bs) (found .picked)
+
+-- ---- what stands there
+abbrev pub pickOf : Holder → ℕ → Quantifier → What → Picked
+pickOf h p q (what.Element i) = pick.Element h p q
+pickOf h p q (what.Group k n) = pick.Group h p q k n
+
+pub record ElementAt (bs : Bytes) (o : ℕ) (place : List ℕ) (h : Holder) (p : ℕ) (q : Quantifier) : Type 0 where
+  pub placed : Placed bs o false place h p
+  pub name : Bytes
+  pub rest : Members Bytes
+  pub is : placed .found .picked ≡ el q name rest
+
+-- n: how many members it has
+pub record GroupAt (bs : Bytes) (o : ℕ) (place : List ℕ) (h : Holder) (p : ℕ) (q : Quantifier) (k : GroupKind) (n : ℕ) : Type 0 where
+  pub placed : Placed bs o false place h p
+  pub inner : Members Bytes
+  pub rest : Members Bytes
+  pub is : placed .found .picked ≡ group q k inner rest
+  pub many : n ≡ howMany inner
+
+abbrev pub Picks : Bytes → ℕ → List ℕ → Picked → Type 0
+Picks bs o place (pick.Element h p q) = ElementAt bs o place h p q
+Picks bs o place (pick.Group h p q k n) = GroupAt bs o place h p q k n
+Picks bs o place pick.Absent = foundBy false place (modelIn bs o) ≡ none
+
+pub record Picking (bs : Bytes) (o : ℕ) (place : List ℕ) (r : Picked) : Type 0 where
+  pub is : Picks bs o place r
+
+abbrev pub oneIf : Bool → ℕ
+oneIf true = 1
+oneIf false = 0
+
+-- ---- groups
+-- n members of a list cannot be a group of kind k
+abbrev pub unlikeKind : GroupKind → GroupKind → ℕ → Bool
+unlikeKind list k n = not (sameKind k list || eqb n 1)
+
+-- ---- conditions
+-- n is the number of the first condition that holds, 0 if none does
+pub record First (n : ℕ) (cs : List Condition) : Type 0 where
+  pub is : n ≡ first cs

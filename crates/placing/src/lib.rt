@@ -1,18 +1,28 @@
 //! Which refusal of the changes 4 to 10 applies to a store that passes.
+use model::What;
+use model::place::Found;
+use model::place::Holder;
+use rules::GroupKind;
+use rules::Quantifier;
 ghost use mathlib.Core.Path.{_≡_};
-ghost use mathlib.Core.Bool.{true};
-ghost use Prim.Native.Nat.{_<_};
-ghost use lib.ListN.{length};
+ghost use mathlib.Core.Bool.{true, _||_, not};
+ghost use mathlib.Core.List.{[], _∷_};
+ghost use Prim.Native.Nat.{_*_, _<_, _≤_};
+ghost use lib.ListN.{length, drop};
 ghost use Rattle.rules.specs.Bytes.{any};
-ghost use Rattle.rules.specs.Decode.{readAttribute, readRow, readMany, rowCount};
+ghost use Rattle.rules.specs.Layout.{howMany};
+ghost use Rattle.rules.specs.Edit.{sameKind, isOne};
+ghost use Rattle.rules.specs.Decode.{readParticle, readAttribute, readRow, readMany, definitionCount, rowCount};
 ghost use Rattle.rules.specs.Passing.{passes};
-ghost use Rattle.rules.specs.Change.{addAttribute, destroyAttribute};
-ghost use Rattle.rules.specs.Refusal.{first, conditions, wrongDefault};
+ghost use Rattle.rules.specs.Change.{flattenGroup, addAttribute, destroyAttribute};
+ghost use Rattle.rules.specs.Refusal.{_if_, first, conditions, wrongDefault};
+ghost use Rattle.model.specs.Members.{membersFrom};
+ghost use Rattle.model.specs.Particle.{particleOf};
 ghost use Rattle.rowpass.specs.Reading.{recordAt};
 ghost use Rattle.validity.specs.Check.{rowsIn};
 ghost use Rattle.lookup.specs.Bodies.{bodiesOf};
 ghost use Rattle.storing.specs.Stores.{storeIn};
-ghost use Rattle.placing.specs.Placing.{attributeBody, ownNamed, instanceRow};
+ghost use Rattle.placing.specs.Placing.{attributeBody, ownNamed, instanceRow, partIn, pickOf, Picking, oneIf, unlikeKind, First};
 
 // ---- attributes
 // The record of attribute i.
@@ -76,6 +86,138 @@ fn instance_exists(store: &[u8], definition: u32) -> bool
         i += 1;
     }
     false
+}
+
+// ---- places
+/// What a place leads to in a model: an element or a group with its kind and its number of members. Each with the list that
+/// holds it, its particle and its quantifier.
+pub enum Picked {
+    Element(Holder, usize, Quantifier),
+    Group(Holder, usize, Quantifier, GroupKind, usize),
+    Absent,
+}
+
+// A definition's part of the particle body.
+fn own_part(store: &[u8], owner: u32) -> &[u8]
+    requires { ⌜ owner ≤ 256 ⌝ }
+    ensures { λ r. ⌜ now r ≡ partIn (now (store .entry)) owner ⌝ }
+{
+    let definitions = validity::body(store, 8, 20);
+    let particles = validity::body(store, 16, 4);
+    rowpass::model_part(definitions, particles, owner as usize)
+}
+
+// What stands at particle p of the list h.
+fn pick_at(part: &[u8], h: Holder, p: usize) -> Picked
+    requires { ⌜ 4 * p ≤ length (now part) ⌝ }
+    ensures { λ r. ⌜ r ≡ pickOf h p (particleOf (readParticle (drop (4 * p) (now (part .entry)))) .quantifier) (particleOf (readParticle (drop (4 * p) (now (part .entry)))) .what) ⌝ }
+{
+    let x = model::read_particle(part, 4 * p);
+    let what = x.what;
+    let q = x.quantifier;
+    match what {
+        What::Element(_) => Picked::Element(h, p, q),
+        What::Group(kind, n) => Picked::Group(h, p, q, kind, n),
+    }
+}
+
+// What a place leads to in a definition's model.
+fn pick(store: &[u8], owner: u32, place: &[u32]) -> Picked
+    requires { ⌜ (passes (now store) ≡ true) × (owner < definitionCount (now store)) ⌝ }
+    ensures { λ r. ⌜ Picking (now (store .entry)) owner (now (place .entry)) r ⌝ }
+{
+    let part = own_part(store, owner);
+    let found = model::place::find(part, place, false);
+    match found {
+        Found::Absent => Picked::Absent,
+        Found::At(h, p) => pick_at(part, h, p),
+    }
+}
+
+fn one_if(b: bool) -> usize
+    ensures { λ r. ⌜ r ≡ oneIf b ⌝ }
+{
+    if b { 1 } else { 0 }
+}
+
+// How many members of depth d s begins with.
+fn count_members(s: &[u8], d: usize) -> usize
+    ensures { λ r. ⌜ r ≡ howMany (membersFrom d (now (s .entry))) ⌝ }
+{
+    let mut t = s;
+    let mut n = 0;
+    while t.len() >= 4 {
+        let depth = codec::byte(t, 3) as usize;
+        if depth < d {
+            return n;
+        }
+        n += one_if(depth == d);
+        t = &t[4..];
+    }
+    n
+}
+
+// ---- groups
+fn same_kind(a: GroupKind, b: GroupKind) -> bool
+    ensures { λ r. ⌜ r ≡ sameKind a b ⌝ }
+{
+    match a {
+        GroupKind::Sequence => match b {
+            GroupKind::Sequence => true,
+            GroupKind::Choice => false,
+        },
+        GroupKind::Choice => match b {
+            GroupKind::Sequence => false,
+            GroupKind::Choice => true,
+        },
+    }
+}
+
+fn is_one(q: Quantifier) -> bool
+    ensures { λ r. ⌜ r ≡ isOne q ⌝ }
+{
+    match q {
+        Quantifier::None => true,
+        Quantifier::Qmark => false,
+        Quantifier::Star => false,
+        Quantifier::Plus => false,
+    }
+}
+
+// Whether n members of a list cannot be a group of a kind.
+fn unlike(list: GroupKind, kind: GroupKind, n: usize) -> bool
+    ensures { λ r. ⌜ r ≡ unlikeKind list kind n ⌝ }
+{
+    !(same_kind(kind, list) | (n == 1))
+}
+
+// Refusal 14 of a group of n members that is flattened into a list.
+fn flatten_at(list: GroupKind, q: Quantifier, kind: GroupKind, n: usize) -> u32
+    ensures { λ r. ⌜ First r (14 if (not (isOne q) || unlikeKind list kind n) ∷ []) ⌝ }
+{
+    if !is_one(q) | unlike(list, kind, n) {
+        return 14;
+    }
+    0
+}
+
+/// Refusals 6, 8 and 14 of the change that flattens a group.
+pub fn flatten_group_refusal(store: &[u8], owner: u32, place: &[u32]) -> u32
+    requires { ⌜ passes (now store) ≡ true ⌝ }
+    ensures { λ r. ⌜ r ≡ first (conditions (flattenGroup owner (now (place .entry))) (storeIn (now (store .entry)))) ⌝ }
+{
+    if owner as usize >= records::number(store, 12) {
+        return 6;
+    }
+    let x = pick(store, owner, place);
+    match x {
+        Picked::Element(_, _, _) => 8,
+        Picked::Group(h, _, q, kind, n) => {
+            let list = h.kind;
+            flatten_at(list, q, kind, n)
+        }
+        Picked::Absent => 8,
+    }
 }
 
 /// Refusals 2, 3, 4, 5, 6 and 12 of the change that adds an attribute.

@@ -7,3 +7,4 @@ pub mod InstanceLaws
 pub mod PickLaws
 pub mod CountLaws
 pub mod GroupLaws
+pub mod ConvertLaws

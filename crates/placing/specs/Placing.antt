@@ -4,7 +4,7 @@ use Prim.Native.Nat.{ℕ, _+_, _*_, _≤_}
 use mathlib.Core.Path.{_≡_}
 use mathlib.Core.Bool.{Bool, true, false, _&&_, _||_, not}
 use mathlib.Core.Option.{Option, none, some}
-use mathlib.Core.List.{List}
+use mathlib.Core.List.{List, [], _∷_}
 use lib.Dec.{eqb, leb}
 use lib.ListN.{length, drop}
 use Rattle.rules.specs.declared.Quantifier.{Quantifier}
@@ -17,9 +17,9 @@ use Rattle.rules.specs.Preorder.{Deep}
 use Rattle.rules.specs.Layout.{headerSize, definitionSize, particleSize, FlatAttribute, FlatRow, indexOf, howMany}
 use Rattle.rules.specs.Decode.{definitionCount, particleCount}
 use Rattle.rules.specs.Place.{Context, Found as Spot, gap, nth, find, plug, kindAt, spine, renameAround}
-use Rattle.rules.specs.Edit.{sameKind}
+use Rattle.rules.specs.Edit.{sameKind, lone, firstMembers, hasMembers}
 use Rattle.rules.specs.Change.{definitionAt}
-use Rattle.rules.specs.Refusal.{Condition, first}
+use Rattle.rules.specs.Refusal.{Condition, _if_, first}
 use Rattle.model.specs.declared.What.{What}
 use Rattle.model.specs.declared.What.the-variants as what
 use Rattle.model.specs.declared.place.Holder.{Holder}
@@ -112,6 +112,10 @@ oneIf false = 0
 -- n members of a list cannot be a group of kind k
 abbrev pub unlikeKind : GroupKind → GroupKind → ℕ → Bool
 unlikeKind list k n = not (sameKind k list || eqb n 1)
+
+-- rows 8 and 14 of change 6: n members from the first of t on, in a list of a kind, become a group of kind k
+abbrev pub convertTests : {A : Type 0} → GroupKind → GroupKind → ℕ → Members A → List Condition
+convertTests list k n t = 8 if not (hasMembers n t) ∷ 14 if not (sameKind k list || lone (firstMembers n t)) ∷ []
 
 -- ---- conditions
 -- n is the number of the first condition that holds, 0 if none does

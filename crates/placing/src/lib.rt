@@ -12,9 +12,9 @@ ghost use lib.ListN.{length, drop};
 ghost use Rattle.rules.specs.Bytes.{any};
 ghost use Rattle.rules.specs.Layout.{howMany};
 ghost use Rattle.rules.specs.Edit.{sameKind, isOne};
-ghost use Rattle.rules.specs.Decode.{readParticle, readAttribute, readRow, readMany, definitionCount, rowCount};
+ghost use Rattle.rules.specs.Decode.{groupOf, readParticle, readAttribute, readRow, readMany, definitionCount, rowCount};
 ghost use Rattle.rules.specs.Passing.{passes};
-ghost use Rattle.rules.specs.Change.{flattenGroup, addAttribute, destroyAttribute};
+ghost use Rattle.rules.specs.Change.{convertToGroup, flattenGroup, addAttribute, destroyAttribute};
 ghost use Rattle.rules.specs.Refusal.{_if_, first, conditions, wrongDefault};
 ghost use Rattle.model.specs.Members.{membersFrom};
 ghost use Rattle.model.specs.Particle.{particleOf};
@@ -22,7 +22,7 @@ ghost use Rattle.rowpass.specs.Reading.{recordAt};
 ghost use Rattle.validity.specs.Check.{rowsIn};
 ghost use Rattle.lookup.specs.Bodies.{bodiesOf};
 ghost use Rattle.storing.specs.Stores.{storeIn};
-ghost use Rattle.placing.specs.Placing.{attributeBody, ownNamed, instanceRow, partIn, pickOf, Picking, oneIf, unlikeKind, First};
+ghost use Rattle.placing.specs.Placing.{attributeBody, ownNamed, instanceRow, partIn, pickOf, Picking, oneIf, unlikeKind, convertTests, First};
 
 // ---- attributes
 // The record of attribute i.
@@ -199,6 +199,58 @@ fn flatten_at(list: GroupKind, q: Quantifier, kind: GroupKind, n: usize) -> u32
         return 14;
     }
     0
+}
+
+fn group_kind(sort: u32) -> GroupKind
+    ensures { λ r. ⌜ r ≡ groupOf sort ⌝ }
+{
+    match sort {
+        0 => GroupKind::Sequence,
+        1 => GroupKind::Sequence,
+        _ => GroupKind::Choice,
+    }
+}
+
+// Refusals 8 and 14 of members from particle p of the list h on that become a group.
+fn convert_at(part: &[u8], h: Holder, p: usize, count: u32, kind: GroupKind) -> u32
+    requires { ⌜ 4 * p ≤ length (now part) ⌝ }
+    ensures { λ r. ⌜ First r (convertTests (h .kind) kind count (membersFrom (h .depth) (drop (4 * p) (now (part .entry))))) ⌝ }
+{
+    let n = count_members(records::after(part, 4 * p), h.depth);
+    let list = h.kind;
+    if (count == 0) | (count as usize > n) {
+        return 8;
+    }
+    if unlike(list, kind, count as usize) {
+        return 14;
+    }
+    0
+}
+
+/// Refusals 4, 6, 8 and 14 of the change that converts members into a group.
+pub fn convert_to_group_refusal(
+    store: &[u8],
+    owner: u32,
+    place: &[u32],
+    count: u32,
+    sort: u32,
+) -> u32
+    requires { ⌜ passes (now store) ≡ true ⌝ }
+    ensures { λ r. ⌜ r ≡ first (conditions (convertToGroup owner (now (place .entry)) count sort) (storeIn (now (store .entry)))) ⌝ }
+{
+    if !((sort == 1) | (sort == 2)) {
+        return 4;
+    }
+    if owner as usize >= records::number(store, 12) {
+        return 6;
+    }
+    let part = own_part(store, owner);
+    let kind = group_kind(sort);
+    let found = model::place::find(part, place, false);
+    match found {
+        Found::Absent => 8,
+        Found::At(h, p) => convert_at(part, h, p, count, kind),
+    }
 }
 
 /// Refusals 6, 8 and 14 of the change that flattens a group.

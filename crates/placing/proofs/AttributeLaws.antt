@@ -196,19 +196,15 @@ module _ (bs : Bytes) (w : Whole bs) where
               add-0 h = next h₂ (next h₃ (next (le-ltb 2 k h₄) (next (sym (own-named o n) ∙ h₅) (next h₆ (next h none-holds)))))
 
 -- ---- a default
+pub none-long : (v : Bytes) → eqb (length v) 0 ≡ isNone v
+none-long [] = refl
+none-long (x ∷ xs) = ne-eqb (length (x ∷ xs)) 0 (λ z. omega arith)
+
 pub default-0 : {k : ℕ} (v : Bytes) → k ≡ 0 → not (eqb (length v) 0) ≡ wrongDefault k v
-default-0 {k} v e = by v ∙ ap (λ (z : ℕ). wrongDefault z v) (sym e)
-  where
-    by : (v : Bytes) → not (eqb (length v) 0) ≡ not (isNone v)
-    by [] = refl
-    by (x ∷ xs) = ap not (ne-eqb (length (x ∷ xs)) 0 (λ z. omega arith))
+default-0 {k} v e = ap not (none-long v) ∙ ap (λ (z : ℕ). wrongDefault z v) (sym e)
 
 pub default-1 : {k : ℕ} (v : Bytes) → k ≡ 1 → eqb (length v) 0 ≡ wrongDefault k v
-default-1 {k} v e = by v ∙ ap (λ (z : ℕ). wrongDefault z v) (sym e)
-  where
-    by : (v : Bytes) → eqb (length v) 0 ≡ isNone v
-    by [] = refl
-    by (x ∷ xs) = ne-eqb (length (x ∷ xs)) 0 (λ z. omega arith)
+default-1 {k} v e = none-long v ∙ ap (λ (z : ℕ). wrongDefault z v) (sym e)
 
 pub default-2 : (k : ℕ) (v : Bytes) → (k ≡ 0 → ⊥) → (k ≡ 1 → ⊥) → false ≡ wrongDefault k v
 default-2 zero v e f = absurd (e refl)

@@ -8,3 +8,4 @@ pub mod PickLaws
 pub mod CountLaws
 pub mod GroupLaws
 pub mod ConvertLaws
+pub mod QuantifierLaws

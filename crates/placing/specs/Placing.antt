@@ -5,17 +5,19 @@ use mathlib.Core.Path.{_≡_}
 use mathlib.Core.Bool.{Bool, true, false, _&&_, _||_, not}
 use mathlib.Core.Option.{Option, none, some}
 use mathlib.Core.List.{List, [], _∷_}
-use lib.Dec.{eqb, leb}
+use lib.Dec.{eqb, leb, ltb}
 use lib.ListN.{length, drop}
 use Rattle.rules.specs.declared.Quantifier.{Quantifier}
 use Rattle.rules.specs.declared.GroupKind.{GroupKind}
 use Rattle.rules.specs.declared.GroupKind.the-variants.{Sequence}
-use Rattle.rules.specs.Bytes.{Bytes, same}
+use Rattle.rules.specs.Bytes.{Bytes, same, any, isNone}
 use Rattle.rules.specs.Model.{Members, el, group, rename}
+use Rattle.rules.specs.Quantifiers.{relaxes, gains, cuts}
 use Rattle.rules.specs.Store.{members}
 use Rattle.rules.specs.Preorder.{Deep}
 use Rattle.rules.specs.Layout.{headerSize, definitionSize, particleSize, FlatAttribute, FlatRow, indexOf, howMany}
-use Rattle.rules.specs.Decode.{definitionCount, particleCount}
+use Rattle.rules.specs.Decode.{readRow, readMany, definitionCount, particleCount, rowCount}
+use Rattle.rules.specs.WellFormed.{isValue}
 use Rattle.rules.specs.Place.{Context, Found as Spot, gap, nth, find, plug, kindAt, spine, renameAround}
 use Rattle.rules.specs.Edit.{sameKind, lone, firstMembers, hasMembers}
 use Rattle.rules.specs.Change.{definitionAt}
@@ -27,7 +29,7 @@ use Rattle.model.specs.Members.{particlesOf, membersFrom}
 use Rattle.model.specs.Places.{top}
 use Rattle.model.specs.Positions.{spread, offset, holder}
 use Rattle.rowpass.specs.Reading.{modelPart}
-use Rattle.validity.specs.Check.{definitionsIn, particlesIn}
+use Rattle.validity.specs.Check.{definitionsIn, particlesIn, rowsIn}
 use Rattle.storing.specs.Stores.{storeIn}
 use Rattle.placing.specs.declared.Picked.{Picked}
 use Rattle.placing.specs.declared.Picked.the-variants as pick
@@ -44,6 +46,9 @@ ownNamed o n a = eqb (a .owner) o && same n (a .name)
 -- an element row of definition o
 abbrev pub instanceRow : ℕ → Deep FlatRow → Bool
 instanceRow o x = eqb (x .row .sort) 1 && eqb (x .row .index) o
+
+abbrev pub hasInstance : Bytes → ℕ → Bool
+hasInstance bs o = any (instanceRow o) (readMany readRow 44 (rowCount bs) (rowsIn bs))
 
 -- ---- places
 -- the index of a name
@@ -116,6 +121,18 @@ unlikeKind list k n = not (sameKind k list || eqb n 1)
 -- rows 8 and 14 of change 6: n members from the first of t on, in a list of a kind, become a group of kind k
 abbrev pub convertTests : {A : Type 0} → GroupKind → GroupKind → ℕ → Members A → List Condition
 convertTests list k n t = 8 if not (hasMembers n t) ∷ 14 if not (sameKind k list || lone (firstMembers n t)) ∷ []
+
+-- ---- quantifiers
+-- row 13 of changes 5 and 8: without an instance
+abbrev pub isOff : Bool → Quantifier → Quantifier → Bool → Bool
+isOff spine old new isGroup = (not (relaxes old new) && not spine) || (isGroup && cuts old new)
+
+-- rows 3, 4 and 6 of changes 5 and 8, then rows 12 and 13
+abbrev pub earlyTests : ℕ → ℕ → Bytes → Bytes → List Condition
+earlyTests o q t bs = 3 if not (isValue 32 t) ∷ 4 if ltb 3 q ∷ 6 if not (ltb o (definitionCount bs)) ∷ []
+
+abbrev pub quantifierTests : Bool → Bool → Quantifier → Quantifier → Bytes → Bool → List Condition
+quantifierTests exists spine old new t isGroup = 12 if (gains old new && isNone t) ∷ 13 if (exists && isOff spine old new isGroup) ∷ []
 
 -- ---- conditions
 -- n is the number of the first condition that holds, 0 if none does

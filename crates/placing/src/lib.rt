@@ -10,19 +10,20 @@ ghost use mathlib.Core.List.{[], _∷_};
 ghost use Prim.Native.Nat.{_*_, _<_, _≤_};
 ghost use lib.ListN.{length, drop};
 ghost use Rattle.rules.specs.Bytes.{any};
+ghost use Rattle.rules.specs.Model.{skips};
+ghost use Rattle.rules.specs.Quantifiers.{many, gains, cuts};
 ghost use Rattle.rules.specs.Layout.{howMany};
 ghost use Rattle.rules.specs.Edit.{sameKind, isOne};
-ghost use Rattle.rules.specs.Decode.{groupOf, readParticle, readAttribute, readRow, readMany, definitionCount, rowCount};
+ghost use Rattle.rules.specs.Decode.{groupOf, readParticle, readAttribute, definitionCount};
 ghost use Rattle.rules.specs.Passing.{passes};
-ghost use Rattle.rules.specs.Change.{convertToGroup, flattenGroup, addAttribute, destroyAttribute};
+ghost use Rattle.rules.specs.Change.{changeQuantifier, convertToGroup, flattenGroup, changeGroupQuantifier, addAttribute, destroyAttribute};
 ghost use Rattle.rules.specs.Refusal.{_if_, first, conditions, wrongDefault};
 ghost use Rattle.model.specs.Members.{membersFrom};
 ghost use Rattle.model.specs.Particle.{particleOf};
 ghost use Rattle.rowpass.specs.Reading.{recordAt};
-ghost use Rattle.validity.specs.Check.{rowsIn};
 ghost use Rattle.lookup.specs.Bodies.{bodiesOf};
 ghost use Rattle.storing.specs.Stores.{storeIn};
-ghost use Rattle.placing.specs.Placing.{attributeBody, ownNamed, instanceRow, partIn, pickOf, Picking, oneIf, unlikeKind, convertTests, First};
+ghost use Rattle.placing.specs.Placing.{attributeBody, ownNamed, hasInstance, partIn, pickOf, Picking, oneIf, unlikeKind, convertTests, isOff, earlyTests, quantifierTests, First};
 
 // ---- attributes
 // The record of attribute i.
@@ -73,7 +74,7 @@ fn is_wrong_default(sort: u32, value: &[u8]) -> bool
 // ---- instances
 // Whether an instance of a definition exists.
 fn instance_exists(store: &[u8], definition: u32) -> bool
-    ensures { λ r. ⌜ r ≡ any (instanceRow definition) (readMany readRow 44 (rowCount (now (store .entry))) (rowsIn (now (store .entry)))) ⌝ }
+    ensures { λ r. ⌜ r ≡ hasInstance (now (store .entry)) definition ⌝ }
 {
     let rows = validity::body(store, 32, 44);
     let count = records::number(store, 36);
@@ -267,6 +268,140 @@ pub fn flatten_group_refusal(store: &[u8], owner: u32, place: &[u32]) -> u32
         Picked::Group(h, _, q, kind, n) => {
             let list = h.kind;
             flatten_at(list, q, kind, n)
+        }
+        Picked::Absent => 8,
+    }
+}
+
+// ---- quantifiers
+fn skips(q: Quantifier) -> bool
+    ensures { λ r. ⌜ r ≡ skips q ⌝ }
+{
+    match q {
+        Quantifier::None => false,
+        Quantifier::Qmark => true,
+        Quantifier::Star => true,
+        Quantifier::Plus => false,
+    }
+}
+
+fn many(q: Quantifier) -> bool
+    ensures { λ r. ⌜ r ≡ many q ⌝ }
+{
+    match q {
+        Quantifier::None => false,
+        Quantifier::Qmark => false,
+        Quantifier::Star => true,
+        Quantifier::Plus => true,
+    }
+}
+
+fn gains(old: Quantifier, new: Quantifier) -> bool
+    ensures { λ r. ⌜ r ≡ gains old new ⌝ }
+{
+    !skips(new) & skips(old)
+}
+
+fn cuts(old: Quantifier, new: Quantifier) -> bool
+    ensures { λ r. ⌜ r ≡ cuts old new ⌝ }
+{
+    many(old) & !many(new)
+}
+
+// Whether a new quantifier does not go with instances.
+fn is_off(spine: bool, old: Quantifier, new: Quantifier, group: bool) -> bool
+    ensures { λ r. ⌜ r ≡ isOff spine old new group ⌝ }
+{
+    (!model::relaxes(old, new) & !spine) | (group & cuts(old, new))
+}
+
+// Refusals 3, 4 and 6 of a new quantifier.
+fn early_refusal(store: &[u8], owner: u32, quantifier: u32, text: &[u8]) -> u32
+    ensures { λ r. ⌜ First r (earlyTests owner quantifier (now (text .entry)) (now (store .entry))) ⌝ }
+{
+    if !records::is_value(text) {
+        return 3;
+    }
+    if quantifier > 3 {
+        return 4;
+    }
+    if owner as usize >= records::number(store, 12) {
+        return 6;
+    }
+    0
+}
+
+// Refusals 12 and 13 of a new quantifier.
+fn quantifier_at(
+    store: &[u8],
+    owner: u32,
+    spine: bool,
+    old: Quantifier,
+    new: Quantifier,
+    text: &[u8],
+    group: bool,
+) -> u32
+    ensures { λ r. ⌜ First r (quantifierTests (hasInstance (now (store .entry)) owner) spine old new (now (text .entry)) group) ⌝ }
+{
+    if gains(old, new) & (text.len() == 0) {
+        return 12;
+    }
+    if !is_off(spine, old, new, group) {
+        return 0;
+    }
+    if instance_exists(store, owner) {
+        return 13;
+    }
+    0
+}
+
+/// Refusals 3, 4, 6, 8, 12 and 13 of the change of an element's quantifier.
+pub fn change_quantifier_refusal(
+    store: &[u8],
+    owner: u32,
+    place: &[u32],
+    quantifier: u32,
+    text: &[u8],
+) -> u32
+    requires { ⌜ passes (now store) ≡ true ⌝ }
+    ensures { λ r. ⌜ r ≡ first (conditions (changeQuantifier owner (now (place .entry)) quantifier (now (text .entry))) (storeIn (now (store .entry)))) ⌝ }
+{
+    let early = early_refusal(store, owner, quantifier, text);
+    if early != 0 {
+        return early;
+    }
+    let new = model::read_quantifier(quantifier as u8);
+    let x = pick(store, owner, place);
+    match x {
+        Picked::Element(h, _, old) => {
+            quantifier_at(store, owner, h.spine, old, new, text, false)
+        }
+        Picked::Group(_, _, _, _, _) => 8,
+        Picked::Absent => 8,
+    }
+}
+
+/// Refusals 3, 4, 6, 8, 12 and 13 of the change of a group's quantifier.
+pub fn change_group_quantifier_refusal(
+    store: &[u8],
+    owner: u32,
+    place: &[u32],
+    quantifier: u32,
+    text: &[u8],
+) -> u32
+    requires { ⌜ passes (now store) ≡ true ⌝ }
+    ensures { λ r. ⌜ r ≡ first (conditions (changeGroupQuantifier owner (now (place .entry)) quantifier (now (text .entry))) (storeIn (now (store .entry)))) ⌝ }
+{
+    let early = early_refusal(store, owner, quantifier, text);
+    if early != 0 {
+        return early;
+    }
+    let new = model::read_quantifier(quantifier as u8);
+    let x = pick(store, owner, place);
+    match x {
+        Picked::Element(_, _, _) => 8,
+        Picked::Group(h, _, old, _, _) => {
+            quantifier_at(store, owner, h.spine, old, new, text, true)
         }
         Picked::Absent => 8,
     }

@@ -9,3 +9,4 @@ pub mod CountLaws
 pub mod GroupLaws
 pub mod ConvertLaws
 pub mod QuantifierLaws
+pub mod ContextViews

@@ -27,7 +27,7 @@ use Rattle.placing.proofs.FirstLaws.{hit, next, none-holds}
 use Rattle.placing.proofs.PlaceLaws.{found-flatten}
 
 -- ---- how many members
-done-many : {A : Type 0} (t : Members A) → isDone t ≡ eqb (suc (howMany t)) 1
+pub done-many : {A : Type 0} (t : Members A) → isDone t ≡ eqb (suc (howMany t)) 1
 done-many done = refl
 done-many (el q x t) = sym (ne-eqb (suc (suc (howMany t))) 1 (λ z. omega arith))
 done-many (group q k ms t) = sym (ne-eqb (suc (suc (howMany t))) 1 (λ z. omega arith))

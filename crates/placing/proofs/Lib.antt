@@ -10,3 +10,5 @@ pub mod GroupLaws
 pub mod ConvertLaws
 pub mod QuantifierLaws
 pub mod ContextViews
+pub mod SpreadLaws
+pub mod RemoveLaws

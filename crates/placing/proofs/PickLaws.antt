@@ -87,7 +87,7 @@ module _ {A : Type 0} where
 
 -- ---- the particle there
 module _ {bs : Bytes} {o : ℕ} {i : Bool} {place : List ℕ} {h : Holder} {p : ℕ} (x : Placed bs o i place h p) where
-  abbrev around : Context ℕ
+  abbrev pub around : Context ℕ
   around = renameAround (indexIn bs) (x .found .context)
 
   abbrev chosen : Members ℕ

@@ -1,22 +1,22 @@
 -- What the code of changes 4 to 10 reads of a store.
 -- Assumes nothing.
-use Prim.Native.Nat.{ℕ, _+_, _*_, _≤_}
+use Prim.Native.Nat.{ℕ, _+_, _-_, _*_, _≤_}
 use mathlib.Core.Path.{_≡_}
 use mathlib.Core.Bool.{Bool, true, false, _&&_, _||_, not}
 use mathlib.Core.Option.{Option, none, some}
 use mathlib.Core.List.{List, [], _∷_}
 use lib.Dec.{eqb, leb, ltb}
-use lib.ListN.{length, drop}
+use lib.ListN.{length, take, drop, getD}
 use Rattle.rules.specs.declared.Quantifier.{Quantifier}
 use Rattle.rules.specs.declared.GroupKind.{GroupKind}
-use Rattle.rules.specs.declared.GroupKind.the-variants.{Sequence}
+use Rattle.rules.specs.declared.GroupKind.the-variants.{Sequence, Choice}
 use Rattle.rules.specs.Bytes.{Bytes, same, any, isNone}
-use Rattle.rules.specs.Model.{Members, el, group, rename}
+use Rattle.rules.specs.Model.{Members, el, group, rename, skips, nothing}
 use Rattle.rules.specs.Quantifiers.{relaxes, gains, cuts}
 use Rattle.rules.specs.Store.{members}
 use Rattle.rules.specs.Preorder.{Deep}
 use Rattle.rules.specs.Layout.{headerSize, definitionSize, particleSize, FlatAttribute, FlatRow, indexOf, howMany}
-use Rattle.rules.specs.Decode.{readRow, readMany, definitionCount, particleCount, rowCount}
+use Rattle.rules.specs.Decode.{readParticle, readRow, readMany, definitionCount, particleCount, rowCount}
 use Rattle.rules.specs.WellFormed.{isValue}
 use Rattle.rules.specs.Place.{Context, Found as Spot, gap, nth, find, plug, kindAt, spine, renameAround}
 use Rattle.rules.specs.Edit.{sameKind, lone, firstMembers, hasMembers}
@@ -25,6 +25,7 @@ use Rattle.rules.specs.Refusal.{Condition, _if_, first}
 use Rattle.model.specs.declared.What.{What}
 use Rattle.model.specs.declared.What.the-variants as what
 use Rattle.model.specs.declared.place.Holder.{Holder}
+use Rattle.model.specs.Particle.{particleOf}
 use Rattle.model.specs.Members.{particlesOf, membersFrom}
 use Rattle.model.specs.Places.{top}
 use Rattle.model.specs.Positions.{spread, offset, holder}
@@ -133,6 +134,26 @@ earlyTests o q t bs = 3 if not (isValue 32 t) ∷ 4 if ltb 3 q ∷ 6 if not (ltb
 
 abbrev pub quantifierTests : Bool → Bool → Quantifier → Quantifier → Bytes → Bool → List Condition
 quantifierTests exists spine old new t isGroup = 12 if (gains old new && isNone t) ∷ 13 if (exists && isOff spine old new isGroup) ∷ []
+
+-- ---- removing
+-- an inner CHOICE whose members start at a particle, without the element at particle p of depth d, accepts nothing
+abbrev pub choiceLeft : Bytes → ℕ → ℕ → ℕ → Bool
+choiceLeft part start p d =
+    (skips (particleOf (readParticle (drop (4 * (start - 1)) part)) .quantifier) || nothing Choice (membersFrom d (take (4 * (p - start)) (drop (4 * start) part))))
+    || nothing Choice (membersFrom d (drop (4 * p + 4) part))
+
+pub record Removable (part : Bytes) (h : Holder) (p : ℕ) : Type 0 where
+  pub deep : sameKind (h .kind) Sequence ≡ false → 1 ≤ h .start
+  pub later : h .start ≤ p
+  pub there : 4 * p + 4 ≤ length part
+
+-- rows 14 and 15 of change 4
+abbrev pub removeTests : Bool → Bytes → Holder → ℕ → List Condition
+removeTests exists part h p =
+    let d : ℕ = getD part (4 * p + 3) 0 in
+    14 if ((ltb 0 d && eqb p (h .start)) && eqb (howMany (membersFrom d (drop (4 * p) part))) 1)
+    ∷ 15 if (exists && not (sameKind (h .kind) Sequence || choiceLeft part (h .start) p d))
+    ∷ []
 
 -- ---- conditions
 -- n is the number of the first condition that holds, 0 if none does

@@ -7,23 +7,24 @@ use rules::Quantifier;
 ghost use mathlib.Core.Path.{_≡_};
 ghost use mathlib.Core.Bool.{true, _||_, not};
 ghost use mathlib.Core.List.{[], _∷_};
-ghost use Prim.Native.Nat.{_*_, _<_, _≤_};
+ghost use Prim.Native.Nat.{_+_, _*_, _<_, _≤_};
 ghost use lib.ListN.{length, drop};
+ghost use Rattle.rules.specs.declared.GroupKind.the-variants.{Choice};
 ghost use Rattle.rules.specs.Bytes.{any};
-ghost use Rattle.rules.specs.Model.{skips};
+ghost use Rattle.rules.specs.Model.{skips, nothing};
 ghost use Rattle.rules.specs.Quantifiers.{many, gains, cuts};
 ghost use Rattle.rules.specs.Layout.{howMany};
 ghost use Rattle.rules.specs.Edit.{sameKind, isOne};
 ghost use Rattle.rules.specs.Decode.{groupOf, readParticle, readAttribute, definitionCount};
 ghost use Rattle.rules.specs.Passing.{passes};
-ghost use Rattle.rules.specs.Change.{changeQuantifier, convertToGroup, flattenGroup, changeGroupQuantifier, addAttribute, destroyAttribute};
+ghost use Rattle.rules.specs.Change.{removeElement, changeQuantifier, convertToGroup, flattenGroup, changeGroupQuantifier, addAttribute, destroyAttribute};
 ghost use Rattle.rules.specs.Refusal.{_if_, first, conditions, wrongDefault};
 ghost use Rattle.model.specs.Members.{membersFrom};
 ghost use Rattle.model.specs.Particle.{particleOf};
 ghost use Rattle.rowpass.specs.Reading.{recordAt};
 ghost use Rattle.lookup.specs.Bodies.{bodiesOf};
 ghost use Rattle.storing.specs.Stores.{storeIn};
-ghost use Rattle.placing.specs.Placing.{attributeBody, ownNamed, hasInstance, partIn, pickOf, Picking, oneIf, unlikeKind, convertTests, isOff, earlyTests, quantifierTests, First};
+ghost use Rattle.placing.specs.Placing.{attributeBody, ownNamed, hasInstance, partIn, pickOf, Picking, oneIf, unlikeKind, convertTests, isOff, earlyTests, quantifierTests, choiceLeft, Removable, removeTests, First};
 
 // ---- attributes
 // The record of attribute i.
@@ -313,6 +314,68 @@ fn is_off(spine: bool, old: Quantifier, new: Quantifier, group: bool) -> bool
     ensures { λ r. ⌜ r ≡ isOff spine old new group ⌝ }
 {
     (!model::relaxes(old, new) & !spine) | (group & cuts(old, new))
+}
+
+// ---- removing
+// Whether a CHOICE of the members of depth d that s begins with accepts nothing.
+fn accepts_nothing(s: &[u8], d: usize) -> bool
+    requires { ⌜ d ≤ 256 ⌝ }
+    ensures { λ r. ⌜ r ≡ nothing Choice (membersFrom d (now (s .entry))) ⌝ }
+{
+    let f = model::automaton::facts_from(s, d, GroupKind::Choice, 0, 0);
+    f.nothing
+}
+
+// Whether the inner CHOICE whose members start at a particle accepts nothing without the element at particle p, of depth d.
+fn choice_left(part: &[u8], start: usize, p: usize, d: usize) -> bool
+    requires { ⌜ (1 ≤ start) × (start ≤ p) × (4 * p + 4 ≤ length (now part)) × (d ≤ 256) ⌝ }
+    ensures { λ r. ⌜ r ≡ choiceLeft (now (part .entry)) start p d ⌝ }
+{
+    let x = model::read_particle(part, 4 * (start - 1));
+    let q = x.quantifier;
+    let before = accepts_nothing(rowpass::cut(part, 4 * start, 4 * (p - start)), d);
+    let after = accepts_nothing(records::after(part, 4 * p + 4), d);
+    (skips(q) | before) | after
+}
+
+// Refusals 14 and 15 of the element at particle p of the list h.
+fn remove_at(store: &[u8], owner: u32, part: &[u8], h: Holder, p: usize) -> u32
+    requires { ⌜ Removable (now part) h p ⌝ }
+    ensures { λ r. ⌜ First r (removeTests (hasInstance (now (store .entry)) owner) (now (part .entry)) h p) ⌝ }
+{
+    let d = codec::byte(part, 4 * p + 3) as usize;
+    let n = count_members(records::after(part, 4 * p), d);
+    if (d > 0) & (p == h.start) & (n == 1) {
+        return 14;
+    }
+    let list = h.kind;
+    if same_kind(list, GroupKind::Sequence) {
+        return 0;
+    }
+    if choice_left(part, h.start, p, d) {
+        return 0;
+    }
+    if instance_exists(store, owner) {
+        return 15;
+    }
+    0
+}
+
+/// Refusals 6, 8, 14 and 15 of the change that removes an element.
+pub fn remove_element_refusal(store: &[u8], owner: u32, place: &[u32]) -> u32
+    requires { ⌜ passes (now store) ≡ true ⌝ }
+    ensures { λ r. ⌜ r ≡ first (conditions (removeElement owner (now (place .entry))) (storeIn (now (store .entry)))) ⌝ }
+{
+    if owner as usize >= records::number(store, 12) {
+        return 6;
+    }
+    let part = own_part(store, owner);
+    let x = pick(store, owner, place);
+    match x {
+        Picked::Element(h, p, _) => remove_at(store, owner, part, h, p),
+        Picked::Group(_, _, _, _, _) => 8,
+        Picked::Absent => 8,
+    }
 }
 
 // Refusals 3, 4 and 6 of a new quantifier.

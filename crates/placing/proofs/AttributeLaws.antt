@@ -14,8 +14,8 @@ use lib.Seq.{drop-drop}
 use Rattle.rules.specs.Bytes.{Bytes, same, bytes, any, isNone}
 use Rattle.rules.specs.Model.{member}
 use Rattle.rules.specs.Store.{Attribute, Form}
-use Rattle.rules.specs.Layout.{FlatAttribute, FlatStore, flat, ownAttributes, allAttributes}
-use Rattle.rules.specs.Decode.{readAttribute, readMany, definitionCount, particleCount, attributeCount}
+use Rattle.rules.specs.Layout.{FlatStore, ownAttributes, allAttributes}
+use Rattle.rules.specs.Decode.{readAttribute, readMany, definitionCount, particleCount}
 use Rattle.rules.specs.WellFormed.{attributeName, isThere, isValue, givenName}
 use Rattle.rules.specs.Change.{addAttribute, destroyAttribute, Owned, entryAt, attributeAt, definitionAt}
 use Rattle.rules.specs.Refusal.{conditions, isOther, wrongDefault}
@@ -25,7 +25,7 @@ use Rattle.validity.proofs.AttributeBlocks.{below-or}
 use Rattle.storing.specs.Stores.{storeIn}
 use Rattle.finding.proofs.StoreFacts.{formIn, Whole}
 use Rattle.placing.specs.Placing.{attributeBody, ownNamed, First}
-use Rattle.placing.proofs.FirstLaws.{hit, next, none-holds, test-is, not-is}
+use Rattle.placing.proofs.FirstLaws.{hit, next, none-holds}
 
 -- ---- attributes of a form
 pub any-append : {A : Type 0} (p : A → Bool) (xs ys : List A) → any p (xs ++ ys) ≡ (any p xs || any p ys)

@@ -1,10 +1,10 @@
 -- The conditions of change 6, by what the code finds.
 -- Assumes nothing.
-use Prim.Native.Nat.{ℕ, zero, suc, _+_, _*_, _<_, _≤_}
+use Prim.Native.Nat.{ℕ, zero, suc, _*_, _<_, _≤_}
 use native.Mathlib.Omega.{arith}
-use borrow.Author.Tests.{eq-eqb, ne-eqb, lt-ltb, eqb-true, eqb-false, ltb-true, ltb-false}
-use mathlib.Core.Path.{_≡_, refl, sym, ap, ap₂, _∙_, subst}
-use mathlib.Core.Bool.{Bool, true, false, _&&_, _||_, not, false≢true}
+use borrow.Author.Tests.{ne-eqb, eqb-true, eqb-false, ltb-true, ltb-false}
+use mathlib.Core.Path.{_≡_, refl, sym, ap, ap₂, _∙_}
+use mathlib.Core.Bool.{Bool, true, false, _||_, not, false≢true}
 use mathlib.Core.Option.{Option, none, some}
 use mathlib.Core.List.{List, [], _∷_}
 use lib.Dec.{eqb, ltb}
@@ -15,11 +15,11 @@ use Rattle.rules.specs.Bytes.{Bytes}
 use Rattle.rules.specs.Model.{Members, done, el, group, rename, isDone}
 use Rattle.rules.specs.Layout.{howMany}
 use Rattle.rules.specs.Decode.{groupOf, definitionCount}
-use Rattle.rules.specs.Place.{Context, Found as Spot, kindAt}
+use Rattle.rules.specs.Place.{Found as Spot, kindAt}
 use Rattle.rules.specs.Edit.{lone, sameKind, firstMembers, hasMembers, groupUnlike, convert}
 use Rattle.rules.specs.Passing.{passes}
 use Rattle.rules.specs.Change.{convertToGroup}
-use Rattle.rules.specs.Refusal.{_if_, Condition, first, conditions, foundAt, noPlace, atPlace}
+use Rattle.rules.specs.Refusal.{_if_, first, conditions, foundAt, noPlace, atPlace}
 use Rattle.model.specs.declared.place.Holder.{Holder}
 use Rattle.model.specs.declared.place.Found.{Found}
 use Rattle.model.specs.declared.place.Found.the-variants.{At, Absent}
@@ -27,7 +27,7 @@ use Rattle.model.specs.Members.{membersFrom}
 use Rattle.model.specs.Places.{placeOf}
 use Rattle.storing.specs.Stores.{storeIn}
 use Rattle.finding.proofs.StoreFacts.{formIn}
-use Rattle.placing.specs.Placing.{indexIn, modelIn, partIn, foundBy, Placed, unlikeKind, convertTests, First}
+use Rattle.placing.specs.Placing.{indexIn, partIn, Placed, unlikeKind, convertTests, First}
 use Rattle.placing.proofs.FirstLaws.{hit, next, none-holds}
 use Rattle.placing.proofs.PlaceLaws.{found-convert, absent, present-at}
 

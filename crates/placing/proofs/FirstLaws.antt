@@ -4,7 +4,7 @@ use Prim.Native.Nat.{ℕ}
 use mathlib.Core.Path.{_≡_, refl, sym, ap, _∙_}
 use mathlib.Core.Bool.{Bool, true, false, not}
 use mathlib.Core.List.{List, [], _∷_}
-use Rattle.rules.specs.Refusal.{Condition, _if_, first}
+use Rattle.rules.specs.Refusal.{Condition, _if_}
 use Rattle.placing.specs.Placing.{First}
 
 pub hit : {n : ℕ} {b : Bool} {cs : List Condition} → b ≡ true → First n ((n if b) ∷ cs)

@@ -1,11 +1,11 @@
 -- The conditions of changes 6 and 7, by what the code finds.
 -- Assumes nothing.
-use Prim.Native.Nat.{ℕ, zero, suc, _+_, _*_, _<_, _≤_}
+use Prim.Native.Nat.{ℕ, suc}
 use native.Mathlib.Omega.{arith}
-use borrow.Author.Tests.{eq-eqb, ne-eqb, lt-ltb}
+use borrow.Author.Tests.{ne-eqb}
 use mathlib.Core.Path.{_≡_, refl, sym, ap, ap₂, _∙_}
-use mathlib.Core.Bool.{Bool, true, false, _&&_, _||_, not}
-use mathlib.Core.Option.{Option, none, some}
+use mathlib.Core.Bool.{Bool, true, false, _||_, not}
+use mathlib.Core.Option.{none, some}
 use mathlib.Core.List.{List, [], _∷_}
 use lib.Dec.{eqb, ltb}
 use lib.ListN.{length}
@@ -13,17 +13,17 @@ use Rattle.rules.specs.declared.Quantifier.{Quantifier}
 use Rattle.rules.specs.declared.GroupKind.{GroupKind}
 use Rattle.rules.specs.declared.GroupKind.the-variants.{Sequence}
 use Rattle.rules.specs.Bytes.{Bytes}
-use Rattle.rules.specs.Model.{Members, done, el, group, rename, isDone}
+use Rattle.rules.specs.Model.{Members, done, el, group, isDone}
 use Rattle.rules.specs.Layout.{howMany}
-use Rattle.rules.specs.Place.{Context, Found as Spot, kindAt}
-use Rattle.rules.specs.Edit.{lone, sameKind, firstMembers, hasMembers, isOne, groupUnlike, flatten}
-use Rattle.rules.specs.Change.{flattenGroup, convertToGroup}
-use Rattle.rules.specs.Refusal.{_if_, Condition, first, conditions, foundAt, noGroupAt, atPlace, onGroup, flattenUnlike}
+use Rattle.rules.specs.Place.{Context, kindAt}
+use Rattle.rules.specs.Edit.{lone, sameKind, isOne, flatten}
+use Rattle.rules.specs.Change.{flattenGroup}
+use Rattle.rules.specs.Refusal.{_if_, first, conditions, foundAt, noGroupAt, atPlace, onGroup, flattenUnlike}
 use Rattle.model.specs.declared.place.Holder.{Holder}
 use Rattle.storing.specs.Stores.{storeIn}
 use Rattle.finding.proofs.StoreFacts.{formIn}
-use Rattle.placing.specs.Placing.{indexIn, modelIn, partIn, foundBy, Placed, ElementAt, GroupAt, unlikeKind, First}
-use Rattle.placing.proofs.FirstLaws.{hit, next, none-holds}
+use Rattle.placing.specs.Placing.{modelIn, foundBy, ElementAt, GroupAt, unlikeKind, First}
+use Rattle.placing.proofs.FirstLaws.{hit, next}
 use Rattle.placing.proofs.PlaceLaws.{found-flatten}
 
 -- ---- how many members

@@ -1,19 +1,18 @@
 -- An instance of a definition exists: said by its name, and by its index.
 -- Assumes nothing.
-use Prim.Native.Nat.{ℕ, zero, suc, _<_}
-use native.Mathlib.Omega.{arith}
+use Prim.Native.Nat.{ℕ, suc, _<_}
 use borrow.Author.Tests.{eq-eqb, ne-eqb}
 use mathlib.Core.Path.{_≡_, refl, sym, ap, ap₂, _∙_}
 use mathlib.Core.Bool.{Bool, true, false, _&&_, _||_, false≢true}
 use mathlib.Core.Option.{some}
-use mathlib.Core.List.{List, [], _∷_, _++_, map}
+use mathlib.Core.List.{List, [], map}
 use lib.Dec.{eqb}
-use lib.ListN.{length, take, drop, getD}
+use lib.ListN.{length, getD}
 use Rattle.rules.specs.Bytes.{Bytes, same, bytes, any}
 use Rattle.rules.specs.Model.{Distinct}
 use Rattle.rules.specs.Store.{Definition, Form, RowSort, element, attribute, text, Row, Forest, bare, tree, heads}
-use Rattle.rules.specs.Preorder.{Deep, flatten}
-use Rattle.rules.specs.Layout.{FlatRow, indexOf, indexed, rowCode, rowIndex}
+use Rattle.rules.specs.Preorder.{flatten}
+use Rattle.rules.specs.Layout.{indexOf, indexed, rowCode, rowIndex}
 use Rattle.rules.specs.Decode.{numberAt, readRow, readMany, rowCount}
 use Rattle.rules.specs.WellFormed.{known, definitionName, lookup, isThere}
 use Rattle.rules.specs.Conforming.{EveryRow, RowConforms, ElementRows}

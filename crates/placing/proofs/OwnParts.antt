@@ -1,18 +1,16 @@
 -- The part of the particle body that a definition has, in a store that passes: the particles of its model.
 -- Assumes nothing.
-use Prim.Native.Nat.{ℕ, zero, suc, _+_, _*_, _/_, _<_, _≤_}
+use Prim.Native.Nat.{ℕ, _+_, _*_, _/_, _<_, _≤_}
 use native.Mathlib.Omega.{arith}
 use mathlib.Core.Path.{_≡_, refl, sym, ap, ap₂, _∙_, subst}
 use mathlib.Core.Bool.{true}
-use mathlib.Core.List.{List}
 use lib.ListN.{length, take, drop, getD}
 use Rattle.rules.specs.Bytes.{Bytes}
 use Rattle.rules.specs.Model.{Members, rename}
 use Rattle.rules.specs.Store.{Form, members}
-use Rattle.rules.specs.Preorder.{Deep, build, flatten}
-use Rattle.rules.specs.Layout.{particleSize, definitionSize, FlatDefinition, FlatParticle, FlatStore, indexOf, encode}
-use Rattle.rules.specs.Layout as layout
-use Rattle.rules.specs.Decode.{readDefinition, readParticle, readMany, readMembers, unflat, definitionCount, particleCount, attributeCount}
+use Rattle.rules.specs.Preorder.{build}
+use Rattle.rules.specs.Layout.{particleSize, definitionSize, FlatDefinition, FlatStore, indexOf}
+use Rattle.rules.specs.Decode.{readDefinition, readParticle, readMany, readMembers, unflat, definitionCount}
 use Rattle.rules.specs.Change.{definitionAt}
 use Rattle.rules.specs.Passing.{passes}
 use Rattle.rules.proofs.LayoutLaws.{Small}
@@ -29,7 +27,7 @@ use Rattle.forms.specs.Bodies.{definitions, particles, formOf}
 use Rattle.forms.proofs.Reading.{definitions-length}
 use Rattle.rowpass.specs.Reading.{definitionIn, particlesBefore, modelPart}
 use Rattle.validity.specs.Reading.{FieldsFit, partAt, noDefinition}
-use Rattle.validity.specs.Check.{FormPasses, definitionsIn, particlesIn, attributesIn}
+use Rattle.validity.specs.Check.{FormPasses, definitionsIn, particlesIn}
 use Rattle.validity.proofs.IndexLaws.{namesOf}
 use Rattle.validity.proofs.ModelReads.{ModelRead}
 use Rattle.validity.proofs.FormReads.{form-size, form-apart, model-at, members-at}

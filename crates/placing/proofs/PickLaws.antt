@@ -7,7 +7,7 @@ use mathlib.Core.Bool.{Bool, true, false, false≢true}
 use mathlib.Core.Option.{Option, none, some}
 use mathlib.Core.List.{List, [], _∷_, _++_}
 use lib.Dec.{leb}
-use lib.ListN.{length, drop, getD, length-append, length-drop}
+use lib.ListN.{length, drop, getD, length-drop}
 use lib.Seq.{drop-append-add, getD-drop}
 use Rattle.rules.specs.declared.Quantifier.{Quantifier}
 use Rattle.rules.specs.declared.GroupKind.{GroupKind}
@@ -18,7 +18,7 @@ use Rattle.rules.specs.Preorder.{Deep}
 use Rattle.rules.specs.Layout.{FlatParticle, howMany, groupCode}
 use Rattle.rules.specs.Decode.{readParticle, definitionCount}
 use Rattle.rules.specs.Passing.{passes}
-use Rattle.rules.specs.Place.{Context, Found as Spot, nth, find, plug, renameAround, within, afterMembers, inGroup, present}
+use Rattle.rules.specs.Place.{Context, Found as Spot, nth, find, renameAround, within, afterMembers, inGroup, present}
 use Rattle.model.specs.declared.What.{What}
 use Rattle.model.specs.declared.What.the-variants as what
 use Rattle.model.specs.declared.Particle.{Particle}
@@ -28,12 +28,11 @@ use Rattle.model.specs.declared.place.Found.the-variants.{At, Absent}
 use Rattle.model.specs.Particle.{whatOf, particleOf}
 use Rattle.model.specs.Members.{particlesOf}
 use Rattle.model.specs.Places.{Particles, noParticle, placeOf}
-use Rattle.model.specs.Positions.{elementParticle, groupParticle, spread, offset, leading, trailing, level}
+use Rattle.model.specs.Positions.{elementParticle, groupParticle, spread, leading, trailing, level}
 use Rattle.model.proofs.ParticleLaws.{length-particles, particle-at}
 use Rattle.model.proofs.PositionLaws.{spread-plug, length-leading, code-quantifier}
 use Rattle.rowpass.specs.Reading.{modelPart}
 use Rattle.validity.specs.Check.{definitionsIn, particlesIn}
-use Rattle.finding.proofs.StoreFacts.{whole}
 use Rattle.placing.specs.declared.Picked.{Picked}
 use Rattle.placing.specs.declared.Picked.the-variants as pick
 use Rattle.placing.specs.Placing.{indexIn, modelIn, partIn, leads, foundBy, Placed, pickOf, ElementAt, GroupAt, Picks, Picking}

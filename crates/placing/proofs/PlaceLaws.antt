@@ -1,22 +1,22 @@
 -- What the code finds at a place in the part of a definition is what the rules find in its model.
 -- Assumes nothing.
-use Prim.Native.Nat.{ℕ, zero, suc, _+_, _*_, _/_, _<_, _≤_}
+use Prim.Native.Nat.{ℕ, _+_, _*_, _<_, _≤_}
 use native.Mathlib.Omega.{arith}
-use mathlib.Core.Path.{_≡_, refl, sym, ap, ap₂, _∙_}
-use mathlib.Core.Bool.{Bool, true, false, _&&_, false≢true}
+use mathlib.Core.Path.{_≡_, refl, sym, ap, _∙_}
+use mathlib.Core.Bool.{Bool, true, false, false≢true}
 use mathlib.Core.Option.{Option, none, some}
-use mathlib.Core.List.{List, [], _∷_, _++_}
+use mathlib.Core.List.{List, [], _++_}
 use lib.Dec.{leb}
-use lib.ListN.{length, take, drop, length-append}
+use lib.ListN.{length, drop, length-append}
 use Rattle.rules.specs.declared.Quantifier.{Quantifier}
 use Rattle.rules.specs.declared.GroupKind.{GroupKind}
 use Rattle.rules.specs.declared.GroupKind.the-variants.{Sequence}
 use Rattle.rules.specs.Bytes.{Bytes}
-use Rattle.rules.specs.Model.{Members, done, el, group, rename, isDone}
+use Rattle.rules.specs.Model.{Members, done, rename}
 use Rattle.rules.specs.Preorder.{build}
 use Rattle.rules.specs.Decode.{definitionCount}
-use Rattle.rules.specs.Place.{Context, here, past, over, into, Found as Spot, gap, nth, find, plug, kindAt, spine, renameAround, within, afterMembers, inGroup, present}
-use Rattle.rules.specs.Edit.{Edit, insert, remove, quantify, convert, flatten, place, placeOf as placed}
+use Rattle.rules.specs.Place.{Context, here, past, over, into, Found as Spot, find, plug, kindAt, spine, renameAround}
+use Rattle.rules.specs.Edit.{insert, remove, quantify, convert, flatten, place, placeOf as placed}
 use Rattle.rules.specs.Passing.{passes}
 use Rattle.rules.specs.Refusal.{foundAt}
 use Rattle.rules.proofs.Places.{found-gap, found-nth}

@@ -1,6 +1,6 @@
 -- The conditions of changes 5 and 8, by what the code finds.
 -- Assumes nothing.
-use Prim.Native.Nat.{ℕ, zero, suc, _<_, _≤_}
+use Prim.Native.Nat.{ℕ, _<_, _≤_}
 use native.Mathlib.Omega.{arith}
 use borrow.Author.Tests.{lt-ltb, le-ltb, ltb-true, ltb-false, not-false}
 use mathlib.Core.Path.{_≡_, refl, sym, ap, ap₂, _∙_}
@@ -12,7 +12,7 @@ use lib.ListN.{length}
 use Rattle.rules.specs.declared.Quantifier.{Quantifier}
 use Rattle.rules.specs.declared.GroupKind.{GroupKind}
 use Rattle.rules.specs.Bytes.{Bytes, isNone}
-use Rattle.rules.specs.Model.{Members, skips}
+use Rattle.rules.specs.Model.{skips}
 use Rattle.rules.specs.Quantifiers.{many, gains, cuts, relaxes}
 use Rattle.rules.specs.Decode.{quantifierOf, definitionCount}
 use Rattle.rules.specs.WellFormed.{isValue}

@@ -2,10 +2,10 @@
 -- Assumes nothing.
 use Prim.Native.Nat.{ℕ, zero, suc, _+_, _-_, _*_, _<_, _≤_}
 use native.Mathlib.Omega.{arith}
-use borrow.Author.Tests.{eq-eqb, ne-eqb, lt-ltb, le-ltb, not-false}
+use borrow.Author.Tests.{eq-eqb, ne-eqb, lt-ltb, le-ltb}
 use mathlib.Core.Path.{_≡_, refl, sym, ap, ap₂, _∙_, subst}
 use mathlib.Core.Bool.{Bool, true, false, _&&_, _||_, not, false≢true}
-use mathlib.Core.Option.{Option, none, some}
+use mathlib.Core.Option.{none, some}
 use mathlib.Core.List.{List, [], _∷_, _++_, append-assoc}
 use lib.Dec.{eqb, ltb}
 use lib.ListN.{length, take, drop, getD, length-append, length-drop}
@@ -20,30 +20,30 @@ use Rattle.rules.specs.Preorder.{Deep, build}
 use Rattle.rules.specs.Layout.{FlatParticle, howMany}
 use Rattle.rules.specs.Decode.{readParticle}
 use Rattle.rules.specs.Automaton.{facts}
-use Rattle.rules.specs.Place.{Context, here, past, over, into, Found as Spot, plug, plain, opens, leaves, unlessList, renameAround}
+use Rattle.rules.specs.Place.{Context, here, past, over, into, plain, opens, leaves, unlessList, renameAround}
 use Rattle.rules.specs.Edit.{_⊕_, sameKind, remove, removeLast, removeUnmatched}
-use Rattle.rules.specs.Change.{removeElement, nameAtIndex}
-use Rattle.rules.specs.Refusal.{_if_, Condition, first, conditions, foundAt, noElementAt, atPlace, onElement, tailOf, instanceExists}
+use Rattle.rules.specs.Change.{removeElement}
+use Rattle.rules.specs.Refusal.{_if_, first, conditions, foundAt, noElementAt, atPlace, onElement, tailOf}
 use Rattle.rules.proofs.RenamingPlaces.{leaves-rename}
 use Rattle.model.specs.declared.place.Holder.{Holder}
 use Rattle.model.specs.declared.Particle.{Particle}
 use Rattle.model.specs.Particle.{particleOf}
 use Rattle.model.specs.Members.{indexMember, indexMembers, particlesOf, membersFrom}
 use Rattle.model.specs.Places.{Particles, noParticle, top}
-use Rattle.model.specs.Positions.{elementParticle, groupParticle, spread, count, offset, holder, leading, trailing, level}
-use Rattle.model.proofs.ParticleLaws.{length-particles, particle-at, particles-drop, particles-take}
+use Rattle.model.specs.Positions.{elementParticle, groupParticle, spread, count, holder, trailing, level}
+use Rattle.model.proofs.ParticleLaws.{particle-at, particles-drop, particles-take}
 use Rattle.model.proofs.PositionLaws.{spread-plug, length-leading, length-spread, code-quantifier}
 use Rattle.model.proofs.MembersLaws.{members-here}
 use Rattle.model.proofs.FactsLaws.{facts-nothing}
 use Rattle.storing.specs.Stores.{storeIn}
 use Rattle.finding.proofs.StoreFacts.{formIn, Whole}
-use Rattle.placing.specs.Placing.{indexIn, modelIn, partIn, foundBy, Placed, hasInstance, ElementAt, GroupAt, choiceLeft, Removable, removeTests, First}
+use Rattle.placing.specs.Placing.{indexIn, modelIn, partIn, foundBy, hasInstance, ElementAt, GroupAt, choiceLeft, Removable, removeTests, First}
 use Rattle.placing.proofs.FirstLaws.{hit, next, none-holds}
 use Rattle.placing.proofs.PlaceLaws.{found-remove}
 use Rattle.placing.proofs.PickLaws.{around, from-there, one-there, read-there}
 use Rattle.placing.proofs.InstanceLaws.{instance-is}
 use Rattle.placing.proofs.GroupLaws.{done-many}
-use Rattle.placing.proofs.ContextViews.{Outer, Lead, Inner, View, outer, inner, view}
+use Rattle.placing.proofs.ContextViews.{Lead, Inner, View, outer, inner, view}
 use Rattle.placing.proofs.SpreadLaws.{members-spread}
 
 -- ---- words

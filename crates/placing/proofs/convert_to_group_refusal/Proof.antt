@@ -5,55 +5,37 @@ use Rattle.placing.proofs.ConvertLaws.{convert-4, convert-6, convert-no
 use borrow.Author.Needs.{needs}
 use Rattle.placing.proofs.convert_to_group_refusal.Statement.{statement}
 use Rattle.placing.proofs.convert_to_group_refusal.Tie as tie
-use Rattle.placing.proofs.convert_to_group_refusal.Reads as reads
-use Rattle.placing.proofs.convert_to_group_refusal.Lts as lts
-use Rattle.model.proofs.place.find.Reads as find-reads
-use Rattle.placing.proofs.convert_at.Reads as convert-at-reads
-use Rattle.placing.proofs.group_kind.Reads as group-kind-reads
-use Rattle.placing.proofs.own_part.Reads as own-part-reads
-use Rattle.records.proofs.number.Reads as number-reads
 
--- src/lib.rt:242:9
 returns : tie.Need-returns
 returns c = let a = c .before .before .before .args in convert-4 (a .store .now) (c .before .before .before .pre) (a .owner) (a .place .now) (a .count) (a .sort) (c .if1 .taken) .is
 
--- src/lib.rt:244:26
 number-requires : tie.Need-number-requires
 number-requires c κs = search needs
 
--- src/lib.rt:245:9
 returns-2 : tie.Need-returns-2
 returns-2 c = let a = c .before .before .before .before .before .args in convert-6 (a .store .now) (c .before .before .before .before .before .pre) (a .owner) (a .place .now) (a .count) (a .sort) (c .before .before .if1 .left) (past-is _ (whole _ (c .before .before .before .before .before .pre)) (c .before .number .ensures) (a .owner) (omega arith)) .is
 
--- src/lib.rt:247:9
 own-part-requires : tie.Need-own-part-requires
 own-part-requires c κs = let a = c .before .before .before .before .before .args in omega (arith, whole (a .store .now) (c .before .before .before .before .before .pre) .fewDefinitions, c .before .number .ensures .value)
 
--- src/lib.rt:248:9
 group-kind-requires : tie.Need-group-kind-requires
 group-kind-requires c κs = search needs
 
--- src/lib.rt:249:9
 find-requires : tie.Need-find-requires
 find-requires c κs = search needs
 
--- src/lib.rt:251:26
 enum-told : tie.Need-enum-told
 enum-told c = search needs
 
--- src/lib.rt:252:19
 enum-known-found : tie.Need-enum-known-found
 enum-known-found c = search needs
 
--- src/lib.rt:252:28
 convert-at-requires : tie.Need-convert-at-requires
 convert-at-requires c κs = let a = c .before .before .before .before .before .before .before .before .before .before .before .args in convert-inside (a .store .now) (c .before .before .before .before .before .before .before .before .before .before .before .pre) (a .owner) (a .place .now) (a .count) (a .sort) (c .before .before .before .before .before .before .before .before .if1 .left) (within-is _ (whole _ (c .before .before .before .before .before .before .before .before .before .before .before .pre)) (c .before .before .before .before .before .before .before .number .ensures) (a .owner) (omega arith)) (omega (arith, c .before .before .before .before .before .before .before .number .ensures .value)) (c .before .before .before .before .before .own-part .ensures) (c .before .before .before .find .ensures) _ _ (c .before .found .given .1)
 
--- src/lib.rt:231:1
 returns-3 : tie.Need-returns-3
 returns-3 c = let a = c .before .before .before .before .before .before .before .before .before .before .args in convert-none (a .store .now) (c .before .before .before .before .before .before .before .before .before .before .pre) (a .owner) (a .place .now) (a .count) (a .sort) (c .before .before .before .before .before .before .before .if1 .left) (within-is _ (whole _ (c .before .before .before .before .before .before .before .before .before .before .pre)) (c .before .before .before .before .before .before .number .ensures) (a .owner) (omega arith)) (omega (arith, c .before .before .before .before .before .before .number .ensures .value)) (c .before .before .before .before .own-part .ensures) (c .before .before .find .ensures) (c .enum-told .given .1) .is
 
--- src/lib.rt:231:1
 returns-4 : tie.Need-returns-4
 returns-4 c = let a = c .before .before .before .before .before .before .before .before .before .before .before .before .args in convert-there (a .store .now) (c .before .before .before .before .before .before .before .before .before .before .before .before .pre) (a .owner) (a .place .now) (a .count) (a .sort) (c .before .before .before .before .before .before .before .before .before .if1 .left) (within-is _ (whole _ (c .before .before .before .before .before .before .before .before .before .before .before .before .pre)) (c .before .before .before .before .before .before .before .before .number .ensures) (a .owner) (omega arith)) (omega (arith, c .before .before .before .before .before .before .before .before .number .ensures .value)) (c .before .before .before .before .before .before .own-part .ensures) (c .before .before .before .before .find .ensures) _ _ (c .before .before .found .given .1) (c .before .before .before .before .before .group-kind .ensures) (c .convert-at .ensures) .is
 

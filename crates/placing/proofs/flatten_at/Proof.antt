@@ -3,24 +3,16 @@ use Rattle.placing.proofs.GroupLaws.{flat-read}
 use borrow.Author.Needs.{needs}
 use Rattle.placing.proofs.flatten_at.Statement.{statement}
 use Rattle.placing.proofs.flatten_at.Tie as tie
-use Rattle.placing.proofs.flatten_at.Reads as reads
-use Rattle.placing.proofs.flatten_at.Lts as lts
-use Rattle.placing.proofs.is_one.Reads as is-one-reads
-use Rattle.placing.proofs.unlike.Reads as unlike-reads
 
--- src/lib.rt:194:9
 is-one-requires : tie.Need-is-one-requires
 is-one-requires c κs = search needs
 
--- src/lib.rt:194:21
 unlike-requires : tie.Need-unlike-requires
 unlike-requires c κs = search needs
 
--- src/lib.rt:195:9
 returns : tie.Need-returns
 returns c = let a = c .before .before .before .args in hit (flat-read (a .q) (a .list) (a .kind) (a .n) (c .before .before .is-one .ensures) (c .before .unlike .ensures) (c .if1 .taken))
 
--- src/lib.rt:191:1
 returns-2 : tie.Need-returns-2
 returns-2 c = let a = c .before .before .before .args in next (flat-read (a .q) (a .list) (a .kind) (a .n) (c .before .before .is-one .ensures) (c .before .unlike .ensures) (c .if1 .left)) none-holds
 

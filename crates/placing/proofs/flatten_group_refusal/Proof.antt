@@ -6,49 +6,34 @@ use Rattle.placing.proofs.GroupLaws.{flatten-6, flatten-none, flatten-e
 use borrow.Author.Needs.{needs}
 use Rattle.placing.proofs.flatten_group_refusal.Statement.{statement}
 use Rattle.placing.proofs.flatten_group_refusal.Tie as tie
-use Rattle.placing.proofs.flatten_group_refusal.Reads as reads
-use Rattle.placing.proofs.flatten_group_refusal.Lts as lts
-use Rattle.placing.proofs.flatten_at.Reads as flatten-at-reads
-use Rattle.placing.proofs.pick.Reads as pick-reads
-use Rattle.records.proofs.number.Reads as number-reads
 
--- src/lib.rt:209:26
 number-requires : tie.Need-number-requires
 number-requires c κs = search needs
 
--- src/lib.rt:210:9
 returns : tie.Need-returns
 returns c = flatten-6 _ _ _ (past-is _ (whole _ (c .before .before .before .before .pre)) (c .before .number .ensures) (c .before .before .before .before .args .owner) (omega arith)) .is
 
--- src/lib.rt:212:9
 pick-requires : tie.Need-pick-requires
 pick-requires c κs = search needs
 
--- src/lib.rt:214:37
 enum-told : tie.Need-enum-told
 enum-told c = search needs
 
--- src/lib.rt:215:23
 enum-known-x : tie.Need-enum-known-x
 enum-known-x c = search needs
 
--- src/lib.rt:217:13
 flatten-at-requires : tie.Need-flatten-at-requires
 flatten-at-requires c κs = search needs
 
--- src/lib.rt:219:27
 enum-told-2 : tie.Need-enum-told-2
 enum-told-2 c = search needs
 
--- src/lib.rt:205:1
 returns-2 : tie.Need-returns-2
 returns-2 c = let a = c .before .before .before .before .before .before .before .args in flatten-element (a .store .now) (a .owner) (a .place .now) (within-is _ (whole _ (c .before .before .before .before .before .before .before .pre)) (c .before .before .before .before .number .ensures) (a .owner) (omega arith)) (as-element (c .before .before .pick .ensures) (c .enum-told .given .1)) .is
 
--- src/lib.rt:205:1
 returns-3 : tie.Need-returns-3
 returns-3 c = let a = c .before .before .before .before .before .before .before .before .before .args in flatten-group (a .store .now) (a .owner) (a .place .now) (within-is _ (whole _ (c .before .before .before .before .before .before .before .before .before .pre)) (c .before .before .before .before .before .before .number .ensures) (a .owner) (omega arith)) (as-group (c .before .before .before .before .pick .ensures) (c .before .before .x .given .1)) (c .flatten-at .ensures) .is
 
--- src/lib.rt:205:1
 returns-4 : tie.Need-returns-4
 returns-4 c = let a = c .before .before .before .before .before .before .before .args in flatten-none (a .store .now) (a .owner) (a .place .now) (within-is _ (whole _ (c .before .before .before .before .before .before .before .pre)) (c .before .before .before .before .number .ensures) (a .owner) (omega arith)) (as-none (c .before .before .pick .ensures) (c .enum-told2 .given .1)) .is
 

@@ -2,18 +2,13 @@ use Rattle.placing.proofs.ConvertLaws.{kind-2}
 use borrow.Author.Needs.{needs}
 use Rattle.placing.proofs.group_kind.Statement.{statement}
 use Rattle.placing.proofs.group_kind.Tie as tie
-use Rattle.placing.proofs.group_kind.Reads as reads
-use Rattle.placing.proofs.group_kind.Lts as lts
 
--- src/lib.rt:204:1
 returns : tie.Need-returns
 returns c = search needs
 
--- src/lib.rt:204:1
 returns-2 : tie.Need-returns-2
 returns-2 c = search needs
 
--- src/lib.rt:204:1
 returns-3 : tie.Need-returns-3
 returns-3 c = kind-2 _ (c .match .rest .0 .1) (c .match .rest .1)
 

@@ -2,20 +2,13 @@ use Rattle.placing.proofs.QuantifierLaws.{off-read}
 use borrow.Author.Needs.{needs}
 use Rattle.placing.proofs.is_off.Statement.{statement}
 use Rattle.placing.proofs.is_off.Tie as tie
-use Rattle.placing.proofs.is_off.Reads as reads
-use Rattle.placing.proofs.is_off.Lts as lts
-use Rattle.model.proofs.relaxes.Reads as relaxes-reads
-use Rattle.placing.proofs.cuts.Reads as cuts-reads
 
--- src/lib.rt:315:7
 relaxes-requires : tie.Need-relaxes-requires
 relaxes-requires c κs = search needs
 
--- src/lib.rt:315:53
 cuts-requires : tie.Need-cuts-requires
 cuts-requires c κs = search needs
 
--- src/lib.rt:312:1
 returns : tie.Need-returns
 returns c = let a = c .before .before .args in off-read (a .spine) (a .old) (a .new) (a .group) (c .before .relaxes .ensures) (c .cuts .ensures)
 

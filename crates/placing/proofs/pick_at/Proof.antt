@@ -2,31 +2,22 @@ use Rattle.placing.proofs.PickLaws.{pick-element, pick-group}
 use borrow.Author.Needs.{needs}
 use Rattle.placing.proofs.pick_at.Statement.{statement}
 use Rattle.placing.proofs.pick_at.Tie as tie
-use Rattle.placing.proofs.pick_at.Reads as reads
-use Rattle.placing.proofs.pick_at.Lts as lts
-use Rattle.model.proofs.read_particle.Reads as read-particle-reads
 
--- src/lib.rt:111:40
 mul-read-particle : tie.Need-mul-read-particle
 mul-read-particle c = search needs
 
--- src/lib.rt:111:9
 read-particle-requires : tie.Need-read-particle-requires
 read-particle-requires c κs = search needs
 
--- src/lib.rt:115:29
 enum-told : tie.Need-enum-told
 enum-told c = search needs
 
--- src/lib.rt:116:21
 enum-known-what : tie.Need-enum-known-what
 enum-known-what c = search needs
 
--- src/lib.rt:107:1
 returns : tie.Need-returns
 returns c = pick-element _ _ (c .before .before .before .before .args .part .now) (c .before .before .read-particle .ensures) _ (c .enum-told .given .1)
 
--- src/lib.rt:107:1
 returns-2 : tie.Need-returns-2
 returns-2 c = pick-group _ _ (c .before .before .before .before .before .args .part .now) (c .before .before .before .read-particle .ensures) _ _ (c .before .what .given .1)
 

@@ -3,37 +3,25 @@ use Rattle.placing.proofs.QuantifierLaws.{at-12, at-fine, at-13, at-0}
 use borrow.Author.Needs.{needs}
 use Rattle.placing.proofs.quantifier_at.Statement.{statement}
 use Rattle.placing.proofs.quantifier_at.Tie as tie
-use Rattle.placing.proofs.quantifier_at.Reads as reads
-use Rattle.placing.proofs.quantifier_at.Lts as lts
-use Rattle.placing.proofs.gains.Reads as gains-reads
-use Rattle.placing.proofs.instance_exists.Reads as instance-exists-reads
-use Rattle.placing.proofs.is_off.Reads as is-off-reads
 
--- src/lib.rt:346:8
 gains-requires : tie.Need-gains-requires
 gains-requires c κs = search needs
 
--- src/lib.rt:347:9
 returns : tie.Need-returns
 returns c = let a = c .before .before .before .before .args in at-12 (hasInstance (a .store .now) (a .owner)) (a .spine) (a .old) (a .new) (a .text .now) (a .group) (c .before .gains .ensures) (c .if1 .taken)
 
--- src/lib.rt:349:9
 is-off-requires : tie.Need-is-off-requires
 is-off-requires c κs = search needs
 
--- src/lib.rt:350:9
 returns-2 : tie.Need-returns-2
 returns-2 c = let a = c .before .before .before .before .before .before .args in at-fine (hasInstance (a .store .now) (a .owner)) (a .spine) (a .old) (a .new) (a .text .now) (a .group) (c .before .before .before .gains .ensures) (c .before .before .if1 .left) (c .before .is-off .ensures) (c .if2 .taken)
 
--- src/lib.rt:352:8
 instance-exists-requires : tie.Need-instance-exists-requires
 instance-exists-requires c κs = search needs
 
--- src/lib.rt:353:9
 returns-3 : tie.Need-returns-3
 returns-3 c = let a = c .before .before .before .before .before .before .before .before .args in at-13 (hasInstance (a .store .now) (a .owner)) (a .spine) (a .old) (a .new) (a .text .now) (a .group) (c .before .before .before .before .before .gains .ensures) (c .before .before .before .before .if1 .left) (c .before .before .before .is-off .ensures) (c .before .before .if2 .left) (c .before .instance-exists .ensures) (c .if3 .taken)
 
--- src/lib.rt:335:1
 returns-4 : tie.Need-returns-4
 returns-4 c = let a = c .before .before .before .before .before .before .before .before .args in at-0 (hasInstance (a .store .now) (a .owner)) (a .spine) (a .old) (a .new) (a .text .now) (a .group) (c .before .before .before .before .before .gains .ensures) (c .before .before .before .before .if1 .left) (c .before .before .before .is-off .ensures) (c .before .before .if2 .left) (c .before .instance-exists .ensures) (c .if3 .left)
 

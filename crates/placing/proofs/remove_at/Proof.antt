@@ -5,72 +5,49 @@ use native.Mathlib.Omega.{arith}
 use borrow.Author.Needs.{needs}
 use Rattle.placing.proofs.remove_at.Statement.{statement}
 use Rattle.placing.proofs.remove_at.Tie as tie
-use Rattle.placing.proofs.remove_at.Reads as reads
-use Rattle.placing.proofs.remove_at.Lts as lts
-use Rattle.codec.proofs.byte.Reads as byte-reads
-use Rattle.placing.proofs.choice_left.Reads as choice-left-reads
-use Rattle.placing.proofs.count_members.Reads as count-members-reads
-use Rattle.placing.proofs.instance_exists.Reads as instance-exists-reads
-use Rattle.placing.proofs.same_kind.Reads as same-kind-reads
-use Rattle.records.proofs.after.Reads as after-reads
 
--- src/lib.rt:346:31
 mul-byte : tie.Need-mul-byte
 mul-byte c = search needs
 
--- src/lib.rt:346:31
 add-byte : tie.Need-add-byte
 add-byte c = search needs
 
--- src/lib.rt:346:13
 byte-requires : tie.Need-byte-requires
 byte-requires c κs = search needs
 
--- src/lib.rt:346:13
 cast-d : tie.Need-cast-d
 cast-d c = search needs
 
--- src/lib.rt:347:48
 mul-after : tie.Need-mul-after
 mul-after c = search needs
 
--- src/lib.rt:347:27
 after-requires : tie.Need-after-requires
 after-requires c κs = search needs
 
--- src/lib.rt:347:9
 count-members-requires : tie.Need-count-members-requires
 count-members-requires c κs = search needs
 
--- src/lib.rt:349:9
 returns : tie.Need-returns
 returns c = let a = c .before .before .before .before .before .before .before .args in at-14 (hasInstance (a .store .now) (a .owner)) (a .part .now) (a .h) (a .p) (c .before .before .before .before .byte .ensures) (c .before .before .before .after .ensures) (c .before .before .count-members .ensures) (c .if1 .taken)
 
--- src/lib.rt:352:8
 same-kind-requires : tie.Need-same-kind-requires
 same-kind-requires c κs = search needs
 
--- src/lib.rt:353:9
 returns-2 : tie.Need-returns-2
 returns-2 c = let a = c .before .before .before .before .before .before .before .before .before .args in at-list (hasInstance (a .store .now) (a .owner)) (a .part .now) (a .h) (a .p) (c .before .before .before .before .before .before .byte .ensures) (c .before .before .before .before .before .after .ensures) (c .before .before .before .before .count-members .ensures) (c .before .before .if1 .left) (c .before .same-kind .ensures) (c .if2 .taken)
 
--- src/lib.rt:355:8
 choice-left-requires : tie.Need-choice-left-requires
 choice-left-requires c κs = (c .before .before .before .before .before .before .before .before .before .pre .deep (sym (c .before .same-kind .ensures) ∙ c .if2 .left), c .before .before .before .before .before .before .before .before .before .pre .later, c .before .before .before .before .before .before .before .before .before .pre .there, omega arith)
 
--- src/lib.rt:356:9
 returns-3 : tie.Need-returns-3
 returns-3 c = let a = c .before .before .before .before .before .before .before .before .before .before .before .args in at-left (hasInstance (a .store .now) (a .owner)) (a .part .now) (a .h) (a .p) (c .before .before .before .before .before .before .before .before .byte .ensures) (c .before .before .before .before .before .before .before .after .ensures) (c .before .before .before .before .before .before .count-members .ensures) (c .before .before .before .before .if1 .left) (c .before .before .before .same-kind .ensures) (c .before .choice-left .ensures) (c .if3 .taken)
 
--- src/lib.rt:358:8
 instance-exists-requires : tie.Need-instance-exists-requires
 instance-exists-requires c κs = search needs
 
--- src/lib.rt:359:9
 returns-4 : tie.Need-returns-4
 returns-4 c = let a = c .before .before .before .before .before .before .before .before .before .before .before .before .before .args in at-15 (hasInstance (a .store .now) (a .owner)) (a .part .now) (a .h) (a .p) (c .before .before .before .before .before .before .before .before .before .before .byte .ensures) (c .before .before .before .before .before .before .before .before .before .after .ensures) (c .before .before .before .before .before .before .before .before .count-members .ensures) (c .before .before .before .before .before .before .if1 .left) (c .before .before .before .before .before .same-kind .ensures) (c .before .before .before .choice-left .ensures) (c .before .before .before .before .if2 .left) (c .before .before .if3 .left) (c .before .instance-exists .ensures) (c .if4 .taken)
 
--- src/lib.rt:342:1
 returns-5 : tie.Need-returns-5
 returns-5 c = let a = c .before .before .before .before .before .before .before .before .before .before .before .before .before .args in at-0 (hasInstance (a .store .now) (a .owner)) (a .part .now) (a .h) (a .p) (c .before .before .before .before .before .before .before .before .before .before .byte .ensures) (c .before .before .before .before .before .before .before .before .before .after .ensures) (c .before .before .before .before .before .before .before .before .count-members .ensures) (c .before .before .before .before .before .before .if1 .left) (c .before .before .before .before .before .same-kind .ensures) (c .before .before .before .choice-left .ensures) (c .before .before .before .before .if2 .left) (c .before .before .if3 .left) (c .before .instance-exists .ensures) (c .if4 .left)
 

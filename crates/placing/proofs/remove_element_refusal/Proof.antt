@@ -6,54 +6,37 @@ use Rattle.placing.proofs.RemoveLaws.{removable, remove-6, remove-none,
 use borrow.Author.Needs.{needs}
 use Rattle.placing.proofs.remove_element_refusal.Statement.{statement}
 use Rattle.placing.proofs.remove_element_refusal.Tie as tie
-use Rattle.placing.proofs.remove_element_refusal.Reads as reads
-use Rattle.placing.proofs.remove_element_refusal.Lts as lts
-use Rattle.placing.proofs.own_part.Reads as own-part-reads
-use Rattle.placing.proofs.pick.Reads as pick-reads
-use Rattle.placing.proofs.remove_at.Reads as remove-at-reads
-use Rattle.records.proofs.number.Reads as number-reads
 
--- src/lib.rt:369:26
 number-requires : tie.Need-number-requires
 number-requires c κs = search needs
 
--- src/lib.rt:370:9
 returns : tie.Need-returns
 returns c = let a = c .before .before .before .before .args in remove-6 (a .store .now) (whole _ (c .before .before .before .before .pre)) (a .owner) (a .place .now) (past-is _ (whole _ (c .before .before .before .before .pre)) (c .before .number .ensures) (a .owner) (omega arith)) .is
 
--- src/lib.rt:372:9
 own-part-requires : tie.Need-own-part-requires
 own-part-requires c κs = let a = c .before .before .before .before .args in omega (arith, whole (a .store .now) (c .before .before .before .before .pre) .fewDefinitions, c .before .number .ensures .value)
 
--- src/lib.rt:373:9
 pick-requires : tie.Need-pick-requires
 pick-requires c κs = search needs
 
--- src/lib.rt:375:25
 enum-known-x : tie.Need-enum-known-x
 enum-known-x c = search needs
 
--- src/lib.rt:375:37
 remove-at-requires : tie.Need-remove-at-requires
 remove-at-requires c κs = removable (as-element (c .before .before .before .pick .ensures) (c .before .x .given .1)) (c .before .before .before .before .own-part .ensures)
 
--- src/lib.rt:376:41
 enum-told : tie.Need-enum-told
 enum-told c = search needs
 
--- src/lib.rt:377:27
 enum-told-2 : tie.Need-enum-told-2
 enum-told-2 c = search needs
 
--- src/lib.rt:365:1
 returns-2 : tie.Need-returns-2
 returns-2 c = let a = c .before .before .before .before .before .before .before .before .before .before .args in remove-there (a .store .now) (whole _ (c .before .before .before .before .before .before .before .before .before .before .pre)) (a .owner) (a .place .now) (omega (arith, c .before .before .before .before .before .before .before .number .ensures .value, whole (a .store .now) (c .before .before .before .before .before .before .before .before .before .before .pre) .agrees .size)) (as-element (c .before .before .before .before .pick .ensures) (c .before .before .x .given .1)) (c .before .before .before .before .before .own-part .ensures) (c .remove-at .ensures) .is
 
--- src/lib.rt:365:1
 returns-3 : tie.Need-returns-3
 returns-3 c = let a = c .before .before .before .before .before .before .before .before .args in remove-group (a .store .now) (whole _ (c .before .before .before .before .before .before .before .before .pre)) (a .owner) (a .place .now) (omega (arith, c .before .before .before .before .before .number .ensures .value, whole (a .store .now) (c .before .before .before .before .before .before .before .before .pre) .agrees .size)) (as-group (c .before .before .pick .ensures) (c .enum-told .given .1)) .is
 
--- src/lib.rt:365:1
 returns-4 : tie.Need-returns-4
 returns-4 c = let a = c .before .before .before .before .before .before .before .before .args in remove-none (a .store .now) (whole _ (c .before .before .before .before .before .before .before .before .pre)) (a .owner) (a .place .now) (omega (arith, c .before .before .before .before .before .number .ensures .value, whole (a .store .now) (c .before .before .before .before .before .before .before .before .pre) .agrees .size)) (as-none (c .before .before .pick .ensures) (c .enum-told2 .given .1)) .is
 

@@ -2,15 +2,10 @@ use Rattle.placing.proofs.GroupLaws.{unlike-read}
 use borrow.Author.Needs.{needs}
 use Rattle.placing.proofs.unlike.Statement.{statement}
 use Rattle.placing.proofs.unlike.Tie as tie
-use Rattle.placing.proofs.unlike.Reads as reads
-use Rattle.placing.proofs.unlike.Lts as lts
-use Rattle.placing.proofs.same_kind.Reads as same-kind-reads
 
--- src/lib.rt:187:7
 same-kind-requires : tie.Need-same-kind-requires
 same-kind-requires c κs = search needs
 
--- src/lib.rt:184:1
 returns : tie.Need-returns
 returns c = unlike-read (c .before .args .list) (c .before .args .kind) (c .before .args .n) (c .same-kind .ensures)
 

@@ -131,7 +131,7 @@ module _ {bs : Bytes} (h : Headed bs) where
       ap (readMany readAttribute (attributeSize baseWidth) (attributeCount bs)) from-attributes
       ∙ sym (ap (readMany readAttribute (attributeSize baseWidth) (attributeCount bs)) attributes-cut ∙ many-within readAttribute (attributeSize baseWidth) (attributeCount bs) (drop (atAttributes bs) bs))
 
-  same-rows : flatOf bs .rows ≡ readMany readRow (rowSize baseWidth) (rowCount bs) (rowsIn bs)
+  pub same-rows : flatOf bs .rows ≡ readMany readRow (rowSize baseWidth) (rowCount bs) (rowsIn bs)
   same-rows =
       ap (readMany readRow (rowSize baseWidth) (rowCount bs))
       (ap (λ (ys : Bytes). drop (attributeSize baseWidth * attributeCount bs) ys) from-attributes ∙ drop-drop (attributeSize baseWidth * attributeCount bs) (atAttributes bs) bs)
@@ -141,7 +141,7 @@ module _ {bs : Bytes} (h : Headed bs) where
   abbrev pub formIn : FlatStore
   formIn = formOf (definitionCount bs) (definitionsIn bs) (particleCount bs) (particlesIn bs) (attributeCount bs) (attributesIn bs)
 
-  same-form : unflat (flatOf bs) .form ≡ unflat formIn .form
+  pub same-form : unflat (flatOf bs) .form ≡ unflat formIn .form
   same-form = λ i. readForm (map flatName (same-definitions i)) 0 (same-definitions i) (same-particles i) (same-attributes i)
 
   same-bodies : bodiesFit (flatOf bs) ≡ bodiesFit formIn

@@ -25,8 +25,8 @@ fn number(store: &[u8], at: usize) -> usize
     codec::get_u32(store, at) as usize
 }
 
-// The body whose entry stands at `entry`, of records of `size` bytes; none where the string is too short for it.
-fn body(store: &[u8], entry: usize, size: usize) -> &[u8]
+/// The body whose entry stands at `entry`, of records of `size` bytes; none where the string is too short for it.
+pub fn body(store: &[u8], entry: usize, size: usize) -> &[u8]
     requires { ⌜ (entry ≤ 32) × (size ≤ 52) ⌝ }
     ensures { λ r. ⌜ now r ≡ bodyAt entry size (now (store .entry)) ⌝ }
 {

@@ -164,7 +164,7 @@ marked-is {n} {members} {l} {r} s i = by (eqb (getD l i 0) 0) refl
     by true e = sym (s .is i r (omega arith) ∙ between-none (getD l i 0) r (eqb-true (getD l i 0) 0 e))
     by false e = sym (s .is i r (omega arith) ∙ between-yes (getD l i 0) r (omega (arith, eqb-false (getD l i 0) 0 e)) (s .most i))
 
-deep-past : (members : ℕ → List ℕ) (n h i : ℕ) → n ≤ i → deepIndex members n h i ≡ false
+pub deep-past : (members : ℕ → List ℕ) (n h i : ℕ) → n ≤ i → deepIndex members n h i ≡ false
 unfolding deepIndex
 deep-past members n zero i l = refl
 deep-past members n (suc h) i l = rw (le-ltb i n l)

@@ -1,3 +1,4 @@
 pub mod FormFacts
 pub mod ReachLaws
 pub mod ModelLaws
+pub mod InstanceLaws

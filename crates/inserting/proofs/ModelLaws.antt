@@ -42,10 +42,10 @@ other-first t {a} {b} i x y = ap₂ (λ (u v : ℕ). not (eqb u 0 && eqb i v)) x
     by false = refl
 
 module _ (bs : Bytes) (w : Reads bs) where
-  size : definitionCount bs ≡ length (formIn bs)
+  pub size : definitionCount bs ≡ length (formIn bs)
   size = w .whole .agrees .size
 
-  apart : (i j : ℕ) → i < length (formIn bs) → j < length (formIn bs) → same (nameAt i (namesOf (formIn bs))) (nameAt j (namesOf (formIn bs))) ≡ eqb i j
+  pub apart : (i j : ℕ) → i < length (formIn bs) → j < length (formIn bs) → same (nameAt i (namesOf (formIn bs))) (nameAt j (namesOf (formIn bs))) ≡ eqb i j
   apart = same-names (valueWidth (storeIn bs .version)) (formIn bs) (well-formed (valueWidth (storeIn bs .version)) (formIn bs) .1 (w .whole .good .form)) (byIndex bs) (w .whole .agrees)
 
   acyclic : (n : Bytes) → Reaches (formIn bs) n n → ⊥

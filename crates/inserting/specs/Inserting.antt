@@ -1,11 +1,14 @@
--- The conditions of the change that inserts an element, from row 9 on.
+-- What the code of the change that inserts an element tests.
 -- Assumes nothing.
 use Prim.Native.Nat.{ℕ}
 use mathlib.Core.Bool.{Bool, not, _&&_, _||_}
 use mathlib.Core.List.{List, [], _∷_}
+use lib.Dec.{eqb}
 use Rattle.rules.specs.Bytes.{Bytes, same, bytes}
 use Rattle.rules.specs.Model.{names, member}
 use Rattle.rules.specs.Store.{Definition, Form, Store, members}
+use Rattle.rules.specs.Preorder.{Deep}
+use Rattle.rules.specs.Layout.{FlatRow}
 use Rattle.rules.specs.WellFormed.{reachesIn}
 use Rattle.rules.specs.Change.{definitionAt, nameAtIndex}
 use Rattle.rules.specs.Refusal.{Condition, _if_, isComplex, instanceExists}
@@ -27,3 +30,7 @@ modelConditions o i needed unfilled off s =
     ∷ 12 if (needed && unfilled)
     ∷ 13 if (instanceExists (definitionAt o (s .form) .name) s && (needed && off))
     ∷ []
+
+-- an element row of definition o
+abbrev pub isInstance : ℕ → Deep FlatRow → Bool
+isInstance o x = eqb (x .row .sort) 1 && eqb o (x .row .index)

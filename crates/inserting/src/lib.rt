@@ -4,13 +4,15 @@ ghost use mathlib.Core.Bool.{true, not};
 ghost use Prim.Native.Nat.{_<_, _≤_};
 ghost use lib.Dec.{eqb};
 ghost use Rattle.rules.specs.Bytes.{all};
-ghost use Rattle.rules.specs.Decode.{definitionCount};
+ghost use Rattle.rules.specs.Decode.{definitionCount, readRow};
 ghost use Rattle.rules.specs.Passing.{passes};
+ghost use Rattle.rules.specs.Change.{nameAtIndex};
+ghost use Rattle.rules.specs.Refusal.{instanceExists};
 ghost use Rattle.circles.specs.Members.{elementsOf};
 ghost use Rattle.rowpass.specs.Reading.{modelPart};
 ghost use Rattle.validity.specs.Check.{definitionsIn, particlesIn};
 ghost use Rattle.storing.specs.Stores.{storeIn};
-ghost use Rattle.inserting.specs.Inserting.{inModel, comesRound};
+ghost use Rattle.inserting.specs.Inserting.{inModel, comesRound, isInstance};
 
 // ---- the model
 // Definition i's part of the particles.
@@ -55,4 +57,29 @@ fn comes_round(store: &[u8], o: usize, i: usize) -> bool
     let parts = validity::body(store, 16, 4);
     let heights = circles::heights_avoiding(n, defs, parts, o);
     codec::byte(&heights, i) == 0
+}
+
+// ---- instances
+// Whether a row is an element of definition o.
+fn is_instance(row: &[u8], o: usize) -> bool
+    ensures { λ r. ⌜ r ≡ isInstance o (readRow (now (row .entry))) ⌝ }
+{
+    (codec::byte(row, 0) == 1) & (o == codec::get_u16(row, 2) as usize)
+}
+
+// Whether an element of definition o stands in a document.
+fn instance_exists(store: &[u8], o: usize) -> bool
+    requires { ⌜ (passes (now store) ≡ true) × (o < definitionCount (now store)) ⌝ }
+    ensures { λ r. ⌜ r ≡ instanceExists (nameAtIndex o (storeIn (now (store .entry)) .form)) (storeIn (now (store .entry))) ⌝ }
+{
+    let rows = validity::body(store, 32, 44);
+    let count = records::number(store, 36);
+    let mut i = 0;
+    while i < count {
+        if is_instance(rowpass::cut(rows, 44 * i, 44), o) {
+            return true;
+        }
+        i += 1;
+    }
+    false
 }

@@ -7,12 +7,12 @@ ghost use Rattle.rules.specs.Bytes.{all};
 ghost use Rattle.rules.specs.Decode.{definitionCount, readRow};
 ghost use Rattle.rules.specs.Passing.{passes};
 ghost use Rattle.rules.specs.Change.{nameAtIndex};
-ghost use Rattle.rules.specs.Refusal.{instanceExists};
+ghost use Rattle.rules.specs.Refusal.{first, instanceExists};
 ghost use Rattle.circles.specs.Members.{elementsOf};
 ghost use Rattle.rowpass.specs.Reading.{modelPart};
 ghost use Rattle.validity.specs.Check.{definitionsIn, particlesIn};
 ghost use Rattle.storing.specs.Stores.{storeIn};
-ghost use Rattle.inserting.specs.Inserting.{inModel, comesRound, isInstance};
+ghost use Rattle.inserting.specs.Inserting.{inModel, comesRound, modelConditions, isInstance};
 
 // ---- the model
 // Definition i's part of the particles.
@@ -82,4 +82,28 @@ fn instance_exists(store: &[u8], o: usize) -> bool
         i += 1;
     }
     false
+}
+
+// ---- the conditions
+// From row 9 on. `needed`: NONE or PLUS; `unfilled`: the default is empty; `off`: the place is in a LIST off the spine.
+fn model_refusal(store: &[u8], o: usize, i: usize, needed: bool, unfilled: bool, off: bool) -> u32
+    requires { ⌜ (passes (now store) ≡ true) × (o < definitionCount (now store)) × (i < definitionCount (now store)) ⌝ }
+    ensures { λ r. ⌜ r ≡ first (modelConditions o i needed unfilled off (storeIn (now (store .entry)))) ⌝ }
+{
+    if rowpass::kind_of(validity::body(store, 8, 20), o) != 2 {
+        return 9;
+    }
+    if in_model(store, o, i) {
+        return 10;
+    }
+    if comes_round(store, o, i) {
+        return 11;
+    }
+    if needed & unfilled {
+        return 12;
+    }
+    if !(needed & off) {
+        return 0;
+    }
+    if instance_exists(store, o) { 13 } else { 0 }
 }

@@ -1,3 +1,5 @@
 pub mod Searching
 pub mod FirstLaws
 pub mod AttributeLaws
+pub mod OwnParts
+pub mod PlaceLaws

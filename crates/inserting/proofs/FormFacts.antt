@@ -2,9 +2,8 @@
 -- Assumes nothing.
 use Prim.Native.Nat.{ℕ, zero, suc, _+_, _*_, _<_, _≤_}
 use native.Mathlib.Omega.{arith}
-use mathlib.Core.Path.{_≡_, refl, sym, ap, ap₂, _∙_, subst}
+use mathlib.Core.Path.{_≡_, refl, sym, ap₂, _∙_, subst}
 use mathlib.Core.Bool.{true}
-use mathlib.Core.List.{List}
 use lib.ListN.{length, take, drop}
 use Rattle.rules.specs.Bytes.{Bytes}
 use Rattle.rules.specs.Store.{Form}
@@ -21,12 +20,11 @@ use Rattle.circles.specs.Members.{countAt, startAt, membersIn}
 use Rattle.circles.specs.Members as circles
 use Rattle.circles.proofs.CircleLaws.{Indexed}
 use Rattle.rowpass.specs.Reading.{definitionIn, particlesBefore, modelPart}
-use Rattle.validity.specs.Check.{FormPasses, definitionsIn, particlesIn}
-use Rattle.validity.proofs.FormLaws.{Laid, members-indexed, part-room}
+use Rattle.validity.specs.Check.{definitionsIn, particlesIn}
+use Rattle.validity.proofs.FormLaws.{members-indexed, part-room}
 use Rattle.validity.proofs.StringChecks.{Headed, laid-in, passes-header, passes-in, same-form}
 use Rattle.validity.proofs.IndexReads.{index-agrees}
 use Rattle.storing.specs.Stores.{storeIn}
-use Rattle.storing.proofs.StoreLaws.{Holds}
 use Rattle.finding.proofs.StoreFacts.{formIn, byIndex, Whole, whole}
 
 -- ---- one part of the particles, read in two ways

@@ -1,18 +1,18 @@
 -- An instance of a definition among the rows that are written, and among the lines of the documents.
 -- Assumes nothing.
-use Prim.Native.Nat.{ℕ, zero, suc, _<_}
+use Prim.Native.Nat.{ℕ, suc, _<_}
 use native.Mathlib.Omega.{arith}
 use mathlib.Core.Path.{_≡_, refl, sym, ap, ap₂, _∙_}
-use mathlib.Core.Bool.{Bool, true, false, _&&_, _||_}
+use mathlib.Core.Bool.{Bool, true, _&&_, _||_}
 use mathlib.Core.Option.{some}
-use mathlib.Core.List.{List, [], _∷_, _++_}
+use mathlib.Core.List.{List, []}
 use lib.Dec.{eqb}
 use lib.ListN.{length}
 use Rattle.rules.specs.Bytes.{Bytes, same, any}
 use Rattle.rules.specs.Store.{Definition, Form, RowSort, element, attribute, text, Row, Forest, bare, tree, heads}
-use Rattle.rules.specs.Preorder.{Deep, flatten}
-use Rattle.rules.specs.Layout.{FlatRow, rowCode, indexed, indexOf, attributeIndex}
-use Rattle.rules.specs.Decode.{nameAt, readRow, readMany, rowCount, definitionCount}
+use Rattle.rules.specs.Preorder.{flatten}
+use Rattle.rules.specs.Layout.{rowCode, indexed, indexOf, attributeIndex}
+use Rattle.rules.specs.Decode.{readRow, readMany, rowCount, definitionCount}
 use Rattle.rules.specs.WellFormed.{lookup, isThere, known}
 use Rattle.rules.specs.Conforming.{isElement, EveryRow, ElementRows, RowConforms}
 use Rattle.rules.specs.Change.{nameAtIndex}
@@ -21,10 +21,9 @@ use Rattle.rules.specs.Refusal.{instanceExists}
 use Rattle.records.specs.Records.{NumberAt}
 use Rattle.lookup.proofs.Laws.{from-all}
 use Rattle.validity.specs.Check.{rowsIn}
-use Rattle.validity.proofs.IndexLaws.{namesOf, Indexed, known-index, name-of}
+use Rattle.validity.proofs.IndexLaws.{Indexed, known-index, name-of}
 use Rattle.validity.proofs.AttributeRows.{rowWritten}
 use Rattle.storing.specs.Stores.{storeIn}
-use Rattle.finding.specs.Finding.{rowsFrom}
 use Rattle.finding.proofs.StoreFacts.{formIn, docsIn}
 use Rattle.placing.proofs.AttributeLaws.{any-append}
 use Rattle.inserting.specs.Inserting.{isInstance}

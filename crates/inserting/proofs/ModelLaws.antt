@@ -1,27 +1,25 @@
 -- What the code finds of a model in a store that passes, and the conditions 9, 10 and 11 on it.
 -- Assumes nothing.
-use Prim.Native.Nat.{ℕ, zero, suc, _+_, _-_, _<_, _≤_}
+use Prim.Native.Nat.{ℕ, _-_, _<_}
 use native.Mathlib.Omega.{arith}
 use mathlib.Core.Path.{_≡_, refl, sym, ap, ap₂, _∙_, subst}
-use mathlib.Core.Option.{Option, none, some}
 use mathlib.Core.Bool.{Bool, true, false, not, _&&_, _||_}
 use mathlib.Core.List.{List, [], _∷_, map, List·Memᴰ, List·Memᴰ·head, List·Memᴰ·tail}
 use lib.Dec.{eqb}
-use lib.ListN.{length, getD, take, drop}
+use lib.ListN.{length, getD}
 use Rattle.rules.specs.Bytes.{Bytes, same, bytes, all}
 use Rattle.rules.specs.Model.{names, member}
-use Rattle.rules.specs.Store.{Definition, Form, members}
+use Rattle.rules.specs.Store.{members}
 use Rattle.rules.specs.Layout.{valueWidth}
 use Rattle.rules.specs.Decode.{nameAt, definitionCount}
-use Rattle.rules.specs.WellFormed.{definitionName, namesIn, membersOf, Reaches, reachesIn, wellFormed}
-use Rattle.rules.specs.Change.{definitionAt, nameAtIndex}
+use Rattle.rules.specs.WellFormed.{namesIn, Reaches, reachesIn}
+use Rattle.rules.specs.Change.{definitionAt}
 use Rattle.rules.proofs.WellFormedLaws.{well-formed}
 use Rattle.rules.proofs.Height.{lookup-member, known-found, reaches-known}
 use Rattle.circles.specs.Members.{elementsOf, membersIn}
-use Rattle.circles.specs.Members as circles
 use Rattle.circles.specs.Deep.{marked, firstPasses}
 use Rattle.circles.specs.Avoiding.{Avoids}
-use Rattle.circles.proofs.CircleLaws.{Indexed, members-named}
+use Rattle.circles.proofs.CircleLaws.{members-named}
 use Rattle.rowpass.specs.Reading.{modelPart}
 use Rattle.validity.specs.Check.{definitionsIn, particlesIn}
 use Rattle.validity.proofs.IndexLaws.{namesOf, lookup-at, name-of}

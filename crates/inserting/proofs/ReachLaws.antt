@@ -1,14 +1,14 @@
 -- The definitions with a height that avoids a target are those that neither are the target nor reach it, by name.
 -- Assumes nothing.
-use Prim.Native.Nat.{ℕ, zero, suc, _<_, _≤_}
+use Prim.Native.Nat.{ℕ, zero, suc, _<_}
 use native.Mathlib.Omega.{arith}
 use mathlib.Core.Path.{_≡_, refl, sym, ap, ap₂, _∙_}
 use mathlib.Core.Bool.{Bool, true, false, not, _&&_, _||_, false≢true}
 use mathlib.Core.List.{List, [], _∷_, map, List·Memᴰ, List·Memᴰ·head, List·Memᴰ·tail}
 use lib.Dec.{eqb, ltb}
 use lib.ListN.{length}
-use borrow.Author.Tests.{lt-ltb, eqb-true}
-use Rattle.rules.specs.Bytes.{Bytes, same, same-refl, all, any}
+use borrow.Author.Tests.{lt-ltb}
+use Rattle.rules.specs.Bytes.{Bytes, same, all, any}
 use Rattle.rules.specs.Store.{Form}
 use Rattle.rules.specs.Decode.{nameAt}
 use Rattle.rules.specs.WellFormed.{definitionName, membersOf, Reaches, reaches, reachesIn}

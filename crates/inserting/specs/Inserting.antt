@@ -10,7 +10,7 @@ use Rattle.rules.specs.Bytes.{Bytes, same, bytes}
 use Rattle.rules.specs.Model.{names, member}
 use Rattle.rules.specs.Place.{Found, kindAt, spine}
 use Rattle.rules.specs.Edit.{sameKind}
-use Rattle.rules.specs.Store.{Definition, Form, Store, members}
+use Rattle.rules.specs.Store.{Form, Store, members}
 use Rattle.rules.specs.Preorder.{Deep}
 use Rattle.rules.specs.Layout.{FlatRow}
 use Rattle.rules.specs.WellFormed.{reachesIn}

@@ -1,7 +1,6 @@
 -- `inserting::comes_round` meets its contract. Assumes nothing.
-use mathlib.Core.Path.{_≡_}
 use native.Mathlib.Omega.{arith}
-use Rattle.inserting.proofs.FormFacts.{Reads, reads}
+use Rattle.inserting.proofs.FormFacts.{reads}
 use Rattle.inserting.proofs.ModelLaws.{round-is}
 use borrow.Author.Needs.{needs}
 use Rattle.inserting.proofs.comes_round.Statement.{statement}

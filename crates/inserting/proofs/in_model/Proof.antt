@@ -1,5 +1,4 @@
 -- `inserting::in_model` meets its contract. Assumes nothing.
-use mathlib.Core.Path.{_≡_}
 use native.Mathlib.Omega.{arith}
 use Rattle.inserting.proofs.FormFacts.{reads}
 use Rattle.inserting.proofs.ModelLaws.{in-model-is}

@@ -1,5 +1,4 @@
 -- `inserting::insert_element_refusal` meets its contract. Assumes nothing.
-use mathlib.Core.Path.{_≡_}
 use native.Mathlib.Omega.{arith}
 use Rattle.inserting.proofs.FormFacts.{reads}
 use Rattle.inserting.proofs.RefusalLaws.{insert-3, insert-4, insert-6, insert-6-too, insert-on}

@@ -1,5 +1,4 @@
 -- `inserting::model_refusal` meets its contract. Assumes nothing.
-use mathlib.Core.Path.{_≡_}
 use native.Mathlib.Omega.{arith}
 use Rattle.inserting.proofs.FormFacts.{reads}
 use Rattle.inserting.proofs.RefusalLaws.{model-9, model-10, model-11, model-12, model-on, model-13, model-none}

@@ -1,5 +1,4 @@
 -- `inserting::place_refusal` meets its contract. Assumes nothing.
-use mathlib.Core.Path.{_≡_, sym}
 use native.Mathlib.Omega.{arith}
 use Rattle.inserting.proofs.FormFacts.{reads}
 use Rattle.inserting.proofs.RefusalLaws.{place-8, place-on}

@@ -3,3 +3,4 @@ pub mod FirstLaws
 pub mod AttributeLaws
 pub mod OwnParts
 pub mod PlaceLaws
+pub mod InstanceLaws

@@ -11,7 +11,8 @@ use Rattle.rules.specs.declared.GroupKind.the-variants.{Sequence}
 use Rattle.rules.specs.Bytes.{Bytes, same}
 use Rattle.rules.specs.Model.{Members, rename}
 use Rattle.rules.specs.Store.{members}
-use Rattle.rules.specs.Layout.{headerSize, definitionSize, particleSize, FlatAttribute, indexOf}
+use Rattle.rules.specs.Preorder.{Deep}
+use Rattle.rules.specs.Layout.{headerSize, definitionSize, particleSize, FlatAttribute, FlatRow, indexOf}
 use Rattle.rules.specs.Decode.{definitionCount, particleCount}
 use Rattle.rules.specs.Place.{Context, Found as Spot, gap, nth, find, plug, kindAt, spine, renameAround}
 use Rattle.rules.specs.Change.{definitionAt}
@@ -30,6 +31,11 @@ attributeBody bs = drop (particleSize * particleCount bs) (drop (definitionSize 
 -- one named n of definition o
 abbrev pub ownNamed : ℕ → Bytes → FlatAttribute → Bool
 ownNamed o n a = eqb (a .owner) o && same n (a .name)
+
+-- ---- instances
+-- an element row of definition o
+abbrev pub instanceRow : ℕ → Deep FlatRow → Bool
+instanceRow o x = eqb (x .row .sort) 1 && eqb (x .row .index) o
 
 -- ---- places
 -- the index of a name

@@ -4,14 +4,15 @@ ghost use mathlib.Core.Bool.{true};
 ghost use Prim.Native.Nat.{_<_};
 ghost use lib.ListN.{length};
 ghost use Rattle.rules.specs.Bytes.{any};
-ghost use Rattle.rules.specs.Decode.{readAttribute};
+ghost use Rattle.rules.specs.Decode.{readAttribute, readRow, readMany, rowCount};
 ghost use Rattle.rules.specs.Passing.{passes};
 ghost use Rattle.rules.specs.Change.{addAttribute, destroyAttribute};
 ghost use Rattle.rules.specs.Refusal.{first, conditions, wrongDefault};
 ghost use Rattle.rowpass.specs.Reading.{recordAt};
+ghost use Rattle.validity.specs.Check.{rowsIn};
 ghost use Rattle.lookup.specs.Bodies.{bodiesOf};
 ghost use Rattle.storing.specs.Stores.{storeIn};
-ghost use Rattle.placing.specs.Placing.{attributeBody, ownNamed};
+ghost use Rattle.placing.specs.Placing.{attributeBody, ownNamed, instanceRow};
 
 // ---- attributes
 // The record of attribute i.
@@ -57,6 +58,24 @@ fn is_wrong_default(sort: u32, value: &[u8]) -> bool
         1 => value.len() == 0,
         _ => false,
     }
+}
+
+// ---- instances
+// Whether an instance of a definition exists.
+fn instance_exists(store: &[u8], definition: u32) -> bool
+    ensures { λ r. ⌜ r ≡ any (instanceRow definition) (readMany readRow 44 (rowCount (now (store .entry))) (rowsIn (now (store .entry)))) ⌝ }
+{
+    let rows = validity::body(store, 32, 44);
+    let count = records::number(store, 36);
+    let mut i = 0;
+    while i < count {
+        let row = rowpass::cut(rows, 44 * i, 44);
+        if (codec::byte(row, 0) == 1) & (codec::get_u16(row, 2) == definition) {
+            return true;
+        }
+        i += 1;
+    }
+    false
 }
 
 /// Refusals 2, 3, 4, 5, 6 and 12 of the change that adds an attribute.

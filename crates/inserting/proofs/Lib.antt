@@ -1,5 +1,4 @@
 pub mod FormFacts
 pub mod ReachLaws
 pub mod ModelLaws
-pub mod InstanceLaws
 pub mod RefusalLaws

@@ -11,13 +11,13 @@ use lib.ListN.{length}
 use borrow.Author.Tests.{not-true, not-false, lt-ltb, le-ltb, ne-eqb}
 use Rattle.rules.specs.declared.GroupKind.{GroupKind}
 use Rattle.rules.specs.declared.GroupKind.the-variants.{Sequence}
-use Rattle.rules.specs.Bytes.{Bytes, isNone}
+use Rattle.rules.specs.Bytes.{Bytes, isNone, any}
 use Rattle.rules.specs.Model.{skips}
 use Rattle.rules.specs.Place.{Found as Spot, kindAt, spine}
 use Rattle.rules.specs.Edit.{insert, sameKind, insertOff}
 use Rattle.rules.specs.Store.{Content, empty, pcdata, complex, Store}
 use Rattle.rules.specs.Layout.{kindCode}
-use Rattle.rules.specs.Decode.{quantifierOf, definitionCount}
+use Rattle.rules.specs.Decode.{quantifierOf, readRow, readMany, definitionCount, rowCount}
 use Rattle.rules.specs.WellFormed.{isValue}
 use Rattle.rules.specs.Passing.{passes}
 use Rattle.rules.specs.Change.{insertElement, definitionAt, nameAtIndex}
@@ -28,12 +28,13 @@ use Rattle.model.specs.declared.place.Found.{Found}
 use Rattle.model.specs.declared.place.Found.the-variants.{At, Absent}
 use Rattle.model.specs.Places.{placeOf}
 use Rattle.rowpass.specs.Reading.{definitionIn}
-use Rattle.validity.specs.Check.{definitionsIn}
+use Rattle.validity.specs.Check.{definitionsIn, rowsIn}
 use Rattle.storing.specs.Stores.{storeIn}
 use Rattle.finding.proofs.StoreFacts.{formIn}
 use Rattle.finding.proofs.RefusalLaws.{past-definitions, within-definitions}
-use Rattle.placing.specs.Placing.{modelIn, partIn, foundBy, Placed}
+use Rattle.placing.specs.Placing.{instanceRow, modelIn, partIn, foundBy, Placed}
 use Rattle.placing.proofs.FirstLaws.{First, hit, next, none-holds, test-is, not-is}
+use Rattle.placing.proofs.InstanceLaws.{instance-is}
 use Rattle.placing.proofs.PlaceLaws.{found-insert, absent, present-at}
 use Rattle.inserting.specs.Inserting.{inModel, comesRound, modelConditions, offSpine, placeConditions}
 use Rattle.inserting.proofs.FormFacts.{Reads}
@@ -86,9 +87,9 @@ module _ (bs : Bytes) (w : Reads bs) (o i : ℕ) (lo : o < definitionCount bs) (
           pub model-on : not (needed && off) ≡ true → Result 0
           model-on f = last (ap (λ (z : Bool). instanceExists (nameAtIndex o (formIn bs)) (storeIn bs) && z) (not-true (needed && off) f) ∙ and-false (instanceExists (nameAtIndex o (formIn bs)) (storeIn bs))) (next refl none-holds)
 
-          module _ (off-is : not (needed && off) ≡ false) {d : Bool} (e13 : d ≡ instanceExists (nameAtIndex o (formIn bs)) (storeIn bs)) where
+          module _ (off-is : not (needed && off) ≡ false) {d : Bool} (e13 : d ≡ any (instanceRow o) (readMany readRow 44 (rowCount bs) (rowsIn bs))) where
             there : (z : Bool) → d ≡ z → (instanceExists (nameAtIndex o (formIn bs)) (storeIn bs) && (needed && off)) ≡ (z && true)
-            there z f = ap₂ (λ (u v : Bool). u && v) (test-is e13 f) (not-false (needed && off) off-is)
+            there z f = ap₂ (λ (u v : Bool). u && v) (sym (instance-is bs (w .whole) o (omega (arith, size bs w))) ∙ test-is e13 f) (not-false (needed && off) off-is)
 
             pub model-13 : d ≡ true → Result 13
             model-13 f = last (there true f) (hit refl)

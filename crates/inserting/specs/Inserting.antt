@@ -4,15 +4,12 @@ use Prim.Native.Nat.{ℕ}
 use mathlib.Core.Bool.{Bool, not, _&&_, _||_}
 use mathlib.Core.Option.{Option}
 use mathlib.Core.List.{List, [], _∷_}
-use lib.Dec.{eqb}
 use Rattle.rules.specs.declared.GroupKind.the-variants.{Sequence}
 use Rattle.rules.specs.Bytes.{Bytes, same, bytes}
 use Rattle.rules.specs.Model.{names, member}
 use Rattle.rules.specs.Place.{Found, kindAt, spine}
 use Rattle.rules.specs.Edit.{sameKind}
 use Rattle.rules.specs.Store.{Form, Store, members}
-use Rattle.rules.specs.Preorder.{Deep}
-use Rattle.rules.specs.Layout.{FlatRow}
 use Rattle.rules.specs.WellFormed.{reachesIn}
 use Rattle.rules.specs.Change.{definitionAt, nameAtIndex}
 use Rattle.rules.specs.Refusal.{Condition, _if_, atPlace, noPlace, isComplex, instanceExists}
@@ -42,7 +39,3 @@ offSpine found = atPlace (λ c x. sameKind (kindAt Sequence c) Sequence && not (
 -- from row 8 on
 abbrev pub placeConditions : Option (Found Bytes) → ℕ → ℕ → Bool → Bool → Store → List Condition
 placeConditions found o i needed unfilled s = 8 if noPlace found ∷ modelConditions o i needed unfilled (offSpine found) s
-
--- an element row of definition o
-abbrev pub isInstance : ℕ → Deep FlatRow → Bool
-isInstance o x = eqb (x .row .sort) 1 && eqb o (x .row .index)

@@ -8,17 +8,17 @@ ghost use Prim.Native.Nat.{_<_, _≤_};
 ghost use lib.Dec.{eqb};
 ghost use Rattle.rules.specs.declared.GroupKind.the-variants.{Sequence};
 ghost use Rattle.rules.specs.Bytes.{all};
-ghost use Rattle.rules.specs.Decode.{definitionCount, readRow};
+ghost use Rattle.rules.specs.Decode.{definitionCount};
 ghost use Rattle.rules.specs.Passing.{passes};
 ghost use Rattle.rules.specs.Edit.{sameKind};
-ghost use Rattle.rules.specs.Change.{nameAtIndex, insertElement};
-ghost use Rattle.rules.specs.Refusal.{first, conditions, instanceExists};
+ghost use Rattle.rules.specs.Change.{insertElement};
+ghost use Rattle.rules.specs.Refusal.{first, conditions};
 ghost use Rattle.circles.specs.Members.{elementsOf};
 ghost use Rattle.rowpass.specs.Reading.{modelPart};
 ghost use Rattle.validity.specs.Check.{definitionsIn, particlesIn};
 ghost use Rattle.storing.specs.Stores.{storeIn};
 ghost use Rattle.placing.specs.Placing.{modelIn, foundBy};
-ghost use Rattle.inserting.specs.Inserting.{inModel, comesRound, modelConditions, placeConditions, isInstance};
+ghost use Rattle.inserting.specs.Inserting.{inModel, comesRound, modelConditions, placeConditions};
 
 // ---- the model
 // Definition i's part of the particles.
@@ -65,31 +65,6 @@ fn comes_round(store: &[u8], o: usize, i: usize) -> bool
     codec::byte(&heights, i) == 0
 }
 
-// ---- instances
-// Whether a row is an element of definition o.
-fn is_instance(row: &[u8], o: usize) -> bool
-    ensures { λ r. ⌜ r ≡ isInstance o (readRow (now (row .entry))) ⌝ }
-{
-    (codec::byte(row, 0) == 1) & (o == codec::get_u16(row, 2) as usize)
-}
-
-// Whether an element of definition o stands in a document.
-fn instance_exists(store: &[u8], o: usize) -> bool
-    requires { ⌜ (passes (now store) ≡ true) × (o < definitionCount (now store)) ⌝ }
-    ensures { λ r. ⌜ r ≡ instanceExists (nameAtIndex o (storeIn (now (store .entry)) .form)) (storeIn (now (store .entry))) ⌝ }
-{
-    let rows = validity::body(store, 32, 44);
-    let count = records::number(store, 36);
-    let mut i = 0;
-    while i < count {
-        if is_instance(rowpass::cut(rows, 44 * i, 44), o) {
-            return true;
-        }
-        i += 1;
-    }
-    false
-}
-
 // ---- the conditions
 // From row 9 on. `needed`: NONE or PLUS; `unfilled`: the default is empty; `off`: the place is in a LIST off the spine.
 fn model_refusal(store: &[u8], o: usize, i: usize, needed: bool, unfilled: bool, off: bool) -> u32
@@ -111,7 +86,11 @@ fn model_refusal(store: &[u8], o: usize, i: usize, needed: bool, unfilled: bool,
     if !(needed & off) {
         return 0;
     }
-    if instance_exists(store, o) { 13 } else { 0 }
+    if placing::instance_exists(store, o as u32) {
+        13
+    } else {
+        0
+    }
 }
 
 // Whether a list is a LIST off the spine.

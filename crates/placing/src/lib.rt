@@ -61,8 +61,8 @@ fn is_wrong_default(sort: u32, value: &[u8]) -> bool
 }
 
 // ---- instances
-// Whether an instance of a definition exists.
-fn instance_exists(store: &[u8], definition: u32) -> bool
+/// Whether an instance of a definition exists.
+pub fn instance_exists(store: &[u8], definition: u32) -> bool
     ensures { λ r. ⌜ r ≡ any (instanceRow definition) (readMany readRow 44 (rowCount (now (store .entry))) (rowsIn (now (store .entry)))) ⌝ }
 {
     let rows = validity::body(store, 32, 44);

@@ -33,6 +33,9 @@ returns-4 c = model-12 _ (reads _ (c .before .before .before .before .before .be
 returns-5 : tie.Need-returns-5
 returns-5 c = model-on _ (reads _ (c .before .before .before .before .before .before .before .before .before .before .pre .0)) (c .before .before .before .before .before .before .before .before .before .before .args .o) (c .before .before .before .before .before .before .before .before .before .before .args .i) (c .before .before .before .before .before .before .before .before .before .before .pre .1) (c .before .before .before .before .before .before .before .before .before .before .args .needed) (c .before .before .before .before .before .before .before .before .before .before .args .unfilled) (c .before .before .before .before .before .before .before .before .before .before .args .off) (c .before .before .before .before .before .before .before .kind-of .ensures) (c .before .before .before .before .before .before .before .before .body .ensures) (c .before .before .before .before .before .before .if1 .left) (c .before .before .before .before .before .in-model .ensures) (c .before .before .before .before .if2 .left) (c .before .before .before .comes-round .ensures) (c .before .before .if3 .left) (c .before .if4 .left) (c .if5 .taken) .is
 
+cast-instance-exists : tie.Need-cast-instance-exists
+cast-instance-exists c = omega (arith, c .before .before .before .before .before .before .before .before .before .before .pre .1, reads (c .before .before .before .before .before .before .before .before .before .before .args .store .now) (c .before .before .before .before .before .before .before .before .before .before .pre .0) .whole .fewDefinitions)
+
 instance-exists-requires : tie.Need-instance-exists-requires
 instance-exists-requires c κs = search needs
 
@@ -55,6 +58,7 @@ model-refusal-spec =
     returns-3
     returns-4
     returns-5
+    cast-instance-exists
     instance-exists-requires
     returns-6
     returns-7)

@@ -117,11 +117,11 @@ pub fn heights_avoiding(n: usize, defs: &[u8], parts: &[u8], target: usize) -> [
     ensures { λ r. ⌜ Avoids n (membersIn (now (defs .entry)) (now (parts .entry))) target r ⌝ }
 {
     let mut of = [0; MAX_DEFINITIONS];
-    let mut h: usize = 0;
-    while h < n {
-        of = round(n, defs, parts, &of, (h + 1) as u8);
+    let mut rounds: usize = 0;
+    while rounds < n {
+        of = round(n, defs, parts, &of, (rounds + 1) as u8);
         of[target] = 0;
-        h += 1;
+        rounds += 1;
     }
     of
 }

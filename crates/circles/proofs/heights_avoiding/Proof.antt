@@ -8,10 +8,10 @@ use Rattle.circles.proofs.heights_avoiding.Statement.{statement}
 use Rattle.circles.proofs.heights_avoiding.Tie as tie
 
 abbrev Inv-loop : tie.InvT-loop
-Inv-loop n defs parts target of₀ h₀ of h = Avoiding n (membersIn defs parts) target of h
+Inv-loop n defs parts target of₀ rounds₀ of rounds = Avoiding n (membersIn defs parts) target of rounds
 
 abbrev μ-loop : tie.MeasureT-loop
-μ-loop n defs parts target of₀ h₀ of h = 64 - h
+μ-loop n defs parts target of₀ rounds₀ of rounds = 64 - rounds
 
 loop-holds : tie.Need-loop-holds Inv-loop μ-loop
 loop-holds c = avoiding-starts _ _ _
@@ -28,8 +28,8 @@ round-requires c κs = search needs
 array-write-of : tie.Need-array-write-of Inv-loop μ-loop
 array-write-of c = search needs
 
-add-h : tie.Need-add-h Inv-loop μ-loop
-add-h c = search needs
+add-rounds : tie.Need-add-rounds Inv-loop μ-loop
+add-rounds c = search needs
 
 loop-less : tie.Need-loop-less Inv-loop μ-loop
 loop-less c = search needs
@@ -51,7 +51,7 @@ heights-avoiding-spec =
     cast-round
     round-requires
     array-write-of
-    add-h
+    add-rounds
     loop-less
     loop-again
     returns)

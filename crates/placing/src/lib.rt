@@ -74,7 +74,7 @@ fn is_wrong_default(sort: u32, value: &[u8]) -> bool
 
 // ---- instances
 // Whether an instance of a definition exists.
-fn instance_exists(store: &[u8], definition: u32) -> bool
+pub fn instance_exists(store: &[u8], definition: u32) -> bool
     ensures { λ r. ⌜ r ≡ hasInstance (now (store .entry)) definition ⌝ }
 {
     let rows = validity::body(store, 32, 44);

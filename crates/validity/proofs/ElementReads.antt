@@ -59,7 +59,7 @@ module _ (w : ℕ) (form : Form) (ok : wellFormed w form ≡ true) (F : IndexFor
   good-at : (i : ℕ) → i < length form → GoodDefinition w form (definitionAt i form)
   good-at i l = well-formed w form .0 ok .definitions (definitionAt i form) (definition-in form i l)
 
-  same-names : (x y : ℕ) → x < length form → y < length form → same (nameAt x (namesOf form)) (nameAt y (namesOf form)) ≡ eqb x y
+  pub same-names : (x y : ℕ) → x < length form → y < length form → same (nameAt x (namesOf form)) (nameAt y (namesOf form)) ≡ eqb x y
   same-names x y l m = by (eqb x y) refl
     where
       by : (c : Bool) → eqb x y ≡ c → same (nameAt x (namesOf form)) (nameAt y (namesOf form)) ≡ eqb x y

@@ -20,5 +20,6 @@ pub mod ModelForms
 pub mod MemberPlans
 pub mod PlacedRows
 pub mod RequantifyPlans
+pub mod GroupFillings
 pub mod QuantifierPlans
 pub mod ModelCallsPlanned

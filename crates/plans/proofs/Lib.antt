@@ -23,3 +23,4 @@ pub mod RequantifyPlans
 pub mod GroupFillings
 pub mod QuantifierPlans
 pub mod ModelCallsPlanned
+pub mod GroupPlaces

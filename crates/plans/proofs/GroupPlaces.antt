@@ -1,25 +1,34 @@
 -- Where the members of a group begin among the particles, and that they are read from there.
 -- Assumes nothing.
-use Prim.Native.Nat.{ℕ, suc, _+_, _≤_, _<_}
+use Prim.Native.Nat.{ℕ, zero, suc, _+_, _≤_, _<_}
 use native.Mathlib.Omega.{arith}
 use mathlib.Core.Path.{_≡_, refl, sym, ap, ap₂, _∙_}
-use mathlib.Core.List.{List, [], _∷_, _++_, append-assoc}
+use mathlib.Core.Option.{some}
+use mathlib.Core.List.{List, [], _∷_, _++_, map, append-assoc}
 use lib.ListN.{length, drop}
 use lib.Seq.{drop-drop, drop-append-add}
 use borrow.Author.Tests.{lt-ltb, le-ltb, eq-eqb, ne-eqb}
 use Rattle.rules.specs.declared.Quantifier.{Quantifier}
 use Rattle.rules.specs.declared.GroupKind.{GroupKind}
 use Rattle.rules.specs.declared.GroupKind.the-variants.{Sequence, Choice}
-use Rattle.rules.specs.Model.{Members, done, el, group}
-use Rattle.rules.specs.Place.{Context, here, past, over, into, plug}
-use Rattle.rules.specs.Store.{Forest, bare, tree}
+use Rattle.rules.specs.Bytes.{Bytes}
+use Rattle.rules.specs.Model.{Members, done, el, group, rename}
+use Rattle.rules.specs.Place.{Context, here, past, over, into, plug, renameAround}
+use Rattle.rules.specs.Edit.{Edit, placeOf}
+use Rattle.rules.specs.Store.{Content, empty, pcdata, complex, Definition, Form, Forest, bare, tree, Store, members}
 use Rattle.rules.specs.Preorder.{Deep, build}
-use Rattle.rules.specs.Layout.{FlatParticle, quantifierCode, groupCode, howMany}
+use Rattle.rules.specs.Layout.{FlatParticle, quantifierCode, groupCode, howMany, indexOf, contentParticles, flatDefinition, allParticles, flat}
 use Rattle.rules.specs.Decode.{quantifierOf}
+use Rattle.rules.specs.Change.{definitionAt}
+use Rattle.rules.proofs.RenamingPlaces.{plug-rename}
+use Rattle.history.proofs.ModelAfter.{place-right}
+use Rattle.history.proofs.EditConditions.{complex-content, picked-complex}
 use Rattle.model.specs.Members.{indexMember, indexMembers}
 use Rattle.model.specs.Places.{Particles}
 use Rattle.model.specs.Positions.{elementParticle, groupParticle, spread, offset, leading, trailing, level}
-use Rattle.model.proofs.PositionLaws.{code-quantifier, spread-plug, length-leading}
+use Rattle.model.proofs.PositionLaws.{code-quantifier, spread-named, spread-plug, length-leading}
+use Rattle.storing.specs.Planned.{membersAt}
+use Rattle.plans.specs.ModelCalls.{partStart}
 
 -- ---- a particle of depth d, a deeper one, one less deep
 build-same : (x : Deep FlatParticle) (xs : Particles) (d : ℕ) → d ≡ x .depth → build (x ∷ xs) d ≡ tree (x .row) (build xs (suc d)) (build xs d)
@@ -105,3 +114,51 @@ group-begins start ps others c q j ms rest e h =
         ∙ drop-append-add (leading 0 c t) ((spread lev t ++ trailing 0 c) ++ others) 1
         ∙ append-assoc own (trailing 0 c) others
         ∙ append-assoc (spread (suc lev) ms) (spread lev rest) (trailing 0 c ++ others)
+
+-- ---- in a store
+module _ (form : Form) where
+  abbrev index : Bytes → ℕ
+  index n = indexOf n form
+
+  shallow-all : (ds : Form) → Shallow 1 (allParticles form ds)
+  shallow-all [] = record { none = λ k l. refl }
+  shallow-all (d ∷ ds) = by (d .content) (shallow-all ds)
+    where
+      by : (c : Content) → Shallow 1 (allParticles form ds) → Shallow 1 (contentParticles form c ++ allParticles form ds)
+      by empty h = h
+      by pcdata h = h
+      by (complex ms) h =
+          let x : Shallow 1 (spread 0 (rename index ms) ++ allParticles form ds) = shallow-spread 0 (rename index ms) (allParticles form ds) h in
+          record { none = λ k l. ap (λ (z : Particles). build (z ++ allParticles form ds) k) (spread-named form 0 ms) ∙ x .none k l }
+
+  part-from : (o : ℕ) (ds : Form) → o < length ds → (rest : Form) × (drop (partStart o (map (flatDefinition form) ds)) (allParticles form ds) ≡ contentParticles form (definitionAt o ds .content) ++ allParticles form rest)
+  part-from o [] l = absurd (omega arith)
+  part-from zero (d ∷ ds) l = (ds, refl)
+  part-from (suc o) (d ∷ ds) l =
+      let (rest, e) = part-from o ds (omega arith) in
+      (rest, drop-append-add (contentParticles form (d .content)) (allParticles form ds) (partStart o (map (flatDefinition form) ds)) ∙ e)
+
+-- THE MEMBERS OF A GROUP that is found at a place of the model of definition o
+pub group-at : (s : Store) (o : ℕ) → o < length (s .form) → (e : Edit Bytes) (p : List ℕ) (c : Context Bytes) (q : Quantifier) (j : GroupKind) (ms rest : Members Bytes)
+    → placeOf e p (members (definitionAt o (s .form))) ≡ some (record { context = c; picked = group q j ms rest })
+    → membersAt (flat s) (partStart o (flat s .definitions) + (offset (renameAround (λ n. indexOf n (s .form)) c) + 1)) (suc (level 0 (renameAround (λ n. indexOf n (s .form)) c))) ≡ rename (λ n. indexOf n (s .form)) ms
+unfolding membersAt rename
+group-at s o l e p c q j ms rest at =
+    let (others, from) = part-from (s .form) o (s .form) l in
+    group-begins (partStart o (flat s .definitions)) (flat s .particles) (allParticles (s .form) others) (renameAround ix c) q j (rename ix ms) (rename ix rest)
+    (from ∙ ap (λ (z : Particles). z ++ allParticles (s .form) others) own) (shallow-all (s .form) others)
+  where
+    ix : Bytes → ℕ
+    ix n = indexOf n (s .form)
+
+    d : Definition
+    d = definitionAt o (s .form)
+
+    right : plug c (group q j ms rest) ≡ members d
+    right = place-right e p (members d) (record { context = c; picked = group q j ms rest }) at
+
+    own : contentParticles (s .form) (d .content) ≡ spread 0 (plug (renameAround ix c) (rename ix (group q j ms rest)))
+    own =
+        ap (contentParticles (s .form)) (complex-content (d .content) (picked-complex (d .content) c (group q j ms rest) right refl))
+        ∙ spread-named (s .form) 0 (members d)
+        ∙ ap (spread 0) (ap (rename ix) (sym right) ∙ plug-rename ix c (group q j ms rest))

@@ -20,6 +20,8 @@ pub mod ModelForms
 pub mod MemberPlans
 pub mod PlacedRows
 pub mod RequantifyPlans
+pub mod GroupFillings
 pub mod QuantifierPlans
 pub mod ModelCallsPlanned
 pub mod FormsAfter
+pub mod GroupPlaces

@@ -8,24 +8,19 @@ use mathlib.Core.List.{List, [], _∷_}
 use Rattle.rules.specs.declared.Quantifier.{Quantifier}
 use Rattle.rules.specs.declared.GroupKind.{GroupKind}
 use Rattle.rules.specs.Bytes.{Bytes}
-use Rattle.rules.specs.Model.{Members, el, group, names, skips}
+use Rattle.rules.specs.Model.{Members, el, group, names, rename, skips}
 use Rattle.rules.specs.Quantifiers.{gains, cuts}
 use Rattle.rules.specs.Place.{Context, spine, before}
 use Rattle.rules.specs.Edit.{insert, remove, quantify, placeOf}
 use Rattle.rules.specs.Store.{Store, members}
-use Rattle.rules.specs.Preorder.{flatten}
-use Rattle.rules.specs.Layout.{FlatStore, indexOf, indexed, flat}
+use Rattle.rules.specs.Layout.{FlatStore, indexOf, flat}
 use Rattle.rules.specs.Decode.{quantifierOf}
-use Rattle.rules.specs.Filling.{fillEach, fillDefinition}
 use Rattle.rules.specs.Passing.{good}
 use Rattle.rules.specs.Refusal.{past, first, conditions}
-use Rattle.rules.specs.Change.{insertElement, removeElement, changeQuantifier, changeGroupQuantifier, definitionAt, nameAtIndex, groupFilling, formAfter, after}
+use Rattle.rules.specs.Change.{insertElement, removeElement, changeQuantifier, changeGroupQuantifier, definitionAt, nameAtIndex, formAfter, after}
 use Rattle.history.proofs.Conditions.{not-past, or-false}
-use Rattle.validity.specs.Reading.{indexForm, entryOf}
-use Rattle.filling.specs.declared.Filling.{Filling}
-use Rattle.filling.specs.declared.Filling.the-variants.{Definition}
-use Rattle.filling.specs.Fillings.{fillingRows}
-use Rattle.storing.specs.Planned.{plannedIn}
+use Rattle.filling.specs.declared.Filling.the-variants.{Definition, Particles}
+use Rattle.storing.specs.Planned.{membersAt, plannedIn}
 use Rattle.plans.specs.Bodies.{Holds}
 use Rattle.plans.specs.ModelCalls.{Marked, insertElementPlan, removeElementPlan, requantifyPlan}
 use Rattle.plans.proofs.FormPlanned.{flat-planned-in}
@@ -72,16 +67,16 @@ module _ (s : Store) (g : good s ≡ true) (o : ℕ) (p : List ℕ) (c : Context
       (clear-elements s g o (requantifyPlan o marks (spine c && cuts old (quantifierOf k)) (indexOf n (s .form)) (spine c && gains old (quantifierOf k)) (Definition (indexOf n (s .form)))) (not-past o (s .form) index) refl)
       (change-quantifier-does s g o (not-past o (s .form) index) p k t c old marks n rest at marked)
 
-  -- 8; what: the group's filling under its new quantifier
-  pub change-group-quantifier-planned : (k : ℕ) (t : Bytes) (old : Quantifier) (j : GroupKind) (ms rest : Members Bytes) (marks : Bytes) (what : Filling) → first (conditions (changeGroupQuantifier o p k t) s) ≡ 0
+  -- 8: a group, whose members of depth e begin with particle number f
+  pub change-group-quantifier-planned : (k : ℕ) (t : Bytes) (old : Quantifier) (j : GroupKind) (ms rest : Members Bytes) (marks : Bytes) (f e : ℕ) → first (conditions (changeGroupQuantifier o p k t) s) ≡ 0
       → placeOf (quantify (quantifierOf k)) p (members (definitionAt o (s .form))) ≡ some (record { context = c; picked = group old j ms rest })
       → ((spine c && gains old (quantifierOf k)) ≡ true → Marked (s .form) (before c) (names ms) marks)
-      → ((d : ℕ) (m : Bytes) → fillingRows (indexForm (flat s)) (λ i. entryOf i (flat s .attributes) .value) what t d ≡ flatten d (indexed (s .form) m (fillEach (λ n. fillDefinition (s .form) t n) (groupFilling (quantifierOf k) j ms))))
+      → ((spine c && gains old (quantifierOf k)) ≡ true → membersAt (flat s) f e ≡ rename (λ n. indexOf n (s .form)) ms)
       → Holds new (formAfter (changeGroupQuantifier o p k t) (s .form))
-      → flat (after (changeGroupQuantifier o p k t) s) ≡ plannedIn new (requantifyPlan o marks false 0 (spine c && gains old (quantifierOf k)) what) t (flat s)
+      → flat (after (changeGroupQuantifier o p k t) s) ≡ plannedIn new (requantifyPlan o marks false 0 (spine c && gains old (quantifierOf k)) (Particles j f e)) t (flat s)
   unfolding conditions
-  change-group-quantifier-planned k t old j ms rest marks what e at marked filling holds =
-      let (text, (code, (index, more))) = none-holds (changeGroupQuantifier o p k t) s e in
-      flat-planned-in (changeGroupQuantifier o p k t) s (requantifyPlan o marks false 0 (spine c && gains old (quantifierOf k)) what) t new holds
-      (clear-elements s g o (requantifyPlan o marks false 0 (spine c && gains old (quantifierOf k)) what) (not-past o (s .form) index) refl)
-      (change-group-quantifier-does s g o (not-past o (s .form) index) p k t c old marks j ms rest at marked what filling)
+  change-group-quantifier-planned k t old j ms rest marks f e unmet at marked begin holds =
+      let (text, (code, (index, more))) = none-holds (changeGroupQuantifier o p k t) s unmet in
+      flat-planned-in (changeGroupQuantifier o p k t) s (requantifyPlan o marks false 0 (spine c && gains old (quantifierOf k)) (Particles j f e)) t new holds
+      (clear-elements s g o (requantifyPlan o marks false 0 (spine c && gains old (quantifierOf k)) (Particles j f e)) (not-past o (s .form) index) refl)
+      (change-group-quantifier-does s g o (not-past o (s .form) index) p k t c old marks j ms rest at marked f e begin)

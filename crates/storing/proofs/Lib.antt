@@ -4,5 +4,6 @@ pub mod LimitLaws
 pub mod FormBytesLaws
 pub mod FormLaws
 pub mod RowBounds
+pub mod PartLaws
 pub mod WalkLaws
 pub mod EditLaws

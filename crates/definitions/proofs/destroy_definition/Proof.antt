@@ -1,6 +1,6 @@
 use Rattle.definitions.proofs.DestroyCall.{stands, flat-after-destroy}
 use Rattle.definitions.proofs.Limits.{answers-bad, answers-condition, answers-limit, answers-all}
-use Rattle.definitions.specs.Bodies.{destroyed}
+use Rattle.renumbering.specs.Bodies.{destroyed}
 use Rattle.lookup.specs.Bodies.{bodiesOf}
 use Rattle.rules.specs.Change.{destroyDefinition}
 use borrow.Author.Tests.{not-true, not-false}

@@ -1,5 +1,6 @@
-use Rattle.definitions.proofs.Encoded.{encoded, length-is, header-short, created-laid}
-use Rattle.definitions.specs.Bodies.{newDefinition}
+use Rattle.defining.proofs.Encoded.{encoded, length-is, header-short}
+use Rattle.definitions.proofs.CreatedBytes.{created-laid}
+use Rattle.defining.specs.Bodies.{newDefinition}
 use Rattle.rules.proofs.LayoutLaws.{length-definition}
 use lib.ListN.{length, drop, length-take, length-drop}
 use mathlib.Core.Path.{ap}

@@ -69,10 +69,11 @@ fn put_created(store: &[u8], name: &[u8], kind: u32, out: &mut [u8]) -> usize
     let a = codec::get_u32(store, 28);
     let r = codec::get_u32(store, 36);
     let length = DEFINITION_SIZE * d as usize;
+    let rest = HEADER_SIZE + length;
     let first = defining::put_header(store, d + 1, p, a, r, out);
     let second = codec::put(lookup::window(store, HEADER_SIZE, length), out, first);
     let third = defining::put_definition(name, kind, out, second);
-    codec::put(records::after(store, HEADER_SIZE + length), out, third)
+    codec::put(records::after(store, rest), out, third)
 }
 
 /// Change 1: creates a definition, the last.
@@ -163,6 +164,9 @@ pub fn destroy_definition(store: &[u8], definition: u32, out: &mut [u8]) -> Answ
             length: 0,
         };
     }
-    let length = renumbering::put_destroyed(store, definition, out);
-    Answer { number: 0, length }
+    let left = renumbering::put_destroyed(store, definition, out);
+    Answer {
+        number: 0,
+        length: left,
+    }
 }

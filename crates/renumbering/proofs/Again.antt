@@ -10,15 +10,13 @@ use lib.ListN.{length, take, drop, getD, length-append, length-take, length-drop
 use lib.Seq.{drop-drop, take-append-seam, drop-append-seam, length-take-le, length-sets}
 use Rattle.rules.specs.Bytes.{Bytes}
 use Rattle.rules.specs.Preorder.{Deep}
-use Rattle.rules.specs.Layout.{FlatParticle, FlatAttribute, FlatRow, particleBytes, attributeBytes, rowBytes, each, le}
-use Rattle.rules.specs.Decode.{numberAt}
-use Rattle.rules.proofs.BooleanLaws.{Every}
-use Rattle.rules.proofs.LayoutLaws.{GoodFlatRow, unle-le, length-each}
+use Rattle.rules.specs.Layout.{FlatParticle, FlatAttribute, particleBytes, attributeBytes, each}
+use Rattle.rules.proofs.LayoutLaws.{length-each}
 use Rattle.records.specs.Records.{baseWidth}
 use Rattle.codec.specs.Laid.{Laid}
 use Rattle.codec.proofs.Writers.{laid-none, laid-then, laid-as}
-use Rattle.defining.specs.Bodies.{rowMoved, memberMoved, movedParticle, movedRow}
-use Rattle.renumbering.specs.Bodies.{eachRecord, particleRecord, attributeRecord, rowRecord, movedAttribute, cutOut}
+use Rattle.defining.specs.Bodies.{memberMoved, movedParticle}
+use Rattle.renumbering.specs.Bodies.{eachRecord, particleRecord, attributeRecord, movedAttribute, cutOut}
 use Rattle.defining.proofs.Renumbered.{map-append}
 use Rattle.defining.proofs.Encoded.{each-append}
 
@@ -82,60 +80,45 @@ module _ {A : Type 0} (f : A → Bytes) (size : ℕ) (sized : (x : A) → length
       ∙ ap (take (length (each f (take k xs)))) (append-assoc (each f (take k xs)) (each f (drop k xs)) rest)
       ∙ take-append-seam (each f (take k xs)) (each f (drop k xs) ++ rest)
 
-  module _ (g : Bytes → Bytes) (m : A → A) (Good : A → Type 0) (again : (x : A) → Good x → g (f x) ≡ f (m x)) where
-    pub records-again : (xs : List A) (rest : Bytes) → Every Good xs → eachRecord g size (length xs) (each f xs ++ rest) ≡ each f (map m xs)
+  module _ (g : Bytes → Bytes) (m : A → A) (again : (x : A) → g (f x) ≡ f (m x)) where
+    records-again : (xs : List A) (rest : Bytes) → eachRecord g size (length xs) (each f xs ++ rest) ≡ each f (map m xs)
     unfolding eachRecord
-    records-again [] rest k = refl
-    records-again (x ∷ xs) rest (k, l) =
+    records-again [] rest = refl
+    records-again (x ∷ xs) rest =
         ap (λ (z : Bytes). g (take size z) ++ eachRecord g size (length xs) (drop size z)) (append-assoc (f x) (each f xs) rest)
         ∙ ap (λ (j : ℕ). g (take j (f x ++ (each f xs ++ rest))) ++ eachRecord g size (length xs) (drop j (f x ++ (each f xs ++ rest)))) (sym (sized x))
         ∙ ap₂ (λ (u v : Bytes). g u ++ eachRecord g size (length xs) v) (take-append-seam (f x) (each f xs ++ rest)) (drop-append-seam (f x) (each f xs ++ rest))
-        ∙ ap₂ (λ (u v : Bytes). u ++ v) (again x k) (records-again xs rest l)
-
-    every-take : (k : ℕ) (xs : List A) → Every Good xs → Every Good (take k xs)
-    every-take zero xs e = tt
-    every-take (suc k) [] e = tt
-    every-take (suc k) (x ∷ xs) (a, e) = (a, every-take k xs e)
-
-    every-drop : (k : ℕ) (xs : List A) → Every Good xs → Every Good (drop k xs)
-    every-drop zero xs e = e
-    every-drop (suc k) [] e = tt
-    every-drop (suc k) (x ∷ xs) (a, e) = every-drop k xs e
+        ∙ ap₂ (λ (u v : Bytes). u ++ v) (again x) (records-again xs rest)
 
     -- the first a records, and those from b on
-    pub front-again : (a : ℕ) (xs : List A) (rest : Bytes) → a ≤ length xs → Every Good xs → eachRecord g size a (each f xs ++ rest) ≡ each f (map m (take a xs))
-    front-again a xs rest h e =
+    front-again : (a : ℕ) (xs : List A) (rest : Bytes) → a ≤ length xs → eachRecord g size a (each f xs ++ rest) ≡ each f (map m (take a xs))
+    front-again a xs rest h =
         ap₂ (λ (k : ℕ) (l : Bytes). eachRecord g size k (l ++ rest)) (sym (length-take-le a xs h)) (ap (each f) (sym (take-append-drop a xs)) ∙ each-append f (take a xs) (drop a xs))
         ∙ ap (eachRecord g size (length (take a xs))) (append-assoc (each f (take a xs)) (each f (drop a xs)) rest)
-        ∙ records-again (take a xs) (each f (drop a xs) ++ rest) (every-take a xs e)
+        ∙ records-again (take a xs) (each f (drop a xs) ++ rest)
 
-    pub back-again : (b : ℕ) (xs : List A) (rest : Bytes) → b ≤ length xs → Every Good xs → eachRecord g size (length xs - b) (drop (size * b) (each f xs ++ rest)) ≡ each f (map m (drop b xs))
-    back-again b xs rest h e =
-        ap₂ (λ (k : ℕ) (l : Bytes). eachRecord g size k l) (sym (length-drop b xs)) (each-drop b xs rest h) ∙ records-again (drop b xs) rest (every-drop b xs e)
+    back-again : (b : ℕ) (xs : List A) (rest : Bytes) → b ≤ length xs → eachRecord g size (length xs - b) (drop (size * b) (each f xs ++ rest)) ≡ each f (map m (drop b xs))
+    back-again b xs rest h = ap₂ (λ (k : ℕ) (l : Bytes). eachRecord g size k l) (sym (length-drop b xs)) (each-drop b xs rest h) ∙ records-again (drop b xs) rest
 
-    pub cut-again : (a b : ℕ) (xs : List A) (rest : Bytes) → a ≤ b → b ≤ length xs → Every Good xs
+    pub cut-again : (a b : ℕ) (xs : List A) (rest : Bytes) → a ≤ b → b ≤ length xs
         → each f (map m (cutOut a (b - a) xs)) ≡ eachRecord g size a (each f xs ++ rest) ++ eachRecord g size (length xs - b) (drop (size * b) (each f xs ++ rest))
     unfolding cutOut
-    cut-again a b xs rest h k e =
+    cut-again a b xs rest h k =
         let z : a + (b - a) ≡ b = omega arith in
         ap (λ (j : ℕ). each f (map m (take a xs ++ drop j xs))) z
         ∙ ap (each f) (map-append m (take a xs) (drop b xs))
         ∙ each-append f (map m (take a xs)) (map m (drop b xs))
-        ∙ sym (ap₂ (λ (u v : Bytes). u ++ v) (front-again a xs rest (omega arith) e) (back-again b xs rest k e))
+        ∙ sym (ap₂ (λ (u v : Bytes). u ++ v) (front-again a xs rest (omega arith)) (back-again b xs rest k))
 
--- ---- the three records
-module _ (g h : ℕ → ℕ) where
-  pub particle-again : (x : Deep FlatParticle) → Unit {0} → particleRecord g (particleBytes x) ≡ particleBytes (movedParticle g x)
+-- ---- the two records
+module _ (g : ℕ → ℕ) where
+  pub particle-again : (x : Deep FlatParticle) → particleRecord g (particleBytes x) ≡ particleBytes (movedParticle g x)
   unfolding particleRecord movedParticle
-  particle-again x k = refl
+  particle-again x = refl
 
-  pub attribute-again : (x : FlatAttribute) → Unit {0} → attributeRecord g (attributeBytes baseWidth x) ≡ attributeBytes baseWidth (movedAttribute g x)
+  pub attribute-again : (x : FlatAttribute) → attributeRecord g (attributeBytes baseWidth x) ≡ attributeBytes baseWidth (movedAttribute g x)
   unfolding attributeRecord movedAttribute
-  attribute-again x k = refl
-
-  pub row-again : (x : Deep FlatRow) → GoodFlatRow baseWidth x → rowRecord g h (rowBytes baseWidth x) ≡ rowBytes baseWidth (movedRow g h x)
-  unfolding rowRecord movedRow
-  row-again x k = ap (λ (j : ℕ). take 2 (rowBytes baseWidth x) ++ (le 2 (rowMoved g h (x .row .sort) j) ++ drop 4 (rowBytes baseWidth x))) (unle-le 2 (x .row .index) (k .index))
+  attribute-again x = refl
 
   pub particle-short : (rec : Bytes) → length (particleRecord g rec) ≤ 64
   unfolding particleRecord
@@ -144,7 +127,3 @@ module _ (g h : ℕ → ℕ) where
   pub attribute-short : (rec : Bytes) → length rec ≤ 52 → length (attributeRecord g rec) ≤ 64
   unfolding attributeRecord
   attribute-short rec k = omega (arith, length-drop 1 rec)
-
-  pub row-short : (rec : Bytes) → length rec ≤ 44 → length (rowRecord g h rec) ≤ 64
-  unfolding rowRecord
-  row-short rec k = omega (arith, length-append (take 2 rec) (le 2 (rowMoved g h (getD rec 0 0) (numberAt 2 2 rec)) ++ drop 4 rec), length-take 2 rec, length-drop 4 rec)

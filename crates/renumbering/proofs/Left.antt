@@ -15,7 +15,7 @@ use Rattle.rules.specs.Store.{Form}
 use Rattle.rules.specs.Layout.{FlatDefinition, FlatAttribute, FlatStore, particleBytes, attributeBytes, rowBytes, each, contentParticles, flatDefinition, allParticles}
 use Rattle.rules.specs.Decode.{readDefinition, readParticle, readAttribute, readRow, readMany, definitionCount, particleCount, attributeCount, rowCount}
 use Rattle.rules.specs.Passing.{passes}
-use Rattle.rules.proofs.LayoutLaws.{length-particle, length-attribute, length-each}
+use Rattle.rules.proofs.LayoutLaws.{length-particle, length-each}
 use Rattle.records.specs.Records.{baseWidth}
 use Rattle.codec.specs.Laid.{Laid}
 use Rattle.codec.proofs.Writers.{laid-as}
@@ -36,13 +36,6 @@ module _ {bs : Bytes} {f : FlatStore} (x : Encoded bs f) where
       sym (drop-drop (4 * particleCount bs) (40 + 20 * definitionCount bs) bs)
       ∙ ap₂ (λ (k : ℕ) (l : Bytes). drop k l) (ap (λ (k : ℕ). 4 * k) (x .particles) ∙ sym (length-each particleBytes 4 length-particle (f .particles))) (others-at x)
       ∙ drop-append-seam (each particleBytes (f .particles)) (each (attributeBytes baseWidth) (f .attributes) ++ each (rowBytes baseWidth) (f .rows))
-
-  pub rows-at : drop (rowStart bs) bs ≡ each (rowBytes baseWidth) (f .rows)
-  unfolding rowStart
-  rows-at =
-      sym (drop-drop (52 * attributeCount bs) (40 + 20 * definitionCount bs + 4 * particleCount bs) bs)
-      ∙ ap₂ (λ (k : ℕ) (l : Bytes). drop k l) (ap (λ (k : ℕ). 52 * k) (x .attributes) ∙ sym (length-each (attributeBytes baseWidth) 52 (length-attribute baseWidth) (f .attributes))) attributes-at
-      ∙ drop-append-seam (each (attributeBytes baseWidth) (f .attributes)) (each (rowBytes baseWidth) (f .rows))
 
 module _ (bs : Bytes) where
   pub particles-read : bodiesOf bs .particles ≡ readMany readParticle 4 (particleCount bs) (drop (40 + 20 * definitionCount bs) bs)

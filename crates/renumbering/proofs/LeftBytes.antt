@@ -2,26 +2,38 @@
 -- Assumes nothing.
 use Prim.Native.Nat.{ℕ, suc, _+_, _-_, _*_, _<_}
 use native.Mathlib.Omega.{arith}
+use native.Mathlib.Numerals.{add-one}
 use mathlib.Core.Path.{_≡_, sym, ap, ap₂, _∙_}
 use mathlib.Core.Bool.{true}
-use mathlib.Core.List.{[], _++_, append-nil}
+use mathlib.Core.List.{_++_, map}
 use lib.ListN.{length, take, drop, length-drop}
 use lib.Seq.{drop-drop, take-append-seam}
 use Rattle.rules.specs.Bytes.{Bytes}
-use Rattle.rules.specs.Layout.{FlatStore, flatBytes, definitionBytes, particleBytes, attributeBytes, rowBytes, each}
-use Rattle.rules.specs.Decode.{definitionCount, particleCount, attributeCount, rowCount}
+use Rattle.rules.specs.Layout.{FlatStore, flat, flatBytes, definitionBytes, particleBytes, attributeBytes, rowBytes, each}
+use Rattle.rules.specs.Decode.{numberAt, definitionCount, particleCount, attributeCount}
 use Rattle.rules.specs.Passing.{passes}
-use Rattle.rules.proofs.BooleanLaws.{every-any}
-use Rattle.rules.proofs.LayoutLaws.{GoodFlatRow, length-definition, length-particle, length-attribute, length-row, length-each}
+use Rattle.rules.proofs.BooleanLaws.{Every, every-map}
+use Rattle.rules.proofs.LayoutLaws.{length-definition, length-particle, length-attribute, length-each}
 use Rattle.records.specs.Records.{baseWidth}
 use Rattle.codec.specs.Laid.{Laid}
 use Rattle.codec.proofs.Writers.{laid-then, laid-as}
-use Rattle.lookup.specs.Bodies.{bodiesOf, rowStart}
+use Rattle.lookup.specs.Bodies.{bodiesOf}
+use Rattle.rows.specs.declared.Cursor.{Cursor}
+use Rattle.rows.specs.Written.{Written}
+use Rattle.rows.proofs.WrittenLaws.{written-as, written-fitting}
+use Rattle.editing.specs.declared.Plan.{Plan}
+use Rattle.storing.specs.Stores.{storeIn}
+use Rattle.storing.specs.Planned.{fillOf, rowsAfter}
+use Rattle.storing.specs.Writing.{walkFrom}
+use Rattle.storing.proofs.StoreLaws.{holds}
+use Rattle.storing.proofs.RowBounds.{Bounded, rows-bounded}
 use Rattle.defining.specs.Bodies.{contents, movedParticle, movedRow}
-use Rattle.renumbering.specs.Bodies.{lowered, cutOut, particlesOf, attributesOf, eachRecord, particleRecord, attributeRecord, rowRecord, movedAttribute, Counted, destroyed}
+use Rattle.renumbering.specs.Bodies.{lowered, cutOut, particlesOf, attributesOf, eachRecord, particleRecord, attributeRecord, movedAttribute, Counted, destroyed}
 use Rattle.defining.proofs.Encoded.{Encoded, encoded, bytes-are, others, others-at, each-append}
-use Rattle.renumbering.proofs.Again.{each-drop, each-take, cut-again, records-again, particle-again, attribute-again, row-again}
-use Rattle.renumbering.proofs.Left.{attributes-at, rows-at, particles-step, particles-within, attributes-step, attributes-most}
+use Rattle.renumbering.specs.Shifting.{shifting}
+use Rattle.renumbering.proofs.Again.{each-drop, each-take, cut-again, particle-again, attribute-again}
+use Rattle.renumbering.proofs.KeptRows.{Old, bytes-old, walked-shut, kept-rows, moved-old}
+use Rattle.renumbering.proofs.Left.{rows-left, attributes-at, particles-step, particles-within, attributes-step, attributes-most}
 
 module _ (bs : Bytes) (p : passes bs ≡ true) (i : ℕ) (h : i < definitionCount bs) where
   abbrev f : FlatStore
@@ -69,8 +81,8 @@ module _ (bs : Bytes) (p : passes bs ≡ true) (i : ℕ) (h : i < definitionCoun
       let e : each particleBytes (f .particles) ++ (each (attributeBytes baseWidth) (f .attributes) ++ each (rowBytes baseWidth) (f .rows)) ≡ body = sym (eb ∙ others-at x) in
       let k : length (f .particles) ≡ n = sym (en ∙ x .particles) in
       laid-as
-      (cut-again particleBytes 4 length-particle (particleRecord g) (movedParticle g) (λ y. Unit {0}) (particle-again g g) (particlesOf i (f .definitions)) (particlesOf (suc i) (f .definitions)) (f .particles)
-      (each (attributeBytes baseWidth) (f .attributes) ++ each (rowBytes baseWidth) (f .rows)) (particles-step i (f .definitions)) (particles-within bs p (suc i)) (every-any (f .particles))
+      (cut-again particleBytes 4 length-particle (particleRecord g) (movedParticle g) (particle-again g) (particlesOf i (f .definitions)) (particlesOf (suc i) (f .definitions)) (f .particles)
+      (each (attributeBytes baseWidth) (f .attributes) ++ each (rowBytes baseWidth) (f .rows)) (particles-step i (f .definitions)) (particles-within bs p (suc i))
       ∙ (λ j. eachRecord (particleRecord g) 4 (sym (ca .is) j) (e j) ++ eachRecord (particleRecord g) 4 (k j - sym (cb .is) j) (drop (4 * sym (cb .is) j) (e j)))
       ∙ ap (λ (l : Bytes). eachRecord (particleRecord g) 4 a body ++ eachRecord (particleRecord g) 4 (n - b) l) (sym et))
       (laid-then u v)
@@ -83,25 +95,34 @@ module _ (bs : Bytes) (p : passes bs ≡ true) (i : ℕ) (h : i < definitionCoun
       let e : each (attributeBytes baseWidth) (f .attributes) ++ each (rowBytes baseWidth) (f .rows) ≡ body = sym (eb ∙ attributes-at x) in
       let k : length (f .attributes) ≡ n = sym (en ∙ x .attributes) in
       laid-as
-      (cut-again (attributeBytes baseWidth) 52 (length-attribute baseWidth) (attributeRecord g) (movedAttribute g) (λ y. Unit {0}) (attribute-again g g) (attributesOf i (f .attributes)) (attributesOf (suc i) (f .attributes)) (f .attributes)
-      (each (rowBytes baseWidth) (f .rows)) (attributes-step i (f .attributes)) (attributes-most (suc i) (f .attributes)) (every-any (f .attributes))
+      (cut-again (attributeBytes baseWidth) 52 (length-attribute baseWidth) (attributeRecord g) (movedAttribute g) (attribute-again g) (attributesOf i (f .attributes)) (attributesOf (suc i) (f .attributes)) (f .attributes)
+      (each (rowBytes baseWidth) (f .rows)) (attributes-step i (f .attributes)) (attributes-most (suc i) (f .attributes))
       ∙ (λ j. eachRecord (attributeRecord g) 52 (sym (ca .is) j) (e j) ++ eachRecord (attributeRecord g) 52 (k j - sym (cb .is) j) (drop (52 * sym (cb .is) j) (e j)))
       ∙ ap (λ (l : Bytes). eachRecord (attributeRecord g) 52 a body ++ eachRecord (attributeRecord g) 52 (n - b) l) (sym et))
       (laid-then u v)
 
   -- ---- rows
-  pub rows-laid : (body : Bytes) (a b n : ℕ) {out out₁ : Bytes} {at at₁ : ℕ} → body ≡ drop (rowStart bs) bs → n ≡ rowCount bs
-      → Counted (attributesOf i (f .attributes)) (attributeCount bs) a → Counted (attributesOf (suc i) (f .attributes)) (attributeCount bs) b
-      → Laid (eachRecord (rowRecord g (lowered b (b - a))) 44 n body) out at at₁ out₁ → Laid (each (rowBytes baseWidth) (destroyed i f .rows)) out at at₁ out₁
+  old : Every Old (f .rows)
+  old = rw (holds bs p .bodies) (every-map Bounded Old (flat (storeIn bs) .rows) (λ y b. b .serial) (rows-bounded (storeIn bs) (holds bs p .good)))
+
+  rows-old : Every Old (destroyed i f .rows)
   unfolding destroyed
-  rows-laid body a b n eb en ca cb u =
-      let down : ℕ → ℕ = lowered (attributesOf (suc i) (f .attributes)) (attributesOf (suc i) (f .attributes) - attributesOf i (f .attributes)) in
-      let e : each (rowBytes baseWidth) (f .rows) ++ [] ≡ body = append-nil (each (rowBytes baseWidth) (f .rows)) ∙ sym (eb ∙ rows-at x) in
-      let k : length (f .rows) ≡ n = sym (en ∙ x .rows) in
-      laid-as
-      (sym (records-again (rowBytes baseWidth) 44 (length-row baseWidth) (rowRecord g down) (movedRow g down) (GoodFlatRow baseWidth) (row-again g down) (f .rows) [] (x .good .rows))
-      ∙ (λ j. eachRecord (rowRecord g (lowered (sym (cb .is) j) (sym (cb .is) j - sym (ca .is) j))) 44 (k j) (e j)))
-      u
+  rows-old = moved-old g (lowered (attributesOf (suc i) (f .attributes)) (attributesOf (suc i) (f .attributes) - attributesOf i (f .attributes))) (f .rows) old
+
+  rows-are : (a b : ℕ) (v : Bytes) → a ≡ attributesOf i (f .attributes) → b ≡ attributesOf (suc i) (f .attributes) → destroyed i f .rows ≡ rowsAfter (shifting (i + 1) b (b - a)) v f
+  unfolding destroyed rowsAfter
+  rows-are a b v ea eb =
+      sym
+      (walked-shut (i + 1) b (b - a) v (fillOf (shifting (i + 1) b (b - a)) v f) (f .rows)
+      ∙ kept-rows (i + 1) b (b - a) v (f .rows) old
+      ∙ (λ j. map (movedRow (lowered (add-one i j) 1) (lowered (eb j) (eb j - ea j))) (f .rows)))
+
+  -- q: the plan that the code makes
+  pub rows-laid : (a b : ℕ) (q : Plan) (v : Bytes) {out out₁ : Bytes} {at : ℕ} {r : Cursor} → Counted (attributesOf i (f .attributes)) (attributeCount bs) a → Counted (attributesOf (suc i) (f .attributes)) (attributeCount bs) b
+      → q ≡ shifting (i + 1) b (b - a) → Written (rowsAfter q v f) (walkFrom at bs) out r out₁ → Laid (each (rowBytes baseWidth) (destroyed i f .rows)) out at (r .at) out₁
+  rows-laid a b q v ca cb e w =
+      laid-as (bytes-old (numberAt 4 4 bs) (destroyed i f .rows) rows-old)
+      (written-fitting (written-as (rows-are a b v (ca .is) (cb .is) ∙ ap (λ (s : Plan). rowsAfter s v f) (sym e)) w) (omega (arith, rows-left bs p i h, x .rows, x .fewRows)))
 
   -- ---- all
   first-is : take 8 (flatBytes baseWidth (destroyed i f)) ≡ take 8 bs

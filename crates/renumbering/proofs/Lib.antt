@@ -3,5 +3,6 @@ pub mod Destroyed
 pub mod InUse
 pub mod Again
 pub mod Moving
+pub mod KeptRows
 pub mod Left
 pub mod LeftBytes

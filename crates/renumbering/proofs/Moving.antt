@@ -6,18 +6,17 @@ use native.Mathlib.Numerals.{add-one}
 use mathlib.Core.Path.{_≡_, sym, ap, _∙_}
 use mathlib.Core.Bool.{Bool, true, false}
 use mathlib.Core.List.{[], _∷_, _++_}
-use lib.Dec.{eqb, ltb}
+use lib.Dec.{ltb}
 use lib.ListN.{take, drop, getD}
 use borrow.Author.Tests.{lt-leb, eq-eqb, ne-eqb, lt-ltb, le-ltb}
 use Rattle.rules.specs.Bytes.{Bytes}
-use Rattle.rules.specs.Layout.{le}
-use Rattle.rules.specs.Decode.{numberAt, readAttribute, readMany}
+use Rattle.rules.specs.Decode.{readAttribute, readMany}
 use Rattle.codec.specs.Laid.{Laid}
 use Rattle.codec.proofs.Writers.{laid-then, laid-as}
 use Rattle.lookup.specs.Bodies.{recordsFrom}
 use Rattle.lookup.proofs.Laws.{from-step, from-none, from-all}
-use Rattle.defining.specs.Bodies.{memberMoved, rowMoved}
-use Rattle.renumbering.specs.Bodies.{lowered, particleRecord, attributeRecord, rowRecord, Counted, isBelow, attributesOf}
+use Rattle.defining.specs.Bodies.{memberMoved}
+use Rattle.renumbering.specs.Bodies.{lowered, particleRecord, attributeRecord, Counted, isBelow, attributesOf}
 use Rattle.renumbering.proofs.Lowered.{lowered-high}
 
 -- ---- indices
@@ -30,27 +29,15 @@ lower-low from less x h = record { is = sym (ap (λ (b : Bool). elim b as (λ z.
 pub lower-next : (d less x : ℕ) {r : ℕ} → r ≡ lowered (d + 1) less x → r ≡ lowered (suc d) less x
 lower-next d less x e = e ∙ ap (λ (k : ℕ). lowered k less x) (add-one d)
 
-module _ (g h : ℕ → ℕ) (sort x : ℕ) where
+module _ (g : ℕ → ℕ) (sort x : ℕ) where
   pub member-moved : sort ≡ 0 → {r : ℕ} → r ≡ g x → r ≡ memberMoved g sort x
   member-moved e q = q ∙ sym (ap (λ (b : Bool). elim b as (λ z. ℕ) [ true ↦ g x | false ↦ x ]) (eq-eqb sort 0 e))
 
   pub member-stays : (sort ≡ 0 → ⊥) → x ≡ memberMoved g sort x
   member-stays e = sym (ap (λ (b : Bool). elim b as (λ z. ℕ) [ true ↦ g x | false ↦ x ]) (ne-eqb sort 0 e))
 
-  abbrev movedBy : Bool → Bool → ℕ
-  movedBy b c = elim b as (λ z. ℕ) [ true ↦ g x | false ↦ elim c as (λ z. ℕ) [ true ↦ h x | false ↦ x ] ]
-
-  pub row-element : sort ≡ 1 → {r : ℕ} → r ≡ g x → r ≡ rowMoved g h sort x
-  row-element e q = q ∙ sym (ap (λ (b : Bool). movedBy b (eqb sort 2)) (eq-eqb sort 1 e))
-
-  pub row-attribute : (sort ≡ 1 → ⊥) → sort ≡ 2 → {r : ℕ} → r ≡ h x → r ≡ rowMoved g h sort x
-  row-attribute k e q = q ∙ sym (ap (λ (b : Bool). movedBy b (eqb sort 2)) (ne-eqb sort 1 k) ∙ ap (movedBy false) (eq-eqb sort 2 e))
-
-  pub row-stays : (sort ≡ 1 → ⊥) → (sort ≡ 2 → ⊥) → x ≡ rowMoved g h sort x
-  row-stays k e = sym (ap (λ (b : Bool). movedBy b (eqb sort 2)) (ne-eqb sort 1 k) ∙ ap (movedBy false) (ne-eqb sort 2 e))
-
 -- ---- records
-module _ (g h : ℕ → ℕ) (rec : Bytes) where
+module _ (g : ℕ → ℕ) (rec : Bytes) where
   pub particle-laid : (s i x y : ℕ) {u out out₁ out₂ out₃ : Bytes} {at at₁ at₂ at₃ : ℕ} → s ≡ getD rec 0 0 → i ≡ getD rec 2 0 → x ≡ memberMoved g s i → y ≡ getD rec 3 0 → u ≡ take 2 rec
       → Laid u out at at₁ out₁ → Laid (x ∷ []) out₁ at₁ at₂ out₂ → Laid (y ∷ []) out₂ at₂ at₃ out₃ → Laid (particleRecord g rec) out at at₃ out₃
   unfolding particleRecord
@@ -61,13 +48,6 @@ module _ (g h : ℕ → ℕ) (rec : Bytes) where
   pub attribute-laid : (o x : ℕ) {u out out₁ out₂ : Bytes} {at at₁ at₂ : ℕ} → o ≡ getD rec 0 0 → x ≡ g o → u ≡ drop 1 rec → Laid (x ∷ []) out at at₁ out₁ → Laid u out₁ at₁ at₂ out₂ → Laid (attributeRecord g rec) out at at₂ out₂
   unfolding attributeRecord
   attribute-laid o x eo ex eu a b = laid-as (λ j. (ap g (sym eo) ∙ sym ex) j ∷ sym eu j) (laid-then a b)
-
-  pub row-laid : (s i x : ℕ) {u v out out₁ out₂ out₃ : Bytes} {at at₁ at₂ at₃ : ℕ} → s ≡ getD rec 0 0 → i ≡ numberAt 2 2 rec → x ≡ rowMoved g h s i → u ≡ take 2 rec → v ≡ drop 4 rec
-      → Laid u out at at₁ out₁ → Laid (le 2 x) out₁ at₁ at₂ out₂ → Laid v out₂ at₂ at₃ out₃ → Laid (rowRecord g h rec) out at at₃ out₃
-  unfolding rowRecord
-  row-laid s i x es ei ex eu ev a b c =
-      let e : rowMoved g h (getD rec 0 0) (numberAt 2 2 rec) ≡ x = (λ j. rowMoved g h (sym es j) (sym ei j)) ∙ sym ex in
-      laid-as (λ j. sym eu j ++ (le 2 (e j) ++ sym ev j)) (laid-then a (laid-then b c))
 
 -- ---- attributes of the first i definitions
 pub below-yes : (i : ℕ) (rec : Bytes) (o : ℕ) → o ≡ getD rec 0 0 → o < i → Counted (isBelow i (readAttribute rec)) 1 1

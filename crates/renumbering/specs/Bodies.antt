@@ -8,11 +8,11 @@ use lib.Dec.{eqb, leb, ltb}
 use lib.ListN.{length, take, drop, getD}
 use Rattle.rules.specs.Bytes.{Bytes}
 use Rattle.rules.specs.Preorder.{Deep}
-use Rattle.rules.specs.Layout.{FlatDefinition, FlatParticle, FlatAttribute, FlatRow, FlatStore, le}
-use Rattle.rules.specs.Decode.{numberAt, definitionCount}
+use Rattle.rules.specs.Layout.{FlatDefinition, FlatParticle, FlatAttribute, FlatRow, FlatStore}
+use Rattle.rules.specs.Decode.{definitionCount}
 use Rattle.rules.specs.Passing.{passes}
 use Rattle.lookup.specs.Bodies.{bodiesOf}
-use Rattle.defining.specs.Bodies.{contents, memberMoved, movedParticle, rowMoved, movedRow}
+use Rattle.defining.specs.Bodies.{contents, memberMoved, movedParticle, movedRow}
 
 -- ---- what is left
 -- `less` entries before number `from` go: the numbers from there on fall
@@ -74,9 +74,6 @@ particleRecord g rec = take 2 rec ++ (memberMoved g (getD rec 0 0) (getD rec 2 0
 
 unfoldable pub attributeRecord : (ℕ → ℕ) → Bytes → Bytes
 attributeRecord g rec = g (getD rec 0 0) ∷ drop 1 rec
-
-unfoldable pub rowRecord : (ℕ → ℕ) → (ℕ → ℕ) → Bytes → Bytes
-rowRecord g h rec = take 2 rec ++ (le 2 (rowMoved g h (getD rec 0 0) (numberAt 2 2 rec)) ++ drop 4 rec)
 
 -- r is the number `count`, which is at most `all`
 pub record Counted (count all r : ℕ) : Type 0 where

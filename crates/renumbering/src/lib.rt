@@ -1,4 +1,9 @@
 //! A store without one of its definitions: the bodies that are left, with their indices renumbered.
+use editing::Later;
+use editing::Plan;
+use editing::Shift;
+use editing::Which;
+use filling::Filling;
 ghost use mathlib.Core.Path.{_≡_};
 ghost use mathlib.Core.Bool.{true};
 ghost use Prim.Native.Nat.{suc, _+_, _*_, _≤_, _<_};
@@ -10,8 +15,9 @@ ghost use Rattle.rules.specs.Passing.{passes};
 ghost use Rattle.records.specs.Records.{baseWidth};
 ghost use Rattle.codec.specs.Laid.{Laid};
 ghost use Rattle.lookup.specs.Bodies.{bodiesOf, rowStart};
-ghost use Rattle.defining.specs.Bodies.{memberMoved, rowMoved};
-ghost use Rattle.renumbering.specs.Bodies.{lowered, particleRecord, attributeRecord, rowRecord, eachRecord, isMember, isRoot, isBelow, particlesOf, attributesOf, Counted, Defined, destroyed, headerLeft};
+ghost use Rattle.defining.specs.Bodies.{memberMoved};
+ghost use Rattle.renumbering.specs.Bodies.{lowered, particleRecord, attributeRecord, eachRecord, isMember, isRoot, isBelow, particlesOf, attributesOf, Counted, Defined, destroyed, headerLeft};
+ghost use Rattle.renumbering.specs.Shifting.{shifting};
 
 const HEADER_SIZE: usize = 40;
 
@@ -52,22 +58,6 @@ fn moved_member(sort: u8, index: u8, definition: u32) -> u8
     index
 }
 
-// .. in a row: `less` attributes before number `from` go.
-fn moved_row(sort: u8, index: u32, definition: u32, from: u32, less: u32) -> u32
-    requires { ⌜ (definition ≤ 64) × (less ≤ from) ⌝ }
-    ensures { λ r. ⌜ r ≡ rowMoved (lowered (suc definition) 1) (lowered from less) sort index ⌝ }
-{
-    if sort == 1 {
-        let moved = lower(index, definition + 1, 1);
-        return moved;
-    }
-    if sort == 2 {
-        let moved = lower(index, from, less);
-        return moved;
-    }
-    index
-}
-
 // ---- records
 
 fn put_particle(rec: &[u8], definition: u32, out: &mut [u8], at: usize) -> usize
@@ -88,17 +78,6 @@ fn put_attribute(rec: &[u8], definition: u32, out: &mut [u8], at: usize) -> usiz
     let owner = lower_byte(codec::byte(rec, 0), definition);
     let first = codec::put_u8(out, at, owner);
     codec::put(records::after(rec, 1), out, first)
-}
-
-fn put_row(rec: &[u8], definition: u32, from: u32, less: u32, out: &mut [u8], at: usize) -> usize
-    requires { ⌜ (definition ≤ 64) × (less ≤ from) × (length (now rec) ≤ 44) × (at < 4611686018427387904) ⌝ }
-    ensures { λ r. ⌜ Laid (rowRecord (lowered (suc definition) 1) (lowered from less) (now (rec .entry))) (now (out .entry)) at r (now (out .exit)) ⌝ }
-{
-    let index = codec::get_u16(rec, 2);
-    let moved = moved_row(codec::byte(rec, 0), index, definition, from, less);
-    let first = codec::put(records::first(rec, 2), out, at);
-    let second = codec::put_u16(out, first, moved);
-    codec::put(records::after(rec, 4), out, second)
 }
 
 // ---- the first `count` records of a body
@@ -124,28 +103,6 @@ fn put_attributes(body: &[u8], count: usize, definition: u32, out: &mut [u8], st
     let mut i = 0;
     while i < count {
         at = put_attribute(lookup::window(body, 52 * i, 52), definition, out, at);
-        i += 1;
-    }
-    at
-}
-
-fn put_rows(
-    body: &[u8],
-    count: usize,
-    definition: u32,
-    from: u32,
-    less: u32,
-    out: &mut [u8],
-    start: usize,
-) -> usize
-    requires { ⌜ (definition ≤ 64) × (less ≤ from) × (count ≤ 4096) × (start < 1152921504606846976) ⌝ }
-    ensures { λ r. ⌜ Laid (eachRecord (rowRecord (lowered (suc definition) 1) (lowered from less)) 44 count (now (body .entry))) (now (out .entry)) start r (now (out .exit)) ⌝ }
-{
-    let mut at = start;
-    let mut i = 0;
-    while i < count {
-        let rec = lookup::window(body, 44 * i, 44);
-        at = put_row(rec, definition, from, less, out, at);
         i += 1;
     }
     at
@@ -349,14 +306,40 @@ fn put_attributes_left(store: &[u8], i: u32, out: &mut [u8], at: usize) -> usize
     )
 }
 
+// What happens to the rows: each is kept, its index moved.
+fn shifting(definition: usize, from: usize, less: usize) -> Plan
+    ensures { λ r. ⌜ r ≡ shifting definition from less ⌝ }
+{
+    Plan {
+        above: Which::Nothing,
+        takes: Which::Nothing,
+        fills: false,
+        later: Later::Never,
+        filling: Filling::Nothing,
+        set: 0,
+        definitions: Shift {
+            from: definition,
+            more: 0,
+            less: 1,
+        },
+        attributes: Shift {
+            from,
+            more: 0,
+            less,
+        },
+    }
+}
+
 fn put_rows_left(store: &[u8], i: u32, out: &mut [u8], at: usize) -> usize
     requires { ⌜ Defined (now store) i × (at < 16777216) ⌝ }
     ensures { λ r. ⌜ Laid (each (rowBytes baseWidth) (destroyed i (bodiesOf (now (store .entry))) .rows)) (now (out .entry)) at r (now (out .exit)) ⌝ }
 {
-    let start = attribute_start(store, i);
-    let end = attribute_start(store, i + 1);
-    let count = codec::get_u32(store, 36) as usize;
-    put_rows(row_body(store), count, i, end, end - start, out, at)
+    let start = attribute_start(store, i) as usize;
+    let end = attribute_start(store, i + 1) as usize;
+    let plan = shifting(i as usize + 1, end, end - start);
+    let text = records::first(store, 0);
+    let after = storing::walk_rows(store, plan, text, at, out);
+    after.at
 }
 
 /// Writes the store without definition i.

@@ -24,7 +24,7 @@ same-length : tie.Need-same-length
 same-length c = search needs
 
 returns : tie.Need-returns
-returns c = attribute-laid (lowered (suc (c .before .before .before .before .before .before .before .before .before .before .before .before .before .args .definition)) 1) (λ i. i) (c .before .before .before .before .before .before .before .before .before .before .before .before .before .args .rec .now) _ _ (c .before .before .before .before .before .before .before .before .before .before .byte .ensures) (c .before .before .before .before .before .before .before .before .before .lower-byte .ensures) (c .before .before .before .before .after .ensures) (c .before .before .before .before .before .before .before .put-u8 .ensures) (c .before .before .put .ensures)
+returns c = attribute-laid (lowered (suc (c .before .before .before .before .before .before .before .before .before .before .before .before .before .args .definition)) 1) (c .before .before .before .before .before .before .before .before .before .before .before .before .before .args .rec .now) _ _ (c .before .before .before .before .before .before .before .before .before .before .byte .ensures) (c .before .before .before .before .before .before .before .before .before .lower-byte .ensures) (c .before .before .before .before .after .ensures) (c .before .before .before .before .before .before .before .put-u8 .ensures) (c .before .before .put .ensures)
 
 pub put-attribute-spec : {M : Type 1} → statement M
 put-attribute-spec =

@@ -33,7 +33,7 @@ loop-less : tie.Need-loop-less Inv-loop μ-loop
 loop-less c = search needs
 
 loop-again : tie.Need-loop-again Inv-loop μ-loop
-loop-again c = going-on (attributeRecord (lowered (suc (c .before .before .before .before .before .before .before .before .before .args .definition)) 1)) 52 (c .before .before .before .before .before .before .before .before .before .args .body .now) (c .before .before .before .before .before .before .before .before .before .args .count) (c .before .before .before .before .before .before .loop .inv) _ (omega arith) (c .before .before .before .before .window .ensures) (c .before .before .put-attribute .ensures) (attribute-short (lowered (suc (c .before .before .before .before .before .before .before .before .before .args .definition)) 1) (λ i. i) _ (omega (arith, ap length (c .before .before .before .before .window .ensures), length-take 52 (drop (52 * c .before .before .before .before .before .before .loop .i) (c .before .before .before .before .before .before .before .before .before .args .body .now)))))
+loop-again c = going-on (attributeRecord (lowered (suc (c .before .before .before .before .before .before .before .before .before .args .definition)) 1)) 52 (c .before .before .before .before .before .before .before .before .before .args .body .now) (c .before .before .before .before .before .before .before .before .before .args .count) (c .before .before .before .before .before .before .loop .inv) _ (omega arith) (c .before .before .before .before .window .ensures) (c .before .before .put-attribute .ensures) (attribute-short (lowered (suc (c .before .before .before .before .before .before .before .before .before .args .definition)) 1) _ (omega (arith, ap length (c .before .before .before .before .window .ensures), length-take 52 (drop (52 * c .before .before .before .before .before .before .loop .i) (c .before .before .before .before .before .before .before .before .before .args .body .now)))))
 
 same-length : tie.Need-same-length Inv-loop μ-loop
 same-length c = c .before .loop .inv .long

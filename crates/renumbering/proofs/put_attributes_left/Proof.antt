@@ -49,7 +49,7 @@ sub-put-attributes c = search needs
 
 put-attributes-requires-2 : tie.Need-put-attributes-requires-2
 put-attributes-requires-2 c κs = let x = encoded (c .before .before .before .before .before .before .before .before .before .before .before .before .args .store .now) (c .before .before .before .before .before .before .before .before .before .before .before .before .pre .0 .good) in
-    omega (arith, c .before .before .before .before .before .before .before .before .before .before .before .before .pre .0 .there, c .before .before .before .before .before .before .before .before .before .before .before .before .pre .1, x .definitions, x .fewDefinitions, c .before .before .before .before .before .before .before .before .before .attribute-start .ensures .most, c .before .before .before .before .before .before .before .get-u32 .ensures, x .attributes, x .fewAttributes, c .before .before .before .before .put-attributes .ensures .next, records-short (attributeRecord (lowered (suc (c .before .before .before .before .before .before .before .before .before .before .before .before .args .i)) 1)) 52 (λ r h. attribute-short (lowered (suc (c .before .before .before .before .before .before .before .before .before .before .before .before .args .i)) 1) (λ k. k) r h) (c .before .before .before .before .before .before .before .before .before .attribute-start .result) (c .before .before .before .before .before .before .attribute-body .result .now))
+    omega (arith, c .before .before .before .before .before .before .before .before .before .before .before .before .pre .0 .there, c .before .before .before .before .before .before .before .before .before .before .before .before .pre .1, x .definitions, x .fewDefinitions, c .before .before .before .before .before .before .before .before .before .attribute-start .ensures .most, c .before .before .before .before .before .before .before .get-u32 .ensures, x .attributes, x .fewAttributes, c .before .before .before .before .put-attributes .ensures .next, records-short (attributeRecord (lowered (suc (c .before .before .before .before .before .before .before .before .before .before .before .before .args .i)) 1)) 52 (λ r h. attribute-short (lowered (suc (c .before .before .before .before .before .before .before .before .before .before .before .before .args .i)) 1) r h) (c .before .before .before .before .before .before .before .before .before .attribute-start .result) (c .before .before .before .before .before .before .attribute-body .result .now))
 
 same-length : tie.Need-same-length
 same-length c = search needs

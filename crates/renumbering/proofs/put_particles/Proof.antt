@@ -33,7 +33,7 @@ loop-less : tie.Need-loop-less Inv-loop μ-loop
 loop-less c = search needs
 
 loop-again : tie.Need-loop-again Inv-loop μ-loop
-loop-again c = going-on (particleRecord (lowered (suc (c .before .before .before .before .before .before .before .before .before .args .definition)) 1)) 4 (c .before .before .before .before .before .before .before .before .before .args .body .now) (c .before .before .before .before .before .before .before .before .before .args .count) (c .before .before .before .before .before .before .loop .inv) _ (omega arith) (c .before .before .before .before .window .ensures) (c .before .before .put-particle .ensures) (particle-short (lowered (suc (c .before .before .before .before .before .before .before .before .before .args .definition)) 1) (λ i. i) _)
+loop-again c = going-on (particleRecord (lowered (suc (c .before .before .before .before .before .before .before .before .before .args .definition)) 1)) 4 (c .before .before .before .before .before .before .before .before .before .args .body .now) (c .before .before .before .before .before .before .before .before .before .args .count) (c .before .before .before .before .before .before .loop .inv) _ (omega arith) (c .before .before .before .before .window .ensures) (c .before .before .put-particle .ensures) (particle-short (lowered (suc (c .before .before .before .before .before .before .before .before .before .args .definition)) 1) _)
 
 same-length : tie.Need-same-length Inv-loop μ-loop
 same-length c = c .before .loop .inv .long

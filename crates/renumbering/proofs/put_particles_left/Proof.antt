@@ -49,7 +49,7 @@ sub-put-particles c = search needs
 
 put-particles-requires-2 : tie.Need-put-particles-requires-2
 put-particles-requires-2 c κs = let x = encoded (c .before .before .before .before .before .before .before .before .before .before .before .before .args .store .now) (c .before .before .before .before .before .before .before .before .before .before .before .before .pre .0 .good) in
-    omega (arith, c .before .before .before .before .before .before .before .before .before .before .before .before .pre .0 .there, c .before .before .before .before .before .before .before .before .before .before .before .before .pre .1, x .definitions, x .fewDefinitions, c .before .before .before .before .before .before .before .before .before .model-start .ensures .most, c .before .before .before .before .before .before .before .get-u32 .ensures, x .particles, x .fewParticles, c .before .before .before .before .put-particles .ensures .next, records-short (particleRecord (lowered (suc (c .before .before .before .before .before .before .before .before .before .before .before .before .args .i)) 1)) 4 (λ r h. particle-short (lowered (suc (c .before .before .before .before .before .before .before .before .before .before .before .before .args .i)) 1) (λ k. k) r) (c .before .before .before .before .before .before .before .before .before .model-start .result) (c .before .before .before .before .before .before .particle-body .result .now))
+    omega (arith, c .before .before .before .before .before .before .before .before .before .before .before .before .pre .0 .there, c .before .before .before .before .before .before .before .before .before .before .before .before .pre .1, x .definitions, x .fewDefinitions, c .before .before .before .before .before .before .before .before .before .model-start .ensures .most, c .before .before .before .before .before .before .before .get-u32 .ensures, x .particles, x .fewParticles, c .before .before .before .before .put-particles .ensures .next, records-short (particleRecord (lowered (suc (c .before .before .before .before .before .before .before .before .before .before .before .before .args .i)) 1)) 4 (λ r h. particle-short (lowered (suc (c .before .before .before .before .before .before .before .before .before .before .before .before .args .i)) 1) r) (c .before .before .before .before .before .before .before .before .before .model-start .result) (c .before .before .before .before .before .before .particle-body .result .now))
 
 same-length : tie.Need-same-length
 same-length c = search needs

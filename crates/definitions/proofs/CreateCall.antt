@@ -23,8 +23,9 @@ use Rattle.records.specs.Records.{baseWidth}
 use Rattle.lookup.specs.Bodies.{bodiesOf}
 use Rattle.storing.specs.Stores.{storeIn}
 use Rattle.storing.proofs.StoreLaws.{holds}
-use Rattle.definitions.specs.Bodies.{Limit, created, newDefinition, named}
-use Rattle.definitions.proofs.Encoded.{Encoded, encoded}
+use Rattle.defining.specs.Bodies.{newDefinition, named}
+use Rattle.definitions.specs.Bodies.{Limit, created}
+use Rattle.defining.proofs.Encoded.{Encoded, encoded}
 use Rattle.definitions.proofs.Limits.{limit-ceiling, limit-room, limit-none}
 use Rattle.definitions.proofs.Created.{known-named, flat-created}
 

@@ -2,26 +2,28 @@
 -- Assumes nothing.
 use Prim.Native.Nat.{ℕ, zero, suc, _+_, _≤_}
 use native.Mathlib.Omega.{arith}
-use mathlib.Core.Path.{_≡_, refl, sym, ap, ap₂, _∙_}
+use mathlib.Core.Path.{_≡_, refl, ap, ap₂, _∙_}
 use mathlib.Core.Bool.{Bool, true, false, _||_, false≢true}
 use mathlib.Core.List.{List, [], _∷_, _++_, map, append-nil, List·Memᴰ}
 use lib.Dec.{eqb}
 use lib.ListN.{length}
 use Rattle.rules.specs.Bytes.{Bytes, same, all}
 use Rattle.rules.specs.Model.{done, names}
-use Rattle.rules.specs.Store.{Definition, Form, RowSort, element, attribute, text, Row, Forest, bare, tree, Store, members, heads}
+use Rattle.rules.specs.Store.{Definition, Form, Store, members, heads}
 use Rattle.rules.specs.Preorder.{Deep}
 use Rattle.rules.specs.Layout.{FlatDefinition, FlatParticle, FlatAttribute, FlatRow, indexOf, attributeIndex, contentParticles, flatDefinition, allParticles, ownAttributes, allAttributes, flat}
 use Rattle.rules.specs.Decode.{contentOf}
 use Rattle.rules.specs.WellFormed.{known, lookup}
-use Rattle.rules.specs.Conforming.{EveryRow, isElement, fitsRow}
+use Rattle.rules.specs.Conforming.{fitsRow}
 use Rattle.rules.specs.Passing.{good}
 use Rattle.rules.specs.Change.{createDefinition, formAfter, plan, after}
-use Rattle.rules.proofs.BooleanLaws.{Every, every-map, all-in, none-nil}
-use Rattle.rules.proofs.DecodeLaws.{GoodParts, good-parts, good-known, fits-known}
-use Rattle.definitions.specs.Bodies.{created, newDefinition, movedRow, movedParticle, named}
-use Rattle.definitions.proofs.Kept.{after-kept}
-use Rattle.definitions.proofs.Renumbered.{map-append, OkRow, moved-models, moved-definitions, moved-rows}
+use Rattle.rules.proofs.BooleanLaws.{Every, every-map, all-in}
+use Rattle.rules.proofs.DecodeLaws.{GoodParts, good-parts, good-known}
+use Rattle.defining.specs.Bodies.{newDefinition, movedRow, movedParticle, named}
+use Rattle.definitions.specs.Bodies.{created}
+use Rattle.defining.proofs.Kept.{after-kept}
+use Rattle.defining.proofs.FittingRows.{element-known, others-bare, every-row-map, roots-elements}
+use Rattle.defining.proofs.Renumbered.{map-append, OkRow, moved-models, moved-definitions, moved-rows}
 
 -- ---- nothing moves
 abbrev pub stays : ℕ → ℕ
@@ -73,27 +75,6 @@ particles-more form (x ∷ ds) d e = ap (λ (l : List (Deep FlatParticle)). cont
 attributes-more : (o : ℕ) (ds : Form) (d : Definition) → d .attributes ≡ [] → allAttributes o (ds ++ d ∷ []) ≡ allAttributes o ds
 attributes-more o [] d e = rw e refl
 attributes-more o (x ∷ ds) d e = ap (λ (l : List FlatAttribute). ownAttributes o (x .attributes) ++ l) (attributes-more (suc o) ds d e)
-
--- ---- documents that conform: elements are of known names, other rows hold nothing
-pub element-known : (form : Form) (r : Row) (below : List Row) → fitsRow form r below ≡ true → r .sort ≡ element → known form (r .name) ≡ true
-unfolding fitsRow
-element-known form r below h q = fits-known (lookup (r .name) form) below (rw (q, fitsRow) at h)
-
-pub others-bare : (form : Form) (r : Row) (below : List Row) → fitsRow form r below ≡ true → isElement (r .sort) ≡ false → below ≡ []
-unfolding fitsRow
-others-bare form r below h k = by (r .sort) refl
-  where
-    by : (s : RowSort) → r .sort ≡ s → below ≡ []
-    by element q = absurd (false≢true (sym k ∙ ap isElement q))
-    by attribute q = none-nil below (rw (q, fitsRow) at h)
-    by text q = none-nil below (rw (q, fitsRow) at h)
-
-pub every-row-map : (P Q : Row → List Row → Type 0) → ((r : Row) (below : List Row) → P r below → Q r below) → (f : Forest Row) → EveryRow P f → EveryRow Q f
-every-row-map P Q k bare e = tt
-every-row-map P Q k (tree r b t) (x, y, z) = (k r (heads b) x, every-row-map P Q k b y, every-row-map P Q k t z)
-
-pub roots-elements : (Ok : Type 0) (rows : List Row) → Every (λ r. isElement (r .sort) ≡ true) rows → Every (λ r. r .sort ≡ attribute → Ok) rows
-roots-elements Ok rows e = every-map (λ r. isElement (r .sort) ≡ true) (λ r. r .sort ≡ attribute → Ok) rows (λ r x a. absurd (false≢true (sym (ap isElement a) ∙ x))) e
 
 -- ---- the change
 module _ (n : Bytes) (k : ℕ) (low : k ≤ 2) where

@@ -21,11 +21,11 @@ use Rattle.history.proofs.Conditions.{first-append, conditions-numbered, or-fal
 use Rattle.lookup.specs.Bodies.{bodiesOf, rowStart}
 use Rattle.storing.specs.Stores.{storeIn}
 use Rattle.storing.proofs.StoreLaws.{holds}
-use Rattle.definitions.specs.Bodies.{isMember, isRoot, destroyed, Defined}
-use Rattle.definitions.proofs.Encoded.{encoded}
-use Rattle.definitions.proofs.Destroyed.{flat-destroyed}
-use Rattle.definitions.proofs.InUse.{used-in-models, used-as-root}
-use Rattle.definitions.proofs.Left.{particles-read, rows-read}
+use Rattle.renumbering.specs.Bodies.{isMember, isRoot, destroyed, Defined}
+use Rattle.defining.proofs.Encoded.{encoded}
+use Rattle.renumbering.proofs.Destroyed.{flat-destroyed}
+use Rattle.renumbering.proofs.InUse.{used-in-models, used-as-root}
+use Rattle.renumbering.proofs.Left.{particles-read, rows-read}
 
 module _ (bs : Bytes) (i : ℕ) (p : passes bs ≡ true) where
   abbrev s : Store

@@ -1,10 +1,12 @@
 use Rattle.definitions.proofs.CreateCall.{fresh, flat-after-create}
-use Rattle.definitions.proofs.Limits.{answers-bad, answers-condition, answers-limit, answers-all}
+use Rattle.storing.proofs.CallLaws.{answers-bad, answers-refused}
+use Rattle.definitions.proofs.Limits.{answers-limit, answers-all}
 use Rattle.definitions.specs.Bodies.{created}
 use Rattle.lookup.specs.Bodies.{bodiesOf}
 use Rattle.rules.specs.Change.{createDefinition}
 use borrow.Author.Tests.{not-true, not-false}
 use mathlib.Core.Path.{sym, _∙_}
+use lib.ListN.{length}
 use borrow.Author.Needs.{needs}
 use Rattle.definitions.proofs.create_definition.Statement.{statement}
 use Rattle.definitions.proofs.create_definition.Tie as tie
@@ -13,13 +15,13 @@ passes-requires : tie.Need-passes-requires
 passes-requires c κs = search needs
 
 returns : tie.Need-returns
-returns c = answers-bad (createDefinition (c .before .before .before .before .before .args .name .now) (c .before .before .before .before .before .args .kind)) (c .before .before .before .before .before .args .store .now) (c .before .before .before .before .before .args .out .now) (sym (c .before .passes .ensures) ∙ not-true _ (c .if1 .taken))
+returns c = answers-bad (createDefinition (c .before .before .before .before .before .args .name .now) (c .before .before .before .before .before .args .kind)) (c .before .before .before .before .before .args .store .now) (length (c .before .before .before .before .before .args .out .now)) (sym (c .before .passes .ensures) ∙ not-true _ (c .if1 .taken))
 
 create-condition-requires : tie.Need-create-condition-requires
 create-condition-requires c κs = sym (c .before .passes .ensures) ∙ not-false _ (c .if1 .left)
 
 returns-2 : tie.Need-returns-2
-returns-2 c = answers-condition (createDefinition (c .before .before .before .before .before .before .before .args .name .now) (c .before .before .before .before .before .before .before .args .kind)) (c .before .before .before .before .before .before .before .args .store .now) (c .before .before .before .before .before .before .before .args .out .now) (sym (c .before .before .before .passes .ensures) ∙ not-false _ (c .before .before .if1 .left)) _ (c .before .create-condition .ensures) (c .if2 .taken)
+returns-2 c = answers-refused (createDefinition (c .before .before .before .before .before .before .before .args .name .now) (c .before .before .before .before .before .before .before .args .kind)) (c .before .before .before .before .before .before .before .args .store .now) (length (c .before .before .before .before .before .before .before .args .out .now)) (sym (c .before .before .before .passes .ensures) ∙ not-false _ (c .before .before .if1 .left)) _ (c .before .create-condition .ensures) (c .if2 .taken)
 
 create-limit-requires : tie.Need-create-limit-requires
 create-limit-requires c κs = sym (c .before .before .before .passes .ensures) ∙ not-false _ (c .before .before .if1 .left)

@@ -1,10 +1,12 @@
 use Rattle.definitions.proofs.DestroyCall.{stands, flat-after-destroy}
-use Rattle.definitions.proofs.Limits.{answers-bad, answers-condition, answers-limit, answers-all}
-use Rattle.definitions.specs.Bodies.{destroyed}
+use Rattle.storing.proofs.CallLaws.{answers-bad, answers-refused}
+use Rattle.definitions.proofs.Limits.{answers-limit, answers-all}
+use Rattle.renumbering.specs.Bodies.{destroyed}
 use Rattle.lookup.specs.Bodies.{bodiesOf}
 use Rattle.rules.specs.Change.{destroyDefinition}
 use borrow.Author.Tests.{not-true, not-false}
 use mathlib.Core.Path.{sym, _∙_}
+use lib.ListN.{length}
 use borrow.Author.Needs.{needs}
 use Rattle.definitions.proofs.destroy_definition.Statement.{statement}
 use Rattle.definitions.proofs.destroy_definition.Tie as tie
@@ -13,13 +15,13 @@ passes-requires : tie.Need-passes-requires
 passes-requires c κs = search needs
 
 returns : tie.Need-returns
-returns c = answers-bad (destroyDefinition (c .before .before .before .before .args .definition)) (c .before .before .before .before .args .store .now) (c .before .before .before .before .args .out .now) (sym (c .before .passes .ensures) ∙ not-true _ (c .if1 .taken))
+returns c = answers-bad (destroyDefinition (c .before .before .before .before .args .definition)) (c .before .before .before .before .args .store .now) (length (c .before .before .before .before .args .out .now)) (sym (c .before .passes .ensures) ∙ not-true _ (c .if1 .taken))
 
 destroy-condition-requires : tie.Need-destroy-condition-requires
 destroy-condition-requires c κs = sym (c .before .passes .ensures) ∙ not-false _ (c .if1 .left)
 
 returns-2 : tie.Need-returns-2
-returns-2 c = answers-condition (destroyDefinition (c .before .before .before .before .before .before .args .definition)) (c .before .before .before .before .before .before .args .store .now) (c .before .before .before .before .before .before .args .out .now) (sym (c .before .before .before .passes .ensures) ∙ not-false _ (c .before .before .if1 .left)) _ (c .before .destroy-condition .ensures) (c .if2 .taken)
+returns-2 c = answers-refused (destroyDefinition (c .before .before .before .before .before .before .args .definition)) (c .before .before .before .before .before .before .args .store .now) (length (c .before .before .before .before .before .before .args .out .now)) (sym (c .before .before .before .passes .ensures) ∙ not-false _ (c .before .before .if1 .left)) _ (c .before .destroy-condition .ensures) (c .if2 .taken)
 
 destroy-limit-requires : tie.Need-destroy-limit-requires
 destroy-limit-requires c κs = stands (c .before .before .before .before .before .before .args .store .now) (c .before .before .before .before .before .before .args .definition) (sym (c .before .before .before .passes .ensures) ∙ not-false _ (c .before .before .if1 .left)) (sym (c .before .destroy-condition .ensures) ∙ c .if2 .left)

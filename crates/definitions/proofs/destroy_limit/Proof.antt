@@ -1,4 +1,4 @@
-use Rattle.definitions.proofs.LeftBytes.{short-room, enough-room}
+use Rattle.definitions.proofs.DestroyLimits.{short-room, enough-room}
 use native.Mathlib.Omega.{arith}
 use borrow.Author.Needs.{needs}
 use Rattle.definitions.proofs.destroy_limit.Statement.{statement}

@@ -1,5 +1,6 @@
-use Rattle.definitions.proofs.Encoded.{encoded, length-is, header-short, created-laid}
-use Rattle.definitions.specs.Bodies.{newDefinition}
+use Rattle.defining.proofs.Encoded.{encoded, length-is, header-short}
+use Rattle.definitions.proofs.CreatedBytes.{created-laid}
+use Rattle.defining.specs.Bodies.{newDefinition}
 use Rattle.rules.proofs.LayoutLaws.{length-definition}
 use lib.ListN.{length, drop, length-take, length-drop}
 use mathlib.Core.Path.{ap}
@@ -27,6 +28,9 @@ cast-length c = search needs
 mul-length : tie.Need-mul-length
 mul-length c = search needs
 
+add-rest : tie.Need-add-rest
+add-rest c = search needs
+
 add-put-header : tie.Need-add-put-header
 add-put-header c = let x = encoded (c .before .before .before .before .before .before .before .args .store .now) (c .before .before .before .before .before .before .before .pre .0) in omega (arith, c .before .before .before .get-u32 .ensures, x .definitions, x .fewDefinitions)
 
@@ -41,9 +45,6 @@ put-requires c κs = omega (arith, c .before .before .before .before .put-header
 
 put-definition-requires : tie.Need-put-definition-requires
 put-definition-requires c κs = omega (arith, c .before .before .before .before .before .before .before .before .before .before .before .before .before .before .before .before .before .pre, c .before .before .before .put .ensures .next, c .before .before .before .before .before .before .before .before .put-header .ensures .next, header-short (c .before .before .before .before .before .before .before .before .before .before .before .before .before .before .before .before .before .args .store .now) (c .before .before .before .before .before .before .before .before .before .before .before .before .before .get-u32 .result + 1) (c .before .before .before .before .before .before .before .before .before .before .before .before .get-u322 .result) (c .before .before .before .before .before .before .before .before .before .before .before .get-u323 .result) (c .before .before .before .before .before .before .before .before .before .before .get-u324 .result), ap length (c .before .before .before .before .before .window .ensures), length-take (20 * c .before .before .before .before .before .before .before .before .before .before .before .before .before .get-u32 .result) (drop 40 (c .before .before .before .before .before .before .before .before .before .before .before .before .before .before .before .before .before .args .store .now)))
-
-add-after : tie.Need-add-after
-add-after c = search needs
 
 after-requires : tie.Need-after-requires
 after-requires c κs = search needs
@@ -67,12 +68,12 @@ put-created-spec =
     get-u32-requires-4
     cast-length
     mul-length
+    add-rest
     add-put-header
     put-header-requires
     window-requires
     put-requires
     put-definition-requires
-    add-after
     after-requires
     put-requires-2
     same-length

@@ -7,7 +7,7 @@ use mathlib.Core.List.{List, [], _∷_, _++_, map, List·Memᴰ, List·Memᴰ·h
 use Rattle.rules.specs.declared.GroupKind.{GroupKind}
 use Rattle.rules.specs.Bytes.{Bytes}
 use Rattle.rules.specs.Model.{Members, names, nothing, unless, rename, filling}
-use Rattle.rules.specs.Store.{Row, Forest, Store}
+use Rattle.rules.specs.Store.{Forest, Store}
 use Rattle.rules.specs.Preorder.{Deep, flatten}
 use Rattle.rules.specs.Layout.{FlatRow, indexOf, indexed, flat}
 use Rattle.rules.specs.WellFormed.{known}

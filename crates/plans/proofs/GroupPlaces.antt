@@ -15,10 +15,9 @@ use Rattle.rules.specs.Bytes.{Bytes}
 use Rattle.rules.specs.Model.{Members, done, el, group, rename}
 use Rattle.rules.specs.Place.{Context, here, past, over, into, plug, renameAround}
 use Rattle.rules.specs.Edit.{Edit, placeOf}
-use Rattle.rules.specs.Store.{Content, empty, pcdata, complex, Definition, Form, Forest, bare, tree, Store, members}
+use Rattle.rules.specs.Store.{Content, empty, pcdata, complex, Definition, Form, bare, tree, Store, members}
 use Rattle.rules.specs.Preorder.{Deep, build}
-use Rattle.rules.specs.Layout.{FlatParticle, quantifierCode, groupCode, howMany, indexOf, contentParticles, flatDefinition, allParticles, flat}
-use Rattle.rules.specs.Decode.{quantifierOf}
+use Rattle.rules.specs.Layout.{FlatParticle, groupCode, howMany, indexOf, contentParticles, flatDefinition, allParticles, flat}
 use Rattle.rules.specs.Change.{definitionAt}
 use Rattle.rules.proofs.RenamingPlaces.{plug-rename}
 use Rattle.history.proofs.ModelAfter.{place-right}

@@ -26,7 +26,6 @@ use Rattle.history.proofs.Rowwise.{Standing}
 use Rattle.validity.proofs.AttributeRows.{rowWritten}
 use Rattle.editing.specs.declared.Which.the-variants.{Elements}
 use Rattle.editing.specs.declared.Plan.{Plan}
-use Rattle.editing.specs.Walk.{matches}
 use Rattle.storing.specs.Planned.{fillOf}
 use Rattle.plans.specs.Following.{RowFollows}
 use Rattle.plans.specs.ModelCalls.{Marked, removeElementPlan, insertElementPlan, DoesIn}

@@ -1,9 +1,9 @@
 -- An edit of one model: no index moves. Elements and their marks, by index and by name.
 -- Assumes nothing.
 use Prim.Native.Nat.{ℕ, zero, suc, _+_, _<_}
-use mathlib.Core.Path.{_≡_, refl, sym, ap, ap₂, _∙_, subst}
+use mathlib.Core.Path.{_≡_, refl, sym, ap, _∙_, subst}
 use mathlib.Core.Logic.{inl, inr}
-use mathlib.Core.Bool.{Bool, true, false, _&&_, not, false≢true}
+use mathlib.Core.Bool.{true, false, _&&_, not}
 use mathlib.Core.Option.{some}
 use mathlib.Core.List.{List, [], _∷_, _++_, map, List·Memᴰ, Memᴰ·append-left, Memᴰ·append-right}
 use lib.Dec.{eqb}
@@ -11,9 +11,8 @@ use lib.ListN.{length, getD}
 use Rattle.rules.specs.Bytes.{Bytes, same, bytes}
 use Rattle.rules.specs.Model.{Members, names, Distinct, member}
 use Rattle.rules.specs.Place.{Found, before, after}
-use Rattle.rules.specs.Store.{Definition, Form, RowSort, element, attribute, text, Row, Forest, bare, tree, heads, Store, members}
-use Rattle.rules.specs.Preorder.{flatten}
-use Rattle.rules.specs.Layout.{rowCode, rowIndex, indexOf, indexIn, attributeIndex, indexed, flat}
+use Rattle.rules.specs.Store.{Form, RowSort, element, attribute, text, Row, Forest, bare, tree, heads, Store, members}
+use Rattle.rules.specs.Layout.{rowCode, rowIndex, indexOf, indexIn, attributeIndex, indexed}
 use Rattle.rules.specs.WellFormed.{definitionName, isThere, known}
 use Rattle.rules.specs.Conforming.{isElement, EveryRow, RowConforms}
 use Rattle.rules.specs.Lines.{elementNamed}

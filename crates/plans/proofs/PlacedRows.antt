@@ -6,13 +6,13 @@ use mathlib.Core.Path.{_≡_, refl, sym, ap, ap₂, _∙_, subst}
 use mathlib.Core.Logic.{_⊎_, inl, inr, ⊎-elim}
 use mathlib.Core.Bool.{Bool, true, false, _&&_, not, false≢true}
 use mathlib.Core.Option.{some}
-use mathlib.Core.List.{List, [], _∷_, _++_, map, append-assoc, List·Memᴰ, List·Memᴰ·head, List·Memᴰ·tail, List·Memᴰ·not-nil, List·Memᴰ·cases-cons, List·Memᴰ·append-cases, Memᴰ·append-left, Memᴰ·cast, Memᴰ·map}
+use mathlib.Core.List.{List, [], _∷_, _++_, map, append-assoc, List·Memᴰ, List·Memᴰ·head, List·Memᴰ·tail, List·Memᴰ·cases-cons, List·Memᴰ·append-cases, Memᴰ·append-left, Memᴰ·map}
 use lib.ListN.{length}
 use Rattle.rules.specs.declared.GroupKind.the-variants.{Sequence}
 use Rattle.rules.specs.Bytes.{Bytes, same, bytes, same-eq}
 use Rattle.rules.specs.Model.{Members, names, isDone, Distinct, member}
 use Rattle.rules.specs.Language.{Conforms}
-use Rattle.rules.specs.Place.{Context, Found, plug, spine, before, after}
+use Rattle.rules.specs.Place.{Context, plug, spine, before, after}
 use Rattle.rules.specs.Edit.{Edit, _⊕_, placeOf}
 use Rattle.rules.specs.Store.{Content, complex, Definition, RowSort, element, attribute, Row, Forest, heads, Store, members}
 use Rattle.rules.specs.WellFormed.{lookup}

@@ -13,7 +13,7 @@ use Rattle.rules.specs.Bytes.{Bytes, same, bytes, same-eq}
 use Rattle.rules.specs.Model.{Members, done, el, group, skips, nothing, unless, filling, names, rename, Distinct, member}
 use Rattle.rules.specs.Quantifiers.{gains, cuts}
 use Rattle.rules.specs.Place.{Context, Found, spine, before}
-use Rattle.rules.specs.Edit.{Edit, quantify, placeOf, _⊕_}
+use Rattle.rules.specs.Edit.{quantify, placeOf, _⊕_}
 use Rattle.rules.specs.Store.{Row, Forest, heads, Store, members}
 use Rattle.rules.specs.Preorder.{Deep, flatten}
 use Rattle.rules.specs.Layout.{FlatRow, indexOf, indexed, flat}
@@ -32,7 +32,6 @@ use Rattle.validity.specs.Reading.{indexForm, entryOf}
 use Rattle.filling.specs.declared.Filling.{Filling}
 use Rattle.filling.specs.declared.Filling.the-variants.{Definition, Particles}
 use Rattle.filling.specs.Fillings.{fillingRows}
-use Rattle.editing.specs.declared.Plan.{Plan}
 use Rattle.editing.specs.Walk.{owed}
 use Rattle.storing.specs.Planned.{membersAt}
 use Rattle.plans.specs.ModelCalls.{Marked, gainFilling, requantifyPlan, DoesIn}
@@ -40,7 +39,7 @@ use Rattle.plans.proofs.Fillings.{filling-index}
 use Rattle.plans.proofs.GroupFillings.{filling-group}
 use Rattle.plans.proofs.ModelForms.{rows-still, picked-known, index-of-name, named-test}
 use Rattle.plans.proofs.PlacedRows.{NoneAt, FirstAt, instance-rows}
-use Rattle.plans.proofs.RequantifyPlans.{requantified, requantify-does}
+use Rattle.plans.proofs.RequantifyPlans.{requantify-does}
 
 same-one : (n m : Bytes) → same n m ≡ member bytes m (n ∷ [])
 same-one n m = by (same n m) refl

@@ -15,7 +15,7 @@ use Rattle.rules.specs.Store.{Row, Forest, bare, tree, heads, Store}
 use Rattle.rules.specs.Preorder.{Deep, flatten}
 use Rattle.rules.specs.Layout.{FlatRow, indexed, flat}
 use Rattle.rules.specs.WellFormed.{definitionName}
-use Rattle.rules.specs.Lines.{Line, lines, ground, elementNamed, elementAmong, childrenOf, serialAt}
+use Rattle.rules.specs.Lines.{Line, lines, elementNamed, elementAmong, childrenOf, serialAt}
 use Rattle.rules.specs.Passing.{good, GoodSerials}
 use Rattle.rules.specs.Change.{nameAtIndex, laterThan, changed}
 use Rattle.rules.specs.Change as change
@@ -33,7 +33,7 @@ use Rattle.editing.specs.declared.Plan.{Plan}
 use Rattle.editing.specs.Walk.{matches, isLater, spared, owed}
 use Rattle.storing.specs.Planned.{fillOf}
 use Rattle.plans.specs.Trees.{takenAt, filledAt, documentsWalk}
-use Rattle.plans.specs.Simulation.{planted, Going, Staying, Simulates}
+use Rattle.plans.specs.Simulation.{planted, Going, Staying}
 use Rattle.plans.specs.ModelCalls.{Marked, cutTakes, requantifyPlan}
 use Rattle.plans.proofs.SimulationLaws.{documents-simulate}
 use Rattle.plans.proofs.FollowingLaws.{index-same, value-same}

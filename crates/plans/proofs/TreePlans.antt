@@ -3,7 +3,7 @@
 use Prim.Native.Nat.{ℕ}
 use mathlib.Core.Path.{_≡_, refl, sym, ap, ap₂, _∙_}
 use mathlib.Core.Logic.{_⊎_, inl, inr}
-use mathlib.Core.Bool.{Bool, true, false, _&&_, _||_, not, false≢true, and-true}
+use mathlib.Core.Bool.{Bool, true, false, _&&_, _||_, not, and-true}
 use mathlib.Core.List.{List, []}
 use lib.Dec.{eqb}
 use Rattle.rules.specs.Bytes.{Bytes}
@@ -21,7 +21,7 @@ use Rattle.editing.specs.Walk.{matches, isEverything, isGround, markOf, isLater
 use Rattle.plans.specs.Trees.{takenAt, filledAt, documentsWalk}
 use Rattle.plans.specs.Following.{Fills, RowFollows, Follows, DocumentsFollow, Plain}
 use Rattle.plans.specs.Kept.{BothTake, FollowsKept}
-use Rattle.plans.specs.Simulation.{planted, Going, Staying, Simulates}
+use Rattle.plans.specs.Simulation.{planted, Going, Staying}
 use Rattle.plans.proofs.SimulationLaws.{documents-simulate}
 
 module _ (p : Plan) (plain : Plain p) where

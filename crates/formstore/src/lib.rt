@@ -1,8 +1,10 @@
 //! The public calls. Each stands beside an exported function of the same promise; include/formstore.h declares those.
+pub use storing::Answer;
 ghost use mathlib.Core.Path.{_≡_};
 ghost use Rattle.rules.specs.Passing.{passes};
 ghost use Rattle.rules.specs.LookUp.{lookUp};
-ghost use Rattle.rules.specs.Outcome.{Answers};
+ghost use Rattle.rules.specs.Change.{createDefinition, destroyDefinition, addDocument, addElement, destroyElement, setAttribute, destroyAttributeRow, setText};
+ghost use Rattle.rules.specs.Outcome.{outcome, Answers};
 ghost use Rattle.rules.specs.Print.{printOutcome};
 ghost use lib.ListN.{length};
 ghost use Rattle.lookup.specs.Finding.{Looks, Hands};
@@ -60,13 +62,6 @@ pub extern "C" fn formstore_look_up(store: &[u8], serial: u32) -> Found
     }
 }
 
-/// 0 and the length of what was written, or the number of a refusal and 0.
-#[repr(C)]
-pub struct Answer {
-    pub number: u32,
-    pub length: usize,
-}
-
 /// Prints the store. A first print into a buffer of one byte, which clips it, tells the length.
 pub fn print(store: &[u8], out: &mut [u8]) -> Answer
     ensures { λ r. ⌜ Answers (printOutcome (now (store .entry)) (length (now (out .entry)))) (now (out .entry)) (r .number) (r .length) (now (out .exit)) ⌝ }
@@ -94,4 +89,168 @@ pub extern "C" fn formstore_print(store: &[u8], out: &mut [u8]) -> Answer
     ensures { λ r. ⌜ Answers (printOutcome (now (store .entry)) (length (now (out .entry)))) (now (out .entry)) (r .number) (r .length) (now (out .exit)) ⌝ }
 {
     print(store, out)
+}
+
+// ---- the changes, by their numbers
+
+/// 1: creates a definition, after the others.
+pub fn create_definition(store: &[u8], name: &[u8], kind: u32, out: &mut [u8]) -> Answer
+    ensures { λ r. ⌜ Answers (outcome (createDefinition (now (name .entry)) kind) (now (store .entry)) (length (now (out .entry)))) (now (out .entry)) (r .number) (r .length) (now (out .exit)) ⌝ }
+{
+    definitions::create_definition(store, name, kind, out)
+}
+
+#[no_mangle]
+pub extern "C" fn formstore_create_definition(
+    store: &[u8],
+    name: &[u8],
+    kind: u32,
+    out: &mut [u8],
+) -> Answer
+    ensures { λ r. ⌜ Answers (outcome (createDefinition (now (name .entry)) kind) (now (store .entry)) (length (now (out .entry)))) (now (out .entry)) (r .number) (r .length) (now (out .exit)) ⌝ }
+{
+    definitions::create_definition(store, name, kind, out)
+}
+
+/// 2: destroys a definition, with its model and attributes.
+pub fn destroy_definition(store: &[u8], definition: u32, out: &mut [u8]) -> Answer
+    ensures { λ r. ⌜ Answers (outcome (destroyDefinition definition) (now (store .entry)) (length (now (out .entry)))) (now (out .entry)) (r .number) (r .length) (now (out .exit)) ⌝ }
+{
+    definitions::destroy_definition(store, definition, out)
+}
+
+#[no_mangle]
+pub extern "C" fn formstore_destroy_definition(
+    store: &[u8],
+    definition: u32,
+    out: &mut [u8],
+) -> Answer
+    ensures { λ r. ⌜ Answers (outcome (destroyDefinition definition) (now (store .entry)) (length (now (out .entry)))) (now (out .entry)) (r .number) (r .length) (now (out .exit)) ⌝ }
+{
+    definitions::destroy_definition(store, definition, out)
+}
+
+/// 11: a new last document, the filling of a definition.
+pub fn add_document(store: &[u8], definition: u32, text: &[u8], out: &mut [u8]) -> Answer
+    ensures { λ r. ⌜ Answers (outcome (addDocument definition (now (text .entry))) (now (store .entry)) (length (now (out .entry)))) (now (out .entry)) (r .number) (r .length) (now (out .exit)) ⌝ }
+{
+    documents::add_document(store, definition, text, out)
+}
+
+#[no_mangle]
+pub extern "C" fn formstore_add_document(
+    store: &[u8],
+    definition: u32,
+    text: &[u8],
+    out: &mut [u8],
+) -> Answer
+    ensures { λ r. ⌜ Answers (outcome (addDocument definition (now (text .entry))) (now (store .entry)) (length (now (out .entry)))) (now (out .entry)) (r .number) (r .length) (now (out .exit)) ⌝ }
+{
+    documents::add_document(store, definition, text, out)
+}
+
+/// 12: adds the filling of a definition as child number `child` of an element.
+pub fn add_element(
+    store: &[u8],
+    parent: u32,
+    child: u32,
+    definition: u32,
+    text: &[u8],
+    out: &mut [u8],
+) -> Answer
+    ensures { λ r. ⌜ Answers (outcome (addElement parent child definition (now (text .entry))) (now (store .entry)) (length (now (out .entry)))) (now (out .entry)) (r .number) (r .length) (now (out .exit)) ⌝ }
+{
+    documents::add_element(store, parent, child, definition, text, out)
+}
+
+#[no_mangle]
+pub extern "C" fn formstore_add_element(
+    store: &[u8],
+    parent: u32,
+    child: u32,
+    definition: u32,
+    text: &[u8],
+    out: &mut [u8],
+) -> Answer
+    ensures { λ r. ⌜ Answers (outcome (addElement parent child definition (now (text .entry))) (now (store .entry)) (length (now (out .entry)))) (now (out .entry)) (r .number) (r .length) (now (out .exit)) ⌝ }
+{
+    documents::add_element(store, parent, child, definition, text, out)
+}
+
+/// 13: destroys an element with all below it, or a whole document.
+pub fn destroy_element(store: &[u8], element: u32, out: &mut [u8]) -> Answer
+    ensures { λ r. ⌜ Answers (outcome (destroyElement element) (now (store .entry)) (length (now (out .entry)))) (now (out .entry)) (r .number) (r .length) (now (out .exit)) ⌝ }
+{
+    documents::destroy_element(store, element, out)
+}
+
+#[no_mangle]
+pub extern "C" fn formstore_destroy_element(store: &[u8], element: u32, out: &mut [u8]) -> Answer
+    ensures { λ r. ⌜ Answers (outcome (destroyElement element) (now (store .entry)) (length (now (out .entry)))) (now (out .entry)) (r .number) (r .length) (now (out .exit)) ⌝ }
+{
+    documents::destroy_element(store, element, out)
+}
+
+/// 14: sets an attribute of an element; a row that is there keeps its serial.
+pub fn set_attribute(
+    store: &[u8],
+    element: u32,
+    attribute: u32,
+    value: &[u8],
+    out: &mut [u8],
+) -> Answer
+    ensures { λ r. ⌜ Answers (outcome (setAttribute element attribute (now (value .entry))) (now (store .entry)) (length (now (out .entry)))) (now (out .entry)) (r .number) (r .length) (now (out .exit)) ⌝ }
+{
+    documents::set_attribute(store, element, attribute, value, out)
+}
+
+#[no_mangle]
+pub extern "C" fn formstore_set_attribute(
+    store: &[u8],
+    element: u32,
+    attribute: u32,
+    value: &[u8],
+    out: &mut [u8],
+) -> Answer
+    ensures { λ r. ⌜ Answers (outcome (setAttribute element attribute (now (value .entry))) (now (store .entry)) (length (now (out .entry)))) (now (out .entry)) (r .number) (r .length) (now (out .exit)) ⌝ }
+{
+    documents::set_attribute(store, element, attribute, value, out)
+}
+
+/// 15: destroys the row of an attribute of an element.
+pub fn destroy_attribute_row(store: &[u8], element: u32, attribute: u32, out: &mut [u8]) -> Answer
+    ensures { λ r. ⌜ Answers (outcome (destroyAttributeRow element attribute) (now (store .entry)) (length (now (out .entry)))) (now (out .entry)) (r .number) (r .length) (now (out .exit)) ⌝ }
+{
+    documents::destroy_attribute_row(store, element, attribute, out)
+}
+
+#[no_mangle]
+pub extern "C" fn formstore_destroy_attribute_row(
+    store: &[u8],
+    element: u32,
+    attribute: u32,
+    out: &mut [u8],
+) -> Answer
+    ensures { λ r. ⌜ Answers (outcome (destroyAttributeRow element attribute) (now (store .entry)) (length (now (out .entry)))) (now (out .entry)) (r .number) (r .length) (now (out .exit)) ⌝ }
+{
+    documents::destroy_attribute_row(store, element, attribute, out)
+}
+
+/// 16: sets the text of a PCDATA element.
+pub fn set_text(store: &[u8], element: u32, text: &[u8], out: &mut [u8]) -> Answer
+    ensures { λ r. ⌜ Answers (outcome (setText element (now (text .entry))) (now (store .entry)) (length (now (out .entry)))) (now (out .entry)) (r .number) (r .length) (now (out .exit)) ⌝ }
+{
+    documents::set_text(store, element, text, out)
+}
+
+#[no_mangle]
+pub extern "C" fn formstore_set_text(
+    store: &[u8],
+    element: u32,
+    text: &[u8],
+    out: &mut [u8],
+) -> Answer
+    ensures { λ r. ⌜ Answers (outcome (setText element (now (text .entry))) (now (store .entry)) (length (now (out .entry)))) (now (out .entry)) (r .number) (r .length) (now (out .exit)) ⌝ }
+{
+    documents::set_text(store, element, text, out)
 }

@@ -123,6 +123,10 @@ module _ {indices : ℕ → List ℕ} {form : Form} (w : Indexed indices form) w
       let (d, e, q) = at-name (map definitionName form) indices 0 form (w .once) (w .models) i l in
       (d, e, q ∙ ap (λ (k : ℕ). map nameOf (indices k)) (let z : 0 + i ≡ i = omega arith in z))
 
+  -- the names in a model are those of its members' indices
+  pub members-named : (i : ℕ) → i < length form → membersOf (nameAt i (map definitionName form)) form ≡ map (λ j. nameAt j (map definitionName form)) (indices i)
+  members-named i l = let (d, e, q) = found i l in ap namesIn e ∙ q
+
   -- the heights of indices are those of names
   pub deep-index-is : (h i : ℕ) → i < length form → deepIndex indices (length form) h i ≡ deep h form (nameAt i (map definitionName form))
   unfolding deepIndex deep

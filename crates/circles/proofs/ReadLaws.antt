@@ -204,7 +204,7 @@ part-elements parts p s c long room =
         ∙ ap (λ (l : List (Deep FlatParticle)). take c l) (many-drop readParticle 4 s (c + q) parts)
         ∙ many-take readParticle 4 c q (drop (4 * s) parts)
 
-start-room : (defs : Bytes) (n i : ℕ) → i < n → startAt defs i + countAt defs i ≤ startAt defs n
+pub start-room : (defs : Bytes) (n i : ℕ) → i < n → startAt defs i + countAt defs i ≤ startAt defs n
 unfolding startAt
 start-room defs n i l = let z : suc i + (n - suc i) ≡ n = omega arith in rw z at (start-less defs (suc i) (n - suc i))
 

@@ -20,7 +20,7 @@ use Rattle.circles.specs.Members.{elementsOf, membersIn, countAt}
 use Rattle.circles.specs.Deep.{deepIndex, marked, raisedTo, Round, Ranked}
 use Rattle.circles.proofs.MemberLaws.{Starts, starts-none, starts-more, model-members}
 
-zeros : (n i : ℕ) → _≡_ {A = ℕ} (getD (replicate n 0) i 0) 0
+pub zeros : (n i : ℕ) → _≡_ {A = ℕ} (getD (replicate n 0) i 0) 0
 zeros zero i = refl
 zeros (suc n) zero = refl
 zeros (suc n) (suc i) = zeros n i
@@ -156,7 +156,7 @@ all-same : (p q : ℕ → Bool) (xs : List ℕ) → ((i : ℕ) → p i ≡ q i) 
 all-same p q [] h = refl
 all-same p q (x ∷ xs) h = ap₂ (λ (a b : Bool). a && b) (h x) (all-same p q xs h)
 
-marked-is : {n : ℕ} {members : ℕ → List ℕ} {l : Bytes} {r : ℕ} → Rounds n members l r → (i : ℕ) → marked l i ≡ deepIndex members n r i
+pub marked-is : {n : ℕ} {members : ℕ → List ℕ} {l : Bytes} {r : ℕ} → Rounds n members l r → (i : ℕ) → marked l i ≡ deepIndex members n r i
 unfolding marked
 marked-is {n} {members} {l} {r} s i = by (eqb (getD l i 0) 0) refl
   where
@@ -164,7 +164,7 @@ marked-is {n} {members} {l} {r} s i = by (eqb (getD l i 0) 0) refl
     by true e = sym (s .is i r (omega arith) ∙ between-none (getD l i 0) r (eqb-true (getD l i 0) 0 e))
     by false e = sym (s .is i r (omega arith) ∙ between-yes (getD l i 0) r (omega (arith, eqb-false (getD l i 0) 0 e)) (s .most i))
 
-deep-past : (members : ℕ → List ℕ) (n h i : ℕ) → n ≤ i → deepIndex members n h i ≡ false
+pub deep-past : (members : ℕ → List ℕ) (n h i : ℕ) → n ≤ i → deepIndex members n h i ≡ false
 unfolding deepIndex
 deep-past members n zero i l = refl
 deep-past members n (suc h) i l = rw (le-ltb i n l)

@@ -6,6 +6,7 @@ ghost use Prim.Native.Nat.{ℕ, _<_, _≤_};
 ghost use Rattle.rules.specs.Bytes.{all};
 ghost use Rattle.circles.specs.Members.{elementsOf, membersIn};
 ghost use Rattle.circles.specs.Deep.{marked, firstPasses, raisedTo, Round, Ranked};
+ghost use Rattle.circles.specs.Avoiding.{Avoids};
 
 const MAX_DEFINITIONS: usize = 64;
 
@@ -108,4 +109,19 @@ pub fn heights_of(n: usize, defs: &[u8], parts: &[u8]) -> Heights
     }
     let fit = whole(n, &of);
     Heights { fit: fit, of: of }
+}
+
+/// Heights of the n definitions from which no chain leads to the target; 0 for the target, and for one that reaches it.
+pub fn heights_avoiding(n: usize, defs: &[u8], parts: &[u8], target: usize) -> [u8; MAX_DEFINITIONS]
+    requires { ⌜ (n ≤ 64) × (target < n) ⌝ }
+    ensures { λ r. ⌜ Avoids n (membersIn (now (defs .entry)) (now (parts .entry))) target r ⌝ }
+{
+    let mut of = [0; MAX_DEFINITIONS];
+    let mut rounds: usize = 0;
+    while rounds < n {
+        of = round(n, defs, parts, &of, (rounds + 1) as u8);
+        of[target] = 0;
+        rounds += 1;
+    }
+    of
 }

@@ -13,7 +13,7 @@ use Rattle.editing.specs.declared.Shift.{Shift}
 use Rattle.editing.specs.declared.Plan.{Plan}
 use Rattle.editing.specs.declared.Open.{Open}
 use Rattle.editing.specs.declared.Head.{Head}
-use Rattle.editing.specs.Walk.{matches, isEverything, isGround, isLater, shifted, movedIndex, closes, closed, isBelow, isTaken, isFilled, taken, kept, atFirst}
+use Rattle.editing.specs.Walk.{matches, isEverything, isGround, isLater, spared, shifted, movedIndex, closes, closed, isBelow, isTaken, isFilled, taken, kept, atFirst}
 use Rattle.editing.specs.Step.{rowOf, bare, Moves}
 
 -- ---- renumbering
@@ -46,18 +46,18 @@ module _ (o : Open) (h : Head) where
     pub closed-not : b ≡ false → _≡_ {A = Open} (record { taking = 0; below = o .below; due = o .due }) (closed o (bare h))
     closed-not t = let u : closes o (bare h) ≡ false = sym e ∙ t in rw (u, closed)
 
-  module _ (p : Plan) (b f : Bool) (e : b ≡ matches (p .above) (bare h .row)) where
+  module _ (p : Plan) (b : Bool) (e : b ≡ matches (p .above) (bare h .row)) where
     pub kept-opens : b ≡ true → _≡_ {A = Open} (record { taking = 0; below = h .depth + 2; due = p .fills }) (kept p o (bare h))
     kept-opens t = let u : matches (p .above) (bare h .row) ≡ true = sym e ∙ t in let z : h .depth + 2 ≡ suc (suc (h .depth)) = omega arith in rw (u, z, kept)
 
-    pub kept-on : b ≡ false → f ≡ isFilled p o (bare h) → _≡_ {A = Open} (record { taking = 0; below = o .below; due = o .due && not f }) (kept p o (bare h))
-    kept-on t g = let u : matches (p .above) (bare h .row) ≡ false = sym e ∙ t in rw (u, g, kept)
+    pub kept-on : (i l : Bool) → b ≡ false → i ≡ isBelow o (bare h) → l ≡ isLater (p .marks) (p .later) (bare h .row) → _≡_ {A = Open} (record { taking = 0; below = o .below; due = o .due && not (i && l) }) (kept p o (bare h))
+    kept-on i l t ei el = let u : matches (p .above) (bare h .row) ≡ false = sym e ∙ t in rw (u, ei, el, kept)
 
-  pub taken-by : (p : Plan) (a b m : Bool) → a ≡ isEverything (p .above) → b ≡ isBelow o (bare h) → m ≡ matches (p .takes) (bare h .row) → ((a || b) && m) ≡ isTaken p o (bare h)
+  pub taken-by : (p : Plan) (a b m : Bool) → a ≡ isEverything (p .above) → b ≡ isBelow o (bare h) → m ≡ matches (p .takes) (bare h .row) → (((a || b) && m) && not (p .keeps && o .due)) ≡ isTaken p o (bare h)
   taken-by p a b m ea eb em = rw (ea, eb, em)
 
-  pub filled-by : (p : Plan) (b l : Bool) → b ≡ isBelow o (bare h) → l ≡ isLater (p .later) (bare h .row) → ((o .due && b) && l) ≡ isFilled p o (bare h)
-  filled-by p b l eb el = rw (eb, el)
+  pub filled-by : (p : Plan) (b l s : Bool) → b ≡ isBelow o (bare h) → l ≡ isLater (p .marks) (p .later) (bare h .row) → s ≡ spared p (bare h .row) → ((o .due && b) && (l && not s)) ≡ isFilled p o (bare h)
+  filled-by p b l s eb el es = rw (eb, el, es)
 
 module _ (p : Plan) (b : Bool) (e : b ≡ isGround (p .above)) where
   pub first-ground : b ≡ true → _≡_ {A = Open} (record { taking = 0; below = 1; due = p .fills }) (atFirst p)

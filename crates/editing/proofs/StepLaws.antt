@@ -17,12 +17,12 @@ use Rattle.rows.proofs.WrittenLaws.{written-none, written-then, written-as}
 use Rattle.editing.specs.declared.Which.{Which}
 use Rattle.editing.specs.declared.Which.the-variants.{Nothing, Everything, Ground, Elements, Attributes, Serial}
 use Rattle.editing.specs.declared.Later.{Later}
-use Rattle.editing.specs.declared.Later.the-variants.{Never, Row, Past}
+use Rattle.editing.specs.declared.Later.the-variants.{Never, Row, Past, Unmarked}
 use Rattle.editing.specs.declared.Plan.{Plan}
 use Rattle.editing.specs.declared.Open.{Open}
 use Rattle.editing.specs.declared.Head.{Head}
 use Rattle.editing.specs.declared.Stepped.{Stepped}
-use Rattle.editing.specs.Walk.{matches, isEverything, isLater, movedIndex, keptRow, gone, closes, closed, isBelow, isTaken, isFilled, taken, kept, owed, rowDepth, emitted, onward}
+use Rattle.editing.specs.Walk.{matches, isEverything, isLater, spared, movedIndex, keptRow, gone, closes, closed, isBelow, isTaken, isFilled, taken, kept, owed, rowDepth, emitted, onward}
 use Rattle.editing.specs.Step.{rowOf, bare, stepRows, stepOpen, Came, Near, WalkRow, Seen}
 
 -- ---- no test looks at a row's value
@@ -34,23 +34,24 @@ matches-any (Elements i) h u = refl
 matches-any (Attributes j) h u = refl
 matches-any (Serial k) h u = refl
 
-later-any : (l : Later) (h : Head) (u : Bytes) → isLater l (rowOf h u .row) ≡ isLater l (bare h .row)
-later-any Never h u = refl
-later-any (Row k) h u = refl
-later-any (Past j) h u = refl
+later-any : (m : Bytes) (l : Later) (h : Head) (u : Bytes) → isLater m l (rowOf h u .row) ≡ isLater m l (bare h .row)
+later-any m Never h u = refl
+later-any m (Row k) h u = refl
+later-any m (Past j) h u = refl
+later-any m Unmarked h u = refl
 
 module _ (p : Plan) (o : Open) (h : Head) (u : Bytes) where
   taken-any : isTaken p o (rowOf h u) ≡ isTaken p o (bare h)
-  taken-any = ap (λ (b : Bool). (isEverything (p .above) || isBelow o (bare h)) && b) (matches-any (p .takes) h u)
+  taken-any = ap (λ (b : Bool). ((isEverything (p .above) || isBelow o (bare h)) && b) && not (p .keeps && o .due)) (matches-any (p .takes) h u)
 
   filled-any : isFilled p o (rowOf h u) ≡ isFilled p o (bare h)
-  filled-any = ap (λ (b : Bool). (o .due && isBelow o (bare h)) && b) (later-any (p .later) h u)
+  filled-any = ap (λ (b : Bool). (o .due && isBelow o (bare h)) && (b && not (spared p (bare h .row)))) (later-any (p .marks) (p .later) h u)
 
   kept-any : kept p o (rowOf h u) ≡ kept p o (bare h)
-  kept-any = ap₂ opened (matches-any (p .above) h u) filled-any
+  kept-any = ap₂ opened (matches-any (p .above) h u) (later-any (p .marks) (p .later) h u)
     where
       opened : Bool → Bool → Open
-      opened b f = elim b [ true ↦ record { taking = 0; below = suc (suc (h .depth)); due = p .fills } | false ↦ record { taking = 0; below = o .below; due = o .due && not f } ]
+      opened b f = elim b [ true ↦ record { taking = 0; below = suc (suc (h .depth)); due = p .fills } | false ↦ record { taking = 0; below = o .below; due = o .due && not (isBelow o (bare h) && f) } ]
 
 -- ---- a filling that is due, and one that is not
 module _ {due : Bool} {c : Cursor} {out : Bytes} where

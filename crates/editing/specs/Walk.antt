@@ -4,13 +4,14 @@ use Prim.Native.Nat.{ℕ, zero, suc, _+_, _-_}
 use mathlib.Core.Bool.{Bool, true, false, _&&_, _||_, not}
 use mathlib.Core.List.{List, [], _∷_, _++_}
 use lib.Dec.{eqb, leb, ltb}
+use lib.ListN.{getD}
 use Rattle.rules.specs.Bytes.{Bytes}
 use Rattle.rules.specs.Preorder.{Deep}
 use Rattle.rules.specs.Layout.{FlatRow}
 use Rattle.editing.specs.declared.Which.{Which}
 use Rattle.editing.specs.declared.Which.the-variants.{Nothing, Everything, Ground, Elements, Attributes, Serial}
 use Rattle.editing.specs.declared.Later.{Later}
-use Rattle.editing.specs.declared.Later.the-variants.{Never, Row, Past}
+use Rattle.editing.specs.declared.Later.the-variants.{Never, Row, Past, Unmarked}
 use Rattle.editing.specs.declared.Shift.{Shift}
 use Rattle.editing.specs.declared.Plan.{Plan}
 use Rattle.editing.specs.declared.Open.{Open}
@@ -41,11 +42,20 @@ isGround (Elements i) = false
 isGround (Attributes j) = false
 isGround (Serial k) = false
 
+-- the mark of its definition: 1 before a place in a model, 2 at the place, else 0
+abbrev pub markOf : Bytes → FlatRow → ℕ
+markOf marks r = getD marks (r .index) 0
+
 -- a filling comes before it
-abbrev pub isLater : Later → FlatRow → Bool
-isLater Never r = false
-isLater (Row k) r = eqb (r .serial) k
-isLater (Past j) r = not (eqb (r .sort) 2 && ltb (r .index) j)
+abbrev pub isLater : Bytes → Later → FlatRow → Bool
+isLater marks Never r = false
+isLater marks (Row k) r = eqb (r .serial) k
+isLater marks (Past j) r = not (eqb (r .sort) 2 && ltb (r .index) j)
+isLater marks Unmarked r = eqb (r .sort) 1 && not (eqb (markOf marks r) 1)
+
+-- but none does, since it is an element at the place
+abbrev pub spared : Plan → FlatRow → Bool
+spared p r = p .spares && (eqb (r .sort) 1 && eqb (markOf (p .marks) r) 2)
 
 -- ---- renumbering and values
 abbrev pub shifted : Shift → ℕ → ℕ
@@ -78,13 +88,13 @@ abbrev pub isBelow : Open → Deep FlatRow → Bool
 isBelow o x = eqb (o .below) (suc (x .depth))
 
 abbrev pub isTaken : Plan → Open → Deep FlatRow → Bool
-isTaken p o x = (isEverything (p .above) || isBelow o x) && matches (p .takes) (x .row)
+isTaken p o x = ((isEverything (p .above) || isBelow o x) && matches (p .takes) (x .row)) && not (p .keeps && o .due)
 
 -- a filling comes right before it
 abbrev pub isFilled : Plan → Open → Deep FlatRow → Bool
-isFilled p o x = (o .due && isBelow o x) && isLater (p .later) (x .row)
+isFilled p o x = (o .due && isBelow o x) && (isLater (p .marks) (p .later) (x .row) && not (spared p (x .row)))
 
--- ---- what is open after a row that is taken, and after one that is kept
+-- ---- what is open after a row that is taken, and after one that is kept: the first row that is later ends what is due
 abbrev pub taken : Open → Deep FlatRow → Open
 taken o x = record { taking = suc (x .depth); below = o .below; due = o .due }
 
@@ -92,7 +102,7 @@ abbrev pub kept : Plan → Open → Deep FlatRow → Open
 kept p o x =
     elim (matches (p .above) (x .row)) [
       | true ↦ record { taking = 0; below = suc (suc (x .depth)); due = p .fills }
-      | false ↦ record { taking = 0; below = o .below; due = o .due && not (isFilled p o x) }
+      | false ↦ record { taking = 0; below = o .below; due = o .due && not (isBelow o x && isLater (p .marks) (p .later) (x .row)) }
     ]
 
 -- ---- the walk; `fill d` are the rows of the filling at depth d

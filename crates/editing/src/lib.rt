@@ -8,7 +8,7 @@ ghost use lib.ListN.{length};
 ghost use Rattle.rules.specs.Decode.{readRow};
 ghost use Rattle.rowpass.specs.Reading.{rowsIn};
 ghost use Rattle.rows.specs.Written.{Written, Room};
-ghost use Rattle.editing.specs.Walk.{matches, isEverything, isGround, isLater, shifted, movedIndex, keptRow, gone, closes, closed, isBelow, isTaken, isFilled, taken, kept, owed, emitted, onward, walked, atFirst};
+ghost use Rattle.editing.specs.Walk.{matches, isEverything, isGround, markOf, isLater, spared, shifted, movedIndex, keptRow, gone, closes, closed, isBelow, isTaken, isFilled, taken, kept, owed, emitted, onward, walked, atFirst};
 ghost use Rattle.editing.specs.Step.{rowOf, bare, stepRows, stepOpen, Came, fillOf, Moves, Planned, Ready, Fair, Near, WalkRow, Seen, WalkRows};
 
 /// Some rows: none; every row, and what stands above the documents; that alone; the elements of a definition; the rows of an attribute; the
@@ -22,11 +22,13 @@ pub enum Which {
     Serial(u32),
 }
 
-/// The rows that a filling comes before: none; the row with a serial; all but the rows of attributes below a number.
+/// The rows that a filling comes before: none; the row with a serial; all but the rows of attributes below a number; the elements of
+/// definitions that do not stand before a place in a model.
 pub enum Later {
     Never,
     Row(u32),
     Past(usize),
+    Unmarked,
 }
 
 /// How indices from `from` on move.
@@ -37,13 +39,18 @@ pub struct Shift {
 }
 
 /// What a change does to the rows. Below the rows `above`: the rows `takes` are taken, each with all below it; and if `fills`, the filling
-/// comes before the first row that is later, else last. The row with serial `set` gets the call's value (0: none does).
+/// comes before the first row that is later, else last. `marks`: of each definition, 1 if its name stands before a place in a model, 2 if
+/// it stands at the place, else 0. `spares`: where an element at the place is the first later row, no filling comes. `keeps`: no row
+/// is taken up to the first that is later. The row with serial `set` gets the call's value (0: none does).
 pub struct Plan {
     pub above: Which,
     pub takes: Which,
     pub fills: bool,
     pub later: Later,
     pub filling: Filling,
+    pub marks: [u8; 64],
+    pub keeps: bool,
+    pub spares: bool,
     pub set: u32,
     pub definitions: Shift,
     pub attributes: Shift,
@@ -124,15 +131,32 @@ fn is_ground(w: Which) -> bool
     }
 }
 
-// Whether a filling comes before a row.
-fn is_later(l: Later, h: Head) -> bool
-    ensures { λ r. ⌜ r ≡ isLater l (bare h .row) ⌝ }
+// The mark of the definition of an element.
+fn mark(p: Plan, h: Head) -> u8
+    ensures { λ r. ⌜ r ≡ markOf (p .marks) (bare h .row) ⌝ }
 {
+    codec::byte(&p.marks, h.index)
+}
+
+// Whether a filling comes before a row.
+fn is_later(p: Plan, h: Head) -> bool
+    ensures { λ r. ⌜ r ≡ isLater (p .marks) (p .later) (bare h .row) ⌝ }
+{
+    let m = mark(p, h);
+    let l = p.later;
     match l {
         Later::Never => false,
         Later::Row(k) => h.serial == k,
         Later::Past(j) => !((h.sort == 2) & (h.index < j)),
+        Later::Unmarked => (h.sort == 1) & !(m == 1),
     }
+}
+
+// Whether a row is an element at the place, before which no filling comes.
+fn spared(p: Plan, h: Head) -> bool
+    ensures { λ r. ⌜ r ≡ spared p (bare h .row) ⌝ }
+{
+    p.spares & ((h.sort == 1) & (mark(p, h) == 2))
 }
 
 // ---- renumbering
@@ -219,7 +243,7 @@ fn is_taken(p: Plan, o: Open, h: Head) -> bool
 {
     let above = p.above;
     let takes = p.takes;
-    (is_everything(above) | is_below(o, h)) & matches(takes, h)
+    ((is_everything(above) | is_below(o, h)) & matches(takes, h)) & !(p.keeps & o.due)
 }
 
 // Whether a filling comes right before a row.
@@ -227,8 +251,7 @@ fn is_filled(p: Plan, o: Open, h: Head) -> bool
     requires { ⌜ Fair h ⌝ }
     ensures { λ r. ⌜ r ≡ isFilled p o (bare h) ⌝ }
 {
-    let later = p.later;
-    (o.due & is_below(o, h)) & is_later(later, h)
+    (o.due & is_below(o, h)) & (is_later(p, h) & !spared(p, h))
 }
 
 // ---- what is open after a row that is taken, after one that is kept, and before the first
@@ -244,8 +267,8 @@ fn taken(o: Open, h: Head) -> Open
     }
 }
 
-fn kept(p: Plan, o: Open, h: Head, filled: bool) -> Open
-    requires { ⌜ Fair h × (filled ≡ isFilled p o (bare h)) ⌝ }
+fn kept(p: Plan, o: Open, h: Head) -> Open
+    requires { ⌜ Fair h ⌝ }
     ensures { λ r. ⌜ r ≡ kept p o (bare h) ⌝ }
 {
     let above = p.above;
@@ -259,7 +282,7 @@ fn kept(p: Plan, o: Open, h: Head, filled: bool) -> Open
     Open {
         taking: 0,
         below: o.below,
-        due: o.due & !filled,
+        due: o.due & !(is_below(o, h) & is_later(p, h)),
     }
 }
 
@@ -348,7 +371,7 @@ fn come(
     let next = put_row(p, text, h, row, at, out);
     Stepped {
         cursor: next,
-        opened: kept(p, o, h, filled),
+        opened: kept(p, o, h),
     }
 }
 

@@ -8,7 +8,7 @@ use mathlib.Core.Bool.{Bool, true, false, _&&_, not}
 use mathlib.Core.List.{List, [], _∷_, _++_, append-assoc, append-nil}
 use lib.Dec.{eqb}
 use lib.ListN.{length, take, drop, getD, length-take, length-drop}
-use lib.Seq.{getD-drop, drop-drop}
+use lib.Seq.{getD-drop, drop-drop, take-all}
 use Rattle.rules.specs.declared.Facts.{Facts}
 use Rattle.rules.specs.declared.GroupKind.{GroupKind}
 use Rattle.rules.specs.declared.GroupKind.the-variants.{Sequence, Choice}
@@ -33,9 +33,9 @@ use Rattle.rows.specs.declared.Cursor.{Cursor}
 use Rattle.rows.specs.Written.{Written, newRow}
 use Rattle.rows.proofs.WrittenLaws.{written-none, written-then, written-as}
 use Rattle.filling.specs.declared.Filling.{Filling}
-use Rattle.filling.specs.declared.Filling.the-variants.{Nothing, Definition, Attribute}
-use Rattle.filling.specs.Fillings.{newElement, newAttribute, requiredRows, fillingsOf, contentRows, fillIndex, fillingRows}
-use Rattle.filling.specs.Parts.{whatFilling, memberFilling, valueIn, requiredAt, requiredIn, formIn, definitionRows, memberRows, belowRows, Indexed}
+use Rattle.filling.specs.declared.Filling.the-variants.{Nothing, Definition, Attribute, Particles}
+use Rattle.filling.specs.Fillings.{newElement, newAttribute, requiredRows, fillingsOf, contentRows, fillIndex, groupFilled, fillingRows}
+use Rattle.filling.specs.Parts.{whatFilling, memberFilling, valueIn, requiredAt, requiredIn, formIn, definitionRows, memberRows, belowRows, membersAt, Indexed}
 
 -- ---- readers
 pub nothing-told : (k : GroupKind) (ms : Members ℕ) (x y : ℕ) (f : Facts) → f ≡ facts numbers k ms x y → f .nothing ≡ nothing k ms
@@ -319,7 +319,7 @@ part-short defs parts i s e =
 -- ---- what a change fills with
 module _ (n : ℕ) (defs parts attrs : Bytes) (a : ℕ) (what : Filling) (txt : Bytes) (d : ℕ) where
   abbrev rowsFor : Filling → List (Deep FlatRow)
-  rowsFor x = fillingRows (indexForm n defs parts attrs a) (valueIn attrs) x txt d
+  rowsFor x = fillingRows (indexForm n defs parts attrs a) (valueIn attrs) (λ k e. membersAt parts k e) x txt d
 
   pub nothing-filled : {c : Cursor} {out : Bytes} → what ≡ Nothing → Written (rowsFor what) c out c out
   nothing-filled e = written-as (ap (λ (x : Filling). rowsFor x) e) written-none
@@ -329,6 +329,32 @@ module _ (n : ℕ) (defs parts attrs : Bytes) (a : ℕ) (what : Filling) (txt : 
 
   pub attribute-filled : (j : ℕ) {c r : Cursor} {out out′ : Bytes} → what ≡ Attribute j → Written (newRow 2 d j txt ∷ []) c out r out′ → Written (rowsFor what) c out r out′
   attribute-filled j e p = written-as (ap (λ (x : Filling). rowsFor x) e) p
+
+  pub particles-filled : (g : GroupKind) (k e : ℕ) {c r : Cursor} {out out′ : Bytes} → what ≡ Particles g k e → Written (memberRows defs parts attrs a txt n d (groupFilled g (membersAt parts k e))) c out r out′ → Written (rowsFor what) c out r out′
+  unfolding memberRows definitionRows
+  particles-filled g k e q p =
+      written-as
+      (ap (λ (x : Filling). rowsFor x) q
+      ∙ form-fillings n 0 a defs parts attrs (valueIn attrs) (λ i. fillIndex (indexForm n defs parts attrs a) (valueIn attrs) n txt d i) (λ i. fillIndex (indexForm 0 defs parts attrs a) (valueIn attrs) n txt d i) (λ i. sized defs parts attrs a txt n n d i)
+      (groupFilled g (membersAt parts k e)))
+      p
+
+-- s: the particles from number k on
+module _ (parts s : Bytes) (k e : ℕ) (t : s ≡ take (length parts) (drop (4 * k) parts)) (g : GroupKind) (b : Bool) (told : b ≡ nothing g (membersFrom e s)) where
+  here : membersFrom e s ≡ membersAt parts k e
+  unfolding membersAt
+  here = ap (membersFrom e) (t ∙ take-all (length parts) (drop (4 * k) parts) (omega (arith, length-drop (4 * k) parts)))
+
+  pub group-empty : b ≡ true → groupFilled g (membersAt parts k e) ≡ []
+  unfolding groupFilled
+  group-empty q = ap (λ (ms : Members ℕ). unless (nothing g ms) (filling g ms)) (sym here) ∙ ap (λ (z : Bool). unless z (filling g (membersFrom e s))) (sym told ∙ q)
+
+  pub group-full : b ≡ false → groupFilled g (membersAt parts k e) ≡ filling g (membersFrom e s)
+  unfolding groupFilled
+  group-full q = ap (λ (ms : Members ℕ). unless (nothing g ms) (filling g ms)) (sym here) ∙ ap (λ (z : Bool). unless z (filling g (membersFrom e s))) (sym told ∙ q)
+
+pub filled-particles : (what : Filling) (g : GroupKind) (k e : ℕ) → what ≡ Particles g k e → Indexed what → (k ≤ 256) × (e ≤ 256)
+filled-particles what g k e q x = subst Indexed q x
 
 pub filled-definition : (what : Filling) (i : ℕ) → what ≡ Definition i → Indexed what → i ≤ 256
 filled-definition what i e x = subst Indexed e x

@@ -4,14 +4,15 @@ use Prim.Native.Nat.{ℕ, zero, suc}
 use mathlib.Core.Bool.{Bool, true, false, _&&_}
 use mathlib.Core.List.{List, [], _∷_, _++_}
 use lib.Dec.{eqb}
+use Rattle.rules.specs.declared.GroupKind.{GroupKind}
 use Rattle.rules.specs.declared.GroupKind.the-variants.{Sequence}
 use Rattle.rules.specs.Bytes.{Bytes}
-use Rattle.rules.specs.Model.{Members, filling}
+use Rattle.rules.specs.Model.{Members, nothing, unless, filling}
 use Rattle.rules.specs.Preorder.{Deep}
 use Rattle.rules.specs.Layout.{FlatRow}
 use Rattle.rowpass.specs.Indices.{IndexForm}
 use Rattle.filling.specs.declared.Filling.{Filling}
-use Rattle.filling.specs.declared.Filling.the-variants.{Nothing, Definition, Attribute}
+use Rattle.filling.specs.declared.Filling.the-variants.{Nothing, Definition, Attribute, Particles}
 
 -- ---- single rows of depth d
 abbrev pub newElement : ℕ → ℕ → Deep FlatRow
@@ -22,6 +23,10 @@ newAttribute d j v = record { depth = d; row = record { sort = 2; index = j; ser
 
 abbrev pub newText : ℕ → Bytes → Deep FlatRow
 newText d v = record { depth = d; row = record { sort = 3; index = 0; serial = 0; value = v } }
+
+-- the definitions that a group fills with, where its quantifier needs it
+unfoldable pub groupFilled : GroupKind → Members ℕ → List ℕ
+groupFilled k ms = unless (nothing k ms) (filling k ms)
 
 -- a form by indices, with the values of its attributes
 module _ (F : IndexForm) (value : ℕ → Bytes) where
@@ -46,8 +51,10 @@ module _ (F : IndexForm) (value : ℕ → Bytes) where
   fillIndex zero txt d i = []
   fillIndex (suc h) txt d i = newElement d i ∷ (requiredRows (suc d) i 0 (F .attributes) ++ contentRows (λ j. fillIndex h txt (suc d) j) txt (suc d) (F .model i) (F .kind i))
 
-  -- what a change fills with; no definition is higher than the form has definitions
-  abbrev pub fillingRows : Filling → Bytes → ℕ → List (Deep FlatRow)
-  fillingRows Nothing txt d = []
-  fillingRows (Definition i) txt d = fillIndex (F .size) txt d i
-  fillingRows (Attribute j) txt d = newAttribute d j txt ∷ []
+  -- what a change fills with; no definition is higher than the form has definitions. `at k e`: the members of depth e from particle k on
+  module _ (at : ℕ → ℕ → Members ℕ) where
+    abbrev pub fillingRows : Filling → Bytes → ℕ → List (Deep FlatRow)
+    fillingRows Nothing txt d = []
+    fillingRows (Definition i) txt d = fillIndex (F .size) txt d i
+    fillingRows (Attribute j) txt d = newAttribute d j txt ∷ []
+    fillingRows (Particles g k e) txt d = fillingsOf (λ i. fillIndex (F .size) txt d i) (groupFilled g (at k e))

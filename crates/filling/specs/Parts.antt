@@ -1,6 +1,6 @@
 -- The filling of what the bytes of a form hold: of particles, of definitions, of what a change fills with.
 -- Assumes nothing.
-use Prim.Native.Nat.{ℕ, suc, _+_, _<_, _≤_}
+use Prim.Native.Nat.{ℕ, suc, _+_, _*_, _<_, _≤_}
 use mathlib.Core.Bool.{_||_}
 use mathlib.Core.List.{List, [], _∷_}
 use lib.ListN.{length, drop}
@@ -19,7 +19,7 @@ use Rattle.rowpass.specs.Reading.{definitionIn, attributeIn, modelPart, attribu
 use Rattle.rows.specs.declared.Cursor.{Cursor}
 use Rattle.rows.specs.Written.{Room}
 use Rattle.filling.specs.declared.Filling.{Filling}
-use Rattle.filling.specs.declared.Filling.the-variants.{Nothing, Definition, Attribute}
+use Rattle.filling.specs.declared.Filling.the-variants.{Nothing, Definition, Attribute, Particles}
 use Rattle.filling.specs.Fillings.{requiredRows, fillingsOf, contentRows, fillIndex}
 
 -- ---- 'a particle that accepts nothing fills with nothing'
@@ -31,6 +31,10 @@ whatFilling q (Group k n) below = unless (skips q || nothing k below) (filling k
 -- the particle of depth d that s begins with
 unfoldable pub memberFilling : ℕ → Bytes → List ℕ
 memberFilling d s = whatFilling (particleOf (readParticle s) .quantifier) (particleOf (readParticle s) .what) (membersFrom (suc d) (drop 4 s))
+
+-- the members of depth e from particle k on
+unfoldable pub membersAt : Bytes → ℕ → ℕ → Members ℕ
+membersAt parts k e = membersFrom e (drop (4 * k) parts)
 
 -- ---- rows of depth d
 abbrev pub valueIn : Bytes → ℕ → Bytes
@@ -71,3 +75,4 @@ abbrev pub Indexed : Filling → Type 0
 Indexed Nothing = Unit {0}
 Indexed (Definition i) = i ≤ 256
 Indexed (Attribute j) = j < 65536
+Indexed (Particles g k e) = (k ≤ 256) × (e ≤ 256)

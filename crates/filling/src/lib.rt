@@ -10,14 +10,16 @@ ghost use Rattle.rules.specs.Model.{skips, nothing, filling};
 ghost use Rattle.model.specs.Members.{membersFrom};
 ghost use Rattle.rowpass.specs.Reading.{attributeIn, indexForm};
 ghost use Rattle.rows.specs.Written.{Room, Written};
-ghost use Rattle.filling.specs.Fillings.{fillingRows};
-ghost use Rattle.filling.specs.Parts.{memberFilling, valueIn, requiredAt, requiredIn, definitionRows, memberRows, belowRows, Asks, Indexed};
+ghost use Rattle.filling.specs.Fillings.{groupFilled, fillingRows};
+ghost use Rattle.filling.specs.Parts.{memberFilling, valueIn, requiredAt, requiredIn, definitionRows, memberRows, belowRows, membersAt, Asks, Indexed};
 
-/// What a change fills with: nothing, a definition by its index, or one row of an attribute by its index.
+/// What a change fills with: nothing, a definition by its index, one row of an attribute by its index, or a group of a kind by the number
+/// of its first member in the particle body and the depth of its members.
 pub enum Filling {
     Nothing,
     Definition(usize),
     Attribute(usize),
+    Particles(GroupKind, usize, usize),
 }
 
 fn skips(q: Quantifier) -> bool
@@ -217,6 +219,31 @@ fn put_below(
     }
 }
 
+// Writes the filling of the group of a kind whose members of depth d begin with particle number `first`.
+fn put_members(
+    kind: GroupKind,
+    first: usize,
+    d: usize,
+    defs: &[u8],
+    parts: &[u8],
+    a: usize,
+    attrs: &[u8],
+    text: &[u8],
+    h: usize,
+    depth: usize,
+    c: Cursor,
+    out: &mut [u8],
+) -> Cursor
+    requires { ⌜ (first ≤ 256) × (d ≤ 256) × Asks c (now text) a h depth ⌝ }
+    ensures { λ r. ⌜ Written (memberRows (now (defs .entry)) (now (parts .entry)) (now (attrs .entry)) a (now (text .entry)) h depth (groupFilled kind (membersAt (now (parts .entry)) first d))) c (now (out .entry)) r (now (out .exit)) ⌝ }
+{
+    let s = rowpass::cut(parts, 4 * first, parts.len());
+    if accepts_nothing(s, d, kind) {
+        return c;
+    }
+    put_group(s, d, kind, defs, parts, a, attrs, text, h, depth, c, out)
+}
+
 /// Writes what a change fills with, as rows of depth `depth`: n definitions, a attributes.
 pub fn put_filling(
     n: usize,
@@ -231,11 +258,14 @@ pub fn put_filling(
     out: &mut [u8],
 ) -> Cursor
     requires { ⌜ Indexed what × Asks c (now text) a n depth ⌝ }
-    ensures { λ r. ⌜ Written (fillingRows (indexForm n (now (defs .entry)) (now (parts .entry)) (now (attrs .entry)) a) (λ j. attributeIn (now (attrs .entry)) j .value) what (now (text .entry)) depth) c (now (out .entry)) r (now (out .exit)) ⌝ }
+    ensures { λ r. ⌜ Written (fillingRows (indexForm n (now (defs .entry)) (now (parts .entry)) (now (attrs .entry)) a) (λ j. attributeIn (now (attrs .entry)) j .value) (λ k d. membersAt (now (parts .entry)) k d) what (now (text .entry)) depth) c (now (out .entry)) r (now (out .exit)) ⌝ }
 {
     match what {
         Filling::Nothing => c,
         Filling::Definition(i) => put_definition(i, defs, parts, a, attrs, text, n, depth, c, out),
         Filling::Attribute(j) => rows::put_new(2, depth, j, text, c, out),
+        Filling::Particles(k, first, d) => {
+            put_members(k, first, d, defs, parts, a, attrs, text, n, depth, c, out)
+        }
     }
 }

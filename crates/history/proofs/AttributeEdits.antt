@@ -27,7 +27,7 @@ pub data Step (a : Attribute) (table : List Attribute) (rows rest : List Row) : 
 none-some : {A : Type 0} {x : A} → none ≡ some x → ⊥
 none-some e = let z : false ≡ true = cc e in false≢true z
 
-strip-step : (a : Attribute) (table : List Attribute) (rows rest : List Row) → strip (a ∷ table) rows ≡ some rest → Step a table rows rest
+pub strip-step : (a : Attribute) (table : List Attribute) (rows rest : List Row) → strip (a ∷ table) rows ≡ some rest → Step a table rows rest
 unfolding strip begins
 strip-step a table [] rest e = by (mustBePresent (a .sort)) refl
   where

@@ -61,7 +61,7 @@ required-code zero = refl
 required-code (suc zero) = refl
 required-code (suc (suc k)) = ne-eqb (suc (suc k)) 1 (λ e. omega arith)
 
-and-swap : (a b : Bool) → (a && b) ≡ (b && a)
+pub and-swap : (a b : Bool) → (a && b) ≡ (b && a)
 and-swap true true = refl
 and-swap true false = refl
 and-swap false true = refl
@@ -71,7 +71,7 @@ module _ (s : Store) (g : good s ≡ true) where
   once : Distinct (map definitionName (s .form))
   once = good-is s .0 g .form .names
 
-  clear-elements : (o : ℕ) (p : Plan) → o < length (s .form) → p .above ≡ Elements o → Clear p (indexed (s .form) [] (s .docs))
+  pub clear-elements : (o : ℕ) (p : Plan) → o < length (s .form) → p .above ≡ Elements o → Clear p (indexed (s .form) [] (s .docs))
   clear-elements o p l e = apart (rw e (apart-instances s g o l))
 
   -- ---- 9
@@ -98,7 +98,7 @@ module _ (s : Store) (g : good s ≡ true) where
     fill = fillOf p v (flat s)
 
     -- attribute rows below an instance come before the new one
-    later : (u r : Row) → Owns (s .form) u r → name ≡ u .name → isLater (Past a) (rowWritten (s .form) (u .name) r) ≡ not (isAttribute (r .sort))
+    later : (u r : Row) → Owns (s .form) u r → name ≡ u .name → isLater (p .marks) (Past a) (rowWritten (s .form) (u .name) r) ≡ not (isAttribute (r .sort))
     later u r own e = by (r .sort) refl
       where
         by : (t : RowSort) → r .sort ≡ t → not (eqb (rowCode (r .sort)) 2 && ltb (rowIndex (s .form) (u .name) r) a) ≡ not (isAttribute (r .sort))
@@ -117,7 +117,7 @@ module _ (s : Store) (g : good s ≡ true) where
     step sel w u r b x own i =
         record {
           takes = and-false sel;
-          later = λ e. later u r own (same-eq name (u .name) (and-split (isElement (u .sort)) (same name (u .name)) (sym x ∙ e) .1));
+          later = λ e f. later u r own (same-eq name (u .name) (and-split (isElement (u .sort)) (same name (u .name)) (sym x ∙ e) .1));
           index =
               index-moved (s .form) new p (u .name) r refl (index-kept more o (s .form) (r .name))
               (λ e. let (j, (d, f, m)) = own e in added-shift o (s .form) once l (u .name) d f (r .name) m (newAttribute n k v));
@@ -130,7 +130,7 @@ module _ (s : Store) (g : good s ≡ true) where
     add-attribute-does : documentsWalk p v fill (indexed (s .form) [] (s .docs)) ≡ flatten 0 (indexed (formAfter (addAttribute o n k v) (s .form)) [] (docsAfter (addAttribute o n k v) s))
     unfolding plan formAfter
     add-attribute-does =
-        documents-kept (s .form) new q p v fill (s .docs) (sym (and-false (mustBePresent (sortOf k)))) (λ e. absurd (false≢true (sym (and-false (mustBePresent (sortOf k))) ∙ e)))
+        documents-kept (s .form) new q p v fill record { keeps = refl; spares = refl } (s .docs) (sym (and-false (mustBePresent (sortOf k)))) (λ e. absurd (false≢true (sym (and-false (mustBePresent (sortOf k))) ∙ e)))
         (kept-all (s .form) new q p v fill (s .docs) (λ sel u. sel ≡ elementNamed name u) (Owns (s .form)) (λ sel w u r b x own i. inr (step sel w u r b x own i, element-test (s .form) once o l (u .name) r)) refl
         (each-owned s g))
 
@@ -218,7 +218,7 @@ module _ (s : Store) (g : good s ≡ true) where
               inr (
                 record {
                   takes = test;
-                  later = λ z. refl;
+                  later = λ z y. refl;
                   index =
                       index-moved (s .form) left dropping (u .name) r refl (index-kept (lacking lost) i (s .form) (r .name))
                       (λ z. let (y, (d, f, m)) = own z in dropped-shift i (s .form) once below (u .name) d f (r .name) m lost a there at-index (stays u r e y z));
@@ -232,7 +232,7 @@ module _ (s : Store) (g : good s ≡ true) where
       destroy-attribute-does : documentsWalk dropping v none-filled (indexed (s .form) [] (s .docs)) ≡ flatten 0 (indexed (formAfter (destroyAttribute a) (s .form)) [] (docsAfter (destroyAttribute a) s))
       unfolding plan formAfter
       destroy-attribute-does =
-          documents-kept (s .form) left taker dropping v none-filled (s .docs) refl (λ e. absurd (false≢true e))
+          documents-kept (s .form) left taker dropping v none-filled record { keeps = refl; spares = refl } (s .docs) refl (λ e. absurd (false≢true e))
           (kept-all (s .form) left taker dropping v none-filled (s .docs) (λ sel u. sel ≡ elementNamed owner u) (Owns (s .form)) drop-step refl (each-owned s g))
           ∙ ap (λ (x : Option Owned). flatten 0 (indexed (dropOwned x (s .form)) [] (changed (dropPlan (λ o u. elementNamed (o .owner .name) u) x) (s .docs)))) (sym at)
 

@@ -127,7 +127,7 @@ module _ (a : ℕ) (form : Form) (o : Owned) (once : Distinct (map definitionNam
       ∙ sym (before-index (o .attribute .name) x (o .owner .attributes))
 
   -- the same name has the same index
-  name-index : (x : Bytes) → eqb (attributeIndex (o .owner .name) x form) a ≡ same (o .attribute .name) x
+  pub name-index : (x : Bytes) → eqb (attributeIndex (o .owner .name) x form) a ≡ same (o .attribute .name) x
   name-index x = by (same (o .attribute .name) x) refl
     where
       by : (c : Bool) → same (o .attribute .name) x ≡ c → eqb (attributeIndex (o .owner .name) x form) a ≡ same (o .attribute .name) x
@@ -147,8 +147,8 @@ module _ (a : ℕ) (form : Form) (o : Owned) (once : Distinct (map definitionNam
       by attribute q = rw q (name-index (r .name))
       by text q = rw q
 
-  pub past-test : (r : Row) → isLater (Past a) (rowWritten form (o .owner .name) r) ≡ not (isAttribute (r .sort) && member bytes (r .name) (namesBefore (o .attribute .name) (map attributeName (o .owner .attributes))))
-  past-test r = by (r .sort) refl
+  pub past-test : (ms : Bytes) (r : Row) → isLater ms (Past a) (rowWritten form (o .owner .name) r) ≡ not (isAttribute (r .sort) && member bytes (r .name) (namesBefore (o .attribute .name) (map attributeName (o .owner .attributes))))
+  past-test ms r = by (r .sort) refl
     where
       by : (t : RowSort) → r .sort ≡ t
           → not (eqb (rowCode (r .sort)) 2 && ltb (rowIndex form (o .owner .name) r) a) ≡ not (isAttribute (r .sort) && member bytes (r .name) (namesBefore (o .attribute .name) (map attributeName (o .owner .attributes))))

@@ -33,7 +33,7 @@ use Rattle.editing.specs.declared.Plan.{Plan}
 use Rattle.editing.specs.Walk.{matches, isLater}
 use Rattle.storing.specs.Planned.{fillOf}
 use Rattle.plans.specs.Following.{Does}
-use Rattle.plans.specs.CallPlans.{settingPlan, setAttributePlan, destroyAttributeRowPlan}
+use Rattle.plans.specs.CallPlans.{unmarked, settingPlan, setAttributePlan, destroyAttributeRowPlan}
 use Rattle.plans.proofs.TreePlans.{documents-follow}
 use Rattle.plans.proofs.FollowingLaws.{serial-test, follows-all, fills-follow, takes-follow}
 use Rattle.plans.proofs.AttributeIndices.{own-index, take-test, past-test}
@@ -81,7 +81,7 @@ module _ (s : Store) (g : good s ≡ true) (k a : ℕ) (o : Owned) (at : attribu
   pub destroy-attribute-row-does : (v : Bytes) → Does (destroyAttributeRow k a) s (destroyAttributeRowPlan k a) v
   unfolding plan
   destroy-attribute-row-does v =
-      documents-follow (s .form) (s .form) q (destroyAttributeRowPlan k a) v fill (s .docs)
+      documents-follow (s .form) (s .form) q (destroyAttributeRowPlan k a) v fill record { keeps = refl; spares = refl } (s .docs)
       record {
         fills = refl;
         filling = λ e. absurd (false≢true e);
@@ -105,7 +105,7 @@ module _ (s : Store) (g : good s ≡ true) (k a : ℕ) (o : Owned) (at : attribu
   new-attribute-does : (v : Bytes) → childrenOf (attributeNamed (o .attribute .name)) k (lines 0 (s .docs)) ≡ [] → Does (setAttribute k a v) s (setAttributePlan k a 0) v
   unfolding plan
   new-attribute-does v absent =
-      documents-follow (s .form) (s .form) q (setAttributePlan k a 0) v fill (s .docs)
+      documents-follow (s .form) (s .form) q (setAttributePlan k a 0) v fill record { keeps = refl; spares = refl } (s .docs)
       record {
         fills = refl;
         filling = λ e. absurd (false≢true e);
@@ -113,7 +113,7 @@ module _ (s : Store) (g : good s ≡ true) (k a : ℕ) (o : Owned) (at : attribu
             follows-all (s .form) (s .form) q (setAttributePlan k a 0) v fill (s .docs) Above
             (λ sel w u r b (x, n) i. (
               fills-follow (s .form) v fill sel w u r (q .fills) (q .later) (q .filling) (Serial k) (Past a) (Attribute a) (given s g r b i)
-                  (λ e. ap (λ (z : Bytes). isLater (Past a) (rowWritten (s .form) z r)) (n (sym x ∙ e)) ∙ past-test a (s .form) o once apart at r) (serial-test (s .form) (u .name) k r)
+                  (λ e. ap (λ (z : Bytes). isLater unmarked (Past a) (rowWritten (s .form) z r)) (n (sym x ∙ e)) ∙ past-test a (s .form) o once apart at unmarked r) (serial-test (s .form) (u .name) k r)
                   (λ e d. filled (r .name) (owner-named r b i e) d),
               above-row u r b i,
             ))

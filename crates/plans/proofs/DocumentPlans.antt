@@ -39,7 +39,7 @@ module _ (s : Store) (g : good s ≡ true) where
   pub add-document-does : (i : ℕ) (t : Bytes) → i < length (s .form) → Does (addDocument i t) s (addDocumentPlan i) t
   unfolding plan
   add-document-does i t l =
-      documents-follow (s .form) (s .form) q (addDocumentPlan i) t fill (s .docs)
+      documents-follow (s .form) (s .form) q (addDocumentPlan i) t fill record { keeps = refl; spares = refl } (s .docs)
       record {
         fills = refl;
         filling = λ e d. sym (filling-index s g t d i [] l);
@@ -63,7 +63,7 @@ module _ (s : Store) (g : good s ≡ true) where
   pub add-element-does : (k j i : ℕ) (t : Bytes) → i < length (s .form) → Does (addElement k j i t) s (addElementPlan k (childSerial k j s) i) t
   unfolding plan
   add-element-does k j i t l =
-      documents-follow (s .form) (s .form) q p t fill (s .docs)
+      documents-follow (s .form) (s .form) q p t fill record { keeps = refl; spares = refl } (s .docs)
       record {
         fills = refl;
         filling = λ e. absurd (false≢true e);
@@ -93,7 +93,7 @@ module _ (s : Store) (g : good s ≡ true) where
   pub destroy-element-does : (k : ℕ) (v : Bytes) → Does (destroyElement k) s (destroyElementPlan k) v
   unfolding plan
   destroy-element-does k v =
-      documents-follow (s .form) (s .form) q (destroyElementPlan k) v fill (s .docs)
+      documents-follow (s .form) (s .form) q (destroyElementPlan k) v fill record { keeps = refl; spares = refl } (s .docs)
       record {
         fills = refl;
         filling = λ e. absurd (false≢true e);
@@ -111,7 +111,7 @@ module _ (s : Store) (g : good s ≡ true) where
   -- ---- 14 where the attribute's row is there, and 16: a value is set
   pub set-value-does : (m : ℕ) (v : Bytes) (c : Call) → plan c (s .form) (lines 0 (s .docs)) ≡ setting m v → Does c s (settingPlan m) v
   set-value-does m v c e =
-      documents-follow (s .form) (s .form) (setting m v) (settingPlan m) v fill (s .docs)
+      documents-follow (s .form) (s .form) (setting m v) (settingPlan m) v fill record { keeps = refl; spares = refl } (s .docs)
       record {
         fills = refl;
         filling = λ e. absurd (false≢true e);

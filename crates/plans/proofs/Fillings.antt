@@ -32,6 +32,7 @@ use Rattle.validity.proofs.AttributeBlocks.{offset, Block, block-at}
 use Rattle.validity.proofs.FormGood.{form-agrees, good-bodies, good-fields}
 use Rattle.filling.specs.declared.Filling.the-variants.{Definition}
 use Rattle.filling.specs.Fillings.{newElement, newAttribute, requiredRows, fillingsOf, contentRows, fillIndex, fillingRows}
+use Rattle.storing.specs.Planned.{membersAt}
 
 -- ---- forests side by side
 pub flatten-beside : {A : Type 0} (d : ℕ) (f g : Forest A) → flatten d (f ⧺ g) ≡ flatten d f ++ flatten d g
@@ -181,7 +182,7 @@ module _ (w : ℕ) (form : Form) (ok : WellFormed w form) (F : IndexForm) (agree
 
 -- THE FILLING OF A DEFINITION of a store that passes is written as the rows of its filling by indices
 pub filling-index : (s : Store) → good s ≡ true → (txt : Bytes) (d i : ℕ) (owner : Bytes) → i < length (s .form)
-    → flatten d (indexed (s .form) owner (fillDefinition (s .form) txt (nameAtIndex i (s .form)))) ≡ fillingRows (indexForm (flat s)) (λ j. entryOf j (flat s .attributes) .value) (Definition i) txt d
+    → flatten d (indexed (s .form) owner (fillDefinition (s .form) txt (nameAtIndex i (s .form)))) ≡ fillingRows (indexForm (flat s)) (λ j. entryOf j (flat s .attributes) .value) (λ a b. membersAt (flat s) a b) (Definition i) txt d
 filling-index s g txt d i owner l =
     let back = unflat-flat s (good-known s g) (good-found s g) in
     let agrees : Agrees (indexForm (flat s)) (s .form) = subst (λ (z : Store). Agrees (indexForm (flat s)) (z .form)) back (form-agrees (valueWidth (s .version)) (flat s) (good-fields s g) (good-bodies s g)) in

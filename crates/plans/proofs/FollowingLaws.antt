@@ -29,7 +29,7 @@ use Rattle.editing.specs.declared.Plan.{Plan}
 use Rattle.editing.specs.Walk.{matches, isEverything, isGround, isLater, shifted, movedIndex}
 use Rattle.plans.specs.Following.{Fills, RowFollows, Follows}
 use Rattle.plans.specs.Kept.{EachBelow, BothTake, FollowsKept}
-use Rattle.plans.specs.CallPlans.{unmoved, fillingPlan, takingPlan, settingPlan}
+use Rattle.plans.specs.CallPlans.{unmoved, unmarked, fillingPlan, takingPlan, settingPlan}
 
 -- ---- rows by sort
 pub element-code : (s : RowSort) → eqb (rowCode s) 1 ≡ isElement s
@@ -53,7 +53,7 @@ shifted-same i = by (leb 0 i)
     by true = omega arith
     by false = refl
 
-index-same : (p : Plan) → p .definitions ≡ unmoved → p .attributes ≡ unmoved → (x : FlatRow) → movedIndex p x ≡ x .index
+pub index-same : (p : Plan) → p .definitions ≡ unmoved → p .attributes ≡ unmoved → (x : FlatRow) → movedIndex p x ≡ x .index
 index-same p e f x = by (eqb (x .sort) 1) (eqb (x .sort) 2)
   where
     by : (a c : Bool) → _≡_ {A = ℕ} (elim a [ true ↦ shifted (p .definitions) (x .index) | false ↦ elim c [ true ↦ shifted (p .attributes) (x .index) | false ↦ x .index ] ]) (x .index)
@@ -104,14 +104,14 @@ module _ (form new : Form) (q : change.Plan) (p : Plan) (v : Bytes) (fill : ℕ 
 -- ---- the three kinds of plans, at row r below row u
 module _ (form : Form) (v : Bytes) (fill : ℕ → List (Deep FlatRow)) (sel : Bool) (w u r : Row) where
   pub fills-follow : (f : Row → Bool) (l : Row → Row → Bool) (rows : Forest Row) (above : Which) (later : Later) (what : Filling) → (r .serial ≡ 0 → ⊥)
-      → (sel ≡ true → isLater later (rowWritten form (u .name) r) ≡ l w (revalued (making f l rows) r))
+      → (sel ≡ true → isLater unmarked later (rowWritten form (u .name) r) ≡ l w (revalued (making f l rows) r))
       → matches above (rowWritten form (u .name) r) ≡ f (revalued (making f l rows) r)
       → (f (revalued (making f l rows) r) ≡ true → Fills form form (making f l rows) (fillingPlan above later what) v fill (r .name))
       → RowFollows form form (making f l rows) (fillingPlan above later what) v fill sel w u r
   fills-follow f l rows above later what n h m g =
       record {
         takes = and-false (isEverything above || sel);
-        later = h;
+        later = λ e f. h e;
         index = index-same (fillingPlan above later what) refl refl (rowWritten form (u .name) r);
         value = value-same r v [] n;
         fills = and-true (matches above (rowWritten form (u .name) r)) ∙ m;
@@ -123,7 +123,7 @@ module _ (form : Form) (v : Bytes) (fill : ℕ → List (Deep FlatRow)) (sel : B
   takes-follow t above takes n h =
       record {
         takes = h;
-        later = λ e. refl;
+        later = λ e f. refl;
         index = index-same (takingPlan above takes) refl refl (rowWritten form (u .name) r);
         value = value-same r v [] n;
         fills = and-false (matches above (rowWritten form (u .name) r));
@@ -134,7 +134,7 @@ module _ (form : Form) (v : Bytes) (fill : ℕ → List (Deep FlatRow)) (sel : B
   sets-follow m =
       record {
         takes = and-false sel;
-        later = λ e. refl;
+        later = λ e f. refl;
         index = index-same (settingPlan m) refl refl (rowWritten form (u .name) r);
         value = refl;
         fills = refl;

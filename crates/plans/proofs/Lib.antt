@@ -3,6 +3,7 @@ pub mod Numbered
 pub mod TreeWalk
 pub mod FormPlanned
 pub mod Planned
+pub mod SimulationLaws
 pub mod TreePlans
 pub mod FollowingLaws
 pub mod ApartLaws
@@ -15,3 +16,12 @@ pub mod AttributePlans
 pub mod CallsPlanned
 pub mod Instances
 pub mod AttributeCallsPlanned
+pub mod ModelForms
+pub mod MemberPlans
+pub mod PlacedRows
+pub mod RequantifyPlans
+pub mod GroupFillings
+pub mod QuantifierPlans
+pub mod ModelCallsPlanned
+pub mod FormsAfter
+pub mod GroupPlaces

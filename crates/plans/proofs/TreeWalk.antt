@@ -16,7 +16,7 @@ use Rattle.editing.specs.declared.Which.the-variants.{Nothing, Everything, Grou
 use Rattle.editing.specs.declared.Plan.{Plan}
 use Rattle.editing.specs.declared.Open.{Open}
 use Rattle.editing.specs.Walk.{matches, isEverything, isGround, isLater, keptRow, gone, closes, closed, isTaken, isFilled, taken, kept, owed, rowDepth, emitted, onward, walked, atFirst}
-use Rattle.plans.specs.Trees.{treeWalk, documentsWalk, NoneOf, Apart}
+use Rattle.plans.specs.Trees.{takenAt, filledAt, treeWalk, documentsWalk, NoneOf, Apart}
 
 -- what the walk over the rows in a list needs of a plan and the documents
 pub data Clear (p : Plan) (f : Forest FlatRow) : Type 0 where
@@ -53,15 +53,6 @@ and-true : (b : Bool) → (b && true) ≡ b
 and-true true = refl
 and-true false = refl
 
--- what is due after a row further down, and after one right below the open row
-stays : (u l : Bool) → (u && not ((u && false) && l)) ≡ u
-stays true l = refl
-stays false l = refl
-
-still : (u l : Bool) → (u && not ((u && true) && l)) ≡ (u && not l)
-still true l = refl
-still false l = refl
-
 everything-matches : (w : Which) → isEverything w ≡ true → (r : FlatRow) → matches w r ≡ true
 everything-matches Nothing e r = absurd (false≢true e)
 everything-matches Everything e r = refl
@@ -69,6 +60,14 @@ everything-matches Ground e r = absurd (false≢true e)
 everything-matches (Elements i) e r = absurd (false≢true e)
 everything-matches (Attributes j) e r = absurd (false≢true e)
 everything-matches (Serial k) e r = absurd (false≢true e)
+
+not-everything : (w : Which) (r : FlatRow) → matches w r ≡ false → isEverything w ≡ false
+not-everything Nothing r e = refl
+not-everything Everything r e = absurd (false≢true (sym e))
+not-everything Ground r e = refl
+not-everything (Elements i) r e = refl
+not-everything (Attributes j) r e = refl
+not-everything (Serial k) r e = refl
 
 everything-ground : (w : Which) → isEverything w ≡ true → isGround w ≡ false
 everything-ground Nothing e = refl
@@ -156,54 +155,48 @@ module _ (p : Plan) (v : Bytes) (fill : ℕ → List (Deep FlatRow)) where
       ∙ append-assoc (owed (isFilled p o x) (fill (x .depth))) (keptRow p v x ∷ []) (walked p v fill (kept p o x) xs)
 
   module _ (sel due : Bool) (d : ℕ) (r : FlatRow) (g t : Forest FlatRow) where
-    abbrev isTakenAt : Bool
-    isTakenAt = (isEverything (p .above) || sel) && matches (p .takes) r
-
     -- the walk of the rows below r, and of those after it once r is kept
     abbrev inner : List (Deep FlatRow)
     inner = treeWalk p v fill (matches (p .above) r) (matches (p .above) r && p .fills) (suc d) g
 
     abbrev others : List (Deep FlatRow)
-    others = treeWalk p v fill sel (due && not (isLater (p .later) r)) d t
+    others = treeWalk p v fill sel (due && not (isLater (p .marks) (p .later) r)) d t
 
     abbrev onTree : Bool → List (Deep FlatRow)
-    onTree c = elim c [ true ↦ treeWalk p v fill sel due d t | false ↦ owed (due && isLater (p .later) r) (fill d) ++ (keptRow p v (at d r) ∷ (inner ++ others)) ]
+    onTree c = elim c [ true ↦ treeWalk p v fill sel due d t | false ↦ owed (filledAt p due r) (fill d) ++ (keptRow p v (at d r) ∷ (inner ++ others)) ]
 
-    tree-taken : isTakenAt ≡ true → treeWalk p v fill sel due d (tree r g t) ≡ treeWalk p v fill sel due d t
+    tree-taken : takenAt p sel due r ≡ true → treeWalk p v fill sel due d (tree r g t) ≡ treeWalk p v fill sel due d t
     unfolding treeWalk
     tree-taken q = ap onTree q
 
-    tree-kept : isTakenAt ≡ false → (z : List (Deep FlatRow)) → treeWalk p v fill sel due d (tree r g t) ++ z ≡ owed (due && isLater (p .later) r) (fill d) ++ (keptRow p v (at d r) ∷ (inner ++ (others ++ z)))
+    tree-kept : takenAt p sel due r ≡ false → (z : List (Deep FlatRow)) → treeWalk p v fill sel due d (tree r g t) ++ z ≡ owed (filledAt p due r) (fill d) ++ (keptRow p v (at d r) ∷ (inner ++ (others ++ z)))
     unfolding treeWalk
     tree-kept q z =
         ap (λ (c : Bool). onTree c ++ z) q
-        ∙ append-assoc (owed (due && isLater (p .later) r) (fill d)) (keptRow p v (at d r) ∷ (inner ++ others)) z
-        ∙ ap (λ (l : List (Deep FlatRow)). owed (due && isLater (p .later) r) (fill d) ++ (keptRow p v (at d r) ∷ l)) (append-assoc inner others z)
+        ∙ append-assoc (owed (filledAt p due r) (fill d)) (keptRow p v (at d r) ∷ (inner ++ others)) z
+        ∙ ap (λ (l : List (Deep FlatRow)). owed (filledAt p due r) (fill d) ++ (keptRow p v (at d r) ∷ l)) (append-assoc inner others z)
 
     -- what is open after r, kept, as it is one of `above` or not
     abbrev openAfter : ℕ → Bool → Bool → Open
-    openAfter b u m = elim m [ true ↦ opened 0 (suc (suc d)) (p .fills) | false ↦ opened 0 b (u && not ((u && eqb b (suc d)) && isLater (p .later) r)) ]
+    openAfter b u m = elim m [ true ↦ opened 0 (suc (suc d)) (p .fills) | false ↦ opened 0 b (u && not (eqb b (suc d) && isLater (p .marks) (p .later) r)) ]
 
     -- of a row that closes nothing: the walk of it, of the rows below it and of those after it
-    node : (b : ℕ) (u m : Bool) (rest z : List (Deep FlatRow)) → b ≤ suc d → (isEverything (p .above) || eqb b (suc d)) ≡ (isEverything (p .above) || sel) → (u && eqb b (suc d)) ≡ due
+    node : (b : ℕ) (u m : Bool) (rest z : List (Deep FlatRow)) → b ≤ suc d → isTaken p (opened 0 b u) (at d r) ≡ takenAt p sel due r → (u && eqb b (suc d)) ≡ due
         → matches (p .above) r ≡ m → Shallow d rest → walked p v fill (opened 0 b u) (flatten d t ++ rest) ≡ treeWalk p v fill sel due d t ++ z
         → walked p v fill (openAfter b u m) (flatten (suc d) g ++ (flatten d t ++ rest)) ≡ treeWalk p v fill m (m && p .fills) (suc d) g ++ (others ++ z)
         → walked p v fill (opened 0 b u) (flatten d (tree r g t) ++ rest) ≡ treeWalk p v fill sel due d (tree r g t) ++ z
-    node b u m rest z low chosen owes one end skip keep =
+    node b u m rest z low tested owes one end skip keep =
         walk-row (opened 0 b u) (at d r) ((flatten (suc d) g ++ flatten d t) ++ rest) false refl (le-ltb (suc d) b low)
         ∙ ap (onRow (opened 0 b u) (at d r)) (append-assoc (flatten (suc d) g) (flatten d t) rest)
-        ∙ by isTakenAt refl
+        ∙ by (takenAt p sel due r) refl
       where
-        tested : isTaken p (opened 0 b u) (at d r) ≡ isTakenAt
-        tested = ap (λ (c : Bool). c && matches (p .takes) r) chosen
-
         below : walked p v fill (kept p (opened 0 b u) (at d r)) (flatten (suc d) g ++ (flatten d t ++ rest)) ≡ inner ++ (others ++ z)
         below =
             ap (λ (c : Bool). walked p v fill (openAfter b u c) (flatten (suc d) g ++ (flatten d t ++ rest))) one
             ∙ keep
             ∙ ap (λ (c : Bool). treeWalk p v fill c (c && p .fills) (suc d) g ++ (others ++ z)) (sym one)
 
-        by : (c : Bool) → isTakenAt ≡ c → onRow (opened 0 b u) (at d r) (flatten (suc d) g ++ (flatten d t ++ rest)) ≡ treeWalk p v fill sel due d (tree r g t) ++ z
+        by : (c : Bool) → takenAt p sel due r ≡ c → onRow (opened 0 b u) (at d r) (flatten (suc d) g ++ (flatten d t ++ rest)) ≡ treeWalk p v fill sel due d (tree r g t) ++ z
         by true q =
             row-taken (opened 0 b u) (at d r) (flatten (suc d) g ++ (flatten d t ++ rest)) (tested ∙ q)
             ∙ skipped d b u (suc d) g (flatten d t ++ rest) (omega arith)
@@ -212,7 +205,7 @@ module _ (p : Plan) (v : Bytes) (fill : ℕ → List (Deep FlatRow)) where
             ∙ ap (λ (l : List (Deep FlatRow)). l ++ z) (sym (tree-taken q))
         by false q =
             row-kept (opened 0 b u) (at d r) (flatten (suc d) g ++ (flatten d t ++ rest)) (tested ∙ q)
-            ∙ ap₂ (λ (c : Bool) (l : List (Deep FlatRow)). owed (c && isLater (p .later) r) (fill d) ++ (keptRow p v (at d r) ∷ l)) owes below
+            ∙ ap₂ (λ (c : Bool) (l : List (Deep FlatRow)). owed (filledAt p c r) (fill d) ++ (keptRow p v (at d r) ∷ l)) owes below
             ∙ sym (tree-kept q z)
 
   -- ---- forests, by what is open: a row further up
@@ -221,10 +214,12 @@ module _ (p : Plan) (v : Bytes) (fill : ℕ → List (Deep FlatRow)) where
   unfolding treeWalk
   walk-deeper d b u bare rest h none end = refl
   walk-deeper d b u (tree r g t) rest h (other, inside, beside) end =
-      node false false d r g t b u false rest (walked p v fill (opened 0 b u) rest) (omega arith) (ap (λ (c : Bool). isEverything (p .above) || c) apart-is)
+      node false false d r g t b u false rest (walked p v fill (opened 0 b u) rest) (omega arith)
+      (ap₂ (λ (e c : Bool). ((e || c) && matches (p .takes) r) && not (p .keeps && u)) (not-everything (p .above) r other) apart-is
+      ∙ sym (ap (λ (e : Bool). ((e || false) && matches (p .takes) r) && not (p .keeps && false)) (not-everything (p .above) r other)))
       (ap (λ (c : Bool). u && c) apart-is ∙ and-false u) other end (walk-deeper d b u t rest h beside end)
-      (ap (λ (c : Bool). walked p v fill (opened 0 b (u && not ((u && c) && isLater (p .later) r))) (flatten (suc d) g ++ (flatten d t ++ rest))) apart-is
-      ∙ ap (λ (c : Bool). walked p v fill (opened 0 b c) (flatten (suc d) g ++ (flatten d t ++ rest))) (stays u (isLater (p .later) r))
+      (ap (λ (c : Bool). walked p v fill (opened 0 b (u && not (c && isLater (p .marks) (p .later) r))) (flatten (suc d) g ++ (flatten d t ++ rest))) apart-is
+      ∙ ap (λ (c : Bool). walked p v fill (opened 0 b c) (flatten (suc d) g ++ (flatten d t ++ rest))) (and-true u)
       ∙ walk-deeper (suc d) b u g (flatten d t ++ rest) (omega arith) inside (shallow-flatten d t rest end)
       ∙ ap (λ (l : List (Deep FlatRow)). treeWalk p v fill false false (suc d) g ++ l) (walk-deeper d b u t rest h beside end))
     where
@@ -237,12 +232,12 @@ module _ (p : Plan) (v : Bytes) (fill : ℕ → List (Deep FlatRow)) where
   unfolding treeWalk
   walk-below d u bare rest none end = done-below d u rest end
   walk-below d u (tree r g t) rest (other, inside, beside) end =
-      node true u d r g t (suc d) u false rest (walked p v fill (opened 0 0 false) rest) (omega arith) (ap (λ (c : Bool). isEverything (p .above) || c) here)
+      node true u d r g t (suc d) u false rest (walked p v fill (opened 0 0 false) rest) (omega arith)
+      (ap (λ (c : Bool). ((isEverything (p .above) || c) && matches (p .takes) r) && not (p .keeps && u)) here)
       (ap (λ (c : Bool). u && c) here ∙ and-true u) other end (walk-below d u t rest beside end)
-      (ap (λ (c : Bool). walked p v fill (opened 0 (suc d) (u && not ((u && c) && isLater (p .later) r))) (flatten (suc d) g ++ (flatten d t ++ rest))) here
-      ∙ ap (λ (c : Bool). walked p v fill (opened 0 (suc d) c) (flatten (suc d) g ++ (flatten d t ++ rest))) (still u (isLater (p .later) r))
-      ∙ walk-deeper (suc d) (suc d) (u && not (isLater (p .later) r)) g (flatten d t ++ rest) (omega arith) inside (shallow-flatten d t rest end)
-      ∙ ap (λ (l : List (Deep FlatRow)). treeWalk p v fill false false (suc d) g ++ l) (walk-below d (u && not (isLater (p .later) r)) t rest beside end))
+      (ap (λ (c : Bool). walked p v fill (opened 0 (suc d) (u && not (c && isLater (p .marks) (p .later) r))) (flatten (suc d) g ++ (flatten d t ++ rest))) here
+      ∙ walk-deeper (suc d) (suc d) (u && not (isLater (p .marks) (p .later) r)) g (flatten d t ++ rest) (omega arith) inside (shallow-flatten d t rest end)
+      ∙ ap (λ (l : List (Deep FlatRow)). treeWalk p v fill false false (suc d) g ++ l) (walk-below d (u && not (isLater (p .marks) (p .later) r)) t rest beside end))
     where
       here : eqb (suc d) (suc d) ≡ true
       here = eq-eqb (suc d) (suc d) refl
@@ -261,12 +256,12 @@ module _ (p : Plan) (v : Bytes) (fill : ℕ → List (Deep FlatRow)) where
           → walked p v fill (opened 0 0 false) (flatten d (tree r g t) ++ rest) ≡ treeWalk p v fill false false d (tree r g t) ++ walked p v fill (opened 0 0 false) rest
       by true q x y =
           node false false d r g t 0 false true rest (walked p v fill (opened 0 0 false) rest) (omega arith)
-          (ap (λ (c : Bool). isEverything (p .above) || c) (ne-eqb 0 (suc d) (λ e. omega arith))) refl q end y
+          (ap (λ (c : Bool). ((isEverything (p .above) || c) && matches (p .takes) r) && not (p .keeps && false)) (ne-eqb 0 (suc d) (λ e. omega arith))) refl q end y
           (walk-below (suc d) (p .fills) g (flatten d t ++ rest) (none q) (shallow-flatten d t rest end)
           ∙ ap (λ (l : List (Deep FlatRow)). treeWalk p v fill true (p .fills) (suc d) g ++ l) y)
       by false q x y =
           node false false d r g t 0 false false rest (walked p v fill (opened 0 0 false) rest) (omega arith)
-          (ap (λ (c : Bool). isEverything (p .above) || c) (ne-eqb 0 (suc d) (λ e. omega arith))) refl q end y
+          (ap (λ (c : Bool). ((isEverything (p .above) || c) && matches (p .takes) r) && not (p .keeps && false)) (ne-eqb 0 (suc d) (λ e. omega arith))) refl q end y
           (x ∙ ap (λ (l : List (Deep FlatRow)). treeWalk p v fill false false (suc d) g ++ l) y)
 
   -- every row is one of `above`, and none has a filling
@@ -276,7 +271,8 @@ module _ (p : Plan) (v : Bytes) (fill : ℕ → List (Deep FlatRow)) where
   unfolding treeWalk
   walk-everywhere d b sel bare rest e n low same end = same
   walk-everywhere d b sel (tree r g t) rest e n low same end =
-      node sel false d r g t b false true rest (walked p v fill (opened 0 0 false) rest) low (ap (λ (c : Bool). c || eqb b (suc d)) e ∙ sym (ap (λ (c : Bool). c || sel) e)) refl
+      node sel false d r g t b false true rest (walked p v fill (opened 0 0 false) rest) low
+      (ap (λ (c : Bool). ((c || eqb b (suc d)) && matches (p .takes) r) && not (p .keeps && false)) e ∙ sym (ap (λ (c : Bool). ((c || sel) && matches (p .takes) r) && not (p .keeps && false)) e)) refl
       (everything-matches (p .above) e r) end (walk-everywhere d b sel t rest e n low same end)
       (ap (λ (c : Bool). walked p v fill (opened 0 (suc (suc d)) c) (flatten (suc d) g ++ (flatten d t ++ rest))) n
       ∙ walk-everywhere (suc d) (suc (suc d)) true g (flatten d t ++ rest) e n (omega arith) (done-below (suc d) false (flatten d t ++ rest) (shallow-flatten d t rest end))

@@ -12,7 +12,7 @@ use Rattle.editing.specs.declared.Which.the-variants.{Nothing, Elements, Attrib
 use Rattle.editing.specs.declared.Later.the-variants.{Never, Past}
 use Rattle.editing.specs.declared.Plan.{Plan}
 use Rattle.validity.specs.Reading.{entryOf}
-use Rattle.plans.specs.CallPlans.{unmoved}
+use Rattle.plans.specs.CallPlans.{unmoved, unmarked}
 
 -- how many attributes the definitions up to o have, and o: where a new attribute of o comes
 abbrev pub attributesTo : ℕ → List FlatAttribute → ℕ
@@ -33,6 +33,9 @@ addAttributePlan o a k =
       fills = eqb k 1;
       later = Past a;
       filling = Attribute a;
+      marks = unmarked;
+      keeps = false;
+      spares = false;
       set = 0;
       definitions = unmoved;
       attributes = record { from = a; more = 1; less = 0 };
@@ -47,6 +50,9 @@ destroyAttributePlan o a =
       fills = false;
       later = Never;
       filling = filling.Nothing;
+      marks = unmarked;
+      keeps = false;
+      spares = false;
       set = 0;
       definitions = unmoved;
       attributes = record { from = a; more = 0; less = 1 };

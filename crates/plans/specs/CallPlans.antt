@@ -4,6 +4,8 @@ use Prim.Native.Nat.{ℕ}
 use mathlib.Core.Bool.{true, false}
 use mathlib.Core.Option.{none, some}
 use lib.Dec.{eqb}
+use lib.ListN.{replicate}
+use Rattle.rules.specs.Bytes.{Bytes}
 use Rattle.rules.specs.Store.{Store}
 use Rattle.rules.specs.Lines.{lines, isElementRow, isTextRow, attributeNamed, childrenOf, serialAt}
 use Rattle.rules.specs.Change.{attributeAt}
@@ -21,15 +23,18 @@ use Rattle.editing.specs.declared.Plan.{Plan}
 abbrev pub unmoved : Shift
 unmoved = record { from = 0; more = 0; less = 0 }
 
+unfoldable pub unmarked : Bytes
+unmarked = replicate 64 0
+
 abbrev pub fillingPlan : Which → Later → Filling → Plan
-fillingPlan above later rows = record { above = above; takes = Nothing; fills = true; later = later; filling = rows; set = 0; definitions = unmoved; attributes = unmoved }
+fillingPlan above later rows = record { above = above; takes = Nothing; fills = true; later = later; filling = rows; marks = unmarked; keeps = false; spares = false; set = 0; definitions = unmoved; attributes = unmoved }
 
 abbrev pub takingPlan : Which → Which → Plan
-takingPlan above takes = record { above = above; takes = takes; fills = false; later = Never; filling = filling.Nothing; set = 0; definitions = unmoved; attributes = unmoved }
+takingPlan above takes = record { above = above; takes = takes; fills = false; later = Never; filling = filling.Nothing; marks = unmarked; keeps = false; spares = false; set = 0; definitions = unmoved; attributes = unmoved }
 
 -- the row with serial m gets the call's value
 abbrev pub settingPlan : ℕ → Plan
-settingPlan m = record { above = Nothing; takes = Nothing; fills = false; later = Never; filling = filling.Nothing; set = m; definitions = unmoved; attributes = unmoved }
+settingPlan m = record { above = Nothing; takes = Nothing; fills = false; later = Never; filling = filling.Nothing; marks = unmarked; keeps = false; spares = false; set = m; definitions = unmoved; attributes = unmoved }
 
 -- ---- the serials that plans name; 0: no such row stands
 -- the element child number j of row k

@@ -2,7 +2,7 @@
 -- Assumes nothing.
 use Prim.Native.Nat.{ℕ}
 use mathlib.Core.Path.{_≡_}
-use mathlib.Core.Bool.{Bool, true, _&&_, _||_}
+use mathlib.Core.Bool.{Bool, true, false, _&&_, _||_}
 use mathlib.Core.List.{List, []}
 use Rattle.rules.specs.Bytes.{Bytes}
 use Rattle.rules.specs.Store.{Form, Row, Forest, bare, tree, Store}
@@ -17,6 +17,11 @@ use Rattle.editing.specs.Walk.{matches, isEverything, isGround, isLater, movedI
 use Rattle.storing.specs.Planned.{fillOf}
 use Rattle.plans.specs.Trees.{documentsWalk}
 
+-- no row is kept or spared
+pub record Plain (p : Plan) : Type 0 where
+  pub keeps : p .keeps ≡ false
+  pub spares : p .spares ≡ false
+
 -- form, new: the form before and after; q: of the rules; p with the value v and the rows `fill d` of its filling: by indices
 module _ (form new : Form) (q : change.Plan) (p : Plan) (v : Bytes) (fill : ℕ → List (Deep FlatRow)) where
   -- below an element of this name the fillings are the same
@@ -26,7 +31,7 @@ module _ (form new : Form) (q : change.Plan) (p : Plan) (v : Bytes) (fill : ℕ 
   -- at row r below row u, which is one of `above` (sel) or not, and which is w after the change
   pub record RowFollows (sel : Bool) (w u r : Row) : Type 0 where
     pub takes : ((isEverything (p .above) || sel) && matches (p .takes) (rowWritten form (u .name) r)) ≡ q .takes u r
-    pub later : sel ≡ true → isLater (p .later) (rowWritten form (u .name) r) ≡ q .later w (revalued q r)
+    pub later : sel ≡ true → p .fills ≡ true → isLater (p .marks) (p .later) (rowWritten form (u .name) r) ≡ q .later w (revalued q r)
     pub index : movedIndex p (rowWritten form (u .name) r) ≡ rowIndex new (u .name) r
     pub value : valueAfter p v (rowWritten form (u .name) r) ≡ revalued q r .value
     pub fills : (matches (p .above) (rowWritten form (u .name) r) && p .fills) ≡ q .fills (revalued q r)

@@ -9,19 +9,27 @@ use Rattle.rules.specs.Store.{Forest, bare, tree}
 use Rattle.rules.specs.Preorder.{Deep}
 use Rattle.rules.specs.Layout.{FlatRow}
 use Rattle.editing.specs.declared.Plan.{Plan}
-use Rattle.editing.specs.Walk.{matches, isEverything, isGround, isLater, keptRow, owed}
+use Rattle.editing.specs.Walk.{matches, isEverything, isGround, isLater, spared, keptRow, owed}
+
+module _ (p : Plan) where
+  -- a row is taken, and a filling comes right before it, below a row that is one of `above` or not, where a filling is due or not
+  abbrev pub takenAt : Bool → Bool → FlatRow → Bool
+  takenAt sel due r = ((isEverything (p .above) || sel) && matches (p .takes) r) && not (p .keeps && due)
+
+  abbrev pub filledAt : Bool → FlatRow → Bool
+  filledAt due r = due && (isLater (p .marks) (p .later) r && not (spared p r))
 
 module _ (p : Plan) (v : Bytes) (fill : ℕ → List (Deep FlatRow)) where
   -- the rows at depth d below a row: it is one of `above` or not, and its filling is still to come or not
   unfoldable pub treeWalk : Bool → Bool → ℕ → Forest FlatRow → List (Deep FlatRow)
   treeWalk sel due d bare = owed due (fill d)
   treeWalk sel due d (tree r b t) =
-      elim ((isEverything (p .above) || sel) && matches (p .takes) r) [
+      elim (takenAt p sel due r) [
         | true ↦ treeWalk sel due d t
         | false ↦
-            owed (due && isLater (p .later) r) (fill d)
+            owed (filledAt p due r) (fill d)
             ++ (keptRow p v (record { depth = d; row = r })
-            ∷ (treeWalk (matches (p .above) r) (matches (p .above) r && p .fills) (suc d) b ++ treeWalk sel (due && not (isLater (p .later) r)) d t))
+            ∷ (treeWalk (matches (p .above) r) (matches (p .above) r && p .fills) (suc d) b ++ treeWalk sel (due && not (isLater (p .marks) (p .later) r)) d t))
       ]
 
   -- the documents

@@ -118,7 +118,7 @@ fn children_end(defs: &[u8], parts: &[u8], i: usize, last: usize) -> bool
 
 // ---- attributes
 // Whether attribute j may have the value v.
-fn value_may(attrs: &[u8], j: usize, v: &[u8]) -> bool
+pub fn value_may(attrs: &[u8], j: usize, v: &[u8]) -> bool
     requires { ⌜ j ≤ 64 ⌝ }
     ensures { λ r. ⌜ r ≡ allows (sortOf (attributeIn (now (attrs .entry)) j .sort)) (attributeIn (now (attrs .entry)) j .value) (now (v .entry)) ⌝ }
 {

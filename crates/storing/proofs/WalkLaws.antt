@@ -37,6 +37,7 @@ use Rattle.storing.specs.Stores.{storeIn}
 use Rattle.storing.specs.Planned.{rowsAfter}
 use Rattle.storing.specs.Writing.{walkFrom, Sized}
 use Rattle.storing.proofs.StoreLaws.{Holds, holds}
+use Rattle.storing.proofs.PartLaws.{members-at}
 use Rattle.storing.proofs.RowBounds.{Bounded, rows-bounded}
 
 -- ---- rows that fit and are bounded
@@ -94,7 +95,7 @@ module _ {bs : Bytes} (q : passes bs ≡ true) {n : ℕ} {defs parts : Bytes} {a
   rows-after p v =
       sym
       ((λ i. walked p v (fillOf (x .n-is i) (x .defs-is i) (x .parts-is i) (x .a-is i) (x .attrs-is i) p v) (atFirst p) (bytes.rowsIn (x .count-is i) (x .rows-is i)))
-      ∙ (λ i. walked p v (λ d. fillingRows (read-form h q i) (λ j. read-value h q j i) (p .filling) v d) (atFirst p) (read-rows h i)))
+      ∙ (λ i. walked p v (λ d. fillingRows (read-form h q i) (λ j. read-value h q j i) (λ k e. members-at h k e i) (p .filling) v d) (atFirst p) (read-rows h i)))
 
   -- .. and written from the serials of the store on
   pub walk-from : (p : Plan) (v : Bytes) {at next : ℕ} {out : Bytes} {r : Cursor} {out′ : Bytes} → NumberAt 4 bs next → Written (walked p v (fillOf n defs parts a attrs p v) (atFirst p) (bytes.rowsIn count rows)) (record { at = at; left = 4097; serial = next }) out r out′

@@ -1,3 +1,4 @@
 pub mod Stores
 pub mod Planned
+pub mod Forms
 pub mod Writing

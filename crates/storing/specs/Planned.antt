@@ -2,18 +2,25 @@
 -- Assumes nothing.
 use Prim.Native.Nat.{ℕ, _+_}
 use mathlib.Core.List.{List}
+use lib.ListN.{drop}
 use Rattle.rules.specs.Bytes.{Bytes}
-use Rattle.rules.specs.Preorder.{Deep}
+use Rattle.rules.specs.Model.{Members}
+use Rattle.rules.specs.Preorder.{Deep, build}
 use Rattle.rules.specs.Layout.{FlatRow, FlatStore}
+use Rattle.model.specs.Members.{indexMembers}
 use Rattle.validity.specs.Reading.{indexForm, entryOf}
 use Rattle.rows.specs.Written.{newIn, numbered}
 use Rattle.filling.specs.Fillings.{fillingRows}
 use Rattle.editing.specs.declared.Plan.{Plan}
 use Rattle.editing.specs.Walk.{walked, atFirst}
 
+-- the members of depth e from particle k on
+unfoldable pub membersAt : FlatStore → ℕ → ℕ → Members ℕ
+membersAt f k e = indexMembers (build (drop k (f .particles)) e)
+
 -- the rows of the filling of a plan, at a depth
 abbrev pub fillOf : Plan → Bytes → FlatStore → ℕ → List (Deep FlatRow)
-fillOf p v f d = fillingRows (indexForm f) (λ j. entryOf j (f .attributes) .value) (p .filling) v d
+fillOf p v f d = fillingRows (indexForm f) (λ j. entryOf j (f .attributes) .value) (λ k e. membersAt f k e) (p .filling) v d
 
 -- the rows after a plan with the value v, the new ones without serials
 unfoldable pub rowsAfter : Plan → Bytes → FlatStore → List (Deep FlatRow)

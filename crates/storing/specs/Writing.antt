@@ -1,28 +1,36 @@
--- What is written of a store: the bytes before the tree rows, and from where the walk writes.
+-- What is written of a store: the header before the bodies, and from where the walk writes.
 -- Assumes nothing.
-use Prim.Native.Nat.{ℕ, _-_, _<_, _≤_}
+use Prim.Native.Nat.{ℕ, _+_, _*_, _<_, _≤_}
 use mathlib.Core.List.{_++_}
-use lib.ListN.{length, take, drop}
+use lib.ListN.{length, take}
 use Rattle.rules.specs.Bytes.{Bytes}
-use Rattle.rules.specs.Layout.{le, headerSize}
+use Rattle.rules.specs.Layout.{le, entry, headerSize, definitionSize, particleSize, attributeSize}
 use Rattle.rules.specs.Decode.{numberAt}
-use Rattle.lookup.specs.Bodies.{rowStart, Begins}
+use Rattle.records.specs.Records.{baseWidth}
 use Rattle.rows.specs.declared.Cursor.{Cursor}
 use Rattle.filling.specs.Parts.{Indexed}
 use Rattle.editing.specs.declared.Plan.{Plan}
 use Rattle.editing.specs.Step.{Planned}
 
--- header and form of a byte string, with another next serial and another count of rows
-unfoldable pub formBytes : ℕ → ℕ → Bytes → Bytes
-formBytes next count bs = take 4 bs ++ le 4 next ++ take 28 (drop 8 bs) ++ le 4 count ++ take (rowStart bs - headerSize) (drop headerSize bs)
+-- the table of contents, for these counts
+unfoldable pub contents : ℕ → ℕ → ℕ → ℕ → Bytes
+contents d p a r =
+    entry headerSize d
+    ++ (entry (headerSize + definitionSize * d) p
+    ++ (entry (headerSize + definitionSize * d + particleSize * p) a ++ entry (headerSize + definitionSize * d + particleSize * p + attributeSize baseWidth * a) r))
 
--- the rows begin at `start`; a next serial and a count of rows that their fields hold
-pub record Heads (bs : Bytes) (start next count : ℕ) : Type 0 where
-  pub begins : Begins bs start
-  pub least : headerSize ≤ start
-  pub within : start ≤ length bs
+-- the header of a byte string with another next serial and other counts
+unfoldable pub headed : ℕ → ℕ → ℕ → ℕ → ℕ → Bytes → Bytes
+headed next d p a r bs = take 4 bs ++ (le 4 next ++ contents d p a r)
+
+-- a next serial and counts that their fields hold, of a form whose bytes are no more than the ceilings allow
+pub record Heads (form : Bytes) (next d p a r : ℕ) : Type 0 where
   pub serial : next < 4294967296
-  pub rows : count ≤ 4096
+  pub definitions : d ≤ 64
+  pub particles : p ≤ 256
+  pub attributes : a ≤ 64
+  pub rows : r ≤ 4096
+  pub short : length form ≤ 5632
 
 -- a walk writes from `at` on at most one row more than the ceiling, new rows with the serials of the store
 abbrev pub walkFrom : ℕ → Bytes → Cursor

@@ -59,7 +59,7 @@ module _ (w : ℕ) (form : Form) (ok : wellFormed w form ≡ true) (F : IndexFor
   good-at : (i : ℕ) → i < length form → GoodDefinition w form (definitionAt i form)
   good-at i l = well-formed w form .0 ok .definitions (definitionAt i form) (definition-in form i l)
 
-  same-names : (x y : ℕ) → x < length form → y < length form → same (nameAt x (namesOf form)) (nameAt y (namesOf form)) ≡ eqb x y
+  pub same-names : (x y : ℕ) → x < length form → y < length form → same (nameAt x (namesOf form)) (nameAt y (namesOf form)) ≡ eqb x y
   same-names x y l m = by (eqb x y) refl
     where
       by : (c : Bool) → eqb x y ≡ c → same (nameAt x (namesOf form)) (nameAt y (namesOf form)) ≡ eqb x y
@@ -76,7 +76,7 @@ module _ (w : ℕ) (form : Form) (ok : wellFormed w form ≡ true) (F : IndexFor
         distinct-unmap (λ j. nameAt j (namesOf form)) (names (F .model i))
         (subst (λ (z : List Bytes). Distinct z) (ap (λ (ms : Members Bytes). names ms) (agrees .model i l) ∙ names-rename (λ j. nameAt j (namesOf form)) (F .model i)) once)
 
-    accepted : (v : List ℕ) → ((j : ℕ) → List·Memᴰ j v → j < length form) → accepts bytes (members (definitionAt i form)) (map (λ j. nameAt j (namesOf form)) v) ≡ accepts numbers (F .model i) v
+    pub accepted : (v : List ℕ) → ((j : ℕ) → List·Memᴰ j v → j < length form) → accepts bytes (members (definitionAt i form)) (map (λ j. nameAt j (namesOf form)) v) ≡ accepts numbers (F .model i) v
     accepted v b =
         ap (λ (ms : Members Bytes). accepts bytes ms (map (λ j. nameAt j (namesOf form)) v)) (agrees .model i l)
         ∙ rename-accepts numbers bytes (λ j. nameAt j (namesOf form)) (λ j. j < length form) same-names (F .model i) (agrees .inRange i l) v b

@@ -1,7 +1,7 @@
 -- The bodies of a form that fit record by record have fields that fit; where they fit together too, the heights fit just where no
 -- definition reaches itself.
 -- Assumes nothing.
-use Prim.Native.Nat.{ℕ, zero, suc, _*_, _<_, _≤_}
+use Prim.Native.Nat.{ℕ, zero, suc, _+_, _*_, _<_, _≤_}
 use native.Mathlib.Omega.{arith}
 use mathlib.Core.Path.{_≡_, refl, ap, _∙_, sym, subst}
 use mathlib.Core.Logic.{_↔_, _⊎_, inl, inr}
@@ -30,7 +30,8 @@ use Rattle.forms.proofs.Reading.{definitions-length, particles-length, definiti
 use Rattle.circles.specs.declared.Heights.{Heights}
 use Rattle.circles.specs.Members.{countAt, startAt, membersIn}
 use Rattle.circles.specs.Deep.{Ranked}
-use Rattle.circles.proofs.ReadLaws.{elements, Leaves, AllShaped, modelAt, members-read, Within, Readable, fit-read}
+use Rattle.circles.proofs.CircleLaws.{Indexed}
+use Rattle.circles.proofs.ReadLaws.{elements, Leaves, AllShaped, modelAt, members-read, start-room, Within, Readable, form-read, fit-read}
 use Rattle.circles.proofs.ReadLaws as circle
 use Rattle.validity.specs.Reading.{DefinitionFits, AttributeFits, FieldsFit, indexMembers, partAt, noDefinition}
 use Rattle.validity.proofs.ModelReads.{Shaped, Single, Grouped, shaped-tree, ModelRead}
@@ -151,6 +152,15 @@ module _ {n : ℕ} {defs : Bytes} {p : ℕ} {parts : Bytes} {a : ℕ} {attrs : B
             every-at (λ k. k < length (reads.formOf (formOf n defs p parts a attrs))) j (names (indexMembers (build (partAt i (definitions n defs) (particles p parts)) 0))) (x .below)
                 (subst (λ (ks : List ℕ). List·Memᴰ j ks) (members-are i l ∙ sym (x .indices)) m),
           )
+
+      -- the members that the bytes have are those of the form that is read
+      pub members-indexed : Indexed (membersIn defs parts) (unflat (formOf n defs p parts a attrs) .form)
+      unfolding definitions particles
+      members-indexed = form-read readable (attributes a attrs) within
+
+      -- the part of a definition is there
+      pub part-room : (i : ℕ) → i < n → startAt defs i + countAt defs i ≤ p
+      part-room i l = omega (arith, start-room defs n i l, start-all)
 
       -- the heights fit just where no definition reaches itself
       pub circle-fit : {r : Heights} → Ranked n (membersIn defs parts) r → (r .fit ≡ true) ↔ ((x : Bytes) → Reaches (unflat (formOf n defs p parts a attrs) .form) x x → ⊥)

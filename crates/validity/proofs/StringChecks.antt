@@ -144,7 +144,7 @@ module _ {bs : Bytes} (h : Headed bs) where
   abbrev pub formIn : FlatStore
   formIn = formOf (definitionCount bs) (definitionsIn bs) (particleCount bs) (particlesIn bs) (attributeCount bs) (attributesIn bs)
 
-  same-form : unflat (flatOf bs) .form ≡ unflat formIn .form
+  pub same-form : unflat (flatOf bs) .form ≡ unflat formIn .form
   same-form = λ i. readForm (map flatName (same-definitions i)) 0 (same-definitions i) (same-particles i) (same-attributes i)
 
   same-bodies : bodiesFit (flatOf bs) ≡ bodiesFit formIn

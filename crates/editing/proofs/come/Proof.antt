@@ -24,7 +24,7 @@ put-row-requires : tie.Need-put-row-requires
 put-row-requires c κs = let s = c .before .before .before .before .before .before .before .before .before .before .before .before .before .before in (s .pre .0 .plan, s .pre .0 .text, s .pre .1, written-room (c .before .before .before .put-owed .ensures) (s .pre .2))
 
 kept-requires : tie.Need-kept-requires
-kept-requires c κs = (c .before .before .before .before .before .before .before .before .before .before .before .before .before .before .before .before .before .pre .1 .fair, c .before .before .before .before .before .before .before .before .is-filled .ensures)
+kept-requires c κs = c .before .before .before .before .before .before .before .before .before .before .before .before .before .before .before .before .before .pre .1 .fair
 
 same-length : tie.Need-same-length
 same-length c = search needs

@@ -9,8 +9,11 @@ is-below-requires c κs = search needs
 is-later-requires : tie.Need-is-later-requires
 is-later-requires c κs = search needs
 
+spared-requires : tie.Need-spared-requires
+spared-requires c κs = search needs
+
 returns : tie.Need-returns
-returns c = let a = c .before .before .before .args in filled-by (a .o) (a .h) (a .p) _ _ (c .before .before .is-below .ensures) (c .is-later .ensures)
+returns c = let a = c .before .before .before .before .args in filled-by (a .o) (a .h) (a .p) _ _ _ (c .before .before .before .is-below .ensures) (c .before .is-later .ensures) (c .spared .ensures)
 
 pub is-filled-spec : {M : Type 1} → statement M
-is-filled-spec = tie.close (tie.spec is-below-requires is-later-requires returns)
+is-filled-spec = tie.close (tie.spec is-below-requires is-later-requires spared-requires returns)

@@ -2,6 +2,9 @@ use borrow.Author.Needs.{needs}
 use Rattle.editing.proofs.is_later.Statement.{statement}
 use Rattle.editing.proofs.is_later.Tie as tie
 
+mark-requires : tie.Need-mark-requires
+mark-requires c κs = search needs
+
 enum-told : tie.Need-enum-told
 enum-told c = search needs
 
@@ -11,8 +14,11 @@ enum-known-l c = search needs
 enum-known-l-2 : tie.Need-enum-known-l-2
 enum-known-l-2 c = search needs
 
+enum-told-2 : tie.Need-enum-told-2
+enum-told-2 c = search needs
+
 returns : tie.Need-returns
-returns c = search needs
+returns c = rw (c .enum-told .given .1)
 
 returns-2 : tie.Need-returns-2
 returns-2 c = rw (c .before .before .l .given .1)
@@ -20,6 +26,19 @@ returns-2 c = rw (c .before .before .l .given .1)
 returns-3 : tie.Need-returns-3
 returns-3 c = rw (c .before .before .before .l2 .given .1)
 
+returns-4 : tie.Need-returns-4
+returns-4 c = rw (c .before .enum-told2 .given .1, c .before .before .before .mark .ensures)
+
 pub is-later-spec : {M : Type 1} → statement M
 is-later-spec =
-    tie.close (tie.spec enum-told enum-known-l enum-known-l-2 returns returns-2 returns-3)
+    tie.close
+    (tie.spec
+    mark-requires
+    enum-told
+    enum-known-l
+    enum-known-l-2
+    enum-told-2
+    returns
+    returns-2
+    returns-3
+    returns-4)

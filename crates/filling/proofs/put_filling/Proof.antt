@@ -1,5 +1,5 @@
 use native.Mathlib.Omega.{arith}
-use Rattle.filling.proofs.FillingLaws.{nothing-filled, definition-filled, attribute-filled, filled-definition, filled-attribute}
+use Rattle.filling.proofs.FillingLaws.{nothing-filled, definition-filled, attribute-filled, particles-filled, filled-definition, filled-attribute, filled-particles}
 use borrow.Author.Needs.{needs}
 use Rattle.filling.proofs.put_filling.Statement.{statement}
 use Rattle.filling.proofs.put_filling.Tie as tie
@@ -19,6 +19,12 @@ enum-known-what-2 c = search needs
 put-new-requires : tie.Need-put-new-requires
 put-new-requires c κs = let q = c .before .before .before .before .before .before .before .before .before .pre .1 in (q .room, omega (arith, q .deep), filled-attribute (c .before .before .before .before .before .before .before .before .before .args .what) _ (c .before .before .what2 .given .1) (c .before .before .before .before .before .before .before .before .before .pre .0), q .text)
 
+enum-known-what-3 : tie.Need-enum-known-what-3
+enum-known-what-3 c = search needs
+
+put-members-requires : tie.Need-put-members-requires
+put-members-requires c κs = let s = c .before .before .before .before .before .before .before .before .before in let (x, y) = filled-particles (s .args .what) _ _ _ (c .before .before .what3 .given .1) (s .pre .0) in (x, y, s .pre .1)
+
 returns : tie.Need-returns
 returns c = let a = c .before .before .before .before .before .before .before .args in nothing-filled (a .n) (a .defs .now) (a .parts .now) (a .attrs .now) (a .a) (a .what) (a .text .now) (a .depth) (c .enum-told .given .1)
 
@@ -34,6 +40,12 @@ same-length-2 c = search needs
 returns-3 : tie.Need-returns-3
 returns-3 c = let a = c .before .before .before .before .before .before .before .before .before .before .before .before .args in attribute-filled (a .n) (a .defs .now) (a .parts .now) (a .attrs .now) (a .a) (a .what) (a .text .now) (a .depth) _ (c .before .before .before .before .before .what2 .given .1) (c .before .before .put-new .ensures)
 
+same-length-3 : tie.Need-same-length-3
+same-length-3 c = search needs
+
+returns-4 : tie.Need-returns-4
+returns-4 c = let a = c .before .before .before .before .before .before .before .before .before .before .before .before .args in particles-filled (a .n) (a .defs .now) (a .parts .now) (a .attrs .now) (a .a) (a .what) (a .text .now) (a .depth) _ _ _ (c .before .before .before .before .before .what3 .given .1) (c .before .before .put-members .ensures)
+
 pub put-filling-spec : {M : Type 1} → statement M
 put-filling-spec =
     tie.close
@@ -43,8 +55,12 @@ put-filling-spec =
     put-definition-requires
     enum-known-what-2
     put-new-requires
+    enum-known-what-3
+    put-members-requires
     returns
     same-length
     returns-2
     same-length-2
-    returns-3)
+    returns-3
+    same-length-3
+    returns-4)

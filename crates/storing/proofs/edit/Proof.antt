@@ -1,79 +1,54 @@
 -- `storing::edit` meets its contract.
 -- Assumes nothing.
 use native.Mathlib.Omega.{arith}
+use lib.ListN.{length}
 use Rattle.storing.proofs.StoreLaws.{holds}
-use Rattle.storing.proofs.LimitLaws.{answers-as}
-use Rattle.storing.proofs.EditLaws.{edit-ceiling, edit-serials, edit-buffer, edit-written}
-use Rattle.storing.proofs.FormBytesLaws.{heads-of, after-form}
+use Rattle.storing.proofs.FormLaws.{forms-of, own-form, own-answers, start-within}
 use borrow.Author.Needs.{needs}
 use Rattle.storing.proofs.edit.Statement.{statement}
 use Rattle.storing.proofs.edit.Tie as tie
 
+number-requires : tie.Need-number-requires
+number-requires c κs = search needs
+
+number-requires-2 : tie.Need-number-requires-2
+number-requires-2 c κs = search needs
+
+number-requires-3 : tie.Need-number-requires-3
+number-requires-3 c κs = search needs
+
 row-start-requires : tie.Need-row-start-requires
 row-start-requires c κs = search needs
 
-slice-aggregate-walk-rows : tie.Need-slice-aggregate-walk-rows
-slice-aggregate-walk-rows c = search needs
+sub-form : tie.Need-sub-form
+sub-form c = omega (arith, start-within (holds _ (c .before .before .before .before .before .before .before .pre .0)) (c .row-start .ensures))
 
-walk-rows-requires : tie.Need-walk-rows-requires
-walk-rows-requires c κs = search needs
+part-form-start : tie.Need-part-form-start
+part-form-start c = omega (arith, start-within (holds _ (c .before .before .before .before .before .before .before .pre .0)) (c .row-start .ensures))
 
-refused-requires : tie.Need-refused-requires
-refused-requires c κs = search needs
+part-form-end : tie.Need-part-form-end
+part-form-end c = omega (arith, start-within (holds _ (c .before .before .before .before .before .before .before .pre .0)) (c .row-start .ensures))
 
-returns : tie.Need-returns
-returns c = answers-as (c .refused .ensures .0) (c .refused .ensures .1) (edit-ceiling (holds _ (c .before .before .before .before .before .before .before .before .before .before .pre .0)) (c .before .before .before .before .before .before .before .before .before .before .args .plan) (c .before .before .before .before .before .before .before .before .before .before .args .text .now) (c .before .before .before .before .before .before .before .before .before .before .args .out .now) (c .before .before .before .before .walk-rows .ensures) (c .before .if1 .taken))
-
-refused-requires-2 : tie.Need-refused-requires-2
-refused-requires-2 c κs = search needs
-
-returns-2 : tie.Need-returns-2
-returns-2 c = answers-as (c .refused2 .ensures .0) (c .refused2 .ensures .1) (edit-serials (holds _ (c .before .before .before .before .before .before .before .before .before .before .before .before .pre .0)) (c .before .before .before .before .before .before .before .before .before .before .before .before .args .plan) (c .before .before .before .before .before .before .before .before .before .before .before .before .args .text .now) (c .before .before .before .before .before .before .before .before .before .before .before .before .args .out .now) (c .before .before .before .before .before .before .walk-rows .ensures) (c .before .before .before .if1 .left) (omega arith))
-
-sub-count : tie.Need-sub-count
-sub-count c = search needs
-
-mul-if3 : tie.Need-mul-if3
-mul-if3 c = search needs
-
-add-if3 : tie.Need-add-if3
-add-if3 c = search needs
-
-refused-requires-3 : tie.Need-refused-requires-3
-refused-requires-3 c κs = search needs
-
-returns-3 : tie.Need-returns-3
-returns-3 c = answers-as (c .refused3 .ensures .0) (c .refused3 .ensures .1) (edit-buffer (holds _ (c .before .before .before .before .before .before .before .before .before .before .before .before .before .before .pre .0)) (c .before .before .before .before .before .before .before .before .before .before .before .before .before .before .args .plan) (c .before .before .before .before .before .before .before .before .before .before .before .before .before .before .args .text .now) (c .before .before .before .before .before .before .before .before .before .before .before .before .before .before .args .out .now) (c .before .before .before .before .before .before .before .before .walk-rows .ensures) (c .before .before .before .before .before .if1 .left) (omega arith) (omega (arith, c .before .before .before .before .before .before .before .before .before .before .row-start .ensures .start)))
-
-put-form-requires : tie.Need-put-form-requires
-put-form-requires c κs = heads-of (holds _ (c .before .before .before .before .before .before .before .before .before .before .before .before .before .before .pre .0)) (c .before .before .before .before .before .before .before .before .before .before .row-start .ensures) (omega arith) (omega (arith, c .before .before .before .before .before .if1 .left))
-
-walk-rows-requires-2 : tie.Need-walk-rows-requires-2
-walk-rows-requires-2 c κs = (c .before .before .before .before .before .before .before .before .before .before .before .before .before .before .before .before .before .before .pre .0, c .before .before .before .before .before .before .before .before .before .before .before .before .before .before .before .before .before .before .pre .1, c .before .before .before .before .before .before .before .before .before .before .before .before .before .before .before .before .before .before .pre .2, omega (arith, c .before .before .before .before .before .before .before .before .before .before .before .before .before .before .row-start .ensures .small, after-form (put-form-requires (c .before .before .before .before) (c .before .before .before .put-form .lifetimes)) (c .before .before .before .put-form .ensures)))
+edit-form-requires : tie.Need-edit-form-requires
+edit-form-requires c κs = (c .before .before .before .before .before .before .before .before .before .pre .0, c .before .before .before .before .before .before .before .before .before .pre .1, c .before .before .before .before .before .before .before .before .before .pre .2, forms-of (own-form (holds _ (c .before .before .before .before .before .before .before .before .before .pre .0)) (c .before .before .row-start .ensures) (c .before .before .before .before .before .number .ensures) (c .before .before .before .before .number2 .ensures) (c .before .before .before .number3 .ensures)))
 
 same-length : tie.Need-same-length
 same-length c = search needs
 
-returns-4 : tie.Need-returns-4
-returns-4 c = edit-written (holds _ (c .before .before .before .before .before .before .before .before .before .before .before .before .before .before .before .before .before .before .before .before .before .pre .0)) (c .before .before .before .before .before .before .before .before .before .before .before .before .before .before .before .before .before .before .before .before .before .args .plan) (c .before .before .before .before .before .before .before .before .before .before .before .before .before .before .before .before .before .before .before .before .before .args .text .now) (c .before .before .before .before .before .before .before .before .before .before .before .before .before .before .before .before .before .before .before .before .before .args .out .now) (c .before .before .before .before .before .before .before .before .before .before .before .before .before .before .before .walk-rows .ensures) (c .before .before .before .before .before .before .before .before .before .before .before .before .if1 .left) (omega arith) (omega (arith, c .before .before .before .before .before .before .before .before .before .before .before .before .before .before .before .before .before .row-start .ensures .start)) (c .before .before .before .before .before .before .put-form .ensures) (c .before .before .walk-rows2 .ensures)
+returns : tie.Need-returns
+returns c = own-answers (own-form (holds _ (c .before .before .before .before .before .before .before .before .before .before .before .before .pre .0)) (c .before .before .before .before .before .row-start .ensures) (c .before .before .before .before .before .before .before .before .number .ensures) (c .before .before .before .before .before .before .before .number2 .ensures) (c .before .before .before .before .before .before .number3 .ensures)) (c .before .before .before .before .before .before .before .before .before .before .before .before .args .plan) (c .before .before .before .before .before .before .before .before .before .before .before .before .args .text .now) (length (c .before .before .before .before .before .before .before .before .before .before .before .before .args .out .now)) (c .before .before .edit-form .ensures)
 
 pub edit-spec : {M : Type 1} → statement M
 edit-spec =
     tie.close
     (tie.spec
+    number-requires
+    number-requires-2
+    number-requires-3
     row-start-requires
-    slice-aggregate-walk-rows
-    walk-rows-requires
-    refused-requires
-    returns
-    refused-requires-2
-    returns-2
-    sub-count
-    mul-if3
-    add-if3
-    refused-requires-3
-    returns-3
-    put-form-requires
-    walk-rows-requires-2
+    sub-form
+    part-form-start
+    part-form-end
+    edit-form-requires
     same-length
-    returns-4)
+    returns)

@@ -1,0 +1,14 @@
+-- `documents::setting_plan` meets its contract.
+-- Assumes nothing.
+use borrow.Author.Needs.{needs}
+use Rattle.documents.proofs.setting_plan.Statement.{statement}
+use Rattle.documents.proofs.setting_plan.Tie as tie
+
+unmarked-requires : tie.Need-unmarked-requires
+unmarked-requires c κs = search needs
+
+returns : tie.Need-returns
+returns c = rw (c .unmarked .ensures)
+
+pub setting-plan-spec : {M : Type 1} → statement M
+setting-plan-spec = tie.close (tie.spec unmarked-requires returns)

@@ -1,0 +1,39 @@
+use Rattle.filling.specs.Fillings.{groupFilled}
+use Rattle.filling.specs.Parts.{membersAt}
+use Rattle.filling.proofs.FillingLaws.{none-written, same-written, group-empty, group-full}
+use borrow.Author.Needs.{needs}
+use Rattle.filling.proofs.put_members.Statement.{statement}
+use Rattle.filling.proofs.put_members.Tie as tie
+
+mul-cut : tie.Need-mul-cut
+mul-cut c = search needs
+
+cut-requires : tie.Need-cut-requires
+cut-requires c κs = search needs
+
+accepts-nothing-requires : tie.Need-accepts-nothing-requires
+accepts-nothing-requires c κs = search needs
+
+returns : tie.Need-returns
+returns c = let a = c .before .before .before .before .before .before .before .before .args in none-written (a .defs .now) (a .parts .now) (a .attrs .now) (a .a) (a .text .now) (a .h) (a .depth) (groupFilled (a .kind) (membersAt (a .parts .now) (a .first) (a .d))) (group-empty (a .parts .now) _ (a .first) (a .d) (c .before .before .cut .ensures) (a .kind) _ (c .before .accepts-nothing .ensures) (c .if1 .taken))
+
+put-group-requires : tie.Need-put-group-requires
+put-group-requires c κs = search needs
+
+same-length : tie.Need-same-length
+same-length c = search needs
+
+returns-2 : tie.Need-returns-2
+returns-2 c = let a = c .before .before .before .before .before .before .before .before .before .before .before .before .args in same-written (a .defs .now) (a .parts .now) (a .attrs .now) (a .a) (a .text .now) (a .h) (a .depth) (groupFilled (a .kind) (membersAt (a .parts .now) (a .first) (a .d))) _ (group-full (a .parts .now) _ (a .first) (a .d) (c .before .before .before .before .before .before .cut .ensures) (a .kind) _ (c .before .before .before .before .before .accepts-nothing .ensures) (c .before .before .before .before .if1 .left)) (c .before .before .put-group .ensures)
+
+pub put-members-spec : {M : Type 1} → statement M
+put-members-spec =
+    tie.close
+    (tie.spec
+    mul-cut
+    cut-requires
+    accepts-nothing-requires
+    returns
+    put-group-requires
+    same-length
+    returns-2)

@@ -1,0 +1,25 @@
+use native.Mathlib.Omega.{arith}
+use Rattle.finding.proofs.StoreFacts.{whole}
+use Rattle.finding.proofs.RefusalLaws.{document-3, document-6, document-0}
+use borrow.Author.Needs.{needs}
+use Rattle.finding.proofs.add_document_refusal.Statement.{statement}
+use Rattle.finding.proofs.add_document_refusal.Tie as tie
+
+is-value-requires : tie.Need-is-value-requires
+is-value-requires c κs = search needs
+
+returns : tie.Need-returns
+returns c = document-3 _ (whole _ (c .before .before .before .before .pre)) _ _ (c .before .is-value .ensures) (c .if1 .taken) .is
+
+number-requires : tie.Need-number-requires
+number-requires c κs = search needs
+
+returns-2 : tie.Need-returns-2
+returns-2 c = document-6 (c .before .before .before .before .before .before .args .store .now) (whole _ (c .before .before .before .before .before .before .pre)) _ (c .before .before .before .before .before .before .args .definition) (c .before .before .before .is-value .ensures) (c .before .before .if1 .left) (c .before .number .ensures) (omega arith) .is
+
+returns-3 : tie.Need-returns-3
+returns-3 c = document-0 (c .before .before .before .before .before .before .args .store .now) (whole _ (c .before .before .before .before .before .before .pre)) _ (c .before .before .before .before .before .before .args .definition) (c .before .before .before .is-value .ensures) (c .before .before .if1 .left) (c .before .number .ensures) (omega arith) .is
+
+pub add-document-refusal-spec : {M : Type 1} → statement M
+add-document-refusal-spec =
+    tie.close (tie.spec is-value-requires returns number-requires returns-2 returns-3)

@@ -1,0 +1,70 @@
+use mathlib.Core.Path.{ap, _∙_}
+use mathlib.Core.Bool.{_&&_}
+use mathlib.Core.List.{List}
+use Prim.Native.Nat.{ℕ}
+use native.Mathlib.Omega.{arith}
+use lib.Dec.{eqb}
+use Rattle.rules.specs.Decode.{sortOf}
+use Rattle.rules.specs.Conforming.{mustBePresent}
+use Rattle.rowpass.specs.Reading.{attributeIn}
+use Rattle.finding.proofs.StoreFacts.{Whole, whole, element-there}
+use Rattle.finding.proofs.RefusalLaws.{row-of}
+use Rattle.finding.proofs.ElementRefusals.{there}
+use Rattle.finding.proofs.AttributeRefusals.{drop-early, drop-7, drop-15, drop-0, both, known-of, inside}
+use borrow.Author.Needs.{needs}
+use Rattle.finding.proofs.destroy_attribute_row_refusal.Statement.{statement}
+use Rattle.finding.proofs.destroy_attribute_row_refusal.Tie as tie
+
+attribute-refusal-requires : tie.Need-attribute-refusal-requires
+attribute-refusal-requires c κs = search needs
+
+returns : tie.Need-returns
+returns c = let a = c .before .before .before .args in drop-early (a .store .now) (whole _ (c .before .before .before .pre)) (a .attribute) (a .element) (c .before .attribute-refusal .ensures) (c .if1 .taken) .is
+
+find-element-requires : tie.Need-find-element-requires
+find-element-requires c κs = search needs
+
+attribute-at-requires : tie.Need-attribute-at-requires
+attribute-at-requires c κs = let a = c .before .before .before .before .args in let w : Whole (a .store .now) = whole _ (c .before .before .before .before .pre) in
+    row-of _ w (c .find-element .ensures) (there _ w (c .find-element .ensures) (both _ w (a .attribute) (c .before .before .attribute-refusal .ensures) (c .before .if1 .left) .1))
+
+returns-2 : tie.Need-returns-2
+returns-2 c = let a = c .before .before .before .before .before .before .args in let w : Whole (a .store .now) = whole _ (c .before .before .before .before .before .before .pre) in
+    let z = both _ w (a .attribute) (c .before .before .before .before .attribute-refusal .ensures) (c .before .before .before .if1 .left) .1 in
+    drop-7 (a .store .now) w (a .attribute) (a .element) (c .before .before .before .before .attribute-refusal .ensures) (c .before .before .before .if1 .left) (element-there _ w _ _ (c .before .before .find-element .ensures .begins) (there _ w (c .before .before .find-element .ensures) z)) (c .before .attribute-at .ensures) (c .if2 .taken) .is
+
+body-requires : tie.Need-body-requires
+body-requires c κs = search needs
+
+definition-at-requires : tie.Need-definition-at-requires
+definition-at-requires c κs = search needs
+
+needs-requires : tie.Need-needs-requires
+needs-requires c κs = let a = c .before .before .before .before .before .before .before .before .args in let w : Whole (a .store .now) = whole _ (c .before .before .before .before .before .before .before .before .pre) in omega (arith, w .fewAttributes, inside _ w (a .attribute) (known-of _ w (a .attribute) (c .before .before .before .before .before .before .attribute-refusal .ensures) (c .before .before .before .before .before .if1 .left)))
+
+returns-3 : tie.Need-returns-3
+returns-3 c = let a = c .before .before .before .before .before .before .before .before .before .before .args in let w : Whole (a .store .now) = whole _ (c .before .before .before .before .before .before .before .before .before .before .pre) in
+    let z = both _ w (a .attribute) (c .before .before .before .before .before .before .before .before .attribute-refusal .ensures) (c .before .before .before .before .before .before .before .if1 .left) .1 in
+    drop-15 (a .store .now) w (a .attribute) (a .element) (c .before .before .before .before .before .before .before .before .attribute-refusal .ensures) (c .before .before .before .before .before .before .before .if1 .left) (element-there _ w _ _ (c .before .before .before .before .before .before .find-element .ensures .begins) (there _ w (c .before .before .before .before .before .before .find-element .ensures) z)) (c .before .before .before .before .before .attribute-at .ensures) (c .before .before .before .before .if2 .left) (c .before .before .definition-at .ensures)
+    (c .before .needs .ensures ∙ ap (λ (b : List ℕ). eqb (attributeIn b (a .attribute) .owner) (c .before .before .definition-at .result) && mustBePresent (sortOf (attributeIn b (a .attribute) .sort))) (c .before .before .before .body .ensures)) (c .if3 .taken) .is
+
+returns-4 : tie.Need-returns-4
+returns-4 c = let a = c .before .before .before .before .before .before .before .before .before .before .args in let w : Whole (a .store .now) = whole _ (c .before .before .before .before .before .before .before .before .before .before .pre) in
+    let z = both _ w (a .attribute) (c .before .before .before .before .before .before .before .before .attribute-refusal .ensures) (c .before .before .before .before .before .before .before .if1 .left) .1 in
+    drop-0 (a .store .now) w (a .attribute) (a .element) (c .before .before .before .before .before .before .before .before .attribute-refusal .ensures) (c .before .before .before .before .before .before .before .if1 .left) (element-there _ w _ _ (c .before .before .before .before .before .before .find-element .ensures .begins) (there _ w (c .before .before .before .before .before .before .find-element .ensures) z)) (c .before .before .before .before .before .attribute-at .ensures) (c .before .before .before .before .if2 .left) (c .before .before .definition-at .ensures)
+    (c .before .needs .ensures ∙ ap (λ (b : List ℕ). eqb (attributeIn b (a .attribute) .owner) (c .before .before .definition-at .result) && mustBePresent (sortOf (attributeIn b (a .attribute) .sort))) (c .before .before .before .body .ensures)) (c .if3 .left) .is
+
+pub destroy-attribute-row-refusal-spec : {M : Type 1} → statement M
+destroy-attribute-row-refusal-spec =
+    tie.close
+    (tie.spec
+    attribute-refusal-requires
+    returns
+    find-element-requires
+    attribute-at-requires
+    returns-2
+    body-requires
+    definition-at-requires
+    needs-requires
+    returns-3
+    returns-4)

@@ -1,0 +1,45 @@
+use native.Mathlib.Omega.{arith}
+use Rattle.finding.proofs.StoreFacts.{Whole, whole}
+use Rattle.finding.proofs.RefusalLaws.{text-3, text-7, text-9, text-0, seen, unseen, row-of}
+use borrow.Author.Needs.{needs}
+use Rattle.finding.proofs.set_text_refusal.Statement.{statement}
+use Rattle.finding.proofs.set_text_refusal.Tie as tie
+
+is-value-requires : tie.Need-is-value-requires
+is-value-requires c κs = search needs
+
+returns : tie.Need-returns
+returns c = text-3 _ (whole _ (c .before .before .before .before .pre)) _ _ (c .before .is-value .ensures) (c .if1 .taken) .is
+
+find-element-requires : tie.Need-find-element-requires
+find-element-requires c κs = search needs
+
+number-requires : tie.Need-number-requires
+number-requires c κs = search needs
+
+returns-2 : tie.Need-returns-2
+returns-2 c = let w : Whole (c .before .before .before .before .before .before .before .args .store .now) = whole _ (c .before .before .before .before .before .before .before .pre) in text-7 _ w _ _ (c .before .before .before .before .is-value .ensures) (c .before .before .before .if1 .left) (unseen _ w (c .before .before .find-element .ensures) (c .before .number .ensures) (omega arith)) .is
+
+kind-at-requires : tie.Need-kind-at-requires
+kind-at-requires c κs = row-of (c .before .before .before .before .before .before .before .args .store .now) (whole _ (c .before .before .before .before .before .before .before .pre)) (c .before .before .find-element .ensures) (omega (arith, c .before .number .ensures .value))
+
+returns-3 : tie.Need-returns-3
+returns-3 c = let w : Whole (c .before .before .before .before .before .before .before .before .before .args .store .now) = whole _ (c .before .before .before .before .before .before .before .before .before .pre) in
+    text-9 _ w _ _ (c .before .before .before .before .before .before .is-value .ensures) (c .before .before .before .before .before .if1 .left) (seen _ w (c .before .before .before .before .find-element .ensures) (c .before .before .before .number .ensures) (omega arith)) (c .before .kind-at .ensures) (c .if3 .taken) .is
+
+returns-4 : tie.Need-returns-4
+returns-4 c = let w : Whole (c .before .before .before .before .before .before .before .before .before .args .store .now) = whole _ (c .before .before .before .before .before .before .before .before .before .pre) in
+    text-0 _ w _ _ (c .before .before .before .before .before .before .is-value .ensures) (c .before .before .before .before .before .if1 .left) (seen _ w (c .before .before .before .before .find-element .ensures) (c .before .before .before .number .ensures) (omega arith)) (c .before .kind-at .ensures) (c .if3 .left) .is
+
+pub set-text-refusal-spec : {M : Type 1} → statement M
+set-text-refusal-spec =
+    tie.close
+    (tie.spec
+    is-value-requires
+    returns
+    find-element-requires
+    number-requires
+    returns-2
+    kind-at-requires
+    returns-3
+    returns-4)

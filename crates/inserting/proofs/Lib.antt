@@ -1,0 +1,4 @@
+pub mod FormFacts
+pub mod ReachLaws
+pub mod ModelLaws
+pub mod RefusalLaws

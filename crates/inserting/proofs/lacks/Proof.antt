@@ -1,0 +1,71 @@
+-- `inserting::lacks` meets its contract. Assumes nothing.
+use borrow.Author.Needs.{needs}
+use mathlib.Core.Path.{_≡_, refl, ap}
+use mathlib.Core.Bool.{not}
+use native.Mathlib.Omega.{arith}
+use Prim.Native.Nat.{_-_}
+use lib.Dec.{eqb}
+use lib.ListN.{length, drop, length-take, length-drop}
+use Rattle.rules.specs.Bytes.{all}
+use Rattle.circles.specs.Members.{elementsOf}
+use Rattle.circles.proofs.MemberLaws.{settle-on, settle-no, settle-ends}
+use Rattle.inserting.proofs.ModelLaws.{other-first}
+use Rattle.inserting.proofs.lacks.Statement.{statement}
+use Rattle.inserting.proofs.lacks.Tie as tie
+
+abbrev Inv-loop : tie.InvT-loop
+Inv-loop part i t₀ t = all (λ j. not (eqb i j)) (elementsOf part) ≡ all (λ j. not (eqb i j)) (elementsOf t)
+
+abbrev μ-loop : tie.MeasureT-loop
+μ-loop part i t₀ t = length t
+
+loop-holds : tie.Need-loop-holds Inv-loop μ-loop
+loop-holds c = refl
+
+byte-requires : tie.Need-byte-requires Inv-loop μ-loop
+byte-requires c κs = search needs
+
+byte-requires-2 : tie.Need-byte-requires-2 Inv-loop μ-loop
+byte-requires-2 c κs = search needs
+
+cast-if1 : tie.Need-cast-if1 Inv-loop μ-loop
+cast-if1 c = search needs
+
+returns : tie.Need-returns Inv-loop μ-loop
+returns c = settle-no (λ j. not (eqb (c .before .before .before .before .before .before .args .i) j)) _ (c .before .before .before .before .loop .t .now) (c .before .before .before .before .loop .inv) (omega arith) _ (other-first (c .before .before .before .before .loop .t .now) (c .before .before .before .before .before .before .args .i) (c .before .before .byte .ensures) (c .before .byte2 .ensures)) (ap not (c .if1 .taken))
+
+sub-t : tie.Need-sub-t Inv-loop μ-loop
+sub-t c = search needs
+
+part-t-start : tie.Need-part-t-start Inv-loop μ-loop
+part-t-start c = search needs
+
+part-t-end : tie.Need-part-t-end Inv-loop μ-loop
+part-t-end c = search needs
+
+loop-less : tie.Need-loop-less Inv-loop μ-loop
+loop-less c = omega (arith, length-take (length (c .before .before .before .before .before .loop .t .now) - 4) (drop 4 (c .before .before .before .before .before .loop .t .now)), length-drop 4 (c .before .before .before .before .before .loop .t .now))
+
+loop-again : tie.Need-loop-again Inv-loop μ-loop
+loop-again c = settle-on (λ j. not (eqb (c .before .before .before .before .before .before .before .args .i) j)) _ (c .before .before .before .before .before .loop .t .now) (c .before .before .before .before .before .loop .inv) (omega arith) _ (other-first (c .before .before .before .before .before .loop .t .now) (c .before .before .before .before .before .before .before .args .i) (c .before .before .before .byte .ensures) (c .before .before .byte2 .ensures)) (ap not (c .before .if1 .left))
+
+returns-2 : tie.Need-returns-2 Inv-loop μ-loop
+returns-2 c = settle-ends (λ j. not (eqb (c .before .before .before .args .i) j)) _ (c .before .loop .t .now) (c .before .loop .inv) (omega arith)
+
+pub lacks-spec : {M : Type 1} → statement M
+lacks-spec =
+    tie.close
+    (tie.spec
+    Inv-loop
+    μ-loop
+    loop-holds
+    byte-requires
+    byte-requires-2
+    cast-if1
+    returns
+    sub-t
+    part-t-start
+    part-t-end
+    loop-less
+    loop-again
+    returns-2)

@@ -1,0 +1,155 @@
+// Which refusal of the change that inserts an element into a model applies to a store that passes.
+use model::place::Found;
+use model::place::Holder;
+use rules::GroupKind;
+ghost use mathlib.Core.Path.{_≡_};
+ghost use mathlib.Core.Bool.{true, not, _&&_};
+ghost use Prim.Native.Nat.{_<_, _≤_};
+ghost use lib.Dec.{eqb};
+ghost use Rattle.rules.specs.declared.GroupKind.the-variants.{Sequence};
+ghost use Rattle.rules.specs.Bytes.{all};
+ghost use Rattle.rules.specs.Decode.{definitionCount};
+ghost use Rattle.rules.specs.Passing.{passes};
+ghost use Rattle.rules.specs.Edit.{sameKind};
+ghost use Rattle.rules.specs.Change.{insertElement};
+ghost use Rattle.rules.specs.Refusal.{first, conditions};
+ghost use Rattle.circles.specs.Members.{elementsOf};
+ghost use Rattle.rowpass.specs.Reading.{modelPart};
+ghost use Rattle.validity.specs.Check.{definitionsIn, particlesIn};
+ghost use Rattle.storing.specs.Stores.{storeIn};
+ghost use Rattle.placing.specs.Placing.{modelIn, foundBy};
+ghost use Rattle.inserting.specs.Inserting.{inModel, comesRound, modelConditions, placeConditions};
+
+// ---- the model
+// Definition i's part of the particles.
+fn part_of(store: &[u8], i: usize) -> &[u8]
+    requires { ⌜ i ≤ 256 ⌝ }
+    ensures { λ r. ⌜ now r ≡ modelPart (definitionsIn (now (store .entry))) (particlesIn (now (store .entry))) i ⌝ }
+{
+    let defs = validity::body(store, 8, 20);
+    let parts = validity::body(store, 16, 4);
+    rowpass::model_part(defs, parts, i)
+}
+
+// Whether no element among the particles has the index i.
+fn lacks(part: &[u8], i: usize) -> bool
+    ensures { λ r. ⌜ r ≡ all (λ j. not (eqb i j)) (elementsOf (now (part .entry))) ⌝ }
+{
+    let mut t = part;
+    while t.len() >= 4 {
+        if (codec::byte(t, 0) == 0) & (i == codec::byte(t, 2) as usize) {
+            return false;
+        }
+        t = &t[4..];
+    }
+    true
+}
+
+// Whether definition i stands in the model of definition o.
+fn in_model(store: &[u8], o: usize, i: usize) -> bool
+    requires { ⌜ (passes (now store) ≡ true) × (o < definitionCount (now store)) × (i < definitionCount (now store)) ⌝ }
+    ensures { λ r. ⌜ r ≡ inModel (storeIn (now (store .entry)) .form) o i ⌝ }
+{
+    !lacks(part_of(store, o), i)
+}
+
+// Whether definition i is definition o or reaches it.
+fn comes_round(store: &[u8], o: usize, i: usize) -> bool
+    requires { ⌜ (passes (now store) ≡ true) × (o < definitionCount (now store)) × (i < definitionCount (now store)) ⌝ }
+    ensures { λ r. ⌜ r ≡ comesRound (storeIn (now (store .entry)) .form) o i ⌝ }
+{
+    let n = records::number(store, 12);
+    let defs = validity::body(store, 8, 20);
+    let parts = validity::body(store, 16, 4);
+    let heights = circles::heights_avoiding(n, defs, parts, o);
+    codec::byte(&heights, i) == 0
+}
+
+// ---- the conditions
+// From row 9 on. `needed`: NONE or PLUS; `unfilled`: the default is empty; `off`: the place is in a LIST off the spine.
+fn model_refusal(store: &[u8], o: usize, i: usize, needed: bool, unfilled: bool, off: bool) -> u32
+    requires { ⌜ (passes (now store) ≡ true) × (o < definitionCount (now store)) × (i < definitionCount (now store)) ⌝ }
+    ensures { λ r. ⌜ r ≡ first (modelConditions o i needed unfilled off (storeIn (now (store .entry)))) ⌝ }
+{
+    if rowpass::kind_of(validity::body(store, 8, 20), o) != 2 {
+        return 9;
+    }
+    if in_model(store, o, i) {
+        return 10;
+    }
+    if comes_round(store, o, i) {
+        return 11;
+    }
+    if needed & unfilled {
+        return 12;
+    }
+    if !(needed & off) {
+        return 0;
+    }
+    if placing::instance_exists(store, o as u32) {
+        13
+    } else {
+        0
+    }
+}
+
+// Whether a list is a LIST off the spine.
+fn off_spine(h: Holder) -> bool
+    ensures { λ r. ⌜ r ≡ (sameKind (h .kind) Sequence && not (h .spine)) ⌝ }
+{
+    let kind = h.kind;
+    match kind {
+        GroupKind::Sequence => !h.spine,
+        GroupKind::Choice => false,
+    }
+}
+
+// From row 8 on.
+fn place_refusal(
+    store: &[u8],
+    o: usize,
+    place: &[u32],
+    i: usize,
+    needed: bool,
+    unfilled: bool,
+) -> u32
+    requires { ⌜ (passes (now store) ≡ true) × (o < definitionCount (now store)) × (i < definitionCount (now store)) ⌝ }
+    ensures { λ r. ⌜ r ≡ first (placeConditions (foundBy true (now (place .entry)) (modelIn (now (store .entry)) o)) o i needed unfilled (storeIn (now (store .entry)))) ⌝ }
+{
+    let found = model::place::find(part_of(store, o), place, true);
+    match found {
+        Found::Absent => 8,
+        Found::At(h, _) => model_refusal(store, o, i, needed, unfilled, off_spine(h)),
+    }
+}
+
+/// Refusals 3, 4, 6 and 8 to 13 of the change that inserts an element.
+pub fn insert_element_refusal(
+    store: &[u8],
+    owner: u32,
+    place: &[u32],
+    definition: u32,
+    quantifier: u32,
+    text: &[u8],
+) -> u32
+    requires { ⌜ passes (now store) ≡ true ⌝ }
+    ensures { λ r. ⌜ r ≡ first (conditions (insertElement owner (now (place .entry)) definition quantifier (now (text .entry))) (storeIn (now (store .entry)))) ⌝ }
+{
+    if !records::is_value(text) {
+        return 3;
+    }
+    if quantifier > 3 {
+        return 4;
+    }
+    let n = records::number(store, 12);
+    let o = owner as usize;
+    let i = definition as usize;
+    if o >= n {
+        return 6;
+    }
+    if i >= n {
+        return 6;
+    }
+    let needed = (quantifier == 0) | (quantifier == 3);
+    place_refusal(store, o, place, i, needed, text.len() == 0)
+}

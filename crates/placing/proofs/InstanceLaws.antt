@@ -1,0 +1,80 @@
+-- An instance of a definition exists: said by its name, and by its index.
+-- Assumes nothing.
+use Prim.Native.Nat.{ℕ, suc, _<_}
+use borrow.Author.Tests.{eq-eqb, ne-eqb}
+use mathlib.Core.Path.{_≡_, refl, sym, ap, ap₂, _∙_}
+use mathlib.Core.Bool.{Bool, true, false, _&&_, _||_, false≢true}
+use mathlib.Core.Option.{some}
+use mathlib.Core.List.{List, [], map}
+use lib.Dec.{eqb}
+use lib.ListN.{length, getD}
+use Rattle.rules.specs.Bytes.{Bytes, same, bytes, any}
+use Rattle.rules.specs.Model.{Distinct}
+use Rattle.rules.specs.Store.{Definition, Form, RowSort, element, attribute, text, Row, Forest, bare, tree, heads}
+use Rattle.rules.specs.Preorder.{flatten}
+use Rattle.rules.specs.Layout.{indexOf, indexed, rowCode, rowIndex}
+use Rattle.rules.specs.Decode.{numberAt, readRow, readMany, rowCount}
+use Rattle.rules.specs.WellFormed.{known, definitionName, lookup, isThere}
+use Rattle.rules.specs.Conforming.{EveryRow, RowConforms, ElementRows}
+use Rattle.rules.specs.Lines.{Line, lines, elementNamed}
+use Rattle.rules.specs.Change.{nameAtIndex}
+use Rattle.rules.specs.Refusal.{instanceExists}
+use Rattle.records.specs.Records.{NumberAt}
+use Rattle.lookup.proofs.Laws.{from-all}
+use Rattle.validity.specs.Check.{rowsIn}
+use Rattle.validity.proofs.IndexLaws.{index-name, index-once, known-at, name-of}
+use Rattle.storing.specs.Stores.{storeIn}
+use Rattle.finding.proofs.StoreFacts.{formIn, docsIn, Whole}
+use Rattle.placing.specs.Placing.{instanceRow}
+use Rattle.placing.proofs.AttributeLaws.{any-append}
+
+module _ (form : Form) (once : Distinct (map definitionName form)) (i : ℕ) (h : i < length form) where
+  abbrev n : Bytes
+  n = nameAtIndex i form
+
+  name-known : known form n ≡ true
+  name-known = ap (known form) (sym (name-of form i h)) ∙ known-at form once i h
+
+  name-index : indexOf n form ≡ i
+  name-index = ap (λ (m : Bytes). indexOf m form) (sym (name-of form i h)) ∙ index-name form once i h
+
+  index-same : (m : Bytes) → known form m ≡ true → eqb (indexOf m form) i ≡ same n m
+  index-same m k = by (same n m) refl
+    where
+      by : (b : Bool) → same n m ≡ b → eqb (indexOf m form) i ≡ b
+      by true e = eq-eqb (indexOf m form) i (ap (λ (x : Bytes). indexOf x form) (sym (bytes .same→ n m e)) ∙ name-index)
+      by false e = ne-eqb (indexOf m form) i (λ z. false≢true (sym e ∙ bytes .same← n m (index-once form n m name-known k (name-index ∙ sym z))))
+
+  known-row : (r : Row) (below : List Row) → r .sort ≡ element → RowConforms form r below → known form (r .name) ≡ true
+  known-row r below q x = ap isThere (told .1)
+    where
+      told : (d : Definition) × (lookup (r .name) form ≡ some d) × ElementRows d below
+      told = rw q at x
+
+  row-same : (owner : Bytes) (r : Row) (below : List Row) → RowConforms form r below → (eqb (rowCode (r .sort)) 1 && eqb (rowIndex form owner r) i) ≡ elementNamed n r
+  row-same owner r below x = by (r .sort) refl
+    where
+      by : (s : RowSort) → r .sort ≡ s → (eqb (rowCode (r .sort)) 1 && eqb (rowIndex form owner r) i) ≡ elementNamed n r
+      by element q = rw (q, rowIndex) (index-same (r .name) (known-row r below q x))
+      by attribute q = rw q refl
+      by text q = rw q refl
+
+  rows-have : (d : ℕ) (owner : Bytes) (up : ℕ) (f : Forest Row) → EveryRow (λ r below. RowConforms form r below) f → any (instanceRow i) (flatten d (indexed form owner f)) ≡ any (λ (l : Line). elementNamed n (l .row)) (lines up f)
+  rows-have d owner up bare e = refl
+  rows-have d owner up (tree r b t) (x, y, z) =
+      ap₂ (λ (u v : Bool). u || v) (row-same owner r (heads b) x)
+      (any-append (instanceRow i) (flatten (suc d) (indexed form (r .name) b)) (flatten d (indexed form owner t))
+      ∙ ap₂ (λ (u v : Bool). u || v) (rows-have (suc d) (r .name) (r .serial) b y) (rows-have d owner up t z)
+      ∙ sym (any-append (λ (l : Line). elementNamed n (l .row)) (lines (r .serial) b) (lines up t)))
+
+pub instance-is : (bs : Bytes) → Whole bs → (o : ℕ) → o < length (formIn bs) → any (instanceRow o) (readMany readRow 44 (rowCount bs) (rowsIn bs)) ≡ instanceExists (nameAtIndex o (formIn bs)) (storeIn bs)
+instance-is bs w o l =
+    ap (any (instanceRow o)) (sym (from-all readRow 44 (rowsIn bs) (rowCount bs) 0) ∙ w .rows)
+    ∙ rows-have (formIn bs) (w .good .form .names) o l 0 [] 0 (docsIn bs) (w .good .docs .rows)
+
+-- ---- the loop over the rows
+pub instance-row : (o : ℕ) (at : Bytes) {row : Bytes} {index : ℕ} {sort : ℕ} → row ≡ at → sort ≡ getD row 0 0 → index ≡ numberAt 2 2 row → (eqb sort 1 && eqb index o) ≡ instanceRow o (readRow at)
+instance-row o at {row} e s x = ap₂ (λ (a b : ℕ). eqb a 1 && eqb b o) s x ∙ ap (λ (z : Bytes). instanceRow o (readRow z)) e
+
+pub instances-any : (bs : Bytes) (o : ℕ) {count : ℕ} {rows : Bytes} {r : Bool} → NumberAt 36 bs count → rows ≡ rowsIn bs → r ≡ any (instanceRow o) (readMany readRow 44 count rows) → r ≡ any (instanceRow o) (readMany readRow 44 (rowCount bs) (rowsIn bs))
+instances-any bs o e f q = q ∙ ap₂ (λ (k : ℕ) (z : Bytes). any (instanceRow o) (readMany readRow 44 k z)) (e .value) f

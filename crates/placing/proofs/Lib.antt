@@ -1,0 +1,14 @@
+pub mod Searching
+pub mod FirstLaws
+pub mod AttributeLaws
+pub mod OwnParts
+pub mod PlaceLaws
+pub mod InstanceLaws
+pub mod PickLaws
+pub mod CountLaws
+pub mod GroupLaws
+pub mod ConvertLaws
+pub mod QuantifierLaws
+pub mod ContextViews
+pub mod SpreadLaws
+pub mod RemoveLaws

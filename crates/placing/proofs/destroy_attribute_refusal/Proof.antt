@@ -1,0 +1,18 @@
+use native.Mathlib.Omega.{arith}
+use Rattle.finding.proofs.StoreFacts.{whole}
+use Rattle.placing.proofs.AttributeLaws.{destroy-6, destroy-0}
+use borrow.Author.Needs.{needs}
+use Rattle.placing.proofs.destroy_attribute_refusal.Statement.{statement}
+use Rattle.placing.proofs.destroy_attribute_refusal.Tie as tie
+
+number-requires : tie.Need-number-requires
+number-requires c κs = search needs
+
+returns : tie.Need-returns
+returns c = destroy-6 _ (whole _ (c .before .before .before .pre)) (c .before .number .ensures) (c .before .before .before .args .attribute) (omega arith) .is
+
+returns-2 : tie.Need-returns-2
+returns-2 c = destroy-0 _ (whole _ (c .before .before .before .pre)) (c .before .number .ensures) (c .before .before .before .args .attribute) (omega arith) .is
+
+pub destroy-attribute-refusal-spec : {M : Type 1} → statement M
+destroy-attribute-refusal-spec = tie.close (tie.spec number-requires returns returns-2)

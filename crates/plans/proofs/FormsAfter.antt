@@ -1,0 +1,125 @@
+-- The form after a change: its bytes are read back as it.
+-- Assumes nothing.
+use Prim.Native.Nat.{ℕ, zero, suc, _+_, _≤_, _<_}
+use native.Mathlib.Omega.{arith}
+use mathlib.Core.Path.{_≡_, refl, ap, sym, _∙_}
+use mathlib.Core.Bool.{Bool, true, false, _&&_}
+use mathlib.Core.List.{List, [], _∷_, _++_}
+use lib.Dec.{leb}
+use lib.ListN.{length, take, drop, length-append, length-take, length-drop}
+use borrow.Author.Tests.{le-leb}
+use Rattle.rules.specs.Bytes.{Bytes}
+use Rattle.rules.specs.Layout.{FlatDefinition, FlatAttribute, FlatStore, definitionBytes, particleBytes, attributeBytes, each}
+use Rattle.rules.specs.WellFormed.{isName, isValue, withinCeilings}
+use Rattle.rules.proofs.BooleanLaws.{Every, every-append}
+use Rattle.rules.proofs.LayoutLaws.{GoodFlatDefinition, GoodFlatAttribute, GoodFlat}
+use Rattle.rules.proofs.DecodeLaws.{name-width, value-width}
+use Rattle.records.specs.Records.{baseWidth}
+use Rattle.model.specs.Places.{Particles}
+use Rattle.splicing.specs.Spliced.{startOf, countOf, counted, spliced, splicedForm}
+use Rattle.storing.specs.Forms.{formBytes}
+use Rattle.storing.proofs.FormBytesLaws.{Few, few-of, few-particles, few-attributes}
+use Rattle.storing.proofs.FormLaws.{bareForm, FormOf}
+use Rattle.plans.specs.AttributeCalls.{attributesReplaced, attributeAdded, attributeDropped}
+
+-- ---- lists
+module _ {A : Type 0} (P : A → Type 0) where
+  every-take : (k : ℕ) (xs : List A) → Every P xs → Every P (take k xs)
+  every-take zero xs a = tt
+  every-take (suc k) [] a = tt
+  every-take (suc k) (x ∷ xs) a = (a .0, every-take k xs (a .1))
+
+  every-drop : (k : ℕ) (xs : List A) → Every P xs → Every P (drop k xs)
+  every-drop zero xs a = a
+  every-drop (suc k) [] a = tt
+  every-drop (suc k) (x ∷ xs) a = every-drop k xs (a .1)
+
+-- ---- 3 to 8: definition o with other particles
+counted-length : (o n : ℕ) (ds : List FlatDefinition) → length (counted o n ds) ≡ length ds
+counted-length o n [] = refl
+counted-length zero n (d ∷ ds) = refl
+counted-length (suc o) n (d ∷ ds) = ap suc (counted-length o n ds)
+
+counted-good : (o n : ℕ) (ds : List FlatDefinition) → n < 65536 → Every GoodFlatDefinition ds → Every GoodFlatDefinition (counted o n ds)
+counted-good o n [] h a = tt
+counted-good zero n (d ∷ ds) h a = (record { name = a .0 .name; particles = h }, a .1)
+counted-good (suc o) n (d ∷ ds) h a = (a .0, counted-good o n ds h (a .1))
+
+module _ (o : ℕ) (part : Particles) (f : FlatStore) where
+  pub spliced-bytes : formBytes (splicedForm o part f)
+      ≡ each definitionBytes (counted o (length part) (f .definitions)) ++ (each particleBytes (spliced (startOf o (f .definitions)) (countOf o (f .definitions)) part (f .particles)) ++ each (attributeBytes baseWidth) (f .attributes))
+  unfolding splicedForm
+  spliced-bytes = refl
+
+  part-few : withinCeilings (bareForm (splicedForm o part f)) ≡ true → length part ≤ 256
+  unfolding splicedForm
+  part-few h =
+      let at : ℕ = startOf o (f .definitions) in
+      let rest : Particles = drop (at + countOf o (f .definitions)) (f .particles) in
+      omega (arith, few-particles (few-of (bareForm (splicedForm o part f)) h), length-append (take at (f .particles)) (part ++ rest), length-append part rest)
+
+  pub spliced-form : GoodFlat baseWidth f → withinCeilings (bareForm (splicedForm o part f)) ≡ true → {form : Bytes} {d p a : ℕ} → form ≡ formBytes (splicedForm o part f) → d ≡ length (f .definitions) → p ≡ length (splicedForm o part f .particles) → a ≡ length (f .attributes)
+      → FormOf (splicedForm o part f) form d p a
+  unfolding splicedForm
+  spliced-form g h e n m k =
+      record {
+        bytes = e;
+        definitionCount = n ∙ sym (counted-length o (length part) (f .definitions));
+        particleCount = m;
+        attributeCount = k;
+        definitions = counted-good o (length part) (f .definitions) (omega (arith, part-few h)) (g .definitions);
+        attributes = g .attributes;
+        ceilings = h;
+      }
+
+-- ---- 9 and 10: other attributes
+pub good-attribute : (o : ℕ) (n : Bytes) (k : ℕ) (v : Bytes) → isName n ≡ true → isValue baseWidth v ≡ true → GoodFlatAttribute baseWidth (record { owner = o; name = n; sort = k; value = v })
+good-attribute o n k v h e = record { name = name-width n h; value = value-width baseWidth v e }
+
+-- the ceiling of a form that has other attributes
+few-more : (f : FlatStore) (cs : List FlatAttribute) → withinCeilings f ≡ true → withinCeilings (bareForm (attributesReplaced cs f)) ≡ leb (length cs) 64
+few-more f cs h = let x : Few f = few-of f h in λ i. x .definitions i && (x .particles i && (x .depths i && and-true (leb (length cs) 64) i))
+  where
+    and-true : (b : Bool) → (b && true) ≡ b
+    and-true true = refl
+    and-true false = refl
+
+module _ (i : ℕ) (f : FlatStore) (g : GoodFlat baseWidth f) (h : withinCeilings f ≡ true) where
+  added-length : (c : FlatAttribute) → length (attributeAdded i c f .attributes) ≡ suc (length (f .attributes))
+  added-length c = omega (arith, length-append (take i (f .attributes)) (c ∷ drop i (f .attributes)), length-take i (f .attributes), length-drop i (f .attributes))
+
+  pub added-ceiling : (c : FlatAttribute) → withinCeilings (bareForm (attributeAdded i c f)) ≡ leb (suc (length (f .attributes))) 64
+  added-ceiling c = few-more f (attributeAdded i c f .attributes) h ∙ ap (λ (n : ℕ). leb n 64) (added-length c)
+
+  pub added-form : (c : FlatAttribute) → GoodFlatAttribute baseWidth c → length (f .attributes) < 64 → {form : Bytes} {d p a : ℕ} → form ≡ formBytes (attributeAdded i c f) → d ≡ length (f .definitions) → p ≡ length (f .particles) → a ≡ suc (length (f .attributes))
+      → FormOf (attributeAdded i c f) form d p a
+  added-form c w l e n m k =
+      record {
+        bytes = e;
+        definitionCount = n;
+        particleCount = m;
+        attributeCount = k ∙ sym (added-length c);
+        definitions = g .definitions;
+        attributes =
+            every-append (GoodFlatAttribute baseWidth) (take i (f .attributes)) (c ∷ drop i (f .attributes)) (every-take (GoodFlatAttribute baseWidth) i (f .attributes) (g .attributes))
+            (w, every-drop (GoodFlatAttribute baseWidth) i (f .attributes) (g .attributes));
+        ceilings = added-ceiling c ∙ le-leb (suc (length (f .attributes))) 64 (omega arith);
+      }
+
+  dropped-length : i < length (f .attributes) → suc (length (attributeDropped i f .attributes)) ≡ length (f .attributes)
+  dropped-length l = omega (arith, length-append (take i (f .attributes)) (drop (suc i) (f .attributes)), length-take i (f .attributes), length-drop (suc i) (f .attributes))
+
+  pub dropped-form : i < length (f .attributes) → {form : Bytes} {d p a : ℕ} → form ≡ formBytes (attributeDropped i f) → d ≡ length (f .definitions) → p ≡ length (f .particles) → suc a ≡ length (f .attributes) → FormOf (attributeDropped i f) form d p a
+  dropped-form l e n m k =
+      let many : length (attributeDropped i f .attributes) ≤ 64 = omega (arith, dropped-length l, few-attributes (few-of f h)) in
+      record {
+        bytes = e;
+        definitionCount = n;
+        particleCount = m;
+        attributeCount = omega (arith, dropped-length l);
+        definitions = g .definitions;
+        attributes =
+            every-append (GoodFlatAttribute baseWidth) (take i (f .attributes)) (drop (suc i) (f .attributes)) (every-take (GoodFlatAttribute baseWidth) i (f .attributes) (g .attributes))
+            (every-drop (GoodFlatAttribute baseWidth) (suc i) (f .attributes) (g .attributes));
+        ceilings = few-more f (attributeDropped i f .attributes) h ∙ le-leb (length (attributeDropped i f .attributes)) 64 many;
+      }

@@ -1,0 +1,117 @@
+-- An edit of one model: no index moves. Elements and their marks, by index and by name.
+-- Assumes nothing.
+use Prim.Native.Nat.{ℕ, zero, suc, _+_, _<_}
+use mathlib.Core.Path.{_≡_, refl, sym, ap, ap₂, _∙_, subst}
+use mathlib.Core.Logic.{inl, inr}
+use mathlib.Core.Bool.{Bool, true, false, _&&_, not, false≢true}
+use mathlib.Core.Option.{some}
+use mathlib.Core.List.{List, [], _∷_, _++_, map, List·Memᴰ, Memᴰ·append-left, Memᴰ·append-right}
+use lib.Dec.{eqb}
+use lib.ListN.{length, getD}
+use Rattle.rules.specs.Bytes.{Bytes, same, bytes}
+use Rattle.rules.specs.Model.{Members, names, Distinct, member}
+use Rattle.rules.specs.Place.{Found, before, after}
+use Rattle.rules.specs.Store.{Definition, Form, RowSort, element, attribute, text, Row, Forest, bare, tree, heads, Store, members}
+use Rattle.rules.specs.Preorder.{flatten}
+use Rattle.rules.specs.Layout.{rowCode, rowIndex, indexOf, indexIn, attributeIndex, indexed, flat}
+use Rattle.rules.specs.WellFormed.{definitionName, isThere, known}
+use Rattle.rules.specs.Conforming.{isElement, EveryRow, RowConforms}
+use Rattle.rules.specs.Lines.{elementNamed}
+use Rattle.rules.specs.Passing.{good}
+use Rattle.rules.specs.Edit.{Edit, placeOf}
+use Rattle.rules.specs.Change.{definitionAt, nameAtIndex, update, inModel}
+use Rattle.rules.proofs.Apart.{names-plug}
+use Rattle.rules.proofs.PassingLaws.{good-is}
+use Rattle.history.proofs.Rowwise.{Standing}
+use Rattle.history.proofs.ConformingAfter.{is-element}
+use Rattle.history.proofs.ModelAfter.{place-right}
+use Rattle.validity.proofs.IndexLaws.{Indexed, known-index, name-of, definition-in}
+use Rattle.validity.proofs.AttributeRows.{rowWritten}
+use Rattle.editing.specs.declared.Which.the-variants.{Elements}
+use Rattle.editing.specs.declared.Later.the-variants.{Unmarked}
+use Rattle.editing.specs.Walk.{matches, markOf, isLater}
+use Rattle.plans.specs.ModelCalls.{Marked}
+use Rattle.plans.proofs.Instances.{element-test}
+
+-- ---- rows by indices, whatever becomes of one model
+module _ (u : Members Bytes → Members Bytes) where
+  index-still : (o : ℕ) (form : Form) (n : Bytes) → indexOf n (update o (inModel u) form) ≡ indexOf n form
+  index-still o [] n = refl
+  index-still zero (d ∷ ds) n = refl
+  index-still (suc o) (d ∷ ds) n = ap (λ (i : ℕ). elim (same n (d .name)) as (λ z. ℕ) [ true ↦ 0 | false ↦ suc i ]) (index-still o ds n)
+
+  attribute-still : (o : ℕ) (form : Form) (owner n : Bytes) → attributeIndex owner n (update o (inModel u) form) ≡ attributeIndex owner n form
+  attribute-still o [] owner n = refl
+  attribute-still zero (d ∷ ds) owner n = refl
+  attribute-still (suc o) (d ∷ ds) owner n =
+      ap (λ (i : ℕ). elim (same owner (d .name)) as (λ z. ℕ) [ true ↦ indexIn n (d .attributes) | false ↦ length (d .attributes) + i ]) (attribute-still o ds owner n)
+
+  pub rows-still : (o : ℕ) (form : Form) (owner : Bytes) (f : Forest Row) → indexed (update o (inModel u) form) owner f ≡ indexed form owner f
+  rows-still o form owner bare = refl
+  rows-still o form owner (tree r b t) =
+      λ i. tree (record { sort = rowCode (r .sort); index = index (r .sort) i; serial = r .serial; value = r .value }) (rows-still o form (r .name) b i) (rows-still o form owner t i)
+    where
+      index : (s : RowSort)
+          → _≡_ {A = ℕ}
+          (elim s [ element ↦ indexOf (r .name) (update o (inModel u) form) | attribute ↦ attributeIndex owner (r .name) (update o (inModel u) form) | text ↦ 0 ])
+          (elim s [ element ↦ indexOf (r .name) form | attribute ↦ attributeIndex owner (r .name) form | text ↦ 0 ])
+      index element = index-still o form (r .name)
+      index attribute = attribute-still o form owner (r .name)
+      index text = refl
+
+-- ---- what stands in the documents
+pub every-standing : (Q : Row → List Row → Type 0) (f : Forest Row) → EveryRow Q f → (r : Row) (b : Forest Row) → Standing f r b → Q r (heads b)
+every-standing Q bare x r b i = absurd i
+every-standing Q (tree s c t) (x, y, z) r b (inl (e, h)) = subst (λ (v : Row). Q v (heads b)) e (subst (λ (g : Forest Row). Q s (heads g)) h x)
+every-standing Q (tree s c t) (x, y, z) r b (inr (inl i)) = every-standing Q c y r b i
+every-standing Q (tree s c t) (x, y, z) r b (inr (inr i)) = every-standing Q t z r b i
+
+-- an element is one of a definition
+pub known-element : (s : Store) → good s ≡ true → (r : Row) (b : Forest Row) → Standing (s .docs) r b → isElement (r .sort) ≡ true → known (s .form) (r .name) ≡ true
+known-element s g r b i e = by (every-standing (λ u rows. RowConforms (s .form) u rows) (s .docs) (good-is s .0 g .docs .rows) r b i)
+  where
+    by : RowConforms (s .form) r (heads b) → known (s .form) (r .name) ≡ true
+    by x = let (d, q, y) = rw (is-element (r .sort) e) at x in ap isThere q
+
+-- a name in a model is one of a definition: the names around a place, and at it
+pub names-around : (e : Edit Bytes) (p : List ℕ) (ms : Members Bytes) (f : Found Bytes) → placeOf e p ms ≡ some f → names ms ≡ before (f .context) ++ (names (f .picked) ++ after (f .context))
+names-around e p ms f at = sym (ap names (place-right e p ms f at)) ∙ names-plug (f .context) (f .picked)
+
+pub picked-known : (s : Store) → good s ≡ true → (o : ℕ) → o < length (s .form) → (e : Edit Bytes) (p : List ℕ) (f : Found Bytes) → placeOf e p (members (definitionAt o (s .form))) ≡ some f
+    → (n : Bytes) → List·Memᴰ n (names (f .picked)) → known (s .form) n ≡ true
+picked-known s g o l e p f at n m =
+    good-is s .0 g .form .definitions (definitionAt o (s .form)) (definition-in (s .form) o l) .inRange n
+    (subst (λ (ns : List Bytes). List·Memᴰ n ns) (sym (names-around e p (members (definitionAt o (s .form))) f at)) (Memᴰ·append-right (before (f .context)) (Memᴰ·append-left (after (f .context)) m)))
+
+-- ---- elements by the index of their name
+module _ (form : Form) (once : Distinct (map definitionName form)) where
+  -- a name at its index
+  pub index-of-name : (n : Bytes) → known form n ≡ true → (indexOf n form < length form) × (nameAtIndex (indexOf n form) form ≡ n)
+  index-of-name n k = let x : Indexed form n = known-index form n k in (x .below, sym (name-of form (indexOf n form) (x .below)) ∙ x .name)
+
+  pub named-test : (n : Bytes) → known form n ≡ true → (owner : Bytes) (r : Row) → matches (Elements (indexOf n form)) (rowWritten form owner r) ≡ elementNamed n r
+  named-test n k owner r =
+      let (l, e) = index-of-name n k in
+      element-test form once (indexOf n form) l owner r ∙ ap (λ (m : Bytes). elementNamed m r) e
+
+  -- marks by name
+  module _ (before at : List Bytes) (marks : Bytes) (m : Marked form before at marks) (owner : Bytes) (r : Row) (k : isElement (r .sort) ≡ true → known form (r .name) ≡ true) where
+    pub later-test : isLater marks Unmarked (rowWritten form owner r) ≡ (isElement (r .sort) && not (member bytes (r .name) before))
+    later-test = by (r .sort) refl
+      where
+        by : (t : RowSort) → r .sort ≡ t → (eqb (rowCode (r .sort)) 1 && not (eqb (getD marks (rowIndex form owner r) 0) 1)) ≡ (isElement (r .sort) && not (member bytes (r .name) before))
+        by element q =
+            let (l, e) = index-of-name (r .name) (k (ap isElement q)) in
+            rw q (ap not (m .ones (indexOf (r .name) form) l ∙ ap (λ (n : Bytes). member bytes n before) e))
+        by attribute q = rw q
+        by text q = rw q
+
+    pub place-test : (eqb (rowCode (r .sort)) 1 && eqb (markOf marks (rowWritten form owner r)) 2) ≡ (isElement (r .sort) && member bytes (r .name) at)
+    place-test = by (r .sort) refl
+      where
+        by : (t : RowSort) → r .sort ≡ t → (eqb (rowCode (r .sort)) 1 && eqb (getD marks (rowIndex form owner r) 0) 2) ≡ (isElement (r .sort) && member bytes (r .name) at)
+        by element q =
+            let (l, e) = index-of-name (r .name) (k (ap isElement q)) in
+            rw q (m .twos (indexOf (r .name) form) l ∙ ap (λ (n : Bytes). member bytes n at) e)
+        by attribute q = rw q
+        by text q = rw q

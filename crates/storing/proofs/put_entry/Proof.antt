@@ -1,0 +1,19 @@
+use Rattle.codec.proofs.Writers.{laid-then}
+use borrow.Author.Needs.{needs}
+use Rattle.storing.proofs.put_entry.Statement.{statement}
+use Rattle.storing.proofs.put_entry.Tie as tie
+
+put-u32-requires : tie.Need-put-u32-requires
+put-u32-requires c κs = search needs
+
+put-u32-requires-2 : tie.Need-put-u32-requires-2
+put-u32-requires-2 c κs = search needs
+
+same-length : tie.Need-same-length
+same-length c = search needs
+
+returns : tie.Need-returns
+returns c = laid-then (c .before .before .before .before .before .before .put-u32 .ensures) (c .before .before .put-u322 .ensures)
+
+pub put-entry-spec : {M : Type 1} → statement M
+put-entry-spec = tie.close (tie.spec put-u32-requires put-u32-requires-2 same-length returns)

@@ -54,7 +54,7 @@ module _ (definition from less : ℕ) where
     shut = record { taking = 0; below = 0; due = false }
 
     not-taken : (x : Deep FlatRow) → isTaken p shut x ≡ false
-    not-taken x = and-false (isBelow shut x)
+    not-taken x = ap (λ (b : Bool). b && true) (and-false (isBelow shut x))
 
     closed-shut : (x : Deep FlatRow) → closed shut x ≡ shut
     closed-shut x = by (closes shut x)

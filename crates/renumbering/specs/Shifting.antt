@@ -6,6 +6,7 @@ use Rattle.filling.specs.declared.Filling.the-variants as filling
 use Rattle.editing.specs.declared.Which.the-variants.{Nothing}
 use Rattle.editing.specs.declared.Later.the-variants.{Never}
 use Rattle.editing.specs.declared.Plan.{Plan}
+use Rattle.plans.specs.CallPlans.{unmarked}
 
 -- definitions from number `definition` on fall by one, attributes from number `from` on by `less`
 abbrev pub shifting : ℕ → ℕ → ℕ → Plan
@@ -16,6 +17,9 @@ shifting definition from less =
       fills = false;
       later = Never;
       filling = filling.Nothing;
+      marks = unmarked;
+      keeps = false;
+      spares = false;
       set = 0;
       definitions = record { from = definition; more = 0; less = 1 };
       attributes = record { from = from; more = 0; less = less };

@@ -310,12 +310,16 @@ fn put_attributes_left(store: &[u8], i: u32, out: &mut [u8], at: usize) -> usize
 fn shifting(definition: usize, from: usize, less: usize) -> Plan
     ensures { λ r. ⌜ r ≡ shifting definition from less ⌝ }
 {
+    let marks = [0; 64];
     Plan {
         above: Which::Nothing,
         takes: Which::Nothing,
         fills: false,
         later: Later::Never,
         filling: Filling::Nothing,
+        marks,
+        keeps: false,
+        spares: false,
         set: 0,
         definitions: Shift {
             from: definition,

@@ -40,8 +40,9 @@ fn look_up_agrees(store: &[u8], words: &mut Words) -> bool {
 fn output_agrees(words: &mut Words, run: impl FnOnce(&mut [u8]) -> Answer) -> bool {
     let mut out = words.bytes();
     let answer = run(&mut out);
-    let (number, length) = (words.number(), words.number());
-    (answer.number, answer.length) == (number, length as usize) && out == words.bytes()
+    let (number, length) = (words.number(), words.number() as usize);
+    let wanted = words.bytes();
+    (answer.number, answer.length) == (number, length) && out == wanted
 }
 
 #[test]

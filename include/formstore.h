@@ -66,6 +66,52 @@ struct formstore_answer {
 /* Prints the store: the DTD, then a line per document. Refuses with 1 and 18. */
 struct formstore_answer formstore_print(const uint8_t *store, size_t store_length, uint8_t *out, size_t out_length);
 
+/* The changes. Each reads `store` and writes the new store into `out`. Definitions and attributes are passed by their index, elements by their serial.
+ * Any u32 may be passed for a number. Each says with which numbers it refuses besides 1 and 18. */
+
+/* 1. Appends a definition; kind is 0 (EMPTY), 1 (PCDATA) or 2 (COMPLEX). Refuses with 2, 4, 5 and 16. */
+struct formstore_answer formstore_create_definition(const uint8_t *store, size_t store_length,
+                                                    const uint8_t *name, size_t name_length, uint32_t kind,
+                                                    uint8_t *out, size_t out_length);
+
+/* 2. Destroys a definition, with its model and attributes. Refuses with 6 and 10. */
+struct formstore_answer formstore_destroy_definition(const uint8_t *store, size_t store_length,
+                                                     uint32_t definition,
+                                                     uint8_t *out, size_t out_length);
+
+/* 11. A new last document, filled with the text. Refuses with 3, 6, 16 and 17. */
+struct formstore_answer formstore_add_document(const uint8_t *store, size_t store_length,
+                                               uint32_t definition, const uint8_t *text, size_t text_length,
+                                               uint8_t *out, size_t out_length);
+
+/* 12. A new element as child number `child` (from 0, element children only) of the element `parent`, filled with the text. Refuses with 3, 6, 7, 8,
+ * 15, 16 and 17. */
+struct formstore_answer formstore_add_element(const uint8_t *store, size_t store_length,
+                                              uint32_t parent, uint32_t child, uint32_t definition,
+                                              const uint8_t *text, size_t text_length,
+                                              uint8_t *out, size_t out_length);
+
+/* 13. Destroys an element with all below it, or a whole document. Refuses with 7 and 15. */
+struct formstore_answer formstore_destroy_element(const uint8_t *store, size_t store_length,
+                                                  uint32_t element,
+                                                  uint8_t *out, size_t out_length);
+
+/* 14. Sets an attribute of an element; its row keeps its serial if it is present. Refuses with 3, 6, 7, 15, 16 and 17. */
+struct formstore_answer formstore_set_attribute(const uint8_t *store, size_t store_length,
+                                                uint32_t element, uint32_t attribute,
+                                                const uint8_t *value, size_t value_length,
+                                                uint8_t *out, size_t out_length);
+
+/* 15. Destroys the row of an element's attribute. Refuses with 6, 7 and 15. */
+struct formstore_answer formstore_destroy_attribute_row(const uint8_t *store, size_t store_length,
+                                                        uint32_t element, uint32_t attribute,
+                                                        uint8_t *out, size_t out_length);
+
+/* 16. Sets the text of a PCDATA element. Refuses with 3, 7 and 9. */
+struct formstore_answer formstore_set_text(const uint8_t *store, size_t store_length,
+                                           uint32_t element, const uint8_t *text, size_t text_length,
+                                           uint8_t *out, size_t out_length);
+
 #ifdef __cplusplus
 }
 #endif

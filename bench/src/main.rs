@@ -1,6 +1,10 @@
-//! Prints the time of `check` and `print` on the largest finish list (4,096 rows) as ratios measured in one run: against the second implementation, and
-//! against libxml2 (xmllint) that parses and validates the printed text. Buffers are not cleared between runs. The median of many runs is taken.
+//! Prints the time of `check` and `print` on the largest finish list (4,096 rows), and of the changes on one with room for one more finisher, as ratios
+//! measured in one run: against the second implementation, of the changes against the check too, and of the check against libxml2 (xmllint) that parses
+//! and validates the printed text. Buffers are not cleared between runs. The median of many runs is taken.
 
+use compare::changes;
+use compare::words::Words;
+use second::Call;
 use std::process::Command;
 use std::time::Instant;
 
@@ -19,39 +23,118 @@ fn median(mut run: impl FnMut()) -> f64 {
     times[RUNS / 2]
 }
 
-/// Runs a change of the second implementation and keeps the new store.
-fn change(store: &mut Vec<u8>, call: impl FnOnce(&[u8], &mut [u8]) -> second::Answer) {
+/// The store after a change by the second implementation.
+fn changed(store: &[u8], call: &Call) -> Vec<u8> {
     let mut out = vec![0; store.len() + 1000];
-    let answer = call(store, &mut out);
-    assert_eq!(answer.number, 0, "a change was refused");
+    let answer = second::apply(call, store, &mut out);
+    assert_eq!(answer.number, 0, "{call:?} was refused");
     out.truncate(answer.length);
-    *store = out;
+    out
 }
 
-/// race (finisher*), finisher (bib,time): 819 finishers of five rows, and the root.
-fn finish_list() -> Vec<u8> {
+const RACE: u32 = 0;
+const FINISHER: u32 = 1;
+
+/// race (finisher*), finisher (bib,time) with an IMPLIED attribute, and a definition that nothing uses.
+fn form() -> Vec<u8> {
     let mut store = second::fresh();
-    for (name, kind) in [("race", 2), ("finisher", 2), ("bib", 1), ("time", 1)] {
-        change(&mut store, |s, out| {
-            second::create_definition(s, name.as_bytes(), kind, out)
-        });
+    for (name, kind) in [
+        ("race", 2),
+        ("finisher", 2),
+        ("bib", 1),
+        ("time", 1),
+        ("spare", 0),
+    ] {
+        let name = name.as_bytes().to_vec();
+        store = changed(&store, &Call::CreateDefinition { name, kind });
     }
-    change(&mut store, |s, out| {
-        second::insert_element(s, 0, &[0], 1, 2, b"", out)
-    });
-    change(&mut store, |s, out| {
-        second::insert_element(s, 1, &[0], 2, 0, b"0", out)
-    });
-    change(&mut store, |s, out| {
-        second::insert_element(s, 1, &[1], 3, 0, b"-", out)
-    });
-    change(&mut store, |s, out| second::add_document(s, 0, b"", out));
-    for _ in 0..819 {
-        change(&mut store, |s, out| {
-            second::add_element(s, 1, 0, 1, b"19:04", out)
-        });
+    for (owner, place, definition, quantifier) in [
+        (RACE, 0, FINISHER, 2),
+        (FINISHER, 0, 2, 0),
+        (FINISHER, 1, 3, 0),
+    ] {
+        let call = Call::InsertElement {
+            owner,
+            place: vec![place],
+            definition,
+            quantifier,
+            text: b"-".to_vec(),
+        };
+        store = changed(&store, &call);
+    }
+    let attribute = Call::AddAttribute {
+        owner: FINISHER,
+        name: b"club".to_vec(),
+        sort: 0,
+        value: Vec::new(),
+    };
+    changed(&store, &attribute)
+}
+
+/// A race of so many finishers of five rows, the newest first.
+fn finish_list(finishers: usize) -> Vec<u8> {
+    let text = || b"19:04".to_vec();
+    let race = Call::AddDocument {
+        definition: RACE,
+        text: text(),
+    };
+    let finisher = Call::AddElement {
+        parent: 1,
+        child: 0,
+        definition: FINISHER,
+        text: text(),
+    };
+    let mut store = changed(&form(), &race);
+    for _ in 0..finishers {
+        store = changed(&store, &finisher);
     }
     store
+}
+
+/// The changes as the vectors write them, without buffers. The finisher with serial 2 was made first, so it is the last in the list.
+const CHANGES: [&str; 8] = [
+    "create_definition x7465616d 2",
+    "destroy_definition 4",
+    "add_document 1 x31393a3035",
+    "add_element 1 817 1 x31393a3035",
+    "destroy_element 2",
+    "set_attribute 27 0 x31393a3035",
+    "destroy_attribute_row 2 0",
+    "set_text 3 x31393a3035",
+];
+
+/// 4,091 rows, so that one more finisher fits: 817 finishers, of which the last five have their attribute.
+fn list_with_room() -> Vec<u8> {
+    let mut store = finish_list(817);
+    for element in [2, 7, 12, 17, 22] {
+        let call = Call::SetAttribute {
+            element,
+            attribute: 0,
+            value: b"none".to_vec(),
+        };
+        store = changed(&store, &call);
+    }
+    store
+}
+
+/// A line for each change.
+fn print_changes(check: f64) {
+    let store = list_with_room();
+    let mut out = vec![0; 1 << 20];
+    println!("change                   library  to check     second     ratio");
+    for line in CHANGES {
+        let mut words = Words::of(line);
+        let name = words.word();
+        let call = changes::read(name, &mut words).expect("the library has it");
+        let length = changed(&store, &call).len();
+        let library = median(|| assert_eq!(changes::apply(&call, &store, &mut out).length, length));
+        let second = median(|| assert_eq!(second::apply(&call, &store, &mut out).length, length));
+        println!(
+            "{name:22} {library:9.1} {:9.2} {second:10.1} {:9.2}",
+            library / check,
+            library / second
+        );
+    }
 }
 
 /// The median over some runs of xmllint of the microseconds for one parse with validation, of a hundred.
@@ -82,7 +165,7 @@ fn libxml2(text: &[u8]) -> Option<f64> {
 }
 
 fn main() {
-    let store = finish_list();
+    let store = finish_list(819);
     let mut out = vec![0; 1 << 20];
     let text = second::print(&store, &mut out).length;
     let document = out[..text].to_vec();
@@ -109,4 +192,5 @@ fn main() {
         ),
         None => println!("xmllint is not there or gave no time"),
     }
+    print_changes(check);
 }

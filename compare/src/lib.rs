@@ -1,6 +1,12 @@
 //! The proved library's exported functions, behind safe wrappers. Every call runs on a copy of its input with guard bytes around it, and the
 //! wrapper panics where a guard byte or the input has changed.
 
+pub mod changes;
+pub mod hostile;
+pub mod words;
+
+use second::Call;
+
 /// What `formstore_look_up` answers.
 #[repr(C)]
 #[derive(Clone, Copy, Debug, PartialEq, Eq)]
@@ -47,12 +53,12 @@ impl Guarded {
         self.bytes[GUARD..].as_ptr()
     }
 
-    fn start_mut(&mut self) -> *mut u8 {
-        self.bytes[GUARD..].as_mut_ptr()
-    }
-
     fn content(&self) -> &[u8] {
         &self.bytes[GUARD..GUARD + self.length]
+    }
+
+    fn content_mut(&mut self) -> &mut [u8] {
+        &mut self.bytes[GUARD..GUARD + self.length]
     }
 
     fn verify_guards(&self) {
@@ -94,26 +100,46 @@ pub fn look_up(store: &[u8], serial: u32) -> Found {
     found
 }
 
-/// Prints into `out`, of which every byte is the caller's to compare.
-pub fn print(store: &[u8], out: &mut [u8]) -> Answer {
+/// Runs a call that writes into `out`, of which every byte is the caller's to compare.
+fn guarded(store: &[u8], out: &mut [u8], run: impl FnOnce(&[u8], &mut [u8]) -> Answer) -> Answer {
     let guarded = Guarded::new(store);
     let mut room = Guarded::new(out);
-    // SAFETY: as in `check`, and the two buffers are different.
-    let answer = unsafe {
-        formstore_print(
-            guarded.start(),
-            guarded.length,
-            room.start_mut(),
-            room.length,
-        )
-    };
+    let answer = run(guarded.content(), room.content_mut());
     guarded.verify(store);
     room.verify_guards();
     out.copy_from_slice(room.content());
     answer
 }
 
-/// The exported functions without copies and guards, for measuring.
+pub fn print(store: &[u8], out: &mut [u8]) -> Answer {
+    guarded(store, out, direct::print)
+}
+
+/// Runs a change that the library has.
+pub fn apply(call: &Call, store: &[u8], out: &mut [u8]) -> Answer {
+    let given = call.clone();
+    let answer = guarded(store, out, |store, out| changes::apply(&given, store, out));
+    assert_eq!(&given, call, "the arguments were written");
+    answer
+}
+
+/// Runs a change on the library and on the second implementation, each with a buffer of this content, panics where number, length or a byte of the
+/// buffer differ, and hands back the answer and the buffer.
+pub fn agreed(call: &Call, store: &[u8], buffer: &[u8]) -> (Answer, Vec<u8>) {
+    let (mut out, mut other) = (buffer.to_vec(), buffer.to_vec());
+    let answer = apply(call, store, &mut out);
+    let expected = second::apply(call, store, &mut other);
+    if (answer.number, answer.length) == (expected.number, expected.length) && out == other {
+        return (answer, out);
+    }
+    let byte = out.iter().zip(&other).position(|(a, b)| a != b);
+    panic!(
+        "{call:?} into {} bytes: {answer:?}, wanted {expected:?}; first byte that differs: {byte:?}; store {store:02x?}",
+        buffer.len()
+    );
+}
+
+/// The exported functions without copies and guards, for measuring; those of the changes stand in `changes`.
 pub mod direct {
     use super::{formstore_check, formstore_print, Answer};
 

@@ -1,22 +1,14 @@
 //! Random stores, damaged stores and random bytes: the library and the second implementation give the same answers.
 
+#[path = "../../second/tests/common/mod.rs"]
+mod common;
+
+use common::seed;
 use second::random::damage::damaged;
 use second::random::documents;
 use second::rng::Rng;
 
 const COMPARED: usize = 200_000;
-
-fn seed() -> u64 {
-    let seed = match std::env::var("FORM_SEED") {
-        Ok(text) => text.parse().expect("FORM_SEED is a number"),
-        Err(_) => std::time::SystemTime::now()
-            .duration_since(std::time::UNIX_EPOCH)
-            .unwrap()
-            .as_nanos() as u64,
-    };
-    println!("FORM_SEED={seed}");
-    seed
-}
 
 fn compare_all(store: &[u8], rng: &mut Rng, passing: &mut usize) {
     let number = second::check(store);

@@ -1,5 +1,7 @@
 //! The lines of the outside vectors for the calls that the library has.
 
+use compare::words::Words;
+use compare::{changes, Answer};
 use std::path::PathBuf;
 
 fn folder() -> PathBuf {
@@ -9,45 +11,42 @@ fn folder() -> PathBuf {
     }
 }
 
-fn bytes(word: &str) -> Vec<u8> {
-    let digits = word.strip_prefix('x').expect("a byte string");
-    (0..digits.len())
-        .step_by(2)
-        .map(|at| u8::from_str_radix(&digits[at..at + 2], 16).expect("two digits"))
-        .collect()
-}
-
 /// None: a call that the library does not have yet.
 fn agrees(line: &str) -> Option<bool> {
-    let words: Vec<&str> = line.split(' ').collect();
-    let store = bytes(words[1]);
-    let number = |at: usize| words[at].parse::<usize>().expect("a number");
-    match words[0] {
-        "check" => Some((compare::check(&store) == 0) == (number(2) == 1)),
-        "look_up" => {
-            let found = compare::look_up(&store, number(2) as u32);
-            Some(
-                (
-                    found.number as usize,
-                    found.start,
-                    found.start + found.length,
-                ) == (number(3), number(4), number(5)),
-            )
+    let mut words = Words::of(line);
+    let name = words.word();
+    let store = words.bytes();
+    let agreed = match name {
+        "check" => (compare::check(&store) == 0) == (words.number() == 1),
+        "look_up" => look_up_agrees(&store, &mut words),
+        "print" => output_agrees(&mut words, |out| compare::print(&store, out)),
+        _ => {
+            let call = changes::read(name, &mut words)?;
+            output_agrees(&mut words, |out| compare::apply(&call, &store, out))
         }
-        "print" => {
-            let mut out = bytes(words[2]);
-            let answer = compare::print(&store, &mut out);
-            Some(
-                (answer.number as usize, answer.length) == (number(3), number(4))
-                    && out == bytes(words[5]),
-            )
-        }
-        _ => None,
-    }
+    };
+    words.end();
+    Some(agreed)
+}
+
+fn look_up_agrees(store: &[u8], words: &mut Words) -> bool {
+    let found = compare::look_up(store, words.number());
+    let (number, start, end) = (words.number(), words.number(), words.number());
+    (found.number, found.start, found.start + found.length)
+        == (number, start as usize, end as usize)
+}
+
+/// Number, length and the whole buffer.
+fn output_agrees(words: &mut Words, run: impl FnOnce(&mut [u8]) -> Answer) -> bool {
+    let mut out = words.bytes();
+    let answer = run(&mut out);
+    let (number, length) = (words.number(), words.number() as usize);
+    let wanted = words.bytes();
+    (answer.number, answer.length) == (number, length) && out == wanted
 }
 
 #[test]
-fn all_lines_of_check_look_up_and_print() {
+fn all_lines_of_the_calls_that_the_library_has() {
     let sample = PathBuf::from(env!("CARGO_MANIFEST_DIR")).join("../second/tests/sample.txt");
     let mut files = vec![sample];
     match std::fs::read_dir(folder()) {

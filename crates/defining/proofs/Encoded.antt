@@ -21,7 +21,7 @@ use Rattle.lookup.specs.Bodies.{bodiesOf}
 use Rattle.lookup.proofs.Laws.{length-many}
 use Rattle.storing.specs.Stores.{storeIn}
 use Rattle.storing.proofs.StoreLaws.{Holds, holds}
-use Rattle.defining.specs.Bodies.{contents}
+use Rattle.storing.specs.Writing.{contents}
 
 good-ceilings : (s : Store) → good s ≡ true → withinCeilings (flat s) ≡ true
 unfolding good

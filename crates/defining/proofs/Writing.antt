@@ -7,18 +7,10 @@ use mathlib.Core.Path.{_≡_, refl, sym, ap, _∙_}
 use mathlib.Core.List.{[], _∷_, _++_}
 use lib.ListN.{length, take, replicate}
 use Rattle.rules.specs.Bytes.{Bytes}
-use Rattle.rules.specs.Layout.{entry, field, nameWidth, headerSize, definitionSize, particleSize, attributeSize, definitionBytes, le}
-use Rattle.records.specs.Records.{baseWidth}
+use Rattle.rules.specs.Layout.{field, nameWidth, definitionBytes, le}
 use Rattle.codec.specs.Laid.{Laid}
 use Rattle.codec.proofs.Writers.{laid-then}
-use Rattle.defining.specs.Bodies.{contents, newDefinition}
-
--- ---- the table of contents
-module _ (d p a r : ℕ) {out out₁ out₂ out₃ out₄ : Bytes} {at at₁ at₂ at₃ at₄ : ℕ} where
-  pub contents-laid : Laid (entry headerSize d) out at at₁ out₁ → Laid (entry (headerSize + definitionSize * d) p) out₁ at₁ at₂ out₂ → Laid (entry (headerSize + definitionSize * d + particleSize * p) a) out₂ at₂ at₃ out₃
-      → Laid (entry (headerSize + definitionSize * d + particleSize * p + attributeSize baseWidth * a) r) out₃ at₃ at₄ out₄ → Laid (contents d p a r) out at at₄ out₄
-  unfolding contents
-  contents-laid x y z u = laid-then x (laid-then y (laid-then z u))
+use Rattle.defining.specs.Bodies.{newDefinition}
 
 -- ---- names
 filled : (k : ℕ) (n : Bytes) → length n ≤ k → field k n ≡ n ++ field (k - length n) []

@@ -1,4 +1,4 @@
--- The record of a new definition, the header, and indices that move.
+-- The record of a new definition, and indices that move.
 -- Assumes nothing.
 use Prim.Native.Nat.{ℕ, _+_, _*_}
 use mathlib.Core.Bool.{Bool, true, false}
@@ -16,14 +16,6 @@ newDefinition n k = record { name = n; kind = k; particles = 0 }
 -- one of the definitions has the name
 abbrev pub named : Bytes → List FlatDefinition → Bool
 named n ds = any (λ (d : FlatDefinition). same n (d .name)) ds
-
--- ---- the header
--- the table of contents, for these counts
-unfoldable pub contents : ℕ → ℕ → ℕ → ℕ → Bytes
-contents d p a r =
-    entry headerSize d
-    ++ (entry (headerSize + definitionSize * d) p
-    ++ (entry (headerSize + definitionSize * d + particleSize * p) a ++ entry (headerSize + definitionSize * d + particleSize * p + attributeSize baseWidth * a) r))
 
 -- ---- indices that move
 -- the index of a particle of a sort, where element indices move by g

@@ -3,10 +3,11 @@ ghost use mathlib.Core.Path.{_≡_};
 ghost use mathlib.Core.List.{_++_};
 ghost use Prim.Native.Nat.{_≤_, _<_};
 ghost use lib.ListN.{length, take};
-ghost use Rattle.rules.specs.Layout.{entry, field, nameWidth, definitionBytes};
+ghost use Rattle.rules.specs.Layout.{field, nameWidth, definitionBytes};
 ghost use Rattle.codec.specs.Laid.{Laid};
 ghost use Rattle.lookup.specs.Bodies.{bodiesOf};
-ghost use Rattle.defining.specs.Bodies.{newDefinition, named, contents};
+ghost use Rattle.storing.specs.Writing.{contents};
+ghost use Rattle.defining.specs.Bodies.{newDefinition, named};
 
 const HEADER_SIZE: usize = 40;
 
@@ -16,36 +17,13 @@ const NAME_WIDTH: usize = 16;
 
 // ---- the header
 
-// Writes an entry of the table of contents.
-fn put_entry(offset: u32, count: u32, out: &mut [u8], at: usize) -> usize
-    requires { ⌜ at < 4611686018427387904 ⌝ }
-    ensures { λ r. ⌜ Laid (entry offset count) (now (out .entry)) at r (now (out .exit)) ⌝ }
-{
-    let next = codec::put_u32(out, at, offset);
-    codec::put_u32(out, next, count)
-}
-
-// Writes the table of contents for d definitions, p particles, a attributes and r rows.
-fn put_contents(d: u32, p: u32, a: u32, r: u32, out: &mut [u8], at: usize) -> usize
-    requires { ⌜ (d ≤ 65) × (p ≤ 256) × (a ≤ 64) × (at ≤ 40) ⌝ }
-    ensures { λ next. ⌜ Laid (contents d p a r) (now (out .entry)) at next (now (out .exit)) ⌝ }
-{
-    let particles = 40 + 20 * d;
-    let attributes = particles + 4 * p;
-    let rows = attributes + 52 * a;
-    let first = put_entry(40, d, out, at);
-    let second = put_entry(particles, p, out, first);
-    let third = put_entry(attributes, a, out, second);
-    put_entry(rows, r, out, third)
-}
-
 /// Writes the header: version and next serial as the store has them, and the table of contents.
 pub fn put_header(store: &[u8], d: u32, p: u32, a: u32, r: u32, out: &mut [u8]) -> usize
     requires { ⌜ (d ≤ 65) × (p ≤ 256) × (a ≤ 64) ⌝ }
     ensures { λ next. ⌜ Laid (take 8 (now (store .entry)) ++ contents d p a r) (now (out .entry)) 0 next (now (out .exit)) ⌝ }
 {
     let at = codec::put(records::first(store, 8), out, 0);
-    put_contents(d, p, a, r, out, at)
+    storing::put_contents(d, p, a, r, out, at)
 }
 
 // ---- definitions

@@ -10,7 +10,8 @@ use Rattle.rules.specs.Decode.{definitionCount, particleCount, attributeCount, 
 use Rattle.records.specs.Records.{baseWidth}
 use Rattle.codec.specs.Laid.{Laid}
 use Rattle.codec.proofs.Writers.{laid-then, laid-as}
-use Rattle.defining.specs.Bodies.{contents, newDefinition}
+use Rattle.defining.specs.Bodies.{newDefinition}
+use Rattle.storing.specs.Writing.{contents}
 use Rattle.defining.proofs.Encoded.{Encoded, bytes-are, others, definitions-at, others-at, each-append}
 use Rattle.definitions.specs.Bodies.{created}
 

@@ -1,4 +1,3 @@
-pub mod Searching
 pub mod FirstLaws
 pub mod AttributeLaws
 pub mod OwnParts

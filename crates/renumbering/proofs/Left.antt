@@ -25,7 +25,8 @@ use Rattle.validity.specs.Reading.{noDefinition}
 use Rattle.lookup.specs.Bodies.{bodiesOf, rowStart}
 use Rattle.storing.specs.Stores.{storeIn}
 use Rattle.storing.proofs.StoreLaws.{holds}
-use Rattle.defining.specs.Bodies.{contents, movedParticle, movedRow}
+use Rattle.defining.specs.Bodies.{movedParticle, movedRow}
+use Rattle.storing.specs.Writing.{contents}
 use Rattle.renumbering.specs.Bodies.{lowered, cutOut, particlesOf, isBelow, attributesOf, movedAttribute, Counted, destroyed, headerLeft}
 use Rattle.defining.proofs.Encoded.{Encoded, encoded, others-at}
 

@@ -27,7 +27,8 @@ use Rattle.storing.specs.Planned.{fillOf, rowsAfter}
 use Rattle.storing.specs.Writing.{walkFrom}
 use Rattle.storing.proofs.StoreLaws.{holds}
 use Rattle.storing.proofs.RowBounds.{Bounded, rows-bounded}
-use Rattle.defining.specs.Bodies.{contents, movedParticle, movedRow}
+use Rattle.defining.specs.Bodies.{movedParticle, movedRow}
+use Rattle.storing.specs.Writing.{contents}
 use Rattle.renumbering.specs.Bodies.{lowered, cutOut, particlesOf, attributesOf, eachRecord, particleRecord, attributeRecord, movedAttribute, Counted, destroyed}
 use Rattle.defining.proofs.Encoded.{Encoded, encoded, bytes-are, others, others-at, each-append}
 use Rattle.renumbering.specs.Shifting.{shifting}

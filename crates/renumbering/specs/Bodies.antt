@@ -12,7 +12,8 @@ use Rattle.rules.specs.Layout.{FlatDefinition, FlatParticle, FlatAttribute, Fla
 use Rattle.rules.specs.Decode.{definitionCount}
 use Rattle.rules.specs.Passing.{passes}
 use Rattle.lookup.specs.Bodies.{bodiesOf}
-use Rattle.defining.specs.Bodies.{contents, memberMoved, movedParticle, movedRow}
+use Rattle.defining.specs.Bodies.{memberMoved, movedParticle, movedRow}
+use Rattle.storing.specs.Writing.{contents}
 
 -- ---- what is left
 -- `less` entries before number `from` go: the numbers from there on fall

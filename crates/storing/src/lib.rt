@@ -46,8 +46,8 @@ fn put_entry(offset: u32, count: u32, out: &mut [u8], at: usize) -> usize
     codec::put_u32(out, next, count)
 }
 
-// Writes the table of contents for d definitions, p particles, a attributes and r rows.
-fn put_contents(d: u32, p: u32, a: u32, r: u32, out: &mut [u8], at: usize) -> usize
+/// Writes the table of contents for d definitions, p particles, a attributes and r rows.
+pub fn put_contents(d: u32, p: u32, a: u32, r: u32, out: &mut [u8], at: usize) -> usize
     requires { ⌜ (d ≤ 65) × (p ≤ 256) × (a ≤ 64) × (at ≤ 40) ⌝ }
     ensures { λ next. ⌜ Laid (contents d p a r) (now (out .entry)) at next (now (out .exit)) ⌝ }
 {

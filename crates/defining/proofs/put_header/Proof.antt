@@ -1,6 +1,6 @@
 use lib.ListN.{length, length-take}
 use mathlib.Core.Path.{ap, sym}
-use Rattle.defining.specs.Bodies.{contents}
+use Rattle.storing.specs.Writing.{contents}
 use mathlib.Core.List.{List, _++_}
 use Prim.Native.Nat.{ℕ}
 use native.Mathlib.Omega.{arith}

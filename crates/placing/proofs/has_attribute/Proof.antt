@@ -1,4 +1,4 @@
-use Rattle.placing.proofs.Searching.{Searching, searching-start, searching-hit, searching-on, searching-end}
+use Rattle.defining.proofs.Searching.{Searching, searching-start, searching-hit, searching-on, searching-end}
 use Rattle.placing.proofs.AttributeLaws.{attributes-any, own-at}
 use Rattle.placing.specs.Placing.{attributeBody, ownNamed}
 use Rattle.rules.specs.Decode.{readAttribute}

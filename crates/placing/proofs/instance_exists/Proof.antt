@@ -1,4 +1,4 @@
-use Rattle.placing.proofs.Searching.{Searching, searching-start, searching-hit, searching-on, searching-end}
+use Rattle.defining.proofs.Searching.{Searching, searching-start, searching-hit, searching-on, searching-end}
 use Rattle.placing.proofs.InstanceLaws.{instance-row, instances-any}
 use Rattle.placing.specs.Placing.{instanceRow}
 use Rattle.rules.specs.Decode.{readRow}

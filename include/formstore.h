@@ -1,7 +1,7 @@
 /* The form store of a timing box: the calls that a box links (rt staticlib formstore writes target/staticlib/libformstore.a).
  *
- * One rule that nothing can check for a C caller: each pointer has as many bytes as its length says, and `store` and `out` do not overlap. With it
- * no call reads or writes outside its buffers, and every call ends. */
+ * One rule that nothing can check for a C caller: each pointer has as many bytes as its length says (and is not NULL, even where that is 0), and `store` and
+ * `out` do not overlap. With it no call reads or writes outside its buffers, and every call ends. */
 #ifndef FORMSTORE_H
 #define FORMSTORE_H
 

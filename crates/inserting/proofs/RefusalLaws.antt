@@ -32,8 +32,8 @@ use Rattle.validity.specs.Check.{definitionsIn, rowsIn}
 use Rattle.storing.specs.Stores.{storeIn}
 use Rattle.finding.proofs.StoreFacts.{formIn}
 use Rattle.finding.proofs.RefusalLaws.{past-definitions, within-definitions}
-use Rattle.placing.specs.Placing.{instanceRow, modelIn, partIn, foundBy, Placed}
-use Rattle.placing.proofs.FirstLaws.{First, hit, next, none-holds, test-is, not-is}
+use Rattle.placing.specs.Placing.{instanceRow, modelIn, partIn, foundBy, Placed, First}
+use Rattle.placing.proofs.FirstLaws.{hit, next, none-holds, test-is, not-is}
 use Rattle.placing.proofs.InstanceLaws.{instance-is}
 use Rattle.placing.proofs.PlaceLaws.{found-insert, absent, present-at}
 use Rattle.inserting.specs.Inserting.{inModel, comesRound, modelConditions, offSpine, placeConditions}

@@ -2,3 +2,4 @@ pub mod OwnParts
 pub mod Small
 pub mod Edits
 pub mod FormWriting
+pub mod Calls

@@ -1,14 +1,21 @@
 //! Changes 3 to 8: elements and groups of a model. Each call is the check, the first refusal that applies, and an edit of the owner's
 //! model with the plan of the change.
+use editing::Later;
 use editing::Plan;
+use editing::Shift;
+use editing::Which;
+use filling::Filling;
+use model::place::Found;
 use model::place::Holder;
+use rules::GroupKind;
 use splicing::Edit;
 use storing::Answer;
 ghost use mathlib.Core.Path.{_≡_};
 ghost use mathlib.Core.Bool.{true, not};
 ghost use Prim.Native.Nat.{_+_, _-_, _<_, _≤_};
 ghost use lib.ListN.{length};
-ghost use Rattle.rules.specs.Decode.{particleCount};
+ghost use Rattle.rules.specs.Change.{convertToGroup, flattenGroup};
+ghost use Rattle.rules.specs.Decode.{groupOf, particleCount};
 ghost use Rattle.rules.specs.Layout.{each, particleBytes};
 ghost use Rattle.rules.specs.WellFormed.{isValue, withinCeilings};
 ghost use Rattle.rules.specs.Outcome.{outcome, Answers};
@@ -22,8 +29,15 @@ ghost use Rattle.storing.specs.Stores.{limited};
 ghost use Rattle.storing.specs.Planned.{plannedIn};
 ghost use Rattle.storing.specs.Forms.{formBytes};
 ghost use Rattle.storing.specs.Writing.{Sized};
+ghost use Rattle.plans.specs.CallPlans.{unmarked, settingPlan};
 ghost use Rattle.storing.proofs.FormLaws.{bareForm};
 ghost use Rattle.models.specs.Editing.{formEdited, countIn, Edits};
+
+const UNMOVED: Shift = Shift {
+    from: 0,
+    more: 0,
+    less: 0,
+};
 
 const HEADER_SIZE: usize = 40;
 
@@ -82,14 +96,7 @@ fn all_after(store: &[u8], owner: usize, edit: Edit) -> usize
 }
 
 // Whether the form after an edit keeps within the ceilings, where it has p particles.
-fn keeps_within(
-    store: &[u8],
-    owner: usize,
-    edit: Edit,
-    holder: Holder,
-    at: usize,
-    p: usize,
-) -> bool
+fn keeps_within(store: &[u8], owner: usize, edit: Edit, holder: Holder, at: usize, p: usize) -> bool
     requires { ⌜ Edits (now store) owner (editOf edit) holder at × (p ≡ length (formEdited (now store) owner (editOf edit) holder at .particles)) ⌝ }
     ensures { λ r. ⌜ r ≡ withinCeilings (bareForm (formEdited (now (store .entry)) owner (editOf edit) holder at)) ⌝ }
 {
@@ -164,4 +171,91 @@ fn edit_model(
     let mut form = [0; FORM_SIZE];
     let end = put_edited(store, owner, edit, holder, at, &mut form);
     storing::edit_form(store, &form[..end], d, p, a, plan, text, out)
+}
+
+// ---- plans
+
+fn unmarked() -> [u8; 64]
+    ensures { λ r. ⌜ r ≡ unmarked ⌝ }
+{
+    [0; 64]
+}
+
+// The plan that keeps all rows: none has serial 0.
+fn keeping_plan() -> Plan
+    ensures { λ r. ⌜ r ≡ settingPlan 0 ⌝ }
+{
+    Plan {
+        above: Which::Nothing,
+        takes: Which::Nothing,
+        fills: false,
+        later: Later::Never,
+        filling: Filling::Nothing,
+        marks: unmarked(),
+        keeps: false,
+        spares: false,
+        set: 0,
+        definitions: UNMOVED,
+        attributes: UNMOVED,
+    }
+}
+
+// ---- the calls
+
+fn group_kind(sort: u32) -> GroupKind
+    ensures { λ r. ⌜ r ≡ groupOf sort ⌝ }
+{
+    match sort {
+        0 => GroupKind::Sequence,
+        1 => GroupKind::Sequence,
+        _ => GroupKind::Choice,
+    }
+}
+
+/// 6: converts `count` members from a place on into a group.
+pub fn convert_to_group(
+    store: &[u8],
+    owner: u32,
+    place: &[u32],
+    count: u32,
+    sort: u32,
+    out: &mut [u8],
+) -> Answer
+    ensures { λ r. ⌜ Answers (outcome (convertToGroup owner (now (place .entry)) count sort) (now (store .entry)) (length (now (out .entry)))) (now (out .entry)) (r .number) (r .length) (now (out .exit)) ⌝ }
+{
+    if !validity::passes(store) {
+        return refused(1);
+    }
+    let number = placing::convert_to_group_refusal(store, owner, place, count, sort);
+    if number != 0 {
+        return refused(number);
+    }
+    let o = owner as usize;
+    let edit = Edit::Convert(group_kind(sort), count as usize);
+    let found = model::place::find(own_part(store, o), place, false);
+    let plan = keeping_plan();
+    match found {
+        Found::Absent => refused(8),
+        Found::At(h, p) => edit_model(store, o, edit, h, p, plan, &store[..0], out),
+    }
+}
+
+/// 7: flattens a group into its list.
+pub fn flatten_group(store: &[u8], owner: u32, place: &[u32], out: &mut [u8]) -> Answer
+    ensures { λ r. ⌜ Answers (outcome (flattenGroup owner (now (place .entry))) (now (store .entry)) (length (now (out .entry)))) (now (out .entry)) (r .number) (r .length) (now (out .exit)) ⌝ }
+{
+    if !validity::passes(store) {
+        return refused(1);
+    }
+    let number = placing::flatten_group_refusal(store, owner, place);
+    if number != 0 {
+        return refused(number);
+    }
+    let o = owner as usize;
+    let found = model::place::find(own_part(store, o), place, false);
+    let plan = keeping_plan();
+    match found {
+        Found::Absent => refused(8),
+        Found::At(h, p) => edit_model(store, o, Edit::Flatten, h, p, plan, &store[..0], out),
+    }
 }

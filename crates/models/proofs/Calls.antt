@@ -132,10 +132,10 @@ suits-group (el q x rest) h = absurd (false≢true (sym h))
 suits-group (group q k ms rest) h = refl
 
 module _ (bs : Bytes) (q : passes bs ≡ true) (o : ℕ) (p : List ℕ) where
-  inside : past o (storeIn bs .form) ≡ false → o < definitionCount bs
+  pub inside : past o (storeIn bs .form) ≡ false → o < definitionCount bs
   inside e = omega (arith, not-past o (storeIn bs .form) e, form-size bs q)
 
-  some-content : (e : Edit Bytes) (f : Spot Bytes) → placed e p (modelIn bs o) ≡ some f → isDone (f .picked) ≡ false → definitionAt o (storeIn bs .form) .content ≡ complex (modelIn bs o)
+  pub some-content : (e : Edit Bytes) (f : Spot Bytes) → placed e p (modelIn bs o) ≡ some f → isDone (f .picked) ≡ false → definitionAt o (storeIn bs .form) .content ≡ complex (modelIn bs o)
   some-content e f at d =
       complex-content (definitionAt o (storeIn bs .form) .content) (picked-complex (definitionAt o (storeIn bs .form) .content) (f .context) (f .picked) (place-right e p (modelIn bs o) f at) d)
 

@@ -1,0 +1,6 @@
+pub mod OwnParts
+pub mod Small
+pub mod Edits
+pub mod FormWriting
+pub mod Calls
+pub mod Removing

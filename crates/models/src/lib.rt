@@ -1,0 +1,261 @@
+//! Changes 3 to 8: elements and groups of a model. Each call is the check, the first refusal that applies, and an edit of the owner's
+//! model with the plan of the change.
+use editing::Later;
+use editing::Plan;
+use editing::Shift;
+use editing::Which;
+use filling::Filling;
+use model::place::Found;
+use model::place::Holder;
+use rules::GroupKind;
+use splicing::Edit;
+use storing::Answer;
+ghost use mathlib.Core.Path.{_≡_};
+ghost use mathlib.Core.Bool.{true, not};
+ghost use Prim.Native.Nat.{_+_, _-_, _<_, _≤_};
+ghost use lib.ListN.{length};
+ghost use Rattle.rules.specs.Change.{convertToGroup, flattenGroup};
+ghost use Rattle.rules.specs.Decode.{groupOf, particleCount};
+ghost use Rattle.rules.specs.Layout.{each, particleBytes};
+ghost use Rattle.rules.specs.WellFormed.{isValue, withinCeilings};
+ghost use Rattle.rules.specs.Outcome.{outcome, Answers};
+ghost use Rattle.records.specs.Records.{baseWidth};
+ghost use Rattle.codec.specs.Laid.{Laid};
+ghost use Rattle.lookup.specs.Bodies.{bodiesOf};
+ghost use Rattle.placing.specs.Placing.{partIn};
+ghost use Rattle.splicing.specs.PartAfter.{lengthAfter};
+ghost use Rattle.splicing.specs.Writing.{editOf};
+ghost use Rattle.storing.specs.Stores.{limited};
+ghost use Rattle.storing.specs.Planned.{plannedIn};
+ghost use Rattle.storing.specs.Forms.{formBytes};
+ghost use Rattle.storing.specs.Writing.{Sized};
+ghost use Rattle.plans.specs.CallPlans.{unmarked, settingPlan};
+ghost use Rattle.storing.proofs.FormLaws.{bareForm};
+ghost use Rattle.models.specs.Editing.{formEdited, countIn, Edits};
+
+const UNMOVED: Shift = Shift {
+    from: 0,
+    more: 0,
+    less: 0,
+};
+
+const HEADER_SIZE: usize = 40;
+
+/// The most bytes that a form has: 64 definitions, 256 particles, 64 attributes.
+const FORM_SIZE: usize = 5632;
+
+fn refused(number: u32) -> Answer
+    ensures { λ r. ⌜ (r .number ≡ number) × (r .length ≡ 0) ⌝ }
+{
+    Answer { number, length: 0 }
+}
+
+// ---- the edit of a model
+
+// A definition's part of the particle body.
+fn own_part(store: &[u8], owner: usize) -> &[u8]
+    requires { ⌜ owner ≤ 256 ⌝ }
+    ensures { λ r. ⌜ now r ≡ partIn (now (store .entry)) owner ⌝ }
+{
+    let definitions = validity::body(store, 8, 20);
+    let particles = validity::body(store, 16, 4);
+    rowpass::model_part(definitions, particles, owner)
+}
+
+// How many particles a model of n has after an edit.
+fn length_after(edit: Edit, n: usize) -> usize
+    requires { ⌜ n < 4294967296 ⌝ }
+    ensures { λ r. ⌜ r ≡ lengthAfter (editOf edit) n ⌝ }
+{
+    match edit {
+        Edit::Insert(_, _) => n + 1,
+        Edit::Remove => if n == 0 { 0 } else { n - 1 },
+        Edit::Quantify(_) => n,
+        Edit::Convert(_, _) => n + 1,
+        Edit::Flatten => if n == 0 { 0 } else { n - 1 },
+    }
+}
+
+// How many particles definition `owner` has after an edit.
+fn own_after(store: &[u8], owner: usize, edit: Edit) -> usize
+    requires { ⌜ owner ≤ 256 ⌝ }
+    ensures { λ r. ⌜ r ≡ lengthAfter (editOf edit) (countIn (now (store .entry)) owner) ⌝ }
+{
+    let definitions = validity::body(store, 8, 20);
+    length_after(edit, rowpass::particles_of(definitions, owner))
+}
+
+// How many particles a form has after an edit of a model.
+fn all_after(store: &[u8], owner: usize, edit: Edit) -> usize
+    requires { ⌜ (owner ≤ 256) × (countIn (now store) owner ≤ particleCount (now store)) ⌝ }
+    ensures { λ r. ⌜ r ≡ particleCount (now (store .entry)) - countIn (now (store .entry)) owner + lengthAfter (editOf edit) (countIn (now (store .entry)) owner) ⌝ }
+{
+    let definitions = validity::body(store, 8, 20);
+    let own = rowpass::particles_of(definitions, owner);
+    validity::number(store, 20) - own + length_after(edit, own)
+}
+
+// Whether the form after an edit keeps within the ceilings, where it has p particles.
+fn keeps_within(store: &[u8], owner: usize, edit: Edit, holder: Holder, at: usize, p: usize) -> bool
+    requires { ⌜ Edits (now store) owner (editOf edit) holder at × (p ≡ length (formEdited (now store) owner (editOf edit) holder at .particles)) ⌝ }
+    ensures { λ r. ⌜ r ≡ withinCeilings (bareForm (formEdited (now (store .entry)) owner (editOf edit) holder at)) ⌝ }
+{
+    if p > 256 {
+        return false;
+    }
+    splicing::is_within(own_part(store, owner), edit, holder, at)
+}
+
+// The particles of the form after an edit.
+fn put_own(
+    store: &[u8],
+    owner: usize,
+    edit: Edit,
+    holder: Holder,
+    at: usize,
+    out: &mut [u8],
+    from: usize,
+) -> usize
+    requires { ⌜ Edits (now store) owner (editOf edit) holder at × (withinCeilings (bareForm (formEdited (now store) owner (editOf edit) holder at)) ≡ true) × (from ≤ 5632) ⌝ }
+    ensures { λ r. ⌜ Laid (each particleBytes (formEdited (now (store .entry)) owner (editOf edit) holder at .particles)) (now (out .entry)) from r (now (out .exit)) ⌝ }
+{
+    let definitions = validity::body(store, 8, 20);
+    let particles = validity::body(store, 16, 4);
+    let first = rowpass::particles_before(definitions, owner);
+    let k = rowpass::particles_of(definitions, owner);
+    splicing::put_particles(particles, first, k, edit, holder, at, out, from)
+}
+
+// The form after an edit, as bytes.
+fn put_edited(
+    store: &[u8],
+    owner: usize,
+    edit: Edit,
+    holder: Holder,
+    at: usize,
+    out: &mut [u8],
+) -> usize
+    requires { ⌜ Edits (now store) owner (editOf edit) holder at × (withinCeilings (bareForm (formEdited (now store) owner (editOf edit) holder at)) ≡ true) ⌝ }
+    ensures { λ r. ⌜ Laid (formBytes (formEdited (now (store .entry)) owner (editOf edit) holder at)) (now (out .entry)) 0 r (now (out .exit)) ⌝ }
+{
+    let d = 20 * validity::number(store, 12);
+    let p = 4 * validity::number(store, 20);
+    let a = 52 * validity::number(store, 28);
+    let count = own_after(store, owner, edit);
+    let table = lookup::window(store, HEADER_SIZE, d);
+    let next = splicing::put_counted(table, owner, count as u32, out, 0);
+    let end = put_own(store, owner, edit, holder, at, out, next);
+    codec::put(lookup::window(store, HEADER_SIZE + d + p, a), out, end)
+}
+
+/// The store after a plan and an edit of the model of definition `owner` at particle `at` of the list `holder`.
+fn edit_model(
+    store: &[u8],
+    owner: usize,
+    edit: Edit,
+    holder: Holder,
+    at: usize,
+    plan: Plan,
+    text: &[u8],
+    out: &mut [u8],
+) -> Answer
+    requires { ⌜ Edits (now store) owner (editOf edit) holder at × (isValue baseWidth (now text) ≡ true) × Sized plan ⌝ }
+    ensures { λ r. ⌜ Answers (limited (length (now (out .entry))) (plannedIn (formEdited (now (store .entry)) owner (editOf edit) holder at) plan (now (text .entry)) (bodiesOf (now (store .entry))))) (now (out .entry)) (r .number) (r .length) (now (out .exit)) ⌝ }
+{
+    let p = all_after(store, owner, edit);
+    if !keeps_within(store, owner, edit, holder, at, p) {
+        return refused(16);
+    }
+    let d = validity::number(store, 12);
+    let a = validity::number(store, 28);
+    let mut form = [0; FORM_SIZE];
+    let end = put_edited(store, owner, edit, holder, at, &mut form);
+    storing::edit_form(store, &form[..end], d, p, a, plan, text, out)
+}
+
+// ---- plans
+
+fn unmarked() -> [u8; 64]
+    ensures { λ r. ⌜ r ≡ unmarked ⌝ }
+{
+    [0; 64]
+}
+
+// The plan that keeps all rows: none has serial 0.
+fn keeping_plan() -> Plan
+    ensures { λ r. ⌜ r ≡ settingPlan 0 ⌝ }
+{
+    Plan {
+        above: Which::Nothing,
+        takes: Which::Nothing,
+        fills: false,
+        later: Later::Never,
+        filling: Filling::Nothing,
+        marks: unmarked(),
+        keeps: false,
+        spares: false,
+        set: 0,
+        definitions: UNMOVED,
+        attributes: UNMOVED,
+    }
+}
+
+// ---- the calls
+
+fn group_kind(sort: u32) -> GroupKind
+    ensures { λ r. ⌜ r ≡ groupOf sort ⌝ }
+{
+    match sort {
+        0 => GroupKind::Sequence,
+        1 => GroupKind::Sequence,
+        _ => GroupKind::Choice,
+    }
+}
+
+/// 6: converts `count` members from a place on into a group.
+pub fn convert_to_group(
+    store: &[u8],
+    owner: u32,
+    place: &[u32],
+    count: u32,
+    sort: u32,
+    out: &mut [u8],
+) -> Answer
+    ensures { λ r. ⌜ Answers (outcome (convertToGroup owner (now (place .entry)) count sort) (now (store .entry)) (length (now (out .entry)))) (now (out .entry)) (r .number) (r .length) (now (out .exit)) ⌝ }
+{
+    if !validity::passes(store) {
+        return refused(1);
+    }
+    let number = placing::convert_to_group_refusal(store, owner, place, count, sort);
+    if number != 0 {
+        return refused(number);
+    }
+    let o = owner as usize;
+    let edit = Edit::Convert(group_kind(sort), count as usize);
+    let found = model::place::find(own_part(store, o), place, false);
+    let plan = keeping_plan();
+    match found {
+        Found::Absent => refused(8),
+        Found::At(h, p) => edit_model(store, o, edit, h, p, plan, &store[..0], out),
+    }
+}
+
+/// 7: flattens a group into its list.
+pub fn flatten_group(store: &[u8], owner: u32, place: &[u32], out: &mut [u8]) -> Answer
+    ensures { λ r. ⌜ Answers (outcome (flattenGroup owner (now (place .entry))) (now (store .entry)) (length (now (out .entry)))) (now (out .entry)) (r .number) (r .length) (now (out .exit)) ⌝ }
+{
+    if !validity::passes(store) {
+        return refused(1);
+    }
+    let number = placing::flatten_group_refusal(store, owner, place);
+    if number != 0 {
+        return refused(number);
+    }
+    let o = owner as usize;
+    let found = model::place::find(own_part(store, o), place, false);
+    let plan = keeping_plan();
+    match found {
+        Found::Absent => refused(8),
+        Found::At(h, p) => edit_model(store, o, Edit::Flatten, h, p, plan, &store[..0], out),
+    }
+}

@@ -4,3 +4,4 @@ pub mod Edits
 pub mod FormWriting
 pub mod Calls
 pub mod Removing
+pub mod Fitting

@@ -38,10 +38,11 @@ use Rattle.storing.proofs.CallLaws.{answers-as}
 use Rattle.plans.specs.ModelCalls.{removeElementPlan}
 use Rattle.plans.proofs.CallsPlanned.{none-holds}
 use Rattle.plans.proofs.ModelCallsPlanned.{remove-element-planned}
+use Rattle.defining.proofs.Encoded.{encoded}
 use Rattle.placing.specs.Placing.{indexIn, modelIn, partIn, Placed}
 use Rattle.placing.proofs.PlaceLaws.{found-remove, present-at}
 use Rattle.placing.proofs.PickLaws.{around, from-there, read-there}
-use Rattle.models.specs.Editing.{formEdited}
+use Rattle.models.specs.Editing.{formEdited, Edits}
 use Rattle.models.proofs.Calls.{Fits, inside, some-content, edited-answers, bodies-hold}
 
 -- ---- change 4
@@ -103,3 +104,6 @@ removed-answers {bs} {o} {p} x {part} own is h n z room m w f e a =
 
 pub removing-sized : {q : Plan} (o i : ℕ) → q ≡ removeElementPlan o i → Sized q
 removing-sized o i e = subst Sized (sym e) (record { moves = record { definitions = record { more = omega arith }; attributes = record { more = omega arith } }; filling = tt })
+
+pub place-low : {bs : Bytes} {o : ℕ} {e : Edit ℕ} {h : Holder} {n : ℕ} → Edits bs o e h n → n ≤ 256
+place-low {bs} v = omega (arith, v .inside, v .own, encoded bs (v .good) .particles, encoded bs (v .good) .fewParticles)

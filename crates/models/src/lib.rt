@@ -12,9 +12,9 @@ use splicing::Edit;
 use storing::Answer;
 ghost use mathlib.Core.Path.{_≡_};
 ghost use mathlib.Core.Bool.{true, not};
-ghost use Prim.Native.Nat.{_+_, _-_, _<_, _≤_};
-ghost use lib.ListN.{length};
-ghost use Rattle.rules.specs.Change.{convertToGroup, flattenGroup};
+ghost use Prim.Native.Nat.{_+_, _-_, _*_, _<_, _≤_};
+ghost use lib.ListN.{length, getD};
+ghost use Rattle.rules.specs.Change.{removeElement, convertToGroup, flattenGroup};
 ghost use Rattle.rules.specs.Decode.{groupOf, particleCount};
 ghost use Rattle.rules.specs.Layout.{each, particleBytes};
 ghost use Rattle.rules.specs.WellFormed.{isValue, withinCeilings};
@@ -30,6 +30,7 @@ ghost use Rattle.storing.specs.Planned.{plannedIn};
 ghost use Rattle.storing.specs.Forms.{formBytes};
 ghost use Rattle.storing.specs.Writing.{Sized};
 ghost use Rattle.plans.specs.CallPlans.{unmarked, settingPlan};
+ghost use Rattle.plans.specs.ModelCalls.{removeElementPlan};
 ghost use Rattle.storing.proofs.FormLaws.{bareForm};
 ghost use Rattle.models.specs.Editing.{formEdited, countIn, Edits};
 
@@ -200,7 +201,51 @@ fn keeping_plan() -> Plan
     }
 }
 
+// The plan of change 4 for the element at particle p of the owner's part.
+fn removing_plan(part: &[u8], owner: usize, p: usize) -> Plan
+    requires { ⌜ p ≤ 256 ⌝ }
+    ensures { λ r. ⌜ r ≡ removeElementPlan owner (getD (now (part .entry)) (4 * p + 2) 0) ⌝ }
+{
+    let index = codec::byte(part, 4 * p + 2) as usize;
+    Plan {
+        above: Which::Elements(owner),
+        takes: Which::Elements(index),
+        fills: false,
+        later: Later::Never,
+        filling: Filling::Nothing,
+        marks: unmarked(),
+        keeps: false,
+        spares: false,
+        set: 0,
+        definitions: UNMOVED,
+        attributes: UNMOVED,
+    }
+}
+
 // ---- the calls
+
+/// 4: removes an element, with the children of instances that it stands for.
+pub fn remove_element(store: &[u8], owner: u32, place: &[u32], out: &mut [u8]) -> Answer
+    ensures { λ r. ⌜ Answers (outcome (removeElement owner (now (place .entry))) (now (store .entry)) (length (now (out .entry)))) (now (out .entry)) (r .number) (r .length) (now (out .exit)) ⌝ }
+{
+    if !validity::passes(store) {
+        return refused(1);
+    }
+    let number = placing::remove_element_refusal(store, owner, place);
+    if number != 0 {
+        return refused(number);
+    }
+    let o = owner as usize;
+    let part = own_part(store, o);
+    let found = model::place::find(part, place, false);
+    match found {
+        Found::Absent => refused(8),
+        Found::At(h, p) => {
+            let plan = removing_plan(part, o, p);
+            edit_model(store, o, Edit::Remove, h, p, plan, &store[..0], out)
+        }
+    }
+}
 
 fn group_kind(sort: u32) -> GroupKind
     ensures { λ r. ⌜ r ≡ groupOf sort ⌝ }

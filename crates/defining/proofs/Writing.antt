@@ -13,14 +13,14 @@ use Rattle.codec.proofs.Writers.{laid-then}
 use Rattle.defining.specs.Bodies.{newDefinition}
 
 -- ---- names
-filled : (k : ℕ) (n : Bytes) → length n ≤ k → field k n ≡ n ++ field (k - length n) []
+pub filled : (k : ℕ) (n : Bytes) → length n ≤ k → field k n ≡ n ++ field (k - length n) []
 filled k [] h = let e : k ≡ k - 0 = omega arith in ap (λ (j : ℕ). field j []) e
 filled zero (x ∷ n) h = absurd (omega arith)
 filled (suc k) (x ∷ n) h =
     let e : k - length n ≡ suc k - suc (length n) = omega arith in
     ap (λ (l : Bytes). x ∷ l) (filled k n (le-of-suc-le-suc h)) ∙ ap (λ (j : ℕ). x ∷ (n ++ field j [])) e
 
-take-zeros : (j k : ℕ) → j ≤ k → take j (field k []) ≡ field j []
+pub take-zeros : (j k : ℕ) → j ≤ k → take j (field k []) ≡ field j []
 take-zeros zero k h = refl
 take-zeros (suc j) zero h = absurd (omega arith)
 take-zeros (suc j) (suc k) h = ap (λ (l : Bytes). 0 ∷ l) (take-zeros j k (le-of-suc-le-suc h))

@@ -27,8 +27,8 @@ ghost use Rattle.storing.specs.Stores.{storeIn};
 ghost use Rattle.placing.specs.Placing.{attributeBody, ownNamed, hasInstance, partIn, pickOf, Picking, oneIf, unlikeKind, convertTests, isOff, earlyTests, quantifierTests, choiceLeft, Removable, removeTests, First};
 
 // ---- attributes
-// The record of attribute i.
-fn attribute(store: &[u8], i: usize) -> &[u8]
+/// The record of attribute i.
+pub fn attribute(store: &[u8], i: usize) -> &[u8]
     requires { ⌜ i < 4294967296 ⌝ }
     ensures { λ r. ⌜ now r ≡ recordAt 52 i (attributeBody (now (store .entry))) ⌝ }
 {

@@ -1,0 +1,70 @@
+-- `attributes::write_dropped` meets its contract.
+-- Assumes nothing.
+use native.Mathlib.Omega.{arith}
+use lib.ListN.{length}
+use Rattle.attributes.proofs.CountLaws.{count-attributes}
+use Rattle.attributes.proofs.Laws.{zeros-long, dropped-fits, dropped-long, dropped-asks, dropped-answers}
+use borrow.Author.Needs.{needs}
+use Rattle.attributes.proofs.write_dropped.Statement.{statement}
+use Rattle.attributes.proofs.write_dropped.Tie as tie
+
+number-requires : tie.Need-number-requires
+number-requires c κs = search needs
+
+number-requires-2 : tie.Need-number-requires-2
+number-requires-2 c κs = search needs
+
+number-requires-3 : tie.Need-number-requires-3
+number-requires-3 c κs = search needs
+
+owner-of-requires : tie.Need-owner-of-requires
+owner-of-requires c κs = search needs
+
+destroy-plan-requires : tie.Need-destroy-plan-requires
+destroy-plan-requires c κs = search needs
+
+slice-aggregate-put-dropped : tie.Need-slice-aggregate-put-dropped
+slice-aggregate-put-dropped c = search needs
+
+put-dropped-requires : tie.Need-put-dropped-requires
+put-dropped-requires c κs = search needs
+
+array-share-prefix-form : tie.Need-array-share-prefix-form
+array-share-prefix-form c = dropped-fits (c .before .before .before .before .before .before .before .before .before .before .args .store .now) (c .before .before .before .before .before .before .before .before .before .before .args .attribute) (c .before .before .before .before .before .before .before .before .before .before .pre) (c .before .before .before .before .before .before .before .number .ensures) (c .before .before .before .before .before .before .number2 .ensures) (c .before .before .before .before .before .number3 .ensures) (c .before .before .before .before .owner-of .ensures) (c .before .before .before .destroy-plan .ensures) zeros-long (c .before .put-dropped .ensures)
+
+slice-aggregate-edit-form : tie.Need-slice-aggregate-edit-form
+slice-aggregate-edit-form c = dropped-long (c .before .before .before .before .before .before .before .before .before .before .before .args .store .now) (c .before .before .before .before .before .before .before .before .before .before .before .args .attribute) (c .before .before .before .before .before .before .before .before .before .before .before .pre) (c .before .before .before .before .before .before .before .before .number .ensures) (c .before .before .before .before .before .before .before .number2 .ensures) (c .before .before .before .before .before .before .number3 .ensures) (c .before .before .before .before .before .owner-of .ensures) (c .before .before .before .before .destroy-plan .ensures) zeros-long (c .before .before .put-dropped .ensures)
+
+sub-edit-form : tie.Need-sub-edit-form
+sub-edit-form c = omega (arith, c .before .before .before .before .before .before .before .before .before .before .before .pre .inside, count-attributes (c .before .before .before .before .before .before .before .before .before .before .before .args .store .now) (c .before .before .before .before .before .before .number3 .ensures))
+
+slice-aggregate-edit-form-2 : tie.Need-slice-aggregate-edit-form-2
+slice-aggregate-edit-form-2 c = search needs
+
+edit-form-requires : tie.Need-edit-form-requires
+edit-form-requires c κs = dropped-asks (c .before .before .before .before .before .before .before .before .before .before .before .before .before .args .store .now) (c .before .before .before .before .before .before .before .before .before .before .before .before .before .args .attribute) (c .before .before .before .before .before .before .before .before .before .before .before .before .before .pre) (c .before .before .before .before .before .before .before .before .before .before .number .ensures) (c .before .before .before .before .before .before .before .before .before .number2 .ensures) (c .before .before .before .before .before .before .before .before .number3 .ensures) (c .before .before .before .before .before .before .before .owner-of .ensures) (c .before .before .before .before .before .before .destroy-plan .ensures) zeros-long (c .before .before .before .before .put-dropped .ensures)
+
+same-length : tie.Need-same-length
+same-length c = search needs
+
+returns : tie.Need-returns
+returns c = dropped-answers (c .before .before .before .before .before .before .before .before .before .before .before .before .before .before .before .before .args .store .now) (c .before .before .before .before .before .before .before .before .before .before .before .before .before .before .before .before .args .attribute) (c .before .before .before .before .before .before .before .before .before .before .before .before .before .before .before .before .pre) (c .before .before .before .before .before .before .before .before .before .before .before .before .before .number .ensures) (c .before .before .before .before .before .before .before .before .before .before .before .before .number2 .ensures) (c .before .before .before .before .before .before .before .before .before .before .before .number3 .ensures) (c .before .before .before .before .before .before .before .before .before .before .owner-of .ensures) (c .before .before .before .before .before .before .before .before .before .destroy-plan .ensures) zeros-long (c .before .before .before .before .before .before .before .put-dropped .ensures) (length (c .before .before .before .before .before .before .before .before .before .before .before .before .before .before .before .before .args .out .now)) (c .before .before .edit-form .ensures)
+
+pub write-dropped-spec : {M : Type 1} → statement M
+write-dropped-spec =
+    tie.close
+    (tie.spec
+    number-requires
+    number-requires-2
+    number-requires-3
+    owner-of-requires
+    destroy-plan-requires
+    slice-aggregate-put-dropped
+    put-dropped-requires
+    array-share-prefix-form
+    slice-aggregate-edit-form
+    sub-edit-form
+    slice-aggregate-edit-form-2
+    edit-form-requires
+    same-length
+    returns)

@@ -1,0 +1,297 @@
+//! Changes 9 and 10: an attribute added, and one destroyed. Each call is the check, the first refusal that applies, the new form
+//! and the plan of the change.
+use editing::Later;
+use editing::Plan;
+use editing::Shift;
+use editing::Which;
+use filling::Filling;
+use storing::Answer;
+ghost use mathlib.Core.Path.{_≡_};
+ghost use mathlib.Core.Bool.{true};
+ghost use mathlib.Core.List.{[]};
+ghost use Prim.Native.Nat.{_≤_, _<_};
+ghost use lib.ListN.{length};
+ghost use Rattle.rules.specs.Layout.{field, attributeBytes};
+ghost use Rattle.rules.specs.Decode.{readAttribute};
+ghost use Rattle.rules.specs.Passing.{passes};
+ghost use Rattle.rules.specs.Change.{addAttribute, destroyAttribute};
+ghost use Rattle.rules.specs.Outcome.{outcome, Answers};
+ghost use Rattle.records.specs.Records.{baseWidth};
+ghost use Rattle.codec.specs.Laid.{Laid};
+ghost use Rattle.lookup.specs.Bodies.{bodiesOf};
+ghost use Rattle.storing.specs.Stores.{limited};
+ghost use Rattle.storing.specs.Forms.{formBytes};
+ghost use Rattle.plans.specs.CallPlans.{unmarked};
+ghost use Rattle.plans.specs.AttributeCalls.{ownerAt, addAttributePlan, destroyAttributePlan, attributeAdded, attributeDropped};
+ghost use Rattle.attributes.specs.Attributes.{newEntry, Addable, Droppable, added, dropped, Stands, UpTo, To};
+
+const HEADER_SIZE: usize = 40;
+
+const DEFINITION_SIZE: usize = 20;
+
+const PARTICLE_SIZE: usize = 4;
+
+const ATTRIBUTE_SIZE: usize = 52;
+
+const NAME_WIDTH: usize = 16;
+
+const VALUE_WIDTH: usize = 32;
+
+const MOST_ATTRIBUTES: usize = 64;
+
+/// The bytes of a form at its ceilings: 64 definitions, 256 particles, 64 attributes.
+const MOST_FORM: usize = 5632;
+
+const UNMOVED: Shift = Shift {
+    from: 0,
+    more: 0,
+    less: 0,
+};
+
+fn refused(number: u32) -> Answer
+    ensures { λ r. ⌜ (r .number ≡ number) × (r .length ≡ 0) ⌝ }
+{
+    Answer { number, length: 0 }
+}
+
+// ---- plans
+
+fn unmarked() -> [u8; 64]
+    ensures { λ r. ⌜ r ≡ unmarked ⌝ }
+{
+    [0; 64]
+}
+
+fn add_plan(owner: usize, at: usize, sort: u32) -> Plan
+    ensures { λ r. ⌜ r ≡ addAttributePlan owner at sort ⌝ }
+{
+    Plan {
+        above: Which::Elements(owner),
+        takes: Which::Nothing,
+        fills: sort == 1,
+        later: Later::Past(at),
+        filling: Filling::Attribute(at),
+        marks: unmarked(),
+        keeps: false,
+        spares: false,
+        set: 0,
+        definitions: UNMOVED,
+        attributes: Shift {
+            from: at,
+            more: 1,
+            less: 0,
+        },
+    }
+}
+
+fn destroy_plan(owner: usize, attribute: usize) -> Plan
+    ensures { λ r. ⌜ r ≡ destroyAttributePlan owner attribute ⌝ }
+{
+    Plan {
+        above: Which::Elements(owner),
+        takes: Which::Attributes(attribute),
+        fills: false,
+        later: Later::Never,
+        filling: Filling::Nothing,
+        marks: unmarked(),
+        keeps: false,
+        spares: false,
+        set: 0,
+        definitions: UNMOVED,
+        attributes: Shift {
+            from: attribute,
+            more: 0,
+            less: 1,
+        },
+    }
+}
+
+// ---- what the form has
+
+// 1 if the attribute is of one of the definitions up to `owner`.
+fn is_up_to(rec: &[u8], owner: u32) -> usize
+    ensures { λ r. ⌜ UpTo owner (readAttribute (now (rec .entry))) r ⌝ }
+{
+    let of = codec::byte(rec, 0) as u32;
+    if of <= owner { 1 } else { 0 }
+}
+
+// How many attributes the definitions up to `owner` have: where a new one of it comes.
+fn attributes_to(store: &[u8], owner: u32) -> usize
+    ensures { λ r. ⌜ To owner (bodiesOf (now (store .entry)) .attributes) r ⌝ }
+{
+    let count = records::number(store, 28);
+    let mut sum = 0;
+    let mut i = 0;
+    while i < count {
+        sum += is_up_to(placing::attribute(store, i), owner);
+        i += 1;
+    }
+    sum
+}
+
+fn owner_of(store: &[u8], attribute: usize) -> usize
+    requires { ⌜ Droppable (now store) attribute ⌝ }
+    ensures { λ r. ⌜ r ≡ ownerAt attribute (bodiesOf (now (store .entry)) .attributes) ⌝ }
+{
+    codec::byte(placing::attribute(store, attribute), 0) as usize
+}
+
+// The bytes of definitions, particles and attributes.
+fn form_of(store: &[u8]) -> &[u8]
+    requires { ⌜ passes (now store) ≡ true ⌝ }
+    ensures { λ r. ⌜ now r ≡ formBytes (bodiesOf (now (store .entry))) ⌝ }
+{
+    let start = lookup::row_start(store);
+    lookup::window(store, HEADER_SIZE, start - HEADER_SIZE)
+}
+
+// Where attribute i stands in them.
+fn place_of(store: &[u8], i: usize) -> usize
+    requires { ⌜ i ≤ 64 ⌝ }
+    ensures { λ r. ⌜ Stands (bodiesOf (now (store .entry))) i r ⌝ }
+{
+    let definitions = records::number(store, 12);
+    let particles = records::number(store, 20);
+    DEFINITION_SIZE * definitions + (PARTICLE_SIZE * particles + ATTRIBUTE_SIZE * i)
+}
+
+// ---- the new form
+
+// Writes a field, zero filled.
+fn put_field(s: &[u8], width: usize, out: &mut [u8], at: usize) -> usize
+    requires { ⌜ (length (now s) ≤ width) × (width ≤ 32) × (at < 4611686018427387904) ⌝ }
+    ensures { λ r. ⌜ Laid (field width (now (s .entry))) (now (out .entry)) at r (now (out .exit)) ⌝ }
+{
+    let zeros = [0; 32];
+    let next = codec::put(s, out, at);
+    codec::put(records::first(&zeros, width - s.len()), out, next)
+}
+
+fn put_attribute(
+    owner: u32,
+    name: &[u8],
+    sort: u32,
+    value: &[u8],
+    out: &mut [u8],
+    at: usize,
+) -> usize
+    requires { ⌜ (owner < 64) × (length (now name) ≤ 16) × (sort ≤ 2) × (length (now value) ≤ 32) × (at < 1152921504606846976) ⌝ }
+    ensures { λ r. ⌜ Laid (attributeBytes baseWidth (newEntry owner (now (name .entry)) sort (now (value .entry)))) (now (out .entry)) at r (now (out .exit)) ⌝ }
+{
+    let first = codec::put_u8(out, at, owner as u8);
+    let second = codec::put_u8(out, first, name.len() as u8);
+    let third = put_field(name, NAME_WIDTH, out, second);
+    let fourth = codec::put_u8(out, third, sort as u8);
+    let fifth = codec::put_u8(out, fourth, value.len() as u8);
+    put_field(value, VALUE_WIDTH, out, fifth)
+}
+
+// Writes the form with a new attribute before attribute i.
+fn put_added(
+    store: &[u8],
+    i: usize,
+    owner: u32,
+    name: &[u8],
+    sort: u32,
+    value: &[u8],
+    out: &mut [u8],
+) -> usize
+    requires { ⌜ Addable (now store) owner (now name) sort (now value) × (i ≤ length (bodiesOf (now store) .attributes)) × (i ≤ 64) ⌝ }
+    ensures { λ r. ⌜ Laid (formBytes (attributeAdded i (newEntry owner (now (name .entry)) sort (now (value .entry))) (bodiesOf (now (store .entry))))) (now (out .entry)) 0 r (now (out .exit)) ⌝ }
+{
+    let form = form_of(store);
+    let place = place_of(store, i);
+    let first = codec::put(records::first(form, place), out, 0);
+    let second = put_attribute(owner, name, sort, value, out, first);
+    codec::put(records::after(form, place), out, second)
+}
+
+// Writes the form without attribute i.
+fn put_dropped(store: &[u8], i: usize, out: &mut [u8]) -> usize
+    requires { ⌜ Droppable (now store) i ⌝ }
+    ensures { λ r. ⌜ Laid (formBytes (attributeDropped i (bodiesOf (now (store .entry))))) (now (out .entry)) 0 r (now (out .exit)) ⌝ }
+{
+    let form = form_of(store);
+    let place = place_of(store, i);
+    let next = codec::put(records::first(form, place), out, 0);
+    codec::put(records::after(form, place + ATTRIBUTE_SIZE), out, next)
+}
+
+// ---- the store that is left
+
+// The store with a new attribute, the last of its owner.
+fn write_added(
+    store: &[u8],
+    owner: u32,
+    name: &[u8],
+    sort: u32,
+    value: &[u8],
+    out: &mut [u8],
+) -> Answer
+    requires { ⌜ Addable (now store) owner (now name) sort (now value) ⌝ }
+    ensures { λ r. ⌜ Answers (limited (length (now (out .entry))) (added owner (now (name .entry)) sort (now (value .entry)) (bodiesOf (now (store .entry))))) (now (out .entry)) (r .number) (r .length) (now (out .exit)) ⌝ }
+{
+    let d = records::number(store, 12);
+    let p = records::number(store, 20);
+    let a = records::number(store, 28);
+    if a >= MOST_ATTRIBUTES {
+        return refused(16);
+    }
+    let i = attributes_to(store, owner);
+    let plan = add_plan(owner as usize, i, sort);
+    let mut form = [0; MOST_FORM];
+    let length = put_added(store, i, owner, name, sort, value, &mut form);
+    storing::edit_form(store, &form[..length], d, p, a + 1, plan, value, out)
+}
+
+// The store without an attribute and its rows.
+fn write_dropped(store: &[u8], attribute: usize, out: &mut [u8]) -> Answer
+    requires { ⌜ Droppable (now store) attribute ⌝ }
+    ensures { λ r. ⌜ Answers (limited (length (now (out .entry))) (dropped attribute [] (bodiesOf (now (store .entry))))) (now (out .entry)) (r .number) (r .length) (now (out .exit)) ⌝ }
+{
+    let d = records::number(store, 12);
+    let p = records::number(store, 20);
+    let a = records::number(store, 28);
+    let plan = destroy_plan(owner_of(store, attribute), attribute);
+    let mut form = [0; MOST_FORM];
+    let length = put_dropped(store, attribute, &mut form);
+    storing::edit_form(store, &form[..length], d, p, a - 1, plan, &store[..0], out)
+}
+
+// ---- the calls
+
+/// 9: adds an attribute to a definition. REQUIRED: a row of it to each instance.
+pub fn add_attribute(
+    store: &[u8],
+    owner: u32,
+    name: &[u8],
+    sort: u32,
+    value: &[u8],
+    out: &mut [u8],
+) -> Answer
+    ensures { λ r. ⌜ Answers (outcome (addAttribute owner (now (name .entry)) sort (now (value .entry))) (now (store .entry)) (length (now (out .entry)))) (now (out .entry)) (r .number) (r .length) (now (out .exit)) ⌝ }
+{
+    if !validity::passes(store) {
+        return refused(1);
+    }
+    let number = placing::add_attribute_refusal(store, owner, name, sort, value);
+    if number != 0 {
+        return refused(number);
+    }
+    write_added(store, owner, name, sort, value, out)
+}
+
+/// 10: destroys an attribute, with its rows.
+pub fn destroy_attribute(store: &[u8], attribute: u32, out: &mut [u8]) -> Answer
+    ensures { λ r. ⌜ Answers (outcome (destroyAttribute attribute) (now (store .entry)) (length (now (out .entry)))) (now (out .entry)) (r .number) (r .length) (now (out .exit)) ⌝ }
+{
+    if !validity::passes(store) {
+        return refused(1);
+    }
+    let number = placing::destroy_attribute_refusal(store, attribute);
+    if number != 0 {
+        return refused(number);
+    }
+    write_dropped(store, attribute as usize, out)
+}

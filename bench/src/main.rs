@@ -10,17 +10,20 @@ use std::time::Instant;
 
 const RUNS: usize = 101;
 
-/// The median time of a run, in microseconds.
-fn median(mut run: impl FnMut()) -> f64 {
-    let mut times: Vec<f64> = (0..RUNS)
-        .map(|_| {
+/// The median times of some runs, in microseconds. They are made in turn, so that a machine that is slow for a while is slow for all of them.
+fn medians<const N: usize>(mut runs: [&mut dyn FnMut(); N]) -> [f64; N] {
+    let mut times = [(); N].map(|_| Vec::with_capacity(RUNS));
+    for _ in 0..RUNS {
+        for (run, times) in runs.iter_mut().zip(&mut times) {
             let start = Instant::now();
             run();
-            start.elapsed().as_secs_f64() * 1e6
-        })
-        .collect();
-    times.sort_by(f64::total_cmp);
-    times[RUNS / 2]
+            times.push(start.elapsed().as_secs_f64() * 1e6);
+        }
+    }
+    times.map(|mut times| {
+        times.sort_by(f64::total_cmp);
+        times[RUNS / 2]
+    })
 }
 
 /// The store after a change by the second implementation.
@@ -118,19 +121,23 @@ fn list_with_room() -> Vec<u8> {
 }
 
 /// A line for each change.
-fn print_changes(check: f64) {
+fn print_changes() {
     let store = list_with_room();
     let mut out = vec![0; 1 << 20];
-    println!("change                   library  to check     second     ratio");
+    let mut other = vec![0; 1 << 20];
+    println!("change                   library     check  to check     second     ratio");
     for line in CHANGES {
         let mut words = Words::of(line);
         let name = words.word();
         let call = changes::read(name, &mut words).expect("the library has it");
         let length = changed(&store, &call).len();
-        let library = median(|| assert_eq!(changes::apply(&call, &store, &mut out).length, length));
-        let second = median(|| assert_eq!(second::apply(&call, &store, &mut out).length, length));
+        let [check, library, second] = medians([
+            &mut || assert_eq!(compare::direct::check(&store), 0),
+            &mut || assert_eq!(changes::apply(&call, &store, &mut out).length, length),
+            &mut || assert_eq!(second::apply(&call, &store, &mut other).length, length),
+        ]);
         println!(
-            "{name:22} {library:9.1} {:9.2} {second:10.1} {:9.2}",
+            "{name:22} {library:9.1} {check:9.1} {:9.2} {second:10.1} {:9.2}",
             library / check,
             library / second
         );
@@ -169,10 +176,13 @@ fn main() {
     let mut out = vec![0; 1 << 20];
     let text = second::print(&store, &mut out).length;
     let document = out[..text].to_vec();
-    let check = median(|| assert_eq!(compare::direct::check(&store), 0));
-    let check_second = median(|| assert_eq!(second::check(&store), 0));
-    let print = median(|| assert_eq!(compare::direct::print(&store, &mut out).length, text));
-    let print_second = median(|| assert_eq!(second::print(&store, &mut out).length, text));
+    let mut other = vec![0; 1 << 20];
+    let [check, check_second, print, print_second] = medians([
+        &mut || assert_eq!(compare::direct::check(&store), 0),
+        &mut || assert_eq!(second::check(&store), 0),
+        &mut || assert_eq!(compare::direct::print(&store, &mut out).length, text),
+        &mut || assert_eq!(second::print(&store, &mut other).length, text),
+    ]);
     println!(
         "store of {} bytes, text of {text} bytes; medians of {RUNS} runs, in microseconds",
         store.len()
@@ -192,5 +202,5 @@ fn main() {
         ),
         None => println!("xmllint is not there or gave no time"),
     }
-    print_changes(check);
+    print_changes();
 }

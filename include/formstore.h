@@ -66,8 +66,8 @@ struct formstore_answer {
 /* Prints the store: the DTD, then a line per document. Refuses with 1 and 18. */
 struct formstore_answer formstore_print(const uint8_t *store, size_t store_length, uint8_t *out, size_t out_length);
 
-/* The changes. Each reads `store` and writes the new store into `out`. Definitions and attributes are passed by their index, elements by their serial.
- * Any u32 may be passed for a number. Each says with which numbers it refuses besides 1 and 18. */
+/* The changes. Each reads `store` and writes the new store into `out`. Definitions and attributes are passed by their index, elements by their serial,
+ * particles by their owner and a place. Any u32 may be passed for a number. Each says with which numbers it refuses besides 1 and 18. */
 
 /* 1. Appends a definition; kind is 0 (EMPTY), 1 (PCDATA) or 2 (COMPLEX). Refuses with 2, 4, 5 and 16. */
 struct formstore_answer formstore_create_definition(const uint8_t *store, size_t store_length,
@@ -78,6 +78,34 @@ struct formstore_answer formstore_create_definition(const uint8_t *store, size_t
 struct formstore_answer formstore_destroy_definition(const uint8_t *store, size_t store_length,
                                                      uint32_t definition,
                                                      uint8_t *out, size_t out_length);
+
+/* 4. Removes an element from the model of `owner`, with the children of instances that it stands for. Refuses with 6, 8, 14 and 15. */
+struct formstore_answer formstore_remove_element(const uint8_t *store, size_t store_length,
+                                                 uint32_t owner, const uint32_t *place, size_t place_length,
+                                                 uint8_t *out, size_t out_length);
+
+/* 6. Converts `count` members from the place on into a group of a sort, 1 (LIST) or 2 (CHOICE). Refuses with 4, 6, 8, 14 and 16. */
+struct formstore_answer formstore_convert_to_group(const uint8_t *store, size_t store_length,
+                                                   uint32_t owner, const uint32_t *place, size_t place_length, uint32_t count,
+                                                   uint32_t sort,
+                                                   uint8_t *out, size_t out_length);
+
+/* 7. Flattens a group into its list. Refuses with 6, 8 and 14. */
+struct formstore_answer formstore_flatten_group(const uint8_t *store, size_t store_length,
+                                                uint32_t owner, const uint32_t *place, size_t place_length,
+                                                uint8_t *out, size_t out_length);
+
+/* 9. Adds an attribute of a sort, 0 (IMPLIED), 1 (REQUIRED) or 2 (FIXED); a REQUIRED one adds a row to each instance. Refuses with 2 to 6, 12, 16
+ * and 17. */
+struct formstore_answer formstore_add_attribute(const uint8_t *store, size_t store_length,
+                                                uint32_t owner, const uint8_t *name, size_t name_length, uint32_t sort,
+                                                const uint8_t *value, size_t value_length,
+                                                uint8_t *out, size_t out_length);
+
+/* 10. Destroys an attribute, with its rows. Refuses with 6. */
+struct formstore_answer formstore_destroy_attribute(const uint8_t *store, size_t store_length,
+                                                    uint32_t attribute,
+                                                    uint8_t *out, size_t out_length);
 
 /* 11. A new last document, filled with the text. Refuses with 3, 6, 16 and 17. */
 struct formstore_answer formstore_add_document(const uint8_t *store, size_t store_length,

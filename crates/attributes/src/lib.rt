@@ -1,10 +1,5 @@
 //! Changes 9 and 10: an attribute added, and one destroyed. Each call is the check, the first refusal that applies, the new form
 //! and the plan of the change.
-use editing::Later;
-use editing::Plan;
-use editing::Shift;
-use editing::Which;
-use filling::Filling;
 use storing::Answer;
 ghost use mathlib.Core.Path.{_≡_};
 ghost use mathlib.Core.Bool.{true};
@@ -21,8 +16,7 @@ ghost use Rattle.codec.specs.Laid.{Laid};
 ghost use Rattle.lookup.specs.Bodies.{bodiesOf};
 ghost use Rattle.storing.specs.Stores.{limited};
 ghost use Rattle.storing.specs.Forms.{formBytes};
-ghost use Rattle.plans.specs.CallPlans.{unmarked};
-ghost use Rattle.plans.specs.AttributeCalls.{ownerAt, addAttributePlan, destroyAttributePlan, attributeAdded, attributeDropped};
+ghost use Rattle.plans.specs.AttributeCalls.{ownerAt, attributeAdded, attributeDropped};
 ghost use Rattle.attributes.specs.Attributes.{newEntry, Addable, Droppable, added, dropped, Stands, UpTo, To};
 
 const HEADER_SIZE: usize = 40;
@@ -41,70 +35,6 @@ const MOST_ATTRIBUTES: usize = 64;
 
 /// The bytes of a form at its ceilings: 64 definitions, 256 particles, 64 attributes.
 const MOST_FORM: usize = 5632;
-
-const UNMOVED: Shift = Shift {
-    from: 0,
-    more: 0,
-    less: 0,
-};
-
-fn refused(number: u32) -> Answer
-    ensures { λ r. ⌜ (r .number ≡ number) × (r .length ≡ 0) ⌝ }
-{
-    Answer { number, length: 0 }
-}
-
-// ---- plans
-
-fn unmarked() -> [u8; 64]
-    ensures { λ r. ⌜ r ≡ unmarked ⌝ }
-{
-    [0; 64]
-}
-
-fn add_plan(owner: usize, at: usize, sort: u32) -> Plan
-    ensures { λ r. ⌜ r ≡ addAttributePlan owner at sort ⌝ }
-{
-    Plan {
-        above: Which::Elements(owner),
-        takes: Which::Nothing,
-        fills: sort == 1,
-        later: Later::Past(at),
-        filling: Filling::Attribute(at),
-        marks: unmarked(),
-        keeps: false,
-        spares: false,
-        set: 0,
-        definitions: UNMOVED,
-        attributes: Shift {
-            from: at,
-            more: 1,
-            less: 0,
-        },
-    }
-}
-
-fn destroy_plan(owner: usize, attribute: usize) -> Plan
-    ensures { λ r. ⌜ r ≡ destroyAttributePlan owner attribute ⌝ }
-{
-    Plan {
-        above: Which::Elements(owner),
-        takes: Which::Attributes(attribute),
-        fills: false,
-        later: Later::Never,
-        filling: Filling::Nothing,
-        marks: unmarked(),
-        keeps: false,
-        spares: false,
-        set: 0,
-        definitions: UNMOVED,
-        attributes: Shift {
-            from: attribute,
-            more: 0,
-            less: 1,
-        },
-    }
-}
 
 // ---- what the form has
 
@@ -236,10 +166,10 @@ fn write_added(
     let p = records::number(store, 20);
     let a = records::number(store, 28);
     if a >= MOST_ATTRIBUTES {
-        return refused(16);
+        return storing::refused(16);
     }
     let i = attributes_to(store, owner);
-    let plan = add_plan(owner as usize, i, sort);
+    let plan = plans::add_attribute_plan(owner as usize, i, sort);
     let mut form = [0; MOST_FORM];
     let length = put_added(store, i, owner, name, sort, value, &mut form);
     storing::edit_form(store, &form[..length], d, p, a + 1, plan, value, out)
@@ -253,7 +183,7 @@ fn write_dropped(store: &[u8], attribute: usize, out: &mut [u8]) -> Answer
     let d = records::number(store, 12);
     let p = records::number(store, 20);
     let a = records::number(store, 28);
-    let plan = destroy_plan(owner_of(store, attribute), attribute);
+    let plan = plans::destroy_attribute_plan(owner_of(store, attribute), attribute);
     let mut form = [0; MOST_FORM];
     let length = put_dropped(store, attribute, &mut form);
     storing::edit_form(store, &form[..length], d, p, a - 1, plan, &store[..0], out)
@@ -273,11 +203,11 @@ pub fn add_attribute(
     ensures { λ r. ⌜ Answers (outcome (addAttribute owner (now (name .entry)) sort (now (value .entry))) (now (store .entry)) (length (now (out .entry)))) (now (out .entry)) (r .number) (r .length) (now (out .exit)) ⌝ }
 {
     if !validity::passes(store) {
-        return refused(1);
+        return storing::refused(1);
     }
     let number = placing::add_attribute_refusal(store, owner, name, sort, value);
     if number != 0 {
-        return refused(number);
+        return storing::refused(number);
     }
     write_added(store, owner, name, sort, value, out)
 }
@@ -287,11 +217,11 @@ pub fn destroy_attribute(store: &[u8], attribute: u32, out: &mut [u8]) -> Answer
     ensures { λ r. ⌜ Answers (outcome (destroyAttribute attribute) (now (store .entry)) (length (now (out .entry)))) (now (out .entry)) (r .number) (r .length) (now (out .exit)) ⌝ }
 {
     if !validity::passes(store) {
-        return refused(1);
+        return storing::refused(1);
     }
     let number = placing::destroy_attribute_refusal(store, attribute);
     if number != 0 {
-        return refused(number);
+        return storing::refused(number);
     }
     write_dropped(store, attribute as usize, out)
 }

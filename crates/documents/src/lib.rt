@@ -1,7 +1,6 @@
 // Changes 11 to 16: documents, elements, attribute rows and texts. Each call is the check, the first refusal that applies, and the plan of the change.
 use editing::Later;
 use editing::Plan;
-use editing::Shift;
 use editing::Which;
 use filling::Filling;
 use storing::Answer;
@@ -9,94 +8,22 @@ ghost use mathlib.Core.Path.{_≡_};
 ghost use lib.ListN.{length};
 ghost use Rattle.rules.specs.Change.{addDocument, addElement, destroyElement, setAttribute, destroyAttributeRow, setText};
 ghost use Rattle.rules.specs.Outcome.{outcome, Answers};
-ghost use Rattle.plans.specs.CallPlans.{unmarked, fillingPlan, takingPlan, settingPlan, setAttributePlan};
-
-const UNMOVED: Shift = Shift {
-    from: 0,
-    more: 0,
-    less: 0,
-};
-
-fn refused(number: u32) -> Answer
-    ensures { λ r. ⌜ (r .number ≡ number) × (r .length ≡ 0) ⌝ }
-{
-    Answer { number, length: 0 }
-}
+ghost use Rattle.plans.specs.CallPlans.{setAttributePlan};
 
 // ---- plans
-
-fn unmarked() -> [u8; 64]
-    ensures { λ r. ⌜ r ≡ unmarked ⌝ }
-{
-    [0; 64]
-}
-
-fn filling_plan(above: Which, later: Later, filling: Filling) -> Plan
-    ensures { λ r. ⌜ r ≡ fillingPlan above later filling ⌝ }
-{
-    Plan {
-        above,
-        takes: Which::Nothing,
-        fills: true,
-        later,
-        filling,
-        marks: unmarked(),
-        keeps: false,
-        spares: false,
-        set: 0,
-        definitions: UNMOVED,
-        attributes: UNMOVED,
-    }
-}
-
-fn taking_plan(above: Which, takes: Which) -> Plan
-    ensures { λ r. ⌜ r ≡ takingPlan above takes ⌝ }
-{
-    Plan {
-        above,
-        takes,
-        fills: false,
-        later: Later::Never,
-        filling: Filling::Nothing,
-        marks: unmarked(),
-        keeps: false,
-        spares: false,
-        set: 0,
-        definitions: UNMOVED,
-        attributes: UNMOVED,
-    }
-}
-
-fn setting_plan(set: u32) -> Plan
-    ensures { λ r. ⌜ r ≡ settingPlan set ⌝ }
-{
-    Plan {
-        above: Which::Nothing,
-        takes: Which::Nothing,
-        fills: false,
-        later: Later::Never,
-        filling: Filling::Nothing,
-        marks: unmarked(),
-        keeps: false,
-        spares: false,
-        set,
-        definitions: UNMOVED,
-        attributes: UNMOVED,
-    }
-}
 
 // The attribute's row with serial `row` gets the value; where there is none (0), one is made.
 fn set_attribute_plan(element: u32, attribute: usize, row: u32) -> Plan
     ensures { λ r. ⌜ r ≡ setAttributePlan element attribute row ⌝ }
 {
     if row == 0 {
-        return filling_plan(
+        return plans::filling_plan(
             Which::Serial(element),
             Later::Past(attribute),
             Filling::Attribute(attribute),
         );
     }
-    setting_plan(row)
+    plans::setting_plan(row)
 }
 
 // ---- the calls
@@ -106,14 +33,14 @@ pub fn add_document(store: &[u8], definition: u32, text: &[u8], out: &mut [u8]) 
     ensures { λ r. ⌜ Answers (outcome (addDocument definition (now (text .entry))) (now (store .entry)) (length (now (out .entry)))) (now (out .entry)) (r .number) (r .length) (now (out .exit)) ⌝ }
 {
     if !validity::passes(store) {
-        return refused(1);
+        return storing::refused(1);
     }
     let number = finding::add_document_refusal(store, definition, text);
     if number != 0 {
-        return refused(number);
+        return storing::refused(number);
     }
     let filling = Filling::Definition(definition as usize);
-    let plan = filling_plan(Which::Ground, Later::Never, filling);
+    let plan = plans::filling_plan(Which::Ground, Later::Never, filling);
     storing::edit(store, plan, text, out)
 }
 
@@ -129,15 +56,15 @@ pub fn add_element(
     ensures { λ r. ⌜ Answers (outcome (addElement parent child definition (now (text .entry))) (now (store .entry)) (length (now (out .entry)))) (now (out .entry)) (r .number) (r .length) (now (out .exit)) ⌝ }
 {
     if !validity::passes(store) {
-        return refused(1);
+        return storing::refused(1);
     }
     let number = finding::add_element_refusal(store, parent, child, definition, text);
     if number != 0 {
-        return refused(number);
+        return storing::refused(number);
     }
     let row = finding::child_serial(store, parent, child);
     let filling = Filling::Definition(definition as usize);
-    let plan = filling_plan(Which::Serial(parent), Later::Row(row), filling);
+    let plan = plans::filling_plan(Which::Serial(parent), Later::Row(row), filling);
     storing::edit(store, plan, text, out)
 }
 
@@ -146,13 +73,13 @@ pub fn destroy_element(store: &[u8], element: u32, out: &mut [u8]) -> Answer
     ensures { λ r. ⌜ Answers (outcome (destroyElement element) (now (store .entry)) (length (now (out .entry)))) (now (out .entry)) (r .number) (r .length) (now (out .exit)) ⌝ }
 {
     if !validity::passes(store) {
-        return refused(1);
+        return storing::refused(1);
     }
     let number = finding::destroy_element_refusal(store, element);
     if number != 0 {
-        return refused(number);
+        return storing::refused(number);
     }
-    let plan = taking_plan(Which::Everything, Which::Serial(element));
+    let plan = plans::taking_plan(Which::Everything, Which::Serial(element));
     storing::edit(store, plan, &store[..0], out)
 }
 
@@ -167,11 +94,11 @@ pub fn set_attribute(
     ensures { λ r. ⌜ Answers (outcome (setAttribute element attribute (now (value .entry))) (now (store .entry)) (length (now (out .entry)))) (now (out .entry)) (r .number) (r .length) (now (out .exit)) ⌝ }
 {
     if !validity::passes(store) {
-        return refused(1);
+        return storing::refused(1);
     }
     let number = finding::set_attribute_refusal(store, element, attribute, value);
     if number != 0 {
-        return refused(number);
+        return storing::refused(number);
     }
     let row = finding::attribute_serial(store, element, attribute);
     let plan = set_attribute_plan(element, attribute as usize, row);
@@ -183,14 +110,14 @@ pub fn destroy_attribute_row(store: &[u8], element: u32, attribute: u32, out: &m
     ensures { λ r. ⌜ Answers (outcome (destroyAttributeRow element attribute) (now (store .entry)) (length (now (out .entry)))) (now (out .entry)) (r .number) (r .length) (now (out .exit)) ⌝ }
 {
     if !validity::passes(store) {
-        return refused(1);
+        return storing::refused(1);
     }
     let number = finding::destroy_attribute_row_refusal(store, element, attribute);
     if number != 0 {
-        return refused(number);
+        return storing::refused(number);
     }
     let takes = Which::Attributes(attribute as usize);
-    let plan = taking_plan(Which::Serial(element), takes);
+    let plan = plans::taking_plan(Which::Serial(element), takes);
     storing::edit(store, plan, &store[..0], out)
 }
 
@@ -199,12 +126,12 @@ pub fn set_text(store: &[u8], element: u32, text: &[u8], out: &mut [u8]) -> Answ
     ensures { λ r. ⌜ Answers (outcome (setText element (now (text .entry))) (now (store .entry)) (length (now (out .entry)))) (now (out .entry)) (r .number) (r .length) (now (out .exit)) ⌝ }
 {
     if !validity::passes(store) {
-        return refused(1);
+        return storing::refused(1);
     }
     let number = finding::set_text_refusal(store, element, text);
     if number != 0 {
-        return refused(number);
+        return storing::refused(number);
     }
-    let plan = setting_plan(finding::text_serial(store, element));
+    let plan = plans::setting_plan(finding::text_serial(store, element));
     storing::edit(store, plan, text, out)
 }

@@ -3,7 +3,7 @@ pub use storing::Answer;
 ghost use mathlib.Core.Path.{_≡_};
 ghost use Rattle.rules.specs.Passing.{passes};
 ghost use Rattle.rules.specs.LookUp.{lookUp};
-ghost use Rattle.rules.specs.Change.{createDefinition, destroyDefinition, addDocument, addElement, destroyElement, setAttribute, destroyAttributeRow, setText};
+ghost use Rattle.rules.specs.Change.{createDefinition, destroyDefinition, removeElement, convertToGroup, flattenGroup, addAttribute, destroyAttribute, addDocument, addElement, destroyElement, setAttribute, destroyAttributeRow, setText};
 ghost use Rattle.rules.specs.Outcome.{outcome, Answers};
 ghost use Rattle.rules.specs.Print.{printOutcome};
 ghost use lib.ListN.{length};
@@ -128,6 +128,118 @@ pub extern "C" fn formstore_destroy_definition(
     ensures { λ r. ⌜ Answers (outcome (destroyDefinition definition) (now (store .entry)) (length (now (out .entry)))) (now (out .entry)) (r .number) (r .length) (now (out .exit)) ⌝ }
 {
     definitions::destroy_definition(store, definition, out)
+}
+
+/// 4: removes an element from a model, with the children of instances that it stands for.
+pub fn remove_element(store: &[u8], owner: u32, place: &[u32], out: &mut [u8]) -> Answer
+    ensures { λ r. ⌜ Answers (outcome (removeElement owner (now (place .entry))) (now (store .entry)) (length (now (out .entry)))) (now (out .entry)) (r .number) (r .length) (now (out .exit)) ⌝ }
+{
+    models::remove_element(store, owner, place, out)
+}
+
+#[no_mangle]
+pub extern "C" fn formstore_remove_element(
+    store: &[u8],
+    owner: u32,
+    place: &[u32],
+    out: &mut [u8],
+) -> Answer
+    ensures { λ r. ⌜ Answers (outcome (removeElement owner (now (place .entry))) (now (store .entry)) (length (now (out .entry)))) (now (out .entry)) (r .number) (r .length) (now (out .exit)) ⌝ }
+{
+    models::remove_element(store, owner, place, out)
+}
+
+/// 6: converts `count` members from a place on into a group.
+pub fn convert_to_group(
+    store: &[u8],
+    owner: u32,
+    place: &[u32],
+    count: u32,
+    sort: u32,
+    out: &mut [u8],
+) -> Answer
+    ensures { λ r. ⌜ Answers (outcome (convertToGroup owner (now (place .entry)) count sort) (now (store .entry)) (length (now (out .entry)))) (now (out .entry)) (r .number) (r .length) (now (out .exit)) ⌝ }
+{
+    models::convert_to_group(store, owner, place, count, sort, out)
+}
+
+#[no_mangle]
+pub extern "C" fn formstore_convert_to_group(
+    store: &[u8],
+    owner: u32,
+    place: &[u32],
+    count: u32,
+    sort: u32,
+    out: &mut [u8],
+) -> Answer
+    ensures { λ r. ⌜ Answers (outcome (convertToGroup owner (now (place .entry)) count sort) (now (store .entry)) (length (now (out .entry)))) (now (out .entry)) (r .number) (r .length) (now (out .exit)) ⌝ }
+{
+    models::convert_to_group(store, owner, place, count, sort, out)
+}
+
+/// 7: flattens a group into its list.
+pub fn flatten_group(store: &[u8], owner: u32, place: &[u32], out: &mut [u8]) -> Answer
+    ensures { λ r. ⌜ Answers (outcome (flattenGroup owner (now (place .entry))) (now (store .entry)) (length (now (out .entry)))) (now (out .entry)) (r .number) (r .length) (now (out .exit)) ⌝ }
+{
+    models::flatten_group(store, owner, place, out)
+}
+
+#[no_mangle]
+pub extern "C" fn formstore_flatten_group(
+    store: &[u8],
+    owner: u32,
+    place: &[u32],
+    out: &mut [u8],
+) -> Answer
+    ensures { λ r. ⌜ Answers (outcome (flattenGroup owner (now (place .entry))) (now (store .entry)) (length (now (out .entry)))) (now (out .entry)) (r .number) (r .length) (now (out .exit)) ⌝ }
+{
+    models::flatten_group(store, owner, place, out)
+}
+
+/// 9: adds an attribute; a REQUIRED one adds a row to each instance.
+pub fn add_attribute(
+    store: &[u8],
+    owner: u32,
+    name: &[u8],
+    sort: u32,
+    value: &[u8],
+    out: &mut [u8],
+) -> Answer
+    ensures { λ r. ⌜ Answers (outcome (addAttribute owner (now (name .entry)) sort (now (value .entry))) (now (store .entry)) (length (now (out .entry)))) (now (out .entry)) (r .number) (r .length) (now (out .exit)) ⌝ }
+{
+    attributes::add_attribute(store, owner, name, sort, value, out)
+}
+
+#[no_mangle]
+pub extern "C" fn formstore_add_attribute(
+    store: &[u8],
+    owner: u32,
+    name: &[u8],
+    sort: u32,
+    value: &[u8],
+    out: &mut [u8],
+) -> Answer
+    ensures { λ r. ⌜ Answers (outcome (addAttribute owner (now (name .entry)) sort (now (value .entry))) (now (store .entry)) (length (now (out .entry)))) (now (out .entry)) (r .number) (r .length) (now (out .exit)) ⌝ }
+{
+    attributes::add_attribute(store, owner, name, sort, value, out)
+}
+
+/// 10: destroys an attribute, with its rows.
+pub fn destroy_attribute(store: &[u8], attribute: u32, out: &mut [u8]) -> Answer
+    ensures { λ r. ⌜ Answers (outcome (destroyAttribute attribute) (now (store .entry)) (length (now (out .entry)))) (now (out .entry)) (r .number) (r .length) (now (out .exit)) ⌝ }
+{
+    attributes::destroy_attribute(store, attribute, out)
+}
+
+#[no_mangle]
+pub extern "C" fn formstore_destroy_attribute(
+    store: &[u8],
+    attribute: u32,
+    out: &mut [u8],
+) -> Answer
+    ensures { λ r. ⌜ Answers (outcome (destroyAttribute attribute) (now (store .entry)) (length (now (out .entry)))) (now (out .entry)) (r .number) (r .length) (now (out .exit)) ⌝ }
+{
+    attributes::destroy_attribute(store, attribute, out)
 }
 
 /// 11: a new last document, the filling of a definition.

@@ -72,8 +72,8 @@ fn reach(s: &[u8], d: usize, n: usize) -> Reached
     ended(m, p)
 }
 
-// How many particles deeper than d s begins with.
-fn span(s: &[u8], d: usize) -> usize
+/// How many particles deeper than d s begins with.
+pub fn span(s: &[u8], d: usize) -> usize
     ensures { λ r. ⌜ r ≡ spanOf d (particlesOf (now (s .entry))) ⌝ }
 {
     let mut t = s;

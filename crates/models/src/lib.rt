@@ -1,10 +1,7 @@
 //! Changes 3 to 8: elements and groups of a model. Each call is the check, the first refusal that applies, and an edit of the owner's
 //! model with the plan of the change.
-use editing::Later;
 use editing::Plan;
-use editing::Shift;
 use editing::Which;
-use filling::Filling;
 use model::place::Found;
 use model::place::Holder;
 use rules::GroupKind;
@@ -29,32 +26,19 @@ ghost use Rattle.storing.specs.Stores.{limited};
 ghost use Rattle.storing.specs.Planned.{plannedIn};
 ghost use Rattle.storing.specs.Forms.{formBytes};
 ghost use Rattle.storing.specs.Writing.{Sized};
-ghost use Rattle.plans.specs.CallPlans.{unmarked, settingPlan};
 ghost use Rattle.plans.specs.ModelCalls.{removeElementPlan};
 ghost use Rattle.storing.proofs.FormLaws.{bareForm};
 ghost use Rattle.models.specs.Editing.{formEdited, countIn, Edits};
-
-const UNMOVED: Shift = Shift {
-    from: 0,
-    more: 0,
-    less: 0,
-};
 
 const HEADER_SIZE: usize = 40;
 
 /// The most bytes that a form has: 64 definitions, 256 particles, 64 attributes.
 const FORM_SIZE: usize = 5632;
 
-fn refused(number: u32) -> Answer
-    ensures { λ r. ⌜ (r .number ≡ number) × (r .length ≡ 0) ⌝ }
-{
-    Answer { number, length: 0 }
-}
-
 // ---- the edit of a model
 
-// A definition's part of the particle body.
-fn own_part(store: &[u8], owner: usize) -> &[u8]
+/// A definition's part of the particle body.
+pub fn own_part(store: &[u8], owner: usize) -> &[u8]
     requires { ⌜ owner ≤ 256 ⌝ }
     ensures { λ r. ⌜ now r ≡ partIn (now (store .entry)) owner ⌝ }
 {
@@ -150,7 +134,7 @@ fn put_edited(
 }
 
 /// The store after a plan and an edit of the model of definition `owner` at particle `at` of the list `holder`.
-fn edit_model(
+pub fn edit_model(
     store: &[u8],
     owner: usize,
     edit: Edit,
@@ -165,7 +149,7 @@ fn edit_model(
 {
     let p = all_after(store, owner, edit);
     if !keeps_within(store, owner, edit, holder, at, p) {
-        return refused(16);
+        return storing::refused(16);
     }
     let d = validity::number(store, 12);
     let a = validity::number(store, 28);
@@ -176,50 +160,13 @@ fn edit_model(
 
 // ---- plans
 
-fn unmarked() -> [u8; 64]
-    ensures { λ r. ⌜ r ≡ unmarked ⌝ }
-{
-    [0; 64]
-}
-
-// The plan that keeps all rows: none has serial 0.
-fn keeping_plan() -> Plan
-    ensures { λ r. ⌜ r ≡ settingPlan 0 ⌝ }
-{
-    Plan {
-        above: Which::Nothing,
-        takes: Which::Nothing,
-        fills: false,
-        later: Later::Never,
-        filling: Filling::Nothing,
-        marks: unmarked(),
-        keeps: false,
-        spares: false,
-        set: 0,
-        definitions: UNMOVED,
-        attributes: UNMOVED,
-    }
-}
-
 // The plan of change 4 for the element at particle p of the owner's part.
 fn removing_plan(part: &[u8], owner: usize, p: usize) -> Plan
     requires { ⌜ p ≤ 256 ⌝ }
     ensures { λ r. ⌜ r ≡ removeElementPlan owner (getD (now (part .entry)) (4 * p + 2) 0) ⌝ }
 {
     let index = codec::byte(part, 4 * p + 2) as usize;
-    Plan {
-        above: Which::Elements(owner),
-        takes: Which::Elements(index),
-        fills: false,
-        later: Later::Never,
-        filling: Filling::Nothing,
-        marks: unmarked(),
-        keeps: false,
-        spares: false,
-        set: 0,
-        definitions: UNMOVED,
-        attributes: UNMOVED,
-    }
+    plans::taking_plan(Which::Elements(owner), Which::Elements(index))
 }
 
 // ---- the calls
@@ -229,17 +176,17 @@ pub fn remove_element(store: &[u8], owner: u32, place: &[u32], out: &mut [u8]) -
     ensures { λ r. ⌜ Answers (outcome (removeElement owner (now (place .entry))) (now (store .entry)) (length (now (out .entry)))) (now (out .entry)) (r .number) (r .length) (now (out .exit)) ⌝ }
 {
     if !validity::passes(store) {
-        return refused(1);
+        return storing::refused(1);
     }
     let number = placing::remove_element_refusal(store, owner, place);
     if number != 0 {
-        return refused(number);
+        return storing::refused(number);
     }
     let o = owner as usize;
     let part = own_part(store, o);
     let found = model::place::find(part, place, false);
     match found {
-        Found::Absent => refused(8),
+        Found::Absent => storing::refused(8),
         Found::At(h, p) => {
             let plan = removing_plan(part, o, p);
             edit_model(store, o, Edit::Remove, h, p, plan, &store[..0], out)
@@ -269,18 +216,18 @@ pub fn convert_to_group(
     ensures { λ r. ⌜ Answers (outcome (convertToGroup owner (now (place .entry)) count sort) (now (store .entry)) (length (now (out .entry)))) (now (out .entry)) (r .number) (r .length) (now (out .exit)) ⌝ }
 {
     if !validity::passes(store) {
-        return refused(1);
+        return storing::refused(1);
     }
     let number = placing::convert_to_group_refusal(store, owner, place, count, sort);
     if number != 0 {
-        return refused(number);
+        return storing::refused(number);
     }
     let o = owner as usize;
     let edit = Edit::Convert(group_kind(sort), count as usize);
     let found = model::place::find(own_part(store, o), place, false);
-    let plan = keeping_plan();
+    let plan = plans::setting_plan(0);
     match found {
-        Found::Absent => refused(8),
+        Found::Absent => storing::refused(8),
         Found::At(h, p) => edit_model(store, o, edit, h, p, plan, &store[..0], out),
     }
 }
@@ -290,17 +237,17 @@ pub fn flatten_group(store: &[u8], owner: u32, place: &[u32], out: &mut [u8]) ->
     ensures { λ r. ⌜ Answers (outcome (flattenGroup owner (now (place .entry))) (now (store .entry)) (length (now (out .entry)))) (now (out .entry)) (r .number) (r .length) (now (out .exit)) ⌝ }
 {
     if !validity::passes(store) {
-        return refused(1);
+        return storing::refused(1);
     }
     let number = placing::flatten_group_refusal(store, owner, place);
     if number != 0 {
-        return refused(number);
+        return storing::refused(number);
     }
     let o = owner as usize;
     let found = model::place::find(own_part(store, o), place, false);
-    let plan = keeping_plan();
+    let plan = plans::setting_plan(0);
     match found {
-        Found::Absent => refused(8),
+        Found::Absent => storing::refused(8),
         Found::At(h, p) => edit_model(store, o, Edit::Flatten, h, p, plan, &store[..0], out),
     }
 }

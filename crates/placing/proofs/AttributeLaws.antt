@@ -21,6 +21,7 @@ use Rattle.rules.specs.Change.{addAttribute, destroyAttribute, Owned, entryAt, 
 use Rattle.rules.specs.Refusal.{conditions, isOther, wrongDefault}
 use Rattle.records.specs.Records.{NumberAt}
 use Rattle.lookup.specs.Bodies.{bodiesOf}
+use Rattle.rules.proofs.BooleanLaws.{any-append}
 use Rattle.validity.proofs.AttributeBlocks.{below-or}
 use Rattle.storing.specs.Stores.{storeIn}
 use Rattle.finding.proofs.StoreFacts.{formIn, Whole}
@@ -28,14 +29,6 @@ use Rattle.placing.specs.Placing.{attributeBody, ownNamed, First}
 use Rattle.placing.proofs.FirstLaws.{hit, next, none-holds}
 
 -- ---- attributes of a form
-pub any-append : {A : Type 0} (p : A → Bool) (xs ys : List A) → any p (xs ++ ys) ≡ (any p xs || any p ys)
-any-append p [] ys = refl
-any-append p (x ∷ xs) ys = ap (λ (b : Bool). p x || b) (any-append p xs ys) ∙ or-assoc (p x) (any p xs) (any p ys)
-  where
-    or-assoc : (a b c : Bool) → (a || (b || c)) ≡ ((a || b) || c)
-    or-assoc true b c = refl
-    or-assoc false b c = refl
-
 length-own : (k : ℕ) (table : List Attribute) → length (ownAttributes k table) ≡ length table
 length-own k [] = refl
 length-own k (a ∷ table) = ap suc (length-own k table)

@@ -22,28 +22,15 @@ use Rattle.rules.specs.Refusal.{instanceExists}
 use Rattle.records.specs.Records.{NumberAt}
 use Rattle.lookup.proofs.Laws.{from-all}
 use Rattle.validity.specs.Check.{rowsIn}
-use Rattle.validity.proofs.IndexLaws.{index-name, index-once, known-at, name-of}
+use Rattle.rules.proofs.BooleanLaws.{any-append}
+use Rattle.validity.proofs.IndexLaws.{index-same}
 use Rattle.storing.specs.Stores.{storeIn}
 use Rattle.finding.proofs.StoreFacts.{formIn, docsIn, Whole}
 use Rattle.placing.specs.Placing.{instanceRow}
-use Rattle.placing.proofs.AttributeLaws.{any-append}
 
 module _ (form : Form) (once : Distinct (map definitionName form)) (i : ℕ) (h : i < length form) where
   abbrev n : Bytes
   n = nameAtIndex i form
-
-  name-known : known form n ≡ true
-  name-known = ap (known form) (sym (name-of form i h)) ∙ known-at form once i h
-
-  name-index : indexOf n form ≡ i
-  name-index = ap (λ (m : Bytes). indexOf m form) (sym (name-of form i h)) ∙ index-name form once i h
-
-  index-same : (m : Bytes) → known form m ≡ true → eqb (indexOf m form) i ≡ same n m
-  index-same m k = by (same n m) refl
-    where
-      by : (b : Bool) → same n m ≡ b → eqb (indexOf m form) i ≡ b
-      by true e = eq-eqb (indexOf m form) i (ap (λ (x : Bytes). indexOf x form) (sym (bytes .same→ n m e)) ∙ name-index)
-      by false e = ne-eqb (indexOf m form) i (λ z. false≢true (sym e ∙ bytes .same← n m (index-once form n m name-known k (name-index ∙ sym z))))
 
   known-row : (r : Row) (below : List Row) → r .sort ≡ element → RowConforms form r below → known form (r .name) ≡ true
   known-row r below q x = ap isThere (told .1)
@@ -55,7 +42,7 @@ module _ (form : Form) (once : Distinct (map definitionName form)) (i : ℕ) (h 
   row-same owner r below x = by (r .sort) refl
     where
       by : (s : RowSort) → r .sort ≡ s → (eqb (rowCode (r .sort)) 1 && eqb (rowIndex form owner r) i) ≡ elementNamed n r
-      by element q = rw (q, rowIndex) (index-same (r .name) (known-row r below q x))
+      by element q = rw (q, rowIndex) (index-same form once i h (r .name) (known-row r below q x))
       by attribute q = rw q refl
       by text q = rw q refl
 

@@ -297,13 +297,15 @@ fn many(q: Quantifier) -> bool
     }
 }
 
-fn gains(old: Quantifier, new: Quantifier) -> bool
+/// Whether a new quantifier gains.
+pub fn gains(old: Quantifier, new: Quantifier) -> bool
     ensures { λ r. ⌜ r ≡ gains old new ⌝ }
 {
     !skips(new) & skips(old)
 }
 
-fn cuts(old: Quantifier, new: Quantifier) -> bool
+/// Whether a new quantifier cuts.
+pub fn cuts(old: Quantifier, new: Quantifier) -> bool
     ensures { λ r. ⌜ r ≡ cuts old new ⌝ }
 {
     many(old) & !many(new)

@@ -21,48 +21,17 @@ use Rattle.rules.specs.Lines.{elementNamed}
 use Rattle.rules.specs.Passing.{good}
 use Rattle.rules.specs.Change.{nameAtIndex}
 use Rattle.rules.proofs.Words.{and-split}
-use Rattle.rules.proofs.BooleanLaws.{Every, all-left, all-right}
+use Rattle.rules.proofs.BooleanLaws.{Every, all-left, all-right, any-append, member-append}
 use Rattle.rules.proofs.WellFormedLaws.{well-formed}
 use Rattle.rules.proofs.DecodeLaws.{good-parts, good-known}
 use Rattle.history.proofs.ConformingSimple.{good-tests}
-use Rattle.validity.proofs.IndexLaws.{index-name, index-once, known-at, name-of}
+use Rattle.validity.proofs.IndexLaws.{index-same}
 use Rattle.renumbering.specs.Bodies.{isMember, isRoot}
 use Rattle.defining.proofs.FittingRows.{element-known}
-
-pub any-append : {A : Type 0} (p : A → Bool) (xs ys : List A) → any p (xs ++ ys) ≡ (any p xs || any p ys)
-any-append p [] ys = refl
-any-append p (x ∷ xs) ys = by (p x) (any-append p xs ys)
-  where
-    by : (b : Bool) → any p (xs ++ ys) ≡ (any p xs || any p ys) → (b || any p (xs ++ ys)) ≡ ((b || any p xs) || any p ys)
-    by true e = refl
-    by false e = e
-
-member-append : (n : Bytes) (xs ys : List Bytes) → member bytes n (xs ++ ys) ≡ (member bytes n xs || member bytes n ys)
-unfolding member
-member-append n [] ys = refl
-member-append n (x ∷ xs) ys = by (same n x) (member-append n xs ys)
-  where
-    by : (b : Bool) → member bytes n (xs ++ ys) ≡ (member bytes n xs || member bytes n ys)
-        → elim b as (λ z. Bool) [ true ↦ true | false ↦ member bytes n (xs ++ ys) ] ≡ (elim b as (λ z. Bool) [ true ↦ true | false ↦ member bytes n xs ] || member bytes n ys)
-    by true e = refl
-    by false e = e
 
 module _ (form : Form) (once : Distinct (map definitionName form)) (i : ℕ) (h : i < length form) where
   abbrev n : Bytes
   n = nameAtIndex i form
-
-  name-known : known form n ≡ true
-  name-known = ap (known form) (sym (name-of form i h)) ∙ known-at form once i h
-
-  name-index : indexOf n form ≡ i
-  name-index = ap (λ (m : Bytes). indexOf m form) (sym (name-of form i h)) ∙ index-name form once i h
-
-  index-same : (m : Bytes) → known form m ≡ true → eqb (indexOf m form) i ≡ same n m
-  index-same m k = by (same n m) refl
-    where
-      by : (b : Bool) → same n m ≡ b → eqb (indexOf m form) i ≡ b
-      by true e = eq-eqb (indexOf m form) i (ap (λ (x : Bytes). indexOf x form) (sym (bytes .same→ n m e)) ∙ name-index)
-      by false e = ne-eqb (indexOf m form) i (λ z. false≢true (sym e ∙ bytes .same← n m (index-once form n m name-known k (name-index ∙ sym z))))
 
   -- ---- models
   group-not : (d q j : ℕ) (k : GroupKind) → isMember i (record { depth = d; row = record { sort = groupCode k; quantifier = q; index = j } }) ≡ false
@@ -74,7 +43,7 @@ module _ (form : Form) (once : Distinct (map definitionName form)) (i : ℕ) (h 
   model-has d done k = refl
   model-has d (el q m rest) k =
       let (x, y) = and-split (known form m) (all (known form) (names rest)) k in
-      ap₂ (λ (b c : Bool). b || c) (index-same m x) (model-has d rest y) ∙ or-member (same n m) (member bytes n (names rest))
+      ap₂ (λ (b c : Bool). b || c) (index-same form once i h m x) (model-has d rest y) ∙ or-member (same n m) (member bytes n (names rest))
     where
       or-member : (b c : Bool) → (b || c) ≡ elim b as (λ z. Bool) [ true ↦ true | false ↦ c ]
       or-member true c = refl
@@ -108,7 +77,7 @@ module _ (form : Form) (once : Distinct (map definitionName form)) (i : ℕ) (h 
   root-same owner r below e = by (r .sort) refl
     where
       by : (s : RowSort) → r .sort ≡ s → (eqb (rowCode (r .sort)) 1 && eqb (rowIndex form owner r) i) ≡ elementNamed n r
-      by element q = rw (q, rowIndex) (index-same (r .name) (element-known form r below e q))
+      by element q = rw (q, rowIndex) (index-same form once i h (r .name) (element-known form r below e q))
       by attribute q = rw q refl
       by text q = rw q refl
 

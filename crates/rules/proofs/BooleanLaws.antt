@@ -4,10 +4,11 @@ use Prim.Native.Nat.{ℕ}
 use native.Mathlib.Omega.{arith}
 use mathlib.Core.Path.{_≡_, refl, ap, sym, _∙_}
 use mathlib.Core.Logic.{⊎-elim}
-use mathlib.Core.Bool.{Bool, true, false, false≢true}
+use mathlib.Core.Bool.{Bool, true, false, _||_, false≢true}
 use mathlib.Core.Option.{Option, none, some}
 use mathlib.Core.List.{List, [], _∷_, _++_, List·Memᴰ, List·Memᴰ·head, List·Memᴰ·tail, List·Memᴰ·not-nil, List·Memᴰ·cases-cons}
-use Rattle.rules.specs.Bytes.{all, any, isNone, and-left, and-right}
+use Rattle.rules.specs.Bytes.{Bytes, same, bytes, all, any, isNone, and-left, and-right}
+use Rattle.rules.specs.Model.{member}
 use Rattle.rules.proofs.Words.{and-both, and-split, or-left, or-right, or-cases}
 
 -- ---- every entry
@@ -82,3 +83,22 @@ guard-true false o e = absurd (false≢true e)
 pub guard-some : {A : Type 0} (b : Bool) (o : Option A) (x : A) → elim b [ true ↦ o | false ↦ none ] ≡ some x → (b ≡ true) × (o ≡ some x)
 guard-some true o x h = (refl, h)
 guard-some false o x h = let e : _≡_ {A = ℕ} 0 1 = cc in absurd (omega arith)
+
+-- ---- of two lists
+pub any-append : {A : Type 0} (p : A → Bool) (xs ys : List A) → any p (xs ++ ys) ≡ (any p xs || any p ys)
+any-append p [] ys = refl
+any-append p (x ∷ xs) ys = by (p x) (any-append p xs ys)
+  where
+    by : (b : Bool) → any p (xs ++ ys) ≡ (any p xs || any p ys) → (b || any p (xs ++ ys)) ≡ ((b || any p xs) || any p ys)
+    by true e = refl
+    by false e = e
+
+pub member-append : (n : Bytes) (xs ys : List Bytes) → member bytes n (xs ++ ys) ≡ (member bytes n xs || member bytes n ys)
+unfolding member
+member-append n [] ys = refl
+member-append n (x ∷ xs) ys = by (same n x) (member-append n xs ys)
+  where
+    by : (b : Bool) → member bytes n (xs ++ ys) ≡ (member bytes n xs || member bytes n ys)
+        → elim b as (λ z. Bool) [ true ↦ true | false ↦ member bytes n (xs ++ ys) ] ≡ (elim b as (λ z. Bool) [ true ↦ true | false ↦ member bytes n xs ] || member bytes n ys)
+    by true e = refl
+    by false e = e

@@ -95,10 +95,10 @@ small-definitions w form (d ∷ fs) a =
     let l : length (d .name) ≤ nameWidth = name-width (d .name) (a .0 .name) in
     (record { length-name = omega arith; name = name-small (d .name) (a .0 .name); kind = kind-small (d .content) }, small-definitions w form fs (a .1))
 
-record LaidParticle (p : Deep FlatParticle) : Type 0 where
-  sort : p .row .sort < 256
-  quantifier : p .row .quantifier < 256
-  index : p .row .index < 256
+pub record LaidParticle (p : Deep FlatParticle) : Type 0 where
+  pub sort : p .row .sort < 256
+  pub quantifier : p .row .quantifier < 256
+  pub index : p .row .index < 256
 
 -- a group's members are particles as well, and so fewer than all
 module _ (form : Form) (few : length form ≤ 64) where
@@ -121,7 +121,7 @@ module _ (form : Form) (few : length form ≤ 64) where
   laid-content pcdata h = tt
   laid-content (complex ms) h = laid-members 0 ms h
 
-  laid-particles : (fs : Form) → length (allParticles form fs) ≤ 256 → Every LaidParticle (allParticles form fs)
+  pub laid-particles : (fs : Form) → length (allParticles form fs) ≤ 256 → Every LaidParticle (allParticles form fs)
   laid-particles [] h = tt
   laid-particles (d ∷ fs) h =
       let e : length (contentParticles form (d .content) ++ allParticles form fs) ≡ length (contentParticles form (d .content)) + length (allParticles form fs) = length-append (contentParticles form (d .content)) (allParticles form fs) in

@@ -31,7 +31,8 @@ const MOST_ROWS: usize = 4097;
 
 const HEADER_SIZE: usize = 40;
 
-fn refused(number: u32) -> Answer
+/// Nothing is written.
+pub fn refused(number: u32) -> Answer
     ensures { λ r. ⌜ (r .number ≡ number) × (r .length ≡ 0) ⌝ }
 {
     Answer { number, length: 0 }

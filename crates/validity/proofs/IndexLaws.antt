@@ -6,14 +6,16 @@ use mathlib.Core.Path.{_≡_, refl, ap, _∙_, sym}
 use mathlib.Core.Bool.{Bool, true, false, false≢true}
 use mathlib.Core.Option.{some}
 use mathlib.Core.List.{List, [], _∷_, map, List·Memᴰ, List·Memᴰ·head, List·Memᴰ·tail, Memᴰ·cast, Memᴰ·map, Memᴰ·of-map}
+use lib.Dec.{eqb}
 use lib.ListN.{length, length-map}
+use borrow.Author.Tests.{eq-eqb, ne-eqb}
 use Rattle.rules.specs.Bytes.{Bytes, same, bytes, same-eq, same-refl}
 use Rattle.rules.specs.Model.{Distinct}
 use Rattle.rules.specs.Store.{Definition, Form}
 use Rattle.rules.specs.Layout.{indexOf}
 use Rattle.rules.specs.Decode.{nameAt}
 use Rattle.rules.specs.WellFormed.{definitionName, lookup, isThere, known}
-use Rattle.rules.specs.Change.{definitionAt}
+use Rattle.rules.specs.Change.{definitionAt, nameAtIndex}
 use Rattle.rules.proofs.Apart.{differs}
 
 -- ---- lists whose entries stand once
@@ -92,3 +94,21 @@ known-index (d ∷ ds) n h = by (same n (d .name)) refl (known-index ds n)
 
 pub index-once : (form : Form) (n m : Bytes) → known form n ≡ true → known form m ≡ true → indexOf n form ≡ indexOf m form → n ≡ m
 index-once form n m h g e = sym (known-index form n h .name) ∙ ap (λ (i : ℕ). nameAt i (namesOf form)) e ∙ known-index form m g .name
+
+-- of the definition with index i: the name is the one with that index
+module _ (form : Form) (once : Distinct (namesOf form)) (i : ℕ) (h : i < length form) where
+  abbrev n : Bytes
+  n = nameAtIndex i form
+
+  pub name-known : known form n ≡ true
+  name-known = ap (known form) (sym (name-of form i h)) ∙ known-at form once i h
+
+  pub name-index : indexOf n form ≡ i
+  name-index = ap (λ (m : Bytes). indexOf m form) (sym (name-of form i h)) ∙ index-name form once i h
+
+  pub index-same : (m : Bytes) → known form m ≡ true → eqb (indexOf m form) i ≡ same n m
+  index-same m k = by (same n m) refl
+    where
+      by : (b : Bool) → same n m ≡ b → eqb (indexOf m form) i ≡ b
+      by true e = eq-eqb (indexOf m form) i (ap (λ (x : Bytes). indexOf x form) (sym (bytes .same→ n m e)) ∙ name-index)
+      by false e = ne-eqb (indexOf m form) i (λ z. false≢true (sym e ∙ bytes .same← n m (index-once form n m name-known k (name-index ∙ sym z))))

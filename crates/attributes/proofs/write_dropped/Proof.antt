@@ -20,8 +20,8 @@ number-requires-3 c κs = search needs
 owner-of-requires : tie.Need-owner-of-requires
 owner-of-requires c κs = search needs
 
-destroy-plan-requires : tie.Need-destroy-plan-requires
-destroy-plan-requires c κs = search needs
+destroy-attribute-plan-requires : tie.Need-destroy-attribute-plan-requires
+destroy-attribute-plan-requires c κs = search needs
 
 slice-aggregate-put-dropped : tie.Need-slice-aggregate-put-dropped
 slice-aggregate-put-dropped c = search needs
@@ -30,10 +30,10 @@ put-dropped-requires : tie.Need-put-dropped-requires
 put-dropped-requires c κs = search needs
 
 array-share-prefix-form : tie.Need-array-share-prefix-form
-array-share-prefix-form c = dropped-fits (c .before .before .before .before .before .before .before .before .before .before .args .store .now) (c .before .before .before .before .before .before .before .before .before .before .args .attribute) (c .before .before .before .before .before .before .before .before .before .before .pre) (c .before .before .before .before .before .before .before .number .ensures) (c .before .before .before .before .before .before .number2 .ensures) (c .before .before .before .before .before .number3 .ensures) (c .before .before .before .before .owner-of .ensures) (c .before .before .before .destroy-plan .ensures) zeros-long (c .before .put-dropped .ensures)
+array-share-prefix-form c = dropped-fits (c .before .before .before .before .before .before .before .before .before .before .args .store .now) (c .before .before .before .before .before .before .before .before .before .before .args .attribute) (c .before .before .before .before .before .before .before .before .before .before .pre) (c .before .before .before .before .before .before .before .number .ensures) (c .before .before .before .before .before .before .number2 .ensures) (c .before .before .before .before .before .number3 .ensures) (c .before .before .before .before .owner-of .ensures) (c .before .before .before .destroy-attribute-plan .ensures) zeros-long (c .before .put-dropped .ensures)
 
 slice-aggregate-edit-form : tie.Need-slice-aggregate-edit-form
-slice-aggregate-edit-form c = dropped-long (c .before .before .before .before .before .before .before .before .before .before .before .args .store .now) (c .before .before .before .before .before .before .before .before .before .before .before .args .attribute) (c .before .before .before .before .before .before .before .before .before .before .before .pre) (c .before .before .before .before .before .before .before .before .number .ensures) (c .before .before .before .before .before .before .before .number2 .ensures) (c .before .before .before .before .before .before .number3 .ensures) (c .before .before .before .before .before .owner-of .ensures) (c .before .before .before .before .destroy-plan .ensures) zeros-long (c .before .before .put-dropped .ensures)
+slice-aggregate-edit-form c = dropped-long (c .before .before .before .before .before .before .before .before .before .before .before .args .store .now) (c .before .before .before .before .before .before .before .before .before .before .before .args .attribute) (c .before .before .before .before .before .before .before .before .before .before .before .pre) (c .before .before .before .before .before .before .before .before .number .ensures) (c .before .before .before .before .before .before .before .number2 .ensures) (c .before .before .before .before .before .before .number3 .ensures) (c .before .before .before .before .before .owner-of .ensures) (c .before .before .before .before .destroy-attribute-plan .ensures) zeros-long (c .before .before .put-dropped .ensures)
 
 sub-edit-form : tie.Need-sub-edit-form
 sub-edit-form c = omega (arith, c .before .before .before .before .before .before .before .before .before .before .before .pre .inside, count-attributes (c .before .before .before .before .before .before .before .before .before .before .before .args .store .now) (c .before .before .before .before .before .before .number3 .ensures))
@@ -42,13 +42,13 @@ slice-aggregate-edit-form-2 : tie.Need-slice-aggregate-edit-form-2
 slice-aggregate-edit-form-2 c = search needs
 
 edit-form-requires : tie.Need-edit-form-requires
-edit-form-requires c κs = dropped-asks (c .before .before .before .before .before .before .before .before .before .before .before .before .before .args .store .now) (c .before .before .before .before .before .before .before .before .before .before .before .before .before .args .attribute) (c .before .before .before .before .before .before .before .before .before .before .before .before .before .pre) (c .before .before .before .before .before .before .before .before .before .before .number .ensures) (c .before .before .before .before .before .before .before .before .before .number2 .ensures) (c .before .before .before .before .before .before .before .before .number3 .ensures) (c .before .before .before .before .before .before .before .owner-of .ensures) (c .before .before .before .before .before .before .destroy-plan .ensures) zeros-long (c .before .before .before .before .put-dropped .ensures)
+edit-form-requires c κs = dropped-asks (c .before .before .before .before .before .before .before .before .before .before .before .before .before .args .store .now) (c .before .before .before .before .before .before .before .before .before .before .before .before .before .args .attribute) (c .before .before .before .before .before .before .before .before .before .before .before .before .before .pre) (c .before .before .before .before .before .before .before .before .before .before .number .ensures) (c .before .before .before .before .before .before .before .before .before .number2 .ensures) (c .before .before .before .before .before .before .before .before .number3 .ensures) (c .before .before .before .before .before .before .before .owner-of .ensures) (c .before .before .before .before .before .before .destroy-attribute-plan .ensures) zeros-long (c .before .before .before .before .put-dropped .ensures)
 
 same-length : tie.Need-same-length
 same-length c = search needs
 
 returns : tie.Need-returns
-returns c = dropped-answers (c .before .before .before .before .before .before .before .before .before .before .before .before .before .before .before .before .args .store .now) (c .before .before .before .before .before .before .before .before .before .before .before .before .before .before .before .before .args .attribute) (c .before .before .before .before .before .before .before .before .before .before .before .before .before .before .before .before .pre) (c .before .before .before .before .before .before .before .before .before .before .before .before .before .number .ensures) (c .before .before .before .before .before .before .before .before .before .before .before .before .number2 .ensures) (c .before .before .before .before .before .before .before .before .before .before .before .number3 .ensures) (c .before .before .before .before .before .before .before .before .before .before .owner-of .ensures) (c .before .before .before .before .before .before .before .before .before .destroy-plan .ensures) zeros-long (c .before .before .before .before .before .before .before .put-dropped .ensures) (length (c .before .before .before .before .before .before .before .before .before .before .before .before .before .before .before .before .args .out .now)) (c .before .before .edit-form .ensures)
+returns c = dropped-answers (c .before .before .before .before .before .before .before .before .before .before .before .before .before .before .before .before .args .store .now) (c .before .before .before .before .before .before .before .before .before .before .before .before .before .before .before .before .args .attribute) (c .before .before .before .before .before .before .before .before .before .before .before .before .before .before .before .before .pre) (c .before .before .before .before .before .before .before .before .before .before .before .before .before .number .ensures) (c .before .before .before .before .before .before .before .before .before .before .before .before .number2 .ensures) (c .before .before .before .before .before .before .before .before .before .before .before .number3 .ensures) (c .before .before .before .before .before .before .before .before .before .before .owner-of .ensures) (c .before .before .before .before .before .before .before .before .before .destroy-attribute-plan .ensures) zeros-long (c .before .before .before .before .before .before .before .put-dropped .ensures) (length (c .before .before .before .before .before .before .before .before .before .before .before .before .before .before .before .before .args .out .now)) (c .before .before .edit-form .ensures)
 
 pub write-dropped-spec : {M : Type 1} → statement M
 write-dropped-spec =
@@ -58,7 +58,7 @@ write-dropped-spec =
     number-requires-2
     number-requires-3
     owner-of-requires
-    destroy-plan-requires
+    destroy-attribute-plan-requires
     slice-aggregate-put-dropped
     put-dropped-requires
     array-share-prefix-form

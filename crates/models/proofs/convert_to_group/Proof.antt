@@ -19,9 +19,9 @@ use Rattle.models.proofs.convert_to_group.Tie as tie
 use Rattle.model.proofs.place.find.Reads as find-reads
 use Rattle.models.proofs.edit_model.Reads as edit-model-reads
 use Rattle.models.proofs.group_kind.Reads as group-kind-reads
-use Rattle.models.proofs.keeping_plan.Reads as keeping-plan-reads
+use Rattle.plans.proofs.setting_plan.Reads as setting-plan-reads
 use Rattle.models.proofs.own_part.Reads as own-part-reads
-use Rattle.models.proofs.refused.Reads as refused-reads
+use Rattle.storing.proofs.refused.Reads as refused-reads
 use Rattle.placing.proofs.convert_to_group_refusal.Reads as convert-to-group-refusal-reads
 use Rattle.validity.proofs.passes.Reads as passes-reads
 
@@ -52,8 +52,8 @@ own-part-requires c κs = owner-fits (convert-fits (c .before .before .before .b
 find-requires : tie.Need-find-requires
 find-requires c κs = search needs
 
-keeping-plan-requires : tie.Need-keeping-plan-requires
-keeping-plan-requires c κs = search needs
+setting-plan-requires : tie.Need-setting-plan-requires
+setting-plan-requires c κs = search needs
 
 enum-told : tie.Need-enum-told
 enum-told c = search needs
@@ -68,7 +68,7 @@ slice-aggregate-edit-model : tie.Need-slice-aggregate-edit-model
 slice-aggregate-edit-model c = search needs
 
 edit-model-requires : tie.Need-edit-model-requires
-edit-model-requires c κs = (asks (convert-fits (c .before .before .before .before .before .before .before .before .before .before .before .before .before .before .before .before .args .store .now) (sym (c .before .before .before .before .before .before .before .before .before .before .before .before .passes .ensures) ∙ not-false _ (c .before .before .before .before .before .before .before .before .before .before .before .if1 .left)) (c .before .before .before .before .before .before .before .before .before .before .before .before .before .before .before .before .args .owner) (c .before .before .before .before .before .before .before .before .before .before .before .before .before .before .before .before .args .place .now) (c .before .before .before .before .before .before .before .before .before .before .before .before .before .before .before .before .args .count) (c .before .before .before .before .before .before .before .before .before .before .before .before .before .before .before .before .args .sort) (sym (c .before .before .before .before .before .before .before .before .before .before .convert-to-group-refusal .ensures) ∙ c .before .before .before .before .before .before .before .before .before .if2 .left)) (Convert (c .before .before .before .before .before .before .before .before .group-kind .result) (c .before .before .before .before .before .before .before .before .before .before .before .before .before .before .before .before .args .count)) (ap (λ (z : GroupKind). convert z (c .before .before .before .before .before .before .before .before .before .before .before .before .before .before .before .before .args .count)) (c .before .before .before .before .before .before .before .before .group-kind .ensures)) (c .before .before .before .before .before .before .before .own-part .ensures) (c .before .before .before .before .before .before .find .ensures) _ _ (c .before .before .before .found .given .1), refl, keeping-sized (c .before .before .before .before .before .keeping-plan .ensures))
+edit-model-requires c κs = (asks (convert-fits (c .before .before .before .before .before .before .before .before .before .before .before .before .before .before .before .before .args .store .now) (sym (c .before .before .before .before .before .before .before .before .before .before .before .before .passes .ensures) ∙ not-false _ (c .before .before .before .before .before .before .before .before .before .before .before .if1 .left)) (c .before .before .before .before .before .before .before .before .before .before .before .before .before .before .before .before .args .owner) (c .before .before .before .before .before .before .before .before .before .before .before .before .before .before .before .before .args .place .now) (c .before .before .before .before .before .before .before .before .before .before .before .before .before .before .before .before .args .count) (c .before .before .before .before .before .before .before .before .before .before .before .before .before .before .before .before .args .sort) (sym (c .before .before .before .before .before .before .before .before .before .before .convert-to-group-refusal .ensures) ∙ c .before .before .before .before .before .before .before .before .before .if2 .left)) (Convert (c .before .before .before .before .before .before .before .before .group-kind .result) (c .before .before .before .before .before .before .before .before .before .before .before .before .before .before .before .before .args .count)) (ap (λ (z : GroupKind). convert z (c .before .before .before .before .before .before .before .before .before .before .before .before .before .before .before .before .args .count)) (c .before .before .before .before .before .before .before .before .group-kind .ensures)) (c .before .before .before .before .before .before .before .own-part .ensures) (c .before .before .before .before .before .before .find .ensures) _ _ (c .before .before .before .found .given .1), refl, keeping-sized (c .before .before .before .before .before .setting-plan .ensures))
 
 returns-3 : tie.Need-returns-3
 returns-3 c = absurd (not-absent (convert-fits (c .before .before .before .before .before .before .before .before .before .before .before .before .before .before .args .store .now) (sym (c .before .before .before .before .before .before .before .before .before .before .passes .ensures) ∙ not-false _ (c .before .before .before .before .before .before .before .before .before .if1 .left)) (c .before .before .before .before .before .before .before .before .before .before .before .before .before .before .args .owner) (c .before .before .before .before .before .before .before .before .before .before .before .before .before .before .args .place .now) (c .before .before .before .before .before .before .before .before .before .before .before .before .before .before .args .count) (c .before .before .before .before .before .before .before .before .before .before .before .before .before .before .args .sort) (sym (c .before .before .before .before .before .before .before .before .convert-to-group-refusal .ensures) ∙ c .before .before .before .before .before .before .before .if2 .left)) (Convert (c .before .before .before .before .before .before .group-kind .result) (c .before .before .before .before .before .before .before .before .before .before .before .before .before .before .args .count)) (ap (λ (z : GroupKind). convert z (c .before .before .before .before .before .before .before .before .before .before .before .before .before .before .args .count)) (c .before .before .before .before .before .before .group-kind .ensures)) (c .before .before .before .before .before .own-part .ensures) (c .before .before .before .before .find .ensures) (c .before .enum-told .given .1))
@@ -77,7 +77,7 @@ same-length : tie.Need-same-length
 same-length c = search needs
 
 returns-4 : tie.Need-returns-4
-returns-4 c = kept-answers (convert-fits (c .before .before .before .before .before .before .before .before .before .before .before .before .before .before .before .before .before .before .before .args .store .now) (sym (c .before .before .before .before .before .before .before .before .before .before .before .before .before .before .before .passes .ensures) ∙ not-false _ (c .before .before .before .before .before .before .before .before .before .before .before .before .before .before .if1 .left)) (c .before .before .before .before .before .before .before .before .before .before .before .before .before .before .before .before .before .before .before .args .owner) (c .before .before .before .before .before .before .before .before .before .before .before .before .before .before .before .before .before .before .before .args .place .now) (c .before .before .before .before .before .before .before .before .before .before .before .before .before .before .before .before .before .before .before .args .count) (c .before .before .before .before .before .before .before .before .before .before .before .before .before .before .before .before .before .before .before .args .sort) (sym (c .before .before .before .before .before .before .before .before .before .before .before .before .before .convert-to-group-refusal .ensures) ∙ c .before .before .before .before .before .before .before .before .before .before .before .before .if2 .left)) (Convert (c .before .before .before .before .before .before .before .before .before .before .before .group-kind .result) (c .before .before .before .before .before .before .before .before .before .before .before .before .before .before .before .before .before .before .before .args .count)) (ap (λ (z : GroupKind). convert z (c .before .before .before .before .before .before .before .before .before .before .before .before .before .before .before .before .before .before .before .args .count)) (c .before .before .before .before .before .before .before .before .before .before .before .group-kind .ensures)) (c .before .before .before .before .before .before .before .before .before .before .own-part .ensures) (c .before .before .before .before .before .before .before .before .before .find .ensures) _ _ (c .before .before .before .before .before .before .found .given .1) (convertToGroup (c .before .before .before .before .before .before .before .before .before .before .before .before .before .before .before .before .before .before .before .args .owner) (c .before .before .before .before .before .before .before .before .before .before .before .before .before .before .before .before .before .before .before .args .place .now) (c .before .before .before .before .before .before .before .before .before .before .before .before .before .before .before .before .before .before .before .args .count) (c .before .before .before .before .before .before .before .before .before .before .before .before .before .before .before .before .before .before .before .args .sort)) (length (c .before .before .before .before .before .before .before .before .before .before .before .before .before .before .before .before .before .before .before .args .out .now)) _ (c .before .before .before .before .before .before .before .before .keeping-plan .ensures) (c .before .before .before .before .before .before .before .before .before .before .before .before .before .convert-to-group-refusal .ensures) (c .before .before .before .before .before .before .before .before .before .before .before .before .if2 .left) (convert-form (c .before .before .before .before .before .before .before .before .before .before .before .before .before .before .before .before .before .before .before .args .owner) (c .before .before .before .before .before .before .before .before .before .before .before .before .before .before .before .before .before .before .before .args .place .now) (c .before .before .before .before .before .before .before .before .before .before .before .before .before .before .before .before .before .before .before .args .count) (c .before .before .before .before .before .before .before .before .before .before .before .before .before .before .before .before .before .before .before .args .sort) (storeIn (c .before .before .before .before .before .before .before .before .before .before .before .before .before .before .before .before .before .before .before .args .store .now) .form)) (convert-plan (c .before .before .before .before .before .before .before .before .before .before .before .before .before .before .before .before .before .before .before .args .owner) (c .before .before .before .before .before .before .before .before .before .before .before .before .before .before .before .before .before .before .before .args .place .now) (c .before .before .before .before .before .before .before .before .before .before .before .before .before .before .before .before .before .before .before .args .count) (c .before .before .before .before .before .before .before .before .before .before .before .before .before .before .before .before .before .before .before .args .sort) (storeIn (c .before .before .before .before .before .before .before .before .before .before .before .before .before .before .before .before .before .before .before .args .store .now) .form) (lines 0 (storeIn (c .before .before .before .before .before .before .before .before .before .before .before .before .before .before .before .before .before .before .before .args .store .now) .docs))) (c .before .before .edit-model .ensures)
+returns-4 c = kept-answers (convert-fits (c .before .before .before .before .before .before .before .before .before .before .before .before .before .before .before .before .before .before .before .args .store .now) (sym (c .before .before .before .before .before .before .before .before .before .before .before .before .before .before .before .passes .ensures) ∙ not-false _ (c .before .before .before .before .before .before .before .before .before .before .before .before .before .before .if1 .left)) (c .before .before .before .before .before .before .before .before .before .before .before .before .before .before .before .before .before .before .before .args .owner) (c .before .before .before .before .before .before .before .before .before .before .before .before .before .before .before .before .before .before .before .args .place .now) (c .before .before .before .before .before .before .before .before .before .before .before .before .before .before .before .before .before .before .before .args .count) (c .before .before .before .before .before .before .before .before .before .before .before .before .before .before .before .before .before .before .before .args .sort) (sym (c .before .before .before .before .before .before .before .before .before .before .before .before .before .convert-to-group-refusal .ensures) ∙ c .before .before .before .before .before .before .before .before .before .before .before .before .if2 .left)) (Convert (c .before .before .before .before .before .before .before .before .before .before .before .group-kind .result) (c .before .before .before .before .before .before .before .before .before .before .before .before .before .before .before .before .before .before .before .args .count)) (ap (λ (z : GroupKind). convert z (c .before .before .before .before .before .before .before .before .before .before .before .before .before .before .before .before .before .before .before .args .count)) (c .before .before .before .before .before .before .before .before .before .before .before .group-kind .ensures)) (c .before .before .before .before .before .before .before .before .before .before .own-part .ensures) (c .before .before .before .before .before .before .before .before .before .find .ensures) _ _ (c .before .before .before .before .before .before .found .given .1) (convertToGroup (c .before .before .before .before .before .before .before .before .before .before .before .before .before .before .before .before .before .before .before .args .owner) (c .before .before .before .before .before .before .before .before .before .before .before .before .before .before .before .before .before .before .before .args .place .now) (c .before .before .before .before .before .before .before .before .before .before .before .before .before .before .before .before .before .before .before .args .count) (c .before .before .before .before .before .before .before .before .before .before .before .before .before .before .before .before .before .before .before .args .sort)) (length (c .before .before .before .before .before .before .before .before .before .before .before .before .before .before .before .before .before .before .before .args .out .now)) _ (c .before .before .before .before .before .before .before .before .setting-plan .ensures) (c .before .before .before .before .before .before .before .before .before .before .before .before .before .convert-to-group-refusal .ensures) (c .before .before .before .before .before .before .before .before .before .before .before .before .if2 .left) (convert-form (c .before .before .before .before .before .before .before .before .before .before .before .before .before .before .before .before .before .before .before .args .owner) (c .before .before .before .before .before .before .before .before .before .before .before .before .before .before .before .before .before .before .before .args .place .now) (c .before .before .before .before .before .before .before .before .before .before .before .before .before .before .before .before .before .before .before .args .count) (c .before .before .before .before .before .before .before .before .before .before .before .before .before .before .before .before .before .before .before .args .sort) (storeIn (c .before .before .before .before .before .before .before .before .before .before .before .before .before .before .before .before .before .before .before .args .store .now) .form)) (convert-plan (c .before .before .before .before .before .before .before .before .before .before .before .before .before .before .before .before .before .before .before .args .owner) (c .before .before .before .before .before .before .before .before .before .before .before .before .before .before .before .before .before .before .before .args .place .now) (c .before .before .before .before .before .before .before .before .before .before .before .before .before .before .before .before .before .before .before .args .count) (c .before .before .before .before .before .before .before .before .before .before .before .before .before .before .before .before .before .before .before .args .sort) (storeIn (c .before .before .before .before .before .before .before .before .before .before .before .before .before .before .before .before .before .before .before .args .store .now) .form) (lines 0 (storeIn (c .before .before .before .before .before .before .before .before .before .before .before .before .before .before .before .before .before .before .before .args .store .now) .docs))) (c .before .before .edit-model .ensures)
 
 pub convert-to-group-spec : {M : Type 1} → statement M
 convert-to-group-spec =
@@ -92,7 +92,7 @@ convert-to-group-spec =
     group-kind-requires
     own-part-requires
     find-requires
-    keeping-plan-requires
+    setting-plan-requires
     enum-told
     refused-requires-3
     enum-known-found

@@ -14,7 +14,7 @@ use Rattle.models.proofs.edit_model.Tie as tie
 use Rattle.models.proofs.all_after.Reads as all-after-reads
 use Rattle.models.proofs.keeps_within.Reads as keeps-within-reads
 use Rattle.models.proofs.put_edited.Reads as put-edited-reads
-use Rattle.models.proofs.refused.Reads as refused-reads
+use Rattle.storing.proofs.refused.Reads as refused-reads
 use Rattle.storing.proofs.edit_form.Reads as edit-form-reads
 use Rattle.validity.proofs.number.Reads as number-reads
 

@@ -16,9 +16,9 @@ use Rattle.models.proofs.flatten_group.Statement.{statement}
 use Rattle.models.proofs.flatten_group.Tie as tie
 use Rattle.model.proofs.place.find.Reads as find-reads
 use Rattle.models.proofs.edit_model.Reads as edit-model-reads
-use Rattle.models.proofs.keeping_plan.Reads as keeping-plan-reads
+use Rattle.plans.proofs.setting_plan.Reads as setting-plan-reads
 use Rattle.models.proofs.own_part.Reads as own-part-reads
-use Rattle.models.proofs.refused.Reads as refused-reads
+use Rattle.storing.proofs.refused.Reads as refused-reads
 use Rattle.placing.proofs.flatten_group_refusal.Reads as flatten-group-refusal-reads
 use Rattle.validity.proofs.passes.Reads as passes-reads
 
@@ -46,8 +46,8 @@ own-part-requires c κs = owner-fits (flatten-fits (c .before .before .before .b
 find-requires : tie.Need-find-requires
 find-requires c κs = search needs
 
-keeping-plan-requires : tie.Need-keeping-plan-requires
-keeping-plan-requires c κs = search needs
+setting-plan-requires : tie.Need-setting-plan-requires
+setting-plan-requires c κs = search needs
 
 enum-told : tie.Need-enum-told
 enum-told c = search needs
@@ -62,7 +62,7 @@ slice-aggregate-edit-model : tie.Need-slice-aggregate-edit-model
 slice-aggregate-edit-model c = search needs
 
 edit-model-requires : tie.Need-edit-model-requires
-edit-model-requires c κs = (asks (flatten-fits (c .before .before .before .before .before .before .before .before .before .before .before .before .before .before .before .args .store .now) (sym (c .before .before .before .before .before .before .before .before .before .before .before .passes .ensures) ∙ not-false _ (c .before .before .before .before .before .before .before .before .before .before .if1 .left)) (c .before .before .before .before .before .before .before .before .before .before .before .before .before .before .before .args .owner) (c .before .before .before .before .before .before .before .before .before .before .before .before .before .before .before .args .place .now) (sym (c .before .before .before .before .before .before .before .before .before .flatten-group-refusal .ensures) ∙ c .before .before .before .before .before .before .before .before .if2 .left)) Flatten refl (c .before .before .before .before .before .before .before .own-part .ensures) (c .before .before .before .before .before .before .find .ensures) _ _ (c .before .before .before .found .given .1), refl, keeping-sized (c .before .before .before .before .before .keeping-plan .ensures))
+edit-model-requires c κs = (asks (flatten-fits (c .before .before .before .before .before .before .before .before .before .before .before .before .before .before .before .args .store .now) (sym (c .before .before .before .before .before .before .before .before .before .before .before .passes .ensures) ∙ not-false _ (c .before .before .before .before .before .before .before .before .before .before .if1 .left)) (c .before .before .before .before .before .before .before .before .before .before .before .before .before .before .before .args .owner) (c .before .before .before .before .before .before .before .before .before .before .before .before .before .before .before .args .place .now) (sym (c .before .before .before .before .before .before .before .before .before .flatten-group-refusal .ensures) ∙ c .before .before .before .before .before .before .before .before .if2 .left)) Flatten refl (c .before .before .before .before .before .before .before .own-part .ensures) (c .before .before .before .before .before .before .find .ensures) _ _ (c .before .before .before .found .given .1), refl, keeping-sized (c .before .before .before .before .before .setting-plan .ensures))
 
 returns-3 : tie.Need-returns-3
 returns-3 c = absurd (not-absent (flatten-fits (c .before .before .before .before .before .before .before .before .before .before .before .before .before .args .store .now) (sym (c .before .before .before .before .before .before .before .before .before .passes .ensures) ∙ not-false _ (c .before .before .before .before .before .before .before .before .if1 .left)) (c .before .before .before .before .before .before .before .before .before .before .before .before .before .args .owner) (c .before .before .before .before .before .before .before .before .before .before .before .before .before .args .place .now) (sym (c .before .before .before .before .before .before .before .flatten-group-refusal .ensures) ∙ c .before .before .before .before .before .before .if2 .left)) Flatten refl (c .before .before .before .before .before .own-part .ensures) (c .before .before .before .before .find .ensures) (c .before .enum-told .given .1))
@@ -71,7 +71,7 @@ same-length : tie.Need-same-length
 same-length c = search needs
 
 returns-4 : tie.Need-returns-4
-returns-4 c = kept-answers (flatten-fits (c .before .before .before .before .before .before .before .before .before .before .before .before .before .before .before .before .before .before .args .store .now) (sym (c .before .before .before .before .before .before .before .before .before .before .before .before .before .before .passes .ensures) ∙ not-false _ (c .before .before .before .before .before .before .before .before .before .before .before .before .before .if1 .left)) (c .before .before .before .before .before .before .before .before .before .before .before .before .before .before .before .before .before .before .args .owner) (c .before .before .before .before .before .before .before .before .before .before .before .before .before .before .before .before .before .before .args .place .now) (sym (c .before .before .before .before .before .before .before .before .before .before .before .before .flatten-group-refusal .ensures) ∙ c .before .before .before .before .before .before .before .before .before .before .before .if2 .left)) Flatten refl (c .before .before .before .before .before .before .before .before .before .before .own-part .ensures) (c .before .before .before .before .before .before .before .before .before .find .ensures) _ _ (c .before .before .before .before .before .before .found .given .1) (flattenGroup (c .before .before .before .before .before .before .before .before .before .before .before .before .before .before .before .before .before .before .args .owner) (c .before .before .before .before .before .before .before .before .before .before .before .before .before .before .before .before .before .before .args .place .now)) (length (c .before .before .before .before .before .before .before .before .before .before .before .before .before .before .before .before .before .before .args .out .now)) _ (c .before .before .before .before .before .before .before .before .keeping-plan .ensures) (c .before .before .before .before .before .before .before .before .before .before .before .before .flatten-group-refusal .ensures) (c .before .before .before .before .before .before .before .before .before .before .before .if2 .left) (flatten-form (c .before .before .before .before .before .before .before .before .before .before .before .before .before .before .before .before .before .before .args .owner) (c .before .before .before .before .before .before .before .before .before .before .before .before .before .before .before .before .before .before .args .place .now) (storeIn (c .before .before .before .before .before .before .before .before .before .before .before .before .before .before .before .before .before .before .args .store .now) .form)) (flatten-plan (c .before .before .before .before .before .before .before .before .before .before .before .before .before .before .before .before .before .before .args .owner) (c .before .before .before .before .before .before .before .before .before .before .before .before .before .before .before .before .before .before .args .place .now) (storeIn (c .before .before .before .before .before .before .before .before .before .before .before .before .before .before .before .before .before .before .args .store .now) .form) (lines 0 (storeIn (c .before .before .before .before .before .before .before .before .before .before .before .before .before .before .before .before .before .before .args .store .now) .docs))) (c .before .before .edit-model .ensures)
+returns-4 c = kept-answers (flatten-fits (c .before .before .before .before .before .before .before .before .before .before .before .before .before .before .before .before .before .before .args .store .now) (sym (c .before .before .before .before .before .before .before .before .before .before .before .before .before .before .passes .ensures) ∙ not-false _ (c .before .before .before .before .before .before .before .before .before .before .before .before .before .if1 .left)) (c .before .before .before .before .before .before .before .before .before .before .before .before .before .before .before .before .before .before .args .owner) (c .before .before .before .before .before .before .before .before .before .before .before .before .before .before .before .before .before .before .args .place .now) (sym (c .before .before .before .before .before .before .before .before .before .before .before .before .flatten-group-refusal .ensures) ∙ c .before .before .before .before .before .before .before .before .before .before .before .if2 .left)) Flatten refl (c .before .before .before .before .before .before .before .before .before .before .own-part .ensures) (c .before .before .before .before .before .before .before .before .before .find .ensures) _ _ (c .before .before .before .before .before .before .found .given .1) (flattenGroup (c .before .before .before .before .before .before .before .before .before .before .before .before .before .before .before .before .before .before .args .owner) (c .before .before .before .before .before .before .before .before .before .before .before .before .before .before .before .before .before .before .args .place .now)) (length (c .before .before .before .before .before .before .before .before .before .before .before .before .before .before .before .before .before .before .args .out .now)) _ (c .before .before .before .before .before .before .before .before .setting-plan .ensures) (c .before .before .before .before .before .before .before .before .before .before .before .before .flatten-group-refusal .ensures) (c .before .before .before .before .before .before .before .before .before .before .before .if2 .left) (flatten-form (c .before .before .before .before .before .before .before .before .before .before .before .before .before .before .before .before .before .before .args .owner) (c .before .before .before .before .before .before .before .before .before .before .before .before .before .before .before .before .before .before .args .place .now) (storeIn (c .before .before .before .before .before .before .before .before .before .before .before .before .before .before .before .before .before .before .args .store .now) .form)) (flatten-plan (c .before .before .before .before .before .before .before .before .before .before .before .before .before .before .before .before .before .before .args .owner) (c .before .before .before .before .before .before .before .before .before .before .before .before .before .before .before .before .before .before .args .place .now) (storeIn (c .before .before .before .before .before .before .before .before .before .before .before .before .before .before .before .before .before .before .args .store .now) .form) (lines 0 (storeIn (c .before .before .before .before .before .before .before .before .before .before .before .before .before .before .before .before .before .before .args .store .now) .docs))) (c .before .before .edit-model .ensures)
 
 pub flatten-group-spec : {M : Type 1} → statement M
 flatten-group-spec =
@@ -85,7 +85,7 @@ flatten-group-spec =
     returns-2
     own-part-requires
     find-requires
-    keeping-plan-requires
+    setting-plan-requires
     enum-told
     refused-requires-3
     enum-known-found

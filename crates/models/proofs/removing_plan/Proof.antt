@@ -3,8 +3,6 @@
 use borrow.Author.Needs.{needs}
 use Rattle.models.proofs.removing_plan.Statement.{statement}
 use Rattle.models.proofs.removing_plan.Tie as tie
-use Rattle.codec.proofs.byte.Reads as byte-reads
-use Rattle.models.proofs.unmarked.Reads as unmarked-reads
 
 mul-byte : tie.Need-mul-byte
 mul-byte c = search needs
@@ -18,12 +16,12 @@ byte-requires c κs = search needs
 cast-index : tie.Need-cast-index
 cast-index c = search needs
 
-unmarked-requires : tie.Need-unmarked-requires
-unmarked-requires c κs = search needs
+taking-plan-requires : tie.Need-taking-plan-requires
+taking-plan-requires c κs = search needs
 
 returns : tie.Need-returns
-returns c = rw (c .unmarked .ensures, c .before .byte .ensures)
+returns c = rw (c .taking-plan .ensures, c .before .byte .ensures)
 
 pub removing-plan-spec : {M : Type 1} → statement M
 removing-plan-spec =
-    tie.close (tie.spec mul-byte add-byte byte-requires cast-index unmarked-requires returns)
+    tie.close (tie.spec mul-byte add-byte byte-requires cast-index taking-plan-requires returns)

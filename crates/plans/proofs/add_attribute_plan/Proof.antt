@@ -1,0 +1,18 @@
+-- `plans::add_attribute_plan` meets its contract.
+-- Assumes nothing.
+use borrow.Author.Needs.{needs}
+use Rattle.plans.proofs.add_attribute_plan.Statement.{statement}
+use Rattle.plans.proofs.add_attribute_plan.Tie as tie
+
+unmarked-requires : tie.Need-unmarked-requires
+unmarked-requires c κs = search needs
+
+returns : tie.Need-returns
+returns c = rw (c .unmarked .ensures)
+
+pub add-attribute-plan-spec : {M : Type 1} → statement M
+add-attribute-plan-spec =
+    tie.close
+    (tie.spec
+    unmarked-requires
+    returns)

@@ -1,0 +1,17 @@
+-- The marks of definitions around a place of a model, a byte for each.
+-- Assumes nothing.
+use Prim.Native.Nat.{ℕ, _*_}
+use mathlib.Core.List.{List, [], _∷_}
+use lib.ListN.{set, take, drop}
+use Rattle.rules.specs.Bytes.{Bytes}
+use Rattle.circles.specs.Members.{elementsOf}
+use Rattle.plans.specs.CallPlans.{unmarked}
+
+-- v at each of the indices
+abbrev pub marked : ℕ → List ℕ → Bytes → Bytes
+marked v [] marks = marks
+marked v (i ∷ is) marks = marked v is (set marks i v)
+
+-- 1 for the definitions of the elements among the first p particles of a part, 2 for those among the next n
+unfoldable pub marksAt : ℕ → ℕ → Bytes → Bytes
+marksAt n p part = marked 2 (elementsOf (take (4 * n) (drop (4 * p) part))) (marked 1 (elementsOf (take (4 * p) part)) unmarked)

@@ -4,7 +4,7 @@ use model::place::Holder;
 use rules::GroupKind;
 ghost use mathlib.Core.Path.{_≡_};
 ghost use mathlib.Core.Bool.{true, not, _&&_};
-ghost use Prim.Native.Nat.{_<_, _≤_};
+ghost use Prim.Native.Nat.{_<_};
 ghost use lib.Dec.{eqb};
 ghost use Rattle.rules.specs.declared.GroupKind.the-variants.{Sequence};
 ghost use Rattle.rules.specs.Bytes.{all};
@@ -14,23 +14,11 @@ ghost use Rattle.rules.specs.Edit.{sameKind};
 ghost use Rattle.rules.specs.Change.{insertElement};
 ghost use Rattle.rules.specs.Refusal.{first, conditions};
 ghost use Rattle.circles.specs.Members.{elementsOf};
-ghost use Rattle.rowpass.specs.Reading.{modelPart};
-ghost use Rattle.validity.specs.Check.{definitionsIn, particlesIn};
 ghost use Rattle.storing.specs.Stores.{storeIn};
 ghost use Rattle.placing.specs.Placing.{modelIn, foundBy};
 ghost use Rattle.inserting.specs.Inserting.{inModel, comesRound, modelConditions, placeConditions};
 
 // ---- the model
-// Definition i's part of the particles.
-fn part_of(store: &[u8], i: usize) -> &[u8]
-    requires { ⌜ i ≤ 256 ⌝ }
-    ensures { λ r. ⌜ now r ≡ modelPart (definitionsIn (now (store .entry))) (particlesIn (now (store .entry))) i ⌝ }
-{
-    let defs = validity::body(store, 8, 20);
-    let parts = validity::body(store, 16, 4);
-    rowpass::model_part(defs, parts, i)
-}
-
 // Whether no element among the particles has the index i.
 fn lacks(part: &[u8], i: usize) -> bool
     ensures { λ r. ⌜ r ≡ all (λ j. not (eqb i j)) (elementsOf (now (part .entry))) ⌝ }
@@ -50,7 +38,7 @@ fn in_model(store: &[u8], o: usize, i: usize) -> bool
     requires { ⌜ (passes (now store) ≡ true) × (o < definitionCount (now store)) × (i < definitionCount (now store)) ⌝ }
     ensures { λ r. ⌜ r ≡ inModel (storeIn (now (store .entry)) .form) o i ⌝ }
 {
-    !lacks(part_of(store, o), i)
+    !lacks(models::own_part(store, o), i)
 }
 
 // Whether definition i is definition o or reaches it.
@@ -116,7 +104,7 @@ fn place_refusal(
     requires { ⌜ (passes (now store) ≡ true) × (o < definitionCount (now store)) × (i < definitionCount (now store)) ⌝ }
     ensures { λ r. ⌜ r ≡ first (placeConditions (foundBy true (now (place .entry)) (modelIn (now (store .entry)) o)) o i needed unfilled (storeIn (now (store .entry)))) ⌝ }
 {
-    let found = model::place::find(part_of(store, o), place, true);
+    let found = model::place::find(models::own_part(store, o), place, true);
     match found {
         Found::Absent => 8,
         Found::At(h, _) => model_refusal(store, o, i, needed, unfilled, off_spine(h)),

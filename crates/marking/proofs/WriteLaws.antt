@@ -23,7 +23,7 @@ module _ (v : ℕ) (t m : Bytes) {sort : ℕ} (s : sort ≡ getD t 0 0) where
   first-group n = sym (rw (ne-eqb (getD t 0 0) 0 (λ z. n (s ∙ z)), markedFirst))
 
 -- ---- the rest
-pub elements-more : (t : Bytes) → 4 ≤ length t → elementsOf t ≡ elim (eqb (getD t 0 0) 0) [ true ↦ getD t 2 0 ∷ elementsOf (drop 4 t) | false ↦ elementsOf (drop 4 t) ]
+elements-more : (t : Bytes) → 4 ≤ length t → elementsOf t ≡ elim (eqb (getD t 0 0) 0) [ true ↦ getD t 2 0 ∷ elementsOf (drop 4 t) | false ↦ elementsOf (drop 4 t) ]
 unfolding elementsOf
 elements-more [] h = absurd (omega arith)
 elements-more (a ∷ []) h = absurd (omega arith)
@@ -31,7 +31,7 @@ elements-more (a ∷ b ∷ []) h = absurd (omega arith)
 elements-more (a ∷ b ∷ c ∷ []) h = absurd (omega arith)
 elements-more (a ∷ b ∷ c ∷ e ∷ t) h = refl
 
-pub elements-few : (t : Bytes) → length t < 4 → elementsOf t ≡ []
+elements-few : (t : Bytes) → length t < 4 → elementsOf t ≡ []
 unfolding elementsOf
 elements-few [] h = refl
 elements-few (a ∷ []) h = refl

@@ -6,7 +6,7 @@ use mathlib.Core.Path.{_≡_, refl, sym, ap, ap₂, _∙_, subst}
 use mathlib.Core.Bool.{Bool, true, false, _||_, false≢true}
 use mathlib.Core.Option.{Option, none, some}
 use mathlib.Core.List.{List, [], _∷_, _++_, map, append-assoc, append-nil, List·Memᴰ, List·Memᴰ·head, List·Memᴰ·tail, Memᴰ·append-left, Memᴰ·append-right}
-use lib.Dec.{eqb, leb}
+use lib.Dec.{eqb}
 use lib.ListN.{length, take, drop, getD, length-append}
 use lib.Seq.{take-at, drop-drop}
 use Rattle.rules.specs.declared.Quantifier.{Quantifier}
@@ -24,7 +24,6 @@ use Rattle.rules.specs.Passing.{passes}
 use Rattle.rules.proofs.Apart.{names-plug}
 use Rattle.rules.proofs.Correct.{distinct-apart}
 use Rattle.rules.proofs.TestLaws.{member-test}
-use Rattle.rules.proofs.Places.{found-gap, found-nth}
 use Rattle.rules.proofs.RenamingPlaces.{names-rename, before-rename}
 use Rattle.circles.specs.Members.{elementsOf}
 use Rattle.forms.specs.FormTests.{elementsIn}
@@ -38,22 +37,14 @@ use Rattle.validity.proofs.IndexLaws.{namesOf, definition-in, index-same}
 use Rattle.storing.specs.Stores.{storeIn}
 use Rattle.plans.specs.ModelCalls.{Marked}
 use Rattle.finding.proofs.StoreFacts.{formIn, Whole, whole}
-use Rattle.placing.specs.Placing.{indexIn, modelIn, partIn, leads, foundBy, Placed}
+use Rattle.placing.specs.Placing.{indexIn, modelIn, partIn, Placed}
+use Rattle.placing.proofs.PlaceLaws.{found-right}
+use Rattle.placing.proofs.RemoveLaws.{depth-holder}
 use Rattle.placing.proofs.PickLaws.{around, from-there, one-there}
 use Rattle.marking.specs.Marking.{marksAt}
 use Rattle.marking.proofs.ReadLaws.{among, markBy, marks-read, mark-one, mark-two}
 use Rattle.marking.proofs.ElementLaws.{elements-read, elements-spread, elements-leading}
-use Rattle.marking.proofs.SpanLaws.{depth-held, span-group}
-
--- ---- what a place leads to stands in the model
-found-right : {A : Type 0} (i : Bool) (place : List ℕ) (ms : Members A) (x : Spot A) → foundBy i place ms ≡ some x → plug (x .context) (x .picked) ≡ ms
-unfolding foundBy
-found-right {A} i place ms x e = by (leb (length place) 5) i e
-  where
-    by : (b i : Bool) → elim b as (λ z. Option (Spot A)) [ true ↦ leads i place ms | false ↦ none ] ≡ some x → plug (x .context) (x .picked) ≡ ms
-    by true true e = found-gap place ms x e
-    by true false e = found-nth place ms x e
-    by false i e = let z : false ≡ true = cc e in absurd (false≢true z)
+use Rattle.marking.proofs.SpanLaws.{span-group}
 
 -- ---- known names by their index
 among-member : (form : Form) → Distinct (namesOf form) → (i : ℕ) → i < length form → (ns : List Bytes) → ((n : Bytes) → List·Memᴰ n ns → known form n ≡ true)
@@ -179,7 +170,7 @@ module _ {bs : Bytes} {o : ℕ} {i : Bool} {place : List ℕ} {h : Holder} {p : 
 
     group-span : spanOf (h .depth) (particlesOf (drop (4 * p + 4) (partIn bs o))) ≡ count (rename (indexIn bs) ms)
     group-span =
-        let depth : h .depth ≡ lev = ap (λ (g : Holder). g .depth) (sym (x .held)) ∙ depth-held top 0 (around x) in
+        let depth : h .depth ≡ lev = ap (λ (g : Holder). g .depth) (sym (x .held)) ∙ depth-holder top 0 (around x) in
         let n : 4 * p + 4 ≡ 4 * (p + 1) = omega arith in
         let room : 4 * (p + 1) ≤ length (partIn bs o) = omega (arith, one-there x front (inner ++ others) group-next) in
         let after-front : particlesOf (drop (4 * p + 4) (partIn bs o)) ≡ inner ++ others =

@@ -2,40 +2,23 @@
 -- Assumes nothing.
 use Prim.Native.Nat.{ℕ, suc, _+_, _<_, _≤_}
 use native.Mathlib.Omega.{arith}
-use borrow.Author.Tests.{lt-ltb, le-ltb}
+use borrow.Author.Tests.{le-ltb}
 use mathlib.Core.Path.{_≡_, refl, sym, ap, _∙_}
-use mathlib.Core.Bool.{_&&_}
 use mathlib.Core.List.{[], _++_, append-assoc, append-nil}
 use Rattle.rules.specs.Model.{Members, done, el, group}
-use Rattle.rules.specs.Place.{Context, here, past, over, into, plain}
-use Rattle.model.specs.declared.place.Holder.{Holder}
+use Rattle.rules.specs.Place.{Context, here, past, over, into}
 use Rattle.model.specs.Places.{Particles, spanOf}
-use Rattle.model.specs.Positions.{spread, count, holder, trailing, level}
+use Rattle.model.specs.Positions.{spread, count, trailing, level}
+use Rattle.model.proofs.PositionLaws.{span-skip}
 
 -- ---- the depth of a place
-pub depth-held : (h : Holder) (p : ℕ) (c : Context ℕ) → holder h p c .depth ≡ level (h .depth) c
-depth-held h p here = refl
-depth-held h p (past q i c) = depth-held h (suc p) c
-depth-held h p (over q k ms c) = depth-held h (suc (count ms + p)) c
-depth-held h p (into q k c rest) =
-    let z : h .depth + 1 ≡ suc (h .depth) = omega arith in
-    depth-held (record { start = h .start + (p + 1); depth = h .depth + 1; kind = k; spine = h .spine && plain q k }) 0 c ∙ ap (λ (d : ℕ). level d c) z
-
 level-least : (d : ℕ) (c : Context ℕ) → d ≤ level d c
 level-least d here = omega arith
 level-least d (past q i c) = level-least d c
 level-least d (over q k ms c) = level-least d c
 level-least d (into q k c rest) = let l : suc d ≤ level (suc d) c = level-least (suc d) c in omega arith
 
--- ---- members of depth e, deeper than d; members of depth e, no deeper
-span-deeper : (d e : ℕ) (ms : Members ℕ) (ys : Particles) → d < e → spanOf d (spread e ms ++ ys) ≡ count ms + spanOf d ys
-unfolding spanOf
-span-deeper d e done ys l = omega arith
-span-deeper d e (el q i rest) ys l = rw (lt-ltb d e l, spanOf) (omega (arith, span-deeper d e rest ys l))
-span-deeper d e (group q k ms rest) ys l =
-    rw (lt-ltb d e l, spanOf)
-    (omega (arith, ap (λ (zs : Particles). spanOf d zs) (append-assoc (spread (suc e) ms) (spread e rest) ys), span-deeper d (suc e) ms (spread e rest ++ ys) (omega arith), span-deeper d e rest ys l))
-
+-- ---- members of depth e, no deeper than d
 span-other : (d e : ℕ) (ms : Members ℕ) (ys : Particles) → e ≤ d → spanOf d ys ≡ 0 → spanOf d (spread e ms ++ ys) ≡ 0
 unfolding spanOf
 span-other d e done ys l z = z
@@ -57,4 +40,4 @@ unfolding spanOf
 span-group c ms rest =
     let n : spanOf (level 0 c) (trailing 0 c) ≡ 0 = ap (λ (zs : Particles). spanOf (level 0 c) zs) (sym (append-nil (trailing 0 c))) ∙ span-trailing (level 0 c) 0 c [] (omega arith) refl in
     let z : spanOf (level 0 c) (spread (level 0 c) rest ++ trailing 0 c) ≡ 0 = span-other (level 0 c) (level 0 c) rest (trailing 0 c) (omega arith) n in
-    omega (arith, span-deeper (level 0 c) (suc (level 0 c)) ms (spread (level 0 c) rest ++ trailing 0 c) (omega arith))
+    omega (arith, span-skip (level 0 c) (suc (level 0 c)) ms (spread (level 0 c) rest ++ trailing 0 c) (omega arith))

@@ -11,6 +11,7 @@ use lib.ListN.{length, getD, set, take, drop, replicate}
 use Rattle.rules.specs.Bytes.{Bytes}
 use Rattle.codec.proofs.Writers.{tail-seen}
 use Rattle.circles.specs.Members.{elementsOf}
+use Rattle.circles.proofs.MemberLaws.{elements-more, elements-few}
 use Rattle.plans.specs.CallPlans.{unmarked}
 use Rattle.marking.specs.Marking.{marked, markedFirst, marksAt}
 
@@ -23,22 +24,6 @@ module _ (v : ℕ) (t m : Bytes) {sort : ℕ} (s : sort ≡ getD t 0 0) where
   first-group n = sym (rw (ne-eqb (getD t 0 0) 0 (λ z. n (s ∙ z)), markedFirst))
 
 -- ---- the rest
-elements-more : (t : Bytes) → 4 ≤ length t → elementsOf t ≡ elim (eqb (getD t 0 0) 0) [ true ↦ getD t 2 0 ∷ elementsOf (drop 4 t) | false ↦ elementsOf (drop 4 t) ]
-unfolding elementsOf
-elements-more [] h = absurd (omega arith)
-elements-more (a ∷ []) h = absurd (omega arith)
-elements-more (a ∷ b ∷ []) h = absurd (omega arith)
-elements-more (a ∷ b ∷ c ∷ []) h = absurd (omega arith)
-elements-more (a ∷ b ∷ c ∷ e ∷ t) h = refl
-
-elements-few : (t : Bytes) → length t < 4 → elementsOf t ≡ []
-unfolding elementsOf
-elements-few [] h = refl
-elements-few (a ∷ []) h = refl
-elements-few (a ∷ b ∷ []) h = refl
-elements-few (a ∷ b ∷ c ∷ []) h = refl
-elements-few (a ∷ b ∷ c ∷ e ∷ t) h = absurd (omega arith)
-
 marked-more : (v : ℕ) (t m : Bytes) → 4 ≤ length t → marked v (elementsOf t) m ≡ marked v (elementsOf (drop 4 t)) (markedFirst v t m)
 marked-more v t m h = ap (λ (l : List ℕ). marked v l m) (elements-more t h) ∙ by (eqb (getD t 0 0) 0)
   where

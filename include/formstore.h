@@ -79,6 +79,14 @@ struct formstore_answer formstore_destroy_definition(const uint8_t *store, size_
                                                      uint32_t definition,
                                                      uint8_t *out, size_t out_length);
 
+/* 3. Inserts an element of a definition into the model of `owner`; a place is a list of numbers, each u32. quantifier is 0 (NONE), 1 (QMARK), 2
+ * (STAR) or 3 (PLUS). Refuses with 3, 4, 6, 8 to 13, 16 and 17. */
+struct formstore_answer formstore_insert_element(const uint8_t *store, size_t store_length,
+                                                 uint32_t owner, const uint32_t *place, size_t place_length,
+                                                 uint32_t definition, uint32_t quantifier,
+                                                 const uint8_t *text, size_t text_length,
+                                                 uint8_t *out, size_t out_length);
+
 /* 4. Removes an element from the model of `owner`, with the children of instances that it stands for. Refuses with 6, 8, 14 and 15. */
 struct formstore_answer formstore_remove_element(const uint8_t *store, size_t store_length,
                                                  uint32_t owner, const uint32_t *place, size_t place_length,

@@ -3,7 +3,7 @@ pub use storing::Answer;
 ghost use mathlib.Core.Path.{_≡_};
 ghost use Rattle.rules.specs.Passing.{passes};
 ghost use Rattle.rules.specs.LookUp.{lookUp};
-ghost use Rattle.rules.specs.Change.{createDefinition, destroyDefinition, removeElement, convertToGroup, flattenGroup, addAttribute, destroyAttribute, addDocument, addElement, destroyElement, setAttribute, destroyAttributeRow, setText};
+ghost use Rattle.rules.specs.Change.{createDefinition, destroyDefinition, insertElement, removeElement, convertToGroup, flattenGroup, addAttribute, destroyAttribute, addDocument, addElement, destroyElement, setAttribute, destroyAttributeRow, setText};
 ghost use Rattle.rules.specs.Outcome.{outcome, Answers};
 ghost use Rattle.rules.specs.Print.{printOutcome};
 ghost use lib.ListN.{length};
@@ -128,6 +128,36 @@ pub extern "C" fn formstore_destroy_definition(
     ensures { λ r. ⌜ Answers (outcome (destroyDefinition definition) (now (store .entry)) (length (now (out .entry)))) (now (out .entry)) (r .number) (r .length) (now (out .exit)) ⌝ }
 {
     definitions::destroy_definition(store, definition, out)
+}
+
+/// 3: inserts an element into a model; on the spine each instance gets a filling if the quantifier needs one.
+pub fn insert_element(
+    store: &[u8],
+    owner: u32,
+    place: &[u32],
+    definition: u32,
+    quantifier: u32,
+    text: &[u8],
+    out: &mut [u8],
+) -> Answer
+    ensures { λ r. ⌜ Answers (outcome (insertElement owner (now (place .entry)) definition quantifier (now (text .entry))) (now (store .entry)) (length (now (out .entry)))) (now (out .entry)) (r .number) (r .length) (now (out .exit)) ⌝ }
+{
+    inserting::insert_element(store, owner, place, definition, quantifier, text, out)
+}
+
+#[no_mangle]
+pub extern "C" fn formstore_insert_element(
+    store: &[u8],
+    owner: u32,
+    place: &[u32],
+    definition: u32,
+    quantifier: u32,
+    text: &[u8],
+    out: &mut [u8],
+) -> Answer
+    ensures { λ r. ⌜ Answers (outcome (insertElement owner (now (place .entry)) definition quantifier (now (text .entry))) (now (store .entry)) (length (now (out .entry)))) (now (out .entry)) (r .number) (r .length) (now (out .exit)) ⌝ }
+{
+    inserting::insert_element(store, owner, place, definition, quantifier, text, out)
 }
 
 /// 4: removes an element from a model, with the children of instances that it stands for.

@@ -1,9 +1,10 @@
-//! Prints the time of `check` and `print` on the largest finish list (4,096 rows), and of the changes on one with room for one more finisher, as ratios
+//! Prints the time of `check` and `print` on the largest finish list (4,096 rows), and of the changes on one with room for what they make, as ratios
 //! measured in one run: against the second implementation, of the changes against the check too, and of the check against libxml2 (xmllint) that parses
 //! and validates the printed text. Buffers are not cleared between runs. The median of many runs is taken.
 
 use compare::changes;
 use compare::words::Words;
+use second::random::history::LONGEST;
 use second::Call;
 use std::process::Command;
 use std::time::Instant;
@@ -28,7 +29,7 @@ fn medians<const N: usize>(mut runs: [&mut dyn FnMut(); N]) -> [f64; N] {
 
 /// The store after a change by the second implementation.
 fn changed(store: &[u8], call: &Call) -> Vec<u8> {
-    let mut out = vec![0; store.len() + 1000];
+    let mut out = vec![0; LONGEST];
     let answer = second::apply(call, store, &mut out);
     assert_eq!(answer.number, 0, "{call:?} was refused");
     out.truncate(answer.length);
@@ -74,8 +75,8 @@ fn form() -> Vec<u8> {
     changed(&store, &attribute)
 }
 
-/// A race of so many finishers of five rows, the newest first.
-fn finish_list(finishers: usize) -> Vec<u8> {
+/// A race of the form and of so many finishers of five rows, the newest first.
+fn finish_list(form: &[u8], finishers: usize) -> Vec<u8> {
     let text = || b"19:04".to_vec();
     let race = Call::AddDocument {
         definition: RACE,
@@ -87,49 +88,101 @@ fn finish_list(finishers: usize) -> Vec<u8> {
         definition: FINISHER,
         text: text(),
     };
-    let mut store = changed(&form(), &race);
+    let mut store = changed(form, &race);
     for _ in 0..finishers {
         store = changed(&store, &finisher);
     }
     store
 }
 
-/// The changes as the vectors write them, without buffers. The finisher with serial 2 was made first, so it is the last in the list.
-const CHANGES: [&str; 8] = [
-    "create_definition x7465616d 2",
-    "destroy_definition 4",
-    "add_document 1 x31393a3035",
-    "add_element 1 817 1 x31393a3035",
-    "destroy_element 2",
-    "set_attribute 27 0 x31393a3035",
-    "destroy_attribute_row 2 0",
-    "set_text 3 x31393a3035",
+/// A change and what it runs on, as the vectors write calls, without buffers.
+struct Measured {
+    change: &'static str,
+    finishers: usize,
+    /// Changes of the form before there are finishers.
+    before: &'static [&'static str],
+}
+
+/// With so many finishers there is room for one more.
+const fn on_list(change: &'static str) -> Measured {
+    Measured {
+        change,
+        finishers: 817,
+        before: &[],
+    }
+}
+
+/// With so many there is room for one more row in each.
+const fn with_room(change: &'static str, before: &'static [&'static str]) -> Measured {
+    Measured {
+        change,
+        finishers: 681,
+        before,
+    }
+}
+
+/// The finisher with serial 2 was made first, so it is the last in the list. Changes 3, 5, 8 and 9 make a row in each finisher, 4 takes two.
+const CHANGES: [Measured; 16] = [
+    on_list("create_definition x7465616d 2"),
+    on_list("destroy_definition 4"),
+    with_room("insert_element 1 p2 4 0 x2d", &[]),
+    on_list("remove_element 1 p2"),
+    with_room(
+        "change_quantifier 1 p3 0 x2d",
+        &["insert_element 1 p2 4 1 x"],
+    ),
+    on_list("convert_to_group 1 p1 2 1"),
+    with_room("flatten_group 1 p1", &["convert_to_group 1 p1 2 1"]),
+    with_room(
+        "change_group_quantifier 1 p3 0 x2d",
+        &[
+            "insert_element 1 p2 4 0 x2d",
+            "convert_to_group 1 p3 1 1",
+            "change_group_quantifier 1 p3 1 x",
+        ],
+    ),
+    with_room("add_attribute 1 x6e6f 1 x2d", &[]),
+    on_list("destroy_attribute 0"),
+    on_list("add_document 1 x31393a3035"),
+    on_list("add_element 1 817 1 x31393a3035"),
+    on_list("destroy_element 2"),
+    on_list("set_attribute 27 0 x31393a3035"),
+    on_list("destroy_attribute_row 2 0"),
+    on_list("set_text 3 x31393a3035"),
 ];
 
-/// 4,091 rows, so that one more finisher fits: 817 finishers, of which the last five have their attribute.
-fn list_with_room() -> Vec<u8> {
-    let mut store = finish_list(817);
-    for element in [2, 7, 12, 17, 22] {
-        let call = Call::SetAttribute {
-            element,
-            attribute: 0,
-            value: b"none".to_vec(),
-        };
-        store = changed(&store, &call);
+fn call(line: &str) -> Call {
+    let mut words = Words::of(line);
+    let name = words.word();
+    changes::read(name, &mut words).expect("a change")
+}
+
+impl Measured {
+    /// The list; its last five finishers have their attribute.
+    fn store(&self) -> Vec<u8> {
+        let lines = self.before.iter().map(|line| call(line));
+        let form = lines.fold(form(), |store, call| changed(&store, &call));
+        let mut store = finish_list(&form, self.finishers);
+        for element in [2, 7, 12, 17, 22] {
+            let call = Call::SetAttribute {
+                element,
+                attribute: 0,
+                value: b"none".to_vec(),
+            };
+            store = changed(&store, &call);
+        }
+        store
     }
-    store
 }
 
 /// A line for each change.
 fn print_changes() {
-    let store = list_with_room();
     let mut out = vec![0; 1 << 20];
     let mut other = vec![0; 1 << 20];
-    println!("change                   library     check  to check     second     ratio");
-    for line in CHANGES {
-        let mut words = Words::of(line);
-        let name = words.word();
-        let call = changes::read(name, &mut words).expect("the library has it");
+    println!("change                     library     check  to check     second     ratio");
+    for measured in CHANGES {
+        let (store, call) = (measured.store(), call(measured.change));
+        let name = Words::of(measured.change).word();
         let length = changed(&store, &call).len();
         let [check, library, second] = medians([
             &mut || assert_eq!(compare::direct::check(&store), 0),
@@ -137,7 +190,7 @@ fn print_changes() {
             &mut || assert_eq!(second::apply(&call, &store, &mut other).length, length),
         ]);
         println!(
-            "{name:22} {library:9.1} {check:9.1} {:9.2} {second:10.1} {:9.2}",
+            "{name:24} {library:9.1} {check:9.1} {:9.2} {second:10.1} {:9.2}",
             library / check,
             library / second
         );
@@ -172,7 +225,7 @@ fn libxml2(text: &[u8]) -> Option<f64> {
 }
 
 fn main() {
-    let store = finish_list(819);
+    let store = finish_list(&form(), 819);
     let mut out = vec![0; 1 << 20];
     let text = second::print(&store, &mut out).length;
     let document = out[..text].to_vec();

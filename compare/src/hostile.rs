@@ -28,9 +28,6 @@ pub fn spoil(rng: &mut Rng, store: &Store, call: &mut Call) {
         _ => 3,
     };
     let mut lent = arguments(call);
-    if lent.is_empty() {
-        return;
-    }
     for _ in 0..1 + rng.below(4) / 3 {
         let at = rng.below(lent.len());
         match &mut lent[at] {

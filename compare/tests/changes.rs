@@ -26,7 +26,7 @@ const REFUSALS: [&[usize]; 16] = [
     &[3, 7, 9],
 ];
 
-const CALLS: usize = 700_000;
+const CALLS: usize = 600_000;
 
 /// Histories of one seed after the other, until all threads together have compared the calls.
 fn histories(seed: &AtomicU64, compared: &AtomicUsize) -> Counts {

@@ -7,7 +7,7 @@ mod common;
 use common::notation;
 use common::{seed, Counts, Moment, Named, LONGEST};
 use compare::threads::in_threads;
-use compare::{agreed, changes, check};
+use compare::{agreed, check};
 use second::model::depth_of;
 use second::random::words;
 use second::rng::Rng;
@@ -56,8 +56,8 @@ impl Comparison {
     fn compare_all(&mut self, store: Store) {
         let calls = words::all_calls(&store.form.definitions[words::OWNER].model);
         let moment = Moment::at(store);
-        for call in calls.iter().filter(|call| changes::has(call)) {
-            self.compare(call, &moment);
+        for call in calls {
+            self.compare(&call, &moment);
         }
     }
 
@@ -111,7 +111,7 @@ fn random_models() {
     println!("{} calls compared", all.compared);
     println!("models of depth 0 to 4: {:?}", all.depths);
     all.counts.print();
-    for change in [4, 6, 7] {
+    for change in 3..=8 {
         assert!(all.counts.accepted(change) >= 100, "change {change}");
     }
     assert!(all.depths.iter().all(|count| *count > 0));

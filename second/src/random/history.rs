@@ -72,9 +72,11 @@ impl Counts {
 
     pub fn print(&self) {
         println!("answers 0 to 18 of the changes");
-        for (change, numbers) in self.answers.iter().enumerate().skip(1) {
-            let columns = numbers.map(|count| format!("{count:>7}"));
-            println!("{change:>2}: {}", columns.concat());
+        for (change, numbers) in self.answers.iter().enumerate() {
+            if numbers.iter().any(|count| *count > 0) {
+                let columns = numbers.map(|count| format!("{count:>7}"));
+                println!("{change:>2}: {}", columns.concat());
+            }
         }
     }
 }

@@ -95,45 +95,31 @@ fn finish_list(form: &[u8], finishers: usize) -> Vec<u8> {
     store
 }
 
-/// A change and what it runs on, as the vectors write calls, without buffers.
-struct Measured {
-    change: &'static str,
-    finishers: usize,
-    /// Changes of the form before there are finishers.
-    before: &'static [&'static str],
-}
+/// So many finishers leave room for one more.
+const ONE_MORE: usize = 817;
+/// So many leave room for one more row in each.
+const ROW_IN_EACH: usize = 681;
 
-/// With so many finishers there is room for one more.
-const fn on_list(change: &'static str) -> Measured {
-    Measured {
-        change,
-        finishers: 817,
-        before: &[],
-    }
-}
-
-/// With so many there is room for one more row in each.
-const fn with_room(change: &'static str, before: &'static [&'static str]) -> Measured {
-    Measured {
-        change,
-        finishers: 681,
-        before,
-    }
-}
-
-/// The finisher with serial 2 was made first, so it is the last in the list. Changes 3, 5, 8 and 9 make a row in each finisher, 4 takes two.
-const CHANGES: [Measured; 16] = [
-    on_list("create_definition x7465616d 2"),
-    on_list("destroy_definition 4"),
-    with_room("insert_element 1 p2 4 0 x2d", &[]),
-    on_list("remove_element 1 p2"),
-    with_room(
+/// Finishers, the change, and changes of the form before there are finishers; calls as the vectors write them, without buffers. The finisher with serial 2
+/// was made first, so it is the last in the list. Changes 3, 5, 8 and 9 make a row in each finisher, 4 takes two.
+const CHANGES: [(usize, &str, &[&str]); 16] = [
+    (ONE_MORE, "create_definition x7465616d 2", &[]),
+    (ONE_MORE, "destroy_definition 4", &[]),
+    (ROW_IN_EACH, "insert_element 1 p2 4 0 x2d", &[]),
+    (ONE_MORE, "remove_element 1 p2", &[]),
+    (
+        ROW_IN_EACH,
         "change_quantifier 1 p3 0 x2d",
         &["insert_element 1 p2 4 1 x"],
     ),
-    on_list("convert_to_group 1 p1 2 1"),
-    with_room("flatten_group 1 p1", &["convert_to_group 1 p1 2 1"]),
-    with_room(
+    (ONE_MORE, "convert_to_group 1 p1 2 1", &[]),
+    (
+        ONE_MORE,
+        "flatten_group 1 p1",
+        &["convert_to_group 1 p1 2 1"],
+    ),
+    (
+        ROW_IN_EACH,
         "change_group_quantifier 1 p3 0 x2d",
         &[
             "insert_element 1 p2 4 0 x2d",
@@ -141,14 +127,14 @@ const CHANGES: [Measured; 16] = [
             "change_group_quantifier 1 p3 1 x",
         ],
     ),
-    with_room("add_attribute 1 x6e6f 1 x2d", &[]),
-    on_list("destroy_attribute 0"),
-    on_list("add_document 1 x31393a3035"),
-    on_list("add_element 1 817 1 x31393a3035"),
-    on_list("destroy_element 2"),
-    on_list("set_attribute 27 0 x31393a3035"),
-    on_list("destroy_attribute_row 2 0"),
-    on_list("set_text 3 x31393a3035"),
+    (ROW_IN_EACH, "add_attribute 1 x6e6f 1 x2d", &[]),
+    (ONE_MORE, "destroy_attribute 0", &[]),
+    (ONE_MORE, "add_document 1 x31393a3035", &[]),
+    (ONE_MORE, "add_element 1 817 1 x31393a3035", &[]),
+    (ONE_MORE, "destroy_element 2", &[]),
+    (ONE_MORE, "set_attribute 27 0 x31393a3035", &[]),
+    (ONE_MORE, "destroy_attribute_row 2 0", &[]),
+    (ONE_MORE, "set_text 3 x31393a3035", &[]),
 ];
 
 fn call(line: &str) -> Call {
@@ -157,22 +143,22 @@ fn call(line: &str) -> Call {
     changes::read(name, &mut words).expect("a change")
 }
 
-impl Measured {
-    /// The list; its last five finishers have their attribute.
-    fn store(&self) -> Vec<u8> {
-        let lines = self.before.iter().map(|line| call(line));
-        let form = lines.fold(form(), |store, call| changed(&store, &call));
-        let mut store = finish_list(&form, self.finishers);
-        for element in [2, 7, 12, 17, 22] {
-            let call = Call::SetAttribute {
-                element,
-                attribute: 0,
-                value: b"none".to_vec(),
-            };
-            store = changed(&store, &call);
-        }
-        store
+/// The list that a change is measured on; its last five finishers have their attribute.
+fn list_for_change(finishers: usize, before: &[&str]) -> Vec<u8> {
+    let mut form = form();
+    for line in before {
+        form = changed(&form, &call(line));
     }
+    let mut store = finish_list(&form, finishers);
+    for element in [2, 7, 12, 17, 22] {
+        let call = Call::SetAttribute {
+            element,
+            attribute: 0,
+            value: b"none".to_vec(),
+        };
+        store = changed(&store, &call);
+    }
+    store
 }
 
 /// A line for each change.
@@ -180,9 +166,9 @@ fn print_changes() {
     let mut out = vec![0; 1 << 20];
     let mut other = vec![0; 1 << 20];
     println!("change                     library     check  to check     second     ratio");
-    for measured in CHANGES {
-        let (store, call) = (measured.store(), call(measured.change));
-        let name = Words::of(measured.change).word();
+    for (finishers, line, before) in CHANGES {
+        let (store, call) = (list_for_change(finishers, before), call(line));
+        let name = Words::of(line).word();
         let length = changed(&store, &call).len();
         let [check, library, second] = medians([
             &mut || assert_eq!(compare::direct::check(&store), 0),

@@ -62,7 +62,10 @@ impl Comparison {
     }
 
     fn compare(&mut self, call: &Call, moment: &Moment) {
-        let (answer, mut out) = agreed(call, &moment.bytes, &self.buffer);
+        // Room for what a call makes in each document, and not more: it is copied again and again.
+        let room = moment.bytes.len() + 1000 * (1 + moment.store.documents.len());
+        let buffer = &self.buffer[..room.min(LONGEST)];
+        let (answer, mut out) = agreed(call, &moment.bytes, buffer);
         let (number, length) = (answer.number, answer.length);
         self.counts.note(call, Answer { number, length });
         self.compared += 1;

@@ -21,7 +21,7 @@ use Rattle.rules.specs.WellFormed.{isValue}
 use Rattle.rules.specs.Place.{Found as Spot, gap, nth, find, plug, kindAt, spine, renameAround}
 use Rattle.rules.specs.Edit.{sameKind, lone, firstMembers, hasMembers}
 use Rattle.rules.specs.Change.{definitionAt}
-use Rattle.rules.specs.Refusal.{Condition, _if_, first}
+use Rattle.rules.specs.Refusal.{Condition, _if_}
 use Rattle.model.specs.declared.What.{What}
 use Rattle.model.specs.declared.What.the-variants as what
 use Rattle.model.specs.declared.place.Holder.{Holder}
@@ -154,8 +154,3 @@ removeTests exists part h p =
     14 if ((ltb 0 d && eqb p (h .start)) && eqb (howMany (membersFrom d (drop (4 * p) part))) 1)
     ∷ 15 if (exists && not (sameKind (h .kind) Sequence || choiceLeft part (h .start) p d))
     ∷ []
-
--- ---- conditions
--- n is the number of the first condition that holds, 0 if none does
-pub record First (n : ℕ) (cs : List Condition) : Type 0 where
-  pub is : n ≡ first cs

@@ -18,7 +18,7 @@ use Rattle.rules.specs.Decode.{quantifierOf, definitionCount}
 use Rattle.rules.specs.WellFormed.{isValue}
 use Rattle.rules.specs.Place.{Context, Found as Spot, spine}
 use Rattle.rules.specs.Edit.{quantify, quantifyOff, quantifyGroupOff}
-use Rattle.rules.specs.Change.{changeQuantifier, changeGroupQuantifier, nameAtIndex}
+use Rattle.rules.specs.Change.{nameAtIndex}
 use Rattle.rules.specs.Refusal.{_if_, Condition, first, conditions, foundAt, noElementAt, noGroupAt, atPlace, onElement, onGroup, instanceExists}
 use Rattle.rules.proofs.Words.{and-both}
 use Rattle.model.specs.declared.place.Holder.{Holder}
@@ -27,7 +27,7 @@ use Rattle.storing.specs.Stores.{storeIn}
 use Rattle.finding.proofs.StoreFacts.{formIn, Whole}
 use Rattle.finding.specs.Finding.{Gives}
 use Rattle.finding.proofs.RefusalLaws.{gives-hit, gives-next, gives-none}
-use Rattle.placing.specs.Placing.{modelIn, foundBy, hasInstance, ElementAt, GroupAt, isOff, earlyTests, quantifierTests}
+use Rattle.placing.specs.Placing.{modelIn, foundBy, hasInstance, ElementAt, GroupAt, isOff, earlyTests, quantifierTests, requantify}
 use Rattle.placing.proofs.TestLaws.{and-off, and-first}
 use Rattle.placing.proofs.PlaceLaws.{found-quantify}
 use Rattle.placing.proofs.InstanceLaws.{instance-is}
@@ -121,13 +121,10 @@ module _ (bs : Bytes) (w : Whole bs) (o : ℕ) (p : List ℕ) (q : ℕ) (t : Byt
   held : (cs : List Condition) → (r ≡ 0 → ⊥) → Gives r (three (not (isValue 32 t)) (ltb 3 q) (not (ltb o (length (formIn bs)))) cs)
   held cs h = three-held (not (isValue 32 t)) (ltb 3 q) (not (ltb o (length (formIn bs)))) cs (record { is = f .is ∙ ap (λ (z : Bool). first (three (not (isValue 32 t)) (ltb 3 q) z [])) past-same }) h
 
-  pub element-early : (r ≡ 0 → ⊥) → Gives r (conditions (changeQuantifier o p q t) (storeIn bs))
+  pub requantify-early : (g : Bool) → (r ≡ 0 → ⊥) → Gives r (conditions (requantify g o p q t) (storeIn bs))
   unfolding conditions
-  element-early h = held _ h
-
-  pub group-early : (r ≡ 0 → ⊥) → Gives r (conditions (changeGroupQuantifier o p q t) (storeIn bs))
-  unfolding conditions
-  group-early h = held _ h
+  requantify-early false h = held _ h
+  requantify-early true h = held _ h
 
   module _ (z : r ≡ 0) where
     none-early : Off (not (isValue 32 t)) (ltb 3 q) (not (ltb o (definitionCount bs)))
@@ -145,18 +142,20 @@ module _ (bs : Bytes) (w : Whole bs) (o : ℕ) (p : List ℕ) (q : ℕ) (t : Byt
     exists-is : hasInstance bs o ≡ instanceExists (nameAtIndex o (formIn bs)) (storeIn bs)
     exists-is = instance-is bs w o within
 
+    pub requantify-none : (g : Bool) → foundBy false p (modelIn bs o) ≡ none → Gives 8 (conditions (requantify g o p q t) (storeIn bs))
+    unfolding conditions
+    requantify-none false e = on-early (gives-hit (ap noElementAt (found-quantify (quantifierOf q) o p bs ∙ e)))
+    requantify-none true e = on-early (gives-hit (ap noGroupAt (found-quantify (quantifierOf q) o p bs ∙ e)))
+
     -- 5
-    pub element-none : foundBy false p (modelIn bs o) ≡ none → Gives 8 (conditions (changeQuantifier o p q t) (storeIn bs))
+    pub element-group : (g : Bool) → g ≡ false → {l : Holder} {n : ℕ} {old : Quantifier} {k : GroupKind} {m : ℕ} → GroupAt bs o p l n old k m → Gives 8 (conditions (requantify g o p q t) (storeIn bs))
     unfolding conditions
-    element-none e = on-early (gives-hit (ap noElementAt (found-quantify (quantifierOf q) o p bs ∙ e)))
+    element-group false b x = on-early (gives-hit (ap noElementAt (found-quantify (quantifierOf q) o p bs ∙ x .placed .there) ∙ ap (onElement true (λ q. false)) (x .is)))
+    element-group true b x = absurd (false≢true (sym b))
 
-    pub element-group : {l : Holder} {n : ℕ} {old : Quantifier} {k : GroupKind} {m : ℕ} → GroupAt bs o p l n old k m → Gives 8 (conditions (changeQuantifier o p q t) (storeIn bs))
+    pub element-there : (g : Bool) → g ≡ false → {l : Holder} {n : ℕ} {old new : Quantifier} → ElementAt bs o p l n old → new ≡ quantifierOf q → {s : ℕ} → Gives s (quantifierTests (hasInstance bs o) (l .spine) old new t false) → Gives s (conditions (requantify g o p q t) (storeIn bs))
     unfolding conditions
-    element-group x = on-early (gives-hit (ap noElementAt (found-quantify (quantifierOf q) o p bs ∙ x .placed .there) ∙ ap (onElement true (λ q. false)) (x .is)))
-
-    pub element-there : {l : Holder} {n : ℕ} {old new : Quantifier} → ElementAt bs o p l n old → new ≡ quantifierOf q → {s : ℕ} → Gives s (quantifierTests (hasInstance bs o) (l .spine) old new t false) → Gives s (conditions (changeQuantifier o p q t) (storeIn bs))
-    unfolding conditions
-    element-there {l} {n} {old} {new} x i {s} g =
+    element-there false b {l} {n} {old} {new} x i {s} y =
         let e : found ≡ some (x .placed .found) = found-quantify (quantifierOf q) o p bs ∙ x .placed .there in
         let c : Context Bytes = x .placed .found .context in
         let gain : atPlace (λ c y. onElement false (λ d. gains d (quantifierOf q)) y) found ≡ gains old new =
@@ -167,21 +166,19 @@ module _ (bs : Bytes) (w : Whole bs) (o : ℕ) (p : List ℕ) (q : ℕ) (t : Byt
         ∙ ap₂ (λ (a : Quantifier) (b : Bool). not (relaxes old a) && not b) (sym i) (sym (x .placed .spine))
         ∙ sym (or-false (not (relaxes old new) && not (l .spine))) in
         on-early (gives-next (ap noElementAt e ∙ ap (onElement true (λ q. false)) (x .is))
-        (record { is = g .is ∙ sym (λ j. first (12 if (gain j && isNone t) ∷ 13 if (sym exists-is j && off j) ∷ [])) }))
-
+        (record { is = y .is ∙ sym (λ j. first (12 if (gain j && isNone t) ∷ 13 if (sym exists-is j && off j) ∷ [])) }))
     -- 8
-    pub group-none : foundBy false p (modelIn bs o) ≡ none → Gives 8 (conditions (changeGroupQuantifier o p q t) (storeIn bs))
-    unfolding conditions
-    group-none e = on-early (gives-hit (ap noGroupAt (found-quantify (quantifierOf q) o p bs ∙ e)))
+    element-there true b {l} {n} {old} {new} x i {s} y = absurd (false≢true (sym b))
 
-    pub group-element : {l : Holder} {n : ℕ} {old : Quantifier} → ElementAt bs o p l n old → Gives 8 (conditions (changeGroupQuantifier o p q t) (storeIn bs))
+    pub group-element : (g : Bool) → g ≡ true → {l : Holder} {n : ℕ} {old : Quantifier} → ElementAt bs o p l n old → Gives 8 (conditions (requantify g o p q t) (storeIn bs))
     unfolding conditions
-    group-element x = on-early (gives-hit (ap noGroupAt (found-quantify (quantifierOf q) o p bs ∙ x .placed .there) ∙ ap (onGroup true (λ q. false)) (x .is)))
+    group-element true b x = on-early (gives-hit (ap noGroupAt (found-quantify (quantifierOf q) o p bs ∙ x .placed .there) ∙ ap (onGroup true (λ q. false)) (x .is)))
+    group-element false b x = absurd (false≢true b)
 
-    pub group-there : {l : Holder} {n : ℕ} {old new : Quantifier} {k : GroupKind} {m : ℕ} → GroupAt bs o p l n old k m → new ≡ quantifierOf q → {s : ℕ} → Gives s (quantifierTests (hasInstance bs o) (l .spine) old new t true)
-        → Gives s (conditions (changeGroupQuantifier o p q t) (storeIn bs))
+    pub group-there : (g : Bool) → g ≡ true → {l : Holder} {n : ℕ} {old new : Quantifier} {k : GroupKind} {m : ℕ} → GroupAt bs o p l n old k m → new ≡ quantifierOf q → {s : ℕ} → Gives s (quantifierTests (hasInstance bs o) (l .spine) old new t true)
+        → Gives s (conditions (requantify g o p q t) (storeIn bs))
     unfolding conditions
-    group-there {l} {n} {old} {new} x i {s} g =
+    group-there true b {l} {n} {old} {new} x i {s} y =
         let e : found ≡ some (x .placed .found) = found-quantify (quantifierOf q) o p bs ∙ x .placed .there in
         let c : Context Bytes = x .placed .found .context in
         let gain : atPlace (λ c y. onGroup false (λ d. gains d (quantifierOf q)) y) found ≡ gains old new =
@@ -191,4 +188,5 @@ module _ (bs : Bytes) (w : Whole bs) (o : ℕ) (p : List ℕ) (q : ℕ) (t : Byt
         ∙ ap (onGroup false (λ d. quantifyGroupOff c d (quantifierOf q))) (x .is)
         ∙ ap₂ (λ (a : Quantifier) (b : Bool). (not (relaxes old a) && not b) || cuts old a) (sym i) (sym (x .placed .spine)) in
         on-early (gives-next (ap noGroupAt e ∙ ap (onGroup true (λ q. false)) (x .is))
-        (record { is = g .is ∙ sym (λ j. first (12 if (gain j && isNone t) ∷ 13 if (sym exists-is j && off j) ∷ [])) }))
+        (record { is = y .is ∙ sym (λ j. first (12 if (gain j && isNone t) ∷ 13 if (sym exists-is j && off j) ∷ [])) }))
+    group-there false b {l} {n} {old} {new} x i {s} y = absurd (false≢true b)

@@ -20,7 +20,7 @@ use Rattle.rules.specs.Decode.{readParticle, readRow, readMany, definitionCount
 use Rattle.rules.specs.WellFormed.{isValue}
 use Rattle.rules.specs.Place.{Found as Spot, gap, nth, find, plug, kindAt, spine, renameAround}
 use Rattle.rules.specs.Edit.{sameKind, lone, firstMembers, hasMembers}
-use Rattle.rules.specs.Change.{definitionAt}
+use Rattle.rules.specs.Change.{Call, changeQuantifier, changeGroupQuantifier, definitionAt}
 use Rattle.rules.specs.Refusal.{Condition, _if_}
 use Rattle.model.specs.declared.What.{What}
 use Rattle.model.specs.declared.What.the-variants as what
@@ -134,6 +134,11 @@ earlyTests o q t bs = 3 if not (isValue 32 t) ∷ 4 if ltb 3 q ∷ 6 if not (ltb
 
 abbrev pub quantifierTests : Bool → Bool → Quantifier → Quantifier → Bytes → Bool → List Condition
 quantifierTests exists spine old new t isGroup = 12 if (gains old new && isNone t) ∷ 13 if (exists && isOff spine old new isGroup) ∷ []
+
+-- changes 5 and 8: a new quantifier for an element, or for a group
+abbrev pub requantify : Bool → ℕ → List ℕ → ℕ → Bytes → Call
+requantify false o p q t = changeQuantifier o p q t
+requantify true o p q t = changeGroupQuantifier o p q t
 
 -- ---- removing
 -- an inner CHOICE whose members start at a particle, without the element at particle p of depth d, accepts nothing

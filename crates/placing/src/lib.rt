@@ -25,7 +25,7 @@ ghost use Rattle.rowpass.specs.Reading.{recordAt};
 ghost use Rattle.lookup.specs.Bodies.{bodiesOf};
 ghost use Rattle.storing.specs.Stores.{storeIn};
 ghost use Rattle.finding.specs.Finding.{Gives};
-ghost use Rattle.placing.specs.Placing.{attributeBody, ownNamed, hasInstance, partIn, pickOf, Picking, oneIf, unlikeKind, convertTests, isOff, earlyTests, quantifierTests, choiceLeft, Removable, removeTests};
+ghost use Rattle.placing.specs.Placing.{attributeBody, ownNamed, hasInstance, partIn, pickOf, Picking, oneIf, unlikeKind, convertTests, isOff, earlyTests, quantifierTests, requantify, choiceLeft, Removable, removeTests};
 
 // ---- attributes
 /// The record of attribute i.
@@ -411,6 +411,41 @@ fn quantifier_at(
     0
 }
 
+// Refusals 3, 4, 6, 8, 12 and 13 of the change of the quantifier of a group, or else of an element.
+fn requantify_refusal(
+    store: &[u8],
+    owner: u32,
+    place: &[u32],
+    quantifier: u32,
+    text: &[u8],
+    group: bool,
+) -> u32
+    requires { ⌜ passes (now store) ≡ true ⌝ }
+    ensures { λ r. ⌜ r ≡ first (conditions (requantify group owner (now (place .entry)) quantifier (now (text .entry))) (storeIn (now (store .entry)))) ⌝ }
+{
+    let early = early_refusal(store, owner, quantifier, text);
+    if early != 0 {
+        return early;
+    }
+    let new = model::read_quantifier(quantifier as u8);
+    let x = pick(store, owner, place);
+    match x {
+        Picked::Element(h, _, old) => {
+            if group {
+                return 8;
+            }
+            quantifier_at(store, owner, h.spine, old, new, text, false)
+        }
+        Picked::Group(h, _, old, _, _) => {
+            if !group {
+                return 8;
+            }
+            quantifier_at(store, owner, h.spine, old, new, text, true)
+        }
+        Picked::Absent => 8,
+    }
+}
+
 /// Refusals 3, 4, 6, 8, 12 and 13 of the change of an element's quantifier.
 pub fn change_quantifier_refusal(
     store: &[u8],
@@ -422,19 +457,7 @@ pub fn change_quantifier_refusal(
     requires { ⌜ passes (now store) ≡ true ⌝ }
     ensures { λ r. ⌜ r ≡ first (conditions (changeQuantifier owner (now (place .entry)) quantifier (now (text .entry))) (storeIn (now (store .entry)))) ⌝ }
 {
-    let early = early_refusal(store, owner, quantifier, text);
-    if early != 0 {
-        return early;
-    }
-    let new = model::read_quantifier(quantifier as u8);
-    let x = pick(store, owner, place);
-    match x {
-        Picked::Element(h, _, old) => {
-            quantifier_at(store, owner, h.spine, old, new, text, false)
-        }
-        Picked::Group(_, _, _, _, _) => 8,
-        Picked::Absent => 8,
-    }
+    requantify_refusal(store, owner, place, quantifier, text, false)
 }
 
 /// Refusals 3, 4, 6, 8, 12 and 13 of the change of a group's quantifier.
@@ -448,19 +471,7 @@ pub fn change_group_quantifier_refusal(
     requires { ⌜ passes (now store) ≡ true ⌝ }
     ensures { λ r. ⌜ r ≡ first (conditions (changeGroupQuantifier owner (now (place .entry)) quantifier (now (text .entry))) (storeIn (now (store .entry)))) ⌝ }
 {
-    let early = early_refusal(store, owner, quantifier, text);
-    if early != 0 {
-        return early;
-    }
-    let new = model::read_quantifier(quantifier as u8);
-    let x = pick(store, owner, place);
-    match x {
-        Picked::Element(_, _, _) => 8,
-        Picked::Group(h, _, old, _, _) => {
-            quantifier_at(store, owner, h.spine, old, new, text, true)
-        }
-        Picked::Absent => 8,
-    }
+    requantify_refusal(store, owner, place, quantifier, text, true)
 }
 
 /// Refusals 2, 3, 4, 5, 6 and 12 of the change that adds an attribute.

@@ -19,6 +19,7 @@ use Rattle.rules.specs.Layout.{definitionSize, particleSize, FlatDefinition, Fl
 use Rattle.rules.specs.Decode.{unle, nameAt, readDefinition, readParticle, readMany, contentOf, memberOf, readMembers, ofOwner, readForm, flatName}
 use Rattle.rules.specs.WellFormed.{definitionName, Reaches}
 use Rattle.rules.proofs.PreorderLaws.{rising, flatten-build}
+use Rattle.forms.specs.FormTests.{elementsIn}
 use Rattle.codec.specs.Part.{partOf}
 use Rattle.codec.proofs.Strings.{part-there}
 use Rattle.circles.specs.Members.{countAt, startAt, modelPart, elementsOf, membersIn}
@@ -27,17 +28,13 @@ use Rattle.circles.specs.Deep.{deepIndex, Ranked}
 use Rattle.circles.proofs.CircleLaws.{Models, Indexed, fit-within, fit-acyclic}
 
 -- ---- elements among particles
-unfoldable pub elements : List (Deep FlatParticle) → List ℕ
-elements [] = []
-elements (x ∷ xs) = elim (eqb (x .row .sort) 0) [ true ↦ x .row .index ∷ elements xs | false ↦ elements xs ]
-
-elements-append : (xs ys : List (Deep FlatParticle)) → elements (xs ++ ys) ≡ elements xs ++ elements ys
-unfolding elements
+pub elements-append : (xs ys : List (Deep FlatParticle)) → elementsIn (xs ++ ys) ≡ elementsIn xs ++ elementsIn ys
+unfolding elementsIn
 elements-append [] ys = refl
 elements-append (x ∷ xs) ys = by (eqb (x .row .sort) 0) (elements-append xs ys)
   where
-    by : (b : Bool) → elements (xs ++ ys) ≡ elements xs ++ elements ys
-        → elim b [ true ↦ x .row .index ∷ elements (xs ++ ys) | false ↦ elements (xs ++ ys) ] ≡ elim b [ true ↦ x .row .index ∷ elements xs | false ↦ elements xs ] ++ elements ys
+    by : (b : Bool) → elementsIn (xs ++ ys) ≡ elementsIn xs ++ elementsIn ys
+        → elim b [ true ↦ x .row .index ∷ elementsIn (xs ++ ys) | false ↦ elementsIn (xs ++ ys) ] ≡ elim b [ true ↦ x .row .index ∷ elementsIn xs | false ↦ elementsIn xs ] ++ elementsIn ys
     by true e = ap (λ (l : List ℕ). x .row .index ∷ l) e
     by false e = e
 
@@ -48,19 +45,19 @@ Leaves (tree p b t) = (p .sort ≡ 0 → b ≡ bare) × Leaves b × Leaves t
 
 module _ (ns : List Bytes) where
   names-tree : (d : ℕ) (p : FlatParticle) (b t : Forest FlatParticle) (k : ℕ) → p .sort ≡ k → (k ≡ 0 → b ≡ bare)
-      → names (readMembers ns b) ≡ map (λ j. nameAt j ns) (elements (flatten (suc d) b))
-      → names (readMembers ns t) ≡ map (λ j. nameAt j ns) (elements (flatten d t))
-      → names (memberOf ns p k (readMembers ns b) (readMembers ns t)) ≡ map (λ j. nameAt j ns) (elim (eqb k 0) [ true ↦ p .index ∷ elements (flatten (suc d) b ++ flatten d t) | false ↦ elements (flatten (suc d) b ++ flatten d t) ])
-  unfolding names elements
+      → names (readMembers ns b) ≡ map (λ j. nameAt j ns) (elementsIn (flatten (suc d) b))
+      → names (readMembers ns t) ≡ map (λ j. nameAt j ns) (elementsIn (flatten d t))
+      → names (memberOf ns p k (readMembers ns b) (readMembers ns t)) ≡ map (λ j. nameAt j ns) (elim (eqb k 0) [ true ↦ p .index ∷ elementsIn (flatten (suc d) b ++ flatten d t) | false ↦ elementsIn (flatten (suc d) b ++ flatten d t) ])
+  unfolding names elementsIn
   names-tree d p b t zero e l x y = rw (l refl) (ap (λ (z : List Bytes). nameAt (p .index) ns ∷ z) y)
   names-tree d p b t (suc k) e l x y =
       ap₂ (λ (u v : List Bytes). u ++ v) x y
-      ∙ sym (map-append (λ j. nameAt j ns) (elements (flatten (suc d) b)) (elements (flatten d t)))
+      ∙ sym (map-append (λ j. nameAt j ns) (elementsIn (flatten (suc d) b)) (elementsIn (flatten d t)))
       ∙ ap (λ (z : List ℕ). map (λ j. nameAt j ns) z) (sym (elements-append (flatten (suc d) b) (flatten d t)))
-      ∙ ap (λ (c : Bool). map (λ j. nameAt j ns) (elim c [ true ↦ p .index ∷ elements (flatten (suc d) b ++ flatten d t) | false ↦ elements (flatten (suc d) b ++ flatten d t) ])) (sym (ne-eqb (suc k) 0 (λ z. omega arith)))
+      ∙ ap (λ (c : Bool). map (λ j. nameAt j ns) (elim c [ true ↦ p .index ∷ elementsIn (flatten (suc d) b ++ flatten d t) | false ↦ elementsIn (flatten (suc d) b ++ flatten d t) ])) (sym (ne-eqb (suc k) 0 (λ z. omega arith)))
 
-  pub names-elements : (d : ℕ) (f : Forest FlatParticle) → Leaves f → names (readMembers ns f) ≡ map (λ j. nameAt j ns) (elements (flatten d f))
-  unfolding names elements
+  pub names-elements : (d : ℕ) (f : Forest FlatParticle) → Leaves f → names (readMembers ns f) ≡ map (λ j. nameAt j ns) (elementsIn (flatten d f))
+  unfolding names elementsIn
   names-elements d bare l = refl
   names-elements d (tree p b t) (l, lb, lt) = names-tree d p b t (p .sort) refl l (names-elements (suc d) b lb) (names-elements d t lt)
 
@@ -83,20 +80,20 @@ modelAt (suc i) (d ∷ ds) ps = modelAt i ds (drop (d .particles) ps)
 
 module _ (ns : List Bytes) where
   names-shaped : (d : FlatDefinition) (xs : List (Deep FlatParticle)) (cs : List Attribute) → Shaped d xs
-      → names (members (record { name = d .name; content = contentOf (d .kind) (readMembers ns (build xs 0)); attributes = cs })) ≡ map (λ j. nameAt j ns) (elements xs)
-  unfolding names elements
+      → names (members (record { name = d .name; content = contentOf (d .kind) (readMembers ns (build xs 0)); attributes = cs })) ≡ map (λ j. nameAt j ns) (elementsIn xs)
+  unfolding names elementsIn
   names-shaped d xs cs s = by (d .kind) refl
     where
-      few : d .kind < 2 → [] ≡ map (λ j. nameAt j ns) (elements xs)
+      few : d .kind < 2 → [] ≡ map (λ j. nameAt j ns) (elementsIn xs)
       few l = rw (s .complex l)
 
-      by : (k : ℕ) → d .kind ≡ k → names (modelOf (contentOf k (readMembers ns (build xs 0)))) ≡ map (λ j. nameAt j ns) (elements xs)
+      by : (k : ℕ) → d .kind ≡ k → names (modelOf (contentOf k (readMembers ns (build xs 0)))) ≡ map (λ j. nameAt j ns) (elementsIn xs)
       by zero e = few (omega arith)
       by (suc zero) e = few (omega arith)
-      by (suc (suc k)) e = names-elements ns 0 (build xs 0) (s .leaves) ∙ ap (λ (l : List (Deep FlatParticle)). map (λ j. nameAt j ns) (elements l)) (flatten-build xs (s .rises))
+      by (suc (suc k)) e = names-elements ns 0 (build xs 0) (s .leaves) ∙ ap (λ (l : List (Deep FlatParticle)). map (λ j. nameAt j ns) (elementsIn l)) (flatten-build xs (s .rises))
 
   pub models-read : (indices : ℕ → List ℕ) (o : ℕ) (ds : List FlatDefinition) (ps : List (Deep FlatParticle)) (cs : List FlatAttribute) → AllShaped ds ps
-      → ((i : ℕ) → i < length ds → indices (o + i) ≡ elements (modelAt i ds ps)) → Models ns indices o (readForm ns o ds ps cs)
+      → ((i : ℕ) → i < length ds → indices (o + i) ≡ elementsIn (modelAt i ds ps)) → Models ns indices o (readForm ns o ds ps cs)
   unfolding modelAt
   models-read indices o [] ps cs s f = tt
   models-read indices o (d ∷ ds) ps cs (s, ss) f = (
@@ -104,10 +101,10 @@ module _ (ns : List Bytes) where
     models-read indices (suc o) ds (drop (d .particles) ps) cs ss (λ i l. later i (f (suc i) (omega arith))),
   )
     where
-      first : indices (o + 0) ≡ elements (take (d .particles) ps) → indices o ≡ elements (take (d .particles) ps)
+      first : indices (o + 0) ≡ elementsIn (take (d .particles) ps) → indices o ≡ elementsIn (take (d .particles) ps)
       first e = let z : o ≡ o + 0 = omega arith in ap indices z ∙ e
 
-      later : (i : ℕ) → indices (o + suc i) ≡ elements (modelAt i ds (drop (d .particles) ps)) → indices (suc o + i) ≡ elements (modelAt i ds (drop (d .particles) ps))
+      later : (i : ℕ) → indices (o + suc i) ≡ elementsIn (modelAt i ds (drop (d .particles) ps)) → indices (suc o + i) ≡ elementsIn (modelAt i ds (drop (d .particles) ps))
       later i e = let z : suc o + i ≡ o + suc i = omega arith in ap indices z ∙ e
 
   names-read : (o : ℕ) (ds : List FlatDefinition) (ps : List (Deep FlatParticle)) (cs : List FlatAttribute) → map definitionName (readForm ns o ds ps cs) ≡ map flatName ds
@@ -149,8 +146,8 @@ module _ {A : Type 0} (f : Bytes → A) (size : ℕ) where
       (ap (readMany f size c) (drop-take size (size * c) l) ∙ many-front c (drop size l)))
 
 -- ---- the members in bytes
-elements-read : (k : ℕ) (t : Bytes) → length t ≡ 4 * k → elementsOf t ≡ elements (readMany readParticle 4 k t)
-unfolding elementsOf elements
+elements-read : (k : ℕ) (t : Bytes) → length t ≡ 4 * k → elementsOf t ≡ elementsIn (readMany readParticle 4 k t)
+unfolding elementsOf elementsIn
 elements-read zero [] e = refl
 elements-read zero (a ∷ t) e = absurd (omega arith)
 elements-read (suc k) [] e = absurd (omega arith)
@@ -159,8 +156,8 @@ elements-read (suc k) (a ∷ b ∷ []) e = absurd (omega arith)
 elements-read (suc k) (a ∷ b ∷ c ∷ []) e = absurd (omega arith)
 elements-read (suc k) (a ∷ b ∷ c ∷ d ∷ t) e = by (eqb a 0) (elements-read k t (omega arith))
   where
-    by : (x : Bool) → elementsOf t ≡ elements (readMany readParticle 4 k t)
-        → _≡_ {A = List ℕ} (elim x [ true ↦ c ∷ elementsOf t | false ↦ elementsOf t ]) (elim x [ true ↦ c ∷ elements (readMany readParticle 4 k t) | false ↦ elements (readMany readParticle 4 k t) ])
+    by : (x : Bool) → elementsOf t ≡ elementsIn (readMany readParticle 4 k t)
+        → _≡_ {A = List ℕ} (elim x [ true ↦ c ∷ elementsOf t | false ↦ elementsOf t ]) (elim x [ true ↦ c ∷ elementsIn (readMany readParticle 4 k t) | false ↦ elementsIn (readMany readParticle 4 k t) ])
     by true q = ap (λ (l : List ℕ). c ∷ l) q
     by false q = q
 
@@ -192,11 +189,11 @@ model-read (suc n) (suc i) defs ps l =
     ∙ ap₂ (λ (c : ℕ) (l : List (Deep FlatParticle)). take c l) (count-after defs i) (drop-drop (startAt (drop 20 defs) i) (countAt defs 0) ps ∙ ap (λ (k : ℕ). drop k ps) (start-after defs i))
 
 -- the bytes of c particles, s after the first, of p that are there
-part-elements : (parts : Bytes) (p s c : ℕ) → 4 * p ≤ length parts → s + c ≤ p → elementsOf (partOf (4 * s) (4 * c) parts) ≡ elements (take c (drop s (readMany readParticle 4 p parts)))
+part-elements : (parts : Bytes) (p s c : ℕ) → 4 * p ≤ length parts → s + c ≤ p → elementsOf (partOf (4 * s) (4 * c) parts) ≡ elementsIn (take c (drop s (readMany readParticle 4 p parts)))
 part-elements parts p s c long room =
     ap elementsOf (part-there (4 * s) (4 * c) parts (omega arith))
     ∙ elements-read c (take (4 * c) (drop (4 * s) parts)) (omega (arith, length-take (4 * c) (drop (4 * s) parts), length-drop (4 * s) parts))
-    ∙ ap elements (many-front readParticle 4 c (drop (4 * s) parts) ∙ sym (cut (p - (s + c)) (omega arith)))
+    ∙ ap elementsIn (many-front readParticle 4 c (drop (4 * s) parts) ∙ sym (cut (p - (s + c)) (omega arith)))
   where
     cut : (q : ℕ) → p ≡ s + (c + q) → take c (drop s (readMany readParticle 4 p parts)) ≡ readMany readParticle 4 c (drop (4 * s) parts)
     cut q e =
@@ -210,11 +207,11 @@ start-room defs n i l = let z : suc i + (n - suc i) ≡ n = omega arith in rw z 
 
 -- n definitions, whose counts give no more than the p particles that are there
 module _ (defs parts : Bytes) (n p : ℕ) (few : startAt defs n ≤ p) (long : 4 * p ≤ length parts) where
-  pub members-read : (i : ℕ) → i < n → membersIn defs parts i ≡ elements (modelAt i (readMany readDefinition 20 n defs) (readMany readParticle 4 p parts))
+  pub members-read : (i : ℕ) → i < n → membersIn defs parts i ≡ elementsIn (modelAt i (readMany readDefinition 20 n defs) (readMany readParticle 4 p parts))
   unfolding membersIn modelPart
   members-read i l =
       part-elements parts p (startAt defs i) (countAt defs i) long (omega (arith, start-room defs n i l))
-      ∙ ap elements (sym (model-read n i defs (readMany readParticle 4 p parts) l))
+      ∙ ap elementsIn (sym (model-read n i defs (readMany readParticle 4 p parts) l))
 
 -- the definitions and particles that are read, and the form of them
 abbrev pub definitionsRead : Bytes → ℕ → List FlatDefinition
@@ -252,7 +249,7 @@ module _ {defs parts : Bytes} {n p : ℕ} (g : Readable defs parts n p) (cs : Li
       named : map definitionName (formRead defs parts n p cs) ≡ map flatName (definitionsRead defs n)
       named = names-read (map flatName (definitionsRead defs n)) 0 (definitionsRead defs n) (particlesRead parts p) cs
 
-      at : (i : ℕ) → i < n → membersIn defs parts (0 + i) ≡ elements (modelAt i (definitionsRead defs n) (particlesRead parts p))
+      at : (i : ℕ) → i < n → membersIn defs parts (0 + i) ≡ elementsIn (modelAt i (definitionsRead defs n) (particlesRead parts p))
       at i l = let z : 0 + i ≡ i = omega arith in ap (membersIn defs parts) z ∙ members-read defs parts n p (g .few) (g .long) i l
 
   -- the heights fit just where all indices are those of definitions and no definition reaches itself

@@ -10,7 +10,7 @@ use lib.Seq.{drop-drop, take-append-seam, drop-append-seam}
 use Rattle.rules.specs.Bytes.{Bytes}
 use Rattle.rules.specs.Store.{Store}
 use Rattle.rules.specs.Layout.{FlatStore, flat, flatBytes, definitionBytes, particleBytes, attributeBytes, rowBytes, each}
-use Rattle.rules.specs.Decode.{readDefinition, readParticle, readAttribute, readRow, definitionCount, particleCount, attributeCount, rowCount}
+use Rattle.rules.specs.Decode.{readRow, definitionCount, particleCount, attributeCount, rowCount}
 use Rattle.rules.specs.WellFormed.{highestNumber, withinCeilings}
 use Rattle.rules.specs.Passing.{passes, good, knownVersion}
 use Rattle.rules.proofs.Words.{and-split}
@@ -21,6 +21,7 @@ use Rattle.lookup.specs.Bodies.{bodiesOf}
 use Rattle.lookup.proofs.Laws.{length-many}
 use Rattle.storing.specs.Stores.{storeIn}
 use Rattle.storing.proofs.StoreLaws.{Holds, holds}
+use Rattle.storing.proofs.FormLaws.{counted-definitions, counted-particles, counted-attributes}
 use Rattle.storing.specs.Writing.{contents}
 
 good-ceilings : (s : Store) → good s ≡ true → withinCeilings (flat s) ≡ true
@@ -43,18 +44,6 @@ pub record Encoded (bs : Bytes) (f : FlatStore) : Type 0 where
   pub good : GoodFlat baseWidth f
 
 module _ (bs : Bytes) where
-  counted-definitions : definitionCount bs ≡ length (bodiesOf bs .definitions)
-  unfolding bodiesOf
-  counted-definitions = sym (length-many readDefinition 20 (definitionCount bs) _)
-
-  counted-particles : particleCount bs ≡ length (bodiesOf bs .particles)
-  unfolding bodiesOf
-  counted-particles = sym (length-many readParticle 4 (particleCount bs) _)
-
-  counted-attributes : attributeCount bs ≡ length (bodiesOf bs .attributes)
-  unfolding bodiesOf
-  counted-attributes = sym (length-many readAttribute 52 (attributeCount bs) _)
-
   counted-rows : rowCount bs ≡ length (bodiesOf bs .rows)
   unfolding bodiesOf
   counted-rows = sym (length-many readRow 44 (rowCount bs) _)
@@ -65,9 +54,9 @@ module _ (bs : Bytes) where
       let g : GoodParts (storeIn bs) = good-parts (storeIn bs) (h .good) in
       record {
         written = ap (flatBytes baseWidth) (h .bodies) ∙ h .written;
-        definitions = counted-definitions;
-        particles = counted-particles;
-        attributes = counted-attributes;
+        definitions = counted-definitions bs;
+        particles = counted-particles bs;
+        attributes = counted-attributes bs;
         rows = counted-rows;
         fewDefinitions = rw (h .bodies) (g .definitionCount);
         fewParticles = rw (h .bodies) (g .particleCount);

@@ -17,7 +17,8 @@ use Rattle.rules.specs.Lines.{elementNamed}
 use Rattle.rules.specs.Passing.{passes}
 use Rattle.rules.specs.Change.{destroyDefinition, nameAtIndex, after}
 use Rattle.rules.specs.Refusal.{first, conditions, past, _if_}
-use Rattle.history.proofs.Conditions.{first-append, conditions-numbered, or-false, not-past}
+use Rattle.rules.proofs.Words.{or-split}
+use Rattle.history.proofs.Conditions.{first-append, conditions-numbered, not-past}
 use Rattle.lookup.specs.Bodies.{bodiesOf, rowStart}
 use Rattle.storing.specs.Stores.{storeIn}
 use Rattle.storing.proofs.StoreLaws.{holds}
@@ -85,5 +86,5 @@ module _ (bs : Bytes) (i : ℕ) (p : passes bs ≡ true) where
 
   pub flat-after-destroy : condition ≡ 0 → flat (after (destroyDefinition i) s) ≡ destroyed i (bodiesOf bs)
   flat-after-destroy z =
-      let (models, roots) = or-false inModels inRoots (unmet z .1) in
+      let (models, roots) = or-split inModels inRoots (unmet z .1) in
       flat-destroyed i s (holds bs p .good) (not-past i (s .form) (unmet z .0)) models roots ∙ ap (destroyed i) (sym (holds bs p .bodies))

@@ -2,11 +2,10 @@
 use model::What;
 use rows::Cursor;
 use rules::GroupKind;
-use rules::Quantifier;
 ghost use mathlib.Core.Path.{_≡_};
 ghost use Prim.Native.Nat.{ℕ, _+_, _<_, _≤_};
 ghost use lib.ListN.{length};
-ghost use Rattle.rules.specs.Model.{skips, nothing, filling};
+ghost use Rattle.rules.specs.Model.{nothing, filling};
 ghost use Rattle.model.specs.Members.{membersFrom};
 ghost use Rattle.rowpass.specs.Reading.{attributeIn, indexForm};
 ghost use Rattle.rows.specs.Written.{Room, Written};
@@ -20,17 +19,6 @@ pub enum Filling {
     Definition(usize),
     Attribute(usize),
     Particles(GroupKind, usize, usize),
-}
-
-fn skips(q: Quantifier) -> bool
-    ensures { λ r. ⌜ r ≡ skips q ⌝ }
-{
-    match q {
-        Quantifier::None => false,
-        Quantifier::Qmark => true,
-        Quantifier::Star => true,
-        Quantifier::Plus => false,
-    }
 }
 
 // Whether a group of the members of depth d that s begins with accepts nothing.
@@ -143,7 +131,7 @@ fn put_member(
     let p = model::read_particle(s, 0);
     let q = p.quantifier;
     let w = p.what;
-    if skips(q) {
+    if model::skips(q) {
         return c;
     }
     match w {

@@ -5,7 +5,7 @@ use native.Mathlib.Omega.{arith}
 use borrow.Author.Tests.{eq-eqb, ne-eqb}
 use mathlib.Core.Path.{_≡_, refl, sym, ap, ap₂, _∙_, subst}
 use mathlib.Core.Logic.{_⊎_, inl, inr, ⊎-elim}
-use mathlib.Core.Bool.{Bool, true, false, _&&_, _||_, not, false≢true}
+use mathlib.Core.Bool.{Bool, true, false, _&&_, _||_, not, false≢true, Bool·not-not}
 use mathlib.Core.Option.{Option, none, some}
 use mathlib.Core.List.{List, [], _∷_, map, List·Memᴰ, List·Memᴰ·head, List·Memᴰ·not-nil, List·Memᴰ·cases-cons}
 use lib.Dec.{eqb}
@@ -22,6 +22,7 @@ use Rattle.rules.specs.Change.{setAttribute, destroyAttributeRow, Owned, entryA
 use Rattle.rules.specs.Refusal.{Condition, _if_, first, conditions, rowsOf, noElement, unknownAttribute, isOther, isAbsent}
 use Rattle.history.proofs.RowEdits.{keep}
 use Rattle.rules.proofs.Apart.{differs}
+use Rattle.rules.proofs.DecodeLaws.{length-own}
 use Rattle.history.proofs.Conditions.{not-false}
 use Rattle.history.proofs.ConformingAfter.{is-element}
 use Rattle.history.proofs.Rowwise.{Standing}
@@ -39,19 +40,15 @@ use Rattle.storing.specs.Stores.{storeIn}
 use Rattle.plans.proofs.AttributeIndices.{own-index, name-index}
 use Rattle.plans.specs.CallPlans.{attributeSerial}
 use Rattle.finding.specs.Finding as flat
-use Rattle.finding.specs.Finding.{AttributeRefused, rowIn, childrenAt}
+use Rattle.finding.specs.Finding.{AttributeRefused, rowIn, childrenAt, Gives}
 use Rattle.finding.proofs.TreeLaws.{ofSort}
 use Rattle.finding.proofs.StoreFacts.{formIn, docsIn, byIndex, Whole, Element, NoElement, defined, children-at, any-found}
 use Rattle.finding.proofs.ElementsAfter.{ok}
 use Rattle.finding.proofs.AttributesAfter.{drop-conforms, set-conforms}
-use Rattle.finding.proofs.RefusalLaws.{Gives, gives-hit, gives-next, gives-none}
+use Rattle.finding.proofs.RefusalLaws.{gives-hit, gives-next, gives-none}
 
 some-same : {A : Type 0} {x y : A} → some x ≡ some y → x ≡ y
 some-same e = cc
-
-not-not : (b : Bool) → not (not b) ≡ b
-not-not true = refl
-not-not false = refl
 
 keep-take : (test : Row → Bool) (r : Row) (rows : List Row) → test r ≡ true → keep test (r ∷ rows) ≡ r ∷ keep test rows
 unfolding keep
@@ -71,10 +68,6 @@ serial-next a r rs e = rw (e, flat.serialOf)
 counted : (rows : List Row) → ((r : Row) → List·Memᴰ r rows → r .serial ≡ 0 → ⊥) → isNone (map serialOf rows) ≡ eqb (serialAt 0 (map serialOf rows)) 0
 counted [] f = refl
 counted (r ∷ rows) f = sym (ne-eqb (r .serial) 0 (f r (List·Memᴰ·head refl)))
-
-length-own : (o : ℕ) (table : List Attribute) → length (ownAttributes o table) ≡ length table
-length-own o [] = refl
-length-own o (a ∷ table) = ap suc (length-own o table)
 
 unmet : (x y : Bool) (n : ℕ) → n ≡ first ((6 if x) ∷ (7 if y) ∷ []) → n ≡ 0 → (x ≡ false) × (y ≡ false)
 unmet true y n e h = absurd (omega arith)
@@ -342,7 +335,7 @@ module _ (bs : Bytes) (w : Whole bs) (a : ℕ) where
         needed = m ∙ ap (λ (u : Bool). u && byIndex bs .needed a) (eq-eqb (attributeIn (attributesIn bs) a .owner) j (owner-is (known-of x z) f ∙ sym d))
 
         after-is : not (conforming (formIn bs) (after (destroyAttributeRow k a) (storeIn bs) .docs)) ≡ c
-        after-is = ap not (drop-is (known-of x z)) ∙ not-not (byIndex bs .needed a) ∙ sym needed
+        after-is = ap not (drop-is (known-of x z)) ∙ Bool·not-not (byIndex bs .needed a) ∙ sym needed
 
         pub drop-15 : c ≡ true → Gives 15 (conditions (destroyAttributeRow k a) (storeIn bs))
         unfolding conditions

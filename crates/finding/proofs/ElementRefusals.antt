@@ -29,12 +29,12 @@ use Rattle.model.specs.Steps.{runs}
 use Rattle.validity.proofs.AttributeBlocks.{below-or}
 use Rattle.validity.proofs.IndexLaws.{name-of}
 use Rattle.storing.specs.Stores.{storeIn}
-use Rattle.finding.specs.Finding.{ElementAt, ParentAt, childrenAt, modelAt, kindAt, fitsAt, hasPlace, serialIn, word}
+use Rattle.finding.specs.Finding.{ElementAt, ParentAt, childrenAt, modelAt, kindAt, fitsAt, hasPlace, serialIn, word, Gives}
 use Rattle.finding.proofs.StoreFacts.{formIn, docsIn, byIndex, Whole, Element, NoElement, element-absent, Parent, parent-there, parent-absent, defined, elements-at, texts-at, serials-at}
 use Rattle.finding.proofs.ElementTests.{putAt}
 use Rattle.finding.proofs.ElementsAfter.{ok, add-conforms, destroy-conforms, root-conforms}
 use Rattle.finding.proofs.IndexWords.{AllPlain, Named, word-less, word-more, named-runs}
-use Rattle.finding.proofs.RefusalLaws.{Gives, gives-hit, gives-next, gives-none, kind-is}
+use Rattle.finding.proofs.RefusalLaws.{gives-hit, gives-next, gives-none, kind-is}
 
 keep-is : (test : Row → Bool) (rows : List Row) (r : Row) → List·Memᴰ r (keep test rows) → test r ≡ true
 unfolding keep

@@ -15,18 +15,14 @@ use Rattle.rules.specs.Layout.{kindCode, indexOf}
 use Rattle.rules.specs.Decode.{rowCount}
 use Rattle.rules.specs.WellFormed.{isValue, lookup}
 use Rattle.rules.specs.Change.{addDocument, setText}
-use Rattle.rules.specs.Refusal.{Condition, _if_, first, conditions, isPcdata, pcdataElement}
+use Rattle.rules.specs.Refusal.{Condition, _if_, conditions, isPcdata, pcdataElement}
 use Rattle.records.specs.Records.{NumberAt}
 use Rattle.rowpass.specs.Reading.{definitionIn}
 use Rattle.validity.specs.Check.{definitionsIn, rowsIn}
 use Rattle.storing.specs.Stores.{storeIn}
-use Rattle.finding.specs.Finding.{ElementAt, ParentAt, RowOf, kindAt}
+use Rattle.finding.specs.Finding.{ElementAt, ParentAt, RowOf, kindAt, Gives}
 use Rattle.finding.proofs.SuffixLaws.{rowAt}
 use Rattle.finding.proofs.StoreFacts.{formIn, Whole, Element, NoElement, element-there, element-absent, parent-there, defined}
-
--- n is the number of the first condition that holds, 0 if none does
-pub record Gives (n : ℕ) (cs : List Condition) : Type 0 where
-  pub is : n ≡ first cs
 
 pub gives-hit : {n : ℕ} {b : Bool} {cs : List Condition} → b ≡ true → Gives n ((n if b) ∷ cs)
 gives-hit {n} {b} {cs} e = record { is = rw e }

@@ -8,7 +8,7 @@ use lib.Dec.{eqb, ltb}
 use Rattle.rules.specs.Bytes.{Bytes, any}
 use Rattle.rules.specs.Model.{Members}
 use Rattle.rules.specs.Store.{Store}
-use Rattle.rules.specs.Refusal.{_if_, first, noElement, unknownAttribute}
+use Rattle.rules.specs.Refusal.{Condition, _if_, first, noElement, unknownAttribute}
 use Rattle.rules.specs.Preorder.{Deep}
 use Rattle.rules.specs.Layout.{FlatRow}
 use Rattle.rules.specs.Lines.{serialAt}
@@ -129,3 +129,8 @@ hasPlace bs i n = elim (eqb n 0) [ true ↦ true | false ↦ not (eqb (serialAt 
 -- n is the number of the first condition that holds of an attribute of element k, of those on which both may be named; 0 if none does
 pub record AttributeRefused (k a : ℕ) (s : Store) (n : ℕ) : Type 0 where
   pub is : n ≡ first ((6 if unknownAttribute k a s) ∷ (7 if noElement k s) ∷ [])
+
+-- ---- conditions
+-- n is the number of the first condition that holds, 0 if none does
+pub record Gives (n : ℕ) (cs : List Condition) : Type 0 where
+  pub is : n ≡ first cs

@@ -4,7 +4,7 @@ use Prim.Native.Nat.{ℕ, zero, suc, _+_, _*_, _-_, _≤_, _<_}
 use native.Mathlib.Omega.{arith}
 use native.Mathlib.Numerals.{add-one}
 use mathlib.Core.Path.{_≡_, refl, sym, ap, ap₂, _∙_}
-use mathlib.Core.Bool.{Bool, true, false, _&&_, _||_, not}
+use mathlib.Core.Bool.{Bool, true, false, _&&_, _||_, not, and-true, and-false}
 use mathlib.Core.List.{List, [], _∷_}
 use lib.Dec.{eqb, leb, ltb}
 use lib.ListN.{length, take, drop, length-drop}
@@ -117,10 +117,6 @@ levels : ℕ → ℕ → List (Deep FlatParticle) → Bool
 levels n zero ps = true
 levels n (suc d) ps = shaped n (build ps d) && levels n d ps
 
-and-true : (b : Bool) → (b && true) ≡ b
-and-true true = refl
-and-true false = refl
-
 and-assoc : (a b c r : Bool) → ((a && (b && c)) && r) ≡ (a && (b && (c && r)))
 and-assoc false b c r = refl
 and-assoc true false c r = refl
@@ -202,10 +198,6 @@ elements-apart (p ∷ ps) = by (eqb (p .row .sort) 0) (p .row .index) (elements-
     by false x h = ap (λ (a : Bool). not a && apart sameElement ps) (never ps) ∙ h
 
 -- ---- the walk decides the model
-and-false : (a : Bool) → (a && false) ≡ false
-and-false true = refl
-and-false false = refl
-
 regroup : (a b c e u v w z : Bool) → ((a && (b && (c && e))) && (u && (v && (w && z)))) ≡ ((a && u) && ((b && v) && ((c && w) && (e && z))))
 regroup false b c e u v w z = refl
 regroup true false c e u v w z = sym (and-false u)

@@ -21,8 +21,9 @@ use Rattle.rules.specs.Refusal.{past as beyond, instanceExists, atPlace, noPlac
 use Rattle.rules.proofs.Children.{misplaced, unfit}
 use Rattle.rules.proofs.Height.{reaches-test}
 use Rattle.rules.proofs.WellFormedLaws.{well-formed}
+use Rattle.rules.proofs.Words.{or-split}
 use Rattle.history.proofs.InstanceEdits.{editPlan}
-use Rattle.history.proofs.Conditions.{Unmet, or-false, not-false, not-past}
+use Rattle.history.proofs.Conditions.{Unmet, not-false, not-past}
 use Rattle.history.proofs.EditConditions.{or-both, and-false, complex-content, picked-complex, element-some, group-some, has-some, remove-placed, remove-fits, quantify-placed, element-fits, group-fits, flatten-placed}
 use Rattle.history.proofs.FormLaws.{definition-found}
 use Rattle.history.proofs.ModelAfter.{place-right}
@@ -90,8 +91,8 @@ module _ (w : ℕ) (s : Store) (ok : wellFormed w (s .form) ≡ true) (o : ℕ) 
 
       outside : Joins (s .form) (nameAtIndex o (s .form)) n
       outside =
-          let (a, b) = or-false (beyond o (s .form)) (beyond i (s .form)) c6 in
-          let (x, y) = or-false (same n (nameAtIndex o (s .form))) (reachesIn (s .form) n (nameAtIndex o (s .form))) c11 in
+          let (a, b) = or-split (beyond o (s .form)) (beyond i (s .form)) c6 in
+          let (x, y) = or-split (same n (nameAtIndex o (s .form))) (reachesIn (s .form) n (nameAtIndex o (s .form))) c11 in
           record {
             known = ap isThere (inside-lookup i b);
             other = λ h. false≢true (sym x ∙ bytes .same← n (nameAtIndex o (s .form)) h);
@@ -101,7 +102,7 @@ module _ (w : ℕ) (s : Store) (ok : wellFormed w (s .form) ≡ true) (o : ℕ) 
       by : (x : Option (Found Bytes)) → placeOf e p model ≡ x → noPlace x ≡ false → (instanceExists (nameAtIndex o (s .form)) s && atPlace (λ c y. insertOff c (quantifierOf q)) x) ≡ false → Accepted s (insertElement o p i q t)
       by none at a b = absurd (false≢true (sym a))
       by (some f) at a b =
-          accept (insertElement o p i q t) e t f (or-false (beyond o (s .form)) (beyond i (s .form)) c6 .0) at (not-false (isComplex (definitionAt o (s .form) .content)) c9)
+          accept (insertElement o p i q t) e t f (or-split (beyond o (s .form)) (beyond i (s .form)) c6 .0) at (not-false (isComplex (definitionAt o (s .form) .content)) c9)
           (ap (λ (z : Members Bytes). member bytes n (names z)) (place-right e p model f at) ∙ c10) (λ x. and-false (instanceExists (nameAtIndex o (s .form)) s) (insertOff (f .context) (quantifierOf q)) b x) outside
           (λ ls. ap (insertPlan (s .form) (nameAtIndex o (s .form)) t (quantifierOf q) n) at) refl
 

@@ -15,10 +15,10 @@ use Rattle.rules.specs.Lines.{elementNamed}
 use Rattle.rules.specs.Change.{Call, createDefinition, destroyDefinition, insertElement, removeElement, changeQuantifier, convertToGroup, flattenGroup, changeGroupQuantifier, addAttribute, destroyAttribute, addDocument, addElement, destroyElement, setAttribute, destroyAttributeRow, setText, nameAtIndex, Owned, attributeAt, update, inModel, withAttributes, editAt, lacking, newAttribute, formAfter, docsAfter, after}
 use Rattle.rules.specs.Passing.{knownVersion, laidRow, GoodSerials, goodSerials, good}
 use Rattle.rules.specs.Refusal.{isOther, conditions, refusal}
-use Rattle.rules.proofs.Words.{and-split}
+use Rattle.rules.proofs.Words.{and-split, or-split}
 use Rattle.rules.proofs.SerialLaws.{good-serials}
 use Rattle.rules.proofs.WellFormedLaws.{well-formed}
-use Rattle.history.proofs.Conditions.{not-false, or-false, not-past, unmet}
+use Rattle.history.proofs.Conditions.{not-false, not-past, unmet}
 use Rattle.history.proofs.FormLaws.{definition-found, lookup-old, without-other, owner-at, owner-below}
 use Rattle.history.proofs.AcceptedEdits.{editsModel}
 use Rattle.history.proofs.Numbered.{conforming-number}
@@ -64,7 +64,7 @@ module _ (room : ℕ) (s : Store) (x : GoodTests s) where
   unfolding formAfter conditions
   after-2 i a =
       let (there, (used, end)) = unmet room (destroyDefinition i) s a in
-      let (models, roots) = or-false (any (λ (d : Definition). member bytes (nameAtIndex i (s .form)) (names (members d))) (s .form)) (any (elementNamed (nameAtIndex i (s .form))) (heads (s .docs))) used in
+      let (models, roots) = or-split (any (λ (d : Definition). member bytes (nameAtIndex i (s .form)) (names (members d))) (s .form)) (any (elementNamed (nameAtIndex i (s .form))) (heads (s .docs))) used in
       conforming-2 w s (x .form) (x .serials) (x .docs) i models roots (without-other i (s .form))
 
   after-9 : (o : ℕ) (n : Bytes) (k : ℕ) (v : Bytes) → refusal room (addAttribute o n k v) s ≡ 0 → conforming (formAfter (addAttribute o n k v) (s .form)) (docsAfter (addAttribute o n k v) s) ≡ true

@@ -17,13 +17,13 @@ use Rattle.rules.specs.Store.{Store, members}
 use Rattle.rules.specs.Decode.{quantifierOf, groupOf}
 use Rattle.rules.specs.Change.{insertElement, removeElement, changeQuantifier, convertToGroup, flattenGroup, changeGroupQuantifier, definitionAt, nameAtIndex}
 use Rattle.rules.specs.Refusal.{noPlace, noElementAt, noGroupAt, atPlace, onElement, onGroup, tailOf, flattenUnlike, conditions, refusal, foundAt}
-use Rattle.rules.proofs.Words.{either}
+use Rattle.rules.proofs.Words.{either, or-split}
 use Rattle.rules.proofs.Apart.{names-plug}
 use Rattle.rules.proofs.Spine.{names-append}
 use Rattle.rules.proofs.Children.{misplaced, Sound}
 use Rattle.rules.proofs.Places.{found-gap, found-nth}
 use Rattle.rules.proofs.Whole.{change-sound}
-use Rattle.history.proofs.Conditions.{or-false, unmet}
+use Rattle.history.proofs.Conditions.{unmet}
 
 module _ {A : Type 0} where
   -- ---- names
@@ -159,7 +159,7 @@ module _ (room : ℕ) (s : Store) (o : ℕ) (p : List ℕ) where
   unfolding conditions misplaced
   placed-convert n k a =
       let (code, (known, (there, (alike, end)))) = unmet room (convertToGroup o p n k) s a in
-      let (here, enough) = or-false (noPlace (foundAt (convert (groupOf k) n) o p s)) _ there in
+      let (here, enough) = or-split (noPlace (foundAt (convert (groupOf k) n) o p s)) _ there in
       placed (convert (groupOf k) n) p owned
       (λ x. (noPlace x ≡ false) × (atPlace (λ c x. not (hasMembers n x)) x ≡ false) × (atPlace (λ c x. groupUnlike c (groupOf k) (firstMembers n x)) x ≡ false)) (λ h. false≢true (sym (h .0)))
       (λ f e h. both-false (h .1) (h .2)) (here, enough, alike)

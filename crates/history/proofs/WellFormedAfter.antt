@@ -16,12 +16,12 @@ use Rattle.rules.specs.Decode.{quantifierOf, groupOf, contentOf, sortOf}
 use Rattle.rules.specs.WellFormed.{attributeName, givenName, storedName, isValue, isFill, isAttributeOf, isThere, known, reachesIn, Reaches, directly, through, GoodDefinition, wellFormed}
 use Rattle.rules.specs.Change.{Call, createDefinition, destroyDefinition, insertElement, removeElement, changeQuantifier, convertToGroup, flattenGroup, changeGroupQuantifier, addAttribute, destroyAttribute, addDocument, addElement, destroyElement, setAttribute, destroyAttributeRow, setText, definitionAt, nameAtIndex, Owned, attributeAt, update, inContent, inModel, withAttributes, editAt, editFound, editModel, lacking, dropOwned, newAttribute, formAfter}
 use Rattle.rules.specs.Refusal.{past, wrongDefault, conditions, refusal}
-use Rattle.rules.proofs.Words.{and-both}
+use Rattle.rules.proofs.Words.{and-both, or-split}
 use Rattle.rules.proofs.Children.{Sound}
 use Rattle.rules.proofs.TestLaws.{any-test, member-test}
 use Rattle.rules.proofs.Height.{reaches-test}
 use Rattle.rules.proofs.WellFormedLaws.{well-formed}
-use Rattle.history.proofs.Conditions.{not-false, or-false, not-past, unmet}
+use Rattle.history.proofs.Conditions.{not-false, not-past, unmet}
 use Rattle.history.proofs.FormLaws.{definition-found, owner-below}
 use Rattle.history.proofs.ModelAfter.{brings, Placed, placed-sound, placed-names, placed-insert, placed-remove, placed-quantify, placed-quantify-group, placed-convert, placed-flatten}
 use Rattle.history.proofs.Replacing.{distinct-last, Joins, old-good, old-joins, replaced, removed, added}
@@ -134,7 +134,7 @@ module _ (room : ℕ) (s : Store) (ok : wellFormed (valueWidth (s .version)) (s 
   after-destroy i a =
       let (known, (used, end)) = unmet room (destroyDefinition i) s a in
       let n : Bytes = nameAtIndex i (s .form) in
-      let (inModels, inDocs) = or-false (any (λ (d : Definition). member bytes n (names (members d))) (s .form)) _ used in
+      let (inModels, inDocs) = or-split (any (λ (d : Definition). member bytes n (names (members d))) (s .form)) _ used in
       removed w (s .form) ok i (not-past i (s .form) known)
       (λ d m k. false-not (any (λ (d : Definition). member bytes n (names (members d))) (s .form)) inModels (any-test (λ (d : Definition). member bytes n (names (members d))) (s .form) .1 (d, m, member-test bytes n (names (members d)) .1 k)))
 
@@ -142,10 +142,10 @@ module _ (room : ℕ) (s : Store) (ok : wellFormed (valueWidth (s .version)) (s 
   unfolding formAfter conditions
   after-insert o p i q t a =
       let (text, (code, (known, (there, (kind, (once, (circle, more))))))) = unmet room (insertElement o p i q t) s a in
-      let (ownerKnown, newKnown) = or-false (past o (s .form)) _ known in
+      let (ownerKnown, newKnown) = or-split (past o (s .form)) _ known in
       let n : Bytes = nameAtIndex i (s .form) in
       let owner : Definition = definitionAt o (s .form) in
-      let (other, straight) = or-false (same n (owner .name)) (reachesIn (s .form) n (owner .name)) circle in
+      let (other, straight) = or-split (same n (owner .name)) (reachesIn (s .form) n (owner .name)) circle in
       model-edited w (s .form) ok o (not-past o (s .form) ownerKnown) (insert (quantifierOf q) n) p (placed-insert room s o p i q t a)
       (λ m j. rw (List·Memᴰ·eq-of-singleton j) (record {
         known = ap isThere (definition-found i (s .form) (well-formed w (s .form) .0 ok .names) (not-past i (s .form) newKnown));

@@ -20,7 +20,8 @@ use Rattle.rules.specs.Passing.{passes}
 use Rattle.rules.specs.Change.{insertElement, definitionAt, nameAtIndex, formAfter}
 use Rattle.rules.specs.Refusal.{past, first, conditions}
 use Rattle.rules.specs.Outcome.{outcome, Answers}
-use Rattle.history.proofs.Conditions.{not-past, not-false, or-false}
+use Rattle.rules.proofs.Words.{or-split}
+use Rattle.history.proofs.Conditions.{not-past, not-false}
 use Rattle.model.specs.declared.place.Holder.{Holder}
 use Rattle.model.specs.declared.place.Found.{Found}
 use Rattle.model.specs.declared.place.Found.the-variants.{At}
@@ -66,7 +67,7 @@ insertion bs q o p i k t e =
       fits = insert-fits bs q o p i k t e;
       text = not-false (isValue baseWidth t) text;
       code = ltb-false 3 k code;
-      known = not-past i (storeIn bs .form) (or-false (past o (storeIn bs .form)) (past i (storeIn bs .form)) index .1);
+      known = not-past i (storeIn bs .form) (or-split (past o (storeIn bs .form)) (past i (storeIn bs .form)) index .1);
       none = e;
     }
 

@@ -3,7 +3,7 @@
 use Prim.Native.Nat.{ℕ, _<_}
 use native.Mathlib.Omega.{arith}
 use mathlib.Core.Path.{_≡_, refl, sym, ap, ap₂, _∙_, subst}
-use mathlib.Core.Bool.{Bool, true, false, not, _&&_, _||_}
+use mathlib.Core.Bool.{Bool, true, false, not, _&&_, _||_, Bool·not-not}
 use mathlib.Core.List.{List, [], _∷_, map, List·Memᴰ, List·Memᴰ·head, List·Memᴰ·tail}
 use lib.Dec.{eqb}
 use lib.ListN.{length, getD}
@@ -29,7 +29,7 @@ use Rattle.records.specs.Records.{NumberAt}
 use Rattle.finding.proofs.StoreFacts.{formIn, byIndex}
 use Rattle.inserting.specs.Inserting.{inModel, comesRound}
 use Rattle.inserting.proofs.FormFacts.{Reads}
-use Rattle.inserting.proofs.ReachLaws.{avoided, not-not}
+use Rattle.inserting.proofs.ReachLaws.{avoided}
 
 -- ---- one particle
 pub other-first : (t : Bytes) {a b : ℕ} (i : ℕ) → a ≡ getD t 0 0 → b ≡ getD t 2 0 → not (eqb a 0 && eqb i b) ≡ firstPasses (λ j. not (eqb i j)) t
@@ -88,7 +88,7 @@ module _ (bs : Bytes) (w : Reads bs) where
     unfolding marked
     round-is {n} {defs} {parts} {r} {b} k d p a e =
         ap (λ (z : ℕ). eqb z 0) e
-        ∙ sym (not-not (eqb (getD r i 0) 0))
+        ∙ sym (Bool·not-not (eqb (getD r i 0) 0))
         ∙ avoided (w .members) apart o owner-in acyclic (there a) i this-in
         ∙ ap₂ (λ (x y : Bytes). same x y || reachesIn (formIn bs) x y) (name-of (formIn bs) i this-in) (name-of (formIn bs) o owner-in)
       where

@@ -3,7 +3,7 @@
 use Prim.Native.Nat.{ℕ, zero, suc, _<_}
 use native.Mathlib.Omega.{arith}
 use mathlib.Core.Path.{_≡_, refl, sym, ap, ap₂, _∙_}
-use mathlib.Core.Bool.{Bool, true, false, not, _&&_, _||_, false≢true}
+use mathlib.Core.Bool.{Bool, true, false, not, _&&_, _||_, false≢true, Bool·not-not}
 use mathlib.Core.List.{List, [], _∷_, map, List·Memᴰ, List·Memᴰ·head, List·Memᴰ·tail}
 use lib.Dec.{eqb, ltb}
 use lib.ListN.{length}
@@ -24,10 +24,6 @@ any-map p f (x ∷ xs) = ap (λ (b : Bool). p (f x) || b) (any-map p f xs)
 not-or : (a b : Bool) → (not a && not b) ≡ not (a || b)
 not-or true b = refl
 not-or false b = refl
-
-pub not-not : (a : Bool) → not (not a) ≡ a
-not-not true = refl
-not-not false = refl
 
 -- all fail just where none passes
 all-not : {A : Type 0} (p q : A → Bool) (xs : List A) → ((x : A) → List·Memᴰ x xs → p x ≡ not (q x)) → all p xs ≡ not (any q xs)
@@ -73,4 +69,4 @@ module _ {indices : ℕ → List ℕ} {form : Form} (w : Indexed indices form)
   pub avoided : ((n : Bytes) → Reaches form n n → ⊥) → {r : Bytes} → Avoids (length form) indices t r → (i : ℕ) → i < length form → not (marked r i) ≡ (same (nameOf i) (nameOf t) || reachesIn form (nameOf i) (nameOf t))
   avoided acyclic {r} a i l =
       ap not (a .is i ∙ avoid-is (length form) i l (fit-acyclic w .1 acyclic i l))
-      ∙ not-not (arrives (length form) i)
+      ∙ Bool·not-not (arrives (length form) i)

@@ -3,7 +3,7 @@
 use Prim.Native.Nat.{ℕ, zero, suc, _<_, _≤_}
 use native.Mathlib.Omega.{arith}
 use mathlib.Core.Path.{_≡_, refl, sym, ap, ap₂, _∙_, subst}
-use mathlib.Core.Bool.{Bool, true, false, not, _&&_, _||_}
+use mathlib.Core.Bool.{Bool, true, false, not, _&&_, _||_, and-false}
 use mathlib.Core.Option.{Option, none, some}
 use mathlib.Core.List.{List, [], _∷_}
 use lib.Dec.{eqb}
@@ -31,18 +31,15 @@ use Rattle.rowpass.specs.Reading.{definitionIn}
 use Rattle.validity.specs.Check.{definitionsIn, rowsIn}
 use Rattle.storing.specs.Stores.{storeIn}
 use Rattle.finding.proofs.StoreFacts.{formIn}
-use Rattle.finding.proofs.RefusalLaws.{past-definitions, within-definitions}
-use Rattle.placing.specs.Placing.{instanceRow, modelIn, partIn, foundBy, Placed, First}
-use Rattle.placing.proofs.FirstLaws.{hit, next, none-holds, test-is, not-is}
+use Rattle.finding.specs.Finding.{Gives}
+use Rattle.finding.proofs.RefusalLaws.{gives-hit, gives-next, gives-none, past-definitions, within-definitions}
+use Rattle.placing.specs.Placing.{instanceRow, modelIn, partIn, foundBy, Placed}
+use Rattle.placing.proofs.TestLaws.{test-is, not-is}
 use Rattle.placing.proofs.InstanceLaws.{instance-is}
 use Rattle.placing.proofs.PlaceLaws.{found-insert, absent, present-at}
 use Rattle.inserting.specs.Inserting.{inModel, comesRound, modelConditions, offSpine, placeConditions}
 use Rattle.inserting.proofs.FormFacts.{Reads}
 use Rattle.inserting.proofs.ModelLaws.{size}
-
-and-false : (b : Bool) → (b && false) ≡ false
-and-false true = refl
-and-false false = refl
 
 complex-code : (c : Content) → kindCode c ≡ 2 → not (isComplex c) ≡ false
 complex-code empty e = absurd (omega arith)
@@ -57,45 +54,45 @@ other-code (complex ms) e = absurd (e refl)
 -- ---- from row 9 on
 module _ (bs : Bytes) (w : Reads bs) (o i : ℕ) (lo : o < definitionCount bs) (needed unfilled off : Bool) {k : ℕ} {defs : Bytes} (kind : k ≡ definitionIn defs o .kind) (body : defs ≡ definitionsIn bs) where
   abbrev Result : ℕ → Type 0
-  Result n = First n (modelConditions o i needed unfilled off (storeIn bs))
+  Result n = Gives n (modelConditions o i needed unfilled off (storeIn bs))
 
   kind-is : k ≡ kindCode (definitionAt o (formIn bs) .content)
   kind-is = kind ∙ ap (λ (d : Bytes). definitionIn d o .kind) body ∙ w .whole .agrees .kind o (omega (arith, size bs w))
 
   pub model-9 : (k ≡ 2 → ⊥) → Result 9
-  model-9 f = hit (other-code (definitionAt o (formIn bs) .content) (λ z. f (kind-is ∙ z)))
+  model-9 f = gives-hit (other-code (definitionAt o (formIn bs) .content) (λ z. f (kind-is ∙ z)))
 
   module _ (is : k ≡ 2) {b : Bool} (e10 : b ≡ inModel (formIn bs) o i) where
     past-9 : not (isComplex (definitionAt o (formIn bs) .content)) ≡ false
     past-9 = complex-code (definitionAt o (formIn bs) .content) (sym kind-is ∙ is)
 
     pub model-10 : b ≡ true → Result 10
-    model-10 f = next past-9 (hit (test-is e10 f))
+    model-10 f = gives-next past-9 (gives-hit (test-is e10 f))
 
     module _ (f10 : b ≡ false) {c : Bool} (e11 : c ≡ comesRound (formIn bs) o i) where
       pub model-11 : c ≡ true → Result 11
-      model-11 f = next past-9 (next (test-is e10 f10) (hit (test-is e11 f)))
+      model-11 f = gives-next past-9 (gives-next (test-is e10 f10) (gives-hit (test-is e11 f)))
 
       module _ (f11 : c ≡ false) where
         pub model-12 : (needed && unfilled) ≡ true → Result 12
-        model-12 f = next past-9 (next (test-is e10 f10) (next (test-is e11 f11) (hit f)))
+        model-12 f = gives-next past-9 (gives-next (test-is e10 f10) (gives-next (test-is e11 f11) (gives-hit f)))
 
         module _ (f12 : (needed && unfilled) ≡ false) where
-          last : {n : ℕ} {d : Bool} → (instanceExists (nameAtIndex o (formIn bs)) (storeIn bs) && (needed && off)) ≡ d → First n ((13 if d) ∷ []) → Result n
-          last {n} {d} e x = next past-9 (next (test-is e10 f10) (next (test-is e11 f11) (next f12 (subst (λ (z : Bool). First n ((13 if z) ∷ [])) (sym e) x))))
+          last : {n : ℕ} {d : Bool} → (instanceExists (nameAtIndex o (formIn bs)) (storeIn bs) && (needed && off)) ≡ d → Gives n ((13 if d) ∷ []) → Result n
+          last {n} {d} e x = gives-next past-9 (gives-next (test-is e10 f10) (gives-next (test-is e11 f11) (gives-next f12 (subst (λ (z : Bool). Gives n ((13 if z) ∷ [])) (sym e) x))))
 
           pub model-on : not (needed && off) ≡ true → Result 0
-          model-on f = last (ap (λ (z : Bool). instanceExists (nameAtIndex o (formIn bs)) (storeIn bs) && z) (not-true (needed && off) f) ∙ and-false (instanceExists (nameAtIndex o (formIn bs)) (storeIn bs))) (next refl none-holds)
+          model-on f = last (ap (λ (z : Bool). instanceExists (nameAtIndex o (formIn bs)) (storeIn bs) && z) (not-true (needed && off) f) ∙ and-false (instanceExists (nameAtIndex o (formIn bs)) (storeIn bs))) (gives-next refl gives-none)
 
           module _ (off-is : not (needed && off) ≡ false) {d : Bool} (e13 : d ≡ any (instanceRow o) (readMany readRow 44 (rowCount bs) (rowsIn bs))) where
             there : (z : Bool) → d ≡ z → (instanceExists (nameAtIndex o (formIn bs)) (storeIn bs) && (needed && off)) ≡ (z && true)
             there z f = ap₂ (λ (u v : Bool). u && v) (sym (instance-is bs (w .whole) o (omega (arith, size bs w))) ∙ test-is e13 f) (not-false (needed && off) off-is)
 
             pub model-13 : d ≡ true → Result 13
-            model-13 f = last (there true f) (hit refl)
+            model-13 f = last (there true f) (gives-hit refl)
 
             pub model-none : d ≡ false → Result 0
-            model-none f = last (there false f) (next refl none-holds)
+            model-none f = last (there false f) (gives-next refl gives-none)
 
 -- ---- from row 8 on
 module _ (bs : Bytes) (o i : ℕ) (needed unfilled : Bool) (place : List ℕ) where
@@ -106,14 +103,14 @@ module _ (bs : Bytes) (o i : ℕ) (needed unfilled : Bool) (place : List ℕ) wh
     find-is : placeOf true place (partIn bs o) ≡ found
     find-is = sym (e ∙ ap (placeOf true place) own)
 
-    pub place-8 : found ≡ Absent → First 8 (placeConditions spot o i needed unfilled (storeIn bs))
-    place-8 q = hit (ap noPlace (absent bs pass o lo true place (find-is ∙ q)))
+    pub place-8 : found ≡ Absent → Gives 8 (placeConditions spot o i needed unfilled (storeIn bs))
+    place-8 q = gives-hit (ap noPlace (absent bs pass o lo true place (find-is ∙ q)))
 
-    pub place-on : {h : Holder} {p : ℕ} → found ≡ At h p → {off : Bool} → off ≡ (sameKind (h .kind) Sequence && not (h .spine)) → {r : ℕ} → r ≡ first (modelConditions o i needed unfilled off (storeIn bs)) → First r (placeConditions spot o i needed unfilled (storeIn bs))
+    pub place-on : {h : Holder} {p : ℕ} → found ≡ At h p → {off : Bool} → off ≡ (sameKind (h .kind) Sequence && not (h .spine)) → {r : ℕ} → r ≡ first (modelConditions o i needed unfilled off (storeIn bs)) → Gives r (placeConditions spot o i needed unfilled (storeIn bs))
     place-on {h} {p} q {off} f {r} g =
         let x : Placed bs o true place h p = present-at bs pass o lo true place h p (find-is ∙ q) in
         let d : off ≡ offSpine spot = f ∙ ap₂ (λ (k : GroupKind) (b : Bool). sameKind k Sequence && not b) (x .kind) (x .spine) ∙ sym (ap offSpine (x .there)) in
-        next (ap noPlace (x .there)) (record { is = g ∙ ap (λ (b : Bool). first (modelConditions o i needed unfilled b (storeIn bs))) d })
+        gives-next (ap noPlace (x .there)) (record { is = g ∙ ap (λ (b : Bool). first (modelConditions o i needed unfilled b (storeIn bs))) d })
 
 -- ---- all
 pub needed-is : (q : ℕ) → q ≤ 3 → (eqb q 0 || eqb q 3) ≡ not (skips (quantifierOf q))
@@ -154,16 +151,16 @@ insert-same bs o place i q t =
 
 module _ (bs : Bytes) (w : Reads bs) (o : ℕ) (place : List ℕ) (i q : ℕ) (t : Bytes) {a : Bool} (e3 : a ≡ isValue 32 t) where
   abbrev Given : ℕ → Type 0
-  Given n = First n (conditions (insertElement o place i q t) (storeIn bs))
+  Given n = Gives n (conditions (insertElement o place i q t) (storeIn bs))
 
   pub insert-3 : not a ≡ true → Given 3
   unfolding conditions
-  insert-3 f = hit (not-is e3 f)
+  insert-3 f = gives-hit (not-is e3 f)
 
   module _ (f3 : not a ≡ false) where
     pub insert-4 : 3 < q → Given 4
     unfolding conditions
-    insert-4 l = next (not-is e3 f3) (hit (lt-ltb 3 q l))
+    insert-4 l = gives-next (not-is e3 f3) (gives-hit (lt-ltb 3 q l))
 
     module _ (l : q ≤ 3) {n : ℕ} (e : NumberAt 12 bs n) where
       unknown : {a b c : Bool} → past o (formIn bs) ≡ a → past i (formIn bs) ≡ b → (a || b) ≡ c → (past o (formIn bs) || past i (formIn bs)) ≡ c
@@ -171,17 +168,17 @@ module _ (bs : Bytes) (w : Reads bs) (o : ℕ) (place : List ℕ) (i q : ℕ) (t
 
       pub insert-6 : n ≤ o → Given 6
       unfolding conditions
-      insert-6 f = next (not-is e3 f3) (next (le-ltb 3 q l) (hit (unknown (past-definitions bs (w .whole) e o f) refl refl)))
+      insert-6 f = gives-next (not-is e3 f3) (gives-next (le-ltb 3 q l) (gives-hit (unknown (past-definitions bs (w .whole) e o f) refl refl)))
 
       module _ (lo : o < n) where
         pub insert-6-too : n ≤ i → Given 6
         unfolding conditions
-        insert-6-too f = next (not-is e3 f3) (next (le-ltb 3 q l) (hit (unknown (within-definitions bs (w .whole) e o lo) (past-definitions bs (w .whole) e i f) refl)))
+        insert-6-too f = gives-next (not-is e3 f3) (gives-next (le-ltb 3 q l) (gives-hit (unknown (within-definitions bs (w .whole) e o lo) (past-definitions bs (w .whole) e i f) refl)))
 
         pub insert-on : i < n → {needed : Bool} → needed ≡ not (skips (quantifierOf q)) → {r : ℕ} → r ≡ first (placeConditions (foundBy true place (modelIn bs o)) o i needed (eqb (length t) 0) (storeIn bs)) → Given r
         unfolding conditions
         insert-on li d g =
-            next (not-is e3 f3)
-            (next (le-ltb 3 q l)
-            (next (unknown (within-definitions bs (w .whole) e o lo) (within-definitions bs (w .whole) e i li) refl)
+            gives-next (not-is e3 f3)
+            (gives-next (le-ltb 3 q l)
+            (gives-next (unknown (within-definitions bs (w .whole) e o lo) (within-definitions bs (w .whole) e i li) refl)
             (record { is = g ∙ ap (λ (b : Bool). first (placeConditions (foundBy true place (modelIn bs o)) o i b (eqb (length t) 0) (storeIn bs))) d ∙ insert-same bs o place i q t })))

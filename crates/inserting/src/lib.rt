@@ -46,7 +46,7 @@ fn in_model(store: &[u8], o: usize, i: usize) -> bool
     requires { ⌜ (passes (now store) ≡ true) × (o < definitionCount (now store)) × (i < definitionCount (now store)) ⌝ }
     ensures { λ r. ⌜ r ≡ inModel (storeIn (now (store .entry)) .form) o i ⌝ }
 {
-    !lacks(models::own_part(store, o), i)
+    !lacks(placing::own_part(store, o), i)
 }
 
 // Whether definition i is definition o or reaches it.
@@ -112,7 +112,7 @@ fn place_refusal(
     requires { ⌜ (passes (now store) ≡ true) × (o < definitionCount (now store)) × (i < definitionCount (now store)) ⌝ }
     ensures { λ r. ⌜ r ≡ first (placeConditions (foundBy true (now (place .entry)) (modelIn (now (store .entry)) o)) o i needed unfilled (storeIn (now (store .entry)))) ⌝ }
 {
-    let found = model::place::find(models::own_part(store, o), place, true);
+    let found = model::place::find(placing::own_part(store, o), place, true);
     match found {
         Found::Absent => 8,
         Found::At(h, _) => model_refusal(store, o, i, needed, unfilled, off_spine(h)),
@@ -197,7 +197,7 @@ pub fn insert_element(
     }
     let o = owner as usize;
     let i = definition as usize;
-    let part = models::own_part(store, o);
+    let part = placing::own_part(store, o);
     let found = model::place::find(part, place, true);
     match found {
         Found::Absent => storing::refused(8),

@@ -14,6 +14,7 @@ use Rattle.rules.specs.Model.{Members, done, el, group, names}
 use Rattle.rules.specs.Place.{Context, here, past, over, into, plug, before}
 use Rattle.rules.specs.Layout.{howMany}
 use Rattle.circles.specs.Members.{elementsOf}
+use Rattle.circles.proofs.ReadLaws.{elements-append}
 use Rattle.forms.specs.FormTests.{elementsIn}
 use Rattle.model.specs.Members.{particlesOf}
 use Rattle.model.specs.Places.{Particles}
@@ -33,16 +34,6 @@ elements-read (a ∷ b ∷ c ∷ e ∷ s) = by (eqb a 0) (elements-read s) ∙ s
         → _≡_ {A = List ℕ} (elim x [ true ↦ c ∷ elementsOf s | false ↦ elementsOf s ]) (elim x [ true ↦ c ∷ elementsIn (particlesOf s) | false ↦ elementsIn (particlesOf s) ])
     by true q = ap (λ (l : List ℕ). c ∷ l) q
     by false q = q
-
-elements-append : (xs ys : Particles) → elementsIn (xs ++ ys) ≡ elementsIn xs ++ elementsIn ys
-unfolding elementsIn
-elements-append [] ys = refl
-elements-append (x ∷ xs) ys = by (eqb (x .row .sort) 0) (elements-append xs ys)
-  where
-    by : (b : Bool) → elementsIn (xs ++ ys) ≡ elementsIn xs ++ elementsIn ys
-        → elim b [ true ↦ x .row .index ∷ elementsIn (xs ++ ys) | false ↦ elementsIn (xs ++ ys) ] ≡ elim b [ true ↦ x .row .index ∷ elementsIn xs | false ↦ elementsIn xs ] ++ elementsIn ys
-    by true e = ap (λ (l : List ℕ). x .row .index ∷ l) e
-    by false e = e
 
 group-none : (d : ℕ) (q : Quantifier) (k : GroupKind) (n : ℕ) (xs : Particles) → elementsIn (groupParticle d q k n ∷ xs) ≡ elementsIn xs
 unfolding elementsIn

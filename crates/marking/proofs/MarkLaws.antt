@@ -39,7 +39,7 @@ use Rattle.plans.specs.ModelCalls.{Marked}
 use Rattle.finding.proofs.StoreFacts.{formIn, Whole, whole}
 use Rattle.placing.specs.Placing.{indexIn, modelIn, partIn, Placed}
 use Rattle.placing.proofs.PlaceLaws.{found-right}
-use Rattle.placing.proofs.RemoveLaws.{depth-holder}
+use Rattle.splicing.proofs.HeadAfter.{depth-holder}
 use Rattle.placing.proofs.PickLaws.{around, from-there, one-there}
 use Rattle.marking.specs.Marking.{marksAt}
 use Rattle.marking.proofs.ReadLaws.{among, markBy, marks-read, mark-one, mark-two}

@@ -14,7 +14,8 @@ ghost use Rattle.model.specs.Particle.{kindIn, particleFacts};
 ghost use Rattle.model.specs.Members.{membersFrom, membersOf};
 ghost use Rattle.model.specs.Steps.{steps, finishes};
 
-fn kind_in(what: What) -> GroupKind
+/// A group's kind; an element counts as a LIST.
+pub fn kind_in(what: What) -> GroupKind
     ensures { λ r. ⌜ r ≡ kindIn what ⌝ }
 {
     match what {

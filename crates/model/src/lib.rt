@@ -9,6 +9,7 @@ ghost use Prim.Native.Nat.{_≤_};
 ghost use lib.ListN.{length, drop};
 ghost use Rattle.rules.specs.Layout.{quantifierCode};
 ghost use Rattle.rules.specs.Decode.{quantifierOf, readParticle};
+ghost use Rattle.rules.specs.Model.{skips};
 ghost use Rattle.rules.specs.Quantifiers.{relaxes};
 ghost use Rattle.model.specs.Particle.{whatOf, particleOf};
 
@@ -52,6 +53,18 @@ pub fn read_particle(s: &[u8], at: usize) -> Particle
     let what = read_what(codec::byte(s, at), codec::byte(s, at + 2) as usize);
     let quantifier = read_quantifier(codec::byte(s, at + 1));
     Particle { what, quantifier }
+}
+
+/// Whether a member with this quantifier may be left out.
+pub fn skips(q: Quantifier) -> bool
+    ensures { λ r. ⌜ r ≡ skips q ⌝ }
+{
+    match q {
+        Quantifier::None => false,
+        Quantifier::Qmark => true,
+        Quantifier::Star => true,
+        Quantifier::Plus => false,
+    }
 }
 
 // By old and new quantifier, in the order None, Qmark, Star, Plus: every number allowed before is allowed after.

@@ -21,7 +21,7 @@ use Rattle.rules.specs.Passing.{passes, good}
 use Rattle.rules.specs.Change.{Call, convertToGroup, flattenGroup, definitionAt, editAt, editModel, keeping, plan, formAfter, docsAfter, after}
 use Rattle.rules.specs.Refusal.{past, foundAt, noPlace, noGroupAt, onGroup, atPlace, first, conditions}
 use Rattle.rules.specs.Outcome.{outcome, Answers}
-use Rattle.history.proofs.Conditions.{not-past, not-false, or-false}
+use Rattle.history.proofs.Conditions.{not-past, not-false}
 use Rattle.history.proofs.EditConditions.{complex-content, picked-complex, group-some, has-some}
 use Rattle.history.proofs.ModelAfter.{place-right}
 use Rattle.model.specs.declared.place.Holder.{Holder}

@@ -1,13 +1,13 @@
 -- An edit that fits at its place is one that the code can make.
 -- Assumes nothing.
-use Prim.Native.Nat.{ℕ, zero, suc, _+_, _-_, _*_, _<_, _≤_}
+use Prim.Native.Nat.{ℕ, zero, suc, _+_, _-_, _<_}
 use native.Mathlib.Omega.{arith}
 use mathlib.Core.Path.{_≡_, refl, sym, ap, ap₂, _∙_, subst}
 use mathlib.Core.Bool.{Bool, true, false, _&&_, not}
 use mathlib.Core.Option.{some}
 use mathlib.Core.List.{List, [], _∷_, _++_}
 use lib.Dec.{leb}
-use lib.ListN.{length, take, drop, take-append-drop, length-append, length-take, length-drop}
+use lib.ListN.{length, take, take-append-drop, length-append, length-drop}
 use lib.Seq.{length-take-le}
 use borrow.Author.Tests.{le-leb, lt-leb}
 use Rattle.rules.specs.Bytes.{Bytes, all}
@@ -42,7 +42,7 @@ use Rattle.defining.proofs.Encoded.{encoded}
 use Rattle.placing.specs.Placing.{indexIn, modelIn, partIn}
 use Rattle.placing.proofs.PlaceLaws.{present-at}
 use Rattle.models.specs.Editing.{startIn, countIn, partEdited, formEdited, Edits}
-use Rattle.models.proofs.OwnParts.{start-is, count-is, own-is, own-inside, parts-are, particles-are, form-size}
+use Rattle.models.proofs.OwnParts.{own-length, start-is, count-is, own-is, own-inside, parts-are, particles-are, form-size}
 use Rattle.models.proofs.Small.{small-particles, update-length}
 
 module _ (bs : Bytes) (q : passes bs ≡ true) (o : ℕ) (l : o < definitionCount bs) (p : List ℕ) (e : Edit Bytes) (x : Spot Bytes) (c : definitionAt o (storeIn bs .form) .content ≡ complex (modelIn bs o))
@@ -95,9 +95,6 @@ module _ (bs : Bytes) (q : passes bs ≡ true) (o : ℕ) (l : o < definitionCoun
       (subst (λ (z : Bytes). Body (renameEdit (indexIn bs) e) h n (startOf o (flat (storeIn bs) .definitions)) (countOf o (flat (storeIn bs) .definitions)) z) parts
       (edit-body (storeIn bs) o p e x there c found fits h n at-own (small w))))
 
-  length-own : length (partIn bs o) ≤ 4 * countIn bs o
-  length-own = omega (arith, ap (λ (z : Bytes). length z) (own-is bs q o), length-take (4 * countIn bs o) (drop (4 * startIn bs o) (particlesIn bs)))
-
   pub edits : Edits bs o (renameEdit (indexIn bs) e) h n
   unfolding partEdited
   edits =
@@ -105,7 +102,7 @@ module _ (bs : Bytes) (q : passes bs ≡ true) (o : ℕ) (l : o < definitionCoun
         good = q;
         there = l;
         own = own-inside bs q o l;
-        inside = omega (arith, length-own, present-at bs q o l (inserts e) p h n at .inside);
+        inside = omega (arith, own-length bs o, present-at bs q o l (inserts e) p h n at .inside);
         many =
             ap (λ (z : Bytes). length (partAfter (renameEdit (indexIn bs) e) h n (particlesOf z))) (sym own-same)
             ∙ edit-length (storeIn bs) o p e x there c found fits h n at-own

@@ -14,7 +14,8 @@ use Rattle.rules.specs.Decode.{quantifierOf}
 use Rattle.rules.specs.Passing.{passes}
 use Rattle.rules.specs.Change.{insertElement, changeQuantifier, definitionAt, nameAtIndex}
 use Rattle.rules.specs.Refusal.{past, foundAt, noPlace, noElementAt, onElement, isComplex, first, conditions}
-use Rattle.history.proofs.Conditions.{not-false, or-false}
+use Rattle.rules.proofs.Words.{or-split}
+use Rattle.history.proofs.Conditions.{not-false}
 use Rattle.history.proofs.EditConditions.{complex-content, element-some}
 use Rattle.splicing.specs.PartAfter.{suits}
 use Rattle.storing.specs.Stores.{storeIn}
@@ -33,7 +34,7 @@ module _ (bs : Bytes) (q : passes bs ≡ true) (o : ℕ) (p : List ℕ) where
   unfolding conditions
   insert-fits i k t e =
       let (text, (code, (index, (place, (kind, more))))) = none-holds (insertElement o p i k t) (storeIn bs) e in
-      by (foundAt (insert (quantifierOf k) (nameAtIndex i (storeIn bs .form))) o p (storeIn bs)) refl (or-false (past o (storeIn bs .form)) (past i (storeIn bs .form)) index .0) place kind
+      by (foundAt (insert (quantifierOf k) (nameAtIndex i (storeIn bs .form))) o p (storeIn bs)) refl (or-split (past o (storeIn bs .form)) (past i (storeIn bs .form)) index .0) place kind
     where
       by : (f : Option (Spot Bytes)) → foundAt (insert (quantifierOf k) (nameAtIndex i (storeIn bs .form))) o p (storeIn bs) ≡ f → past o (storeIn bs .form) ≡ false → noPlace f ≡ false
           → not (isComplex (definitionAt o (storeIn bs .form) .content)) ≡ false → Fits bs o p (insert (quantifierOf k) (nameAtIndex i (storeIn bs .form)))

@@ -1,6 +1,6 @@
 -- The form after an edit: its ceilings and its bytes.
 -- Assumes nothing.
-use Prim.Native.Nat.{ℕ, zero, suc, _+_, _-_, _*_, _<_, _≤_}
+use Prim.Native.Nat.{ℕ, suc, _+_, _-_, _*_, _<_, _≤_}
 use native.Mathlib.Omega.{arith}
 use mathlib.Core.Path.{_≡_, refl, sym, ap, ap₂, _∙_, subst}
 use mathlib.Core.Bool.{Bool, true, false, _&&_, not, false≢true}
@@ -12,7 +12,7 @@ use borrow.Author.Tests.{le-leb, lt-leb, not-true, not-false}
 use Rattle.rules.specs.Bytes.{Bytes, all}
 use Rattle.rules.specs.Edit.{Edit, insert, remove, quantify, convert, flatten}
 use Rattle.rules.specs.Preorder.{Deep}
-use Rattle.rules.specs.Layout.{FlatDefinition, FlatParticle, FlatStore, definitionBytes, particleBytes, attributeBytes, each}
+use Rattle.rules.specs.Layout.{FlatParticle, FlatStore, definitionBytes, particleBytes, attributeBytes, each}
 use Rattle.rules.specs.Decode.{definitionCount, particleCount, attributeCount}
 use Rattle.rules.specs.WellFormed.{withinCeilings}
 use Rattle.rules.specs.Passing.{passes}
@@ -43,7 +43,7 @@ use Rattle.storing.specs.Forms.{formBytes, formIn, Forms}
 use Rattle.storing.proofs.FormLaws.{bareForm, FormOf, forms-of, form-answers, form-ceiling}
 use Rattle.storing.proofs.FormBytesLaws.{Few, few-of, few-definitions, few-particles, few-attributes, length-form}
 use Rattle.storing.proofs.LimitLaws.{answers-as}
-use Rattle.plans.proofs.FormsAfter.{spliced-bytes, spliced-form}
+use Rattle.plans.proofs.FormsAfter.{spliced-bytes, spliced-form, counted-length}
 use Rattle.defining.proofs.Encoded.{Encoded, encoded}
 use Rattle.placing.specs.Placing.{partIn}
 use Rattle.models.specs.Editing.{startIn, countIn, partEdited, formEdited, Edits}
@@ -68,11 +68,6 @@ middle true true false true x y = refl
 middle true false c true x y = refl
 middle true b c false x y = absurd (false≢true y)
 middle false b c d x y = absurd (false≢true x)
-
-counted-length : (o n : ℕ) (ds : List FlatDefinition) → length (counted o n ds) ≡ length ds
-counted-length o n [] = refl
-counted-length zero n (d ∷ ds) = refl
-counted-length (suc o) n (d ∷ ds) = ap suc (counted-length o n ds)
 
 abbrev low : Deep FlatParticle → Bool
 low x = leb (x .depth) 4

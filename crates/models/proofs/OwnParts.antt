@@ -5,7 +5,7 @@ use native.Mathlib.Omega.{arith}
 use mathlib.Core.Path.{_≡_, refl, sym, ap, ap₂, _∙_, subst}
 use mathlib.Core.Bool.{true}
 use mathlib.Core.List.{List, [], _∷_, _++_, map}
-use lib.ListN.{length, take, drop, getD, length-map, length-append}
+use lib.ListN.{length, take, drop, getD, length-map, length-append, length-take}
 use lib.Seq.{take-at, drop-at, drop-drop}
 use Rattle.rules.specs.Bytes.{Bytes}
 use Rattle.rules.specs.Store.{Form}
@@ -32,6 +32,10 @@ use Rattle.storing.proofs.StoreLaws.{Holds, holds}
 use Rattle.defining.proofs.Encoded.{Encoded, encoded, others, definitions-at, others-at}
 use Rattle.placing.specs.Placing.{partIn}
 use Rattle.models.specs.Editing.{startIn, countIn}
+
+pub own-length : (bs : Bytes) (o : ℕ) → length (partIn bs o) ≤ 4 * countIn bs o
+unfolding modelPart
+own-length bs o = omega (arith, length-take (4 * countIn bs o) (drop (4 * startIn bs o) (particlesIn bs)))
 
 start-before : (o : ℕ) (ds : List FlatDefinition) → before o ds ≡ startOf o ds
 start-before o [] = refl

@@ -4,7 +4,6 @@ use editing::Plan;
 use editing::Which;
 use model::place::Found;
 use model::place::Holder;
-use rules::GroupKind;
 use splicing::Edit;
 use storing::Answer;
 ghost use mathlib.Core.Path.{_≡_};
@@ -12,14 +11,13 @@ ghost use mathlib.Core.Bool.{true, not};
 ghost use Prim.Native.Nat.{_+_, _-_, _*_, _<_, _≤_};
 ghost use lib.ListN.{length, getD};
 ghost use Rattle.rules.specs.Change.{removeElement, convertToGroup, flattenGroup};
-ghost use Rattle.rules.specs.Decode.{groupOf, particleCount};
+ghost use Rattle.rules.specs.Decode.{particleCount};
 ghost use Rattle.rules.specs.Layout.{each, particleBytes};
 ghost use Rattle.rules.specs.WellFormed.{isValue, withinCeilings};
 ghost use Rattle.rules.specs.Outcome.{outcome, Answers};
 ghost use Rattle.records.specs.Records.{baseWidth};
 ghost use Rattle.codec.specs.Laid.{Laid};
 ghost use Rattle.lookup.specs.Bodies.{bodiesOf};
-ghost use Rattle.placing.specs.Placing.{partIn};
 ghost use Rattle.splicing.specs.PartAfter.{lengthAfter};
 ghost use Rattle.splicing.specs.Writing.{editOf};
 ghost use Rattle.storing.specs.Stores.{limited};
@@ -36,16 +34,6 @@ const HEADER_SIZE: usize = 40;
 const FORM_SIZE: usize = 5632;
 
 // ---- the edit of a model
-
-/// A definition's part of the particle body.
-pub fn own_part(store: &[u8], owner: usize) -> &[u8]
-    requires { ⌜ owner ≤ 256 ⌝ }
-    ensures { λ r. ⌜ now r ≡ partIn (now (store .entry)) owner ⌝ }
-{
-    let definitions = validity::body(store, 8, 20);
-    let particles = validity::body(store, 16, 4);
-    rowpass::model_part(definitions, particles, owner)
-}
 
 // How many particles a model of n has after an edit.
 fn length_after(edit: Edit, n: usize) -> usize
@@ -88,7 +76,7 @@ fn keeps_within(store: &[u8], owner: usize, edit: Edit, holder: Holder, at: usiz
     if p > 256 {
         return false;
     }
-    splicing::is_within(own_part(store, owner), edit, holder, at)
+    splicing::is_within(placing::own_part(store, owner), edit, holder, at)
 }
 
 // The particles of the form after an edit.
@@ -183,7 +171,7 @@ pub fn remove_element(store: &[u8], owner: u32, place: &[u32], out: &mut [u8]) -
         return storing::refused(number);
     }
     let o = owner as usize;
-    let part = own_part(store, o);
+    let part = placing::own_part(store, o);
     let found = model::place::find(part, place, false);
     match found {
         Found::Absent => storing::refused(8),
@@ -191,16 +179,6 @@ pub fn remove_element(store: &[u8], owner: u32, place: &[u32], out: &mut [u8]) -
             let plan = removing_plan(part, o, p);
             edit_model(store, o, Edit::Remove, h, p, plan, &store[..0], out)
         }
-    }
-}
-
-fn group_kind(sort: u32) -> GroupKind
-    ensures { λ r. ⌜ r ≡ groupOf sort ⌝ }
-{
-    match sort {
-        0 => GroupKind::Sequence,
-        1 => GroupKind::Sequence,
-        _ => GroupKind::Choice,
     }
 }
 
@@ -223,8 +201,8 @@ pub fn convert_to_group(
         return storing::refused(number);
     }
     let o = owner as usize;
-    let edit = Edit::Convert(group_kind(sort), count as usize);
-    let found = model::place::find(own_part(store, o), place, false);
+    let edit = Edit::Convert(placing::group_kind(sort), count as usize);
+    let found = model::place::find(placing::own_part(store, o), place, false);
     let plan = plans::setting_plan(0);
     match found {
         Found::Absent => storing::refused(8),
@@ -244,7 +222,7 @@ pub fn flatten_group(store: &[u8], owner: u32, place: &[u32], out: &mut [u8]) ->
         return storing::refused(number);
     }
     let o = owner as usize;
-    let found = model::place::find(own_part(store, o), place, false);
+    let found = model::place::find(placing::own_part(store, o), place, false);
     let plan = plans::setting_plan(0);
     match found {
         Found::Absent => storing::refused(8),

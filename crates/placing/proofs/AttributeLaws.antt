@@ -5,7 +5,7 @@ use native.Mathlib.Omega.{arith}
 use borrow.Author.Tests.{lt-ltb, le-ltb, eq-eqb, ne-eqb}
 use mathlib.Core.Path.{_≡_, refl, sym, ap, ap₂, _∙_}
 use mathlib.Core.Logic.{_⊎_, inl, inr}
-use mathlib.Core.Bool.{Bool, true, false, _&&_, _||_, not, false≢true}
+use mathlib.Core.Bool.{Bool, true, false, _&&_, _||_, not, false≢true, or-false}
 use mathlib.Core.Option.{Option, none, some}
 use mathlib.Core.List.{List, [], _∷_, _++_, map}
 use lib.Dec.{eqb, ltb}
@@ -22,17 +22,15 @@ use Rattle.rules.specs.Refusal.{conditions, isOther, wrongDefault}
 use Rattle.records.specs.Records.{NumberAt}
 use Rattle.lookup.specs.Bodies.{bodiesOf}
 use Rattle.rules.proofs.BooleanLaws.{any-append}
+use Rattle.rules.proofs.DecodeLaws.{length-own}
 use Rattle.validity.proofs.AttributeBlocks.{below-or}
 use Rattle.storing.specs.Stores.{storeIn}
 use Rattle.finding.proofs.StoreFacts.{formIn, Whole}
-use Rattle.placing.specs.Placing.{attributeBody, ownNamed, First}
-use Rattle.placing.proofs.FirstLaws.{hit, next, none-holds}
+use Rattle.finding.specs.Finding.{Gives}
+use Rattle.finding.proofs.RefusalLaws.{gives-hit, gives-next, gives-none}
+use Rattle.placing.specs.Placing.{attributeBody, ownNamed}
 
 -- ---- attributes of a form
-length-own : (k : ℕ) (table : List Attribute) → length (ownAttributes k table) ≡ length table
-length-own k [] = refl
-length-own k (a ∷ table) = ap suc (length-own k table)
-
 entry-in : (i : ℕ) (table : List Attribute) → isThere (entryAt i table) ≡ true → i < length table
 entry-in i [] e = absurd (false≢true e)
 entry-in zero (a ∷ table) e = omega arith
@@ -94,10 +92,6 @@ module _ (o : ℕ) (n : Bytes) where
       any-append (ownNamed o n) (ownAttributes k (d .attributes)) (allAttributes (suc k) ds)
       ∙ ap₂ (λ (x y : Bool). x || y) (other-any k (ne-eqb k o (λ z. omega arith)) (d .attributes)) (later-any (suc k) (omega arith) ds)
 
-  or-false : (b : Bool) → (b || false) ≡ b
-  or-false true = refl
-  or-false false = refl
-
   pub all-any : (form : Form) (k i : ℕ) → o ≡ k + i → any (ownNamed o n) (allAttributes k form) ≡ member bytes n (map attributeName (definitionAt i form .attributes))
   unfolding member
   all-any [] k i e = refl
@@ -125,29 +119,18 @@ attribute-place bs i {d} {p} e f q =
 
 -- ---- the conditions
 module _ (bs : Bytes) (w : Whole bs) where
-  -- an index of a definition
-  module _ {n : ℕ} (e : NumberAt 12 bs n) (i : ℕ) where
-    size : n ≡ length (formIn bs)
-    size = e .value ∙ w .agrees .size
-
-    pub past-is : n ≤ i → not (ltb i (length (formIn bs))) ≡ true
-    past-is l = ap not (le-ltb i (length (formIn bs)) (omega (arith, size)))
-
-    pub within-is : i < n → not (ltb i (length (formIn bs))) ≡ false
-    within-is l = ap not (lt-ltb i (length (formIn bs)) (omega (arith, size)))
-
   -- 10
   module _ {n : ℕ} (e : NumberAt 28 bs n) (i : ℕ) where
     count-is : n ≡ length (allAttributes 0 (formIn bs))
     count-is = e .value ∙ w .agrees .attributes
 
-    pub destroy-6 : n ≤ i → First 6 (conditions (destroyAttribute i) (storeIn bs))
+    pub destroy-6 : n ≤ i → Gives 6 (conditions (destroyAttribute i) (storeIn bs))
     unfolding conditions
-    destroy-6 l = hit (other-is 0 (formIn bs) i ∙ ap not (le-ltb i (length (allAttributes 0 (formIn bs))) (omega (arith, count-is))))
+    destroy-6 l = gives-hit (other-is 0 (formIn bs) i ∙ ap not (le-ltb i (length (allAttributes 0 (formIn bs))) (omega (arith, count-is))))
 
-    pub destroy-0 : i < n → First 0 (conditions (destroyAttribute i) (storeIn bs))
+    pub destroy-0 : i < n → Gives 0 (conditions (destroyAttribute i) (storeIn bs))
     unfolding conditions
-    destroy-0 l = next (other-is 0 (formIn bs) i ∙ ap not (lt-ltb i (length (allAttributes 0 (formIn bs))) (omega (arith, count-is)))) none-holds
+    destroy-0 l = gives-next (other-is 0 (formIn bs) i ∙ ap not (lt-ltb i (length (allAttributes 0 (formIn bs))) (omega (arith, count-is)))) gives-none
 
   -- 9
   pub own-named : (o : ℕ) (n : Bytes) → any (ownNamed o n) (bodiesOf bs .attributes) ≡ member bytes n (map attributeName (definitionAt o (formIn bs) .attributes))
@@ -155,38 +138,38 @@ module _ (bs : Bytes) (w : Whole bs) where
 
   module _ (o : ℕ) (n : Bytes) (k : ℕ) (v : Bytes) where
     -- the conditions up to here do not hold
-    pub add-2 : not (givenName n) ≡ true → First 2 (conditions (addAttribute o n k v) (storeIn bs))
+    pub add-2 : not (givenName n) ≡ true → Gives 2 (conditions (addAttribute o n k v) (storeIn bs))
     unfolding conditions
-    add-2 h = hit h
+    add-2 h = gives-hit h
 
     module _ (h₂ : not (givenName n) ≡ false) where
-      pub add-3 : not (isValue 32 v) ≡ true → First 3 (conditions (addAttribute o n k v) (storeIn bs))
+      pub add-3 : not (isValue 32 v) ≡ true → Gives 3 (conditions (addAttribute o n k v) (storeIn bs))
       unfolding conditions
-      add-3 h = next h₂ (hit h)
+      add-3 h = gives-next h₂ (gives-hit h)
 
       module _ (h₃ : not (isValue 32 v) ≡ false) where
-        pub add-4 : 2 < k → First 4 (conditions (addAttribute o n k v) (storeIn bs))
+        pub add-4 : 2 < k → Gives 4 (conditions (addAttribute o n k v) (storeIn bs))
         unfolding conditions
-        add-4 h = next h₂ (next h₃ (hit (lt-ltb 2 k h)))
+        add-4 h = gives-next h₂ (gives-next h₃ (gives-hit (lt-ltb 2 k h)))
 
         module _ (h₄ : k ≤ 2) where
-          pub add-5 : any (ownNamed o n) (bodiesOf bs .attributes) ≡ true → First 5 (conditions (addAttribute o n k v) (storeIn bs))
+          pub add-5 : any (ownNamed o n) (bodiesOf bs .attributes) ≡ true → Gives 5 (conditions (addAttribute o n k v) (storeIn bs))
           unfolding conditions
-          add-5 h = next h₂ (next h₃ (next (le-ltb 2 k h₄) (hit (sym (own-named o n) ∙ h))))
+          add-5 h = gives-next h₂ (gives-next h₃ (gives-next (le-ltb 2 k h₄) (gives-hit (sym (own-named o n) ∙ h))))
 
           module _ (h₅ : any (ownNamed o n) (bodiesOf bs .attributes) ≡ false) where
-            pub add-6 : not (ltb o (length (formIn bs))) ≡ true → First 6 (conditions (addAttribute o n k v) (storeIn bs))
+            pub add-6 : not (ltb o (length (formIn bs))) ≡ true → Gives 6 (conditions (addAttribute o n k v) (storeIn bs))
             unfolding conditions
-            add-6 h = next h₂ (next h₃ (next (le-ltb 2 k h₄) (next (sym (own-named o n) ∙ h₅) (hit h))))
+            add-6 h = gives-next h₂ (gives-next h₃ (gives-next (le-ltb 2 k h₄) (gives-next (sym (own-named o n) ∙ h₅) (gives-hit h))))
 
             module _ (h₆ : not (ltb o (length (formIn bs))) ≡ false) where
-              pub add-12 : wrongDefault k v ≡ true → First 12 (conditions (addAttribute o n k v) (storeIn bs))
+              pub add-12 : wrongDefault k v ≡ true → Gives 12 (conditions (addAttribute o n k v) (storeIn bs))
               unfolding conditions
-              add-12 h = next h₂ (next h₃ (next (le-ltb 2 k h₄) (next (sym (own-named o n) ∙ h₅) (next h₆ (hit h)))))
+              add-12 h = gives-next h₂ (gives-next h₃ (gives-next (le-ltb 2 k h₄) (gives-next (sym (own-named o n) ∙ h₅) (gives-next h₆ (gives-hit h)))))
 
-              pub add-0 : wrongDefault k v ≡ false → First 0 (conditions (addAttribute o n k v) (storeIn bs))
+              pub add-0 : wrongDefault k v ≡ false → Gives 0 (conditions (addAttribute o n k v) (storeIn bs))
               unfolding conditions
-              add-0 h = next h₂ (next h₃ (next (le-ltb 2 k h₄) (next (sym (own-named o n) ∙ h₅) (next h₆ (next h none-holds)))))
+              add-0 h = gives-next h₂ (gives-next h₃ (gives-next (le-ltb 2 k h₄) (gives-next (sym (own-named o n) ∙ h₅) (gives-next h₆ (gives-next h gives-none)))))
 
 -- ---- a default
 pub none-long : (v : Bytes) → eqb (length v) 0 ≡ isNone v

@@ -20,15 +20,18 @@ use Rattle.rules.specs.Edit.{lone, sameKind, firstMembers, hasMembers, groupUnl
 use Rattle.rules.specs.Passing.{passes}
 use Rattle.rules.specs.Change.{convertToGroup}
 use Rattle.rules.specs.Refusal.{_if_, first, conditions, foundAt, noPlace, atPlace}
+use Rattle.rules.proofs.Words.{or-split}
 use Rattle.model.specs.declared.place.Holder.{Holder}
 use Rattle.model.specs.declared.place.Found.{Found}
 use Rattle.model.specs.declared.place.Found.the-variants.{At, Absent}
 use Rattle.model.specs.Members.{membersFrom}
 use Rattle.model.specs.Places.{placeOf}
+use Rattle.splicing.proofs.PartAfter.{has-named}
 use Rattle.storing.specs.Stores.{storeIn}
 use Rattle.finding.proofs.StoreFacts.{formIn}
-use Rattle.placing.specs.Placing.{indexIn, partIn, Placed, unlikeKind, convertTests, First}
-use Rattle.placing.proofs.FirstLaws.{hit, next, none-holds}
+use Rattle.finding.specs.Finding.{Gives}
+use Rattle.finding.proofs.RefusalLaws.{gives-hit, gives-next, gives-none}
+use Rattle.placing.specs.Placing.{indexIn, partIn, Placed, unlikeKind, convertTests}
 use Rattle.placing.proofs.PlaceLaws.{found-convert, absent, present-at}
 
 -- ---- n members
@@ -62,15 +65,6 @@ lone-first (suc n) (group q k ms t) h l = done-first n t (omega arith)
 
 -- under other names
 module _ {A B : Type 0} (f : A → B) where
-  has-named : (n : ℕ) (t : Members A) → hasMembers n (rename f t) ≡ hasMembers n t
-  unfolding rename
-  has-named zero t = refl
-  has-named (suc n) done = refl
-  has-named (suc zero) (el q x t) = refl
-  has-named (suc (suc n)) (el q x t) = has-named (suc n) t
-  has-named (suc zero) (group q k ms t) = refl
-  has-named (suc (suc n)) (group q k ms t) = has-named (suc n) t
-
   done-named : (n : ℕ) (t : Members A) → isDone (firstMembers n (rename f t)) ≡ isDone (firstMembers n t)
   unfolding rename
   done-named zero t = refl
@@ -86,16 +80,12 @@ module _ {A B : Type 0} (f : A → B) where
   lone-named (suc n) (group q k ms t) = done-named n t
 
   pub tests-named : (list k : GroupKind) (n : ℕ) (t : Members A) → convertTests list k n (rename f t) ≡ convertTests list k n t
-  tests-named list k n t = ap₂ (λ (a b : Bool). 8 if not a ∷ 14 if not (sameKind k list || b) ∷ []) (has-named n t) (lone-named n t)
+  tests-named list k n t = ap₂ (λ (a b : Bool). 8 if not a ∷ 14 if not (sameKind k list || b) ∷ []) (has-named f n t) (lone-named n t)
 
 -- ---- the tests of the code
 or-true : (a b : Bool) → (a || b) ≡ true → (a ≡ false → b ≡ true)
 or-true true b h e = absurd (false≢true (sym e))
 or-true false b h e = h
-
-or-false : (a b : Bool) → (a || b) ≡ false → (a ≡ false) × (b ≡ false)
-or-false true b h = absurd (false≢true (sym h))
-or-false false b h = (refl, h)
 
 module _ (list k : GroupKind) (n depth : ℕ) (at : Bytes) {r : Bytes} {m : ℕ} (u : r ≡ at) (e : m ≡ howMany (membersFrom depth r)) where
   abbrev t : Members ℕ
@@ -111,45 +101,45 @@ module _ (list k : GroupKind) (n depth : ℕ) (at : Bytes) {r : Bytes} {m : ℕ}
       by true q = ap (λ (z : ℕ). hasMembers z t) (eqb-true n 0 q)
       by false q = has-few n t (let l : m < n = ltb-true m n (or-true (eqb n 0) (ltb m n) h q) in omega (arith, many-is))
 
-  pub convert-few : (eqb n 0 || ltb m n) ≡ true → First 8 (convertTests list k n (membersFrom depth at))
-  convert-few h = hit (ap not (few-is h))
+  pub convert-few : (eqb n 0 || ltb m n) ≡ true → Gives 8 (convertTests list k n (membersFrom depth at))
+  convert-few h = gives-hit (ap not (few-is h))
 
   module _ (h : (eqb n 0 || ltb m n) ≡ false) where
     low : 1 ≤ n
-    low = let f : n ≡ 0 → ⊥ = eqb-false n 0 (or-false (eqb n 0) (ltb m n) h .0) in omega arith
+    low = let f : n ≡ 0 → ⊥ = eqb-false n 0 (or-split (eqb n 0) (ltb m n) h .0) in omega arith
 
     high : n ≤ howMany t
-    high = let l : n ≤ m = ltb-false m n (or-false (eqb n 0) (ltb m n) h .1) in omega (arith, many-is)
+    high = let l : n ≤ m = ltb-false m n (or-split (eqb n 0) (ltb m n) h .1) in omega (arith, many-is)
 
     unlike-first : {b v : Bool} → b ≡ unlikeKind list k n → b ≡ v → not (sameKind k list || lone (firstMembers n t)) ≡ v
     unlike-first q w = ap (λ (b : Bool). not (sameKind k list || b)) (lone-first n t low high) ∙ sym q ∙ w
 
-    pub convert-unlike : {b : Bool} → b ≡ unlikeKind list k n → b ≡ true → First 14 (convertTests list k n (membersFrom depth at))
-    convert-unlike q w = next (ap not (has-many n t low high)) (hit (unlike-first q w))
+    pub convert-unlike : {b : Bool} → b ≡ unlikeKind list k n → b ≡ true → Gives 14 (convertTests list k n (membersFrom depth at))
+    convert-unlike q w = gives-next (ap not (has-many n t low high)) (gives-hit (unlike-first q w))
 
-    pub convert-fine : {b : Bool} → b ≡ unlikeKind list k n → b ≡ false → First 0 (convertTests list k n (membersFrom depth at))
-    convert-fine q w = next (ap not (has-many n t low high)) (next (unlike-first q w) none-holds)
+    pub convert-fine : {b : Bool} → b ≡ unlikeKind list k n → b ≡ false → Gives 0 (convertTests list k n (membersFrom depth at))
+    convert-fine q w = gives-next (ap not (has-many n t low high)) (gives-next (unlike-first q w) gives-none)
 
 -- ---- the conditions
 module _ (bs : Bytes) (pass : passes bs ≡ true) (o : ℕ) (p : List ℕ) (n k : ℕ) where
-  pub convert-4 : not (eqb k 1 || eqb k 2) ≡ true → First 4 (conditions (convertToGroup o p n k) (storeIn bs))
+  pub convert-4 : not (eqb k 1 || eqb k 2) ≡ true → Gives 4 (conditions (convertToGroup o p n k) (storeIn bs))
   unfolding conditions
-  convert-4 h = hit h
+  convert-4 h = gives-hit h
 
   module _ (h₄ : not (eqb k 1 || eqb k 2) ≡ false) where
-    pub convert-6 : not (ltb o (length (formIn bs))) ≡ true → First 6 (conditions (convertToGroup o p n k) (storeIn bs))
+    pub convert-6 : not (ltb o (length (formIn bs))) ≡ true → Gives 6 (conditions (convertToGroup o p n k) (storeIn bs))
     unfolding conditions
-    convert-6 h = next h₄ (hit h)
+    convert-6 h = gives-next h₄ (gives-hit h)
 
     module _ (h₆ : not (ltb o (length (formIn bs))) ≡ false) (l : o < definitionCount bs) {part : Bytes} (own : part ≡ partIn bs o) {f : Found} (e : f ≡ placeOf false p part) where
       found-in : placeOf false p (partIn bs o) ≡ f
       found-in = sym (e ∙ ap (placeOf false p) own)
 
-      pub convert-none : f ≡ Absent → First 8 (conditions (convertToGroup o p n k) (storeIn bs))
+      pub convert-none : f ≡ Absent → Gives 8 (conditions (convertToGroup o p n k) (storeIn bs))
       unfolding conditions
       convert-none w =
           let z : foundAt (convert (groupOf k) n) o p (storeIn bs) ≡ none = found-convert (groupOf k) n o p bs ∙ absent bs pass o l false p (found-in ∙ w) in
-          next h₄ (next h₆ (hit (ap (λ (y : Option (Spot Bytes)). noPlace y || atPlace (λ c x. not (hasMembers n x)) y) z)))
+          gives-next h₄ (gives-next h₆ (gives-hit (ap (λ (y : Option (Spot Bytes)). noPlace y || atPlace (λ c x. not (hasMembers n x)) y) z)))
 
       module _ (h : Holder) (i : ℕ) (w : f ≡ At h i) where
         there : Placed bs o false p h i
@@ -158,7 +148,7 @@ module _ (bs : Bytes) (pass : passes bs ≡ true) (o : ℕ) (p : List ℕ) (n k 
         pub convert-inside : 4 * i ≤ length part
         convert-inside = omega (arith, there .inside, ap length own)
 
-        pub convert-there : {r : ℕ} {kind : GroupKind} → kind ≡ groupOf k → First r (convertTests (h .kind) kind n (membersFrom (h .depth) (drop (4 * i) part))) → First r (conditions (convertToGroup o p n k) (storeIn bs))
+        pub convert-there : {r : ℕ} {kind : GroupKind} → kind ≡ groupOf k → Gives r (convertTests (h .kind) kind n (membersFrom (h .depth) (drop (4 * i) part))) → Gives r (conditions (convertToGroup o p n k) (storeIn bs))
         unfolding conditions
         convert-there {r} {kind} g q =
             let x : Spot Bytes = there .found in
@@ -168,7 +158,7 @@ module _ (bs : Bytes) (pass : passes bs ≡ true) (o : ℕ) (p : List ℕ) (n k 
             ap (convertTests (h .kind) kind n) members-are
             ∙ tests-named (indexIn bs) (h .kind) kind n (x .picked)
             ∙ ap₂ (λ (a b : GroupKind). convertTests a b n (x .picked)) (there .kind) g in
-            next h₄ (next h₆ (record { is = q .is ∙ ap first tests ∙ sym (ap (λ (y : Option (Spot Bytes)). first (8 if (noPlace y || atPlace (λ c x. not (hasMembers n x)) y) ∷ 14 if atPlace (λ c x. groupUnlike c (groupOf k) (firstMembers n x)) y ∷ [])) z) }))
+            gives-next h₄ (gives-next h₆ (record { is = q .is ∙ ap first tests ∙ sym (ap (λ (y : Option (Spot Bytes)). first (8 if (noPlace y || atPlace (λ c x. not (hasMembers n x)) y) ∷ 14 if atPlace (λ c x. groupUnlike c (groupOf k) (firstMembers n x)) y ∷ [])) z) }))
 
 -- ---- a code
 pub kind-2 : (k : ℕ) → (k ≡ 0 → ⊥) → (k ≡ 1 → ⊥) → Choice ≡ groupOf k

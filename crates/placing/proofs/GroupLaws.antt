@@ -22,8 +22,9 @@ use Rattle.rules.specs.Refusal.{_if_, first, conditions, foundAt, noGroupAt, at
 use Rattle.model.specs.declared.place.Holder.{Holder}
 use Rattle.storing.specs.Stores.{storeIn}
 use Rattle.finding.proofs.StoreFacts.{formIn}
-use Rattle.placing.specs.Placing.{modelIn, foundBy, ElementAt, GroupAt, unlikeKind, First}
-use Rattle.placing.proofs.FirstLaws.{hit, next}
+use Rattle.finding.specs.Finding.{Gives}
+use Rattle.finding.proofs.RefusalLaws.{gives-hit, gives-next}
+use Rattle.placing.specs.Placing.{modelIn, foundBy, ElementAt, GroupAt, unlikeKind}
 use Rattle.placing.proofs.PlaceLaws.{found-flatten}
 
 -- ---- how many members
@@ -43,20 +44,20 @@ unlike-is c k n e f = ap₂ (λ (z : GroupKind) (b : Bool). not (sameKind k z ||
 
 -- ---- 7
 module _ (bs : Bytes) (o : ℕ) (p : List ℕ) where
-  pub flatten-6 : not (ltb o (length (formIn bs))) ≡ true → First 6 (conditions (flattenGroup o p) (storeIn bs))
+  pub flatten-6 : not (ltb o (length (formIn bs))) ≡ true → Gives 6 (conditions (flattenGroup o p) (storeIn bs))
   unfolding conditions
-  flatten-6 h = hit h
+  flatten-6 h = gives-hit h
 
   module _ (h : not (ltb o (length (formIn bs))) ≡ false) where
-    pub flatten-none : foundBy false p (modelIn bs o) ≡ none → First 8 (conditions (flattenGroup o p) (storeIn bs))
+    pub flatten-none : foundBy false p (modelIn bs o) ≡ none → Gives 8 (conditions (flattenGroup o p) (storeIn bs))
     unfolding conditions
-    flatten-none e = next h (hit (ap noGroupAt (found-flatten o p bs ∙ e)))
+    flatten-none e = gives-next h (gives-hit (ap noGroupAt (found-flatten o p bs ∙ e)))
 
-    pub flatten-element : {l : Holder} {n : ℕ} {q : Quantifier} → ElementAt bs o p l n q → First 8 (conditions (flattenGroup o p) (storeIn bs))
+    pub flatten-element : {l : Holder} {n : ℕ} {q : Quantifier} → ElementAt bs o p l n q → Gives 8 (conditions (flattenGroup o p) (storeIn bs))
     unfolding conditions
-    flatten-element x = next h (hit (ap noGroupAt (found-flatten o p bs ∙ x .placed .there) ∙ ap (onGroup true (λ q. false)) (x .is)))
+    flatten-element x = gives-next h (gives-hit (ap noGroupAt (found-flatten o p bs ∙ x .placed .there) ∙ ap (onGroup true (λ q. false)) (x .is)))
 
-    pub flatten-group : {l : Holder} {n : ℕ} {q : Quantifier} {k : GroupKind} {m : ℕ} → GroupAt bs o p l n q k m → {r : ℕ} → First r (14 if (not (isOne q) || unlikeKind (l .kind) k m) ∷ []) → First r (conditions (flattenGroup o p) (storeIn bs))
+    pub flatten-group : {l : Holder} {n : ℕ} {q : Quantifier} {k : GroupKind} {m : ℕ} → GroupAt bs o p l n q k m → {r : ℕ} → Gives r (14 if (not (isOne q) || unlikeKind (l .kind) k m) ∷ []) → Gives r (conditions (flattenGroup o p) (storeIn bs))
     unfolding conditions
     flatten-group {l} {n} {q} {k} {m} x {r} f =
         let e : foundAt flatten o p (storeIn bs) ≡ some (x .placed .found) = found-flatten o p bs ∙ x .placed .there in
@@ -64,7 +65,7 @@ module _ (bs : Bytes) (o : ℕ) (p : List ℕ) where
         ap (atPlace flattenUnlike) e
         ∙ ap (flattenUnlike (x .placed .found .context)) (x .is)
         ∙ ap (λ (b : Bool). not (isOne q) || b) (unlike-is (x .placed .found .context) k m (x .placed .kind) (lone-many (x .inner) ∙ ap (λ (z : ℕ). eqb z 1) (sym (x .many)))) in
-        next h (next (ap noGroupAt e ∙ ap (onGroup true (λ q. false)) (x .is)) (record { is = f .is ∙ ap (λ (b : Bool). first (14 if b ∷ [])) (sym u) }))
+        gives-next h (gives-next (ap noGroupAt e ∙ ap (onGroup true (λ q. false)) (x .is)) (record { is = f .is ∙ ap (λ (b : Bool). first (14 if b ∷ [])) (sym u) }))
 
 -- ---- the tests of the code
 pub unlike-read : (list k : GroupKind) (n : ℕ) {b : Bool} → b ≡ sameKind k list → not (b || eqb n 1) ≡ unlikeKind list k n

@@ -1,4 +1,4 @@
-pub mod FirstLaws
+pub mod TestLaws
 pub mod AttributeLaws
 pub mod OwnParts
 pub mod PlaceLaws

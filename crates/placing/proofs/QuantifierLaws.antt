@@ -4,7 +4,7 @@ use Prim.Native.Nat.{ℕ, _<_, _≤_}
 use native.Mathlib.Omega.{arith}
 use borrow.Author.Tests.{lt-ltb, le-ltb, ltb-true, ltb-false, not-false}
 use mathlib.Core.Path.{_≡_, refl, sym, ap, ap₂, _∙_}
-use mathlib.Core.Bool.{Bool, true, false, _&&_, _||_, not, false≢true}
+use mathlib.Core.Bool.{Bool, true, false, _&&_, _||_, not, false≢true, or-false}
 use mathlib.Core.Option.{Option, none, some}
 use mathlib.Core.List.{List, [], _∷_}
 use lib.Dec.{eqb, ltb}
@@ -18,14 +18,17 @@ use Rattle.rules.specs.Decode.{quantifierOf, definitionCount}
 use Rattle.rules.specs.WellFormed.{isValue}
 use Rattle.rules.specs.Place.{Context, Found as Spot, spine}
 use Rattle.rules.specs.Edit.{quantify, quantifyOff, quantifyGroupOff}
-use Rattle.rules.specs.Change.{changeQuantifier, changeGroupQuantifier, nameAtIndex}
+use Rattle.rules.specs.Change.{nameAtIndex}
 use Rattle.rules.specs.Refusal.{_if_, Condition, first, conditions, foundAt, noElementAt, noGroupAt, atPlace, onElement, onGroup, instanceExists}
+use Rattle.rules.proofs.Words.{and-both}
 use Rattle.model.specs.declared.place.Holder.{Holder}
 use Rattle.records.specs.Records.{NumberAt}
 use Rattle.storing.specs.Stores.{storeIn}
 use Rattle.finding.proofs.StoreFacts.{formIn, Whole}
-use Rattle.placing.specs.Placing.{modelIn, foundBy, hasInstance, ElementAt, GroupAt, isOff, earlyTests, quantifierTests, First}
-use Rattle.placing.proofs.FirstLaws.{hit, next, none-holds}
+use Rattle.finding.specs.Finding.{Gives}
+use Rattle.finding.proofs.RefusalLaws.{gives-hit, gives-next, gives-none}
+use Rattle.placing.specs.Placing.{modelIn, foundBy, hasInstance, ElementAt, GroupAt, isOff, earlyTests, quantifierTests, requantify}
+use Rattle.placing.proofs.TestLaws.{and-off, and-first}
 use Rattle.placing.proofs.PlaceLaws.{found-quantify}
 use Rattle.placing.proofs.InstanceLaws.{instance-is}
 use Rattle.placing.proofs.AttributeLaws.{none-long}
@@ -34,7 +37,7 @@ use Rattle.placing.proofs.AttributeLaws.{none-long}
 abbrev three : Bool → Bool → Bool → List Condition → List Condition
 three a b c cs = 3 if a ∷ 4 if b ∷ 6 if c ∷ cs
 
-three-held : (a b c : Bool) (cs : List Condition) {r : ℕ} → First r (three a b c []) → (r ≡ 0 → ⊥) → First r (three a b c cs)
+three-held : (a b c : Bool) (cs : List Condition) {r : ℕ} → Gives r (three a b c []) → (r ≡ 0 → ⊥) → Gives r (three a b c cs)
 three-held true b c cs f h = record { is = f .is }
 three-held false true c cs f h = record { is = f .is }
 three-held false false true cs f h = record { is = f .is }
@@ -45,7 +48,7 @@ pub record Off (a b c : Bool) : Type 0 where
   pub code : b ≡ false
   pub index : c ≡ false
 
-three-off : (a b c : Bool) {r : ℕ} → First r (three a b c []) → r ≡ 0 → Off a b c
+three-off : (a b c : Bool) {r : ℕ} → Gives r (three a b c []) → r ≡ 0 → Off a b c
 three-off true b c f h = absurd (omega (arith, f .is))
 three-off false true c f h = absurd (omega (arith, f .is))
 three-off false false true f h = absurd (omega (arith, f .is))
@@ -53,22 +56,22 @@ three-off false false false f h = record { value = refl; code = refl; index = re
 
 module _ (o q : ℕ) (t bs : Bytes) where
   -- the tests of the code
-  pub early-3 : {a : Bool} → a ≡ isValue 32 t → not a ≡ true → First 3 (earlyTests o q t bs)
-  early-3 e h = hit (ap not (sym e) ∙ h)
+  pub early-3 : {a : Bool} → a ≡ isValue 32 t → not a ≡ true → Gives 3 (earlyTests o q t bs)
+  early-3 e h = gives-hit (ap not (sym e) ∙ h)
 
   module _ {a : Bool} (e : a ≡ isValue 32 t) (h : not a ≡ false) where
-    pub early-4 : 3 < q → First 4 (earlyTests o q t bs)
-    early-4 l = next (ap not (sym e) ∙ h) (hit (lt-ltb 3 q l))
+    pub early-4 : 3 < q → Gives 4 (earlyTests o q t bs)
+    early-4 l = gives-next (ap not (sym e) ∙ h) (gives-hit (lt-ltb 3 q l))
 
     module _ (l : q ≤ 3) {n : ℕ} (u : NumberAt 12 bs n) where
-      pub early-6 : n ≤ o → First 6 (earlyTests o q t bs)
-      early-6 k = next (ap not (sym e) ∙ h) (next (le-ltb 3 q l) (hit (ap not (le-ltb o (definitionCount bs) (omega (arith, u .value))))))
+      pub early-6 : n ≤ o → Gives 6 (earlyTests o q t bs)
+      early-6 k = gives-next (ap not (sym e) ∙ h) (gives-next (le-ltb 3 q l) (gives-hit (ap not (le-ltb o (definitionCount bs) (omega (arith, u .value))))))
 
-      pub early-0 : o < n → First 0 (earlyTests o q t bs)
-      early-0 k = next (ap not (sym e) ∙ h) (next (le-ltb 3 q l) (next (ap not (lt-ltb o (definitionCount bs) (omega (arith, u .value)))) none-holds))
+      pub early-0 : o < n → Gives 0 (earlyTests o q t bs)
+      early-0 k = gives-next (ap not (sym e) ∙ h) (gives-next (le-ltb 3 q l) (gives-next (ap not (lt-ltb o (definitionCount bs) (omega (arith, u .value)))) gives-none))
 
   -- none of them holds
-  module _ {r : ℕ} (f : First r (earlyTests o q t bs)) (z : r ≡ 0) where
+  module _ {r : ℕ} (f : Gives r (earlyTests o q t bs)) (z : r ≡ 0) where
     off : Off (not (isValue 32 t)) (ltb 3 q) (not (ltb o (definitionCount bs)))
     off = three-off (not (isValue 32 t)) (ltb 3 q) (not (ltb o (definitionCount bs))) f z
 
@@ -79,39 +82,27 @@ module _ (o q : ℕ) (t bs : Bytes) where
     early-index = ltb-true o (definitionCount bs) (not-false _ (off .index))
 
 -- ---- the others
-and-true : (a b : Bool) → a ≡ true → b ≡ true → (a && b) ≡ true
-and-true true b e f = f
-and-true false b e f = e
-
-and-false : (a b : Bool) → b ≡ false → (a && b) ≡ false
-and-false true b f = f
-and-false false b f = refl
-
-first-off : (a b : Bool) → a ≡ false → (a && b) ≡ false
-first-off true b f = absurd (false≢true (sym f))
-first-off false b f = refl
-
 module _ (exists spine : Bool) (old new : Quantifier) (t : Bytes) (isGroup : Bool) {g : Bool} (e : g ≡ gains old new) where
   gain-is : {v : Bool} → (g && eqb (length t) 0) ≡ v → (gains old new && isNone t) ≡ v
   gain-is h = ap₂ (λ (a b : Bool). a && b) (sym e) (sym (none-long t)) ∙ h
 
-  pub at-12 : (g && eqb (length t) 0) ≡ true → First 12 (quantifierTests exists spine old new t isGroup)
-  at-12 h = hit (gain-is h)
+  pub at-12 : (g && eqb (length t) 0) ≡ true → Gives 12 (quantifierTests exists spine old new t isGroup)
+  at-12 h = gives-hit (gain-is h)
 
   module _ (h : (g && eqb (length t) 0) ≡ false) {b : Bool} (f : b ≡ isOff spine old new isGroup) where
-    pub at-fine : not b ≡ true → First 0 (quantifierTests exists spine old new t isGroup)
-    at-fine k = next (gain-is h) (next (and-false exists (isOff spine old new isGroup) (sym f ∙ by b k)) none-holds)
+    pub at-fine : not b ≡ true → Gives 0 (quantifierTests exists spine old new t isGroup)
+    at-fine k = gives-next (gain-is h) (gives-next (and-off exists (isOff spine old new isGroup) (sym f ∙ by b k)) gives-none)
       where
         by : (b : Bool) → not b ≡ true → b ≡ false
         by true k = absurd (false≢true k)
         by false k = refl
 
     module _ (k : not b ≡ false) {x : Bool} (i : x ≡ exists) where
-      pub at-13 : x ≡ true → First 13 (quantifierTests exists spine old new t isGroup)
-      at-13 w = next (gain-is h) (hit (and-true exists (isOff spine old new isGroup) (sym i ∙ w) (sym f ∙ not-false b k)))
+      pub at-13 : x ≡ true → Gives 13 (quantifierTests exists spine old new t isGroup)
+      at-13 w = gives-next (gain-is h) (gives-hit (and-both (sym i ∙ w) (sym f ∙ not-false b k)))
 
-      pub at-0 : x ≡ false → First 0 (quantifierTests exists spine old new t isGroup)
-      at-0 w = next (gain-is h) (next (first-off exists (isOff spine old new isGroup) (sym i ∙ w)) none-holds)
+      pub at-0 : x ≡ false → Gives 0 (quantifierTests exists spine old new t isGroup)
+      at-0 w = gives-next (gain-is h) (gives-next (and-first exists (isOff spine old new isGroup) (sym i ∙ w)) gives-none)
 
 pub gains-read : (old new : Quantifier) {a b : Bool} → a ≡ skips new → b ≡ skips old → (not a && b) ≡ gains old new
 gains-read old new e f = ap₂ (λ (x y : Bool). not x && y) e f
@@ -123,31 +114,24 @@ pub off-read : (spine : Bool) (old new : Quantifier) (isGroup : Bool) {a b : Boo
 off-read spine old new isGroup e f = ap₂ (λ (x y : Bool). (not x && not spine) || (isGroup && y)) e f
 
 -- ---- the conditions
-or-false : (b : Bool) → (b || false) ≡ b
-or-false true = refl
-or-false false = refl
-
-module _ (bs : Bytes) (w : Whole bs) (o : ℕ) (p : List ℕ) (q : ℕ) (t : Bytes) {r : ℕ} (f : First r (earlyTests o q t bs)) where
+module _ (bs : Bytes) (w : Whole bs) (o : ℕ) (p : List ℕ) (q : ℕ) (t : Bytes) {r : ℕ} (f : Gives r (earlyTests o q t bs)) where
   past-same : not (ltb o (definitionCount bs)) ≡ not (ltb o (length (formIn bs)))
   past-same = ap (λ (z : ℕ). not (ltb o z)) (w .agrees .size)
 
-  held : (cs : List Condition) → (r ≡ 0 → ⊥) → First r (three (not (isValue 32 t)) (ltb 3 q) (not (ltb o (length (formIn bs)))) cs)
+  held : (cs : List Condition) → (r ≡ 0 → ⊥) → Gives r (three (not (isValue 32 t)) (ltb 3 q) (not (ltb o (length (formIn bs)))) cs)
   held cs h = three-held (not (isValue 32 t)) (ltb 3 q) (not (ltb o (length (formIn bs)))) cs (record { is = f .is ∙ ap (λ (z : Bool). first (three (not (isValue 32 t)) (ltb 3 q) z [])) past-same }) h
 
-  pub element-early : (r ≡ 0 → ⊥) → First r (conditions (changeQuantifier o p q t) (storeIn bs))
+  pub requantify-early : (g : Bool) → (r ≡ 0 → ⊥) → Gives r (conditions (requantify g o p q t) (storeIn bs))
   unfolding conditions
-  element-early h = held _ h
-
-  pub group-early : (r ≡ 0 → ⊥) → First r (conditions (changeGroupQuantifier o p q t) (storeIn bs))
-  unfolding conditions
-  group-early h = held _ h
+  requantify-early false h = held _ h
+  requantify-early true h = held _ h
 
   module _ (z : r ≡ 0) where
     none-early : Off (not (isValue 32 t)) (ltb 3 q) (not (ltb o (definitionCount bs)))
     none-early = three-off (not (isValue 32 t)) (ltb 3 q) (not (ltb o (definitionCount bs))) f z
 
-    on-early : {s : ℕ} {cs : List Condition} → First s cs → First s (three (not (isValue 32 t)) (ltb 3 q) (not (ltb o (length (formIn bs)))) cs)
-    on-early g = next (none-early .value) (next (none-early .code) (next (sym past-same ∙ none-early .index) g))
+    on-early : {s : ℕ} {cs : List Condition} → Gives s cs → Gives s (three (not (isValue 32 t)) (ltb 3 q) (not (ltb o (length (formIn bs)))) cs)
+    on-early g = gives-next (none-early .value) (gives-next (none-early .code) (gives-next (sym past-same ∙ none-early .index) g))
 
     within : o < length (formIn bs)
     within = let l : o < definitionCount bs = early-index o q t bs f z in omega (arith, w .agrees .size)
@@ -158,18 +142,20 @@ module _ (bs : Bytes) (w : Whole bs) (o : ℕ) (p : List ℕ) (q : ℕ) (t : Byt
     exists-is : hasInstance bs o ≡ instanceExists (nameAtIndex o (formIn bs)) (storeIn bs)
     exists-is = instance-is bs w o within
 
+    pub requantify-none : (g : Bool) → foundBy false p (modelIn bs o) ≡ none → Gives 8 (conditions (requantify g o p q t) (storeIn bs))
+    unfolding conditions
+    requantify-none false e = on-early (gives-hit (ap noElementAt (found-quantify (quantifierOf q) o p bs ∙ e)))
+    requantify-none true e = on-early (gives-hit (ap noGroupAt (found-quantify (quantifierOf q) o p bs ∙ e)))
+
     -- 5
-    pub element-none : foundBy false p (modelIn bs o) ≡ none → First 8 (conditions (changeQuantifier o p q t) (storeIn bs))
+    pub element-group : (g : Bool) → g ≡ false → {l : Holder} {n : ℕ} {old : Quantifier} {k : GroupKind} {m : ℕ} → GroupAt bs o p l n old k m → Gives 8 (conditions (requantify g o p q t) (storeIn bs))
     unfolding conditions
-    element-none e = on-early (hit (ap noElementAt (found-quantify (quantifierOf q) o p bs ∙ e)))
+    element-group false b x = on-early (gives-hit (ap noElementAt (found-quantify (quantifierOf q) o p bs ∙ x .placed .there) ∙ ap (onElement true (λ q. false)) (x .is)))
+    element-group true b x = absurd (false≢true (sym b))
 
-    pub element-group : {l : Holder} {n : ℕ} {old : Quantifier} {k : GroupKind} {m : ℕ} → GroupAt bs o p l n old k m → First 8 (conditions (changeQuantifier o p q t) (storeIn bs))
+    pub element-there : (g : Bool) → g ≡ false → {l : Holder} {n : ℕ} {old new : Quantifier} → ElementAt bs o p l n old → new ≡ quantifierOf q → {s : ℕ} → Gives s (quantifierTests (hasInstance bs o) (l .spine) old new t false) → Gives s (conditions (requantify g o p q t) (storeIn bs))
     unfolding conditions
-    element-group x = on-early (hit (ap noElementAt (found-quantify (quantifierOf q) o p bs ∙ x .placed .there) ∙ ap (onElement true (λ q. false)) (x .is)))
-
-    pub element-there : {l : Holder} {n : ℕ} {old new : Quantifier} → ElementAt bs o p l n old → new ≡ quantifierOf q → {s : ℕ} → First s (quantifierTests (hasInstance bs o) (l .spine) old new t false) → First s (conditions (changeQuantifier o p q t) (storeIn bs))
-    unfolding conditions
-    element-there {l} {n} {old} {new} x i {s} g =
+    element-there false b {l} {n} {old} {new} x i {s} y =
         let e : found ≡ some (x .placed .found) = found-quantify (quantifierOf q) o p bs ∙ x .placed .there in
         let c : Context Bytes = x .placed .found .context in
         let gain : atPlace (λ c y. onElement false (λ d. gains d (quantifierOf q)) y) found ≡ gains old new =
@@ -179,22 +165,20 @@ module _ (bs : Bytes) (w : Whole bs) (o : ℕ) (p : List ℕ) (q : ℕ) (t : Byt
         ∙ ap (onElement false (λ d. quantifyOff c d (quantifierOf q))) (x .is)
         ∙ ap₂ (λ (a : Quantifier) (b : Bool). not (relaxes old a) && not b) (sym i) (sym (x .placed .spine))
         ∙ sym (or-false (not (relaxes old new) && not (l .spine))) in
-        on-early (next (ap noElementAt e ∙ ap (onElement true (λ q. false)) (x .is))
-        (record { is = g .is ∙ sym (λ j. first (12 if (gain j && isNone t) ∷ 13 if (sym exists-is j && off j) ∷ [])) }))
-
+        on-early (gives-next (ap noElementAt e ∙ ap (onElement true (λ q. false)) (x .is))
+        (record { is = y .is ∙ sym (λ j. first (12 if (gain j && isNone t) ∷ 13 if (sym exists-is j && off j) ∷ [])) }))
     -- 8
-    pub group-none : foundBy false p (modelIn bs o) ≡ none → First 8 (conditions (changeGroupQuantifier o p q t) (storeIn bs))
-    unfolding conditions
-    group-none e = on-early (hit (ap noGroupAt (found-quantify (quantifierOf q) o p bs ∙ e)))
+    element-there true b {l} {n} {old} {new} x i {s} y = absurd (false≢true (sym b))
 
-    pub group-element : {l : Holder} {n : ℕ} {old : Quantifier} → ElementAt bs o p l n old → First 8 (conditions (changeGroupQuantifier o p q t) (storeIn bs))
+    pub group-element : (g : Bool) → g ≡ true → {l : Holder} {n : ℕ} {old : Quantifier} → ElementAt bs o p l n old → Gives 8 (conditions (requantify g o p q t) (storeIn bs))
     unfolding conditions
-    group-element x = on-early (hit (ap noGroupAt (found-quantify (quantifierOf q) o p bs ∙ x .placed .there) ∙ ap (onGroup true (λ q. false)) (x .is)))
+    group-element true b x = on-early (gives-hit (ap noGroupAt (found-quantify (quantifierOf q) o p bs ∙ x .placed .there) ∙ ap (onGroup true (λ q. false)) (x .is)))
+    group-element false b x = absurd (false≢true b)
 
-    pub group-there : {l : Holder} {n : ℕ} {old new : Quantifier} {k : GroupKind} {m : ℕ} → GroupAt bs o p l n old k m → new ≡ quantifierOf q → {s : ℕ} → First s (quantifierTests (hasInstance bs o) (l .spine) old new t true)
-        → First s (conditions (changeGroupQuantifier o p q t) (storeIn bs))
+    pub group-there : (g : Bool) → g ≡ true → {l : Holder} {n : ℕ} {old new : Quantifier} {k : GroupKind} {m : ℕ} → GroupAt bs o p l n old k m → new ≡ quantifierOf q → {s : ℕ} → Gives s (quantifierTests (hasInstance bs o) (l .spine) old new t true)
+        → Gives s (conditions (requantify g o p q t) (storeIn bs))
     unfolding conditions
-    group-there {l} {n} {old} {new} x i {s} g =
+    group-there true b {l} {n} {old} {new} x i {s} y =
         let e : found ≡ some (x .placed .found) = found-quantify (quantifierOf q) o p bs ∙ x .placed .there in
         let c : Context Bytes = x .placed .found .context in
         let gain : atPlace (λ c y. onGroup false (λ d. gains d (quantifierOf q)) y) found ≡ gains old new =
@@ -203,5 +187,6 @@ module _ (bs : Bytes) (w : Whole bs) (o : ℕ) (p : List ℕ) (q : ℕ) (t : Byt
         ap (atPlace (λ c y. onGroup false (λ d. quantifyGroupOff c d (quantifierOf q)) y)) e
         ∙ ap (onGroup false (λ d. quantifyGroupOff c d (quantifierOf q))) (x .is)
         ∙ ap₂ (λ (a : Quantifier) (b : Bool). (not (relaxes old a) && not b) || cuts old a) (sym i) (sym (x .placed .spine)) in
-        on-early (next (ap noGroupAt e ∙ ap (onGroup true (λ q. false)) (x .is))
-        (record { is = g .is ∙ sym (λ j. first (12 if (gain j && isNone t) ∷ 13 if (sym exists-is j && off j) ∷ [])) }))
+        on-early (gives-next (ap noGroupAt e ∙ ap (onGroup true (λ q. false)) (x .is))
+        (record { is = y .is ∙ sym (λ j. first (12 if (gain j && isNone t) ∷ 13 if (sym exists-is j && off j) ∷ [])) }))
+    group-there false b {l} {n} {old} {new} x i {s} y = absurd (false≢true b)

@@ -20,10 +20,11 @@ use Rattle.rules.specs.Preorder.{Deep, build}
 use Rattle.rules.specs.Layout.{FlatParticle, howMany}
 use Rattle.rules.specs.Decode.{readParticle}
 use Rattle.rules.specs.Automaton.{facts}
-use Rattle.rules.specs.Place.{Context, here, past, over, into, plain, opens, leaves, unlessList, renameAround}
+use Rattle.rules.specs.Place.{Context, here, past, over, into, opens, leaves, unlessList, renameAround}
 use Rattle.rules.specs.Edit.{_⊕_, sameKind, remove, removeLast, removeUnmatched}
 use Rattle.rules.specs.Change.{removeElement}
 use Rattle.rules.specs.Refusal.{_if_, first, conditions, foundAt, noElementAt, atPlace, onElement, tailOf}
+use Rattle.rules.proofs.Words.{or-left, or-right, and-both}
 use Rattle.rules.proofs.RenamingPlaces.{leaves-rename}
 use Rattle.model.specs.declared.place.Holder.{Holder}
 use Rattle.model.specs.declared.Particle.{Particle}
@@ -35,10 +36,13 @@ use Rattle.model.proofs.ParticleLaws.{particle-at, particles-drop, particles-ta
 use Rattle.model.proofs.PositionLaws.{spread-plug, length-leading, length-spread, code-quantifier}
 use Rattle.model.proofs.MembersLaws.{members-here}
 use Rattle.model.proofs.FactsLaws.{facts-nothing}
+use Rattle.splicing.proofs.HeadAfter.{depth-holder}
 use Rattle.storing.specs.Stores.{storeIn}
 use Rattle.finding.proofs.StoreFacts.{formIn, Whole}
-use Rattle.placing.specs.Placing.{indexIn, modelIn, partIn, foundBy, hasInstance, ElementAt, GroupAt, choiceLeft, Removable, removeTests, First}
-use Rattle.placing.proofs.FirstLaws.{hit, next, none-holds}
+use Rattle.finding.specs.Finding.{Gives}
+use Rattle.finding.proofs.RefusalLaws.{gives-hit, gives-next, gives-none}
+use Rattle.placing.specs.Placing.{indexIn, modelIn, partIn, foundBy, hasInstance, ElementAt, GroupAt, choiceLeft, Removable, removeTests}
+use Rattle.placing.proofs.TestLaws.{and-off, and-first}
 use Rattle.placing.proofs.PlaceLaws.{found-remove}
 use Rattle.placing.proofs.PickLaws.{around, from-there, one-there, read-there}
 use Rattle.placing.proofs.InstanceLaws.{instance-is}
@@ -84,14 +88,6 @@ start-done : (f : Members ℕ) (n : ℕ) → eqb (n + suc (count f)) (suc n) ≡
 start-done done n = eq-eqb (n + 1) (suc n) (omega arith)
 start-done (el q i f) n = ne-eqb (n + suc (suc (count f))) (suc n) (λ z. omega arith)
 start-done (group q k ms f) n = ne-eqb (n + suc (suc (count ms + count f))) (suc n) (λ z. omega arith)
-
-pub depth-holder : (h : Holder) (p : ℕ) (c : Context ℕ) → holder h p c .depth ≡ level (h .depth) c
-depth-holder h p here = refl
-depth-holder h p (past q i c) = depth-holder h (suc p) c
-depth-holder h p (over q k ms c) = depth-holder h (suc (count ms + p)) c
-depth-holder h p (into q k c rest) =
-    let z : h .depth + 1 ≡ suc (h .depth) = omega arith in
-    depth-holder (record { start = h .start + (p + 1); depth = h .depth + 1; kind = k; spine = h .spine && plain q k }) 0 c ∙ ap (λ (d : ℕ). level d c) z
 
 -- ---- an element at a place
 module _ {bs : Bytes} {o : ℕ} {place : List ℕ} {h : Holder} {p : ℕ} {q : Quantifier} (x : ElementAt bs o place h p q) where
@@ -257,23 +253,23 @@ module _ {bs : Bytes} {o : ℕ} {place : List ℕ} {h : Holder} {p : ℕ} {q : Q
 
 -- ---- the conditions
 module _ (bs : Bytes) (w : Whole bs) (o : ℕ) (place : List ℕ) where
-  pub remove-6 : not (ltb o (length (formIn bs))) ≡ true → First 6 (conditions (removeElement o place) (storeIn bs))
+  pub remove-6 : not (ltb o (length (formIn bs))) ≡ true → Gives 6 (conditions (removeElement o place) (storeIn bs))
   unfolding conditions
-  remove-6 h = hit h
+  remove-6 h = gives-hit h
 
   module _ (l : o < length (formIn bs)) where
     within : not (ltb o (length (formIn bs))) ≡ false
     within = ap not (lt-ltb o (length (formIn bs)) l)
 
-    pub remove-none : foundBy false place (modelIn bs o) ≡ none → First 8 (conditions (removeElement o place) (storeIn bs))
+    pub remove-none : foundBy false place (modelIn bs o) ≡ none → Gives 8 (conditions (removeElement o place) (storeIn bs))
     unfolding conditions
-    remove-none e = next within (hit (ap noElementAt (found-remove o place bs ∙ e)))
+    remove-none e = gives-next within (gives-hit (ap noElementAt (found-remove o place bs ∙ e)))
 
-    pub remove-group : {h : Holder} {p : ℕ} {q : Quantifier} {k : GroupKind} {n : ℕ} → GroupAt bs o place h p q k n → First 8 (conditions (removeElement o place) (storeIn bs))
+    pub remove-group : {h : Holder} {p : ℕ} {q : Quantifier} {k : GroupKind} {n : ℕ} → GroupAt bs o place h p q k n → Gives 8 (conditions (removeElement o place) (storeIn bs))
     unfolding conditions
-    remove-group x = next within (hit (ap noElementAt (found-remove o place bs ∙ x .placed .there) ∙ ap (onElement true (λ q. false)) (x .is)))
+    remove-group x = gives-next within (gives-hit (ap noElementAt (found-remove o place bs ∙ x .placed .there) ∙ ap (onElement true (λ q. false)) (x .is)))
 
-    pub remove-there : {h : Holder} {p : ℕ} {q : Quantifier} (x : ElementAt bs o place h p q) {s : Bytes} → s ≡ partIn bs o → {r : ℕ} → First r (removeTests (hasInstance bs o) s h p) → First r (conditions (removeElement o place) (storeIn bs))
+    pub remove-there : {h : Holder} {p : ℕ} {q : Quantifier} (x : ElementAt bs o place h p q) {s : Bytes} → s ≡ partIn bs o → {r : ℕ} → Gives r (removeTests (hasInstance bs o) s h p) → Gives r (conditions (removeElement o place) (storeIn bs))
     unfolding conditions
     remove-there {h} {p} {q} x {s} own {r} g =
         let e : foundAt remove o place (storeIn bs) ≡ some (x .placed .found) = found-remove o place bs ∙ x .placed .there in
@@ -285,7 +281,7 @@ module _ (bs : Bytes) (w : Whole bs) (o : ℕ) (place : List ℕ) where
         ap (atPlace (λ c y. removeLast c (tailOf y))) e ∙ ap (λ (y : Members Bytes). removeLast (x .placed .found .context) (tailOf y)) (x .is) in
         let unmatched : atPlace (λ c y. removeUnmatched c (tailOf y)) (foundAt remove o place (storeIn bs)) ≡ removeUnmatched (x .placed .found .context) (x .rest) =
         ap (atPlace (λ c y. removeUnmatched c (tailOf y))) e ∙ ap (λ (y : Members Bytes). removeUnmatched (x .placed .found .context) (tailOf y)) (x .is) in
-        next within (next (ap noElementAt e ∙ ap (onElement true (λ q. false)) (x .is))
+        gives-next within (gives-next (ap noElementAt e ∙ ap (onElement true (λ q. false)) (x .is))
         (record { is = g .is ∙ tests ∙ deep ∙ (λ j. first (14 if (last-test x ∙ sym last) j ∷ 15 if (instance-is bs w o l j && (left-test x ∙ sym unmatched) j) ∷ [])) }))
 
 -- ---- the tests of the code
@@ -302,26 +298,6 @@ or-none : (a b : Bool) → a ≡ false → b ≡ false → (a || b) ≡ false
 or-none true b e f = e
 or-none false b e f = f
 
-or-first : (a b : Bool) → a ≡ true → (a || b) ≡ true
-or-first true b e = refl
-or-first false b e = absurd (false≢true e)
-
-or-second : (a b : Bool) → b ≡ true → (a || b) ≡ true
-or-second true b e = refl
-or-second false b e = e
-
-and-on : (a b : Bool) → a ≡ true → b ≡ true → (a && b) ≡ true
-and-on true b e f = f
-and-on false b e f = e
-
-and-off : (a b : Bool) → b ≡ false → (a && b) ≡ false
-and-off true b f = f
-and-off false b f = refl
-
-and-first : (a b : Bool) → a ≡ false → (a && b) ≡ false
-and-first true b f = absurd (false≢true (sym f))
-and-first false b f = refl
-
 module _ (exists : Bool) (s : Bytes) (h : Holder) (p : ℕ) {d : ℕ} {r : Bytes} {n : ℕ} (e : d ≡ getD s (4 * p + 3) 0) (u : r ≡ drop (4 * p) s) (m : n ≡ howMany (membersFrom d r)) where
   abbrev depth : ℕ
   depth = getD s (4 * p + 3) 0
@@ -332,29 +308,29 @@ module _ (exists : Bool) (s : Bytes) (h : Holder) (p : ℕ) {d : ℕ} {r : Bytes
   last-read : {v : Bool} → ((ltb 0 d && eqb p (h .start)) && eqb n 1) ≡ v → ((ltb 0 depth && eqb p (h .start)) && eqb (howMany (membersFrom depth (drop (4 * p) s))) 1) ≡ v
   last-read k = ap₂ (λ (i j : ℕ). (ltb 0 i && eqb p (h .start)) && eqb j 1) (sym e) (sym many-read) ∙ k
 
-  pub at-14 : ((ltb 0 d && eqb p (h .start)) && eqb n 1) ≡ true → First 14 (removeTests exists s h p)
-  at-14 k = hit (last-read k)
+  pub at-14 : ((ltb 0 d && eqb p (h .start)) && eqb n 1) ≡ true → Gives 14 (removeTests exists s h p)
+  at-14 k = gives-hit (last-read k)
 
   module _ (k : ((ltb 0 d && eqb p (h .start)) && eqb n 1) ≡ false) {a : Bool} (f : a ≡ sameKind (h .kind) Sequence) where
-    fine : (sameKind (h .kind) Sequence || choiceLeft s (h .start) p depth) ≡ true → First 0 (removeTests exists s h p)
-    fine z = next (last-read k) (next (and-off exists (not (sameKind (h .kind) Sequence || choiceLeft s (h .start) p depth)) (ap not z)) none-holds)
+    fine : (sameKind (h .kind) Sequence || choiceLeft s (h .start) p depth) ≡ true → Gives 0 (removeTests exists s h p)
+    fine z = gives-next (last-read k) (gives-next (and-off exists (not (sameKind (h .kind) Sequence || choiceLeft s (h .start) p depth)) (ap not z)) gives-none)
 
-    pub at-list : a ≡ true → First 0 (removeTests exists s h p)
-    at-list z = fine (or-first (sameKind (h .kind) Sequence) (choiceLeft s (h .start) p depth) (sym f ∙ z))
+    pub at-list : a ≡ true → Gives 0 (removeTests exists s h p)
+    at-list z = fine (or-left (choiceLeft s (h .start) p depth) (sym f ∙ z))
 
     module _ {b : Bool} (g : b ≡ choiceLeft s (h .start) p d) where
       left-at : b ≡ choiceLeft s (h .start) p depth
       left-at = g ∙ ap (choiceLeft s (h .start) p) e
 
-      pub at-left : b ≡ true → First 0 (removeTests exists s h p)
-      at-left z = fine (or-second (sameKind (h .kind) Sequence) (choiceLeft s (h .start) p depth) (sym left-at ∙ z))
+      pub at-left : b ≡ true → Gives 0 (removeTests exists s h p)
+      at-left z = fine (or-right (sameKind (h .kind) Sequence) (sym left-at ∙ z))
 
       module _ (no : a ≡ false) (off : b ≡ false) {y : Bool} (i : y ≡ exists) where
         unmatched : not (sameKind (h .kind) Sequence || choiceLeft s (h .start) p depth) ≡ true
         unmatched = ap not (or-none (sameKind (h .kind) Sequence) (choiceLeft s (h .start) p depth) (sym f ∙ no) (sym left-at ∙ off))
 
-        pub at-15 : y ≡ true → First 15 (removeTests exists s h p)
-        at-15 z = next (last-read k) (hit (and-on exists (not (sameKind (h .kind) Sequence || choiceLeft s (h .start) p depth)) (sym i ∙ z) unmatched))
+        pub at-15 : y ≡ true → Gives 15 (removeTests exists s h p)
+        at-15 z = gives-next (last-read k) (gives-hit (and-both (sym i ∙ z) unmatched))
 
-        pub at-0 : y ≡ false → First 0 (removeTests exists s h p)
-        at-0 z = next (last-read k) (next (and-first exists (not (sameKind (h .kind) Sequence || choiceLeft s (h .start) p depth)) (sym i ∙ z)) none-holds)
+        pub at-0 : y ≡ false → Gives 0 (removeTests exists s h p)
+        at-0 z = gives-next (last-read k) (gives-next (and-first exists (not (sameKind (h .kind) Sequence || choiceLeft s (h .start) p depth)) (sym i ∙ z)) gives-none)

@@ -20,8 +20,8 @@ use Rattle.rules.specs.Decode.{readParticle, readRow, readMany, definitionCount
 use Rattle.rules.specs.WellFormed.{isValue}
 use Rattle.rules.specs.Place.{Found as Spot, gap, nth, find, plug, kindAt, spine, renameAround}
 use Rattle.rules.specs.Edit.{sameKind, lone, firstMembers, hasMembers}
-use Rattle.rules.specs.Change.{definitionAt}
-use Rattle.rules.specs.Refusal.{Condition, _if_, first}
+use Rattle.rules.specs.Change.{Call, changeQuantifier, changeGroupQuantifier, definitionAt}
+use Rattle.rules.specs.Refusal.{Condition, _if_}
 use Rattle.model.specs.declared.What.{What}
 use Rattle.model.specs.declared.What.the-variants as what
 use Rattle.model.specs.declared.place.Holder.{Holder}
@@ -135,6 +135,11 @@ earlyTests o q t bs = 3 if not (isValue 32 t) ∷ 4 if ltb 3 q ∷ 6 if not (ltb
 abbrev pub quantifierTests : Bool → Bool → Quantifier → Quantifier → Bytes → Bool → List Condition
 quantifierTests exists spine old new t isGroup = 12 if (gains old new && isNone t) ∷ 13 if (exists && isOff spine old new isGroup) ∷ []
 
+-- changes 5 and 8: a new quantifier for an element, or for a group
+abbrev pub requantify : Bool → ℕ → List ℕ → ℕ → Bytes → Call
+requantify false o p q t = changeQuantifier o p q t
+requantify true o p q t = changeGroupQuantifier o p q t
+
 -- ---- removing
 -- an inner CHOICE whose members start at a particle, without the element at particle p of depth d, accepts nothing
 abbrev pub choiceLeft : Bytes → ℕ → ℕ → ℕ → Bool
@@ -154,8 +159,3 @@ removeTests exists part h p =
     14 if ((ltb 0 d && eqb p (h .start)) && eqb (howMany (membersFrom d (drop (4 * p) part))) 1)
     ∷ 15 if (exists && not (sameKind (h .kind) Sequence || choiceLeft part (h .start) p d))
     ∷ []
-
--- ---- conditions
--- n is the number of the first condition that holds, 0 if none does
-pub record First (n : ℕ) (cs : List Condition) : Type 0 where
-  pub is : n ≡ first cs

@@ -11,7 +11,7 @@ ghost use Prim.Native.Nat.{_+_, _*_, _<_, _≤_};
 ghost use lib.ListN.{length, drop};
 ghost use Rattle.rules.specs.declared.GroupKind.the-variants.{Choice};
 ghost use Rattle.rules.specs.Bytes.{any};
-ghost use Rattle.rules.specs.Model.{skips, nothing};
+ghost use Rattle.rules.specs.Model.{nothing};
 ghost use Rattle.rules.specs.Quantifiers.{many, gains, cuts};
 ghost use Rattle.rules.specs.Layout.{howMany};
 ghost use Rattle.rules.specs.Edit.{sameKind, isOne};
@@ -24,7 +24,8 @@ ghost use Rattle.model.specs.Particle.{particleOf};
 ghost use Rattle.rowpass.specs.Reading.{recordAt};
 ghost use Rattle.lookup.specs.Bodies.{bodiesOf};
 ghost use Rattle.storing.specs.Stores.{storeIn};
-ghost use Rattle.placing.specs.Placing.{attributeBody, ownNamed, hasInstance, partIn, pickOf, Picking, oneIf, unlikeKind, convertTests, isOff, earlyTests, quantifierTests, choiceLeft, Removable, removeTests, First};
+ghost use Rattle.finding.specs.Finding.{Gives};
+ghost use Rattle.placing.specs.Placing.{attributeBody, ownNamed, hasInstance, partIn, pickOf, Picking, oneIf, unlikeKind, convertTests, isOff, earlyTests, quantifierTests, requantify, choiceLeft, Removable, removeTests};
 
 // ---- attributes
 /// The record of attribute i.
@@ -99,14 +100,14 @@ pub enum Picked {
     Absent,
 }
 
-// A definition's part of the particle body.
-fn own_part(store: &[u8], owner: u32) -> &[u8]
+/// A definition's part of the particle body.
+pub fn own_part(store: &[u8], owner: usize) -> &[u8]
     requires { ⌜ owner ≤ 256 ⌝ }
     ensures { λ r. ⌜ now r ≡ partIn (now (store .entry)) owner ⌝ }
 {
     let definitions = validity::body(store, 8, 20);
     let particles = validity::body(store, 16, 4);
-    rowpass::model_part(definitions, particles, owner as usize)
+    rowpass::model_part(definitions, particles, owner)
 }
 
 // What stands at particle p of the list h.
@@ -128,7 +129,7 @@ fn pick(store: &[u8], owner: u32, place: &[u32]) -> Picked
     requires { ⌜ (passes (now store) ≡ true) × (owner < definitionCount (now store)) ⌝ }
     ensures { λ r. ⌜ Picking (now (store .entry)) owner (now (place .entry)) r ⌝ }
 {
-    let part = own_part(store, owner);
+    let part = own_part(store, owner as usize);
     let found = model::place::find(part, place, false);
     match found {
         Found::Absent => Picked::Absent,
@@ -195,7 +196,7 @@ fn unlike(list: GroupKind, kind: GroupKind, n: usize) -> bool
 
 // Refusal 14 of a group of n members that is flattened into a list.
 fn flatten_at(list: GroupKind, q: Quantifier, kind: GroupKind, n: usize) -> u32
-    ensures { λ r. ⌜ First r (14 if (not (isOne q) || unlikeKind list kind n) ∷ []) ⌝ }
+    ensures { λ r. ⌜ Gives r (14 if (not (isOne q) || unlikeKind list kind n) ∷ []) ⌝ }
 {
     if !is_one(q) | unlike(list, kind, n) {
         return 14;
@@ -203,7 +204,8 @@ fn flatten_at(list: GroupKind, q: Quantifier, kind: GroupKind, n: usize) -> u32
     0
 }
 
-fn group_kind(sort: u32) -> GroupKind
+/// The kind of the group that a change asks for.
+pub fn group_kind(sort: u32) -> GroupKind
     ensures { λ r. ⌜ r ≡ groupOf sort ⌝ }
 {
     match sort {
@@ -216,7 +218,7 @@ fn group_kind(sort: u32) -> GroupKind
 // Refusals 8 and 14 of members from particle p of the list h on that become a group.
 fn convert_at(part: &[u8], h: Holder, p: usize, count: u32, kind: GroupKind) -> u32
     requires { ⌜ 4 * p ≤ length (now part) ⌝ }
-    ensures { λ r. ⌜ First r (convertTests (h .kind) kind count (membersFrom (h .depth) (drop (4 * p) (now (part .entry))))) ⌝ }
+    ensures { λ r. ⌜ Gives r (convertTests (h .kind) kind count (membersFrom (h .depth) (drop (4 * p) (now (part .entry))))) ⌝ }
 {
     let n = count_members(records::after(part, 4 * p), h.depth);
     let list = h.kind;
@@ -246,7 +248,7 @@ pub fn convert_to_group_refusal(
     if owner as usize >= records::number(store, 12) {
         return 6;
     }
-    let part = own_part(store, owner);
+    let part = own_part(store, owner as usize);
     let kind = group_kind(sort);
     let found = model::place::find(part, place, false);
     match found {
@@ -275,17 +277,6 @@ pub fn flatten_group_refusal(store: &[u8], owner: u32, place: &[u32]) -> u32
 }
 
 // ---- quantifiers
-fn skips(q: Quantifier) -> bool
-    ensures { λ r. ⌜ r ≡ skips q ⌝ }
-{
-    match q {
-        Quantifier::None => false,
-        Quantifier::Qmark => true,
-        Quantifier::Star => true,
-        Quantifier::Plus => false,
-    }
-}
-
 fn many(q: Quantifier) -> bool
     ensures { λ r. ⌜ r ≡ many q ⌝ }
 {
@@ -301,7 +292,7 @@ fn many(q: Quantifier) -> bool
 pub fn gains(old: Quantifier, new: Quantifier) -> bool
     ensures { λ r. ⌜ r ≡ gains old new ⌝ }
 {
-    !skips(new) & skips(old)
+    !model::skips(new) & model::skips(old)
 }
 
 /// Whether a new quantifier cuts.
@@ -337,13 +328,13 @@ fn choice_left(part: &[u8], start: usize, p: usize, d: usize) -> bool
     let q = x.quantifier;
     let before = accepts_nothing(rowpass::cut(part, 4 * start, 4 * (p - start)), d);
     let after = accepts_nothing(records::after(part, 4 * p + 4), d);
-    (skips(q) | before) | after
+    (model::skips(q) | before) | after
 }
 
 // Refusals 14 and 15 of the element at particle p of the list h.
 fn remove_at(store: &[u8], owner: u32, part: &[u8], h: Holder, p: usize) -> u32
     requires { ⌜ Removable (now part) h p ⌝ }
-    ensures { λ r. ⌜ First r (removeTests (hasInstance (now (store .entry)) owner) (now (part .entry)) h p) ⌝ }
+    ensures { λ r. ⌜ Gives r (removeTests (hasInstance (now (store .entry)) owner) (now (part .entry)) h p) ⌝ }
 {
     let d = codec::byte(part, 4 * p + 3) as usize;
     let n = count_members(records::after(part, 4 * p), d);
@@ -371,7 +362,7 @@ pub fn remove_element_refusal(store: &[u8], owner: u32, place: &[u32]) -> u32
     if owner as usize >= records::number(store, 12) {
         return 6;
     }
-    let part = own_part(store, owner);
+    let part = own_part(store, owner as usize);
     let x = pick(store, owner, place);
     match x {
         Picked::Element(h, p, _) => remove_at(store, owner, part, h, p),
@@ -382,7 +373,7 @@ pub fn remove_element_refusal(store: &[u8], owner: u32, place: &[u32]) -> u32
 
 // Refusals 3, 4 and 6 of a new quantifier.
 fn early_refusal(store: &[u8], owner: u32, quantifier: u32, text: &[u8]) -> u32
-    ensures { λ r. ⌜ First r (earlyTests owner quantifier (now (text .entry)) (now (store .entry))) ⌝ }
+    ensures { λ r. ⌜ Gives r (earlyTests owner quantifier (now (text .entry)) (now (store .entry))) ⌝ }
 {
     if !records::is_value(text) {
         return 3;
@@ -406,7 +397,7 @@ fn quantifier_at(
     text: &[u8],
     group: bool,
 ) -> u32
-    ensures { λ r. ⌜ First r (quantifierTests (hasInstance (now (store .entry)) owner) spine old new (now (text .entry)) group) ⌝ }
+    ensures { λ r. ⌜ Gives r (quantifierTests (hasInstance (now (store .entry)) owner) spine old new (now (text .entry)) group) ⌝ }
 {
     if gains(old, new) & (text.len() == 0) {
         return 12;
@@ -420,6 +411,41 @@ fn quantifier_at(
     0
 }
 
+// Refusals 3, 4, 6, 8, 12 and 13 of the change of the quantifier of a group, or else of an element.
+fn requantify_refusal(
+    store: &[u8],
+    owner: u32,
+    place: &[u32],
+    quantifier: u32,
+    text: &[u8],
+    group: bool,
+) -> u32
+    requires { ⌜ passes (now store) ≡ true ⌝ }
+    ensures { λ r. ⌜ r ≡ first (conditions (requantify group owner (now (place .entry)) quantifier (now (text .entry))) (storeIn (now (store .entry)))) ⌝ }
+{
+    let early = early_refusal(store, owner, quantifier, text);
+    if early != 0 {
+        return early;
+    }
+    let new = model::read_quantifier(quantifier as u8);
+    let x = pick(store, owner, place);
+    match x {
+        Picked::Element(h, _, old) => {
+            if group {
+                return 8;
+            }
+            quantifier_at(store, owner, h.spine, old, new, text, false)
+        }
+        Picked::Group(h, _, old, _, _) => {
+            if !group {
+                return 8;
+            }
+            quantifier_at(store, owner, h.spine, old, new, text, true)
+        }
+        Picked::Absent => 8,
+    }
+}
+
 /// Refusals 3, 4, 6, 8, 12 and 13 of the change of an element's quantifier.
 pub fn change_quantifier_refusal(
     store: &[u8],
@@ -431,19 +457,7 @@ pub fn change_quantifier_refusal(
     requires { ⌜ passes (now store) ≡ true ⌝ }
     ensures { λ r. ⌜ r ≡ first (conditions (changeQuantifier owner (now (place .entry)) quantifier (now (text .entry))) (storeIn (now (store .entry)))) ⌝ }
 {
-    let early = early_refusal(store, owner, quantifier, text);
-    if early != 0 {
-        return early;
-    }
-    let new = model::read_quantifier(quantifier as u8);
-    let x = pick(store, owner, place);
-    match x {
-        Picked::Element(h, _, old) => {
-            quantifier_at(store, owner, h.spine, old, new, text, false)
-        }
-        Picked::Group(_, _, _, _, _) => 8,
-        Picked::Absent => 8,
-    }
+    requantify_refusal(store, owner, place, quantifier, text, false)
 }
 
 /// Refusals 3, 4, 6, 8, 12 and 13 of the change of a group's quantifier.
@@ -457,19 +471,7 @@ pub fn change_group_quantifier_refusal(
     requires { ⌜ passes (now store) ≡ true ⌝ }
     ensures { λ r. ⌜ r ≡ first (conditions (changeGroupQuantifier owner (now (place .entry)) quantifier (now (text .entry))) (storeIn (now (store .entry)))) ⌝ }
 {
-    let early = early_refusal(store, owner, quantifier, text);
-    if early != 0 {
-        return early;
-    }
-    let new = model::read_quantifier(quantifier as u8);
-    let x = pick(store, owner, place);
-    match x {
-        Picked::Element(_, _, _) => 8,
-        Picked::Group(h, _, old, _, _) => {
-            quantifier_at(store, owner, h.spine, old, new, text, true)
-        }
-        Picked::Absent => 8,
-    }
+    requantify_refusal(store, owner, place, quantifier, text, true)
 }
 
 /// Refusals 2, 3, 4, 5, 6 and 12 of the change that adds an attribute.

@@ -16,8 +16,9 @@ use Rattle.rules.specs.Preorder.{Deep, flatten}
 use Rattle.rules.specs.Layout.{FlatDefinition, FlatParticle, FlatAttribute, indexOf, indexIn, sortCode, quantifierCode, groupCode, kindCode, howMany, particles, contentParticles, flatDefinition, allParticles, ownAttributes, allAttributes}
 use Rattle.rules.specs.WellFormed.{attributeName}
 use Rattle.rules.specs.Change.{definitionAt, update, withAttributes, lacking}
+use Rattle.rules.proofs.DecodeLaws.{length-own}
 use Rattle.validity.specs.Reading.{noAttribute}
-use Rattle.validity.proofs.AttributeBlocks.{offset, length-own}
+use Rattle.validity.proofs.AttributeBlocks.{offset}
 use Rattle.plans.specs.AttributeCalls.{attributesTo, ownerAt}
 use Rattle.plans.proofs.AttributeIndices.{index-here, index-there}
 use Rattle.plans.proofs.AttributeShifts.{index-kept, offset-first, offset-next}

@@ -3,7 +3,7 @@
 use Prim.Native.Nat.{ℕ, zero, suc, _+_, _≤_, _<_}
 use native.Mathlib.Omega.{arith}
 use mathlib.Core.Path.{_≡_, refl, ap, sym, _∙_}
-use mathlib.Core.Bool.{Bool, true, false, _&&_}
+use mathlib.Core.Bool.{true, _&&_, and-true}
 use mathlib.Core.List.{List, [], _∷_, _++_}
 use lib.Dec.{leb}
 use lib.ListN.{length, take, drop, length-append, length-take, length-drop}
@@ -35,7 +35,7 @@ module _ {A : Type 0} (P : A → Type 0) where
   every-drop (suc k) (x ∷ xs) a = every-drop k xs (a .1)
 
 -- ---- 3 to 8: definition o with other particles
-counted-length : (o n : ℕ) (ds : List FlatDefinition) → length (counted o n ds) ≡ length ds
+pub counted-length : (o n : ℕ) (ds : List FlatDefinition) → length (counted o n ds) ≡ length ds
 counted-length o n [] = refl
 counted-length zero n (d ∷ ds) = refl
 counted-length (suc o) n (d ∷ ds) = ap suc (counted-length o n ds)
@@ -79,10 +79,6 @@ good-attribute o n k v h e = record { name = name-width n h; value = value-width
 -- the ceiling of a form that has other attributes
 few-more : (f : FlatStore) (cs : List FlatAttribute) → withinCeilings f ≡ true → withinCeilings (bareForm (attributesReplaced cs f)) ≡ leb (length cs) 64
 few-more f cs h = let x : Few f = few-of f h in λ i. x .definitions i && (x .particles i && (x .depths i && and-true (leb (length cs) 64) i))
-  where
-    and-true : (b : Bool) → (b && true) ≡ b
-    and-true true = refl
-    and-true false = refl
 
 module _ (i : ℕ) (f : FlatStore) (g : GoodFlat baseWidth f) (h : withinCeilings f ≡ true) where
   added-length : (c : FlatAttribute) → length (attributeAdded i c f .attributes) ≡ suc (length (f .attributes))

@@ -26,8 +26,8 @@ use Rattle.model.specs.Members.{indexMember, indexMembers}
 use Rattle.model.specs.Places.{Particles}
 use Rattle.model.specs.Positions.{elementParticle, groupParticle, spread, offset, leading, trailing, level}
 use Rattle.model.proofs.PositionLaws.{code-quantifier, spread-named, spread-plug, length-leading}
+use Rattle.splicing.specs.Spliced.{startOf}
 use Rattle.storing.specs.Planned.{membersAt}
-use Rattle.plans.specs.ModelCalls.{partStart}
 
 -- ---- a particle of depth d, a deeper one, one less deep
 build-same : (x : Deep FlatParticle) (xs : Particles) (d : ℕ) → d ≡ x .depth → build (x ∷ xs) d ≡ tree (x .row) (build xs (suc d)) (build xs d)
@@ -130,21 +130,21 @@ module _ (form : Form) where
           let x : Shallow 1 (spread 0 (rename index ms) ++ allParticles form ds) = shallow-spread 0 (rename index ms) (allParticles form ds) h in
           record { none = λ k l. ap (λ (z : Particles). build (z ++ allParticles form ds) k) (spread-named form 0 ms) ∙ x .none k l }
 
-  part-from : (o : ℕ) (ds : Form) → o < length ds → (rest : Form) × (drop (partStart o (map (flatDefinition form) ds)) (allParticles form ds) ≡ contentParticles form (definitionAt o ds .content) ++ allParticles form rest)
+  part-from : (o : ℕ) (ds : Form) → o < length ds → (rest : Form) × (drop (startOf o (map (flatDefinition form) ds)) (allParticles form ds) ≡ contentParticles form (definitionAt o ds .content) ++ allParticles form rest)
   part-from o [] l = absurd (omega arith)
   part-from zero (d ∷ ds) l = (ds, refl)
   part-from (suc o) (d ∷ ds) l =
       let (rest, e) = part-from o ds (omega arith) in
-      (rest, drop-append-add (contentParticles form (d .content)) (allParticles form ds) (partStart o (map (flatDefinition form) ds)) ∙ e)
+      (rest, drop-append-add (contentParticles form (d .content)) (allParticles form ds) (startOf o (map (flatDefinition form) ds)) ∙ e)
 
 -- THE MEMBERS OF A GROUP that is found at a place of the model of definition o
 pub group-at : (s : Store) (o : ℕ) → o < length (s .form) → (e : Edit Bytes) (p : List ℕ) (c : Context Bytes) (q : Quantifier) (j : GroupKind) (ms rest : Members Bytes)
     → placeOf e p (members (definitionAt o (s .form))) ≡ some (record { context = c; picked = group q j ms rest })
-    → membersAt (flat s) (partStart o (flat s .definitions) + (offset (renameAround (λ n. indexOf n (s .form)) c) + 1)) (suc (level 0 (renameAround (λ n. indexOf n (s .form)) c))) ≡ rename (λ n. indexOf n (s .form)) ms
+    → membersAt (flat s) (startOf o (flat s .definitions) + (offset (renameAround (λ n. indexOf n (s .form)) c) + 1)) (suc (level 0 (renameAround (λ n. indexOf n (s .form)) c))) ≡ rename (λ n. indexOf n (s .form)) ms
 unfolding membersAt rename
 group-at s o l e p c q j ms rest at =
     let (others, from) = part-from (s .form) o (s .form) l in
-    group-begins (partStart o (flat s .definitions)) (flat s .particles) (allParticles (s .form) others) (renameAround ix c) q j (rename ix ms) (rename ix rest)
+    group-begins (startOf o (flat s .definitions)) (flat s .particles) (allParticles (s .form) others) (renameAround ix c) q j (rename ix ms) (rename ix rest)
     (from ∙ ap (λ (z : Particles). z ++ allParticles (s .form) others) own) (shallow-all (s .form) others)
   where
     ix : Bytes → ℕ

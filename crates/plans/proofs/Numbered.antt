@@ -4,7 +4,7 @@ use Prim.Native.Nat.{ℕ, suc, _+_}
 use native.Mathlib.Omega.{arith}
 use mathlib.Core.Path.{_≡_, refl, sym, ap, ap₂, _∙_}
 use mathlib.Core.Bool.{Bool, true, false}
-use mathlib.Core.List.{List, [], _∷_, _++_}
+use mathlib.Core.List.{List, _∷_, _++_}
 use lib.Dec.{eqb}
 use Rattle.rules.specs.Bytes.{Bytes}
 use Rattle.rules.specs.Store.{Form, Row, Forest, bare, tree}
@@ -13,18 +13,8 @@ use Rattle.rules.specs.Layout.{FlatRow, rowCode, rowIndex, indexed}
 use Rattle.rules.specs.Change
 use Rattle.rules.specs.Change.{newRows, given, number}
 use Rattle.rows.specs.Written.{isNew, newIn, withSerial, numbered}
+use Rattle.rows.proofs.WrittenLaws.{new-append, numbered-append}
 
--- ---- rows in a list
-new-append : (xs ys : List (Deep FlatRow)) → newIn (xs ++ ys) ≡ newIn xs + newIn ys
-new-append [] ys = omega arith
-new-append (x ∷ xs) ys = omega (arith, new-append xs ys)
-
-numbered-append : (n : ℕ) (xs ys : List (Deep FlatRow)) → numbered n (xs ++ ys) ≡ numbered n xs ++ numbered (n + newIn xs) ys
-numbered-append n [] ys = ap (λ (k : ℕ). numbered k ys) (omega arith)
-numbered-append n (x ∷ xs) ys =
-    ap (λ (l : List (Deep FlatRow)). withSerial n x ∷ l) (numbered-append (n + isNew x) xs ys ∙ ap (λ (k : ℕ). numbered (n + isNew x) xs ++ numbered k ys) (omega arith))
-
--- ---- and in a forest
 module _ (form : Form) where
   -- a row as it is stored
   abbrev stored : ℕ → Bytes → Row → Deep FlatRow

@@ -20,7 +20,7 @@ use Rattle.rules.specs.Passing.{good, GoodSerials}
 use Rattle.rules.specs.Change.{nameAtIndex, laterThan, changed}
 use Rattle.rules.specs.Change as change
 use Rattle.rules.proofs.PassingLaws.{good-is}
-use Rattle.history.proofs.Conditions.{or-false}
+use Rattle.rules.proofs.Words.{or-split}
 use Rattle.history.proofs.RowEdits.{keep, revalued}
 use Rattle.history.proofs.Rowwise.{Standing}
 use Rattle.history.proofs.StandingLaws.{children-are, children-once}
@@ -142,8 +142,8 @@ module _ (s : Store) (g : good s ≡ true) (o : ℕ) (l : o < length (s .form)) 
       due : elementNamed owner r ≡ true → (d : Bool) → (cut || gain) ≡ d → Entered
       due e true f = placed e f (instances f r b i e)
       due e false f =
-          over (is ∙ e) (ap₂ (λ (a d : Bool). a && d) (is ∙ e) f) (ap (λ (a : Bool). a && (elementNamed owner r && isNone (childrenOf test (r .serial) ls))) (or-false cut gain f .1)) e
-          (λ k y j h z. false≢true (sym (or-false cut gain f .0) ∙ k))
+          over (is ∙ e) (ap₂ (λ (a d : Bool). a && d) (is ∙ e) f) (ap (λ (a : Bool). a && (elementNamed owner r && isNone (childrenOf test (r .serial) ls))) (or-split cut gain f .1)) e
+          (λ k y j h z. false≢true (sym (or-split cut gain f .0) ∙ k))
 
       by : (d : Bool) → elementNamed owner r ≡ d → Entered
       by true e = due e (cut || gain) refl

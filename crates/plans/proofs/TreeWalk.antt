@@ -3,7 +3,7 @@
 use Prim.Native.Nat.{ℕ, suc, _≤_, _<_}
 use native.Mathlib.Omega.{arith}
 use mathlib.Core.Path.{_≡_, refl, sym, ap, ap₂, _∙_}
-use mathlib.Core.Bool.{Bool, true, false, _&&_, _||_, not, false≢true}
+use mathlib.Core.Bool.{Bool, true, false, _&&_, _||_, not, false≢true, and-true, and-false}
 use mathlib.Core.List.{List, [], _∷_, _++_, append-assoc, append-nil}
 use lib.Dec.{eqb, ltb}
 use borrow.Author.Tests.{lt-ltb, le-ltb, le-leb, lt-leb, eq-eqb, ne-eqb}
@@ -45,14 +45,6 @@ abbrev leftOpen : Bool → ℕ → Bool → Open
 leftOpen c b u = elim c [ true ↦ opened 0 0 false | false ↦ opened 0 b u ]
 
 -- ---- tests
-and-false : (b : Bool) → (b && false) ≡ false
-and-false true = refl
-and-false false = refl
-
-and-true : (b : Bool) → (b && true) ≡ b
-and-true true = refl
-and-true false = refl
-
 everything-matches : (w : Which) → isEverything w ≡ true → (r : FlatRow) → matches w r ≡ true
 everything-matches Nothing e r = absurd (false≢true e)
 everything-matches Everything e r = refl

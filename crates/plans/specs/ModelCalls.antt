@@ -1,16 +1,16 @@
 -- The plans by indices of changes 3, 4, 5 and 8, which edit the model of definition o at a place.
 -- Assumes nothing.
-use Prim.Native.Nat.{ℕ, zero, suc, _+_, _<_}
+use Prim.Native.Nat.{ℕ, _<_}
 use mathlib.Core.Path.{_≡_}
 use mathlib.Core.Bool.{Bool, true, false, _||_}
-use mathlib.Core.List.{List, [], _∷_}
+use mathlib.Core.List.{List, []}
 use lib.Dec.{eqb}
 use lib.ListN.{length, getD}
 use Rattle.rules.specs.Bytes.{Bytes, bytes}
 use Rattle.rules.specs.Model.{member}
 use Rattle.rules.specs.Store.{Form, Store}
 use Rattle.rules.specs.Preorder.{flatten}
-use Rattle.rules.specs.Layout.{FlatDefinition, indexed, flat}
+use Rattle.rules.specs.Layout.{indexed, flat}
 use Rattle.rules.specs.Change.{Call, nameAtIndex, formAfter, docsAfter}
 use Rattle.filling.specs.declared.Filling.{Filling}
 use Rattle.filling.specs.declared.Filling.the-variants.{Definition}
@@ -28,12 +28,6 @@ use Rattle.plans.specs.CallPlans.{unmoved, takingPlan}
 pub record Marked (form : Form) (before at : List Bytes) (marks : Bytes) : Type 0 where
   pub ones : (i : ℕ) → i < length form → eqb (getD marks i 0) 1 ≡ member bytes (nameAtIndex i form) before
   pub twos : (i : ℕ) → i < length form → eqb (getD marks i 0) 2 ≡ member bytes (nameAtIndex i form) at
-
--- how many particles stand before those of definition o
-abbrev pub partStart : ℕ → List FlatDefinition → ℕ
-partStart o [] = 0
-partStart zero (d ∷ ds) = 0
-partStart (suc o) (d ∷ ds) = d .particles + partStart o ds
 
 -- ---- the plans
 -- 4: the elements of definition x below instances

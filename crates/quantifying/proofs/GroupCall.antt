@@ -1,10 +1,10 @@
 -- What change 8 answers.
 -- Assumes nothing.
-use Prim.Native.Nat.{ℕ, zero, suc, _+_, _<_}
+use Prim.Native.Nat.{ℕ, suc, _+_, _<_}
 use native.Mathlib.Omega.{arith}
 use mathlib.Core.Path.{_≡_, refl, sym, ap, _∙_, subst}
 use mathlib.Core.Bool.{false, _&&_}
-use mathlib.Core.List.{List, [], _∷_}
+use mathlib.Core.List.{List}
 use lib.ListN.{length}
 use Rattle.rules.specs.declared.Quantifier.{Quantifier}
 use Rattle.rules.specs.Bytes.{Bytes}
@@ -12,7 +12,7 @@ use Rattle.rules.specs.Model.{names, rename}
 use Rattle.rules.specs.Quantifiers.{gains}
 use Rattle.rules.specs.Place.{Context, Found as Spot, spine, before, renameAround}
 use Rattle.rules.specs.Edit.{quantify}
-use Rattle.rules.specs.Layout.{FlatDefinition, FlatStore, flat}
+use Rattle.rules.specs.Layout.{FlatStore, flat}
 use Rattle.rules.specs.Decode.{quantifierOf}
 use Rattle.rules.specs.Change.{changeGroupQuantifier, formAfter}
 use Rattle.rules.specs.Refusal.{first, conditions}
@@ -31,7 +31,7 @@ use Rattle.storing.specs.Stores.{storeIn, limited}
 use Rattle.storing.specs.Planned.{membersAt, plannedIn}
 use Rattle.storing.specs.Writing.{Sized}
 use Rattle.storing.proofs.StoreLaws.{holds}
-use Rattle.plans.specs.ModelCalls.{Marked, partStart, requantifyPlan}
+use Rattle.plans.specs.ModelCalls.{Marked, requantifyPlan}
 use Rattle.plans.proofs.GroupPlaces.{group-at}
 use Rattle.plans.proofs.ModelCallsPlanned.{change-group-quantifier-planned}
 use Rattle.placing.specs.Placing.{indexIn, partIn}
@@ -45,12 +45,6 @@ use Rattle.quantifying.specs.Quantifying.{groupSpan, Stands, groupPlan}
 use Rattle.quantifying.proofs.Places.{placed-there, same-found, spine-there, level-there, group-stands, group-number, group-quantifier, group-kind}
 use Rattle.quantifying.proofs.Fitting.{Group, group-picked}
 use Rattle.quantifying.proofs.Answering.{sized, same-edit, seen, answered}
-
--- how many particles stand before a definition's: `plans` and `splicing` each have a word for it
-start-same : (o : ℕ) (ds : List FlatDefinition) → partStart o ds ≡ startOf o ds
-start-same o [] = refl
-start-same zero (d ∷ ds) = refl
-start-same (suc o) (d ∷ ds) = ap (λ (i : ℕ). d .particles + i) (start-same o ds)
 
 module _ {bs : Bytes} {o : ℕ} {p : List ℕ} (k : ℕ) (t : Bytes) (x : Group bs o p (quantify (quantifierOf k))) {part : Bytes} (own : part ≡ partIn bs o) {f : Found} (is : f ≡ placeOf false p part) {new : Quantifier} (r : new ≡ quantifierOf k) (h : Holder) (n : ℕ) (z : f ≡ At h n) where
   abbrev c : Context Bytes
@@ -88,9 +82,9 @@ module _ {bs : Bytes} {o : ℕ} {p : List ℕ} (k : ℕ) (t : Bytes) (x : Group 
       let inside : o < length (storeIn bs .form) = omega (arith, x .fits .there, form-size bs (x .fits .good)) in
       let a : Context ℕ = renameAround (indexIn bs) c in
       let same : around (placed-there (x .fits) at) ≡ a = ap (λ (w : Spot Bytes). renameAround (indexIn bs) (w .context)) (same-found (x .fits) at) in
-      let start : partStart o (flat (storeIn bs) .definitions) ≡ startIn bs o =
-      start-same o (flat (storeIn bs) .definitions) ∙ ap (λ (g : FlatStore). startOf o (g .definitions)) (sym (holds bs (x .fits .good) .bodies)) ∙ sym (start-is bs (x .fits .good) o (omega (arith, x .fits .there))) in
-      let first : partStart o (flat (storeIn bs) .definitions) + (offset a + 1) ≡ startIn bs o + n + 1 = omega (arith, start, placed-there (x .fits) at .stands, ap offset same) in
+      let start : startOf o (flat (storeIn bs) .definitions) ≡ startIn bs o =
+      ap (λ (g : FlatStore). startOf o (g .definitions)) (sym (holds bs (x .fits .good) .bodies)) ∙ sym (start-is bs (x .fits .good) o (omega (arith, x .fits .there))) in
+      let first : startOf o (flat (storeIn bs) .definitions) + (offset a + 1) ≡ startIn bs o + n + 1 = omega (arith, start, placed-there (x .fits) at .stands, ap offset same) in
       let deep : suc (level 0 a) ≡ h .depth + 1 = omega (arith, level-there (x .fits) at, ap (level 0) same) in
       sym (λ i. membersAt (flat (storeIn bs)) (first i) (deep i)) ∙ group-at (storeIn bs) o inside (quantify (quantifierOf k)) p c (x .quantifier) (x .kind) (x .inner) (x .rest) (group-picked x)
 

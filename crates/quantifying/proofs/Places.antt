@@ -1,11 +1,11 @@
 -- What the code reads at the place of an edit that fits.
 -- Assumes nothing.
-use Prim.Native.Nat.{ℕ, suc, _+_, _*_, _≤_}
+use Prim.Native.Nat.{ℕ, suc, _+_, _≤_}
 use native.Mathlib.Omega.{arith}
 use mathlib.Core.Path.{_≡_, refl, sym, ap, _∙_}
 use mathlib.Core.Option.{some}
 use mathlib.Core.List.{List, _∷_, _++_}
-use lib.ListN.{length, drop, length-take}
+use lib.ListN.{drop}
 use Rattle.rules.specs.declared.Quantifier.{Quantifier}
 use Rattle.rules.specs.declared.GroupKind.{GroupKind}
 use Rattle.rules.specs.declared.GroupKind.the-variants.{Sequence, Choice}
@@ -22,16 +22,14 @@ use Rattle.model.specs.Particle.{whatOf, particleOf, kindIn}
 use Rattle.model.specs.Places.{Particles, top, placeOf}
 use Rattle.model.specs.Positions.{spread, offset, trailing, level}
 use Rattle.model.proofs.PositionLaws.{code-quantifier}
-use Rattle.rowpass.specs.Reading.{modelPart}
-use Rattle.validity.specs.Check.{particlesIn}
 use Rattle.splicing.specs.PartAfter.{inserts}
 use Rattle.splicing.proofs.HeadAfter.{depth-holder}
 use Rattle.defining.proofs.Encoded.{encoded}
 use Rattle.placing.specs.Placing.{indexIn, partIn, Placed}
 use Rattle.placing.proofs.PlaceLaws.{present-at}
 use Rattle.placing.proofs.PickLaws.{around, from-there, one-there, read-there}
-use Rattle.models.specs.Editing.{startIn, countIn}
-use Rattle.models.proofs.OwnParts.{own-inside}
+use Rattle.models.specs.Editing.{startIn}
+use Rattle.models.proofs.OwnParts.{own-length, own-inside}
 use Rattle.models.proofs.Calls.{Fits}
 use Rattle.quantifying.specs.Quantifying.{particleAt, Stands}
 
@@ -45,10 +43,6 @@ level-before d (into q k c rest) = omega (arith, level-before (suc d) c)
 code-kind : (k : GroupKind) (n : ℕ) → kindIn (whatOf (groupCode k) n) ≡ k
 code-kind Sequence n = refl
 code-kind Choice n = refl
-
-own-length : (bs : Bytes) (o : ℕ) → length (partIn bs o) ≤ 4 * countIn bs o
-unfolding modelPart
-own-length bs o = omega (arith, length-take (4 * countIn bs o) (drop (4 * startIn bs o) (particlesIn bs)))
 
 module _ {bs : Bytes} {o : ℕ} {p : List ℕ} {e : Edit Bytes} (x : Fits bs o p e) {h : Holder} {n : ℕ} (at : placeOf (inserts e) p (partIn bs o) ≡ At h n) where
   pub placed-there : Placed bs o (inserts e) p h n

@@ -2,10 +2,8 @@
 //! edit of the owner's model with the plan of the change.
 use editing::Plan;
 use filling::Filling;
-use model::What;
 use model::place::Found;
 use model::place::Holder;
-use rules::GroupKind;
 use rules::Quantifier;
 use splicing::Edit;
 use storing::Answer;
@@ -14,7 +12,6 @@ ghost use Prim.Native.Nat.{_≤_};
 ghost use lib.ListN.{length};
 ghost use Rattle.rules.specs.Change.{changeQuantifier, changeGroupQuantifier};
 ghost use Rattle.rules.specs.Outcome.{outcome, Answers};
-ghost use Rattle.model.specs.Particle.{kindIn};
 ghost use Rattle.models.specs.Editing.{startIn};
 ghost use Rattle.quantifying.specs.Quantifying.{Stands, groupSpan, elementPlan, groupPlan};
 
@@ -32,16 +29,6 @@ fn element_plan(part: &[u8], owner: usize, h: Holder, p: usize, new: Quantifier)
     let gain = h.spine & placing::gains(old, new);
     let marks = marking::marks(part, p, 1);
     plans::requantify_plan(owner, marks, cut, index, gain, Filling::Definition(index))
-}
-
-// A group's kind. An element counts as a LIST; none is asked for.
-fn kind_in(what: What) -> GroupKind
-    ensures { λ r. ⌜ r ≡ kindIn what ⌝ }
-{
-    match what {
-        What::Element(_) => GroupKind::Sequence,
-        What::Group(kind, _) => kind,
-    }
 }
 
 // How many particles the group at particle p of the list h has, with its own.
@@ -63,7 +50,7 @@ fn group_plan(store: &[u8], part: &[u8], owner: usize, h: Holder, p: usize, new:
     let gain = h.spine & placing::gains(old, new);
     let before = rowpass::particles_before(validity::body(store, 8, 20), owner);
     let marks = marking::marks(part, p, group_span(part, h, p));
-    let filling = Filling::Particles(kind_in(what), before + p + 1, h.depth + 1);
+    let filling = Filling::Particles(model::automaton::kind_in(what), before + p + 1, h.depth + 1);
     plans::requantify_plan(owner, marks, false, 0, gain, filling)
 }
 
@@ -89,7 +76,7 @@ pub fn change_quantifier(
     }
     let o = owner as usize;
     let new = model::read_quantifier(quantifier as u8);
-    let part = models::own_part(store, o);
+    let part = placing::own_part(store, o);
     let found = model::place::find(part, place, false);
     match found {
         Found::Absent => storing::refused(8),
@@ -120,7 +107,7 @@ pub fn change_group_quantifier(
     }
     let o = owner as usize;
     let new = model::read_quantifier(quantifier as u8);
-    let part = models::own_part(store, o);
+    let part = placing::own_part(store, o);
     let found = model::place::find(part, place, false);
     match found {
         Found::Absent => storing::refused(8),

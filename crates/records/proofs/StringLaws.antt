@@ -7,19 +7,18 @@ use mathlib.Core.Path.{_≡_, refl, ap, ap₂, _∙_, sym, subst}
 use mathlib.Core.Logic.{_↔_}
 use mathlib.Core.Bool.{true, _&&_, _||_}
 use mathlib.Core.List.{List, [], _∷_, _++_, map}
-use lib.Dec.{eqb, leb, ltb, lit<}
+use lib.Dec.{eqb, leb, lit<}
 use lib.ListN.{length, drop, length-drop, length-map}
 use lib.Seq.{drop-drop, drop-at}
 use borrow.Author.Tests.{leb-true, eqb-true, le-leb, eq-eqb}
-use Rattle.rules.specs.Bytes.{Bytes, numbers, all, isNone}
-use Rattle.rules.specs.Model.{distinct}
+use Rattle.rules.specs.Bytes.{Bytes, isNone}
 use Rattle.rules.specs.Preorder.{Deep, flatten}
 use Rattle.rules.specs.Store.{Content, empty, pcdata, complex, Attribute, AttributeSort, implied, required, fixed, Form, RowSort, element, attribute, text, Row, Forest, bare, tree, Store}
 use Rattle.rules.specs.Layout.{baseVersion, valueWidth, le, FlatRow, FlatStore, headerSize, definitionSize, particleSize, attributeSize, rowSize, definitionBytes, particleBytes, attributeBytes, rowBytes, each, entry, flatBytes, kindCode, sortCode, rowCode, contentParticles, flatDefinition, ownAttributes, allAttributes, rowIndex, indexed, flat, encode}
 use Rattle.rules.specs.Decode.{numberAt, readDefinition, readParticle, readAttribute, readRow, definitionCount, particleCount, attributeCount, rowCount, readFlat, sized, sortOf}
-use Rattle.rules.specs.WellFormed.{storedName, isValue, isFill, isAttributeOf, withinCeilings, wellFormed, highestNumber}
-use Rattle.rules.specs.Conforming.{EveryRow, everyRow, conforming}
-use Rattle.rules.specs.Passing.{knownVersion, laidRow, serials, goodSerials, good}
+use Rattle.rules.specs.WellFormed.{storedName, isValue, isFill, isAttributeOf}
+use Rattle.rules.specs.Conforming.{EveryRow}
+use Rattle.rules.specs.Passing.{knownVersion, laidRow, good}
 use Rattle.rules.proofs.Words.{and-both, and-split}
 use Rattle.rules.proofs.BooleanLaws.{Every, every-map, every-append, every-zip, none-nil}
 use Rattle.rules.proofs.LayoutLaws.{Small, unle-le, GoodFlatDefinition, GoodFlatAttribute, GoodFlatRow, GoodFlat, length-definition, length-particle, length-attribute, length-row, length-each, length-flatBytes, sized-bytes}
@@ -403,27 +402,15 @@ store-rows w form owner depth (tree r b t) h = (
   every-append (LaidRow w) (flatten (suc depth) (indexed form (r .name) b)) (flatten depth (indexed form owner t)) (store-rows w form (r .name) (suc depth) b (h .1)) (store-rows w form owner depth t (h .2)),
 )
 
-next-least : (s : Store) → good s ≡ true → 1 ≤ s .next
-unfolding good goodSerials
-next-least s h =
-    let (version, h₁) = and-split (knownVersion (s .version)) _ h in
-    let (ceilings, h₂) = and-split (withinCeilings (flat s)) _ h₁ in
-    let (form, h₃) = and-split (wellFormed (valueWidth (s .version)) (s .form)) _ h₂ in
-    let (docs, h₄) = and-split (conforming (s .form) (s .docs)) _ h₃ in
-    let (values, numbered) = and-split (everyRow (λ r below. laidRow (valueWidth (s .version)) r) (s .docs)) _ h₄ in
-    let (once, s₁) = and-split (distinct numbers (serials (s .docs))) _ numbered in
-    let (below, s₂) = and-split (all (λ k. leb 1 k && ltb k (s .next)) (serials (s .docs))) _ s₁ in
-    leb-true 1 (s .next) (and-split (leb 1 (s .next)) (leb (s .next) highestNumber) s₂ .0)
-
 pub store-fields : (s : Store) → good s ≡ true → FittingFlat (valueWidth (s .version)) (flat s)
-store-fields s g = of (good-parts s g) (good-flat s g) (next-least s g)
+store-fields s g = of (good-parts s g) (good-flat s g)
   where
-    of : GoodParts s → GoodFlat (valueWidth (s .version)) (flat s) → 1 ≤ s .next → FittingFlat (valueWidth (s .version)) (flat s)
-    of p f n =
+    of : GoodParts s → GoodFlat (valueWidth (s .version)) (flat s) → FittingFlat (valueWidth (s .version)) (flat s)
+    of p f =
         record {
           version = p .version;
-          least = n;
-          most = omega arith;
+          least = p .least;
+          most = omega (arith, p .next);
           fewDefinitions = p .definitionCount;
           fewParticles = p .particleCount;
           fewAttributes = p .attributeCount;

@@ -4,7 +4,7 @@ use Prim.Native.Nat.{ℕ, _+_, _-_, _≤_}
 use native.Mathlib.Nat.{add-zero}
 use native.Mathlib.Omega.{arith}
 use mathlib.Core.Path.{_≡_, refl, sym, ap, ap₂, _∙_}
-use mathlib.Core.Bool.{Bool, true, false, _&&_}
+use mathlib.Core.Bool.{Bool, true, false, _&&_, and-false}
 use mathlib.Core.List.{List, [], _∷_, _++_, map}
 use lib.Dec.{eqb, leb}
 use borrow.Author.Tests.{ne-eqb}
@@ -36,10 +36,6 @@ numbered-old n (x ∷ xs) (a, e) =
 pub bytes-old : (n : ℕ) (xs : List (Deep FlatRow)) → Every Old xs → each (rowBytes baseWidth) xs ≡ rowsBytes n xs
 unfolding rowsBytes
 bytes-old n xs e = ap (each (rowBytes baseWidth)) (sym (numbered-old n xs e))
-
-and-false : (b : Bool) → (b && false) ≡ false
-and-false true = refl
-and-false false = refl
 
 module _ (definition from less : ℕ) where
   abbrev p : Plan

@@ -16,6 +16,7 @@ use Rattle.rules.specs.Preorder.{Deep}
 use Rattle.rules.specs.Layout.{FlatDefinition, FlatParticle, FlatAttribute, indexOf, indexIn, attributeIndex, contentParticles, flatDefinition, allParticles, ownAttributes, allAttributes, sortCode}
 use Rattle.rules.specs.Change.{without, nameAtIndex}
 use Rattle.rules.proofs.Apart.{differs}
+use Rattle.rules.proofs.DecodeLaws.{length-own}
 use Rattle.renumbering.specs.Bodies.{lowered, cutOut, particlesOf, attributesOf, movedAttribute}
 use Rattle.defining.proofs.Renumbered.{map-append}
 
@@ -110,10 +111,6 @@ unfoldable ownedBefore : ℕ → Form → ℕ
 ownedBefore zero ds = 0
 ownedBefore (suc i) [] = 0
 ownedBefore (suc i) (d ∷ ds) = length (d .attributes) + ownedBefore i ds
-
-length-own : (o : ℕ) (xs : List Attribute) → length (ownAttributes o xs) ≡ length xs
-length-own o [] = refl
-length-own o (x ∷ xs) = ap suc (length-own o xs)
 
 below-append : (i : ℕ) (xs ys : List FlatAttribute) → attributesOf i (xs ++ ys) ≡ attributesOf i xs + attributesOf i ys
 unfolding attributesOf

@@ -291,6 +291,7 @@ pub record GoodParts (s : Store) : Type 0 where
   pub rows : EveryRow (λ r below. fitsRow (s .form) r below ≡ true) (s .docs)
   pub values : EveryRow (λ r below. laidRow (valueWidth (s .version)) r ≡ true) (s .docs)
   pub serials : all (λ k. leb 1 k && ltb k (s .next)) (serials (s .docs)) ≡ true
+  pub least : 1 ≤ s .next
   pub next : s .next ≤ highestNumber
 
 pub good-parts : (s : Store) → good s ≡ true → GoodParts s
@@ -321,6 +322,7 @@ good-parts s h =
       rows = every-row (λ r below. fitsRow (s .form) r below) (s .docs) r₁;
       values = every-row (λ r below. laidRow (valueWidth (s .version)) r) (s .docs) values;
       serials = s₂;
+      least = leb-true _ _ s₄;
       next = leb-true _ _ s₅;
     }
 
@@ -367,11 +369,11 @@ own-bound n (a ∷ cs) = by (same n (a .name)) (own-bound n cs)
     by true k = omega arith
     by false k = omega arith
 
-length-own : (o : ℕ) (cs : List Attribute) → length (ownAttributes o cs) ≡ length cs
+pub length-own : (o : ℕ) (cs : List Attribute) → length (ownAttributes o cs) ≡ length cs
 length-own o [] = refl
 length-own o (a ∷ cs) = ap suc (length-own o cs)
 
-attribute-bound : (owner n : Bytes) (o : ℕ) (form : Form) → attributeIndex owner n form ≤ length (allAttributes o form)
+pub attribute-bound : (owner n : Bytes) (o : ℕ) (form : Form) → attributeIndex owner n form ≤ length (allAttributes o form)
 attribute-bound owner n o [] = omega arith
 attribute-bound owner n o (d ∷ ds) = by (same owner (d .name)) (attribute-bound owner n (suc o) ds) (own-bound n (d .attributes))
   where

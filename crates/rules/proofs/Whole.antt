@@ -3,7 +3,7 @@
 use Prim.Native.Nat.{ℕ, zero, suc}
 use mathlib.Core.Path.{_≡_, refl, sym, ap, _∙_}
 use mathlib.Core.Option.{Option, none, some}
-use mathlib.Core.Bool.{Bool, true, false, not, _&&_, _||_, false≢true}
+use mathlib.Core.Bool.{true, false, not, false≢true, and-false}
 use mathlib.Core.List.{List, [], _∷_, _++_, List·Memᴰ}
 use Rattle.rules.specs.declared.Quantifier.{Quantifier}
 use Rattle.rules.specs.declared.Quantifier.the-variants.{None, Qmark, Star, Plus}
@@ -21,14 +21,7 @@ use Rattle.rules.proofs.Letters.{member-in}
 use Rattle.rules.proofs.Grouping.{Alike}
 use Rattle.rules.proofs.Places.{insert-distinct, remove-distinct, same-names, convert-names, full-plug, found-gap, found-nth}
 use Rattle.rules.proofs.Change.{insert-conforms, remove-conforms, quantify-conforms, group-conforms, convert-conforms}
-
-or-false : (a b : Bool) → (a || b) ≡ false → (a ≡ false) × (b ≡ false)
-or-false true b e = absurd (false≢true (sym e))
-or-false false b e = (refl, e)
-
-and-false : (a : Bool) → (a && false) ≡ false
-and-false true = refl
-and-false false = refl
+use Rattle.rules.proofs.Words.{or-split}
 
 once-one : (q : Quantifier) → not (isOne q) ≡ false → q ≡ None
 once-one None e = refl
@@ -117,11 +110,11 @@ module _ {A : Type 0} where
     edit-sound (quantify r) (group q k ms t) m s =
         record { distinct = rw (same-names c (group q k ms t) (group r k ms t) refl) at (s .distinct); full = swap c (group q k ms t) (group r k ms t) refl (λ f. f) (s .full) }
     edit-sound (convert j n) t m s =
-        convert-sound c j (firstMembers n t) (laterMembers n t) (first-some n t (or-false (not (hasMembers n t)) (groupUnlike c j (firstMembers n t)) m .0)) (rw (first-later n t) s)
+        convert-sound c j (firstMembers n t) (laterMembers n t) (first-some n t (or-split (not (hasMembers n t)) (groupUnlike c j (firstMembers n t)) m .0)) (rw (first-later n t) s)
     edit-sound flatten done m s = absurd (false≢true (sym m))
     edit-sound flatten (el q x t) m s = absurd (false≢true (sym m))
     edit-sound flatten (group q j l t) m s =
-        let e : q ≡ None = once-one q (or-false (not (isOne q)) (groupUnlike c j l) m .0) in
+        let e : q ≡ None = once-one q (or-split (not (isOne q)) (groupUnlike c j l) m .0) in
         flatten-sound c j l t (rw e at s)
 
     pub edit-conforms : (e : Edit A) (t : Members A) → misplaced E e c t ≡ false → unfit e c t ≡ false → Sound (plug c t) → (w : List A) → Conforms (plug c t) w → Conforms (plug c (edited e t)) (children E e c t w)
@@ -136,12 +129,12 @@ module _ {A : Type 0} where
         let (o, f, g) = inside-group c q k ms t (s .full) in
         group-conforms E c q r k ms t (s .distinct) f o u w h
     edit-conforms (convert j n) t m u s w h =
-        convert-conforms E c j (firstMembers n t) (laterMembers n t) (or-false (not (hasMembers n t)) (groupUnlike c j (firstMembers n t)) m .1) .to .carry w (rw (first-later n t) h)
+        convert-conforms E c j (firstMembers n t) (laterMembers n t) (or-split (not (hasMembers n t)) (groupUnlike c j (firstMembers n t)) m .1) .to .carry w (rw (first-later n t) h)
     edit-conforms flatten done m u s w h = h
     edit-conforms flatten (el q x t) m u s w h = h
     edit-conforms flatten (group q j l t) m u s w h =
-        let e : q ≡ None = once-one q (or-false (not (isOne q)) (groupUnlike c j l) m .0) in
-        convert-conforms E c j l t (or-false (not (isOne q)) (groupUnlike c j l) m .1) .from .carry w (rw e at h)
+        let e : q ≡ None = once-one q (or-split (not (isOne q)) (groupUnlike c j l) m .0) in
+        convert-conforms E c j l t (or-split (not (isOne q)) (groupUnlike c j l) m .1) .from .carry w (rw e at h)
 
   -- ---- at a place of the paper, with the test of the check
   placed-right : (e : Edit A) (p : List ℕ) (ms : Members A) (f : Found A) → place e p ms ≡ some f → plug (f .context) (f .picked) ≡ ms

@@ -1,6 +1,6 @@
 -- A word that is one of L and then one of M, by its first letter; and facts on tests.
 -- Assumes nothing.
-use mathlib.Core.Path.{_≡_, refl, ap, subst}
+use mathlib.Core.Path.{_≡_, refl, sym, ap, subst}
 use mathlib.Core.Logic.{_⊎_, inl, inr}
 use mathlib.Core.Bool.{Bool, true, false, _&&_, _||_, false≢true}
 use mathlib.Core.List.{List, [], _∷_, _++_, cons≢nil, head-eq-of-cons-eq, tail-eq-of-cons-eq}
@@ -38,6 +38,10 @@ and-both e h = rw (e, h)
 pub and-split : (a b : Bool) → (a && b) ≡ true → (a ≡ true) × (b ≡ true)
 and-split true b e = (refl, e)
 and-split false b e = absurd (false≢true e)
+
+pub or-split : (a b : Bool) → (a || b) ≡ false → (a ≡ false) × (b ≡ false)
+or-split true b e = absurd (false≢true (sym e))
+or-split false b e = (refl, e)
 
 pub either : {A B C D : Type 0} → (A → C) → (B → D) → A ⊎ B → C ⊎ D
 either f g (inl x) = inl (f x)

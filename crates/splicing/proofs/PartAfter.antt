@@ -81,7 +81,7 @@ module _ {A B : Type 0} (f : A → B) where
   later-named (suc n) (el q x t) = later-named n t
   later-named (suc n) (group q k ms t) = later-named n t
 
-  has-named : (n : ℕ) (t : Members A) → hasMembers n (rename f t) ≡ hasMembers n t
+  pub has-named : (n : ℕ) (t : Members A) → hasMembers n (rename f t) ≡ hasMembers n t
   unfolding rename
   has-named zero t = refl
   has-named (suc n) done = refl

@@ -110,15 +110,15 @@ within {bs} h =
     ap withinCeilings (h .bodies) ∙ and-split (withinCeilings (flat (storeIn bs))) _ g .0
 
 module _ (bs : Bytes) where
-  counted-definitions : definitionCount bs ≡ length (bodiesOf bs .definitions)
+  pub counted-definitions : definitionCount bs ≡ length (bodiesOf bs .definitions)
   unfolding bodiesOf
   counted-definitions = sym (length-many readDefinition 20 (definitionCount bs) _)
 
-  counted-particles : particleCount bs ≡ length (bodiesOf bs .particles)
+  pub counted-particles : particleCount bs ≡ length (bodiesOf bs .particles)
   unfolding bodiesOf
   counted-particles = sym (length-many readParticle 4 (particleCount bs) _)
 
-  counted-attributes : attributeCount bs ≡ length (bodiesOf bs .attributes)
+  pub counted-attributes : attributeCount bs ≡ length (bodiesOf bs .attributes)
   unfolding bodiesOf
   counted-attributes = sym (length-many readAttribute 52 (attributeCount bs) _)
 

@@ -1,21 +1,21 @@
 -- How large the fields of the rows of a good store are.
 -- Assumes nothing.
-use Prim.Native.Nat.{ℕ, suc, _+_, _≤_, _<_}
+use Prim.Native.Nat.{ℕ, suc, _≤_, _<_}
 use native.Mathlib.Omega.{arith}
-use mathlib.Core.Path.{_≡_, refl, ap, _∙_}
-use mathlib.Core.Bool.{Bool, true, false, _&&_}
-use mathlib.Core.List.{List, [], _∷_, _++_}
+use mathlib.Core.Path.{_≡_, _∙_}
+use mathlib.Core.Bool.{true, _&&_}
+use mathlib.Core.List.{[], _++_}
 use lib.Dec.{leb, ltb}
-use lib.ListN.{length, length-append, length-map}
+use lib.ListN.{length, length-map}
 use borrow.Author.Tests.{leb-true}
-use Rattle.rules.specs.Bytes.{Bytes, all, same}
-use Rattle.rules.specs.Store.{Attribute, Form, RowSort, element, attribute, text, Row, Forest, bare, tree, Store}
+use Rattle.rules.specs.Bytes.{Bytes, all}
+use Rattle.rules.specs.Store.{Form, RowSort, element, attribute, text, Row, Forest, bare, tree, Store}
 use Rattle.rules.specs.Preorder.{Deep, flatten}
-use Rattle.rules.specs.Layout.{FlatRow, flat, flatDefinition, ownAttributes, allAttributes, indexIn, attributeIndex, rowIndex, indexOf, indexed}
+use Rattle.rules.specs.Layout.{FlatRow, flat, flatDefinition, allAttributes, attributeIndex, rowIndex, indexOf, indexed}
 use Rattle.rules.specs.Passing.{serials, good}
 use Rattle.rules.proofs.Words.{and-split}
 use Rattle.rules.proofs.BooleanLaws.{Every, every-append, every-zip, all-left, all-right}
-use Rattle.rules.proofs.DecodeLaws.{GoodParts, good-parts, index-bound}
+use Rattle.rules.proofs.DecodeLaws.{GoodParts, good-parts, index-bound, attribute-bound}
 use Rattle.rules.proofs.SmallBytes.{good-depths}
 
 -- a row that has a serial, no deeper than there are definitions may be, its index no more than a table holds
@@ -25,35 +25,12 @@ pub record Bounded (x : Deep FlatRow) : Type 0 where
   pub index : x .row .index ≤ 64
 
 -- ---- indices
-own-few : (o : ℕ) (n : Bytes) (cs : List Attribute) → indexIn n cs ≤ length (ownAttributes o cs)
-own-few o n [] = omega arith
-own-few o n (a ∷ cs) = by (same n (a .name)) (own-few o n cs)
-  where
-    by : (c : Bool) → indexIn n cs ≤ length (ownAttributes o cs) → elim c [ true ↦ 0 | false ↦ suc (indexIn n cs) ] ≤ suc (length (ownAttributes o cs))
-    by true k = omega arith
-    by false k = omega arith
-
-length-own : (o : ℕ) (cs : List Attribute) → length (ownAttributes o cs) ≡ length cs
-length-own o [] = refl
-length-own o (a ∷ cs) = ap suc (length-own o cs)
-
-attribute-few : (owner n : Bytes) (o : ℕ) (form : Form) → attributeIndex owner n form ≤ length (allAttributes o form)
-attribute-few owner n o [] = omega arith
-attribute-few owner n o (d ∷ ds) =
-    by (same owner (d .name)) (attribute-few owner n (suc o) ds) (own-few o n (d .attributes)) (length-append (ownAttributes o (d .attributes)) (allAttributes (suc o) ds)) (length-own o (d .attributes))
-  where
-    by : (c : Bool) → attributeIndex owner n ds ≤ length (allAttributes (suc o) ds) → indexIn n (d .attributes) ≤ length (ownAttributes o (d .attributes))
-        → length (allAttributes o (d ∷ ds)) ≡ length (ownAttributes o (d .attributes)) + length (allAttributes (suc o) ds) → length (ownAttributes o (d .attributes)) ≡ length (d .attributes)
-        → elim c [ true ↦ indexIn n (d .attributes) | false ↦ length (d .attributes) + attributeIndex owner n ds ] ≤ length (allAttributes o (d ∷ ds))
-    by true k l e q = omega arith
-    by false k l e q = omega arith
-
 row-few : (form : Form) (owner : Bytes) (r : Row) → length form ≤ 64 → length (allAttributes 0 form) ≤ 64 → rowIndex form owner r ≤ 64
 row-few form owner r h k = by (r .sort)
   where
     by : (s : RowSort) → elim s [ element ↦ indexOf (r .name) form | attribute ↦ attributeIndex owner (r .name) form | text ↦ 0 ] ≤ 64
     by element = omega (arith, index-bound (r .name) form)
-    by attribute = omega (arith, attribute-few owner (r .name) 0 form)
+    by attribute = omega (arith, attribute-bound owner (r .name) 0 form)
     by text = omega arith
 
 -- ---- all rows

@@ -19,7 +19,7 @@ use Rattle.rules.specs.WellFormed.{attributeName}
 use Rattle.rules.specs.Conforming.{mustBePresent, allows}
 use Rattle.rules.specs.Change.{definitionAt}
 use Rattle.rules.proofs.Apart.{differs}
-use Rattle.rules.proofs.DecodeLaws.{attributeNames}
+use Rattle.rules.proofs.DecodeLaws.{attributeNames, length-own}
 use Rattle.rowpass.specs.Indices.{IndexForm}
 use Rattle.validity.specs.Reading.{entryOf, Agrees}
 use Rattle.validity.proofs.IndexLaws.{namesOf, name-in, later-name}
@@ -50,10 +50,6 @@ pub owner-index : (form : Form) → Distinct (namesOf form) → (i : ℕ) (n : B
 owner-index [] u i n l = absurd (omega arith)
 owner-index (d ∷ ds) u zero n l = rw (same-refl (d .name), attributeIndex) (omega arith)
 owner-index (d ∷ ds) u (suc i) n l = rw (later-name d ds u i (omega arith), attributeIndex) (omega (arith, owner-index ds (u .1) i n (omega arith)))
-
-pub length-own : (o : ℕ) (table : List Attribute) → length (ownAttributes o table) ≡ length table
-length-own o [] = refl
-length-own o (a ∷ table) = ap suc (length-own o table)
 
 name-entry : (cs : List FlatAttribute) (j : ℕ) → j < length cs → nameAt j (map flatAttributeName cs) ≡ entryOf j cs .name
 name-entry [] j l = absurd (omega arith)

@@ -5,7 +5,7 @@ use Prim.Native.Nat.{ℕ, zero, suc, _+_, _*_, _<_, _≤_}
 use native.Mathlib.Omega.{arith}
 use mathlib.Core.Path.{_≡_, refl, ap, _∙_, sym, subst}
 use mathlib.Core.Logic.{_↔_, _⊎_, inl, inr}
-use mathlib.Core.Bool.{Bool, true, false}
+use mathlib.Core.Bool.{true}
 use mathlib.Core.List.{List, [], _∷_, List·Memᴰ}
 use lib.Dec.{eqb, leb}
 use lib.ListN.{length, take, drop, getD}
@@ -31,7 +31,7 @@ use Rattle.circles.specs.declared.Heights.{Heights}
 use Rattle.circles.specs.Members.{countAt, startAt, membersIn}
 use Rattle.circles.specs.Deep.{Ranked}
 use Rattle.circles.proofs.CircleLaws.{Indexed}
-use Rattle.circles.proofs.ReadLaws.{elements, Leaves, AllShaped, modelAt, members-read, start-room, Within, Readable, form-read, fit-read}
+use Rattle.circles.proofs.ReadLaws.{Leaves, AllShaped, modelAt, members-read, start-room, Within, Readable, form-read, fit-read}
 use Rattle.circles.proofs.ReadLaws as circle
 use Rattle.validity.specs.Reading.{DefinitionFits, AttributeFits, FieldsFit, indexMembers, partAt, noDefinition}
 use Rattle.validity.proofs.ModelReads.{Shaped, Single, Grouped, shaped-tree, ModelRead}
@@ -79,15 +79,6 @@ all-shaped n (d ∷ ds) ps x h =
     let (few, y) = and-split (leb (d .particles) (length ps)) _ h in
     let (u, v) = and-split (modelFits n (take (d .particles) ps)) (modelsFit n ds (drop (d .particles) ps)) y in
     (part-shaped n d ps (x .0) u, all-shaped n ds (drop (d .particles) ps) (x .1) v)
-
-elements-are : (ps : List (Deep FlatParticle)) → elements ps ≡ elementsIn ps
-unfolding elements elementsIn
-elements-are [] = refl
-elements-are (x ∷ xs) = by (eqb (x .row .sort) 0) (elements-are xs)
-  where
-    by : (b : Bool) → elements xs ≡ elementsIn xs → _≡_ {A = List ℕ} (elim b [ true ↦ x .row .index ∷ elements xs | false ↦ elements xs ]) (elim b [ true ↦ x .row .index ∷ elementsIn xs | false ↦ elementsIn xs ])
-    by true e = ap (λ (l : List ℕ). x .row .index ∷ l) e
-    by false e = e
 
 model-is-part : (i : ℕ) (ds : List FlatDefinition) (ps : List (Deep FlatParticle)) → modelAt i ds ps ≡ partAt i ds ps
 unfolding modelAt
@@ -141,7 +132,7 @@ module _ {n : ℕ} {defs : Bytes} {p : ℕ} {parts : Bytes} {a : ℕ} {attrs : B
       members-are : (i : ℕ) → i < n → membersIn defs parts i ≡ elementsIn (partAt i (definitions n defs) (particles p parts))
       unfolding definitions particles
       members-are i l =
-          members-read defs parts n p start-all long i l ∙ elements-are (modelAt i (definitions n defs) (particles p parts)) ∙ ap elementsIn (model-is-part i (definitions n defs) (particles p parts))
+          members-read defs parts n p start-all long i l ∙ ap elementsIn (model-is-part i (definitions n defs) (particles p parts))
 
       within : Within n (membersIn defs parts)
       within i l j m =

@@ -4,7 +4,7 @@ use Prim.Native.Nat.{ℕ, zero, suc, _<_, _≤_}
 use native.Mathlib.Omega.{arith}
 use mathlib.Core.Path.{_≡_, refl, ap, ap₂, _∙_, sym}
 use mathlib.Core.Logic.{_⊎_, inl, inr}
-use mathlib.Core.Bool.{Bool, true, false, _&&_, not, false≢true}
+use mathlib.Core.Bool.{true, false, _&&_, not, false≢true}
 use mathlib.Core.List.{List, [], _∷_, _++_, map, List·Memᴰ, Memᴰ·of-map}
 use lib.Dec.{eqb, leb, ltb, eqb·suc-zero}
 use lib.ListN.{length, length-map}
@@ -22,6 +22,7 @@ use Rattle.rules.proofs.TestLaws.{distinct-test}
 use Rattle.rules.proofs.PreorderLaws.{flatten-build, rising}
 use Rattle.rules.proofs.RenamingPlaces.{names-rename}
 use Rattle.forms.specs.FormTests.{particleFits, shaped, elementsIn, modelFits}
+use Rattle.circles.proofs.ReadLaws.{elements-append}
 use Rattle.validity.specs.Reading.{indexMember, indexMembers}
 use Rattle.validity.proofs.IndexLaws.{namesOf, index-name, name-once, known-at, distinct-map}
 
@@ -89,16 +90,6 @@ elements-here x xs e = rw (eq-eqb (x .row .sort) 0 e, elementsIn)
 pub elements-past : (x : Deep FlatParticle) (xs : List (Deep FlatParticle)) (k : ℕ) → x .row .sort ≡ suc k → elementsIn (x ∷ xs) ≡ elementsIn xs
 unfolding elementsIn
 elements-past x xs k e = rw (ne-eqb (x .row .sort) 0 (λ z. omega arith), elementsIn)
-
-pub elements-append : (xs ys : List (Deep FlatParticle)) → elementsIn (xs ++ ys) ≡ elementsIn xs ++ elementsIn ys
-unfolding elementsIn
-elements-append [] ys = refl
-elements-append (x ∷ xs) ys = by (eqb (x .row .sort) 0) (elements-append xs ys)
-  where
-    by : (c : Bool) → elementsIn (xs ++ ys) ≡ elementsIn xs ++ elementsIn ys
-        → elim c [ true ↦ x .row .index ∷ elementsIn (xs ++ ys) | false ↦ elementsIn (xs ++ ys) ] ≡ elim c [ true ↦ x .row .index ∷ elementsIn xs | false ↦ elementsIn xs ] ++ elementsIn ys
-    by true e = ap (λ (z : List ℕ). x .row .index ∷ z) e
-    by false e = e
 
 module _ (n : ℕ) where
   pub names-elements : (d : ℕ) (t : Forest FlatParticle) → shaped n t ≡ true → names (indexMembers t) ≡ elementsIn (flatten d t)

@@ -27,7 +27,7 @@ use Rattle.rules.proofs.PreorderLaws.{build-flatten, rising}
 use Rattle.forms.specs.FormTests.{particleFits, shaped, elementsIn, modelFits, modelsFit}
 use Rattle.validity.specs.Reading.{DefinitionFits}
 use Rattle.validity.proofs.IndexLaws.{known-index, index-once, distinct-map}
-use Rattle.validity.proofs.ModelReads.{elements-append}
+use Rattle.circles.proofs.ReadLaws.{elements-append}
 
 pub rising-flatten : {A : Type 0} (d k : ℕ) (t : Forest A) (rest : List (Deep A)) → d ≤ k → ((j : ℕ) → d ≤ j → rising j rest ≡ true) → rising k (flatten d t ++ rest) ≡ true
 rising-flatten d k bare rest l h = h k l

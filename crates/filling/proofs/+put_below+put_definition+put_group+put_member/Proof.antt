@@ -24,7 +24,7 @@ use Rattle.filling.proofs.+put_below+put_definition+put_group+put_membe
 use Rattle.codec.proofs.byte.Reads as byte-reads
 use Rattle.filling.proofs.accepts_nothing.Reads as accepts-nothing-reads
 use Rattle.filling.proofs.put_required.Reads as put-required-reads
-use Rattle.filling.proofs.skips.Reads as skips-reads
+use Rattle.model.proofs.skips.Reads as skips-reads
 use Rattle.model.proofs.read_particle.Reads as read-particle-reads
 use Rattle.rowpass.proofs.kind_of.Reads as kind-of-reads
 use Rattle.rowpass.proofs.model_part.Reads as model-part-reads

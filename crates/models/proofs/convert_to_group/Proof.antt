@@ -18,9 +18,9 @@ use Rattle.models.proofs.convert_to_group.Statement.{statement}
 use Rattle.models.proofs.convert_to_group.Tie as tie
 use Rattle.model.proofs.place.find.Reads as find-reads
 use Rattle.models.proofs.edit_model.Reads as edit-model-reads
-use Rattle.models.proofs.group_kind.Reads as group-kind-reads
+use Rattle.placing.proofs.group_kind.Reads as group-kind-reads
 use Rattle.plans.proofs.setting_plan.Reads as setting-plan-reads
-use Rattle.models.proofs.own_part.Reads as own-part-reads
+use Rattle.placing.proofs.own_part.Reads as own-part-reads
 use Rattle.storing.proofs.refused.Reads as refused-reads
 use Rattle.placing.proofs.convert_to_group_refusal.Reads as convert-to-group-refusal-reads
 use Rattle.validity.proofs.passes.Reads as passes-reads

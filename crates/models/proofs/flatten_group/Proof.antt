@@ -17,7 +17,7 @@ use Rattle.models.proofs.flatten_group.Tie as tie
 use Rattle.model.proofs.place.find.Reads as find-reads
 use Rattle.models.proofs.edit_model.Reads as edit-model-reads
 use Rattle.plans.proofs.setting_plan.Reads as setting-plan-reads
-use Rattle.models.proofs.own_part.Reads as own-part-reads
+use Rattle.placing.proofs.own_part.Reads as own-part-reads
 use Rattle.storing.proofs.refused.Reads as refused-reads
 use Rattle.placing.proofs.flatten_group_refusal.Reads as flatten-group-refusal-reads
 use Rattle.validity.proofs.passes.Reads as passes-reads

@@ -4,7 +4,7 @@ use native.Mathlib.Omega.{arith}
 use Rattle.models.proofs.FormWriting.{owner-low, keeps-not, keeps, still-within}
 use Rattle.models.proofs.keeps_within.Statement.{statement}
 use Rattle.models.proofs.keeps_within.Tie as tie
-use Rattle.models.proofs.own_part.Reads as own-part-reads
+use Rattle.placing.proofs.own_part.Reads as own-part-reads
 use Rattle.splicing.proofs.is_within.Reads as is-within-reads
 
 returns : tie.Need-returns

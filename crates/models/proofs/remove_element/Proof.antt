@@ -14,7 +14,7 @@ use Rattle.models.proofs.remove_element.Statement.{statement}
 use Rattle.models.proofs.remove_element.Tie as tie
 use Rattle.model.proofs.place.find.Reads as find-reads
 use Rattle.models.proofs.edit_model.Reads as edit-model-reads
-use Rattle.models.proofs.own_part.Reads as own-part-reads
+use Rattle.placing.proofs.own_part.Reads as own-part-reads
 use Rattle.storing.proofs.refused.Reads as refused-reads
 use Rattle.models.proofs.removing_plan.Reads as removing-plan-reads
 use Rattle.placing.proofs.remove_element_refusal.Reads as remove-element-refusal-reads

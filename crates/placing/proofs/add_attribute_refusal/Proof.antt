@@ -1,7 +1,8 @@
 use native.Mathlib.Omega.{arith}
 use Rattle.finding.proofs.StoreFacts.{whole}
-use Rattle.placing.proofs.FirstLaws.{test-is, not-is}
-use Rattle.placing.proofs.AttributeLaws.{past-is, within-is, add-2, add-3, add-4, add-5, add-6, add-12, add-0}
+use Rattle.placing.proofs.TestLaws.{test-is, not-is}
+use Rattle.finding.proofs.RefusalLaws.{past-definitions, within-definitions}
+use Rattle.placing.proofs.AttributeLaws.{add-2, add-3, add-4, add-5, add-6, add-12, add-0}
 use borrow.Author.Needs.{needs}
 use Rattle.placing.proofs.add_attribute_refusal.Statement.{statement}
 use Rattle.placing.proofs.add_attribute_refusal.Tie as tie
@@ -31,16 +32,16 @@ number-requires : tie.Need-number-requires
 number-requires c κs = search needs
 
 returns-5 : tie.Need-returns-5
-returns-5 c = let a = c .before .before .before .before .before .before .before .before .before .before .before .before .args in add-6 _ (whole _ (c .before .before .before .before .before .before .before .before .before .before .before .before .pre)) (a .owner) (a .name .now) (a .sort) (a .value .now) (not-is (c .before .before .before .before .before .before .before .before .stored-name .ensures) (c .before .before .before .before .before .before .before .if1 .left)) (not-is (c .before .before .before .before .before .before .is-value .ensures) (c .before .before .before .before .before .if2 .left)) (omega arith) (test-is (c .before .before .before .has-attribute .ensures) (c .before .before .if4 .left)) (past-is _ (whole _ (c .before .before .before .before .before .before .before .before .before .before .before .before .pre)) (c .before .number .ensures) _ (omega arith)) .is
+returns-5 c = let a = c .before .before .before .before .before .before .before .before .before .before .before .before .args in add-6 _ (whole _ (c .before .before .before .before .before .before .before .before .before .before .before .before .pre)) (a .owner) (a .name .now) (a .sort) (a .value .now) (not-is (c .before .before .before .before .before .before .before .before .stored-name .ensures) (c .before .before .before .before .before .before .before .if1 .left)) (not-is (c .before .before .before .before .before .before .is-value .ensures) (c .before .before .before .before .before .if2 .left)) (omega arith) (test-is (c .before .before .before .has-attribute .ensures) (c .before .before .if4 .left)) (past-definitions _ (whole _ (c .before .before .before .before .before .before .before .before .before .before .before .before .pre)) (c .before .number .ensures) _ (omega arith)) .is
 
 is-wrong-default-requires : tie.Need-is-wrong-default-requires
 is-wrong-default-requires c κs = search needs
 
 returns-6 : tie.Need-returns-6
-returns-6 c = let a = c .before .before .before .before .before .before .before .before .before .before .before .before .before .before .args in add-12 _ (whole _ (c .before .before .before .before .before .before .before .before .before .before .before .before .before .before .pre)) (a .owner) (a .name .now) (a .sort) (a .value .now) (not-is (c .before .before .before .before .before .before .before .before .before .before .stored-name .ensures) (c .before .before .before .before .before .before .before .before .before .if1 .left)) (not-is (c .before .before .before .before .before .before .before .before .is-value .ensures) (c .before .before .before .before .before .before .before .if2 .left)) (omega arith) (test-is (c .before .before .before .before .before .has-attribute .ensures) (c .before .before .before .before .if4 .left)) (within-is _ (whole _ (c .before .before .before .before .before .before .before .before .before .before .before .before .before .before .pre)) (c .before .before .before .number .ensures) _ (omega arith)) (test-is (c .before .is-wrong-default .ensures) (c .if6 .taken)) .is
+returns-6 c = let a = c .before .before .before .before .before .before .before .before .before .before .before .before .before .before .args in add-12 _ (whole _ (c .before .before .before .before .before .before .before .before .before .before .before .before .before .before .pre)) (a .owner) (a .name .now) (a .sort) (a .value .now) (not-is (c .before .before .before .before .before .before .before .before .before .before .stored-name .ensures) (c .before .before .before .before .before .before .before .before .before .if1 .left)) (not-is (c .before .before .before .before .before .before .before .before .is-value .ensures) (c .before .before .before .before .before .before .before .if2 .left)) (omega arith) (test-is (c .before .before .before .before .before .has-attribute .ensures) (c .before .before .before .before .if4 .left)) (within-definitions _ (whole _ (c .before .before .before .before .before .before .before .before .before .before .before .before .before .before .pre)) (c .before .before .before .number .ensures) _ (omega arith)) (test-is (c .before .is-wrong-default .ensures) (c .if6 .taken)) .is
 
 returns-7 : tie.Need-returns-7
-returns-7 c = let a = c .before .before .before .before .before .before .before .before .before .before .before .before .before .before .args in add-0 _ (whole _ (c .before .before .before .before .before .before .before .before .before .before .before .before .before .before .pre)) (a .owner) (a .name .now) (a .sort) (a .value .now) (not-is (c .before .before .before .before .before .before .before .before .before .before .stored-name .ensures) (c .before .before .before .before .before .before .before .before .before .if1 .left)) (not-is (c .before .before .before .before .before .before .before .before .is-value .ensures) (c .before .before .before .before .before .before .before .if2 .left)) (omega arith) (test-is (c .before .before .before .before .before .has-attribute .ensures) (c .before .before .before .before .if4 .left)) (within-is _ (whole _ (c .before .before .before .before .before .before .before .before .before .before .before .before .before .before .pre)) (c .before .before .before .number .ensures) _ (omega arith)) (test-is (c .before .is-wrong-default .ensures) (c .if6 .left)) .is
+returns-7 c = let a = c .before .before .before .before .before .before .before .before .before .before .before .before .before .before .args in add-0 _ (whole _ (c .before .before .before .before .before .before .before .before .before .before .before .before .before .before .pre)) (a .owner) (a .name .now) (a .sort) (a .value .now) (not-is (c .before .before .before .before .before .before .before .before .before .before .stored-name .ensures) (c .before .before .before .before .before .before .before .before .before .if1 .left)) (not-is (c .before .before .before .before .before .before .before .before .is-value .ensures) (c .before .before .before .before .before .before .before .if2 .left)) (omega arith) (test-is (c .before .before .before .before .before .has-attribute .ensures) (c .before .before .before .before .if4 .left)) (within-definitions _ (whole _ (c .before .before .before .before .before .before .before .before .before .before .before .before .before .before .pre)) (c .before .before .before .number .ensures) _ (omega arith)) (test-is (c .before .is-wrong-default .ensures) (c .if6 .left)) .is
 
 pub add-attribute-refusal-spec : {M : Type 1} → statement M
 add-attribute-refusal-spec =

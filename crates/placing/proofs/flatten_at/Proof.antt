@@ -1,4 +1,4 @@
-use Rattle.placing.proofs.FirstLaws.{hit, next, none-holds}
+use Rattle.finding.proofs.RefusalLaws.{gives-hit, gives-next, gives-none}
 use Rattle.placing.proofs.GroupLaws.{flat-read}
 use borrow.Author.Needs.{needs}
 use Rattle.placing.proofs.flatten_at.Statement.{statement}
@@ -11,10 +11,10 @@ unlike-requires : tie.Need-unlike-requires
 unlike-requires c κs = search needs
 
 returns : tie.Need-returns
-returns c = let a = c .before .before .before .args in hit (flat-read (a .q) (a .list) (a .kind) (a .n) (c .before .before .is-one .ensures) (c .before .unlike .ensures) (c .if1 .taken))
+returns c = let a = c .before .before .before .args in gives-hit (flat-read (a .q) (a .list) (a .kind) (a .n) (c .before .before .is-one .ensures) (c .before .unlike .ensures) (c .if1 .taken))
 
 returns-2 : tie.Need-returns-2
-returns-2 c = let a = c .before .before .before .args in next (flat-read (a .q) (a .list) (a .kind) (a .n) (c .before .before .is-one .ensures) (c .before .unlike .ensures) (c .if1 .left)) none-holds
+returns-2 c = let a = c .before .before .before .args in gives-next (flat-read (a .q) (a .list) (a .kind) (a .n) (c .before .before .is-one .ensures) (c .before .unlike .ensures) (c .if1 .left)) gives-none
 
 pub flatten-at-spec : {M : Type 1} → statement M
 flatten-at-spec = tie.close (tie.spec is-one-requires unlike-requires returns returns-2)

@@ -1,6 +1,6 @@
 use native.Mathlib.Omega.{arith}
 use Rattle.finding.proofs.StoreFacts.{whole}
-use Rattle.placing.proofs.AttributeLaws.{past-is}
+use Rattle.finding.proofs.RefusalLaws.{past-definitions}
 use Rattle.placing.proofs.PickLaws.{as-element, as-group, as-none}
 use Rattle.placing.proofs.RemoveLaws.{removable, remove-6, remove-none, remove-group, remove-there}
 use borrow.Author.Needs.{needs}
@@ -11,7 +11,7 @@ number-requires : tie.Need-number-requires
 number-requires c κs = search needs
 
 returns : tie.Need-returns
-returns c = let a = c .before .before .before .before .args in remove-6 (a .store .now) (whole _ (c .before .before .before .before .pre)) (a .owner) (a .place .now) (past-is _ (whole _ (c .before .before .before .before .pre)) (c .before .number .ensures) (a .owner) (omega arith)) .is
+returns c = let a = c .before .before .before .before .args in remove-6 (a .store .now) (whole _ (c .before .before .before .before .pre)) (a .owner) (a .place .now) (past-definitions _ (whole _ (c .before .before .before .before .pre)) (c .before .number .ensures) (a .owner) (omega arith)) .is
 
 own-part-requires : tie.Need-own-part-requires
 own-part-requires c κs = let a = c .before .before .before .before .args in omega (arith, whole (a .store .now) (c .before .before .before .before .pre) .fewDefinitions, c .before .number .ensures .value)

@@ -17,7 +17,7 @@ use Rattle.quantifying.proofs.change_group_quantifier.Tie as tie
 use Rattle.model.proofs.place.find.Reads as find-reads
 use Rattle.model.proofs.read_quantifier.Reads as read-quantifier-reads
 use Rattle.models.proofs.edit_model.Reads as edit-model-reads
-use Rattle.models.proofs.own_part.Reads as own-part-reads
+use Rattle.placing.proofs.own_part.Reads as own-part-reads
 use Rattle.placing.proofs.change_group_quantifier_refusal.Reads as change-group-quantifier-refusal-reads
 use Rattle.quantifying.proofs.group_plan.Reads as group-plan-reads
 use Rattle.storing.proofs.refused.Reads as refused-reads

@@ -9,7 +9,7 @@ use Rattle.model.proofs.read_particle.Reads as read-particle-reads
 use Rattle.placing.proofs.gains.Reads as gains-reads
 use Rattle.plans.proofs.requantify_plan.Reads as requantify-plan-reads
 use Rattle.quantifying.proofs.group_span.Reads as group-span-reads
-use Rattle.quantifying.proofs.kind_in.Reads as kind-in-reads
+use Rattle.model.proofs.automaton.kind_in.Reads as kind-in-reads
 use Rattle.rowpass.proofs.particles_before.Reads as particles-before-reads
 use Rattle.validity.proofs.body.Reads as body-reads
 

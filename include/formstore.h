@@ -79,10 +79,24 @@ struct formstore_answer formstore_destroy_definition(const uint8_t *store, size_
                                                      uint32_t definition,
                                                      uint8_t *out, size_t out_length);
 
+/* 3. Inserts an element of a definition into the model of `owner`; a place is a list of numbers, each u32. quantifier is 0 (NONE), 1 (QMARK), 2
+ * (STAR) or 3 (PLUS). Refuses with 3, 4, 6, 8 to 13, 16 and 17. */
+struct formstore_answer formstore_insert_element(const uint8_t *store, size_t store_length,
+                                                 uint32_t owner, const uint32_t *place, size_t place_length,
+                                                 uint32_t definition, uint32_t quantifier,
+                                                 const uint8_t *text, size_t text_length,
+                                                 uint8_t *out, size_t out_length);
+
 /* 4. Removes an element from the model of `owner`, with the children of instances that it stands for. Refuses with 6, 8, 14 and 15. */
 struct formstore_answer formstore_remove_element(const uint8_t *store, size_t store_length,
                                                  uint32_t owner, const uint32_t *place, size_t place_length,
                                                  uint8_t *out, size_t out_length);
+
+/* 5. Changes the quantifier of an element. Refuses with 3, 4, 6, 8, 12, 13, 16 and 17. */
+struct formstore_answer formstore_change_quantifier(const uint8_t *store, size_t store_length,
+                                                    uint32_t owner, const uint32_t *place, size_t place_length,
+                                                    uint32_t quantifier, const uint8_t *text, size_t text_length,
+                                                    uint8_t *out, size_t out_length);
 
 /* 6. Converts `count` members from the place on into a group of a sort, 1 (LIST) or 2 (CHOICE). Refuses with 4, 6, 8, 14 and 16. */
 struct formstore_answer formstore_convert_to_group(const uint8_t *store, size_t store_length,
@@ -94,6 +108,12 @@ struct formstore_answer formstore_convert_to_group(const uint8_t *store, size_t 
 struct formstore_answer formstore_flatten_group(const uint8_t *store, size_t store_length,
                                                 uint32_t owner, const uint32_t *place, size_t place_length,
                                                 uint8_t *out, size_t out_length);
+
+/* 8. Changes the quantifier of a group. Refuses with 3, 4, 6, 8, 12, 13, 16 and 17. */
+struct formstore_answer formstore_change_group_quantifier(const uint8_t *store, size_t store_length,
+                                                          uint32_t owner, const uint32_t *place, size_t place_length,
+                                                          uint32_t quantifier, const uint8_t *text, size_t text_length,
+                                                          uint8_t *out, size_t out_length);
 
 /* 9. Adds an attribute of a sort, 0 (IMPLIED), 1 (REQUIRED) or 2 (FIXED); a REQUIRED one adds a row to each instance. Refuses with 2 to 6, 12, 16
  * and 17. */

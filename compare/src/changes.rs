@@ -87,9 +87,12 @@ macro_rules! changes {
 changes! {
     formstore_create_definition CreateDefinition { name: bytes Name, kind: number Code }
     formstore_destroy_definition DestroyDefinition { definition: number Definition }
+    formstore_insert_element InsertElement { owner: number Definition, place: place Place, definition: number Definition, quantifier: number Code, text: bytes Value }
     formstore_remove_element RemoveElement { owner: number Definition, place: place Place }
+    formstore_change_quantifier ChangeQuantifier { owner: number Definition, place: place Place, quantifier: number Code, text: bytes Value }
     formstore_convert_to_group ConvertToGroup { owner: number Definition, place: place Place, count: number Count, sort: number Code }
     formstore_flatten_group FlattenGroup { owner: number Definition, place: place Place }
+    formstore_change_group_quantifier ChangeGroupQuantifier { owner: number Definition, place: place Place, quantifier: number Code, text: bytes Value }
     formstore_add_attribute AddAttribute { owner: number Definition, name: bytes Name, sort: number Code, value: bytes Value }
     formstore_destroy_attribute DestroyAttribute { attribute: number Attribute }
     formstore_add_document AddDocument { definition: number Definition, text: bytes Value }

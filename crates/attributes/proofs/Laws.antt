@@ -30,7 +30,7 @@ use Rattle.storing.specs.Planned.{plannedIn}
 use Rattle.storing.specs.Forms.{formBytes, formIn, Forms}
 use Rattle.storing.specs.Writing.{Sized}
 use Rattle.storing.proofs.StoreLaws.{Holds, holds}
-use Rattle.storing.proofs.CallLaws.{answers-as, answers-written}
+use Rattle.storing.proofs.CallLaws.{answers-as, answers-written, passed}
 use Rattle.storing.proofs.FormBytesLaws.{form-short}
 use Rattle.storing.proofs.FormLaws.{bareForm, FormOf, forms-of, form-answers, form-ceiling, within, good-bodies}
 use Rattle.finding.proofs.StoreFacts.{Whole, whole}
@@ -39,7 +39,6 @@ use Rattle.plans.specs.AttributeCalls.{attributesTo, ownerAt, addAttributePlan,
 use Rattle.plans.proofs.CallsPlanned.{none-holds}
 use Rattle.plans.proofs.FormsAfter.{good-attribute, added-ceiling, added-form, dropped-form}
 use Rattle.plans.proofs.AttributeCallsPlanned.{add-attribute-planned, destroy-attribute-planned}
-use Rattle.documents.proofs.Laws.{passed}
 use Rattle.attributes.specs.Attributes.{newEntry, Addable, Droppable, added, dropped, To}
 use Rattle.attributes.proofs.FormParts.{front-laid}
 use Rattle.attributes.proofs.CountLaws.{count-definitions, count-particles, count-attributes, attributes-counted}

@@ -15,7 +15,7 @@ use Rattle.codec.specs.Part.{partOf}
 use Rattle.circles.specs.Members.{countAt, startAt, modelPart, elementsOf, membersIn}
 use Rattle.circles.specs.Deep.{marked, firstPasses}
 
-elements-more : (t : Bytes) → 4 ≤ length t → elementsOf t ≡ elim (eqb (getD t 0 0) 0) [ true ↦ getD t 2 0 ∷ elementsOf (drop 4 t) | false ↦ elementsOf (drop 4 t) ]
+pub elements-more : (t : Bytes) → 4 ≤ length t → elementsOf t ≡ elim (eqb (getD t 0 0) 0) [ true ↦ getD t 2 0 ∷ elementsOf (drop 4 t) | false ↦ elementsOf (drop 4 t) ]
 unfolding elementsOf
 elements-more [] h = absurd (omega arith)
 elements-more (a ∷ []) h = absurd (omega arith)
@@ -23,7 +23,7 @@ elements-more (a ∷ b ∷ []) h = absurd (omega arith)
 elements-more (a ∷ b ∷ c ∷ []) h = absurd (omega arith)
 elements-more (a ∷ b ∷ c ∷ e ∷ t) h = refl
 
-elements-few : (t : Bytes) → length t < 4 → elementsOf t ≡ []
+pub elements-few : (t : Bytes) → length t < 4 → elementsOf t ≡ []
 unfolding elementsOf
 elements-few [] h = refl
 elements-few (a ∷ []) h = refl

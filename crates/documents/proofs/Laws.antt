@@ -40,26 +40,9 @@ use Rattle.finding.proofs.StoreFacts.{Whole, whole}
 use Rattle.finding.proofs.AttributeRefusals.{unowned}
 use Rattle.plans.specs.CallPlans.{fillingPlan, takingPlan, settingPlan, textSerial, childSerial, attributeSerial, addDocumentPlan, addElementPlan, destroyElementPlan, setAttributePlan, destroyAttributeRowPlan, setTextPlan}
 use Rattle.plans.proofs.CallsPlanned.{none-holds}
-use Rattle.storing.proofs.CallLaws.{answers-as, answers-bad, answers-refused, answers-written}
-
-pub passed : {b : Bool} (bs : Bytes) → not b ≡ false → b ≡ passes bs → passes bs ≡ true
-passed {b = b} bs h e = sym e ∙ not-false b h
-
-failed : {b : Bool} (bs : Bytes) → not b ≡ true → b ≡ passes bs → passes bs ≡ false
-failed {b = true} bs h e = absurd (false≢true h)
-failed {b = false} bs h e = sym e
+use Rattle.storing.proofs.CallLaws.{answers-as, answers-written, passed}
 
 module _ (c : Call) (bs : Bytes) (room : ℕ) (out : Bytes) where
-  pub bad : {b : Bool} {n l : ℕ} → not b ≡ true → b ≡ passes bs → (n ≡ 1) × (l ≡ 0) → Answers (outcome c bs room) out n l out
-  bad h e (n-is, l-is) =
-      let a : Answers (outcome c bs room) out 1 0 out = answers-bad c bs room (failed bs h e) in
-      record { number-is = n-is ∙ a .number-is; length-is = l-is ∙ a .length-is; buffer-is = a .buffer-is }
-
-  pub turned-away : {b : Bool} {m n l : ℕ} → not b ≡ false → b ≡ passes bs → m ≡ first (conditions c (storeIn bs)) → (m ≡ 0 → ⊥) → (n ≡ m) × (l ≡ 0) → Answers (outcome c bs room) out n l out
-  turned-away {m = m} h e f z (n-is, l-is) =
-      let a : Answers (outcome c bs room) out m 0 out = answers-refused c bs room (passed bs h e) m f z in
-      record { number-is = n-is ∙ a .number-is; length-is = l-is ∙ a .length-is; buffer-is = a .buffer-is }
-
   -- p: the plan of the change, q: the one that the code made
   pub made : {b : Bool} {m n l : ℕ} {left : Bytes} (p q : Plan) (v : Bytes) → not b ≡ false → b ≡ passes bs → m ≡ first (conditions c (storeIn bs)) → m ≡ 0 → q ≡ p
       → (good (storeIn bs) ≡ true → first (conditions c (storeIn bs)) ≡ 0 → flat (after c (storeIn bs)) ≡ planned p v (flat (storeIn bs)))

@@ -3,7 +3,7 @@ pub use storing::Answer;
 ghost use mathlib.Core.Path.{_≡_};
 ghost use Rattle.rules.specs.Passing.{passes};
 ghost use Rattle.rules.specs.LookUp.{lookUp};
-ghost use Rattle.rules.specs.Change.{createDefinition, destroyDefinition, removeElement, convertToGroup, flattenGroup, addAttribute, destroyAttribute, addDocument, addElement, destroyElement, setAttribute, destroyAttributeRow, setText};
+ghost use Rattle.rules.specs.Change.{createDefinition, destroyDefinition, insertElement, removeElement, changeQuantifier, convertToGroup, flattenGroup, changeGroupQuantifier, addAttribute, destroyAttribute, addDocument, addElement, destroyElement, setAttribute, destroyAttributeRow, setText};
 ghost use Rattle.rules.specs.Outcome.{outcome, Answers};
 ghost use Rattle.rules.specs.Print.{printOutcome};
 ghost use lib.ListN.{length};
@@ -130,6 +130,36 @@ pub extern "C" fn formstore_destroy_definition(
     definitions::destroy_definition(store, definition, out)
 }
 
+/// 3: inserts an element into a model; on the spine each instance gets a filling if the quantifier needs one.
+pub fn insert_element(
+    store: &[u8],
+    owner: u32,
+    place: &[u32],
+    definition: u32,
+    quantifier: u32,
+    text: &[u8],
+    out: &mut [u8],
+) -> Answer
+    ensures { λ r. ⌜ Answers (outcome (insertElement owner (now (place .entry)) definition quantifier (now (text .entry))) (now (store .entry)) (length (now (out .entry)))) (now (out .entry)) (r .number) (r .length) (now (out .exit)) ⌝ }
+{
+    inserting::insert_element(store, owner, place, definition, quantifier, text, out)
+}
+
+#[no_mangle]
+pub extern "C" fn formstore_insert_element(
+    store: &[u8],
+    owner: u32,
+    place: &[u32],
+    definition: u32,
+    quantifier: u32,
+    text: &[u8],
+    out: &mut [u8],
+) -> Answer
+    ensures { λ r. ⌜ Answers (outcome (insertElement owner (now (place .entry)) definition quantifier (now (text .entry))) (now (store .entry)) (length (now (out .entry)))) (now (out .entry)) (r .number) (r .length) (now (out .exit)) ⌝ }
+{
+    inserting::insert_element(store, owner, place, definition, quantifier, text, out)
+}
+
 /// 4: removes an element from a model, with the children of instances that it stands for.
 pub fn remove_element(store: &[u8], owner: u32, place: &[u32], out: &mut [u8]) -> Answer
     ensures { λ r. ⌜ Answers (outcome (removeElement owner (now (place .entry))) (now (store .entry)) (length (now (out .entry)))) (now (out .entry)) (r .number) (r .length) (now (out .exit)) ⌝ }
@@ -147,6 +177,34 @@ pub extern "C" fn formstore_remove_element(
     ensures { λ r. ⌜ Answers (outcome (removeElement owner (now (place .entry))) (now (store .entry)) (length (now (out .entry)))) (now (out .entry)) (r .number) (r .length) (now (out .exit)) ⌝ }
 {
     models::remove_element(store, owner, place, out)
+}
+
+/// 5: changes an element's quantifier.
+pub fn change_quantifier(
+    store: &[u8],
+    owner: u32,
+    place: &[u32],
+    quantifier: u32,
+    text: &[u8],
+    out: &mut [u8],
+) -> Answer
+    ensures { λ r. ⌜ Answers (outcome (changeQuantifier owner (now (place .entry)) quantifier (now (text .entry))) (now (store .entry)) (length (now (out .entry)))) (now (out .entry)) (r .number) (r .length) (now (out .exit)) ⌝ }
+{
+    quantifying::change_quantifier(store, owner, place, quantifier, text, out)
+}
+
+#[no_mangle]
+pub extern "C" fn formstore_change_quantifier(
+    store: &[u8],
+    owner: u32,
+    place: &[u32],
+    quantifier: u32,
+    text: &[u8],
+    out: &mut [u8],
+) -> Answer
+    ensures { λ r. ⌜ Answers (outcome (changeQuantifier owner (now (place .entry)) quantifier (now (text .entry))) (now (store .entry)) (length (now (out .entry)))) (now (out .entry)) (r .number) (r .length) (now (out .exit)) ⌝ }
+{
+    quantifying::change_quantifier(store, owner, place, quantifier, text, out)
 }
 
 /// 6: converts `count` members from a place on into a group.
@@ -194,6 +252,34 @@ pub extern "C" fn formstore_flatten_group(
     ensures { λ r. ⌜ Answers (outcome (flattenGroup owner (now (place .entry))) (now (store .entry)) (length (now (out .entry)))) (now (out .entry)) (r .number) (r .length) (now (out .exit)) ⌝ }
 {
     models::flatten_group(store, owner, place, out)
+}
+
+/// 8: changes a group's quantifier.
+pub fn change_group_quantifier(
+    store: &[u8],
+    owner: u32,
+    place: &[u32],
+    quantifier: u32,
+    text: &[u8],
+    out: &mut [u8],
+) -> Answer
+    ensures { λ r. ⌜ Answers (outcome (changeGroupQuantifier owner (now (place .entry)) quantifier (now (text .entry))) (now (store .entry)) (length (now (out .entry)))) (now (out .entry)) (r .number) (r .length) (now (out .exit)) ⌝ }
+{
+    quantifying::change_group_quantifier(store, owner, place, quantifier, text, out)
+}
+
+#[no_mangle]
+pub extern "C" fn formstore_change_group_quantifier(
+    store: &[u8],
+    owner: u32,
+    place: &[u32],
+    quantifier: u32,
+    text: &[u8],
+    out: &mut [u8],
+) -> Answer
+    ensures { λ r. ⌜ Answers (outcome (changeGroupQuantifier owner (now (place .entry)) quantifier (now (text .entry))) (now (store .entry)) (length (now (out .entry)))) (now (out .entry)) (r .number) (r .length) (now (out .exit)) ⌝ }
+{
+    quantifying::change_group_quantifier(store, owner, place, quantifier, text, out)
 }
 
 /// 9: adds an attribute; a REQUIRED one adds a row to each instance.

@@ -2,3 +2,4 @@ pub mod FormFacts
 pub mod ReachLaws
 pub mod ModelLaws
 pub mod RefusalLaws
+pub mod Insertion

@@ -142,13 +142,13 @@ laterConditions found x y o i s =
     ∷ 13 if (instanceExists (definitionAt o (s .form) .name) s && y)
     ∷ []
 
-insert-same : (bs : Bytes) (o : ℕ) (place : List ℕ) (i q : ℕ) (t : Bytes) → q ≤ 3
-    → first (placeConditions (foundBy true place (modelIn bs o)) o i (eqb q 0 || eqb q 3) (eqb (length t) 0) (storeIn bs))
+insert-same : (bs : Bytes) (o : ℕ) (place : List ℕ) (i q : ℕ) (t : Bytes)
+    → first (placeConditions (foundBy true place (modelIn bs o)) o i (not (skips (quantifierOf q))) (eqb (length t) 0) (storeIn bs))
     ≡ first (laterConditions (foundAt (insert (quantifierOf q) (nameAtIndex i (formIn bs))) o place (storeIn bs)) (not (skips (quantifierOf q)) && isNone t) (atPlace (λ c x. insertOff c (quantifierOf q)) (foundAt (insert (quantifierOf q) (nameAtIndex i (formIn bs))) o place (storeIn bs))) o i (storeIn bs))
-insert-same bs o place i q t l =
+insert-same bs o place i q t =
     ap₂ (λ (x y : Bool). first (laterConditions (foundBy true place (modelIn bs o)) x y o i (storeIn bs)))
-    (ap₂ (λ (x y : Bool). x && y) (needed-is q l) (unfilled-is t))
-    (ap (λ (x : Bool). x && offSpine (foundBy true place (modelIn bs o))) (needed-is q l) ∙ needed-off (not (skips (quantifierOf q))) (foundBy true place (modelIn bs o)))
+    (ap (λ (y : Bool). not (skips (quantifierOf q)) && y) (unfilled-is t))
+    (needed-off (not (skips (quantifierOf q))) (foundBy true place (modelIn bs o)))
     ∙ ap (λ (f : Option (Spot Bytes)). first (laterConditions f (not (skips (quantifierOf q)) && isNone t) (atPlace (λ c x. insertOff c (quantifierOf q)) f) o i (storeIn bs)))
     (sym (found-insert (quantifierOf q) (nameAtIndex i (formIn bs)) o place bs))
 
@@ -178,10 +178,10 @@ module _ (bs : Bytes) (w : Reads bs) (o : ℕ) (place : List ℕ) (i q : ℕ) (t
         unfolding conditions
         insert-6-too f = next (not-is e3 f3) (next (le-ltb 3 q l) (hit (unknown (within-definitions bs (w .whole) e o lo) (past-definitions bs (w .whole) e i f) refl)))
 
-        pub insert-on : i < n → {r : ℕ} → r ≡ first (placeConditions (foundBy true place (modelIn bs o)) o i (eqb q 0 || eqb q 3) (eqb (length t) 0) (storeIn bs)) → Given r
+        pub insert-on : i < n → {needed : Bool} → needed ≡ not (skips (quantifierOf q)) → {r : ℕ} → r ≡ first (placeConditions (foundBy true place (modelIn bs o)) o i needed (eqb (length t) 0) (storeIn bs)) → Given r
         unfolding conditions
-        insert-on li {r} g =
+        insert-on li d g =
             next (not-is e3 f3)
             (next (le-ltb 3 q l)
             (next (unknown (within-definitions bs (w .whole) e o lo) (within-definitions bs (w .whole) e i li) refl)
-            (record { is = g ∙ insert-same bs o place i q t l })))
+            (record { is = g ∙ ap (λ (b : Bool). first (placeConditions (foundBy true place (modelIn bs o)) o i b (eqb (length t) 0) (storeIn bs))) d ∙ insert-same bs o place i q t })))

@@ -1,36 +1,32 @@
-// Which refusal of the change that inserts an element into a model applies to a store that passes.
+//! Change 3, which inserts an element into a model: which refusal applies to a store that passes, and the call.
+use editing::Plan;
 use model::place::Found;
 use model::place::Holder;
 use rules::GroupKind;
+use splicing::Edit;
+use storing::Answer;
 ghost use mathlib.Core.Path.{_≡_};
 ghost use mathlib.Core.Bool.{true, not, _&&_};
 ghost use Prim.Native.Nat.{_<_, _≤_};
 ghost use lib.Dec.{eqb};
+ghost use lib.ListN.{length};
 ghost use Rattle.rules.specs.declared.GroupKind.the-variants.{Sequence};
 ghost use Rattle.rules.specs.Bytes.{all};
-ghost use Rattle.rules.specs.Decode.{definitionCount};
+ghost use Rattle.rules.specs.Model.{skips};
+ghost use Rattle.rules.specs.Decode.{definitionCount, quantifierOf};
 ghost use Rattle.rules.specs.Passing.{passes};
 ghost use Rattle.rules.specs.Edit.{sameKind};
 ghost use Rattle.rules.specs.Change.{insertElement};
 ghost use Rattle.rules.specs.Refusal.{first, conditions};
+ghost use Rattle.rules.specs.Outcome.{outcome, Answers};
 ghost use Rattle.circles.specs.Members.{elementsOf};
-ghost use Rattle.rowpass.specs.Reading.{modelPart};
-ghost use Rattle.validity.specs.Check.{definitionsIn, particlesIn};
 ghost use Rattle.storing.specs.Stores.{storeIn};
+ghost use Rattle.plans.specs.ModelCalls.{insertElementPlan};
 ghost use Rattle.placing.specs.Placing.{modelIn, foundBy};
+ghost use Rattle.marking.specs.Marking.{marksAt};
 ghost use Rattle.inserting.specs.Inserting.{inModel, comesRound, modelConditions, placeConditions};
 
 // ---- the model
-// Definition i's part of the particles.
-fn part_of(store: &[u8], i: usize) -> &[u8]
-    requires { ⌜ i ≤ 256 ⌝ }
-    ensures { λ r. ⌜ now r ≡ modelPart (definitionsIn (now (store .entry))) (particlesIn (now (store .entry))) i ⌝ }
-{
-    let defs = validity::body(store, 8, 20);
-    let parts = validity::body(store, 16, 4);
-    rowpass::model_part(defs, parts, i)
-}
-
 // Whether no element among the particles has the index i.
 fn lacks(part: &[u8], i: usize) -> bool
     ensures { λ r. ⌜ r ≡ all (λ j. not (eqb i j)) (elementsOf (now (part .entry))) ⌝ }
@@ -50,7 +46,7 @@ fn in_model(store: &[u8], o: usize, i: usize) -> bool
     requires { ⌜ (passes (now store) ≡ true) × (o < definitionCount (now store)) × (i < definitionCount (now store)) ⌝ }
     ensures { λ r. ⌜ r ≡ inModel (storeIn (now (store .entry)) .form) o i ⌝ }
 {
-    !lacks(part_of(store, o), i)
+    !lacks(models::own_part(store, o), i)
 }
 
 // Whether definition i is definition o or reaches it.
@@ -116,11 +112,19 @@ fn place_refusal(
     requires { ⌜ (passes (now store) ≡ true) × (o < definitionCount (now store)) × (i < definitionCount (now store)) ⌝ }
     ensures { λ r. ⌜ r ≡ first (placeConditions (foundBy true (now (place .entry)) (modelIn (now (store .entry)) o)) o i needed unfilled (storeIn (now (store .entry)))) ⌝ }
 {
-    let found = model::place::find(part_of(store, o), place, true);
+    let found = model::place::find(models::own_part(store, o), place, true);
     match found {
         Found::Absent => 8,
         Found::At(h, _) => model_refusal(store, o, i, needed, unfilled, off_spine(h)),
     }
+}
+
+// Whether an element with a quantifier, by its number, cannot be absent: NONE or PLUS.
+fn needs_filling(quantifier: u32) -> bool
+    requires { ⌜ quantifier ≤ 3 ⌝ }
+    ensures { λ r. ⌜ r ≡ not (skips (quantifierOf quantifier)) ⌝ }
+{
+    (quantifier == 0) | (quantifier == 3)
 }
 
 /// Refusals 3, 4, 6 and 8 to 13 of the change that inserts an element.
@@ -150,6 +154,57 @@ pub fn insert_element_refusal(
     if i >= n {
         return 6;
     }
-    let needed = (quantifier == 0) | (quantifier == 3);
+    let needed = needs_filling(quantifier);
     place_refusal(store, o, place, i, needed, text.len() == 0)
+}
+
+// ---- the call
+
+// The plan of the change for the gap before particle p of the owner's part, which is on the spine or not.
+fn inserting_plan(
+    part: &[u8],
+    owner: usize,
+    p: usize,
+    spine: bool,
+    definition: usize,
+    quantifier: u32,
+) -> Plan
+    requires { ⌜ (p ≤ 256) × (quantifier ≤ 3) ⌝ }
+    ensures { λ r. ⌜ r ≡ insertElementPlan owner (marksAt 0 p (now (part .entry))) definition (not (skips (quantifierOf quantifier)) && spine) ⌝ }
+{
+    let needs = needs_filling(quantifier) & spine;
+    plans::insert_element_plan(owner, marking::marks(part, p, 0), definition, needs)
+}
+
+/// 3: inserts an element into a model; on the spine each instance gets a filling if the quantifier needs one.
+pub fn insert_element(
+    store: &[u8],
+    owner: u32,
+    place: &[u32],
+    definition: u32,
+    quantifier: u32,
+    text: &[u8],
+    out: &mut [u8],
+) -> Answer
+    ensures { λ r. ⌜ Answers (outcome (insertElement owner (now (place .entry)) definition quantifier (now (text .entry))) (now (store .entry)) (length (now (out .entry)))) (now (out .entry)) (r .number) (r .length) (now (out .exit)) ⌝ }
+{
+    if !validity::passes(store) {
+        return storing::refused(1);
+    }
+    let number = insert_element_refusal(store, owner, place, definition, quantifier, text);
+    if number != 0 {
+        return storing::refused(number);
+    }
+    let o = owner as usize;
+    let i = definition as usize;
+    let part = models::own_part(store, o);
+    let found = model::place::find(part, place, true);
+    match found {
+        Found::Absent => storing::refused(8),
+        Found::At(h, p) => {
+            let plan = inserting_plan(part, o, p, h.spine, i, quantifier);
+            let edit = Edit::Insert(model::read_quantifier(quantifier as u8), i);
+            models::edit_model(store, o, edit, h, p, plan, text, out)
+        }
+    }
 }

@@ -1,8 +1,10 @@
 -- The marks of definitions around a place of a model, a byte for each.
 -- Assumes nothing.
 use Prim.Native.Nat.{ℕ, _*_}
+use mathlib.Core.Bool.{true, false}
 use mathlib.Core.List.{List, [], _∷_}
-use lib.ListN.{set, take, drop}
+use lib.Dec.{eqb}
+use lib.ListN.{getD, set, take, drop}
 use Rattle.rules.specs.Bytes.{Bytes}
 use Rattle.circles.specs.Members.{elementsOf}
 use Rattle.plans.specs.CallPlans.{unmarked}
@@ -11,6 +13,10 @@ use Rattle.plans.specs.CallPlans.{unmarked}
 abbrev pub marked : ℕ → List ℕ → Bytes → Bytes
 marked v [] marks = marks
 marked v (i ∷ is) marks = marked v is (set marks i v)
+
+-- v at the index of the first of some particles, if that is an element
+abbrev pub markedFirst : ℕ → Bytes → Bytes → Bytes
+markedFirst v particles marks = elim (eqb (getD particles 0 0) 0) [ true ↦ set marks (getD particles 2 0) v | false ↦ marks ]
 
 -- 1 for the definitions of the elements among the first p particles of a part, 2 for those among the next n
 unfoldable pub marksAt : ℕ → ℕ → Bytes → Bytes

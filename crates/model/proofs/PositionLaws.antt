@@ -98,7 +98,7 @@ skip d n e (group q k ms rest) ys l =
     ∙ onward-add (count ms) (count rest) (count ms + count rest) (reach d n ys) refl)
     ∙ onward-add 1 (count ms + count rest) (suc (count ms + count rest)) (reach d n ys) (omega arith)
 
-span-skip : (d e : ℕ) (ms : Members ℕ) (ys : Particles) → d < e → spanOf d (spread e ms ++ ys) ≡ count ms + spanOf d ys
+pub span-skip : (d e : ℕ) (ms : Members ℕ) (ys : Particles) → d < e → spanOf d (spread e ms ++ ys) ≡ count ms + spanOf d ys
 unfolding spanOf
 span-skip d e done ys l = omega arith
 span-skip d e (el q i rest) ys l = rw (lt-ltb d e l, spanOf) (omega (arith, span-skip d e rest ys l))

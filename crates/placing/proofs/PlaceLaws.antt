@@ -76,7 +76,7 @@ leads-right false place ms x e = found-nth place ms x e
 none≢some : {A : Type 0} {x : A} → none ≡ some x → ⊥
 none≢some e = let z : false ≡ true = cc e in false≢true z
 
-found-right : {A : Type 0} (i : Bool) (place : List ℕ) (ms : Members A) (x : Spot A) → foundBy i place ms ≡ some x → plug (x .context) (x .picked) ≡ ms
+pub found-right : {A : Type 0} (i : Bool) (place : List ℕ) (ms : Members A) (x : Spot A) → foundBy i place ms ≡ some x → plug (x .context) (x .picked) ≡ ms
 unfolding foundBy
 found-right {A} i place ms x e = by (leb (length place) 5) e
   where

@@ -85,7 +85,7 @@ start-done done n = eq-eqb (n + 1) (suc n) (omega arith)
 start-done (el q i f) n = ne-eqb (n + suc (suc (count f))) (suc n) (λ z. omega arith)
 start-done (group q k ms f) n = ne-eqb (n + suc (suc (count ms + count f))) (suc n) (λ z. omega arith)
 
-depth-holder : (h : Holder) (p : ℕ) (c : Context ℕ) → holder h p c .depth ≡ level (h .depth) c
+pub depth-holder : (h : Holder) (p : ℕ) (c : Context ℕ) → holder h p c .depth ≡ level (h .depth) c
 depth-holder h p here = refl
 depth-holder h p (past q i c) = depth-holder h (suc p) c
 depth-holder h p (over q k ms c) = depth-holder h (suc (count ms + p)) c

@@ -2,7 +2,8 @@
 -- Assumes nothing.
 use Prim.Native.Nat.{ℕ, zero, suc}
 use mathlib.Core.Path.{_≡_, refl, sym, ap, _∙_, subst}
-use mathlib.Core.Bool.{Bool, true, false}
+use mathlib.Core.Bool.{Bool, true, false, not, false≢true}
+use borrow.Author.Tests.{not-false}
 use Rattle.rules.specs.Bytes.{Bytes}
 use Rattle.rules.specs.Layout.{FlatStore, flat}
 use Rattle.rules.specs.Passing.{passes}
@@ -31,3 +32,22 @@ module _ (c : Call) (bs : Bytes) (room : ℕ) {out : Bytes} where
   pub answers-written : passes bs ≡ true → (n : ℕ) → n ≡ first (conditions c (storeIn bs)) → n ≡ 0 → (f : FlatStore) → flat (after c (storeIn bs)) ≡ f
       → {number len : ℕ} {left : Bytes} → Answers (limited room f) out number len left → Answers (outcome c bs room) out number len left
   answers-written h n e z f g a = answers-as (outcome-limited c bs room (holds bs h) (sym e ∙ z) f g) a
+
+-- ---- in the words of the code: b is what the check gave, m the number of the first condition
+pub passed : {b : Bool} (bs : Bytes) → not b ≡ false → b ≡ passes bs → passes bs ≡ true
+passed {b = b} bs h e = sym e ∙ not-false b h
+
+failed : {b : Bool} (bs : Bytes) → not b ≡ true → b ≡ passes bs → passes bs ≡ false
+failed {b = true} bs h e = absurd (false≢true h)
+failed {b = false} bs h e = sym e
+
+module _ (c : Call) (bs : Bytes) (room : ℕ) (out : Bytes) where
+  pub bad : {b : Bool} {n l : ℕ} → not b ≡ true → b ≡ passes bs → (n ≡ 1) × (l ≡ 0) → Answers (outcome c bs room) out n l out
+  bad h e (n-is, l-is) =
+      let a : Answers (outcome c bs room) out 1 0 out = answers-bad c bs room (failed bs h e) in
+      record { number-is = n-is ∙ a .number-is; length-is = l-is ∙ a .length-is; buffer-is = a .buffer-is }
+
+  pub turned-away : {b : Bool} {m n l : ℕ} → not b ≡ false → b ≡ passes bs → m ≡ first (conditions c (storeIn bs)) → (m ≡ 0 → ⊥) → (n ≡ m) × (l ≡ 0) → Answers (outcome c bs room) out n l out
+  turned-away {m = m} h e f z (n-is, l-is) =
+      let a : Answers (outcome c bs room) out m 0 out = answers-refused c bs room (passed bs h e) m f z in
+      record { number-is = n-is ∙ a .number-is; length-is = l-is ∙ a .length-is; buffer-is = a .buffer-is }

@@ -3,7 +3,7 @@
 use lib.ListN.{length}
 use Rattle.rules.specs.Change.{addAttribute}
 use Rattle.lookup.specs.Bodies.{bodiesOf}
-use Rattle.documents.proofs.Laws.{passed, bad, turned-away}
+use Rattle.storing.proofs.CallLaws.{passed, bad, turned-away}
 use Rattle.attributes.specs.Attributes.{added}
 use Rattle.attributes.proofs.Laws.{addable, made, add-leaves}
 use borrow.Author.Needs.{needs}

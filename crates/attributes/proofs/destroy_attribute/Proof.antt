@@ -4,7 +4,7 @@ use mathlib.Core.List.{[]}
 use lib.ListN.{length}
 use Rattle.rules.specs.Change.{destroyAttribute}
 use Rattle.lookup.specs.Bodies.{bodiesOf}
-use Rattle.documents.proofs.Laws.{passed, bad, turned-away}
+use Rattle.storing.proofs.CallLaws.{passed, bad, turned-away}
 use Rattle.attributes.specs.Attributes.{dropped}
 use Rattle.attributes.proofs.Laws.{droppable, made, destroy-leaves}
 use borrow.Author.Needs.{needs}

@@ -9,7 +9,8 @@ use Rattle.plans.specs.CallPlans.{addDocumentPlan}
 use Rattle.plans.proofs.CallsPlanned.{add-document-planned}
 use Rattle.documents.proofs.add_document.Statement.{statement}
 use Rattle.documents.proofs.add_document.Tie as tie
-use Rattle.documents.proofs.Laws.{passed, bad, turned-away, made, add-document-asks}
+use Rattle.storing.proofs.CallLaws.{passed, bad, turned-away}
+use Rattle.documents.proofs.Laws.{made, add-document-asks}
 
 passes-requires : tie.Need-passes-requires
 passes-requires c κs = search needs

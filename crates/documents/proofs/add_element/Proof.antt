@@ -11,7 +11,8 @@ use Rattle.plans.specs.CallPlans.{addElementPlan, childSerial}
 use Rattle.plans.proofs.CallsPlanned.{add-element-planned}
 use Rattle.documents.proofs.add_element.Statement.{statement}
 use Rattle.documents.proofs.add_element.Tie as tie
-use Rattle.documents.proofs.Laws.{passed, bad, turned-away, made, add-element-asks, add-element-there}
+use Rattle.storing.proofs.CallLaws.{passed, bad, turned-away}
+use Rattle.documents.proofs.Laws.{made, add-element-asks, add-element-there}
 
 passes-requires : tie.Need-passes-requires
 passes-requires c κs = search needs

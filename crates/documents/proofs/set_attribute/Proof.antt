@@ -11,7 +11,8 @@ use Rattle.plans.specs.CallPlans.{setAttributePlan, attributeSerial}
 use Rattle.plans.proofs.CallsPlanned.{set-attribute-planned}
 use Rattle.documents.proofs.set_attribute.Statement.{statement}
 use Rattle.documents.proofs.set_attribute.Tie as tie
-use Rattle.documents.proofs.Laws.{passed, bad, turned-away, made, set-attribute-asks, set-attribute-there}
+use Rattle.storing.proofs.CallLaws.{passed, bad, turned-away}
+use Rattle.documents.proofs.Laws.{made, set-attribute-asks, set-attribute-there}
 
 passes-requires : tie.Need-passes-requires
 passes-requires c κs = search needs

@@ -11,7 +11,8 @@ use Rattle.plans.specs.CallPlans.{setTextPlan, textSerial}
 use Rattle.plans.proofs.CallsPlanned.{set-text-planned}
 use Rattle.documents.proofs.set_text.Statement.{statement}
 use Rattle.documents.proofs.set_text.Tie as tie
-use Rattle.documents.proofs.Laws.{passed, bad, turned-away, made, set-text-asks, set-text-there}
+use Rattle.storing.proofs.CallLaws.{passed, bad, turned-away}
+use Rattle.documents.proofs.Laws.{made, set-text-asks, set-text-there}
 
 passes-requires : tie.Need-passes-requires
 passes-requires c κs = search needs

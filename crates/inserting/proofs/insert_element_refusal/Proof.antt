@@ -24,11 +24,14 @@ returns-3 c = insert-6 _ (reads _ (c .before .before .before .before .before .be
 returns-4 : tie.Need-returns-4
 returns-4 c = insert-6-too _ (reads _ (c .before .before .before .before .before .before .before .before .before .pre)) (c .before .before .before .before .before .before .before .before .before .args .owner) (c .before .before .before .before .before .before .before .before .before .args .place .now) (c .before .before .before .before .before .before .before .before .before .args .definition) (c .before .before .before .before .before .before .before .before .before .args .quantifier) (c .before .before .before .before .before .before .before .before .before .args .text .now) (c .before .before .before .before .before .is-value .ensures) (c .before .before .before .before .if1 .left) (omega arith) (c .before .before .number .ensures) (omega arith) (omega arith) .is
 
+needs-filling-requires : tie.Need-needs-filling-requires
+needs-filling-requires c κs = search needs
+
 place-refusal-requires : tie.Need-place-refusal-requires
-place-refusal-requires c κs = (c .before .before .before .before .before .before .before .before .before .pre, omega (arith, c .before .before .number .ensures .value), omega (arith, c .before .before .number .ensures .value))
+place-refusal-requires c κs = (c .before .before .before .before .before .before .before .before .before .before .pre, omega (arith, c .before .before .before .number .ensures .value), omega (arith, c .before .before .before .number .ensures .value))
 
 returns-5 : tie.Need-returns-5
-returns-5 c = insert-on _ (reads _ (c .before .before .before .before .before .before .before .before .before .before .pre)) (c .before .before .before .before .before .before .before .before .before .before .args .owner) (c .before .before .before .before .before .before .before .before .before .before .args .place .now) (c .before .before .before .before .before .before .before .before .before .before .args .definition) (c .before .before .before .before .before .before .before .before .before .before .args .quantifier) (c .before .before .before .before .before .before .before .before .before .before .args .text .now) (c .before .before .before .before .before .before .is-value .ensures) (c .before .before .before .before .before .if1 .left) (omega arith) (c .before .before .before .number .ensures) (omega arith) (omega arith) (c .place-refusal .ensures) .is
+returns-5 c = insert-on _ (reads _ (c .before .before .before .before .before .before .before .before .before .before .before .pre)) (c .before .before .before .before .before .before .before .before .before .before .before .args .owner) (c .before .before .before .before .before .before .before .before .before .before .before .args .place .now) (c .before .before .before .before .before .before .before .before .before .before .before .args .definition) (c .before .before .before .before .before .before .before .before .before .before .before .args .quantifier) (c .before .before .before .before .before .before .before .before .before .before .before .args .text .now) (c .before .before .before .before .before .before .before .is-value .ensures) (c .before .before .before .before .before .before .if1 .left) (omega arith) (c .before .before .before .before .number .ensures) (omega arith) (omega arith) (c .before .needs-filling .ensures) (c .place-refusal .ensures) .is
 
 pub insert-element-refusal-spec : {M : Type 1} → statement M
 insert-element-refusal-spec =
@@ -40,5 +43,6 @@ insert-element-refusal-spec =
     number-requires
     returns-3
     returns-4
+    needs-filling-requires
     place-refusal-requires
     returns-5)

@@ -6,8 +6,8 @@ use borrow.Author.Needs.{needs}
 use Rattle.inserting.proofs.place_refusal.Statement.{statement}
 use Rattle.inserting.proofs.place_refusal.Tie as tie
 
-part-of-requires : tie.Need-part-of-requires
-part-of-requires c κs = omega (arith, c .before .before .pre .1, reads (c .before .before .args .store .now) (c .before .before .pre .0) .whole .fewDefinitions)
+own-part-requires : tie.Need-own-part-requires
+own-part-requires c κs = omega (arith, c .before .before .pre .1, reads (c .before .before .args .store .now) (c .before .before .pre .0) .whole .fewDefinitions)
 
 find-requires : tie.Need-find-requires
 find-requires c κs = search needs
@@ -25,16 +25,16 @@ model-refusal-requires : tie.Need-model-refusal-requires
 model-refusal-requires c κs = search needs
 
 returns : tie.Need-returns
-returns c = place-8 (c .before .before .before .before .before .before .args .store .now) (c .before .before .before .before .before .before .args .o) (c .before .before .before .before .before .before .args .i) (c .before .before .before .before .before .before .args .needed) (c .before .before .before .before .before .before .args .unfilled) (c .before .before .before .before .before .before .args .place .now) (c .before .before .before .before .before .before .pre .0) (c .before .before .before .before .before .before .pre .1) (c .before .before .before .part-of .ensures) (c .before .before .find .ensures) (c .enum-told .given .1) .is
+returns c = place-8 (c .before .before .before .before .before .before .args .store .now) (c .before .before .before .before .before .before .args .o) (c .before .before .before .before .before .before .args .i) (c .before .before .before .before .before .before .args .needed) (c .before .before .before .before .before .before .args .unfilled) (c .before .before .before .before .before .before .args .place .now) (c .before .before .before .before .before .before .pre .0) (c .before .before .before .before .before .before .pre .1) (c .before .before .before .own-part .ensures) (c .before .before .find .ensures) (c .enum-told .given .1) .is
 
 returns-2 : tie.Need-returns-2
-returns-2 c = place-on (c .before .before .before .before .before .before .before .before .before .args .store .now) (c .before .before .before .before .before .before .before .before .before .args .o) (c .before .before .before .before .before .before .before .before .before .args .i) (c .before .before .before .before .before .before .before .before .before .args .needed) (c .before .before .before .before .before .before .before .before .before .args .unfilled) (c .before .before .before .before .before .before .before .before .before .args .place .now) (c .before .before .before .before .before .before .before .before .before .pre .0) (c .before .before .before .before .before .before .before .before .before .pre .1) (c .before .before .before .before .before .before .part-of .ensures) (c .before .before .before .before .before .find .ensures) (c .before .before .before .found .given .1) (c .before .off-spine .ensures) (c .model-refusal .ensures) .is
+returns-2 c = place-on (c .before .before .before .before .before .before .before .before .before .args .store .now) (c .before .before .before .before .before .before .before .before .before .args .o) (c .before .before .before .before .before .before .before .before .before .args .i) (c .before .before .before .before .before .before .before .before .before .args .needed) (c .before .before .before .before .before .before .before .before .before .args .unfilled) (c .before .before .before .before .before .before .before .before .before .args .place .now) (c .before .before .before .before .before .before .before .before .before .pre .0) (c .before .before .before .before .before .before .before .before .before .pre .1) (c .before .before .before .before .before .before .own-part .ensures) (c .before .before .before .before .before .find .ensures) (c .before .before .before .found .given .1) (c .before .off-spine .ensures) (c .model-refusal .ensures) .is
 
 pub place-refusal-spec : {M : Type 1} → statement M
 place-refusal-spec =
     tie.close
     (tie.spec
-    part-of-requires
+    own-part-requires
     find-requires
     enum-told
     enum-known-found

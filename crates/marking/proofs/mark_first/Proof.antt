@@ -1,0 +1,36 @@
+-- `marking::mark_first` meets its contract. Assumes nothing.
+use Rattle.marking.proofs.WriteLaws.{first-element, first-group}
+use borrow.Author.Needs.{needs}
+use mathlib.Core.Path.{refl}
+use Rattle.marking.proofs.mark_first.Statement.{statement}
+use Rattle.marking.proofs.mark_first.Tie as tie
+
+byte-requires : tie.Need-byte-requires
+byte-requires c κs = search needs
+
+byte-requires-2 : tie.Need-byte-requires-2
+byte-requires-2 c κs = search needs
+
+cast-i : tie.Need-cast-i
+cast-i c = search needs
+
+store-requires : tie.Need-store-requires
+store-requires c κs = search needs
+
+same-length : tie.Need-same-length
+same-length c = search needs
+
+returns : tie.Need-returns
+returns c =
+    let a = c .before .before .before .before .before .before .before .before .before .args in
+    first-element (a .value) (a .particles .now) (a .marks .now) (c .before .before .before .before .before .before .byte .ensures) (c .before .before .before .before .before .if1 .taken) (c .before .before .before .before .byte2 .ensures) refl (c .before .before .store .ensures)
+
+returns-2 : tie.Need-returns-2
+returns-2 c =
+    let a = c .before .before .before .before .args in
+    first-group (a .value) (a .particles .now) (a .marks .now) (c .before .byte .ensures) (c .if1 .left)
+
+pub mark-first-spec : {M : Type 1} → statement M
+mark-first-spec =
+    tie.close
+    (tie.spec byte-requires byte-requires-2 cast-i store-requires same-length returns returns-2)

@@ -1,0 +1,51 @@
+-- The plans of changes 5 and 8 from what the code reads.
+-- Assumes nothing.
+use Prim.Native.Nat.{ℕ, _+_, _*_, _≤_}
+use native.Mathlib.Omega.{arith}
+use mathlib.Core.Path.{_≡_, ap, _∙_}
+use mathlib.Core.Bool.{Bool, false, _&&_}
+use lib.ListN.{length, drop, getD, length-drop}
+use Rattle.rules.specs.declared.Quantifier.{Quantifier}
+use Rattle.rules.specs.declared.GroupKind.{GroupKind}
+use Rattle.rules.specs.Bytes.{Bytes}
+use Rattle.rules.specs.Quantifiers.{gains, cuts}
+use Rattle.model.specs.declared.Particle.{Particle}
+use Rattle.model.specs.declared.place.Holder.{Holder}
+use Rattle.model.specs.Members.{particlesOf}
+use Rattle.model.specs.Particle.{kindIn}
+use Rattle.model.specs.Places.{spanOf}
+use Rattle.model.proofs.ParticleLaws.{length-particles, span-bounded}
+use Rattle.rowpass.specs.Reading.{particlesBefore}
+use Rattle.validity.specs.Check.{definitionsIn}
+use Rattle.filling.specs.declared.Filling.the-variants.{Definition, Particles}
+use Rattle.editing.specs.declared.Plan.{Plan}
+use Rattle.plans.specs.ModelCalls.{requantifyPlan}
+use Rattle.marking.specs.Marking.{marksAt}
+use Rattle.models.specs.Editing.{startIn}
+use Rattle.quantifying.specs.Quantifying.{particleAt, Stands, groupSpan, elementPlan, groupPlan}
+
+module _ {part : Bytes} {h : Holder} {p : ℕ} {s : Bytes} {n : ℕ} (y : Stands part h p) (e : s ≡ drop (4 * p + 4) part) (f : n ≡ spanOf (h .depth) (particlesOf s)) where
+  pub span-low : n ≤ 255
+  span-low = omega (arith, f, span-bounded (h .depth) (particlesOf s), length-particles s, ap length e, length-drop (4 * p + 4) part, y .inside, y .short)
+
+  pub span-is : 1 + n ≡ groupSpan part h p
+  span-is = ap (λ (m : ℕ). 1 + m) (f ∙ ap (λ (z : Bytes). spanOf (h .depth) (particlesOf z)) e)
+
+pub element-planned : (part : Bytes) (o : ℕ) (h : Holder) (p : ℕ) (new : Quantifier) {x : Particle} {i : ℕ} {cut gain : Bool} {marks : Bytes} {r : Plan} → x ≡ particleAt part p → i ≡ getD part (4 * p + 2) 0
+    → cut ≡ cuts (x .quantifier) new → gain ≡ gains (x .quantifier) new → marks ≡ marksAt 1 p part → r ≡ requantifyPlan o marks (h .spine && cut) i (h .spine && gain) (Definition i) → r ≡ elementPlan o part h p new
+unfolding elementPlan
+element-planned part o h p new e f c g m w =
+    let a = c ∙ ap (λ (y : Particle). cuts (y .quantifier) new) e in
+    let b = g ∙ ap (λ (y : Particle). gains (y .quantifier) new) e in
+    w ∙ (λ j. requantifyPlan o (m j) (h .spine && a j) (f j) (h .spine && b j) (Definition (f j)))
+
+pub group-planned : (bs part : Bytes) (o : ℕ) (h : Holder) (p : ℕ) (new : Quantifier) {x : Particle} {gain : Bool} {defs : Bytes} {before span : ℕ} {marks : Bytes} {kind : GroupKind} {r : Plan} → x ≡ particleAt part p
+    → gain ≡ gains (x .quantifier) new → defs ≡ definitionsIn bs → before ≡ particlesBefore defs o → span ≡ groupSpan part h p → marks ≡ marksAt span p part → kind ≡ kindIn (x .what)
+    → r ≡ requantifyPlan o marks false 0 (h .spine && gain) (Particles kind (before + p + 1) (h .depth + 1)) → r ≡ groupPlan (startIn bs o) o part h p new
+unfolding groupPlan
+group-planned bs part o h p new e g d b s m k w =
+    let u = g ∙ ap (λ (y : Particle). gains (y .quantifier) new) e in
+    let v = b ∙ ap (λ (z : Bytes). particlesBefore z o) d in
+    let a = m ∙ ap (λ (n : ℕ). marksAt n p part) s in
+    let l = k ∙ ap (λ (y : Particle). kindIn (y .what)) e in
+    w ∙ (λ j. requantifyPlan o (a j) false 0 (h .spine && u j) (Particles (l j) (v j + p + 1) (h .depth + 1)))

@@ -1,0 +1,42 @@
+-- The plans of changes 5 and 8, as the code reads them from the owner's part.
+-- Assumes nothing.
+use Prim.Native.Nat.{ℕ, _+_, _*_, _≤_}
+use mathlib.Core.Bool.{false, _&&_}
+use lib.ListN.{length, drop, getD}
+use Rattle.rules.specs.declared.Quantifier.{Quantifier}
+use Rattle.rules.specs.Bytes.{Bytes}
+use Rattle.rules.specs.Quantifiers.{gains, cuts}
+use Rattle.rules.specs.Decode.{readParticle}
+use Rattle.model.specs.declared.Particle.{Particle}
+use Rattle.model.specs.declared.place.Holder.{Holder}
+use Rattle.model.specs.Members.{particlesOf}
+use Rattle.model.specs.Particle.{particleOf, kindIn}
+use Rattle.model.specs.Places.{spanOf}
+use Rattle.filling.specs.declared.Filling.the-variants.{Definition, Particles}
+use Rattle.editing.specs.declared.Plan.{Plan}
+use Rattle.plans.specs.ModelCalls.{requantifyPlan}
+use Rattle.marking.specs.Marking.{marksAt}
+
+-- particle p of a part
+abbrev pub particleAt : Bytes → ℕ → Particle
+particleAt part p = particleOf (readParticle (drop (4 * p) part))
+
+-- it is there, in the list h
+pub record Stands (part : Bytes) (h : Holder) (p : ℕ) : Type 0 where
+  pub inside : 4 * p + 4 ≤ length part
+  pub short : length part ≤ 1024
+  pub deep : h .depth ≤ p
+
+-- how many particles a group at particle p has, with its own
+abbrev pub groupSpan : Bytes → Holder → ℕ → ℕ
+groupSpan part h p = 1 + spanOf (h .depth) (particlesOf (drop (4 * p + 4) part))
+
+-- 5: the element at particle p gets the quantifier `new`
+unfoldable pub elementPlan : ℕ → Bytes → Holder → ℕ → Quantifier → Plan
+elementPlan o part h p new =
+    requantifyPlan o (marksAt 1 p part) (h .spine && cuts (particleAt part p .quantifier) new) (getD part (4 * p + 2) 0) (h .spine && gains (particleAt part p .quantifier) new) (Definition (getD part (4 * p + 2) 0))
+
+-- 8: the group there; `before` particles stand before the part
+unfoldable pub groupPlan : ℕ → ℕ → Bytes → Holder → ℕ → Quantifier → Plan
+groupPlan before o part h p new =
+    requantifyPlan o (marksAt (groupSpan part h p) p part) false 0 (h .spine && gains (particleAt part p .quantifier) new) (Particles (kindIn (particleAt part p .what)) (before + p + 1) (h .depth + 1))

@@ -3,7 +3,7 @@
 //!
 //! There are three ways to a call, each over the one before:
 //! - [`raw`]: the exported functions, with slices for pointers; they answer a number and a length;
-//! - the functions of this crate ([`check`], [`look_up`], [`print`] and one for each change), which answer a [`Result`] with a [`Refusal`];
+//! - the functions of this crate ([`check`], [`look_up`], [`print()`] and one for each change), which answer a [`Result`] with a [`Refusal`];
 //! - [`Store`], which owns its bytes and takes kinds, sorts and quantifiers as enums.
 //!
 //! [`Reader`] reads the definitions, attributes and rows of a store.

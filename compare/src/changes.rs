@@ -1,4 +1,4 @@
-//! The changes that the library has, each through its exported function. The table at the end is all that knows them: another one is another line of it.
+//! The sixteen changes, each through its exported function. The table at the end is all that knows them.
 
 use crate::hostile::Argument;
 use crate::words::Words;
@@ -50,22 +50,16 @@ macro_rules! call {
 
 macro_rules! changes {
     ($($function:ident $case:ident { $($argument:ident: $passed:ident $meaning:ident),* })*) => {
-        /// Whether the library has the call.
-        pub fn has(call: &Call) -> bool {
-            matches!(call, $(Call::$case { .. })|*)
-        }
-
-        /// Runs the call on the library, which has it.
+        /// Runs the call on the library.
         pub fn apply(call: &Call, store: &[u8], out: &mut [u8]) -> Answer {
             match call {
                 $(Call::$case { $($argument),* } => {
                     call!($function(store, out) [] [] $($argument: $passed,)*)
                 })*
-                _ => panic!("the library does not have {call:?}"),
             }
         }
 
-        /// Reads the arguments of the call with this name; none where the library does not have it.
+        /// Reads the arguments of the call with this name, if there is one.
         pub fn read(name: &str, words: &mut Words) -> Option<Call> {
             match format!("formstore_{name}").as_str() {
                 $(stringify!($function) => Some(Call::$case { $($argument: words.$passed()),* }),)*
@@ -73,11 +67,10 @@ macro_rules! changes {
             }
         }
 
-        /// The arguments of the call, lent; none where the library does not have it.
+        /// The arguments of the call, lent.
         pub fn arguments(call: &mut Call) -> Vec<Argument<'_>> {
             match call {
                 $(Call::$case { $($argument),* } => vec![$(Argument::$meaning($argument)),*],)*
-                _ => Vec::new(),
             }
         }
     };

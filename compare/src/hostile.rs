@@ -33,7 +33,7 @@ pub fn spoil(rng: &mut Rng, store: &Store, call: &mut Call) {
         match &mut lent[at] {
             Argument::Name(name) => **name = bad_name(rng, store),
             Argument::Value(value) => **value = bad_value(rng),
-            Argument::Place(place) => **place = bad_place(rng),
+            Argument::Place(place) => spoil_place(rng, place),
             Argument::Code(code) => **code = past(rng, 3),
             Argument::Definition(index) => **index = past(rng, store.form.definitions.len()),
             Argument::Attribute(index) => **index = past(rng, store.form.attributes.len()),
@@ -83,11 +83,11 @@ fn bad_serial(rng: &mut Rng, store: &Store) -> u32 {
     }
 }
 
-const LETTERS: &[u8; 17] = b"Letters-of_a.name";
-
-/// Of a length at a limit, with a byte that may be bad, or close to a name that is taken.
+/// Of a length at a limit or one that a byte cuts to a good one, with a byte that may be bad, or close to a name that is taken.
 fn bad_name(rng: &mut Rng, store: &Store) -> Vec<u8> {
-    let mut name = LETTERS[..[0, 1, 2, 15, 16, 17][rng.below(6)]].to_vec();
+    let length = [0, 1, 2, 15, 16, 17, 256, 260, 272][rng.below(9)];
+    let letters = b"Letters-of_a.name".iter().copied().cycle();
+    let mut name: Vec<u8> = letters.take(length).collect();
     match (rng.below(3), rng.pick(&store.form.definitions)) {
         (0, Some(taken)) => {
             name = taken.name.clone();
@@ -118,7 +118,16 @@ fn bad_value(rng: &mut Rng) -> Vec<u8> {
     value
 }
 
-/// Of up to six numbers.
-fn bad_place(rng: &mut Rng) -> Vec<u32> {
-    (0..rng.below(7)).map(|_| past(rng, 2)).collect()
+/// One number of it past its list or one that is cut to the same, more or fewer numbers than it has, or all of them any.
+fn spoil_place(rng: &mut Rng, place: &mut Vec<u32>) {
+    match (rng.below(5), place.len()) {
+        (0 | 1, length) if length > 0 => {
+            let number = &mut place[rng.below(length)];
+            let high = [1, 256, 65_536, 1 << 31, u32::MAX][rng.below(5)];
+            *number = number.wrapping_add(high);
+        }
+        (2, length) => place.resize(length + 1 + rng.below(6), 1),
+        (3, length) => place.resize([length.saturating_sub(1), length + 256][rng.below(2)], 0),
+        _ => *place = (0..rng.below(7)).map(|_| past(rng, 2)).collect(),
+    }
 }

@@ -2,7 +2,9 @@
 //! wrapper panics where a guard byte or the input has changed.
 
 pub mod changes;
+pub mod histories;
 pub mod hostile;
+pub mod threads;
 pub mod words;
 
 use second::Call;
@@ -115,7 +117,7 @@ pub fn print(store: &[u8], out: &mut [u8]) -> Answer {
     guarded(store, out, direct::print)
 }
 
-/// Runs a change that the library has.
+/// Runs a change.
 pub fn apply(call: &Call, store: &[u8], out: &mut [u8]) -> Answer {
     let given = call.clone();
     let answer = guarded(store, out, |store, out| changes::apply(&given, store, out));

@@ -1,18 +1,13 @@
-//! The lines of the outside vectors for the calls that the library has.
+//! The vectors through the library.
+
+#[path = "../../second/tests/common/mod.rs"]
+mod common;
 
 use compare::words::Words;
 use compare::{changes, Answer};
-use std::path::PathBuf;
+use std::collections::BTreeSet;
 
-fn folder() -> PathBuf {
-    match std::env::var_os("FORM_VECTORS") {
-        Some(path) => PathBuf::from(path),
-        None => PathBuf::from(env!("CARGO_MANIFEST_DIR")).join("../../shared/vectors"),
-    }
-}
-
-/// None: a call that the library does not have yet.
-fn agrees(line: &str) -> Option<bool> {
+fn agrees(line: &str) -> bool {
     let mut words = Words::of(line);
     let name = words.word();
     let store = words.bytes();
@@ -21,12 +16,12 @@ fn agrees(line: &str) -> Option<bool> {
         "look_up" => look_up_agrees(&store, &mut words),
         "print" => output_agrees(&mut words, |out| compare::print(&store, out)),
         _ => {
-            let call = changes::read(name, &mut words)?;
+            let call = changes::read(name, &mut words).expect("one of the nineteen calls");
             output_agrees(&mut words, |out| compare::apply(&call, &store, out))
         }
     };
     words.end();
-    Some(agreed)
+    agreed
 }
 
 fn look_up_agrees(store: &[u8], words: &mut Words) -> bool {
@@ -46,40 +41,18 @@ fn output_agrees(words: &mut Words, run: impl FnOnce(&mut [u8]) -> Answer) -> bo
 }
 
 #[test]
-fn all_lines_of_the_calls_that_the_library_has() {
-    let sample = PathBuf::from(env!("CARGO_MANIFEST_DIR")).join("../second/tests/sample.txt");
-    let mut files = vec![sample];
-    match std::fs::read_dir(folder()) {
-        Ok(entries) => files.extend(
-            entries
-                .map(|e| e.unwrap().path())
-                .filter(|p| p.extension().is_some_and(|e| e == "txt")),
-        ),
-        Err(_) => println!(
-            "*** SKIPPED: no folder of vectors at {} ***",
-            folder().display()
-        ),
-    }
-    let mut passed = 0;
-    for file in files {
-        let text = std::fs::read_to_string(&file).unwrap();
-        for (index, line) in text
-            .lines()
-            .enumerate()
-            .filter(|(_, line)| !line.is_empty())
-        {
-            if let Some(agreed) = agrees(line) {
-                assert!(
-                    agreed,
-                    "{}:{}: {}",
-                    file.display(),
-                    index + 1,
-                    &line[..line.len().min(60)]
-                );
-                passed += 1;
-            }
+fn all_lines() {
+    let mut lines = 0;
+    let mut calls = BTreeSet::new();
+    for file in common::vectors::files() {
+        let text = std::fs::read_to_string(&file).expect("the file can be read");
+        for (line, number) in text.lines().zip(1..).filter(|(line, _)| !line.is_empty()) {
+            let call = Words::of(line).word();
+            assert!(agrees(line), "{}:{number}: {call}", file.display());
+            calls.insert(call.to_string());
+            lines += 1;
         }
     }
-    println!("{passed} lines agree");
-    assert!(passed > 0);
+    println!("{lines} lines agree");
+    assert_eq!(calls.len(), 19, "{calls:?}");
 }

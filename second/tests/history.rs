@@ -5,7 +5,6 @@ mod common;
 use common::{seed, Counts, Moment, Named};
 use second::rng::Rng;
 use second::Call;
-use std::collections::HashSet;
 use std::time::{Duration, Instant};
 
 const CALLS: usize = 400;
@@ -28,11 +27,11 @@ fn book_agrees_after_every_call() {
     println!("{histories} histories of {CALLS} calls");
     counts.print();
     for change in 1..=16 {
-        assert!(counts.accepted[change] >= 200, "change {change}");
+        assert!(counts.accepted(change) >= 200, "change {change}");
     }
     // No history from the fresh store comes to a bad store or to the last serial.
     for number in (2..=16).chain([18]) {
-        assert!(counts.numbers[number] >= 5, "refusal {number}");
+        assert!(counts.given(number) >= 5, "refusal {number}");
     }
 }
 
@@ -51,15 +50,5 @@ fn history(rng: &mut Rng, counts: &mut Counts) {
         let answer = moment.step(rng, &call);
         counts.note(&call, answer);
     }
-    each_serial_made_once(&moment);
-}
-
-/// No serial is used again, and none below the next one is left out.
-fn each_serial_made_once(moment: &Moment) {
-    let mut seen = HashSet::new();
-    for line in moment.book.lines() {
-        assert!(seen.insert(line.row.serial), "serial made twice");
-        assert!(line.row.serial >= 1 && line.row.serial < moment.book.next_serial);
-    }
-    assert_eq!(seen.len() as u32, moment.book.next_serial - 1);
+    moment.each_serial_made_once();
 }

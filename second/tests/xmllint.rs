@@ -7,13 +7,12 @@
 mod common;
 
 use common::seed;
+use common::xmllint::{are_valid, scratch_folder, wrapped};
 use second::layout::encode;
 use second::print::{declarations, text_of};
 use second::random::{documents, forms};
 use second::rng::Rng;
 use second::store::*;
-use std::path::{Path, PathBuf};
-use std::process::{Command, Stdio};
 use std::time::{Duration, Instant};
 
 const DOCUMENTS: usize = 400;
@@ -22,7 +21,7 @@ const TIME: Duration = Duration::from_secs(20);
 #[test]
 fn verdicts_agree() {
     let seed = seed();
-    let folder = scratch_folder();
+    let folder = scratch_folder("second");
     let mut rng = Rng::new(seed);
     let (mut good, mut bad) = (0, 0);
     let start = Instant::now();
@@ -32,20 +31,14 @@ fn verdicts_agree() {
         };
         let passes = second::check(&encode(&store)) == 0;
         let file = folder.join(format!("{}.xml", good + bad));
-        std::fs::write(&file, wrapped(&store)).expect("the file can be written");
-        let valid = is_valid(&file);
+        std::fs::write(&file, text_with_declarations(&store)).expect("the file can be written");
+        let valid = are_valid(&[&file]);
         assert_eq!(passes, valid, "see {}", file.display());
         *(if passes { &mut good } else { &mut bad }) += 1;
     }
     println!("{good} conforming, {bad} not conforming");
     assert!(good >= 100 && bad >= 100);
     let _ = std::fs::remove_dir_all(folder);
-}
-
-fn scratch_folder() -> PathBuf {
-    let folder = std::env::temp_dir().join(format!("second-xmllint-{}", std::process::id()));
-    std::fs::create_dir_all(&folder).expect("a scratch folder can be made");
-    folder
 }
 
 /// A store of one document, which two times in three is spoilt.
@@ -67,32 +60,9 @@ fn one_document(rng: &mut Rng) -> Option<Store> {
     Some(store)
 }
 
-/// The document line with the declarations in front of it.
-fn wrapped(store: &Store) -> Vec<u8> {
+fn text_with_declarations(store: &Store) -> Vec<u8> {
     let declared = declarations(&store.form);
     let text = text_of(store);
     let root = &store.form.definitions[store.documents[0].definition].name;
-    let (begin, end): (&[u8], &[u8]) = (b"<!DOCTYPE ", b"]>\n");
-    [
-        begin,
-        root,
-        b" [\n",
-        &declared,
-        end,
-        &text[declared.len()..],
-    ]
-    .concat()
-}
-
-fn is_valid(file: &Path) -> bool {
-    let status = Command::new("xmllint")
-        .args(["--noent", "--valid", "--noout"])
-        .arg(file)
-        .stderr(Stdio::null())
-        .status();
-    let status = status.expect("xmllint must be installed (Debian: libxml2-utils)");
-    let code = status.code().expect("xmllint ends by itself");
-    // 1: not well-formed; 3, 4: not valid; all else is trouble of another sort.
-    assert!(matches!(code, 0 | 1 | 3 | 4), "xmllint ends with {code}");
-    code == 0
+    wrapped(root, &declared, &text[declared.len()..])
 }

@@ -221,8 +221,8 @@ fn add_attributes(rng: &mut Rng, form: &mut Form, count: usize) {
 }
 
 /// Copies documents as long as there is room, then adds single rows: the last
-/// definition is EMPTY and has no attributes.
-fn add_documents(rng: &mut Rng, store: &mut Store, count: usize) {
+/// definition is EMPTY and has no attributes. The copies have no own serials.
+pub fn add_documents(rng: &mut Rng, store: &mut Store, count: usize) {
     let mut rows = store.row_count();
     while rows < count {
         let copy = rng.pick(&store.documents).cloned();

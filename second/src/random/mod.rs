@@ -5,3 +5,5 @@ pub mod calls;
 pub mod damage;
 pub mod documents;
 pub mod forms;
+pub mod history;
+pub mod words;

@@ -1,23 +1,15 @@
-//! Stores and arguments at the limits: ceilings, the last serials, fillings too large to make, lengths and bytes of names and values, rounds of a
-//! group. Every call is also compared with the second implementation, byte by byte.
+//! Changes 1, 2 and 11 to 16 at the limits.
 
-#[path = "../../second/tests/common/mod.rs"]
-mod common;
-
-use common::notation::{self, NAMES};
-use common::LONGEST;
-use compare::agreed;
-use second::layout::encode;
-use second::store::*;
-use second::Call;
-use std::time::{Duration, Instant};
+use crate::common::notation::NAMES;
+use crate::forms::{add_attribute, CODES};
+use crate::*;
 
 fn create_definition(name: &[u8], kind: u32) -> Call {
     let name = name.to_vec();
     Call::CreateDefinition { name, kind }
 }
 
-fn add_document(definition: u32, text: &[u8]) -> Call {
+pub fn add_document(definition: u32, text: &[u8]) -> Call {
     let text = text.to_vec();
     Call::AddDocument { definition, text }
 }
@@ -52,40 +44,9 @@ fn set_text(element: u32, text: &[u8]) -> Call {
     Call::SetText { element, text }
 }
 
-/// The number that both answer with the longest buffer, and the new store. An accepted call is also compared in buffers that are just long enough,
-/// one byte short and empty.
-fn change(call: &Call, store: &[u8]) -> (u32, Vec<u8>) {
-    let (answer, mut out) = agreed(call, store, &[0xEE; LONGEST]);
-    if answer.number == 0 {
-        for (length, number) in [(answer.length, 0), (answer.length - 1, 18), (0, 18)] {
-            let (shorter, _) = agreed(call, store, &vec![0xEE; length]);
-            assert_eq!(shorter.number, number, "{call:?} into {length} bytes");
-        }
-    }
-    out.truncate(answer.length);
-    (answer.number, out)
-}
-
-fn number(call: &Call, store: &[u8]) -> u32 {
-    change(call, store).0
-}
-
-/// `m` has an IMPLIED attribute, 0.
-fn with_attribute(mut store: Store) -> Store {
-    store.form.attributes.push(Attribute {
-        owner: 0,
-        name: b"n".to_vec(),
-        sort: AttributeSort::Implied,
-        value: Vec::new(),
-    });
-    store
-}
-
 /// Documents `m` without children; a call that makes a row, in each of the three ways.
 fn makers(documents: usize, next_serial: u32) -> [u32; 3] {
-    let mut store = with_attribute(notation::store("(a?)", &vec![""; documents]));
-    store.next_serial = next_serial;
-    let bytes = encode(&store);
+    let bytes = childless("(a?)", documents, next_serial);
     [
         number(&add_document(0, b""), &bytes),
         number(&add_element(1, 0, 1, b""), &bytes),
@@ -150,54 +111,6 @@ fn next_serials_at_the_end() {
     assert_eq!(number(&destroy_element(u32::MAX), &bytes), 7);
 }
 
-/// A form in which each definition has so many of those behind it in its model, all NONE.
-fn nested_form(definitions: usize, members: usize) -> Store {
-    let mut store = Store::fresh();
-    for index in 0..definitions {
-        let behind = index + 1..definitions.min(index + 1 + members);
-        store.form.definitions.push(Definition {
-            name: format!("n{index}").into_bytes(),
-            kind: Kind::Complex,
-            model: behind.map(member).collect(),
-        });
-    }
-    store
-}
-
-fn member(index: usize) -> Particle {
-    Particle {
-        quantifier: Quantifier::None,
-        term: Term::Element(index),
-    }
-}
-
-/// Gives a definition so many REQUIRED attributes; the definitions behind it have none.
-fn add_required(store: &mut Store, owner: usize, count: usize) {
-    for number in 0..count {
-        store.form.attributes.push(Attribute {
-            owner,
-            name: format!("r{number}").into_bytes(),
-            sort: AttributeSort::Required,
-            value: b"fill".to_vec(),
-        });
-    }
-}
-
-/// How many rows the filling of the first definition of a nested form has.
-fn filling_rows(form: &Form) -> u128 {
-    let mut rows = vec![0; form.definitions.len()];
-    for index in (0..rows.len()).rev() {
-        let own = form.attributes.iter().filter(|own| own.owner == index);
-        rows[index] = 1 + own.count() as u128;
-        for particle in &form.definitions[index].model {
-            if let Term::Element(member) = particle.term {
-                rows[index] += rows[member];
-            }
-        }
-    }
-    rows[0]
-}
-
 #[test]
 fn filling_of_all_rows_and_one_more() {
     let mut store = nested_form(13, 12);
@@ -225,16 +138,6 @@ fn deepest_filling() {
     assert_eq!(number(&create_definition(b"more", 0), &bytes), 16);
 }
 
-/// The library alone answers 16 within a second, and both agree.
-fn refused_at_once(call: &Call, store: &[u8]) {
-    let mut out = vec![0xEE; LONGEST];
-    let start = Instant::now();
-    let answer = compare::changes::apply(call, store, &mut out);
-    assert!(start.elapsed() < Duration::from_secs(1), "{call:?}");
-    assert_eq!(answer.number, 16);
-    assert_eq!(number(call, store), 16);
-}
-
 /// Of over 2^60 rows, and of more than a number of 64 bits counts.
 #[test]
 fn fillings_too_large_to_make() {
@@ -255,16 +158,19 @@ fn fillings_too_large_to_make() {
 fn names() {
     let store = encode(&notation::store("(a)", &[]));
     let letter = |byte: u8| byte.is_ascii_alphabetic() || byte == b'_';
+    let check = |name: &[u8], good: bool| {
+        for call in [create_definition(name, 0), add_attribute(name, 0, b"")] {
+            let wanted = if good { 0 } else { 2 };
+            assert_eq!(number(&call, &store), wanted, "{call:?}");
+        }
+    };
     for byte in 0..=255u8 {
-        let number_of = |name: &[u8]| number(&create_definition(name, 0), &store);
         let later = letter(byte) || byte.is_ascii_digit() || byte == b'-' || byte == b'.';
-        assert_eq!(number_of(&[byte, b'z']), if letter(byte) { 0 } else { 2 });
-        assert_eq!(number_of(&[b'z', byte]), if later { 0 } else { 2 });
+        check(&[byte, b'z'], letter(byte));
+        check(&[b'z', byte], later);
     }
     for length in 0..=257 {
-        let wanted = if (1..=16).contains(&length) { 0 } else { 2 };
-        let call = create_definition(&vec![b'z'; length], 2);
-        assert_eq!(number(&call, &store), wanted, "{length} bytes");
+        check(&vec![b'z'; length], (1..=16).contains(&length));
     }
     for (name, wanted) in [(b"a", 5), (b"m", 5), (b"A", 0)] {
         assert_eq!(number(&create_definition(name, 0), &store), wanted);
@@ -274,13 +180,12 @@ fn names() {
 #[test]
 fn kinds() {
     let store = encode(&notation::store("(a)", &[]));
-    for kind in [0, 1, 2, 3, 255, 256, 65_536, 1 << 31, u32::MAX] {
+    for kind in CODES {
         let wanted = if kind <= 2 { 0 } else { 4 };
         assert_eq!(number(&create_definition(b"z", kind), &store), wanted);
     }
 }
 
-/// All bytes, and all lengths up to one more than a byte counts, in each of the four calls that take a value.
 #[test]
 fn values() {
     let mut store = with_attribute(notation::store("(a*)", &["a"]));
@@ -288,23 +193,14 @@ fn values() {
     store.documents[0].content.clear();
     let (_, bytes) = change(&add_element(1, 0, 1, b"old"), &encode(&store));
     let serial = store.next_serial;
-    let check = |value: &[u8], good: bool| {
-        for call in [
+    judge_values(&bytes, |value| {
+        vec![
             add_document(1, value),
             add_element(1, 1, 1, value),
             set_attribute(1, 0, value),
             set_text(serial, value),
-        ] {
-            let wanted = if good { 0 } else { 3 };
-            assert_eq!(number(&call, &bytes), wanted, "{call:?}");
-        }
-    };
-    for byte in 0..=255u8 {
-        check(&[b'v', byte], (0x20..=0x7e).contains(&byte));
-    }
-    for length in 0..=257 {
-        check(&vec![b'v'; length], length <= 32);
-    }
+        ]
+    });
 }
 
 /// Every call of the documents with all small arguments, on words that no history grows.

@@ -1,0 +1,124 @@
+//! Stores and arguments at the limits: ceilings, the last serials, fillings too large to make, lengths and bytes of names and values, places, rounds of a
+//! group. Every call is also compared with the second implementation, byte by byte.
+
+#[path = "../../../second/tests/common/mod.rs"]
+mod common;
+mod documents;
+mod forms;
+
+use common::{notation, LONGEST};
+use compare::agreed;
+use second::layout::encode;
+use second::store::*;
+use second::Call;
+use std::time::{Duration, Instant};
+
+/// The number that both answer with the longest buffer, and the new store. An accepted call is also compared in buffers that are just long enough,
+/// one byte short and empty.
+fn change(call: &Call, store: &[u8]) -> (u32, Vec<u8>) {
+    let (answer, mut out) = agreed(call, store, &[0xEE; LONGEST]);
+    if answer.number == 0 {
+        for (length, number) in [(answer.length, 0), (answer.length - 1, 18), (0, 18)] {
+            let (shorter, _) = agreed(call, store, &vec![0xEE; length]);
+            assert_eq!(shorter.number, number, "{call:?} into {length} bytes");
+        }
+    }
+    out.truncate(answer.length);
+    (answer.number, out)
+}
+
+fn number(call: &Call, store: &[u8]) -> u32 {
+    change(call, store).0
+}
+
+/// `m` has an IMPLIED attribute, 0.
+fn with_attribute(mut store: Store) -> Store {
+    store.form.attributes.push(Attribute {
+        owner: 0,
+        name: b"n".to_vec(),
+        sort: AttributeSort::Implied,
+        value: Vec::new(),
+    });
+    store
+}
+
+/// So many documents `m` without children, with this next serial.
+fn childless(model: &str, documents: usize, next_serial: u32) -> Vec<u8> {
+    let mut store = with_attribute(notation::store(model, &vec![""; documents]));
+    store.next_serial = next_serial;
+    encode(&store)
+}
+
+/// Calls with a value of all bytes, and of all lengths up to one more than a byte counts: all are accepted where it is good, else they give 3.
+fn judge_values(store: &[u8], calls: impl Fn(&[u8]) -> Vec<Call>) {
+    let judge = |value: &[u8], good: bool| {
+        for call in calls(value) {
+            let wanted = if good { 0 } else { 3 };
+            assert_eq!(number(&call, store), wanted, "{call:?}");
+        }
+    };
+    for byte in 0..=255u8 {
+        judge(&[b'v', byte], (0x20..=0x7e).contains(&byte));
+    }
+    for length in 0..=257 {
+        judge(&vec![b'v'; length], length <= 32);
+    }
+}
+
+/// A form in which each definition has so many of those behind it in its model, all NONE.
+fn nested_form(definitions: usize, members: usize) -> Store {
+    let mut store = Store::fresh();
+    for index in 0..definitions {
+        let behind = index + 1..definitions.min(index + 1 + members);
+        store.form.definitions.push(Definition {
+            name: format!("n{index}").into_bytes(),
+            kind: Kind::Complex,
+            model: behind.map(member).collect(),
+        });
+    }
+    store
+}
+
+fn member(index: usize) -> Particle {
+    Particle {
+        quantifier: Quantifier::None,
+        term: Term::Element(index),
+    }
+}
+
+/// Gives a definition so many REQUIRED attributes; the definitions behind it have none.
+fn add_required(store: &mut Store, owner: usize, count: usize) {
+    for number in 0..count {
+        store.form.attributes.push(Attribute {
+            owner,
+            name: format!("r{number}").into_bytes(),
+            sort: AttributeSort::Required,
+            value: b"fill".to_vec(),
+        });
+    }
+}
+
+/// How many rows the filling of the first definition of a nested form has.
+fn filling_rows(form: &Form) -> u128 {
+    let mut rows = vec![0; form.definitions.len()];
+    for index in (0..rows.len()).rev() {
+        let own = form.attributes.iter().filter(|own| own.owner == index);
+        rows[index] = 1 + own.count() as u128;
+        for particle in &form.definitions[index].model {
+            if let Term::Element(member) = particle.term {
+                rows[index] += rows[member];
+            }
+        }
+    }
+    rows[0]
+}
+
+/// The library alone answers 16 within a second, and both agree.
+fn refused_at_once(call: &Call, store: &[u8]) {
+    let mut out = vec![0xEE; LONGEST];
+    let start = Instant::now();
+    let answer = compare::changes::apply(call, store, &mut out);
+    assert!(start.elapsed() < Duration::from_secs(1), "{call:?}");
+    assert_eq!(answer.number, 16);
+    assert_eq!(number(call, store), 16);
+}

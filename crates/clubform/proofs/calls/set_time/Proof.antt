@@ -1,0 +1,27 @@
+-- `clubform::calls::set_time` meets its contract.
+-- Assumes nothing.
+use borrow.Author.Needs.{needs}
+use Rattle.clubform.proofs.Stages.{accepted}
+use Rattle.clubform.proofs.Laws.{answered}
+use Rattle.clubform.proofs.calls.set_time.Statement.{statement}
+use Rattle.clubform.proofs.calls.set_time.Tie as tie
+
+slice-aggregate-set-text : tie.Need-slice-aggregate-set-text
+slice-aggregate-set-text c = search needs
+
+set-text-requires : tie.Need-set-text-requires
+set-text-requires c κs = search needs
+
+expect-requires : tie.Need-expect-requires
+expect-requires c κs = answered (accepted .set-time) (c .before .before .before .before .before .before .before .before .pre) (c .before .before .before .set-text .ensures) .number-is
+
+same-length : tie.Need-same-length
+same-length c = search needs
+
+returns : tie.Need-returns
+returns c = answered (accepted .set-time) (c .before .before .before .before .before .before .before .before .before .pre) (c .before .before .before .before .set-text .ensures) .holds
+
+pub set-time-spec : {M : Type 1} → statement M
+set-time-spec =
+    tie.close
+    (tie.spec slice-aggregate-set-text set-text-requires expect-requires same-length returns)

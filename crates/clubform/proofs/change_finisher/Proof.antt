@@ -1,0 +1,59 @@
+-- `clubform::change_finisher` meets its contract.
+-- Assumes nothing.
+use borrow.Author.Needs.{needs}
+use Rattle.clubform.proofs.Laws.{front}
+use Rattle.clubform.proofs.change_finisher.Statement.{statement}
+use Rattle.clubform.proofs.change_finisher.Tie as tie
+
+slice-reshare-prefix-create-club : tie.Need-slice-reshare-prefix-create-club
+slice-reshare-prefix-create-club c = search needs
+
+slice-aggregate-create-club : tie.Need-slice-aggregate-create-club
+slice-aggregate-create-club c = front (c .before .before .before .pre .0)
+
+create-club-requires : tie.Need-create-club-requires
+create-club-requires c κs = search needs
+
+slice-reshare-prefix-insert-club : tie.Need-slice-reshare-prefix-insert-club
+slice-reshare-prefix-insert-club c = search needs
+
+slice-aggregate-insert-club : tie.Need-slice-aggregate-insert-club
+slice-aggregate-insert-club c = front (c .before .before .before .create-club .ensures)
+
+insert-club-requires : tie.Need-insert-club-requires
+insert-club-requires c κs = search needs
+
+slice-reshare-prefix-make-time-optional : tie.Need-slice-reshare-prefix-make-time-optional
+slice-reshare-prefix-make-time-optional c = search needs
+
+slice-aggregate-make-time-optional : tie.Need-slice-aggregate-make-time-optional
+slice-aggregate-make-time-optional c = front (c .before .before .before .insert-club .ensures)
+
+make-time-optional-requires : tie.Need-make-time-optional-requires
+make-time-optional-requires c κs = search needs
+
+same-length : tie.Need-same-length
+same-length c = search needs
+
+same-length-2 : tie.Need-same-length-2
+same-length-2 c = search needs
+
+returns : tie.Need-returns
+returns c = search needs
+
+pub change-finisher-spec : {M : Type 1} → statement M
+change-finisher-spec =
+    tie.close
+    (tie.spec
+    slice-reshare-prefix-create-club
+    slice-aggregate-create-club
+    create-club-requires
+    slice-reshare-prefix-insert-club
+    slice-aggregate-insert-club
+    insert-club-requires
+    slice-reshare-prefix-make-time-optional
+    slice-aggregate-make-time-optional
+    make-time-optional-requires
+    same-length
+    same-length-2
+    returns)

@@ -1,0 +1,22 @@
+-- `clubform::put_text` meets its contract.
+-- Assumes nothing.
+use borrow.Author.Needs.{needs}
+use Rattle.clubform.proofs.Stages.{accepted}
+use Rattle.clubform.proofs.Laws.{answered}
+use Rattle.clubform.proofs.put_text.Statement.{statement}
+use Rattle.clubform.proofs.put_text.Tie as tie
+
+print-requires : tie.Need-print-requires
+print-requires c κs = search needs
+
+expect-requires : tie.Need-expect-requires
+expect-requires c κs = answered (accepted .print) (c .before .before .before .before .before .before .before .pre) (c .before .before .before .print .ensures) .number-is
+
+same-length : tie.Need-same-length
+same-length c = search needs
+
+returns : tie.Need-returns
+returns c = answered (accepted .print) (c .before .before .before .before .before .before .before .before .pre) (c .before .before .before .before .print .ensures) .holds
+
+pub put-text-spec : {M : Type 1} → statement M
+put-text-spec = tie.close (tie.spec print-requires expect-requires same-length returns)

@@ -1,36 +1,16 @@
-//! The proved library's exported functions, behind safe wrappers. Every call runs on a copy of its input with guard bytes around it, and the
-//! wrapper panics where a guard byte or the input has changed.
+//! The proved library's exported functions, as the crate `formstore` calls them. Every call runs on a copy of its input with guard bytes around it, and
+//! panics where a guard byte or the input has changed.
 
 pub mod changes;
 pub mod histories;
 pub mod hostile;
+pub mod reading;
 pub mod threads;
 pub mod words;
 
+use formstore::raw;
+pub use formstore::raw::{Answer, Found};
 use second::Call;
-
-/// What `formstore_look_up` answers.
-#[repr(C)]
-#[derive(Clone, Copy, Debug, PartialEq, Eq)]
-pub struct Found {
-    pub number: u32,
-    pub start: usize,
-    pub length: usize,
-}
-
-/// What a call that writes answers.
-#[repr(C)]
-#[derive(Clone, Copy, Debug, PartialEq, Eq)]
-pub struct Answer {
-    pub number: u32,
-    pub length: usize,
-}
-
-extern "C" {
-    fn formstore_check(store: *const u8, length: usize) -> u32;
-    fn formstore_look_up(store: *const u8, length: usize, serial: u32) -> Found;
-    fn formstore_print(store: *const u8, length: usize, out: *mut u8, room: usize) -> Answer;
-}
 
 const GUARD: usize = 64;
 
@@ -49,10 +29,6 @@ impl Guarded {
             bytes,
             length: content.len(),
         }
-    }
-
-    fn start(&self) -> *const u8 {
-        self.bytes[GUARD..].as_ptr()
     }
 
     fn content(&self) -> &[u8] {
@@ -87,8 +63,7 @@ impl Guarded {
 /// 0 if the store passes, else 1.
 pub fn check(store: &[u8]) -> u32 {
     let guarded = Guarded::new(store);
-    // SAFETY: the pointer has `length` bytes, and nobody else uses them.
-    let number = unsafe { formstore_check(guarded.start(), guarded.length) };
+    let number = raw::check(guarded.content());
     guarded.verify(store);
     number
 }
@@ -96,8 +71,7 @@ pub fn check(store: &[u8]) -> u32 {
 /// The number, and where the value stands.
 pub fn look_up(store: &[u8], serial: u32) -> Found {
     let guarded = Guarded::new(store);
-    // SAFETY: as in `check`.
-    let found = unsafe { formstore_look_up(guarded.start(), guarded.length, serial) };
+    let found = raw::look_up(guarded.content(), serial);
     guarded.verify(store);
     found
 }
@@ -114,7 +88,7 @@ fn guarded(store: &[u8], out: &mut [u8], run: impl FnOnce(&[u8], &mut [u8]) -> A
 }
 
 pub fn print(store: &[u8], out: &mut [u8]) -> Answer {
-    guarded(store, out, direct::print)
+    guarded(store, out, raw::print)
 }
 
 /// Runs a change.
@@ -139,19 +113,4 @@ pub fn agreed(call: &Call, store: &[u8], buffer: &[u8]) -> (Answer, Vec<u8>) {
         "{call:?} into {} bytes: {answer:?}, wanted {expected:?}; first byte that differs: {byte:?}; store {store:02x?}",
         buffer.len()
     );
-}
-
-/// The exported functions without copies and guards, for measuring; those of the changes stand in `changes`.
-pub mod direct {
-    use super::{formstore_check, formstore_print, Answer};
-
-    pub fn check(store: &[u8]) -> u32 {
-        // SAFETY: the slice is valid for its length.
-        unsafe { formstore_check(store.as_ptr(), store.len()) }
-    }
-
-    pub fn print(store: &[u8], out: &mut [u8]) -> Answer {
-        // SAFETY: the slices are valid for their lengths, and a `&mut` overlaps nothing.
-        unsafe { formstore_print(store.as_ptr(), store.len(), out.as_mut_ptr(), out.len()) }
-    }
 }

@@ -2,33 +2,15 @@
 -- Assumes nothing.
 use Prim.Native.Nat.{ℕ, _≤_}
 use mathlib.Core.Path.{_≡_}
-use mathlib.Core.List.{List, [], _∷_, map}
+use mathlib.Core.List.{List}
 use lib.ListN.{length, take}
-use Rattle.rules.specs.Bytes.{Bytes, ascii}
-use Rattle.rules.specs.Change.{Call, createDefinition, insertElement, changeQuantifier, addDocument, addElement, setText}
+use Rattle.rules.specs.Bytes.{Bytes}
 use Rattle.rules.specs.Run.{Asked, start, run}
+use Rattle.rules.proofs.Clubform.{clubform, printedText}
 
--- every output buffer has 508 bytes
-abbrev asked : Call → Asked
-asked c = record { call = c; room = 508 }
-
+-- the calls, of which the rules compute store, text and book; every output buffer has 508 bytes
 unfoldable pub history : List Asked
-history =
-    map asked
-    (createDefinition (ascii "race") 2
-    ∷ createDefinition (ascii "finisher") 2
-    ∷ createDefinition (ascii "bib") 1
-    ∷ createDefinition (ascii "time") 1
-    ∷ insertElement 0 (0 ∷ []) 1 2 []
-    ∷ insertElement 1 (0 ∷ []) 2 0 (ascii "0")
-    ∷ insertElement 1 (1 ∷ []) 3 0 (ascii "-")
-    ∷ addDocument 0 []
-    ∷ addElement 1 0 1 (ascii "7")
-    ∷ setText 5 (ascii "19:04")
-    ∷ createDefinition (ascii "club") 1
-    ∷ insertElement 1 (1 ∷ []) 4 0 (ascii "none")
-    ∷ changeQuantifier 1 (3 ∷ []) 1 []
-    ∷ [])
+history = clubform
 
 -- the store after n calls
 unfoldable pub stage : ℕ → Bytes
@@ -36,7 +18,7 @@ stage n = run (take n history) start .store
 
 -- the text of the last store
 unfoldable pub lastText : Bytes
-lastText = ascii "<!ELEMENT race (finisher*)>\n<!ELEMENT finisher (bib,club,time?)>\n<!ELEMENT bib (#PCDATA)>\n<!ELEMENT time (#PCDATA)>\n<!ELEMENT club (#PCDATA)>\n<race><finisher><bib>7</bib><club>none</club><time>19:04</time></finisher></race>\n"
+lastText = printedText
 
 -- a call reads the store `w`, and has room for 508 bytes
 pub record Reads (w store out : Bytes) : Type 0 where

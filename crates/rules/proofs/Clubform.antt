@@ -31,7 +31,7 @@ use Rattle.rules.proofs.Words.{and-split}
 abbrev asked : Call → Asked
 asked c = record { call = c; room = 508 }
 
-pub clubform : List Asked
+abbrev pub clubform : List Asked
 clubform =
     map asked
     (createDefinition (ascii "race") 2
@@ -52,7 +52,7 @@ clubform =
 abbrev end : Moment
 end = run clubform start
 
-abbrev printedText : Bytes
+abbrev pub printedText : Bytes
 printedText = ascii "<!ELEMENT race (finisher*)>\n<!ELEMENT finisher (bib,club,time?)>\n<!ELEMENT bib (#PCDATA)>\n<!ELEMENT time (#PCDATA)>\n<!ELEMENT club (#PCDATA)>\n<race><finisher><bib>7</bib><club>none</club><time>19:04</time></finisher></race>\n"
 
 -- two lists of lines are equal, as a test that computes

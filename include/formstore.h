@@ -1,7 +1,8 @@
 /* The form store of a timing box: the calls that a box links (rt staticlib formstore writes target/staticlib/libformstore.a).
  *
- * One rule that nothing can check for a C caller: each pointer has as many bytes as its length says (and is not NULL, even where that is 0), and `store` and
- * `out` do not overlap. With it no call reads or writes outside its buffers, and every call ends. */
+ * One rule that nothing can check for a C caller: each pointer has as much as its length says, bytes or, for a place, numbers (uint32_t, aligned as such); none is NULL, even
+ * where the length is 0; and `out` overlaps none of the others: not `store`, and no name, text, value or place. With it no call reads or writes outside its buffers, and every
+ * call ends. */
 #ifndef FORMSTORE_H
 #define FORMSTORE_H
 
@@ -67,7 +68,8 @@ struct formstore_answer {
 struct formstore_answer formstore_print(const uint8_t *store, size_t store_length, uint8_t *out, size_t out_length);
 
 /* The changes. Each reads `store` and writes the new store into `out`. Definitions and attributes are passed by their index, elements by their serial,
- * particles by their owner and a place. Any u32 may be passed for a number. Each says with which numbers it refuses besides 1 and 18. */
+ * particles by their owner and a place: numbers, of which `place_length` says how many.
+ * Any u32 may be passed for a number. Each says with which numbers it refuses besides 1 and 18. */
 
 /* 1. Appends a definition; kind is 0 (EMPTY), 1 (PCDATA) or 2 (COMPLEX). Refuses with 2, 4, 5 and 16. */
 struct formstore_answer formstore_create_definition(const uint8_t *store, size_t store_length,
@@ -79,8 +81,7 @@ struct formstore_answer formstore_destroy_definition(const uint8_t *store, size_
                                                      uint32_t definition,
                                                      uint8_t *out, size_t out_length);
 
-/* 3. Inserts an element of a definition into the model of `owner`; a place is a list of numbers, each u32. quantifier is 0 (NONE), 1 (QMARK), 2
- * (STAR) or 3 (PLUS). Refuses with 3, 4, 6, 8 to 13, 16 and 17. */
+/* 3. Inserts an element of a definition into the model of `owner`; quantifier is 0 (NONE), 1 (QMARK), 2 (STAR) or 3 (PLUS). Refuses with 3, 4, 6, 8 to 13, 16 and 17. */
 struct formstore_answer formstore_insert_element(const uint8_t *store, size_t store_length,
                                                  uint32_t owner, const uint32_t *place, size_t place_length,
                                                  uint32_t definition, uint32_t quantifier,

@@ -42,7 +42,7 @@ impl Found {
     }
 }
 
-/// The refusal with this number; none for 0. The library gives no number past 18: it is proved that it answers one of the table.
+/// The refusal with this number; none for 0. The library gives no number past 18, since it answers what the rules say, and those name no other.
 pub(crate) fn refusal(number: u32) -> Option<Refusal> {
     let index = number.checked_sub(1)? as usize;
     Some(

@@ -1,0 +1,123 @@
+-- The layout at any width: products, windows, and what the fields read.
+use mathlib.Core.Path.{_≡_, refl, sym, ap, _∙_}
+use mathlib.Core.List.{List, [], _∷_}
+use Prim.Native.Nat.{ℕ, zero, suc, _+_, _-_, _*_, _<_, _≤_}
+use native.Mathlib.Omega.{arith}
+use native.Mathlib.Nat.{mul-le-mul, mul-suc, mul-zero}
+use lib.ListN.{length, take, drop, getD, length-drop, drop-of-length-le}
+use lib.Seq.{take-nil, take-all, drop-drop}
+use Rattle.rules.specs.Bytes.{Bytes}
+use Rattle.rules.specs.Layout.{valueWidth, attributeSize, rowSize, FlatAttribute, FlatRow}
+use Rattle.rules.specs.Preorder.{Deep}
+use Rattle.rules.specs.Decode.{numberAt, readAttribute, readRow, readMany, definitionCount, particleCount, attributeCount, rowCount, readFlat}
+use Rattle.rules.proofs.DecodeLaws.{width-bound}
+use Rattle.codec.proofs.Records.{many-at, many-within}
+use Rattle.layout.specs.declared.Shape.{Shape}
+use Rattle.layout.specs.Bodies.{windowOf, Product, recordAt, widthOf, WidthIn, Number, Sized, shapeOf, ShapeOf, attributesStart, rowsStart, Place, definitionBody, particleBody, attributeBody, rowBody}
+
+-- ---- products
+pub product : (size n : ℕ) → size < 65536 → n < 4294967296 → Product size n (size * n)
+product size n h g =
+    let k : size * n ≤ 65535 * 4294967295 = mul-le-mul {n₁ = size} {m₁ = n} {n₂ = 65535} {m₂ = 4294967295} (omega arith) (omega arith) in
+    record { value = refl; small = omega arith }
+
+-- ---- windows
+module _ (s : Bytes) (at n : ℕ) where
+  pub window-past : length s < at → [] ≡ windowOf at n s
+  unfolding windowOf
+  window-past h = rw (drop-of-length-le s {i = at} (omega arith), take-nil)
+
+  pub window-short : length s - at < n → take (length s - at) (drop at s) ≡ windowOf at n s
+  unfolding windowOf
+  window-short h =
+      take-all (length s - at) (drop at s) (omega (arith, length-drop at s)) ∙ sym (take-all n (drop at s) (omega (arith, length-drop at s)))
+
+  pub window-whole : take (at + n - at) (drop at s) ≡ windowOf at n s
+  unfolding windowOf
+  window-whole = let e : at + n - at ≡ n = omega arith in rw e
+
+pub record-window : (s r : Bytes) (size i p : ℕ) → Product size i p → r ≡ windowOf p size s → r ≡ recordAt size i s
+unfolding recordAt
+record-window s r size i p x e = e ∙ ap (λ (k : ℕ). windowOf k size s) (x .value)
+
+-- the window that a callee's number gave
+pub window-by : (s r : Bytes) (at n m k : ℕ) → m ≡ k → n ≡ m → r ≡ windowOf at n s → r ≡ take k (drop at s)
+unfolding windowOf
+window-by s r at n m k e g h = h ∙ ap (λ (j : ℕ). windowOf at j s) (g ∙ e)
+
+-- ---- fields that stand after another
+pub get-after : (k i : ℕ) (s : Bytes) → getD (drop k s) i 0 ≡ getD s (k + i) 0
+get-after zero i s = ap (λ (j : ℕ). getD s j 0) (omega arith)
+get-after (suc k) i [] = refl
+get-after (suc k) i (x ∷ s) = let e : suc k + i ≡ suc (k + i) = omega arith in rw e (get-after k i s)
+
+pub number-after : (k at n : ℕ) (s : Bytes) → numberAt at n (drop k s) ≡ numberAt (k + at) n s
+number-after k at n s = rw (drop-drop at k s)
+
+pub attribute-value-by : (s r : Bytes) (n m : ℕ) → m ≡ getD s 19 0 → n ≡ m → r ≡ windowOf 20 n s → r ≡ readAttribute s .value
+attribute-value-by s r n m e g h = window-by s r 20 n m (getD s 19 0) e g h ∙ rw (drop-drop 2 18 s, get-after 18 1 s)
+
+-- ---- the shape
+pub shaped : {bs : Bytes} {v w d p a r : ℕ} → v ≡ numberAt 0 4 bs → w ≡ valueWidth v → Number (definitionCount bs) d → Number (particleCount bs) p → Number (attributeCount bs) a → Number (rowCount bs) r
+    → ShapeOf bs (record { version = v; width = w; definitions = d; particles = p; attributes = a; rows = r })
+unfolding shapeOf widthOf
+shaped {v = v} e g d p a r =
+    record {
+      is = λ i. record { version = e i; width = (g ∙ ap valueWidth e) i; definitions = d .value i; particles = p .value i; attributes = a .value i; rows = r .value i };
+      sized = record { width = omega (arith, g, width-bound v); definitions = d .small; particles = p .small; attributes = a .small; rows = r .small };
+    }
+
+pub width-small : (bs : Bytes) → widthOf bs < 256
+unfolding widthOf
+width-small bs = width-bound (numberAt 0 4 bs)
+
+pub width-in : {bs : Bytes} {v r : ℕ} → v ≡ numberAt 0 4 bs → r ≡ valueWidth v → WidthIn bs r
+unfolding widthOf
+width-in {v = v} e g = record { value = g ∙ ap valueWidth e; small = omega (arith, g, width-bound v) }
+
+pub attributes-place : (s : Shape) → Sized s → Place (attributesStart s) (40 + 20 * s .definitions + 4 * s .particles)
+unfolding attributesStart
+attributes-place s h = record { value = refl; small = omega (arith, h .definitions, h .particles) }
+
+pub rows-place : (s : Shape) (x p : ℕ) → Sized s → Place (attributesStart s) x → Product (20 + s .width) (s .attributes) p → Place (rowsStart s) (x + p)
+unfolding attributesStart rowsStart
+rows-place s x p h a m = record { value = omega (arith, a .value, m .value); small = omega (arith, a .value, h .definitions, h .particles, m .small) }
+
+pub definitions-window : (s : Shape) (bs r : Bytes) → r ≡ windowOf 40 (20 * s .definitions) bs → r ≡ definitionBody s bs
+unfolding definitionBody
+definitions-window s bs r e = e
+
+pub particles-window : (s : Shape) (bs r : Bytes) → r ≡ windowOf (40 + 20 * s .definitions) (4 * s .particles) bs → r ≡ particleBody s bs
+unfolding particleBody
+particles-window s bs r e = e
+
+pub attributes-window : (s : Shape) (bs r : Bytes) (x p : ℕ) → Place (attributesStart s) x → Product (20 + s .width) (s .attributes) p → r ≡ windowOf x p bs → r ≡ attributeBody s bs
+unfolding attributeBody
+attributes-window s bs r x p a m e = e ∙ (λ i. windowOf (a .value i) (m .value i) bs)
+
+pub rows-window : (s : Shape) (bs r : Bytes) (x p : ℕ) → Place (rowsStart s) x → Product (12 + s .width) (s .rows) p → r ≡ windowOf x p bs → r ≡ rowBody s bs
+unfolding rowBody
+rows-window s bs r x p a m e = e ∙ (λ i. windowOf (a .value i) (m .value i) bs)
+
+-- ---- what the bodies hold
+-- record number i of those that are read
+pub record-read : {A : Type 0} (f : Bytes → A) (size count i : ℕ) (s : Bytes) (none : A) → i < count → getD (readMany f size count s) i none ≡ f (recordAt size i s)
+unfolding recordAt windowOf
+record-read f size count i s none h = many-at f size i count s none h
+
+-- the first record, and the others
+pub record-first : (size : ℕ) (s : Bytes) → take size s ≡ recordAt size 0 s
+unfolding recordAt windowOf
+record-first size s = rw mul-zero
+
+pub record-after : (size i : ℕ) (s : Bytes) → recordAt size i (drop size s) ≡ recordAt size (suc i) s
+unfolding recordAt windowOf
+record-after size i s = let e : size + size * i ≡ size * suc i = omega (arith, mul-suc size i) in rw (drop-drop (size * i) size s, e)
+
+pub rows-read : (bs : Bytes) → readMany readRow (rowSize (widthOf bs)) (rowCount bs) (rowBody (shapeOf bs) bs) ≡ readFlat (widthOf bs) bs .rows
+unfolding rowBody rowsStart attributesStart shapeOf windowOf
+rows-read bs = many-within readRow (rowSize (widthOf bs)) (rowCount bs) (drop (rowsStart (shapeOf bs)) bs) ∙ simp drop-drop
+
+pub attributes-read : (bs : Bytes) → readMany readAttribute (attributeSize (widthOf bs)) (attributeCount bs) (attributeBody (shapeOf bs) bs) ≡ readFlat (widthOf bs) bs .attributes
+unfolding attributeBody attributesStart shapeOf windowOf
+attributes-read bs = many-within readAttribute (attributeSize (widthOf bs)) (attributeCount bs) (drop (attributesStart (shapeOf bs)) bs) ∙ simp drop-drop

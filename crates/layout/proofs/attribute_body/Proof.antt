@@ -1,0 +1,33 @@
+use Rattle.layout.proofs.LayoutLaws.{attributes-window}
+use borrow.Author.Needs.{needs}
+use Rattle.layout.proofs.attribute_body.Statement.{statement}
+use Rattle.layout.proofs.attribute_body.Tie as tie
+use Rattle.layout.proofs.attribute_body.Reads as reads
+use Rattle.layout.proofs.attribute_body.Lts as lts
+use Rattle.layout.proofs.attributes_start.Reads as attributes-start-reads
+use Rattle.layout.proofs.times.Reads as times-reads
+use Rattle.layout.proofs.window.Reads as window-reads
+
+-- src/lib.rt:197:9
+attributes-start-requires : tie.Need-attributes-start-requires
+attributes-start-requires c κs = search needs
+
+-- src/lib.rt:198:32
+add-times : tie.Need-add-times
+add-times c = search needs
+
+-- src/lib.rt:198:26
+times-requires : tie.Need-times-requires
+times-requires c κs = search needs
+
+-- src/lib.rt:198:5
+window-requires : tie.Need-window-requires
+window-requires c κs = search needs
+
+-- src/lib.rt:193:1
+returns : tie.Need-returns
+returns c = let a = c .before .before .before .before .before .args in attributes-window (a .s) (a .store .now) _ _ _ (c .before .before .before .attributes-start .ensures) (c .before .times .ensures) (c .window .ensures)
+
+pub attribute-body-spec : {M : Type 1} → statement M
+attribute-body-spec =
+    tie.close (tie.spec attributes-start-requires add-times times-requires window-requires returns)

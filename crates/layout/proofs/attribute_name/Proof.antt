@@ -1,0 +1,29 @@
+use lib.ListN.{getD}
+use Rattle.layout.proofs.LayoutLaws.{window-by}
+use borrow.Author.Needs.{needs}
+use Rattle.layout.proofs.attribute_name.Statement.{statement}
+use Rattle.layout.proofs.attribute_name.Tie as tie
+use Rattle.layout.proofs.attribute_name.Reads as reads
+use Rattle.layout.proofs.attribute_name.Lts as lts
+use Rattle.codec.proofs.byte.Reads as byte-reads
+use Rattle.layout.proofs.wide.Reads as wide-reads
+use Rattle.layout.proofs.window.Reads as window-reads
+
+-- src/lib.rt:114:25
+byte-requires : tie.Need-byte-requires
+byte-requires c κs = search needs
+
+-- src/lib.rt:114:20
+wide-requires : tie.Need-wide-requires
+wide-requires c κs = search needs
+
+-- src/lib.rt:114:5
+window-requires : tie.Need-window-requires
+window-requires c κs = search needs
+
+-- src/lib.rt:111:1
+returns : tie.Need-returns
+returns c = let s = c .before .before .before .before .args .rec .now in window-by s _ 2 _ _ (getD s 1 0) (c .before .before .byte .ensures) (c .before .wide .ensures) (c .window .ensures)
+
+pub attribute-name-spec : {M : Type 1} → statement M
+attribute-name-spec = tie.close (tie.spec byte-requires wide-requires window-requires returns)

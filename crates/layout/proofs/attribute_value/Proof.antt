@@ -1,0 +1,28 @@
+use Rattle.layout.proofs.LayoutLaws.{attribute-value-by}
+use borrow.Author.Needs.{needs}
+use Rattle.layout.proofs.attribute_value.Statement.{statement}
+use Rattle.layout.proofs.attribute_value.Tie as tie
+use Rattle.layout.proofs.attribute_value.Reads as reads
+use Rattle.layout.proofs.attribute_value.Lts as lts
+use Rattle.codec.proofs.byte.Reads as byte-reads
+use Rattle.layout.proofs.wide.Reads as wide-reads
+use Rattle.layout.proofs.window.Reads as window-reads
+
+-- src/lib.rt:126:26
+byte-requires : tie.Need-byte-requires
+byte-requires c κs = search needs
+
+-- src/lib.rt:126:21
+wide-requires : tie.Need-wide-requires
+wide-requires c κs = search needs
+
+-- src/lib.rt:126:5
+window-requires : tie.Need-window-requires
+window-requires c κs = search needs
+
+-- src/lib.rt:123:1
+returns : tie.Need-returns
+returns c = attribute-value-by (c .before .before .before .before .args .rec .now) _ _ _ (c .before .before .byte .ensures) (c .before .wide .ensures) (c .window .ensures)
+
+pub attribute-value-spec : {M : Type 1} → statement M
+attribute-value-spec = tie.close (tie.spec byte-requires wide-requires window-requires returns)

@@ -1,0 +1,22 @@
+use Rattle.layout.proofs.LayoutLaws.{definitions-window}
+use borrow.Author.Needs.{needs}
+use Rattle.layout.proofs.definition_body.Statement.{statement}
+use Rattle.layout.proofs.definition_body.Tie as tie
+use Rattle.layout.proofs.definition_body.Reads as reads
+use Rattle.layout.proofs.definition_body.Lts as lts
+use Rattle.layout.proofs.window.Reads as window-reads
+
+-- src/lib.rt:250:23
+mul-window : tie.Need-mul-window
+mul-window c = search needs
+
+-- src/lib.rt:250:5
+window-requires : tie.Need-window-requires
+window-requires c κs = search needs
+
+-- src/lib.rt:246:1
+returns : tie.Need-returns
+returns c = definitions-window _ _ _ (c .window .ensures)
+
+pub definition-body-spec : {M : Type 1} → statement M
+definition-body-spec = tie.close (tie.spec mul-window window-requires returns)

@@ -1,0 +1,19 @@
+use mathlib.Core.Path.{_∙_, sym}
+use Rattle.layout.proofs.LayoutLaws.{get-after}
+use borrow.Author.Needs.{needs}
+use Rattle.layout.proofs.definition_kind.Statement.{statement}
+use Rattle.layout.proofs.definition_kind.Tie as tie
+use Rattle.layout.proofs.definition_kind.Reads as reads
+use Rattle.layout.proofs.definition_kind.Lts as lts
+use Rattle.codec.proofs.byte.Reads as byte-reads
+
+-- src/lib.rt:76:5
+byte-requires : tie.Need-byte-requires
+byte-requires c κs = search needs
+
+-- src/lib.rt:73:1
+returns : tie.Need-returns
+returns c = c .byte .ensures ∙ sym (get-after 17 0 (c .before .before .args .rec .now))
+
+pub definition-kind-spec : {M : Type 1} → statement M
+definition-kind-spec = tie.close (tie.spec byte-requires returns)

@@ -1,0 +1,19 @@
+use mathlib.Core.Path.{_∙_, sym}
+use Rattle.layout.proofs.LayoutLaws.{number-after}
+use borrow.Author.Needs.{needs}
+use Rattle.layout.proofs.definition_particles.Statement.{statement}
+use Rattle.layout.proofs.definition_particles.Tie as tie
+use Rattle.layout.proofs.definition_particles.Reads as reads
+use Rattle.layout.proofs.definition_particles.Lts as lts
+use Rattle.codec.proofs.get_u16.Reads as get-u16-reads
+
+-- src/lib.rt:82:5
+get-u16-requires : tie.Need-get-u16-requires
+get-u16-requires c κs = search needs
+
+-- src/lib.rt:79:1
+returns : tie.Need-returns
+returns c = c .get-u16 .ensures ∙ sym (number-after 17 1 2 (c .before .before .args .rec .now))
+
+pub definition-particles-spec : {M : Type 1} → statement M
+definition-particles-spec = tie.close (tie.spec get-u16-requires returns)

@@ -1,0 +1,23 @@
+use Rattle.layout.proofs.LayoutLaws.{record-window}
+use borrow.Author.Needs.{needs}
+use Rattle.layout.proofs.record_at.Statement.{statement}
+use Rattle.layout.proofs.record_at.Tie as tie
+use Rattle.layout.proofs.record_at.Reads as reads
+use Rattle.layout.proofs.record_at.Lts as lts
+use Rattle.layout.proofs.times.Reads as times-reads
+use Rattle.layout.proofs.window.Reads as window-reads
+
+-- src/lib.rt:38:15
+times-requires : tie.Need-times-requires
+times-requires c κs = search needs
+
+-- src/lib.rt:38:5
+window-requires : tie.Need-window-requires
+window-requires c κs = search needs
+
+-- src/lib.rt:34:1
+returns : tie.Need-returns
+returns c = record-window _ _ _ _ _ (c .before .times .ensures) (c .window .ensures)
+
+pub record-at-spec : {M : Type 1} → statement M
+record-at-spec = tie.close (tie.spec times-requires window-requires returns)

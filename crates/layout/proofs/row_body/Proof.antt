@@ -1,0 +1,33 @@
+use Rattle.layout.proofs.LayoutLaws.{rows-window}
+use borrow.Author.Needs.{needs}
+use Rattle.layout.proofs.row_body.Statement.{statement}
+use Rattle.layout.proofs.row_body.Tie as tie
+use Rattle.layout.proofs.row_body.Reads as reads
+use Rattle.layout.proofs.row_body.Lts as lts
+use Rattle.layout.proofs.rows_start.Reads as rows-start-reads
+use Rattle.layout.proofs.times.Reads as times-reads
+use Rattle.layout.proofs.window.Reads as window-reads
+
+-- src/lib.rt:206:9
+rows-start-requires : tie.Need-rows-start-requires
+rows-start-requires c κs = search needs
+
+-- src/lib.rt:207:32
+add-times : tie.Need-add-times
+add-times c = search needs
+
+-- src/lib.rt:207:26
+times-requires : tie.Need-times-requires
+times-requires c κs = search needs
+
+-- src/lib.rt:207:5
+window-requires : tie.Need-window-requires
+window-requires c κs = search needs
+
+-- src/lib.rt:202:1
+returns : tie.Need-returns
+returns c = let a = c .before .before .before .before .before .args in rows-window (a .s) (a .store .now) _ _ _ (c .before .before .before .rows-start .ensures) (c .before .times .ensures) (c .window .ensures)
+
+pub row-body-spec : {M : Type 1} → statement M
+row-body-spec =
+    tie.close (tie.spec rows-start-requires add-times times-requires window-requires returns)

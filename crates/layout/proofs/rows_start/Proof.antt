@@ -1,0 +1,32 @@
+use Rattle.layout.proofs.LayoutLaws.{rows-place}
+use borrow.Author.Needs.{needs}
+use Rattle.layout.proofs.rows_start.Statement.{statement}
+use Rattle.layout.proofs.rows_start.Tie as tie
+use Rattle.layout.proofs.rows_start.Reads as reads
+use Rattle.layout.proofs.rows_start.Lts as lts
+use Rattle.layout.proofs.attributes_start.Reads as attributes-start-reads
+use Rattle.layout.proofs.times.Reads as times-reads
+
+-- src/lib.rt:188:9
+attributes-start-requires : tie.Need-attributes-start-requires
+attributes-start-requires c κs = search needs
+
+-- src/lib.rt:189:19
+add-times : tie.Need-add-times
+add-times c = search needs
+
+-- src/lib.rt:189:13
+times-requires : tie.Need-times-requires
+times-requires c κs = search needs
+
+-- src/lib.rt:189:5
+add-result : tie.Need-add-result
+add-result c = search needs
+
+-- src/lib.rt:184:1
+returns : tie.Need-returns
+returns c = rows-place (c .before .before .before .args .s) _ _ (c .before .before .before .pre) (c .before .before .attributes-start .ensures) (c .times .ensures)
+
+pub rows-start-spec : {M : Type 1} → statement M
+rows-start-spec =
+    tie.close (tie.spec attributes-start-requires add-times times-requires add-result returns)

@@ -1,0 +1,52 @@
+use Rattle.layout.proofs.LayoutLaws.{shaped}
+use borrow.Author.Needs.{needs}
+use Rattle.layout.proofs.shape_of.Statement.{statement}
+use Rattle.layout.proofs.shape_of.Tie as tie
+use Rattle.layout.proofs.shape_of.Reads as reads
+use Rattle.layout.proofs.shape_of.Lts as lts
+use Rattle.codec.proofs.get_u32.Reads as get-u32-reads
+use Rattle.layout.proofs.definition_count.Reads as definition-count-reads
+use Rattle.layout.proofs.particle_count.Reads as particle-count-reads
+use Rattle.layout.proofs.attribute_count.Reads as attribute-count-reads
+use Rattle.layout.proofs.row_count.Reads as row-count-reads
+use Rattle.layout.proofs.width_of.Reads as width-of-reads
+
+-- src/lib.rt:158:9
+get-u32-requires : tie.Need-get-u32-requires
+get-u32-requires c κs = search needs
+
+-- src/lib.rt:159:9
+width-of-requires : tie.Need-width-of-requires
+width-of-requires c κs = search needs
+
+-- src/lib.rt:160:9
+definition-count-requires : tie.Need-definition-count-requires
+definition-count-requires c κs = search needs
+
+-- src/lib.rt:161:9
+particle-count-requires : tie.Need-particle-count-requires
+particle-count-requires c κs = search needs
+
+-- src/lib.rt:162:9
+attribute-count-requires : tie.Need-attribute-count-requires
+attribute-count-requires c κs = search needs
+
+-- src/lib.rt:163:9
+row-count-requires : tie.Need-row-count-requires
+row-count-requires c κs = search needs
+
+-- src/lib.rt:155:1
+returns : tie.Need-returns
+returns c = shaped (c .before .before .before .before .before .get-u32 .ensures) (c .before .before .before .before .width-of .ensures) (c .before .before .before .definition-count .ensures) (c .before .before .particle-count .ensures) (c .before .attribute-count .ensures) (c .row-count .ensures)
+
+pub shape-of-spec : {M : Type 1} → statement M
+shape-of-spec =
+    tie.close
+    (tie.spec
+    get-u32-requires
+    width-of-requires
+    definition-count-requires
+    particle-count-requires
+    attribute-count-requires
+    row-count-requires
+    returns)

@@ -1,0 +1,17 @@
+use native.Mathlib.Omega.{arith}
+use Rattle.layout.proofs.LayoutLaws.{product}
+use Rattle.layout.proofs.times.Statement.{statement}
+use Rattle.layout.proofs.times.Tie as tie
+use Rattle.layout.proofs.times.Reads as reads
+use Rattle.layout.proofs.times.Lts as lts
+
+-- src/lib.rt:28:5
+mul-result : tie.Need-mul-result
+mul-result c = let p = product (c .args .size) (c .args .n) (c .pre .0) (c .pre .1) in record { fits = omega (arith, p .small) }
+
+-- src/lib.rt:24:1
+returns : tie.Need-returns
+returns c = product (c .args .size) (c .args .n) (c .pre .0) (c .pre .1)
+
+pub times-spec : {M : Type 1} → statement M
+times-spec = tie.close (tie.spec mul-result returns)

@@ -1,0 +1,294 @@
+// The layout of a store, said once for every width of a value: its shape, its bodies, the records of a body, the fields of a record.
+ghost use mathlib.Core.Path.{_≡_};
+ghost use Prim.Native.Nat.{_+_, _<_};
+ghost use lib.ListN.{drop};
+ghost use Rattle.rules.specs.Layout.{valueWidth, definitionSize, particleSize, attributeSize, rowSize};
+ghost use Rattle.rules.specs.Decode.{numberAt, readDefinition, readAttribute, readRow, definitionCount, particleCount, attributeCount, rowCount};
+ghost use Rattle.layout.specs.Bodies.{Width, windowOf, Product, recordAt, Number, WidthIn, Sized, ShapeOf, attributesStart, rowsStart, Place, definitionBody, particleBody, attributeBody, rowBody};
+
+/// The n bytes from `at` on, fewer where s ends before.
+pub fn window(s: &[u8], at: usize, n: usize) -> &[u8]
+    ensures { λ r. ⌜ now r ≡ windowOf at n (now (s .entry)) ⌝ }
+{
+    if s.len() < at {
+        return &s[..0];
+    }
+    if s.len() - at < n {
+        return &s[at..];
+    }
+    let end = at + n;
+    &s[at..end]
+}
+
+/// Bytes of n records. The only product of two numbers that are not known.
+pub fn times(size: usize, n: usize) -> usize
+    requires { ⌜ (size < 65536) × (n < 4294967296) ⌝ }
+    ensures { λ r. ⌜ Product size n r ⌝ }
+{
+    size * n
+}
+
+// ---- records of a body
+
+/// Record i of a body of records of `size` bytes.
+pub fn record_at(s: &[u8], size: usize, i: usize) -> &[u8]
+    requires { ⌜ (size < 65536) × (i < 4294967296) ⌝ }
+    ensures { λ r. ⌜ now r ≡ recordAt size i (now (s .entry)) ⌝ }
+{
+    window(s, times(size, i), size)
+}
+
+/// Definition i.
+pub fn definition_at(defs: &[u8], i: usize) -> &[u8]
+    requires { ⌜ i < 4294967296 ⌝ }
+    ensures { λ r. ⌜ now r ≡ recordAt definitionSize i (now (defs .entry)) ⌝ }
+{
+    record_at(defs, 20, i)
+}
+
+/// Attribute j at a width.
+pub fn attribute_at(w: usize, attrs: &[u8], j: usize) -> &[u8]
+    requires { ⌜ Width w × (j < 4294967296) ⌝ }
+    ensures { λ r. ⌜ now r ≡ recordAt (attributeSize w) j (now (attrs .entry)) ⌝ }
+{
+    record_at(attrs, 20 + w, j)
+}
+
+/// Row i at a width.
+pub fn row_at(w: usize, rows: &[u8], i: usize) -> &[u8]
+    requires { ⌜ Width w × (i < 4294967296) ⌝ }
+    ensures { λ r. ⌜ now r ≡ recordAt (rowSize w) i (now (rows .entry)) ⌝ }
+{
+    record_at(rows, 12 + w, i)
+}
+
+// ---- the fields of a definition
+
+pub fn definition_name(rec: &[u8]) -> &[u8]
+    ensures { λ r. ⌜ now r ≡ readDefinition (now (rec .entry)) .name ⌝ }
+{
+    window(rec, 1, wide(codec::byte(rec, 0)))
+}
+
+pub fn definition_kind(rec: &[u8]) -> u8
+    ensures { λ r. ⌜ r ≡ readDefinition (now (rec .entry)) .kind ⌝ }
+{
+    codec::byte(rec, 17)
+}
+
+pub fn definition_particles(rec: &[u8]) -> u32
+    ensures { λ r. ⌜ r ≡ readDefinition (now (rec .entry)) .particles ⌝ }
+{
+    codec::get_u16(rec, 18)
+}
+
+// ---- the fields of a row
+
+fn wide(x: u8) -> usize
+    ensures { λ r. ⌜ r ≡ x ⌝ }
+{
+    x as usize
+}
+
+pub fn row_sort(row: &[u8]) -> u8
+    ensures { λ r. ⌜ r ≡ readRow (now (row .entry)) .row .sort ⌝ }
+{
+    codec::byte(row, 0)
+}
+
+pub fn row_depth(row: &[u8]) -> usize
+    ensures { λ r. ⌜ r ≡ readRow (now (row .entry)) .depth ⌝ }
+{
+    wide(codec::byte(row, 1))
+}
+
+pub fn row_index(row: &[u8]) -> u32
+    ensures { λ r. ⌜ r ≡ readRow (now (row .entry)) .row .index ⌝ }
+{
+    codec::get_u16(row, 2)
+}
+
+pub fn row_serial(row: &[u8]) -> u32
+    ensures { λ r. ⌜ r ≡ readRow (now (row .entry)) .row .serial ⌝ }
+{
+    codec::get_u32(row, 4)
+}
+
+pub fn row_value(row: &[u8]) -> &[u8]
+    ensures { λ r. ⌜ now r ≡ readRow (now (row .entry)) .row .value ⌝ }
+{
+    window(row, 10, wide(codec::byte(row, 8)))
+}
+
+/// What stands in a row after n bytes of its value: the rest of the field, and two bytes.
+pub fn row_rest(w: usize, row: &[u8], n: usize) -> &[u8]
+    requires { ⌜ Width w × (n < 256) ⌝ }
+    ensures { λ r. ⌜ now r ≡ windowOf (10 + n) (2 + w) (now (row .entry)) ⌝ }
+{
+    window(row, 10 + n, 2 + w)
+}
+
+// ---- the fields of an attribute
+
+pub fn attribute_owner(rec: &[u8]) -> usize
+    ensures { λ r. ⌜ r ≡ readAttribute (now (rec .entry)) .owner ⌝ }
+{
+    wide(codec::byte(rec, 0))
+}
+
+pub fn attribute_name(rec: &[u8]) -> &[u8]
+    ensures { λ r. ⌜ now r ≡ readAttribute (now (rec .entry)) .name ⌝ }
+{
+    window(rec, 2, wide(codec::byte(rec, 1)))
+}
+
+pub fn attribute_sort(rec: &[u8]) -> u8
+    ensures { λ r. ⌜ r ≡ readAttribute (now (rec .entry)) .sort ⌝ }
+{
+    codec::byte(rec, 18)
+}
+
+pub fn attribute_value(rec: &[u8]) -> &[u8]
+    ensures { λ r. ⌜ now r ≡ readAttribute (now (rec .entry)) .value ⌝ }
+{
+    window(rec, 20, wide(codec::byte(rec, 19)))
+}
+
+// ---- the header
+
+/// The width of a value, by the version.
+pub fn width_of(version: u32) -> usize
+    ensures { λ r. ⌜ r ≡ valueWidth version ⌝ }
+{
+    32
+}
+
+/// The width of a value in a store.
+pub fn width_in(store: &[u8]) -> usize
+    ensures { λ r. ⌜ WidthIn (now (store .entry)) r ⌝ }
+{
+    width_of(codec::get_u32(store, 0))
+}
+
+fn number(store: &[u8], at: usize) -> usize
+    ensures { λ r. ⌜ Number (numberAt at 4 (now (store .entry))) r ⌝ }
+{
+    codec::get_u32(store, at) as usize
+}
+
+pub fn version_in(store: &[u8]) -> usize
+    ensures { λ r. ⌜ Number (numberAt 0 4 (now (store .entry))) r ⌝ }
+{
+    number(store, 0)
+}
+
+pub fn next_serial(store: &[u8]) -> usize
+    ensures { λ r. ⌜ Number (numberAt 4 4 (now (store .entry))) r ⌝ }
+{
+    number(store, 4)
+}
+
+pub fn definition_count(store: &[u8]) -> usize
+    ensures { λ r. ⌜ Number (definitionCount (now (store .entry))) r ⌝ }
+{
+    number(store, 12)
+}
+
+pub fn particle_count(store: &[u8]) -> usize
+    ensures { λ r. ⌜ Number (particleCount (now (store .entry))) r ⌝ }
+{
+    number(store, 20)
+}
+
+pub fn attribute_count(store: &[u8]) -> usize
+    ensures { λ r. ⌜ Number (attributeCount (now (store .entry))) r ⌝ }
+{
+    number(store, 28)
+}
+
+pub fn row_count(store: &[u8]) -> usize
+    ensures { λ r. ⌜ Number (rowCount (now (store .entry))) r ⌝ }
+{
+    number(store, 36)
+}
+
+/// What the header says, and the width of a value by the version.
+pub struct Shape {
+    pub version: u32,
+    pub width: usize,
+    pub definitions: usize,
+    pub particles: usize,
+    pub attributes: usize,
+    pub rows: usize,
+}
+
+/// The shape of a store.
+pub fn shape_of(store: &[u8]) -> Shape
+    ensures { λ r. ⌜ ShapeOf (now (store .entry)) r ⌝ }
+{
+    let version = codec::get_u32(store, 0);
+    let width = width_of(version);
+    let definitions = definition_count(store);
+    let particles = particle_count(store);
+    let attributes = attribute_count(store);
+    let rows = row_count(store);
+    Shape {
+        version,
+        width,
+        definitions,
+        particles,
+        attributes,
+        rows,
+    }
+}
+
+/// The definitions of a store.
+pub fn definition_body(store: &[u8], s: Shape) -> &[u8]
+    requires { ⌜ Sized s ⌝ }
+    ensures { λ r. ⌜ now r ≡ definitionBody s (now (store .entry)) ⌝ }
+{
+    window(store, 40, 20 * s.definitions)
+}
+
+/// The particles of a store.
+pub fn particle_body(store: &[u8], s: Shape) -> &[u8]
+    requires { ⌜ Sized s ⌝ }
+    ensures { λ r. ⌜ now r ≡ particleBody s (now (store .entry)) ⌝ }
+{
+    window(store, 40 + 20 * s.definitions, 4 * s.particles)
+}
+
+/// Where the attributes begin.
+pub fn attributes_start(s: Shape) -> usize
+    requires { ⌜ Sized s ⌝ }
+    ensures { λ r. ⌜ Place (attributesStart s) r ⌝ }
+{
+    40 + 20 * s.definitions + 4 * s.particles
+}
+
+/// Where the rows begin.
+pub fn rows_start(s: Shape) -> usize
+    requires { ⌜ Sized s ⌝ }
+    ensures { λ r. ⌜ Place (rowsStart s) r ⌝ }
+{
+    let start = attributes_start(s);
+    start + times(20 + s.width, s.attributes)
+}
+
+/// The attributes of a store.
+pub fn attribute_body(store: &[u8], s: Shape) -> &[u8]
+    requires { ⌜ Sized s ⌝ }
+    ensures { λ r. ⌜ now r ≡ attributeBody s (now (store .entry)) ⌝ }
+{
+    let start = attributes_start(s);
+    window(store, start, times(20 + s.width, s.attributes))
+}
+
+/// The rows of a store.
+pub fn row_body(store: &[u8], s: Shape) -> &[u8]
+    requires { ⌜ Sized s ⌝ }
+    ensures { λ r. ⌜ now r ≡ rowBody s (now (store .entry)) ⌝ }
+{
+    let start = rows_start(s);
+    window(store, start, times(12 + s.width, s.rows))
+}

@@ -24,25 +24,20 @@ product size n h g =
 -- ---- windows
 module _ (s : Bytes) (at n : ℕ) where
   pub window-past : length s < at → [] ≡ windowOf at n s
-  unfolding windowOf
   window-past h = rw (drop-of-length-le s {i = at} (omega arith), take-nil)
 
   pub window-short : length s - at < n → take (length s - at) (drop at s) ≡ windowOf at n s
-  unfolding windowOf
   window-short h =
       take-all (length s - at) (drop at s) (omega (arith, length-drop at s)) ∙ sym (take-all n (drop at s) (omega (arith, length-drop at s)))
 
   pub window-whole : take (at + n - at) (drop at s) ≡ windowOf at n s
-  unfolding windowOf
   window-whole = let e : at + n - at ≡ n = omega arith in rw e
 
 pub record-window : (s r : Bytes) (size i p : ℕ) → Product size i p → r ≡ windowOf p size s → r ≡ recordAt size i s
-unfolding recordAt
 record-window s r size i p x e = e ∙ ap (λ (k : ℕ). windowOf k size s) (x .value)
 
 -- the window that a callee's number gave
 pub window-by : (s r : Bytes) (at n m k : ℕ) → m ≡ k → n ≡ m → r ≡ windowOf at n s → r ≡ take k (drop at s)
-unfolding windowOf
 window-by s r at n m k e g h = h ∙ ap (λ (j : ℕ). windowOf at j s) (g ∙ e)
 
 -- ---- fields that stand after another
@@ -102,22 +97,19 @@ rows-window s bs r x p a m e = e ∙ (λ i. windowOf (a .value i) (m .value i) b
 -- ---- what the bodies hold
 -- record number i of those that are read
 pub record-read : {A : Type 0} (f : Bytes → A) (size count i : ℕ) (s : Bytes) (none : A) → i < count → getD (readMany f size count s) i none ≡ f (recordAt size i s)
-unfolding recordAt windowOf
 record-read f size count i s none h = many-at f size i count s none h
 
 -- the first record, and the others
 pub record-first : (size : ℕ) (s : Bytes) → take size s ≡ recordAt size 0 s
-unfolding recordAt windowOf
 record-first size s = rw mul-zero
 
 pub record-after : (size i : ℕ) (s : Bytes) → recordAt size i (drop size s) ≡ recordAt size (suc i) s
-unfolding recordAt windowOf
 record-after size i s = let e : size + size * i ≡ size * suc i = omega (arith, mul-suc size i) in rw (drop-drop (size * i) size s, e)
 
 pub rows-read : (bs : Bytes) → readMany readRow (rowSize (widthOf bs)) (rowCount bs) (rowBody (shapeOf bs) bs) ≡ readFlat (widthOf bs) bs .rows
-unfolding rowBody rowsStart attributesStart shapeOf windowOf
+unfolding rowBody rowsStart attributesStart shapeOf
 rows-read bs = many-within readRow (rowSize (widthOf bs)) (rowCount bs) (drop (rowsStart (shapeOf bs)) bs) ∙ simp drop-drop
 
 pub attributes-read : (bs : Bytes) → readMany readAttribute (attributeSize (widthOf bs)) (attributeCount bs) (attributeBody (shapeOf bs) bs) ≡ readFlat (widthOf bs) bs .attributes
-unfolding attributeBody attributesStart shapeOf windowOf
+unfolding attributeBody attributesStart shapeOf
 attributes-read bs = many-within readAttribute (attributeSize (widthOf bs)) (attributeCount bs) (drop (attributesStart (shapeOf bs)) bs) ∙ simp drop-drop

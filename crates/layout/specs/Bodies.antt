@@ -12,7 +12,7 @@ abbrev pub Width : ℕ → Type 0
 Width w = w < 256
 
 -- n bytes from a place on, as far as the string goes
-unfoldable pub windowOf : ℕ → ℕ → Bytes → Bytes
+abbrev pub windowOf : ℕ → ℕ → Bytes → Bytes
 windowOf at n s = take n (drop at s)
 
 -- a product, far from the end of the numbers
@@ -21,7 +21,7 @@ pub record Product (size n r : ℕ) : Type 0 where
   pub small : r < 281474976710656
 
 -- record number i of a body of records of one size
-unfoldable pub recordAt : ℕ → ℕ → Bytes → Bytes
+abbrev pub recordAt : ℕ → ℕ → Bytes → Bytes
 recordAt size i s = windowOf (size * i) size s
 
 -- ---- the header

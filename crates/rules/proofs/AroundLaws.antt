@@ -8,7 +8,7 @@ use Rattle.rules.specs.declared.GroupKind.{GroupKind}
 use Rattle.rules.specs.declared.GroupKind.the-variants.{Sequence, Choice}
 use Rattle.rules.specs.Model.{Members, skips, nothing, isDone}
 use Rattle.rules.specs.Place.{Context, here, past, over, into, plug, Around, innermost, around}
-use Rattle.rules.specs.Edit.{sameKind, removeLast, removeUnmatched}
+use Rattle.rules.specs.Edit.{removeLast, unmatched, removeUnmatched}
 
 abbrev pub unlessList : GroupKind → Bool → Bool
 unlessList Sequence b = true
@@ -75,10 +75,10 @@ module _ {A : Type 0} (t : Members A) where
   pub unmatched-is : (c : Context A) → removeUnmatched c t ≡ not (leaves true Sequence c t)
   unmatched-is c = by (around c) ∙ ap not (sym (left-around true Sequence c))
     where
-      kinds : (k : GroupKind) (q : Quantifier) (d : Context A) → (sameKind k Choice && not (skips q || nothing Choice (plug d t))) ≡ not (unlessList k (skips q || nothing k (plug d t)))
-      kinds Sequence q d = refl
-      kinds Choice q d = refl
+      kinds : (k : GroupKind) (q : Quantifier) (ms : Members A) → unmatched q k ms ≡ not (unlessList k (skips q || nothing k ms))
+      kinds Sequence q ms = refl
+      kinds Choice q ms = refl
 
-      by : (o : Option (Around A)) → elim o [ none ↦ false | some g ↦ sameKind (g .kind) Choice && not (skips (g .quantifier) || nothing Choice (plug (g .inside) t)) ] ≡ not (leftBy Sequence true o)
+      by : (o : Option (Around A)) → elim o [ none ↦ false | some g ↦ unmatched (g .quantifier) (g .kind) (plug (g .inside) t) ] ≡ not (leftBy Sequence true o)
       by none = refl
-      by (some g) = kinds (g .kind) (g .quantifier) (g .inside)
+      by (some g) = kinds (g .kind) (g .quantifier) (plug (g .inside) t)

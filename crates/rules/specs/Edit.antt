@@ -107,9 +107,14 @@ insertOff c q = not (skips q) && (sameKind (kindAt Sequence c) Sequence && not (
 abbrev pub removeLast : {A : Type 0} → Context A → Members A → Bool
 removeLast c t = elim (around c) [ none ↦ false | some g ↦ isDone (plug (g .inside) t) ]
 
--- row 15, 4: from a CHOICE, and the CHOICE left, with its quantifier, doesn't accept nothing
+-- a CHOICE that, with its quantifier, doesn't accept nothing
+abbrev pub unmatched : {A : Type 0} → Quantifier → GroupKind → Members A → Bool
+unmatched q Sequence ms = false
+unmatched q Choice ms = not (skips q || nothing Choice ms)
+
+-- row 15, 4: the group directly around the place would be left so
 abbrev pub removeUnmatched : {A : Type 0} → Context A → Members A → Bool
-removeUnmatched c t = elim (around c) [ none ↦ false | some g ↦ sameKind (g .kind) Choice && not (skips (g .quantifier) || nothing Choice (plug (g .inside) t)) ]
+removeUnmatched c t = elim (around c) [ none ↦ false | some g ↦ unmatched (g .quantifier) (g .kind) (plug (g .inside) t) ]
 
 -- row 13, 5
 abbrev pub quantifyOff : {A : Type 0} → Context A → Quantifier → Quantifier → Bool

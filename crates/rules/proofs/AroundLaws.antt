@@ -35,7 +35,8 @@ module _ {A : Type 0} (t : Members A) where
   leftBy k b none = unlessList k b
   leftBy k b (some g) = unlessList (g .kind) (skips (g .quantifier) || nothing (g .kind) (plug (g .inside) t))
 
-  left-inner : (q : Quantifier) (j k : GroupKind) (b : Bool) (c : Context A) (o : Option (Around A)) → leftBy j (skips q || nothing j (plug c t)) o ≡ leftBy k b (innermost (record { quantifier = q; kind = j; inside = c }) o)
+  left-inner : (q : Quantifier) (j k : GroupKind) (b : Bool) (c : Context A) (o : Option (Around A))
+      → leftBy j (skips q || nothing j (plug c t)) o ≡ leftBy k b (innermost (record { quantifier = q; kind = j; inside = c }) o)
   left-inner q j k b c none = refl
   left-inner q j k b c (some g) = refl
 
@@ -50,7 +51,8 @@ module _ {A : Type 0} (t : Members A) where
   lastBy b none = b
   lastBy b (some g) = isDone (plug (g .inside) t)
 
-  last-inner : (q : Quantifier) (j : GroupKind) (b : Bool) (c : Context A) (o : Option (Around A)) → lastBy (isDone (plug c t)) o ≡ lastBy b (innermost (record { quantifier = q; kind = j; inside = c }) o)
+  last-inner : (q : Quantifier) (j : GroupKind) (b : Bool) (c : Context A) (o : Option (Around A))
+      → lastBy (isDone (plug c t)) o ≡ lastBy b (innermost (record { quantifier = q; kind = j; inside = c }) o)
   last-inner q j b c none = refl
   last-inner q j b c (some g) = refl
 

@@ -9,7 +9,7 @@ use lib.ListN.{length}
 use Rattle.rules.specs.declared.Quantifier.{Quantifier}
 use Rattle.rules.specs.declared.Quantifier.the-variants.{None, Qmark, Star, Plus}
 use Rattle.rules.specs.declared.GroupKind.the-variants.{Sequence, Choice}
-use Rattle.rules.specs.Bytes.{Bytes, same, ascii, bytes, numbers}
+use Rattle.rules.specs.Bytes.{Bytes, same, ascii, concat, bytes, numbers}
 use Rattle.rules.specs.Model.{Members, done, el, group, names, nothing, filling, member, full, distinct}
 use Rattle.rules.specs.Language.{Conforms}
 use Rattle.rules.specs.Automaton.{accepts, continues, facts}
@@ -244,7 +244,17 @@ printable =
     }
 
 abbrev printableText : Bytes
-printableText = ascii "<!ELEMENT r ((a|b+)*,c?)>\n<!ATTLIST r i CDATA #IMPLIED>\n<!ATTLIST r q CDATA #REQUIRED>\n<!ATTLIST r f CDATA #FIXED \"&quot;&lt;&amp;&gt;\">\n<!ELEMENT a EMPTY>\n<!ELEMENT b (#PCDATA)>\n<!ELEMENT c EMPTY>\n<r q=\"&gt;\" f=\"&quot;&lt;&amp;&gt;\"><a></a><b>1&amp;2</b></r>\n"
+printableText =
+    concat
+    (ascii "<!ELEMENT r ((a|b+)*,c?)>\n"
+    ∷ ascii "<!ATTLIST r i CDATA #IMPLIED>\n"
+    ∷ ascii "<!ATTLIST r q CDATA #REQUIRED>\n"
+    ∷ ascii "<!ATTLIST r f CDATA #FIXED \"&quot;&lt;&amp;&gt;\">\n"
+    ∷ ascii "<!ELEMENT a EMPTY>\n"
+    ∷ ascii "<!ELEMENT b (#PCDATA)>\n"
+    ∷ ascii "<!ELEMENT c EMPTY>\n"
+    ∷ ascii "<r q=\"&gt;\" f=\"&quot;&lt;&amp;&gt;\"><a></a><b>1&amp;2</b></r>\n"
+    ∷ [])
 
 pub record More : Type 0 where
   -- 8: a gain wants a text, and gives an instance without a child of the group its filling; what only relaxes wants none

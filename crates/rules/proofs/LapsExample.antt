@@ -124,17 +124,29 @@ raceForm =
 abbrev lineOf : ℕ → ℕ → Bytes → Line
 lineOf up k n = record { parent = up; row = record { serial = k; sort = element; name = n; value = [] } }
 
+abbrev race1 : Line
+race1 = lineOf 0 1 (ascii "race")
+
+abbrev lap2 : Line
+lap2 = lineOf 1 2 (ascii "lap")
+
+abbrev lap3 : Line
+lap3 = lineOf 1 3 (ascii "lap")
+
+abbrev race4 : Line
+race4 = lineOf 0 4 (ascii "race")
+
 abbrev fourLines : List Entry
-fourLines = stands (lineOf 0 1 (ascii "race")) ∷ stands (lineOf 1 2 (ascii "lap")) ∷ taken (lineOf 1 3 (ascii "lap")) ∷ stands (lineOf 0 4 (ascii "race")) ∷ []
+fourLines = stands race1 ∷ stands lap2 ∷ taken lap3 ∷ stands race4 ∷ []
 
 abbrev splitPlan : Plan
 splitPlan = plan (insertElement 0 (1 ∷ []) 2 0 (ascii "t")) raceForm (untaken fourLines)
 
 pub record Spots : Type 0 where
   pub marks-are : marks splitPlan fourLines
-      ≡ old (stands (lineOf 0 1 (ascii "race"))) ∷ old (stands (lineOf 1 2 (ascii "lap"))) ∷ old (taken (lineOf 1 3 (ascii "lap"))) ∷ spot 1 ∷ old (stands (lineOf 0 4 (ascii "race"))) ∷ spot 4 ∷ []
+      ≡ old (stands race1) ∷ old (stands lap2) ∷ old (taken lap3) ∷ spot 1 ∷ old (stands race4) ∷ spot 4 ∷ []
   pub lines-are : expand (splitPlan .filling) 5 (marks splitPlan fourLines)
-      ≡ stands (lineOf 0 1 (ascii "race")) ∷ stands (lineOf 1 2 (ascii "lap")) ∷ taken (lineOf 1 3 (ascii "lap")) ∷ stands (lineOf 1 5 (ascii "split")) ∷ stands (lineOf 0 4 (ascii "race")) ∷ stands (lineOf 4 6 (ascii "split")) ∷ []
+      ≡ stands race1 ∷ stands lap2 ∷ taken lap3 ∷ stands (lineOf 1 5 (ascii "split")) ∷ stands race4 ∷ stands (lineOf 4 6 (ascii "split")) ∷ []
   pub next-is : note (insertElement 0 (1 ∷ []) 2 0 (ascii "t")) (record { version = baseVersion; next = 5; form = raceForm; entries = fourLines }) .next ≡ 7
 
 pub spots-example : Spots

@@ -50,7 +50,8 @@ in-list [] (k ∷ ns) e n m = absurd (false≢true e)
 in-list (o ∷ order) [] e n m = absurd (List·Memᴰ·not-nil m)
 in-list (o ∷ order) (k ∷ ns) e n m = by (eqb o k) refl (in-list order ns) (in-list order (k ∷ ns))
   where
-    by : (b : Bool) → eqb o k ≡ b → (inOrder order ns ≡ true → (n : ℕ) → List·Memᴰ n ns → List·Memᴰ n order) → (inOrder order (k ∷ ns) ≡ true → (n : ℕ) → List·Memᴰ n (k ∷ ns) → List·Memᴰ n order) → List·Memᴰ n (o ∷ order)
+    by : (b : Bool) → eqb o k ≡ b → (inOrder order ns ≡ true → (n : ℕ) → List·Memᴰ n ns → List·Memᴰ n order)
+        → (inOrder order (k ∷ ns) ≡ true → (n : ℕ) → List·Memᴰ n (k ∷ ns) → List·Memᴰ n order) → List·Memᴰ n (o ∷ order)
     by true q f g = ⊎-elim (λ h. List·Memᴰ·head (h ∙ sym (eqb-eq o k q))) (λ h. List·Memᴰ·tail (f (rw (q, inOrder) at e) n h)) (List·Memᴰ·cases-cons m)
     by false q f g = List·Memᴰ·tail (g (rw (q, inOrder) at e) n m)
 
@@ -74,7 +75,8 @@ rest-in-order (o ∷ order) n (m ∷ ns) e = by (eqb o n) refl (rest-in-order or
     more true q z f = rw (q, inOrder) (f z)
     more false q z f = rw (q, inOrder) z
 
-    by : (b : Bool) → eqb o n ≡ b → (inOrder order (n ∷ (m ∷ ns)) ≡ true → inOrder order (m ∷ ns) ≡ true) → (inOrder order (m ∷ ns) ≡ true → inOrder order ns ≡ true) → inOrder (o ∷ order) (m ∷ ns) ≡ true
+    by : (b : Bool) → eqb o n ≡ b → (inOrder order (n ∷ (m ∷ ns)) ≡ true → inOrder order (m ∷ ns) ≡ true)
+        → (inOrder order (m ∷ ns) ≡ true → inOrder order ns ≡ true) → inOrder (o ∷ order) (m ∷ ns) ≡ true
     by true q f g = more (eqb o m) refl (rw (q, inOrder) at e) g
     by false q f g = more (eqb o m) refl (f (rw (q, inOrder) at e)) g
 
@@ -92,7 +94,8 @@ given-related r p own (c ∷ cs) e k m h = by (c .holds) refl (given-related r p
     by : (b : Bool) → c .holds ≡ b → (List·Memᴰ k cs → k .holds ≡ true → r (first cs) (k .number) ≡ true) → r (first (c ∷ cs)) (k .number) ≡ true
     by true q f =
         rw (q, first)
-        (⊎-elim (λ z. ap (λ (y : Condition). r (c .number) (y .number)) z ∙ own (c .number)) (λ i. related r refusalOrder p (c .number) (numbersOf cs) e (k .number) (number-in cs k i)) (List·Memᴰ·cases-cons m))
+        (⊎-elim (λ z. ap (λ (y : Condition). r (c .number) (y .number)) z ∙ own (c .number))
+        (λ i. related r refusalOrder p (c .number) (numbersOf cs) e (k .number) (number-in cs k i)) (List·Memᴰ·cases-cons m))
     by false q f = rw (q, first) (⊎-elim (λ z. absurd (false≢true (sym q ∙ sym (ap (λ (y : Condition). y .holds) z) ∙ h))) (λ i. f i h) (List·Memᴰ·cases-cons m))
 
 positive : (cs : List Condition) → inOrder refusalOrder (numbersOf cs) ≡ true → (k : Condition) → List·Memᴰ k cs → 1 ≤ k .number

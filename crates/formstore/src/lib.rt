@@ -4,7 +4,7 @@ ghost use mathlib.Core.Path.{_≡_};
 ghost use Rattle.rules.specs.Passing.{passes};
 ghost use Rattle.rules.specs.LookUp.{lookUp};
 ghost use Rattle.rules.specs.Change.{createDefinition, destroyDefinition, insertElement, removeElement, changeQuantifier, convertToGroup, flattenGroup, changeGroupQuantifier, addAttribute, destroyAttribute, addDocument, addElement, destroyElement, setAttribute, destroyAttributeRow, setText};
-ghost use Rattle.rules.specs.Outcome.{outcome, Answers};
+ghost use Rattle.rules.specs.Outcome.{Promise, Answers};
 ghost use Rattle.rules.specs.Print.{printOutcome};
 ghost use lib.ListN.{length};
 ghost use Rattle.lookup.specs.Finding.{Looks, Hands};
@@ -95,7 +95,7 @@ pub extern "C" fn formstore_print(store: &[u8], out: &mut [u8]) -> Answer
 
 /// 1: creates a definition, after the others.
 pub fn create_definition(store: &[u8], name: &[u8], kind: u32, out: &mut [u8]) -> Answer
-    ensures { λ r. ⌜ Answers (outcome (createDefinition (now (name .entry)) kind) (now (store .entry)) (length (now (out .entry)))) (now (out .entry)) (r .number) (r .length) (now (out .exit)) ⌝ }
+    ensures { λ r. ⌜ Promise (createDefinition (now (name .entry)) kind) (now (store .entry)) (now (out .entry)) (r .number) (r .length) (now (out .exit)) ⌝ }
 {
     definitions::create_definition(store, name, kind, out)
 }
@@ -107,14 +107,14 @@ pub extern "C" fn formstore_create_definition(
     kind: u32,
     out: &mut [u8],
 ) -> Answer
-    ensures { λ r. ⌜ Answers (outcome (createDefinition (now (name .entry)) kind) (now (store .entry)) (length (now (out .entry)))) (now (out .entry)) (r .number) (r .length) (now (out .exit)) ⌝ }
+    ensures { λ r. ⌜ Promise (createDefinition (now (name .entry)) kind) (now (store .entry)) (now (out .entry)) (r .number) (r .length) (now (out .exit)) ⌝ }
 {
     definitions::create_definition(store, name, kind, out)
 }
 
 /// 2: destroys a definition, with its model and attributes.
 pub fn destroy_definition(store: &[u8], definition: u32, out: &mut [u8]) -> Answer
-    ensures { λ r. ⌜ Answers (outcome (destroyDefinition definition) (now (store .entry)) (length (now (out .entry)))) (now (out .entry)) (r .number) (r .length) (now (out .exit)) ⌝ }
+    ensures { λ r. ⌜ Promise (destroyDefinition definition) (now (store .entry)) (now (out .entry)) (r .number) (r .length) (now (out .exit)) ⌝ }
 {
     definitions::destroy_definition(store, definition, out)
 }
@@ -125,7 +125,7 @@ pub extern "C" fn formstore_destroy_definition(
     definition: u32,
     out: &mut [u8],
 ) -> Answer
-    ensures { λ r. ⌜ Answers (outcome (destroyDefinition definition) (now (store .entry)) (length (now (out .entry)))) (now (out .entry)) (r .number) (r .length) (now (out .exit)) ⌝ }
+    ensures { λ r. ⌜ Promise (destroyDefinition definition) (now (store .entry)) (now (out .entry)) (r .number) (r .length) (now (out .exit)) ⌝ }
 {
     definitions::destroy_definition(store, definition, out)
 }
@@ -140,7 +140,7 @@ pub fn insert_element(
     text: &[u8],
     out: &mut [u8],
 ) -> Answer
-    ensures { λ r. ⌜ Answers (outcome (insertElement owner (now (place .entry)) definition quantifier (now (text .entry))) (now (store .entry)) (length (now (out .entry)))) (now (out .entry)) (r .number) (r .length) (now (out .exit)) ⌝ }
+    ensures { λ r. ⌜ Promise (insertElement owner (now (place .entry)) definition quantifier (now (text .entry))) (now (store .entry)) (now (out .entry)) (r .number) (r .length) (now (out .exit)) ⌝ }
 {
     inserting::insert_element(store, owner, place, definition, quantifier, text, out)
 }
@@ -155,14 +155,14 @@ pub extern "C" fn formstore_insert_element(
     text: &[u8],
     out: &mut [u8],
 ) -> Answer
-    ensures { λ r. ⌜ Answers (outcome (insertElement owner (now (place .entry)) definition quantifier (now (text .entry))) (now (store .entry)) (length (now (out .entry)))) (now (out .entry)) (r .number) (r .length) (now (out .exit)) ⌝ }
+    ensures { λ r. ⌜ Promise (insertElement owner (now (place .entry)) definition quantifier (now (text .entry))) (now (store .entry)) (now (out .entry)) (r .number) (r .length) (now (out .exit)) ⌝ }
 {
     inserting::insert_element(store, owner, place, definition, quantifier, text, out)
 }
 
 /// 4: removes an element from a model, with the children of instances that it stands for.
 pub fn remove_element(store: &[u8], owner: u32, place: &[u32], out: &mut [u8]) -> Answer
-    ensures { λ r. ⌜ Answers (outcome (removeElement owner (now (place .entry))) (now (store .entry)) (length (now (out .entry)))) (now (out .entry)) (r .number) (r .length) (now (out .exit)) ⌝ }
+    ensures { λ r. ⌜ Promise (removeElement owner (now (place .entry))) (now (store .entry)) (now (out .entry)) (r .number) (r .length) (now (out .exit)) ⌝ }
 {
     models::remove_element(store, owner, place, out)
 }
@@ -174,7 +174,7 @@ pub extern "C" fn formstore_remove_element(
     place: &[u32],
     out: &mut [u8],
 ) -> Answer
-    ensures { λ r. ⌜ Answers (outcome (removeElement owner (now (place .entry))) (now (store .entry)) (length (now (out .entry)))) (now (out .entry)) (r .number) (r .length) (now (out .exit)) ⌝ }
+    ensures { λ r. ⌜ Promise (removeElement owner (now (place .entry))) (now (store .entry)) (now (out .entry)) (r .number) (r .length) (now (out .exit)) ⌝ }
 {
     models::remove_element(store, owner, place, out)
 }
@@ -188,7 +188,7 @@ pub fn change_quantifier(
     text: &[u8],
     out: &mut [u8],
 ) -> Answer
-    ensures { λ r. ⌜ Answers (outcome (changeQuantifier owner (now (place .entry)) quantifier (now (text .entry))) (now (store .entry)) (length (now (out .entry)))) (now (out .entry)) (r .number) (r .length) (now (out .exit)) ⌝ }
+    ensures { λ r. ⌜ Promise (changeQuantifier owner (now (place .entry)) quantifier (now (text .entry))) (now (store .entry)) (now (out .entry)) (r .number) (r .length) (now (out .exit)) ⌝ }
 {
     quantifying::change_quantifier(store, owner, place, quantifier, text, out)
 }
@@ -202,7 +202,7 @@ pub extern "C" fn formstore_change_quantifier(
     text: &[u8],
     out: &mut [u8],
 ) -> Answer
-    ensures { λ r. ⌜ Answers (outcome (changeQuantifier owner (now (place .entry)) quantifier (now (text .entry))) (now (store .entry)) (length (now (out .entry)))) (now (out .entry)) (r .number) (r .length) (now (out .exit)) ⌝ }
+    ensures { λ r. ⌜ Promise (changeQuantifier owner (now (place .entry)) quantifier (now (text .entry))) (now (store .entry)) (now (out .entry)) (r .number) (r .length) (now (out .exit)) ⌝ }
 {
     quantifying::change_quantifier(store, owner, place, quantifier, text, out)
 }
@@ -216,7 +216,7 @@ pub fn convert_to_group(
     sort: u32,
     out: &mut [u8],
 ) -> Answer
-    ensures { λ r. ⌜ Answers (outcome (convertToGroup owner (now (place .entry)) count sort) (now (store .entry)) (length (now (out .entry)))) (now (out .entry)) (r .number) (r .length) (now (out .exit)) ⌝ }
+    ensures { λ r. ⌜ Promise (convertToGroup owner (now (place .entry)) count sort) (now (store .entry)) (now (out .entry)) (r .number) (r .length) (now (out .exit)) ⌝ }
 {
     models::convert_to_group(store, owner, place, count, sort, out)
 }
@@ -230,14 +230,14 @@ pub extern "C" fn formstore_convert_to_group(
     sort: u32,
     out: &mut [u8],
 ) -> Answer
-    ensures { λ r. ⌜ Answers (outcome (convertToGroup owner (now (place .entry)) count sort) (now (store .entry)) (length (now (out .entry)))) (now (out .entry)) (r .number) (r .length) (now (out .exit)) ⌝ }
+    ensures { λ r. ⌜ Promise (convertToGroup owner (now (place .entry)) count sort) (now (store .entry)) (now (out .entry)) (r .number) (r .length) (now (out .exit)) ⌝ }
 {
     models::convert_to_group(store, owner, place, count, sort, out)
 }
 
 /// 7: flattens a group into its list.
 pub fn flatten_group(store: &[u8], owner: u32, place: &[u32], out: &mut [u8]) -> Answer
-    ensures { λ r. ⌜ Answers (outcome (flattenGroup owner (now (place .entry))) (now (store .entry)) (length (now (out .entry)))) (now (out .entry)) (r .number) (r .length) (now (out .exit)) ⌝ }
+    ensures { λ r. ⌜ Promise (flattenGroup owner (now (place .entry))) (now (store .entry)) (now (out .entry)) (r .number) (r .length) (now (out .exit)) ⌝ }
 {
     models::flatten_group(store, owner, place, out)
 }
@@ -249,7 +249,7 @@ pub extern "C" fn formstore_flatten_group(
     place: &[u32],
     out: &mut [u8],
 ) -> Answer
-    ensures { λ r. ⌜ Answers (outcome (flattenGroup owner (now (place .entry))) (now (store .entry)) (length (now (out .entry)))) (now (out .entry)) (r .number) (r .length) (now (out .exit)) ⌝ }
+    ensures { λ r. ⌜ Promise (flattenGroup owner (now (place .entry))) (now (store .entry)) (now (out .entry)) (r .number) (r .length) (now (out .exit)) ⌝ }
 {
     models::flatten_group(store, owner, place, out)
 }
@@ -263,7 +263,7 @@ pub fn change_group_quantifier(
     text: &[u8],
     out: &mut [u8],
 ) -> Answer
-    ensures { λ r. ⌜ Answers (outcome (changeGroupQuantifier owner (now (place .entry)) quantifier (now (text .entry))) (now (store .entry)) (length (now (out .entry)))) (now (out .entry)) (r .number) (r .length) (now (out .exit)) ⌝ }
+    ensures { λ r. ⌜ Promise (changeGroupQuantifier owner (now (place .entry)) quantifier (now (text .entry))) (now (store .entry)) (now (out .entry)) (r .number) (r .length) (now (out .exit)) ⌝ }
 {
     quantifying::change_group_quantifier(store, owner, place, quantifier, text, out)
 }
@@ -277,7 +277,7 @@ pub extern "C" fn formstore_change_group_quantifier(
     text: &[u8],
     out: &mut [u8],
 ) -> Answer
-    ensures { λ r. ⌜ Answers (outcome (changeGroupQuantifier owner (now (place .entry)) quantifier (now (text .entry))) (now (store .entry)) (length (now (out .entry)))) (now (out .entry)) (r .number) (r .length) (now (out .exit)) ⌝ }
+    ensures { λ r. ⌜ Promise (changeGroupQuantifier owner (now (place .entry)) quantifier (now (text .entry))) (now (store .entry)) (now (out .entry)) (r .number) (r .length) (now (out .exit)) ⌝ }
 {
     quantifying::change_group_quantifier(store, owner, place, quantifier, text, out)
 }
@@ -291,7 +291,7 @@ pub fn add_attribute(
     value: &[u8],
     out: &mut [u8],
 ) -> Answer
-    ensures { λ r. ⌜ Answers (outcome (addAttribute owner (now (name .entry)) sort (now (value .entry))) (now (store .entry)) (length (now (out .entry)))) (now (out .entry)) (r .number) (r .length) (now (out .exit)) ⌝ }
+    ensures { λ r. ⌜ Promise (addAttribute owner (now (name .entry)) sort (now (value .entry))) (now (store .entry)) (now (out .entry)) (r .number) (r .length) (now (out .exit)) ⌝ }
 {
     attributes::add_attribute(store, owner, name, sort, value, out)
 }
@@ -305,14 +305,14 @@ pub extern "C" fn formstore_add_attribute(
     value: &[u8],
     out: &mut [u8],
 ) -> Answer
-    ensures { λ r. ⌜ Answers (outcome (addAttribute owner (now (name .entry)) sort (now (value .entry))) (now (store .entry)) (length (now (out .entry)))) (now (out .entry)) (r .number) (r .length) (now (out .exit)) ⌝ }
+    ensures { λ r. ⌜ Promise (addAttribute owner (now (name .entry)) sort (now (value .entry))) (now (store .entry)) (now (out .entry)) (r .number) (r .length) (now (out .exit)) ⌝ }
 {
     attributes::add_attribute(store, owner, name, sort, value, out)
 }
 
 /// 10: destroys an attribute, with its rows.
 pub fn destroy_attribute(store: &[u8], attribute: u32, out: &mut [u8]) -> Answer
-    ensures { λ r. ⌜ Answers (outcome (destroyAttribute attribute) (now (store .entry)) (length (now (out .entry)))) (now (out .entry)) (r .number) (r .length) (now (out .exit)) ⌝ }
+    ensures { λ r. ⌜ Promise (destroyAttribute attribute) (now (store .entry)) (now (out .entry)) (r .number) (r .length) (now (out .exit)) ⌝ }
 {
     attributes::destroy_attribute(store, attribute, out)
 }
@@ -323,14 +323,14 @@ pub extern "C" fn formstore_destroy_attribute(
     attribute: u32,
     out: &mut [u8],
 ) -> Answer
-    ensures { λ r. ⌜ Answers (outcome (destroyAttribute attribute) (now (store .entry)) (length (now (out .entry)))) (now (out .entry)) (r .number) (r .length) (now (out .exit)) ⌝ }
+    ensures { λ r. ⌜ Promise (destroyAttribute attribute) (now (store .entry)) (now (out .entry)) (r .number) (r .length) (now (out .exit)) ⌝ }
 {
     attributes::destroy_attribute(store, attribute, out)
 }
 
 /// 11: a new last document, the filling of a definition.
 pub fn add_document(store: &[u8], definition: u32, text: &[u8], out: &mut [u8]) -> Answer
-    ensures { λ r. ⌜ Answers (outcome (addDocument definition (now (text .entry))) (now (store .entry)) (length (now (out .entry)))) (now (out .entry)) (r .number) (r .length) (now (out .exit)) ⌝ }
+    ensures { λ r. ⌜ Promise (addDocument definition (now (text .entry))) (now (store .entry)) (now (out .entry)) (r .number) (r .length) (now (out .exit)) ⌝ }
 {
     documents::add_document(store, definition, text, out)
 }
@@ -342,7 +342,7 @@ pub extern "C" fn formstore_add_document(
     text: &[u8],
     out: &mut [u8],
 ) -> Answer
-    ensures { λ r. ⌜ Answers (outcome (addDocument definition (now (text .entry))) (now (store .entry)) (length (now (out .entry)))) (now (out .entry)) (r .number) (r .length) (now (out .exit)) ⌝ }
+    ensures { λ r. ⌜ Promise (addDocument definition (now (text .entry))) (now (store .entry)) (now (out .entry)) (r .number) (r .length) (now (out .exit)) ⌝ }
 {
     documents::add_document(store, definition, text, out)
 }
@@ -356,7 +356,7 @@ pub fn add_element(
     text: &[u8],
     out: &mut [u8],
 ) -> Answer
-    ensures { λ r. ⌜ Answers (outcome (addElement parent child definition (now (text .entry))) (now (store .entry)) (length (now (out .entry)))) (now (out .entry)) (r .number) (r .length) (now (out .exit)) ⌝ }
+    ensures { λ r. ⌜ Promise (addElement parent child definition (now (text .entry))) (now (store .entry)) (now (out .entry)) (r .number) (r .length) (now (out .exit)) ⌝ }
 {
     documents::add_element(store, parent, child, definition, text, out)
 }
@@ -370,21 +370,21 @@ pub extern "C" fn formstore_add_element(
     text: &[u8],
     out: &mut [u8],
 ) -> Answer
-    ensures { λ r. ⌜ Answers (outcome (addElement parent child definition (now (text .entry))) (now (store .entry)) (length (now (out .entry)))) (now (out .entry)) (r .number) (r .length) (now (out .exit)) ⌝ }
+    ensures { λ r. ⌜ Promise (addElement parent child definition (now (text .entry))) (now (store .entry)) (now (out .entry)) (r .number) (r .length) (now (out .exit)) ⌝ }
 {
     documents::add_element(store, parent, child, definition, text, out)
 }
 
 /// 13: destroys an element with all below it, or a whole document.
 pub fn destroy_element(store: &[u8], element: u32, out: &mut [u8]) -> Answer
-    ensures { λ r. ⌜ Answers (outcome (destroyElement element) (now (store .entry)) (length (now (out .entry)))) (now (out .entry)) (r .number) (r .length) (now (out .exit)) ⌝ }
+    ensures { λ r. ⌜ Promise (destroyElement element) (now (store .entry)) (now (out .entry)) (r .number) (r .length) (now (out .exit)) ⌝ }
 {
     documents::destroy_element(store, element, out)
 }
 
 #[no_mangle]
 pub extern "C" fn formstore_destroy_element(store: &[u8], element: u32, out: &mut [u8]) -> Answer
-    ensures { λ r. ⌜ Answers (outcome (destroyElement element) (now (store .entry)) (length (now (out .entry)))) (now (out .entry)) (r .number) (r .length) (now (out .exit)) ⌝ }
+    ensures { λ r. ⌜ Promise (destroyElement element) (now (store .entry)) (now (out .entry)) (r .number) (r .length) (now (out .exit)) ⌝ }
 {
     documents::destroy_element(store, element, out)
 }
@@ -397,7 +397,7 @@ pub fn set_attribute(
     value: &[u8],
     out: &mut [u8],
 ) -> Answer
-    ensures { λ r. ⌜ Answers (outcome (setAttribute element attribute (now (value .entry))) (now (store .entry)) (length (now (out .entry)))) (now (out .entry)) (r .number) (r .length) (now (out .exit)) ⌝ }
+    ensures { λ r. ⌜ Promise (setAttribute element attribute (now (value .entry))) (now (store .entry)) (now (out .entry)) (r .number) (r .length) (now (out .exit)) ⌝ }
 {
     documents::set_attribute(store, element, attribute, value, out)
 }
@@ -410,14 +410,14 @@ pub extern "C" fn formstore_set_attribute(
     value: &[u8],
     out: &mut [u8],
 ) -> Answer
-    ensures { λ r. ⌜ Answers (outcome (setAttribute element attribute (now (value .entry))) (now (store .entry)) (length (now (out .entry)))) (now (out .entry)) (r .number) (r .length) (now (out .exit)) ⌝ }
+    ensures { λ r. ⌜ Promise (setAttribute element attribute (now (value .entry))) (now (store .entry)) (now (out .entry)) (r .number) (r .length) (now (out .exit)) ⌝ }
 {
     documents::set_attribute(store, element, attribute, value, out)
 }
 
 /// 15: destroys the row of an attribute of an element.
 pub fn destroy_attribute_row(store: &[u8], element: u32, attribute: u32, out: &mut [u8]) -> Answer
-    ensures { λ r. ⌜ Answers (outcome (destroyAttributeRow element attribute) (now (store .entry)) (length (now (out .entry)))) (now (out .entry)) (r .number) (r .length) (now (out .exit)) ⌝ }
+    ensures { λ r. ⌜ Promise (destroyAttributeRow element attribute) (now (store .entry)) (now (out .entry)) (r .number) (r .length) (now (out .exit)) ⌝ }
 {
     documents::destroy_attribute_row(store, element, attribute, out)
 }
@@ -429,14 +429,14 @@ pub extern "C" fn formstore_destroy_attribute_row(
     attribute: u32,
     out: &mut [u8],
 ) -> Answer
-    ensures { λ r. ⌜ Answers (outcome (destroyAttributeRow element attribute) (now (store .entry)) (length (now (out .entry)))) (now (out .entry)) (r .number) (r .length) (now (out .exit)) ⌝ }
+    ensures { λ r. ⌜ Promise (destroyAttributeRow element attribute) (now (store .entry)) (now (out .entry)) (r .number) (r .length) (now (out .exit)) ⌝ }
 {
     documents::destroy_attribute_row(store, element, attribute, out)
 }
 
 /// 16: sets the text of a PCDATA element.
 pub fn set_text(store: &[u8], element: u32, text: &[u8], out: &mut [u8]) -> Answer
-    ensures { λ r. ⌜ Answers (outcome (setText element (now (text .entry))) (now (store .entry)) (length (now (out .entry)))) (now (out .entry)) (r .number) (r .length) (now (out .exit)) ⌝ }
+    ensures { λ r. ⌜ Promise (setText element (now (text .entry))) (now (store .entry)) (now (out .entry)) (r .number) (r .length) (now (out .exit)) ⌝ }
 {
     documents::set_text(store, element, text, out)
 }
@@ -448,7 +448,7 @@ pub extern "C" fn formstore_set_text(
     text: &[u8],
     out: &mut [u8],
 ) -> Answer
-    ensures { λ r. ⌜ Answers (outcome (setText element (now (text .entry))) (now (store .entry)) (length (now (out .entry)))) (now (out .entry)) (r .number) (r .length) (now (out .exit)) ⌝ }
+    ensures { λ r. ⌜ Promise (setText element (now (text .entry))) (now (store .entry)) (now (out .entry)) (r .number) (r .length) (now (out .exit)) ⌝ }
 {
     documents::set_text(store, element, text, out)
 }

@@ -8,7 +8,7 @@ use lib.Dec.{eqb}
 use lib.ListN.{length, take}
 use Rattle.rules.specs.Bytes.{Bytes}
 use Rattle.rules.specs.Change.{Call}
-use Rattle.rules.specs.Outcome.{outcome, Answers}
+use Rattle.rules.specs.Outcome.{Promise}
 use Rattle.rules.specs.Run.{Asked, freshStore, start, run}
 use Rattle.history.specs.History.{Demand3}
 
@@ -34,7 +34,7 @@ storeAfter (m ∷ ms) bs = storeAfter ms (next m bs)
 -- every call keeps its promise, the one of crates/formstore
 unfoldable pub Promised : List Made → Bytes → Type 0
 Promised [] bs = Unit {0}
-Promised (m ∷ ms) bs = Answers (outcome (m .call) bs (length (m .out))) (m .out) (m .number) (m .len) (m .left) × Promised ms (next m bs)
+Promised (m ∷ ms) bs = Promise (m .call) bs (m .out) (m .number) (m .len) (m .left) × Promised ms (next m bs)
 
 abbrev pub historyOf : List Made → List Asked
 historyOf ms = map askedOf ms

@@ -11,7 +11,7 @@ use Rattle.rules.specs.Bytes.{any, eqb-of}
 use Rattle.rules.specs.Store.{Row, Forest, bare, tree, _⧺_}
 use Rattle.rules.specs.Lines.{Line, lines, ground}
 use Rattle.rules.specs.Change.{Plan, plant, isNew, newRows, given, number}
-use Rattle.rules.specs.Book.{Entry, stands, taken, untaken, Mark, old, spot, place, placed, spots, expand, spotCount}
+use Rattle.rules.specs.Book.{Entry, stands, taken, untaken, Mark, old, spot, putSpot as place, placed, spots, expand, spotCount}
 use Rattle.history.proofs.NumberTests.{eqb-sym, ones, ones-zero, ones-own}
 use Rattle.history.proofs.Taking.{occurs, count, Apart}
 

@@ -14,7 +14,7 @@ use Rattle.rules.specs.Model.{Distinct, member}
 use Rattle.rules.specs.Store.{Row, Forest}
 use Rattle.rules.specs.Lines.{Line, lines, ground}
 use Rattle.rules.specs.Change.{Call, Plan, plan, revalue, newRows, number}
-use Rattle.rules.specs.Book.{Entry, stands, taken, Book, freshBook, untaken, falls, mark, revalueEntry, Mark, old, spot, place, placed, spots, expand, spotCount, marks, note}
+use Rattle.rules.specs.Book.{Entry, stands, taken, Book, freshBook, untaken, falls, mark, revalueEntry, Mark, old, spot, putSpot as place, placed, spots, expand, spotCount, marks, note}
 use Rattle.rules.proofs.Letters.{member-in, member-out}
 use Rattle.history.specs.History.{serialOf, lineOf, everMade, SameLine, Keeps, none-left, made, kept, took, gone, shared}
 use Rattle.history.proofs.NumberTests.{eqb-other, times, times-append, range, range-append}

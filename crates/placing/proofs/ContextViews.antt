@@ -10,8 +10,9 @@ use Rattle.rules.specs.declared.Quantifier.{Quantifier}
 use Rattle.rules.specs.declared.GroupKind.{GroupKind}
 use Rattle.rules.specs.Model.{Members, done, el, group, skips, nothing, isDone}
 use Rattle.rules.specs.Layout.{howMany}
-use Rattle.rules.specs.Place.{Context, here, past, over, into, plug, plain, opens, leaves, unlessList}
+use Rattle.rules.specs.Place.{Context, here, past, over, into, plug, plain}
 use Rattle.rules.specs.Edit.{_⊕_}
+use Rattle.rules.proofs.AroundLaws.{opens, leaves, unlessList}
 use Rattle.model.specs.declared.place.Holder.{Holder}
 use Rattle.model.specs.Places.{Particles}
 use Rattle.model.specs.Positions.{elementParticle, groupParticle, spread, count, holder, leading, level}

@@ -20,10 +20,11 @@ use Rattle.rules.specs.Preorder.{Deep, build}
 use Rattle.rules.specs.Layout.{FlatParticle, howMany}
 use Rattle.rules.specs.Decode.{readParticle}
 use Rattle.rules.specs.Automaton.{facts}
-use Rattle.rules.specs.Place.{Context, here, past, over, into, opens, leaves, unlessList, renameAround}
+use Rattle.rules.specs.Place.{Context, here, past, over, into, renameAround}
 use Rattle.rules.specs.Edit.{_⊕_, sameKind, remove, removeLast, removeUnmatched}
 use Rattle.rules.specs.Change.{removeElement}
 use Rattle.rules.specs.Refusal.{_if_, first, conditions, foundAt, noElementAt, atPlace, onElement, tailOf}
+use Rattle.rules.proofs.AroundLaws.{opens, leaves, unlessList, last-is, unmatched-is}
 use Rattle.rules.proofs.Words.{or-left, or-right, and-both}
 use Rattle.rules.proofs.RenamingPlaces.{leaves-rename}
 use Rattle.model.specs.declared.place.Holder.{Holder}
@@ -246,10 +247,10 @@ module _ {bs : Bytes} {o : ℕ} {place : List ℕ} {h : Holder} {p : ℕ} {q : Q
   removable {s} e = subst (λ (z : Bytes). Removable z h p) (sym e) (record { deep = start-inner; later = start-before; there = room-here })
 
   last-test : ((ltb 0 d && eqb p (h .start)) && eqb (howMany (membersFrom d (drop (4 * p) part))) 1) ≡ removeLast (x .placed .found .context) (x .rest)
-  last-test = ap₂ (λ (a b : Bool). a && b) (opens-is ∙ opens-rename (indexIn bs) false (x .placed .found .context)) alone-is
+  last-test = ap₂ (λ (a b : Bool). a && b) (opens-is ∙ opens-rename (indexIn bs) false (x .placed .found .context)) alone-is ∙ sym (last-is (x .rest) (x .placed .found .context))
 
   left-test : not (sameKind (h .kind) Sequence || choiceLeft part (h .start) p d) ≡ removeUnmatched (x .placed .found .context) (x .rest)
-  left-test = ap not (leaves-is ∙ leaves-rename (indexIn bs) true Sequence (x .placed .found .context) (x .rest))
+  left-test = ap not (leaves-is ∙ leaves-rename (indexIn bs) true Sequence (x .placed .found .context) (x .rest)) ∙ sym (unmatched-is (x .rest) (x .placed .found .context))
 
 -- ---- the conditions
 module _ (bs : Bytes) (w : Whole bs) (o : ℕ) (place : List ℕ) where

@@ -10,8 +10,9 @@ use Rattle.rules.specs.declared.GroupKind.{GroupKind}
 use Rattle.rules.specs.declared.GroupKind.the-variants.{Sequence, Choice}
 use Rattle.rules.specs.Model.{Members, done, el, group, Equality, names, Distinct, skips, Some, Full}
 use Rattle.rules.specs.Language.{Conforms}
-use Rattle.rules.specs.Place.{Context, here, past, over, into, plug, kindAt, spine, before, leaves}
+use Rattle.rules.specs.Place.{Context, here, past, over, into, plug, kindAt, spine, before}
 use Rattle.rules.specs.Edit.{lone, sameKind, _⊕_, insertOff, removeUnmatched, quantifyOff, quantifyGroupOff, groupUnlike}
+use Rattle.rules.proofs.AroundLaws.{leaves, unmatched-is}
 use Rattle.rules.proofs.Children.{erase, placed, refit, refitGroup, inserted, requantified, groupRequantified}
 use Rattle.rules.specs.Quantifiers.{gains, cuts, relaxes}
 use Rattle.rules.proofs.Carry.{Carries, relax-element, relax-group}
@@ -39,7 +40,7 @@ module _ {A : Type 0} (E : Equality A) (c : Context A) where
       by false false f g = rw (f, inserted) (rw g (insert-kept Sequence c q n t (rw f (choice-or (kindAt Sequence c) (rw (f, g) at e))) .carry w m))
 
   pub remove-conforms : (q : Quantifier) (x : A) (t : Members A) → Distinct (names (plug c (el q x t))) → removeUnmatched c t ≡ false → (w : List A) → Conforms (plug c (el q x t)) w → Conforms (plug c t) (erase E x w)
-  remove-conforms q x t d e w m = remove-element E x c q t d (not-not (leaves true Sequence c t) e) .carry w m
+  remove-conforms q x t d e w m = remove-element E x c q t d (not-not (leaves true Sequence c t) (sym (unmatched-is t c) ∙ e)) .carry w m
 
   pub quantify-conforms : (q r : Quantifier) (x : A) (t : Members A) → Distinct (names (plug c (el q x t))) → quantifyOff c q r ≡ false → (w : List A) → Conforms (plug c (el q x t)) w → Conforms (plug c (el r x t)) (requantified E c x q r w)
   quantify-conforms q r x t d e w m = by (relaxes q r) (spine c) refl refl

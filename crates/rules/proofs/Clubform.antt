@@ -17,14 +17,14 @@ use Rattle.rules.specs.WellFormed.{goodDefinition, wellFormed}
 use Rattle.rules.specs.Conforming.{strip, fitsRow, conforming}
 use Rattle.rules.specs.Passing.{good, goodSerials, readStore, passes}
 use Rattle.rules.specs.Filling.{fillAttributes, fillEach, fillContent, fillWithin}
-use Rattle.rules.specs.Place.{plug, kindAt, spine, before, leaves, opens, afterMembers, find}
+use Rattle.rules.specs.Place.{plug, kindAt, spine, before, around, afterMembers, find}
 use Rattle.rules.specs.Edit.{_⊕_, edited, place, placeOf}
 use Rattle.rules.specs.Lines.{Line, lines, findRow, childrenOf}
 use Rattle.rules.specs.Change.{Call, createDefinition, insertElement, changeQuantifier, addDocument, addElement, setText, attributeAt, formAfter, plan, prune, eachRow, plant, newRows, given, number, after}
 use Rattle.rules.specs.Refusal.{conditions, refusal}
 use Rattle.rules.specs.Outcome.{Outcome, wrote, outcome}
 use Rattle.rules.specs.Print.{printed, printOutcome}
-use Rattle.rules.specs.Book.{Book, untaken, rowBySerial, falls, mark, spots, expand, spotCount, note}
+use Rattle.rules.specs.Book.{Book, untaken, rowBySerial, falls, mark, putSpot, spots, expand, spotCount, note}
 use Rattle.rules.specs.Run.{Asked, Moment, start, step, run}
 use Rattle.rules.proofs.Words.{and-split}
 
@@ -106,7 +106,7 @@ pub record Clubform : Type 0 where
   pub book-next : end .book .next ≡ 9
 
 pub clubform-end : Clubform
-unfolding names nothing filling member full distinct facts continues accepts plug kindAt spine before leaves opens afterMembers find _⊕_ edited place placeOf goodDefinition wellFormed strip fitsRow conforming goodSerials good fillAttributes fillEach fillContent fillWithin findRow childrenOf attributeAt formAfter plan prune eachRow plant newRows given number after conditions refusal confirm outcome printed printOutcome untaken rowBySerial falls mark Rattle.rules.specs.Book.place spots expand spotCount note step run clubform
+unfolding names nothing filling member full distinct facts continues accepts plug kindAt spine before around afterMembers find _⊕_ edited place placeOf goodDefinition wellFormed strip fitsRow conforming goodSerials good fillAttributes fillEach fillContent fillWithin findRow childrenOf attributeAt formAfter plan prune eachRow plant newRows given number after conditions refusal confirm outcome printed printOutcome untaken rowBySerial falls mark putSpot spots expand spotCount note step run clubform
 clubform-end = record { size = refl; next = refl; check = refl; print = refl; rows = refl; row-count = refl; book-next = refl }
 
 -- the store's rows are the book's untaken lines, in its order

@@ -1,30 +1,34 @@
--- The examples of paper 01 as one table, and its 'plausible and false' list, each shown false.
+-- The examples of paper 01 as one table, its 'plausible and false' list, each shown false, and a few more.
 -- Assumes nothing.
 use Prim.Native.Nat.{ℕ, zero, suc, _+_}
 use Prim.Native.String.{String}
 use mathlib.Core.Path.{_≡_, refl}
-use mathlib.Core.Bool.{Bool, true, false}
+use mathlib.Core.Bool.{Bool, true, false, false≢true}
 use mathlib.Core.List.{List, [], _∷_, _++_, map}
 use lib.ListN.{length}
 use Rattle.rules.specs.declared.Quantifier.{Quantifier}
 use Rattle.rules.specs.declared.Quantifier.the-variants.{None, Qmark, Star, Plus}
 use Rattle.rules.specs.declared.GroupKind.the-variants.{Sequence, Choice}
-use Rattle.rules.specs.Bytes.{Bytes, same, ascii, bytes, numbers}
+use Rattle.rules.specs.Bytes.{Bytes, same, ascii, concat, bytes, numbers}
 use Rattle.rules.specs.Model.{Members, done, el, group, names, nothing, filling, member, full, distinct}
+use Rattle.rules.specs.Language.{Conforms}
 use Rattle.rules.specs.Automaton.{accepts, continues, facts}
-use Rattle.rules.specs.Store.{Content, empty, pcdata, complex, Definition, Form, element, text, Row, Forest, bare, tree, Store, members, heads}
+use Rattle.rules.specs.Store.{Content, empty, pcdata, complex, implied, required, fixed, Attribute, Definition, Form, element, attribute, text, Row, Forest, bare, tree, Store, members, heads}
 use Rattle.rules.specs.Decode.{confirm}
 use Rattle.rules.specs.Layout.{baseVersion, valueWidth, flat, encode, each, rowBytes}
 use Rattle.rules.specs.WellFormed.{reaches, goodDefinition, wellFormed}
 use Rattle.rules.specs.Conforming.{strip, fitsRow, conforming, nameOf}
 use Rattle.rules.specs.Passing.{serials, good, goodSerials}
 use Rattle.rules.specs.Filling.{fillAttributes, fillEach, fillContent, fillWithin}
-use Rattle.rules.specs.Place.{plug, kindAt, spine, before, leaves, opens, afterMembers, find}
+use Rattle.rules.specs.Place.{plug, kindAt, spine, before, around, afterMembers, find}
 use Rattle.rules.specs.Edit.{_⊕_, edited, place, placeOf}
 use Rattle.rules.specs.Lines.{findRow, childrenOf}
-use Rattle.rules.specs.Change.{Call, destroyDefinition, insertElement, removeElement, changeQuantifier, convertToGroup, definitionAt, attributeAt, formAfter, plan, prune, eachRow, plant, newRows, given, number, after}
+use Rattle.rules.specs.Change.{Call, destroyDefinition, insertElement, removeElement, changeQuantifier, convertToGroup, changeGroupQuantifier, definitionAt, attributeAt, formAfter, plan, prune, eachRow, plant, newRows, given, number, after}
 use Rattle.rules.specs.Refusal.{conditions, refusal}
 use Rattle.rules.specs.Outcome.{wrote, outcome}
+use Rattle.rules.specs.Print.{printed, printOutcome}
+use Rattle.rules.proofs.Correct.{accepts-conforms}
+use Rattle.rules.proofs.TestLaws.{distinct-test}
 
 -- ---- small forms and documents; a, b, c, x are EMPTY
 abbrev a : Bytes
@@ -98,7 +102,10 @@ races =
 pub record Examples : Type 0 where
   pub p1 : accepts bytes optionalThenEither (a ∷ b ∷ c ∷ []) ≡ true
   pub p1-empty : accepts bytes optionalThenEither [] ≡ true
+  pub p1-language : Conforms optionalThenEither (a ∷ b ∷ c ∷ [])
+  pub p1-empty-language : Conforms optionalThenEither []
   pub p2 : accepts bytes optionalThenEither (b ∷ a ∷ []) ≡ false
+  pub p2-language : Conforms optionalThenEither (b ∷ a ∷ []) → ⊥
   pub p3 : filling Sequence (group None Choice (el None a (el None b done)) (el Qmark c done)) ≡ a ∷ []
   pub p4 : refuses (changeQuantifier 0 (2 ∷ []) 0 (ascii "t")) (storeOf starBetween (b ∷ a ∷ a ∷ a ∷ c ∷ [])) ≡ 0
   pub p4-first : serialsThen (changeQuantifier 0 (2 ∷ []) 0 (ascii "t")) (storeOf starBetween (b ∷ a ∷ a ∷ a ∷ c ∷ [])) ≡ 1 ∷ 2 ∷ 3 ∷ 6 ∷ []
@@ -108,17 +115,22 @@ pub record Examples : Type 0 where
   pub p7 : refuses (insertElement 1 (0 ∷ []) 0 2 []) races ≡ 11
   pub p8 : refuses (convertToGroup 0 (1 ∷ []) 2 2) (emptyOf (el None a (el None b done))) ≡ 14
   pub p9 : refuses (convertToGroup 0 (1 ∷ []) 1 2) (emptyOf (el None a (el None b done))) ≡ 0
-  pub p10 : modelThen (insertElement 0 (2 ∷ 0 ∷ []) 4 0 (ascii "t")) (emptyOf nested) ≡ el None a (group None Sequence (el None x (el None b (el None c done))) done)
-  pub p11 : modelThen (insertElement 0 (2 ∷ []) 4 0 (ascii "t")) (emptyOf nested) ≡ el None a (group None Sequence (el None b (el None c done)) (el None x done))
+  pub p10 : refuses (insertElement 0 (2 ∷ 0 ∷ []) 4 0 (ascii "t")) (emptyOf nested) ≡ 0
+  pub p10-model : modelThen (insertElement 0 (2 ∷ 0 ∷ []) 4 0 (ascii "t")) (emptyOf nested) ≡ el None a (group None Sequence (el None x (el None b (el None c done))) done)
+  pub p11 : refuses (insertElement 0 (2 ∷ []) 4 0 (ascii "t")) (emptyOf nested) ≡ 0
+  pub p11-model : modelThen (insertElement 0 (2 ∷ []) 4 0 (ascii "t")) (emptyOf nested) ≡ el None a (group None Sequence (el None b (el None c done)) (el None x done))
   pub p12 : refuses (insertElement 0 (2 ∷ 3 ∷ []) 4 0 (ascii "t")) (emptyOf nested) ≡ 8
 
 pub examples : Examples
-unfolding names nothing filling member full distinct facts continues accepts plug kindAt spine before leaves opens afterMembers find _⊕_ edited place placeOf goodDefinition wellFormed strip fitsRow conforming goodSerials good fillAttributes fillEach fillContent fillWithin findRow childrenOf attributeAt formAfter plan prune eachRow plant newRows given number after conditions refusal
+unfolding names nothing filling member full distinct facts continues accepts plug kindAt spine before around afterMembers find _⊕_ edited place placeOf goodDefinition wellFormed strip fitsRow conforming goodSerials good fillAttributes fillEach fillContent fillWithin findRow childrenOf attributeAt formAfter plan prune eachRow plant newRows given number after conditions refusal
 examples =
     record {
       p1 = refl;
       p1-empty = refl;
+      p1-language = accepts-conforms bytes optionalThenEither (distinct-test bytes (names optionalThenEither) .0 refl) (a ∷ b ∷ c ∷ []) .0 refl;
+      p1-empty-language = accepts-conforms bytes optionalThenEither (distinct-test bytes (names optionalThenEither) .0 refl) [] .0 refl;
       p2 = refl;
+      p2-language = λ h. false≢true (accepts-conforms bytes optionalThenEither (distinct-test bytes (names optionalThenEither) .0 refl) (b ∷ a ∷ []) .1 h);
       p3 = refl;
       p4 = refl;
       p4-first = refl;
@@ -129,7 +141,9 @@ examples =
       p8 = refl;
       p9 = refl;
       p10 = refl;
+      p10-model = refl;
       p11 = refl;
+      p11-model = refl;
       p12 = refl;
     }
 
@@ -177,7 +191,7 @@ pub record PlausibleAndFalse : Type 0 where
   pub choice-left : refuses (removeElement 0 (1 ∷ 2 ∷ [])) (storeOf (group None Choice (el None a (el None b done)) done) (b ∷ [])) ≡ 15
 
 pub plausible-and-false : PlausibleAndFalse
-unfolding names nothing filling member full distinct facts continues accepts plug kindAt spine before leaves opens afterMembers find _⊕_ edited place placeOf goodDefinition wellFormed strip fitsRow conforming goodSerials good fillAttributes fillEach fillContent fillWithin findRow childrenOf attributeAt formAfter plan prune eachRow plant newRows given number after conditions refusal confirm outcome
+unfolding names nothing filling member full distinct facts continues accepts plug kindAt spine before around afterMembers find _⊕_ edited place placeOf goodDefinition wellFormed strip fitsRow conforming goodSerials good fillAttributes fillEach fillContent fillWithin findRow childrenOf attributeAt formAfter plan prune eachRow plant newRows given number after conditions refusal confirm outcome
 plausible-and-false =
     record {
       club-as-child-0 = refl;
@@ -190,4 +204,86 @@ plausible-and-false =
       tree-unmoved = refl;
       tree-moved = refl;
       choice-left = refl;
+    }
+
+-- ---- more: rows 12, 14 and 15 of changes 4 and 8, and the printed text
+-- (a,(b,c)?)
+abbrev optionalPair : Members Bytes
+optionalPair = el None a (group Qmark Sequence (el None b (el None c done)) done)
+
+-- (a|(b,c))
+abbrev listInChoice : Members Bytes
+listInChoice = group None Choice (el None a (group None Sequence (el None b (el None c done)) done)) done
+
+-- a store that prints with every mark, every sort of attribute and every escape
+abbrev printable : Store
+printable =
+    record {
+      version = baseVersion;
+      next = 7;
+      form =
+          record {
+            name = ascii "r";
+            content = complex (group Star Choice (el None a (el Plus b done)) (el Qmark c done));
+            attributes =
+                record { name = ascii "i"; sort = implied; value = [] }
+                ∷ record { name = ascii "q"; sort = required; value = ascii "0" }
+                ∷ record { name = ascii "f"; sort = fixed; value = ascii "\"<&>" }
+                ∷ [];
+          }
+          ∷ defined "a" empty
+          ∷ defined "b" pcdata
+          ∷ defined "c" (complex done)
+          ∷ [];
+      docs =
+          tree (record { serial = 1; sort = element; name = ascii "r"; value = [] })
+          (tree (record { serial = 2; sort = attribute; name = ascii "q"; value = ascii ">" }) bare
+          (tree (record { serial = 3; sort = attribute; name = ascii "f"; value = ascii "\"<&>" }) bare
+          (tree (record { serial = 4; sort = element; name = a; value = [] }) bare
+          (tree (record { serial = 5; sort = element; name = b; value = [] }) (tree (record { serial = 6; sort = text; name = []; value = ascii "1&2" }) bare bare) bare)))) bare;
+    }
+
+abbrev printableText : Bytes
+printableText =
+    concat
+    (ascii "<!ELEMENT r ((a|b+)*,c?)>\n"
+    ∷ ascii "<!ATTLIST r i CDATA #IMPLIED>\n"
+    ∷ ascii "<!ATTLIST r q CDATA #REQUIRED>\n"
+    ∷ ascii "<!ATTLIST r f CDATA #FIXED \"&quot;&lt;&amp;&gt;\">\n"
+    ∷ ascii "<!ELEMENT a EMPTY>\n"
+    ∷ ascii "<!ELEMENT b (#PCDATA)>\n"
+    ∷ ascii "<!ELEMENT c EMPTY>\n"
+    ∷ ascii "<r q=\"&gt;\" f=\"&quot;&lt;&amp;&gt;\"><a></a><b>1&amp;2</b></r>\n"
+    ∷ [])
+
+pub record More : Type 0 where
+  -- 8: a gain wants a text, and gives an instance without a child of the group its filling; what only relaxes wants none
+  pub group-gain-without-text : refuses (changeGroupQuantifier 0 (2 ∷ []) 0 []) (emptyOf optionalPair) ≡ 12
+  pub group-gain : refuses (changeGroupQuantifier 0 (2 ∷ []) 0 (ascii "t")) (storeOf optionalPair (a ∷ [])) ≡ 0
+  pub group-gain-rows : serialsThen (changeGroupQuantifier 0 (2 ∷ []) 0 (ascii "t")) (storeOf optionalPair (a ∷ [])) ≡ 1 ∷ 2 ∷ 3 ∷ 4 ∷ []
+  pub group-relaxed-without-text : refuses (changeGroupQuantifier 0 (2 ∷ []) 2 []) (storeOf optionalPair (a ∷ [])) ≡ 0
+  -- 4: the last of an inner group stays, the last of the top list may go
+  pub last-of-group : refuses (removeElement 0 (2 ∷ 1 ∷ [])) (emptyOf (el None a (group None Sequence (el None b done) done))) ≡ 14
+  pub last-of-top : refuses (removeElement 0 (1 ∷ [])) (emptyOf (el None a done)) ≡ 0
+  -- 4, with an instance: the CHOICE left accepts nothing by its quantifier, or by a member; a LIST inside a CHOICE is none
+  pub choice-star : refuses (removeElement 0 (1 ∷ 2 ∷ [])) (storeOf (group Star Choice (el None a (el None b done)) done) (b ∷ [])) ≡ 0
+  pub choice-member : refuses (removeElement 0 (1 ∷ 2 ∷ [])) (storeOf (group None Choice (el Qmark a (el None b done)) done) (b ∷ [])) ≡ 0
+  pub choice-around-list : refuses (removeElement 0 (1 ∷ 2 ∷ 1 ∷ [])) (storeOf listInChoice (b ∷ c ∷ [])) ≡ 0
+  -- the text
+  pub text : printOutcome (encode printable) 9999 ≡ wrote printableText
+
+pub more : More
+unfolding names nothing filling member full distinct facts continues accepts plug kindAt spine before around afterMembers find _⊕_ edited place placeOf goodDefinition wellFormed strip fitsRow conforming goodSerials good fillAttributes fillEach fillContent fillWithin findRow childrenOf attributeAt formAfter plan prune eachRow plant newRows given number after conditions refusal confirm outcome printed printOutcome
+more =
+    record {
+      group-gain-without-text = refl;
+      group-gain = refl;
+      group-gain-rows = refl;
+      group-relaxed-without-text = refl;
+      last-of-group = refl;
+      last-of-top = refl;
+      choice-star = refl;
+      choice-member = refl;
+      choice-around-list = refl;
+      text = refl;
     }

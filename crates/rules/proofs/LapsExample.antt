@@ -1,4 +1,4 @@
--- A history that makes, takes, revalues and is refused, computed through the byte strings, with its book.
+-- A history that makes, takes, revalues and is refused, computed through the byte strings, with its book; and how new lines find their places.
 -- Assumes nothing.
 use Prim.Native.Nat.{ℕ}
 use mathlib.Core.Path.{_≡_, refl}
@@ -6,21 +6,23 @@ use mathlib.Core.Bool.{Bool, true, false}
 use mathlib.Core.Option.{Option, none, some}
 use mathlib.Core.List.{List, [], _∷_, _++_, map}
 use Rattle.rules.specs.Bytes.{Bytes, ascii}
-use Rattle.rules.specs.Model.{names, nothing, filling, member, full, distinct}
+use Rattle.rules.specs.declared.Quantifier.the-variants.{Star}
+use Rattle.rules.specs.Model.{done, el, names, nothing, filling, member, full, distinct}
 use Rattle.rules.specs.Automaton.{accepts, continues, facts}
-use Rattle.rules.specs.Store.{Store}
+use Rattle.rules.specs.Store.{empty, complex, Form, element, Store}
+use Rattle.rules.specs.Layout.{baseVersion}
 use Rattle.rules.specs.Decode.{confirm, numberAt}
 use Rattle.rules.specs.WellFormed.{goodDefinition, wellFormed}
 use Rattle.rules.specs.Conforming.{strip, fitsRow, conforming}
 use Rattle.rules.specs.Passing.{good, goodSerials, serials, readStore}
 use Rattle.rules.specs.Filling.{fillAttributes, fillEach, fillContent, fillWithin}
-use Rattle.rules.specs.Place.{plug, kindAt, spine, before, leaves, opens, afterMembers, find}
+use Rattle.rules.specs.Place.{plug, kindAt, spine, before, around, afterMembers, find}
 use Rattle.rules.specs.Edit.{_⊕_, edited, place, placeOf}
 use Rattle.rules.specs.Lines.{Line, findRow, childrenOf}
-use Rattle.rules.specs.Change.{Call, createDefinition, insertElement, changeQuantifier, addAttribute, addDocument, addElement, destroyElement, setAttribute, setText, attributeAt, formAfter, plan, prune, eachRow, plant, newRows, given, number, after}
+use Rattle.rules.specs.Change.{Call, createDefinition, insertElement, changeQuantifier, addAttribute, addDocument, addElement, destroyElement, setAttribute, setText, attributeAt, formAfter, Plan, plan, prune, eachRow, plant, newRows, given, number, after}
 use Rattle.rules.specs.Refusal.{conditions, refusal}
 use Rattle.rules.specs.Outcome.{outcome}
-use Rattle.rules.specs.Book.{Entry, stands, taken, Book, untaken, rowBySerial, falls, mark, spots, expand, spotCount, note}
+use Rattle.rules.specs.Book.{Entry, stands, taken, Book, untaken, rowBySerial, falls, mark, old, spot, putSpot, spots, expand, spotCount, marks, note}
 use Rattle.rules.specs.Run.{Asked, Moment, start, step, run}
 
 abbrev asked : Call → Asked
@@ -96,7 +98,7 @@ pub record Laps : Type 0 where
   pub next-store : numberAt 4 4 (end .store) ≡ 14
 
 pub laps-end : Laps
-unfolding names nothing filling member full distinct facts continues accepts plug kindAt spine before leaves opens afterMembers find _⊕_ edited place placeOf goodDefinition wellFormed strip fitsRow conforming goodSerials good fillAttributes fillEach fillContent fillWithin findRow childrenOf attributeAt formAfter plan prune eachRow plant newRows given number after conditions refusal confirm outcome untaken rowBySerial falls mark Rattle.rules.specs.Book.place spots expand spotCount note step run laps splits oneLap refusedCalls
+unfolding names nothing filling member full distinct facts continues accepts plug kindAt spine before around afterMembers find _⊕_ edited place placeOf goodDefinition wellFormed strip fitsRow conforming goodSerials good fillAttributes fillEach fillContent fillWithin findRow childrenOf attributeAt formAfter plan prune eachRow plant newRows given number after conditions refusal confirm outcome untaken rowBySerial falls mark putSpot spots expand spotCount note step run laps splits oneLap refusedCalls
 laps-end =
     record {
       lines = refl;
@@ -110,3 +112,43 @@ laps-end =
       next-book = refl;
       next-store = refl;
     }
+
+-- ---- the worked example of specs/Book.antt: four lines, one of them taken; each race gets a split after its laps
+abbrev raceForm : Form
+raceForm =
+    record { name = ascii "race"; content = complex (el Star (ascii "lap") done); attributes = [] }
+    ∷ record { name = ascii "lap"; content = empty; attributes = [] }
+    ∷ record { name = ascii "split"; content = empty; attributes = [] }
+    ∷ []
+
+abbrev lineOf : ℕ → ℕ → Bytes → Line
+lineOf up k n = record { parent = up; row = record { serial = k; sort = element; name = n; value = [] } }
+
+abbrev race1 : Line
+race1 = lineOf 0 1 (ascii "race")
+
+abbrev lap2 : Line
+lap2 = lineOf 1 2 (ascii "lap")
+
+abbrev lap3 : Line
+lap3 = lineOf 1 3 (ascii "lap")
+
+abbrev race4 : Line
+race4 = lineOf 0 4 (ascii "race")
+
+abbrev fourLines : List Entry
+fourLines = stands race1 ∷ stands lap2 ∷ taken lap3 ∷ stands race4 ∷ []
+
+abbrev splitPlan : Plan
+splitPlan = plan (insertElement 0 (1 ∷ []) 2 0 (ascii "t")) raceForm (untaken fourLines)
+
+pub record Spots : Type 0 where
+  pub marks-are : marks splitPlan fourLines
+      ≡ old (stands race1) ∷ old (stands lap2) ∷ old (taken lap3) ∷ spot 1 ∷ old (stands race4) ∷ spot 4 ∷ []
+  pub lines-are : expand (splitPlan .filling) 5 (marks splitPlan fourLines)
+      ≡ stands race1 ∷ stands lap2 ∷ taken lap3 ∷ stands (lineOf 1 5 (ascii "split")) ∷ stands race4 ∷ stands (lineOf 4 6 (ascii "split")) ∷ []
+  pub next-is : note (insertElement 0 (1 ∷ []) 2 0 (ascii "t")) (record { version = baseVersion; next = 5; form = raceForm; entries = fourLines }) .next ≡ 7
+
+pub spots-example : Spots
+unfolding names nothing filling member plug kindAt spine before afterMembers find _⊕_ edited place placeOf fillAttributes fillEach fillContent fillWithin findRow childrenOf formAfter plan newRows given number untaken rowBySerial falls mark putSpot spots expand spotCount note
+spots-example = record { marks-are = refl; lines-are = refl; next-is = refl }

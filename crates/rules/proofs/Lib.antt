@@ -1,6 +1,7 @@
 pub mod Children
 pub mod ChildRows
 pub mod Words
+pub mod AroundLaws
 pub mod Auto
 pub mod AutoList
 pub mod AutoChoice
@@ -39,4 +40,5 @@ pub mod BooleanLaws
 pub mod PreorderLaws
 pub mod LayoutLaws
 pub mod DecodeLaws
+pub mod LowestLaws
 pub mod SmallBytes

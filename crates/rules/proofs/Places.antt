@@ -10,8 +10,9 @@ use Rattle.rules.specs.declared.Quantifier.{Quantifier}
 use Rattle.rules.specs.declared.Quantifier.the-variants.{None}
 use Rattle.rules.specs.declared.GroupKind.{GroupKind}
 use Rattle.rules.specs.Model.{Members, done, el, group, names, Distinct, Some, Full, isDone}
-use Rattle.rules.specs.Place.{Context, here, past, over, into, plug, before, after, opens, Found, within, afterMembers, inGroup, right, present, gap, nth, find}
+use Rattle.rules.specs.Place.{Context, here, past, over, into, plug, before, after, Found, within, afterMembers, inGroup, right, present, gap, nth, find}
 use Rattle.rules.specs.Edit.{_⊕_}
+use Rattle.rules.proofs.AroundLaws.{opens}
 use Rattle.rules.proofs.Apart.{names-plug}
 use Rattle.rules.proofs.Spine.{names-append}
 

@@ -12,7 +12,8 @@ use Rattle.rules.specs.declared.GroupKind.{GroupKind}
 use Rattle.rules.specs.declared.GroupKind.the-variants.{Sequence, Choice}
 use Rattle.rules.specs.Model.{Members, done, el, group, names, Distinct, Equality, skips, nothing}
 use Rattle.rules.specs.Language.{Language, Then, Times, Allowed, Repeated, Joined, Ended, Matches, Conforms}
-use Rattle.rules.specs.Place.{Context, here, past, over, into, plug, before, after, leaves}
+use Rattle.rules.specs.Place.{Context, here, past, over, into, plug, before, after}
+use Rattle.rules.proofs.AroundLaws.{leaves}
 use Rattle.rules.proofs.Children.{erase}
 use Rattle.rules.proofs.Words.{or-cases}
 use Rattle.rules.proofs.Nothing.{nothing→}

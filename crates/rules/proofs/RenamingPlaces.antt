@@ -7,7 +7,8 @@ use Rattle.rules.specs.declared.Quantifier.{Quantifier}
 use Rattle.rules.specs.declared.GroupKind.{GroupKind}
 use Rattle.rules.specs.declared.GroupKind.the-variants.{Sequence, Choice}
 use Rattle.rules.specs.Model.{Members, done, el, group, names, nothing, rename, filling, beside, unless, skips}
-use Rattle.rules.specs.Place.{Context, here, past, over, into, plug, kindAt, spine, before, leaves, opens, renameAround, plain}
+use Rattle.rules.specs.Place.{Context, here, past, over, into, plug, kindAt, spine, before, renameAround, plain}
+use Rattle.rules.proofs.AroundLaws.{leaves}
 
 module _ {A B : Type 0} (f : A → B) where
   map-append : (u v : List A) → map f (u ++ v) ≡ map f u ++ map f v

@@ -12,8 +12,9 @@ use Rattle.rules.specs.declared.GroupKind.the-variants.{Sequence, Choice
 use Rattle.rules.specs.Model.{Members, done, el, group, Equality, names, Distinct, skips, Some, Full, member, isDone}
 use Rattle.rules.specs.Language.{Conforms}
 use Rattle.rules.specs.Automaton.{accepts}
+use Rattle.rules.proofs.AroundLaws.{opens, last-is}
 use Rattle.rules.proofs.Unique.{accepts-carried}
-use Rattle.rules.specs.Place.{Context, here, past, over, into, plug, opens, Found}
+use Rattle.rules.specs.Place.{Context, here, past, over, into, plug, Found}
 use Rattle.rules.proofs.Children.{erase, misplaced, unfit, children, Sound}
 use Rattle.rules.specs.Edit.{_⊕_, removeLast, groupUnlike, Edit, insert, remove, quantify, convert, flatten, firstMembers, laterMembers, hasMembers, isOne, edited, place, modelAfter}
 use Rattle.rules.proofs.Carry.{Carries}
@@ -102,7 +103,7 @@ module _ {A : Type 0} where
           full = swap c t (el q n t) refl (λ f. f) (s .full);
         }
     edit-sound remove done m s = absurd (false≢true (sym m))
-    edit-sound remove (el q x t) m s = record { distinct = remove-distinct c q x t (s .distinct); full = full-plug false c (el q x t) t (λ f. f) m (s .full) }
+    edit-sound remove (el q x t) m s = record { distinct = remove-distinct c q x t (s .distinct); full = full-plug false c (el q x t) t (λ f. f) (sym (last-is t c) ∙ m) (s .full) }
     edit-sound remove (group q k ms t) m s = absurd (false≢true (sym m))
     edit-sound (quantify r) done m s = absurd (false≢true (sym m))
     edit-sound (quantify r) (el q x t) m s =

@@ -50,25 +50,34 @@ revalueEntry k v (taken l) = taken l
 revalueEntry k v (stands l) = stands (record { parent = l .parent; row = revalue k v (l .row) })
 
 -- ---- rows made: first the spots where they come, then their lines
+-- Say that the book has race 1, lap 2 below it, lap 3 below it, taken, and race 4, and that each race gets a split after its laps:
+--   lines    race 1   lap 2   (lap 3)            race 4
+--   spots    race 1   lap 2   (lap 3)   spot 1   race 4   spot 4
+--   expand   race 1   lap 2   (lap 3)   split 5  race 4   split 6
+-- The example is computed in proofs/LapsExample.antt (`Spots`).
+
 -- `spot u`: the new rows below the row with serial u come here
 pub data Mark : Type 0 where
   old : Entry → Mark
   spot : ℕ → Mark
 
--- Past the lines below the row with serial u, up to its first later child; `below` are the serials passed.
-unfoldable pub place : (Row → Bool) → ℕ → List ℕ → List Mark → List Mark
-place later u below [] = spot u ∷ []
-place later u below (spot v ∷ ms) = spot v ∷ place later u below ms
-place later u below (old (taken l) ∷ ms) = old (taken l) ∷ place later u below ms
-place later u below (old (stands l) ∷ ms) =
+-- The spot of the row with serial u, in the marks after its line: past the lines below it, up to its first later child; `below` are u and
+-- the serials passed.
+unfoldable pub putSpot : (Row → Bool) → ℕ → List ℕ → List Mark → List Mark
+putSpot later u below [] = spot u ∷ []
+putSpot later u below (spot v ∷ ms) = spot v ∷ putSpot later u below ms
+putSpot later u below (old (taken l) ∷ ms) = old (taken l) ∷ putSpot later u below ms
+putSpot later u below (old (stands l) ∷ ms) =
     elim (any (eqb (l .parent)) below && not (eqb (l .parent) u && later (l .row))) [
-      | true ↦ old (stands l) ∷ place later u (l .row .serial ∷ below) ms
+      | true ↦ old (stands l) ∷ putSpot later u (l .row .serial ∷ below) ms
       | false ↦ spot u ∷ old (stands l) ∷ ms
     ]
 
+-- in the marks after the line of r: its spot, if it gets new rows
 abbrev pub placed : Plan → Row → List Mark → List Mark
-placed p r ms = elim (p .fills r) [ true ↦ place (p .later r) (r .serial) (r .serial ∷ []) ms | false ↦ ms ]
+placed p r ms = elim (p .fills r) [ true ↦ putSpot (p .later r) (r .serial) (r .serial ∷ []) ms | false ↦ ms ]
 
+-- a spot for each standing line whose row gets new rows
 unfoldable pub spots : Plan → List Entry → List Mark
 spots p [] = []
 spots p (taken l ∷ es) = old (taken l) ∷ spots p es
@@ -85,6 +94,7 @@ spotCount [] = 0
 spotCount (old e ∷ ms) = spotCount ms
 spotCount (spot u ∷ ms) = suc (spotCount ms)
 
+-- an accepted call's marks: first lines are taken, then values set, then spots put; the one below the ground is for documents
 abbrev pub marks : Plan → List Entry → List Mark
 marks p es = placed p ground (spots p (map (revalueEntry (p .set) (p .value)) (mark (p .takes) (ground ∷ []) es)))
 

@@ -19,7 +19,7 @@ use Rattle.rules.specs.Decode.{quantifierOf, groupOf, contentOf, sortOf}
 use Rattle.rules.specs.WellFormed.{attributeName}
 use Rattle.rules.specs.Conforming.{isElement, isAttribute, mustBePresent}
 use Rattle.rules.specs.Filling.{attributeRow, fillEach, fillDefinition}
-use Rattle.rules.specs.Lines.{Line, lines, ground, isElementRow, isTextRow, elementNamed, elementAmong, attributeNamed, elementWith, childrenOf, serialAt}
+use Rattle.rules.specs.Lines.{Line, lines, ground, isGround, isElementRow, isTextRow, elementNamed, elementAmong, attributeNamed, elementWith, childrenOf, serialAt}
 
 -- the calls, in the paper's order, with their arguments in the order of the public functions
 pub data Call : Type 0 where
@@ -133,7 +133,12 @@ formAfter (setText k t) form = form
 -- takes: the row, below its parent, is taken with all below it ('taking rule')
 -- fills, later, filling: below each row that `fills`, the rows `filling` come before the first row that is `later`, else last; the
 --   row `ground` has the documents below it
--- set, value: the row with that serial gets that value; 0 is none's
+-- set, value: the row with that serial gets that value
+-- Serial 0 is no row's, and stands for four things:
+--   in `filling`, and in the documents until `number`: a new row, which has no serial yet
+--   in `ground`, and as a line's parent: what is above the documents, where change 11 fills
+--   in `set`: no row gets a value (new rows come after values are set)
+--   from `serialAt`: there is no such row, so none is that one
 pub record Plan : Type 0 where
   pub takes : Row → Row → Bool
   pub fills : Row → Bool
@@ -180,20 +185,28 @@ removePlan owner (group q k ms rest) = keeping
 abbrev pub groupFilling : Quantifier → GroupKind → Members Bytes → List Bytes
 groupFilling q k ms = unless (skips q || nothing k ms) (filling k ms)
 
+-- the first child named x of the row u
+abbrev pub firstChild : Bytes → Row → List Line → ℕ
+firstChild x u ls = serialAt 0 (childrenOf (elementNamed x) (u .serial) ls)
+
+-- the row u has no child that passes the test
+abbrev pub lacks : (Row → Bool) → Row → List Line → Bool
+lacks p u ls = isNone (childrenOf p (u .serial) ls)
+
 -- 5 and 8, in a spine list. A cut keeps each instance's first; a gain puts a filling where none stands.
 abbrev pub quantifyPlan : Form → List Line → Bytes → Bytes → Quantifier → Context Bytes → Members Bytes → Plan
 quantifyPlan form ls owner txt new c done = keeping
 quantifyPlan form ls owner txt new c (el old x rest) =
     record {
-      takes = λ u r. (spine c && cuts old new) && (elementNamed owner u && (elementNamed x r && not (eqb (r .serial) (serialAt 0 (childrenOf (elementNamed x) (u .serial) ls)))));
-      fills = λ r. (spine c && gains old new) && (elementNamed owner r && isNone (childrenOf (elementNamed x) (r .serial) ls));
+      takes = λ u r. (spine c && cuts old new) && (elementNamed owner u && (elementNamed x r && not (eqb (r .serial) (firstChild x u ls))));
+      fills = λ r. (spine c && gains old new) && (elementNamed owner r && lacks (elementNamed x) r ls);
       later = laterThan (before c);
       filling = fillDefinition form txt x;
       set = 0;
       value = [];
     }
 quantifyPlan form ls owner txt new c (group old k ms rest) =
-    making (λ r. (spine c && gains old new) && (elementNamed owner r && isNone (childrenOf (elementAmong (names ms)) (r .serial) ls))) (laterThan (before c))
+    making (λ r. (spine c && gains old new) && (elementNamed owner r && lacks (elementAmong (names ms)) r ls)) (laterThan (before c))
     (fillEach (λ n. fillDefinition form txt n) (groupFilling new k ms))
 
 abbrev pub pickedPlan : (Context Bytes → Members Bytes → Plan) → Option (Found Bytes) → Plan
@@ -236,7 +249,7 @@ plan (changeGroupQuantifier o p q t) form ls =
 plan (addAttribute o n k v) form ls =
     making (λ r. mustBePresent (sortOf k) && elementNamed (nameAtIndex o form) r) (λ u r. not (isAttribute (r .sort))) (tree (attributeRow (newAttribute n k v)) bare bare)
 plan (destroyAttribute a) form ls = dropPlan (λ o u. elementNamed (o .owner .name) u) (attributeAt a form)
-plan (addDocument i t) form ls = making (λ r. eqb (r .serial) 0) neither (fillDefinition form t (nameAtIndex i form))
+plan (addDocument i t) form ls = making isGround neither (fillDefinition form t (nameAtIndex i form))
 plan (addElement k j i t) form ls =
     making (elementWith k) (λ u r. eqb (r .serial) (serialAt j (childrenOf isElementRow k ls))) (fillDefinition form t (nameAtIndex i form))
 plan (destroyElement k) form ls = taking (λ u r. elementWith k r)
@@ -256,7 +269,8 @@ unfoldable pub eachRow : (Row → Row) → Forest Row → Forest Row
 eachRow f bare = bare
 eachRow f (tree r b t) = tree (f r) (eachRow f b) (eachRow f t)
 
--- `due`: the new rows have still to come below u
+-- The rows below u, with the new rows among them. `due`: u fills, and the new rows have still to come below it; they come before the first
+-- row that is later, else after all.
 unfoldable pub plant : Plan → Row → Bool → Forest Row → Forest Row
 plant p u true bare = p .filling
 plant p u false bare = bare
@@ -266,6 +280,7 @@ plant p u due (tree r b t) =
       | false ↦ tree r (plant p r (p .fills r) b) (plant p u due t)
     ]
 
+-- rows taken, values set, new rows put
 abbrev pub changed : Plan → Forest Row → Forest Row
 changed p docs = plant p ground (p .fills ground) (eachRow (revalue (p .set) (p .value)) (prune (p .takes) ground docs))
 

@@ -14,7 +14,7 @@ use Rattle.rules.specs.declared.GroupKind.{GroupKind}
 use Rattle.rules.specs.declared.GroupKind.the-variants.{Sequence, Choice}
 use Rattle.rules.specs.Model.{Members, done, el, group, skips, nothing, isDone}
 use Rattle.rules.specs.Quantifiers.{gains, cuts, relaxes}
-use Rattle.rules.specs.Place.{Context, plug, kindAt, spine, leaves, opens, Found, find, gap, nth}
+use Rattle.rules.specs.Place.{Context, plug, kindAt, spine, around, Found, find, gap, nth}
 
 infixr 66 _⊕_
 unfoldable pub _⊕_ : {A : Type 0} → Members A → Members A → Members A
@@ -22,6 +22,7 @@ done ⊕ r = r
 el q n s ⊕ r = el q n (s ⊕ r)
 group q k ms s ⊕ r = group q k ms (s ⊕ r)
 
+-- one member and no more
 abbrev pub lone : {A : Type 0} → Members A → Bool
 lone done = false
 lone (el q n rest) = isDone rest
@@ -101,13 +102,19 @@ modelAfter e f = plug (f .context) (edited e (f .picked))
 abbrev pub insertOff : {A : Type 0} → Context A → Quantifier → Bool
 insertOff c q = not (skips q) && (sameKind (kindAt Sequence c) Sequence && not (spine c))
 
--- row 14, 4: the last of an inner group
+-- Change 4 leaves the members `t`, those after the removed one, at the place.
+-- row 14, 4: the last of an inner group; the group directly around the place would be left without members
 abbrev pub removeLast : {A : Type 0} → Context A → Members A → Bool
-removeLast c t = opens false c && isDone t
+removeLast c t = elim (around c) [ none ↦ false | some g ↦ isDone (plug (g .inside) t) ]
 
--- row 15, 4: the CHOICE left doesn't accept nothing
+-- a CHOICE that, with its quantifier, doesn't accept nothing
+abbrev pub unmatched : {A : Type 0} → Quantifier → GroupKind → Members A → Bool
+unmatched q Sequence ms = false
+unmatched q Choice ms = not (skips q || nothing Choice ms)
+
+-- row 15, 4: the group directly around the place would be left so
 abbrev pub removeUnmatched : {A : Type 0} → Context A → Members A → Bool
-removeUnmatched c t = not (leaves true Sequence c t)
+removeUnmatched c t = elim (around c) [ none ↦ false | some g ↦ unmatched (g .quantifier) (g .kind) (plug (g .inside) t) ]
 
 -- row 13, 5
 abbrev pub quantifyOff : {A : Type 0} → Context A → Quantifier → Quantifier → Bool

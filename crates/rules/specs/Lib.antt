@@ -16,6 +16,7 @@ pub mod Edit
 pub mod Lines
 pub mod Change
 pub mod Refusal
+pub mod Lowest
 pub mod Outcome
 pub mod LookUp
 pub mod Print

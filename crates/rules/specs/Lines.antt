@@ -23,6 +23,9 @@ lines up (tree r b t) = record { parent = up; row = r } ∷ (lines (r .serial) b
 abbrev pub ground : Row
 ground = record { serial = 0; sort = text; name = []; value = [] }
 
+abbrev pub isGround : Row → Bool
+isGround r = eqb (r .serial) 0
+
 -- ---- rows by sort and name
 abbrev pub isElementRow : Row → Bool
 isElementRow r = isElement (r .sort)

@@ -32,13 +32,14 @@ abbrev pub Distinct : {A : Type 0} → List A → Type 0
 Distinct [] = Unit {0}
 Distinct (x ∷ xs) = (List·Memᴰ x xs → ⊥) × Distinct xs
 
--- 'accepts nothing'
+-- 'accepts nothing': a quantifier that lets a particle be absent
 abbrev pub skips : Quantifier → Bool
 skips None = false
 skips Qmark = true
 skips Star = true
 skips Plus = false
 
+-- of the first member and of the others: all do in a LIST, one does in a CHOICE; and of no members
 abbrev pub both : GroupKind → Bool → Bool → Bool
 both Sequence a b = a && b
 both Choice a b = a || b
@@ -47,12 +48,13 @@ abbrev pub neutral : GroupKind → Bool
 neutral Sequence = true
 neutral Choice = false
 
+-- of the members of a group of kind k, with no regard to its own quantifier
 unfoldable pub nothing : {A : Type 0} → GroupKind → Members A → Bool
 nothing k done = neutral k
 nothing k (el q n rest) = both k (skips q) (nothing k rest)
 nothing k (group q j ms rest) = both k (skips q || nothing j ms) (nothing k rest)
 
--- the names of a filling: all members' in a LIST, the first member's in a CHOICE
+-- a particle that accepts nothing fills with nothing
 abbrev pub unless : {A : Type 0} → Bool → List A → List A
 unless true w = []
 unless false w = w
@@ -65,17 +67,19 @@ abbrev pub beside : {A : Type 0} → GroupKind → List A → List A → List A
 beside Sequence u v = u ++ v
 beside Choice u v = chosen u v
 
+-- the names of a filling: all members' in a LIST, the first member's in a CHOICE
 unfoldable pub filling : {A : Type 0} → GroupKind → Members A → List A
 filling k done = []
 filling k (el q n rest) = beside k (unless (skips q) (n ∷ [])) (filling k rest)
 filling k (group q j ms rest) = beside k (unless (skips q || nothing j ms) (filling j ms)) (filling k rest)
 
--- inner groups are not empty
+-- there is a member
 abbrev pub Some : {A : Type 0} → Members A → Type 0
 Some done = ⊥
 Some (el q n rest) = Unit {0}
 Some (group q k ms rest) = Unit {0}
 
+-- inner groups are not empty
 unfoldable pub Full : {A : Type 0} → Members A → Type 0
 Full done = Unit {0}
 Full (el q n rest) = Full rest
@@ -87,19 +91,19 @@ rename f done = done
 rename f (el q n rest) = el q (f n) (rename f rest)
 rename f (group q k ms rest) = group q k (rename f ms) (rename f rest)
 
--- ---- the same as tests
--- ---- words on the spine
+-- ---- tests
+-- an entry stands in a list
 unfoldable pub member : {A : Type 0} → Equality A → A → List A → Bool
 member E x [] = false
 member E x (y ∷ ys) = elim (E .same x y) [ true ↦ true | false ↦ member E x ys ]
 
--- one member and no more
+-- no member
 abbrev pub isDone : {A : Type 0} → Members A → Bool
 isDone done = true
 isDone (el q n rest) = false
 isDone (group q k ms rest) = false
 
--- the same as a test
+-- `Some`, `Full` and `Distinct` as tests
 abbrev pub isSome : {A : Type 0} → Members A → Bool
 isSome ms = not (isDone ms)
 

@@ -9,7 +9,7 @@ use Rattle.rules.specs.declared.Quantifier.{Quantifier}
 use Rattle.rules.specs.declared.Quantifier.the-variants.{None, Qmark, Star, Plus}
 use Rattle.rules.specs.declared.GroupKind.{GroupKind}
 use Rattle.rules.specs.declared.GroupKind.the-variants.{Sequence, Choice}
-use Rattle.rules.specs.Model.{Members, done, el, group, skips, nothing, names, rename}
+use Rattle.rules.specs.Model.{Members, done, el, group, names, rename}
 
 -- a model with one place open: right here, past an element, past a group, or inside a group
 pub data Context (A : Type 0) : Type 0 where
@@ -32,7 +32,7 @@ kindAt k (past q n c) = kindAt k c
 kindAt k (over q j ms c) = kindAt k c
 kindAt k (into q j c rest) = kindAt j c
 
--- the place stands in a spine list, if the list around it does
+-- an unquantified LIST
 abbrev pub plain : Quantifier → GroupKind → Bool
 plain None Sequence = true
 plain None Choice = false
@@ -40,43 +40,44 @@ plain Qmark k = false
 plain Star k = false
 plain Plus k = false
 
+-- the place stands in a spine list: all groups around it are unquantified LISTs
 unfoldable pub spine : {A : Type 0} → Context A → Bool
 spine here = true
 spine (past q n c) = spine c
 spine (over q k ms c) = spine c
 spine (into q k c rest) = plain q k && spine c
 
--- the names before the place, and after the members there
+-- the names before the place
 unfoldable pub before : {A : Type 0} → Context A → List A
 before here = []
 before (past q n c) = n ∷ before c
 before (over q k ms c) = names ms ++ before c
 before (into q k c rest) = before c
 
+-- the names after the members there
 unfoldable pub after : {A : Type 0} → Context A → List A
 after here = []
 after (past q n c) = after c
 after (over q k ms c) = after c
 after (into q k c rest) = after c ++ names rest
 
--- if the place stands in a CHOICE: the CHOICE with `t` there, with its quantifier, accepts nothing
--- (`b`: the list around the context does)
-abbrev pub unlessList : GroupKind → Bool → Bool
-unlessList Sequence b = true
-unlessList Choice b = b
+-- the inner group directly around the place: its quantifier and kind, and its members with the place open
+pub record Around (A : Type 0) : Type 0 where
+  pub quantifier : Quantifier
+  pub kind : GroupKind
+  pub inside : Context A
 
-unfoldable pub leaves : {A : Type 0} → Bool → GroupKind → Context A → Members A → Bool
-leaves b k here t = unlessList k b
-leaves b k (past q n c) t = leaves b k c t
-leaves b k (over q j ms c) t = leaves b k c t
-leaves b k (into q j c rest) t = leaves (skips q || nothing j (plug c t)) j c t
+-- a group, if no other stands inside it around the place
+abbrev pub innermost : {A : Type 0} → Around A → Option (Around A) → Option (Around A)
+innermost g none = some g
+innermost g (some h) = some h
 
--- the place is the first of an inner group (`b`: the list around the context is one, and the place its first)
-unfoldable pub opens : {A : Type 0} → Bool → Context A → Bool
-opens b here = b
-opens b (past q n c) = opens false c
-opens b (over q j ms c) = opens false c
-opens b (into q j c rest) = opens true c
+-- none: the place stands in the top list
+unfoldable pub around : {A : Type 0} → Context A → Option (Around A)
+around here = none
+around (past q n c) = around c
+around (over q k ms c) = around c
+around (into q k c rest) = innermost (record { quantifier = q; kind = k; inside = c }) (around c)
 
 -- ---- the places of the paper
 pub record Found (A : Type 0) : Type 0 where

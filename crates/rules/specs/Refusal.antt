@@ -1,5 +1,5 @@
 -- The refusal table: of each change the conditions that apply, in the order of their numbers. The first that holds is given.
--- Each may rely on the earlier ones not holding.
+-- Each may rely on the earlier ones not holding. That every call asks them in this order is proved, as Lowest.antt says it.
 -- Assumes nothing.
 use Prim.Native.Nat.{ℕ, zero, suc}
 use mathlib.Core.Bool.{Bool, true, false, _&&_, _||_, not}
@@ -89,6 +89,7 @@ abbrev pub noPlace : Option (Found Bytes) → Bool
 noPlace none = true
 noPlace (some x) = false
 
+-- a test of the quantifier of the element, or of the group, picked; `other` where another is picked
 abbrev pub onElement : Bool → (Quantifier → Bool) → Members Bytes → Bool
 onElement other f done = other
 onElement other f (el q x rest) = f q
@@ -107,6 +108,20 @@ noElementAt (some x) = onElement true (λ q. false) (x .picked)
 abbrev pub noGroupAt : Option (Found Bytes) → Bool
 noGroupAt none = true
 noGroupAt (some x) = onGroup true (λ q. false) (x .picked)
+
+-- 12 and 13 in 5: to the quantifier `new`, the element picked gains; it is not relaxed off the spine
+abbrev pub gainAt : Quantifier → Option (Found Bytes) → Bool
+gainAt new found = atPlace (λ c x. onElement false (λ old. gains old new) x) found
+
+abbrev pub offSpineAt : Quantifier → Option (Found Bytes) → Bool
+offSpineAt new found = atPlace (λ c x. onElement false (λ old. quantifyOff c old new) x) found
+
+-- 12 and 13 in 8: the group picked gains; it is not relaxed off the spine, or cut
+abbrev pub groupGainAt : Quantifier → Option (Found Bytes) → Bool
+groupGainAt new found = atPlace (λ c x. onGroup false (λ old. gains old new) x) found
+
+abbrev pub groupOffSpineAt : Quantifier → Option (Found Bytes) → Bool
+groupOffSpineAt new found = atPlace (λ c x. onGroup false (λ old. quantifyGroupOff c old new) x) found
 
 -- 14 in 4, and 15 in 4, of the members after the picked one
 abbrev pub tailOf : Members Bytes → Members Bytes
@@ -165,8 +180,8 @@ conditions (changeQuantifier o p q t) s =
     ∷ 4 if ltb 3 q
     ∷ 6 if past o (s .form)
     ∷ 8 if noElementAt found
-    ∷ 12 if (atPlace (λ c x. onElement false (λ old. gains old (quantifierOf q)) x) found && isNone t)
-    ∷ 13 if (instanceExists (nameAtIndex o (s .form)) s && atPlace (λ c x. onElement false (λ old. quantifyOff c old (quantifierOf q)) x) found)
+    ∷ 12 if (gainAt (quantifierOf q) found && isNone t)
+    ∷ 13 if (instanceExists (nameAtIndex o (s .form)) s && offSpineAt (quantifierOf q) found)
     ∷ []
 conditions (convertToGroup o p n k) s =
     let found : Option (Found Bytes) = foundAt (convert (groupOf k) n) o p s in
@@ -187,8 +202,8 @@ conditions (changeGroupQuantifier o p q t) s =
     ∷ 4 if ltb 3 q
     ∷ 6 if past o (s .form)
     ∷ 8 if noGroupAt found
-    ∷ 12 if (atPlace (λ c x. onGroup false (λ old. gains old (quantifierOf q)) x) found && isNone t)
-    ∷ 13 if (instanceExists (nameAtIndex o (s .form)) s && atPlace (λ c x. onGroup false (λ old. quantifyGroupOff c old (quantifierOf q)) x) found)
+    ∷ 12 if (groupGainAt (quantifierOf q) found && isNone t)
+    ∷ 13 if (instanceExists (nameAtIndex o (s .form)) s && groupOffSpineAt (quantifierOf q) found)
     ∷ []
 conditions (addAttribute o n k v) s =
     2 if not (givenName n)

@@ -40,3 +40,4 @@ pub mod PreorderLaws
 pub mod LayoutLaws
 pub mod DecodeLaws
 pub mod SmallBytes
+pub mod PlanLaws

@@ -21,3 +21,4 @@ pub mod LookUp
 pub mod Print
 pub mod Book
 pub mod Run
+pub mod MadeTakenGiven

@@ -18,7 +18,9 @@ use Rattle.rules.specs.Change.{Call, after}
 use Rattle.rules.specs.Refusal.{refusal}
 use Rattle.rules.specs.Outcome.{Outcome, refused, wrote, unlessRefused, onStore, outcome, numberOf, lengthOf, bufferOf, Answers}
 use Rattle.rules.specs.Run.{Asked, freshStore, leaves, Moment, start, step, run}
-use Rattle.history.proofs.Accepted.{demand-3}
+use Rattle.history.specs.History.{Agrees}
+use Rattle.history.proofs.Theorem.{start-agrees}
+use Rattle.history.proofs.Accepted.{demand-3-from}
 use Rattle.histories.specs.Calls.{Made, askedOf, next, storeAfter, Promised, historyOf, OfTheBox}
 
 -- an outcome that is refused has a number that is not 0
@@ -59,5 +61,10 @@ store-is (m ∷ ms) at (a, p) =
     let e : next m (at .store) ≡ step (askedOf m) at .store = next-is o (numbered (m .call) (at .store) (length (m .out))) m (at .store) a in
     ap (storeAfter ms) e ∙ store-is ms (step (askedOf m) at) (subst (Promised ms) e p)
 
-pub demand-3-of-the-box : (ms : List Made) → Promised ms freshStore → (later : List Asked) → OfTheBox ms later
-demand-3-of-the-box ms p later = record { store = store-is ms start p; demand = demand-3 (historyOf ms) later }
+-- from any moment at which the store and the book say the same
+pub demand-3-of-the-box-from : (from : Moment) → Agrees from → (ms : List Made) → Promised ms (from .store) → (later : List Asked) → OfTheBox from ms later
+demand-3-of-the-box-from from a ms p later = record { store = store-is ms from p; demand = demand-3-from from a (historyOf ms) later }
+
+-- from the fresh store
+pub demand-3-of-the-box : (ms : List Made) → Promised ms freshStore → (later : List Asked) → OfTheBox start ms later
+demand-3-of-the-box ms p later = demand-3-of-the-box-from start start-agrees ms p later

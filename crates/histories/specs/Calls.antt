@@ -9,7 +9,7 @@ use lib.ListN.{length, take}
 use Rattle.rules.specs.Bytes.{Bytes}
 use Rattle.rules.specs.Change.{Call}
 use Rattle.rules.specs.Outcome.{Promise}
-use Rattle.rules.specs.Run.{Asked, freshStore, start, run}
+use Rattle.rules.specs.Run.{Asked, Moment, run}
 use Rattle.history.specs.History.{Demand3}
 
 -- a call, the output buffer that it was given, and what it handed back and left there
@@ -39,7 +39,8 @@ Promised (m ∷ ms) bs = Promise (m .call) bs (m .out) (m .number) (m .len) (m .
 abbrev pub historyOf : List Made → List Asked
 historyOf ms = map askedOf ms
 
--- Demand 3, and that it speaks of the store in the box
-pub record OfTheBox (ms : List Made) (later : List Asked) : Type 0 where
-  pub store : storeAfter ms freshStore ≡ run (historyOf ms) start .store
-  pub demand : Demand3 (historyOf ms) later
+-- Demand 3 from a moment, and that it speaks of the store in the box
+pub record OfTheBox (from : Moment) (ms : List Made) (later : List Asked) : Type 0 where
+  -- the store that the calls leave is the one of the history
+  pub store : storeAfter ms (from .store) ≡ run (historyOf ms) from .store
+  pub demand : Demand3 from (historyOf ms) later

@@ -24,11 +24,11 @@ use Rattle.history.proofs.Numbering.{lines-serials, Spent, spent, spent
 use Rattle.history.proofs.Stable.{entrySerials, lineSerials, standing-serials, Once, once-spent, spent-once, once-note}
 
 -- ---- values set
-abbrev onLine : (Row → Row) → Line → Line
+abbrev pub onLine : (Row → Row) → Line → Line
 onLine f l = record { parent = l .parent; row = f (l .row) }
 
 module _ (k : ℕ) (v : Bytes) where
-  untaken-revalue : (es : List Entry) → untaken (map (revalueEntry k v) es) ≡ map (onLine (revalue k v)) (untaken es)
+  pub untaken-revalue : (es : List Entry) → untaken (map (revalueEntry k v) es) ≡ map (onLine (revalue k v)) (untaken es)
   unfolding untaken
   untaken-revalue [] = refl
   untaken-revalue (taken l ∷ es) = untaken-revalue es

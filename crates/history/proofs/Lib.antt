@@ -9,6 +9,12 @@ pub mod Taking
 pub mod Making
 pub mod Numbering
 pub mod Stable
+pub mod Order
+pub mod TakenLines
+pub mod Pruned
+pub mod RowsBelow
+pub mod TakenByRule
+pub mod MadeLines
 pub mod Rowwise
 pub mod StandingLaws
 pub mod Untouched
@@ -21,6 +27,8 @@ pub mod ConformingRows
 pub mod LaidAfter
 pub mod ConformingSimple
 pub mod Agreement
+pub mod Together
+pub mod ByRules
 pub mod Theorem
 pub mod InstanceRows
 pub mod InstanceEdits

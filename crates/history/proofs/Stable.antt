@@ -16,7 +16,7 @@ use Rattle.rules.specs.Lines.{Line, lines, ground}
 use Rattle.rules.specs.Change.{Call, Plan, plan, revalue, newRows, number}
 use Rattle.rules.specs.Book.{Entry, stands, taken, Book, freshBook, untaken, falls, mark, revalueEntry, Mark, old, spot, putSpot as place, placed, spots, expand, spotCount, marks, note}
 use Rattle.rules.proofs.Letters.{member-in, member-out}
-use Rattle.history.specs.History.{serialOf, lineOf, everMade, SameLine, Keeps, none-left, made, kept, took, gone, shared}
+use Rattle.history.specs.History.{serialOf, lineOf, everMade, SameLine, Keeps, none-left, made, kept, took, gone}
 use Rattle.history.proofs.NumberTests.{eqb-other, times, times-append, range, range-append}
 use Rattle.history.proofs.Making.{standing}
 use Rattle.history.proofs.Numbering.{Blank, blank-plan, number-serials, lines-serials, Spent, spent, spent-distinct, spent-below, spent-more}
@@ -61,7 +61,7 @@ keeps-revalue k v (taken l ∷ es) = gone l (keeps-revalue k v es)
 keeps-revalue k v (stands l ∷ es) = kept l (record { parent = l .parent; row = revalue k v (l .row) }) (record { parent = refl; serial = refl; sort = refl; name = refl }) (keeps-revalue k v es)
 
 -- the entries among the marks
-unfoldable olds : List Mark → List Entry
+unfoldable pub olds : List Mark → List Entry
 olds [] = []
 olds (old e ∷ ms) = e ∷ olds ms
 olds (spot u ∷ ms) = olds ms
@@ -92,10 +92,10 @@ olds-spots p (taken l ∷ es) = ap (λ (z : List Entry). taken l ∷ z) (olds-sp
 olds-spots p (stands l ∷ es) = ap (λ (z : List Entry). stands l ∷ z) (olds-placed p (l .row) (spots p es) ∙ olds-spots p es)
 
 -- the entries before new lines are written in
-abbrev left : Plan → List Entry → List Entry
+abbrev pub left : Plan → List Entry → List Entry
 left p es = map (revalueEntry (p .set) (p .value)) (mark (p .takes) (ground ∷ []) es)
 
-olds-marks : (p : Plan) (es : List Entry) → olds (marks p es) ≡ left p es
+pub olds-marks : (p : Plan) (es : List Entry) → olds (marks p es) ≡ left p es
 olds-marks p es = olds-placed p ground (spots p (left p es)) ∙ olds-spots p (left p es)
 
 keeps-made : (ls : List Line) {es fs : List Entry} → Keeps es fs → Keeps es (standing ls ++ fs)
@@ -131,7 +131,7 @@ pub standing-serials : (ls : List Line) → entrySerials (standing ls) ≡ lineS
 standing-serials [] = refl
 standing-serials (l ∷ ls) = ap (λ (ks : List ℕ). serialOf l ∷ ks) (standing-serials ls)
 
-mark-serials : (takes : Row → Row → Bool) (above : List Row) (es : List Entry) → entrySerials (mark takes above es) ≡ entrySerials es
+pub mark-serials : (takes : Row → Row → Bool) (above : List Row) (es : List Entry) → entrySerials (mark takes above es) ≡ entrySerials es
 unfolding mark
 mark-serials takes above [] = refl
 mark-serials takes above (taken l ∷ es) = ap (λ (ks : List ℕ). serialOf l ∷ ks) (mark-serials takes above es)
@@ -147,7 +147,7 @@ revalue-serials k v [] = refl
 revalue-serials k v (taken l ∷ es) = ap (λ (ks : List ℕ). serialOf l ∷ ks) (revalue-serials k v es)
 revalue-serials k v (stands l ∷ es) = ap (λ (ks : List ℕ). serialOf l ∷ ks) (revalue-serials k v es)
 
-marks-serials : (p : Plan) (es : List Entry) → entrySerials (olds (marks p es)) ≡ entrySerials es
+pub marks-serials : (p : Plan) (es : List Entry) → entrySerials (olds (marks p es)) ≡ entrySerials es
 marks-serials p es = ap entrySerials (olds-marks p es) ∙ revalue-serials (p .set) (p .value) (mark (p .takes) (ground ∷ []) es) ∙ mark-serials (p .takes) (ground ∷ []) es
 
 -- the serials before, and the next ones
@@ -201,8 +201,13 @@ pub fresh-once : Once freshBook
 fresh-once = record { least = lit≤ tt; once = tt; below = λ k m. absurd (List·Memᴰ·not-nil m) }
 
 -- ---- order at two moments
+-- the entries of ls that ks has too, in the order of ls
+unfoldable pub shared : List ℕ → List ℕ → List ℕ
+shared ks [] = []
+shared ks (l ∷ ls) = elim (member numbers l ks) [ true ↦ l ∷ shared ks ls | false ↦ shared ks ls ]
+
 module _ (n : ℕ) where
-  shared-take : (ks ls : List ℕ) → List·Memᴰ n ks → shared ks (n ∷ ls) ≡ n ∷ shared ks ls
+  pub shared-take : (ks ls : List ℕ) → List·Memᴰ n ks → shared ks (n ∷ ls) ≡ n ∷ shared ks ls
   unfolding shared
   shared-take ks ls m = rw (member-in numbers n ks m, shared)
 
@@ -236,7 +241,7 @@ keeps-in k (kept a b q x) m = ⊎-elim (λ e. List·Memᴰ·head (e ∙ q .seria
 keeps-in k (took a b q x) m = ⊎-elim (λ e. List·Memᴰ·head (e ∙ q .serial)) (λ i. List·Memᴰ·tail (keeps-in k x i)) (List·Memᴰ·cases-cons m)
 keeps-in k (gone l x) m = ⊎-elim (λ e. List·Memᴰ·head e) (λ i. List·Memᴰ·tail (keeps-in k x i)) (List·Memᴰ·cases-cons m)
 
-untaken-in : (k : ℕ) (es : List Entry) → List·Memᴰ k (lineSerials (untaken es)) → List·Memᴰ k (entrySerials es)
+pub untaken-in : (k : ℕ) (es : List Entry) → List·Memᴰ k (lineSerials (untaken es)) → List·Memᴰ k (entrySerials es)
 unfolding untaken
 untaken-in k [] m = m
 untaken-in k (taken l ∷ es) m = List·Memᴰ·tail (untaken-in k es m)

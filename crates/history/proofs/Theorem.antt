@@ -1,7 +1,5 @@
 -- Demand 3, from one law: an accepted change leaves a store that passes.
--- Assumes nothing.
 use Prim.Native.Nat.{ℕ, zero, suc, _≤_}
-use native.Mathlib.Omega.{arith}
 use native.Mathlib.Nat.{le-refl, le-trans}
 use mathlib.Core.Path.{_≡_, refl, sym, ap, ap₂, _∙_, subst}
 use mathlib.Core.Logic.{_↔_}
@@ -10,24 +8,26 @@ use mathlib.Core.Option.{Option, none, some}
 use mathlib.Core.List.{List, [], _∷_, _++_, map, List·Memᴰ, List·Memᴰ·head, List·Memᴰ·tail}
 use Rattle.rules.specs.Bytes.{Bytes}
 use Rattle.rules.specs.Model.{Distinct, distinct}
-use Rattle.rules.specs.Store.{Store}
+use Rattle.rules.specs.Store.{Form, Store}
 use Rattle.rules.specs.Layout.{FlatStore, valueWidth, flat, encode}
-use Rattle.rules.specs.Decode.{numberAt}
-use Rattle.rules.specs.WellFormed.{highestNumber, wellFormed}
+use Rattle.rules.specs.WellFormed.{wellFormed}
 use Rattle.rules.specs.Conforming.{conforming}
-use Rattle.rules.specs.Passing.{good, goodSerials, readStore, Passes, serials, GoodSerials}
+use Rattle.rules.specs.Passing.{good, goodSerials, readStore, Passes, Good}
 use Rattle.rules.specs.Lines.{Line, lines}
 use Rattle.rules.specs.Change.{Call, after}
 use Rattle.rules.specs.Refusal.{refusal}
 use Rattle.rules.specs.Outcome.{Outcome, refused, wrote, unlessRefused, onStore, outcome}
 use Rattle.rules.specs.Book.{Entry, stands, taken, Book, untaken, note, follow}
-use Rattle.rules.specs.Run.{Asked, emptyStore, freshStore, leaves, isAccepted, Moment, start, step, run}
+use Rattle.rules.specs.Run.{Asked, emptyStore, leaves, isAccepted, Moment, start, step, run}
 use Rattle.rules.proofs.LayoutLaws.{read-bytes}
 use Rattle.rules.proofs.DecodeLaws.{good-flat, read-encode, read-good}
 use Rattle.rules.proofs.PassingLaws.{good-is}
-use Rattle.history.specs.History.{linesIn, rowsIn, serialOf, lineOf, everMade, takenSerials, nextSerial, SameLine, Keeps, shared, serialsIn, Demand3}
-use Rattle.history.proofs.Agreement.{Agree, fresh-agree, agree-after, good-apart}
-use Rattle.history.proofs.Stable.{Once, fresh-once, once-note, next-rises, keeps-refl, keeps-trans, keeps-note, same-order}
+use Rattle.history.specs.History.{linesIn, rowsIn, formOf, formIn, versionIn, serialOf, lineOf, everMade, takenSerials, nextSerial, Agrees, Keeps, SameOrder, serialsIn, ByTheRules, Demand3}
+use Rattle.history.proofs.Agreement.{Agree, fresh-agree}
+use Rattle.history.proofs.Stable.{Once, fresh-once, keeps-refl, keeps-trans, shared, same-order}
+use Rattle.history.proofs.Order.{order-then}
+use Rattle.history.proofs.Together.{Together, plan-together}
+use Rattle.history.proofs.ByRules.{by-the-rules}
 
 -- what holds at every moment
 pub record Holds (m : Moment) : Type 0 where
@@ -38,9 +38,9 @@ pub record Holds (m : Moment) : Type 0 where
   pub once : Once (m .book)
 
 -- from one moment to a later one
-record Follows (m n : Moment) : Type 0 where
-  lines : Keeps (m .book .entries) (n .book .entries)
-  next : m .book .next ≤ n .book .next
+pub record Follows (m n : Moment) : Type 0 where
+  pub lines : Keeps (m .book .entries) (n .book .entries)
+  pub next : m .book .next ≤ n .book .next
 
 follows-refl : (m : Moment) → Follows m m
 follows-refl m = record { lines = keeps-refl (m .book .entries); next = le-refl (m .book .next) }
@@ -48,6 +48,18 @@ follows-refl m = record { lines = keeps-refl (m .book .entries); next = le-refl 
 follows-trans : {l m n : Moment} → Follows l m → Follows m n → Follows l n
 follows-trans f g = record { lines = keeps-trans (f .lines) (g .lines); next = le-trans (f .next) (g .next) }
 
+-- ---- a change that keeps store and book together, and leaves a store that passes
+module _ (m : Moment) (h : Holds m) (s : Store) (b : Book) (g : good s ≡ true) (t : Together (h .store) (m .book) s b) where
+  abbrev pub onward : Moment
+  onward = record { store = encode s; book = b }
+
+  pub together-holds : Holds onward
+  together-holds = record { store = s; read = read-encode s g; passing = g; agree = t .agree; once = t .once }
+
+  pub together-follows : Follows m onward
+  together-follows = record { lines = t .lines; next = t .next }
+
+-- ---- a call of the sixteen
 outcome-read : (c : Call) (bs : Bytes) (room : ℕ) (s : Store) → readStore bs ≡ some s → outcome c bs room ≡ unlessRefused (refusal room c s) (encode (after c s))
 unfolding outcome
 outcome-read c bs room s e = ap (onStore (λ s′. unlessRefused (refusal room c s′) (encode (after c s′)))) e
@@ -60,67 +72,97 @@ step-moved : (a : Asked) (m : Moment) → step a m ≡ moved (outcome (a .call) 
 unfolding step
 step-moved a m = refl
 
+record Onward (m n : Moment) : Type 0 where
+  holds : Holds n
+  follows : Follows m n
+
 module _ (good-after : (room : ℕ) (c : Call) (s : Store) → good s ≡ true → refusal room c s ≡ 0 → good (after c s) ≡ true) where
-  moved-holds : (room : ℕ) (c : Call) (m : Moment) (h : Holds m) (n : ℕ) → refusal room c (h .store) ≡ n
-      → Holds (moved (unlessRefused n (encode (after c (h .store)))) c m)
-  moved-holds room c m h zero e =
-      let g : good (after c (h .store)) ≡ true = good-after room c (h .store) (h .passing) e in
-      record {
-        store = after c (h .store);
-        read = read-encode (after c (h .store)) g;
-        passing = g;
-        agree = agree-after c (h .store) (m .book) (good-apart (h .store) (good-is (h .store) .0 (h .passing) .serials)) (h .agree);
-        once = once-note c (m .book) (h .once);
-      }
-  moved-holds room c m h (suc n) e = h
+  moved-on : (room : ℕ) (c : Call) (m : Moment) (h : Holds m) (n : ℕ) → refusal room c (h .store) ≡ n → Onward m (moved (unlessRefused n (encode (after c (h .store)))) c m)
+  moved-on room c m h zero e = record { holds = together-holds m h (after c (h .store)) (note c (m .book)) g t; follows = together-follows m h (after c (h .store)) (note c (m .book)) g t }
+    where
+      g : good (after c (h .store)) ≡ true
+      g = good-after room c (h .store) (h .passing) e
 
-  step-holds : (a : Asked) (m : Moment) → Holds m → Holds (step a m)
-  step-holds a m h =
-      subst (λ (z : Moment). Holds z) (sym (step-moved a m ∙ ap (λ (o : Outcome). moved o (a .call) m) (outcome-read (a .call) (m .store) (a .room) (h .store) (h .read))))
-      (moved-holds (a .room) (a .call) m h (refusal (a .room) (a .call) (h .store)) refl)
+      t : Together (h .store) (m .book) (after c (h .store)) (note c (m .book))
+      t = plan-together c (h .store) (m .book) (good-is (h .store) .0 (h .passing) .serials) (h .agree) (h .once)
+  moved-on room c m h (suc n) e = record { holds = h; follows = follows-refl m }
 
-  run-holds : (history : List Asked) (m : Moment) → Holds m → Holds (run history m)
+  step-on : (a : Asked) (m : Moment) → Holds m → Onward m (step a m)
+  step-on a m h =
+      subst (λ (z : Moment). Onward m z) (sym (step-moved a m ∙ ap (λ (o : Outcome). moved o (a .call) m) (outcome-read (a .call) (m .store) (a .room) (h .store) (h .read))))
+      (moved-on (a .room) (a .call) m h (refusal (a .room) (a .call) (h .store)) refl)
+
+  run-on : (history : List Asked) (m : Moment) → Holds m → Onward m (run history m)
   unfolding run
-  run-holds [] m h = h
-  run-holds (a ∷ history) m h = run-holds history (step a m) (step-holds a m h)
-
-moved-follows : (o : Outcome) (c : Call) (m : Moment) → Follows m (moved o c m)
-moved-follows (refused n) c m = follows-refl m
-moved-follows (wrote w) c m = record { lines = keeps-note c (m .book); next = next-rises c (m .book) }
-
-step-follows : (a : Asked) (m : Moment) → Follows m (step a m)
-step-follows a m = subst (λ (z : Moment). Follows m z) (sym (step-moved a m)) (moved-follows (outcome (a .call) (m .store) (a .room)) (a .call) m)
-
-run-follows : (history : List Asked) (m : Moment) → Follows m (run history m)
-unfolding run
-run-follows [] m = follows-refl m
-run-follows (a ∷ history) m = follows-trans (step-follows a m) (run-follows history (step a m))
+  run-on [] m h = record { holds = h; follows = follows-refl m }
+  run-on (a ∷ history) m h =
+      let first : Onward m (step a m) = step-on a m h in
+      let rest : Onward (step a m) (run history (step a m)) = run-on history (step a m) (first .holds) in
+      record { holds = rest .holds; follows = follows-trans (first .follows) (rest .follows) }
 
 run-append : (history later : List Asked) (m : Moment) → run (history ++ later) m ≡ run later (run history m)
 unfolding run
 run-append [] later m = refl
 run-append (a ∷ history) later m = run-append history later (step a m)
 
-start-holds : Holds start
-unfolding good wellFormed conforming goodSerials distinct
-start-holds = record { store = emptyStore; read = read-encode emptyStore refl; passing = refl; agree = fresh-agree; once = fresh-once }
-
 -- ---- what holds, in the words of the statement
+flat-read : (s : Store) → good s ≡ true → (versionIn (encode s) ≡ s .version) × (nextSerial (encode s) ≡ s .next)
+flat-read s g =
+    let e = read-bytes (valueWidth (s .version)) (flat s) (good-flat s g) in
+    (ap (λ (f : FlatStore). f .version) e, ap (λ (f : FlatStore). f .next) e)
+
 module _ (m : Moment) (h : Holds m) where
   encoded : encode (h .store) ≡ m .store
   encoded = read-good (m .store) (h .store) (h .read) .0
 
-  passes-then : Passes (m .store)
-  passes-then = (h .store, encoded, good-is (h .store) .0 (h .passing))
-
-  next-then : nextSerial (m .store) ≡ m .book .next
-  next-then =
-      ap nextSerial (sym encoded)
-      ∙ ap (λ (f : FlatStore). f .next) (read-bytes (valueWidth (h .store .version)) (flat (h .store)) (good-flat (h .store) (h .passing)))
-      ∙ sym (h .agree .next)
-
   rows-then : rowsIn (m .store) ≡ untaken (m .book .entries)
   rows-then = ap linesIn (h .read) ∙ sym (h .agree .rows)
+
+  next-then : nextSerial (m .store) ≡ m .book .next
+  next-then = ap nextSerial (sym encoded) ∙ flat-read (h .store) (h .passing) .1 ∙ sym (h .agree .next)
+
+  holds-agrees : Agrees m
+  holds-agrees =
+      record {
+        passing = (h .store, encoded, good-is (h .store) .0 (h .passing));
+        once = h .once .once;
+        below = h .once .below;
+        next = next-then;
+        form = ap formOf (h .read) ∙ sym (h .agree .form);
+        version = ap versionIn (sym encoded) ∙ flat-read (h .store) (h .passing) .0 ∙ sym (h .agree .version);
+        rows = rows-then;
+      }
+
+agrees-holds : (m : Moment) → Agrees m → Holds m
+agrees-holds m a =
+    record {
+      store = s;
+      read = read;
+      passing = g;
+      agree =
+          record {
+            version = sym (a .version) ∙ ap versionIn (sym encoded-here) ∙ flat-read s g .0;
+            next = next;
+            form = sym (a .form) ∙ ap formOf read;
+            rows = sym (a .rows) ∙ ap linesIn read;
+          };
+      once = record { least = subst (λ (n : ℕ). 1 ≤ n) (sym next) (a .passing .2 .serials .least); once = a .once; below = a .below };
+    }
+  where
+    s : Store
+    s = a .passing .0
+
+    encoded-here : encode s ≡ m .store
+    encoded-here = a .passing .1
+
+    g : good s ≡ true
+    g = good-is s .1 (a .passing .2)
+
+    read : readStore (m .store) ≡ some s
+    read = ap readStore (sym encoded-here) ∙ read-encode s g
+
+    next : m .book .next ≡ s .next
+    next = sym (a .next) ∙ ap nextSerial (sym encoded-here) ∙ flat-read s g .1
 
 -- a line is untaken exactly when it was made and not taken
 standing-made : (es : List Entry) (k : ℕ) → List·Memᴰ k (map serialOf (untaken es)) → List·Memᴰ k (map (λ (e : Entry). serialOf (lineOf e)) es)
@@ -160,35 +202,52 @@ refused-same : (o : Outcome) (c : Call) (m : Moment) → isAccepted o ≡ false 
 refused-same (refused n) c m e = refl
 refused-same (wrote w) c m e = absurd (false≢true (sym e))
 
+-- ---- an accepted call
+unrefused : (n : ℕ) (w : Bytes) → isAccepted (unlessRefused n w) ≡ true → n ≡ 0
+unrefused zero w e = refl
+unrefused (suc n) w e = absurd (false≢true e)
+
+accepted-by-rules : (m : Moment) → Holds m → (a : Asked) → isAccepted (outcome (a .call) (m .store) (a .room)) ≡ true → ByTheRules (a .call) (m .book) (step a m .book)
+accepted-by-rules m h a e = subst (λ (z : Book). ByTheRules (a .call) (m .book) z) (sym noted) (by-the-rules (a .room) (a .call) (h .store) (h .passing) unmet (m .book) (h .agree) (h .once))
+  where
+    unmet : refusal (a .room) (a .call) (h .store) ≡ 0
+    unmet = unrefused (refusal (a .room) (a .call) (h .store)) (encode (after (a .call) (h .store))) (ap isAccepted (sym (outcome-read (a .call) (m .store) (a .room) (h .store) (h .read))) ∙ e)
+
+    noted : step a m .book ≡ note (a .call) (m .book)
+    noted = ap (λ (z : Moment). z .book) (step-moved a m) ∙ ap (λ (x : Bool). follow x (a .call) (m .book)) e
+
+-- the fresh store
+pub start-agrees : Agrees start
+unfolding good wellFormed conforming goodSerials distinct
+start-agrees = holds-agrees start (record { store = emptyStore; read = read-encode emptyStore refl; passing = refl; agree = fresh-agree; once = fresh-once })
+
 module _ (good-after : (room : ℕ) (c : Call) (s : Store) → good s ≡ true → refusal room c s ≡ 0 → good (after c s) ≡ true) where
-  pub demand-3-from : (history later : List Asked) → Demand3 history later
-  demand-3-from history later =
+  pub demand-3-by : (from : Moment) → Agrees from → (history later : List Asked) → Demand3 from history later
+  demand-3-by from agrees history later =
       record {
-        passing = passes-then m h;
-        once = h .once .once;
+        agrees = holds-agrees m h;
         never-falls = subst (λ (a : ℕ). a ≤ nextSerial (n .store)) (sym (next-then m h)) (subst (λ (b : ℕ). m .book .next ≤ b) (sym (next-then n k)) (f .next));
-        next = next-then m h;
-        rows = rows-then m h;
         there = there-then m h;
-        lines = f .lines;
-        order = order;
+        accepted = accepted-by-rules m h;
         refusal = λ a e. step-moved a m ∙ refused-same (outcome (a .call) (m .store) (a .room)) (a .call) m e;
+        lines = f .lines;
+        order = order-then (serialsIn (m .store)) (serialsIn (n .store)) order;
       }
     where
       m : Moment
-      m = run history start
+      m = run history from
 
       n : Moment
-      n = run (history ++ later) start
+      n = run (history ++ later) from
 
       h : Holds m
-      h = run-holds good-after history start start-holds
+      h = run-on good-after history from (agrees-holds from agrees) .holds
 
       k : Holds n
-      k = run-holds good-after (history ++ later) start start-holds
+      k = run-on good-after (history ++ later) from (agrees-holds from agrees) .holds
 
       f : Follows m n
-      f = subst (λ (z : Moment). Follows m z) (sym (run-append history later start)) (run-follows later m)
+      f = subst (λ (z : Moment). Follows m z) (sym (run-append history later from)) (run-on good-after later m h .follows)
 
       order : shared (serialsIn (n .store)) (serialsIn (m .store)) ≡ shared (serialsIn (m .store)) (serialsIn (n .store))
       order =

@@ -1,22 +1,25 @@
--- Demand 3: one statement about every history.
--- Assumes nothing.
-use Prim.Native.Nat.{ℕ, zero, suc, _≤_}
+-- Demand 3: one statement about every history, from any moment at which the store and the book say the same; the fresh store is one.
+use Prim.Native.Nat.{ℕ, zero, suc, _+_, _*_, _≤_, _<_}
 use mathlib.Core.Path.{_≡_}
 use mathlib.Core.Bool.{Bool, true, false}
 use mathlib.Core.Option.{Option, none, some}
-use mathlib.Core.Logic.{_↔_}
+use mathlib.Core.Logic.{_↔_, _⊎_}
 use mathlib.Core.List.{List, [], _∷_, _++_, map, List·Memᴰ}
-use Rattle.rules.specs.Bytes.{Bytes, numbers}
-use Rattle.rules.specs.Model.{Distinct, member}
-use Rattle.rules.specs.Store.{Row, Store}
+use lib.Dec.{leb}
+use lib.ListN.{length}
+use Rattle.rules.specs.Bytes.{Bytes}
+use Rattle.rules.specs.Model.{Distinct}
+use Rattle.rules.specs.Store.{Form, Row, Store}
 use Rattle.rules.specs.Decode.{numberAt}
 use Rattle.rules.specs.Passing.{Passes, readStore}
 use Rattle.rules.specs.Lines.{Line, lines}
+use Rattle.rules.specs.Change.{Call, formAfter, newRows}
 use Rattle.rules.specs.Outcome.{Outcome, refused, wrote, outcome}
 use Rattle.rules.specs.Book.{Entry, stands, taken, Book, untaken}
 use Rattle.rules.specs.Run.{Asked, isAccepted, Moment, start, step, run}
+use Rattle.rules.specs.MadeTakenGiven.{NamedBy, Taken, valueAfter, MakesBelow, rowsMade, linesMade}
 
--- ---- rows of a byte string, lines of a book
+-- ---- what a byte string holds
 abbrev pub linesIn : Option Store → List Line
 linesIn none = []
 linesIn (some s) = lines 0 (s .docs)
@@ -25,6 +28,22 @@ linesIn (some s) = lines 0 (s .docs)
 abbrev pub rowsIn : Bytes → List Line
 rowsIn bs = linesIn (readStore bs)
 
+abbrev pub formOf : Option Store → Form
+formOf none = []
+formOf (some s) = s .form
+
+-- the store's form: definitions, models and attributes
+abbrev pub formIn : Bytes → Form
+formIn bs = formOf (readStore bs)
+
+-- 'Bytes 0–3 version', 'Bytes 4–7 the next serial'
+abbrev pub versionIn : Bytes → ℕ
+versionIn bs = numberAt 0 4 bs
+
+abbrev pub nextSerial : Bytes → ℕ
+nextSerial bs = numberAt 4 4 bs
+
+-- ---- serials
 abbrev pub serialOf : Line → ℕ
 serialOf l = l .row .serial
 
@@ -42,8 +61,26 @@ takenSerials [] = []
 takenSerials (stands l ∷ es) = takenSerials es
 takenSerials (taken l ∷ es) = serialOf l ∷ takenSerials es
 
-abbrev pub nextSerial : Bytes → ℕ
-nextSerial bs = numberAt 4 4 bs
+-- the serials of the store's rows, in document order
+abbrev pub serialsIn : Bytes → List ℕ
+serialsIn bs = map serialOf (rowsIn bs)
+
+-- ---- a moment at which the store and the book say the same
+pub record Agrees (m : Moment) : Type 0 where
+  -- 'the DTD is well-formed and every finish list conforms to it'
+  pub passing : Passes (m .store)
+  -- 'No serial was given twice', taken rows counted
+  pub once : Distinct (everMade (m .book))
+  -- each was given: from 1, below the next serial
+  pub below : (k : ℕ) → List·Memᴰ k (everMade (m .book)) → (1 ≤ k) × (k < m .book .next)
+  -- the book's next serial is the store's
+  pub next : nextSerial (m .store) ≡ m .book .next
+  -- the book's form is the store's
+  pub form : formIn (m .store) ≡ m .book .form
+  -- the book's version is the store's
+  pub version : versionIn (m .store) ≡ m .book .version
+  -- 'the store's rows, each read as serial, sort, name, parent's serial and value, are exactly the book's untaken lines, in the book's order'
+  pub rows : rowsIn (m .store) ≡ untaken (m .book .entries)
 
 -- ---- from one moment to a later one
 -- the same line, but for its value
@@ -62,29 +99,59 @@ pub data Keeps : List Entry → List Entry → Type 0 where
   took : {es fs : List Entry} (a b : Line) → SameLine a b → Keeps es fs → Keeps (stands a ∷ es) (taken b ∷ fs)
   gone : {es fs : List Entry} (l : Line) → Keeps es fs → Keeps (taken l ∷ es) (taken l ∷ fs)
 
--- the entries of ls that ks has too, in the order of ls
-unfoldable pub shared : List ℕ → List ℕ → List ℕ
-shared ks [] = []
-shared ks (l ∷ ls) = elim (member numbers l ks) [ true ↦ l ∷ shared ks ls | false ↦ shared ks ls ]
+-- k stands before l in the list
+abbrev pub StandsBefore : ℕ → ℕ → List ℕ → Type 0
+StandsBefore k l [] = ⊥
+StandsBefore k l (j ∷ js) = ((k ≡ j) × List·Memᴰ l js) ⊎ StandsBefore k l js
 
-abbrev pub serialsIn : Bytes → List ℕ
-serialsIn bs = map serialOf (rowsIn bs)
+-- k and l are both in both lists, and stand in the same order in both
+abbrev pub SameOrder : List ℕ → List ℕ → Type 0
+SameOrder ks ls =
+    (k l : ℕ) → List·Memᴰ k ks → List·Memᴰ k ls → List·Memᴰ l ks → List·Memᴰ l ls → StandsBefore k l ks ↔ StandsBefore k l ls
 
--- ---- the statement, of a history and of any calls that come later
-pub record Demand3 (history later : List Asked) : Type 0 where
-  -- 'After it, the DTD is well-formed and every finish list conforms to it'
-  pub passing : Passes (run history start .store)
-  -- 'No serial was given twice', taken rows counted; the next serial never falls, and the book has it
-  pub once : Distinct (everMade (run history start .book))
-  pub never-falls : nextSerial (run history start .store) ≤ nextSerial (run (history ++ later) start .store)
-  pub next : nextSerial (run history start .store) ≡ run history start .book .next
-  -- 'the store's rows, each read as serial, sort, name, parent's serial and value, are exactly the book's untaken lines, in the book's order'
-  pub rows : rowsIn (run history start .store) ≡ untaken (run history start .book .entries)
+-- ---- what an accepted call does to the book
+-- the lines with serials from n on: those made since the next serial was n
+unfoldable pub entriesFrom : ℕ → List Entry → List Entry
+entriesFrom n [] = []
+entriesFrom n (e ∷ es) = elim (leb n (serialOf (lineOf e))) [ true ↦ e ∷ entriesFrom n es | false ↦ entriesFrom n es ]
+
+-- 'The rows it makes become lines, each with the next serial, which then rises by 1'
+pub record Makes (c : Call) (b after : Book) : Type 0 where
+  -- the serials of the rows below which it makes rows: exactly those that the rules name, each once
+  pub parents : List ℕ
+  pub each : (u : ℕ) → List·Memᴰ u parents ↔ MakesBelow c (b .form) (untaken (b .entries)) u
+  pub one : Distinct parents
+  -- the new lines, with sort, name, parent and value, and the next serials in document order; none of them taken
+  pub lines : entriesFrom (b .next) (after .entries) ≡ map (λ (l : Line). stands l) (linesMade (rowsMade c (b .form)) (b .next) parents)
+  pub next : after .next ≡ b .next + newRows (rowsMade c (b .form)) * length parents
+
+pub record ByTheRules (c : Call) (b after : Book) : Type 0 where
+  -- 'An accepted one changes the form as said above'
+  pub form : after .form ≡ formAfter c (b .form)
+  -- 'The taking rule marks lines taken': a line that stood is taken exactly when it, or a line above it, is one that the taking rule names
+  pub takes : (l : Line) → List·Memᴰ l (untaken (b .entries))
+      → List·Memᴰ (serialOf l) (takenSerials (after .entries)) ↔ Taken (λ x. NamedBy c (b .form) (untaken (b .entries)) x) (untaken (b .entries)) l
+  -- '14, and 16 at the text line, set a value. No other line changes.'
+  pub gives : (l m : Line) → List·Memᴰ l (untaken (b .entries)) → List·Memᴰ m (untaken (after .entries)) → serialOf m ≡ serialOf l → m .row .value ≡ valueAfter c (b .form) l
+  -- which lines come, and with which values
+  pub makes : Makes c b after
+
+-- ---- the statement, of a history from any moment, and of any calls that come later
+pub record Demand3 (from : Moment) (history later : List Asked) : Type 0 where
+  -- 'After it, the DTD is well-formed and every finish list conforms to it. No serial was given twice. .. the store's rows .. are exactly
+  -- the book's untaken lines, in the book's order'
+  pub agrees : Agrees (run history from)
+  -- 'The next serial never falls'
+  pub never-falls : nextSerial (run history from .store) ≤ nextSerial (run (history ++ later) from .store)
   -- 'A row is there exactly when an accepted change made it and no later accepted one took it'
-  pub there : (k : ℕ) → List·Memᴰ k (serialsIn (run history start .store)) ↔ (List·Memᴰ k (everMade (run history start .book)) × (List·Memᴰ k (takenSerials (run history start .book .entries)) → ⊥))
-  -- 'It has the name and parent it was made with': the later book has each line again, with its serial, sort, name and parent, taken ones unchanged
-  pub lines : Keeps (run history start .book .entries) (run (history ++ later) start .book .entries)
+  pub there : (k : ℕ)
+      → List·Memᴰ k (serialsIn (run history from .store)) ↔ (List·Memᴰ k (everMade (run history from .book)) × (List·Memᴰ k (takenSerials (run history from .book .entries)) → ⊥))
+  -- 'by the taking rule'; 'the last value an accepted change gave it': what an accepted call makes, takes and gives
+  pub accepted : (a : Asked) → isAccepted (outcome (a .call) (run history from .store) (a .room)) ≡ true → ByTheRules (a .call) (run history from .book) (step a (run history from) .book)
+  -- a refused call changes nothing
+  pub refusal : (a : Asked) → isAccepted (outcome (a .call) (run history from .store) (a .room)) ≡ false → step a (run history from) ≡ run history from
+  -- 'It has the name and parent it was made with': the later book has each line again, with its serial, sort, name and parent, taken ones
+  -- unchanged
+  pub lines : Keeps (run history from .book .entries) (run (history ++ later) from .book .entries)
   -- 'Two rows that are both there at two moments stand in the same order at both'
-  pub order : shared (serialsIn (run (history ++ later) start .store)) (serialsIn (run history start .store)) ≡ shared (serialsIn (run history start .store)) (serialsIn (run (history ++ later) start .store))
-  -- a refused call changes nothing of this
-  pub refusal : (a : Asked) → isAccepted (outcome (a .call) (run history start .store) (a .room)) ≡ false → step a (run history start) ≡ run history start
+  pub order : SameOrder (serialsIn (run history from .store)) (serialsIn (run (history ++ later) from .store))

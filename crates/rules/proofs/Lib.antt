@@ -42,3 +42,4 @@ pub mod LayoutLaws
 pub mod DecodeLaws
 pub mod LowestLaws
 pub mod SmallBytes
+pub mod PlanLaws

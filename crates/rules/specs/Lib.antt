@@ -22,3 +22,4 @@ pub mod LookUp
 pub mod Print
 pub mod Book
 pub mod Run
+pub mod MadeTakenGiven

@@ -1,5 +1,4 @@
 -- The serials of tree rows: from 1, below the next serial, no two alike.
--- Assumes nothing.
 use Prim.Native.Nat.{ℕ}
 use mathlib.Core.Bool.{Bool, _&&_}
 use mathlib.Core.List.{List, map}
@@ -7,15 +6,15 @@ use lib.Dec.{leb, ltb}
 use Rattle.rules.specs.Bytes.{Bytes, numbers, all}
 use Rattle.rules.specs.Model.{distinct}
 use Rattle.rules.specs.Preorder.{Deep}
-use Rattle.rules.specs.Layout.{baseVersion, valueWidth, rowSize, FlatRow}
+use Rattle.rules.specs.Layout.{rowSize, FlatRow}
 use Rattle.rules.specs.Decode.{readRow, readMany}
 
 abbrev pub serialOf : Deep FlatRow → ℕ
 serialOf r = r .row .serial
 
--- the serials of the first `count` rows of a body
-unfoldable pub serialsOf : ℕ → Bytes → List ℕ
-serialsOf count rows = map serialOf (readMany readRow (rowSize (valueWidth baseVersion)) count rows)
+-- the serials of the first `count` rows of a body, at a width of a value
+unfoldable pub serialsOf : ℕ → ℕ → Bytes → List ℕ
+serialsOf w count rows = map serialOf (readMany readRow (rowSize w) count rows)
 
 -- 'Serials are distinct, from 1, below the next serial'
 unfoldable pub fitting : ℕ → List ℕ → Bool

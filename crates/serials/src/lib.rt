@@ -1,30 +1,28 @@
 // The serials of the tree rows of a store: from 1, below the next serial, no two alike.
 ghost use mathlib.Core.Path.{_≡_};
 ghost use Prim.Native.Nat.{_<_, _≤_};
+ghost use Rattle.layout.specs.Bodies.{Width};
 ghost use Rattle.serials.specs.Serials.{serialsOf, fitting};
 ghost use Rattle.serials.specs.Chains.{serialAt, Back, Sought};
 
 const MAX_ROWS: usize = 4096;
 
-const ROW_SIZE: usize = 44;
-
-// A row has its serial at 4.
-fn serial_at(rows: &[u8], k: usize) -> u32
-    requires { ⌜ k < 4096 ⌝ }
-    ensures { λ r. ⌜ r ≡ serialAt (now (rows .entry)) k ⌝ }
+fn serial_at(w: usize, rows: &[u8], k: usize) -> u32
+    requires { ⌜ Width w × (k < 4096) ⌝ }
+    ensures { λ r. ⌜ r ≡ serialAt w (now (rows .entry)) k ⌝ }
 {
-    codec::get_u32(rows, ROW_SIZE * k + 4)
+    layout::row_serial(layout::row_at(w, rows, k))
 }
 
 // Whether a row on the chain from `from` has the serial s.
-fn sought(rows: &[u8], links: &[usize; MAX_ROWS], from: usize, s: u32) -> bool
-    requires { ⌜ (from ≤ 4096) × Back (now links) ⌝ }
-    ensures { λ r. ⌜ Sought (now (rows .entry)) (now (links .entry)) from s r ⌝ }
+fn sought(w: usize, rows: &[u8], links: &[usize; MAX_ROWS], from: usize, s: u32) -> bool
+    requires { ⌜ Width w × (from ≤ 4096) × Back (now links) ⌝ }
+    ensures { λ r. ⌜ Sought w (now (rows .entry)) (now (links .entry)) from s r ⌝ }
 {
     let mut h = from;
     while h > 0 {
         let j = h - 1;
-        if serial_at(rows, j) == s {
+        if serial_at(w, rows, j) == s {
             return true;
         }
         h = links[j];
@@ -35,15 +33,15 @@ fn sought(rows: &[u8], links: &[usize; MAX_ROWS], from: usize, s: u32) -> bool
 /// Whether the serials of the first `count` rows fit: each from 1 and below `next`, no two alike.
 // Rows whose serials have the same remainder are on one chain, the last first: `heads` has a chain's first row and 1, or 0 for
 // none, and `links` the one after each row. So a row is compared only with those of its chain.
-pub fn serials_fit(rows: &[u8], count: usize, next: u32) -> bool
-    requires { ⌜ count ≤ 4096 ⌝ }
-    ensures { λ r. ⌜ r ≡ fitting next (serialsOf count (now (rows .entry))) ⌝ }
+pub fn serials_fit(w: usize, rows: &[u8], count: usize, next: u32) -> bool
+    requires { ⌜ Width w × (count ≤ 4096) ⌝ }
+    ensures { λ r. ⌜ r ≡ fitting next (serialsOf w count (now (rows .entry))) ⌝ }
 {
     let mut heads: [usize; MAX_ROWS] = [0; MAX_ROWS];
     let mut links: [usize; MAX_ROWS] = [0; MAX_ROWS];
     let mut k = 0;
     while k < count {
-        let s = serial_at(rows, k);
+        let s = serial_at(w, rows, k);
         if s == 0 {
             return false;
         }
@@ -52,7 +50,7 @@ pub fn serials_fit(rows: &[u8], count: usize, next: u32) -> bool
         }
         let b = (s % 4096) as usize;
         let h = heads[b];
-        if sought(rows, &links, h, s) {
+        if sought(w, rows, &links, h, s) {
             return false;
         }
         links[k] = h;

@@ -1,4 +1,4 @@
--- `serials::serials_fit` meets its contract. Assumes nothing.
+-- `serials::serials_fit` meets its contract.
 use Rattle.serials.proofs.SerialsLaws.{refuses, accepts}
 use Prim.Native.Nat.{_%_}
 use borrow.Author.Needs.{needs}
@@ -9,80 +9,62 @@ use Rattle.serials.proofs.serials_fit.Statement.{statement}
 use Rattle.serials.proofs.serials_fit.Tie as tie
 
 abbrev Inv-loop : tie.InvT-loop
-Inv-loop rows count next heads₀ links₀ k₀ heads links k = Chains rows next count heads links k
+Inv-loop w rows count next heads₀ links₀ k₀ heads links k = Chains w rows next count heads links k
 
 abbrev μ-loop : tie.MeasureT-loop
-μ-loop rows count next heads₀ links₀ k₀ heads links k = count - k
+μ-loop w rows count next heads₀ links₀ k₀ heads links k = count - k
 
--- rows/lib.rt:39:5
 loop-holds : tie.Need-loop-holds Inv-loop μ-loop
-loop-holds c = chains-start _ _ _
+loop-holds c = chains-start _ _ _ _
 
--- rows/lib.rt:40:13
 serial-at-requires : tie.Need-serial-at-requires Inv-loop μ-loop
 serial-at-requires c κs = search needs
 
--- rows/lib.rt:42:13
 returns : tie.Need-returns Inv-loop μ-loop
 returns c = refuses (chains-zero (c .before .before .before .loop .inv) (omega arith) (omega arith) _ (c .before .serial-at .ensures) (c .if1 .taken))
 
--- rows/lib.rt:45:13
 returns-2 : tie.Need-returns-2 Inv-loop μ-loop
 returns-2 c = refuses (chains-past (c .before .before .before .before .loop .inv) (omega arith) (omega arith) _ (c .before .before .serial-at .ensures) (omega arith))
 
--- rows/lib.rt:47:17
 cast-b : tie.Need-cast-b Inv-loop μ-loop
 cast-b c = search needs
 
--- rows/lib.rt:48:17
 mul-h : tie.Need-mul-h Inv-loop μ-loop
 mul-h c = search needs
 
--- rows/lib.rt:48:17
 array-read-h : tie.Need-array-read-h Inv-loop μ-loop
 array-read-h c = search needs
 
--- rows/lib.rt:49:12
 sought-requires : tie.Need-sought-requires Inv-loop μ-loop
-sought-requires c κs = (omega (arith, c .before .before .before .before .before .loop .inv .low (c .before .before .before .serial-at .result % 4096)), c .before .before .before .before .before .loop .inv .back)
+sought-requires c κs = (omega arith, omega (arith, c .before .before .before .before .before .loop .inv .low (c .before .before .before .serial-at .result % 4096)), c .before .before .before .before .before .loop .inv .back)
 
--- rows/lib.rt:50:13
 returns-3 : tie.Need-returns-3 Inv-loop μ-loop
 returns-3 c = refuses (chains-twice (c .before .before .before .before .before .before .before .loop .inv) (omega arith) (omega arith) _ (c .before .before .before .before .before .serial-at .ensures) (c .if3 .taken) (c .before .sought .ensures))
 
--- rows/lib.rt:52:9
 mul-links : tie.Need-mul-links Inv-loop μ-loop
 mul-links c = search needs
 
--- rows/lib.rt:52:9
 array-write-links : tie.Need-array-write-links Inv-loop μ-loop
 array-write-links c = search needs
 
--- rows/lib.rt:53:20
 add-heads : tie.Need-add-heads Inv-loop μ-loop
 add-heads c = search needs
 
--- rows/lib.rt:53:9
 mul-heads : tie.Need-mul-heads Inv-loop μ-loop
 mul-heads c = search needs
 
--- rows/lib.rt:53:9
 array-write-heads : tie.Need-array-write-heads Inv-loop μ-loop
 array-write-heads c = search needs
 
--- rows/lib.rt:54:9
 add-k : tie.Need-add-k Inv-loop μ-loop
 add-k c = search needs
 
--- rows/lib.rt:39:5
 loop-less : tie.Need-loop-less Inv-loop μ-loop
 loop-less c = search needs
 
--- rows/lib.rt:39:5
 loop-again : tie.Need-loop-again Inv-loop μ-loop
 loop-again c = chains-more (c .before .before .before .before .before .before .before .loop .inv) (omega arith) (omega arith) _ (c .before .before .before .before .before .serial-at .ensures) (c .before .before .before .before .if1 .left) (omega arith) (c .if3 .left) (c .before .sought .ensures)
 
--- rows/lib.rt:32:1
 returns-4 : tie.Need-returns-4 Inv-loop μ-loop
 returns-4 c = accepts (chains-done (c .before .loop .inv) (omega arith))
 

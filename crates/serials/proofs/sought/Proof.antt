@@ -1,4 +1,4 @@
--- `serials::sought` meets its contract. Assumes nothing.
+-- `serials::sought` meets its contract.
 use mathlib.Core.Path.{sym, _∙_}
 use Prim.Native.Nat.{_-_}
 use borrow.Author.Needs.{needs}
@@ -8,44 +8,35 @@ use Rattle.serials.proofs.sought.Statement.{statement}
 use Rattle.serials.proofs.sought.Tie as tie
 
 abbrev Inv-loop : tie.InvT-loop
-Inv-loop rows links from s h₀ h = Seek rows links from s h
+Inv-loop w rows links from s h₀ h = Seek w rows links from s h
 
 abbrev μ-loop : tie.MeasureT-loop
-μ-loop rows links from s h₀ h = h
+μ-loop w rows links from s h₀ h = h
 
--- rows/lib.rt:21:5
 loop-holds : tie.Need-loop-holds Inv-loop μ-loop
-loop-holds c = seek-starts _ _ _ _ (omega arith)
+loop-holds c = seek-starts _ _ _ _ _ (omega arith)
 
--- rows/lib.rt:22:17
 sub-j : tie.Need-sub-j Inv-loop μ-loop
 sub-j c = search needs
 
--- rows/lib.rt:23:12
 serial-at-requires : tie.Need-serial-at-requires Inv-loop μ-loop
 serial-at-requires c κs = search needs
 
--- rows/lib.rt:24:13
 returns : tie.Need-returns Inv-loop μ-loop
 returns c = seek-finds (c .before .before .before .loop .inv) (omega arith) (sym (c .before .serial-at .ensures) ∙ c .if1 .taken)
 
--- rows/lib.rt:26:13
 mul-h : tie.Need-mul-h Inv-loop μ-loop
 mul-h c = search needs
 
--- rows/lib.rt:26:13
 element-copy-out-h : tie.Need-element-copy-out-h Inv-loop μ-loop
 element-copy-out-h c = search needs
 
--- rows/lib.rt:21:5
 loop-less : tie.Need-loop-less Inv-loop μ-loop
-loop-less c = omega (arith, c .before .before .before .before .before .before .pre .1 (c .before .before .before .before .loop .h - 1))
+loop-less c = omega (arith, c .before .before .before .before .before .before .pre .2 (c .before .before .before .before .loop .h - 1))
 
--- rows/lib.rt:21:5
 loop-again : tie.Need-loop-again Inv-loop μ-loop
-loop-again c = seek-on (c .before .before .before .before .before .before .pre .1) (c .before .before .before .before .loop .inv) (omega arith) (λ e. c .before .if1 .left (c .before .before .serial-at .ensures ∙ e))
+loop-again c = seek-on (c .before .before .before .before .before .before .pre .2) (c .before .before .before .before .loop .inv) (omega arith) (λ e. c .before .if1 .left (c .before .before .serial-at .ensures ∙ e))
 
--- rows/lib.rt:16:1
 returns-2 : tie.Need-returns-2 Inv-loop μ-loop
 returns-2 c = seek-ends (c .before .loop .inv) (omega arith)
 

@@ -15,13 +15,13 @@ fn serial_at(w: usize, rows: &[u8], k: usize) -> u32
 }
 
 // Whether a row on the chain from `from` has the serial s.
-fn sought(w: usize, rows: &[u8], links: &[usize; MAX_ROWS], from: usize, s: u32) -> bool
+fn sought(w: usize, rows: &[u8], links: &[u16; MAX_ROWS], from: u16, s: u32) -> bool
     requires { ⌜ Width w × (from ≤ 4096) × Back (now links) ⌝ }
     ensures { λ r. ⌜ Sought w (now (rows .entry)) (now (links .entry)) from s r ⌝ }
 {
     let mut h = from;
     while h > 0 {
-        let j = h - 1;
+        let j = (h - 1) as usize;
         if serial_at(w, rows, j) == s {
             return true;
         }
@@ -37,8 +37,8 @@ pub fn serials_fit(w: usize, rows: &[u8], count: usize, next: u32) -> bool
     requires { ⌜ Width w × (count ≤ 4096) ⌝ }
     ensures { λ r. ⌜ r ≡ fitting next (serialsOf w count (now (rows .entry))) ⌝ }
 {
-    let mut heads: [usize; MAX_ROWS] = [0; MAX_ROWS];
-    let mut links: [usize; MAX_ROWS] = [0; MAX_ROWS];
+    let mut heads: [u16; MAX_ROWS] = [0; MAX_ROWS];
+    let mut links: [u16; MAX_ROWS] = [0; MAX_ROWS];
     let mut k = 0;
     while k < count {
         let s = serial_at(w, rows, k);
@@ -54,7 +54,7 @@ pub fn serials_fit(w: usize, rows: &[u8], count: usize, next: u32) -> bool
             return false;
         }
         links[k] = h;
-        heads[b] = k + 1;
+        heads[b] = (k + 1) as u16;
         k += 1;
     }
     true

@@ -50,6 +50,9 @@ array-write-links c = search needs
 add-heads : tie.Need-add-heads Inv-loop μ-loop
 add-heads c = search needs
 
+cast-heads : tie.Need-cast-heads Inv-loop μ-loop
+cast-heads c = search needs
+
 mul-heads : tie.Need-mul-heads Inv-loop μ-loop
 mul-heads c = search needs
 
@@ -86,6 +89,7 @@ serials-fit-spec =
     mul-links
     array-write-links
     add-heads
+    cast-heads
     mul-heads
     array-write-heads
     add-k

@@ -19,6 +19,9 @@ loop-holds c = seek-starts _ _ _ _ _ (omega arith)
 sub-j : tie.Need-sub-j Inv-loop μ-loop
 sub-j c = search needs
 
+cast-j : tie.Need-cast-j Inv-loop μ-loop
+cast-j c = search needs
+
 serial-at-requires : tie.Need-serial-at-requires Inv-loop μ-loop
 serial-at-requires c κs = search needs
 
@@ -48,6 +51,7 @@ sought-spec =
     μ-loop
     loop-holds
     sub-j
+    cast-j
     serial-at-requires
     returns
     mul-h

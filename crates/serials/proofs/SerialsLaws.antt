@@ -21,7 +21,7 @@ use Rattle.rules.proofs.Words.{and-both, and-split}
 use Rattle.rules.proofs.TestLaws.{all-test, distinct-test}
 use Rattle.rules.proofs.PreorderLaws.{rising, flatten-build}
 use Rattle.serials.specs.Serials.{serialOf, serialsOf, fitting}
-use Rattle.serials.specs.Chains.{serialAt, Serials}
+use Rattle.serials.specs.Trees.{serialAt, Ranged, Apart}
 
 -- ---- the serials of documents
 -- the serials of documents are those of their rows in preorder
@@ -50,11 +50,12 @@ serials-body w ns cs count rows h =
 -- the test of the check, of serials and of the next one
 pub good-serials-fit : (next : ℕ) (docs : Forest Row) → goodSerials next docs ≡ (fitting next (serials docs) && (leb 1 next && leb next highestNumber))
 unfolding goodSerials fitting
-good-serials-fit next docs = by (distinct numbers (serials docs))
+good-serials-fit next docs =
+    by (distinct numbers (serials docs)) (all (λ k. leb 1 k && ltb k next) (serials docs)) (leb 1 next && leb next highestNumber)
   where
-    by : (b : Bool) → (b && (all (λ k. leb 1 k && ltb k next) (serials docs) && (leb 1 next && leb next highestNumber))) ≡ ((b && all (λ k. leb 1 k && ltb k next) (serials docs)) && (leb 1 next && leb next highestNumber))
-    by true = refl
-    by false = refl
+    by : (a b c : Bool) → (a && (b && c)) ≡ ((a && b) && c)
+    by true b c = refl
+    by false b c = refl
 
 -- ---- the serials of a body, by number
 serials-length : (w count : ℕ) (rows : Bytes) → length (serialsOf w count rows) ≡ count
@@ -78,39 +79,49 @@ member-at : {x : ℕ} {xs : List ℕ} → List·Memᴰ x xs → (i : ℕ) × (i 
 member-at (List·Memᴰ·head e) = (0, omega arith, sym e)
 member-at (List·Memᴰ·tail m) = let (i, h, e) = member-at m in (suc i, omega arith, e)
 
-abbrev Apart : List ℕ → Type 0
-Apart xs = (i k : ℕ) → i < k → k < length xs → getD xs i 0 ≡ getD xs k 0 → ⊥
+-- no two at different places are alike
+abbrev Different : List ℕ → Type 0
+Different xs = (i k : ℕ) → i < k → k < length xs → getD xs i 0 ≡ getD xs k 0 → ⊥
 
-apart-distinct : (xs : List ℕ) → Apart xs → Distinct xs
-apart-distinct [] f = tt
-apart-distinct (x ∷ xs) f = (
+different-distinct : (xs : List ℕ) → Different xs → Distinct xs
+different-distinct [] f = tt
+different-distinct (x ∷ xs) f = (
   λ m. let (k, h, e) = member-at m in f 0 (suc k) (omega arith) (omega arith) (sym e),
-  apart-distinct xs (λ i k h l e. f (suc i) (suc k) (omega arith) (omega arith) e),
+  different-distinct xs (λ i k h l e. f (suc i) (suc k) (omega arith) (omega arith) e),
 )
 
-distinct-apart : (xs : List ℕ) → Distinct xs → Apart xs
-distinct-apart [] d i k h l e = not-suc-le-zero l
-distinct-apart (x ∷ xs) (n, d) zero zero h l e = not-suc-le-zero h
-distinct-apart (x ∷ xs) (n, d) zero (suc k) h l e = n (rw e (at-member xs k (le-of-suc-le-suc l)))
-distinct-apart (x ∷ xs) (n, d) (suc i) zero h l e = not-suc-le-zero h
-distinct-apart (x ∷ xs) (n, d) (suc i) (suc k) h l e = distinct-apart xs d i k (le-of-suc-le-suc h) (le-of-suc-le-suc l) e
+distinct-different : (xs : List ℕ) → Distinct xs → Different xs
+distinct-different [] d i k h l e = not-suc-le-zero l
+distinct-different (x ∷ xs) (n, d) zero zero h l e = not-suc-le-zero h
+distinct-different (x ∷ xs) (n, d) zero (suc k) h l e = n (rw e (at-member xs k (le-of-suc-le-suc l)))
+distinct-different (x ∷ xs) (n, d) (suc i) zero h l e = not-suc-le-zero h
+distinct-different (x ∷ xs) (n, d) (suc i) (suc k) h l e = distinct-different xs d i k (le-of-suc-le-suc h) (le-of-suc-le-suc l) e
 
+-- no two of the rows have one serial, and their serials are distinct
+module _ (w : ℕ) (rows : Bytes) (count : ℕ) where
+  pub apart→ : Apart w rows count → distinct numbers (serialsOf w count rows) ≡ true
+  apart→ s = distinct-test numbers (serialsOf w count rows) .1 (different-distinct (serialsOf w count rows) different)
+    where
+      different : Different (serialsOf w count rows)
+      different i k h l e =
+          let n : k < count = omega (arith, serials-length w count rows) in
+          s .apart i k h n (sym (serials-at w count rows i (omega arith)) ∙ e ∙ serials-at w count rows k n)
+
+  pub apart← : distinct numbers (serialsOf w count rows) ≡ true → Apart w rows count
+  apart← d = record { apart = apart (distinct-different (serialsOf w count rows) (distinct-test numbers (serialsOf w count rows) .0 d)) }
+    where
+      apart : Different (serialsOf w count rows) → (i k : ℕ) → i < k → k < count → serialAt w rows i ≡ serialAt w rows k → ⊥
+      apart f i k h l e =
+          f i k h (omega (arith, serials-length w count rows)) (serials-at w count rows i (omega arith) ∙ e ∙ sym (serials-at w count rows k l))
+
+-- each of the rows has a serial in the range, and so has each of their serials
 module _ (w : ℕ) (rows : Bytes) (next count : ℕ) where
   abbrev inRange : ℕ → Bool
   inRange k = leb 1 k && ltb k next
 
-  serials→ : Serials w rows next count → fitting next (serialsOf w count rows) ≡ true
-  unfolding fitting
-  serials→ s =
-      and-both
-      (distinct-test numbers (serialsOf w count rows) .1 (apart-distinct (serialsOf w count rows) apart))
-      (all-test inRange (serialsOf w count rows) .1 ranged)
+  pub ranged→ : Ranged w rows next count → all inRange (serialsOf w count rows) ≡ true
+  ranged→ s = all-test inRange (serialsOf w count rows) .1 ranged
     where
-      apart : Apart (serialsOf w count rows)
-      apart i k h l e =
-          let n : k < count = omega (arith, serials-length w count rows) in
-          s .apart i k h n (sym (serials-at w count rows i (omega arith)) ∙ e ∙ serials-at w count rows k n)
-
       ranged : (x : ℕ) → List·Memᴰ x (serialsOf w count rows) → inRange x ≡ true
       ranged x m =
           let (k, h, e) = member-at m in
@@ -118,29 +129,30 @@ module _ (w : ℕ) (rows : Bytes) (next count : ℕ) where
           let z : serialAt w rows k ≡ x = sym (serials-at w count rows k (omega (arith, serials-length w count rows))) ∙ e in
           and-both (le-leb 1 x (omega arith)) (lt-ltb x next (omega arith))
 
-  serials← : fitting next (serialsOf w count rows) ≡ true → Serials w rows next count
-  unfolding fitting
-  serials← e =
-      let (d, a) = and-split (distinct numbers (serialsOf w count rows)) (all inRange (serialsOf w count rows)) e in
-      record { ranged = ranged a; apart = apart (distinct-apart (serialsOf w count rows) (distinct-test numbers (serialsOf w count rows) .0 d)) }
+  pub ranged← : all inRange (serialsOf w count rows) ≡ true → Ranged w rows next count
+  ranged← a = record { ranged = ranged }
     where
-      ranged : all inRange (serialsOf w count rows) ≡ true → (k : ℕ) → k < count → (1 ≤ serialAt w rows k) × (serialAt w rows k < next)
-      ranged a k h =
-          let m : List·Memᴰ (getD (serialsOf w count rows) k 0) (serialsOf w count rows) = at-member (serialsOf w count rows) k (omega (arith, serials-length w count rows)) in
-          let (x, y) = and-split (leb 1 (getD (serialsOf w count rows) k 0)) (ltb (getD (serialsOf w count rows) k 0) next) (all-test inRange (serialsOf w count rows) .0 a (getD (serialsOf w count rows) k 0) m) in
-          let z : getD (serialsOf w count rows) k 0 ≡ serialAt w rows k = serials-at w count rows k h in
-          (omega (arith, leb-true 1 (getD (serialsOf w count rows) k 0) x), omega (arith, ltb-true (getD (serialsOf w count rows) k 0) next y))
+      serial : ℕ → ℕ
+      serial k = getD (serialsOf w count rows) k 0
 
-      apart : Apart (serialsOf w count rows) → (i k : ℕ) → i < k → k < count → serialAt w rows i ≡ serialAt w rows k → ⊥
-      apart f i k h l e = f i k h (omega (arith, serials-length w count rows)) (serials-at w count rows i (omega arith) ∙ e ∙ sym (serials-at w count rows k l))
+      ranged : (k : ℕ) → k < count → (1 ≤ serialAt w rows k) × (serialAt w rows k < next)
+      ranged k h =
+          let m : List·Memᴰ (serial k) (serialsOf w count rows) = at-member (serialsOf w count rows) k (omega (arith, serials-length w count rows)) in
+          let (x, y) = and-split (leb 1 (serial k)) (ltb (serial k) next) (all-test inRange (serialsOf w count rows) .0 a (serial k) m) in
+          let z : serial k ≡ serialAt w rows k = serials-at w count rows k h in
+          (omega (arith, leb-true 1 (serial k) x), omega (arith, ltb-true (serial k) next y))
 
 -- what the walk decides is the test
-pub accepts : {w : ℕ} {rows : Bytes} {next count : ℕ} → Serials w rows next count → true ≡ fitting next (serialsOf w count rows)
-accepts {w} {rows} {next} {count} s = sym (serials→ w rows next count s)
+pub accepts : {w : ℕ} {rows : Bytes} {next count : ℕ} → Ranged w rows next count → Apart w rows count → true ≡ fitting next (serialsOf w count rows)
+unfolding fitting
+accepts {w} {rows} {next} {count} r a = sym (and-both (apart→ w rows count a) (ranged→ w rows next count r))
 
-pub refuses : {w : ℕ} {rows : Bytes} {next count : ℕ} → (Serials w rows next count → ⊥) → false ≡ fitting next (serialsOf w count rows)
+pub refuses : {w : ℕ} {rows : Bytes} {next count : ℕ} → (Ranged w rows next count → Apart w rows count → ⊥) → false ≡ fitting next (serialsOf w count rows)
+unfolding fitting
 refuses {w} {rows} {next} {count} n = by (fitting next (serialsOf w count rows)) refl
   where
     by : (b : Bool) → fitting next (serialsOf w count rows) ≡ b → false ≡ b
-    by true e = absurd (n (serials← w rows next count e))
+    by true e =
+        let (d, a) = and-split (distinct numbers (serialsOf w count rows)) (all (inRange w rows next count) (serialsOf w count rows)) e in
+        absurd (n (ranged← w rows next count a) (apart← w rows count d))
     by false e = refl

@@ -20,8 +20,7 @@ use Rattle.rules.specs.Passing.{serials, goodSerials}
 use Rattle.rules.proofs.Words.{and-both, and-split}
 use Rattle.rules.proofs.TestLaws.{all-test, distinct-test}
 use Rattle.rules.proofs.PreorderLaws.{rising, flatten-build}
-use Rattle.serials.specs.Serials.{serialOf, serialsOf, fitting}
-use Rattle.serials.specs.Trees.{serialAt, Ranged, Apart}
+use Rattle.serials.specs.Serials.{serialOf, serialsOf, fitting, serialAt, Ranged, Apart}
 
 -- ---- the serials of documents
 -- the serials of documents are those of their rows in preorder

@@ -12,7 +12,8 @@ use lib.ListN.{length, getD, set, length-set, replicate, length-replicate}
 use lib.Seq.{getD-set-same, getD-set-other}
 use borrow.Author.Tests.{ltb-true, ltb-false, eqb-true, eqb-false}
 use Rattle.rules.specs.Bytes.{Bytes}
-use Rattle.serials.specs.Trees.{serialAt, Ranged, Apart, placeBelow, Met, here, there, Comes, now, later, Rising, Free, Sought, Trees, Put}
+use Rattle.serials.specs.Serials.{serialAt, Ranged, Apart}
+use Rattle.serials.specs.Trees.{placeBelow, Met, here, there, Comes, last, later, Rising, Free, Sought, Trees, Put}
 
 -- ---- walks
 met-none : {below : List ℕ} {i h q : ℕ} → Met below i h q → h ≡ 0 → ⊥
@@ -20,7 +21,7 @@ met-none here e = omega arith
 met-none (there m) e = omega arith
 
 comes-none : {below : List ℕ} {p h q : ℕ} → Comes below p h q → h ≡ 0 → ⊥
-comes-none (now n) e = omega arith
+comes-none (last n) e = omega arith
 comes-none (later c) e = omega arith
 
 -- a walk from a row meets it, and what is met further on
@@ -37,7 +38,7 @@ met-low k r l (there {j} {q} m) = met-low k r (r .low (placeBelow j q)) m
 
 -- the place that a walk comes to is below one of the first k rows
 comes-low : {below : List ℕ} {p h q : ℕ} (k : ℕ) → Rising below k → h ≤ k → Comes below p h q → p / 2 < k
-comes-low k r l (now e) = omega arith
+comes-low k r l (last e) = omega arith
 comes-low k r l (later {j} {q} c) = comes-low k r (r .low (placeBelow j q)) c
 
 -- a store to an empty place leaves every walk its rows
@@ -48,7 +49,7 @@ met-set {below} {i} p v z (there {j} {q} m) =
 
 -- .. and who is stored there is met by the walk that comes there
 comes-set : {below : List ℕ} {p h q : ℕ} (k : ℕ) → getD below p 0 ≡ 0 → p < length below → Comes below p h q → Met (set below p (suc k)) k h q
-comes-set {below} {p} k z l (now {j} {q} e) =
+comes-set {below} {p} k z l (last {j} {q} e) =
     there {j = j} {q = q} (rw (← e, getD-set-same below p (suc k) 0 l) here)
 comes-set {below} {p} k z l (later {j} {q} c) =
     there {j = j} {q = q} (rw (getD-set-other below p (placeBelow j q) (suc k) 0 (λ e. comes-none c (ap (λ (n : ℕ). getD below n 0) e ∙ z))) (comes-set k z l c))
@@ -87,7 +88,7 @@ module _ {w : ℕ} {rows : Bytes} {below : List ℕ} {from s j q : ℕ} (k : See
   seek-ends l z =
       record {
         met = λ g. absurd (omega arith);
-        free = λ g. record { comes = k .comes (placeBelow j q) (now refl); empty = z; none = λ i m e. met-none (further i m e) z };
+        free = λ g. record { comes = k .comes (placeBelow j q) (last refl); empty = z; none = λ i m e. met-none (further i m e) z };
       }
 
   pub seek-on : Rising below 4096 → (getD below (placeBelow j q) 0 ≡ 0 → ⊥) → Seek w rows below from s (suc (getD below (placeBelow j q) 0 - 1)) (q / 2)

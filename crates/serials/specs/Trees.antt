@@ -8,22 +8,7 @@ use mathlib.Core.Bool.{Bool, true, false}
 use mathlib.Core.List.{List}
 use lib.ListN.{length, getD}
 use Rattle.rules.specs.Bytes.{Bytes}
-use Rattle.rules.specs.Layout.{rowSize}
-use Rattle.rules.specs.Decode.{readRow}
-use Rattle.layout.specs.Bodies.{recordAt}
-use Rattle.serials.specs.Serials.{serialOf}
-
--- the serial of row number k, counted from 0, at a width of a value
-unfoldable pub serialAt : ℕ → Bytes → ℕ → ℕ
-serialAt w rows k = serialOf (readRow (recordAt (rowSize w) k rows))
-
--- the serials of the first n rows are from 1 and below the next serial
-pub record Ranged (w : ℕ) (rows : Bytes) (next n : ℕ) : Type 0 where
-  pub ranged : (k : ℕ) → k < n → (1 ≤ serialAt w rows k) × (serialAt w rows k < next)
-
--- no two of the first n rows have one serial
-pub record Apart (w : ℕ) (rows : Bytes) (n : ℕ) : Type 0 where
-  pub apart : (i k : ℕ) → i < k → k < n → serialAt w rows i ≡ serialAt w rows k → ⊥
+use Rattle.serials.specs.Serials.{serialAt, Apart}
 
 -- ---- walks
 -- the place to which a walk by the bits of q goes from row j
@@ -37,7 +22,7 @@ pub data Met (below : List ℕ) (i : ℕ) : ℕ → ℕ → Type 0 where
 
 -- the walk from h by the bits of q comes to the place p
 pub data Comes (below : List ℕ) (p : ℕ) : ℕ → ℕ → Type 0 where
-  now : {j q : ℕ} → p ≡ placeBelow j q → Comes below p (suc j) q
+  last : {j q : ℕ} → p ≡ placeBelow j q → Comes below p (suc j) q
   later : {j q : ℕ} → Comes below p (getD below (placeBelow j q) 0) (q / 2) → Comes below p (suc j) q
 
 -- what stands below a row is a later one, of the first k

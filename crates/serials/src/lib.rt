@@ -2,8 +2,8 @@
 ghost use mathlib.Core.Path.{_≡_};
 ghost use Prim.Native.Nat.{_<_, _≤_};
 ghost use Rattle.layout.specs.Bodies.{Width};
-ghost use Rattle.serials.specs.Serials.{serialsOf, fitting};
-ghost use Rattle.serials.specs.Trees.{serialAt, Rising, Sought, Trees, Put};
+ghost use Rattle.serials.specs.Serials.{serialsOf, fitting, serialAt};
+ghost use Rattle.serials.specs.Trees.{Rising, Sought, Trees, Put};
 
 const MAX_ROWS: usize = 4096;
 
@@ -18,7 +18,7 @@ fn serial_at(w: usize, rows: &[u8], k: usize) -> u32
 }
 
 // The place below the row `from - 1` to which the walk for the serial s comes; PLACES where it meets a row with that serial.
-// A row's place has only later rows below it, so the walk ends.
+// What stands below a row is a later one, so the walk ends.
 fn sought(w: usize, rows: &[u8], below: &[u16; PLACES], from: u16, s: u32) -> usize
     requires { ⌜ Width w × (0 < from) × (from ≤ 4096) × Rising (now below) 4096 ⌝ }
     ensures { λ r. ⌜ Sought w (now (rows .entry)) (now (below .entry)) from s r ⌝ }

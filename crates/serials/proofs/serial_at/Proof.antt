@@ -4,8 +4,7 @@ use mathlib.Core.List.{List}
 use Prim.Native.Nat.{ℕ}
 use borrow.Author.Needs.{needs}
 use Rattle.rules.specs.Decode.{readRow}
-use Rattle.serials.specs.Serials.{serialOf}
-use Rattle.serials.specs.Trees.{serialAt}
+use Rattle.serials.specs.Serials.{serialOf, serialAt}
 use Rattle.serials.proofs.serial_at.Statement.{statement}
 use Rattle.serials.proofs.serial_at.Tie as tie
 

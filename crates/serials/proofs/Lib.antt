@@ -1,2 +1,2 @@
 pub mod SerialsLaws
-pub mod ChainLaws
+pub mod TreeLaws

@@ -1,2 +1,2 @@
 pub mod Serials
-pub mod Chains
+pub mod Trees

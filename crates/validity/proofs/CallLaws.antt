@@ -1,5 +1,4 @@
 -- What the calls of the check find, put together.
--- Assumes nothing.
 use Prim.Native.Nat.{ℕ, _+_, _*_, _<_, _≤_}
 use native.Mathlib.Nat.{mul-le-mul}
 use native.Mathlib.Omega.{arith}
@@ -125,9 +124,9 @@ module _ {bs : Bytes} (h : Headed bs) {count : ℕ} (u : count ≡ rowCount bs) 
   pub serials-asked : count ≤ 4096
   serials-asked = omega (arith, header h .fewRows)
 
-  pub serials-in : {next : ℕ} {rows : Bytes} {r : Bool} → next ≡ numberAt 4 4 bs → rows ≡ rowsIn bs → r ≡ fitting next (serialsOf count rows) → (r ≡ true) ↔ SerialsIn bs
+  pub serials-in : {next : ℕ} {rows : Bytes} {r : Bool} → next ≡ numberAt 4 4 bs → rows ≡ rowsIn bs → r ≡ fitting next (serialsOf baseWidth count rows) → (r ≡ true) ↔ SerialsIn bs
   serials-in {next} {rows} {r} x y e =
-      let q : r ≡ fitting (numberAt 4 4 bs) (serialsOf (rowCount bs) (rowsIn bs)) = e ∙ (λ i. fitting (x i) (serialsOf (u i) (y i))) in
+      let q : r ≡ fitting (numberAt 4 4 bs) (serialsOf baseWidth (rowCount bs) (rowsIn bs)) = e ∙ (λ i. fitting (x i) (serialsOf baseWidth (u i) (y i))) in
       (λ z. record { fits = sym q ∙ z }, λ z. q ∙ z .fits)
 
 -- ---- all

@@ -1,5 +1,4 @@
 -- A byte string whose header fits passes just where its form, its rows and its serials do.
--- Assumes nothing.
 use Prim.Native.Nat.{ℕ, _+_, _*_, _≤_}
 use native.Mathlib.Omega.{arith}
 use mathlib.Core.Path.{_≡_, ap, _∙_, sym, subst}
@@ -150,7 +149,7 @@ module _ {bs : Bytes} (h : Headed bs) where
   same-bodies : bodiesFit (flatOf bs) ≡ bodiesFit formIn
   same-bodies = bodies-only (flatOf bs) formIn same-definitions same-particles same-attributes
 
-  same-serials : serialsIn (flatOf bs .rows) ≡ serialsOf (rowCount bs) (rowsIn bs)
+  same-serials : serialsIn (flatOf bs .rows) ≡ serialsOf baseWidth (rowCount bs) (rowsIn bs)
   unfolding serialsOf
   same-serials = ap (λ (xs : List (Deep FlatRow)). map serialOf xs) same-rows
 

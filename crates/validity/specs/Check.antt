@@ -1,5 +1,4 @@
 -- What is tested of a byte string whose header fits: its form, its rows, its serials.
--- Assumes nothing.
 use Prim.Native.Nat.{ℕ, _+_, _*_}
 use mathlib.Core.Path.{_≡_}
 use mathlib.Core.Bool.{true}
@@ -55,4 +54,4 @@ pub record RowsIn (bs : Bytes) : Type 0 where
   pub passes : RowsPass (indexForm (definitionCount bs) (definitionsIn bs) (particlesIn bs) (attributesIn bs) (attributeCount bs)) (rowCount bs) (rowsIn bs)
 
 pub record SerialsIn (bs : Bytes) : Type 0 where
-  pub fits : fitting (numberAt 4 4 bs) (serialsOf (rowCount bs) (rowsIn bs)) ≡ true
+  pub fits : fitting (numberAt 4 4 bs) (serialsOf baseWidth (rowCount bs) (rowsIn bs)) ≡ true

@@ -16,6 +16,8 @@ const ATTRIBUTE_SIZE: usize = 52;
 
 const ROW_SIZE: usize = 44;
 
+const VALUE_WIDTH: usize = 32;
+
 // ---- the header: the version at 0, the next serial at 4, and an entry of offset and count for each body, definitions at 8,
 // particles at 16, attributes at 24, rows at 32
 
@@ -93,7 +95,7 @@ fn serials_pass(store: &[u8]) -> bool
 {
     let next = codec::get_u32(store, 4);
     let count = number(store, 36);
-    serials::serials_fit(body(store, 32, ROW_SIZE), count, next)
+    serials::serials_fit(VALUE_WIDTH, body(store, 32, ROW_SIZE), count, next)
 }
 
 // ---- all

@@ -1,90 +1,63 @@
--- `serials::serials_fit` meets its contract. Assumes nothing.
-use Rattle.serials.proofs.SerialsLaws.{refuses, accepts}
-use Prim.Native.Nat.{_%_}
-use borrow.Author.Needs.{needs}
-use native.Mathlib.Omega.{arith}
+-- `serials::serials_fit` meets its contract.
 use Prim.Native.Nat.{_-_}
-use Rattle.serials.proofs.ChainLaws.{Chains, chains-start, chains-zero, chains-past, chains-twice, chains-more, chains-done}
+use borrow.Author.Needs.{needs}
+use borrow.Author.Tests.{not-true, not-false}
+use native.Mathlib.Omega.{arith}
+use Rattle.serials.proofs.SerialsLaws.{refuses, accepts}
+use Rattle.serials.proofs.TreeLaws.{Passed, passed-none, passed-zero, passed-past, passed-twice, passed-more, passed-ranged, passed-apart}
 use Rattle.serials.proofs.serials_fit.Statement.{statement}
 use Rattle.serials.proofs.serials_fit.Tie as tie
 
+-- the first k rows are in their trees, and their serials in the range
 abbrev Inv-loop : tie.InvT-loop
-Inv-loop rows count next heads₀ links₀ k₀ heads links k = Chains rows next count heads links k
+Inv-loop w rows count next heads₀ below₀ k₀ heads below k = Passed w rows next count heads below k
 
 abbrev μ-loop : tie.MeasureT-loop
-μ-loop rows count next heads₀ links₀ k₀ heads links k = count - k
+μ-loop w rows count next heads₀ below₀ k₀ heads below k = count - k
 
--- rows/lib.rt:39:5
 loop-holds : tie.Need-loop-holds Inv-loop μ-loop
-loop-holds c = chains-start _ _ _
+loop-holds c = passed-none _ _ _ _
 
--- rows/lib.rt:40:13
 serial-at-requires : tie.Need-serial-at-requires Inv-loop μ-loop
 serial-at-requires c κs = search needs
 
--- rows/lib.rt:42:13
 returns : tie.Need-returns Inv-loop μ-loop
-returns c = refuses (chains-zero (c .before .before .before .loop .inv) (omega arith) (omega arith) _ (c .before .serial-at .ensures) (c .if1 .taken))
+returns c =
+    let at-loop = c .before .before .before in
+    refuses (passed-zero (at-loop .loop .inv) (omega arith) _ (c .before .serial-at .ensures) (c .if1 .taken))
 
--- rows/lib.rt:45:13
 returns-2 : tie.Need-returns-2 Inv-loop μ-loop
-returns-2 c = refuses (chains-past (c .before .before .before .before .loop .inv) (omega arith) (omega arith) _ (c .before .before .serial-at .ensures) (omega arith))
+returns-2 c =
+    let at-loop = c .before .before .before .before in
+    refuses (passed-past (at-loop .loop .inv) (omega arith) _ (c .before .before .serial-at .ensures) (omega arith))
 
--- rows/lib.rt:47:17
-cast-b : tie.Need-cast-b Inv-loop μ-loop
-cast-b c = search needs
+put-requires : tie.Need-put-requires Inv-loop μ-loop
+put-requires c κs =
+    let at-loop = c .before .before .before .before .before .before in
+    let read = c .before .before .before .before in
+    (at-loop .before .before .pre .0, omega arith, read .serial-at .ensures, at-loop .loop .inv .trees)
 
--- rows/lib.rt:48:17
-mul-h : tie.Need-mul-h Inv-loop μ-loop
-mul-h c = search needs
-
--- rows/lib.rt:48:17
-array-read-h : tie.Need-array-read-h Inv-loop μ-loop
-array-read-h c = search needs
-
--- rows/lib.rt:49:12
-sought-requires : tie.Need-sought-requires Inv-loop μ-loop
-sought-requires c κs = (omega (arith, c .before .before .before .before .before .loop .inv .low (c .before .before .before .serial-at .result % 4096)), c .before .before .before .before .before .loop .inv .back)
-
--- rows/lib.rt:50:13
 returns-3 : tie.Need-returns-3 Inv-loop μ-loop
-returns-3 c = refuses (chains-twice (c .before .before .before .before .before .before .before .loop .inv) (omega arith) (omega arith) _ (c .before .before .before .before .before .serial-at .ensures) (c .if3 .taken) (c .before .sought .ensures))
+returns-3 c =
+    let at-loop = c .before .before .before .before .before .before .before .before in
+    let read = c .before .before .before .before .before .before in
+    refuses (passed-twice (at-loop .loop .inv) (omega arith) _ (read .serial-at .ensures) (c .before .put .ensures) (not-true _ (c .if3 .taken)))
 
--- rows/lib.rt:52:9
-mul-links : tie.Need-mul-links Inv-loop μ-loop
-mul-links c = search needs
-
--- rows/lib.rt:52:9
-array-write-links : tie.Need-array-write-links Inv-loop μ-loop
-array-write-links c = search needs
-
--- rows/lib.rt:53:20
-add-heads : tie.Need-add-heads Inv-loop μ-loop
-add-heads c = search needs
-
--- rows/lib.rt:53:9
-mul-heads : tie.Need-mul-heads Inv-loop μ-loop
-mul-heads c = search needs
-
--- rows/lib.rt:53:9
-array-write-heads : tie.Need-array-write-heads Inv-loop μ-loop
-array-write-heads c = search needs
-
--- rows/lib.rt:54:9
 add-k : tie.Need-add-k Inv-loop μ-loop
 add-k c = search needs
 
--- rows/lib.rt:39:5
 loop-less : tie.Need-loop-less Inv-loop μ-loop
 loop-less c = search needs
 
--- rows/lib.rt:39:5
 loop-again : tie.Need-loop-again Inv-loop μ-loop
-loop-again c = chains-more (c .before .before .before .before .before .before .before .loop .inv) (omega arith) (omega arith) _ (c .before .before .before .before .before .serial-at .ensures) (c .before .before .before .before .if1 .left) (omega arith) (c .if3 .left) (c .before .sought .ensures)
+loop-again c =
+    let at-loop = c .before .before .before .before .before .before .before .before in
+    let read = c .before .before .before .before .before .before in
+    let from-one = c .before .before .before .before .before in
+    passed-more (at-loop .loop .inv) (omega arith) _ (read .serial-at .ensures) (from-one .if1 .left) (omega arith) (c .before .put .ensures) (not-false _ (c .if3 .left))
 
--- rows/lib.rt:32:1
 returns-4 : tie.Need-returns-4 Inv-loop μ-loop
-returns-4 c = accepts (chains-done (c .before .loop .inv) (omega arith))
+returns-4 c = accepts (passed-ranged (c .before .loop .inv) (omega arith)) (passed-apart (c .before .loop .inv) (omega arith))
 
 pub serials-fit-spec : {M : Type 1} → statement M
 serials-fit-spec =
@@ -96,16 +69,8 @@ serials-fit-spec =
     serial-at-requires
     returns
     returns-2
-    cast-b
-    mul-h
-    array-read-h
-    sought-requires
+    put-requires
     returns-3
-    mul-links
-    array-write-links
-    add-heads
-    mul-heads
-    array-write-heads
     add-k
     loop-less
     loop-again

@@ -1,53 +1,73 @@
--- `serials::sought` meets its contract. Assumes nothing.
+-- `serials::sought` meets its contract.
 use mathlib.Core.Path.{sym, _∙_}
-use Prim.Native.Nat.{_-_}
+use Prim.Native.Nat.{suc, _+_, _*_, _%_, _-_}
 use borrow.Author.Needs.{needs}
 use native.Mathlib.Omega.{arith}
-use Rattle.serials.proofs.ChainLaws.{Seek, seek-starts, seek-finds, seek-on, seek-ends}
+use Rattle.serials.specs.Trees.{placeBelow}
+use Rattle.serials.proofs.TreeLaws.{Seek, seek-starts, seek-meets, seek-ends, seek-on}
 use Rattle.serials.proofs.sought.Statement.{statement}
 use Rattle.serials.proofs.sought.Tie as tie
 
+-- the walk has come to row j with the bits `rest` to go, and has passed nobody with the serial
 abbrev Inv-loop : tie.InvT-loop
-Inv-loop rows links from s h₀ h = Seek rows links from s h
+Inv-loop w rows below from s j₀ rest₀ j rest = Seek w rows below from s (suc j) rest
 
+-- each row is a later one than that before it
 abbrev μ-loop : tie.MeasureT-loop
-μ-loop rows links from s h₀ h = h
+μ-loop w rows below from s j₀ rest₀ j rest = 4096 - j
 
--- rows/lib.rt:21:5
-loop-holds : tie.Need-loop-holds Inv-loop μ-loop
-loop-holds c = seek-starts _ _ _ _ (omega arith)
-
--- rows/lib.rt:22:17
 sub-j : tie.Need-sub-j Inv-loop μ-loop
 sub-j c = search needs
 
--- rows/lib.rt:23:12
+cast-j : tie.Need-cast-j Inv-loop μ-loop
+cast-j c = search needs
+
+loop-holds : tie.Need-loop-holds Inv-loop μ-loop
+loop-holds c = seek-starts _ _ _ _ _ (omega arith) (omega arith)
+
 serial-at-requires : tie.Need-serial-at-requires Inv-loop μ-loop
 serial-at-requires c κs = search needs
 
--- rows/lib.rt:24:13
 returns : tie.Need-returns Inv-loop μ-loop
-returns c = seek-finds (c .before .before .before .loop .inv) (omega arith) (sym (c .before .serial-at .ensures) ∙ c .if1 .taken)
+returns c = seek-meets (c .before .before .loop .inv) (sym (c .before .serial-at .ensures) ∙ c .if1 .taken)
 
--- rows/lib.rt:26:13
+mul-at : tie.Need-mul-at Inv-loop μ-loop
+mul-at c = search needs
+
+cast-at : tie.Need-cast-at Inv-loop μ-loop
+cast-at c = search needs
+
+add-at : tie.Need-add-at Inv-loop μ-loop
+add-at c = search needs
+
 mul-h : tie.Need-mul-h Inv-loop μ-loop
 mul-h c = search needs
 
--- rows/lib.rt:26:13
 element-copy-out-h : tie.Need-element-copy-out-h Inv-loop μ-loop
 element-copy-out-h c = search needs
 
--- rows/lib.rt:21:5
-loop-less : tie.Need-loop-less Inv-loop μ-loop
-loop-less c = omega (arith, c .before .before .before .before .before .before .pre .1 (c .before .before .before .before .loop .h - 1))
-
--- rows/lib.rt:21:5
-loop-again : tie.Need-loop-again Inv-loop μ-loop
-loop-again c = seek-on (c .before .before .before .before .before .before .pre .1) (c .before .before .before .before .loop .inv) (omega arith) (λ e. c .before .if1 .left (c .before .before .serial-at .ensures ∙ e))
-
--- rows/lib.rt:16:1
 returns-2 : tie.Need-returns-2 Inv-loop μ-loop
-returns-2 c = seek-ends (c .before .loop .inv) (omega arith)
+returns-2 c =
+    let at-loop = c .before .before .before .before in
+    seek-ends (at-loop .loop .inv) (λ e. c .before .before .if1 .left (c .before .before .before .serial-at .ensures ∙ e)) (omega arith) (c .if2 .taken)
+
+sub-j-2 : tie.Need-sub-j-2 Inv-loop μ-loop
+sub-j-2 c = search needs
+
+cast-j-2 : tie.Need-cast-j-2 Inv-loop μ-loop
+cast-j-2 c =
+    let at-loop = c .before .before .before .before in
+    omega (arith, at-loop .before .before .pre .3 .low (placeBelow (at-loop .loop .j) (at-loop .loop .rest)))
+
+loop-less : tie.Need-loop-less Inv-loop μ-loop
+loop-less c =
+    let at-loop = c .before .before .before .before in
+    omega (arith, at-loop .before .before .pre .3 .up (placeBelow (at-loop .loop .j) (at-loop .loop .rest)) (omega arith))
+
+loop-again : tie.Need-loop-again Inv-loop μ-loop
+loop-again c =
+    let at-loop = c .before .before .before .before in
+    seek-on (at-loop .loop .inv) (λ e. c .before .before .if1 .left (c .before .before .before .serial-at .ensures ∙ e)) (at-loop .before .before .pre .3) (c .if2 .left)
 
 pub sought-spec : {M : Type 1} → statement M
 sought-spec =
@@ -55,12 +75,18 @@ sought-spec =
     (tie.spec
     Inv-loop
     μ-loop
-    loop-holds
     sub-j
+    cast-j
+    loop-holds
     serial-at-requires
     returns
+    mul-at
+    cast-at
+    add-at
     mul-h
     element-copy-out-h
+    returns-2
+    sub-j-2
+    cast-j-2
     loop-less
-    loop-again
-    returns-2)
+    loop-again)

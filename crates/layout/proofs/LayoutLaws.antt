@@ -13,7 +13,7 @@ use Rattle.rules.specs.Decode.{numberAt, readAttribute, readRow, readMany, defi
 use Rattle.rules.proofs.DecodeLaws.{width-bound}
 use Rattle.codec.proofs.Records.{many-at, many-within}
 use Rattle.layout.specs.declared.Shape.{Shape}
-use Rattle.layout.specs.Bodies.{windowOf, Product, recordAt, widthOf, WidthIn, Number, Sized, shapeOf, ShapeOf, attributesStart, rowsStart, Place, definitionBody, particleBody, attributeBody, rowBody}
+use Rattle.layout.specs.Bodies.{windowOf, Product, recordAt, widthOf, WidthIn, Number, Sized, shapeOf, ShapeOf, attributesStart, rowsStart, Place, definitionBody, particleBody, attributeBody, rowBody, attributeIn}
 
 -- ---- products
 pub product : (size n : ℕ) → size < 65536 → n < 4294967296 → Product size n (size * n)
@@ -113,3 +113,11 @@ rows-read bs = many-within readRow (rowSize (widthOf bs)) (rowCount bs) (drop (r
 pub attributes-read : (bs : Bytes) → readMany readAttribute (attributeSize (widthOf bs)) (attributeCount bs) (attributeBody (shapeOf bs) bs) ≡ readFlat (widthOf bs) bs .attributes
 unfolding attributeBody attributesStart shapeOf
 attributes-read bs = many-within readAttribute (attributeSize (widthOf bs)) (attributeCount bs) (drop (attributesStart (shapeOf bs)) bs) ∙ simp drop-drop
+
+-- ---- one record of the whole string
+pub attribute-window : {bs : Bytes} {w d p x : ℕ} (i : ℕ) (r : Bytes) → WidthIn bs w → Number (definitionCount bs) d → Number (particleCount bs) p → Product (20 + w) i x
+    → r ≡ windowOf (40 + 20 * d + 4 * p + x) (20 + w) bs → r ≡ attributeIn bs i
+unfolding attributeIn
+attribute-window {bs} i r width definitions particles product e =
+    e
+    ∙ (λ j. windowOf (40 + 20 * definitions .value j + 4 * particles .value j + (product .value ∙ ap (λ (v : ℕ). (20 + v) * i) (width .value)) j) (20 + width .value j) bs)

@@ -87,3 +87,11 @@ attributeBody s bs = windowOf (attributesStart s) (attributeSize (s .width) * s 
 
 unfoldable pub rowBody : Shape → Bytes → Bytes
 rowBody s bs = windowOf (rowsStart s) (rowSize (s .width) * s .rows) bs
+
+-- attribute number i of a byte string, at the width that its version says
+unfoldable pub attributeIn : Bytes → ℕ → Bytes
+attributeIn bs i =
+    windowOf
+    (headerSize + definitionSize * definitionCount bs + particleSize * particleCount bs + attributeSize (widthOf bs) * i)
+    (attributeSize (widthOf bs))
+    bs

@@ -1,10 +1,10 @@
 // The layout of a store, said once for every width of a value: its shape, its bodies, the records of a body, the fields of a record.
 ghost use mathlib.Core.Path.{_≡_};
-ghost use Prim.Native.Nat.{_+_, _<_};
+ghost use Prim.Native.Nat.{_+_, _*_, _<_};
 ghost use lib.ListN.{drop};
-ghost use Rattle.rules.specs.Layout.{valueWidth, definitionSize, particleSize, attributeSize, rowSize};
+ghost use Rattle.rules.specs.Layout.{valueWidth, headerSize, definitionSize, particleSize, attributeSize, rowSize};
 ghost use Rattle.rules.specs.Decode.{numberAt, readDefinition, readAttribute, readRow, definitionCount, particleCount, attributeCount, rowCount};
-ghost use Rattle.layout.specs.Bodies.{Width, windowOf, Product, recordAt, Number, WidthIn, Sized, ShapeOf, attributesStart, rowsStart, Place, definitionBody, particleBody, attributeBody, rowBody};
+ghost use Rattle.layout.specs.Bodies.{Width, windowOf, Product, recordAt, Number, WidthIn, Sized, ShapeOf, attributesStart, rowsStart, Place, definitionBody, particleBody, attributeBody, rowBody, attributeIn};
 
 /// The n bytes from `at` on, fewer where s ends before.
 pub fn window(s: &[u8], at: usize, n: usize) -> &[u8]
@@ -96,10 +96,10 @@ pub fn row_sort(row: &[u8]) -> u8
     codec::byte(row, 0)
 }
 
-pub fn row_depth(row: &[u8]) -> usize
+pub fn row_depth(row: &[u8]) -> u8
     ensures { λ r. ⌜ r ≡ readRow (now (row .entry)) .depth ⌝ }
 {
-    wide(codec::byte(row, 1))
+    codec::byte(row, 1)
 }
 
 pub fn row_index(row: &[u8]) -> u32
@@ -210,6 +210,41 @@ pub fn row_count(store: &[u8]) -> usize
     ensures { λ r. ⌜ Number (rowCount (now (store .entry))) r ⌝ }
 {
     number(store, 36)
+}
+
+// ---- the records of a store, whose bodies need not be cut out
+
+/// Definition i of a store.
+pub fn definition_in(store: &[u8], i: usize) -> &[u8]
+    requires { ⌜ i < 4294967296 ⌝ }
+    ensures { λ r. ⌜ now r ≡ windowOf (headerSize + definitionSize * i) definitionSize (now (store .entry)) ⌝ }
+{
+    window(store, 40 + 20 * i, 20)
+}
+
+/// Particle i of a store.
+pub fn particle_in(store: &[u8], i: usize) -> &[u8]
+    requires { ⌜ i < 4294967296 ⌝ }
+    ensures { λ r. ⌜ now r ≡ windowOf (headerSize + definitionSize * definitionCount (now (store .entry)) + particleSize * i) particleSize (now (store .entry)) ⌝ }
+{
+    let definitions = definition_count(store);
+    window(store, 40 + 20 * definitions + 4 * i, 4)
+}
+
+/// Attribute i of a store.
+pub fn attribute_in(store: &[u8], i: usize) -> &[u8]
+    requires { ⌜ i < 4294967296 ⌝ }
+    ensures { λ r. ⌜ now r ≡ attributeIn (now (store .entry)) i ⌝ }
+{
+    let w = width_in(store);
+    let definitions = definition_count(store);
+    let particles = particle_count(store);
+    let before = times(20 + w, i);
+    window(
+        store,
+        40 + 20 * definitions + 4 * particles + before,
+        20 + w,
+    )
 }
 
 /// What the header says, and the width of a value by the version.

@@ -1,5 +1,4 @@
 -- Laws of the look-up.
--- Assumes nothing.
 use mathlib.Core.Path.{_≡_, refl, sym, ap, ap₂, _∙_, subst}
 use mathlib.Core.Bool.{Bool, true, false, false≢true}
 use mathlib.Core.Option.{Option, none, some}
@@ -10,18 +9,20 @@ use native.Mathlib.Nat.{mul-suc, mul-zero, add-zero, zero-add}
 use native.Mathlib.Numerals.{add-one}
 use borrow.Author.Tests.{eq-eqb, ne-eqb, eqb-true}
 use lib.Dec.{eqb}
-use lib.ListN.{length, take, drop, getD}
-use lib.Seq.{take-nil, drop-drop}
+use lib.ListN.{length, take, drop, getD, length-drop}
+use lib.Seq.{take-nil, take-all, drop-drop}
 use Rattle.rules.specs.Bytes.{Bytes}
 use Rattle.rules.specs.Preorder.{Deep}
-use Rattle.rules.specs.Layout.{FlatRow, FlatStore, flat}
+use Rattle.rules.specs.Layout.{valueWidth, attributeSize, rowSize, FlatRow, FlatStore, flat, encode}
 use Rattle.rules.specs.Decode.{numberAt, readDefinition, readParticle, readAttribute, readRow, readMany, definitionCount, particleCount, attributeCount, rowCount, readFlat}
 use Rattle.rules.specs.Store.{Store}
-use Rattle.rules.specs.Passing.{readStore}
+use Rattle.rules.specs.Passing.{good, readStore}
 use Rattle.rules.specs.LookUp.{Found, Numbered, rowWith, foundRow, valueStart, partOf, notFound, foundIn, lookUp}
 use Rattle.rules.proofs.LayoutLaws.{read-bytes}
 use Rattle.rules.proofs.DecodeLaws.{good-flat, read-good}
-use Rattle.lookup.specs.Bodies.{recordsFrom, bodiesOf, rowStart, rowBody, rowPart}
+use Rattle.layout.specs.declared.Shape.{Shape}
+use Rattle.layout.specs.Bodies.{widthOf, windowOf, recordAt, shapeOf, ShapeOf, Place, rowsStart, attributesStart, WidthIn, Product}
+use Rattle.lookup.specs.Bodies.{Begins, RowPlace, RowsOf, recordsFrom, bodiesOf, rowStart, rowBody, rowPart}
 use Rattle.lookup.specs.Finding.{Looks, foundOn, foundAt}
 
 -- ---- records read one after the other
@@ -46,9 +47,30 @@ module _ {A : Type 0} (f : Bytes → A) (size : ℕ) (body : Bytes) (end i : ℕ
   from-all = let e : end - 0 ≡ end = omega arith in rw (e, mul-zero)
 
 -- ---- the place of row number i
-pub row-place : (bs : Bytes) (i : ℕ) → take 44 (drop (rowStart bs + 44 * i) bs) ≡ rowPart bs i
+pub row-place : (bs : Bytes) (i : ℕ) → take (rowSize (widthOf bs)) (drop (rowStart bs + (rowSize (widthOf bs)) * i) bs) ≡ rowPart bs i
 unfolding rowStart rowBody rowPart
 row-place bs i = simp drop-drop
+
+pub begins : (bs : Bytes) (s : Shape) (r : ℕ) → ShapeOf bs s → Place (rowsStart s) r → Begins bs r
+unfolding rowStart rowsStart attributesStart shapeOf
+begins bs s r x p = record { start = p .value ∙ ap rowsStart (x .is); small = p .small }
+
+pub row-placed : (bs : Bytes) (i w p x : ℕ) → WidthIn bs w → Product (12 + w) i p → Begins bs x → RowPlace bs i (x + p)
+row-placed bs i w p x a b c = record { value = ap₂ (λ (m n : ℕ). m + n) (c .start) (b .value ∙ ap (λ (v : ℕ). rowSize v * i) (a .value)); small = omega (arith, c .small, b .small) }
+
+pub row-window : (bs : Bytes) (i w x : ℕ) (r : Bytes) → WidthIn bs w → RowPlace bs i x → r ≡ take (12 + w) (drop x bs) → r ≡ rowPart bs i
+row-window bs i w x r a p e = e ∙ ap₂ (λ (n k : ℕ). take (rowSize n) (drop k bs)) (a .value) (p .value) ∙ row-place bs i
+
+-- what is cut to the string's own length is all of it
+pub rows-from : (bs : Bytes) (x : ℕ) (r : Bytes) → Begins bs x → r ≡ windowOf x (length bs) bs → r ≡ rowBody bs
+unfolding rowStart rowBody
+rows-from bs x r b e =
+    e ∙ take-all (length bs) (drop x bs) (omega (arith, length-drop x bs)) ∙ ap (λ (k : ℕ). drop k bs) (b .start) ∙ simp drop-drop
+
+-- record number i of the rows is row number i
+pub row-of : {bs rows r : Bytes} {w : ℕ} (i : ℕ) → RowsOf bs w rows → r ≡ recordAt (rowSize w) i rows → r ≡ rowPart bs i
+unfolding rowPart
+row-of i h e = e ∙ ap₂ (λ (w : ℕ) (s : Bytes). recordAt (rowSize w) i s) (h .width .value) (h .body)
 
 -- ---- answers in the code's numbers
 pub looks-as : {f : Found} {number s s′ l l′ : ℕ} → s ≡ s′ → l ≡ l′ → Looks f number s′ l′ → Looks f number s l
@@ -78,55 +100,55 @@ sort-other w f n e = rw (ne-eqb (n .row .sort) 1 e, foundRow)
 -- what is left to look through gives the same row
 pub record Seeking (bs : Bytes) (k count i : ℕ) : Type 0 where
   pub counts : count ≡ rowCount bs
-  pub rest : rowWith k i (recordsFrom readRow 44 (rowBody bs) count i) ≡ rowWith k 0 (bodiesOf bs .rows)
+  pub rest : rowWith k i (recordsFrom readRow (rowSize (widthOf bs)) (rowBody bs) count i) ≡ rowWith k 0 (bodiesOf bs .rows)
 
 pub seek-start : (bs : Bytes) (k count : ℕ) → count ≡ rowCount bs → Seeking bs k count 0
 unfolding bodiesOf rowBody
-seek-start bs k count e = record { counts = e; rest = ap (rowWith k 0) (from-all readRow 44 (rowBody bs) count 0 ∙ ap (λ (n : ℕ). readMany readRow 44 n (rowBody bs)) e) }
+seek-start bs k count e = record { counts = e; rest = ap (rowWith k 0) (from-all readRow (rowSize (widthOf bs)) (rowBody bs) count 0 ∙ ap (λ (n : ℕ). readMany readRow (rowSize (widthOf bs)) n (rowBody bs)) e) }
 
 module _ (bs : Bytes) (k count i : ℕ) (s : Seeking bs k count i) where
-  step : i < count → rowWith k i (recordsFrom readRow 44 (rowBody bs) count i) ≡ rowWith k i (readRow (rowPart bs i) ∷ recordsFrom readRow 44 (rowBody bs) count (i + 1))
+  step : i < count → rowWith k i (recordsFrom readRow (rowSize (widthOf bs)) (rowBody bs) count i) ≡ rowWith k i (readRow (rowPart bs i) ∷ recordsFrom readRow (rowSize (widthOf bs)) (rowBody bs) count (i + 1))
   unfolding rowPart
-  step h = ap (rowWith k i) (from-step readRow 44 (rowBody bs) count i h)
+  step h = ap (rowWith k i) (from-step readRow (rowSize (widthOf bs)) (rowBody bs) count i h)
 
   pub seek-past : i < count → (numberAt 4 4 (rowPart bs i) ≡ k → ⊥) → Seeking bs k count (i + 1)
-  seek-past h e = record { counts = s .counts; rest = sym (row-other k i (readRow (rowPart bs i)) (recordsFrom readRow 44 (rowBody bs) count (i + 1)) e) ∙ sym (step h) ∙ s .rest }
+  seek-past h e = record { counts = s .counts; rest = sym (row-other k i (readRow (rowPart bs i)) (recordsFrom readRow (rowSize (widthOf bs)) (rowBody bs) count (i + 1)) e) ∙ sym (step h) ∙ s .rest }
 
   pub seek-hit : i < count → numberAt 4 4 (rowPart bs i) ≡ k → foundAt bs i ≡ foundOn bs k
   unfolding foundAt foundOn
   seek-hit h e =
-      ap (foundRow 32 (bodiesOf bs)) (sym (row-this k i (readRow (rowPart bs i)) (recordsFrom readRow 44 (rowBody bs) count (i + 1)) e) ∙ sym (step h) ∙ s .rest)
+      ap (foundRow (widthOf bs) (bodiesOf bs)) (sym (row-this k i (readRow (rowPart bs i)) (recordsFrom readRow (rowSize (widthOf bs)) (rowBody bs) count (i + 1)) e) ∙ sym (step h) ∙ s .rest)
 
   pub seek-none : count ≤ i → Looks (foundOn bs k) 7 0 0
   unfolding foundOn
   seek-none h =
-      let e : rowWith k 0 (bodiesOf bs .rows) ≡ none = sym (s .rest) ∙ ap (rowWith k i) (from-none readRow 44 (rowBody bs) count i h) ∙ row-none k i in
-      subst (λ (o : Option Numbered). Looks (foundRow 32 (bodiesOf bs) o) 7 0 0) (sym e) (record { number-is = refl; start-is = refl; length-is = refl })
+      let e : rowWith k 0 (bodiesOf bs .rows) ≡ none = sym (s .rest) ∙ ap (rowWith k i) (from-none readRow (rowSize (widthOf bs)) (rowBody bs) count i h) ∙ row-none k i in
+      subst (λ (o : Option Numbered). Looks (foundRow (widthOf bs) (bodiesOf bs) o) 7 0 0) (sym e) (record { number-is = refl; start-is = refl; length-is = refl })
 
 -- ---- the row that has the serial
 module _ (bs : Bytes) (i : ℕ) where
   found-row : Numbered
   found-row = record { at = i; row = readRow (rowPart bs i) .row }
 
-  value-start : valueStart 32 (bodiesOf bs) i ≡ rowStart bs + 44 * i + 10
+  value-start : valueStart (widthOf bs) (bodiesOf bs) i ≡ rowStart bs + (rowSize (widthOf bs)) * i + 10
   unfolding rowStart bodiesOf
   value-start =
       simp (
         length-many readDefinition 20 (definitionCount bs) (drop 40 bs),
         length-many readParticle 4 (particleCount bs) (drop (20 * definitionCount bs) (drop 40 bs)),
-        length-many readAttribute 52 (attributeCount bs) (drop (4 * particleCount bs) (drop (20 * definitionCount bs) (drop 40 bs))),
+        length-many readAttribute (attributeSize (widthOf bs)) (attributeCount bs) (drop (4 * particleCount bs) (drop (20 * definitionCount bs) (drop 40 bs))),
       )
 
   pub found-element : getD (rowPart bs i) 0 0 ≡ 1 → Looks (foundAt bs i) 7 0 0
   unfolding foundAt found-row
   found-element e =
-      subst (λ (f : Found). Looks f 7 0 0) (sym (sort-element 32 (bodiesOf bs) found-row e)) (record { number-is = refl; start-is = refl; length-is = refl })
+      subst (λ (f : Found). Looks f 7 0 0) (sym (sort-element (widthOf bs) (bodiesOf bs) found-row e)) (record { number-is = refl; start-is = refl; length-is = refl })
 
-  pub found-value : (getD (rowPart bs i) 0 0 ≡ 1 → ⊥) → Looks (foundAt bs i) 0 (rowStart bs + 44 * i + 10) (length (take (getD (rowPart bs i) 8 0) (drop 10 (rowPart bs i))))
+  pub found-value : (getD (rowPart bs i) 0 0 ≡ 1 → ⊥) → Looks (foundAt bs i) 0 (rowStart bs + (rowSize (widthOf bs)) * i + 10) (length (take (getD (rowPart bs i) 8 0) (drop 10 (rowPart bs i))))
   unfolding foundAt found-row
   found-value e =
-      subst (λ (f : Found). Looks f 0 (rowStart bs + 44 * i + 10) (length (take (getD (rowPart bs i) 8 0) (drop 10 (rowPart bs i)))))
-      (sym (sort-other 32 (bodiesOf bs) found-row e)) (record { number-is = refl; start-is = sym value-start; length-is = refl })
+      subst (λ (f : Found). Looks f 0 (rowStart bs + (rowSize (widthOf bs)) * i + 10) (length (take (getD (rowPart bs i) 8 0) (drop 10 (rowPart bs i)))))
+      (sym (sort-other (widthOf bs) (bodiesOf bs) found-row e)) (record { number-is = refl; start-is = sym value-start; length-is = refl })
 
 -- ---- the part is the row's value
 some-same : {A : Type 0} {x y : A} → some x ≡ some y → x ≡ y
@@ -146,60 +168,67 @@ take-inside (suc o) n (suc k) [] = take-nil (length (take n (drop (suc o) (take 
 take-inside (suc o) n (suc k) (b ∷ x) = take-inside o n k x
 
 -- the row that is found stands where its number says
-unfoldable rowAt : Bytes → ℕ → FlatRow
-rowAt t j = readRow (take 44 (drop (44 * j) t)) .row
+unfoldable rowAt : ℕ → Bytes → ℕ → FlatRow
+rowAt w t j = readRow (take (rowSize w) (drop ((rowSize w) * j) t)) .row
 
-row-first : (t : Bytes) → readRow (take 44 t) .row ≡ rowAt t 0
+row-first : (w : ℕ) (t : Bytes) → readRow (take (rowSize w) t) .row ≡ rowAt w t 0
 unfolding rowAt
-row-first t = refl
+row-first w t = let e : rowSize w * 0 ≡ 0 = omega arith in rw e
 
-row-next : (t : Bytes) (j : ℕ) → rowAt (drop 44 t) j ≡ rowAt t (suc j)
+row-next : (w : ℕ) (t : Bytes) (j : ℕ) → rowAt w (drop (rowSize w) t) j ≡ rowAt w t (suc j)
 unfolding rowAt
-row-next t j = let e : 44 + 44 * j ≡ 44 * suc j = omega arith in ap (λ (l : Bytes). readRow (take 44 l) .row) (drop-drop (44 * j) 44 t ∙ ap (λ (n : ℕ). drop n t) e)
+row-next w t j = let e : rowSize w + rowSize w * j ≡ rowSize w * suc j = omega (arith, mul-suc (rowSize w) j) in ap (λ (l : Bytes). readRow (take (rowSize w) l) .row) (drop-drop ((rowSize w) * j) (rowSize w) t ∙ ap (λ (n : ℕ). drop n t) e)
 
-found-where : (k i m : ℕ) (t : Bytes) (n : Numbered) → rowWith k i (readMany readRow 44 m t) ≡ some n → (j : ℕ) × (n .at ≡ i + j) × (n .row ≡ rowAt t j)
-found-where k i zero t n h = let z : _≡_ {A = ℕ} 0 1 = cc (row-none k i) in absurd (omega arith)
-found-where k i (suc m) t n h = by (eqb (readRow (take 44 t) .row .serial) k) refl (found-where k (i + 1) m (drop 44 t) n)
+found-where : (w k i m : ℕ) (t : Bytes) (n : Numbered) → rowWith k i (readMany readRow (rowSize w) m t) ≡ some n → (j : ℕ) × (n .at ≡ i + j) × (n .row ≡ rowAt w t j)
+found-where w k i zero t n h = let z : _≡_ {A = ℕ} 0 1 = cc (row-none k i) in absurd (omega arith)
+found-where w k i (suc m) t n h = by (eqb (readRow (take (rowSize w) t) .row .serial) k) refl (found-where w k (i + 1) m (drop (rowSize w) t) n)
   where
-    by : (c : Bool) → eqb (readRow (take 44 t) .row .serial) k ≡ c
-        → (rowWith k (i + 1) (readMany readRow 44 m (drop 44 t)) ≡ some n → (j : ℕ) × (n .at ≡ i + 1 + j) × (n .row ≡ rowAt (drop 44 t) j))
-        → (j : ℕ) × (n .at ≡ i + j) × (n .row ≡ rowAt t j)
+    by : (c : Bool) → eqb (readRow (take (rowSize w) t) .row .serial) k ≡ c
+        → (rowWith k (i + 1) (readMany readRow (rowSize w) m (drop (rowSize w) t)) ≡ some n → (j : ℕ) × (n .at ≡ i + 1 + j) × (n .row ≡ rowAt w (drop (rowSize w) t) j))
+        → (j : ℕ) × (n .at ≡ i + j) × (n .row ≡ rowAt w t j)
     by true e later =
-        let q : n ≡ record { at = i; row = readRow (take 44 t) .row } = some-same (sym h ∙ row-this k i (readRow (take 44 t)) (readMany readRow 44 m (drop 44 t)) (eqb-true _ _ e)) in
-        (0, ap (λ (x : Numbered). x .at) q ∙ sym (add-zero i), ap (λ (x : Numbered). x .row) q ∙ row-first t)
+        let q : n ≡ record { at = i; row = readRow (take (rowSize w) t) .row } = some-same (sym h ∙ row-this k i (readRow (take (rowSize w) t)) (readMany readRow (rowSize w) m (drop (rowSize w) t)) (eqb-true _ _ e)) in
+        (0, ap (λ (x : Numbered). x .at) q ∙ sym (add-zero i), ap (λ (x : Numbered). x .row) q ∙ row-first w t)
     by false e later =
-        let (j, p, q) = later (sym (row-other k i (readRow (take 44 t)) (readMany readRow 44 m (drop 44 t)) (λ g. false≢true (sym e ∙ eq-eqb _ _ g))) ∙ h) in
-        (suc j, omega arith, q ∙ row-next t j)
+        let (j, p, q) = later (sym (row-other k i (readRow (take (rowSize w) t)) (readMany readRow (rowSize w) m (drop (rowSize w) t)) (λ g. false≢true (sym e ∙ eq-eqb _ _ g))) ∙ h) in
+        (suc j, omega arith, q ∙ row-next w t j)
 
 row-found : (bs : Bytes) (k : ℕ) (n : Numbered) → rowWith k 0 (bodiesOf bs .rows) ≡ some n → n .row ≡ readRow (rowPart bs (n .at)) .row
 unfolding bodiesOf rowBody rowPart rowAt
 row-found bs k n h =
-    let (j, p, q) = found-where k 0 (rowCount bs) (rowBody bs) n h in
-    q ∙ ap (λ (x : ℕ). readRow (take 44 (drop (44 * x) (rowBody bs))) .row) (sym (p ∙ zero-add j))
+    let (j, p, q) = found-where (widthOf bs) k 0 (rowCount bs) (rowBody bs) n h in
+    q ∙ ap (λ (x : ℕ). readRow (take (rowSize (widthOf bs)) (drop ((rowSize (widthOf bs)) * x) (rowBody bs))) .row) (sym (p ∙ zero-add j))
 
-value-there : (bs : Bytes) (i : ℕ) (v : Bytes) → v ≡ take (getD (rowPart bs i) 8 0) (drop 10 (rowPart bs i)) → take (length v) (drop (valueStart 32 (bodiesOf bs) i) bs) ≡ v
+value-there : (bs : Bytes) (i : ℕ) (v : Bytes) → v ≡ take (getD (rowPart bs i) 8 0) (drop 10 (rowPart bs i)) → take (length v) (drop (valueStart (widthOf bs) (bodiesOf bs) i) bs) ≡ v
 value-there bs i v e =
-    let x : Bytes = drop (rowStart bs + 44 * i) bs in
-    let q : v ≡ take (getD (rowPart bs i) 8 0) (drop 10 (take 44 x)) = e ∙ ap (λ (l : Bytes). take (getD (rowPart bs i) 8 0) (drop 10 l)) (sym (row-place bs i)) in
-    let p : drop (valueStart 32 (bodiesOf bs) i) bs ≡ drop 10 x = ap (λ (n : ℕ). drop n bs) (value-start bs i) ∙ sym (drop-drop 10 (rowStart bs + 44 * i) bs) in
-    ap₂ (λ (l m : Bytes). take (length l) m) q p ∙ take-inside 10 (getD (rowPart bs i) 8 0) 44 x ∙ sym q
+    let x : Bytes = drop (rowStart bs + (rowSize (widthOf bs)) * i) bs in
+    let q : v ≡ take (getD (rowPart bs i) 8 0) (drop 10 (take (rowSize (widthOf bs)) x)) = e ∙ ap (λ (l : Bytes). take (getD (rowPart bs i) 8 0) (drop 10 l)) (sym (row-place bs i)) in
+    let p : drop (valueStart (widthOf bs) (bodiesOf bs) i) bs ≡ drop 10 x = ap (λ (n : ℕ). drop n bs) (value-start bs i) ∙ sym (drop-drop 10 (rowStart bs + (rowSize (widthOf bs)) * i) bs) in
+    ap₂ (λ (l m : Bytes). take (length l) m) q p ∙ take-inside 10 (getD (rowPart bs i) 8 0) (rowSize (widthOf bs)) x ∙ sym q
 
 -- the part that is handed back is the value of the row with the serial
 pub part-value : (bs : Bytes) (k : ℕ) (n : Numbered) → rowWith k 0 (bodiesOf bs .rows) ≡ some n → (n .row .sort ≡ 1 → ⊥) → partOf bs (foundOn bs k) ≡ n .row .value
 unfolding foundOn
 part-value bs k n h e =
-    ap (λ (o : Option Numbered). partOf bs (foundRow 32 (bodiesOf bs) o)) h
-    ∙ ap (partOf bs) (sort-other 32 (bodiesOf bs) n e)
+    ap (λ (o : Option Numbered). partOf bs (foundRow (widthOf bs) (bodiesOf bs) o)) h
+    ∙ ap (partOf bs) (sort-other (widthOf bs) (bodiesOf bs) n e)
     ∙ value-there bs (n .at) (n .row .value) (ap (λ (r : FlatRow). r .value) (row-found bs k n h))
 
 -- ---- on a store that passes
 -- what a byte string that passes holds is what is read
+version-read : (s : Store) → good s ≡ true → widthOf (encode s) ≡ valueWidth (s .version)
+unfolding widthOf
+version-read s g = ap (λ (f : FlatStore). valueWidth (f .version)) (read-bytes (valueWidth (s .version)) (flat s) (good-flat s g))
+
+width-read : (bs : Bytes) (s : Store) → readStore bs ≡ some s → widthOf bs ≡ valueWidth (s .version)
+width-read bs s h = let (e, g) = read-good bs s h in ap widthOf (sym e) ∙ version-read s g
+
 pub bodies-flat : (bs : Bytes) (s : Store) → readStore bs ≡ some s → bodiesOf bs ≡ flat s
 unfolding bodiesOf
 bodies-flat bs s h =
     let (e, g) = read-good bs s h in
-    ap (readFlat 32) (sym e) ∙ read-bytes 32 (flat s) (good-flat s g)
+    ap₂ (λ (w : ℕ) (b : Bytes). readFlat w b) (width-read bs s h) (sym e) ∙ read-bytes (valueWidth (s .version)) (flat s) (good-flat s g)
 
 pub look-up-is : (bs : Bytes) (s : Store) (k : ℕ) → readStore bs ≡ some s → lookUp bs k ≡ foundOn bs k
 unfolding lookUp foundOn
-look-up-is bs s k h = ap (foundIn k) h ∙ ap (λ (f : FlatStore). foundRow 32 f (rowWith k 0 (f .rows))) (sym (bodies-flat bs s h))
+look-up-is bs s k h = ap (foundIn k) h ∙ sym (ap₂ (λ (w : ℕ) (f : FlatStore). foundRow w f (rowWith k 0 (f .rows))) (width-read bs s h) (bodies-flat bs s h))

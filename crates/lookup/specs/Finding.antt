@@ -4,17 +4,17 @@ use Prim.Native.Nat.{ℕ}
 use mathlib.Core.Path.{_≡_}
 use mathlib.Core.Option.{some}
 use Rattle.rules.specs.Bytes.{Bytes}
-use Rattle.rules.specs.Layout.{valueWidth}
-use Rattle.rules.specs.Decode.{numberAt, readRow}
+use Rattle.rules.specs.Decode.{readRow}
+use Rattle.layout.specs.Bodies.{widthOf}
 use Rattle.rules.specs.LookUp.{Found, rowWith, foundRow, partOf}
 use Rattle.lookup.specs.Bodies.{bodiesOf, rowPart}
 
 unfoldable pub foundOn : Bytes → ℕ → Found
-foundOn bs k = foundRow (valueWidth (numberAt 0 4 bs)) (bodiesOf bs) (rowWith k 0 (bodiesOf bs .rows))
+foundOn bs k = foundRow (widthOf bs) (bodiesOf bs) (rowWith k 0 (bodiesOf bs .rows))
 
 -- what is found when row number i is the one
 unfoldable pub foundAt : Bytes → ℕ → Found
-foundAt bs i = foundRow (valueWidth (numberAt 0 4 bs)) (bodiesOf bs) (some (record { at = i; row = readRow (rowPart bs i) .row }))
+foundAt bs i = foundRow (widthOf bs) (bodiesOf bs) (some (record { at = i; row = readRow (rowPart bs i) .row }))
 
 -- an answer in the code's numbers
 pub record Looks (f : Found) (number start length : ℕ) : Type 0 where

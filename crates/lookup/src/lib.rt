@@ -1,41 +1,43 @@
 // The value of the attribute or text row with a serial, as a part of the store.
 ghost use mathlib.Core.Path.{_≡_};
 ghost use Prim.Native.Nat.{_+_, _*_, _<_};
-ghost use lib.ListN.{length, take, drop};
-ghost use Rattle.lookup.specs.Bodies.{Begins, rowPart};
+ghost use lib.ListN.{length};
+ghost use Rattle.lookup.specs.Bodies.{Begins, RowPlace, rowBody, rowPart};
 ghost use Rattle.lookup.specs.Finding.{Looks, Hands, foundOn, foundAt};
-
-/// The n bytes from `at` on, fewer where s ends before.
-pub fn window(s: &[u8], at: usize, n: usize) -> &[u8]
-    ensures { λ r. ⌜ now r ≡ take n (drop at (now (s .entry))) ⌝ }
-{
-    if s.len() < at {
-        return &s[..0];
-    }
-    if s.len() - at < n {
-        return &s[at..];
-    }
-    let end = at + n;
-    &s[at..end]
-}
 
 /// Where the tree rows begin.
 pub fn row_start(store: &[u8]) -> usize
     ensures { λ r. ⌜ Begins (now (store .entry)) r ⌝ }
 {
-    let definitions = codec::get_u32(store, 12) as usize;
-    let particles = codec::get_u32(store, 20) as usize;
-    let attributes = codec::get_u32(store, 28) as usize;
-    40 + 20 * definitions + 4 * particles + 52 * attributes
+    layout::rows_start(layout::shape_of(store))
+}
+
+/// The bytes from the tree rows on.
+pub fn rows_of(store: &[u8]) -> &[u8]
+    ensures { λ r. ⌜ now r ≡ rowBody (now (store .entry)) ⌝ }
+{
+    let start = row_start(store);
+    layout::window(store, start, store.len())
+}
+
+// Where tree row i begins, counted from 0.
+fn row_place(store: &[u8], i: usize) -> usize
+    requires { ⌜ i < 4294967296 ⌝ }
+    ensures { λ r. ⌜ RowPlace (now (store .entry)) i r ⌝ }
+{
+    let w = layout::width_in(store);
+    let before = layout::times(12 + w, i);
+    row_start(store) + before
 }
 
 /// The bytes of tree row i, counted from 0.
-pub fn row(store: &[u8], i: usize) -> &[u8]
+fn row(store: &[u8], i: usize) -> &[u8]
     requires { ⌜ i < 4294967296 ⌝ }
     ensures { λ r. ⌜ now r ≡ rowPart (now (store .entry)) i ⌝ }
 {
-    let start = row_start(store) + 44 * i;
-    window(store, start, 44)
+    let w = layout::width_in(store);
+    let start = row_place(store, i);
+    layout::window(store, start, 12 + w)
 }
 
 /// A look-up's answer: 0 and the place of the value, or 7.
@@ -51,16 +53,15 @@ fn found_at(store: &[u8], i: usize) -> Found
     ensures { λ r. ⌜ Looks (foundAt (now (store .entry)) i) (r .number) (r .start) (r .length) ⌝ }
 {
     let bytes = row(store, i);
-    if codec::byte(bytes, 0) == 1 {
+    if layout::row_sort(bytes) == 1 {
         return Found {
             number: 7,
             start: 0,
             length: 0,
         };
     }
-    let n = codec::byte(bytes, 8) as usize;
-    let value = window(bytes, 10, n);
-    let start = row_start(store) + 44 * i + 10;
+    let value = layout::row_value(bytes);
+    let start = row_place(store, i) + 10;
     Found {
         number: 0,
         start,
@@ -72,10 +73,12 @@ fn found_at(store: &[u8], i: usize) -> Found
 pub fn find(store: &[u8], serial: u32) -> Found
     ensures { λ r. ⌜ Looks (foundOn (now (store .entry)) serial) (r .number) (r .start) (r .length) ⌝ }
 {
-    let count = codec::get_u32(store, 36) as usize;
+    let w = layout::width_in(store);
+    let rows = rows_of(store);
+    let count = layout::row_count(store);
     let mut i = 0;
     while i < count {
-        if codec::get_u32(row(store, i), 4) == serial {
+        if layout::row_serial(layout::row_at(w, rows, i)) == serial {
             return found_at(store, i);
         }
         i += 1;
@@ -93,5 +96,5 @@ pub fn value_of<'a>(store: &'a [u8], serial: u32, number: &mut u32) -> &'a [u8]
 {
     let found = find(store, serial);
     *number = found.number;
-    window(store, found.start, found.length)
+    layout::window(store, found.start, found.length)
 }

@@ -1,5 +1,4 @@
 -- The declarations of a form, written.
--- Assumes nothing.
 use mathlib.Core.Path.{_≡_, refl, sym, ap, ap₂, _∙_, subst}
 use mathlib.Core.Bool.{Bool, true, false, false≢true}
 use mathlib.Core.List.{List, [], _∷_, _++_, append-assoc, map}
@@ -16,12 +15,14 @@ use Rattle.rules.specs.Bytes.{Bytes, ascii, concat}
 use Rattle.rules.specs.Model.{Members}
 use Rattle.rules.specs.Store.{AttributeSort, implied, required, fixed, Attribute, Forest, bare, tree, Store}
 use Rattle.rules.specs.Preorder.{Deep, build}
-use Rattle.rules.specs.Layout.{FlatParticle, FlatAttribute, FlatDefinition, FlatRow, FlatStore}
+use Rattle.layout.specs.Bodies.{widthOf}
+use Rattle.layout.proofs.LayoutLaws.{width-small}
+use Rattle.rules.specs.Layout.{attributeSize, rowSize, FlatParticle, FlatAttribute, FlatDefinition, FlatRow, FlatStore}
 use Rattle.rules.specs.Decode.{numberAt, nameAt, groupOf, sortOf, contentOf, memberOf, readMembers, ofOwner, readAttribute, readDefinition, readParticle, readRow, readRows, readForm, readMany, unle, unflat, attributeCount, definitionCount, particleCount, rowCount}
 use Rattle.rules.specs.Print.{escape, defaultTokens, memberTokens, modelTokens, contentTokens, attributeLines, formLines, documentLines, printed}
 use Rattle.codec.specs.Laid.{Laid}
 use Rattle.codec.proofs.Writers.{laid-none, laid-then, laid-as}
-use Rattle.lookup.specs.Bodies.{recordsFrom, bodiesOf, rowBody}
+use Rattle.lookup.specs.Bodies.{recordsFrom, bodiesOf, rowBody, RowsOf}
 use Rattle.lookup.proofs.Laws.{from-none, from-all, length-many, bodies-flat}
 use Rattle.rules.proofs.DecodeLaws.{read-good, unflat-flat, good-known, good-found, GoodParts, good-parts}
 use Rattle.rules.specs.Passing.{readStore}
@@ -60,10 +61,10 @@ module _ (bs : Bytes) (i : ℕ) (p : Bytes) (at-i : p ≡ attributePart bs i) (s
   unfolding defaultText
   default-is s e = default-by (here .name) (here .value) (sortOf (here .sort)) ∙ ap (λ (z : AttributeSort). defaultBy z (here .value)) (ap sortOf (sym sort-here) ∙ e)
 
-  pub default-implied : {out o : Bytes} {at r : ℕ} → sort ≡ 0 → Laid (ascii "#IMPLIED") out at r o → LaidWithin 330 (defaultText here) out at r o
+  pub default-implied : {out o : Bytes} {at r : ℕ} → sort ≡ 0 → Laid (ascii "#IMPLIED") out at r o → LaidWithin 2000 (defaultText here) out at r o
   default-implied e l = record { laid = laid-as (default-is implied (ap sortOf e)) (laid-then l laid-none); small = omega (arith, l .next) }
 
-  pub default-required : {out o : Bytes} {at r : ℕ} → sort ≡ 1 → Laid (ascii "#REQUIRED") out at r o → LaidWithin 330 (defaultText here) out at r o
+  pub default-required : {out o : Bytes} {at r : ℕ} → sort ≡ 1 → Laid (ascii "#REQUIRED") out at r o → LaidWithin 2000 (defaultText here) out at r o
   default-required e l = record { laid = laid-as (default-is required (ap sortOf e)) (laid-then l laid-none); small = omega (arith, l .next) }
 
   value-here : (n : ℕ) → n ≡ getD p 19 0 → take n (drop 20 p) ≡ here .value
@@ -71,15 +72,15 @@ module _ (bs : Bytes) (i : ℕ) (p : Bytes) (at-i : p ≡ attributePart bs i) (s
       ap₂ (λ (k : ℕ) (l : Bytes). take k (drop 20 l)) (e ∙ ap (λ (l : Bytes). getD l 19 0) at-i ∙ sym (getD-drop 18 (attributePart bs i) 1 0)) at-i
       ∙ ap (λ (l : Bytes). take (getD (drop 18 (attributePart bs i)) 1 0) l) (sym (drop-drop 2 18 (attributePart bs i)))
 
-  value-length : (n : ℕ) → length (take n (drop 20 p)) ≤ 32
+  value-length : (n : ℕ) → length (take n (drop 20 p)) ≤ 255
   unfolding attributePart
-  value-length n = subst (λ (l : Bytes). length (take n (drop 20 l)) ≤ 32) (sym at-i) (omega (arith, inside n 20 52 (drop (52 * i) (attributeBody bs))))
+  value-length n = subst (λ (l : Bytes). length (take n (drop 20 l)) ≤ 255) (sym at-i) (omega (arith, inside n 20 (attributeSize (widthOf bs)) (drop (attributeSize (widthOf bs) * i) (attributeBody bs)), width-small bs))
 
-  pub default-short : (n : ℕ) (v : Bytes) → v ≡ take n (drop 20 p) → length v ≤ 32
-  default-short n v e = subst (λ (l : Bytes). length l ≤ 32) (sym e) (value-length n)
+  pub default-short : (n : ℕ) (v : Bytes) → v ≡ take n (drop 20 p) → length v ≤ 255
+  default-short n v e = subst (λ (l : Bytes). length l ≤ 255) (sym e) (value-length n)
 
   pub default-fixed : (n : ℕ) (v : Bytes) {out o₁ o₂ o : Bytes} {at a₁ a₂ r : ℕ} → (sort ≡ 0 → ⊥) → (sort ≡ 1 → ⊥) → n ≡ getD p 19 0 → v ≡ take n (drop 20 p)
-      → Laid (ascii "#FIXED \"") out at a₁ o₁ → Laid (escape v) o₁ a₁ a₂ o₂ → Laid (ascii "\"") o₂ a₂ r o → LaidWithin 330 (defaultText here) out at r o
+      → Laid (ascii "#FIXED \"") out at a₁ o₁ → Laid (escape v) o₁ a₁ a₂ o₂ → Laid (ascii "\"") o₂ a₂ r o → LaidWithin 2000 (defaultText here) out at r o
   default-fixed n v x y e w l m g =
       record {
         laid = laid-as (default-is fixed (sort-fixed sort x y) ∙ ap (λ (z : Bytes). ascii "#FIXED \"" ++ (escape z ++ (ascii "\"" ++ []))) (sym (w ∙ value-here n e))) (laid-then l (laid-then m (laid-then g laid-none)));
@@ -87,9 +88,9 @@ module _ (bs : Bytes) (i : ℕ) (p : Bytes) (at-i : p ≡ attributePart bs i) (s
       }
 
 -- ---- the line of an attribute
-pub attribute-line : (bs : Bytes) (i : ℕ) (owner w : Bytes) {out o₁ o₂ o₃ o₄ o₅ o₆ o : Bytes} {at a₁ a₂ a₃ a₄ a₅ a₆ r : ℕ} → i < attributeCount bs → length owner ≤ 50 → Named (nameAt i (attributeNamesOf bs)) w
-    → Laid (ascii "<!ATTLIST ") out at a₁ o₁ → Laid owner o₁ a₁ a₂ o₂ → Laid (ascii " ") o₂ a₂ a₃ o₃ → Laid w o₃ a₃ a₄ o₄ → Laid (ascii " CDATA ") o₄ a₄ a₅ o₅ → LaidWithin 330 (defaultText (readAttribute (attributePart bs i))) o₅ a₅ a₆ o₆ → Laid (ascii ">\n") o₆ a₆ r o
-    → LaidWithin 500 (attributeLineText owner (readAttribute (attributePart bs i))) out at r o
+pub attribute-line : (bs : Bytes) (i : ℕ) (owner w : Bytes) {out o₁ o₂ o₃ o₄ o₅ o₆ o : Bytes} {at a₁ a₂ a₃ a₄ a₅ a₆ r : ℕ} → i < attributeCount bs → length owner ≤ 300 → Named (nameAt i (attributeNamesOf bs)) w
+    → Laid (ascii "<!ATTLIST ") out at a₁ o₁ → Laid owner o₁ a₁ a₂ o₂ → Laid (ascii " ") o₂ a₂ a₃ o₃ → Laid w o₃ a₃ a₄ o₄ → Laid (ascii " CDATA ") o₄ a₄ a₅ o₅ → LaidWithin 2000 (defaultText (readAttribute (attributePart bs i))) o₅ a₅ a₆ o₆ → Laid (ascii ">\n") o₆ a₆ r o
+    → LaidWithin 3000 (attributeLineText owner (readAttribute (attributePart bs i))) out at r o
 unfolding attributeLineText defaultText
 attribute-line bs i owner w h short n a b c d e f g =
     record {
@@ -110,7 +111,7 @@ pub record Listing (bs owner : Bytes) (o count : ℕ) (goal out₀ : Bytes) (at�
   pub counts : count ≡ attributeCount bs
   pub upto : i ≤ count
   pub goes : (r : ℕ) (out″ : Bytes) → Laid (attributesText owner (ofOwner o (attributesFrom bs count i))) out at r out″ → Laid goal out₀ at₀ r out″
-  pub small : at ≤ at₀ + 500 * i
+  pub small : at ≤ at₀ + 3000 * i
   pub long : length out ≡ length out₀
 
 owner-this : (o : ℕ) (x : FlatAttribute) (xs : List FlatAttribute) → x .owner ≡ o → ofOwner o (x ∷ xs) ≡ attributeOf x ∷ ofOwner o xs
@@ -127,7 +128,7 @@ module _ (bs owner : Bytes) (o count : ℕ) {goal out₀ : Bytes} {at₀ : ℕ} 
   abbrev next : FlatAttribute
   next = readAttribute (attributePart bs i)
 
-  pub listing-this : {at′ : ℕ} {out′ : Bytes} → next .owner ≡ o → LaidWithin 500 (attributeLineText owner next) out at at′ out′ → Listing bs owner o count goal out₀ at₀ out′ at′ (i + 1)
+  pub listing-this : {at′ : ℕ} {out′ : Bytes} → next .owner ≡ o → LaidWithin 3000 (attributeLineText owner next) out at at′ out′ → Listing bs owner o count goal out₀ at₀ out′ at′ (i + 1)
   listing-this e l =
       record {
         counts = w .counts;
@@ -151,9 +152,9 @@ pub listing-start : (bs owner : Bytes) (o count at : ℕ) (out : Bytes) → coun
 listing-start bs owner o count at out e =
     record { counts = e; upto = omega arith; goes = λ r q l. laid-as (ap (λ (n : ℕ). attributesText owner (ofOwner o (attributesFrom bs n 0))) (sym e)) l; small = omega arith; long = refl }
 
-pub listing-done : (bs owner : Bytes) (o count : ℕ) {goal out₀ : Bytes} {at₀ : ℕ} {out : Bytes} {at i : ℕ} → Listing bs owner o count goal out₀ at₀ out at i → count ≤ i → at ≤ at₀ + 32000 → LaidWithin 32000 goal out₀ at₀ at out
+pub listing-done : (bs owner : Bytes) (o count : ℕ) {goal out₀ : Bytes} {at₀ : ℕ} {out : Bytes} {at i : ℕ} → Listing bs owner o count goal out₀ at₀ out at i → count ≤ i → at ≤ at₀ + 192000 → LaidWithin 192000 goal out₀ at₀ at out
 unfolding attributesText
-listing-done bs owner o count {at = at} {i = i} w h k = record { laid = w .goes at _ (laid-as (ap (λ (xs : List FlatAttribute). attributesText owner (ofOwner o xs)) (from-none readAttribute 52 (attributeBody bs) count i h)) laid-none); small = k }
+listing-done bs owner o count {at = at} {i = i} w h k = record { laid = w .goes at _ (laid-as (ap (λ (xs : List FlatAttribute). attributesText owner (ofOwner o xs)) (from-none readAttribute (attributeSize (widthOf bs)) (attributeBody bs) count i h)) laid-none); small = k }
 
 -- ---- content
 content-none : (ns : List Bytes) (kind : ℕ) (f : Forest FlatParticle) → (kind ≡ 0 → ⊥) → (kind ≡ 1 → ⊥) → false ≡ isTree f → contentText ns kind f ≡ ascii "EMPTY" ++ []
@@ -175,23 +176,23 @@ content-some ns (suc (suc k)) bare a b e = absurd (false≢true (sym e))
 content-some ns (suc (suc k)) (tree p q t) a b e = model-some ns p (p .sort) (readMembers ns q) (readMembers ns t)
 
 module _ (ns : List Bytes) (kind : ℕ) (f : Forest FlatParticle) {out : Bytes} {at : ℕ} where
-  content-laid : {w o : Bytes} {r : ℕ} → contentText ns kind f ≡ w ++ [] → length w ≤ 9 → Laid w out at r o → LaidWithin 102500 (contentText ns kind f) out at r o
+  content-laid : {w o : Bytes} {r : ℕ} → contentText ns kind f ≡ w ++ [] → length w ≤ 9 → Laid w out at r o → LaidWithin 640100 (contentText ns kind f) out at r o
   content-laid e h l = record { laid = laid-as e (laid-then l laid-none); small = omega (arith, l .next) }
 
-  pub content-empty-laid : {o : Bytes} {r : ℕ} → kind ≡ 0 → Laid (ascii "EMPTY") out at r o → LaidWithin 102500 (contentText ns kind f) out at r o
+  pub content-empty-laid : {o : Bytes} {r : ℕ} → kind ≡ 0 → Laid (ascii "EMPTY") out at r o → LaidWithin 640100 (contentText ns kind f) out at r o
   unfolding contentText
   content-empty-laid e l = content-laid (ap (λ (k : ℕ). concat (contentTokens (contentOf k (readMembers ns f)))) e) (omega arith) l
 
-  pub content-pcdata-laid : {o : Bytes} {r : ℕ} → kind ≡ 1 → Laid (ascii "(#PCDATA)") out at r o → LaidWithin 102500 (contentText ns kind f) out at r o
+  pub content-pcdata-laid : {o : Bytes} {r : ℕ} → kind ≡ 1 → Laid (ascii "(#PCDATA)") out at r o → LaidWithin 640100 (contentText ns kind f) out at r o
   unfolding contentText
   content-pcdata-laid e l = content-laid (ap (λ (k : ℕ). concat (contentTokens (contentOf k (readMembers ns f)))) e) (omega arith) l
 
-  pub content-none-laid : {o : Bytes} {r : ℕ} (b : Bool) → (kind ≡ 0 → ⊥) → (kind ≡ 1 → ⊥) → b ≡ isTree f → b ≡ false → Laid (ascii "EMPTY") out at r o → LaidWithin 102500 (contentText ns kind f) out at r o
+  pub content-none-laid : {o : Bytes} {r : ℕ} (b : Bool) → (kind ≡ 0 → ⊥) → (kind ≡ 1 → ⊥) → b ≡ isTree f → b ≡ false → Laid (ascii "EMPTY") out at r o → LaidWithin 640100 (contentText ns kind f) out at r o
   content-none-laid b x y e g l = content-laid (content-none ns kind f x y (sym g ∙ e)) (omega arith) l
 
 pub content-some-laid : (bs : Bytes) (kind end from : ℕ) {out o₁ o₂ o : Bytes} {at a₁ a₂ next r : ℕ} (b : Bool) → end ≤ 256 → (kind ≡ 0 → ⊥) → (kind ≡ 1 → ⊥) → b ≡ isTree (build (particlesFrom bs end from) 0) → b ≡ true
     → Laid (ascii "(") out at a₁ o₁ → Passed (particlesFrom bs end) (membersText (namesOf bs) (groupOf 1) true) end from 0 a₁ o₁ next a₂ o₂ → Laid (ascii ")") o₂ a₂ r o
-    → LaidWithin 102500 (contentText (namesOf bs) kind (build (particlesFrom bs end from) 0)) out at r o
+    → LaidWithin 640100 (contentText (namesOf bs) kind (build (particlesFrom bs end from) 0)) out at r o
 content-some-laid bs kind end from b h x y e g l m n =
     record {
       laid = laid-as (content-some (namesOf bs) kind (build (particlesFrom bs end from) 0) x y (sym g ∙ e)) (laid-then l (laid-then (m .laid) (laid-then n laid-none)));
@@ -201,8 +202,8 @@ content-some-laid bs kind end from b h x y e g l m n =
 -- ---- the line of a definition
 pub definition-laid : (bs : Bytes) (o end from : ℕ) (d : Bytes) → d ≡ definitionPart bs o → o < definitionCount bs → (kind : ℕ) → kind ≡ getD d 17 0
     → {w out o₁ o₂ o₃ o₄ o₅ : Bytes} {at a₁ a₂ a₃ a₄ r : ℕ} → Laid (ascii "<!ELEMENT ") out at a₁ o₁ → Named (nameAt o (namesOf bs)) w → Laid w o₁ a₁ a₂ o₂ → Laid (ascii " ") o₂ a₂ a₃ o₃
-    → LaidWithin 102500 (contentText (namesOf bs) kind (build (particlesFrom bs end from) 0)) o₃ a₃ a₄ o₄ → Laid (ascii ">\n") o₄ a₄ r o₅
-    → LaidWithin 102600 (definitionText (namesOf bs) (readDefinition (definitionPart bs o)) (particlesFrom bs end from)) out at r o₅
+    → LaidWithin 640100 (contentText (namesOf bs) kind (build (particlesFrom bs end from) 0)) o₃ a₃ a₄ o₄ → Laid (ascii ">\n") o₄ a₄ r o₅
+    → LaidWithin 641000 (definitionText (namesOf bs) (readDefinition (definitionPart bs o)) (particlesFrom bs end from)) out at r o₅
 unfolding definitionText
 definition-laid bs o end from d at-o h kind kind-is {w} a n b c e g =
     record {
@@ -275,9 +276,9 @@ form-none ns o ps cs = refl
 
 -- the declarations of one definition, written
 pub declarations-laid : (bs : Bytes) (o from : ℕ) (p : Bytes) → p ≡ definitionPart bs o → o < definitionCount bs → (n end : ℕ) → n ≡ numberAt 18 2 p → take n (particlesFrom bs (particleCount bs) from) ≡ particlesFrom bs end from
-    → {w out o₁ o₂ : Bytes} {at a₁ r : ℕ} → LaidWithin 102600 (definitionText (namesOf bs) (readDefinition (definitionPart bs o)) (particlesFrom bs end from)) out at a₁ o₁ → Named (nameAt o (namesOf bs)) w
-    → LaidWithin 32000 (attributesText w (ofOwner o (attributesFrom bs (attributeCount bs) 0))) o₁ a₁ r o₂
-    → LaidWithin 140000 (declarationsText (namesOf bs) o (readDefinition (definitionPart bs o)) (particlesFrom bs (particleCount bs) from) (attributesFrom bs (attributeCount bs) 0)) out at r o₂
+    → {w out o₁ o₂ : Bytes} {at a₁ r : ℕ} → LaidWithin 641000 (definitionText (namesOf bs) (readDefinition (definitionPart bs o)) (particlesFrom bs end from)) out at a₁ o₁ → Named (nameAt o (namesOf bs)) w
+    → LaidWithin 192000 (attributesText w (ofOwner o (attributesFrom bs (attributeCount bs) 0))) o₁ a₁ r o₂
+    → LaidWithin 840000 (declarationsText (namesOf bs) o (readDefinition (definitionPart bs o)) (particlesFrom bs (particleCount bs) from) (attributesFrom bs (attributeCount bs) 0)) out at r o₂
 unfolding declarationsText
 declarations-laid bs o from p at-o h n end n-is e {w} d m a =
     record {
@@ -297,7 +298,7 @@ pub record Declaring (bs : Bytes) (count : ℕ) (goal out₀ : Bytes) (at₀ : �
   pub counts : count ≡ definitionCount bs
   pub upto : o ≤ count
   pub goes : (r : ℕ) (out″ : Bytes) → Laid (formText (namesOf bs) o (definitionsFrom bs count o) (particlesFrom bs (particleCount bs) from) (attributesFrom bs (attributeCount bs) 0)) out at r out″ → Laid goal out₀ at₀ r out″
-  pub small : at ≤ at₀ + 140000 * o
+  pub small : at ≤ at₀ + 840000 * o
   pub few : from ≤ 4294967296 * o
   pub long : length out ≡ length out₀
 
@@ -314,7 +315,7 @@ declaring-start bs count at out e =
 
 pub declaring-on : (bs : Bytes) (count : ℕ) {goal out₀ : Bytes} {at₀ : ℕ} {out : Bytes} {at o from at′ : ℕ} {out′ : Bytes} → Declaring bs count goal out₀ at₀ out at o from → o < count
     → (p : Bytes) → p ≡ definitionPart bs o → (n : ℕ) → n ≡ numberAt 18 2 p → n < 4294967296
-    → LaidWithin 140000 (declarationsText (namesOf bs) o (readDefinition (definitionPart bs o)) (particlesFrom bs (particleCount bs) from) (attributesFrom bs (attributeCount bs) 0)) out at at′ out′
+    → LaidWithin 840000 (declarationsText (namesOf bs) o (readDefinition (definitionPart bs o)) (particlesFrom bs (particleCount bs) from) (attributesFrom bs (attributeCount bs) 0)) out at at′ out′
     → Declaring bs count goal out₀ at₀ out′ at′ (o + 1) (from + n)
 declaring-on bs count {o = o} {from = from} w h p at-o n n-is small l =
     record {
@@ -346,7 +347,7 @@ declaring-on bs count {o = o} {from = from} w h p at-o n n-is small l =
     particles : readDefinition (definitionPart bs o) .particles ≡ n
     particles = ap (λ (l : Bytes). unle (take 2 l)) (drop-drop 1 17 (definitionPart bs o)) ∙ sym (n-is ∙ ap (λ (l : Bytes). numberAt 18 2 l) at-o)
 
-pub declaring-done : (bs : Bytes) (count : ℕ) {goal out₀ : Bytes} {at₀ : ℕ} {out : Bytes} {at o from : ℕ} → Declaring bs count goal out₀ at₀ out at o from → count ≤ o → definitionCount bs ≤ 64 → LaidWithin 8960000 goal out₀ at₀ at out
+pub declaring-done : (bs : Bytes) (count : ℕ) {goal out₀ : Bytes} {at₀ : ℕ} {out : Bytes} {at o from : ℕ} → Declaring bs count goal out₀ at₀ out at o from → count ≤ o → definitionCount bs ≤ 64 → LaidWithin 53760000 goal out₀ at₀ at out
 declaring-done bs count {at = at} {o = o} {from = from} w h k =
     record {
       laid =
@@ -359,15 +360,15 @@ declaring-done bs count {at = at} {o = o} {from = from} w h k =
     }
 
 -- ---- the whole text
-pub text-parts : (bs : Bytes) (f : ℕ) → f ≡ rowCount bs
-    → textOf bs ≡ formText (namesOf bs) 0 (definitionsFrom bs (definitionCount bs) 0) (particlesFrom bs (particleCount bs) 0) (attributesFrom bs (attributeCount bs) 0) ++ documentsText (namesOf bs) (attributeNamesOf bs) (build (rowsFrom bs f 0) 0)
+pub text-parts : {bs rows : Bytes} {w f : ℕ} → RowsOf bs w rows → f ≡ rowCount bs
+    → textOf bs ≡ formText (namesOf bs) 0 (definitionsFrom bs (definitionCount bs) 0) (particlesFrom bs (particleCount bs) 0) (attributesFrom bs (attributeCount bs) 0) ++ documentsText (namesOf bs) (attributeNamesOf bs) (build (rowsFrom w rows f 0) 0)
 unfolding textOf printed formText documentsText namesOf attributeNamesOf bodiesOf definitionBody particleBody attributeBody rowBody
-text-parts bs f e =
+text-parts {bs} {rows} {w} {f} h e =
     lines-append (formLines (unflat (bodiesOf bs) .form)) (documentLines (unflat (bodiesOf bs) .docs))
     ∙ sym
     (ap₂ _++_
-    (λ i. concat (map concat (formLines (readForm (namesOf bs) 0 (from-all readDefinition 20 (definitionBody bs) (definitionCount bs) 0 i) (from-all readParticle 4 (particleBody bs) (particleCount bs) 0 i) (from-all readAttribute 52 (attributeBody bs) (attributeCount bs) 0 i)))))
-    (ap (λ (xs : List (Deep FlatRow)). concat (map concat (documentLines (readRows (namesOf bs) (attributeNamesOf bs) (build xs 0))))) (from-all readRow 44 (rowBody bs) f 0 ∙ ap (λ (n : ℕ). readMany readRow 44 n (rowBody bs)) e)))
+    (λ i. concat (map concat (formLines (readForm (namesOf bs) 0 (from-all readDefinition 20 (definitionBody bs) (definitionCount bs) 0 i) (from-all readParticle 4 (particleBody bs) (particleCount bs) 0 i) (from-all readAttribute (attributeSize (widthOf bs)) (attributeBody bs) (attributeCount bs) 0 i)))))
+    (ap (λ (xs : List (Deep FlatRow)). concat (map concat (documentLines (readRows (namesOf bs) (attributeNamesOf bs) (build xs 0))))) (from-all readRow (rowSize w) rows f 0 ∙ (λ i. readMany readRow (rowSize (h .width .value i)) (e i) (h .body i)))))
 
 -- on a store that passes
 pub text-is : (bs : Bytes) (s : Store) → readStore bs ≡ some s → textOf bs ≡ printed s
@@ -386,6 +387,6 @@ passing-within bs s h =
     record {
       definitions = subst (λ (n : ℕ). n ≤ 64) (ap (λ (f : FlatStore). length (f .definitions)) q ∙ length-many readDefinition 20 (definitionCount bs) _) (p .definitionCount);
       particles = subst (λ (n : ℕ). n ≤ 256) (ap (λ (f : FlatStore). length (f .particles)) q ∙ length-many readParticle 4 (particleCount bs) _) (p .particleCount);
-      attributes = subst (λ (n : ℕ). n ≤ 64) (ap (λ (f : FlatStore). length (f .attributes)) q ∙ length-many readAttribute 52 (attributeCount bs) _) (p .attributeCount);
-      rows = subst (λ (n : ℕ). n ≤ 4096) (ap (λ (f : FlatStore). length (f .rows)) q ∙ length-many readRow 44 (rowCount bs) _) (p .rowCount);
+      attributes = subst (λ (n : ℕ). n ≤ 64) (ap (λ (f : FlatStore). length (f .attributes)) q ∙ length-many readAttribute (attributeSize (widthOf bs)) (attributeCount bs) _) (p .attributeCount);
+      rows = subst (λ (n : ℕ). n ≤ 4096) (ap (λ (f : FlatStore). length (f .rows)) q ∙ length-many readRow (rowSize (widthOf bs)) (rowCount bs) _) (p .rowCount);
     }

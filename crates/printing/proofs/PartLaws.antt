@@ -1,5 +1,4 @@
 -- The records of the bodies, by their numbers.
--- Assumes nothing.
 use mathlib.Core.Path.{_≡_, refl, ap, _∙_}
 use mathlib.Core.List.{[], _∷_, map}
 use Prim.Native.Nat.{ℕ, zero, suc, _+_, _-_, _*_, _<_, _≤_}
@@ -9,7 +8,10 @@ use lib.ListN.{length, take, drop, getD, length-take, length-drop}
 use lib.Seq.{drop-drop}
 use Rattle.rules.specs.Bytes.{Bytes}
 use Rattle.rules.specs.Decode.{readDefinition, readParticle, readAttribute, readRow, readMany, definitionCount, particleCount, attributeCount, nameAt, flatName, flatAttributeName}
-use Rattle.lookup.specs.Bodies.{bodiesOf, rowBody, rowPart}
+use Rattle.lookup.specs.Bodies.{bodiesOf}
+use Rattle.layout.specs.Bodies.{recordAt, widthOf, attributeIn}
+use Rattle.layout.proofs.LayoutLaws.{width-small}
+use Rattle.rules.specs.Layout.{attributeSize, rowSize}
 use Rattle.lookup.proofs.Laws.{from-step}
 use Rattle.printing.specs.Parts.{definitionBody, particleBody, attributeBody, definitionPart, particlePart, attributePart, namesOf, attributeNamesOf, definitionsFrom, particlesFrom, attributesFrom, rowsFrom}
 
@@ -22,8 +24,8 @@ pub particle-place : (bs : Bytes) (i : ℕ) → take 4 (drop (40 + 20 * definiti
 unfolding particleBody particlePart
 particle-place bs i = simp drop-drop
 
-pub attribute-place : (bs : Bytes) (i : ℕ) → take 52 (drop (40 + 20 * definitionCount bs + 4 * particleCount bs + 52 * i) bs) ≡ attributePart bs i
-unfolding attributeBody attributePart
+pub attribute-place : (bs : Bytes) (i : ℕ) → attributeIn bs i ≡ attributePart bs i
+unfolding attributeIn attributeBody attributePart
 attribute-place bs i = simp drop-drop
 
 -- ---- one after the other
@@ -31,13 +33,12 @@ pub particle-step : (bs : Bytes) (end i : ℕ) → i < end → particlesFrom bs 
 unfolding particlePart
 particle-step bs end i h = from-step readParticle 4 (particleBody bs) end i h
 
-pub row-step : (bs : Bytes) (end i : ℕ) → i < end → rowsFrom bs end i ≡ readRow (rowPart bs i) ∷ rowsFrom bs end (i + 1)
-unfolding rowPart
-row-step bs end i h = from-step readRow 44 (rowBody bs) end i h
+pub row-step : (w : ℕ) (rows : Bytes) (end i : ℕ) → i < end → rowsFrom w rows end i ≡ readRow (recordAt (rowSize w) i rows) ∷ rowsFrom w rows end (i + 1)
+row-step w rows end i h = from-step readRow (rowSize w) rows end i h
 
 pub attribute-step : (bs : Bytes) (end i : ℕ) → i < end → attributesFrom bs end i ≡ readAttribute (attributePart bs i) ∷ attributesFrom bs end (i + 1)
 unfolding attributePart
-attribute-step bs end i h = from-step readAttribute 52 (attributeBody bs) end i h
+attribute-step bs end i h = from-step readAttribute (attributeSize (widthOf bs)) (attributeBody bs) end i h
 
 pub definition-step : (bs : Bytes) (end i : ℕ) → i < end → definitionsFrom bs end i ≡ readDefinition (definitionPart bs i) ∷ definitionsFrom bs end (i + 1)
 unfolding definitionPart
@@ -66,7 +67,7 @@ module _ (bs : Bytes) (i : ℕ) where
   unfolding namesOf bodiesOf definitionPart definitionBody
   definition-name h = name-there flatName readDefinition 20 (definitionCount bs) i (drop 40 bs) h
 
-  pub definition-short : (n : ℕ) → length (take n (drop 1 (definitionPart bs i))) ≤ 50
+  pub definition-short : (n : ℕ) → length (take n (drop 1 (definitionPart bs i))) ≤ 300
   unfolding definitionPart
   definition-short n = omega (arith, inside n 1 20 (drop (20 * i) (definitionBody bs)))
 
@@ -76,12 +77,12 @@ module _ (bs : Bytes) (i : ℕ) where
 
   pub attribute-name : i < attributeCount bs → nameAt i (attributeNamesOf bs) ≡ take (getD (attributePart bs i) 1 0) (drop 2 (attributePart bs i))
   unfolding attributeNamesOf bodiesOf attributePart attributeBody
-  attribute-name h = name-there flatAttributeName readAttribute 52 (attributeCount bs) i (drop (4 * particleCount bs) (drop (20 * definitionCount bs) (drop 40 bs))) h
+  attribute-name h = name-there flatAttributeName readAttribute (attributeSize (widthOf bs)) (attributeCount bs) i (drop (4 * particleCount bs) (drop (20 * definitionCount bs) (drop 40 bs))) h
 
-  pub attribute-short : (n : ℕ) → length (take n (drop 2 (attributePart bs i))) ≤ 50
+  pub attribute-short : (n : ℕ) → length (take n (drop 2 (attributePart bs i))) ≤ 300
   unfolding attributePart
-  attribute-short n = omega (arith, inside n 2 52 (drop (52 * i) (attributeBody bs)))
+  attribute-short n = omega (arith, inside n 2 (attributeSize (widthOf bs)) (drop (attributeSize (widthOf bs) * i) (attributeBody bs)), width-small bs)
 
   pub attribute-none : attributeCount bs ≤ i → nameAt i (attributeNamesOf bs) ≡ []
   unfolding attributeNamesOf bodiesOf
-  attribute-none h = name-past flatAttributeName readAttribute 52 (attributeCount bs) i (drop (4 * particleCount bs) (drop (20 * definitionCount bs) (drop 40 bs))) h
+  attribute-none h = name-past flatAttributeName readAttribute (attributeSize (widthOf bs)) (attributeCount bs) i (drop (4 * particleCount bs) (drop (20 * definitionCount bs) (drop 40 bs))) h

@@ -35,7 +35,7 @@ pub record Walk {A : Type 0} (records : ℕ → List (Deep A)) (text : Bool → 
   pub goes : (r : ℕ) (out″ : Bytes) → Laid (text q (build (records i) depth)) out at r out″ → Laid goal out₀ at₀ r out″
   pub skips : (j : ℕ) → j < depth → build (records i₀) j ≡ build (records i) j
   pub onward : i₀ ≤ i
-  pub small : at + 400 * (end - i) ≤ at₀ + 400 * (end - i₀)
+  pub small : at + 2500 * (end - i) ≤ at₀ + 2500 * (end - i₀)
   pub long : length out ≡ length out₀
 
 module _ {A : Type 0} {records : ℕ → List (Deep A)} {text : Bool → Forest A → Bytes} where

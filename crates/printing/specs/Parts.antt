@@ -1,14 +1,14 @@
 -- The records of the four bodies of a byte string, by their numbers.
--- Assumes nothing.
 use Prim.Native.Nat.{ℕ, _*_, _≤_}
 use mathlib.Core.Path.{_≡_}
 use mathlib.Core.List.{List, map}
 use lib.ListN.{length, take, drop}
 use Rattle.rules.specs.Bytes.{Bytes}
 use Rattle.rules.specs.Preorder.{Deep}
-use Rattle.rules.specs.Layout.{headerSize, definitionSize, particleSize, FlatDefinition, FlatParticle, FlatAttribute, FlatRow}
+use Rattle.rules.specs.Layout.{headerSize, definitionSize, particleSize, attributeSize, rowSize, FlatDefinition, FlatParticle, FlatAttribute, FlatRow}
 use Rattle.rules.specs.Decode.{readDefinition, readParticle, readAttribute, readRow, definitionCount, particleCount, attributeCount, rowCount, flatName, flatAttributeName}
-use Rattle.lookup.specs.Bodies.{recordsFrom, bodiesOf, rowBody}
+use Rattle.lookup.specs.Bodies.{recordsFrom, bodiesOf}
+use Rattle.layout.specs.Bodies.{recordAt, widthOf}
 
 -- the bytes from a body on
 unfoldable pub definitionBody : Bytes → Bytes
@@ -28,7 +28,7 @@ unfoldable pub particlePart : Bytes → ℕ → Bytes
 particlePart bs i = take particleSize (drop (particleSize * i) (particleBody bs))
 
 unfoldable pub attributePart : Bytes → ℕ → Bytes
-attributePart bs i = take 52 (drop (52 * i) (attributeBody bs))
+attributePart bs i = recordAt (attributeSize (widthOf bs)) i (attributeBody bs)
 
 -- the records from number i on, of those up to number `end`
 abbrev pub definitionsFrom : Bytes → ℕ → ℕ → List FlatDefinition
@@ -38,10 +38,11 @@ abbrev pub particlesFrom : Bytes → ℕ → ℕ → List (Deep FlatParticle)
 particlesFrom bs end i = recordsFrom readParticle particleSize (particleBody bs) end i
 
 abbrev pub attributesFrom : Bytes → ℕ → ℕ → List FlatAttribute
-attributesFrom bs end i = recordsFrom readAttribute 52 (attributeBody bs) end i
+attributesFrom bs end i = recordsFrom readAttribute (attributeSize (widthOf bs)) (attributeBody bs) end i
 
-abbrev pub rowsFrom : Bytes → ℕ → ℕ → List (Deep FlatRow)
-rowsFrom bs end i = recordsFrom readRow 44 (rowBody bs) end i
+-- .. of the bytes `rows` at a width of a value
+abbrev pub rowsFrom : ℕ → Bytes → ℕ → ℕ → List (Deep FlatRow)
+rowsFrom w rows end i = recordsFrom readRow (rowSize w) rows end i
 
 -- the names of definitions, and of attributes, in the order of their tables
 unfoldable pub namesOf : Bytes → List Bytes
@@ -53,7 +54,7 @@ attributeNamesOf bs = map flatAttributeName (bodiesOf bs .attributes)
 -- a name out of a table, no longer than its record
 pub record Named (w : Bytes) (r : Bytes) : Type 0 where
   pub name-is : r ≡ w
-  pub short : length r ≤ 50
+  pub short : length r ≤ 300
 
 -- r is past n particles from number `from` on, or past the last
 pub record Ends (bs : Bytes) (from n r : ℕ) : Type 0 where

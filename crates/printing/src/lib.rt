@@ -9,7 +9,8 @@ ghost use Rattle.rules.specs.Preorder.{build};
 ghost use Rattle.rules.specs.Decode.{nameAt, quantifierOf, groupOf, rowName, rowSortOf, readDefinition, readParticle, readAttribute, readRow, definitionCount, particleCount, attributeCount, ofOwner};
 ghost use Rattle.rules.specs.Print.{escape, escapeByte, markOf};
 ghost use Rattle.printing.specs.Parts.{Named, Ends, Within, definitionPart, particlePart, attributePart, namesOf, attributeNamesOf, definitionsFrom, particlesFrom, attributesFrom, rowsFrom};
-ghost use Rattle.lookup.specs.Bodies.{rowPart};
+ghost use Rattle.rules.specs.Layout.{rowSize};
+ghost use Rattle.layout.specs.Bodies.{Width, recordAt};
 ghost use Rattle.printing.specs.Walking.{Room, Passed, Stepped, Enclosed};
 ghost use Rattle.printing.specs.Texts.{signText, endText, memberText, membersText, stays, attributeText, elementText, rowText, rowsText, documentText, documentsText, LaidWithin, defaultText, attributeLineText, attributesText, isTree, contentText, definitionText, declarationsText, formText, textOf};
 
@@ -20,8 +21,7 @@ fn definition(store: &[u8], i: usize) -> &[u8]
     requires { ⌜ i < 4294967296 ⌝ }
     ensures { λ r. ⌜ now r ≡ definitionPart (now (store .entry)) i ⌝ }
 {
-    let start = 40 + 20 * i;
-    lookup::window(store, start, 20)
+    layout::definition_in(store, i)
 }
 
 /// The bytes of particle i, counted from 0.
@@ -29,9 +29,7 @@ fn particle(store: &[u8], i: usize) -> &[u8]
     requires { ⌜ i < 4294967296 ⌝ }
     ensures { λ r. ⌜ now r ≡ particlePart (now (store .entry)) i ⌝ }
 {
-    let definitions = codec::get_u32(store, 12) as usize;
-    let start = 40 + 20 * definitions + 4 * i;
-    lookup::window(store, start, 4)
+    layout::particle_in(store, i)
 }
 
 /// The bytes of attribute i, counted from 0.
@@ -39,10 +37,7 @@ fn attribute(store: &[u8], i: usize) -> &[u8]
     requires { ⌜ i < 4294967296 ⌝ }
     ensures { λ r. ⌜ now r ≡ attributePart (now (store .entry)) i ⌝ }
 {
-    let definitions = codec::get_u32(store, 12) as usize;
-    let particles = codec::get_u32(store, 20) as usize;
-    let start = 40 + 20 * definitions + 4 * particles + 52 * i;
-    lookup::window(store, start, 52)
+    layout::attribute_in(store, i)
 }
 
 /// The name of definition i, or none.
@@ -55,7 +50,7 @@ fn name_of(store: &[u8], i: usize) -> &[u8]
     }
     let bytes = definition(store, i);
     let n = codec::byte(bytes, 0) as usize;
-    lookup::window(bytes, 1, n)
+    layout::window(bytes, 1, n)
 }
 
 /// The name of attribute i, or none.
@@ -68,7 +63,7 @@ fn attribute_name_of(store: &[u8], i: usize) -> &[u8]
     }
     let bytes = attribute(store, i);
     let n = codec::byte(bytes, 1) as usize;
-    lookup::window(bytes, 2, n)
+    layout::window(bytes, 2, n)
 }
 
 // ---- escapes, marks, separators
@@ -216,14 +211,12 @@ fn put_members(
 
 // ---- documents
 
-/// The value of row i.
-fn value_of(store: &[u8], i: usize) -> &[u8]
-    requires { ⌜ i < 4294967296 ⌝ }
-    ensures { λ r. ⌜ Named (readRow (rowPart (now (store .entry)) i) .row .value) (now r) ⌝ }
+/// The value of a row.
+fn value_of(row: &[u8]) -> &[u8]
+    requires { ⌜ length (now row) ≤ 300 ⌝ }
+    ensures { λ r. ⌜ Named (readRow (now (row .entry)) .row .value) (now r) ⌝ }
 {
-    let bytes = lookup::row(store, i);
-    let n = codec::byte(bytes, 8) as usize;
-    lookup::window(bytes, 10, n)
+    layout::row_value(row)
 }
 
 /// The name of a row of this sort and index.
@@ -248,7 +241,7 @@ fn stays_open(sort: u8, opened: bool) -> bool
 
 /// Writes an attribute row.
 fn put_attribute(name: &[u8], value: &[u8], out: &mut [u8], at: usize) -> usize
-    requires { ⌜ (at < 4611686018427387904) × (length (now name) ≤ 50) × (length (now value) ≤ 50) ⌝ }
+    requires { ⌜ (at < 4611686018427387904) × (length (now name) ≤ 300) × (length (now value) ≤ 300) ⌝ }
     ensures { λ r. ⌜ Laid (attributeText (now (name .entry)) (now (value .entry))) (now (out .entry)) at r (now (out .exit)) ⌝ }
 {
     let spaced = codec::put_u8(out, at, b' ');
@@ -260,7 +253,9 @@ fn put_attribute(name: &[u8], value: &[u8], out: &mut [u8], at: usize) -> usize
 
 /// Writes element row i with this name, and what is below it.
 fn put_element(
+    w: usize,
     store: &[u8],
+    rows: &[u8],
     count: usize,
     i: usize,
     depth: usize,
@@ -268,12 +263,12 @@ fn put_element(
     out: &mut [u8],
     at: usize,
 ) -> Walked
-    requires { ⌜ Room count (i + 1) depth (at + 200) × (i < count) × (depth < 256) × (length (now name) ≤ 50) ⌝ }
-    ensures { λ r. ⌜ Enclosed (rowsFrom (now (store .entry)) count) (elementText (namesOf (now (store .entry))) (attributeNamesOf (now (store .entry))) (now (name .entry)) (build (rowsFrom (now (store .entry)) count (i + 1)) (suc depth))) count i depth at (now (out .entry)) (r .next) (r .at) (now (out .exit)) ⌝ }
+    requires { ⌜ Room count (i + 1) depth (at + 1000) × (i < count) × (depth < 256) × (length (now name) ≤ 300) × Width w ⌝ }
+    ensures { λ r. ⌜ Enclosed (rowsFrom w (now (rows .entry)) count) (elementText (namesOf (now (store .entry))) (attributeNamesOf (now (store .entry))) (now (name .entry)) (build (rowsFrom w (now (rows .entry)) count (i + 1)) (suc depth))) count i depth at (now (out .entry)) (r .next) (r .at) (now (out .exit)) ⌝ }
 {
     let signed = codec::put_u8(out, at, b'<');
     let named = codec::put(name, out, signed);
-    let below = put_rows(store, count, i + 1, depth + 1, true, out, named);
+    let below = put_rows(w, store, rows, count, i + 1, depth + 1, true, out, named);
     let closing = codec::put(b"</", out, below.at);
     let closed = codec::put(name, out, closing);
     Walked {
@@ -284,7 +279,9 @@ fn put_element(
 
 /// Writes row i and what is below it, behind a start tag that is open or not.
 fn put_row(
+    w: usize,
     store: &[u8],
+    rows: &[u8],
     count: usize,
     i: usize,
     depth: usize,
@@ -292,14 +289,14 @@ fn put_row(
     out: &mut [u8],
     at: usize,
 ) -> Walked
-    requires { ⌜ Room count i depth at × (i < count) × (depth < 256) ⌝ }
-    ensures { λ r. ⌜ Stepped (rowsFrom (now (store .entry)) count) (rowText (namesOf (now (store .entry))) (attributeNamesOf (now (store .entry))) opened (readRow (rowPart (now (store .entry)) i) .row) (build (rowsFrom (now (store .entry)) count (i + 1)) (suc depth))) count i depth at (now (out .entry)) (r .next) (r .at) (now (out .exit)) ⌝ }
+    requires { ⌜ Room count i depth at × (i < count) × (depth < 256) × Width w ⌝ }
+    ensures { λ r. ⌜ Stepped (rowsFrom w (now (rows .entry)) count) (rowText (namesOf (now (store .entry))) (attributeNamesOf (now (store .entry))) opened (readRow (recordAt (rowSize w) i (now (rows .entry))) .row) (build (rowsFrom w (now (rows .entry)) count (i + 1)) (suc depth))) count i depth at (now (out .entry)) (r .next) (r .at) (now (out .exit)) ⌝ }
 {
-    let bytes = lookup::row(store, i);
-    let sort = codec::byte(bytes, 0);
-    let index = codec::get_u16(bytes, 2) as usize;
+    let bytes = layout::row_at(w, rows, i);
+    let sort = layout::row_sort(bytes);
+    let index = layout::row_index(bytes) as usize;
     if sort == 2 {
-        let written = put_attribute(attribute_name_of(store, index), value_of(store, i), out, at);
+        let written = put_attribute(attribute_name_of(store, index), value_of(bytes), out, at);
         return Walked {
             at: written,
             next: i + 1,
@@ -307,17 +304,29 @@ fn put_row(
     }
     let ended = put_end(opened, out, at);
     if sort == 1 {
-        return put_element(store, count, i, depth, name_of(store, index), out, ended);
+        return put_element(
+            w,
+            store,
+            rows,
+            count,
+            i,
+            depth,
+            name_of(store, index),
+            out,
+            ended,
+        );
     }
     Walked {
-        at: put_escaped(value_of(store, i), out, ended),
+        at: put_escaped(value_of(bytes), out, ended),
         next: i + 1,
     }
 }
 
 /// Writes the rows of one depth that stand beside one another; the first stands behind a start tag that is open or not.
 fn put_rows(
+    w: usize,
     store: &[u8],
+    rows: &[u8],
     count: usize,
     from: usize,
     depth: usize,
@@ -325,15 +334,15 @@ fn put_rows(
     out: &mut [u8],
     start: usize,
 ) -> Walked
-    requires { ⌜ Room count from depth start ⌝ }
-    ensures { λ r. ⌜ Passed (rowsFrom (now (store .entry)) count) (rowsText (namesOf (now (store .entry))) (attributeNamesOf (now (store .entry))) behind) count from depth start (now (out .entry)) (r .next) (r .at) (now (out .exit)) ⌝ }
+    requires { ⌜ Room count from depth start × Width w ⌝ }
+    ensures { λ r. ⌜ Passed (rowsFrom w (now (rows .entry)) count) (rowsText (namesOf (now (store .entry))) (attributeNamesOf (now (store .entry))) behind) count from depth start (now (out .entry)) (r .next) (r .at) (now (out .exit)) ⌝ }
 {
     let mut at = start;
     let mut i = from;
     let mut opened = behind;
     while i < count {
-        let bytes = lookup::row(store, i);
-        let d = codec::byte(bytes, 1) as usize;
+        let bytes = layout::row_at(w, rows, i);
+        let d = layout::row_depth(bytes) as usize;
         if d < depth {
             return Walked {
                 at: put_end(opened, out, at),
@@ -341,8 +350,8 @@ fn put_rows(
             };
         }
         if d == depth {
-            let row = put_row(store, count, i, depth, opened, out, at);
-            opened = stays_open(codec::byte(bytes, 0), opened);
+            let row = put_row(w, store, rows, count, i, depth, opened, out, at);
+            opened = stays_open(layout::row_sort(bytes), opened);
             at = row.at;
             i = row.next;
         } else {
@@ -356,14 +365,32 @@ fn put_rows(
 }
 
 /// Writes the line of the document whose root is row i.
-fn put_document(store: &[u8], count: usize, i: usize, out: &mut [u8], at: usize) -> Walked
-    requires { ⌜ Room count i 0 at × (i < count) ⌝ }
-    ensures { λ r. ⌜ Stepped (rowsFrom (now (store .entry)) count) (documentText (now (store .entry)) (readRow (rowPart (now (store .entry)) i) .row) (build (rowsFrom (now (store .entry)) count (i + 1)) 1)) count i 0 at (now (out .entry)) (r .next) (r .at) (now (out .exit)) ⌝ }
+fn put_document(
+    w: usize,
+    store: &[u8],
+    rows: &[u8],
+    count: usize,
+    i: usize,
+    out: &mut [u8],
+    at: usize,
+) -> Walked
+    requires { ⌜ Room count i 0 at × (i < count) × Width w ⌝ }
+    ensures { λ r. ⌜ Stepped (rowsFrom w (now (rows .entry)) count) (documentText (now (store .entry)) (readRow (recordAt (rowSize w) i (now (rows .entry))) .row) (build (rowsFrom w (now (rows .entry)) count (i + 1)) 1)) count i 0 at (now (out .entry)) (r .next) (r .at) (now (out .exit)) ⌝ }
 {
-    let bytes = lookup::row(store, i);
-    let sort = codec::byte(bytes, 0);
-    let index = codec::get_u16(bytes, 2) as usize;
-    let root = put_element(store, count, i, 0, row_name_of(store, sort, index), out, at);
+    let bytes = layout::row_at(w, rows, i);
+    let sort = layout::row_sort(bytes);
+    let index = layout::row_index(bytes) as usize;
+    let root = put_element(
+        w,
+        store,
+        rows,
+        count,
+        i,
+        0,
+        row_name_of(store, sort, index),
+        out,
+        at,
+    );
     Walked {
         at: codec::put_u8(out, root.at, b'\n'),
         next: root.next,
@@ -371,15 +398,22 @@ fn put_document(store: &[u8], count: usize, i: usize, out: &mut [u8], at: usize)
 }
 
 /// Writes the documents, a line each.
-fn put_documents(store: &[u8], count: usize, out: &mut [u8], start: usize) -> usize
-    requires { ⌜ Room count 0 0 start ⌝ }
-    ensures { λ r. ⌜ Laid (documentsText (namesOf (now (store .entry))) (attributeNamesOf (now (store .entry))) (build (rowsFrom (now (store .entry)) count 0) 0)) (now (out .entry)) start r (now (out .exit)) ⌝ }
+fn put_documents(
+    w: usize,
+    store: &[u8],
+    rows: &[u8],
+    count: usize,
+    out: &mut [u8],
+    start: usize,
+) -> usize
+    requires { ⌜ Room count 0 0 start × Width w ⌝ }
+    ensures { λ r. ⌜ Laid (documentsText (namesOf (now (store .entry))) (attributeNamesOf (now (store .entry))) (build (rowsFrom w (now (rows .entry)) count 0) 0)) (now (out .entry)) start r (now (out .exit)) ⌝ }
 {
     let mut at = start;
     let mut i = 0;
     while i < count {
-        if codec::byte(lookup::row(store, i), 1) == 0 {
-            let line = put_document(store, count, i, out, at);
+        if layout::row_depth(layout::row_at(w, rows, i)) == 0 {
+            let line = put_document(w, store, rows, count, i, out, at);
             at = line.at;
             i = line.next;
         } else {
@@ -394,7 +428,7 @@ fn put_documents(store: &[u8], count: usize, out: &mut [u8], start: usize) -> us
 /// Writes the default of attribute i.
 fn put_default(store: &[u8], i: usize, out: &mut [u8], at: usize) -> usize
     requires { ⌜ (i < 4294967296) × (at < 4611686018427387904) ⌝ }
-    ensures { λ r. ⌜ LaidWithin 330 (defaultText (readAttribute (attributePart (now (store .entry)) i))) (now (out .entry)) at r (now (out .exit)) ⌝ }
+    ensures { λ r. ⌜ LaidWithin 2000 (defaultText (readAttribute (attributePart (now (store .entry)) i))) (now (out .entry)) at r (now (out .exit)) ⌝ }
 {
     let bytes = attribute(store, i);
     let sort = codec::byte(bytes, 18);
@@ -405,7 +439,7 @@ fn put_default(store: &[u8], i: usize, out: &mut [u8], at: usize) -> usize
         return codec::put(b"#REQUIRED", out, at);
     }
     let n = codec::byte(bytes, 19) as usize;
-    let value = lookup::window(bytes, 20, n);
+    let value = layout::window(bytes, 20, n);
     let quoted = codec::put(b"#FIXED \"", out, at);
     let valued = put_escaped(value, out, quoted);
     codec::put_u8(out, valued, b'"')
@@ -413,8 +447,8 @@ fn put_default(store: &[u8], i: usize, out: &mut [u8], at: usize) -> usize
 
 /// Writes the line of attribute i of a definition of this name.
 fn put_attribute_line(store: &[u8], i: usize, owner: &[u8], out: &mut [u8], at: usize) -> usize
-    requires { ⌜ (i < attributeCount (now store)) × (at < 2305843009213693952) × (length (now owner) ≤ 50) × (attributeCount (now store) ≤ 64) ⌝ }
-    ensures { λ r. ⌜ LaidWithin 500 (attributeLineText (now (owner .entry)) (readAttribute (attributePart (now (store .entry)) i))) (now (out .entry)) at r (now (out .exit)) ⌝ }
+    requires { ⌜ (i < attributeCount (now store)) × (at < 2305843009213693952) × (length (now owner) ≤ 300) × (attributeCount (now store) ≤ 64) ⌝ }
+    ensures { λ r. ⌜ LaidWithin 3000 (attributeLineText (now (owner .entry)) (readAttribute (attributePart (now (store .entry)) i))) (now (out .entry)) at r (now (out .exit)) ⌝ }
 {
     let signed = codec::put(b"<!ATTLIST ", out, at);
     let owned = codec::put(owner, out, signed);
@@ -427,8 +461,8 @@ fn put_attribute_line(store: &[u8], i: usize, owner: &[u8], out: &mut [u8], at: 
 
 /// Writes the lines of the attributes of definition o, which has this name.
 fn put_attributes(store: &[u8], o: usize, owner: &[u8], out: &mut [u8], start: usize) -> usize
-    requires { ⌜ (attributeCount (now store) ≤ 64) × (start < 1152921504606846976) × (length (now owner) ≤ 50) ⌝ }
-    ensures { λ r. ⌜ LaidWithin 32000 (attributesText (now (owner .entry)) (ofOwner o (attributesFrom (now (store .entry)) (attributeCount (now (store .entry))) 0))) (now (out .entry)) start r (now (out .exit)) ⌝ }
+    requires { ⌜ (attributeCount (now store) ≤ 64) × (start < 1152921504606846976) × (length (now owner) ≤ 300) ⌝ }
+    ensures { λ r. ⌜ LaidWithin 192000 (attributesText (now (owner .entry)) (ofOwner o (attributesFrom (now (store .entry)) (attributeCount (now (store .entry))) 0))) (now (out .entry)) start r (now (out .exit)) ⌝ }
 {
     let count = codec::get_u32(store, 28) as usize;
     let mut at = start;
@@ -462,7 +496,7 @@ fn has_member(store: &[u8], from: usize, end: usize) -> bool
 /// Writes a content model of the particles from number `from` to `end`.
 fn put_content(store: &[u8], kind: u8, from: usize, end: usize, out: &mut [u8], at: usize) -> usize
     requires { ⌜ (end ≤ 256) × (at < 2305843009213693952) ⌝ }
-    ensures { λ r. ⌜ LaidWithin 102500 (contentText (namesOf (now (store .entry))) kind (build (particlesFrom (now (store .entry)) end from) 0)) (now (out .entry)) at r (now (out .exit)) ⌝ }
+    ensures { λ r. ⌜ LaidWithin 640100 (contentText (namesOf (now (store .entry))) kind (build (particlesFrom (now (store .entry)) end from) 0)) (now (out .entry)) at r (now (out .exit)) ⌝ }
 {
     if kind == 0 {
         return codec::put(b"EMPTY", out, at);
@@ -488,7 +522,7 @@ fn put_definition(
     at: usize,
 ) -> usize
     requires { ⌜ (o < definitionCount (now store)) × (end ≤ 256) × (at < 1152921504606846976) × (definitionCount (now store) ≤ 64) ⌝ }
-    ensures { λ r. ⌜ LaidWithin 102600 (definitionText (namesOf (now (store .entry))) (readDefinition (definitionPart (now (store .entry)) o)) (particlesFrom (now (store .entry)) end from)) (now (out .entry)) at r (now (out .exit)) ⌝ }
+    ensures { λ r. ⌜ LaidWithin 641000 (definitionText (namesOf (now (store .entry))) (readDefinition (definitionPart (now (store .entry)) o)) (particlesFrom (now (store .entry)) end from)) (now (out .entry)) at r (now (out .exit)) ⌝ }
 {
     let kind = codec::byte(definition(store, o), 17);
     let signed = codec::put(b"<!ELEMENT ", out, at);
@@ -511,7 +545,7 @@ fn model_end(store: &[u8], from: usize, n: usize) -> usize
 /// Writes the lines of definition o and of its attributes; its particles begin at number `from`.
 fn put_declarations(store: &[u8], o: usize, from: usize, out: &mut [u8], at: usize) -> usize
     requires { ⌜ Within (now store) × (o < definitionCount (now store)) × (from < 1099511627776) × (at < 576460752303423488) ⌝ }
-    ensures { λ r. ⌜ LaidWithin 140000 (declarationsText (namesOf (now (store .entry))) o (readDefinition (definitionPart (now (store .entry)) o)) (particlesFrom (now (store .entry)) (particleCount (now (store .entry))) from) (attributesFrom (now (store .entry)) (attributeCount (now (store .entry))) 0)) (now (out .entry)) at r (now (out .exit)) ⌝ }
+    ensures { λ r. ⌜ LaidWithin 840000 (declarationsText (namesOf (now (store .entry))) o (readDefinition (definitionPart (now (store .entry)) o)) (particlesFrom (now (store .entry)) (particleCount (now (store .entry))) from) (attributesFrom (now (store .entry)) (attributeCount (now (store .entry))) 0)) (now (out .entry)) at r (now (out .exit)) ⌝ }
 {
     let n = codec::get_u16(definition(store, o), 18) as usize;
     let end = model_end(store, from, n);
@@ -522,7 +556,7 @@ fn put_declarations(store: &[u8], o: usize, from: usize, out: &mut [u8], at: usi
 /// Writes the declarations of the form.
 fn put_form(store: &[u8], out: &mut [u8], start: usize) -> usize
     requires { ⌜ Within (now store) × (start < 288230376151711744) ⌝ }
-    ensures { λ r. ⌜ LaidWithin 8960000 (formText (namesOf (now (store .entry))) 0 (definitionsFrom (now (store .entry)) (definitionCount (now (store .entry))) 0) (particlesFrom (now (store .entry)) (particleCount (now (store .entry))) 0) (attributesFrom (now (store .entry)) (attributeCount (now (store .entry))) 0)) (now (out .entry)) start r (now (out .exit)) ⌝ }
+    ensures { λ r. ⌜ LaidWithin 53760000 (formText (namesOf (now (store .entry))) 0 (definitionsFrom (now (store .entry)) (definitionCount (now (store .entry))) 0) (particlesFrom (now (store .entry)) (particleCount (now (store .entry))) 0) (attributesFrom (now (store .entry)) (attributeCount (now (store .entry))) 0)) (now (out .entry)) start r (now (out .exit)) ⌝ }
 {
     let count = codec::get_u32(store, 12) as usize;
     let mut at = start;
@@ -541,7 +575,9 @@ pub fn print_store(store: &[u8], out: &mut [u8]) -> usize
     requires { ⌜ Within (now store) ⌝ }
     ensures { λ r. ⌜ Laid (textOf (now (store .entry))) (now (out .entry)) 0 r (now (out .exit)) ⌝ }
 {
-    let count = codec::get_u32(store, 36) as usize;
+    let w = layout::width_in(store);
+    let rows = lookup::rows_of(store);
+    let count = layout::row_count(store);
     let formed = put_form(store, out, 0);
-    put_documents(store, count, out, formed)
+    put_documents(w, store, rows, count, out, formed)
 }

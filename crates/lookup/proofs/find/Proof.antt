@@ -1,47 +1,59 @@
 use borrow.Author.Needs.{needs}
 use mathlib.Core.Path.{_≡_, sym, ap, _∙_, subst}
 use mathlib.Core.List.{List}
-use Prim.Native.Nat.{ℕ, _-_}
+use Prim.Native.Nat.{ℕ, _-_, _<_}
 use native.Mathlib.Omega.{arith}
-use lib.ListN.{length}
 use Rattle.rules.specs.Decode.{numberAt}
 use Rattle.rules.specs.LookUp.{Found}
-use Rattle.lookup.specs.Bodies.{rowPart}
+use Rattle.lookup.specs.Bodies.{RowsOf}
 use Rattle.lookup.specs.Finding.{Looks}
-use Rattle.lookup.proofs.Laws.{Seeking, seek-start, seek-past, seek-hit, seek-none}
+use Rattle.lookup.proofs.Laws.{Seeking, seek-start, seek-past, seek-hit, seek-none, row-of}
 use Rattle.lookup.proofs.find.Statement.{statement}
 use Rattle.lookup.proofs.find.Tie as tie
+use Rattle.lookup.proofs.find.Reads as reads
+use Rattle.lookup.proofs.find.Lts as lts
+use Rattle.layout.proofs.row_at.Reads as row-at-reads
+use Rattle.layout.proofs.row_count.Reads as row-count-reads
+use Rattle.layout.proofs.row_serial.Reads as row-serial-reads
+use Rattle.layout.proofs.width_in.Reads as width-in-reads
+use Rattle.lookup.proofs.found_at.Reads as found-at-reads
+use Rattle.lookup.proofs.rows_of.Reads as rows-of-reads
 
+-- the rows from i on give what all give; the rows and their width are the store's
 abbrev Inv-loop : tie.InvT-loop
-Inv-loop store serial count i₀ i = Seeking store serial count i
+Inv-loop store serial w rows count i₀ i = Seeking store serial count i × RowsOf store w rows × (count < 4294967296)
 
 abbrev μ-loop : tie.MeasureT-loop
-μ-loop store serial count i₀ i = count - i
+μ-loop store serial w rows count i₀ i = count - i
 
-get-u32-requires : tie.Need-get-u32-requires Inv-loop μ-loop
-get-u32-requires c κs = search needs
+width-in-requires : tie.Need-width-in-requires Inv-loop μ-loop
+width-in-requires c κs = search needs
 
-cast-count : tie.Need-cast-count Inv-loop μ-loop
-cast-count c = search needs
+rows-of-requires : tie.Need-rows-of-requires Inv-loop μ-loop
+rows-of-requires c κs = search needs
+
+row-count-requires : tie.Need-row-count-requires Inv-loop μ-loop
+row-count-requires c κs = search needs
 
 loop-holds : tie.Need-loop-holds Inv-loop μ-loop
-loop-holds c = seek-start _ _ _ (c .get-u32 .ensures)
+loop-holds c = (seek-start _ _ _ (c .row-count .ensures .value), record { width = c .before .before .width-in .ensures; body = c .before .rows-of .ensures }, c .row-count .ensures .small)
 
-row-requires : tie.Need-row-requires Inv-loop μ-loop
-row-requires c κs = search needs
+row-at-requires : tie.Need-row-at-requires Inv-loop μ-loop
+row-at-requires c κs = let at-loop = c .before in (at-loop .loop .inv .1 .width .small, omega (arith, at-loop .loop .inv .2))
 
-get-u32-requires-2 : tie.Need-get-u32-requires-2 Inv-loop μ-loop
-get-u32-requires-2 c κs = search needs
+row-serial-requires : tie.Need-row-serial-requires Inv-loop μ-loop
+row-serial-requires c κs = search needs
 
 found-at-requires : tie.Need-found-at-requires Inv-loop μ-loop
-found-at-requires c κs = search needs
+found-at-requires c κs = let at-loop = c .before .before .before .before in omega (arith, at-loop .loop .inv .2)
 
 returns : tie.Need-returns Inv-loop μ-loop
-returns c = let l = c .before .before .before .before .before in
-    let a = l .before .before .before .args in
-    let e : c .before .before .get-u322 .result ≡ numberAt 4 4 (rowPart (a .store .now) (l .loop .i)) = c .before .before .get-u322 .ensures ∙ ap (λ (b : List ℕ). numberAt 4 4 b) (c .before .before .before .row .ensures) in
+returns c = let at-loop = c .before .before .before .before .before in
+    let a = at-loop .before .before .before .before .before .args in
+    let row = row-of (at-loop .loop .i) (at-loop .loop .inv .1) (c .before .before .before .row-at .ensures) in
+    let e = c .before .before .row-serial .ensures ∙ ap (λ (b : List ℕ). numberAt 4 4 b) row in
     subst (λ (f : Found). Looks f (c .found-at .result .number) (c .found-at .result .start) (c .found-at .result .length))
-    (seek-hit (a .store .now) (a .serial) (l .before .get-u32 .result) (l .loop .i) (l .loop .inv) (omega arith) (sym e ∙ c .before .if1 .taken))
+    (seek-hit (a .store .now) (a .serial) _ (at-loop .loop .i) (at-loop .loop .inv .0) (omega arith) (sym e ∙ c .before .if1 .taken))
     (c .found-at .ensures)
 
 add-i : tie.Need-add-i Inv-loop μ-loop
@@ -51,13 +63,14 @@ loop-less : tie.Need-loop-less Inv-loop μ-loop
 loop-less c = search needs
 
 loop-again : tie.Need-loop-again Inv-loop μ-loop
-loop-again c = let l = c .before .before .before .before in
-    let a = l .before .before .before .args in
-    let e : c .before .get-u322 .result ≡ numberAt 4 4 (rowPart (a .store .now) (l .loop .i)) = c .before .get-u322 .ensures ∙ ap (λ (b : List ℕ). numberAt 4 4 b) (c .before .before .row .ensures) in
-    seek-past (a .store .now) (a .serial) (l .before .get-u32 .result) (l .loop .i) (l .loop .inv) (omega arith) (λ g. c .if1 .left (e ∙ g))
+loop-again c = let at-loop = c .before .before .before .before in
+    let a = at-loop .before .before .before .before .before .args in
+    let row = row-of (at-loop .loop .i) (at-loop .loop .inv .1) (c .before .before .row-at .ensures) in
+    let e = c .before .row-serial .ensures ∙ ap (λ (b : List ℕ). numberAt 4 4 b) row in
+    (seek-past (a .store .now) (a .serial) _ (at-loop .loop .i) (at-loop .loop .inv .0) (omega arith) (λ g. c .if1 .left (e ∙ g)), at-loop .loop .inv .1, at-loop .loop .inv .2)
 
 returns-2 : tie.Need-returns-2 Inv-loop μ-loop
-returns-2 c = seek-none _ _ _ _ (c .before .loop .inv) (omega arith)
+returns-2 c = seek-none _ _ _ _ (c .before .loop .inv .0) (omega arith)
 
 pub find-spec : {M : Type 1} → statement M
 find-spec =
@@ -65,11 +78,12 @@ find-spec =
     (tie.spec
     Inv-loop
     μ-loop
-    get-u32-requires
-    cast-count
+    width-in-requires
+    rows-of-requires
+    row-count-requires
     loop-holds
-    row-requires
-    get-u32-requires-2
+    row-at-requires
+    row-serial-requires
     found-at-requires
     returns
     add-i

@@ -1,67 +1,58 @@
 use mathlib.Core.Path.{_≡_, sym, ap, _∙_}
 use mathlib.Core.List.{List}
-use Prim.Native.Nat.{ℕ, _+_, _*_}
+use Prim.Native.Nat.{ℕ, _+_}
 use lib.ListN.{length, take, drop, getD}
 use Rattle.lookup.specs.Bodies.{rowPart}
 use Rattle.lookup.proofs.Laws.{looks-as, found-element, found-value}
 use borrow.Author.Needs.{needs}
 use Rattle.lookup.proofs.found_at.Statement.{statement}
 use Rattle.lookup.proofs.found_at.Tie as tie
+use Rattle.lookup.proofs.found_at.Reads as reads
+use Rattle.lookup.proofs.found_at.Lts as lts
+use Rattle.layout.proofs.row_sort.Reads as row-sort-reads
+use Rattle.layout.proofs.row_value.Reads as row-value-reads
+use Rattle.lookup.proofs.row.Reads as row-reads
+use Rattle.lookup.proofs.row_place.Reads as row-place-reads
 
 row-requires : tie.Need-row-requires
 row-requires c κs = search needs
 
-byte-requires : tie.Need-byte-requires
-byte-requires c κs = search needs
+row-sort-requires : tie.Need-row-sort-requires
+row-sort-requires c κs = search needs
 
 returns : tie.Need-returns
 returns c = let a = c .before .before .before .before .args in
-    let e : c .before .byte .result ≡ getD (rowPart (a .store .now) (a .i)) 0 0 = c .before .byte .ensures ∙ ap (λ (l : List ℕ). getD l 0 0) (c .before .before .row .ensures) in
-    found-element (a .store .now) (a .i) (sym e ∙ c .if1 .taken)
+    let at-row = c .before .before in
+    let sort : c .before .row-sort .result ≡ getD (rowPart (a .store .now) (a .i)) 0 0 = c .before .row-sort .ensures ∙ ap (λ (l : List ℕ). getD l 0 0) (at-row .row .ensures) in
+    found-element (a .store .now) (a .i) (sym sort ∙ c .if1 .taken)
 
-byte-requires-2 : tie.Need-byte-requires-2
-byte-requires-2 c κs = search needs
+row-value-requires : tie.Need-row-value-requires
+row-value-requires c κs = search needs
 
-cast-n : tie.Need-cast-n
-cast-n c = search needs
-
-window-requires : tie.Need-window-requires
-window-requires c κs = search needs
-
-row-start-requires : tie.Need-row-start-requires
-row-start-requires c κs = search needs
-
-mul-start : tie.Need-mul-start
-mul-start c = search needs
+row-place-requires : tie.Need-row-place-requires
+row-place-requires c κs = search needs
 
 add-start : tie.Need-add-start
 add-start c = search needs
 
-add-start-2 : tie.Need-add-start-2
-add-start-2 c = search needs
-
 returns-2 : tie.Need-returns-2
-returns-2 c = let a = c .before .before .before .before .before .before .before .args in
-    let p = c .before .before .before .before .before .row .ensures in
-    let e : c .before .before .before .before .byte .result ≡ getD (rowPart (a .store .now) (a .i)) 0 0 = c .before .before .before .before .byte .ensures ∙ ap (λ (l : List ℕ). getD l 0 0) p in
-    let n : c .before .before .byte2 .result ≡ getD (rowPart (a .store .now) (a .i)) 8 0 = c .before .before .byte2 .ensures ∙ ap (λ (l : List ℕ). getD l 8 0) p in
+returns-2 c = let at-sort = c .before .before .before in
+    let a = at-sort .before .before .before .args in
+    let part = at-sort .before .row .ensures in
+    let sort : at-sort .row-sort .result ≡ getD (rowPart (a .store .now) (a .i)) 0 0 = at-sort .row-sort .ensures ∙ ap (λ (l : List ℕ). getD l 0 0) part in
     looks-as
-    (ap (λ (k : ℕ). k + 44 * a .i + 10) (c .row-start .ensures .start))
-    (ap length (c .before .window .ensures ∙ ap (λ (k : ℕ). take k (drop 10 (c .before .before .before .before .before .row .result .now))) n ∙ ap (λ (l : List ℕ). take (getD (rowPart (a .store .now) (a .i)) 8 0) (drop 10 l)) p))
-    (found-value (a .store .now) (a .i) (λ g. c .before .before .before .if1 .left (e ∙ g)))
+    (ap (λ (k : ℕ). k + 10) (c .row-place .ensures .value))
+    (ap length (c .before .row-value .ensures ∙ ap (λ (l : List ℕ). take (getD l 8 0) (drop 10 l)) part))
+    (found-value (a .store .now) (a .i) (λ g. c .before .before .if1 .left (sort ∙ g)))
 
 pub found-at-spec : {M : Type 1} → statement M
 found-at-spec =
     tie.close
     (tie.spec
     row-requires
-    byte-requires
+    row-sort-requires
     returns
-    byte-requires-2
-    cast-n
-    window-requires
-    row-start-requires
-    mul-start
+    row-value-requires
+    row-place-requires
     add-start
-    add-start-2
     returns-2)

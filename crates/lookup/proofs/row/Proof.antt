@@ -1,26 +1,33 @@
-use mathlib.Core.Path.{ap, _∙_}
-use Prim.Native.Nat.{ℕ, _+_, _-_, _*_}
-use lib.ListN.{take, drop}
-use Rattle.lookup.proofs.Laws.{row-place}
+use Rattle.lookup.proofs.Laws.{row-window}
 use borrow.Author.Needs.{needs}
 use Rattle.lookup.proofs.row.Statement.{statement}
 use Rattle.lookup.proofs.row.Tie as tie
+use Rattle.lookup.proofs.row.Reads as reads
+use Rattle.lookup.proofs.row.Lts as lts
+use Rattle.layout.proofs.width_in.Reads as width-in-reads
+use Rattle.lookup.proofs.row_place.Reads as row-place-reads
+use Rattle.layout.proofs.window.Reads as window-reads
 
-row-start-requires : tie.Need-row-start-requires
-row-start-requires c κs = search needs
+-- src/lib.rt:44:9
+width-in-requires : tie.Need-width-in-requires
+width-in-requires c κs = search needs
 
-mul-start : tie.Need-mul-start
-mul-start c = search needs
+-- src/lib.rt:45:9
+row-place-requires : tie.Need-row-place-requires
+row-place-requires c κs = search needs
 
-add-start : tie.Need-add-start
-add-start c = search needs
+-- src/lib.rt:46:26
+add-window : tie.Need-add-window
+add-window c = search needs
 
+-- src/lib.rt:46:5
 window-requires : tie.Need-window-requires
 window-requires c κs = search needs
 
+-- src/lib.rt:40:1
 returns : tie.Need-returns
-returns c = let a = c .before .before .before .args in
-    c .window .ensures ∙ ap (λ (n : ℕ). take 44 (drop (n + 44 * a .i) (a .store .now))) (c .before .row-start .ensures .start) ∙ row-place (a .store .now) (a .i)
+returns c = row-window _ _ _ _ _ (c .before .before .width-in .ensures) (c .before .row-place .ensures) (c .window .ensures)
 
 pub row-spec : {M : Type 1} → statement M
-row-spec = tie.close (tie.spec row-start-requires mul-start add-start window-requires returns)
+row-spec =
+    tie.close (tie.spec width-in-requires row-place-requires add-window window-requires returns)

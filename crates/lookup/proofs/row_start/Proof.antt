@@ -1,63 +1,23 @@
-use native.Mathlib.Omega.{arith}
-use Rattle.lookup.specs.Bodies.{rowStart}
+use Rattle.lookup.proofs.Laws.{begins}
 use borrow.Author.Needs.{needs}
 use Rattle.lookup.proofs.row_start.Statement.{statement}
 use Rattle.lookup.proofs.row_start.Tie as tie
+use Rattle.lookup.proofs.row_start.Reads as reads
+use Rattle.lookup.proofs.row_start.Lts as lts
+use Rattle.layout.proofs.rows_start.Reads as rows-start-reads
+use Rattle.layout.proofs.shape_of.Reads as shape-of-reads
 
-get-u32-requires : tie.Need-get-u32-requires
-get-u32-requires c κs = search needs
+-- src/lib.rt:26:24
+shape-of-requires : tie.Need-shape-of-requires
+shape-of-requires c κs = search needs
 
-cast-definitions : tie.Need-cast-definitions
-cast-definitions c = search needs
+-- src/lib.rt:26:5
+rows-start-requires : tie.Need-rows-start-requires
+rows-start-requires c κs = search needs
 
-get-u32-requires-2 : tie.Need-get-u32-requires-2
-get-u32-requires-2 c κs = search needs
-
-cast-particles : tie.Need-cast-particles
-cast-particles c = search needs
-
-get-u32-requires-3 : tie.Need-get-u32-requires-3
-get-u32-requires-3 c κs = search needs
-
-cast-attributes : tie.Need-cast-attributes
-cast-attributes c = search needs
-
-mul-result : tie.Need-mul-result
-mul-result c = search needs
-
-add-result : tie.Need-add-result
-add-result c = search needs
-
-mul-result-2 : tie.Need-mul-result-2
-mul-result-2 c = search needs
-
-add-result-2 : tie.Need-add-result-2
-add-result-2 c = search needs
-
-mul-result-3 : tie.Need-mul-result-3
-mul-result-3 c = search needs
-
-add-result-3 : tie.Need-add-result-3
-add-result-3 c = search needs
-
+-- src/lib.rt:23:1
 returns : tie.Need-returns
-unfolding rowStart
-returns c = record { start = omega arith; small = omega arith }
+returns c = begins _ _ _ (c .before .shape-of .ensures) (c .rows-start .ensures)
 
 pub row-start-spec : {M : Type 1} → statement M
-row-start-spec =
-    tie.close
-    (tie.spec
-    get-u32-requires
-    cast-definitions
-    get-u32-requires-2
-    cast-particles
-    get-u32-requires-3
-    cast-attributes
-    mul-result
-    add-result
-    mul-result-2
-    add-result-2
-    mul-result-3
-    add-result-3
-    returns)
+row-start-spec = tie.close (tie.spec shape-of-requires rows-start-requires returns)

@@ -6,14 +6,15 @@ use native.Mathlib.Omega.{arith}
 use lib.ListN.{getD}
 use Rattle.rules.specs.Preorder.{build}
 use Rattle.rules.specs.Decode.{readRow, rowSortOf}
-use Rattle.lookup.specs.Bodies.{rowPart}
+use Rattle.rules.specs.Layout.{rowSize}
+use Rattle.layout.specs.Bodies.{recordAt}
 use Rattle.lookup.proofs.Laws.{from-none}
 use Rattle.printing.specs.Parts.{rowsFrom, namesOf, attributeNamesOf}
 use Rattle.printing.specs.Texts.{rowsText, stays}
 use Rattle.printing.proofs.TextLaws.{rows-tree, rows-bare}
 use Rattle.printing.proofs.PartLaws.{row-step}
 use Rattle.printing.proofs.WalkLaws.{Walk, walk-start, walk-deeper, walk-here, walk-stops, walk-ends, walk-as, laid-long}
-use Rattle.printing.proofs.RowLaws.{end-short, element-enclosed, attribute-stepped, row-element-stepped, text-stepped}
+use Rattle.printing.proofs.RowLaws.{end-short, row-short, element-enclosed, attribute-stepped, row-element-stepped, text-stepped}
 use Prim.Native.Nat.{ℕ, _<_}
 use borrow.Fn.Kinds.{In}
 use borrow.Fn.PlainCycle.{Measures, is, falls, and}
@@ -26,11 +27,12 @@ use Rattle.printing.proofs.+put_element+put_row+put_rows.Lts-put_row as
 use Rattle.printing.proofs.put_rows.Reads as put-rows
 use Rattle.printing.proofs.put_rows.Kinds as put-rows-kinds
 use Rattle.printing.proofs.+put_element+put_row+put_rows.Lts-put_rows as put-rows-lts
-use Rattle.codec.proofs.byte.Reads as byte-reads
-use Rattle.codec.proofs.get_u16.Reads as get-u16-reads
 use Rattle.codec.proofs.put.Reads as put-reads
 use Rattle.codec.proofs.put_u8.Reads as put-u8-reads
-use Rattle.lookup.proofs.row.Reads as row-reads
+use Rattle.layout.proofs.row_at.Reads as row-at-reads
+use Rattle.layout.proofs.row_depth.Reads as row-depth-reads
+use Rattle.layout.proofs.row_index.Reads as row-index-reads
+use Rattle.layout.proofs.row_sort.Reads as row-sort-reads
 use Rattle.printing.proofs.attribute_name_of.Reads as attribute-name-of-reads
 use Rattle.printing.proofs.name_of.Reads as name-of-reads
 use Rattle.printing.proofs.put_attribute.Reads as put-attribute-reads
@@ -41,50 +43,50 @@ use Rattle.printing.proofs.value_of.Reads as value-of-reads
 use Rattle.printing.proofs.+put_element+put_row+put_rows.{statement}
 use Rattle.printing.proofs.+put_element+put_row+put_rows.Tie.{close}
 
-abbrev μ-put-element : Measures 3 put-element-kinds.ps ℕ
-μ-put-element κs a = 3 * (a .1 .0 - a .1 .1 .0)
+abbrev μ-put-element : Measures 4 put-element-kinds.ps ℕ
+μ-put-element κs a = 3 * (a .1 .1 .1 .0 - a .1 .1 .1 .1 .0)
 
-abbrev μ-put-row : Measures 2 put-row-kinds.ps ℕ
-μ-put-row κs a = 3 * (a .1 .0 - a .1 .1 .0) + 1
+abbrev μ-put-row : Measures 3 put-row-kinds.ps ℕ
+μ-put-row κs a = 3 * (a .1 .1 .1 .0 - a .1 .1 .1 .1 .0) + 1
 
-abbrev μ-put-rows : Measures 2 put-rows-kinds.ps ℕ
-μ-put-rows κs a = 3 * (a .1 .0 - a .1 .1 .0) + 2
+abbrev μ-put-rows : Measures 3 put-rows-kinds.ps ℕ
+μ-put-rows κs a = 3 * (a .1 .1 .1 .0 - a .1 .1 .1 .1 .0) + 2
 
-abbrev put-element-at : ℕ → In 3 put-element-kinds.ps
+abbrev put-element-at : ℕ → In 4 put-element-kinds.ps
 put-element-at t =
-    and 3 put-element-kinds.ps (is 3 put-element-kinds.ps μ-put-element t) put-element.Pre
+    and 4 put-element-kinds.ps (is 4 put-element-kinds.ps μ-put-element t) put-element.Pre
 
-abbrev put-element-below : ℕ → In 3 put-element-kinds.ps
+abbrev put-element-below : ℕ → In 4 put-element-kinds.ps
 put-element-below t =
-    and 3 put-element-kinds.ps (falls 3 put-element-kinds.ps _<_ μ-put-element t) put-element.Pre
+    and 4 put-element-kinds.ps (falls 4 put-element-kinds.ps _<_ μ-put-element t) put-element.Pre
 
-abbrev put-row-at : ℕ → In 2 put-row-kinds.ps
-put-row-at t = and 2 put-row-kinds.ps (is 2 put-row-kinds.ps μ-put-row t) put-row.Pre
+abbrev put-row-at : ℕ → In 3 put-row-kinds.ps
+put-row-at t = and 3 put-row-kinds.ps (is 3 put-row-kinds.ps μ-put-row t) put-row.Pre
 
-abbrev put-row-below : ℕ → In 2 put-row-kinds.ps
-put-row-below t = and 2 put-row-kinds.ps (falls 2 put-row-kinds.ps _<_ μ-put-row t) put-row.Pre
+abbrev put-row-below : ℕ → In 3 put-row-kinds.ps
+put-row-below t = and 3 put-row-kinds.ps (falls 3 put-row-kinds.ps _<_ μ-put-row t) put-row.Pre
 
-abbrev put-rows-at : ℕ → In 2 put-rows-kinds.ps
-put-rows-at t = and 2 put-rows-kinds.ps (is 2 put-rows-kinds.ps μ-put-rows t) put-rows.Pre
+abbrev put-rows-at : ℕ → In 3 put-rows-kinds.ps
+put-rows-at t = and 3 put-rows-kinds.ps (is 3 put-rows-kinds.ps μ-put-rows t) put-rows.Pre
 
-abbrev put-rows-below : ℕ → In 2 put-rows-kinds.ps
+abbrev put-rows-below : ℕ → In 3 put-rows-kinds.ps
 put-rows-below t =
-    and 2 put-rows-kinds.ps (falls 2 put-rows-kinds.ps _<_ μ-put-rows t) put-rows.Pre
+    and 3 put-rows-kinds.ps (falls 3 put-rows-kinds.ps _<_ μ-put-rows t) put-rows.Pre
 
 abbrev put-element-calls : ℕ → put-element-lts.Claims
 put-element-calls t = (put-u8-reads.Asked, put-u8-reads.Learnt, put-reads.Asked, put-reads.Learnt, put-rows-below t, put-rows.Post)
 
 abbrev put-row-calls : ℕ → put-row-lts.Claims
-put-row-calls t = (row-reads.Asked, row-reads.Learnt, byte-reads.Asked, byte-reads.Learnt, get-u16-reads.Asked, get-u16-reads.Learnt, attribute-name-of-reads.Asked, attribute-name-of-reads.Learnt, value-of-reads.Asked, value-of-reads.Learnt, put-attribute-reads.Asked, put-attribute-reads.Learnt, put-end-reads.Asked, put-end-reads.Learnt, name-of-reads.Asked, name-of-reads.Learnt, put-element-below t, put-element.Post, put-escaped-reads.Asked, put-escaped-reads.Learnt)
+put-row-calls t = (row-at-reads.Asked, row-at-reads.Learnt, row-sort-reads.Asked, row-sort-reads.Learnt, row-index-reads.Asked, row-index-reads.Learnt, attribute-name-of-reads.Asked, attribute-name-of-reads.Learnt, value-of-reads.Asked, value-of-reads.Learnt, put-attribute-reads.Asked, put-attribute-reads.Learnt, put-end-reads.Asked, put-end-reads.Learnt, name-of-reads.Asked, name-of-reads.Learnt, put-element-below t, put-element.Post, put-escaped-reads.Asked, put-escaped-reads.Learnt)
 
 abbrev put-rows-calls : ℕ → put-rows-lts.Claims
-put-rows-calls t = (row-reads.Asked, row-reads.Learnt, byte-reads.Asked, byte-reads.Learnt, put-end-reads.Asked, put-end-reads.Learnt, put-row-below t, put-row.Post, stays-open-reads.Asked, stays-open-reads.Learnt)
+put-rows-calls t = (row-at-reads.Asked, row-at-reads.Learnt, row-depth-reads.Asked, row-depth-reads.Learnt, put-end-reads.Asked, put-end-reads.Learnt, put-row-below t, put-row.Post, row-sort-reads.Asked, row-sort-reads.Learnt, stays-open-reads.Asked, stays-open-reads.Learnt)
 
 put-element-put-u8-requires : (t : ℕ) → put-element-lts.Need-put-u8-requires (put-element-calls t) (put-element-at t) put-element.Post
-put-element-put-u8-requires t c κs = omega (arith, c .before .before .before .before .pre .1 .0 .room, c .before .before .before .before .pre .1 .0 .few, c .before .before .before .before .pre .1 .1, c .before .before .before .before .pre .1 .2, c .before .before .before .before .pre .1 .3)
+put-element-put-u8-requires t c κs = omega (arith, c .before .before .before .before .before .pre .1 .0 .room, c .before .before .before .before .before .pre .1 .0 .few, c .before .before .before .before .before .pre .1 .1, c .before .before .before .before .before .pre .1 .2, c .before .before .before .before .before .pre .1 .3)
 
 put-element-put-requires : (t : ℕ) → put-element-lts.Need-put-requires (put-element-calls t) (put-element-at t) put-element.Post
-put-element-put-requires t c κs = omega (arith, c .before .before .before .before .before .before .before .before .pre .1 .0 .room, c .before .before .before .before .before .before .before .before .pre .1 .0 .few, c .before .before .before .before .before .before .before .before .pre .1 .1, c .before .before .before .before .before .before .before .before .pre .1 .2, c .before .before .before .before .before .before .before .before .pre .1 .3, c .before .before .before .put-u8 .ensures .next)
+put-element-put-requires t c κs = omega (arith, c .before .before .before .before .before .before .before .before .before .pre .1 .0 .room, c .before .before .before .before .before .before .before .before .before .pre .1 .0 .few, c .before .before .before .before .before .before .before .before .before .pre .1 .1, c .before .before .before .before .before .before .before .before .before .pre .1 .2, c .before .before .before .before .before .before .before .before .before .pre .1 .3, c .before .before .before .put-u8 .ensures .next)
 
 put-element-add-put-rows : (t : ℕ) → put-element-lts.Need-add-put-rows (put-element-calls t) (put-element-at t) put-element.Post
 put-element-add-put-rows t c = search needs
@@ -93,35 +95,35 @@ put-element-add-put-rows-2 : (t : ℕ) → put-element-lts.Need-add-put-rows-2 (
 put-element-add-put-rows-2 t c = search needs
 
 put-element-put-rows-requires : (t : ℕ) → put-element-lts.Need-put-rows-requires (put-element-calls t) (put-element-at t) put-element.Post
-put-element-put-rows-requires t c κs = (omega (arith, c .before .before .before .before .before .before .before .before .before .before .before .before .pre .1 .0 .room, c .before .before .before .before .before .before .before .before .before .before .before .before .pre .1 .0 .few, c .before .before .before .before .before .before .before .before .before .before .before .before .pre .1 .1, c .before .before .before .before .before .before .before .before .before .before .before .before .pre .1 .2, c .before .before .before .before .before .before .before .before .before .before .before .before .pre .1 .3), record { few = omega (arith, c .before .before .before .before .before .before .before .before .before .before .before .before .pre .1 .0 .room, c .before .before .before .before .before .before .before .before .before .before .before .before .pre .1 .0 .few, c .before .before .before .before .before .before .before .before .before .before .before .before .pre .1 .1, c .before .before .before .before .before .before .before .before .before .before .before .before .pre .1 .2, c .before .before .before .before .before .before .before .before .before .before .before .before .pre .1 .3); deep = omega (arith, c .before .before .before .before .before .before .before .before .before .before .before .before .pre .1 .0 .room, c .before .before .before .before .before .before .before .before .before .before .before .before .pre .1 .0 .few, c .before .before .before .before .before .before .before .before .before .before .before .before .pre .1 .1, c .before .before .before .before .before .before .before .before .before .before .before .before .pre .1 .2, c .before .before .before .before .before .before .before .before .before .before .before .before .pre .1 .3); room = omega (arith, c .before .before .before .before .before .before .before .before .before .before .before .before .pre .1 .0 .room, c .before .before .before .before .before .before .before .before .before .before .before .before .pre .1 .0 .few, c .before .before .before .before .before .before .before .before .before .before .before .before .pre .1 .1, c .before .before .before .before .before .before .before .before .before .before .before .before .pre .1 .2, c .before .before .before .before .before .before .before .before .before .before .before .before .pre .1 .3, c .before .before .before .before .before .before .before .put-u8 .ensures .next, c .before .before .before .put .ensures .next) })
+put-element-put-rows-requires t c κs = (omega (arith, c .before .before .before .before .before .before .before .before .before .before .before .before .before .pre .1 .0 .room, c .before .before .before .before .before .before .before .before .before .before .before .before .before .pre .1 .0 .few, c .before .before .before .before .before .before .before .before .before .before .before .before .before .pre .1 .1, c .before .before .before .before .before .before .before .before .before .before .before .before .before .pre .1 .2, c .before .before .before .before .before .before .before .before .before .before .before .before .before .pre .1 .3), (record { few = omega (arith, c .before .before .before .before .before .before .before .before .before .before .before .before .before .pre .1 .0 .room, c .before .before .before .before .before .before .before .before .before .before .before .before .before .pre .1 .0 .few, c .before .before .before .before .before .before .before .before .before .before .before .before .before .pre .1 .1, c .before .before .before .before .before .before .before .before .before .before .before .before .before .pre .1 .2, c .before .before .before .before .before .before .before .before .before .before .before .before .before .pre .1 .3); deep = omega (arith, c .before .before .before .before .before .before .before .before .before .before .before .before .before .pre .1 .0 .room, c .before .before .before .before .before .before .before .before .before .before .before .before .before .pre .1 .0 .few, c .before .before .before .before .before .before .before .before .before .before .before .before .before .pre .1 .1, c .before .before .before .before .before .before .before .before .before .before .before .before .before .pre .1 .2, c .before .before .before .before .before .before .before .before .before .before .before .before .before .pre .1 .3); room = omega (arith, c .before .before .before .before .before .before .before .before .before .before .before .before .before .pre .1 .0 .room, c .before .before .before .before .before .before .before .before .before .before .before .before .before .pre .1 .0 .few, c .before .before .before .before .before .before .before .before .before .before .before .before .before .pre .1 .1, c .before .before .before .before .before .before .before .before .before .before .before .before .before .pre .1 .2, c .before .before .before .before .before .before .before .before .before .before .before .before .before .pre .1 .3, c .before .before .before .before .before .before .before .put-u8 .ensures .next, c .before .before .before .put .ensures .next) }, c .before .before .before .before .before .before .before .before .before .before .before .before .before .pre .1 .4))
 
 put-element-slice-aggregate-put : (t : ℕ) → put-element-lts.Need-slice-aggregate-put (put-element-calls t) (put-element-at t) put-element.Post
 put-element-slice-aggregate-put t c = search needs
 
 put-element-put-requires-2 : (t : ℕ) → put-element-lts.Need-put-requires-2 (put-element-calls t) (put-element-at t) put-element.Post
-put-element-put-requires-2 t c κs = omega (arith, c .before .before .before .before .before .before .before .before .before .before .before .before .before .before .before .before .before .pre .1 .0 .room, c .before .before .before .before .before .before .before .before .before .before .before .before .before .before .before .before .before .pre .1 .0 .few, c .before .before .before .before .before .before .before .before .before .before .before .before .before .before .before .before .before .pre .1 .1, c .before .before .before .before .before .before .before .before .before .before .before .before .before .before .before .before .before .pre .1 .2, c .before .before .before .before .before .before .before .before .before .before .before .before .before .before .before .before .before .pre .1 .3, c .before .before .before .before .put-rows .ensures .small, c .before .before .before .before .before .before .before .before .before .before .before .before .put-u8 .ensures .next, c .before .before .before .before .before .before .before .before .put .ensures .next)
+put-element-put-requires-2 t c κs = omega (arith, c .before .before .before .before .before .before .before .before .before .before .before .before .before .before .before .before .before .before .pre .1 .0 .room, c .before .before .before .before .before .before .before .before .before .before .before .before .before .before .before .before .before .before .pre .1 .0 .few, c .before .before .before .before .before .before .before .before .before .before .before .before .before .before .before .before .before .before .pre .1 .1, c .before .before .before .before .before .before .before .before .before .before .before .before .before .before .before .before .before .before .pre .1 .2, c .before .before .before .before .before .before .before .before .before .before .before .before .before .before .before .before .before .before .pre .1 .3, c .before .before .before .before .put-rows .ensures .small, c .before .before .before .before .before .before .before .before .before .before .before .before .put-u8 .ensures .next, c .before .before .before .before .before .before .before .before .put .ensures .next)
 
 put-element-put-requires-3 : (t : ℕ) → put-element-lts.Need-put-requires-3 (put-element-calls t) (put-element-at t) put-element.Post
-put-element-put-requires-3 t c κs = omega (arith, c .before .before .before .before .before .before .before .before .before .before .before .before .before .before .before .before .before .before .before .before .before .pre .1 .0 .room, c .before .before .before .before .before .before .before .before .before .before .before .before .before .before .before .before .before .before .before .before .before .pre .1 .0 .few, c .before .before .before .before .before .before .before .before .before .before .before .before .before .before .before .before .before .before .before .before .before .pre .1 .1, c .before .before .before .before .before .before .before .before .before .before .before .before .before .before .before .before .before .before .before .before .before .pre .1 .2, c .before .before .before .before .before .before .before .before .before .before .before .before .before .before .before .before .before .before .before .before .before .pre .1 .3, c .before .before .before .before .before .before .before .before .put-rows .ensures .small, c .before .before .before .before .before .before .before .before .before .before .before .before .before .before .before .before .put-u8 .ensures .next, c .before .before .before .before .before .before .before .before .before .before .before .before .put .ensures .next, c .before .before .before .put2 .ensures .next)
+put-element-put-requires-3 t c κs = omega (arith, c .before .before .before .before .before .before .before .before .before .before .before .before .before .before .before .before .before .before .before .before .before .before .pre .1 .0 .room, c .before .before .before .before .before .before .before .before .before .before .before .before .before .before .before .before .before .before .before .before .before .before .pre .1 .0 .few, c .before .before .before .before .before .before .before .before .before .before .before .before .before .before .before .before .before .before .before .before .before .before .pre .1 .1, c .before .before .before .before .before .before .before .before .before .before .before .before .before .before .before .before .before .before .before .before .before .before .pre .1 .2, c .before .before .before .before .before .before .before .before .before .before .before .before .before .before .before .before .before .before .before .before .before .before .pre .1 .3, c .before .before .before .before .before .before .before .before .put-rows .ensures .small, c .before .before .before .before .before .before .before .before .before .before .before .before .before .before .before .before .put-u8 .ensures .next, c .before .before .before .before .before .before .before .before .before .before .before .before .put .ensures .next, c .before .before .before .put2 .ensures .next)
 
 put-element-put-u8-requires-2 : (t : ℕ) → put-element-lts.Need-put-u8-requires-2 (put-element-calls t) (put-element-at t) put-element.Post
-put-element-put-u8-requires-2 t c κs = omega (arith, c .before .before .before .before .before .before .before .before .before .before .before .before .before .before .before .before .before .before .before .before .before .before .before .before .before .pre .1 .0 .room, c .before .before .before .before .before .before .before .before .before .before .before .before .before .before .before .before .before .before .before .before .before .before .before .before .before .pre .1 .0 .few, c .before .before .before .before .before .before .before .before .before .before .before .before .before .before .before .before .before .before .before .before .before .before .before .before .before .pre .1 .1, c .before .before .before .before .before .before .before .before .before .before .before .before .before .before .before .before .before .before .before .before .before .before .before .before .before .pre .1 .2, c .before .before .before .before .before .before .before .before .before .before .before .before .before .before .before .before .before .before .before .before .before .before .before .before .before .pre .1 .3, c .before .before .before .before .before .before .before .before .before .before .before .before .put-rows .ensures .small, c .before .before .before .before .before .before .before .before .before .before .before .before .before .before .before .before .before .before .before .before .put-u8 .ensures .next, c .before .before .before .before .before .before .before .before .before .before .before .before .before .before .before .before .put .ensures .next, c .before .before .before .before .before .before .before .put2 .ensures .next, c .before .before .before .put3 .ensures .next)
+put-element-put-u8-requires-2 t c κs = omega (arith, c .before .before .before .before .before .before .before .before .before .before .before .before .before .before .before .before .before .before .before .before .before .before .before .before .before .before .pre .1 .0 .room, c .before .before .before .before .before .before .before .before .before .before .before .before .before .before .before .before .before .before .before .before .before .before .before .before .before .before .pre .1 .0 .few, c .before .before .before .before .before .before .before .before .before .before .before .before .before .before .before .before .before .before .before .before .before .before .before .before .before .before .pre .1 .1, c .before .before .before .before .before .before .before .before .before .before .before .before .before .before .before .before .before .before .before .before .before .before .before .before .before .before .pre .1 .2, c .before .before .before .before .before .before .before .before .before .before .before .before .before .before .before .before .before .before .before .before .before .before .before .before .before .before .pre .1 .3, c .before .before .before .before .before .before .before .before .before .before .before .before .put-rows .ensures .small, c .before .before .before .before .before .before .before .before .before .before .before .before .before .before .before .before .before .before .before .before .put-u8 .ensures .next, c .before .before .before .before .before .before .before .before .before .before .before .before .before .before .before .before .put .ensures .next, c .before .before .before .before .before .before .before .put2 .ensures .next, c .before .before .before .put3 .ensures .next)
 
 put-element-same-length : (t : ℕ) → put-element-lts.Need-same-length (put-element-calls t) (put-element-at t) put-element.Post
 put-element-same-length t c = search needs
 
 put-element-returns : (t : ℕ) → put-element-lts.Need-returns (put-element-calls t) (put-element-at t) put-element.Post
-put-element-returns t c = let a = c .before .before .before .before .before .before .before .before .before .before .before .before .before .before .before .before .before .before .before .before .before .before .before .before .before .before .before .before .args in
-    element-enclosed (a .store .now) (a .count) (a .i) (a .depth) (a .name .now) (c .before .before .before .before .before .before .before .before .before .before .before .before .before .before .before .before .before .before .before .before .before .before .before .before .before .before .before .before .pre .1 .3) (c .before .before .before .before .before .before .before .before .before .before .before .before .before .before .before .before .before .before .before .before .before .before .before .put-u8 .ensures) (c .before .before .before .before .before .before .before .before .before .before .before .before .before .before .before .before .before .before .before .put .ensures) (c .before .before .before .before .before .before .before .before .before .before .before .before .before .before .before .put-rows .ensures) (c .before .before .before .before .before .before .before .before .before .before .put2 .ensures) (c .before .before .before .before .before .before .put3 .ensures) (c .before .before .put-u82 .ensures)
+put-element-returns t c = let a = c .before .before .before .before .before .before .before .before .before .before .before .before .before .before .before .before .before .before .before .before .before .before .before .before .before .before .before .before .before .args in
+    element-enclosed (a .store .now) (a .rows .now) (a .w) (a .count) (a .i) (a .depth) (a .name .now) (c .before .before .before .before .before .before .before .before .before .before .before .before .before .before .before .before .before .before .before .before .before .before .before .before .before .before .before .before .before .pre .1 .3) (c .before .before .before .before .before .before .before .before .before .before .before .before .before .before .before .before .before .before .before .before .before .before .before .put-u8 .ensures) (c .before .before .before .before .before .before .before .before .before .before .before .before .before .before .before .before .before .before .before .put .ensures) (c .before .before .before .before .before .before .before .before .before .before .before .before .before .before .before .put-rows .ensures) (c .before .before .before .before .before .before .before .before .before .before .put2 .ensures) (c .before .before .before .before .before .before .put3 .ensures) (c .before .before .put-u82 .ensures)
 
-put-row-row-requires : (t : ℕ) → put-row-lts.Need-row-requires (put-row-calls t) (put-row-at t) put-row.Post
-put-row-row-requires t c κs = search needs
+put-row-row-at-requires : (t : ℕ) → put-row-lts.Need-row-at-requires (put-row-calls t) (put-row-at t) put-row.Post
+put-row-row-at-requires t c κs = search needs
 
-put-row-byte-requires : (t : ℕ) → put-row-lts.Need-byte-requires (put-row-calls t) (put-row-at t) put-row.Post
-put-row-byte-requires t c κs = search needs
+put-row-row-sort-requires : (t : ℕ) → put-row-lts.Need-row-sort-requires (put-row-calls t) (put-row-at t) put-row.Post
+put-row-row-sort-requires t c κs = search needs
 
-put-row-get-u16-requires : (t : ℕ) → put-row-lts.Need-get-u16-requires (put-row-calls t) (put-row-at t) put-row.Post
-put-row-get-u16-requires t c κs = search needs
+put-row-row-index-requires : (t : ℕ) → put-row-lts.Need-row-index-requires (put-row-calls t) (put-row-at t) put-row.Post
+put-row-row-index-requires t c κs = search needs
 
 put-row-cast-index : (t : ℕ) → put-row-lts.Need-cast-index (put-row-calls t) (put-row-at t) put-row.Post
 put-row-cast-index t c = search needs
@@ -130,20 +132,20 @@ put-row-attribute-name-of-requires : (t : ℕ) → put-row-lts.Need-attribute-na
 put-row-attribute-name-of-requires t c κs = search needs
 
 put-row-value-of-requires : (t : ℕ) → put-row-lts.Need-value-of-requires (put-row-calls t) (put-row-at t) put-row.Post
-put-row-value-of-requires t c κs = search needs
+put-row-value-of-requires t c κs = let at-row = c .before .before .before .before in row-short _ _ _ _ (at-row .before .before .before .before .pre .1 .3) (at-row .row-at .ensures)
 
 put-row-put-attribute-requires : (t : ℕ) → put-row-lts.Need-put-attribute-requires (put-row-calls t) (put-row-at t) put-row.Post
-put-row-put-attribute-requires t c κs = (omega (arith, c .before .before .before .before .before .before .before .before .before .pre .1 .0 .room, c .before .before .before .before .before .before .before .before .before .pre .1 .0 .few, c .before .before .before .before .before .before .before .before .before .pre .1 .1, c .before .before .before .before .before .before .before .before .before .pre .1 .2), c .before .before .attribute-name-of .ensures .short, c .before .value-of .ensures .short)
+put-row-put-attribute-requires t c κs = (omega (arith, c .before .before .before .before .before .before .before .before .before .before .pre .1 .0 .room, c .before .before .before .before .before .before .before .before .before .before .pre .1 .0 .few, c .before .before .before .before .before .before .before .before .before .before .pre .1 .1, c .before .before .before .before .before .before .before .before .before .before .pre .1 .2), c .before .before .attribute-name-of .ensures .short, c .before .value-of .ensures .short)
 
-put-row-add-t19 : (t : ℕ) → put-row-lts.Need-add-t19 (put-row-calls t) (put-row-at t) put-row.Post
-put-row-add-t19 t c = search needs
+put-row-add-t21 : (t : ℕ) → put-row-lts.Need-add-t21 (put-row-calls t) (put-row-at t) put-row.Post
+put-row-add-t21 t c = search needs
 
 put-row-same-length : (t : ℕ) → put-row-lts.Need-same-length (put-row-calls t) (put-row-at t) put-row.Post
 put-row-same-length t c = search needs
 
 put-row-returns : (t : ℕ) → put-row-lts.Need-returns (put-row-calls t) (put-row-at t) put-row.Post
-put-row-returns t c = let a = c .before .before .before .before .before .before .before .before .before .before .before .before .args in
-    attribute-stepped (a .store .now) (a .count) (a .i) (a .depth) (a .opened) _ (c .before .before .before .before .before .before .before .before .before .row .ensures) (c .before .before .before .before .before .before .before .before .before .before .before .before .pre .1 .1) (c .before .before .before .before .before .before .before .before .byte .ensures) (c .before .before .before .before .before .before .before .get-u16 .ensures) (c .before .before .before .before .before .before .if1 .taken) (c .before .before .before .before .before .attribute-name-of .ensures) (c .before .before .before .before .value-of .ensures) (c .before .before .put-attribute .ensures)
+put-row-returns t c = let a = c .before .before .before .before .before .before .before .before .before .before .before .before .before .args in
+    attribute-stepped (a .store .now) (a .rows .now) (a .w) (a .count) (a .i) (a .depth) (a .opened) _ (c .before .before .before .before .before .before .before .before .before .row-at .ensures) (c .before .before .before .before .before .before .before .before .before .before .before .before .before .pre .1 .1) (c .before .before .before .before .before .before .before .before .row-sort .ensures) (c .before .before .before .before .before .before .before .row-index .ensures) (c .before .before .before .before .before .before .if1 .taken) (c .before .before .before .before .before .attribute-name-of .ensures) (c .before .before .before .before .value-of .ensures) (c .before .before .put-attribute .ensures)
 
 put-row-put-end-requires : (t : ℕ) → put-row-lts.Need-put-end-requires (put-row-calls t) (put-row-at t) put-row.Post
 put-row-put-end-requires t c κs = search needs
@@ -152,65 +154,65 @@ put-row-name-of-requires : (t : ℕ) → put-row-lts.Need-name-of-requires (put-
 put-row-name-of-requires t c κs = search needs
 
 put-row-put-element-requires : (t : ℕ) → put-row-lts.Need-put-element-requires (put-row-calls t) (put-row-at t) put-row.Post
-put-row-put-element-requires t c κs = (omega (arith, c .before .before .before .before .before .before .before .before .before .before .before .before .before .pre .1 .0 .room, c .before .before .before .before .before .before .before .before .before .before .before .before .before .pre .1 .0 .few, c .before .before .before .before .before .before .before .before .before .before .before .before .before .pre .1 .1, c .before .before .before .before .before .before .before .before .before .before .before .before .before .pre .1 .2), (record { few = omega (arith, c .before .before .before .before .before .before .before .before .before .before .before .before .before .pre .1 .0 .room, c .before .before .before .before .before .before .before .before .before .before .before .before .before .pre .1 .0 .few, c .before .before .before .before .before .before .before .before .before .before .before .before .before .pre .1 .1, c .before .before .before .before .before .before .before .before .before .before .before .before .before .pre .1 .2); deep = omega (arith, c .before .before .before .before .before .before .before .before .before .before .before .before .before .pre .1 .0 .room, c .before .before .before .before .before .before .before .before .before .before .before .before .before .pre .1 .0 .few, c .before .before .before .before .before .before .before .before .before .before .before .before .before .pre .1 .1, c .before .before .before .before .before .before .before .before .before .before .before .before .before .pre .1 .2); room = omega (arith, c .before .before .before .before .before .before .before .before .before .before .before .before .before .pre .1 .0 .room, c .before .before .before .before .before .before .before .before .before .before .before .before .before .pre .1 .0 .few, c .before .before .before .before .before .before .before .before .before .before .before .before .before .pre .1 .1, c .before .before .before .before .before .before .before .before .before .before .before .before .before .pre .1 .2, c .before .before .before .before .before .put-end .ensures .next, end-short (c .before .before .before .before .before .before .before .before .before .before .before .before .before .args .opened)) }, c .before .before .before .before .before .before .before .before .before .before .before .before .before .pre .1 .1, c .before .before .before .before .before .before .before .before .before .before .before .before .before .pre .1 .2, c .before .name-of .ensures .short))
+put-row-put-element-requires t c κs = (omega (arith, c .before .before .before .before .before .before .before .before .before .before .before .before .before .before .pre .1 .0 .room, c .before .before .before .before .before .before .before .before .before .before .before .before .before .before .pre .1 .0 .few, c .before .before .before .before .before .before .before .before .before .before .before .before .before .before .pre .1 .1, c .before .before .before .before .before .before .before .before .before .before .before .before .before .before .pre .1 .2), (record { few = omega (arith, c .before .before .before .before .before .before .before .before .before .before .before .before .before .before .pre .1 .0 .room, c .before .before .before .before .before .before .before .before .before .before .before .before .before .before .pre .1 .0 .few, c .before .before .before .before .before .before .before .before .before .before .before .before .before .before .pre .1 .1, c .before .before .before .before .before .before .before .before .before .before .before .before .before .before .pre .1 .2); deep = omega (arith, c .before .before .before .before .before .before .before .before .before .before .before .before .before .before .pre .1 .0 .room, c .before .before .before .before .before .before .before .before .before .before .before .before .before .before .pre .1 .0 .few, c .before .before .before .before .before .before .before .before .before .before .before .before .before .before .pre .1 .1, c .before .before .before .before .before .before .before .before .before .before .before .before .before .before .pre .1 .2); room = omega (arith, c .before .before .before .before .before .before .before .before .before .before .before .before .before .before .pre .1 .0 .room, c .before .before .before .before .before .before .before .before .before .before .before .before .before .before .pre .1 .0 .few, c .before .before .before .before .before .before .before .before .before .before .before .before .before .before .pre .1 .1, c .before .before .before .before .before .before .before .before .before .before .before .before .before .before .pre .1 .2, c .before .before .before .before .before .put-end .ensures .next, end-short (c .before .before .before .before .before .before .before .before .before .before .before .before .before .before .args .opened)) }, c .before .before .before .before .before .before .before .before .before .before .before .before .before .before .pre .1 .1, c .before .before .before .before .before .before .before .before .before .before .before .before .before .before .pre .1 .2, c .before .name-of .ensures .short, c .before .before .before .before .before .before .before .before .before .before .before .before .before .before .pre .1 .3))
 
 put-row-same-length-2 : (t : ℕ) → put-row-lts.Need-same-length-2 (put-row-calls t) (put-row-at t) put-row.Post
 put-row-same-length-2 t c = search needs
 
 put-row-returns-2 : (t : ℕ) → put-row-lts.Need-returns-2 (put-row-calls t) (put-row-at t) put-row.Post
-put-row-returns-2 t c = let a = c .before .before .before .before .before .before .before .before .before .before .before .before .before .before .before .before .args in
-    row-element-stepped (a .store .now) (a .count) (a .i) (a .depth) (a .opened) _ (c .before .before .before .before .before .before .before .before .before .before .before .before .before .row .ensures) (c .before .before .before .before .before .before .before .before .before .before .before .before .before .before .before .before .pre .1 .1) (c .before .before .before .before .before .before .before .before .before .before .before .before .byte .ensures) (c .before .before .before .before .before .before .before .before .before .before .before .get-u16 .ensures) (c .before .before .before .before .before .if2 .taken) (c .before .before .before .before .before .before .before .before .put-end .ensures) (c .before .before .before .before .name-of .ensures) (c .before .before .put-element .ensures)
+put-row-returns-2 t c = let a = c .before .before .before .before .before .before .before .before .before .before .before .before .before .before .before .before .before .args in
+    row-element-stepped (a .store .now) (a .rows .now) (a .w) (a .count) (a .i) (a .depth) (a .opened) _ (c .before .before .before .before .before .before .before .before .before .before .before .before .before .row-at .ensures) (c .before .before .before .before .before .before .before .before .before .before .before .before .before .before .before .before .before .pre .1 .1) (c .before .before .before .before .before .before .before .before .before .before .before .before .row-sort .ensures) (c .before .before .before .before .before .before .before .before .before .before .before .row-index .ensures) (c .before .before .before .before .before .if2 .taken) (c .before .before .before .before .before .before .before .before .put-end .ensures) (c .before .before .before .before .name-of .ensures) (c .before .before .put-element .ensures)
 
 put-row-value-of-requires-2 : (t : ℕ) → put-row-lts.Need-value-of-requires-2 (put-row-calls t) (put-row-at t) put-row.Post
-put-row-value-of-requires-2 t c κs = search needs
+put-row-value-of-requires-2 t c κs = let at-row = c .before .before .before .before .before .before .before .before in row-short _ _ _ _ (at-row .before .before .before .before .pre .1 .3) (at-row .row-at .ensures)
 
 put-row-put-escaped-requires : (t : ℕ) → put-row-lts.Need-put-escaped-requires (put-row-calls t) (put-row-at t) put-row.Post
-put-row-put-escaped-requires t c κs = omega (arith, c .before .before .before .before .before .before .before .before .before .before .before .before .before .pre .1 .0 .room, c .before .before .before .before .before .before .before .before .before .before .before .before .before .pre .1 .0 .few, c .before .before .before .before .before .before .before .before .before .before .before .before .before .pre .1 .1, c .before .before .before .before .before .before .before .before .before .before .before .before .before .pre .1 .2, c .before .before .before .before .before .put-end .ensures .next, end-short (c .before .before .before .before .before .before .before .before .before .before .before .before .before .args .opened), c .before .value-of2 .ensures .short)
+put-row-put-escaped-requires t c κs = omega (arith, c .before .before .before .before .before .before .before .before .before .before .before .before .before .before .pre .1 .0 .room, c .before .before .before .before .before .before .before .before .before .before .before .before .before .before .pre .1 .0 .few, c .before .before .before .before .before .before .before .before .before .before .before .before .before .before .pre .1 .1, c .before .before .before .before .before .before .before .before .before .before .before .before .before .before .pre .1 .2, c .before .before .before .before .before .put-end .ensures .next, end-short (c .before .before .before .before .before .before .before .before .before .before .before .before .before .before .args .opened), c .before .value-of2 .ensures .short)
 
-put-row-add-t29 : (t : ℕ) → put-row-lts.Need-add-t29 (put-row-calls t) (put-row-at t) put-row.Post
-put-row-add-t29 t c = search needs
+put-row-add-t31 : (t : ℕ) → put-row-lts.Need-add-t31 (put-row-calls t) (put-row-at t) put-row.Post
+put-row-add-t31 t c = search needs
 
 put-row-same-length-3 : (t : ℕ) → put-row-lts.Need-same-length-3 (put-row-calls t) (put-row-at t) put-row.Post
 put-row-same-length-3 t c = search needs
 
 put-row-returns-3 : (t : ℕ) → put-row-lts.Need-returns-3 (put-row-calls t) (put-row-at t) put-row.Post
-put-row-returns-3 t c = let a = c .before .before .before .before .before .before .before .before .before .before .before .before .before .before .before .before .args in
-    text-stepped (a .store .now) (a .count) (a .i) (a .depth) (a .opened) _ (c .before .before .before .before .before .before .before .before .before .before .before .before .before .row .ensures) (c .before .before .before .before .before .before .before .before .before .before .before .before .before .before .before .before .pre .1 .1) (c .before .before .before .before .before .before .before .before .before .before .before .before .byte .ensures) (c .before .before .before .before .before .before .before .before .before .before .before .get-u16 .ensures) (c .before .before .before .before .before .if2 .left) (c .before .before .before .before .before .before .before .before .before .before .if1 .left) (c .before .before .before .before .before .before .before .before .put-end .ensures) (c .before .before .before .before .value-of2 .ensures) (c .before .before .put-escaped .ensures)
+put-row-returns-3 t c = let a = c .before .before .before .before .before .before .before .before .before .before .before .before .before .before .before .before .before .args in
+    text-stepped (a .store .now) (a .rows .now) (a .w) (a .count) (a .i) (a .depth) (a .opened) _ (c .before .before .before .before .before .before .before .before .before .before .before .before .before .row-at .ensures) (c .before .before .before .before .before .before .before .before .before .before .before .before .before .before .before .before .before .pre .1 .1) (c .before .before .before .before .before .before .before .before .before .before .before .before .row-sort .ensures) (c .before .before .before .before .before .before .before .before .before .before .before .row-index .ensures) (c .before .before .before .before .before .if2 .left) (c .before .before .before .before .before .before .before .before .before .before .if1 .left) (c .before .before .before .before .before .before .before .before .put-end .ensures) (c .before .before .before .before .value-of2 .ensures) (c .before .before .put-escaped .ensures)
 
 abbrev put-rows-Inv-loop : put-rows-lts.InvT-loop
-put-rows-Inv-loop store count from depth behind out₀ start at₀ i₀ opened₀ out at i opened = Walk (rowsFrom store count) (rowsText (namesOf store) (attributeNamesOf store)) (rowsText (namesOf store) (attributeNamesOf store) behind (build (rowsFrom store count from) depth)) count from depth start out₀ i at opened out
+put-rows-Inv-loop w store rows count from depth behind out₀ start at₀ i₀ opened₀ out at i opened = Walk (rowsFrom w rows count) (rowsText (namesOf store) (attributeNamesOf store)) (rowsText (namesOf store) (attributeNamesOf store) behind (build (rowsFrom w rows count from) depth)) count from depth start out₀ i at opened out
 
 abbrev put-rows-μ-loop : put-rows-lts.MeasureT-loop
-put-rows-μ-loop store count from depth behind out₀ start at₀ i₀ opened₀ out at i opened = count - i
+put-rows-μ-loop w store rows count from depth behind out₀ start at₀ i₀ opened₀ out at i opened = count - i
 
 put-rows-loop-holds : (t : ℕ) → put-rows-lts.Need-loop-holds (put-rows-calls t) (put-rows-at t) put-rows.Post put-rows-Inv-loop put-rows-μ-loop
 put-rows-loop-holds t c = walk-start _ _ _ _ _ _
 
-put-rows-row-requires : (t : ℕ) → put-rows-lts.Need-row-requires (put-rows-calls t) (put-rows-at t) put-rows.Post put-rows-Inv-loop put-rows-μ-loop
-put-rows-row-requires t c κs = search needs
+put-rows-row-at-requires : (t : ℕ) → put-rows-lts.Need-row-at-requires (put-rows-calls t) (put-rows-at t) put-rows.Post put-rows-Inv-loop put-rows-μ-loop
+put-rows-row-at-requires t c κs = search needs
 
-put-rows-byte-requires : (t : ℕ) → put-rows-lts.Need-byte-requires (put-rows-calls t) (put-rows-at t) put-rows.Post put-rows-Inv-loop put-rows-μ-loop
-put-rows-byte-requires t c κs = search needs
+put-rows-row-depth-requires : (t : ℕ) → put-rows-lts.Need-row-depth-requires (put-rows-calls t) (put-rows-at t) put-rows.Post put-rows-Inv-loop put-rows-μ-loop
+put-rows-row-depth-requires t c κs = search needs
 
 put-rows-cast-d : (t : ℕ) → put-rows-lts.Need-cast-d (put-rows-calls t) (put-rows-at t) put-rows.Post put-rows-Inv-loop put-rows-μ-loop
 put-rows-cast-d t c = search needs
 
 put-rows-put-end-requires : (t : ℕ) → put-rows-lts.Need-put-end-requires (put-rows-calls t) (put-rows-at t) put-rows.Post put-rows-Inv-loop put-rows-μ-loop
-put-rows-put-end-requires t c κs = omega (arith, c .before .before .before .before .before .before .before .before .pre .1 .room, c .before .before .before .before .before .before .before .before .pre .1 .few, c .before .before .before .before .before .before .before .before .pre .1 .deep, c .before .before .before .before .before .loop .inv .small)
+put-rows-put-end-requires t c κs = omega (arith, c .before .before .before .before .before .before .before .before .before .pre .1 .0 .room, c .before .before .before .before .before .before .before .before .before .pre .1 .0 .few, c .before .before .before .before .before .before .before .before .before .pre .1 .0 .deep, c .before .before .before .before .before .loop .inv .small)
 
 put-rows-same-length : (t : ℕ) → put-rows-lts.Need-same-length (put-rows-calls t) (put-rows-at t) put-rows.Post put-rows-Inv-loop put-rows-μ-loop
 put-rows-same-length t c = laid-long (c .before .before .put-end .ensures) ∙ c .before .before .before .before .before .before .before .before .loop .inv .long
 
 put-rows-returns : (t : ℕ) → put-rows-lts.Need-returns (put-rows-calls t) (put-rows-at t) put-rows.Post put-rows-Inv-loop put-rows-μ-loop
-put-rows-returns t c = let l = c .before .before .before .before .before .before .before .before in let a = l .before .before .before .args in
-    let d : c .before .before .before .before .before .byte .result ≡ getD (rowPart (a .store .now) (l .loop .i)) 1 0 = c .before .before .before .before .before .byte .ensures ∙ ap (λ (b : List ℕ). getD b 1 0) (c .before .before .before .before .before .before .row .ensures) in
-    walk-stops (l .loop .inv) (readRow (rowPart (a .store .now) (l .loop .i))) _ (row-step (a .store .now) (a .count) (l .loop .i) (omega arith)) (omega arith) (rows-bare (namesOf (a .store .now)) (attributeNamesOf (a .store .now)) (l .loop .opened)) (end-short (l .loop .opened)) (c .before .before .put-end .ensures)
+put-rows-returns t c = let l = c .before .before .before .before .before .before .before .before in let a = l .before .before .before .before .args in
+    let d : c .before .before .before .before .before .row-depth .result ≡ getD (recordAt (rowSize (a .w)) (l .loop .i) (a .rows .now)) 1 0 = c .before .before .before .before .before .row-depth .ensures ∙ ap (λ (b : List ℕ). getD b 1 0) (c .before .before .before .before .before .before .row-at .ensures) in
+    walk-stops (l .loop .inv) (readRow (recordAt (rowSize (a .w)) (l .loop .i) (a .rows .now))) _ (row-step (a .w) (a .rows .now) (a .count) (l .loop .i) (omega arith)) (omega arith) (rows-bare (namesOf (a .store .now)) (attributeNamesOf (a .store .now)) (l .loop .opened)) (end-short (l .loop .opened)) (c .before .before .put-end .ensures)
 
 put-rows-put-row-requires : (t : ℕ) → put-rows-lts.Need-put-row-requires (put-rows-calls t) (put-rows-at t) put-rows.Post put-rows-Inv-loop put-rows-μ-loop
-put-rows-put-row-requires t c κs = (omega (arith, c .before .before .before .before .before .before .loop .inv .onward), (record { few = omega (arith, c .before .before .before .before .before .before .before .before .before .pre .1 .room, c .before .before .before .before .before .before .before .before .before .pre .1 .few, c .before .before .before .before .before .before .before .before .before .pre .1 .deep); deep = omega (arith, c .before .before .before .before .before .before .before .before .before .pre .1 .room, c .before .before .before .before .before .before .before .before .before .pre .1 .few, c .before .before .before .before .before .before .before .before .before .pre .1 .deep); room = omega (arith, c .before .before .before .before .before .before .before .before .before .pre .1 .room, c .before .before .before .before .before .before .before .before .before .pre .1 .few, c .before .before .before .before .before .before .before .before .before .pre .1 .deep, c .before .before .before .before .before .before .loop .inv .small) }, omega arith, omega arith))
+put-rows-put-row-requires t c κs = (omega (arith, c .before .before .before .before .before .before .loop .inv .onward), (record { few = omega (arith, c .before .before .before .before .before .before .before .before .before .before .pre .1 .0 .room, c .before .before .before .before .before .before .before .before .before .before .pre .1 .0 .few, c .before .before .before .before .before .before .before .before .before .before .pre .1 .0 .deep); deep = omega (arith, c .before .before .before .before .before .before .before .before .before .before .pre .1 .0 .room, c .before .before .before .before .before .before .before .before .before .before .pre .1 .0 .few, c .before .before .before .before .before .before .before .before .before .before .pre .1 .0 .deep); room = omega (arith, c .before .before .before .before .before .before .before .before .before .before .pre .1 .0 .room, c .before .before .before .before .before .before .before .before .before .before .pre .1 .0 .few, c .before .before .before .before .before .before .before .before .before .before .pre .1 .0 .deep, c .before .before .before .before .before .before .loop .inv .small) }, omega arith, omega arith, c .before .before .before .before .before .before .before .before .before .before .pre .1 .1))
 
-put-rows-byte-requires-2 : (t : ℕ) → put-rows-lts.Need-byte-requires-2 (put-rows-calls t) (put-rows-at t) put-rows.Post put-rows-Inv-loop put-rows-μ-loop
-put-rows-byte-requires-2 t c κs = search needs
+put-rows-row-sort-requires : (t : ℕ) → put-rows-lts.Need-row-sort-requires (put-rows-calls t) (put-rows-at t) put-rows.Post put-rows-Inv-loop put-rows-μ-loop
+put-rows-row-sort-requires t c κs = search needs
 
 put-rows-stays-open-requires : (t : ℕ) → put-rows-lts.Need-stays-open-requires (put-rows-calls t) (put-rows-at t) put-rows.Post put-rows-Inv-loop put-rows-μ-loop
 put-rows-stays-open-requires t c κs = search needs
@@ -219,11 +221,11 @@ put-rows-loop-less : (t : ℕ) → put-rows-lts.Need-loop-less (put-rows-calls t
 put-rows-loop-less t c = omega (arith, c .before .before .before .before .put-row .ensures .onward)
 
 put-rows-loop-again : (t : ℕ) → put-rows-lts.Need-loop-again (put-rows-calls t) (put-rows-at t) put-rows.Post put-rows-Inv-loop put-rows-μ-loop
-put-rows-loop-again t c = let l = c .before .before .before .before .before .before .before .before .before .before .before in let a = l .before .before .before .args in
-    let d : c .before .before .before .before .before .before .before .before .byte .result ≡ getD (rowPart (a .store .now) (l .loop .i)) 1 0 = c .before .before .before .before .before .before .before .before .byte .ensures ∙ ap (λ (b : List ℕ). getD b 1 0) (c .before .before .before .before .before .before .before .before .before .row .ensures) in
-    let q = c .stays-open .ensures ∙ ap (λ (s : ℕ). stays (rowSortOf s) (l .loop .opened)) (c .before .byte2 .ensures ∙ ap (λ (b : List ℕ). getD b 0 0) (c .before .before .before .before .before .before .before .before .before .row .ensures)) in
+put-rows-loop-again t c = let l = c .before .before .before .before .before .before .before .before .before .before .before in let a = l .before .before .before .before .args in
+    let d : c .before .before .before .before .before .before .before .before .row-depth .result ≡ getD (recordAt (rowSize (a .w)) (l .loop .i) (a .rows .now)) 1 0 = c .before .before .before .before .before .before .before .before .row-depth .ensures ∙ ap (λ (b : List ℕ). getD b 1 0) (c .before .before .before .before .before .before .before .before .before .row-at .ensures) in
+    let q = c .stays-open .ensures ∙ ap (λ (s : ℕ). stays (rowSortOf s) (l .loop .opened)) (c .before .row-sort .ensures ∙ ap (λ (b : List ℕ). getD b 0 0) (c .before .before .before .before .before .before .before .before .before .row-at .ensures)) in
     walk-as q
-    (walk-here (l .loop .inv) (readRow (rowPart (a .store .now) (l .loop .i))) (stays (rowSortOf ((readRow (rowPart (a .store .now) (l .loop .i))) .row .sort)) (l .loop .opened)) _ (row-step (a .store .now) (a .count) (l .loop .i) (omega arith)) (omega arith) (omega arith) (λ t. rows-tree (namesOf (a .store .now)) (attributeNamesOf (a .store .now)) (l .loop .opened) ((readRow (rowPart (a .store .now) (l .loop .i))) .row) (build (rowsFrom (a .store .now) (a .count) (l .loop .i + 1)) (suc (a .depth))) t) (c .before .before .before .before .put-row .ensures))
+    (walk-here (l .loop .inv) (readRow (recordAt (rowSize (a .w)) (l .loop .i) (a .rows .now))) (stays (rowSortOf ((readRow (recordAt (rowSize (a .w)) (l .loop .i) (a .rows .now))) .row .sort)) (l .loop .opened)) _ (row-step (a .w) (a .rows .now) (a .count) (l .loop .i) (omega arith)) (omega arith) (omega arith) (λ t. rows-tree (namesOf (a .store .now)) (attributeNamesOf (a .store .now)) (l .loop .opened) ((readRow (recordAt (rowSize (a .w)) (l .loop .i) (a .rows .now))) .row) (build (rowsFrom (a .w) (a .rows .now) (a .count) (l .loop .i + 1)) (suc (a .depth))) t) (c .before .before .before .before .put-row .ensures))
 
 put-rows-add-i : (t : ℕ) → put-rows-lts.Need-add-i (put-rows-calls t) (put-rows-at t) put-rows.Post put-rows-Inv-loop put-rows-μ-loop
 put-rows-add-i t c = search needs
@@ -232,19 +234,19 @@ put-rows-loop-less-2 : (t : ℕ) → put-rows-lts.Need-loop-less-2 (put-rows-cal
 put-rows-loop-less-2 t c = search needs
 
 put-rows-loop-again-2 : (t : ℕ) → put-rows-lts.Need-loop-again-2 (put-rows-calls t) (put-rows-at t) put-rows.Post put-rows-Inv-loop put-rows-μ-loop
-put-rows-loop-again-2 t c = let l = c .before .before .before .before .before in let a = l .before .before .before .args in
-    let d : c .before .before .byte .result ≡ getD (rowPart (a .store .now) (l .loop .i)) 1 0 = c .before .before .byte .ensures ∙ ap (λ (b : List ℕ). getD b 1 0) (c .before .before .before .row .ensures) in
-    walk-deeper (l .loop .inv) (readRow (rowPart (a .store .now) (l .loop .i))) (row-step (a .store .now) (a .count) (l .loop .i) (omega arith)) (omega arith)
+put-rows-loop-again-2 t c = let l = c .before .before .before .before .before in let a = l .before .before .before .before .args in
+    let d : c .before .before .row-depth .result ≡ getD (recordAt (rowSize (a .w)) (l .loop .i) (a .rows .now)) 1 0 = c .before .before .row-depth .ensures ∙ ap (λ (b : List ℕ). getD b 1 0) (c .before .before .before .row-at .ensures) in
+    walk-deeper (l .loop .inv) (readRow (recordAt (rowSize (a .w)) (l .loop .i) (a .rows .now))) (row-step (a .w) (a .rows .now) (a .count) (l .loop .i) (omega arith)) (omega arith)
 
 put-rows-put-end-requires-2 : (t : ℕ) → put-rows-lts.Need-put-end-requires-2 (put-rows-calls t) (put-rows-at t) put-rows.Post put-rows-Inv-loop put-rows-μ-loop
-put-rows-put-end-requires-2 t c κs = omega (arith, c .before .before .before .before .before .pre .1 .room, c .before .before .before .before .before .pre .1 .few, c .before .before .before .before .before .pre .1 .deep, c .before .before .loop .inv .small)
+put-rows-put-end-requires-2 t c κs = omega (arith, c .before .before .before .before .before .before .pre .1 .0 .room, c .before .before .before .before .before .before .pre .1 .0 .few, c .before .before .before .before .before .before .pre .1 .0 .deep, c .before .before .loop .inv .small)
 
 put-rows-same-length-2 : (t : ℕ) → put-rows-lts.Need-same-length-2 (put-rows-calls t) (put-rows-at t) put-rows.Post put-rows-Inv-loop put-rows-μ-loop
 put-rows-same-length-2 t c = laid-long (c .before .before .put-end2 .ensures) ∙ c .before .before .before .before .before .loop .inv .long
 
 put-rows-returns-2 : (t : ℕ) → put-rows-lts.Need-returns-2 (put-rows-calls t) (put-rows-at t) put-rows.Post put-rows-Inv-loop put-rows-μ-loop
-put-rows-returns-2 t c = let l = c .before .before .before .before .before in let a = l .before .before .before .args in
-    walk-ends (l .loop .inv) _ (from-none readRow 44 _ (a .count) (l .loop .i) (omega arith)) (rows-bare (namesOf (a .store .now)) (attributeNamesOf (a .store .now)) (l .loop .opened)) (end-short (l .loop .opened)) (c .before .before .put-end2 .ensures)
+put-rows-returns-2 t c = let l = c .before .before .before .before .before in let a = l .before .before .before .before .args in
+    walk-ends (l .loop .inv) _ (from-none readRow (rowSize (a .w)) _ (a .count) (l .loop .i) (omega arith)) (rows-bare (namesOf (a .store .now)) (attributeNamesOf (a .store .now)) (l .loop .opened)) (end-short (l .loop .opened)) (c .before .before .put-end2 .ensures)
 
 pub +put-element+put-row+put-rows-spec : {M : Type 1} → statement M
 +put-element+put-row+put-rows-spec =
@@ -265,14 +267,14 @@ pub +put-element+put-row+put-rows-spec : {M : Type 1} → statement M
     (λ t. put-row-lts.spec (put-row-calls t)
     (put-row-at t)
     put-row.Post
-    (put-row-row-requires t)
-    (put-row-byte-requires t)
-    (put-row-get-u16-requires t)
+    (put-row-row-at-requires t)
+    (put-row-row-sort-requires t)
+    (put-row-row-index-requires t)
     (put-row-cast-index t)
     (put-row-attribute-name-of-requires t)
     (put-row-value-of-requires t)
     (put-row-put-attribute-requires t)
-    (put-row-add-t19 t)
+    (put-row-add-t21 t)
     (put-row-same-length t)
     (put-row-returns t)
     (put-row-put-end-requires t)
@@ -282,7 +284,7 @@ pub +put-element+put-row+put-rows-spec : {M : Type 1} → statement M
     (put-row-returns-2 t)
     (put-row-value-of-requires-2 t)
     (put-row-put-escaped-requires t)
-    (put-row-add-t29 t)
+    (put-row-add-t31 t)
     (put-row-same-length-3 t)
     (put-row-returns-3 t))
     λ t. put-rows-lts.spec (put-rows-calls t)
@@ -291,14 +293,14 @@ pub +put-element+put-row+put-rows-spec : {M : Type 1} → statement M
     put-rows-Inv-loop
     put-rows-μ-loop
     (put-rows-loop-holds t)
-    (put-rows-row-requires t)
-    (put-rows-byte-requires t)
+    (put-rows-row-at-requires t)
+    (put-rows-row-depth-requires t)
     (put-rows-cast-d t)
     (put-rows-put-end-requires t)
     (put-rows-same-length t)
     (put-rows-returns t)
     (put-rows-put-row-requires t)
-    (put-rows-byte-requires-2 t)
+    (put-rows-row-sort-requires t)
     (put-rows-stays-open-requires t)
     (put-rows-loop-less t)
     (put-rows-loop-again t)

@@ -4,17 +4,11 @@ use borrow.Author.Needs.{needs}
 use Rattle.printing.proofs.definition.Statement.{statement}
 use Rattle.printing.proofs.definition.Tie as tie
 
-mul-start : tie.Need-mul-start
-mul-start c = search needs
-
-add-start : tie.Need-add-start
-add-start c = search needs
-
-window-requires : tie.Need-window-requires
-window-requires c κs = search needs
+definition-in-requires : tie.Need-definition-in-requires
+definition-in-requires c κs = search needs
 
 returns : tie.Need-returns
-returns c = c .window .ensures ∙ definition-place _ _
+returns c = let a = c .before .before .args in c .definition-in .ensures ∙ definition-place (a .store .now) (a .i)
 
 pub definition-spec : {M : Type 1} → statement M
-definition-spec = tie.close (tie.spec mul-start add-start window-requires returns)
+definition-spec = tie.close (tie.spec definition-in-requires returns)

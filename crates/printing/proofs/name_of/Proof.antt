@@ -40,7 +40,7 @@ returns-2 c = let a = c .before .before .before .before .before .before .args in
     let d = definitionPart (a .store .now) (a .i) in
     let n : c .before .byte .result ≡ getD d 0 0 = c .before .byte .ensures ∙ ap (λ (l : List ℕ). getD l 0 0) p in
     let w = c .window .ensures ∙ ap₂ (λ (k : ℕ) (l : List ℕ). take k (drop 1 l)) n p in
-    record { name-is = w ∙ sym (definition-name (a .store .now) (a .i) (omega arith)); short = subst (λ (l : List ℕ). length l ≤ 50) (sym w) (definition-short (a .store .now) (a .i) (getD d 0 0)) }
+    record { name-is = w ∙ sym (definition-name (a .store .now) (a .i) (omega arith)); short = subst (λ (l : List ℕ). length l ≤ 300) (sym w) (definition-short (a .store .now) (a .i) (getD d 0 0)) }
 
 pub name-of-spec : {M : Type 1} → statement M
 name-of-spec =

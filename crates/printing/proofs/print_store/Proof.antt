@@ -1,14 +1,18 @@
+use Rattle.lookup.specs.Bodies.{RowsOf}
 use Rattle.codec.proofs.Writers.{laid-then, laid-as}
 use Rattle.printing.proofs.FormLaws.{text-parts}
 use borrow.Author.Needs.{needs}
 use Rattle.printing.proofs.print_store.Statement.{statement}
 use Rattle.printing.proofs.print_store.Tie as tie
 
-get-u32-requires : tie.Need-get-u32-requires
-get-u32-requires c κs = search needs
+width-in-requires : tie.Need-width-in-requires
+width-in-requires c κs = search needs
 
-cast-count : tie.Need-cast-count
-cast-count c = search needs
+rows-of-requires : tie.Need-rows-of-requires
+rows-of-requires c κs = search needs
+
+row-count-requires : tie.Need-row-count-requires
+row-count-requires c κs = search needs
 
 put-form-requires : tie.Need-put-form-requires
 put-form-requires c κs = search needs
@@ -20,14 +24,19 @@ same-length : tie.Need-same-length
 same-length c = search needs
 
 returns : tie.Need-returns
-returns c = laid-as (text-parts _ _ (c .before .before .before .before .before .before .before .before .get-u32 .ensures)) (laid-then (c .before .before .before .before .before .before .put-form .ensures .laid) (c .before .before .put-documents .ensures))
+returns c = let at-documents = c .before .before in
+    let at-form = at-documents .before .before .before .before in
+    let at-count = at-form .before .before in
+    let store-rows : RowsOf (at-count .before .before .before .before .before .args .store .now) (at-count .before .before .width-in .result) (at-count .before .rows-of .result .now) = record { width = at-count .before .before .width-in .ensures; body = at-count .before .rows-of .ensures } in
+    laid-as (text-parts store-rows (at-count .row-count .ensures .value)) (laid-then (at-form .put-form .ensures .laid) (at-documents .put-documents .ensures))
 
 pub print-store-spec : {M : Type 1} → statement M
 print-store-spec =
     tie.close
     (tie.spec
-    get-u32-requires
-    cast-count
+    width-in-requires
+    rows-of-requires
+    row-count-requires
     put-form-requires
     put-documents-requires
     same-length

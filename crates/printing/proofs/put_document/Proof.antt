@@ -3,14 +3,14 @@ use borrow.Author.Needs.{needs}
 use Rattle.printing.proofs.put_document.Statement.{statement}
 use Rattle.printing.proofs.put_document.Tie as tie
 
-row-requires : tie.Need-row-requires
-row-requires c κs = search needs
+row-at-requires : tie.Need-row-at-requires
+row-at-requires c κs = search needs
 
-byte-requires : tie.Need-byte-requires
-byte-requires c κs = search needs
+row-sort-requires : tie.Need-row-sort-requires
+row-sort-requires c κs = search needs
 
-get-u16-requires : tie.Need-get-u16-requires
-get-u16-requires c κs = search needs
+row-index-requires : tie.Need-row-index-requires
+row-index-requires c κs = search needs
 
 cast-index : tie.Need-cast-index
 cast-index c = search needs
@@ -28,16 +28,16 @@ same-length : tie.Need-same-length
 same-length c = search needs
 
 returns : tie.Need-returns
-returns c = let a = c .before .before .before .before .before .before .before .before .before .before .before .before .before .before .args in
-    document-stepped (a .store .now) (a .count) (a .i) _ (c .before .before .before .before .before .before .before .before .before .before .before .row .ensures) (c .before .before .before .before .before .before .before .before .before .before .before .before .before .before .pre .1) (c .before .before .before .before .before .before .before .before .before .before .byte .ensures) (c .before .before .before .before .before .before .before .before .before .get-u16 .ensures) (c .before .before .before .before .before .before .before .before .row-name-of .ensures) (c .before .before .before .before .before .before .put-element .ensures) (c .before .before .put-u8 .ensures)
+returns c = let a = c .before .before .before .before .before .before .before .before .before .before .before .before .before .before .before .args in
+    document-stepped (a .store .now) (a .rows .now) (a .w) (a .count) (a .i) _ (c .before .before .before .before .before .before .before .before .before .before .before .row-at .ensures) (c .before .before .before .before .before .before .before .before .before .before .before .before .before .before .before .pre .1) (c .before .before .before .before .before .before .before .before .before .before .row-sort .ensures) (c .before .before .before .before .before .before .before .before .before .row-index .ensures) (c .before .before .before .before .before .before .before .before .row-name-of .ensures) (c .before .before .before .before .before .before .put-element .ensures) (c .before .before .put-u8 .ensures)
 
 pub put-document-spec : {M : Type 1} → statement M
 put-document-spec =
     tie.close
     (tie.spec
-    row-requires
-    byte-requires
-    get-u16-requires
+    row-at-requires
+    row-sort-requires
+    row-index-requires
     cast-index
     row-name-of-requires
     put-element-requires

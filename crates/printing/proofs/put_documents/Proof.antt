@@ -7,9 +7,9 @@ use native.Mathlib.Omega.{arith}
 use lib.ListN.{getD}
 use Rattle.rules.specs.Store.{Forest}
 use Rattle.rules.specs.Preorder.{build}
-use Rattle.rules.specs.Layout.{FlatRow}
+use Rattle.rules.specs.Layout.{FlatRow, rowSize}
 use Rattle.rules.specs.Decode.{readRow}
-use Rattle.lookup.specs.Bodies.{rowPart}
+use Rattle.layout.specs.Bodies.{recordAt}
 use Rattle.lookup.proofs.Laws.{from-none}
 use Rattle.printing.specs.Parts.{rowsFrom, namesOf, attributeNamesOf}
 use Rattle.printing.specs.Texts.{documentsText}
@@ -21,30 +21,30 @@ use Rattle.printing.proofs.put_documents.Statement.{statement}
 use Rattle.printing.proofs.put_documents.Tie as tie
 
 abbrev Inv-loop : tie.InvT-loop
-Inv-loop store count out₀ start at₀ i₀ out at i = Walk (rowsFrom store count) (λ (q : Bool) (f : Forest FlatRow). documentsText (namesOf store) (attributeNamesOf store) f) (documentsText (namesOf store) (attributeNamesOf store) (build (rowsFrom store count 0) 0)) count 0 0 start out₀ i at true out
+Inv-loop w store rows count out₀ start at₀ i₀ out at i = Walk (rowsFrom w rows count) (λ (q : Bool) (f : Forest FlatRow). documentsText (namesOf store) (attributeNamesOf store) f) (documentsText (namesOf store) (attributeNamesOf store) (build (rowsFrom w rows count 0) 0)) count 0 0 start out₀ i at true out
 
 abbrev μ-loop : tie.MeasureT-loop
-μ-loop store count out₀ start at₀ i₀ out at i = count - i
+μ-loop w store rows count out₀ start at₀ i₀ out at i = count - i
 
 loop-holds : tie.Need-loop-holds Inv-loop μ-loop
 loop-holds c = walk-start _ _ _ _ true _
 
-row-requires : tie.Need-row-requires Inv-loop μ-loop
-row-requires c κs = search needs
+row-at-requires : tie.Need-row-at-requires Inv-loop μ-loop
+row-at-requires c κs = search needs
 
-byte-requires : tie.Need-byte-requires Inv-loop μ-loop
-byte-requires c κs = search needs
+row-depth-requires : tie.Need-row-depth-requires Inv-loop μ-loop
+row-depth-requires c κs = search needs
 
 put-document-requires : tie.Need-put-document-requires Inv-loop μ-loop
-put-document-requires c κs = (record { few = omega (arith, c .before .before .before .before .before .before .before .before .pre .room, c .before .before .before .before .before .before .before .before .pre .few); deep = omega arith; room = omega (arith, c .before .before .before .before .before .before .before .before .pre .room, c .before .before .before .before .before .before .before .before .pre .few, c .before .before .before .before .before .loop .inv .small) }, omega arith)
+put-document-requires c κs = (record { few = omega (arith, c .before .before .before .before .before .before .before .before .before .pre .0 .room, c .before .before .before .before .before .before .before .before .before .pre .0 .few); deep = omega arith; room = omega (arith, c .before .before .before .before .before .before .before .before .before .pre .0 .room, c .before .before .before .before .before .before .before .before .before .pre .0 .few, c .before .before .before .before .before .loop .inv .small) }, omega arith, c .before .before .before .before .before .before .before .before .before .pre .1)
 
 loop-less : tie.Need-loop-less Inv-loop μ-loop
 loop-less c = omega (arith, c .before .before .put-document .ensures .onward)
 
 loop-again : tie.Need-loop-again Inv-loop μ-loop
-loop-again c = let l = c .before .before .before .before .before .before .before .before in let a = l .before .before .before .args in
-    let d : c .before .before .before .before .before .byte .result ≡ getD (rowPart (a .store .now) (l .loop .i)) 1 0 = c .before .before .before .before .before .byte .ensures ∙ ap (λ (b : List ℕ). getD b 1 0) (c .before .before .before .before .before .before .row .ensures) in
-    walk-here (l .loop .inv) (readRow (rowPart (a .store .now) (l .loop .i))) true _ (row-step (a .store .now) (a .count) (l .loop .i) (omega arith)) (sym d ∙ c .before .before .before .before .if1 .taken) (omega arith) (λ t. documents-step (a .store .now) ((readRow (rowPart (a .store .now) (l .loop .i))) .row) (build (rowsFrom (a .store .now) (a .count) (l .loop .i + 1)) 1) t) (c .before .before .put-document .ensures)
+loop-again c = let l = c .before .before .before .before .before .before .before .before in let a = l .before .before .before .before .args in
+    let d : c .before .before .before .before .before .row-depth .result ≡ getD (recordAt (rowSize (a .w)) (l .loop .i) (a .rows .now)) 1 0 = c .before .before .before .before .before .row-depth .ensures ∙ ap (λ (b : List ℕ). getD b 1 0) (c .before .before .before .before .before .before .row-at .ensures) in
+    walk-here (l .loop .inv) (readRow (recordAt (rowSize (a .w)) (l .loop .i) (a .rows .now))) true _ (row-step (a .w) (a .rows .now) (a .count) (l .loop .i) (omega arith)) (sym d ∙ c .before .before .before .before .if1 .taken) (omega arith) (λ t. documents-step (a .store .now) ((readRow (recordAt (rowSize (a .w)) (l .loop .i) (a .rows .now))) .row) (build (rowsFrom (a .w) (a .rows .now) (a .count) (l .loop .i + 1)) 1) t) (c .before .before .put-document .ensures)
 
 add-i : tie.Need-add-i Inv-loop μ-loop
 add-i c = search needs
@@ -53,16 +53,16 @@ loop-less-2 : tie.Need-loop-less-2 Inv-loop μ-loop
 loop-less-2 c = search needs
 
 loop-again-2 : tie.Need-loop-again-2 Inv-loop μ-loop
-loop-again-2 c = let l = c .before .before .before .before in let a = l .before .before .before .args in
-    let d : c .before .byte .result ≡ getD (rowPart (a .store .now) (l .loop .i)) 1 0 = c .before .byte .ensures ∙ ap (λ (b : List ℕ). getD b 1 0) (c .before .before .row .ensures) in
-    walk-deeper (l .loop .inv) (readRow (rowPart (a .store .now) (l .loop .i))) (row-step (a .store .now) (a .count) (l .loop .i) (omega arith)) (omega (arith, c .if1 .left))
+loop-again-2 c = let l = c .before .before .before .before in let a = l .before .before .before .before .args in
+    let d : c .before .row-depth .result ≡ getD (recordAt (rowSize (a .w)) (l .loop .i) (a .rows .now)) 1 0 = c .before .row-depth .ensures ∙ ap (λ (b : List ℕ). getD b 1 0) (c .before .before .row-at .ensures) in
+    walk-deeper (l .loop .inv) (readRow (recordAt (rowSize (a .w)) (l .loop .i) (a .rows .now))) (row-step (a .w) (a .rows .now) (a .count) (l .loop .i) (omega arith)) (omega (arith, c .if1 .left))
 
 same-length : tie.Need-same-length Inv-loop μ-loop
 same-length c = c .before .loop .inv .long
 
 returns : tie.Need-returns Inv-loop μ-loop
-returns c = let l = c .before in let a = l .before .before .before .args in
-    walk-all (l .loop .inv) (from-none readRow 44 _ (a .count) (l .loop .i) (omega arith)) (documents-bare (namesOf (a .store .now)) (attributeNamesOf (a .store .now)))
+returns c = let l = c .before in let a = l .before .before .before .before .args in
+    walk-all (l .loop .inv) (from-none readRow (rowSize (a .w)) _ (a .count) (l .loop .i) (omega arith)) (documents-bare (namesOf (a .store .now)) (attributeNamesOf (a .store .now)))
 
 pub put-documents-spec : {M : Type 1} → statement M
 put-documents-spec =
@@ -71,8 +71,8 @@ put-documents-spec =
     Inv-loop
     μ-loop
     loop-holds
-    row-requires
-    byte-requires
+    row-at-requires
+    row-depth-requires
     put-document-requires
     loop-less
     loop-again

@@ -1,0 +1,38 @@
+use Rattle.lookup.proofs.Laws.{row-placed}
+use borrow.Author.Needs.{needs}
+use Rattle.lookup.proofs.row_place.Statement.{statement}
+use Rattle.lookup.proofs.row_place.Tie as tie
+use Rattle.lookup.proofs.row_place.Reads as reads
+use Rattle.lookup.proofs.row_place.Lts as lts
+use Rattle.layout.proofs.times.Reads as times-reads
+use Rattle.layout.proofs.width_in.Reads as width-in-reads
+use Rattle.lookup.proofs.row_start.Reads as row-start-reads
+
+-- src/lib.rt:34:9
+width-in-requires : tie.Need-width-in-requires
+width-in-requires c κs = search needs
+
+-- src/lib.rt:35:32
+add-times : tie.Need-add-times
+add-times c = search needs
+
+-- src/lib.rt:35:9
+times-requires : tie.Need-times-requires
+times-requires c κs = search needs
+
+-- src/lib.rt:36:5
+row-start-requires : tie.Need-row-start-requires
+row-start-requires c κs = search needs
+
+-- src/lib.rt:36:5
+add-result : tie.Need-add-result
+add-result c = search needs
+
+-- src/lib.rt:30:1
+returns : tie.Need-returns
+returns c = row-placed _ _ _ _ _ (c .before .before .width-in .ensures) (c .before .times .ensures) (c .row-start .ensures)
+
+pub row-place-spec : {M : Type 1} → statement M
+row-place-spec =
+    tie.close
+    (tie.spec width-in-requires add-times times-requires row-start-requires add-result returns)

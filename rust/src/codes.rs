@@ -1,7 +1,17 @@
 //! The kinds, sorts and quantifiers, by their words and codes.
 
+use core::fmt;
+use core::str::FromStr;
+
 /// An enum whose cases the store and the calls name by numbers.
-pub trait Code: Copy + Into<u32> + 'static {
+pub trait Code:
+    Copy
+    + Into<u32>
+    + TryFrom<u32, Error = UnknownCode>
+    + FromStr<Err = UnknownCode>
+    + fmt::Display
+    + 'static
+{
     /// All cases, by their codes.
     const ALL: &'static [Self];
 
@@ -15,6 +25,27 @@ pub trait Code: Copy + Into<u32> + 'static {
     }
 }
 
+/// The error for a word or a number that is no case of an enum.
+#[derive(Clone, Copy, Debug, PartialEq, Eq)]
+pub struct UnknownCode {
+    /// The words that there are.
+    pub words: &'static [&'static str],
+}
+
+impl fmt::Display for UnknownCode {
+    fn fmt(&self, out: &mut fmt::Formatter<'_>) -> fmt::Result {
+        out.write_str("unknown; there are:")?;
+        let mut before = " ";
+        for word in self.words {
+            write!(out, "{before}{word}")?;
+            before = ", ";
+        }
+        Ok(())
+    }
+}
+
+impl core::error::Error for UnknownCode {}
+
 macro_rules! codes {
     ($($(#[$doc:meta])* $name:ident { $($case:ident $code:literal $word:literal)* })*) => {
         $(
@@ -23,6 +54,10 @@ macro_rules! codes {
             #[repr(u32)]
             pub enum $name {
                 $(#[doc = concat!("`", $word, "`, code ", stringify!($code), ".")] $case = $code,)*
+            }
+
+            impl $name {
+                const UNKNOWN: UnknownCode = UnknownCode { words: &[$($word),*] };
             }
 
             impl Code for $name {
@@ -38,6 +73,34 @@ macro_rules! codes {
             impl From<$name> for u32 {
                 fn from(case: $name) -> u32 {
                     case as u32
+                }
+            }
+
+            /// By the code.
+            impl TryFrom<u32> for $name {
+                type Error = UnknownCode;
+
+                fn try_from(code: u32) -> Result<$name, UnknownCode> {
+                    $name::from_code(code).ok_or($name::UNKNOWN)
+                }
+            }
+
+            /// By the word.
+            impl FromStr for $name {
+                type Err = UnknownCode;
+
+                fn from_str(word: &str) -> Result<$name, UnknownCode> {
+                    match word {
+                        $($word => Ok($name::$case),)*
+                        _ => Err($name::UNKNOWN),
+                    }
+                }
+            }
+
+            /// The word.
+            impl fmt::Display for $name {
+                fn fmt(&self, out: &mut fmt::Formatter<'_>) -> fmt::Result {
+                    out.pad(self.word())
                 }
             }
         )*
@@ -56,4 +119,16 @@ codes! {
 
     /// Whether an attribute may be absent, must be there, or has always the same value.
     AttributeSort { Implied 0 "implied" Required 1 "required" Fixed 2 "fixed" }
+}
+
+impl Quantifier {
+    /// The mark behind a particle in a printed model: none, `?`, `*` or `+`.
+    pub fn mark(self) -> &'static str {
+        match self {
+            Quantifier::None => "",
+            Quantifier::Qmark => "?",
+            Quantifier::Star => "*",
+            Quantifier::Plus => "+",
+        }
+    }
 }

@@ -1,12 +1,17 @@
 //! The form store of a timing box: one byte string that holds a DTD and the finish lists under it, with a check, sixteen changes, a look-up and printing.
-//! This crate calls the proved library (`include/formstore.h`) and adds no rule of its own.
+//! This crate calls the proved library, the archive `libformstore.a`, and adds no rule of its own.
 //!
 //! There are three ways to a call, each over the one before:
 //! - [`raw`]: the exported functions, with slices for pointers; they answer a number and a length;
 //! - the functions of this crate ([`check`], [`look_up`], [`print()`] and one for each change), which answer a [`Result`] with a [`Refusal`];
-//! - [`Store`], which owns its bytes and takes kinds, sorts and quantifiers as enums.
+//! - [`Store`], which owns its bytes and takes kinds, sorts and quantifiers as enums (feature `std`, on by default).
 //!
-//! [`Reader`] reads the definitions, attributes and rows of a store.
+//! [`Reader`] reads what a store holds: definitions with their models and attributes, and the rows of the documents. Without the feature `std` the crate
+//! is `no_std` and allocates nothing.
+//!
+//! # Stack
+//! No call needs more than [`STACK`] bytes of stack, as far as the deepest stores that could be made show; give a thread that makes calls as much, and
+//! what its own frames need. The archive is for x86-64 (ELF, the System V calls of Linux).
 //!
 //! No call panics, and none changes a byte of its output buffer when it refuses. A change writes the new store into `out` and answers its length; bytes
 //! past it keep their content. Besides the refusals that each names, every one refuses with [`Refusal::BadStore`] and [`Refusal::Buffer`].
@@ -34,6 +39,7 @@
 //! # Ok::<(), Refusal>(())
 //! ```
 
+#![no_std]
 #![deny(unsafe_code, missing_docs)]
 #![deny(
     clippy::indexing_slicing,
@@ -43,17 +49,29 @@
     clippy::arithmetic_side_effects
 )]
 
+#[cfg(feature = "std")]
+extern crate std;
+
 #[macro_use]
 mod table;
 mod codes;
+mod fields;
+mod model;
+mod place;
 pub mod raw;
 mod reader;
 mod refusal;
+mod rows;
+#[cfg(feature = "std")]
 mod store;
 
-pub use codes::{AttributeSort, Code, GroupSort, Kind, Quantifier};
-pub use reader::{Attribute, Content, Definition, Reader, Row};
-pub use refusal::Refusal;
+pub use codes::{AttributeSort, Code, GroupSort, Kind, Quantifier, UnknownCode};
+pub use model::{Members, Model, Particle, Particles, Term};
+pub use place::{Place, UnknownPlace};
+pub use reader::{Attribute, Definition, Reader};
+pub use refusal::{Refusal, UnknownRefusal};
+pub use rows::{Content, Element, Elements, Row};
+#[cfg(feature = "std")]
 pub use store::Store;
 
 /// The most definitions a store has.
@@ -64,12 +82,34 @@ pub const MAX_PARTICLES: usize = 256;
 pub const MAX_ATTRIBUTES: usize = 64;
 /// The most tree rows a store has.
 pub const MAX_ROWS: usize = 4096;
+/// The most groups around a particle of a model.
+pub const MAX_MODEL_DEPTH: usize = 4;
+/// The most numbers of a place.
+pub const MAX_PLACE: usize = MAX_MODEL_DEPTH + 1;
+/// The most bytes of a name.
+pub const MAX_NAME: usize = 16;
+/// The most bytes of a value or text.
+pub const MAX_VALUE: usize = 32;
+
+/// The stack in bytes that is enough for any call, as measured on stores made to need the most.
+pub const STACK: usize = 163_840;
+
+/// A store without definitions and documents: version 1, next serial 1, and four empty bodies that start at 40.
+pub const FRESH: [u8; 40] = [
+    1, 0, 0, 0, 1, 0, 0, 0, // version and next serial
+    40, 0, 0, 0, 0, 0, 0, 0, // definitions
+    40, 0, 0, 0, 0, 0, 0, 0, // particles
+    40, 0, 0, 0, 0, 0, 0, 0, // attributes
+    40, 0, 0, 0, 0, 0, 0, 0, // tree rows
+];
 
 /// The length of the longest store.
 pub const LONGEST: usize =
     40 + MAX_DEFINITIONS * 20 + MAX_PARTICLES * 4 + MAX_ATTRIBUTES * 52 + MAX_ROWS * 44;
 
-/// No printed text is longer. An attribute row prints most: a name of 16 bytes, a value of 32 that are all written as `&quot;`, and four more.
+/// No printed text is longer: each record adds at most as much as here. A definition has 38 bytes around its model, or with `(#PCDATA)`; a particle 18, a name
+/// with its mark and a comma; an attribute 253, two names and a value of 32 bytes that are all written as `&quot;`; of the rows one of an attribute has most, a
+/// name, such a value and four more.
 pub const LONGEST_TEXT: usize =
     MAX_DEFINITIONS * 38 + MAX_PARTICLES * 18 + MAX_ATTRIBUTES * 253 + MAX_ROWS * 212;
 

@@ -44,13 +44,10 @@ impl Found {
 
 /// The refusal with this number; none for 0. The library gives no number past 18, since it answers what the rules say, and those name no other.
 pub(crate) fn refusal(number: u32) -> Option<Refusal> {
-    let index = number.checked_sub(1)? as usize;
-    Some(
-        Refusal::ALL
-            .get(index)
-            .copied()
-            .unwrap_or(Refusal::BadStore),
-    )
+    match number {
+        0 => None,
+        _ => Some(Refusal::try_from(number).unwrap_or(Refusal::BadStore)),
+    }
 }
 
 extern "C" {

@@ -1,10 +1,12 @@
-//! Reads the definitions, attributes and rows of a store that passes the check. Every field is read so that nothing could panic on another one.
+//! Reads what a store holds that passes the check.
 
-use crate::{AttributeSort, Code, Kind, Refusal};
+use crate::fields::{number, text};
+use crate::model::PARTICLE;
+use crate::rows::{self, ROW};
+use crate::{AttributeSort, Code, Element, Elements, Kind, Model, Refusal, Row};
 
 const DEFINITION: usize = 20;
 const ATTRIBUTE: usize = 52;
-const ROW: usize = 44;
 
 /// What a store holds.
 ///
@@ -16,7 +18,7 @@ const ROW: usize = 44;
 /// store.add_document(0, b"7")?;
 /// let reader = store.reader();
 /// assert_eq!(reader.next_serial(), 3);
-/// assert!(reader.definitions().any(|definition| definition.name == "bib"));
+/// assert_eq!(reader.definition_named("bib").map(|bib| bib.index), Some(0));
 /// let text = reader.rows().find(|row| row.serial == 2).map(|row| row.content);
 /// assert_eq!(text, Some(Content::Text { value: "7" }));
 /// # Ok::<(), Refusal>(())
@@ -26,18 +28,22 @@ pub struct Reader<'a> {
     store: &'a [u8],
 }
 
-/// A definition; its index is its number among [`Reader::definitions`].
+/// A definition.
 #[derive(Clone, Copy, Debug, PartialEq, Eq)]
 pub struct Definition<'a> {
+    /// The index by which the calls take it.
+    pub index: u32,
     /// The name.
     pub name: &'a str,
     /// What its elements hold.
     pub kind: Kind,
 }
 
-/// An attribute; its index is its number among [`Reader::attributes`].
+/// An attribute.
 #[derive(Clone, Copy, Debug, PartialEq, Eq)]
 pub struct Attribute<'a> {
+    /// The index by which the calls take it.
+    pub index: u32,
     /// The index of the definition that has it.
     pub owner: u32,
     /// The name.
@@ -48,37 +54,12 @@ pub struct Attribute<'a> {
     pub value: &'a str,
 }
 
-/// A row of a document.
-#[derive(Clone, Copy, Debug, PartialEq, Eq)]
-pub struct Row<'a> {
-    /// The serial.
-    pub serial: u32,
-    /// The elements around it; 0 starts a document.
-    pub depth: u32,
-    /// What it is.
-    pub content: Content<'a>,
-}
+impl<'a> TryFrom<&'a [u8]> for Reader<'a> {
+    type Error = Refusal;
 
-/// What a row is.
-#[derive(Clone, Copy, Debug, PartialEq, Eq)]
-pub enum Content<'a> {
-    /// An element of the definition with this index.
-    Element {
-        /// The index of its definition.
-        definition: u32,
-    },
-    /// An attribute of the element whose row came before.
-    Attribute {
-        /// The index of its attribute.
-        attribute: u32,
-        /// The value.
-        value: &'a str,
-    },
-    /// The text of the element whose row came before.
-    Text {
-        /// The value.
-        value: &'a str,
-    },
+    fn try_from(store: &'a [u8]) -> Result<Reader<'a>, Refusal> {
+        Reader::new(store)
+    }
 }
 
 impl<'a> Reader<'a> {
@@ -89,6 +70,7 @@ impl<'a> Reader<'a> {
     }
 
     /// Reads a store that is known to pass.
+    #[cfg(feature = "std")]
     pub(crate) fn of_checked(store: &'a [u8]) -> Reader<'a> {
         Reader { store }
     }
@@ -100,15 +82,52 @@ impl<'a> Reader<'a> {
 
     /// The definitions, in the order of their indices.
     pub fn definitions(&self) -> impl Iterator<Item = Definition<'a>> {
-        self.body(8, DEFINITION).map(|record| Definition {
+        let records = self.body(8, DEFINITION).chunks_exact(DEFINITION);
+        (0..).zip(records).map(|(index, record)| Definition {
+            index,
             name: text(record, 1, number(record, 0, 1)),
             kind: Kind::from_code(number(record, 17, 1)).unwrap_or(Kind::Empty),
         })
     }
 
+    /// The definition with this index.
+    pub fn definition(&self, index: u32) -> Option<Definition<'a>> {
+        self.definitions().nth(index as usize)
+    }
+
+    /// The definition with this name.
+    pub fn definition_named(&self, name: &str) -> Option<Definition<'a>> {
+        self.definitions()
+            .find(|definition| definition.name == name)
+    }
+
+    /// The name of the definition with this index; empty where there is none.
+    pub(crate) fn name(&self, index: u32) -> &'a str {
+        self.definition(index)
+            .map_or("", |definition| definition.name)
+    }
+
+    /// The model of the definition with this index; that of an EMPTY or PCDATA one has no members.
+    pub fn model(&self, index: u32) -> Option<Model<'a>> {
+        let kind = self.definition(index)?.kind;
+        let mut counts = self
+            .body(8, DEFINITION)
+            .chunks_exact(DEFINITION)
+            .map(|record| (number(record, 18, 2) as usize).saturating_mul(PARTICLE));
+        let before = counts.by_ref().take(index as usize).sum();
+        let particles = self.body(16, PARTICLE).get(before..).unwrap_or_default();
+        Some(Model {
+            reader: *self,
+            kind,
+            particles: particles.get(..counts.next()?).unwrap_or_default(),
+        })
+    }
+
     /// The attributes, in the order of their indices.
     pub fn attributes(&self) -> impl Iterator<Item = Attribute<'a>> {
-        self.body(24, ATTRIBUTE).map(|record| Attribute {
+        let records = self.body(24, ATTRIBUTE).chunks_exact(ATTRIBUTE);
+        (0..).zip(records).map(|(index, record)| Attribute {
+            index,
             owner: number(record, 0, 1),
             name: text(record, 2, number(record, 1, 1)),
             sort: AttributeSort::from_code(number(record, 18, 1)).unwrap_or(AttributeSort::Implied),
@@ -116,48 +135,48 @@ impl<'a> Reader<'a> {
         })
     }
 
+    /// The attribute with this index.
+    pub fn attribute(&self, index: u32) -> Option<Attribute<'a>> {
+        self.attributes().nth(index as usize)
+    }
+
+    /// The attributes of the definition with this index.
+    pub fn attributes_of(&self, owner: u32) -> impl Iterator<Item = Attribute<'a>> {
+        self.attributes()
+            .filter(move |attribute| attribute.owner == owner)
+    }
+
+    /// The attribute with this name of the definition with this index.
+    pub fn attribute_named(&self, owner: u32, name: &str) -> Option<Attribute<'a>> {
+        self.attributes_of(owner)
+            .find(|attribute| attribute.name == name)
+    }
+
     /// The rows of all documents, in document order.
     pub fn rows(&self) -> impl Iterator<Item = Row<'a>> {
-        self.body(32, ROW).map(|record| Row {
-            serial: number(record, 4, 4),
-            depth: number(record, 1, 1),
-            content: content(record),
-        })
+        rows::rows(self.row_body())
+    }
+
+    /// The documents.
+    pub fn documents(&self) -> Elements<'a> {
+        let rows = self.row_body();
+        Elements { rows }
+    }
+
+    /// The element with this serial.
+    pub fn element(&self, serial: u32) -> Option<Element<'a>> {
+        rows::element(self.row_body(), serial)
+    }
+
+    fn row_body(&self) -> &'a [u8] {
+        self.body(32, ROW)
     }
 
     /// The records of the body whose offset and count stand there in the table of contents.
-    fn body(&self, entry: usize, size: usize) -> impl Iterator<Item = &'a [u8]> {
+    fn body(&self, entry: usize, size: usize) -> &'a [u8] {
         let start = number(self.store, entry, 4) as usize;
         let count = number(self.store, entry.saturating_add(4), 4) as usize;
         let body = self.store.get(start..).unwrap_or_default();
-        body.chunks_exact(size).take(count)
+        body.get(..count.saturating_mul(size)).unwrap_or_default()
     }
-}
-
-fn content(record: &[u8]) -> Content<'_> {
-    let index = number(record, 2, 2);
-    let value = text(record, 10, number(record, 8, 1));
-    match number(record, 0, 1) {
-        1 => Content::Element { definition: index },
-        2 => Content::Attribute {
-            attribute: index,
-            value,
-        },
-        _ => Content::Text { value },
-    }
-}
-
-/// The little-endian number of so many bytes.
-fn number(bytes: &[u8], at: usize, width: usize) -> u32 {
-    let field = bytes.iter().skip(at).take(width);
-    field
-        .rev()
-        .fold(0, |number, byte| number << 8 | u32::from(*byte))
-}
-
-/// A name or value of this length; both are ASCII.
-fn text(record: &[u8], at: usize, length: u32) -> &str {
-    let rest = record.get(at..).unwrap_or_default();
-    let field = rest.get(..length as usize).unwrap_or_default();
-    std::str::from_utf8(field).unwrap_or_default()
 }

@@ -1,6 +1,6 @@
 //! The refusals, by their words and numbers.
 
-use std::fmt;
+use core::fmt;
 
 macro_rules! refusals {
     ($($case:ident $number:literal $word:literal $reason:literal)*) => {
@@ -65,4 +65,31 @@ impl fmt::Display for Refusal {
     }
 }
 
-impl std::error::Error for Refusal {}
+impl core::error::Error for Refusal {}
+
+/// The error for a number that is no refusal's.
+#[derive(Clone, Copy, Debug, PartialEq, Eq)]
+pub struct UnknownRefusal;
+
+impl fmt::Display for UnknownRefusal {
+    fn fmt(&self, out: &mut fmt::Formatter<'_>) -> fmt::Result {
+        write!(
+            out,
+            "refusals have numbers from 1 to {}",
+            Refusal::ALL.len()
+        )
+    }
+}
+
+impl core::error::Error for UnknownRefusal {}
+
+/// By the number.
+impl TryFrom<u32> for Refusal {
+    type Error = UnknownRefusal;
+
+    fn try_from(number: u32) -> Result<Refusal, UnknownRefusal> {
+        let mut all = Refusal::ALL.into_iter();
+        all.find(|refusal| refusal.number() == number)
+            .ok_or(UnknownRefusal)
+    }
+}

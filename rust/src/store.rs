@@ -1,16 +1,9 @@
 //! A store that owns its bytes.
 
 use crate::{AttributeSort, GroupSort, Kind, Quantifier, Reader, Refusal};
-use crate::{LONGEST, LONGEST_TEXT};
-
-/// Version 1, next serial 1, and four empty bodies that start at 40.
-const FRESH: [u8; 40] = [
-    1, 0, 0, 0, 1, 0, 0, 0, // version and next serial
-    40, 0, 0, 0, 0, 0, 0, 0, // definitions
-    40, 0, 0, 0, 0, 0, 0, 0, // particles
-    40, 0, 0, 0, 0, 0, 0, 0, // attributes
-    40, 0, 0, 0, 0, 0, 0, 0, // tree rows
-];
+use crate::{FRESH, LONGEST, LONGEST_TEXT};
+use std::vec;
+use std::vec::Vec;
 
 /// Enough room for what most changes add.
 const ROOM: usize = 2048;
@@ -35,6 +28,36 @@ pub struct Store {
 impl Default for Store {
     fn default() -> Store {
         Store::fresh()
+    }
+}
+
+/// Refuses with `BadStore` where the bytes do not pass the check.
+impl TryFrom<Vec<u8>> for Store {
+    type Error = Refusal;
+
+    fn try_from(bytes: Vec<u8>) -> Result<Store, Refusal> {
+        Store::from_bytes(bytes)
+    }
+}
+
+/// Refuses with `BadStore` where the bytes do not pass the check.
+impl TryFrom<&[u8]> for Store {
+    type Error = Refusal;
+
+    fn try_from(bytes: &[u8]) -> Result<Store, Refusal> {
+        Store::from_bytes(bytes.to_vec())
+    }
+}
+
+impl AsRef<[u8]> for Store {
+    fn as_ref(&self) -> &[u8] {
+        self.as_bytes()
+    }
+}
+
+impl From<Store> for Vec<u8> {
+    fn from(store: Store) -> Vec<u8> {
+        store.into_bytes()
     }
 }
 

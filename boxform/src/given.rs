@@ -1,14 +1,16 @@
-//! The words of a command as they were given, and what they name in a store.
+//! The words of a command as they were given.
 
-use crate::commands::{Argument, Command};
+use crate::arguments::Argument;
+use crate::commands::Command;
 use crate::failure::Failure;
-use formstore::{Code, Store};
+use crate::suggest::instead;
+use formstore::Code;
 use std::ffi::{OsStr, OsString};
 use std::os::unix::ffi::OsStrExt;
 use std::path::PathBuf;
 
 pub struct Given {
-    pub file: PathBuf,
+    pub operands: Vec<OsString>,
     values: Vec<(&'static str, Vec<u8>)>,
 }
 
@@ -18,31 +20,31 @@ pub enum Asked {
     Run(Given),
 }
 
-/// Reads the words after the command: FILE, and a value after each flag or behind its `=`.
+/// Reads the words after the command: its operands, and a value after each flag or behind its `=`. After `--` no word
+/// is a flag.
 pub fn read(command: &Command, words: impl Iterator<Item = OsString>) -> Result<Asked, Failure> {
     let mut words = words;
-    let mut files = Vec::new();
-    let mut values = Vec::new();
+    let mut given = Given::made(Vec::new());
     while let Some(word) = words.next() {
         if word == "--help" || word == "-h" {
             return Ok(Asked::Help);
         }
-        match word.as_bytes().strip_prefix(b"-") {
-            None => files.push(word),
-            Some(_) => values.push(read_flag(command, &word, &mut words)?),
+        if word == "--" {
+            given.operands.extend(words);
+            break;
+        }
+        match word.as_bytes() {
+            [b'-', _, ..] => given.values.push(read_flag(command, &word, &mut words)?),
+            _ => given.operands.push(word),
         }
     }
-    let [file] = &files[..] else {
-        return Err(wrong(command, "give one FILE"));
-    };
-    let file = PathBuf::from(file);
-    let given = Given { file, values };
+    given.count_operands(command)?;
     given.complete(command)?;
     Ok(Asked::Run(given))
 }
 
 /// Wrong use of a command, with its usage.
-fn wrong(command: &Command, text: &str) -> Failure {
+pub fn wrong(command: &Command, text: &str) -> Failure {
     Failure::Use(format!("{text}\nusage: {}", command.usage()))
 }
 
@@ -58,37 +60,103 @@ fn read_flag(
         None => (bytes, None),
     };
     let known = |argument: &&Argument| name.strip_prefix(b"--") == Some(argument.flag.as_bytes());
-    let Some(argument) = command.arguments.iter().find(known) else {
-        return Err(wrong(
-            command,
-            &format!("unknown argument {}", word.display()),
-        ));
+    let Some(argument) = command.arguments().find(known) else {
+        return Err(unknown_flag(command, word));
     };
+    if argument.switch() {
+        return match behind {
+            None => Ok((argument.flag, Vec::new())),
+            Some(_) => Err(wrong(
+                command,
+                &format!("--{} takes no value", argument.flag),
+            )),
+        };
+    }
     let value = behind.or_else(|| words.next().map(|next| next.as_bytes().to_vec()));
-    let missing = || wrong(command, &format!("--{} wants a value", argument.flag));
+    let missing = || {
+        wrong(
+            command,
+            &format!("--{} wants a value: {}", argument.flag, argument.about),
+        )
+    };
     Ok((argument.flag, value.ok_or_else(missing)?))
 }
 
+fn unknown_flag(command: &Command, word: &OsStr) -> Failure {
+    let word = word.to_string_lossy();
+    let flags: Vec<String> = command
+        .arguments()
+        .map(|argument| format!("--{}", argument.flag))
+        .collect();
+    let flags: Vec<&str> = flags.iter().map(String::as_str).collect();
+    wrong(
+        command,
+        &format!("unknown argument {word}; {}", instead(&word, &flags)),
+    )
+}
+
 impl Given {
+    /// As if these values had been given.
+    pub fn made(values: Vec<(&'static str, Vec<u8>)>) -> Given {
+        Given {
+            operands: Vec::new(),
+            values,
+        }
+    }
+
+    fn count_operands(&self, command: &Command) -> Result<(), Failure> {
+        let most = command.operands.len();
+        let least = command
+            .operands
+            .iter()
+            .filter(|name| !name.starts_with('['))
+            .count();
+        if (least..=most).contains(&self.operands.len()) {
+            return Ok(());
+        }
+        let text = match (command.operands, self.operands.get(most)) {
+            ([], Some(word)) => format!(
+                "{}: there is nothing to give to {}",
+                word.display(),
+                command.name
+            ),
+            (["FILE"], Some(word)) => format!("{}: give one FILE", word.display()),
+            (["FILE"], None) => "FILE is missing: give the file with the store".to_string(),
+            (names, _) => format!("give {}", names.join(" and ")),
+        };
+        Err(wrong(command, &text))
+    }
+
     /// Every argument at most once, and the needed ones there.
     fn complete(&self, command: &Command) -> Result<(), Failure> {
-        for argument in command.arguments {
+        for argument in command.arguments() {
             let times = self
                 .values
                 .iter()
                 .filter(|(flag, _)| *flag == argument.flag)
                 .count();
+            let (flag, about) = (argument.flag, argument.about);
             if times > 1 {
-                return Err(wrong(
-                    command,
-                    &format!("--{} is given twice", argument.flag),
-                ));
+                return Err(wrong(command, &format!("--{flag} is given twice")));
             }
             if times == 0 && argument.needed {
-                return Err(wrong(command, &format!("--{} is missing", argument.flag)));
+                return Err(wrong(command, &format!("--{flag} is missing: {about}")));
             }
         }
         Ok(())
+    }
+
+    /// The file that the command works on.
+    pub fn file(&self) -> PathBuf {
+        self.operand(0)
+    }
+
+    pub fn operand(&self, number: usize) -> PathBuf {
+        PathBuf::from(self.operands.get(number).cloned().unwrap_or_default())
+    }
+
+    pub fn has(&self, flag: &str) -> bool {
+        self.values.iter().any(|(name, _)| *name == flag)
     }
 
     /// The bytes of a name, value or text; none where the argument was not given.
@@ -97,91 +165,61 @@ impl Given {
         found.map_or(&[], |(_, value)| value)
     }
 
-    fn text(&self, flag: &str) -> String {
+    pub fn text(&self, flag: &str) -> String {
         String::from_utf8_lossy(self.bytes(flag)).into_owned()
     }
 
     pub fn number(&self, flag: &str) -> Result<u32, Failure> {
         number(&self.text(flag))
-            .ok_or_else(|| self.unknown(flag, "give a number from 0 to 4294967295"))
+            .ok_or_else(|| self.wrong(flag, "give a number from 0 to 4294967295"))
     }
 
-    /// The numbers of a place, with `-` between them.
-    pub fn place(&self) -> Result<Vec<u32>, Failure> {
-        let text = self.text("place");
-        let numbers: Option<Vec<u32>> = text.split('-').map(number).collect();
-        numbers.ok_or_else(|| self.unknown("place", "give numbers with - between them, as 2-1"))
+    /// A number that need not be given.
+    pub fn number_if_given(&self, flag: &str) -> Result<Option<u32>, Failure> {
+        self.has(flag).then(|| self.number(flag)).transpose()
     }
 
     /// A kind, sort or quantifier, by its word.
     pub fn code<C: Code>(&self, flag: &str) -> Result<C, Failure> {
         let text = self.text(flag);
         let known = C::ALL.iter().find(|case| case.word() == text);
-        known
-            .copied()
-            .ok_or_else(|| self.unknown_of(flag, C::ALL.iter().map(|case| case.word().to_string())))
+        let words = || C::ALL.iter().map(|case| case.word().to_string()).collect();
+        known.copied().ok_or_else(|| self.unknown(flag, words()))
     }
 
-    /// The index of a definition that is given by name or index. An index past the table is the library's to refuse.
-    pub fn definition(&self, flag: &str, store: &Store) -> Result<u32, Failure> {
-        self.named(
-            flag,
-            store
-                .reader()
-                .definitions()
-                .map(|definition| definition.name.to_string()),
-        )
-    }
-
-    /// The index of an attribute that is given as OWNER.NAME or index.
-    pub fn attribute(&self, store: &Store) -> Result<u32, Failure> {
-        let owners: Vec<_> = store.reader().definitions().collect();
-        self.named(
-            "attribute",
-            store.reader().attributes().map(|attribute| {
-                let owner = owners
-                    .get(attribute.owner as usize)
-                    .map_or("", |owner| owner.name);
-                format!("{owner}.{}", attribute.name)
-            }),
-        )
-    }
-
-    /// The index among these names. A name never starts with a digit, so it is no index; but `a.b.c` can be two attributes.
-    fn named(&self, flag: &str, names: impl Iterator<Item = String>) -> Result<u32, Failure> {
-        let text = self.text(flag);
-        if let Some(index) = number(&text) {
-            return Ok(index);
-        }
-        let names: Vec<String> = names.collect();
-        let mut fitting = (0..).zip(&names).filter(|(_, name)| **name == text);
-        match (fitting.next(), fitting.next()) {
-            (Some((index, _)), None) => Ok(index),
-            (Some((first, _)), Some((other, _))) => Err(self.unknown(
-                flag,
-                &format!("it is index {first} and index {other}; give the index"),
-            )),
-            _ => Err(self.unknown_of(flag, names.into_iter())),
-        }
-    }
-
-    fn unknown(&self, flag: &str, text: &str) -> Failure {
+    /// Wrong use of an argument, with what was given.
+    pub fn wrong(&self, flag: &str, text: &str) -> Failure {
         Failure::Use(format!("--{flag} {}: {text}", self.text(flag)))
     }
 
-    fn unknown_of(&self, flag: &str, known: impl Iterator<Item = String>) -> Failure {
-        let known: Vec<String> = known.collect();
-        let list = if known.is_empty() {
-            "none".to_string()
+    /// What was given is none of these.
+    pub fn unknown(&self, flag: &str, known: Vec<String>) -> Failure {
+        self.unknown_part(flag, &self.text(flag), known)
+    }
+
+    /// A part of what was given is none of these.
+    pub fn unknown_part(&self, flag: &str, part: &str, known: Vec<String>) -> Failure {
+        let whole = part == self.text(flag);
+        let what = if whole {
+            "unknown".to_string()
         } else {
-            known.join(", ")
+            format!("{part} is unknown")
         };
-        self.unknown(flag, &format!("unknown; there are: {list}"))
+        let known: Vec<&str> = known.iter().map(String::as_str).collect();
+        self.wrong(flag, &format!("{what}; {}", instead(part, &known)))
+    }
+}
+
+/// The words with commas between them, or none.
+pub fn listed(words: &[String]) -> String {
+    match words {
+        [] => "none".to_string(),
+        _ => words.join(", "),
     }
 }
 
 /// Digits alone, without a sign.
-fn number(text: &str) -> Option<u32> {
+pub fn number(text: &str) -> Option<u32> {
     let digits = text.bytes().all(|byte| byte.is_ascii_digit());
     text.parse().ok().filter(|_| digits)
 }

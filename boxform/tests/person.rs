@@ -1,344 +1,305 @@
-//! The tool as a person uses it: the story of clubform, and all that can go wrong.
+//! The tool as a person uses it: the story of clubform, the other changes, and what is said when one is refused.
 
+mod common;
+
+use common::{club, Desk, DTD, RACE};
 use std::fs;
-use std::os::unix::fs::PermissionsExt;
-use std::path::PathBuf;
-use std::process::{Command, Stdio};
-use std::sync::atomic::{AtomicUsize, Ordering};
-
-const BOXFORM: &str = env!("CARGO_BIN_EXE_boxform");
-
-/// A folder in which a person works.
-struct Desk {
-    folder: PathBuf,
-}
-
-impl Drop for Desk {
-    fn drop(&mut self) {
-        let _ = fs::remove_dir_all(&self.folder);
-    }
-}
-
-#[derive(Debug, PartialEq)]
-struct Done {
-    status: Option<i32>,
-    out: String,
-    err: String,
-}
-
-impl Desk {
-    fn new() -> Desk {
-        static DESKS: AtomicUsize = AtomicUsize::new(0);
-        let number = DESKS.fetch_add(1, Ordering::Relaxed);
-        let name = format!("boxform-{}-{number}", std::process::id());
-        let folder = std::env::temp_dir().join(name);
-        fs::create_dir_all(&folder).unwrap();
-        Desk { folder }
-    }
-
-    /// Runs a program in the folder.
-    fn call(&self, program: &str, words: &[&str]) -> Done {
-        let run = Command::new(program)
-            .args(words)
-            .current_dir(&self.folder)
-            .output()
-            .unwrap();
-        Done {
-            status: run.status.code(),
-            out: String::from_utf8(run.stdout).unwrap(),
-            err: String::from_utf8(run.stderr).unwrap(),
-        }
-    }
-
-    /// Runs boxform with the words of a line.
-    fn run(&self, line: &str) -> Done {
-        self.call(BOXFORM, &line.split_whitespace().collect::<Vec<_>>())
-    }
-
-    /// Runs boxform, which does it, and hands back what it printed.
-    #[track_caller]
-    fn done(&self, line: &str) -> String {
-        let done = self.run(line);
-        assert_eq!((done.status, done.err.as_str()), (Some(0), ""), "{line}");
-        done.out
-    }
-
-    /// Runs boxform, which ends with this status and a message that starts so; the file stays as it is, and no other comes.
-    #[track_caller]
-    fn fails(&self, line: &str, status: i32, message: &str) {
-        let before = self.files();
-        let done = self.run(line);
-        assert_eq!(
-            (done.status, done.out.as_str()),
-            (Some(status), ""),
-            "{line}"
-        );
-        assert!(done.err.starts_with(message), "{line}: {}", done.err);
-        assert!(before == self.files(), "{line} changed a file");
-    }
-
-    /// All files of the folder with their bytes.
-    fn files(&self) -> Vec<(String, Vec<u8>)> {
-        let mut files: Vec<_> = fs::read_dir(&self.folder)
-            .unwrap()
-            .map(|entry| entry.unwrap())
-            .filter(|entry| entry.path().is_file())
-            .map(|entry| {
-                (
-                    entry.file_name().into_string().unwrap(),
-                    fs::read(entry.path()).unwrap(),
-                )
-            })
-            .collect();
-        files.sort();
-        files
-    }
-
-    fn path(&self, name: &str) -> PathBuf {
-        self.folder.join(name)
-    }
-}
-
-/// The story of clubform with what boxform says to each line.
-const STORY: [(&str, &str); 14] = [
-    ("new club.form", "done"),
-    ("create-definition club.form --name race --kind complex", "done"),
-    ("create-definition club.form --name finisher --kind complex", "done"),
-    ("create-definition club.form --name bib --kind pcdata", "done"),
-    ("create-definition club.form --name time --kind pcdata", "done"),
-    ("insert-element club.form --owner race --place 0 --definition finisher --quantifier star", "done"),
-    ("insert-element club.form --owner finisher --place 0 --definition bib --quantifier none --text 0", "done"),
-    ("insert-element club.form --owner finisher --place 1 --definition time --quantifier none --text -", "done"),
-    ("add-document club.form --definition race", "done; new row 1"),
-    ("add-element club.form --parent 1 --child 0 --definition finisher --text 7", "done; new rows 2 to 6"),
-    ("set-text club.form --element 5 --text 19:04", "done"),
-    ("create-definition club.form --name club --kind pcdata", "done"),
-    ("insert-element club.form --owner finisher --place 1 --definition club --quantifier none --text none", "done; new rows 7 to 8"),
-    ("change-quantifier club.form --owner finisher --place 3 --quantifier qmark", "done"),
-];
-
-/// A desk with the file that the story leaves.
-fn club() -> Desk {
-    let desk = Desk::new();
-    for (line, said) in STORY {
-        assert_eq!(desk.done(line).trim_end(), said, "{line}");
-    }
-    desk
-}
-
-const DTD: &str = "<!ELEMENT race (finisher*)>
-<!ELEMENT finisher (bib,club,time?)>
-<!ELEMENT bib (#PCDATA)>
-<!ELEMENT time (#PCDATA)>
-<!ELEMENT club (#PCDATA)>
-";
-const RACE: &str =
-    "<race><finisher><bib>7</bib><club>none</club><time>19:04</time></finisher></race>\n";
-
-/// Has xmllint validate each printed document against the printed DTD.
-fn validate(desk: &Desk, printed: &str) {
-    let (declared, documents): (Vec<&str>, Vec<&str>) =
-        printed.lines().partition(|line| line.starts_with("<!"));
-    fs::write(desk.path("form.dtd"), declared.join("\n")).unwrap();
-    for document in documents {
-        fs::write(desk.path("list.xml"), document).unwrap();
-        let done = desk.call(
-            "xmllint",
-            &["--noout", "--dtdvalid", "form.dtd", "list.xml"],
-        );
-        assert_eq!(done.status, Some(0), "{document}: {}", done.err);
-    }
-}
 
 #[test]
 fn the_story_of_clubform() {
     let desk = club();
-    assert_eq!(fs::read(desk.path("club.form")).unwrap().len(), 508);
-    assert_eq!(desk.done("check club.form"), "passes\n");
+    assert_eq!(desk.bytes("club.form").len(), 508);
+    assert_eq!(
+        desk.done("check club.form"),
+        "passes; it is as boxform left it\n"
+    );
     let printed = desk.done("print club.form");
     assert_eq!(printed, format!("{DTD}{RACE}"));
-    validate(&desk, &printed);
+    desk.validate(&printed);
 }
 
-const SHOWN: &str = r#"next serial 12
-
-definitions and their attributes
-   0  <!ELEMENT race (finisher*)>
-         0  <!ATTLIST race day CDATA #REQUIRED> fill "12 May"
-   1  <!ELEMENT finisher (bib,club,time?)>
-         1  <!ATTLIST finisher sex CDATA #IMPLIED>
-         2  <!ATTLIST finisher unit CDATA #FIXED "min">
-   2  <!ELEMENT bib (#PCDATA)>
-   3  <!ELEMENT time (#PCDATA)>
-   4  <!ELEMENT club (#PCDATA)>
-
-serial  row
-     1  race
-     9    day="12 May"
-     2    finisher
-    10      sex="f"
-    11      unit="min"
-     3      bib
-     4        "7"
-     7      club
-     8        "none"
-     5      time
-     6        "19:04"
-"#;
-
-#[test]
-fn show_tells_indices_and_serials() {
-    let desk = club();
-    let words = [
-        "add-attribute",
-        "club.form",
-        "--owner",
-        "race",
-        "--name",
-        "day",
-        "--sort",
-        "required",
-        "--value",
-        "12 May",
-    ];
-    assert_eq!(desk.call(BOXFORM, &words).status, Some(0));
-    desk.done("add-attribute club.form --owner finisher --name sex --sort implied");
-    desk.done("add-attribute club.form --owner 1 --name unit --sort=fixed --value=min");
-    desk.done("set-attribute club.form --element 2 --attribute finisher.sex --value f");
-    desk.done("set-attribute club.form --element 2 --attribute 2 --value min");
-    assert_eq!(desk.done("show club.form"), SHOWN);
-    validate(&desk, &desk.done("print club.form"));
-}
-
-/// The changes that the stories above do not make.
+/// The changes that the story does not make, with what each says.
 #[test]
 fn the_other_changes() {
     let desk = club();
-    desk.done("add-attribute club.form --owner finisher --name sex --sort implied");
-    desk.done("set-attribute club.form --element 2 --attribute finisher.sex --value f");
-    desk.done("destroy-attribute-row club.form --element 2 --attribute finisher.sex");
-    desk.done("destroy-attribute club.form --attribute finisher.sex");
-    desk.done("convert-to-group club.form --owner finisher --place 2 --count 2 --sort list");
-    desk.done("change-group-quantifier club.form --owner finisher --place 2 --quantifier qmark");
-    assert!(desk
-        .done("print club.form")
-        .contains("<!ELEMENT finisher (bib,(club,time?)?)>"));
-    desk.done("remove-element club.form --owner finisher --place 2-2");
-    desk.done("change-group-quantifier club.form --owner finisher --place 2 --quantifier none --text none");
-    desk.done("flatten-group club.form --owner finisher --place 2");
-    desk.done("destroy-definition club.form --definition time");
-    desk.done("destroy-element club.form --element 2");
-    let left = "<!ELEMENT race (finisher*)>\n<!ELEMENT finisher (bib,club)>\n<!ELEMENT bib (#PCDATA)>\n<!ELEMENT club (#PCDATA)>\n<race></race>\n";
+    for (line, said) in [
+        ("add-attribute club.form --owner finisher --name sex --sort implied", "attribute finisher.sex is new: \
+        #IMPLIED"),
+        ("set-attribute club.form --element 2 --attribute sex --value f", "made 1 attribute: serial 9"),
+        ("set-attribute club.form --element 2 --attribute finisher.sex --value m", "set @sex of finisher 2 from \"f\" \
+        to \"m\""),
+        ("destroy-attribute-row club.form --element 2 --attribute sex --yes", "took 1 attribute: @sex \"m\" of \
+        finisher 2"),
+        ("destroy-attribute club.form --attribute sex", "attribute finisher.sex is gone: #IMPLIED"),
+        (
+            "convert-to-group club.form --owner finisher --place club --count 2 --sort list",
+            "definition finisher was (bib,club,time?) and is (bib,(club,time?))",
+        ),
+        (
+            "change-group-quantifier club.form --place finisher/club/.. --quantifier qmark",
+            "definition finisher was (bib,(club,time?)) and is (bib,(club,time?)?)",
+        ),
+        (
+            "remove-element club.form --place finisher/time --yes",
+            "definition finisher was (bib,(club,time?)?) and is (bib,(club)?)\n  took 1 element, 2 rows in all: time 5",
+        ),
+        (
+            "change-group-quantifier club.form --owner finisher --place 2 --quantifier none --text none",
+            "definition finisher was (bib,(club)?) and is (bib,(club))",
+        ),
+        ("flatten-group club.form --owner race --place finisher/2", "definition finisher was (bib,(club)) and is \
+        (bib,club)"),
+        ("destroy-definition club.form --definition time", "definition time is gone: (#PCDATA)"),
+        ("destroy-element club.form --element 2 --yes", "took 3 elements, 5 rows in all: finisher 2"),
+        ("set-text club.form --element 1 --text a", ""),
+    ] {
+        let done = desk.run(line);
+        let wanted = if said.is_empty() { String::new() } else { format!("done\n  {said}\n") };
+        assert_eq!(done.out, wanted, "{line}: {}", done.err);
+    }
+    let left = "<!ELEMENT race (finisher*)>\n<!ELEMENT finisher (bib,club)>\n<!ELEMENT bib (#PCDATA)>\n<!ELEMENT club \
+    (#PCDATA)>\n<race></race>\n";
     assert_eq!(desk.done("print club.form"), left);
-    validate(&desk, left);
+    desk.validate(left);
 }
 
 #[test]
-fn refusals_come_in_words_with_their_numbers() {
+fn refusals_name_the_argument_and_say_what_now() {
     let desk = club();
+    desk.done("add-attribute club.form --owner race --name day --sort required --value '12 May'");
+    desk.done("add-attribute club.form --owner finisher --name unit --sort fixed --value min");
     for (line, message) in [
-        ("create-definition club.form --name 9 --kind empty", "refused (2, bad name): a name has"),
-        ("create-definition club.form --name Läufer --kind empty", "refused (2, bad name): "),
-        ("set-text club.form --element 3 --text 123456789-123456789-123456789-123", "refused (3, bad value): "),
-        ("create-definition club.form --name bib --kind empty", "refused (5, taken): the name exists"),
-        ("destroy-definition club.form --definition 5", "refused (6, unknown): "),
-        ("destroy-element club.form --element 9", "refused (7, no row): "),
-        ("remove-element club.form --owner race --place 1-1", "refused (8, no place): "),
-        ("set-text club.form --element 2 --text 7", "refused (9, wrong kind): "),
-        ("destroy-definition club.form --definition bib", "refused (10, in use): "),
-        ("insert-element club.form --owner finisher --place 0 --definition race --quantifier star", "refused (11, round): "),
-        ("change-quantifier club.form --owner finisher --place 3 --quantifier none", "refused (12, default): "),
-        ("convert-to-group club.form --owner finisher --place 1 --count 2 --sort choice", "refused (14, grouping): "),
-        ("destroy-element club.form --element 3", "refused (15, no match): "),
+        ("create-definition club.form --name 9 --kind empty", "(2, bad name): --name 9: a name begins with a letter or \
+        _, not with 9"),
+        ("create-definition club.form --name Läufer --kind empty", "(2, bad name): --name Läufer: only plain ASCII, no \
+        ä"),
+        ("create-definition club.form --name 'a b' --kind empty", "(2, bad name): --name a b: a name has only letters, \
+        digits, _, - and ., no blank"),
+        ("create-definition club.form --name abcdefghijklmnopq --kind empty", "(2, bad name): --name \
+        abcdefghijklmnopq: it has 17 characters, and at most 16 can be"),
+        ("create-definition club.form --name '' --kind empty", "(2, bad name): --name : it is empty"),
+        ("set-text club.form --element 3 --text 123456789-123456789-123456789-123", "(3, bad value): --text \
+        123456789-123456789-123456789-123: it has 33 characters, and at most 32 can be"),
+        ("set-text club.form --element 3 --text Müller", "(3, bad value): --text Müller: only plain ASCII, no ü"),
+        ("create-definition club.form --name bib --kind empty", "(5, taken): --name bib: a definition of this name is \
+        there already"),
+        ("add-attribute club.form --owner race --name day --sort implied", "(5, taken): --name day: it has an \
+        attribute of this name already"),
+        ("destroy-definition club.form --definition 5", "(6, unknown): --definition 5: no definition has this index; \
+        there are: race, finisher, bib, time, club"),
+        ("destroy-attribute club.form --attribute 2", "(6, unknown): --attribute 2: no attribute has this index; there \
+        are: race.day, finisher.unit"),
+        ("set-attribute club.form --element 2 --attribute race.day --value x", "(6, unknown): --attribute race.day: \
+        finisher 2 cannot have it; its attributes are: finisher.unit"),
+        ("destroy-element club.form --element 99", "(7, no row): --element 99: no row has had this serial yet; the \
+        next is 10"),
+        ("destroy-element club.form --element 4", "(7, no row): --element 4: this is the text \"7\"; give its element, \
+        bib 3"),
+        ("destroy-attribute-row club.form --element 2 --attribute unit", "(7, no row): --attribute unit: finisher 2 \
+        has no finisher.unit"),
+        ("add-element club.form --parent 1 --child 5 --definition finisher", "(8, no place): --child 5: race 1 has 1 \
+        elements in it, so 0 to 1 or end can be"),
+        ("remove-element club.form --owner race --place 1-1", "(8, no place): --place 1-1: 1 is the element finisher* \
+        and no group"),
+        ("remove-element club.form --owner finisher --place 4", "(8, no place): --place 4: the model of finisher, \
+        (bib,club,time?), has 3 members, so 1 to 3 can be"),
+        ("flatten-group club.form --place finisher/bib", "(8, no place): --place finisher/bib: this is the element bib \
+        and no group"),
+        ("convert-to-group club.form --place finisher/club --count 3 --sort list", "(8, no place): --count 3: from \
+        place 2 on there are 2 members"),
+        ("set-text club.form --element 2 --text 7", "(9, wrong kind): --element 2: finisher 2 holds elements, no text; \
+        those below it that hold one: bib 3, club 7, time 5"),
+        ("insert-element club.form --owner bib --place 0 --definition club --quantifier star", "(9, wrong kind): bib \
+        holds a text, so it has no model"),
+        ("destroy-definition club.form --definition bib", "(10, in use): --definition bib: it is in the model of \
+        finisher; 'remove-element --place finisher/bib' comes first"),
+        ("destroy-definition club.form --definition race", "(10, in use): --definition race: documents have it at the \
+        root: race 1"),
+        ("insert-element club.form --owner finisher --place 0 --definition time --quantifier star", "(10, in use): \
+        --definition time: it is in (bib,club,time?) already, at place 3"),
+        ("insert-element club.form --owner finisher --place 0 --definition race --quantifier star", "(11, round): \
+        --definition race: finisher stands below it: race > finisher"),
+        ("insert-element club.form --owner race --place 0 --definition race --quantifier star", "(11, round): \
+        --definition race: race cannot stand in itself"),
+        ("change-quantifier club.form --owner finisher --place time --quantifier none", "(12, default): --text is \
+        missing or empty: it must come now"),
+        ("add-attribute club.form --owner race --name x --sort required", "(12, default): --value is missing or empty: \
+        a required attribute"),
+        ("add-attribute club.form --owner race --name x --sort implied --value y", "(12, default): --value y: an \
+        implied attribute takes no value"),
+        ("convert-to-group club.form --owner finisher --place 1 --count 2 --sort choice", "(14, grouping): --sort \
+        choice: the members stand in a list"),
+        ("destroy-element club.form --element 3", "(15, no match): --element 3: finisher 2 must keep it: \
+        (bib,club,time?) would not fit without bib; 'change-quantifier --place finisher/bib --quantifier qmark' lets \
+        it be absent"),
+        ("add-element club.form --parent 2 --child end --definition time", "(15, no match): time may come once in \
+        (bib,club,time?); in finisher 2 it is there already, time 5"),
+        ("add-element club.form --parent 2 --child end --definition race", "(15, no match): race is not in \
+        (bib,club,time?), which is what finisher 2 holds"),
+        ("add-element club.form --parent 3 --child 0 --definition time", "(15, no match): time is not in (#PCDATA)"),
+        ("set-attribute club.form --element 2 --attribute unit --value h", "(15, no match): --value h: the attribute \
+        is fixed to \"min\""),
+        ("destroy-attribute-row club.form --element 1 --attribute day", "(15, no match): --attribute day: it is \
+        required, so race 1 keeps it"),
     ] {
-        desk.fails(line, 1, message);
+        desk.fails(line, 1, &format!("refused {message}"));
     }
-    desk.done("convert-to-group club.form --owner finisher --place 3 --count 1 --sort choice");
-    let line =
-        "change-quantifier club.form --owner finisher --place 3-1 --quantifier none --text -";
+}
+
+/// Refusals that want a model with groups.
+#[test]
+fn refusals_about_groups() {
+    let desk = club();
+    desk.done("destroy-element club.form --element 5 --yes");
     desk.fails(
-        line,
+        "add-element club.form --parent 2 --child 0 --definition time --text x",
         1,
-        "refused (13, off spine): an instance exists and the list is off the spine",
+        "refused (15, no match): --child 0: time does not fit there in (bib,club,time?); in finisher 2 it fits as \
+        child 2",
+    );
+    desk.done("convert-to-group club.form --place finisher/time --count 1 --sort choice");
+    desk.done("create-definition club.form --name gun --kind empty");
+    desk.done("insert-element club.form --place finisher/time --definition gun --quantifier none --text x");
+    for (line, message) in [
+        (
+            "change-quantifier club.form --place finisher/time --quantifier none --text -",
+            "(13, off spine): --quantifier none: 1 finisher stand in the lists, and the group (time?|gun) at place 3 \
+            may be left out, repeated or not chosen in them",
+        ),
+        ("remove-element club.form --owner finisher --place 3", "(8, no place): --place 3: this is the group \
+        (time?|gun) and no element; its members are 3-1 time?, 3-2 gun"),
+        (
+            "remove-element club.form --place finisher/time",
+            "(15, no match): --place finisher/time: 1 finisher stand in the lists and may have chosen it, and \
+            (time?|gun) must hold one of its members",
+        ),
+        ("flatten-group club.form --place finisher/gun/..", "(14, grouping): --place finisher/gun/..: this is the \
+        group (time?|gun): it has several members and stands in a list of the other sort"),
+    ] {
+        desk.fails(line, 1, &format!("refused {message}"));
+    }
+    desk.done("change-group-quantifier club.form --place finisher/gun/.. --quantifier star");
+    for (line, message) in [
+        ("flatten-group club.form --place finisher/3", "(14, grouping): --place finisher/3: this is the group \
+        (time?|gun)*: it has the quantifier '*'"),
+        (
+            "change-group-quantifier club.form --place finisher/3 --quantifier qmark",
+            "(13, off spine): --quantifier qmark: 1 finisher stand in the lists, each may have the group many times, \
+            and nothing says which to keep",
+        ),
+    ] {
+        desk.fails(line, 1, &format!("refused {message}"));
+    }
+    desk.done("remove-element club.form --place finisher/time");
+    desk.fails(
+        "remove-element club.form --place finisher/gun",
+        1,
+        "refused (14, grouping): --place finisher/gun: it is the last member of group 3",
+    );
+    desk.fails(
+        "insert-element club.form --place finisher/3-1 --definition race --quantifier none --text x",
+        1,
+        "refused (11, round)",
     );
 }
 
 #[test]
-fn a_damaged_file_is_refused() {
-    let desk = club();
-    let mut bytes = fs::read(desk.path("club.form")).unwrap();
-    bytes[200] ^= 1;
-    fs::write(desk.path("club.form"), bytes).unwrap();
-    for line in [
-        "check club.form",
-        "print club.form",
-        "show club.form",
-        "destroy-definition club.form --definition nobody",
-    ] {
-        desk.fails(
-            line,
-            1,
-            "refused (1, bad store): the store does not pass the check",
-        );
+fn ceilings_are_told_with_what_is_full() {
+    let desk = Desk::new();
+    desk.done("new x.form");
+    let create: String = (0..64)
+        .map(|index| format!("create-definition --name d{index} --kind complex\n"))
+        .collect();
+    desk.done_with("run x.form", &create);
+    desk.fails(
+        "create-definition x.form --name e --kind empty",
+        1,
+        "refused (16, ceiling): the store has 64 definitions already",
+    );
+    let attributes: String = (0..64)
+        .map(|index| format!("add-attribute --owner d0 --name a{index} --sort implied\n"))
+        .collect();
+    desk.done_with("run x.form", &attributes);
+    desk.fails(
+        "add-attribute x.form --owner d0 --name b --sort implied",
+        1,
+        "refused (16, ceiling): the store has 64 attributes already",
+    );
+    desk.done("insert-element x.form --owner d0 --place 0 --definition d1 --quantifier star");
+    for depth in 1..=4 {
+        let place = ["1", "1-1", "1-1-1", "1-1-1-1"][depth - 1];
+        desk.done(&format!(
+            "convert-to-group x.form --owner d0 --place {place} --count 1 --sort list"
+        ));
     }
-    fs::write(desk.path("long"), vec![1; 1 << 20]).unwrap();
-    desk.fails("check long", 1, "refused (1, bad store)");
+    desk.fails(
+        "convert-to-group x.form --owner d0 --place d1 --count 1 --sort list",
+        1,
+        "refused (16, ceiling): the groups would stand in each other more than 4 deep",
+    );
 }
 
+/// A club that groups its relay legs, by names alone.
 #[test]
-fn wrong_use() {
-    let desk = club();
+fn places_by_name() {
+    let desk = Desk::new();
+    desk.done("new relay.form");
+    desk.done_with(
+        "run relay.form",
+        "create-definition --name team --kind complex
+         create-definition --name legs --kind complex
+         create-definition --name leg --kind pcdata
+         create-definition --name name --kind pcdata
+         create-definition --name gap --kind pcdata
+         insert-element --owner team --place 0 --definition name --quantifier none --text -
+         insert-element --place team/name --definition legs --quantifier none --text -
+         insert-element --place legs/0 --definition leg --quantifier star
+         add-document --definition team --text A",
+    );
+    desk.done("insert-element relay.form --owner team --place legs/leg --definition gap --quantifier qmark");
+    desk.done(
+        "change-quantifier relay.form --owner team --place legs/leg --quantifier plus --text 0:00",
+    );
+    assert_eq!(
+        desk.done("print relay.form --document 1"),
+        "<team><name>A</name><legs><leg>0:00</leg></legs></team>\n"
+    );
     for (line, message) in [
-        ("", "boxform: give a command"),
         (
-            "paint club.form",
-            "boxform: unknown command paint; there are: new, check, print",
-        ),
-        ("check", "boxform: give one FILE\nusage: boxform check FILE"),
-        ("check club.form other.form", "boxform: give one FILE"),
-        (
-            "check club.form --force yes",
-            "boxform: unknown argument --force",
-        ),
-        ("check -v club.form", "boxform: unknown argument -v"),
-        (
-            "set-text club.form --element 3",
-            "boxform: --text is missing",
+            "remove-element relay.form --place leg",
+            "--owner is missing: give the definition whose model it is, or the \
+        place as OWNER/PLACE",
         ),
         (
-            "set-text club.form --element 3 --text",
-            "boxform: --text wants a value",
+            "remove-element relay.form --owner team --place leg",
+            "--place leg: leg is not in the model of team, \
+        (name,legs)",
         ),
         (
-            "set-text club.form --element 3 --text a --text b",
-            "boxform: --text is given twice",
+            "remove-element relay.form --owner name --place legs/leg",
+            "--place legs/leg: legs is not in the model of \
+        name, (#PCDATA)",
         ),
         (
-            "set-text club.form --element +3 --text a",
-            "boxform: --element +3: give a number",
+            "remove-element relay.form --place legs/lge",
+            "--place legs/lge: lge is unknown; did you mean leg?",
         ),
         (
-            "set-text club.form --element 4294967296 --text a",
-            "boxform: --element 4294967296: give a number",
+            "remove-element relay.form --place lges/leg",
+            "--place lges/leg: lges is unknown; did you mean legs?",
         ),
         (
-            "remove-element club.form --owner race --place 1.1",
-            "boxform: --place 1.1: give numbers",
+            "flatten-group relay.form --place legs/leg/..",
+            "--place legs/leg/..: leg stands in no such group of \
+        (leg+,gap?)",
         ),
         (
-            "destroy-definition club.form --definition Bib",
-            "boxform: --definition Bib: unknown; there are: race, finisher, bib, time, club",
-        ),
-        (
-            "create-definition club.form --name team --kind any",
-            "boxform: --kind any: unknown; there are: empty, pcdata, complex",
-        ),
-        (
-            "destroy-attribute club.form --attribute race.day",
-            "boxform: --attribute race.day: unknown; there are: none",
+            "remove-element relay.form --owner legs --place 1-",
+            "--place 1-: give a name, or one to five numbers with - \
+        between them",
         ),
     ] {
-        desk.fails(line, 2, message);
+        desk.fails(line, 2, &format!("boxform: {message}"));
     }
 }
 
@@ -353,138 +314,179 @@ fn an_attribute_that_two_names_could_mean() {
         "add-attribute x.form --owner a --name b.c --sort implied",
         "add-attribute x.form --owner a.b --name c --sort implied",
         "add-attribute x.form --owner a.b --name d --sort implied",
+        "add-attribute x.form --owner a --name d --sort implied",
     ] {
         desk.done(line);
     }
-    desk.fails(
-        "destroy-attribute x.form --attribute a.b.c",
-        2,
-        "boxform: --attribute a.b.c: it is index 0 and index 1; give the index",
-    );
-    desk.done("destroy-attribute x.form --attribute a.b.d");
-    desk.done("destroy-attribute x.form --attribute 1");
-    desk.done("destroy-attribute x.form --attribute a.b.c");
-}
-
-#[test]
-fn file_errors() {
-    let desk = club();
-    fs::write(desk.path("empty.form"), b"").unwrap();
     for (line, message) in [
-        ("check absent.form", "boxform: absent.form: No such file"),
         (
-            "set-text absent.form --element 3 --text a",
-            "boxform: absent.form: No such file",
+            "destroy-attribute x.form --attribute a.b.c",
+            "--attribute a.b.c: it can be a.b.c (index 0) or a.b.c (index 2); give the index",
         ),
-        ("print empty.form", "boxform: empty.form: the file is empty"),
-        ("check .", "boxform: .: Is a directory"),
-        ("new club.form", "boxform: club.form: File exists"),
         (
-            "new nowhere/club.form",
-            "boxform: nowhere/club.form: No such file",
+            "destroy-attribute x.form --attribute d",
+            "--attribute d: it can be a.d (index 1) or a.b.d (index 3); give the index",
         ),
     ] {
-        desk.fails(line, 2, message);
+        desk.fails(line, 2, &format!("boxform: {message}"));
     }
+    desk.done("destroy-attribute x.form --attribute a.b.d");
+    desk.done("destroy-attribute x.form --attribute 2");
+    desk.done("destroy-attribute x.form --attribute a.b.c");
+    desk.done("destroy-attribute x.form --attribute d");
 }
 
 #[test]
-fn help_for_each_command() {
-    let desk = Desk::new();
-    let overview = desk.done("--help");
-    let names: Vec<&str> = overview
-        .lines()
-        .filter_map(|line| line.strip_prefix("  ")?.split(' ').next())
-        .collect();
-    assert_eq!(names.len(), 20);
-    for name in names {
-        let help = desk.done(&format!("{name} --help"));
-        assert!(help.starts_with(&format!("boxform {name} FILE")), "{help}");
-        let flags = help.lines().filter(|line| line.starts_with("  --")).count();
-        let usage = help.lines().next().unwrap_or_default();
-        assert_eq!(flags, usage.matches("--").count(), "{help}");
-    }
-}
-
-/// The system ends boxform when it writes the new file: the old one is whole, and the next run does not mind what was left behind.
-#[test]
-fn a_crash_loses_nothing() {
+fn why_a_file_does_not_pass() {
     let desk = club();
-    let before = fs::read(desk.path("club.form")).unwrap();
-    let line = format!(
-        "ulimit -c 0; ulimit -f 0; exec '{BOXFORM}' set-text club.form --element 3 --text 8"
-    );
-    assert_eq!(
-        desk.call("sh", &["-c", &line]).status,
-        None,
-        "a signal ends it"
-    );
-    assert!(fs::read(desk.path("club.form")).unwrap() == before);
-    assert_eq!(desk.files().len(), 2, "what the crash left");
-    desk.done("set-text club.form --element 3 --text 8");
-    assert_eq!(desk.files().len(), 1);
-    assert!(desk.done("print club.form").contains("<bib>8</bib>"));
-}
-
-#[test]
-fn permissions_and_links_stay() {
-    let desk = club();
-    let file = desk.path("club.form");
-    fs::set_permissions(&file, fs::Permissions::from_mode(0o640)).unwrap();
-    std::os::unix::fs::symlink("club.form", desk.path("link")).unwrap();
-    desk.done("set-text link --element 3 --text 8");
-    assert!(desk.path("link").is_symlink());
-    assert_eq!(
-        fs::metadata(&file).unwrap().permissions().mode() & 0o777,
-        0o640
-    );
-    assert!(desk.done("print club.form").contains("<bib>8</bib>"));
-}
-
-#[test]
-fn two_at_once_lose_nothing() {
-    let desk = Desk::new();
-    desk.done("new x.form");
-    let start = |index| {
-        let name = format!("d{index}");
-        let words = [
-            "create-definition",
-            "x.form",
-            "--name",
-            &name,
-            "--kind",
-            "empty",
-        ];
-        Command::new(BOXFORM)
-            .args(words)
-            .current_dir(&desk.folder)
-            .stdout(Stdio::null())
-            .spawn()
-            .unwrap()
+    let whole = desk.bytes("club.form");
+    let changed = |at: usize, byte: u8| {
+        let mut bytes = whole.clone();
+        bytes[at] = byte;
+        bytes
     };
-    let started: Vec<_> = (0..30).map(start).collect();
-    for mut child in started {
-        assert!(child.wait().unwrap().success());
+    // 5 definitions from byte 40, 4 particles from 140, 8 rows from 156.
+    for (bytes, message) in [
+        (vec![], "the file is empty"),
+        (whole[..30].to_vec(), "cut short at byte 30 of 40 or more"),
+        (whole[..507].to_vec(), "cut short at byte 507 of 508"),
+        (
+            [&whole[..], b"x"].concat(),
+            "it has 509 bytes, and the store in it ends at byte 508",
+        ),
+        (
+            vec![1; 1 << 20],
+            "this is no form store: it does not begin with version 1",
+        ),
+        (
+            b"<race></race>".to_vec(),
+            "this is a text of XML and no form store",
+        ),
+        (changed(4, 0), "the next serial is 0"),
+        (
+            changed(12, 6),
+            "the table of contents is damaged: 4 particles at byte 140",
+        ),
+        (
+            changed(41, b'9'),
+            "the form is damaged: the record of definition 0",
+        ),
+        (changed(142, 7), "the form is damaged: a model"),
+        (
+            changed(156 + 44 * 2 + 2, 4),
+            "document 1 does not fit the form: finisher 2, (bib,club,time?)",
+        ),
+        (
+            changed(156 + 44 * 3 + 10, 7),
+            "document 1 does not fit the form: bib 3, (#PCDATA)",
+        ),
+        (
+            changed(156 + 44 * 3 + 4, 8),
+            "the rows' serials are damaged: one stands twice",
+        ),
+    ] {
+        fs::write(desk.path("bad.form"), bytes).unwrap();
+        for command in ["check", "print", "show", "sum"] {
+            desk.fails(
+                &format!("{command} bad.form"),
+                1,
+                &format!("refused (1, bad store): bad.form: {message}"),
+            );
+        }
+        desk.fails(
+            "destroy-definition bad.form --definition nobody",
+            1,
+            "refused (1, bad store): ",
+        );
     }
-    assert_eq!(desk.done("print x.form").lines().count(), 30);
 }
 
-/// What cannot be printed is an error; a change that is made is done, whether or not anybody reads that.
 #[test]
-fn nobody_reads() {
+fn wrong_use() {
     let desk = club();
-    let line = |words: &str| format!("'{BOXFORM}' {words} > /dev/full");
-    assert_eq!(
-        desk.call("sh", &["-c", &line("print club.form")]).status,
-        Some(2)
-    );
-    assert_eq!(
-        desk.call(
-            "sh",
-            &["-c", &line("set-text club.form --element 3 --text 8")]
-        )
-        .status,
-        Some(0)
-    );
-    assert!(desk.done("print club.form").contains("<bib>8</bib>"));
+    for (line, message) in [
+        ("", "give a command"),
+        (
+            "paint club.form",
+            "unknown command paint; did you mean print?",
+        ),
+        (
+            "xyzzy club.form",
+            "unknown command xyzzy; there are: new, check, sum, undo, print",
+        ),
+        ("shwo club.form", "unknown command shwo; did you mean show?"),
+        (
+            "help set-txt",
+            "unknown command set-txt; did you mean set-text?",
+        ),
+        (
+            "check",
+            "FILE is missing: give the file with the store\nusage: boxform check FILE",
+        ),
+        ("check club.form other.form", "other.form: give one FILE"),
+        ("diff club.form", "give A and B"),
+        ("check club.form --force yes", "unknown argument --force"),
+        (
+            "set-text club.form --elment 3 --text a",
+            "unknown argument --elment; did you mean --element?",
+        ),
+        ("check -v club.form", "unknown argument -v"),
+        ("check -- -v", "-v: No such file"),
+        ("show club.form --json=yes", "--json takes no value"),
+        (
+            "set-text club.form --element 3",
+            "--text is missing: the new text",
+        ),
+        (
+            "set-text club.form --element 3 --text",
+            "--text wants a value: the new text",
+        ),
+        (
+            "set-text club.form --element 3 --text a --text b",
+            "--text is given twice",
+        ),
+        (
+            "set-text club.form --element +3 --text a",
+            "--element +3: give a number",
+        ),
+        (
+            "set-text club.form --element 4294967296 --text a",
+            "--element 4294967296: give a number",
+        ),
+        (
+            "add-element club.form --parent 1 --child last --definition finisher",
+            "--child last: give a number from 0, or end",
+        ),
+        (
+            "remove-element club.form --owner race --place 1.1",
+            "--place 1.1: give a name, or one to five numbers",
+        ),
+        (
+            "remove-element club.form --owner race --place 1-1-1-1-1-1",
+            "--place 1-1-1-1-1-1: give a name, or one to five numbers",
+        ),
+        (
+            "destroy-definition club.form --definition Bib",
+            "--definition Bib: unknown; did you mean bib?",
+        ),
+        (
+            "destroy-definition club.form --definition chip",
+            "--definition chip: unknown; there are: race, finisher, bib, time, club",
+        ),
+        (
+            "create-definition club.form --name team --kind any",
+            "--kind any: unknown; there are: empty, pcdata, complex",
+        ),
+        (
+            "destroy-attribute club.form --attribute race.day",
+            "--attribute race.day: unknown; there are: none",
+        ),
+        (
+            "add-attribute club.form --owner race --name day --sort fixed",
+            "--sort fixed: give the value with --value; --value '' is the empty one",
+        ),
+    ] {
+        desk.fails(line, 2, &format!("boxform: {message}"));
+    }
+    desk.done("add-attribute club.form --owner race --name day --sort fixed --value ''");
 }

@@ -19,7 +19,7 @@ use Rattle.rules.specs.Refusal.{refusal}
 use Rattle.rules.specs.Outcome.{Outcome, refused, wrote, unlessRefused, onStore, outcome, numberOf, lengthOf, bufferOf, Answers}
 use Rattle.rules.specs.Run.{Asked, freshStore, leaves, Moment, start, step, run}
 use Rattle.history.specs.History.{Agrees}
-use Rattle.history.proofs.Theorem.{start-agrees}
+use Rattle.history.proofs.Moments.{start-agrees}
 use Rattle.history.proofs.Accepted.{demand-3-from}
 use Rattle.histories.specs.Calls.{Made, askedOf, next, storeAfter, Promised, historyOf, OfTheBox}
 

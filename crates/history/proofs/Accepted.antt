@@ -21,7 +21,8 @@ use Rattle.history.proofs.Agreement.{serials-after}
 use Rattle.history.proofs.AcceptedEdits.{editsModel, accepted-edit}
 use Rattle.history.proofs.ConformingEdits.{conforming-edited}
 use Rattle.history.proofs.ConformingSimple.{GoodTests, good-tests, conforming-after, conforming-after-simple, values-after}
-use Rattle.history.proofs.Theorem.{start-agrees, demand-3-by}
+use Rattle.history.proofs.Moments.{start-agrees}
+use Rattle.history.proofs.Theorem.{demand-3-by}
 
 module _ (room : ℕ) (c : Call) (s : Store) (x : GoodTests s) (a : refusal room c s ≡ 0) where
   conforms : (e : Bool) → editsModel c ≡ e → conforming (formAfter c (s .form)) (docsAfter c s) ≡ true

@@ -14,14 +14,14 @@ use Rattle.rules.specs.Lines.{Line, lines, ground}
 use Rattle.rules.specs.Change.{Call, formAfter, Plan, plan, prune, revalue, eachRow, changed, newRows, number, after}
 use Rattle.rules.specs.Book.{Entry, stands, taken, Book, freshBook, untaken, mark, revalueEntry, expand, spotCount, marks, note}
 use Rattle.rules.specs.Run.{emptyStore}
-use Rattle.history.specs.History.{everMade}
+use Rattle.history.specs.History.{everMade, entrySerials}
 use Rattle.history.proofs.NumberTests.{ones, ones-most, times}
 use Rattle.history.proofs.Taking
 use Rattle.history.proofs.Taking.{occurs, occurs-serials, count, Apart}
 use Rattle.history.proofs.Making
 use Rattle.history.proofs.Making.{standing, untaken-standing}
 use Rattle.history.proofs.Numbering.{lines-serials, Spent, spent, spent-distinct, spent-below, spent-part}
-use Rattle.history.proofs.Stable.{entrySerials, lineSerials, standing-serials, Once, once-spent, spent-once, once-note}
+use Rattle.history.proofs.Stable.{lineSerials, standing-serials, Once, once-spent, spent-once, once-note}
 
 -- ---- values set
 abbrev pub onLine : (Row → Row) → Line → Line

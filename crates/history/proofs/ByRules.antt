@@ -26,18 +26,18 @@ use Rattle.rules.specs.MadeTakenGiven.{IsThere, foundIn, OfElement, AtElement, 
 use Rattle.rules.proofs.Words.{or-cases, and-split}
 use Rattle.rules.proofs.PassingLaws.{good-is}
 use Rattle.rules.proofs.PlanLaws.{Known, Above, named, ruled, setBy, AtMostOne, set-after, Filled, makes, filled, filling-made}
-use Rattle.history.specs.History.{serialOf, everMade, takenSerials, entriesFrom, Makes, ByTheRules}
+use Rattle.history.specs.History.{serialOf, everMade, takenSerials, entriesFrom, entriesBelow, Makes, ByTheRules, entrySerials}
 use Rattle.history.proofs.Conditions.{not-false, unmet}
 use Rattle.history.proofs.Taking.{Apart}
 use Rattle.history.proofs.Making.{standing}
 use Rattle.history.proofs.Numbering.{blank-plan}
-use Rattle.history.proofs.Stable.{olds, left, olds-marks, entrySerials, lineSerials, marks-serials, untaken-in, Once}
+use Rattle.history.proofs.Stable.{olds, left, olds-marks, lineSerials, marks-serials, untaken-in, Once}
 use Rattle.history.proofs.Agreement.{onLine, untaken-revalue, Agree, good-apart}
 use Rattle.history.proofs.TakenLines.{marked, taken-marked, expand-old, mark-old, valued, revalue-old, line-serial, distinct-untaken, same-serial}
 use Rattle.history.proofs.Pruned.{has-above}
 use Rattle.history.proofs.RowsBelow.{one-of-attribute, one-of-text, instance-spared}
 use Rattle.history.proofs.TakenByRule.{taken-as, taken-then-under, under-then-taken, taken-or-left}
-use Rattle.history.proofs.MadeLines.{spotsIn, spots-length, expand-new, spots-filled, spots-once, made-as, count-as}
+use Rattle.history.proofs.MadeLines.{spotsIn, spots-length, expand-new, expand-others, spots-filled, spots-once, made-as, count-as}
 
 -- ---- what acceptance says
 some-there : (test : Row → Bool) (k : ℕ) → ((r : Row) → test r ≡ true → r .serial ≡ k) → (ls : List Line) → any (λ (l : Line). test (l .row)) ls ≡ true → IsThere test ls k
@@ -294,6 +294,13 @@ module _ (room : ℕ) (c : Call) (s : Store) (g : good s ≡ true) (accepted : r
       ap (λ (n : ℕ). b .next + n)
       (ap (λ (n : ℕ). newRows (p .filling) * n) (spots-length (marks p (b .entries))) ∙ count-as (p .filling) (rowsMade c (s .form)) (spotsIn (marks p (b .entries))) made-rows)
 
+  other-lines : entrySerials (entriesBelow (b .next) (expand (p .filling) (b .next) (marks p (b .entries)))) ≡ everMade b
+  other-lines =
+      ap entrySerials
+      (expand-others (b .next) (p .filling) (blank-plan c (s .form) ls) (b .next) (le-refl (b .next)) (marks p (b .entries))
+      (λ n i. once .below n (subst (λ (z : List ℕ). List·Memᴰ n z) (marks-serials p (b .entries)) i) .1))
+      ∙ marks-serials p (b .entries)
+
   taken-after : (l : Line) → List·Memᴰ l ls → List·Memᴰ (serialOf l) (takenSerials (expand (p .filling) (b .next) (marks p (b .entries)))) ↔ Taken (λ x. NamedBy c (s .form) ls x) ls l
   taken-after l i = subst (λ (z : List ℕ). List·Memᴰ (serialOf l) z ↔ Taken (λ x. NamedBy c (s .form) ls x) ls l) (sym (taken-marked p (b .next) (b .entries))) (taken-named l i)
 
@@ -307,6 +314,7 @@ module _ (room : ℕ) (c : Call) (s : Store) (g : good s ≡ true) (accepted : r
         one = one-parent;
         lines = rw (agree .form, h) made-lines;
         next = rw (agree .form, h) made-next;
+        others = rw (agree .form, h) other-lines;
       }
 
   pub by-the-rules : ByTheRules c b (note c b)

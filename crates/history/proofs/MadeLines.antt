@@ -19,11 +19,11 @@ use Rattle.rules.specs.Change.{Plan, newRows, number}
 use Rattle.rules.specs.Book.{Entry, stands, taken, untaken, Mark, old, spot, place, placed, spots, expand, spotCount, marks}
 use Rattle.rules.specs.MadeTakenGiven.{IsThere, linesMade}
 use Rattle.rules.proofs.PlanLaws.{Filled}
-use Rattle.history.specs.History.{serialOf, lineOf, entriesFrom}
+use Rattle.history.specs.History.{serialOf, lineOf, entrySerials, entriesFrom, entriesBelow}
 use Rattle.history.proofs.NumberTests.{ones, ones-most, ones-own, times, times-in, times-out, distinct-times, range, range-below}
 use Rattle.history.proofs.Making.{standing}
 use Rattle.history.proofs.Numbering.{Blank, number-serials, lines-serials}
-use Rattle.history.proofs.Stable.{olds, left, entrySerials, lineSerials}
+use Rattle.history.proofs.Stable.{olds, left, lineSerials}
 use Rattle.history.proofs.TakenLines.{line-serial}
 
 -- ---- the rows below which rows come
@@ -76,6 +76,31 @@ expand-new least w blank n h (spot u ∷ ms) f =
     from-new least (lines u (number n w)) (expand w (n + newRows w) ms) (λ l i. let z : n ≤ serialOf l = new-least w blank n u l i in omega arith)
     ∙ ap (λ (z : List Entry). standing (lines u (number n w)) ++ z) (expand-new least w blank (n + newRows w) (omega arith) ms f)
     ∙ sym (map-append (λ (l : Line). stands l) (lines u (number n w)) (linesMade w (n + newRows w) (spotsIn ms)))
+
+-- ---- the other lines
+module _ (least : ℕ) where
+  below-new : (ls : List Line) (es : List Entry) → ((l : Line) → List·Memᴰ l ls → least ≤ serialOf l) → entriesBelow least (standing ls ++ es) ≡ entriesBelow least es
+  unfolding entriesBelow
+  below-new [] es f = refl
+  below-new (l ∷ ls) es f = rw (le-leb least (serialOf l) (f l (List·Memᴰ·head refl)), entriesBelow) (below-new ls es (λ m i. f m (List·Memᴰ·tail i)))
+
+  below-old : (e : Entry) (es : List Entry) → serialOf (lineOf e) < least → entriesBelow least (e ∷ es) ≡ e ∷ entriesBelow least es
+  unfolding entriesBelow
+  below-old e es h = by (leb least (serialOf (lineOf e))) refl
+    where
+      by : (c : Bool) → leb least (serialOf (lineOf e)) ≡ c → entriesBelow least (e ∷ es) ≡ e ∷ entriesBelow least es
+      by true q = absurd (omega (arith, h, leb-true least (serialOf (lineOf e)) q))
+      by false q = rw (q, entriesBelow)
+
+pub expand-others : (least : ℕ) (w : Forest Row) → Blank w → (n : ℕ) → least ≤ n → (ms : List Mark) → ((k : ℕ) → List·Memᴰ k (entrySerials (olds ms)) → k < least)
+    → entriesBelow least (expand w n ms) ≡ olds ms
+unfolding olds expand entriesBelow
+expand-others least w blank n h [] f = refl
+expand-others least w blank n h (old e ∷ ms) f =
+    below-old least e (expand w n ms) (f (serialOf (lineOf e)) (List·Memᴰ·head refl)) ∙ ap (λ (z : List Entry). e ∷ z) (expand-others least w blank n h ms (λ k i. f k (List·Memᴰ·tail i)))
+expand-others least w blank n h (spot u ∷ ms) f =
+    below-new least (lines u (number n w)) (expand w (n + newRows w) ms) (λ l i. let z : n ≤ serialOf l = new-least w blank n u l i in omega arith)
+    ∙ expand-others least w blank (n + newRows w) (omega arith) ms f
 
 -- ---- each row that is filled, once
 unfoldable filledIn : (Row → Bool) → List Row → List ℕ

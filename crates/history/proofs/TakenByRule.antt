@@ -11,9 +11,9 @@ use Rattle.rules.specs.Change.{prune}
 use Rattle.rules.specs.Book.{Entry, untaken, mark}
 use Rattle.rules.specs.MadeTakenGiven.{Taken, itself, beneath}
 use Rattle.rules.proofs.PlanLaws.{Ruled}
-use Rattle.history.specs.History.{serialOf, takenSerials}
+use Rattle.history.specs.History.{serialOf, takenSerials, entrySerials}
 use Rattle.history.proofs.Taking.{Apart, taking}
-use Rattle.history.proofs.Stable.{entrySerials, lineSerials, mark-serials, untaken-in}
+use Rattle.history.proofs.Stable.{lineSerials, mark-serials, untaken-in}
 use Rattle.history.proofs.TakenLines.{line-serial, serial-line, either, not-both, distinct-untaken, same-serial, mark-old}
 use Rattle.history.proofs.Pruned.{left-or-taken, not-left}
 

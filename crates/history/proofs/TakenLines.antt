@@ -13,11 +13,11 @@ use Rattle.rules.specs.Passing.{serials}
 use Rattle.rules.specs.Lines.{Line, lines, ground}
 use Rattle.rules.specs.Change.{Plan, revalue, newRows, number}
 use Rattle.rules.specs.Book.{Entry, stands, taken, untaken, falls, mark, revalueEntry, Mark, old, spot, place, placed, spots, expand, marks}
-use Rattle.history.specs.History.{serialOf, lineOf, takenSerials}
+use Rattle.history.specs.History.{serialOf, lineOf, takenSerials, entrySerials}
 use Rattle.history.proofs.NumberTests.{times, times-in, range, range-below}
 use Rattle.history.proofs.Making.{standing}
 use Rattle.history.proofs.Numbering.{Blank, number-serials, lines-serials}
-use Rattle.history.proofs.Stable.{olds, left, olds-marks, entrySerials, lineSerials, mark-serials, untaken-in}
+use Rattle.history.proofs.Stable.{olds, left, olds-marks, lineSerials, mark-serials, untaken-in}
 
 abbrev pub marked : Plan → List Entry → List Entry
 marked p es = mark (p .takes) (ground ∷ []) es

@@ -51,9 +51,12 @@ abbrev pub lineOf : Entry → Line
 lineOf (stands l) = l
 lineOf (taken l) = l
 
+abbrev pub entrySerials : List Entry → List ℕ
+entrySerials es = map (λ (e : Entry). serialOf (lineOf e)) es
+
 -- the serials of all rows ever made, taken ones included
 abbrev pub everMade : Book → List ℕ
-everMade b = map (λ (e : Entry). serialOf (lineOf e)) (b .entries)
+everMade b = entrySerials (b .entries)
 
 -- the serials of the rows that were taken
 abbrev pub takenSerials : List Entry → List ℕ
@@ -115,6 +118,11 @@ unfoldable pub entriesFrom : ℕ → List Entry → List Entry
 entriesFrom n [] = []
 entriesFrom n (e ∷ es) = elim (leb n (serialOf (lineOf e))) [ true ↦ e ∷ entriesFrom n es | false ↦ entriesFrom n es ]
 
+-- the lines with serials below n
+unfoldable pub entriesBelow : ℕ → List Entry → List Entry
+entriesBelow n [] = []
+entriesBelow n (e ∷ es) = elim (leb n (serialOf (lineOf e))) [ true ↦ entriesBelow n es | false ↦ e ∷ entriesBelow n es ]
+
 -- 'The rows it makes become lines, each with the next serial, which then rises by 1'
 pub record Makes (c : Call) (b after : Book) : Type 0 where
   -- the serials of the rows below which it makes rows: exactly those that the rules name, each once
@@ -124,6 +132,8 @@ pub record Makes (c : Call) (b after : Book) : Type 0 where
   -- the new lines, with sort, name, parent and value, and the next serials in document order; none of them taken
   pub lines : entriesFrom (b .next) (after .entries) ≡ map (λ (l : Line). stands l) (linesMade (rowsMade c (b .form)) (b .next) parents)
   pub next : after .next ≡ b .next + newRows (rowsMade c (b .form)) * length parents
+  -- all other lines are those that the book had
+  pub others : entrySerials (entriesBelow (b .next) (after .entries)) ≡ everMade b
 
 pub record ByTheRules (c : Call) (b after : Book) : Type 0 where
   -- 'An accepted one changes the form as said above'
@@ -136,6 +146,38 @@ pub record ByTheRules (c : Call) (b after : Book) : Type 0 where
   -- which lines come, and with which values
   pub makes : Makes c b after
 
+-- ---- a whole history
+-- the call is accepted at this moment
+abbrev pub IsAccepted : Asked → Moment → Type 0
+IsAccepted a m = isAccepted (outcome (a .call) (m .store) (a .room)) ≡ true
+
+-- an accepted call made the row with serial k: its line is among those that came with the call
+abbrev pub MadeBy : ℕ → Asked → Moment → Type 0
+MadeBy k a m = IsAccepted a m × List·Memᴰ k (entrySerials (entriesFrom (m .book .next) (step a m .book .entries)))
+
+-- an accepted call took the row with serial k by the taking rule
+abbrev pub TakenBy : ℕ → Asked → Moment → Type 0
+TakenBy k a m =
+    IsAccepted a m
+    × ((l : Line) × List·Memᴰ l (untaken (m .book .entries)) × (serialOf l ≡ k) × Taken (λ x. NamedBy (a .call) (m .book .form) (untaken (m .book .entries)) x) (untaken (m .book .entries)) l)
+
+-- some call of a history did it
+unfoldable pub SomeCall : (Asked → Moment → Type 0) → List Asked → Moment → Type 0
+SomeCall Did [] m = ⊥
+SomeCall Did (a ∷ history) m = Did a m ⊎ SomeCall Did history (step a m)
+
+abbrev pub withValue : Bytes → Line → Line
+withValue v l = record { parent = l .parent; row = record { serial = l .row .serial; sort = l .row .sort; name = l .row .name; value = v } }
+
+-- a line after a call: an accepted one may have given it a value
+abbrev pub lineAfter : Asked → Moment → Line → Line
+lineAfter a m l = elim (isAccepted (outcome (a .call) (m .store) (a .room))) [ true ↦ withValue (valueAfter (a .call) (m .book .form) l) l | false ↦ l ]
+
+-- a line after a history, with the last value that an accepted call gave it
+unfoldable pub lineThen : List Asked → Moment → Line → Line
+lineThen [] m l = l
+lineThen (a ∷ history) m l = lineThen history (step a m) (lineAfter a m l)
+
 -- ---- the statement, of a history from any moment, and of any calls that come later
 pub record Demand3 (from : Moment) (history later : List Asked) : Type 0 where
   -- 'After it, the DTD is well-formed and every finish list conforms to it. No serial was given twice. .. the store's rows .. are exactly
@@ -143,15 +185,20 @@ pub record Demand3 (from : Moment) (history later : List Asked) : Type 0 where
   pub agrees : Agrees (run history from)
   -- 'The next serial never falls'
   pub never-falls : nextSerial (run history from .store) ≤ nextSerial (run (history ++ later) from .store)
-  -- 'A row is there exactly when an accepted change made it and no later accepted one took it'
+  -- 'A row is there exactly when an accepted change made it and no later accepted one took it by the taking rule'; at the start there may
+  -- be rows, in the fresh store there are none
   pub there : (k : ℕ)
-      → List·Memᴰ k (serialsIn (run history from .store)) ↔ (List·Memᴰ k (everMade (run history from .book)) × (List·Memᴰ k (takenSerials (run history from .book .entries)) → ⊥))
-  -- 'by the taking rule'; 'the last value an accepted change gave it': what an accepted call makes, takes and gives
-  pub accepted : (a : Asked) → isAccepted (outcome (a .call) (run history from .store) (a .room)) ≡ true → ByTheRules (a .call) (run history from .book) (step a (run history from) .book)
-  -- a refused call changes nothing
-  pub refusal : (a : Asked) → isAccepted (outcome (a .call) (run history from .store) (a .room)) ≡ false → step a (run history from) ≡ run history from
-  -- 'It has the name and parent it was made with': the later book has each line again, with its serial, sort, name and parent, taken ones
-  -- unchanged
-  pub lines : Keeps (run history from .book .entries) (run (history ++ later) from .book .entries)
+      → List·Memᴰ k (serialsIn (run history from .store)) ↔ ((List·Memᴰ k (serialsIn (from .store)) ⊎ SomeCall (MadeBy k) history from) × (SomeCall (TakenBy k) history from → ⊥))
+  -- 'It has the name and parent it was made with and the last value an accepted change gave it'
+  pub value : (l m : Line) → List·Memᴰ l (rowsIn (run history from .store)) → List·Memᴰ m (rowsIn (run (history ++ later) from .store)) → serialOf m ≡ serialOf l
+      → m ≡ lineThen later (run history from) l
   -- 'Two rows that are both there at two moments stand in the same order at both'
   pub order : SameOrder (serialsIn (run history from .store)) (serialsIn (run (history ++ later) from .store))
+  -- the book: what an accepted call makes, takes and gives; a refused one changes nothing
+  pub accepted : (a : Asked) → IsAccepted a (run history from) → ByTheRules (a .call) (run history from .book) (step a (run history from) .book)
+  pub refusal : (a : Asked) → isAccepted (outcome (a .call) (run history from .store) (a .room)) ≡ false → step a (run history from) ≡ run history from
+  -- the later book has each line again, in their order, with its serial, sort, name and parent, taken ones unchanged
+  pub lines : Keeps (run history from .book .entries) (run (history ++ later) from .book .entries)
+  -- a row is there exactly when the book has a line of it and has not marked it taken
+  pub standing : (k : ℕ)
+      → List·Memᴰ k (serialsIn (run history from .store)) ↔ (List·Memᴰ k (everMade (run history from .book)) × (List·Memᴰ k (takenSerials (run history from .book .entries)) → ⊥))

@@ -43,7 +43,8 @@ use Rattle.history.proofs.MadeLines.{spotsIn, spots-length, expand-new,
 some-there : (test : Row → Bool) (k : ℕ) → ((r : Row) → test r ≡ true → r .serial ≡ k) → (ls : List Line) → any (λ (l : Line). test (l .row)) ls ≡ true → IsThere test ls k
 some-there test k f [] e = absurd (false≢true e)
 some-there test k f (l ∷ ls) e =
-    ⊎-elim (λ h. (l, List·Memᴰ·head refl, f (l .row) h, h)) (λ h. let (m, i, q, t) = some-there test k f ls h in (m, List·Memᴰ·tail i, q, t)) (or-cases (test (l .row)) (any (λ (m : Line). test (m .row)) ls) e)
+    ⊎-elim (λ h. (l, List·Memᴰ·head refl, f (l .row) h, h)) (λ h. let (m, i, q, t) = some-there test k f ls h in (m, List·Memᴰ·tail i, q, t))
+    (or-cases (test (l .row)) (any (λ (m : Line). test (m .row)) ls) e)
 
 element-there : (k : ℕ) (s : Store) → noElement k s ≡ false → IsThere (elementWith k) (lines 0 (s .docs)) k
 element-there k s e =
@@ -84,7 +85,8 @@ module _ (k : ℕ) (v : Bytes) (r : Row) where
       by (el q x rest) = refl
       by (group q j ms rest) = refl
 
-  quantify-alike : (form : Form) (ls : List Line) (o t : Bytes) (q : Quantifier) (f : Option (Found Bytes)) → pickedPlan (quantifyPlan form ls o t q) f .fills (revalue k v r) ≡ pickedPlan (quantifyPlan form ls o t q) f .fills r
+  quantify-alike : (form : Form) (ls : List Line) (o t : Bytes) (q : Quantifier) (f : Option (Found Bytes))
+      → pickedPlan (quantifyPlan form ls o t q) f .fills (revalue k v r) ≡ pickedPlan (quantifyPlan form ls o t q) f .fills r
   quantify-alike form ls o t q none = refl
   quantify-alike form ls o t q (some f) = by (f .context) (f .picked)
     where
@@ -246,7 +248,12 @@ module _ (room : ℕ) (c : Call) (s : Store) (g : good s ≡ true) (accepted : r
   filled-before u (inl z) = inl z
   filled-before u (inr (m, i, e, t)) =
       let was = revalue-old (p .set) (p .value) (marked p (b .entries)) m i in
-      inr (was .0, left-in (was .0) (was .1), ap (λ (z : Line). serialOf z) (sym (was .2)) ∙ e, sym (fills-alike (p .set) (p .value) (was .0 .row) c (s .form) ls) ∙ ap (λ (z : Line). p .fills (z .row)) (sym (was .2)) ∙ t)
+      inr (
+        was .0,
+        left-in (was .0) (was .1),
+        ap (λ (z : Line). serialOf z) (sym (was .2)) ∙ e,
+        sym (fills-alike (p .set) (p .value) (was .0 .row) c (s .form) ls) ∙ ap (λ (z : Line). p .fills (z .row)) (sym (was .2)) ∙ t,
+      )
 
   still : (l : Line) → List·Memᴰ l ls → p .fills (l .row) ≡ true → List·Memᴰ l (untaken (marked p (b .entries)))
   still l i t =
@@ -258,7 +265,8 @@ module _ (room : ℕ) (c : Call) (s : Store) (g : good s ≡ true) (accepted : r
   filled-after u (inr (l, i, e, t)) =
       inr (
         valued (p .set) (p .value) l,
-        subst (λ (z : List Line). List·Memᴰ (valued (p .set) (p .value) l) z) (sym (untaken-revalue (p .set) (p .value) (marked p (b .entries)))) (Memᴰ·map (onLine (revalue (p .set) (p .value))) (still l i t)),
+        subst (λ (z : List Line). List·Memᴰ (valued (p .set) (p .value) l) z) (sym (untaken-revalue (p .set) (p .value) (marked p (b .entries))))
+            (Memᴰ·map (onLine (revalue (p .set) (p .value))) (still l i t)),
         e,
         fills-alike (p .set) (p .value) (l .row) c (s .form) ls ∙ t,
       )

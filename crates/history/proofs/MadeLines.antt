@@ -125,12 +125,13 @@ module _ (k : ℕ) where
       by false q x = rw (q, place)
 
   -- a row, and the rows after it
-  placed-times : (p : Plan) (r : Row) (rs : List Row) (ms : List Mark) → times k (spotsIn ms) ≡ times k (filledIn (p .fills) rs) → times k (spotsIn (placed p r ms)) ≡ times k (filledIn (p .fills) (r ∷ rs))
+  placed-times : (p : Plan) (r : Row) (rs : List Row) (ms : List Mark) → times k (spotsIn ms) ≡ times k (filledIn (p .fills) rs)
+      → times k (spotsIn (placed p r ms)) ≡ times k (filledIn (p .fills) (r ∷ rs))
   unfolding filledIn times
   placed-times p r rs ms x = by (p .fills r) refl
     where
       by : (c : Bool) → p .fills r ≡ c → times k (spotsIn (placed p r ms)) ≡ times k (filledIn (p .fills) (r ∷ rs))
-      by true q = rw (q, placed) (rw (q, filledIn) (let z : times k (spotsIn (place (p .later r) (r .serial) (r .serial ∷ []) ms)) ≡ ones (eqb k (r .serial)) + times k (spotsIn ms) = place-times (p .later r) (r .serial) (r .serial ∷ []) ms in omega arith))
+      by true q = rw (q, placed) (rw (q, filledIn) (omega (arith, x, place-times (p .later r) (r .serial) (r .serial ∷ []) ms)))
       by false q = rw (q, placed) (rw (q, filledIn) x)
 
   spots-times : (p : Plan) (es : List Entry) → times k (spotsIn (spots p es)) ≡ times k (filledIn (p .fills) (rowsOf (untaken es)))
@@ -147,7 +148,8 @@ module _ (k : ℕ) where
   filled-most fills [] = omega arith
   filled-most fills (r ∷ rs) = by (fills r) refl (filled-most fills rs)
     where
-      by : (c : Bool) → fills r ≡ c → times k (filledIn fills rs) ≤ times k (map (λ (r : Row). r .serial) rs) → times k (filledIn fills (r ∷ rs)) ≤ ones (eqb k (r .serial)) + times k (map (λ (r : Row). r .serial) rs)
+      by : (c : Bool) → fills r ≡ c → times k (filledIn fills rs) ≤ times k (map (λ (r : Row). r .serial) rs)
+          → times k (filledIn fills (r ∷ rs)) ≤ ones (eqb k (r .serial)) + times k (map (λ (r : Row). r .serial) rs)
       by true q x = rw (q, filledIn) (omega arith)
       by false q x = rw (q, filledIn) (omega arith)
 
@@ -199,7 +201,8 @@ row-serials (l ∷ ls) = ap (λ (z : List ℕ). serialOf l ∷ z) (row-serials l
 -- WHERE: rows come below the rows that are filled
 pub spots-filled : (p : Plan) (es : List Entry) (u : ℕ) → List·Memᴰ u (spotsIn (marks p es)) ↔ Filled (p .fills) (untaken (left p es)) u
 spots-filled p es u = (
-  λ i. there (filled-row u (p .fills) (ground ∷ rowsOf ls) (times-member u (filledIn (p .fills) (ground ∷ rowsOf ls)) (subst (λ (n : ℕ). 1 ≤ n) (marks-times u p es) (times-in u (spotsIn (marks p es)) i)))),
+  λ i. there
+      (filled-row u (p .fills) (ground ∷ rowsOf ls) (times-member u (filledIn (p .fills) (ground ∷ rowsOf ls)) (subst (λ (n : ℕ). 1 ≤ n) (marks-times u p es) (times-in u (spotsIn (marks p es)) i)))),
   λ f. times-member u (spotsIn (marks p es)) (subst (λ (n : ℕ). 1 ≤ n) (sym (marks-times u p es)) (times-in u (filledIn (p .fills) (ground ∷ rowsOf ls)) (back f))),
 )
   where
@@ -216,16 +219,18 @@ spots-filled p es u = (
     back (inr (l, i, e, h)) = row-filled u (p .fills) (ground ∷ rowsOf ls) (l .row) (List·Memᴰ·tail (line-row ls l i)) e h
 
 -- ONCE: below each at most once
-pub spots-once : (p : Plan) (es : List Entry) → Distinct (lineSerials (untaken (left p es))) → ((k : ℕ) → List·Memᴰ k (lineSerials (untaken (left p es))) → 1 ≤ k) → Distinct (spotsIn (marks p es))
+pub spots-once : (p : Plan) (es : List Entry) → Distinct (lineSerials (untaken (left p es)))
+    → ((k : ℕ) → List·Memᴰ k (lineSerials (untaken (left p es))) → 1 ≤ k) → Distinct (spotsIn (marks p es))
 spots-once p es d big = distinct-times (spotsIn (marks p es)) .1 once
   where
     all-once : Distinct (map (λ (r : Row). r .serial) (ground ∷ rowsOf (untaken (left p es))))
-    all-once =
-        subst (λ (z : List ℕ). Distinct (0 ∷ z)) (sym (row-serials (untaken (left p es))))
-        (λ i. let z : 1 ≤ 0 = big 0 i in omega (arith, z), d)
+    all-once = subst (λ (z : List ℕ). Distinct (0 ∷ z)) (sym (row-serials (untaken (left p es)))) (λ i. let z : 1 ≤ 0 = big 0 i in omega (arith, z), d)
+
+    most : (k : ℕ) → times k (map (λ (r : Row). r .serial) (ground ∷ rowsOf (untaken (left p es)))) ≤ 1
+    most k = distinct-times (map (λ (r : Row). r .serial) (ground ∷ rowsOf (untaken (left p es)))) .0 all-once k
 
     once : (k : ℕ) → times k (spotsIn (marks p es)) ≤ 1
-    once k = omega (arith, marks-times k p es, filled-most k (p .fills) (ground ∷ rowsOf (untaken (left p es))), distinct-times (map (λ (r : Row). r .serial) (ground ∷ rowsOf (untaken (left p es)))) .0 all-once k)
+    once k = omega (arith, marks-times k p es, filled-most k (p .fills) (ground ∷ rowsOf (untaken (left p es))), most k)
 
 -- the same rows, where any are made
 pub made-as : (w v : Forest Row) (us : List ℕ) → ((u : ℕ) → List·Memᴰ u us → w ≡ v) → (n : ℕ) → linesMade w n us ≡ linesMade v n us

@@ -121,7 +121,8 @@ module _ (m : Moment) (h : Holds m) (a : Asked) (o : Onward m (step a m)) where
 
     accepted-then : (k : ℕ) → StandsAt k (step a m) → (StandsAt k m ⊎ MadeBy k a m) × (TakenBy k a m → ⊥)
     accepted-then k i = (
-      ⊎-elim (λ x. inl (stood (subst (λ (z : List ℕ). List·Memᴰ k z) (rules .makes .others) x))) (λ x. inr (e, x)) (below-or-from (m .book .next) k (step a m .book .entries) (untaken-in k (step a m .book .entries) i)),
+      ⊎-elim (λ x. inl (stood (subst (λ (z : List ℕ). List·Memᴰ k z) (rules .makes .others) x))) (λ x. inr (e, x))
+          (below-or-from (m .book .next) k (step a m .book .entries) (untaken-in k (step a m .book .entries) i)),
       λ (e′, (l, j, q, t)). not-taken k i (subst (λ (z : ℕ). List·Memᴰ z (takenSerials (step a m .book .entries))) q (rules .takes l j .1 t)),
     )
       where
@@ -129,7 +130,8 @@ module _ (m : Moment) (h : Holds m) (a : Asked) (o : Onward m (step a m)) where
         stood x = ⊎-elim (λ t. absurd (not-taken k i (keeps-taken k (o .follows .lines) t))) (λ s. s) (either k (m .book .entries) x)
 
     accepted-back : (k : ℕ) → StandsAt k m ⊎ MadeBy k a m → (TakenBy k a m → ⊥) → StandsAt k (step a m)
-    accepted-back k (inr (e′, x)) f = standing-from (m .book .next) k (step a m .book .entries) (linesMade (rowsMade (a .call) (m .book .form)) (m .book .next) (rules .makes .parents)) (rules .makes .lines) x
+    accepted-back k (inr (e′, x)) f =
+        standing-from (m .book .next) k (step a m .book .entries) (linesMade (rowsMade (a .call) (m .book .form)) (m .book .next) (rules .makes .parents)) (rules .makes .lines) x
     accepted-back k (inl i) f =
         let (l, j, q) = serial-line k (untaken (m .book .entries)) i in
         ⊎-elim (λ t. absurd (f (e, (l, j, sym q, rules .takes l j .0 (subst (λ (z : ℕ). List·Memᴰ z (takenSerials (step a m .book .entries))) q t))))) (λ s. s)
@@ -164,7 +166,8 @@ module _ (m : Moment) (h : Holds m) (a : Asked) (o : Onward m (step a m)) where
       by : (c : Bool) → isAccepted (outcome (a .call) (m .store) (a .room)) ≡ c → x ≡ lineAfter a m l
       by true e = accepted-line e l x i j q
       by false e =
-          same-serial (untaken (m .book .entries)) (distinct-untaken (m .book .entries) (h .once .once)) x l (subst (λ (z : Moment). List·Memᴰ x (untaken (z .book .entries))) (refused-same m a e) j) i q
+          same-serial (untaken (m .book .entries)) (distinct-untaken (m .book .entries) (h .once .once)) x l
+          (subst (λ (z : Moment). List·Memᴰ x (untaken (z .book .entries))) (refused-same m a e) j) i q
           ∙ sym after-is
         where
           after-is : lineAfter a m l ≡ l
@@ -209,14 +212,16 @@ module _ (on : (a : Asked) (m : Moment) → Holds m → Onward m (step a m)) whe
   )
 
   -- a line that stands before a call and after later ones stands after the call
-  still : (a : Asked) (later : List Asked) (m : Moment) → Holds m → (l x : Line) → List·Memᴰ l (untaken (m .book .entries)) → List·Memᴰ x (untaken (run later (step a m) .book .entries)) → serialOf x ≡ serialOf l
+  still : (a : Asked) (later : List Asked) (m : Moment) → Holds m → (l x : Line) → List·Memᴰ l (untaken (m .book .entries)) → List·Memᴰ x (untaken (run later (step a m) .book .entries))
+      → serialOf x ≡ serialOf l
       → (y : Line) × List·Memᴰ y (untaken (step a m .book .entries)) × (serialOf l ≡ serialOf y)
   still a later m h l x i j q =
       let o : Onward m (step a m) = on a m h in
       let f : Onward (step a m) (run later (step a m)) = run-on on later (step a m) (o .holds) in
       let at-end : StandsAt (serialOf l) (run later (step a m)) = subst (λ (z : ℕ). StandsAt z (run later (step a m))) q (line-serial x (untaken (run later (step a m) .book .entries)) j) in
       ⊎-elim (λ t. absurd (not-both (serialOf l) (run later (step a m) .book .entries) (f .holds .once .once) at-end (keeps-taken (serialOf l) (f .follows .lines) t)))
-      (λ s. serial-line (serialOf l) (untaken (step a m .book .entries)) s) (either (serialOf l) (step a m .book .entries) (still-there m h a o (serialOf l) (line-serial l (untaken (m .book .entries)) i)))
+      (λ s. serial-line (serialOf l) (untaken (step a m .book .entries)) s)
+      (either (serialOf l) (step a m .book .entries) (still-there m h a o (serialOf l) (line-serial l (untaken (m .book .entries)) i)))
 
   line-in-book : (later : List Asked) (m : Moment) → Holds m → (l x : Line) → List·Memᴰ l (untaken (m .book .entries)) → List·Memᴰ x (untaken (run later m .book .entries)) → serialOf x ≡ serialOf l
       → x ≡ lineThen later m l
@@ -232,11 +237,9 @@ module _ (on : (a : Asked) (m : Moment) → Holds m → Onward m (step a m)) whe
   pub there-over : (history : List Asked) (m : Moment) → Holds m → (k : ℕ)
       → List·Memᴰ k (serialsIn (run history m .store)) ↔ ((List·Memᴰ k (serialsIn (m .store)) ⊎ SomeCall (MadeBy k) history m) × (SomeCall (TakenBy k) history m → ⊥))
   there-over history m h k =
-      subst (λ (z : List Line). List·Memᴰ k (lineSerials z) ↔ ((List·Memᴰ k (serialsIn (m .store)) ⊎ SomeCall (MadeBy k) history m) × (SomeCall (TakenBy k) history m → ⊥)))
-      (sym (rows-then (run history m) (run-on on history m h .holds)))
-      (subst (λ (z : List Line). List·Memᴰ k (lineSerials (untaken (run history m .book .entries))) ↔ ((List·Memᴰ k (lineSerials z) ⊎ SomeCall (MadeBy k) history m) × (SomeCall (TakenBy k) history m → ⊥))) (sym (rows-then m h))
-      (there-in-book k history m h))
+      rw (rows-then (run history m) (run-on on history m h .holds), rows-then m h) (there-in-book k history m h)
 
-  pub line-over : (later : List Asked) (m : Moment) → Holds m → (l x : Line) → List·Memᴰ l (rowsIn (m .store)) → List·Memᴰ x (rowsIn (run later m .store)) → serialOf x ≡ serialOf l → x ≡ lineThen later m l
+  pub line-over : (later : List Asked) (m : Moment) → Holds m → (l x : Line) → List·Memᴰ l (rowsIn (m .store)) → List·Memᴰ x (rowsIn (run later m .store)) → serialOf x ≡ serialOf l
+      → x ≡ lineThen later m l
   line-over later m h l x i j =
       line-in-book later m h l x (subst (λ (z : List Line). List·Memᴰ l z) (rows-then m h) i) (subst (λ (z : List Line). List·Memᴰ x z) (rows-then (run later m) (run-on on later m h .holds)) j)

@@ -23,7 +23,8 @@ taken-as ls f i (itself l n) = itself l (f l i n)
 taken-as ls f i (beneath u l j e n) = beneath u l j e (taken-as ls f j n)
 
 -- ---- a rule, on a book whose untaken lines are the lines of documents
-module _ (takes : Row → Row → Bool) (docs : Forest Row) (es : List Entry) (h : untaken es ≡ lines 0 docs) (apart : Apart (ground ∷ []) docs) (d : Distinct (entrySerials es)) (big : (k : ℕ) → List·Memᴰ k (entrySerials es) → 1 ≤ k) where
+module _ (takes : Row → Row → Bool) (docs : Forest Row) (es : List Entry) (h : untaken es ≡ lines 0 docs) (apart : Apart (ground ∷ []) docs) (d : Distinct (entrySerials es))
+    (big : (k : ℕ) → List·Memᴰ k (entrySerials es) → 1 ≤ k) where
   pub distinct-lines : Distinct (lineSerials (lines 0 docs))
   distinct-lines = subst (λ (z : List Line). Distinct (lineSerials z)) h (distinct-untaken es d)
 
@@ -41,13 +42,17 @@ module _ (takes : Row → Row → Bool) (docs : Forest Row) (es : List Entry) (h
 
   pub taken-then-under : (l : Line) → List·Memᴰ l (lines 0 docs) → List·Memᴰ (serialOf l) (takenSerials (mark takes (ground ∷ []) es)) → Taken (λ x. Ruled takes (lines 0 docs) x) (lines 0 docs) l
   taken-then-under l i t =
-      ⊎-elim (λ j. absurd (not-both (serialOf l) (mark takes (ground ∷ []) es) distinct-marked (line-serial l (untaken (mark takes (ground ∷ []) es)) (subst (λ (z : List Line). List·Memᴰ l z) (sym left-lines) j)) t)) (λ u. u)
+      ⊎-elim (λ j. absurd (not-both (serialOf l) (mark takes (ground ∷ []) es) distinct-marked (stood j) t)) (λ u. u)
       (left-or-taken takes (lines 0 docs) ground docs (inl refl) (λ x k. k) l i)
+    where
+      stood : List·Memᴰ l (lines 0 (prune takes ground docs)) → List·Memᴰ (serialOf l) (lineSerials (untaken (mark takes (ground ∷ []) es)))
+      stood j = line-serial l (untaken (mark takes (ground ∷ []) es)) (subst (λ (z : List Line). List·Memᴰ l z) (sym left-lines) j)
 
   -- a line is marked taken or stands
   pub taken-or-left : (l : Line) → List·Memᴰ l (lines 0 docs) → List·Memᴰ (serialOf l) (takenSerials (mark takes (ground ∷ []) es)) ⊎ List·Memᴰ l (untaken (mark takes (ground ∷ []) es))
   taken-or-left l i =
-      ⊎-elim (λ t. inl t) (λ j. inr (stood j)) (either (serialOf l) (mark takes (ground ∷ []) es) (subst (λ (z : List ℕ). List·Memᴰ (serialOf l) z) (sym (mark-serials takes (ground ∷ []) es)) (in-book l i)))
+      ⊎-elim (λ t. inl t) (λ j. inr (stood j))
+      (either (serialOf l) (mark takes (ground ∷ []) es) (subst (λ (z : List ℕ). List·Memᴰ (serialOf l) z) (sym (mark-serials takes (ground ∷ []) es)) (in-book l i)))
     where
       stood : List·Memᴰ (serialOf l) (lineSerials (untaken (mark takes (ground ∷ []) es))) → List·Memᴰ l (untaken (mark takes (ground ∷ []) es))
       stood j =

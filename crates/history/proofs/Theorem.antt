@@ -55,4 +55,6 @@ module _ (good-after : (room : ℕ) (c : Call) (s : Store) → good s ≡ true �
           ∙ ap₂ (λ (a b : List Line). shared (map serialOf a) (map serialOf b)) (sym (rows-then m h)) (sym (rows-then n k))
 
       value : (l x : Line) → List·Memᴰ l (rowsIn (m .store)) → List·Memᴰ x (rowsIn (n .store)) → serialOf x ≡ serialOf l → x ≡ lineThen later m l
-      value = subst (λ (z : Moment). (l x : Line) → List·Memᴰ l (rowsIn (m .store)) → List·Memᴰ x (rowsIn (z .store)) → serialOf x ≡ serialOf l → x ≡ lineThen later m l) (sym (run-append history later from)) (line-over (step-on good-after) later m h)
+      value =
+          subst (λ (z : Moment). (l x : Line) → List·Memᴰ l (rowsIn (m .store)) → List·Memᴰ x (rowsIn (z .store)) → serialOf x ≡ serialOf l → x ≡ lineThen later m l)
+          (sym (run-append history later from)) (line-over (step-on good-after) later m h)

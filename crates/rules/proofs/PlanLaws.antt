@@ -155,7 +155,8 @@ module _ (ls : List Line) (big : (m : Line) → List·Memᴰ m ls → 1 ≤ m .r
   set-given : (k : ℕ) (v : Bytes) (o : Option Owned) → setBy (setPlan ls k v o) l ≡ valueIf (isRowOf k o l) v l
   set-given k v none = ap (λ (z : Bool). valueIf z [] l) not-zero
   set-given k v (some o) =
-      by (childrenOf (attributeNamed (o .attribute .name)) k ls) ∙ ap (λ (z : Bool). valueIf z v l) (the-first (attributeNamed (o .attribute .name)) k ls big same (attributes (o .attribute .name)) l i)
+      by (childrenOf (attributeNamed (o .attribute .name)) k ls)
+      ∙ ap (λ (z : Bool). valueIf z v l) (the-first (attributeNamed (o .attribute .name)) k ls big same (attributes (o .attribute .name)) l i)
     where
       by : (ks : List ℕ) → setBy (setAt k o v ks) l ≡ valueIf (eqb (l .row .serial) (serialAt 0 ks)) v l
       by [] = ap (λ (z : Bool). valueIf z [] l) not-zero ∙ ap (λ (z : Bool). valueIf z v l) (sym not-zero)
@@ -234,7 +235,9 @@ module _ (ls : List Line) (l : Line) where
 
   -- the first child of that name
   first-test : (x : Bytes) (k : ℕ) → k ≡ l .parent → eqb (l .row .serial) (serialAt 0 (childrenOf (elementNamed x) k ls)) ≡ false → IsFirst (elementNamed x) ls l → ⊥
-  first-test x k e h f = false≢true (sym h ∙ ap (λ (j : ℕ). eqb (l .row .serial) (serialAt 0 (childrenOf (elementNamed x) j ls))) e ∙ eqb-of (l .row .serial) (serialAt 0 (childrenOf (elementNamed x) (l .parent) ls)) f)
+  first-test x k e h f =
+      false≢true
+      (sym h ∙ ap (λ (j : ℕ). eqb (l .row .serial) (serialAt 0 (childrenOf (elementNamed x) j ls))) e ∙ eqb-of (l .row .serial) (serialAt 0 (childrenOf (elementNamed x) (l .parent) ls)) f)
 
   first-back : (x : Bytes) (k : ℕ) → k ≡ l .parent → (IsFirst (elementNamed x) ls l → ⊥) → eqb (l .row .serial) (serialAt 0 (childrenOf (elementNamed x) k ls)) ≡ false
   first-back x k e f = by (eqb (l .row .serial) (serialAt 0 (childrenOf (elementNamed x) k ls))) refl
@@ -254,7 +257,7 @@ module _ (ls : List Line) (l : Line) where
           let s₁ = and-split (spine c) (cuts old new) (s .0) in
           let s₂ = and-split (elementNamed o u) _ (s .1) in
           let s₃ = and-split (elementNamed x (l .row)) _ (s₂ .1) in
-          (s₁ .0, s₁ .1, (s₃ .0, below-of (elementNamed o) refl u a e (s₂ .0)), first-test x (u .serial) e (not-true (eqb (l .row .serial) (serialAt 0 (childrenOf (elementNamed x) (u .serial) ls))) (s₃ .1)))
+          (s₁ .0, s₁ .1, (s₃ .0, below-of (elementNamed o) refl u a e (s₂ .0)), first-test x (u .serial) e (not-true _ (s₃ .1)))
       by c (group q k ms rest) (u, a, e, h) = absurd (false≢true h)
 
   cut-back : (form : Form) (o t : Bytes) (new : Quantifier) (f : Option (Found Bytes)) → AtElement (IsCut o new ls l) f → Ruled (pickedPlan (quantifyPlan form ls o t new) f .takes) ls l
@@ -279,7 +282,8 @@ module _ (ls : List Line) (l : Line) where
   unfolding plan NamedBy
   named (createDefinition n k) form g r = absurd (false≢true (r .3))
   named (destroyDefinition i) form g r = absurd (false≢true (r .3))
-  named (insertElement o p i q t) form g r = nothing-ruled _ (inserts form (nameAtIndex o form) t (nameAtIndex i form) (quantifierOf q) (foundIn (insert (quantifierOf q) (nameAtIndex i form)) o p form)) r
+  named (insertElement o p i q t) form g r =
+      nothing-ruled _ (inserts form (nameAtIndex o form) t (nameAtIndex i form) (quantifierOf q) (foundIn (insert (quantifierOf q) (nameAtIndex i form)) o p form)) r
   named (removeElement o p) form g r = removed (nameAtIndex o form) (foundIn remove o p form) r
   named (changeQuantifier o p q t) form g r = cut form (nameAtIndex o form) t (quantifierOf q) (foundIn (quantify (quantifierOf q)) o p form) r
   named (convertToGroup o p n k) form g r = absurd (false≢true (r .3))
@@ -369,7 +373,8 @@ module _ (ls : List Line) (u : ℕ) where
   inserted-back form o t n q (some f) (s, k) (l, i, e, h) = inr (l, i, e, and-both (and-both (ap not k) s) h)
 
   -- the lines of an instance that lacks a child
-  lacks : (test : Row → Bool) (o : Bytes) (a : Bool) → Filled (λ r. a && (elementNamed o r && isNone (childrenOf test (r .serial) ls))) ls u → (a ≡ true) × (childrenOf test u ls ≡ []) × IsThere (elementNamed o) ls u
+  lacks : (test : Row → Bool) (o : Bytes) (a : Bool) → Filled (λ r. a && (elementNamed o r && isNone (childrenOf test (r .serial) ls))) ls u
+      → (a ≡ true) × (childrenOf test u ls ≡ []) × IsThere (elementNamed o) ls u
   lacks test o a z =
       let fills : Row → Bool = λ r. a && (elementNamed o r && isNone (childrenOf test (r .serial) ls)) in
       let (y, w) = filled-there fills (elementNamed o) ls (λ r h. and-split (elementNamed o r) _ (and-split a _ h .1) .0) refl u z in
@@ -377,7 +382,8 @@ module _ (ls : List Line) (u : ℕ) where
       let t = and-split (elementNamed o (y .0 .row)) (isNone (childrenOf test (y .0 .row .serial) ls)) (s .1) in
       (s .0, ap (λ (k : ℕ). childrenOf test k ls) (sym (y .2)) ∙ none-then (childrenOf test (y .0 .row .serial) ls) (t .1), w)
 
-  lacks-back : (test : Row → Bool) (o : Bytes) (a : Bool) → a ≡ true → childrenOf test u ls ≡ [] → IsThere (elementNamed o) ls u → Filled (λ r. a && (elementNamed o r && isNone (childrenOf test (r .serial) ls))) ls u
+  lacks-back : (test : Row → Bool) (o : Bytes) (a : Bool) → a ≡ true → childrenOf test u ls ≡ [] → IsThere (elementNamed o) ls u
+      → Filled (λ r. a && (elementNamed o r && isNone (childrenOf test (r .serial) ls))) ls u
   lacks-back test o a x y (l, i, e, h) = inr (l, i, e, and-both x (and-both h (ap isNone (ap (λ (k : ℕ). childrenOf test k ls) e ∙ y))))
 
   abbrev Lacking : Bytes → Quantifier → Context Bytes → Quantifier → Bytes → Type 0
@@ -442,7 +448,8 @@ module _ (ls : List Line) (u : ℕ) where
       by [] z = (refl, element-with k ls u z)
       by (s ∷ ss) z = absurd (nowhere (λ r. false) (λ r. refl) ls u z)
 
-  set-fill-back : (k : ℕ) (v : Bytes) (o : Option Owned) → OfAttribute (λ o. childrenOf (attributeNamed (o .attribute .name)) k ls ≡ []) o → Filled (elementWith k) ls u → Filled (setPlan ls k v o .fills) ls u
+  set-fill-back : (k : ℕ) (v : Bytes) (o : Option Owned) → OfAttribute (λ o. childrenOf (attributeNamed (o .attribute .name)) k ls ≡ []) o → Filled (elementWith k) ls u
+      → Filled (setPlan ls k v o .fills) ls u
   set-fill-back k v none z y = absurd z
   set-fill-back k v (some o) z y = by (childrenOf (attributeNamed (o .attribute .name)) k ls) z
     where
@@ -493,7 +500,8 @@ module _ (ls : List Line) (u : ℕ) where
   filled (destroyAttributeRow k a) form g z = absurd z
   filled (setText k t) form g z = absurd z
 
-  filling-inserted : (form : Form) (o t n : Bytes) (q : Quantifier) (f : Option (Found Bytes)) → AtPlace (λ c. (spine c ≡ true) × (skips q ≡ false)) f → insertPlan form o t q n f .filling ≡ fillDefinition form t n
+  filling-inserted : (form : Form) (o t n : Bytes) (q : Quantifier) (f : Option (Found Bytes)) → AtPlace (λ c. (spine c ≡ true) × (skips q ≡ false)) f
+      → insertPlan form o t q n f .filling ≡ fillDefinition form t n
   filling-inserted form o t n q none z = absurd z
   filling-inserted form o t n q (some f) z = refl
 
@@ -519,7 +527,8 @@ module _ (ls : List Line) (u : ℕ) where
   unfolding plan MakesBelow rowsMade
   filling-made (createDefinition n k) form z = absurd z
   filling-made (destroyDefinition i) form z = absurd z
-  filling-made (insertElement o p i q t) form (x, y) = filling-inserted form (nameAtIndex o form) t (nameAtIndex i form) (quantifierOf q) (foundIn (insert (quantifierOf q) (nameAtIndex i form)) o p form) x
+  filling-made (insertElement o p i q t) form (x, y) =
+      filling-inserted form (nameAtIndex o form) t (nameAtIndex i form) (quantifierOf q) (foundIn (insert (quantifierOf q) (nameAtIndex i form)) o p form) x
   filling-made (removeElement o p) form z = absurd z
   filling-made (changeQuantifier o p q t) form z = filling-quantified form (nameAtIndex o form) t (quantifierOf q) (foundIn (quantify (quantifierOf q)) o p form)
   filling-made (convertToGroup o p n k) form z = absurd z

@@ -14,14 +14,14 @@ use Rattle.rules.specs.Refusal.{conditions, refusal}
 use Rattle.rules.specs.Run.{Asked, Moment, start}
 use Rattle.rules.proofs.Words.{and-both, and-split}
 use Rattle.rules.proofs.SerialLaws.{good-serials}
-use Rattle.history.specs.History.{Agrees, Demand3}
+use Rattle.history.specs.History.{GoodMoment, momentOf, Demand3}
 use Rattle.history.proofs.Conditions.{unmet, ceilings-after, next-after}
 use Rattle.history.proofs.WellFormedAfter.{well-formed-after}
 use Rattle.history.proofs.Agreement.{serials-after}
 use Rattle.history.proofs.AcceptedEdits.{editsModel, accepted-edit}
 use Rattle.history.proofs.ConformingEdits.{conforming-edited}
 use Rattle.history.proofs.ConformingSimple.{GoodTests, good-tests, conforming-after, conforming-after-simple, values-after}
-use Rattle.history.proofs.Moments.{start-agrees}
+use Rattle.history.proofs.Moments.{start-good, moment-good}
 use Rattle.history.proofs.Theorem.{demand-3-by}
 
 module _ (room : ℕ) (c : Call) (s : Store) (x : GoodTests s) (a : refusal room c s ≡ 0) where
@@ -53,9 +53,13 @@ good-after room c s g a =
     values-left c s e = e
 
 -- DEMAND 3, from any moment at which the store and the book say the same
-pub demand-3-from : (from : Moment) → Agrees from → (history later : List Asked) → Demand3 from history later
+pub demand-3-from : (from : Moment) → GoodMoment from → (history later : List Asked) → Demand3 from history later
 demand-3-from = demand-3-by good-after
 
 -- DEMAND 3, from the fresh store
 pub demand-3 : (history later : List Asked) → Demand3 start history later
-demand-3 = demand-3-from start start-agrees
+demand-3 = demand-3-from start start-good
+
+-- DEMAND 3, from any store that passes
+pub demand-3-of : (s : Store) → good s ≡ true → (history later : List Asked) → Demand3 (momentOf s) history later
+demand-3-of s g = demand-3-from (momentOf s) (moment-good s g)

@@ -22,8 +22,8 @@ use Rattle.rules.specs.Run.{Asked, emptyStore, leaves, isAccepted, Moment, star
 use Rattle.rules.proofs.LayoutLaws.{read-bytes}
 use Rattle.rules.proofs.DecodeLaws.{good-flat, read-encode, read-good}
 use Rattle.rules.proofs.PassingLaws.{good-is}
-use Rattle.history.specs.History.{linesIn, rowsIn, formOf, formIn, versionIn, serialOf, lineOf, everMade, takenSerials, nextSerial, Agrees, Keeps, serialsIn, ByTheRules}
-use Rattle.history.proofs.Agreement.{Agree, fresh-agree}
+use Rattle.history.specs.History.{linesIn, rowsIn, formOf, formIn, versionIn, serialOf, lineOf, everMade, takenSerials, nextSerial, GoodMoment, momentOf, Keeps, serialsIn, ByTheRules}
+use Rattle.history.proofs.Agreement.{Agree, fresh-agree, bookOf-agree, bookOf-once}
 use Rattle.history.proofs.Stable.{Once, fresh-once, keeps-refl, keeps-trans}
 use Rattle.history.proofs.Together.{Together, plan-together}
 use Rattle.history.proofs.ByRules.{by-the-rules}
@@ -123,8 +123,8 @@ module _ (m : Moment) (h : Holds m) where
   pub next-then : nextSerial (m .store) ≡ m .book .next
   next-then = ap nextSerial (sym encoded) ∙ flat-read (h .store) (h .passing) .1 ∙ sym (h .agree .next)
 
-  pub holds-agrees : Agrees m
-  holds-agrees =
+  pub holds-good : GoodMoment m
+  holds-good =
       record {
         passing = (h .store, encoded, good-is (h .store) .0 (h .passing));
         once = h .once .once;
@@ -135,8 +135,8 @@ module _ (m : Moment) (h : Holds m) where
         rows = rows-then;
       }
 
-pub agrees-holds : (m : Moment) → Agrees m → Holds m
-agrees-holds m a =
+pub good-holds : (m : Moment) → GoodMoment m → Holds m
+good-holds m a =
     record {
       store = s;
       read = read;
@@ -222,6 +222,10 @@ accepted-by-rules m h a e = subst (λ (z : Book). ByTheRules (a .call) (m .book)
     noted = ap (λ (z : Moment). z .book) (step-moved a m) ∙ ap (λ (x : Bool). follow x (a .call) (m .book)) e
 
 -- the fresh store
-pub start-agrees : Agrees start
+pub start-good : GoodMoment start
 unfolding good wellFormed conforming goodSerials distinct
-start-agrees = holds-agrees start (record { store = emptyStore; read = read-encode emptyStore refl; passing = refl; agree = fresh-agree; once = fresh-once })
+start-good = holds-good start (record { store = emptyStore; read = read-encode emptyStore refl; passing = refl; agree = fresh-agree; once = fresh-once })
+
+-- any store that passes
+pub moment-good : (s : Store) → good s ≡ true → GoodMoment (momentOf s)
+moment-good s g = holds-good (momentOf s) (record { store = s; read = read-encode s g; passing = g; agree = bookOf-agree s; once = bookOf-once s (good-is s .0 g .serials) })

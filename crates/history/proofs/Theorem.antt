@@ -9,17 +9,17 @@ use Rattle.rules.specs.Lines.{Line}
 use Rattle.rules.specs.Change.{Call, after}
 use Rattle.rules.specs.Refusal.{refusal}
 use Rattle.rules.specs.Run.{Asked, Moment, run}
-use Rattle.history.specs.History.{rowsIn, serialOf, nextSerial, Agrees, serialsIn, lineThen, Demand3}
+use Rattle.history.specs.History.{rowsIn, serialOf, nextSerial, GoodMoment, serialsIn, lineThen, Demand3}
 use Rattle.history.proofs.Stable.{shared, same-order}
 use Rattle.history.proofs.Order.{order-then}
-use Rattle.history.proofs.Moments.{Holds, Follows, step-on, run-on, run-append, rows-then, next-then, holds-agrees, agrees-holds, there-then, refused-same, accepted-by-rules}
+use Rattle.history.proofs.Moments.{Holds, Follows, step-on, run-on, run-append, rows-then, next-then, holds-good, good-holds, there-then, refused-same, accepted-by-rules}
 use Rattle.history.proofs.OverHistory.{there-over, line-over}
 
 module _ (good-after : (room : ℕ) (c : Call) (s : Store) → good s ≡ true → refusal room c s ≡ 0 → good (after c s) ≡ true) where
-  pub demand-3-by : (from : Moment) → Agrees from → (history later : List Asked) → Demand3 from history later
-  demand-3-by from agrees history later =
+  pub demand-3-by : (from : Moment) → GoodMoment from → (history later : List Asked) → Demand3 from history later
+  demand-3-by from good history later =
       record {
-        agrees = holds-agrees m h;
+        now = holds-good m h;
         never-falls = subst (λ (a : ℕ). a ≤ nextSerial (n .store)) (sym (next-then m h)) (subst (λ (b : ℕ). m .book .next ≤ b) (sym (next-then n k)) (f .next));
         there = there-over (step-on good-after) history from begin;
         value = value;
@@ -31,7 +31,7 @@ module _ (good-after : (room : ℕ) (c : Call) (s : Store) → good s ≡ true �
       }
     where
       begin : Holds from
-      begin = agrees-holds from agrees
+      begin = good-holds from good
 
       m : Moment
       m = run history from

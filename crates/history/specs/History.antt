@@ -1,4 +1,5 @@
--- Demand 3: one statement about every history, from any moment at which the store and the book say the same; the fresh store is one.
+-- Demand 3: one statement about every history, from any moment at which the store passes and the book says the same; the fresh store with
+-- the empty book is one.
 use Prim.Native.Nat.{ℕ, zero, suc, _+_, _*_, _≤_, _<_}
 use mathlib.Core.Path.{_≡_}
 use mathlib.Core.Bool.{Bool, true, false}
@@ -10,6 +11,7 @@ use lib.ListN.{length}
 use Rattle.rules.specs.Bytes.{Bytes}
 use Rattle.rules.specs.Model.{Distinct}
 use Rattle.rules.specs.Store.{Form, Row, Store}
+use Rattle.rules.specs.Layout.{encode}
 use Rattle.rules.specs.Decode.{numberAt}
 use Rattle.rules.specs.Passing.{Passes, readStore}
 use Rattle.rules.specs.Lines.{Line, lines}
@@ -51,10 +53,11 @@ abbrev pub lineOf : Entry → Line
 lineOf (stands l) = l
 lineOf (taken l) = l
 
+-- the serials of lines, taken ones included
 abbrev pub entrySerials : List Entry → List ℕ
 entrySerials es = map (λ (e : Entry). serialOf (lineOf e)) es
 
--- the serials of all rows ever made, taken ones included
+-- the serials of all rows ever made
 abbrev pub everMade : Book → List ℕ
 everMade b = entrySerials (b .entries)
 
@@ -68,8 +71,8 @@ takenSerials (taken l ∷ es) = serialOf l ∷ takenSerials es
 abbrev pub serialsIn : Bytes → List ℕ
 serialsIn bs = map serialOf (rowsIn bs)
 
--- ---- a moment at which the store and the book say the same
-pub record Agrees (m : Moment) : Type 0 where
+-- ---- a moment at which the store passes and the book says the same
+pub record GoodMoment (m : Moment) : Type 0 where
   -- 'the DTD is well-formed and every finish list conforms to it'
   pub passing : Passes (m .store)
   -- 'No serial was given twice', taken rows counted
@@ -84,6 +87,13 @@ pub record Agrees (m : Moment) : Type 0 where
   pub version : versionIn (m .store) ≡ m .book .version
   -- 'the store's rows, each read as serial, sort, name, parent's serial and value, are exactly the book's untaken lines, in the book's order'
   pub rows : rowsIn (m .store) ≡ untaken (m .book .entries)
+
+-- a moment with any store: its rows are the book's lines, none taken
+abbrev pub bookOf : Store → Book
+bookOf s = record { version = s .version; next = s .next; form = s .form; entries = map (λ (l : Line). stands l) (lines 0 (s .docs)) }
+
+abbrev pub momentOf : Store → Moment
+momentOf s = record { store = encode s; book = bookOf s }
 
 -- ---- from one moment to a later one
 -- the same line, but for its value
@@ -107,7 +117,7 @@ abbrev pub StandsBefore : ℕ → ℕ → List ℕ → Type 0
 StandsBefore k l [] = ⊥
 StandsBefore k l (j ∷ js) = ((k ≡ j) × List·Memᴰ l js) ⊎ StandsBefore k l js
 
--- k and l are both in both lists, and stand in the same order in both
+-- two serials that are in both lists stand in the same order in both
 abbrev pub SameOrder : List ℕ → List ℕ → Type 0
 SameOrder ks ls =
     (k l : ℕ) → List·Memᴰ k ks → List·Memᴰ k ls → List·Memᴰ l ks → List·Memᴰ l ls → StandsBefore k l ks ↔ StandsBefore k l ls
@@ -166,6 +176,7 @@ unfoldable pub SomeCall : (Asked → Moment → Type 0) → List Asked → Momen
 SomeCall Did [] m = ⊥
 SomeCall Did (a ∷ history) m = Did a m ⊎ SomeCall Did history (step a m)
 
+-- the line with another value
 abbrev pub withValue : Bytes → Line → Line
 withValue v l = record { parent = l .parent; row = record { serial = l .row .serial; sort = l .row .sort; name = l .row .name; value = v } }
 
@@ -182,20 +193,22 @@ lineThen (a ∷ history) m l = lineThen history (step a m) (lineAfter a m l)
 pub record Demand3 (from : Moment) (history later : List Asked) : Type 0 where
   -- 'After it, the DTD is well-formed and every finish list conforms to it. No serial was given twice. .. the store's rows .. are exactly
   -- the book's untaken lines, in the book's order'
-  pub agrees : Agrees (run history from)
+  pub now : GoodMoment (run history from)
   -- 'The next serial never falls'
   pub never-falls : nextSerial (run history from .store) ≤ nextSerial (run (history ++ later) from .store)
   -- 'A row is there exactly when an accepted change made it and no later accepted one took it by the taking rule'; at the start there may
   -- be rows, in the fresh store there are none
   pub there : (k : ℕ)
       → List·Memᴰ k (serialsIn (run history from .store)) ↔ ((List·Memᴰ k (serialsIn (from .store)) ⊎ SomeCall (MadeBy k) history from) × (SomeCall (TakenBy k) history from → ⊥))
-  -- 'It has the name and parent it was made with and the last value an accepted change gave it'
+  -- 'It has the name and parent it was made with and the last value an accepted change gave it': the row at two moments; the line that it
+  -- was made with is among `lines` of `makes`
   pub value : (l m : Line) → List·Memᴰ l (rowsIn (run history from .store)) → List·Memᴰ m (rowsIn (run (history ++ later) from .store)) → serialOf m ≡ serialOf l
       → m ≡ lineThen later (run history from) l
   -- 'Two rows that are both there at two moments stand in the same order at both'
   pub order : SameOrder (serialsIn (run history from .store)) (serialsIn (run (history ++ later) from .store))
-  -- the book: what an accepted call makes, takes and gives; a refused one changes nothing
+  -- what an accepted call makes, takes and gives, in the book
   pub accepted : (a : Asked) → IsAccepted a (run history from) → ByTheRules (a .call) (run history from .book) (step a (run history from) .book)
+  -- a refused call changes nothing
   pub refusal : (a : Asked) → isAccepted (outcome (a .call) (run history from .store) (a .room)) ≡ false → step a (run history from) ≡ run history from
   -- the later book has each line again, in their order, with its serial, sort, name and parent, taken ones unchanged
   pub lines : Keeps (run history from .book .entries) (run (history ++ later) from .book .entries)

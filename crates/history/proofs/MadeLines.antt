@@ -17,7 +17,7 @@ use Rattle.rules.specs.Passing.{serials}
 use Rattle.rules.specs.Lines.{Line, lines, ground}
 use Rattle.rules.specs.Change.{Plan, newRows, number}
 use Rattle.rules.specs.Book.{Entry, stands, taken, untaken, Mark, old, spot, place, placed, spots, expand, spotCount, marks}
-use Rattle.rules.specs.MadeTakenGiven.{IsThere, linesMade}
+use Rattle.rules.specs.MadeTakenGiven.{HasLine, linesMade}
 use Rattle.rules.proofs.PlanLaws.{Filled}
 use Rattle.history.specs.History.{serialOf, lineOf, entrySerials, entriesFrom, entriesBelow}
 use Rattle.history.proofs.NumberTests.{ones, ones-most, ones-own, times, times-in, times-out, distinct-times, range, range-below}

@@ -11,7 +11,7 @@ use Rattle.rules.specs.Lines.{Line, lines, ground}
 use Rattle.rules.specs.Change.{prune}
 use Rattle.history.specs.History.{serialOf}
 use Rattle.history.proofs.Stable.{lineSerials}
-use Rattle.rules.specs.MadeTakenGiven.{Taken, itself, beneath}
+use Rattle.rules.specs.MadeTakenGiven.{IsTaken, itself, beneath}
 use Rattle.rules.proofs.PlanLaws.{Above, Ruled}
 use Rattle.history.proofs.TakenLines.{line-serial, same-serial}
 
@@ -120,26 +120,26 @@ module _ (takes : Row → Row → Bool) where
 
   module _ (ls : List Line) where
     -- all below a line
-    all-taken : (r : Row) (b : Forest Row) (p : ℕ) → List·Memᴰ (lineAt p r) ls → Taken (λ x. Ruled takes ls x) ls (lineAt p r) → ((x : Line) → List·Memᴰ x (lines (r .serial) b) → List·Memᴰ x ls)
-        → (l : Line) → List·Memᴰ l (lines (r .serial) b) → Taken (λ x. Ruled takes ls x) ls l
+    all-taken : (r : Row) (b : Forest Row) (p : ℕ) → List·Memᴰ (lineAt p r) ls → IsTaken (λ x. Ruled takes ls x) ls (lineAt p r) → ((x : Line) → List·Memᴰ x (lines (r .serial) b) → List·Memᴰ x ls)
+        → (l : Line) → List·Memᴰ l (lines (r .serial) b) → IsTaken (λ x. Ruled takes ls x) ls l
     all-taken r bare p h n s l i = absurd (List·Memᴰ·not-nil i)
     all-taken r (tree c b t) p h n s l i =
         at (find-line l (r .serial) c b t i)
         (all-taken c b (r .serial) (s (lineAt (r .serial) c) (List·Memᴰ·head refl)) here (λ x k. s x (List·Memᴰ·tail (in-left x (lines (c .serial) b) (lines (r .serial) t) k))) l)
         (all-taken r t p h n (λ x k. s x (List·Memᴰ·tail (in-right x (lines (c .serial) b) (lines (r .serial) t) k))) l)
       where
-        here : Taken (λ x. Ruled takes ls x) ls (lineAt (r .serial) c)
+        here : IsTaken (λ x. Ruled takes ls x) ls (lineAt (r .serial) c)
         here = beneath (lineAt p r) (lineAt (r .serial) c) h refl n
 
-        at : Where l (r .serial) c b t → (List·Memᴰ l (lines (c .serial) b) → Taken (λ x. Ruled takes ls x) ls l) → (List·Memᴰ l (lines (r .serial) t) → Taken (λ x. Ruled takes ls x) ls l)
-            → Taken (λ x. Ruled takes ls x) ls l
-        at (first e) x y = subst (λ (z : Line). Taken (λ x. Ruled takes ls x) ls z) (sym e) here
+        at : Where l (r .serial) c b t → (List·Memᴰ l (lines (c .serial) b) → IsTaken (λ x. Ruled takes ls x) ls l) → (List·Memᴰ l (lines (r .serial) t) → IsTaken (λ x. Ruled takes ls x) ls l)
+            → IsTaken (λ x. Ruled takes ls x) ls l
+        at (first e) x y = subst (λ (z : Line). IsTaken (λ x. Ruled takes ls x) ls z) (sym e) here
         at (inside k) x y = x k
         at (beside k) x y = y k
 
     -- a line is left, or it or one above it is taken by the rule
     pub left-or-taken : (u : Row) (f : Forest Row) → Above ls u → ((x : Line) → List·Memᴰ x (lines (u .serial) f) → List·Memᴰ x ls)
-        → (l : Line) → List·Memᴰ l (lines (u .serial) f) → List·Memᴰ l (lines (u .serial) (prune takes u f)) ⊎ Taken (λ x. Ruled takes ls x) ls l
+        → (l : Line) → List·Memᴰ l (lines (u .serial) f) → List·Memᴰ l (lines (u .serial) (prune takes u f)) ⊎ IsTaken (λ x. Ruled takes ls x) ls l
     unfolding prune
     left-or-taken u bare a s l i = inl i
     left-or-taken u (tree r b t) a s l i =
@@ -153,7 +153,7 @@ module _ (takes : Row → Row → Bool) where
         below x k = s x (List·Memᴰ·tail (in-left x (lines (r .serial) b) (lines (u .serial) t) k))
 
         U : Line → Type 0
-        U z = Taken (λ x. Ruled takes ls x) ls z
+        U z = IsTaken (λ x. Ruled takes ls x) ls z
 
         by : (c : Bool) → takes u r ≡ c → Where l (u .serial) r b t → (List·Memᴰ l (lines (r .serial) b) → List·Memᴰ l (lines (r .serial) (prune takes r b)) ⊎ U l)
             → (List·Memᴰ l (lines (u .serial) t) → List·Memᴰ l (lines (u .serial) (prune takes u t)) ⊎ U l) → List·Memᴰ l (lines (u .serial) (prune takes u (tree r b t))) ⊎ U l
@@ -178,7 +178,7 @@ module _ (takes : Row → Row → Bool) where
     kept-above w (inl e) = inl e
     kept-above w (inr (v, i, f)) = inr (v, pruned-in ground docs v i, f)
 
-    pub not-left : {l : Line} → Taken (λ x. Ruled takes (lines 0 docs) x) (lines 0 docs) l → List·Memᴰ l (lines 0 (prune takes ground docs)) → ⊥
+    pub not-left : {l : Line} → IsTaken (λ x. Ruled takes (lines 0 docs) x) (lines 0 docs) l → List·Memᴰ l (lines 0 (prune takes ground docs)) → ⊥
     not-left (itself l (u, a, e, q)) i =
         let s = spared ground docs l i in
         false≢true (sym (s .3) ∙ ap (λ (z : Row). takes z (l .row)) (same-above (s .0) u (kept-above (s .0) (s .1)) a (s .2 ∙ sym e)) ∙ q)

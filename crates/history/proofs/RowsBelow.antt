@@ -15,7 +15,7 @@ use Rattle.rules.specs.WellFormed.{attributeName, lookup, namesIn, membersOf, R
 use Rattle.rules.specs.Conforming.{nameOf, isElement, isAttribute, isText, Sorted, InOrder, ContentRows, ElementRows, RowConforms, Conforming}
 use Rattle.rules.specs.Passing.{serials, GoodSerials}
 use Rattle.rules.specs.Lines.{Line, lines, isTextRow, elementNamed, attributeNamed}
-use Rattle.rules.specs.MadeTakenGiven.{IsThere, IsRemoved, Taken, itself, beneath}
+use Rattle.rules.specs.MadeTakenGiven.{HasLine, IsRemoved, IsTaken, itself, beneath}
 use Rattle.rules.proofs.Words.{and-split}
 use Rattle.rules.proofs.Letters.{letters}
 use Rattle.rules.proofs.Height.{lookup-member, reaches-then}
@@ -191,7 +191,7 @@ module _ (w : ℕ) (form : Form) (well : WellFormed w form) (next : ℕ) (docs :
           )
 
   -- all elements that are taken with a child of an instance are reached from its definition
-  reached : (owner x : Bytes) (N : Line → Type 0) → ((l : Line) → N l → IsRemoved owner x (lines 0 docs) l) → {l : Line} → List·Memᴰ l (lines 0 docs) → Taken N (lines 0 docs) l
+  reached : (owner x : Bytes) (N : Line → Type 0) → ((l : Line) → N l → IsRemoved owner x (lines 0 docs) l) → {l : Line} → List·Memᴰ l (lines 0 docs) → IsTaken N (lines 0 docs) l
       → l .row .sort ≡ element → Reaches form owner (l .row .name)
   reached owner x N f i (itself l n) s =
       let (a, (u, j, e, h)) = f l n in
@@ -203,7 +203,7 @@ module _ (w : ℕ) (form : Form) (well : WellFormed w form) (next : ℕ) (docs :
 
   -- an instance is not taken with a child of an instance
   pub instance-spared : (owner x : Bytes) (N : Line → Type 0) → ((l : Line) → N l → IsRemoved owner x (lines 0 docs) l) → (l : Line) → List·Memᴰ l (lines 0 docs)
-      → elementNamed owner (l .row) ≡ true → Taken N (lines 0 docs) l → ⊥
+      → elementNamed owner (l .row) ≡ true → IsTaken N (lines 0 docs) l → ⊥
   instance-spared owner x N f l i h n =
       let (a, b) = and-split (isElement (l .row .sort)) (same owner (l .row .name)) h in
       let name : owner ≡ l .row .name = same-eq owner (l .row .name) b in

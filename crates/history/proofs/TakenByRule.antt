@@ -9,7 +9,7 @@ use Rattle.rules.specs.Store.{Row, Forest}
 use Rattle.rules.specs.Lines.{Line, lines, ground}
 use Rattle.rules.specs.Change.{prune}
 use Rattle.rules.specs.Book.{Entry, untaken, mark}
-use Rattle.rules.specs.MadeTakenGiven.{Taken, itself, beneath}
+use Rattle.rules.specs.MadeTakenGiven.{IsTaken, itself, beneath}
 use Rattle.rules.proofs.PlanLaws.{Ruled}
 use Rattle.history.specs.History.{serialOf, takenSerials, entrySerials}
 use Rattle.history.proofs.Taking.{Apart, taking}
@@ -18,7 +18,7 @@ use Rattle.history.proofs.TakenLines.{line-serial, serial-line, either,
 use Rattle.history.proofs.Pruned.{left-or-taken, not-left}
 
 -- the same of another naming
-pub taken-as : {N M : Line → Type 0} (ls : List Line) → ((x : Line) → List·Memᴰ x ls → N x → M x) → {l : Line} → List·Memᴰ l ls → Taken N ls l → Taken M ls l
+pub taken-as : {N M : Line → Type 0} (ls : List Line) → ((x : Line) → List·Memᴰ x ls → N x → M x) → {l : Line} → List·Memᴰ l ls → IsTaken N ls l → IsTaken M ls l
 taken-as ls f i (itself l n) = itself l (f l i n)
 taken-as ls f i (beneath u l j e n) = beneath u l j e (taken-as ls f j n)
 
@@ -40,7 +40,7 @@ module _ (takes : Row → Row → Bool) (docs : Forest Row) (es : List Entry) (h
   pub distinct-marked : Distinct (entrySerials (mark takes (ground ∷ []) es))
   distinct-marked = subst (λ (z : List ℕ). Distinct z) (sym (mark-serials takes (ground ∷ []) es)) d
 
-  pub taken-then-under : (l : Line) → List·Memᴰ l (lines 0 docs) → List·Memᴰ (serialOf l) (takenSerials (mark takes (ground ∷ []) es)) → Taken (λ x. Ruled takes (lines 0 docs) x) (lines 0 docs) l
+  pub taken-then-under : (l : Line) → List·Memᴰ l (lines 0 docs) → List·Memᴰ (serialOf l) (takenSerials (mark takes (ground ∷ []) es)) → IsTaken (λ x. Ruled takes (lines 0 docs) x) (lines 0 docs) l
   taken-then-under l i t =
       ⊎-elim (λ j. absurd (not-both (serialOf l) (mark takes (ground ∷ []) es) distinct-marked (stood j) t)) (λ u. u)
       (left-or-taken takes (lines 0 docs) ground docs (inl refl) (λ x k. k) l i)
@@ -60,6 +60,6 @@ module _ (takes : Row → Row → Bool) (docs : Forest Row) (es : List Entry) (h
           let was : List·Memᴰ (f .0) (lines 0 docs) = subst (λ (z : List Line). List·Memᴰ (f .0) z) h (mark-old takes (ground ∷ []) es (f .0) (f .1)) in
           subst (λ (z : Line). List·Memᴰ z (untaken (mark takes (ground ∷ []) es))) (sym (same-serial (lines 0 docs) distinct-lines l (f .0) i was (f .2))) (f .1)
 
-  pub under-then-taken : (l : Line) → List·Memᴰ l (lines 0 docs) → Taken (λ x. Ruled takes (lines 0 docs) x) (lines 0 docs) l → List·Memᴰ (serialOf l) (takenSerials (mark takes (ground ∷ []) es))
+  pub under-then-taken : (l : Line) → List·Memᴰ l (lines 0 docs) → IsTaken (λ x. Ruled takes (lines 0 docs) x) (lines 0 docs) l → List·Memᴰ (serialOf l) (takenSerials (mark takes (ground ∷ []) es))
   under-then-taken l i u =
       ⊎-elim (λ t. t) (λ j. absurd (not-left takes docs distinct-lines big-lines u (subst (λ (z : List Line). List·Memᴰ l z) left-lines j))) (taken-or-left l i)

@@ -19,7 +19,7 @@ use Rattle.rules.specs.Change.{Call, formAfter, newRows}
 use Rattle.rules.specs.Outcome.{Outcome, refused, wrote, outcome}
 use Rattle.rules.specs.Book.{Entry, stands, taken, Book, untaken}
 use Rattle.rules.specs.Run.{Asked, isAccepted, Moment, start, step, run}
-use Rattle.rules.specs.MadeTakenGiven.{NamedBy, Taken, valueAfter, MakesBelow, rowsMade, linesMade}
+use Rattle.rules.specs.MadeTakenGiven.{NamedBy, IsTaken, valueAfter, MakesBelow, rowsMade, linesMade}
 
 -- ---- what a byte string holds
 abbrev pub linesIn : Option Store → List Line
@@ -150,7 +150,7 @@ pub record ByTheRules (c : Call) (b after : Book) : Type 0 where
   pub form : after .form ≡ formAfter c (b .form)
   -- 'The taking rule marks lines taken': a line that stood is taken exactly when it, or a line above it, is one that the taking rule names
   pub takes : (l : Line) → List·Memᴰ l (untaken (b .entries))
-      → List·Memᴰ (serialOf l) (takenSerials (after .entries)) ↔ Taken (λ x. NamedBy c (b .form) (untaken (b .entries)) x) (untaken (b .entries)) l
+      → List·Memᴰ (serialOf l) (takenSerials (after .entries)) ↔ IsTaken (λ x. NamedBy c (b .form) (untaken (b .entries)) x) (untaken (b .entries)) l
   -- '14, and 16 at the text line, set a value. No other line changes.'
   pub gives : (l m : Line) → List·Memᴰ l (untaken (b .entries)) → List·Memᴰ m (untaken (after .entries)) → serialOf m ≡ serialOf l → m .row .value ≡ valueAfter c (b .form) l
   -- which lines come, and with which values
@@ -169,7 +169,7 @@ MadeBy k a m = IsAccepted a m × List·Memᴰ k (entrySerials (entriesFrom (m .b
 abbrev pub TakenBy : ℕ → Asked → Moment → Type 0
 TakenBy k a m =
     IsAccepted a m
-    × ((l : Line) × List·Memᴰ l (untaken (m .book .entries)) × (serialOf l ≡ k) × Taken (λ x. NamedBy (a .call) (m .book .form) (untaken (m .book .entries)) x) (untaken (m .book .entries)) l)
+    × ((l : Line) × List·Memᴰ l (untaken (m .book .entries)) × (serialOf l ≡ k) × IsTaken (λ x. NamedBy (a .call) (m .book .form) (untaken (m .book .entries)) x) (untaken (m .book .entries)) l)
 
 -- some call of a history did it
 unfoldable pub SomeCall : (Asked → Moment → Type 0) → List Asked → Moment → Type 0

@@ -21,7 +21,7 @@ use Rattle.rules.specs.Filling.{fillDefinition}
 use Rattle.rules.specs.Lines.{Line, ground, isTextRow, elementNamed, elementAmong, attributeNamed, elementWith, childrenOf, serialAt}
 use Rattle.rules.specs.Change.{Call, createDefinition, destroyDefinition, insertElement, removeElement, changeQuantifier, convertToGroup, flattenGroup, changeGroupQuantifier, addAttribute, destroyAttribute, addDocument, addElement, destroyElement, setAttribute, destroyAttributeRow, setText, nameAtIndex, Owned, attributeAt, Plan, plan, keeping, setting, pickedPlan, quantifyPlan, removePlan, insertPlan, dropPlan, setPlan, setAt}
 use Rattle.rules.specs.Refusal.{noElementAt, noGroupAt}
-use Rattle.rules.specs.MadeTakenGiven.{IsThere, Below, IsFirst, foundIn, AtPlace, OfElement, AtElement, OfGroup, AtGroup, OfAttribute, IsRemoved, IsCut, IsDropped, NamedBy, valueIf, isRowOf, isTextOf, valueAfter, MakesBelow, setRow, fillingOf, fillingAt, rowsMade}
+use Rattle.rules.specs.MadeTakenGiven.{HasLine, StandsBelow, IsFirst, foundIn, AtPlace, OfElement, AtElement, OfGroup, AtGroup, OfAttribute, IsRemoved, IsCut, IsDropped, NamedBy, valueIf, isRowOf, isTextOf, valueAfter, MakesBelow, setRow, fillingOf, fillingAt, rowsMade}
 use Rattle.rules.proofs.Words.{and-both, and-split}
 
 not-true : (b : Bool) → not b ≡ true → b ≡ false
@@ -45,9 +45,9 @@ Known (changeGroupQuantifier o p q t) form ls = noGroupAt (foundIn (quantify (qu
 Known (addAttribute o n k v) form ls = Unit {0}
 Known (destroyAttribute a) form ls = Unit {0}
 Known (addDocument i t) form ls = Unit {0}
-Known (addElement k j i t) form ls = IsThere (elementWith k) ls k
+Known (addElement k j i t) form ls = HasLine (elementWith k) ls k
 Known (destroyElement k) form ls = Unit {0}
-Known (setAttribute k a v) form ls = IsThere (elementWith k) ls k
+Known (setAttribute k a v) form ls = HasLine (elementWith k) ls k
 Known (destroyAttributeRow k a) form ls = Unit {0}
 Known (setText k t) form ls = Unit {0}
 
@@ -187,7 +187,7 @@ module _ (ls : List Line) (big : (m : Line) → List·Memᴰ m ls → 1 ≤ m .r
 
 -- ---- taken
 module _ (ls : List Line) (l : Line) where
-  below-of : (above : Row → Bool) → above ground ≡ false → (u : Row) → Above ls u → u .serial ≡ l .parent → above u ≡ true → Below above ls l
+  below-of : (above : Row → Bool) → above ground ≡ false → (u : Row) → Above ls u → u .serial ≡ l .parent → above u ≡ true → StandsBelow above ls l
   below-of above g u (inl e) q h = absurd (false≢true (sym g ∙ ap above (sym e) ∙ h))
   below-of above g u (inr (v, i, f)) q h = (v, i, ap (λ (x : Row). x .serial) f ∙ q, ap above f ∙ h)
 
@@ -320,10 +320,10 @@ module _ (ls : List Line) (l : Line) where
 -- ---- made
 -- the plan makes rows below the row with serial u; the documents stand below `ground`
 abbrev pub Filled : (Row → Bool) → List Line → ℕ → Type 0
-Filled fills ls u = ((u ≡ 0) × (fills ground ≡ true)) ⊎ IsThere fills ls u
+Filled fills ls u = ((u ≡ 0) × (fills ground ≡ true)) ⊎ HasLine fills ls u
 
 -- where only rows that pass another test are filled, and that not `ground`
-filled-there : (fills test : Row → Bool) (ls : List Line) → ((r : Row) → fills r ≡ true → test r ≡ true) → test ground ≡ false → (u : ℕ) → Filled fills ls u → IsThere fills ls u × IsThere test ls u
+filled-there : (fills test : Row → Bool) (ls : List Line) → ((r : Row) → fills r ≡ true → test r ≡ true) → test ground ≡ false → (u : ℕ) → Filled fills ls u → HasLine fills ls u × HasLine test ls u
 filled-there fills test ls f g u (inl (e, h)) = absurd (false≢true (sym g ∙ f ground h))
 filled-there fills test ls f g u (inr (l, i, e, h)) = ((l, i, e, h), (l, i, e, f (l .row) h))
 
@@ -359,7 +359,7 @@ module _ (ls : List Line) (u : ℕ) where
   drops-fill above (some o) r = refl
 
   inserted : (form : Form) (o t n : Bytes) (q : Quantifier) (f : Option (Found Bytes)) → Filled (insertPlan form o t q n f .fills) ls u
-      → AtPlace (λ c. (spine c ≡ true) × (skips q ≡ false)) f × IsThere (elementNamed o) ls u
+      → AtPlace (λ c. (spine c ≡ true) × (skips q ≡ false)) f × HasLine (elementNamed o) ls u
   inserted form o t n q none z = absurd (nowhere (λ r. false) (λ r. refl) ls u z)
   inserted form o t n q (some f) z =
       let fills : Row → Bool = λ r. (not (skips q) && spine (f .context)) && elementNamed o r in
@@ -367,14 +367,14 @@ module _ (ls : List Line) (u : ℕ) where
       let s = and-split (not (skips q)) (spine (f .context)) (and-split (not (skips q) && spine (f .context)) (elementNamed o (y .0 .row)) (y .3) .0) in
       ((s .1, not-true (skips q) (s .0)), w)
 
-  inserted-back : (form : Form) (o t n : Bytes) (q : Quantifier) (f : Option (Found Bytes)) → AtPlace (λ c. (spine c ≡ true) × (skips q ≡ false)) f → IsThere (elementNamed o) ls u
+  inserted-back : (form : Form) (o t n : Bytes) (q : Quantifier) (f : Option (Found Bytes)) → AtPlace (λ c. (spine c ≡ true) × (skips q ≡ false)) f → HasLine (elementNamed o) ls u
       → Filled (insertPlan form o t q n f .fills) ls u
   inserted-back form o t n q none z y = absurd z
   inserted-back form o t n q (some f) (s, k) (l, i, e, h) = inr (l, i, e, and-both (and-both (ap not k) s) h)
 
   -- the lines of an instance that lacks a child
   lacks : (test : Row → Bool) (o : Bytes) (a : Bool) → Filled (λ r. a && (elementNamed o r && isNone (childrenOf test (r .serial) ls))) ls u
-      → (a ≡ true) × (childrenOf test u ls ≡ []) × IsThere (elementNamed o) ls u
+      → (a ≡ true) × (childrenOf test u ls ≡ []) × HasLine (elementNamed o) ls u
   lacks test o a z =
       let fills : Row → Bool = λ r. a && (elementNamed o r && isNone (childrenOf test (r .serial) ls)) in
       let (y, w) = filled-there fills (elementNamed o) ls (λ r h. and-split (elementNamed o r) _ (and-split a _ h .1) .0) refl u z in
@@ -382,7 +382,7 @@ module _ (ls : List Line) (u : ℕ) where
       let t = and-split (elementNamed o (y .0 .row)) (isNone (childrenOf test (y .0 .row .serial) ls)) (s .1) in
       (s .0, ap (λ (k : ℕ). childrenOf test k ls) (sym (y .2)) ∙ none-then (childrenOf test (y .0 .row .serial) ls) (t .1), w)
 
-  lacks-back : (test : Row → Bool) (o : Bytes) (a : Bool) → a ≡ true → childrenOf test u ls ≡ [] → IsThere (elementNamed o) ls u
+  lacks-back : (test : Row → Bool) (o : Bytes) (a : Bool) → a ≡ true → childrenOf test u ls ≡ [] → HasLine (elementNamed o) ls u
       → Filled (λ r. a && (elementNamed o r && isNone (childrenOf test (r .serial) ls))) ls u
   lacks-back test o a x y (l, i, e, h) = inr (l, i, e, and-both x (and-both h (ap isNone (ap (λ (k : ℕ). childrenOf test k ls) e ∙ y))))
 
@@ -390,12 +390,12 @@ module _ (ls : List Line) (u : ℕ) where
   Lacking o new c old x = (spine c ≡ true) × (gains old new ≡ true) × (childrenOf (elementNamed x) u ls ≡ [])
 
   gained : (form : Form) (o t : Bytes) (new : Quantifier) (f : Option (Found Bytes)) → noElementAt f ≡ false → Filled (pickedPlan (quantifyPlan form ls o t new) f .fills) ls u
-      → AtElement (λ c old x. Lacking o new c old x) f × IsThere (elementNamed o) ls u
+      → AtElement (λ c old x. Lacking o new c old x) f × HasLine (elementNamed o) ls u
   gained form o t new none g z = absurd (false≢true (sym g))
   gained form o t new (some f) g z = by (f .context) (f .picked) g z
     where
       by : (c : Context Bytes) (x : Members Bytes) → noElementAt (some (record { context = c; picked = x })) ≡ false → Filled (quantifyPlan form ls o t new c x .fills) ls u
-          → OfElement (λ old x. Lacking o new c old x) x × IsThere (elementNamed o) ls u
+          → OfElement (λ old x. Lacking o new c old x) x × HasLine (elementNamed o) ls u
       by c done g z = absurd (false≢true (sym g))
       by c (el old x rest) g z =
           let (a, e, w) = lacks (elementNamed x) o (spine c && gains old new) z in
@@ -403,7 +403,7 @@ module _ (ls : List Line) (u : ℕ) where
           ((s .0, s .1, e), w)
       by c (group q k ms rest) g z = absurd (false≢true (sym g))
 
-  gained-back : (form : Form) (o t : Bytes) (new : Quantifier) (f : Option (Found Bytes)) → AtElement (λ c old x. Lacking o new c old x) f → IsThere (elementNamed o) ls u
+  gained-back : (form : Form) (o t : Bytes) (new : Quantifier) (f : Option (Found Bytes)) → AtElement (λ c old x. Lacking o new c old x) f → HasLine (elementNamed o) ls u
       → Filled (pickedPlan (quantifyPlan form ls o t new) f .fills) ls u
   gained-back form o t new none z y = absurd z
   gained-back form o t new (some f) z y = by (f .context) (f .picked) z
@@ -417,12 +417,12 @@ module _ (ls : List Line) (u : ℕ) where
   LackingAll o new c old ms = (spine c ≡ true) × (gains old new ≡ true) × (childrenOf (elementAmong (names ms)) u ls ≡ [])
 
   group-gained : (form : Form) (o t : Bytes) (new : Quantifier) (f : Option (Found Bytes)) → noGroupAt f ≡ false → Filled (pickedPlan (quantifyPlan form ls o t new) f .fills) ls u
-      → AtGroup (λ c old ms. LackingAll o new c old ms) f × IsThere (elementNamed o) ls u
+      → AtGroup (λ c old ms. LackingAll o new c old ms) f × HasLine (elementNamed o) ls u
   group-gained form o t new none g z = absurd (false≢true (sym g))
   group-gained form o t new (some f) g z = by (f .context) (f .picked) g z
     where
       by : (c : Context Bytes) (x : Members Bytes) → noGroupAt (some (record { context = c; picked = x })) ≡ false → Filled (quantifyPlan form ls o t new c x .fills) ls u
-          → OfGroup (λ old ms. LackingAll o new c old ms) x × IsThere (elementNamed o) ls u
+          → OfGroup (λ old ms. LackingAll o new c old ms) x × HasLine (elementNamed o) ls u
       by c done g z = absurd (false≢true (sym g))
       by c (el old x rest) g z = absurd (false≢true (sym g))
       by c (group old k ms rest) g z =
@@ -430,7 +430,7 @@ module _ (ls : List Line) (u : ℕ) where
           let s = and-split (spine c) (gains old new) a in
           ((s .0, s .1, e), w)
 
-  group-gained-back : (form : Form) (o t : Bytes) (new : Quantifier) (f : Option (Found Bytes)) → AtGroup (λ c old ms. LackingAll o new c old ms) f → IsThere (elementNamed o) ls u
+  group-gained-back : (form : Form) (o t : Bytes) (new : Quantifier) (f : Option (Found Bytes)) → AtGroup (λ c old ms. LackingAll o new c old ms) f → HasLine (elementNamed o) ls u
       → Filled (pickedPlan (quantifyPlan form ls o t new) f .fills) ls u
   group-gained-back form o t new none z y = absurd z
   group-gained-back form o t new (some f) z y = by (f .context) (f .picked) z

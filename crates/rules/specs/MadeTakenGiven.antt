@@ -21,12 +21,12 @@ use Rattle.rules.specs.Change.{Call, createDefinition, destroyDefinition
 
 -- ---- words
 -- a line with this serial is there, and its row passes a test
-abbrev pub IsThere : (Row → Bool) → List Line → ℕ → Type 0
-IsThere test ls k = (l : Line) × List·Memᴰ l ls × (l .row .serial ≡ k) × (test (l .row) ≡ true)
+abbrev pub HasLine : (Row → Bool) → List Line → ℕ → Type 0
+HasLine test ls k = (l : Line) × List·Memᴰ l ls × (l .row .serial ≡ k) × (test (l .row) ≡ true)
 
 -- the line stands right below a row that passes a test
-abbrev pub Below : (Row → Bool) → List Line → Line → Type 0
-Below above ls l = IsThere above ls (l .parent)
+abbrev pub StandsBelow : (Row → Bool) → List Line → Line → Type 0
+StandsBelow above ls l = HasLine above ls (l .parent)
 
 -- the line is the first of its parent's children that pass a test
 abbrev pub IsFirst : (Row → Bool) → List Line → Line → Type 0
@@ -67,7 +67,7 @@ OfAttribute P (some o) = P o
 -- ---- taken: 'Taking rule: 4, 5 (cut), 10, 13, 15 take the rows named there, elements with all below. No other takes any.'
 -- 4: 'those children of instances': elements of that name right below an instance of the owner
 abbrev pub IsRemoved : Bytes → Bytes → List Line → Line → Type 0
-IsRemoved owner x ls l = (elementNamed x (l .row) ≡ true) × Below (elementNamed owner) ls l
+IsRemoved owner x ls l = (elementNamed x (l .row) ≡ true) × StandsBelow (elementNamed owner) ls l
 
 -- 5: 'In a spine list: cut keeps each instance's first': all other such children go
 abbrev pub IsCut : Bytes → Quantifier → List Line → Line → Context Bytes → Quantifier → Bytes → Type 0
@@ -75,7 +75,7 @@ IsCut owner new ls l c old x = (spine c ≡ true) × (cuts old new ≡ true) × 
 
 -- 10: that attribute's rows, below elements of its owner; 15: that attribute's row below the element with that serial
 abbrev pub IsDropped : (Owned → Row → Bool) → List Line → Line → Owned → Type 0
-IsDropped above ls l o = (attributeNamed (o .attribute .name) (l .row) ≡ true) × Below (above o) ls l
+IsDropped above ls l o = (attributeNamed (o .attribute .name) (l .row) ≡ true) × StandsBelow (above o) ls l
 
 -- the lines that a call names for taking
 unfoldable pub NamedBy : Call → Form → List Line → Line → Type 0
@@ -97,9 +97,9 @@ NamedBy (destroyAttributeRow k a) form ls l = OfAttribute (IsDropped (λ o u. el
 NamedBy (setText k t) form ls l = ⊥
 
 -- 'elements with all below': the line is named, or the line above it is taken
-pub data Taken (Named : Line → Type 0) (ls : List Line) : Line → Type 0 where
-  itself : (l : Line) → Named l → Taken Named ls l
-  beneath : (u l : Line) → List·Memᴰ u ls → u .row .serial ≡ l .parent → Taken Named ls u → Taken Named ls l
+pub data IsTaken (Named : Line → Type 0) (ls : List Line) : Line → Type 0 where
+  itself : (l : Line) → Named l → IsTaken Named ls l
+  beneath : (u l : Line) → List·Memᴰ u ls → u .row .serial ≡ l .parent → IsTaken Named ls u → IsTaken Named ls l
 
 -- ---- given: '14, and 16 at the text line, set a value. No other line changes.'
 abbrev pub valueIf : Bool → Bytes → Line → Bytes
@@ -143,17 +143,17 @@ unfoldable pub MakesBelow : Call → Form → List Line → ℕ → Type 0
 MakesBelow (createDefinition n k) form ls u = ⊥
 MakesBelow (destroyDefinition i) form ls u = ⊥
 MakesBelow (insertElement o p i q t) form ls u =
-    AtPlace (λ c. (spine c ≡ true) × (skips (quantifierOf q) ≡ false)) (foundIn (insert (quantifierOf q) (nameAtIndex i form)) o p form) × IsThere (elementNamed (nameAtIndex o form)) ls u
+    AtPlace (λ c. (spine c ≡ true) × (skips (quantifierOf q) ≡ false)) (foundIn (insert (quantifierOf q) (nameAtIndex i form)) o p form) × HasLine (elementNamed (nameAtIndex o form)) ls u
 MakesBelow (removeElement o p) form ls u = ⊥
 MakesBelow (changeQuantifier o p q t) form ls u =
     AtElement (λ c old x. (spine c ≡ true) × (gains old (quantifierOf q) ≡ true) × (childrenOf (elementNamed x) u ls ≡ [])) (foundIn (quantify (quantifierOf q)) o p form)
-    × IsThere (elementNamed (nameAtIndex o form)) ls u
+    × HasLine (elementNamed (nameAtIndex o form)) ls u
 MakesBelow (convertToGroup o p n k) form ls u = ⊥
 MakesBelow (flattenGroup o p) form ls u = ⊥
 MakesBelow (changeGroupQuantifier o p q t) form ls u =
     AtGroup (λ c old ms. (spine c ≡ true) × (gains old (quantifierOf q) ≡ true) × (childrenOf (elementAmong (names ms)) u ls ≡ [])) (foundIn (quantify (quantifierOf q)) o p form)
-    × IsThere (elementNamed (nameAtIndex o form)) ls u
-MakesBelow (addAttribute o n k v) form ls u = (sortOf k ≡ required) × IsThere (elementNamed (nameAtIndex o form)) ls u
+    × HasLine (elementNamed (nameAtIndex o form)) ls u
+MakesBelow (addAttribute o n k v) form ls u = (sortOf k ≡ required) × HasLine (elementNamed (nameAtIndex o form)) ls u
 MakesBelow (destroyAttribute a) form ls u = ⊥
 MakesBelow (addDocument i t) form ls u = u ≡ 0
 MakesBelow (addElement k j i t) form ls u = u ≡ k

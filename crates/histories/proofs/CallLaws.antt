@@ -3,9 +3,9 @@
 use Prim.Native.Nat.{ℕ, zero, suc}
 use native.Mathlib.Omega.{arith}
 use mathlib.Core.Path.{_≡_, refl, ap, ap₂, _∙_, subst}
-use mathlib.Core.Bool.{Bool, true, false}
+use mathlib.Core.Bool.{true, false}
 use mathlib.Core.Option.{Option, none, some}
-use mathlib.Core.List.{List, [], _∷_, _++_}
+use mathlib.Core.List.{List, [], _∷_}
 use lib.Dec.{eqb}
 use lib.ListN.{length, take, drop}
 use lib.Seq.{take-append-seam}
@@ -16,7 +16,7 @@ use Rattle.rules.specs.Layout.{encode}
 use Rattle.rules.specs.Passing.{readStore}
 use Rattle.rules.specs.Change.{Call, after}
 use Rattle.rules.specs.Refusal.{refusal}
-use Rattle.rules.specs.Outcome.{Outcome, refused, wrote, unlessRefused, onStore, outcome, numberOf, lengthOf, bufferOf, Answers}
+use Rattle.rules.specs.Outcome.{Outcome, refused, wrote, unlessRefused, onStore, outcome, Answers}
 use Rattle.rules.specs.Run.{Asked, freshStore, leaves, Moment, start, step, run}
 use Rattle.history.specs.History.{GoodMoment}
 use Rattle.history.proofs.Moments.{start-good}

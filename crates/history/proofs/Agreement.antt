@@ -19,7 +19,7 @@ use Rattle.history.proofs.NumberTests.{ones, ones-most, times}
 use Rattle.history.proofs.Taking
 use Rattle.history.proofs.Taking.{occurs, occurs-serials, count, Apart}
 use Rattle.history.proofs.Making
-use Rattle.history.proofs.Making.{standing, untaken-standing}
+use Rattle.history.proofs.Making.{untaken-standing}
 use Rattle.history.proofs.Numbering.{lines-serials, Spent, spent, spent-distinct, spent-below, spent-part}
 use Rattle.history.proofs.Stable.{lineSerials, standing-serials, Once, once-spent, spent-once, once-note}
 

@@ -1,11 +1,11 @@
 -- AN ACCEPTED CALL CHANGES THE BOOK BY THE RULES: what it takes, gives and makes.
-use Prim.Native.Nat.{ℕ, zero, suc, _+_, _*_, _≤_, _<_}
+use Prim.Native.Nat.{ℕ, _+_, _*_, _≤_, _<_}
 use native.Mathlib.Nat.{le-refl}
 use mathlib.Core.Path.{_≡_, refl, sym, ap, _∙_, subst}
 use mathlib.Core.Logic.{_⊎_, inl, inr, ⊎-elim, _↔_}
-use mathlib.Core.Bool.{Bool, true, false, _||_, false≢true}
+use mathlib.Core.Bool.{Bool, true, false, false≢true}
 use mathlib.Core.Option.{Option, none, some}
-use mathlib.Core.List.{List, [], _∷_, map, List·Memᴰ, List·Memᴰ·head, List·Memᴰ·tail, Memᴰ·map}
+use mathlib.Core.List.{List, [], _∷_, List·Memᴰ, List·Memᴰ·head, List·Memᴰ·tail, Memᴰ·map}
 use lib.Dec.{eqb}
 use lib.ListN.{length}
 use Rattle.rules.specs.declared.Quantifier.{Quantifier}
@@ -13,25 +13,25 @@ use Rattle.rules.specs.Bytes.{Bytes, any, eqb-eq}
 use Rattle.rules.specs.Model.{Distinct, Members, done, el, group}
 use Rattle.rules.specs.Place.{Context, Found}
 use Rattle.rules.specs.Edit.{insert, remove, quantify}
-use Rattle.rules.specs.Store.{Form, Row, Forest, Store}
+use Rattle.rules.specs.Store.{Form, Row, Store}
 use Rattle.rules.specs.Layout.{valueWidth}
 use Rattle.rules.specs.Decode.{quantifierOf}
 use Rattle.rules.specs.Conforming.{isElement}
 use Rattle.rules.specs.Passing.{good, Good}
-use Rattle.rules.specs.Lines.{Line, lines, ground, isTextRow, elementNamed, attributeNamed, elementWith, childrenOf}
-use Rattle.rules.specs.Change.{Call, createDefinition, destroyDefinition, insertElement, removeElement, changeQuantifier, convertToGroup, flattenGroup, changeGroupQuantifier, addAttribute, destroyAttribute, addDocument, addElement, destroyElement, setAttribute, destroyAttributeRow, setText, nameAtIndex, Owned, attributeAt, formAfter, Plan, plan, insertPlan, removePlan, quantifyPlan, pickedPlan, setAt, setPlan, dropPlan, revalue, newRows}
+use Rattle.rules.specs.Lines.{Line, lines, ground, elementNamed, attributeNamed, elementWith, childrenOf}
+use Rattle.rules.specs.Change.{Call, createDefinition, destroyDefinition, insertElement, removeElement, changeQuantifier, convertToGroup, flattenGroup, changeGroupQuantifier, addAttribute, destroyAttribute, addDocument, addElement, destroyElement, setAttribute, destroyAttributeRow, setText, nameAtIndex, Owned, attributeAt, Plan, plan, insertPlan, removePlan, quantifyPlan, pickedPlan, setAt, setPlan, dropPlan, revalue, newRows}
 use Rattle.rules.specs.Refusal.{conditions, refusal, noElement}
-use Rattle.rules.specs.Book.{Entry, stands, Book, untaken, mark, revalueEntry, expand, spotCount, marks, note}
-use Rattle.rules.specs.MadeTakenGiven.{HasLine, foundIn, OfElement, AtElement, IsRemoved, IsCut, NamedBy, IsTaken, itself, beneath, valueIf, valueAfter, MakesBelow, rowsMade, linesMade}
+use Rattle.rules.specs.Book.{Entry, Book, untaken, expand, spotCount, marks, note}
+use Rattle.rules.specs.MadeTakenGiven.{HasLine, foundIn, OfElement, AtElement, IsCut, NamedBy, IsTaken, itself, beneath, valueIf, valueAfter, MakesBelow, rowsMade, linesMade}
 use Rattle.rules.proofs.Words.{or-cases, and-split}
 use Rattle.rules.proofs.PassingLaws.{good-is}
-use Rattle.rules.proofs.PlanLaws.{Known, Above, named, ruled, setBy, AtMostOne, set-after, Filled, makes, filled, filling-made}
+use Rattle.rules.proofs.PlanLaws.{Known, named, ruled, setBy, set-after, Filled, makes, filled, filling-made}
 use Rattle.history.specs.History.{serialOf, everMade, takenSerials, entriesFrom, entriesBelow, Makes, ByTheRules, entrySerials}
 use Rattle.history.proofs.Conditions.{not-false, unmet}
 use Rattle.history.proofs.Taking.{Apart}
 use Rattle.history.proofs.Making.{standing}
 use Rattle.history.proofs.Numbering.{blank-plan}
-use Rattle.history.proofs.Stable.{olds, left, olds-marks, lineSerials, marks-serials, untaken-in, Once}
+use Rattle.history.proofs.Stable.{left, olds-marks, lineSerials, marks-serials, untaken-in, Once}
 use Rattle.history.proofs.Agreement.{onLine, untaken-revalue, Agree, good-apart}
 use Rattle.history.proofs.TakenLines.{marked, taken-marked, expand-old, mark-old, valued, revalue-old, line-serial, distinct-untaken, same-serial}
 use Rattle.history.proofs.Pruned.{has-above}

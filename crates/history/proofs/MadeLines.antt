@@ -1,26 +1,26 @@
--- The lines that a plan makes in the book: below each row that it fills, once, the rows of its filling with the next serials.
-use Prim.Native.Nat.{ℕ, zero, suc, _+_, _*_, _≤_, _<_}
+-- The lines that a plan makes in the book: below each row that it fills, once, the rows of its filling with the next
+-- serials.
+use Prim.Native.Nat.{ℕ, suc, _+_, _*_, _≤_, _<_}
 use native.Mathlib.Omega.{arith}
 use native.Mathlib.Decide.{decLe}
 use native.Mathlib.Nat.{mul-zero}
-use mathlib.Core.Path.{_≡_, refl, sym, ap, ap₂, _∙_, subst}
+use mathlib.Core.Path.{_≡_, refl, sym, ap, _∙_, subst}
 use mathlib.Core.Logic.{_⊎_, inl, inr, ⊎-elim, _↔_}
-use mathlib.Core.Bool.{Bool, true, false, _&&_, not, false≢true}
+use mathlib.Core.Bool.{Bool, true, false, _&&_, not}
 use mathlib.Core.List.{List, [], _∷_, _++_, map, map-append, List·Memᴰ, List·Memᴰ·head, List·Memᴰ·tail, List·Memᴰ·not-nil, List·Memᴰ·cases-cons}
 use lib.Dec.{eqb, leb}
 use lib.ListN.{length}
 use borrow.Author.Tests.{le-leb, leb-true}
-use Rattle.rules.specs.Bytes.{Bytes, any, eqb-eq, eqb-of}
+use Rattle.rules.specs.Bytes.{any, eqb-eq}
 use Rattle.rules.specs.Model.{Distinct}
 use Rattle.rules.specs.Store.{Row, Forest}
-use Rattle.rules.specs.Passing.{serials}
 use Rattle.rules.specs.Lines.{Line, lines, ground}
 use Rattle.rules.specs.Change.{Plan, newRows, number}
 use Rattle.rules.specs.Book.{Entry, stands, taken, untaken, Mark, old, spot, place, placed, spots, expand, spotCount, marks}
-use Rattle.rules.specs.MadeTakenGiven.{HasLine, linesMade}
+use Rattle.rules.specs.MadeTakenGiven.{linesMade}
 use Rattle.rules.proofs.PlanLaws.{Filled}
 use Rattle.history.specs.History.{serialOf, lineOf, entrySerials, entriesFrom, entriesBelow}
-use Rattle.history.proofs.NumberTests.{ones, ones-most, ones-own, times, times-in, times-out, distinct-times, range, range-below}
+use Rattle.history.proofs.NumberTests.{ones, times, times-in, distinct-times, range, range-below}
 use Rattle.history.proofs.Making.{standing}
 use Rattle.history.proofs.Numbering.{Blank, number-serials, lines-serials}
 use Rattle.history.proofs.Stable.{olds, left, lineSerials}

@@ -4,15 +4,15 @@ use native.Mathlib.Nat.{le-refl, le-trans}
 use mathlib.Core.Path.{_≡_, refl, sym, ap, _∙_, subst}
 use mathlib.Core.Logic.{_↔_}
 use mathlib.Core.Bool.{Bool, true, false, false≢true}
-use mathlib.Core.Option.{Option, none, some}
+use mathlib.Core.Option.{some}
 use mathlib.Core.List.{List, [], _∷_, _++_, map, List·Memᴰ, List·Memᴰ·head, List·Memᴰ·tail}
 use Rattle.rules.specs.Bytes.{Bytes}
 use Rattle.rules.specs.Model.{Distinct, distinct}
-use Rattle.rules.specs.Store.{Form, Store}
+use Rattle.rules.specs.Store.{Store}
 use Rattle.rules.specs.Layout.{FlatStore, valueWidth, flat, encode}
 use Rattle.rules.specs.WellFormed.{wellFormed}
 use Rattle.rules.specs.Conforming.{conforming}
-use Rattle.rules.specs.Passing.{good, goodSerials, readStore, Passes, Good}
+use Rattle.rules.specs.Passing.{good, goodSerials, readStore}
 use Rattle.rules.specs.Lines.{Line, lines}
 use Rattle.rules.specs.Change.{Call, after}
 use Rattle.rules.specs.Refusal.{refusal}
@@ -22,7 +22,7 @@ use Rattle.rules.specs.Run.{Asked, emptyStore, leaves, isAccepted, Moment, star
 use Rattle.rules.proofs.LayoutLaws.{read-bytes}
 use Rattle.rules.proofs.DecodeLaws.{good-flat, read-encode, read-good}
 use Rattle.rules.proofs.PassingLaws.{good-is}
-use Rattle.history.specs.History.{linesIn, rowsIn, formOf, formIn, versionIn, serialOf, lineOf, everMade, takenSerials, nextSerial, GoodMoment, momentOf, Keeps, serialsIn, ByTheRules}
+use Rattle.history.specs.History.{linesIn, rowsIn, formOf, versionIn, serialOf, lineOf, everMade, takenSerials, nextSerial, GoodMoment, momentOf, Keeps, serialsIn, ByTheRules}
 use Rattle.history.proofs.Agreement.{Agree, fresh-agree, bookOf-agree, bookOf-once}
 use Rattle.history.proofs.Stable.{Once, fresh-once, keeps-refl, keeps-trans}
 use Rattle.history.proofs.Together.{Together, plan-together}

@@ -1,21 +1,21 @@
--- Over a whole history: a row is there exactly when a call made it and none took it, and its line is the one it had, with the last value
--- that a call gave it.
+-- Over a whole history: a row is there exactly when a call made it and none took it, and its line is the one it had,
+-- with the last value that a call gave it.
 use Prim.Native.Nat.{ℕ, _≤_, _<_}
 use native.Mathlib.Omega.{arith}
 use native.Mathlib.Nat.{le-trans}
 use mathlib.Core.Path.{_≡_, refl, sym, ap, _∙_, subst}
 use mathlib.Core.Logic.{_⊎_, inl, inr, ⊎-elim, _↔_}
 use mathlib.Core.Bool.{Bool, true, false, false≢true}
-use mathlib.Core.List.{List, [], _∷_, _++_, map, List·Memᴰ, List·Memᴰ·head, List·Memᴰ·tail, List·Memᴰ·not-nil, List·Memᴰ·cases-cons}
+use mathlib.Core.List.{List, [], _∷_, List·Memᴰ, List·Memᴰ·head, List·Memᴰ·tail, List·Memᴰ·not-nil, List·Memᴰ·cases-cons}
 use lib.Dec.{leb}
 use borrow.Author.Tests.{leb-true}
 use Rattle.rules.specs.Bytes.{Bytes}
 use Rattle.rules.specs.Model.{Distinct}
 use Rattle.rules.specs.Lines.{Line}
 use Rattle.rules.specs.Outcome.{outcome}
-use Rattle.rules.specs.Book.{Entry, stands, taken, Book, untaken}
+use Rattle.rules.specs.Book.{Entry, stands, taken, untaken}
 use Rattle.rules.specs.Run.{Asked, isAccepted, Moment, step, run}
-use Rattle.rules.specs.MadeTakenGiven.{IsTaken, valueAfter, rowsMade, linesMade}
+use Rattle.rules.specs.MadeTakenGiven.{valueAfter, rowsMade, linesMade}
 use Rattle.history.specs.History.{rowsIn, serialOf, lineOf, entrySerials, everMade, takenSerials, serialsIn, SameLine, Keeps, none-left, made, kept, took, gone, entriesFrom, entriesBelow, ByTheRules, IsAccepted, MadeBy, TakenBy, SomeCall, withValue, lineAfter, lineThen}
 use Rattle.history.proofs.Making.{standing, untaken-standing}
 use Rattle.history.proofs.Stable.{lineSerials, standing-serials, keeps-in, untaken-in}

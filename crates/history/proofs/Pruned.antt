@@ -1,5 +1,6 @@
--- The taking rule on documents, for any rule `takes`: a line is pruned away exactly when it or a line above it is taken by the rule.
-use Prim.Native.Nat.{ℕ, zero, suc, _≤_}
+-- The taking rule on documents, for any rule `takes`: a line is pruned away exactly when it or a line above it is taken
+-- by the rule.
+use Prim.Native.Nat.{ℕ, _≤_}
 use native.Mathlib.Omega.{arith}
 use mathlib.Core.Path.{_≡_, refl, sym, ap, _∙_, subst}
 use mathlib.Core.Logic.{⊎-elim, _⊎_, inl, inr}
@@ -13,7 +14,7 @@ use Rattle.history.specs.History.{serialOf}
 use Rattle.history.proofs.Stable.{lineSerials}
 use Rattle.rules.specs.MadeTakenGiven.{IsTaken, itself, beneath}
 use Rattle.rules.proofs.PlanLaws.{Above, Ruled}
-use Rattle.history.proofs.TakenLines.{line-serial, same-serial}
+use Rattle.history.proofs.TakenLines.{same-serial}
 
 -- ---- lists
 pub in-append : {A : Type 0} (x : A) (xs ys : List A) → List·Memᴰ x (xs ++ ys) → List·Memᴰ x xs ⊎ List·Memᴰ x ys

@@ -1,21 +1,20 @@
--- Documents that conform: right below a row stands at most one row of an attribute and at most one text; an element's name is a member
--- of its parent's definition, and so no instance of a definition stands anywhere below another.
-use Prim.Native.Nat.{ℕ, _≤_, _<_}
-use native.Mathlib.Omega.{arith}
+-- Documents that conform: right below a row stands at most one row of an attribute and at most one text; an element's
+-- name is a member of its parent's definition, and so no instance of a definition stands anywhere below another.
+use Prim.Native.Nat.{ℕ}
 use mathlib.Core.Path.{_≡_, refl, sym, ap, _∙_, subst}
 use mathlib.Core.Logic.{_⊎_, inl, inr, ⊎-elim}
-use mathlib.Core.Bool.{Bool, true, false, _&&_, false≢true}
-use mathlib.Core.Option.{Option, none, some}
-use mathlib.Core.List.{List, [], _∷_, _++_, map, List·Memᴰ, List·Memᴰ·head, List·Memᴰ·tail, List·Memᴰ·not-nil, List·Memᴰ·cases-cons, List·Memᴰ·append-cases, Memᴰ·append-right, Memᴰ·map}
+use mathlib.Core.Bool.{Bool, true, false≢true}
+use mathlib.Core.Option.{Option, some}
+use mathlib.Core.List.{List, [], _∷_, map, List·Memᴰ, List·Memᴰ·head, List·Memᴰ·tail, List·Memᴰ·not-nil, List·Memᴰ·cases-cons, List·Memᴰ·append-cases, Memᴰ·map}
 use Rattle.rules.specs.declared.GroupKind.the-variants.{Sequence}
 use Rattle.rules.specs.Bytes.{Bytes, same, same-eq}
 use Rattle.rules.specs.Model.{Distinct, names}
-use Rattle.rules.specs.Store.{Content, empty, pcdata, complex, Attribute, Definition, Form, RowSort, element, attribute, text, Row, Forest, bare, tree, heads, modelOf, members}
-use Rattle.rules.specs.WellFormed.{attributeName, lookup, namesIn, membersOf, Reaches, directly, through, WellFormed}
-use Rattle.rules.specs.Conforming.{nameOf, isElement, isAttribute, isText, Sorted, InOrder, ContentRows, ElementRows, RowConforms, Conforming}
-use Rattle.rules.specs.Passing.{serials, GoodSerials}
+use Rattle.rules.specs.Store.{Content, empty, pcdata, complex, Definition, Form, RowSort, element, attribute, text, Row, Forest, bare, tree, heads, modelOf, members}
+use Rattle.rules.specs.WellFormed.{attributeName, lookup, namesIn, membersOf, Reaches, directly, WellFormed}
+use Rattle.rules.specs.Conforming.{nameOf, isElement, isAttribute, isText, InOrder, ContentRows, ElementRows, RowConforms, Conforming}
+use Rattle.rules.specs.Passing.{GoodSerials}
 use Rattle.rules.specs.Lines.{Line, lines, isTextRow, elementNamed, attributeNamed}
-use Rattle.rules.specs.MadeTakenGiven.{HasLine, IsRemoved, IsTaken, itself, beneath}
+use Rattle.rules.specs.MadeTakenGiven.{IsRemoved, IsTaken, itself, beneath}
 use Rattle.rules.proofs.Words.{and-split}
 use Rattle.rules.proofs.Letters.{letters}
 use Rattle.rules.proofs.Height.{lookup-member, reaches-then}

@@ -1,4 +1,5 @@
--- The taking rule in the book, for any rule `takes`: a line is marked taken exactly when it or a line above it is taken by the rule.
+-- The taking rule in the book, for any rule `takes`: a line is marked taken exactly when it or a line above it is taken
+-- by the rule.
 use Prim.Native.Nat.{ℕ, _≤_}
 use mathlib.Core.Path.{_≡_, refl, sym, subst}
 use mathlib.Core.Logic.{⊎-elim, _⊎_, inl, inr}

@@ -1,7 +1,7 @@
 -- Demand 3, from one law: an accepted change leaves a store that passes.
 use Prim.Native.Nat.{ℕ, _≤_}
-use mathlib.Core.Path.{_≡_, sym, ap, ap₂, _∙_, subst}
-use mathlib.Core.Bool.{Bool, true}
+use mathlib.Core.Path.{_≡_, sym, ap₂, _∙_, subst}
+use mathlib.Core.Bool.{true}
 use mathlib.Core.List.{List, _++_, map, List·Memᴰ}
 use Rattle.rules.specs.Store.{Store}
 use Rattle.rules.specs.Passing.{good}

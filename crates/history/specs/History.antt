@@ -1,8 +1,8 @@
--- Demand 3: one statement about every history, from any moment at which the store passes and the book says the same; the fresh store with
--- the empty book is one.
-use Prim.Native.Nat.{ℕ, zero, suc, _+_, _*_, _≤_, _<_}
+-- Demand 3: one statement about every history, from any moment at which the store passes and the book says the same;
+-- the fresh store with the empty book is one.
+use Prim.Native.Nat.{ℕ, _+_, _*_, _≤_, _<_}
 use mathlib.Core.Path.{_≡_}
-use mathlib.Core.Bool.{Bool, true, false}
+use mathlib.Core.Bool.{true, false}
 use mathlib.Core.Option.{Option, none, some}
 use mathlib.Core.Logic.{_↔_, _⊎_}
 use mathlib.Core.List.{List, [], _∷_, _++_, map, List·Memᴰ}
@@ -10,15 +10,15 @@ use lib.Dec.{leb}
 use lib.ListN.{length}
 use Rattle.rules.specs.Bytes.{Bytes}
 use Rattle.rules.specs.Model.{Distinct}
-use Rattle.rules.specs.Store.{Form, Row, Store}
+use Rattle.rules.specs.Store.{Form, Store}
 use Rattle.rules.specs.Layout.{encode}
 use Rattle.rules.specs.Decode.{numberAt}
 use Rattle.rules.specs.Passing.{Passes, readStore}
 use Rattle.rules.specs.Lines.{Line, lines}
 use Rattle.rules.specs.Change.{Call, formAfter, newRows}
-use Rattle.rules.specs.Outcome.{Outcome, refused, wrote, outcome}
+use Rattle.rules.specs.Outcome.{outcome}
 use Rattle.rules.specs.Book.{Entry, stands, taken, Book, untaken}
-use Rattle.rules.specs.Run.{Asked, isAccepted, Moment, start, step, run}
+use Rattle.rules.specs.Run.{Asked, isAccepted, Moment, step, run}
 use Rattle.rules.specs.MadeTakenGiven.{NamedBy, IsTaken, valueAfter, MakesBelow, rowsMade, linesMade}
 
 -- ---- what a byte string holds
@@ -85,7 +85,8 @@ pub record GoodMoment (m : Moment) : Type 0 where
   pub form : formIn (m .store) ≡ m .book .form
   -- the book's version is the store's
   pub version : versionIn (m .store) ≡ m .book .version
-  -- 'the store's rows, each read as serial, sort, name, parent's serial and value, are exactly the book's untaken lines, in the book's order'
+  -- 'the store's rows, each read as serial, sort, name, parent's serial and value, are exactly the book's untaken
+  -- lines, in the book's order'
   pub rows : rowsIn (m .store) ≡ untaken (m .book .entries)
 
 -- a moment with any store: its rows are the book's lines, none taken
@@ -103,8 +104,8 @@ pub record SameLine (a b : Line) : Type 0 where
   pub sort : a .row .sort ≡ b .row .sort
   pub name : a .row .name ≡ b .row .name
 
--- A later book has the lines of an earlier one in the same order, with new ones among them: a line that is not taken may get another
--- value or be taken, a taken one stays as it was.
+-- A later book has the lines of an earlier one in the same order, with new ones among them: a line that is not taken
+-- may get another value or be taken, a taken one stays as it was.
 pub data Keeps : List Entry → List Entry → Type 0 where
   none-left : Keeps [] []
   made : {es fs : List Entry} (e : Entry) → Keeps es fs → Keeps es (e ∷ fs)
@@ -148,7 +149,8 @@ pub record Makes (c : Call) (b after : Book) : Type 0 where
 pub record ByTheRules (c : Call) (b after : Book) : Type 0 where
   -- 'An accepted one changes the form as said above'
   pub form : after .form ≡ formAfter c (b .form)
-  -- 'The taking rule marks lines taken': a line that stood is taken exactly when it, or a line above it, is one that the taking rule names
+  -- 'The taking rule marks lines taken': a line that stood is taken exactly when it, or a line above it, is one that
+  -- the taking rule names
   pub takes : (l : Line) → List·Memᴰ l (untaken (b .entries))
       → List·Memᴰ (serialOf l) (takenSerials (after .entries)) ↔ IsTaken (λ x. NamedBy c (b .form) (untaken (b .entries)) x) (untaken (b .entries)) l
   -- '14, and 16 at the text line, set a value. No other line changes.'
@@ -191,17 +193,17 @@ lineThen (a ∷ history) m l = lineThen history (step a m) (lineAfter a m l)
 
 -- ---- the statement, of a history from any moment, and of any calls that come later
 pub record Demand3 (from : Moment) (history later : List Asked) : Type 0 where
-  -- 'After it, the DTD is well-formed and every finish list conforms to it. No serial was given twice. .. the store's rows .. are exactly
-  -- the book's untaken lines, in the book's order'
+  -- 'After it, the DTD is well-formed and every finish list conforms to it. No serial was given twice. .. the store's
+  -- rows .. are exactly the book's untaken lines, in the book's order'
   pub now : GoodMoment (run history from)
   -- 'The next serial never falls'
   pub never-falls : nextSerial (run history from .store) ≤ nextSerial (run (history ++ later) from .store)
-  -- 'A row is there exactly when an accepted change made it and no later accepted one took it by the taking rule'; at the start there may
-  -- be rows, in the fresh store there are none
+  -- 'A row is there exactly when an accepted change made it and no later accepted one took it by the taking rule'; at
+  -- the start there may be rows, in the fresh store there are none
   pub there : (k : ℕ)
       → List·Memᴰ k (serialsIn (run history from .store)) ↔ ((List·Memᴰ k (serialsIn (from .store)) ⊎ SomeCall (MadeBy k) history from) × (SomeCall (TakenBy k) history from → ⊥))
-  -- 'It has the name and parent it was made with and the last value an accepted change gave it': the row at two moments; the line that it
-  -- was made with is among `lines` of `makes`
+  -- 'It has the name and parent it was made with and the last value an accepted change gave it': the row at two
+  -- moments; the line that it was made with is among `lines` of `makes`
   pub value : (l m : Line) → List·Memᴰ l (rowsIn (run history from .store)) → List·Memᴰ m (rowsIn (run (history ++ later) from .store)) → serialOf m ≡ serialOf l
       → m ≡ lineThen later (run history from) l
   -- 'Two rows that are both there at two moments stand in the same order at both'

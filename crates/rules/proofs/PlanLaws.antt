@@ -1,27 +1,27 @@
--- The plan of each change takes the lines that the taking rule names, sets the values that the rules give, and makes the rows that they name.
-use Prim.Native.Nat.{ℕ, zero, suc, _≤_}
+-- The plan of each change takes the lines that the taking rule names, sets the values that the rules give, and makes
+-- the rows that they name.
+use Prim.Native.Nat.{ℕ, _≤_}
 use native.Mathlib.Omega.{arith}
 use mathlib.Core.Path.{_≡_, refl, sym, ap, _∙_}
-use mathlib.Core.Logic.{_⊎_, inl, inr, ⊎-elim}
+use mathlib.Core.Logic.{_⊎_, inl, inr}
 use mathlib.Core.Bool.{Bool, true, false, _&&_, not, false≢true}
 use mathlib.Core.Option.{Option, none, some}
-use mathlib.Core.List.{List, [], _∷_, map, List·Memᴰ, List·Memᴰ·head, List·Memᴰ·tail, cons≢nil}
+use mathlib.Core.List.{List, [], _∷_, List·Memᴰ, List·Memᴰ·head, List·Memᴰ·tail, cons≢nil}
 use lib.Dec.{eqb}
 use Rattle.rules.specs.declared.Quantifier.{Quantifier}
-use Rattle.rules.specs.declared.GroupKind.{GroupKind}
 use Rattle.rules.specs.Bytes.{Bytes, isNone, eqb-eq, eqb-of}
 use Rattle.rules.specs.Model.{Members, done, el, group, names, skips}
 use Rattle.rules.specs.Quantifiers.{gains, cuts}
 use Rattle.rules.specs.Place.{Context, Found, spine}
 use Rattle.rules.specs.Edit.{insert, remove, quantify}
-use Rattle.rules.specs.Store.{AttributeSort, implied, required, fixed, Form, Row, Forest, bare, tree}
+use Rattle.rules.specs.Store.{AttributeSort, implied, required, fixed, Form, Row}
 use Rattle.rules.specs.Decode.{quantifierOf, sortOf}
 use Rattle.rules.specs.Conforming.{isElement, mustBePresent}
 use Rattle.rules.specs.Filling.{fillDefinition}
 use Rattle.rules.specs.Lines.{Line, ground, isTextRow, elementNamed, elementAmong, attributeNamed, elementWith, childrenOf, serialAt}
-use Rattle.rules.specs.Change.{Call, createDefinition, destroyDefinition, insertElement, removeElement, changeQuantifier, convertToGroup, flattenGroup, changeGroupQuantifier, addAttribute, destroyAttribute, addDocument, addElement, destroyElement, setAttribute, destroyAttributeRow, setText, nameAtIndex, Owned, attributeAt, Plan, plan, keeping, setting, pickedPlan, quantifyPlan, removePlan, insertPlan, dropPlan, setPlan, setAt}
+use Rattle.rules.specs.Change.{Call, createDefinition, destroyDefinition, insertElement, removeElement, changeQuantifier, convertToGroup, flattenGroup, changeGroupQuantifier, addAttribute, destroyAttribute, addDocument, addElement, destroyElement, setAttribute, destroyAttributeRow, setText, nameAtIndex, Owned, attributeAt, Plan, plan, pickedPlan, quantifyPlan, removePlan, insertPlan, dropPlan, setPlan, setAt}
 use Rattle.rules.specs.Refusal.{noElementAt, noGroupAt}
-use Rattle.rules.specs.MadeTakenGiven.{HasLine, StandsBelow, IsFirst, foundIn, AtPlace, OfElement, AtElement, OfGroup, AtGroup, OfAttribute, IsRemoved, IsCut, IsDropped, NamedBy, valueIf, isRowOf, isTextOf, valueAfter, MakesBelow, setRow, fillingOf, fillingAt, rowsMade}
+use Rattle.rules.specs.MadeTakenGiven.{HasLine, StandsBelow, IsFirst, foundIn, AtPlace, OfElement, AtElement, OfGroup, AtGroup, OfAttribute, IsRemoved, IsCut, IsDropped, NamedBy, valueIf, isRowOf, valueAfter, MakesBelow, setRow, fillingOf, fillingAt, rowsMade}
 use Rattle.rules.proofs.Words.{and-both, and-split}
 
 not-true : (b : Bool) → not b ≡ true → b ≡ false
@@ -152,15 +152,17 @@ module _ (ls : List Line) (big : (m : Line) → List·Memᴰ m ls → 1 ≤ m .r
   set-dropped above none = refl
   set-dropped above (some o) = refl
 
-  set-given : (k : ℕ) (v : Bytes) (o : Option Owned) → setBy (setPlan ls k v o) l ≡ valueIf (isRowOf k o l) v l
-  set-given k v none = ap (λ (z : Bool). valueIf z [] l) not-zero
-  set-given k v (some o) =
-      by (childrenOf (attributeNamed (o .attribute .name)) k ls)
-      ∙ ap (λ (z : Bool). valueIf z v l) (the-first (attributeNamed (o .attribute .name)) k ls big same (attributes (o .attribute .name)) l i)
+  -- the rows below the element that pass a test: at most one, which gets the value
+  set-one : (k : ℕ) (v : Bytes) (o : Owned) (test : Row → Bool) → AtMostOne test ls → setBy (setAt k o v (childrenOf test k ls)) l ≡ valueIf (eqb (l .parent) k && test (l .row)) v l
+  set-one k v o test one = by (childrenOf test k ls) ∙ ap (λ (z : Bool). valueIf z v l) (the-first test k ls big same one l i)
     where
       by : (ks : List ℕ) → setBy (setAt k o v ks) l ≡ valueIf (eqb (l .row .serial) (serialAt 0 ks)) v l
       by [] = ap (λ (z : Bool). valueIf z [] l) not-zero ∙ ap (λ (z : Bool). valueIf z v l) (sym not-zero)
       by (s ∷ ss) = refl
+
+  set-given : (k : ℕ) (v : Bytes) (o : Option Owned) → setBy (setPlan ls k v o) l ≡ valueIf (isRowOf k o l) v l
+  set-given k v none = ap (λ (z : Bool). valueIf z [] l) not-zero
+  set-given k v (some o) = set-one k v o (attributeNamed (o .attribute .name)) (attributes (o .attribute .name))
 
   -- THE VALUES: what the plan sets of a line is its value after the call
   pub set-after : (c : Call) (form : Form) → setBy (plan c form ls) l ≡ valueAfter c form l

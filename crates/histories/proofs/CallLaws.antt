@@ -3,9 +3,9 @@
 use Prim.Native.Nat.{ℕ, zero, suc}
 use native.Mathlib.Omega.{arith}
 use mathlib.Core.Path.{_≡_, refl, ap, ap₂, _∙_, subst}
-use mathlib.Core.Bool.{Bool, true, false}
+use mathlib.Core.Bool.{true, false}
 use mathlib.Core.Option.{Option, none, some}
-use mathlib.Core.List.{List, [], _∷_, _++_}
+use mathlib.Core.List.{List, [], _∷_}
 use lib.Dec.{eqb}
 use lib.ListN.{length, take, drop}
 use lib.Seq.{take-append-seam}
@@ -16,10 +16,10 @@ use Rattle.rules.specs.Layout.{encode}
 use Rattle.rules.specs.Passing.{readStore}
 use Rattle.rules.specs.Change.{Call, after}
 use Rattle.rules.specs.Refusal.{refusal}
-use Rattle.rules.specs.Outcome.{Outcome, refused, wrote, unlessRefused, onStore, outcome, numberOf, lengthOf, bufferOf, Answers}
+use Rattle.rules.specs.Outcome.{Outcome, refused, wrote, unlessRefused, onStore, outcome, Answers}
 use Rattle.rules.specs.Run.{Asked, freshStore, leaves, Moment, start, step, run}
-use Rattle.history.specs.History.{Agrees}
-use Rattle.history.proofs.Theorem.{start-agrees}
+use Rattle.history.specs.History.{GoodMoment}
+use Rattle.history.proofs.Moments.{start-good}
 use Rattle.history.proofs.Accepted.{demand-3-from}
 use Rattle.histories.specs.Calls.{Made, askedOf, next, storeAfter, Promised, historyOf, OfTheBox}
 
@@ -62,9 +62,9 @@ store-is (m ∷ ms) at (a, p) =
     ap (storeAfter ms) e ∙ store-is ms (step (askedOf m) at) (subst (Promised ms) e p)
 
 -- from any moment at which the store and the book say the same
-pub demand-3-of-the-box-from : (from : Moment) → Agrees from → (ms : List Made) → Promised ms (from .store) → (later : List Asked) → OfTheBox from ms later
+pub demand-3-of-the-box-from : (from : Moment) → GoodMoment from → (ms : List Made) → Promised ms (from .store) → (later : List Asked) → OfTheBox from ms later
 demand-3-of-the-box-from from a ms p later = record { store = store-is ms from p; demand = demand-3-from from a (historyOf ms) later }
 
 -- from the fresh store
 pub demand-3-of-the-box : (ms : List Made) → Promised ms freshStore → (later : List Asked) → OfTheBox start ms later
-demand-3-of-the-box ms p later = demand-3-of-the-box-from start start-agrees ms p later
+demand-3-of-the-box ms p later = demand-3-of-the-box-from start start-good ms p later

@@ -1,27 +1,31 @@
 -- AN ACCEPTED CHANGE LEAVES A STORE THAT PASSES, and so Demand 3.
 -- Assumes nothing.
 use Prim.Native.Nat.{ℕ}
-use mathlib.Core.Path.{_≡_, refl, sym, ap, _∙_}
-use mathlib.Core.Bool.{Bool, true, false, _&&_}
-use mathlib.Core.List.{List}
+use mathlib.Core.Path.{_≡_, refl, _∙_, subst}
+use mathlib.Core.Bool.{Bool, true, false}
+use mathlib.Core.Logic.{inr, ⊎-elim, _↔_}
+use mathlib.Core.List.{List, [], map, List·Memᴰ, List·Memᴰ·not-nil}
 use Rattle.rules.specs.Store.{Store}
-use Rattle.rules.specs.Layout.{valueWidth, flat}
-use Rattle.rules.specs.WellFormed.{wellFormed, withinCeilings}
+use Rattle.rules.specs.Layout.{valueWidth}
+use Rattle.rules.specs.WellFormed.{wellFormed}
 use Rattle.rules.specs.Conforming.{everyRow, conforming}
-use Rattle.rules.specs.Passing.{knownVersion, laidRow, goodSerials, good}
+use Rattle.rules.specs.Passing.{knownVersion, laidRow, good}
 use Rattle.rules.specs.Change.{Call, formAfter, docsAfter, after}
-use Rattle.rules.specs.Refusal.{conditions, refusal}
-use Rattle.rules.specs.Run.{Asked, Moment, start}
+use Rattle.rules.specs.Refusal.{refusal}
+use Rattle.rules.specs.Lines.{Line}
+use Rattle.rules.specs.Book.{untaken}
+use Rattle.rules.specs.Run.{Asked, Moment, start, run}
 use Rattle.rules.proofs.Words.{and-both, and-split}
 use Rattle.rules.proofs.SerialLaws.{good-serials}
-use Rattle.history.specs.History.{Agrees, Demand3}
+use Rattle.history.specs.History.{serialOf, serialsIn, GoodMoment, momentOf, MadeBy, TakenBy, SomeCall, Demand3}
 use Rattle.history.proofs.Conditions.{unmet, ceilings-after, next-after}
 use Rattle.history.proofs.WellFormedAfter.{well-formed-after}
 use Rattle.history.proofs.Agreement.{serials-after}
 use Rattle.history.proofs.AcceptedEdits.{editsModel, accepted-edit}
 use Rattle.history.proofs.ConformingEdits.{conforming-edited}
 use Rattle.history.proofs.ConformingSimple.{GoodTests, good-tests, conforming-after, conforming-after-simple, values-after}
-use Rattle.history.proofs.Theorem.{start-agrees, demand-3-by}
+use Rattle.history.proofs.Moments.{start-good, moment-good}
+use Rattle.history.proofs.Theorem.{demand-3-by}
 
 module _ (room : ℕ) (c : Call) (s : Store) (x : GoodTests s) (a : refusal room c s ≡ 0) where
   conforms : (e : Bool) → editsModel c ≡ e → conforming (formAfter c (s .form)) (docsAfter c s) ≡ true
@@ -52,9 +56,23 @@ good-after room c s g a =
     values-left c s e = e
 
 -- DEMAND 3, from any moment at which the store and the book say the same
-pub demand-3-from : (from : Moment) → Agrees from → (history later : List Asked) → Demand3 from history later
+pub demand-3-from : (from : Moment) → GoodMoment from → (history later : List Asked) → Demand3 from history later
 demand-3-from = demand-3-by good-after
 
 -- DEMAND 3, from the fresh store
 pub demand-3 : (history later : List Asked) → Demand3 start history later
-demand-3 = demand-3-from start start-agrees
+demand-3 = demand-3-from start start-good
+
+-- DEMAND 3, from any store that passes
+pub demand-3-of : (s : Store) → good s ≡ true → (history later : List Asked) → Demand3 (momentOf s) history later
+demand-3-of s g = demand-3-from (momentOf s) (moment-good s g)
+
+-- in the fresh store there is no row, and so: a row is there exactly when an accepted call made it and none took it
+none-at-start : (k : ℕ) → List·Memᴰ k (serialsIn (start .store)) → ⊥
+unfolding untaken
+none-at-start k i = List·Memᴰ·not-nil (subst (λ (ls : List Line). List·Memᴰ k (map serialOf ls)) (start-good .rows) i)
+
+pub there-from-fresh : (history : List Asked) (k : ℕ) → List·Memᴰ k (serialsIn (run history start .store)) ↔ (SomeCall (MadeBy k) history start × (SomeCall (TakenBy k) history start → ⊥))
+there-from-fresh history k =
+    let there = demand-3 history [] .there k in
+    (λ i. let (x, f) = there .0 i in (⊎-elim (λ j. absurd (none-at-start k j)) (λ z. z) x, f), λ (z, f). there .1 (inr z, f))

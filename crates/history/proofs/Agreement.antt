@@ -14,14 +14,14 @@ use Rattle.rules.specs.Lines.{Line, lines, ground}
 use Rattle.rules.specs.Change.{Call, formAfter, Plan, plan, prune, revalue, eachRow, changed, newRows, number, after}
 use Rattle.rules.specs.Book.{Entry, stands, taken, Book, freshBook, untaken, mark, revalueEntry, expand, spotCount, marks, note}
 use Rattle.rules.specs.Run.{emptyStore}
-use Rattle.history.specs.History.{everMade}
+use Rattle.history.specs.History.{entrySerials, everMade, bookOf}
 use Rattle.history.proofs.NumberTests.{ones, ones-most, times}
 use Rattle.history.proofs.Taking
 use Rattle.history.proofs.Taking.{occurs, occurs-serials, count, Apart}
 use Rattle.history.proofs.Making
-use Rattle.history.proofs.Making.{standing, untaken-standing}
+use Rattle.history.proofs.Making.{untaken-standing}
 use Rattle.history.proofs.Numbering.{lines-serials, Spent, spent, spent-distinct, spent-below, spent-part}
-use Rattle.history.proofs.Stable.{entrySerials, lineSerials, standing-serials, Once, once-spent, spent-once, once-note}
+use Rattle.history.proofs.Stable.{lineSerials, standing-serials, Once, once-spent, spent-once, once-note}
 
 -- ---- values set
 abbrev pub onLine : (Row → Row) → Line → Line
@@ -117,17 +117,14 @@ good-apart s g k = by (eqb k 0) refl
         omega (arith, ones-most (eqb k 0), occurs-serials k (s .docs))
     by false q = omega (arith, ap ones q, occurs-serials k (s .docs), S .once k)
 
--- the book with the store's rows and no taken line
-abbrev bookOf : Store → Book
-bookOf s = record { version = s .version; next = s .next; form = s .form; entries = standing (lines 0 (s .docs)) }
-
-bookOf-agree : (s : Store) → Agree s (bookOf s)
+-- ---- the book of a store
+pub bookOf-agree : (s : Store) → Agree s (bookOf s)
 bookOf-agree s = record { version = refl; next = refl; form = refl; rows = untaken-standing (lines 0 (s .docs)) }
 
 bookOf-made : (s : Store) → everMade (bookOf s) ≡ serials (s .docs)
 bookOf-made s = standing-serials (lines 0 (s .docs)) ∙ lines-serials 0 (s .docs)
 
-bookOf-once : (s : Store) → GoodSerials (s .next) (s .docs) → Once (bookOf s)
+pub bookOf-once : (s : Store) → GoodSerials (s .next) (s .docs) → Once (bookOf s)
 bookOf-once s g = spent-once (bookOf s) (rw (bookOf-made s) (good-spent (s .next) (s .docs) g))
 
 untaken-times : (k : ℕ) (es : List Entry) → times k (lineSerials (untaken es)) ≤ times k (entrySerials es)

@@ -1,11 +1,11 @@
 -- AN ACCEPTED CALL CHANGES THE BOOK BY THE RULES: what it takes, gives and makes.
-use Prim.Native.Nat.{ℕ, zero, suc, _+_, _*_, _≤_, _<_}
+use Prim.Native.Nat.{ℕ, _+_, _*_, _≤_, _<_}
 use native.Mathlib.Nat.{le-refl}
 use mathlib.Core.Path.{_≡_, refl, sym, ap, _∙_, subst}
 use mathlib.Core.Logic.{_⊎_, inl, inr, ⊎-elim, _↔_}
-use mathlib.Core.Bool.{Bool, true, false, _||_, false≢true}
+use mathlib.Core.Bool.{Bool, true, false, false≢true}
 use mathlib.Core.Option.{Option, none, some}
-use mathlib.Core.List.{List, [], _∷_, map, List·Memᴰ, List·Memᴰ·head, List·Memᴰ·tail, Memᴰ·map}
+use mathlib.Core.List.{List, [], _∷_, List·Memᴰ, List·Memᴰ·head, List·Memᴰ·tail, Memᴰ·map}
 use lib.Dec.{eqb}
 use lib.ListN.{length}
 use Rattle.rules.specs.declared.Quantifier.{Quantifier}
@@ -13,39 +13,40 @@ use Rattle.rules.specs.Bytes.{Bytes, any, eqb-eq}
 use Rattle.rules.specs.Model.{Distinct, Members, done, el, group}
 use Rattle.rules.specs.Place.{Context, Found}
 use Rattle.rules.specs.Edit.{insert, remove, quantify}
-use Rattle.rules.specs.Store.{Form, Row, Forest, Store}
+use Rattle.rules.specs.Store.{Form, Row, Store}
 use Rattle.rules.specs.Layout.{valueWidth}
 use Rattle.rules.specs.Decode.{quantifierOf}
 use Rattle.rules.specs.Conforming.{isElement}
 use Rattle.rules.specs.Passing.{good, Good}
-use Rattle.rules.specs.Lines.{Line, lines, ground, isTextRow, elementNamed, attributeNamed, elementWith, childrenOf}
-use Rattle.rules.specs.Change.{Call, createDefinition, destroyDefinition, insertElement, removeElement, changeQuantifier, convertToGroup, flattenGroup, changeGroupQuantifier, addAttribute, destroyAttribute, addDocument, addElement, destroyElement, setAttribute, destroyAttributeRow, setText, nameAtIndex, Owned, attributeAt, formAfter, Plan, plan, insertPlan, removePlan, quantifyPlan, pickedPlan, setAt, setPlan, dropPlan, revalue, newRows}
+use Rattle.rules.specs.Lines.{Line, lines, ground, elementNamed, attributeNamed, elementWith, childrenOf}
+use Rattle.rules.specs.Change.{Call, createDefinition, destroyDefinition, insertElement, removeElement, changeQuantifier, convertToGroup, flattenGroup, changeGroupQuantifier, addAttribute, destroyAttribute, addDocument, addElement, destroyElement, setAttribute, destroyAttributeRow, setText, nameAtIndex, Owned, attributeAt, Plan, plan, insertPlan, removePlan, quantifyPlan, pickedPlan, setAt, setPlan, dropPlan, revalue, newRows}
 use Rattle.rules.specs.Refusal.{conditions, refusal, noElement}
-use Rattle.rules.specs.Book.{Entry, stands, Book, untaken, mark, revalueEntry, expand, spotCount, marks, note}
-use Rattle.rules.specs.MadeTakenGiven.{IsThere, foundIn, OfElement, AtElement, IsRemoved, IsCut, NamedBy, Taken, itself, beneath, valueIf, valueAfter, MakesBelow, rowsMade, linesMade}
+use Rattle.rules.specs.Book.{Entry, Book, untaken, expand, spotCount, marks, note}
+use Rattle.rules.specs.MadeTakenGiven.{HasLine, foundIn, OfElement, AtElement, IsCut, NamedBy, IsTaken, itself, beneath, valueIf, valueAfter, MakesBelow, rowsMade, linesMade}
 use Rattle.rules.proofs.Words.{or-cases, and-split}
 use Rattle.rules.proofs.PassingLaws.{good-is}
-use Rattle.rules.proofs.PlanLaws.{Known, Above, named, ruled, setBy, AtMostOne, set-after, Filled, makes, filled, filling-made}
-use Rattle.history.specs.History.{serialOf, everMade, takenSerials, entriesFrom, Makes, ByTheRules}
+use Rattle.rules.proofs.PlanLaws.{Known, named, ruled, setBy, set-after, Filled, makes, filled, filling-made}
+use Rattle.history.specs.History.{serialOf, everMade, takenSerials, entriesFrom, entriesBelow, Makes, ByTheRules, entrySerials}
 use Rattle.history.proofs.Conditions.{not-false, unmet}
 use Rattle.history.proofs.Taking.{Apart}
 use Rattle.history.proofs.Making.{standing}
 use Rattle.history.proofs.Numbering.{blank-plan}
-use Rattle.history.proofs.Stable.{olds, left, olds-marks, entrySerials, lineSerials, marks-serials, untaken-in, Once}
+use Rattle.history.proofs.Stable.{left, olds-marks, lineSerials, marks-serials, untaken-in, Once}
 use Rattle.history.proofs.Agreement.{onLine, untaken-revalue, Agree, good-apart}
 use Rattle.history.proofs.TakenLines.{marked, taken-marked, expand-old, mark-old, valued, revalue-old, line-serial, distinct-untaken, same-serial}
 use Rattle.history.proofs.Pruned.{has-above}
 use Rattle.history.proofs.RowsBelow.{one-of-attribute, one-of-text, instance-spared}
 use Rattle.history.proofs.TakenByRule.{taken-as, taken-then-under, under-then-taken, taken-or-left}
-use Rattle.history.proofs.MadeLines.{spotsIn, spots-length, expand-new, spots-filled, spots-once, made-as, count-as}
+use Rattle.history.proofs.MadeLines.{spotsIn, spots-length, expand-new, expand-others, spots-filled, spots-once, made-as, count-as}
 
 -- ---- what acceptance says
-some-there : (test : Row → Bool) (k : ℕ) → ((r : Row) → test r ≡ true → r .serial ≡ k) → (ls : List Line) → any (λ (l : Line). test (l .row)) ls ≡ true → IsThere test ls k
+some-there : (test : Row → Bool) (k : ℕ) → ((r : Row) → test r ≡ true → r .serial ≡ k) → (ls : List Line) → any (λ (l : Line). test (l .row)) ls ≡ true → HasLine test ls k
 some-there test k f [] e = absurd (false≢true e)
 some-there test k f (l ∷ ls) e =
-    ⊎-elim (λ h. (l, List·Memᴰ·head refl, f (l .row) h, h)) (λ h. let (m, i, q, t) = some-there test k f ls h in (m, List·Memᴰ·tail i, q, t)) (or-cases (test (l .row)) (any (λ (m : Line). test (m .row)) ls) e)
+    ⊎-elim (λ h. (l, List·Memᴰ·head refl, f (l .row) h, h)) (λ h. let (m, i, q, t) = some-there test k f ls h in (m, List·Memᴰ·tail i, q, t))
+    (or-cases (test (l .row)) (any (λ (m : Line). test (m .row)) ls) e)
 
-element-there : (k : ℕ) (s : Store) → noElement k s ≡ false → IsThere (elementWith k) (lines 0 (s .docs)) k
+element-there : (k : ℕ) (s : Store) → noElement k s ≡ false → HasLine (elementWith k) (lines 0 (s .docs)) k
 element-there k s e =
     some-there (elementWith k) k (λ r h. eqb-eq (r .serial) k (and-split (isElement (r .sort)) (eqb (r .serial) k) h .1)) (lines 0 (s .docs))
     (not-false (any (λ (l : Line). elementWith k (l .row)) (lines 0 (s .docs))) e)
@@ -84,7 +85,8 @@ module _ (k : ℕ) (v : Bytes) (r : Row) where
       by (el q x rest) = refl
       by (group q j ms rest) = refl
 
-  quantify-alike : (form : Form) (ls : List Line) (o t : Bytes) (q : Quantifier) (f : Option (Found Bytes)) → pickedPlan (quantifyPlan form ls o t q) f .fills (revalue k v r) ≡ pickedPlan (quantifyPlan form ls o t q) f .fills r
+  quantify-alike : (form : Form) (ls : List Line) (o t : Bytes) (q : Quantifier) (f : Option (Found Bytes))
+      → pickedPlan (quantifyPlan form ls o t q) f .fills (revalue k v r) ≡ pickedPlan (quantifyPlan form ls o t q) f .fills r
   quantify-alike form ls o t q none = refl
   quantify-alike form ls o t q (some f) = by (f .context) (f .picked)
     where
@@ -125,7 +127,7 @@ module _ (k : ℕ) (v : Bytes) (r : Row) where
   fills-alike (setText e t) form ls = refl
 
 -- ---- a row that is filled is not taken
-none-taken : {N : Line → Type 0} {ls : List Line} → ((x : Line) → N x → ⊥) → {l : Line} → Taken N ls l → ⊥
+none-taken : {N : Line → Type 0} {ls : List Line} → ((x : Line) → N x → ⊥) → {l : Line} → IsTaken N ls l → ⊥
 none-taken f (itself l n) = f l n
 none-taken f (beneath u l i e t) = none-taken f t
 
@@ -176,7 +178,7 @@ module _ (room : ℕ) (c : Call) (s : Store) (g : good s ≡ true) (accepted : r
   left-in l i = subst (λ (z : List Line). List·Memᴰ l z) h (mark-old (p .takes) (ground ∷ []) (b .entries) l i)
 
   -- ---- taken
-  taken-named : (l : Line) → List·Memᴰ l ls → List·Memᴰ (serialOf l) (takenSerials (marked p (b .entries))) ↔ Taken (λ x. NamedBy c (s .form) ls x) ls l
+  taken-named : (l : Line) → List·Memᴰ l ls → List·Memᴰ (serialOf l) (takenSerials (marked p (b .entries))) ↔ IsTaken (λ x. NamedBy c (s .form) ls x) ls l
   taken-named l i = (
     λ t. taken-as ls (λ x j r. named ls x c (s .form) said r) i (taken-then-under (p .takes) (s .docs) (b .entries) h apart (once .once) from-one l i t),
     λ u. under-then-taken (p .takes) (s .docs) (b .entries) h apart (once .once) from-one l i (taken-as ls (λ x j n. ruled ls x c (s .form) (has-above ground (s .docs) x j) n) i u),
@@ -204,25 +206,25 @@ module _ (room : ℕ) (c : Call) (s : Store) (g : good s ≡ true) (accepted : r
 
   -- ---- made
   -- an instance that gets a filling is not cut off with a child of an instance
-  cut-spares : (o p′ : _) (q : ℕ) (l : Line) → List·Memᴰ l ls → IsThere (elementNamed (nameAtIndex o (s .form))) ls (serialOf l)
-      → Taken (λ x. AtElement (IsCut (nameAtIndex o (s .form)) (quantifierOf q) ls x) (foundIn (quantify (quantifierOf q)) o p′ (s .form))) ls l → ⊥
+  cut-spares : (o p′ : _) (q : ℕ) (l : Line) → List·Memᴰ l ls → HasLine (elementNamed (nameAtIndex o (s .form))) ls (serialOf l)
+      → IsTaken (λ x. AtElement (IsCut (nameAtIndex o (s .form)) (quantifierOf q) ls x) (foundIn (quantify (quantifierOf q)) o p′ (s .form))) ls l → ⊥
   cut-spares o p′ q l i (m, j, e, t) = by (foundIn (quantify (quantifierOf q)) o p′ (s .form))
     where
       owned : elementNamed (nameAtIndex o (s .form)) (l .row) ≡ true
       owned = ap (λ (z : Line). elementNamed (nameAtIndex o (s .form)) (z .row)) (one-line l m i j (sym e)) ∙ t
 
-      at : (d : Context Bytes) (x : Members Bytes) → Taken (λ y. OfElement (IsCut (nameAtIndex o (s .form)) (quantifierOf q) ls y d) x) ls l → ⊥
+      at : (d : Context Bytes) (x : Members Bytes) → IsTaken (λ y. OfElement (IsCut (nameAtIndex o (s .form)) (quantifierOf q) ls y d) x) ls l → ⊥
       at d done n = none-taken (λ y z. z) n
       at d (el old x rest) n =
           instance-spared (valueWidth (s .version)) (s .form) (whole .form) (s .next) (s .docs) (whole .serials) (whole .docs) (nameAtIndex o (s .form)) x
           (λ y. IsCut (nameAtIndex o (s .form)) (quantifierOf q) ls y d old x) (λ y z. z .2) l i owned n
       at d (group r j ms rest) n = none-taken (λ y z. z) n
 
-      by : (f : Option (Found Bytes)) → Taken (λ x. AtElement (IsCut (nameAtIndex o (s .form)) (quantifierOf q) ls x) f) ls l → ⊥
+      by : (f : Option (Found Bytes)) → IsTaken (λ x. AtElement (IsCut (nameAtIndex o (s .form)) (quantifierOf q) ls x) f) ls l → ⊥
       by none n = none-taken (λ y z. z) n
       by (some f) n = at (f .context) (f .picked) n
 
-  filled-stays : (d : Call) (l : Line) → List·Memᴰ l ls → MakesBelow d (s .form) ls (serialOf l) → Taken (λ x. NamedBy d (s .form) ls x) ls l → ⊥
+  filled-stays : (d : Call) (l : Line) → List·Memᴰ l ls → MakesBelow d (s .form) ls (serialOf l) → IsTaken (λ x. NamedBy d (s .form) ls x) ls l → ⊥
   unfolding NamedBy MakesBelow
   filled-stays (createDefinition n e) l i m t = m
   filled-stays (destroyDefinition e) l i m t = m
@@ -246,7 +248,12 @@ module _ (room : ℕ) (c : Call) (s : Store) (g : good s ≡ true) (accepted : r
   filled-before u (inl z) = inl z
   filled-before u (inr (m, i, e, t)) =
       let was = revalue-old (p .set) (p .value) (marked p (b .entries)) m i in
-      inr (was .0, left-in (was .0) (was .1), ap (λ (z : Line). serialOf z) (sym (was .2)) ∙ e, sym (fills-alike (p .set) (p .value) (was .0 .row) c (s .form) ls) ∙ ap (λ (z : Line). p .fills (z .row)) (sym (was .2)) ∙ t)
+      inr (
+        was .0,
+        left-in (was .0) (was .1),
+        ap (λ (z : Line). serialOf z) (sym (was .2)) ∙ e,
+        sym (fills-alike (p .set) (p .value) (was .0 .row) c (s .form) ls) ∙ ap (λ (z : Line). p .fills (z .row)) (sym (was .2)) ∙ t,
+      )
 
   still : (l : Line) → List·Memᴰ l ls → p .fills (l .row) ≡ true → List·Memᴰ l (untaken (marked p (b .entries)))
   still l i t =
@@ -258,7 +265,8 @@ module _ (room : ℕ) (c : Call) (s : Store) (g : good s ≡ true) (accepted : r
   filled-after u (inr (l, i, e, t)) =
       inr (
         valued (p .set) (p .value) l,
-        subst (λ (z : List Line). List·Memᴰ (valued (p .set) (p .value) l) z) (sym (untaken-revalue (p .set) (p .value) (marked p (b .entries)))) (Memᴰ·map (onLine (revalue (p .set) (p .value))) (still l i t)),
+        subst (λ (z : List Line). List·Memᴰ (valued (p .set) (p .value) l) z) (sym (untaken-revalue (p .set) (p .value) (marked p (b .entries))))
+            (Memᴰ·map (onLine (revalue (p .set) (p .value))) (still l i t)),
         e,
         fills-alike (p .set) (p .value) (l .row) c (s .form) ls ∙ t,
       )
@@ -294,8 +302,15 @@ module _ (room : ℕ) (c : Call) (s : Store) (g : good s ≡ true) (accepted : r
       ap (λ (n : ℕ). b .next + n)
       (ap (λ (n : ℕ). newRows (p .filling) * n) (spots-length (marks p (b .entries))) ∙ count-as (p .filling) (rowsMade c (s .form)) (spotsIn (marks p (b .entries))) made-rows)
 
-  taken-after : (l : Line) → List·Memᴰ l ls → List·Memᴰ (serialOf l) (takenSerials (expand (p .filling) (b .next) (marks p (b .entries)))) ↔ Taken (λ x. NamedBy c (s .form) ls x) ls l
-  taken-after l i = subst (λ (z : List ℕ). List·Memᴰ (serialOf l) z ↔ Taken (λ x. NamedBy c (s .form) ls x) ls l) (sym (taken-marked p (b .next) (b .entries))) (taken-named l i)
+  other-lines : entrySerials (entriesBelow (b .next) (expand (p .filling) (b .next) (marks p (b .entries)))) ≡ everMade b
+  other-lines =
+      ap entrySerials
+      (expand-others (b .next) (p .filling) (blank-plan c (s .form) ls) (b .next) (le-refl (b .next)) (marks p (b .entries))
+      (λ n i. once .below n (subst (λ (z : List ℕ). List·Memᴰ n z) (marks-serials p (b .entries)) i) .1))
+      ∙ marks-serials p (b .entries)
+
+  taken-after : (l : Line) → List·Memᴰ l ls → List·Memᴰ (serialOf l) (takenSerials (expand (p .filling) (b .next) (marks p (b .entries)))) ↔ IsTaken (λ x. NamedBy c (s .form) ls x) ls l
+  taken-after l i = subst (λ (z : List ℕ). List·Memᴰ (serialOf l) z ↔ IsTaken (λ x. NamedBy c (s .form) ls x) ls l) (sym (taken-marked p (b .next) (b .entries))) (taken-named l i)
 
   -- BY THE RULES
   made-by-rules : Makes c b (note c b)
@@ -307,6 +322,7 @@ module _ (room : ℕ) (c : Call) (s : Store) (g : good s ≡ true) (accepted : r
         one = one-parent;
         lines = rw (agree .form, h) made-lines;
         next = rw (agree .form, h) made-next;
+        others = rw (agree .form, h) other-lines;
       }
 
   pub by-the-rules : ByTheRules c b (note c b)

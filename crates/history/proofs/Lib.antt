@@ -29,6 +29,8 @@ pub mod ConformingSimple
 pub mod Agreement
 pub mod Together
 pub mod ByRules
+pub mod Moments
+pub mod OverHistory
 pub mod Theorem
 pub mod InstanceRows
 pub mod InstanceEdits

@@ -1,29 +1,29 @@
--- The lines that a plan makes in the book: below each row that it fills, once, the rows of its filling with the next serials.
-use Prim.Native.Nat.{ℕ, zero, suc, _+_, _*_, _≤_, _<_}
+-- The lines that a plan makes in the book: below each row that it fills, once, the rows of its filling with the next
+-- serials.
+use Prim.Native.Nat.{ℕ, suc, _+_, _*_, _≤_, _<_}
 use native.Mathlib.Omega.{arith}
 use native.Mathlib.Decide.{decLe}
 use native.Mathlib.Nat.{mul-zero}
-use mathlib.Core.Path.{_≡_, refl, sym, ap, ap₂, _∙_, subst}
+use mathlib.Core.Path.{_≡_, refl, sym, ap, _∙_, subst}
 use mathlib.Core.Logic.{_⊎_, inl, inr, ⊎-elim, _↔_}
-use mathlib.Core.Bool.{Bool, true, false, _&&_, not, false≢true}
+use mathlib.Core.Bool.{Bool, true, false, _&&_, not}
 use mathlib.Core.List.{List, [], _∷_, _++_, map, map-append, List·Memᴰ, List·Memᴰ·head, List·Memᴰ·tail, List·Memᴰ·not-nil, List·Memᴰ·cases-cons}
 use lib.Dec.{eqb, leb}
 use lib.ListN.{length}
 use borrow.Author.Tests.{le-leb, leb-true}
-use Rattle.rules.specs.Bytes.{Bytes, any, eqb-eq, eqb-of}
+use Rattle.rules.specs.Bytes.{any, eqb-eq}
 use Rattle.rules.specs.Model.{Distinct}
 use Rattle.rules.specs.Store.{Row, Forest}
-use Rattle.rules.specs.Passing.{serials}
 use Rattle.rules.specs.Lines.{Line, lines, ground}
 use Rattle.rules.specs.Change.{Plan, newRows, number}
 use Rattle.rules.specs.Book.{Entry, stands, taken, untaken, Mark, old, spot, place, placed, spots, expand, spotCount, marks}
-use Rattle.rules.specs.MadeTakenGiven.{IsThere, linesMade}
+use Rattle.rules.specs.MadeTakenGiven.{linesMade}
 use Rattle.rules.proofs.PlanLaws.{Filled}
-use Rattle.history.specs.History.{serialOf, lineOf, entriesFrom}
-use Rattle.history.proofs.NumberTests.{ones, ones-most, ones-own, times, times-in, times-out, distinct-times, range, range-below}
+use Rattle.history.specs.History.{serialOf, lineOf, entrySerials, entriesFrom, entriesBelow}
+use Rattle.history.proofs.NumberTests.{ones, times, times-in, distinct-times, range, range-below}
 use Rattle.history.proofs.Making.{standing}
 use Rattle.history.proofs.Numbering.{Blank, number-serials, lines-serials}
-use Rattle.history.proofs.Stable.{olds, left, entrySerials, lineSerials}
+use Rattle.history.proofs.Stable.{olds, left, lineSerials}
 use Rattle.history.proofs.TakenLines.{line-serial}
 
 -- ---- the rows below which rows come
@@ -77,6 +77,31 @@ expand-new least w blank n h (spot u ∷ ms) f =
     ∙ ap (λ (z : List Entry). standing (lines u (number n w)) ++ z) (expand-new least w blank (n + newRows w) (omega arith) ms f)
     ∙ sym (map-append (λ (l : Line). stands l) (lines u (number n w)) (linesMade w (n + newRows w) (spotsIn ms)))
 
+-- ---- the other lines
+module _ (least : ℕ) where
+  below-new : (ls : List Line) (es : List Entry) → ((l : Line) → List·Memᴰ l ls → least ≤ serialOf l) → entriesBelow least (standing ls ++ es) ≡ entriesBelow least es
+  unfolding entriesBelow
+  below-new [] es f = refl
+  below-new (l ∷ ls) es f = rw (le-leb least (serialOf l) (f l (List·Memᴰ·head refl)), entriesBelow) (below-new ls es (λ m i. f m (List·Memᴰ·tail i)))
+
+  below-old : (e : Entry) (es : List Entry) → serialOf (lineOf e) < least → entriesBelow least (e ∷ es) ≡ e ∷ entriesBelow least es
+  unfolding entriesBelow
+  below-old e es h = by (leb least (serialOf (lineOf e))) refl
+    where
+      by : (c : Bool) → leb least (serialOf (lineOf e)) ≡ c → entriesBelow least (e ∷ es) ≡ e ∷ entriesBelow least es
+      by true q = absurd (omega (arith, h, leb-true least (serialOf (lineOf e)) q))
+      by false q = rw (q, entriesBelow)
+
+pub expand-others : (least : ℕ) (w : Forest Row) → Blank w → (n : ℕ) → least ≤ n → (ms : List Mark) → ((k : ℕ) → List·Memᴰ k (entrySerials (olds ms)) → k < least)
+    → entriesBelow least (expand w n ms) ≡ olds ms
+unfolding olds expand entriesBelow
+expand-others least w blank n h [] f = refl
+expand-others least w blank n h (old e ∷ ms) f =
+    below-old least e (expand w n ms) (f (serialOf (lineOf e)) (List·Memᴰ·head refl)) ∙ ap (λ (z : List Entry). e ∷ z) (expand-others least w blank n h ms (λ k i. f k (List·Memᴰ·tail i)))
+expand-others least w blank n h (spot u ∷ ms) f =
+    below-new least (lines u (number n w)) (expand w (n + newRows w) ms) (λ l i. let z : n ≤ serialOf l = new-least w blank n u l i in omega arith)
+    ∙ expand-others least w blank (n + newRows w) (omega arith) ms f
+
 -- ---- each row that is filled, once
 unfoldable filledIn : (Row → Bool) → List Row → List ℕ
 filledIn fills [] = []
@@ -100,12 +125,13 @@ module _ (k : ℕ) where
       by false q x = rw (q, place)
 
   -- a row, and the rows after it
-  placed-times : (p : Plan) (r : Row) (rs : List Row) (ms : List Mark) → times k (spotsIn ms) ≡ times k (filledIn (p .fills) rs) → times k (spotsIn (placed p r ms)) ≡ times k (filledIn (p .fills) (r ∷ rs))
+  placed-times : (p : Plan) (r : Row) (rs : List Row) (ms : List Mark) → times k (spotsIn ms) ≡ times k (filledIn (p .fills) rs)
+      → times k (spotsIn (placed p r ms)) ≡ times k (filledIn (p .fills) (r ∷ rs))
   unfolding filledIn times
   placed-times p r rs ms x = by (p .fills r) refl
     where
       by : (c : Bool) → p .fills r ≡ c → times k (spotsIn (placed p r ms)) ≡ times k (filledIn (p .fills) (r ∷ rs))
-      by true q = rw (q, placed) (rw (q, filledIn) (let z : times k (spotsIn (place (p .later r) (r .serial) (r .serial ∷ []) ms)) ≡ ones (eqb k (r .serial)) + times k (spotsIn ms) = place-times (p .later r) (r .serial) (r .serial ∷ []) ms in omega arith))
+      by true q = rw (q, placed) (rw (q, filledIn) (omega (arith, x, place-times (p .later r) (r .serial) (r .serial ∷ []) ms)))
       by false q = rw (q, placed) (rw (q, filledIn) x)
 
   spots-times : (p : Plan) (es : List Entry) → times k (spotsIn (spots p es)) ≡ times k (filledIn (p .fills) (rowsOf (untaken es)))
@@ -122,7 +148,8 @@ module _ (k : ℕ) where
   filled-most fills [] = omega arith
   filled-most fills (r ∷ rs) = by (fills r) refl (filled-most fills rs)
     where
-      by : (c : Bool) → fills r ≡ c → times k (filledIn fills rs) ≤ times k (map (λ (r : Row). r .serial) rs) → times k (filledIn fills (r ∷ rs)) ≤ ones (eqb k (r .serial)) + times k (map (λ (r : Row). r .serial) rs)
+      by : (c : Bool) → fills r ≡ c → times k (filledIn fills rs) ≤ times k (map (λ (r : Row). r .serial) rs)
+          → times k (filledIn fills (r ∷ rs)) ≤ ones (eqb k (r .serial)) + times k (map (λ (r : Row). r .serial) rs)
       by true q x = rw (q, filledIn) (omega arith)
       by false q x = rw (q, filledIn) (omega arith)
 
@@ -174,7 +201,8 @@ row-serials (l ∷ ls) = ap (λ (z : List ℕ). serialOf l ∷ z) (row-serials l
 -- WHERE: rows come below the rows that are filled
 pub spots-filled : (p : Plan) (es : List Entry) (u : ℕ) → List·Memᴰ u (spotsIn (marks p es)) ↔ Filled (p .fills) (untaken (left p es)) u
 spots-filled p es u = (
-  λ i. there (filled-row u (p .fills) (ground ∷ rowsOf ls) (times-member u (filledIn (p .fills) (ground ∷ rowsOf ls)) (subst (λ (n : ℕ). 1 ≤ n) (marks-times u p es) (times-in u (spotsIn (marks p es)) i)))),
+  λ i. there
+      (filled-row u (p .fills) (ground ∷ rowsOf ls) (times-member u (filledIn (p .fills) (ground ∷ rowsOf ls)) (subst (λ (n : ℕ). 1 ≤ n) (marks-times u p es) (times-in u (spotsIn (marks p es)) i)))),
   λ f. times-member u (spotsIn (marks p es)) (subst (λ (n : ℕ). 1 ≤ n) (sym (marks-times u p es)) (times-in u (filledIn (p .fills) (ground ∷ rowsOf ls)) (back f))),
 )
   where
@@ -191,16 +219,18 @@ spots-filled p es u = (
     back (inr (l, i, e, h)) = row-filled u (p .fills) (ground ∷ rowsOf ls) (l .row) (List·Memᴰ·tail (line-row ls l i)) e h
 
 -- ONCE: below each at most once
-pub spots-once : (p : Plan) (es : List Entry) → Distinct (lineSerials (untaken (left p es))) → ((k : ℕ) → List·Memᴰ k (lineSerials (untaken (left p es))) → 1 ≤ k) → Distinct (spotsIn (marks p es))
+pub spots-once : (p : Plan) (es : List Entry) → Distinct (lineSerials (untaken (left p es)))
+    → ((k : ℕ) → List·Memᴰ k (lineSerials (untaken (left p es))) → 1 ≤ k) → Distinct (spotsIn (marks p es))
 spots-once p es d big = distinct-times (spotsIn (marks p es)) .1 once
   where
     all-once : Distinct (map (λ (r : Row). r .serial) (ground ∷ rowsOf (untaken (left p es))))
-    all-once =
-        subst (λ (z : List ℕ). Distinct (0 ∷ z)) (sym (row-serials (untaken (left p es))))
-        (λ i. let z : 1 ≤ 0 = big 0 i in omega (arith, z), d)
+    all-once = subst (λ (z : List ℕ). Distinct (0 ∷ z)) (sym (row-serials (untaken (left p es)))) (λ i. let z : 1 ≤ 0 = big 0 i in omega (arith, z), d)
+
+    most : (k : ℕ) → times k (map (λ (r : Row). r .serial) (ground ∷ rowsOf (untaken (left p es)))) ≤ 1
+    most k = distinct-times (map (λ (r : Row). r .serial) (ground ∷ rowsOf (untaken (left p es)))) .0 all-once k
 
     once : (k : ℕ) → times k (spotsIn (marks p es)) ≤ 1
-    once k = omega (arith, marks-times k p es, filled-most k (p .fills) (ground ∷ rowsOf (untaken (left p es))), distinct-times (map (λ (r : Row). r .serial) (ground ∷ rowsOf (untaken (left p es)))) .0 all-once k)
+    once k = omega (arith, marks-times k p es, filled-most k (p .fills) (ground ∷ rowsOf (untaken (left p es))), most k)
 
 -- the same rows, where any are made
 pub made-as : (w v : Forest Row) (us : List ℕ) → ((u : ℕ) → List·Memᴰ u us → w ≡ v) → (n : ℕ) → linesMade w n us ≡ linesMade v n us

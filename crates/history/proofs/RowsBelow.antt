@@ -1,21 +1,20 @@
--- Documents that conform: right below a row stands at most one row of an attribute and at most one text; an element's name is a member
--- of its parent's definition, and so no instance of a definition stands anywhere below another.
-use Prim.Native.Nat.{ℕ, _≤_, _<_}
-use native.Mathlib.Omega.{arith}
+-- Documents that conform: right below a row stands at most one row of an attribute and at most one text; an element's
+-- name is a member of its parent's definition, and so no instance of a definition stands anywhere below another.
+use Prim.Native.Nat.{ℕ}
 use mathlib.Core.Path.{_≡_, refl, sym, ap, _∙_, subst}
 use mathlib.Core.Logic.{_⊎_, inl, inr, ⊎-elim}
-use mathlib.Core.Bool.{Bool, true, false, _&&_, false≢true}
-use mathlib.Core.Option.{Option, none, some}
-use mathlib.Core.List.{List, [], _∷_, _++_, map, List·Memᴰ, List·Memᴰ·head, List·Memᴰ·tail, List·Memᴰ·not-nil, List·Memᴰ·cases-cons, List·Memᴰ·append-cases, Memᴰ·append-right, Memᴰ·map}
+use mathlib.Core.Bool.{Bool, true, false≢true}
+use mathlib.Core.Option.{Option, some}
+use mathlib.Core.List.{List, [], _∷_, map, List·Memᴰ, List·Memᴰ·head, List·Memᴰ·tail, List·Memᴰ·not-nil, List·Memᴰ·cases-cons, List·Memᴰ·append-cases, Memᴰ·map}
 use Rattle.rules.specs.declared.GroupKind.the-variants.{Sequence}
 use Rattle.rules.specs.Bytes.{Bytes, same, same-eq}
 use Rattle.rules.specs.Model.{Distinct, names}
-use Rattle.rules.specs.Store.{Content, empty, pcdata, complex, Attribute, Definition, Form, RowSort, element, attribute, text, Row, Forest, bare, tree, heads, modelOf, members}
-use Rattle.rules.specs.WellFormed.{attributeName, lookup, namesIn, membersOf, Reaches, directly, through, WellFormed}
-use Rattle.rules.specs.Conforming.{nameOf, isElement, isAttribute, isText, Sorted, InOrder, ContentRows, ElementRows, RowConforms, Conforming}
-use Rattle.rules.specs.Passing.{serials, GoodSerials}
+use Rattle.rules.specs.Store.{Content, empty, pcdata, complex, Definition, Form, RowSort, element, attribute, text, Row, Forest, bare, tree, heads, modelOf, members}
+use Rattle.rules.specs.WellFormed.{attributeName, lookup, namesIn, membersOf, Reaches, directly, WellFormed}
+use Rattle.rules.specs.Conforming.{nameOf, isElement, isAttribute, isText, InOrder, ContentRows, ElementRows, RowConforms, Conforming}
+use Rattle.rules.specs.Passing.{GoodSerials}
 use Rattle.rules.specs.Lines.{Line, lines, isTextRow, elementNamed, attributeNamed}
-use Rattle.rules.specs.MadeTakenGiven.{IsThere, IsRemoved, Taken, itself, beneath}
+use Rattle.rules.specs.MadeTakenGiven.{IsRemoved, IsTaken, itself, beneath}
 use Rattle.rules.proofs.Words.{and-split}
 use Rattle.rules.proofs.Letters.{letters}
 use Rattle.rules.proofs.Height.{lookup-member, reaches-then}
@@ -76,7 +75,8 @@ module _ (d : Definition) (rows : List Row) (e : ElementRows d rows) where
   -- what follows the attributes: no attribute; texts only one; elements with names of the model
   not-attribute : (k : Content) (back : List Row) → ContentRows k back → (r : Row) → List·Memᴰ r back → r .sort ≡ attribute → ⊥
   not-attribute empty back c r i s = List·Memᴰ·not-nil (subst (λ (z : List Row). List·Memᴰ r z) c i)
-  not-attribute pcdata back (x, q, t) r i s = ⊎-elim (λ h. false≢true (ap isAttribute (sym t ∙ ap (λ (z : Row). z .sort) (sym h) ∙ s))) (λ j. List·Memᴰ·not-nil j) (List·Memᴰ·cases-cons (subst (λ (z : List Row). List·Memᴰ r z) q i))
+  not-attribute pcdata back (x, q, t) r i s =
+      ⊎-elim (λ h. false≢true (ap isAttribute (sym t ∙ ap (λ (z : Row). z .sort) (sym h) ∙ s))) (λ j. List·Memᴰ·not-nil j) (List·Memᴰ·cases-cons (subst (λ (z : List Row). List·Memᴰ r z) q i))
   not-attribute (complex ms) back (c, w) r i s = false≢true (ap isAttribute (sym (c r i) ∙ s))
 
   one-text : (k : Content) (back : List Row) → ContentRows k back → (r s : Row) → List·Memᴰ r back → List·Memᴰ s back → r .sort ≡ text → r ≡ s
@@ -166,7 +166,8 @@ module _ (w : ℕ) (form : Form) (well : WellFormed w form) (next : ℕ) (docs :
       (λ d m rows e r s i j a b.
       let x = and-split (isAttribute (r .sort)) (same n (r .name)) a in
       let y = and-split (isAttribute (s .sort)) (same n (s .name)) b in
-      one-attribute d rows e (well .definitions d m .attributeNames) r s i j (attribute-is (r .sort) (x .0)) (attribute-is (s .sort) (y .0)) (sym (same-eq n (r .name) (x .1)) ∙ same-eq n (s .name) (y .1)))
+      one-attribute d rows e (well .definitions d m .attributeNames) r s i j (attribute-is (r .sort) (x .0)) (attribute-is (s .sort) (y .0))
+      (sym (same-eq n (r .name) (x .1)) ∙ same-eq n (s .name) (y .1)))
 
   -- 'PCDATA has exactly one text row'
   pub one-of-text : AtMostOne isTextRow (lines 0 docs)
@@ -177,17 +178,20 @@ module _ (w : ℕ) (form : Form) (well : WellFormed w form) (next : ℕ) (docs :
       → (u .row .sort ≡ element) × List·Memᴰ (l .row .name) (membersOf (u .row .name) form)
   member-below u l i j e s = by (line-parent 0 docs l j) (line-stands 0 docs u i)
     where
-      by : ((0 ≡ l .parent) × List·Memᴰ (l .row) (heads docs)) ⊎ HasParent docs l → (c : Forest Row) × Standing docs (u .row) c → (u .row .sort ≡ element) × List·Memᴰ (l .row .name) (membersOf (u .row .name) form)
+      by : ((0 ≡ l .parent) × List·Memᴰ (l .row) (heads docs)) ⊎ HasParent docs l → (c : Forest Row) × Standing docs (u .row) c
+          → (u .row .sort ≡ element) × List·Memᴰ (l .row .name) (membersOf (u .row .name) form)
       by (inl (z, x)) (c, k) = absurd (let o : u .row .serial ≡ 0 = e ∙ sym z in no-zero next docs good (u .row) c k o)
       by (inr (v, b, s′, z, x)) (c, k) =
           let same : (v ≡ u .row) × (b ≡ c) = one-row next docs good v (u .row) b c s′ k (z ∙ sym e) in
           let (d, f, rows, q) = defined v b s′ (l .row) x in (
             ap (λ (r : Row). r .sort) (sym (same .0)) ∙ q,
-            subst (λ (r : Row). List·Memᴰ (l .row .name) (membersOf (r .name) form)) (same .0) (subst (λ (o : Option Definition). List·Memᴰ (l .row .name) (namesIn o)) (sym f) (member-named d (heads b) rows (l .row) x s)),
+            subst (λ (r : Row). List·Memᴰ (l .row .name) (membersOf (r .name) form)) (same .0)
+                (subst (λ (o : Option Definition). List·Memᴰ (l .row .name) (namesIn o)) (sym f) (member-named d (heads b) rows (l .row) x s)),
           )
 
   -- all elements that are taken with a child of an instance are reached from its definition
-  reached : (owner x : Bytes) (N : Line → Type 0) → ((l : Line) → N l → IsRemoved owner x (lines 0 docs) l) → {l : Line} → List·Memᴰ l (lines 0 docs) → Taken N (lines 0 docs) l → l .row .sort ≡ element → Reaches form owner (l .row .name)
+  reached : (owner x : Bytes) (N : Line → Type 0) → ((l : Line) → N l → IsRemoved owner x (lines 0 docs) l) → {l : Line} → List·Memᴰ l (lines 0 docs) → IsTaken N (lines 0 docs) l
+      → l .row .sort ≡ element → Reaches form owner (l .row .name)
   reached owner x N f i (itself l n) s =
       let (a, (u, j, e, h)) = f l n in
       let (t, m) = member-below u l j i e s in
@@ -197,7 +201,8 @@ module _ (w : ℕ) (form : Form) (well : WellFormed w form) (next : ℕ) (docs :
       reaches-then form (reached owner x N f j n t) (directly m)
 
   -- an instance is not taken with a child of an instance
-  pub instance-spared : (owner x : Bytes) (N : Line → Type 0) → ((l : Line) → N l → IsRemoved owner x (lines 0 docs) l) → (l : Line) → List·Memᴰ l (lines 0 docs) → elementNamed owner (l .row) ≡ true → Taken N (lines 0 docs) l → ⊥
+  pub instance-spared : (owner x : Bytes) (N : Line → Type 0) → ((l : Line) → N l → IsRemoved owner x (lines 0 docs) l) → (l : Line) → List·Memᴰ l (lines 0 docs)
+      → elementNamed owner (l .row) ≡ true → IsTaken N (lines 0 docs) l → ⊥
   instance-spared owner x N f l i h n =
       let (a, b) = and-split (isElement (l .row .sort)) (same owner (l .row .name)) h in
       let name : owner ≡ l .row .name = same-eq owner (l .row .name) b in

@@ -16,7 +16,7 @@ use Rattle.rules.specs.Lines.{Line, lines, ground}
 use Rattle.rules.specs.Change.{Call, Plan, plan, revalue, newRows, number}
 use Rattle.rules.specs.Book.{Entry, stands, taken, Book, freshBook, untaken, falls, mark, revalueEntry, Mark, old, spot, putSpot as place, placed, spots, expand, spotCount, marks, note}
 use Rattle.rules.proofs.Letters.{member-in, member-out}
-use Rattle.history.specs.History.{serialOf, lineOf, everMade, SameLine, Keeps, none-left, made, kept, took, gone}
+use Rattle.history.specs.History.{serialOf, lineOf, entrySerials, everMade, SameLine, Keeps, none-left, made, kept, took, gone}
 use Rattle.history.proofs.NumberTests.{eqb-other, times, times-append, range, range-append}
 use Rattle.history.proofs.Making.{standing}
 use Rattle.history.proofs.Numbering.{Blank, blank-plan, number-serials, lines-serials, Spent, spent, spent-distinct, spent-below, spent-more}
@@ -121,9 +121,6 @@ keeps-note c b =
     p = plan c (b .form) (untaken (b .entries))
 
 -- ---- no serial twice, taken lines counted
-abbrev pub entrySerials : List Entry → List ℕ
-entrySerials es = map (λ (e : Entry). serialOf (lineOf e)) es
-
 abbrev pub lineSerials : List Line → List ℕ
 lineSerials ls = map (λ (l : Line). serialOf l) ls
 
@@ -234,7 +231,7 @@ module _ (n : ℕ) where
   shared-both ks ls f = shared-take (n ∷ ks) ls (List·Memᴰ·head refl) ∙ ap (λ (z : List ℕ). n ∷ z) (shared-less ks ls f)
 
 -- a line of the earlier book is in the later one
-keeps-in : {es fs : List Entry} (k : ℕ) → Keeps es fs → List·Memᴰ k (entrySerials es) → List·Memᴰ k (entrySerials fs)
+pub keeps-in : {es fs : List Entry} (k : ℕ) → Keeps es fs → List·Memᴰ k (entrySerials es) → List·Memᴰ k (entrySerials fs)
 keeps-in k none-left m = m
 keeps-in k (made e x) m = List·Memᴰ·tail (keeps-in k x m)
 keeps-in k (kept a b q x) m = ⊎-elim (λ e. List·Memᴰ·head (e ∙ q .serial)) (λ i. List·Memᴰ·tail (keeps-in k x i)) (List·Memᴰ·cases-cons m)

@@ -1,23 +1,21 @@
 -- What an accepted call does to the lines: which of them stood before it, and which it takes.
-use Prim.Native.Nat.{ℕ, suc, _+_, _≤_, _<_}
+use Prim.Native.Nat.{ℕ, _+_, _<_}
 use native.Mathlib.Omega.{arith}
 use mathlib.Core.Path.{_≡_, refl, sym, ap, _∙_, subst}
 use mathlib.Core.Logic.{⊎-elim, _⊎_, inl, inr}
-use mathlib.Core.Bool.{Bool, true, false, _&&_, not}
+use mathlib.Core.Bool.{Bool, true, false}
 use mathlib.Core.List.{List, [], _∷_, _++_, map, List·Memᴰ, List·Memᴰ·head, List·Memᴰ·tail, List·Memᴰ·not-nil, List·Memᴰ·cases-cons}
-use lib.Dec.{eqb}
-use Rattle.rules.specs.Bytes.{Bytes, any}
+use Rattle.rules.specs.Bytes.{Bytes}
 use Rattle.rules.specs.Model.{Distinct}
 use Rattle.rules.specs.Store.{Row, Forest}
-use Rattle.rules.specs.Passing.{serials}
 use Rattle.rules.specs.Lines.{Line, lines, ground}
 use Rattle.rules.specs.Change.{Plan, revalue, newRows, number}
-use Rattle.rules.specs.Book.{Entry, stands, taken, untaken, falls, mark, revalueEntry, Mark, old, spot, place, placed, spots, expand, marks}
-use Rattle.history.specs.History.{serialOf, lineOf, takenSerials}
-use Rattle.history.proofs.NumberTests.{times, times-in, range, range-below}
+use Rattle.rules.specs.Book.{Entry, stands, taken, untaken, falls, mark, revalueEntry, Mark, old, spot, expand, marks}
+use Rattle.history.specs.History.{serialOf, takenSerials, entrySerials}
+use Rattle.history.proofs.NumberTests.{times-in, range, range-below}
 use Rattle.history.proofs.Making.{standing}
 use Rattle.history.proofs.Numbering.{Blank, number-serials, lines-serials}
-use Rattle.history.proofs.Stable.{olds, left, olds-marks, entrySerials, lineSerials, mark-serials, untaken-in}
+use Rattle.history.proofs.Stable.{olds, olds-marks, lineSerials, untaken-in}
 
 abbrev pub marked : Plan → List Entry → List Entry
 marked p es = mark (p .takes) (ground ∷ []) es

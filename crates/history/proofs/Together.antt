@@ -1,5 +1,5 @@
--- Rows and lines go together: a change of a store and of its book that keeps them saying the same, the lines in their order, and no serial
--- twice. The plan of a call is one; a change that is no plan gives its own.
+-- Rows and lines go together: a change of a store and of its book that keeps them saying the same, the lines in their
+-- order, and no serial twice. The plan of a call is one; a change that is no plan gives its own.
 use Prim.Native.Nat.{_≤_}
 use native.Mathlib.Nat.{le-trans}
 use Rattle.rules.specs.Store.{Store}

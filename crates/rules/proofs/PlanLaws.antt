@@ -1,27 +1,27 @@
--- The plan of each change takes the lines that the taking rule names, sets the values that the rules give, and makes the rows that they name.
-use Prim.Native.Nat.{ℕ, zero, suc, _≤_}
+-- The plan of each change takes the lines that the taking rule names, sets the values that the rules give, and makes
+-- the rows that they name.
+use Prim.Native.Nat.{ℕ, _≤_}
 use native.Mathlib.Omega.{arith}
 use mathlib.Core.Path.{_≡_, refl, sym, ap, _∙_}
-use mathlib.Core.Logic.{_⊎_, inl, inr, ⊎-elim}
+use mathlib.Core.Logic.{_⊎_, inl, inr}
 use mathlib.Core.Bool.{Bool, true, false, _&&_, not, false≢true}
 use mathlib.Core.Option.{Option, none, some}
-use mathlib.Core.List.{List, [], _∷_, map, List·Memᴰ, List·Memᴰ·head, List·Memᴰ·tail, cons≢nil}
+use mathlib.Core.List.{List, [], _∷_, List·Memᴰ, List·Memᴰ·head, List·Memᴰ·tail, cons≢nil}
 use lib.Dec.{eqb}
 use Rattle.rules.specs.declared.Quantifier.{Quantifier}
-use Rattle.rules.specs.declared.GroupKind.{GroupKind}
 use Rattle.rules.specs.Bytes.{Bytes, isNone, eqb-eq, eqb-of}
 use Rattle.rules.specs.Model.{Members, done, el, group, names, skips}
 use Rattle.rules.specs.Quantifiers.{gains, cuts}
 use Rattle.rules.specs.Place.{Context, Found, spine}
 use Rattle.rules.specs.Edit.{insert, remove, quantify}
-use Rattle.rules.specs.Store.{AttributeSort, implied, required, fixed, Form, Row, Forest, bare, tree}
+use Rattle.rules.specs.Store.{AttributeSort, implied, required, fixed, Form, Row}
 use Rattle.rules.specs.Decode.{quantifierOf, sortOf}
 use Rattle.rules.specs.Conforming.{isElement, mustBePresent}
 use Rattle.rules.specs.Filling.{fillDefinition}
 use Rattle.rules.specs.Lines.{Line, ground, isTextRow, elementNamed, elementAmong, attributeNamed, elementWith, childrenOf, serialAt}
-use Rattle.rules.specs.Change.{Call, createDefinition, destroyDefinition, insertElement, removeElement, changeQuantifier, convertToGroup, flattenGroup, changeGroupQuantifier, addAttribute, destroyAttribute, addDocument, addElement, destroyElement, setAttribute, destroyAttributeRow, setText, nameAtIndex, Owned, attributeAt, Plan, plan, keeping, setting, pickedPlan, quantifyPlan, removePlan, insertPlan, dropPlan, setPlan, setAt}
+use Rattle.rules.specs.Change.{Call, createDefinition, destroyDefinition, insertElement, removeElement, changeQuantifier, convertToGroup, flattenGroup, changeGroupQuantifier, addAttribute, destroyAttribute, addDocument, addElement, destroyElement, setAttribute, destroyAttributeRow, setText, nameAtIndex, Owned, attributeAt, Plan, plan, pickedPlan, quantifyPlan, removePlan, insertPlan, dropPlan, setPlan, setAt}
 use Rattle.rules.specs.Refusal.{noElementAt, noGroupAt}
-use Rattle.rules.specs.MadeTakenGiven.{IsThere, Below, IsFirst, foundIn, AtPlace, OfElement, AtElement, OfGroup, AtGroup, OfAttribute, IsRemoved, IsCut, IsDropped, NamedBy, valueIf, isRowOf, isTextOf, valueAfter, MakesBelow, setRow, fillingOf, fillingAt, rowsMade}
+use Rattle.rules.specs.MadeTakenGiven.{HasLine, StandsBelow, IsFirst, foundIn, AtPlace, OfElement, AtElement, OfGroup, AtGroup, OfAttribute, IsRemoved, IsCut, IsDropped, NamedBy, valueIf, isRowOf, valueAfter, MakesBelow, setRow, fillingOf, fillingAt, rowsMade}
 use Rattle.rules.proofs.Words.{and-both, and-split}
 
 not-true : (b : Bool) → not b ≡ true → b ≡ false
@@ -45,9 +45,9 @@ Known (changeGroupQuantifier o p q t) form ls = noGroupAt (foundIn (quantify (qu
 Known (addAttribute o n k v) form ls = Unit {0}
 Known (destroyAttribute a) form ls = Unit {0}
 Known (addDocument i t) form ls = Unit {0}
-Known (addElement k j i t) form ls = IsThere (elementWith k) ls k
+Known (addElement k j i t) form ls = HasLine (elementWith k) ls k
 Known (destroyElement k) form ls = Unit {0}
-Known (setAttribute k a v) form ls = IsThere (elementWith k) ls k
+Known (setAttribute k a v) form ls = HasLine (elementWith k) ls k
 Known (destroyAttributeRow k a) form ls = Unit {0}
 Known (setText k t) form ls = Unit {0}
 
@@ -58,135 +58,6 @@ Above ls u = (u ≡ ground) ⊎ ((v : Line) × List·Memᴰ v ls × (v .row ≡ 
 -- the plan's rule takes the line
 abbrev pub Ruled : (Row → Row → Bool) → List Line → Line → Type 0
 Ruled takes ls l = (u : Row) × Above ls u × (u .serial ≡ l .parent) × (takes u (l .row) ≡ true)
-
--- ---- taken
-module _ (ls : List Line) (l : Line) where
-  below-of : (above : Row → Bool) → above ground ≡ false → (u : Row) → Above ls u → u .serial ≡ l .parent → above u ≡ true → Below above ls l
-  below-of above g u (inl e) q h = absurd (false≢true (sym g ∙ ap above (sym e) ∙ h))
-  below-of above g u (inr (v, i, f)) q h = (v, i, ap (λ (x : Row). x .serial) f ∙ q, ap above f ∙ h)
-
-  nothing-ruled : (takes : Row → Row → Bool) → ((u r : Row) → takes u r ≡ false) → Ruled takes ls l → ⊥
-  nothing-ruled takes f (u, a, e, h) = false≢true (sym (f u (l .row)) ∙ h)
-
-  inserts : (form : Form) (o t n : Bytes) (q : Quantifier) (f : Option (Found Bytes)) (u r : Row) → insertPlan form o t q n f .takes u r ≡ false
-  inserts form o t n q none u r = refl
-  inserts form o t n q (some f) u r = refl
-
-  sets-at : (k : ℕ) (o : Owned) (v : Bytes) (ks : List ℕ) (u r : Row) → setAt k o v ks .takes u r ≡ false
-  sets-at k o v [] u r = refl
-  sets-at k o v (s ∷ ss) u r = refl
-
-  sets : (k : ℕ) (v : Bytes) (o : Option Owned) (u r : Row) → setPlan ls k v o .takes u r ≡ false
-  sets k v none u r = refl
-  sets k v (some o) u r = sets-at k o v (childrenOf (attributeNamed (o .attribute .name)) k ls) u r
-
-  regroups : (form : Form) (o t : Bytes) (new : Quantifier) (f : Option (Found Bytes)) → noGroupAt f ≡ false → (u r : Row) → pickedPlan (quantifyPlan form ls o t new) f .takes u r ≡ false
-  regroups form o t new none g u r = refl
-  regroups form o t new (some f) g u r = by (f .context) (f .picked) g
-    where
-      by : (c : Context Bytes) (x : Members Bytes) → noGroupAt (some (record { context = c; picked = x })) ≡ false → quantifyPlan form ls o t new c x .takes u r ≡ false
-      by c done g = refl
-      by c (el q x rest) g = absurd (false≢true (sym g))
-      by c (group q k ms rest) g = refl
-
-  removed : (o : Bytes) (f : Option (Found Bytes)) → Ruled (pickedPlan (λ c t. removePlan o t) f .takes) ls l → AtElement (λ c q x. IsRemoved o x ls l) f
-  removed o none (u, a, e, h) = absurd (false≢true h)
-  removed o (some f) z = by (f .picked) z
-    where
-      by : (t : Members Bytes) → Ruled (removePlan o t .takes) ls l → OfElement (λ q x. IsRemoved o x ls l) t
-      by done (u, a, e, h) = absurd (false≢true h)
-      by (el q x rest) (u, a, e, h) = let s = and-split (elementNamed o u) (elementNamed x (l .row)) h in (s .1, below-of (elementNamed o) refl u a e (s .0))
-      by (group q k ms rest) (u, a, e, h) = absurd (false≢true h)
-
-  removed-back : (o : Bytes) (f : Option (Found Bytes)) → AtElement (λ c q x. IsRemoved o x ls l) f → Ruled (pickedPlan (λ c t. removePlan o t) f .takes) ls l
-  removed-back o none z = absurd z
-  removed-back o (some f) z = by (f .picked) z
-    where
-      by : (t : Members Bytes) → OfElement (λ q x. IsRemoved o x ls l) t → Ruled (removePlan o t .takes) ls l
-      by done z = absurd z
-      by (el q x rest) (n, (u, i, e, h)) = (u .row, inr (u, i, refl), e, and-both h n)
-      by (group q k ms rest) z = absurd z
-
-  -- the first child of that name
-  first-test : (x : Bytes) (k : ℕ) → k ≡ l .parent → eqb (l .row .serial) (serialAt 0 (childrenOf (elementNamed x) k ls)) ≡ false → IsFirst (elementNamed x) ls l → ⊥
-  first-test x k e h f = false≢true (sym h ∙ ap (λ (j : ℕ). eqb (l .row .serial) (serialAt 0 (childrenOf (elementNamed x) j ls))) e ∙ eqb-of (l .row .serial) (serialAt 0 (childrenOf (elementNamed x) (l .parent) ls)) f)
-
-  first-back : (x : Bytes) (k : ℕ) → k ≡ l .parent → (IsFirst (elementNamed x) ls l → ⊥) → eqb (l .row .serial) (serialAt 0 (childrenOf (elementNamed x) k ls)) ≡ false
-  first-back x k e f = by (eqb (l .row .serial) (serialAt 0 (childrenOf (elementNamed x) k ls))) refl
-    where
-      by : (b : Bool) → eqb (l .row .serial) (serialAt 0 (childrenOf (elementNamed x) k ls)) ≡ b → eqb (l .row .serial) (serialAt 0 (childrenOf (elementNamed x) k ls)) ≡ false
-      by true q = absurd (f (eqb-eq (l .row .serial) (serialAt 0 (childrenOf (elementNamed x) k ls)) q ∙ ap (λ (j : ℕ). serialAt 0 (childrenOf (elementNamed x) j ls)) e))
-      by false q = q
-
-  cut : (form : Form) (o t : Bytes) (new : Quantifier) (f : Option (Found Bytes)) → Ruled (pickedPlan (quantifyPlan form ls o t new) f .takes) ls l → AtElement (IsCut o new ls l) f
-  cut form o t new none (u, a, e, h) = absurd (false≢true h)
-  cut form o t new (some f) z = by (f .context) (f .picked) z
-    where
-      by : (c : Context Bytes) (y : Members Bytes) → Ruled (quantifyPlan form ls o t new c y .takes) ls l → OfElement (IsCut o new ls l c) y
-      by c done (u, a, e, h) = absurd (false≢true h)
-      by c (el old x rest) (u, a, e, h) =
-          let s = and-split (spine c && cuts old new) _ h in
-          let s₁ = and-split (spine c) (cuts old new) (s .0) in
-          let s₂ = and-split (elementNamed o u) _ (s .1) in
-          let s₃ = and-split (elementNamed x (l .row)) _ (s₂ .1) in
-          (s₁ .0, s₁ .1, (s₃ .0, below-of (elementNamed o) refl u a e (s₂ .0)), first-test x (u .serial) e (not-true (eqb (l .row .serial) (serialAt 0 (childrenOf (elementNamed x) (u .serial) ls))) (s₃ .1)))
-      by c (group q k ms rest) (u, a, e, h) = absurd (false≢true h)
-
-  cut-back : (form : Form) (o t : Bytes) (new : Quantifier) (f : Option (Found Bytes)) → AtElement (IsCut o new ls l) f → Ruled (pickedPlan (quantifyPlan form ls o t new) f .takes) ls l
-  cut-back form o t new none z = absurd z
-  cut-back form o t new (some f) z = by (f .context) (f .picked) z
-    where
-      by : (c : Context Bytes) (y : Members Bytes) → OfElement (IsCut o new ls l c) y → Ruled (quantifyPlan form ls o t new c y .takes) ls l
-      by c done z = absurd z
-      by c (el old x rest) (s, k, (n, (u, i, e, h)), d) = (u .row, inr (u, i, refl), e, and-both (and-both s k) (and-both h (and-both n (ap not (first-back x (u .row .serial) e d)))))
-      by c (group q k ms rest) z = absurd z
-
-  dropped : (above : Owned → Row → Bool) → ((o : Owned) → above o ground ≡ false) → (o : Option Owned) → Ruled (dropPlan above o .takes) ls l → OfAttribute (IsDropped above ls l) o
-  dropped above g none (u, a, e, h) = absurd (false≢true h)
-  dropped above g (some o) (u, a, e, h) = let s = and-split (above o u) (attributeNamed (o .attribute .name) (l .row)) h in (s .1, below-of (above o) (g o) u a e (s .0))
-
-  dropped-back : (above : Owned → Row → Bool) (o : Option Owned) → OfAttribute (IsDropped above ls l) o → Ruled (dropPlan above o .takes) ls l
-  dropped-back above none z = absurd z
-  dropped-back above (some o) (n, (u, i, e, h)) = (u .row, inr (u, i, refl), e, and-both h n)
-
-  -- THE TAKING RULE: the lines that the plan's rule takes are those that the call names
-  pub named : (c : Call) (form : Form) → Known c form ls → Ruled (plan c form ls .takes) ls l → NamedBy c form ls l
-  unfolding plan NamedBy
-  named (createDefinition n k) form g r = absurd (false≢true (r .3))
-  named (destroyDefinition i) form g r = absurd (false≢true (r .3))
-  named (insertElement o p i q t) form g r = nothing-ruled _ (inserts form (nameAtIndex o form) t (nameAtIndex i form) (quantifierOf q) (foundIn (insert (quantifierOf q) (nameAtIndex i form)) o p form)) r
-  named (removeElement o p) form g r = removed (nameAtIndex o form) (foundIn remove o p form) r
-  named (changeQuantifier o p q t) form g r = cut form (nameAtIndex o form) t (quantifierOf q) (foundIn (quantify (quantifierOf q)) o p form) r
-  named (convertToGroup o p n k) form g r = absurd (false≢true (r .3))
-  named (flattenGroup o p) form g r = absurd (false≢true (r .3))
-  named (changeGroupQuantifier o p q t) form g r = nothing-ruled _ (regroups form (nameAtIndex o form) t (quantifierOf q) (foundIn (quantify (quantifierOf q)) o p form) g) r
-  named (addAttribute o n k v) form g r = absurd (false≢true (r .3))
-  named (destroyAttribute a) form g r = dropped (λ o u. elementNamed (o .owner .name) u) (λ o. refl) (attributeAt a form) r
-  named (addDocument i t) form g r = absurd (false≢true (r .3))
-  named (addElement k j i t) form g r = absurd (false≢true (r .3))
-  named (destroyElement k) form g r = r .3
-  named (setAttribute k a v) form g r = nothing-ruled _ (sets k v (attributeAt a form)) r
-  named (destroyAttributeRow k a) form g r = dropped (λ o u. elementWith k u) (λ o. refl) (attributeAt a form) r
-  named (setText k t) form g r = absurd (false≢true (r .3))
-
-  pub ruled : (c : Call) (form : Form) → (w : Row) × Above ls w × (w .serial ≡ l .parent) → NamedBy c form ls l → Ruled (plan c form ls .takes) ls l
-  unfolding plan NamedBy
-  ruled (createDefinition n k) form up z = absurd z
-  ruled (destroyDefinition i) form up z = absurd z
-  ruled (insertElement o p i q t) form up z = absurd z
-  ruled (removeElement o p) form up z = removed-back (nameAtIndex o form) (foundIn remove o p form) z
-  ruled (changeQuantifier o p q t) form up z = cut-back form (nameAtIndex o form) t (quantifierOf q) (foundIn (quantify (quantifierOf q)) o p form) z
-  ruled (convertToGroup o p n k) form up z = absurd z
-  ruled (flattenGroup o p) form up z = absurd z
-  ruled (changeGroupQuantifier o p q t) form up z = absurd z
-  ruled (addAttribute o n k v) form up z = absurd z
-  ruled (destroyAttribute a) form up z = dropped-back (λ o u. elementNamed (o .owner .name) u) (attributeAt a form) z
-  ruled (addDocument i t) form up z = absurd z
-  ruled (addElement k j i t) form up z = absurd z
-  ruled (destroyElement k) form up z = (up .0, up .1, up .2, z)
-  ruled (setAttribute k a v) form up z = absurd z
-  ruled (destroyAttributeRow k a) form up z = dropped-back (λ o u. elementWith k u) (attributeAt a form) z
-  ruled (setText k t) form up z = absurd z
 
 -- ---- given
 -- what a plan sets of a line
@@ -281,14 +152,17 @@ module _ (ls : List Line) (big : (m : Line) → List·Memᴰ m ls → 1 ≤ m .r
   set-dropped above none = refl
   set-dropped above (some o) = refl
 
-  set-given : (k : ℕ) (v : Bytes) (o : Option Owned) → setBy (setPlan ls k v o) l ≡ valueIf (isRowOf k o l) v l
-  set-given k v none = ap (λ (z : Bool). valueIf z [] l) not-zero
-  set-given k v (some o) =
-      by (childrenOf (attributeNamed (o .attribute .name)) k ls) ∙ ap (λ (z : Bool). valueIf z v l) (the-first (attributeNamed (o .attribute .name)) k ls big same (attributes (o .attribute .name)) l i)
+  -- the rows below the element that pass a test: at most one, which gets the value
+  set-one : (k : ℕ) (v : Bytes) (o : Owned) (test : Row → Bool) → AtMostOne test ls → setBy (setAt k o v (childrenOf test k ls)) l ≡ valueIf (eqb (l .parent) k && test (l .row)) v l
+  set-one k v o test one = by (childrenOf test k ls) ∙ ap (λ (z : Bool). valueIf z v l) (the-first test k ls big same one l i)
     where
       by : (ks : List ℕ) → setBy (setAt k o v ks) l ≡ valueIf (eqb (l .row .serial) (serialAt 0 ks)) v l
       by [] = ap (λ (z : Bool). valueIf z [] l) not-zero ∙ ap (λ (z : Bool). valueIf z v l) (sym not-zero)
       by (s ∷ ss) = refl
+
+  set-given : (k : ℕ) (v : Bytes) (o : Option Owned) → setBy (setPlan ls k v o) l ≡ valueIf (isRowOf k o l) v l
+  set-given k v none = ap (λ (z : Bool). valueIf z [] l) not-zero
+  set-given k v (some o) = set-one k v o (attributeNamed (o .attribute .name)) (attributes (o .attribute .name))
 
   -- THE VALUES: what the plan sets of a line is its value after the call
   pub set-after : (c : Call) (form : Form) → setBy (plan c form ls) l ≡ valueAfter c form l
@@ -305,21 +179,153 @@ module _ (ls : List Line) (big : (m : Line) → List·Memᴰ m ls → 1 ≤ m .r
   set-after (changeGroupQuantifier o p q t) form =
       unset (plan (changeGroupQuantifier o p q t) form ls) (set-quantified form (nameAtIndex o form) t (quantifierOf q) (foundIn (quantify (quantifierOf q)) o p form))
   set-after (addAttribute o n k v) form = unset (plan (addAttribute o n k v) form ls) refl
-  set-after (destroyAttribute a) form = unset (plan (destroyAttribute a) form ls) (set-dropped (λ o u. elementNamed (o .owner .name) u) (attributeAt a form))
+  set-after (destroyAttribute a) form = unset (plan (destroyAttribute a) form ls) (set-dropped _ (attributeAt a form))
   set-after (addDocument j t) form = unset (plan (addDocument j t) form ls) refl
   set-after (addElement k j d t) form = unset (plan (addElement k j d t) form ls) refl
   set-after (destroyElement k) form = unset (plan (destroyElement k) form ls) refl
   set-after (setAttribute k a v) form = set-given k v (attributeAt a form)
-  set-after (destroyAttributeRow k a) form = unset (plan (destroyAttributeRow k a) form ls) (set-dropped (λ o u. elementWith k u) (attributeAt a form))
+  set-after (destroyAttributeRow k a) form = unset (plan (destroyAttributeRow k a) form ls) (set-dropped _ (attributeAt a form))
   set-after (setText k t) form = ap (λ (z : Bool). valueIf z t l) (the-first isTextRow k ls big same texts l i)
+
+-- ---- taken
+module _ (ls : List Line) (l : Line) where
+  below-of : (above : Row → Bool) → above ground ≡ false → (u : Row) → Above ls u → u .serial ≡ l .parent → above u ≡ true → StandsBelow above ls l
+  below-of above g u (inl e) q h = absurd (false≢true (sym g ∙ ap above (sym e) ∙ h))
+  below-of above g u (inr (v, i, f)) q h = (v, i, ap (λ (x : Row). x .serial) f ∙ q, ap above f ∙ h)
+
+  nothing-ruled : (takes : Row → Row → Bool) → ((u r : Row) → takes u r ≡ false) → Ruled takes ls l → ⊥
+  nothing-ruled takes f (u, a, e, h) = false≢true (sym (f u (l .row)) ∙ h)
+
+  inserts : (form : Form) (o t n : Bytes) (q : Quantifier) (f : Option (Found Bytes)) (u r : Row) → insertPlan form o t q n f .takes u r ≡ false
+  inserts form o t n q none u r = refl
+  inserts form o t n q (some f) u r = refl
+
+  sets-at : (k : ℕ) (o : Owned) (v : Bytes) (ks : List ℕ) (u r : Row) → setAt k o v ks .takes u r ≡ false
+  sets-at k o v [] u r = refl
+  sets-at k o v (s ∷ ss) u r = refl
+
+  sets : (k : ℕ) (v : Bytes) (o : Option Owned) (u r : Row) → setPlan ls k v o .takes u r ≡ false
+  sets k v none u r = refl
+  sets k v (some o) u r = sets-at k o v (childrenOf (attributeNamed (o .attribute .name)) k ls) u r
+
+  regroups : (form : Form) (o t : Bytes) (new : Quantifier) (f : Option (Found Bytes)) → noGroupAt f ≡ false → (u r : Row) → pickedPlan (quantifyPlan form ls o t new) f .takes u r ≡ false
+  regroups form o t new none g u r = refl
+  regroups form o t new (some f) g u r = by (f .context) (f .picked) g
+    where
+      by : (c : Context Bytes) (x : Members Bytes) → noGroupAt (some (record { context = c; picked = x })) ≡ false → quantifyPlan form ls o t new c x .takes u r ≡ false
+      by c done g = refl
+      by c (el q x rest) g = absurd (false≢true (sym g))
+      by c (group q k ms rest) g = refl
+
+  removed : (o : Bytes) (f : Option (Found Bytes)) → Ruled (pickedPlan (λ c t. removePlan o t) f .takes) ls l → AtElement (λ c q x. IsRemoved o x ls l) f
+  removed o none (u, a, e, h) = absurd (false≢true h)
+  removed o (some f) z = by (f .picked) z
+    where
+      by : (t : Members Bytes) → Ruled (removePlan o t .takes) ls l → OfElement (λ q x. IsRemoved o x ls l) t
+      by done (u, a, e, h) = absurd (false≢true h)
+      by (el q x rest) (u, a, e, h) = let s = and-split (elementNamed o u) (elementNamed x (l .row)) h in (s .1, below-of (elementNamed o) refl u a e (s .0))
+      by (group q k ms rest) (u, a, e, h) = absurd (false≢true h)
+
+  removed-back : (o : Bytes) (f : Option (Found Bytes)) → AtElement (λ c q x. IsRemoved o x ls l) f → Ruled (pickedPlan (λ c t. removePlan o t) f .takes) ls l
+  removed-back o none z = absurd z
+  removed-back o (some f) z = by (f .picked) z
+    where
+      by : (t : Members Bytes) → OfElement (λ q x. IsRemoved o x ls l) t → Ruled (removePlan o t .takes) ls l
+      by done z = absurd z
+      by (el q x rest) (n, (u, i, e, h)) = (u .row, inr (u, i, refl), e, and-both h n)
+      by (group q k ms rest) z = absurd z
+
+  -- the first child of that name
+  first-test : (x : Bytes) (k : ℕ) → k ≡ l .parent → eqb (l .row .serial) (serialAt 0 (childrenOf (elementNamed x) k ls)) ≡ false → IsFirst (elementNamed x) ls l → ⊥
+  first-test x k e h f =
+      false≢true
+      (sym h ∙ ap (λ (j : ℕ). eqb (l .row .serial) (serialAt 0 (childrenOf (elementNamed x) j ls))) e ∙ eqb-of (l .row .serial) (serialAt 0 (childrenOf (elementNamed x) (l .parent) ls)) f)
+
+  first-back : (x : Bytes) (k : ℕ) → k ≡ l .parent → (IsFirst (elementNamed x) ls l → ⊥) → eqb (l .row .serial) (serialAt 0 (childrenOf (elementNamed x) k ls)) ≡ false
+  first-back x k e f = by (eqb (l .row .serial) (serialAt 0 (childrenOf (elementNamed x) k ls))) refl
+    where
+      by : (b : Bool) → eqb (l .row .serial) (serialAt 0 (childrenOf (elementNamed x) k ls)) ≡ b → eqb (l .row .serial) (serialAt 0 (childrenOf (elementNamed x) k ls)) ≡ false
+      by true q = absurd (f (eqb-eq (l .row .serial) (serialAt 0 (childrenOf (elementNamed x) k ls)) q ∙ ap (λ (j : ℕ). serialAt 0 (childrenOf (elementNamed x) j ls)) e))
+      by false q = q
+
+  cut : (form : Form) (o t : Bytes) (new : Quantifier) (f : Option (Found Bytes)) → Ruled (pickedPlan (quantifyPlan form ls o t new) f .takes) ls l → AtElement (IsCut o new ls l) f
+  cut form o t new none (u, a, e, h) = absurd (false≢true h)
+  cut form o t new (some f) z = by (f .context) (f .picked) z
+    where
+      by : (c : Context Bytes) (y : Members Bytes) → Ruled (quantifyPlan form ls o t new c y .takes) ls l → OfElement (IsCut o new ls l c) y
+      by c done (u, a, e, h) = absurd (false≢true h)
+      by c (el old x rest) (u, a, e, h) =
+          let s = and-split (spine c && cuts old new) _ h in
+          let s₁ = and-split (spine c) (cuts old new) (s .0) in
+          let s₂ = and-split (elementNamed o u) _ (s .1) in
+          let s₃ = and-split (elementNamed x (l .row)) _ (s₂ .1) in
+          (s₁ .0, s₁ .1, (s₃ .0, below-of (elementNamed o) refl u a e (s₂ .0)), first-test x (u .serial) e (not-true _ (s₃ .1)))
+      by c (group q k ms rest) (u, a, e, h) = absurd (false≢true h)
+
+  cut-back : (form : Form) (o t : Bytes) (new : Quantifier) (f : Option (Found Bytes)) → AtElement (IsCut o new ls l) f → Ruled (pickedPlan (quantifyPlan form ls o t new) f .takes) ls l
+  cut-back form o t new none z = absurd z
+  cut-back form o t new (some f) z = by (f .context) (f .picked) z
+    where
+      by : (c : Context Bytes) (y : Members Bytes) → OfElement (IsCut o new ls l c) y → Ruled (quantifyPlan form ls o t new c y .takes) ls l
+      by c done z = absurd z
+      by c (el old x rest) (s, k, (n, (u, i, e, h)), d) = (u .row, inr (u, i, refl), e, and-both (and-both s k) (and-both h (and-both n (ap not (first-back x (u .row .serial) e d)))))
+      by c (group q k ms rest) z = absurd z
+
+  dropped : (above : Owned → Row → Bool) → ((o : Owned) → above o ground ≡ false) → (o : Option Owned) → Ruled (dropPlan above o .takes) ls l → OfAttribute (IsDropped above ls l) o
+  dropped above g none (u, a, e, h) = absurd (false≢true h)
+  dropped above g (some o) (u, a, e, h) = let s = and-split (above o u) (attributeNamed (o .attribute .name) (l .row)) h in (s .1, below-of (above o) (g o) u a e (s .0))
+
+  dropped-back : (above : Owned → Row → Bool) (o : Option Owned) → OfAttribute (IsDropped above ls l) o → Ruled (dropPlan above o .takes) ls l
+  dropped-back above none z = absurd z
+  dropped-back above (some o) (n, (u, i, e, h)) = (u .row, inr (u, i, refl), e, and-both h n)
+
+  -- THE TAKING RULE: the lines that the plan's rule takes are those that the call names
+  pub named : (c : Call) (form : Form) → Known c form ls → Ruled (plan c form ls .takes) ls l → NamedBy c form ls l
+  unfolding plan NamedBy
+  named (createDefinition n k) form g r = absurd (false≢true (r .3))
+  named (destroyDefinition i) form g r = absurd (false≢true (r .3))
+  named (insertElement o p i q t) form g r =
+      nothing-ruled _ (inserts form (nameAtIndex o form) t (nameAtIndex i form) (quantifierOf q) (foundIn (insert (quantifierOf q) (nameAtIndex i form)) o p form)) r
+  named (removeElement o p) form g r = removed (nameAtIndex o form) (foundIn remove o p form) r
+  named (changeQuantifier o p q t) form g r = cut form (nameAtIndex o form) t (quantifierOf q) (foundIn (quantify (quantifierOf q)) o p form) r
+  named (convertToGroup o p n k) form g r = absurd (false≢true (r .3))
+  named (flattenGroup o p) form g r = absurd (false≢true (r .3))
+  named (changeGroupQuantifier o p q t) form g r = nothing-ruled _ (regroups form (nameAtIndex o form) t (quantifierOf q) (foundIn (quantify (quantifierOf q)) o p form) g) r
+  named (addAttribute o n k v) form g r = absurd (false≢true (r .3))
+  named (destroyAttribute a) form g r = dropped _ (λ o. refl) (attributeAt a form) r
+  named (addDocument i t) form g r = absurd (false≢true (r .3))
+  named (addElement k j i t) form g r = absurd (false≢true (r .3))
+  named (destroyElement k) form g r = r .3
+  named (setAttribute k a v) form g r = nothing-ruled _ (sets k v (attributeAt a form)) r
+  named (destroyAttributeRow k a) form g r = dropped _ (λ o. refl) (attributeAt a form) r
+  named (setText k t) form g r = absurd (false≢true (r .3))
+
+  pub ruled : (c : Call) (form : Form) → (w : Row) × Above ls w × (w .serial ≡ l .parent) → NamedBy c form ls l → Ruled (plan c form ls .takes) ls l
+  unfolding plan NamedBy
+  ruled (createDefinition n k) form up z = absurd z
+  ruled (destroyDefinition i) form up z = absurd z
+  ruled (insertElement o p i q t) form up z = absurd z
+  ruled (removeElement o p) form up z = removed-back (nameAtIndex o form) (foundIn remove o p form) z
+  ruled (changeQuantifier o p q t) form up z = cut-back form (nameAtIndex o form) t (quantifierOf q) (foundIn (quantify (quantifierOf q)) o p form) z
+  ruled (convertToGroup o p n k) form up z = absurd z
+  ruled (flattenGroup o p) form up z = absurd z
+  ruled (changeGroupQuantifier o p q t) form up z = absurd z
+  ruled (addAttribute o n k v) form up z = absurd z
+  ruled (destroyAttribute a) form up z = dropped-back _ (attributeAt a form) z
+  ruled (addDocument i t) form up z = absurd z
+  ruled (addElement k j i t) form up z = absurd z
+  ruled (destroyElement k) form up z = (up .0, up .1, up .2, z)
+  ruled (setAttribute k a v) form up z = absurd z
+  ruled (destroyAttributeRow k a) form up z = dropped-back _ (attributeAt a form) z
+  ruled (setText k t) form up z = absurd z
 
 -- ---- made
 -- the plan makes rows below the row with serial u; the documents stand below `ground`
 abbrev pub Filled : (Row → Bool) → List Line → ℕ → Type 0
-Filled fills ls u = ((u ≡ 0) × (fills ground ≡ true)) ⊎ IsThere fills ls u
+Filled fills ls u = ((u ≡ 0) × (fills ground ≡ true)) ⊎ HasLine fills ls u
 
 -- where only rows that pass another test are filled, and that not `ground`
-filled-there : (fills test : Row → Bool) (ls : List Line) → ((r : Row) → fills r ≡ true → test r ≡ true) → test ground ≡ false → (u : ℕ) → Filled fills ls u → IsThere fills ls u × IsThere test ls u
+filled-there : (fills test : Row → Bool) (ls : List Line) → ((r : Row) → fills r ≡ true → test r ≡ true) → test ground ≡ false → (u : ℕ) → Filled fills ls u → HasLine fills ls u × HasLine test ls u
 filled-there fills test ls f g u (inl (e, h)) = absurd (false≢true (sym g ∙ f ground h))
 filled-there fills test ls f g u (inr (l, i, e, h)) = ((l, i, e, h), (l, i, e, f (l .row) h))
 
@@ -355,7 +361,7 @@ module _ (ls : List Line) (u : ℕ) where
   drops-fill above (some o) r = refl
 
   inserted : (form : Form) (o t n : Bytes) (q : Quantifier) (f : Option (Found Bytes)) → Filled (insertPlan form o t q n f .fills) ls u
-      → AtPlace (λ c. (spine c ≡ true) × (skips q ≡ false)) f × IsThere (elementNamed o) ls u
+      → AtPlace (λ c. (spine c ≡ true) × (skips q ≡ false)) f × HasLine (elementNamed o) ls u
   inserted form o t n q none z = absurd (nowhere (λ r. false) (λ r. refl) ls u z)
   inserted form o t n q (some f) z =
       let fills : Row → Bool = λ r. (not (skips q) && spine (f .context)) && elementNamed o r in
@@ -363,13 +369,14 @@ module _ (ls : List Line) (u : ℕ) where
       let s = and-split (not (skips q)) (spine (f .context)) (and-split (not (skips q) && spine (f .context)) (elementNamed o (y .0 .row)) (y .3) .0) in
       ((s .1, not-true (skips q) (s .0)), w)
 
-  inserted-back : (form : Form) (o t n : Bytes) (q : Quantifier) (f : Option (Found Bytes)) → AtPlace (λ c. (spine c ≡ true) × (skips q ≡ false)) f → IsThere (elementNamed o) ls u
+  inserted-back : (form : Form) (o t n : Bytes) (q : Quantifier) (f : Option (Found Bytes)) → AtPlace (λ c. (spine c ≡ true) × (skips q ≡ false)) f → HasLine (elementNamed o) ls u
       → Filled (insertPlan form o t q n f .fills) ls u
   inserted-back form o t n q none z y = absurd z
   inserted-back form o t n q (some f) (s, k) (l, i, e, h) = inr (l, i, e, and-both (and-both (ap not k) s) h)
 
   -- the lines of an instance that lacks a child
-  lacks : (test : Row → Bool) (o : Bytes) (a : Bool) → Filled (λ r. a && (elementNamed o r && isNone (childrenOf test (r .serial) ls))) ls u → (a ≡ true) × (childrenOf test u ls ≡ []) × IsThere (elementNamed o) ls u
+  lacks : (test : Row → Bool) (o : Bytes) (a : Bool) → Filled (λ r. a && (elementNamed o r && isNone (childrenOf test (r .serial) ls))) ls u
+      → (a ≡ true) × (childrenOf test u ls ≡ []) × HasLine (elementNamed o) ls u
   lacks test o a z =
       let fills : Row → Bool = λ r. a && (elementNamed o r && isNone (childrenOf test (r .serial) ls)) in
       let (y, w) = filled-there fills (elementNamed o) ls (λ r h. and-split (elementNamed o r) _ (and-split a _ h .1) .0) refl u z in
@@ -377,19 +384,20 @@ module _ (ls : List Line) (u : ℕ) where
       let t = and-split (elementNamed o (y .0 .row)) (isNone (childrenOf test (y .0 .row .serial) ls)) (s .1) in
       (s .0, ap (λ (k : ℕ). childrenOf test k ls) (sym (y .2)) ∙ none-then (childrenOf test (y .0 .row .serial) ls) (t .1), w)
 
-  lacks-back : (test : Row → Bool) (o : Bytes) (a : Bool) → a ≡ true → childrenOf test u ls ≡ [] → IsThere (elementNamed o) ls u → Filled (λ r. a && (elementNamed o r && isNone (childrenOf test (r .serial) ls))) ls u
+  lacks-back : (test : Row → Bool) (o : Bytes) (a : Bool) → a ≡ true → childrenOf test u ls ≡ [] → HasLine (elementNamed o) ls u
+      → Filled (λ r. a && (elementNamed o r && isNone (childrenOf test (r .serial) ls))) ls u
   lacks-back test o a x y (l, i, e, h) = inr (l, i, e, and-both x (and-both h (ap isNone (ap (λ (k : ℕ). childrenOf test k ls) e ∙ y))))
 
   abbrev Lacking : Bytes → Quantifier → Context Bytes → Quantifier → Bytes → Type 0
   Lacking o new c old x = (spine c ≡ true) × (gains old new ≡ true) × (childrenOf (elementNamed x) u ls ≡ [])
 
   gained : (form : Form) (o t : Bytes) (new : Quantifier) (f : Option (Found Bytes)) → noElementAt f ≡ false → Filled (pickedPlan (quantifyPlan form ls o t new) f .fills) ls u
-      → AtElement (λ c old x. Lacking o new c old x) f × IsThere (elementNamed o) ls u
+      → AtElement (λ c old x. Lacking o new c old x) f × HasLine (elementNamed o) ls u
   gained form o t new none g z = absurd (false≢true (sym g))
   gained form o t new (some f) g z = by (f .context) (f .picked) g z
     where
       by : (c : Context Bytes) (x : Members Bytes) → noElementAt (some (record { context = c; picked = x })) ≡ false → Filled (quantifyPlan form ls o t new c x .fills) ls u
-          → OfElement (λ old x. Lacking o new c old x) x × IsThere (elementNamed o) ls u
+          → OfElement (λ old x. Lacking o new c old x) x × HasLine (elementNamed o) ls u
       by c done g z = absurd (false≢true (sym g))
       by c (el old x rest) g z =
           let (a, e, w) = lacks (elementNamed x) o (spine c && gains old new) z in
@@ -397,7 +405,7 @@ module _ (ls : List Line) (u : ℕ) where
           ((s .0, s .1, e), w)
       by c (group q k ms rest) g z = absurd (false≢true (sym g))
 
-  gained-back : (form : Form) (o t : Bytes) (new : Quantifier) (f : Option (Found Bytes)) → AtElement (λ c old x. Lacking o new c old x) f → IsThere (elementNamed o) ls u
+  gained-back : (form : Form) (o t : Bytes) (new : Quantifier) (f : Option (Found Bytes)) → AtElement (λ c old x. Lacking o new c old x) f → HasLine (elementNamed o) ls u
       → Filled (pickedPlan (quantifyPlan form ls o t new) f .fills) ls u
   gained-back form o t new none z y = absurd z
   gained-back form o t new (some f) z y = by (f .context) (f .picked) z
@@ -411,12 +419,12 @@ module _ (ls : List Line) (u : ℕ) where
   LackingAll o new c old ms = (spine c ≡ true) × (gains old new ≡ true) × (childrenOf (elementAmong (names ms)) u ls ≡ [])
 
   group-gained : (form : Form) (o t : Bytes) (new : Quantifier) (f : Option (Found Bytes)) → noGroupAt f ≡ false → Filled (pickedPlan (quantifyPlan form ls o t new) f .fills) ls u
-      → AtGroup (λ c old ms. LackingAll o new c old ms) f × IsThere (elementNamed o) ls u
+      → AtGroup (λ c old ms. LackingAll o new c old ms) f × HasLine (elementNamed o) ls u
   group-gained form o t new none g z = absurd (false≢true (sym g))
   group-gained form o t new (some f) g z = by (f .context) (f .picked) g z
     where
       by : (c : Context Bytes) (x : Members Bytes) → noGroupAt (some (record { context = c; picked = x })) ≡ false → Filled (quantifyPlan form ls o t new c x .fills) ls u
-          → OfGroup (λ old ms. LackingAll o new c old ms) x × IsThere (elementNamed o) ls u
+          → OfGroup (λ old ms. LackingAll o new c old ms) x × HasLine (elementNamed o) ls u
       by c done g z = absurd (false≢true (sym g))
       by c (el old x rest) g z = absurd (false≢true (sym g))
       by c (group old k ms rest) g z =
@@ -424,7 +432,7 @@ module _ (ls : List Line) (u : ℕ) where
           let s = and-split (spine c) (gains old new) a in
           ((s .0, s .1, e), w)
 
-  group-gained-back : (form : Form) (o t : Bytes) (new : Quantifier) (f : Option (Found Bytes)) → AtGroup (λ c old ms. LackingAll o new c old ms) f → IsThere (elementNamed o) ls u
+  group-gained-back : (form : Form) (o t : Bytes) (new : Quantifier) (f : Option (Found Bytes)) → AtGroup (λ c old ms. LackingAll o new c old ms) f → HasLine (elementNamed o) ls u
       → Filled (pickedPlan (quantifyPlan form ls o t new) f .fills) ls u
   group-gained-back form o t new none z y = absurd z
   group-gained-back form o t new (some f) z y = by (f .context) (f .picked) z
@@ -442,7 +450,8 @@ module _ (ls : List Line) (u : ℕ) where
       by [] z = (refl, element-with k ls u z)
       by (s ∷ ss) z = absurd (nowhere (λ r. false) (λ r. refl) ls u z)
 
-  set-fill-back : (k : ℕ) (v : Bytes) (o : Option Owned) → OfAttribute (λ o. childrenOf (attributeNamed (o .attribute .name)) k ls ≡ []) o → Filled (elementWith k) ls u → Filled (setPlan ls k v o .fills) ls u
+  set-fill-back : (k : ℕ) (v : Bytes) (o : Option Owned) → OfAttribute (λ o. childrenOf (attributeNamed (o .attribute .name)) k ls ≡ []) o → Filled (elementWith k) ls u
+      → Filled (setPlan ls k v o .fills) ls u
   set-fill-back k v none z y = absurd z
   set-fill-back k v (some o) z y = by (childrenOf (attributeNamed (o .attribute .name)) k ls) z
     where
@@ -465,13 +474,13 @@ module _ (ls : List Line) (u : ℕ) where
       let fills : Row → Bool = λ r. mustBePresent (sortOf k) && elementNamed (nameAtIndex o form) r in
       let (y, w) = filled-there fills (elementNamed (nameAtIndex o form)) ls (λ r h. and-split (mustBePresent (sortOf k)) (elementNamed (nameAtIndex o form) r) h .1) refl u z in
       (required-is (sortOf k) (and-split (mustBePresent (sortOf k)) _ (y .3) .0), w)
-  makes (destroyAttribute a) form g z = nowhere _ (drops-fill (λ o u. elementNamed (o .owner .name) u) (attributeAt a form)) ls u z
+  makes (destroyAttribute a) form g z = nowhere _ (drops-fill _ (attributeAt a form)) ls u z
   makes (addDocument i t) form g (inl (e, h)) = e
   makes (addDocument i t) form g (inr (l, i′, e, h)) = sym e ∙ eqb-eq (l .row .serial) 0 h
   makes (addElement k j i t) form g z = element-with k ls u z
   makes (destroyElement k) form g z = nowhere (λ r. false) (λ r. refl) ls u z
   makes (setAttribute k a v) form g z = set-fill k v (attributeAt a form) z
-  makes (destroyAttributeRow k a) form g z = nowhere _ (drops-fill (λ o u. elementWith k u) (attributeAt a form)) ls u z
+  makes (destroyAttributeRow k a) form g z = nowhere _ (drops-fill _ (attributeAt a form)) ls u z
   makes (setText k t) form g z = nowhere (λ r. false) (λ r. refl) ls u z
 
   pub filled : (c : Call) (form : Form) → Known c form ls → MakesBelow c form ls u → Filled (plan c form ls .fills) ls u
@@ -493,7 +502,8 @@ module _ (ls : List Line) (u : ℕ) where
   filled (destroyAttributeRow k a) form g z = absurd z
   filled (setText k t) form g z = absurd z
 
-  filling-inserted : (form : Form) (o t n : Bytes) (q : Quantifier) (f : Option (Found Bytes)) → AtPlace (λ c. (spine c ≡ true) × (skips q ≡ false)) f → insertPlan form o t q n f .filling ≡ fillDefinition form t n
+  filling-inserted : (form : Form) (o t n : Bytes) (q : Quantifier) (f : Option (Found Bytes)) → AtPlace (λ c. (spine c ≡ true) × (skips q ≡ false)) f
+      → insertPlan form o t q n f .filling ≡ fillDefinition form t n
   filling-inserted form o t n q none z = absurd z
   filling-inserted form o t n q (some f) z = refl
 
@@ -519,7 +529,8 @@ module _ (ls : List Line) (u : ℕ) where
   unfolding plan MakesBelow rowsMade
   filling-made (createDefinition n k) form z = absurd z
   filling-made (destroyDefinition i) form z = absurd z
-  filling-made (insertElement o p i q t) form (x, y) = filling-inserted form (nameAtIndex o form) t (nameAtIndex i form) (quantifierOf q) (foundIn (insert (quantifierOf q) (nameAtIndex i form)) o p form) x
+  filling-made (insertElement o p i q t) form (x, y) =
+      filling-inserted form (nameAtIndex o form) t (nameAtIndex i form) (quantifierOf q) (foundIn (insert (quantifierOf q) (nameAtIndex i form)) o p form) x
   filling-made (removeElement o p) form z = absurd z
   filling-made (changeQuantifier o p q t) form z = filling-quantified form (nameAtIndex o form) t (quantifierOf q) (foundIn (quantify (quantifierOf q)) o p form)
   filling-made (convertToGroup o p n k) form z = absurd z

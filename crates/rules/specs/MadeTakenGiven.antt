@@ -1,5 +1,6 @@
--- 'What was made, taken and given', call by call: which lines the taking rule names, which value a line has after a call, and below
--- which rows a call makes which rows. Said of the form and the lines that stand, apart from the plans of Change.antt.
+-- 'What was made, taken and given', call by call: which lines the taking rule names, which value a line has after a
+-- call, and below which rows a call makes which rows. Said of the form and the lines that stand, apart from the plans
+-- of Change.antt.
 use Prim.Native.Nat.{ℕ, _+_}
 use mathlib.Core.Path.{_≡_}
 use mathlib.Core.Bool.{Bool, true, false, _&&_}
@@ -7,7 +8,6 @@ use mathlib.Core.Option.{Option, none, some}
 use mathlib.Core.List.{List, [], _∷_, _++_, List·Memᴰ}
 use lib.Dec.{eqb}
 use Rattle.rules.specs.declared.Quantifier.{Quantifier}
-use Rattle.rules.specs.declared.GroupKind.{GroupKind}
 use Rattle.rules.specs.Bytes.{Bytes}
 use Rattle.rules.specs.Model.{Members, done, el, group, names, skips}
 use Rattle.rules.specs.Quantifiers.{gains, cuts}
@@ -21,12 +21,12 @@ use Rattle.rules.specs.Change.{Call, createDefinition, destroyDefinition
 
 -- ---- words
 -- a line with this serial is there, and its row passes a test
-abbrev pub IsThere : (Row → Bool) → List Line → ℕ → Type 0
-IsThere test ls k = (l : Line) × List·Memᴰ l ls × (l .row .serial ≡ k) × (test (l .row) ≡ true)
+abbrev pub HasLine : (Row → Bool) → List Line → ℕ → Type 0
+HasLine test ls k = (l : Line) × List·Memᴰ l ls × (l .row .serial ≡ k) × (test (l .row) ≡ true)
 
 -- the line stands right below a row that passes a test
-abbrev pub Below : (Row → Bool) → List Line → Line → Type 0
-Below above ls l = IsThere above ls (l .parent)
+abbrev pub StandsBelow : (Row → Bool) → List Line → Line → Type 0
+StandsBelow above ls l = HasLine above ls (l .parent)
 
 -- the line is the first of its parent's children that pass a test
 abbrev pub IsFirst : (Row → Bool) → List Line → Line → Type 0
@@ -36,11 +36,12 @@ IsFirst test ls l = l .row .serial ≡ serialAt 0 (childrenOf test (l .parent) l
 abbrev pub foundIn : Edit Bytes → ℕ → List ℕ → Form → Option (Found Bytes)
 foundIn e owner p form = placeOf e p (members (definitionAt owner form))
 
--- what is said of a place, of an element there with its quantifier and name, of a group there with its quantifier and members
+-- something is said of the place that an edit leads to
 abbrev pub AtPlace : (Context Bytes → Type 0) → Option (Found Bytes) → Type 0
 AtPlace P none = ⊥
 AtPlace P (some f) = P (f .context)
 
+-- of the element at the place, with its quantifier and name; no element, nothing holds
 abbrev pub OfElement : (Quantifier → Bytes → Type 0) → Members Bytes → Type 0
 OfElement P done = ⊥
 OfElement P (el q x rest) = P q x
@@ -50,6 +51,7 @@ abbrev pub AtElement : (Context Bytes → Quantifier → Bytes → Type 0) → O
 AtElement P none = ⊥
 AtElement P (some f) = OfElement (P (f .context)) (f .picked)
 
+-- of the group at the place, with its quantifier and members
 abbrev pub OfGroup : (Quantifier → Members Bytes → Type 0) → Members Bytes → Type 0
 OfGroup P done = ⊥
 OfGroup P (el q x rest) = ⊥
@@ -59,15 +61,16 @@ abbrev pub AtGroup : (Context Bytes → Quantifier → Members Bytes → Type 0)
 AtGroup P none = ⊥
 AtGroup P (some f) = OfGroup (P (f .context)) (f .picked)
 
--- what is said of an attribute with its owner, by the attribute's index
+-- of the attribute with an index, and its owner
 abbrev pub OfAttribute : (Owned → Type 0) → Option Owned → Type 0
 OfAttribute P none = ⊥
 OfAttribute P (some o) = P o
 
--- ---- taken: 'Taking rule: 4, 5 (cut), 10, 13, 15 take the rows named there, elements with all below. No other takes any.'
+-- ---- taken
+-- 'Taking rule: 4, 5 (cut), 10, 13, 15 take the rows named there, elements with all below. No other takes any.'
 -- 4: 'those children of instances': elements of that name right below an instance of the owner
 abbrev pub IsRemoved : Bytes → Bytes → List Line → Line → Type 0
-IsRemoved owner x ls l = (elementNamed x (l .row) ≡ true) × Below (elementNamed owner) ls l
+IsRemoved owner x ls l = (elementNamed x (l .row) ≡ true) × StandsBelow (elementNamed owner) ls l
 
 -- 5: 'In a spine list: cut keeps each instance's first': all other such children go
 abbrev pub IsCut : Bytes → Quantifier → List Line → Line → Context Bytes → Quantifier → Bytes → Type 0
@@ -75,9 +78,9 @@ IsCut owner new ls l c old x = (spine c ≡ true) × (cuts old new ≡ true) × 
 
 -- 10: that attribute's rows, below elements of its owner; 15: that attribute's row below the element with that serial
 abbrev pub IsDropped : (Owned → Row → Bool) → List Line → Line → Owned → Type 0
-IsDropped above ls l o = (attributeNamed (o .attribute .name) (l .row) ≡ true) × Below (above o) ls l
+IsDropped above ls l o = (attributeNamed (o .attribute .name) (l .row) ≡ true) × StandsBelow (above o) ls l
 
--- the lines that a call names for taking
+-- the lines that a call names for taking; 13: the element with that serial
 unfoldable pub NamedBy : Call → Form → List Line → Line → Type 0
 NamedBy (createDefinition n k) form ls l = ⊥
 NamedBy (destroyDefinition i) form ls l = ⊥
@@ -97,11 +100,12 @@ NamedBy (destroyAttributeRow k a) form ls l = OfAttribute (IsDropped (λ o u. el
 NamedBy (setText k t) form ls l = ⊥
 
 -- 'elements with all below': the line is named, or the line above it is taken
-pub data Taken (Named : Line → Type 0) (ls : List Line) : Line → Type 0 where
-  itself : (l : Line) → Named l → Taken Named ls l
-  beneath : (u l : Line) → List·Memᴰ u ls → u .row .serial ≡ l .parent → Taken Named ls u → Taken Named ls l
+pub data IsTaken (Named : Line → Type 0) (ls : List Line) : Line → Type 0 where
+  itself : (l : Line) → Named l → IsTaken Named ls l
+  beneath : (u l : Line) → List·Memᴰ u ls → u .row .serial ≡ l .parent → IsTaken Named ls u → IsTaken Named ls l
 
--- ---- given: '14, and 16 at the text line, set a value. No other line changes.'
+-- ---- given
+-- '14, and 16 at the text line, set a value. No other line changes.'
 abbrev pub valueIf : Bool → Bytes → Line → Bytes
 valueIf true v l = v
 valueIf false v l = l .row .value
@@ -134,26 +138,28 @@ valueAfter (setAttribute k a v) form l = valueIf (isRowOf k (attributeAt a form)
 valueAfter (destroyAttributeRow k a) form l = l .row .value
 valueAfter (setText k t) form l = valueIf (isTextOf k l) t l
 
--- ---- made: 'The rows it makes (3, gains, 9, 11, 12, 14 where absent)'
--- the rows below which a call makes rows, by serial; the documents stand below 0
+-- ---- made
+-- 'The rows it makes (3, gains, 9, 11, 12, 14 where absent)': the rows below which a call makes rows, by serial; the
+-- documents stand below 0
 -- 3: 'A NONE or PLUS member in a spine list: each instance gets one filling'
 -- 5 and 8: 'In a spine list: gain puts a filling where none stands'; 8: 'an instance without a child of the group'
 -- 9: 'REQUIRED adds a row to each instance'
+-- 11: a document; 12: below the element with that serial; 14: below it, where it has no row of the attribute
 unfoldable pub MakesBelow : Call → Form → List Line → ℕ → Type 0
 MakesBelow (createDefinition n k) form ls u = ⊥
 MakesBelow (destroyDefinition i) form ls u = ⊥
 MakesBelow (insertElement o p i q t) form ls u =
-    AtPlace (λ c. (spine c ≡ true) × (skips (quantifierOf q) ≡ false)) (foundIn (insert (quantifierOf q) (nameAtIndex i form)) o p form) × IsThere (elementNamed (nameAtIndex o form)) ls u
+    AtPlace (λ c. (spine c ≡ true) × (skips (quantifierOf q) ≡ false)) (foundIn (insert (quantifierOf q) (nameAtIndex i form)) o p form) × HasLine (elementNamed (nameAtIndex o form)) ls u
 MakesBelow (removeElement o p) form ls u = ⊥
 MakesBelow (changeQuantifier o p q t) form ls u =
     AtElement (λ c old x. (spine c ≡ true) × (gains old (quantifierOf q) ≡ true) × (childrenOf (elementNamed x) u ls ≡ [])) (foundIn (quantify (quantifierOf q)) o p form)
-    × IsThere (elementNamed (nameAtIndex o form)) ls u
+    × HasLine (elementNamed (nameAtIndex o form)) ls u
 MakesBelow (convertToGroup o p n k) form ls u = ⊥
 MakesBelow (flattenGroup o p) form ls u = ⊥
 MakesBelow (changeGroupQuantifier o p q t) form ls u =
     AtGroup (λ c old ms. (spine c ≡ true) × (gains old (quantifierOf q) ≡ true) × (childrenOf (elementAmong (names ms)) u ls ≡ [])) (foundIn (quantify (quantifierOf q)) o p form)
-    × IsThere (elementNamed (nameAtIndex o form)) ls u
-MakesBelow (addAttribute o n k v) form ls u = (sortOf k ≡ required) × IsThere (elementNamed (nameAtIndex o form)) ls u
+    × HasLine (elementNamed (nameAtIndex o form)) ls u
+MakesBelow (addAttribute o n k v) form ls u = (sortOf k ≡ required) × HasLine (elementNamed (nameAtIndex o form)) ls u
 MakesBelow (destroyAttribute a) form ls u = ⊥
 MakesBelow (addDocument i t) form ls u = u ≡ 0
 MakesBelow (addElement k j i t) form ls u = u ≡ k
@@ -172,16 +178,18 @@ fillingOf form t new done = bare
 fillingOf form t new (el q x rest) = fillDefinition form t x
 fillingOf form t new (group q k ms rest) = fillEach (λ n. fillDefinition form t n) (groupFilling new k ms)
 
+-- the same at the place found
 abbrev pub fillingAt : Form → Bytes → Quantifier → Option (Found Bytes) → Forest Row
 fillingAt form t new none = bare
 fillingAt form t new (some f) = fillingOf form t new (f .picked)
 
+-- 14: the attribute's row with the value given
 abbrev pub setRow : Bytes → Option Owned → Forest Row
 setRow v none = bare
 setRow v (some o) = oneAttribute (o .attribute .name) v
 
--- the rows that a call makes below each of these, without serials yet: fillings with the call's text; 9: the attribute's row with its
--- fill; 14: with the value given
+-- the rows that a call makes below each of these, without serials yet: fillings with the call's text; 9: the
+-- attribute's row with its fill; 14: with the value given
 unfoldable pub rowsMade : Call → Form → Forest Row
 rowsMade (createDefinition n k) form = bare
 rowsMade (destroyDefinition i) form = bare

@@ -14,6 +14,7 @@ use Rattle.rules.specs.Decode.{readDefinition, readParticle, readAttribute, rea
 use Rattle.records.specs.Records.{NumberAt}
 use Rattle.codec.proofs.Records.{many-at}
 use Rattle.lookup.specs.Bodies.{bodiesOf, recordsFrom}
+use Rattle.layout.specs.Bodies.{widthOf}
 use Rattle.lookup.proofs.Laws.{length-many, from-step, from-none, from-all}
 use Rattle.validity.specs.Reading.{noAttribute}
 use Rattle.placing.specs.Placing.{attributeBody}
@@ -23,15 +24,15 @@ use Rattle.attributes.specs.Attributes.{Stands, UpTo, To}
 -- ---- the bodies
 module _ (bs : Bytes) where
   pub definitions-counted : length (bodiesOf bs .definitions) ≡ definitionCount bs
-  unfolding bodiesOf
+  unfolding bodiesOf widthOf
   definitions-counted = length-many readDefinition 20 (definitionCount bs) _
 
   pub particles-counted : length (bodiesOf bs .particles) ≡ particleCount bs
-  unfolding bodiesOf
+  unfolding bodiesOf widthOf
   particles-counted = length-many readParticle 4 (particleCount bs) _
 
   pub attributes-counted : length (bodiesOf bs .attributes) ≡ attributeCount bs
-  unfolding bodiesOf
+  unfolding bodiesOf widthOf
   attributes-counted = length-many readAttribute 52 (attributeCount bs) _
 
 module _ (bs : Bytes) {n : ℕ} where
@@ -45,7 +46,7 @@ module _ (bs : Bytes) {n : ℕ} where
   count-attributes e = e .value ∙ sym (attributes-counted bs)
 
 pub attributes-read : (bs : Bytes) → bodiesOf bs .attributes ≡ readMany readAttribute 52 (attributeCount bs) (attributeBody bs)
-unfolding bodiesOf attributeBody
+unfolding bodiesOf attributeBody widthOf
 attributes-read bs = refl
 
 pub stands : (bs : Bytes) (i : ℕ) {d p : ℕ} → i ≤ 64 → NumberAt 12 bs d → NumberAt 20 bs p → Stands (bodiesOf bs) i (20 * d + (4 * p + 52 * i))

@@ -73,7 +73,7 @@ fn form_of(store: &[u8]) -> &[u8]
     ensures { λ r. ⌜ now r ≡ formBytes (bodiesOf (now (store .entry))) ⌝ }
 {
     let start = lookup::row_start(store);
-    lookup::window(store, HEADER_SIZE, start - HEADER_SIZE)
+    layout::window(store, HEADER_SIZE, start - HEADER_SIZE)
 }
 
 // Where attribute i stands in them.

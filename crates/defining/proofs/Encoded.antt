@@ -18,6 +18,7 @@ use Rattle.rules.proofs.LayoutLaws.{GoodFlat, length-definition, length-each, l
 use Rattle.rules.proofs.DecodeLaws.{GoodParts, good-parts, good-flat}
 use Rattle.records.specs.Records.{baseWidth}
 use Rattle.lookup.specs.Bodies.{bodiesOf}
+use Rattle.layout.specs.Bodies.{widthOf}
 use Rattle.lookup.proofs.Laws.{length-many}
 use Rattle.storing.specs.Stores.{storeIn}
 use Rattle.storing.proofs.StoreLaws.{Holds, holds}
@@ -45,7 +46,7 @@ pub record Encoded (bs : Bytes) (f : FlatStore) : Type 0 where
 
 module _ (bs : Bytes) where
   counted-rows : rowCount bs ≡ length (bodiesOf bs .rows)
-  unfolding bodiesOf
+  unfolding bodiesOf widthOf
   counted-rows = sym (length-many readRow 44 (rowCount bs) _)
 
   pub encoded : passes bs ≡ true → Encoded bs (bodiesOf bs)

@@ -9,13 +9,14 @@ use Rattle.rules.specs.Bytes.{Bytes, same}
 use Rattle.rules.specs.Layout.{FlatDefinition}
 use Rattle.rules.specs.Decode.{readDefinition, readMany, definitionCount}
 use Rattle.lookup.specs.Bodies.{bodiesOf}
+use Rattle.layout.specs.Bodies.{widthOf}
 use Rattle.defining.specs.Bodies.{named}
 
 abbrev pub hasName : Bytes → FlatDefinition → Bool
 hasName n d = same n (d .name)
 
 pub definitions-named : (bs n : Bytes) (count : ℕ) {r : Bool} → count ≡ definitionCount bs → r ≡ named n (readMany readDefinition 20 count (drop 40 bs)) → r ≡ named n (bodiesOf bs .definitions)
-unfolding bodiesOf
+unfolding bodiesOf widthOf
 definitions-named bs n count e q = q ∙ ap (λ (k : ℕ). named n (readMany readDefinition 20 k (drop 40 bs))) e
 
 pub record-named : (bs n : Bytes) (i used : ℕ) (rec name : Bytes) {r : Bool} → rec ≡ take 20 (drop (40 + 20 * i) bs) → used ≡ getD rec 0 0 → name ≡ take used (drop 1 rec) → r ≡ same n name

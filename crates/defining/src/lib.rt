@@ -56,9 +56,9 @@ pub fn is_taken(store: &[u8], name: &[u8]) -> bool
     let count = codec::get_u32(store, 12) as usize;
     let mut i = 0;
     while i < count {
-        let record = lookup::window(store, HEADER_SIZE + DEFINITION_SIZE * i, DEFINITION_SIZE);
+        let record = layout::window(store, HEADER_SIZE + DEFINITION_SIZE * i, DEFINITION_SIZE);
         let used = codec::byte(record, 0) as usize;
-        if codec::equal(name, lookup::window(record, 1, used)) {
+        if codec::equal(name, layout::window(record, 1, used)) {
             return true;
         }
         i += 1;

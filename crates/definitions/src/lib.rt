@@ -71,7 +71,7 @@ fn put_created(store: &[u8], name: &[u8], kind: u32, out: &mut [u8]) -> usize
     let length = DEFINITION_SIZE * d as usize;
     let rest = HEADER_SIZE + length;
     let first = defining::put_header(store, d + 1, p, a, r, out);
-    let second = codec::put(lookup::window(store, HEADER_SIZE, length), out, first);
+    let second = codec::put(layout::window(store, HEADER_SIZE, length), out, first);
     let third = defining::put_definition(name, kind, out, second);
     codec::put(records::after(store, rest), out, third)
 }

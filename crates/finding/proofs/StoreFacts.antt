@@ -32,6 +32,7 @@ use Rattle.history.proofs.Untouched.{keep-alike}
 use Rattle.history.proofs.StandingLaws as standing
 use Rattle.history.proofs.StandingLaws.{serialOf, standing-every, standing-line, found-stands, one-row}
 use Rattle.lookup.specs.Bodies.{bodiesOf}
+use Rattle.layout.specs.Bodies.{widthOf}
 use Rattle.lookup.proofs.Laws.{from-step, from-none, from-all}
 use Rattle.rowpass.specs.Indices.{IndexForm}
 use Rattle.rowpass.specs.Reading.{indexForm}
@@ -69,7 +70,7 @@ pub record Whole (bs : Bytes) : Type 0 where
   pub agrees : Agrees (byIndex bs) (formIn bs)
 
 pub whole : (bs : Bytes) → passes bs ≡ true → Whole bs
-unfolding storeIn bodiesOf
+unfolding storeIn bodiesOf widthOf
 whole bs q =
     let h : Holds bs = holds bs q in
     let d : Headed bs = record { small = subst Small (h .written) (encode-small (storeIn bs) (h .good)); header = passes-header bs q } in

@@ -14,6 +14,7 @@ use Rattle.rules.proofs.LayoutLaws.{Small}
 use Rattle.rules.proofs.SmallBytes.{encode-small}
 use Rattle.codec.proofs.Strings.{part-there}
 use Rattle.lookup.specs.Bodies.{bodiesOf}
+use Rattle.layout.specs.Bodies.{widthOf}
 use Rattle.forms.specs.Bodies.{recordAt}
 use Rattle.forms.proofs.Reading.{definition-size}
 use Rattle.circles.specs.Members.{countAt, startAt, membersIn}
@@ -51,7 +52,7 @@ pub record Reads (bs : Bytes) : Type 0 where
   pub parts : (i : ℕ) → i < definitionCount bs → circles.modelPart (definitionsIn bs) (particlesIn bs) i ≡ modelPart (definitionsIn bs) (particlesIn bs) i
 
 pub reads : (bs : Bytes) → passes bs ≡ true → Reads bs
-unfolding storeIn bodiesOf
+unfolding storeIn bodiesOf widthOf
 reads bs q =
     let w : Whole bs = whole bs q in
     let d : Headed bs = record { small = subst Small (w .holds .written) (encode-small (storeIn bs) (w .holds .good)); header = passes-header bs q } in

@@ -24,6 +24,7 @@ use Rattle.validity.specs.Check.{definitionsIn, particlesIn}
 use Rattle.validity.proofs.Parts.{before, before-is}
 use Rattle.validity.proofs.StringChecks.{Headed, laid-in, passes-header, same-definitions, same-particles}
 use Rattle.lookup.specs.Bodies.{bodiesOf}
+use Rattle.layout.specs.Bodies.{widthOf}
 use Rattle.splicing.specs.Spliced.{startOf, countOf}
 use Rattle.splicing.specs.Writing as writing
 use Rattle.splicing.proofs.WritingLaws.{whole}
@@ -57,7 +58,7 @@ module _ (bs : Bytes) (q : passes bs ≡ true) where
   headed = let h : Holds bs = holds bs q in record { small = subst Small (h .written) (encode-small (storeIn bs) (h .good)); header = passes-header bs q }
 
   pub particles-are : particlesOf (particlesIn bs) ≡ bodiesOf bs .particles
-  unfolding particlesOf particles bodiesOf
+  unfolding particlesOf particles bodiesOf widthOf
   particles-are =
       let e : length (particlesIn bs) / 4 ≡ particleCount bs = omega (arith, laid-in headed .bodies .particleBody .whole) in
       ap (λ (k : ℕ). readMany readParticle 4 k (particlesIn bs)) e ∙ sym (same-particles headed)
@@ -66,7 +67,7 @@ module _ (bs : Bytes) (q : passes bs ≡ true) where
   parts-are = ap (each particleBytes) (sym particles-are) ∙ whole (particlesIn bs) (omega (arith, laid-in headed .bodies .particleBody .whole))
 
   definition-is : (i : ℕ) → i < definitionCount bs → countIn bs i ≡ getD (bodiesOf bs .definitions) i noDefinition .particles
-  unfolding definitions bodiesOf
+  unfolding definitions bodiesOf widthOf
   definition-is i l =
       ap (λ (d : FlatDefinition). d .particles) (sym (many-at readDefinition definitionSize i (definitionCount bs) (definitionsIn bs) noDefinition l))
       ∙ ap (λ (ds : List FlatDefinition). getD ds i noDefinition .particles) (sym (same-definitions headed))

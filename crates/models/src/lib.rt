@@ -115,10 +115,10 @@ fn put_edited(
     let p = 4 * validity::number(store, 20);
     let a = 52 * validity::number(store, 28);
     let count = own_after(store, owner, edit);
-    let table = lookup::window(store, HEADER_SIZE, d);
+    let table = layout::window(store, HEADER_SIZE, d);
     let next = splicing::put_counted(table, owner, count as u32, out, 0);
     let end = put_own(store, owner, edit, holder, at, out, next);
-    codec::put(lookup::window(store, HEADER_SIZE + d + p, a), out, end)
+    codec::put(layout::window(store, HEADER_SIZE + d + p, a), out, end)
 }
 
 /// The store after a plan and an edit of the model of definition `owner` at particle `at` of the list `holder`.

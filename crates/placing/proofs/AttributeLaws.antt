@@ -21,6 +21,7 @@ use Rattle.rules.specs.Change.{addAttribute, destroyAttribute, Owned, entryAt, 
 use Rattle.rules.specs.Refusal.{conditions, isOther, wrongDefault}
 use Rattle.records.specs.Records.{NumberAt}
 use Rattle.lookup.specs.Bodies.{bodiesOf}
+use Rattle.layout.specs.Bodies.{widthOf}
 use Rattle.rules.proofs.BooleanLaws.{any-append}
 use Rattle.rules.proofs.DecodeLaws.{length-own}
 use Rattle.validity.proofs.AttributeBlocks.{below-or}
@@ -105,7 +106,7 @@ module _ (o : ℕ) (n : Bytes) where
 
 -- ---- the loop over the attributes
 pub attributes-any : (bs n : Bytes) (o : ℕ) {count : ℕ} {r : Bool} → NumberAt 28 bs count → r ≡ any (ownNamed o n) (readMany readAttribute 52 count (attributeBody bs)) → r ≡ any (ownNamed o n) (bodiesOf bs .attributes)
-unfolding bodiesOf attributeBody
+unfolding bodiesOf attributeBody widthOf
 attributes-any bs n o {count} e q = q ∙ ap (λ (k : ℕ). any (ownNamed o n) (readMany readAttribute 52 k (attributeBody bs))) (e .value)
 
 pub attribute-place : (bs : Bytes) (i : ℕ) {d p : ℕ} {rec : Bytes} → NumberAt 12 bs d → NumberAt 20 bs p → rec ≡ take 52 (drop (40 + 20 * d + 4 * p + 52 * i) bs) → rec ≡ take 52 (drop (52 * i) (attributeBody bs))

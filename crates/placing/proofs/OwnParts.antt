@@ -36,6 +36,7 @@ use Rattle.validity.proofs.FormLaws.{Laid, fields-fit, before-all}
 use Rattle.validity.proofs.IndexReads.{index-agrees}
 use Rattle.validity.proofs.StringChecks.{Headed, laid-in, passes-header, passes-in, same-form}
 use Rattle.lookup.specs.Bodies.{bodiesOf}
+use Rattle.layout.specs.Bodies.{widthOf}
 use Rattle.storing.specs.Stores.{storeIn}
 use Rattle.storing.proofs.StoreLaws.{Holds, holds}
 use Rattle.finding.proofs.StoreFacts.{formIn, byIndex}
@@ -88,7 +89,7 @@ module _ {n : ℕ} {defs : Bytes} {p : ℕ} {parts : Bytes} {a : ℕ} {attrs : B
 -- THE OWNER'S PART: the particles of its model, each name as its index
 pub own-particles : (bs : Bytes) → passes bs ≡ true → (o : ℕ) → o < definitionCount bs
     → particlesOf (modelPart (definitionsIn bs) (particlesIn bs) o) ≡ spread 0 (rename (λ m. indexOf m (formIn bs)) (members (definitionAt o (formIn bs))))
-unfolding storeIn bodiesOf
+unfolding storeIn bodiesOf widthOf
 own-particles bs q o l =
     let h : Holds bs = holds bs q in
     let d : Headed bs = record { small = subst Small (h .written) (encode-small (storeIn bs) (h .good)); header = passes-header bs q } in

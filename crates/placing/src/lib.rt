@@ -35,7 +35,7 @@ pub fn attribute(store: &[u8], i: usize) -> &[u8]
 {
     let definitions = records::number(store, 12);
     let particles = records::number(store, 20);
-    lookup::window(store, 40 + 20 * definitions + 4 * particles + 52 * i, 52)
+    layout::window(store, 40 + 20 * definitions + 4 * particles + 52 * i, 52)
 }
 
 // Whether a record is that of an owner's attribute with a name.

@@ -23,6 +23,7 @@ use Rattle.codec.proofs.Records.{many-at}
 use Rattle.rowpass.specs.Reading.{definitionIn, particlesBefore}
 use Rattle.validity.specs.Reading.{noDefinition}
 use Rattle.lookup.specs.Bodies.{bodiesOf, rowStart}
+use Rattle.layout.specs.Bodies.{widthOf}
 use Rattle.storing.specs.Stores.{storeIn}
 use Rattle.storing.proofs.StoreLaws.{holds}
 use Rattle.defining.specs.Bodies.{movedParticle, movedRow}
@@ -40,18 +41,18 @@ module _ {bs : Bytes} {f : FlatStore} (x : Encoded bs f) where
 
 module _ (bs : Bytes) where
   pub particles-read : bodiesOf bs .particles ≡ readMany readParticle 4 (particleCount bs) (drop (40 + 20 * definitionCount bs) bs)
-  unfolding bodiesOf
+  unfolding bodiesOf widthOf
   particles-read = ap (readMany readParticle 4 (particleCount bs)) (drop-drop (20 * definitionCount bs) 40 bs)
 
   attribute-place : drop (4 * particleCount bs) (drop (20 * definitionCount bs) (drop 40 bs)) ≡ drop (40 + 20 * definitionCount bs + 4 * particleCount bs) bs
   attribute-place = ap (drop (4 * particleCount bs)) (drop-drop (20 * definitionCount bs) 40 bs) ∙ drop-drop (4 * particleCount bs) (40 + 20 * definitionCount bs) bs
 
   pub attributes-read : bodiesOf bs .attributes ≡ readMany readAttribute 52 (attributeCount bs) (drop (40 + 20 * definitionCount bs + 4 * particleCount bs) bs)
-  unfolding bodiesOf
+  unfolding bodiesOf widthOf
   attributes-read = ap (readMany readAttribute 52 (attributeCount bs)) attribute-place
 
   pub rows-read : bodiesOf bs .rows ≡ readMany readRow 44 (rowCount bs) (drop (rowStart bs) bs)
-  unfolding bodiesOf rowStart
+  unfolding bodiesOf rowStart widthOf
   rows-read = ap (readMany readRow 44 (rowCount bs)) (ap (drop (52 * attributeCount bs)) attribute-place ∙ drop-drop (52 * attributeCount bs) (40 + 20 * definitionCount bs + 4 * particleCount bs) bs)
 
 -- ---- how many particles and attributes the first definitions have
@@ -66,7 +67,7 @@ pub particles-step : (i : ℕ) (ds : List FlatDefinition) → particlesOf i ds �
 particles-step i ds = omega (arith, particles-more i ds)
 
 particles-before : (bs : Bytes) (i : ℕ) → i ≤ definitionCount bs → particlesBefore (drop 40 bs) i ≡ particlesOf i (bodiesOf bs .definitions)
-unfolding particlesBefore particlesOf bodiesOf
+unfolding particlesBefore particlesOf bodiesOf widthOf
 particles-before bs zero h = refl
 particles-before bs (suc i) h =
     let e : getD (readMany readDefinition 20 (definitionCount bs) (drop 40 bs)) i noDefinition ≡ definitionIn (drop 40 bs) i = many-at readDefinition 20 i (definitionCount bs) (drop 40 bs) noDefinition (omega arith) in

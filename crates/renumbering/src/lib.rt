@@ -89,7 +89,7 @@ fn put_particles(body: &[u8], count: usize, definition: u32, out: &mut [u8], sta
     let mut at = start;
     let mut i = 0;
     while i < count {
-        at = put_particle(lookup::window(body, 4 * i, 4), definition, out, at);
+        at = put_particle(layout::window(body, 4 * i, 4), definition, out, at);
         i += 1;
     }
     at
@@ -102,7 +102,7 @@ fn put_attributes(body: &[u8], count: usize, definition: u32, out: &mut [u8], st
     let mut at = start;
     let mut i = 0;
     while i < count {
-        at = put_attribute(lookup::window(body, 52 * i, 52), definition, out, at);
+        at = put_attribute(layout::window(body, 52 * i, 52), definition, out, at);
         i += 1;
     }
     at
@@ -135,7 +135,7 @@ pub fn has_member(body: &[u8], count: usize, definition: u32) -> bool
 {
     let mut i = 0;
     while i < count {
-        if is_member(lookup::window(body, 4 * i, 4), definition) {
+        if is_member(layout::window(body, 4 * i, 4), definition) {
             return true;
         }
         i += 1;
@@ -149,7 +149,7 @@ pub fn has_root(body: &[u8], count: usize, definition: u32) -> bool
 {
     let mut i = 0;
     while i < count {
-        if is_root(lookup::window(body, 44 * i, 44), definition) {
+        if is_root(layout::window(body, 44 * i, 44), definition) {
             return true;
         }
         i += 1;
@@ -173,7 +173,7 @@ fn attributes_below(body: &[u8], count: usize, i: u32) -> usize
     let mut sum = 0;
     let mut j = 0;
     while j < count {
-        sum += is_below(lookup::window(body, 52 * j, 52), i);
+        sum += is_below(layout::window(body, 52 * j, 52), i);
         j += 1;
     }
     sum
@@ -263,9 +263,9 @@ fn put_definitions_left(store: &[u8], i: u32, out: &mut [u8], at: usize) -> usiz
 {
     let count = codec::get_u32(store, 12) as usize;
     let before = i as usize;
-    let front = lookup::window(store, HEADER_SIZE, DEFINITION_SIZE * before);
+    let front = layout::window(store, HEADER_SIZE, DEFINITION_SIZE * before);
     let size = DEFINITION_SIZE * (count - before - 1);
-    let back = lookup::window(store, 60 + DEFINITION_SIZE * before, size);
+    let back = layout::window(store, 60 + DEFINITION_SIZE * before, size);
     let next = codec::put(front, out, at);
     codec::put(back, out, next)
 }

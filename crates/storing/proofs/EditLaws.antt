@@ -18,6 +18,7 @@ use Rattle.records.specs.Records.{baseWidth}
 use Rattle.codec.specs.Laid.{Laid}
 use Rattle.codec.proofs.Writers.{laid-then, laid-as}
 use Rattle.lookup.specs.Bodies.{bodiesOf}
+use Rattle.layout.specs.Bodies.{widthOf}
 use Rattle.rows.specs.declared.Cursor.{Cursor}
 use Rattle.rows.specs.Written.{newIn, numbered, rowsBytes, Written}
 use Rattle.rows.proofs.WrittenLaws.{All, written-all, written-full, written-fitting, length-numbered}
@@ -31,7 +32,7 @@ use Rattle.storing.proofs.LimitLaws.{answers-refused, answers-wrote, li
 use Rattle.storing.proofs.FormBytesLaws.{reformed, whole, ceilings-rows, reformed-length, reformed-bytes}
 
 pub next-of : (bs : Bytes) → bodiesOf bs .next ≡ numberAt 4 4 bs
-unfolding bodiesOf
+unfolding bodiesOf widthOf
 next-of bs = refl
 
 module _ {bs : Bytes} (h : Holds bs) {form : Bytes} {d p a : ℕ} (x : Forms form d p a) (plan : Plan) (v : Bytes) where

@@ -21,6 +21,7 @@ use Rattle.rules.proofs.LayoutLaws.{GoodFlatDefinition, GoodFlatAttribute, Good
 use Rattle.rules.proofs.DecodeLaws.{good-flat}
 use Rattle.records.specs.Records.{baseWidth, NumberAt}
 use Rattle.lookup.specs.Bodies.{bodiesOf, rowStart, Begins}
+use Rattle.layout.specs.Bodies.{widthOf}
 use Rattle.lookup.proofs.Laws.{length-many}
 use Rattle.editing.specs.declared.Plan.{Plan}
 use Rattle.storing.specs.Stores.{storeIn, limited}
@@ -111,19 +112,19 @@ within {bs} h =
 
 module _ (bs : Bytes) where
   pub counted-definitions : definitionCount bs ≡ length (bodiesOf bs .definitions)
-  unfolding bodiesOf
+  unfolding bodiesOf widthOf
   counted-definitions = sym (length-many readDefinition 20 (definitionCount bs) _)
 
   pub counted-particles : particleCount bs ≡ length (bodiesOf bs .particles)
-  unfolding bodiesOf
+  unfolding bodiesOf widthOf
   counted-particles = sym (length-many readParticle 4 (particleCount bs) _)
 
   pub counted-attributes : attributeCount bs ≡ length (bodiesOf bs .attributes)
-  unfolding bodiesOf
+  unfolding bodiesOf widthOf
   counted-attributes = sym (length-many readAttribute 52 (attributeCount bs) _)
 
   start-is : rowStart bs ≡ headerSize + length (formBytes (bodiesOf bs))
-  unfolding rowStart
+  unfolding rowStart widthOf
   start-is = omega (arith, length-form (bodiesOf bs), counted-definitions, counted-particles, counted-attributes)
 
 form-at : {bs : Bytes} → Holds bs → take (rowStart bs - headerSize) (drop headerSize bs) ≡ formBytes (bodiesOf bs)

@@ -19,6 +19,7 @@ use Rattle.forms.specs.Bodies.{particles}
 use Rattle.validity.specs.Check.{particlesIn}
 use Rattle.validity.proofs.StringChecks.{Headed, laid-in, same-particles}
 use Rattle.lookup.specs.Bodies.{bodiesOf}
+use Rattle.layout.specs.Bodies.{widthOf}
 use Rattle.filling.specs.Parts as bytes
 use Rattle.storing.specs.Planned.{membersAt}
 
@@ -42,5 +43,5 @@ all-particles {bs} h =
     ap (λ (k : ℕ). readMany readParticle 4 k (particlesIn bs)) e
 
 pub members-at : {bs : Bytes} → Headed bs → (k e : ℕ) → bytes.membersAt (particlesIn bs) k e ≡ membersAt (bodiesOf bs) k e
-unfolding bytes.membersAt membersAt membersFrom bodiesOf
+unfolding bytes.membersAt membersAt membersFrom bodiesOf widthOf
 members-at {bs} h k e = ap (λ (l : List (Deep FlatParticle)). indexMembers (build l e)) (particles-from k (particlesIn bs) ∙ ap (λ (l : List (Deep FlatParticle)). drop k l) (all-particles h ∙ sym (same-particles h)))

@@ -26,6 +26,7 @@ use Rattle.validity.specs.Check.{definitionsIn, particlesIn, attributesIn, rows
 use Rattle.validity.proofs.StringChecks.{Headed, passes-header, laid-in, rows-whole, rows-small}
 use Rattle.validity.proofs.BodiesRead.{rows-fit, read-form, read-value, read-rows}
 use Rattle.lookup.specs.Bodies.{bodiesOf}
+use Rattle.layout.specs.Bodies.{widthOf}
 use Rattle.rows.specs.declared.Cursor.{Cursor}
 use Rattle.rows.specs.Written.{Written, Room}
 use Rattle.rows.proofs.WrittenLaws.{written-as}
@@ -82,7 +83,7 @@ module _ {bs : Bytes} (q : passes bs ≡ true) {n : ℕ} {defs parts : Bytes} {a
   walk-whole = omega (arith, ap (λ (s : Bytes). length s) (x .rows-is), x .count-is, rows-whole h)
 
   pub walk-asked : WalkRows count rows
-  unfolding bodiesOf
+  unfolding bodiesOf widthOf
   walk-asked =
       let b : readMany readRow 44 (rowCount bs) (rowsIn bs) ≡ flat (storeIn bs) .rows = read-rows h ∙ ap (λ (f : FlatStore). f .rows) (holds bs q .bodies) in
       subst (λ (s : Bytes). WalkRows count s) (sym (x .rows-is))
@@ -91,7 +92,7 @@ module _ {bs : Bytes} (q : passes bs ≡ true) {n : ℕ} {defs parts : Bytes} {a
 
   -- the rows that the walk leaves are those after the plan
   rows-after : (p : Plan) (v : Bytes) → rowsAfter p v (bodiesOf bs) ≡ walked p v (fillOf n defs parts a attrs p v) (atFirst p) (bytes.rowsIn count rows)
-  unfolding rowsAfter bodiesOf
+  unfolding rowsAfter bodiesOf widthOf
   rows-after p v =
       sym
       ((λ i. walked p v (fillOf (x .n-is i) (x .defs-is i) (x .parts-is i) (x .a-is i) (x .attrs-is i) p v) (atFirst p) (bytes.rowsIn (x .count-is i) (x .rows-is i)))

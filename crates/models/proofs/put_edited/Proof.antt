@@ -8,7 +8,7 @@ use borrow.Author.Needs.{needs}
 use Rattle.models.proofs.put_edited.Statement.{statement}
 use Rattle.models.proofs.put_edited.Tie as tie
 use Rattle.codec.proofs.put.Reads as put-reads
-use Rattle.lookup.proofs.window.Reads as window-reads
+use Rattle.layout.proofs.window.Reads as window-reads
 use Rattle.models.proofs.own_after.Reads as own-after-reads
 use Rattle.models.proofs.put_own.Reads as put-own-reads
 use Rattle.splicing.proofs.put_counted.Reads as put-counted-reads

@@ -4,6 +4,7 @@ use crate::stack::Stack;
 use crate::{changes, header, worst};
 use formstore::{raw, LONGEST, LONGEST_TEXT};
 use second::layout::encode;
+use second::random::damage::damaged;
 use second::random::{calls, documents};
 use second::rng::Rng;
 use second::store::{Node, Store};
@@ -65,16 +66,15 @@ impl Marks {
             ..Marks::default()
         };
         for worst in worst::all() {
-            let bytes = worst.bytes();
-            marks.read(&worst.name, &worst.store, &bytes);
+            marks.read(&worst.name, &worst.store, &worst.bytes);
             for call in worst.calls() {
-                marks.note(&worst.name, &bytes, Asked::Change(call));
+                marks.note(&worst.name, &worst.bytes, Asked::Change(call));
             }
         }
         marks
     }
 
-    /// Adds those of all calls on so many random stores, from this seed on.
+    /// Adds those of all calls on so many random stores, sound and damaged, from this seed on.
     pub fn add_random(&mut self, seed: u64, stores: u64) {
         for seed in (0..stores).map(|more| seed.wrapping_add(more)) {
             let rng = &mut Rng::new(seed);
@@ -85,11 +85,12 @@ impl Marks {
             };
             let bytes = encode(&store);
             self.read("random", &store, &bytes);
-            for number in 1..=16 {
-                for _ in 0..8 {
-                    let call = calls::call_of(rng, &store, number);
-                    self.note("random", &bytes, Asked::Change(call));
-                }
+            for number in (1..=16).flat_map(|number| [number; 8]) {
+                let call = calls::call_of(rng, &store, number);
+                self.note("random", &bytes, Asked::Change(call.clone()));
+                let worse = damaged(rng, &bytes);
+                self.note("damaged", &worse, Asked::Check);
+                self.note("damaged", &worse, Asked::Change(call));
             }
         }
     }

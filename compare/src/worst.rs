@@ -1,16 +1,47 @@
 //! Stores at the ceilings, made by hand: the deepest, the fullest and the longest that there are, and calls on them.
 
+mod calls;
+
 use second::filling::Maker;
-use second::layout::{encode, particle_count};
-use second::random::calls::places_of;
-use second::random::words::{convert_to_group, plain_calls, quantifier_calls};
+use second::layout::{encode, particle_count, u32_at, PARTICLE, ROW};
 use second::store::*;
-use second::Call;
 
 /// A store and what it is the worst of.
 pub struct Worst {
     pub name: String,
     pub store: Store,
+    /// As a box has it.
+    pub bytes: Vec<u8>,
+}
+
+impl Worst {
+    fn new(name: &str, store: Store) -> Worst {
+        let bytes = encode(&store);
+        assert_eq!(second::check(&bytes), 0, "{name}");
+        Worst {
+            name: name.to_string(),
+            store,
+            bytes,
+        }
+    }
+
+    /// A body of its bytes is spoiled, record by record, so that it does not pass; the table of contents has the body's offset there.
+    fn spoiled(self, name: &str, body: usize, size: usize, spoil: impl Fn(u8, &mut [u8])) -> Worst {
+        let mut bytes = self.bytes;
+        let start = u32_at(&bytes, body) as usize;
+        let count = u32_at(&bytes, body + 4) as usize;
+        let records = bytes[start..start + count * size].chunks_mut(size);
+        for (number, record) in records.enumerate() {
+            spoil(number.min(255) as u8, record);
+        }
+        assert_eq!(second::check(&bytes), 1, "{name}");
+        let name = name.to_string();
+        Worst {
+            name,
+            bytes,
+            ..self
+        }
+    }
 }
 
 /// Particle of an element, NONE.
@@ -84,10 +115,10 @@ fn pad(form: &mut Form, padding: Padding, particles: usize) {
     }
 }
 
-/// Puts up to four groups around each member, and so many at most in all.
+/// Puts up to four groups around each member, the last first, and so many at most in all.
 fn add_groups(model: &mut [Particle], kind: GroupKind, most: usize) {
     let mut left = most;
-    for particle in model {
+    for particle in model.iter_mut().rev() {
         for _ in 0..MAX_MODEL_DEPTH.min(left) {
             *particle = Particle {
                 quantifier: Quantifier::None,
@@ -166,9 +197,10 @@ fn deepest(padding: Padding) -> Vec<Worst> {
         ("in an optional group", vec![optional(in_groups(member(1)))]),
     ];
     firsts
-        .map(|(name, first)| Worst {
-            name: format!("nested definitions {name}, {padding:?}"),
-            store: with_documents(deepest_form(first, padding, Kind::Complex), 30),
+        .map(|(name, first)| {
+            let form = deepest_form(first, padding, Kind::Complex);
+            let name = format!("nested definitions {name}, {padding:?}");
+            Worst::new(&name, with_documents(form, 30))
         })
         .into()
 }
@@ -244,14 +276,14 @@ pub fn longest() -> Store {
         })
         .collect();
     for _ in 0..MAX_ROWS / (MAX_ATTRIBUTES + 1) {
-        add_row_of_attributes(&mut store, MAX_ATTRIBUTES);
+        add_with_attributes(&mut store, MAX_ATTRIBUTES);
     }
-    add_row_of_attributes(&mut store, 0);
+    add_with_attributes(&mut store, 0);
     store
 }
 
 /// A document of the first definition with rows for the first so many attributes.
-fn add_row_of_attributes(store: &mut Store, count: usize) {
+fn add_with_attributes(store: &mut Store, count: usize) {
     assert!(add_document(store, 0), "there is room for it");
     let document = store.documents.last_mut().expect("the new one");
     for (attribute, declared) in store.form.attributes.iter().enumerate().take(count) {
@@ -287,111 +319,22 @@ pub fn all() -> Vec<Worst> {
         ("4,095 children", widest()),
         ("all ceilings", longest()),
     ];
-    let others = others.map(|(name, store)| Worst {
-        name: name.to_string(),
-        store,
-    });
+    let others = others.map(|(name, store)| Worst::new(name, store));
     let paddings = [Padding::Lists, Padding::Choices, Padding::Siblings];
     let deepest = paddings.into_iter().flat_map(deepest);
-    deepest.chain(others).collect()
+    deepest.chain(others).chain(spoiled()).collect()
 }
 
-impl Worst {
-    /// As a box has it.
-    pub fn bytes(&self) -> Vec<u8> {
-        encode(&self.store)
-    }
-
-    /// All sixteen changes, most with several arguments.
-    pub fn calls(&self) -> Vec<Call> {
-        let mut calls = self.form_calls();
-        calls.extend(self.model_calls());
-        calls.extend(self.document_calls());
-        calls
-    }
-
-    /// The first and the last index of a table.
-    fn ends(count: usize) -> [u32; 2] {
-        [0, count.saturating_sub(1) as u32]
-    }
-
-    fn form_calls(&self) -> Vec<Call> {
-        let form = &self.store.form;
-        let create = Call::CreateDefinition {
-            name: b"more".to_vec(),
-            kind: 2,
-        };
-        let mut calls = vec![create];
-        for definition in Worst::ends(form.definitions.len()) {
-            calls.push(Call::DestroyDefinition { definition });
-            calls.extend([(0, ""), (1, "fill"), (2, "fixed")].map(|(sort, value)| {
-                Call::AddAttribute {
-                    owner: definition,
-                    name: b"more".to_vec(),
-                    sort,
-                    value: value.as_bytes().to_vec(),
-                }
-            }));
-        }
-        let attributes = Worst::ends(form.attributes.len());
-        calls.extend(attributes.map(|attribute| Call::DestroyAttribute { attribute }));
-        calls
-    }
-
-    /// At the first and the last place of each length.
-    fn model_calls(&self) -> Vec<Call> {
-        let (mut places, members) = places_of(&self.store.form.definitions[0].model);
-        places.extend(members);
-        places.sort_by_key(|place| (place.len(), place.clone()));
-        let of_one_length = places.chunk_by(|one, other| one.len() == other.len());
-        let ends = of_one_length.flat_map(|places| [&places[0], &places[places.len() - 1]]);
-        let inserted = [1, self.store.form.definitions.len() - 1];
-        let mut calls = Vec::new();
-        for place in ends {
-            for (quantifier, definition) in (0..4).flat_map(|q| inserted.map(|last| (q, last))) {
-                calls.extend(quantifier_calls(place, definition, quantifier, "new"));
-            }
-            calls.extend([1, 2].map(|count| convert_to_group(place, count, 1)));
-            calls.extend(plain_calls(place));
-        }
-        calls
-    }
-
-    fn document_calls(&self) -> Vec<Call> {
-        let definitions = Worst::ends(self.store.form.definitions.len());
-        let text = || b"new".to_vec();
-        let mut calls: Vec<Call> = definitions
-            .map(|definition| Call::AddDocument {
-                definition,
-                text: text(),
-            })
-            .into();
-        let mut elements = Vec::new();
-        self.store
-            .for_each_element(&mut |element| elements.push(element.serial));
-        let last = elements.split_off(elements.len() - elements.len().min(3));
-        elements.truncate(3);
-        for element in elements.into_iter().chain(last) {
-            calls.push(Call::DestroyElement { element });
-            calls.push(Call::SetText {
-                element,
-                text: text(),
-            });
-            for attribute in Worst::ends(self.store.form.attributes.len()) {
-                calls.push(Call::SetAttribute {
-                    element,
-                    attribute,
-                    value: text(),
-                });
-                calls.push(Call::DestroyAttributeRow { element, attribute });
-            }
-            calls.extend([0, 1].map(|child| Call::AddElement {
-                parent: element,
-                child,
-                definition: 1,
-                text: text(),
-            }));
-        }
-        calls
-    }
+/// Stores that do not pass, of which each record of a body says that it stands deeper than the one before it.
+fn spoiled() -> [Worst; 2] {
+    let particles = Worst::new("", longest_model(0, 256));
+    let rows = Worst::new("", widest());
+    [
+        particles.spoiled("particles ever deeper", 16, PARTICLE, |number, record| {
+            record.copy_from_slice(&[1, 0, 1, number]);
+        }),
+        rows.spoiled("rows ever deeper", 32, ROW, |number, record| {
+            record[1] = number;
+        }),
+    ]
 }

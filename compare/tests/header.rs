@@ -48,6 +48,30 @@ fn codes_and_refusals() {
     }
 }
 
+/// With commas between the thousands.
+fn grouped(number: usize) -> String {
+    match number {
+        0..1000 => number.to_string(),
+        _ => format!("{},{:03}", grouped(number / 1000), number % 1000),
+    }
+}
+
+/// The figures of the documents are the header's.
+#[test]
+fn documents() {
+    let readme = include_str!("../../README.md");
+    let audit = include_str!("../../docs/AUDIT.md");
+    for (document, name) in [
+        (readme, "LONGEST"),
+        (readme, "LONGEST_TEXT"),
+        (readme, "STACK"),
+        (audit, "STACK"),
+    ] {
+        let figure = grouped(named(name));
+        assert!(document.contains(&figure), "{name} is {figure}");
+    }
+}
+
 /// Nineteen: the check, the look-up, printing and the sixteen changes.
 #[test]
 fn calls() {

@@ -14,17 +14,36 @@ use std::path::{Path, PathBuf};
 
 /// The store in a file, which is as boxform left it.
 pub fn read(path: &Path) -> Result<Store, Failure> {
-    let (store, sum) = look(path)?;
+    as_left(path, look(path)?)
+}
+
+/// The store in a file that may differ from its sum.
+pub fn look(path: &Path) -> Result<(Store, Sum), Failure> {
+    let (bytes, sum) = read_summed(path).map_err(absent(path))?;
+    Ok((passing(path, bytes)?, sum))
+}
+
+/// The store, if it fits its sum.
+fn as_left(path: &Path, (store, sum): (Store, Sum)) -> Result<Store, Failure> {
     match sum {
         Sum::Differs => Err(Failure::Held(differs(path))),
         _ => Ok(store),
     }
 }
 
-/// The store in a file that may differ from its sum.
-pub fn look(path: &Path) -> Result<(Store, Sum), Failure> {
-    let (bytes, sum) = read_summed(path).map_err(Failure::of(path))?;
-    Ok((passing(path, bytes)?, sum))
+/// Names the file of an error; where it is gone and the store before is not, that is said.
+fn absent(path: &Path) -> impl Fn(io::Error) -> Failure + '_ {
+    move |error| {
+        let before = beside(path, "~");
+        if error.kind() == ErrorKind::NotFound && before.exists() {
+            let text = format!(
+                "{error}; the store before, {}, is there and can be copied",
+                before.display()
+            );
+            return Failure::of(path)(io::Error::new(error.kind(), text));
+        }
+        Failure::of(path)(error)
+    }
 }
 
 pub fn differs(path: &Path) -> String {
@@ -117,7 +136,7 @@ impl Held {
     /// Holds a file that is there and may be written.
     pub fn of(name: &Path) -> Result<Held, Failure> {
         // Where the name is a link, the file behind it is replaced and not the link.
-        let path = fs::canonicalize(name).map_err(Failure::of(name))?;
+        let path = fs::canonicalize(name).map_err(absent(name))?;
         let held = Held::at(name, path)?;
         writable(&held.path).map_err(Failure::of(name))?;
         Ok(held)
@@ -150,11 +169,7 @@ impl Held {
     pub fn read(&self) -> Result<Store, Failure> {
         let bytes = read_bytes(&self.path).map_err(Failure::of(&self.name))?;
         let sum = sum::compare(&self.path, &bytes).map_err(Failure::of(&self.name))?;
-        let store = passing(&self.name, bytes)?;
-        match sum {
-            Sum::Differs => Err(Failure::Held(differs(&self.name))),
-            _ => Ok(store),
-        }
+        as_left(&self.name, (passing(&self.name, bytes)?, sum))
     }
 
     /// The bytes of the file, whatever they are.
@@ -166,6 +181,13 @@ impl Held {
     pub fn before(&self) -> Result<Store, Failure> {
         let path = beside(&self.path, "~");
         let name = beside(&self.name, "~");
+        if !path.exists() {
+            let text = format!(
+                "there is nothing to take back: {} is not there",
+                name.display()
+            );
+            return Err(Failure::Held(text));
+        }
         let bytes = read_bytes(&path).map_err(Failure::of(&name))?;
         if sum::compare(&self.path, &bytes).map_err(Failure::of(&name))? == Sum::Differs {
             let text = format!(
@@ -184,7 +206,6 @@ impl Held {
             .write_beside(before, after)
             .and_then(|()| self.take_name());
         if let Err(error) = replaced {
-            self.clear();
             let text = format!("{error}; the file is as it was");
             return Err(Failure::File(
                 self.name.clone(),
@@ -252,9 +273,6 @@ impl Held {
         let like = fs::metadata(&self.path).ok();
         let written = self.write(SUMS, &sum::text(&files), like.as_ref());
         let written = written.and_then(|()| self.rename(SUMS, &beside(&self.path, sum::SUFFIX)));
-        if written.is_err() {
-            self.clear();
-        }
         written.map_err(Failure::of(&self.name))?;
         self.settle()
     }
@@ -270,14 +288,20 @@ pub fn create(name: &Path, store: &Store) -> Result<(), Failure> {
     let folder = fs::canonicalize(folder).map_err(&fail)?;
     let held = Held::at(name, folder.join(file_name(name)))?;
     if fs::symlink_metadata(&held.path).is_ok() {
-        return Err(fail(ErrorKind::AlreadyExists.into()));
+        let text = "the file is there already, and stays as it is";
+        return Err(fail(io::Error::new(ErrorKind::AlreadyExists, text)));
     }
     held.write(NEW, store.as_bytes(), None).map_err(&fail)?;
     held.sum(store.as_bytes())?;
-    let made = held.link();
-    held.clear();
-    made.map_err(&fail)?;
+    held.link().map_err(&fail)?;
     held.settle()
+}
+
+/// The folder is still locked here.
+impl Drop for Held {
+    fn drop(&mut self) {
+        self.clear();
+    }
 }
 
 impl Held {

@@ -50,8 +50,8 @@ pub fn differs(path: &Path) -> String {
     let name = path.display();
     format!(
         "{name} is not as boxform left it, by its sum in {name}.sum: bits have flipped, or another program wrote it. \
-        Look at it with 'boxform show {name}'; \
-         'boxform undo {name}' brings back the store before, 'boxform sum {name}' takes this one as it is"
+         Look at it with 'boxform show {name}'; 'boxform undo {name}' brings back the store before, \
+         'boxform sum {name}' takes this one as it is"
     )
 }
 
@@ -61,7 +61,7 @@ pub fn passing(path: &Path, bytes: Vec<u8>) -> Result<Store, Failure> {
         return Ok(Store::from_bytes(bytes)?);
     }
     let mut reason = format!("{}: {}", path.display(), damage::reason(&bytes));
-    let before = fs::read(beside(path, "~")).unwrap_or_default();
+    let before = fs::read(beside(&real(path), "~")).unwrap_or_default();
     if check(&before).is_ok() {
         reason += &format!(
             "; 'boxform undo {}' brings back the store before",
@@ -71,9 +71,13 @@ pub fn passing(path: &Path, bytes: Vec<u8>) -> Result<Store, Failure> {
     Err(Failure::Refused(Refusal::BadStore, reason))
 }
 
+/// The path without links. A pipe has none, and nothing beside it either.
+fn real(path: &Path) -> PathBuf {
+    fs::canonicalize(path).unwrap_or_else(|_| path.to_path_buf())
+}
+
 fn read_summed(path: &Path) -> io::Result<(Vec<u8>, Sum)> {
-    // A pipe has no real path, and no sum either.
-    let real = fs::canonicalize(path).unwrap_or_else(|_| path.to_path_buf());
+    let real = real(path);
     let both = || {
         let bytes = read_bytes(path)?;
         let sum = sum::compare(&real, &bytes)?;
@@ -81,8 +85,8 @@ fn read_summed(path: &Path) -> io::Result<(Vec<u8>, Sum)> {
     };
     match both()? {
         (_, Sum::Differs) => {
-            // A change may have come between the two readings. None comes while the folder is locked.
-            let _folder = locked(&real)?;
+            // A change may have come between the two readings. None comes while the folder is locked, if it can be.
+            let _folder = locked(&real);
             both()
         }
         read => Ok(read),
@@ -240,7 +244,11 @@ impl Held {
     }
 
     fn rename(&self, from: &str, to: &Path) -> io::Result<()> {
-        fs::rename(self.path.with_file_name(from), to)
+        let renamed = fs::rename(self.path.with_file_name(from), to);
+        renamed.map_err(|error| {
+            let text = format!("{}: {error}", file_name(to).display());
+            io::Error::new(error.kind(), text)
+        })
     }
 
     /// Brings the new names to the disk.
@@ -307,10 +315,13 @@ impl Drop for Held {
 impl Held {
     /// Gives the new file its name, which no file has.
     fn link(&self) -> io::Result<()> {
-        match fs::hard_link(self.path.with_file_name(NEW), &self.path) {
-            // A link never takes the place of a file. Some disks have none.
-            Err(error) if error.kind() != ErrorKind::AlreadyExists => self.rename(NEW, &self.path),
-            linked => linked,
+        let linked = fs::hard_link(self.path.with_file_name(NEW), &self.path);
+        match linked.as_ref().map_err(io::Error::kind) {
+            // A link never takes the place of a file. Some disks have none, and then the name was free a moment ago.
+            Err(ErrorKind::PermissionDenied | ErrorKind::Unsupported) => {
+                self.rename(NEW, &self.path)
+            }
+            _ => linked,
         }
     }
 }
@@ -341,7 +352,8 @@ fn keep_owner(file: &File, like: &Metadata) -> io::Result<()> {
     }
     fchown(file, Some(like.uid()), Some(like.gid())).map_err(|error| {
         let text = format!(
-            "the new file could not be given to the owner and group of the old one: {error}"
+            "the new file could not be given to the owner and group of the old one: {error}; let its owner change it, \
+            or work on a copy"
         );
         io::Error::new(error.kind(), text)
     })

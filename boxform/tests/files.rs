@@ -55,6 +55,24 @@ fn file_errors() {
     );
 }
 
+/// Folders where FILE~ or FILE.sum should be.
+#[test]
+fn what_stands_beside_is_in_the_way() {
+    let desk = Desk::new();
+    desk.done("new x.form");
+    let line = "create-definition x.form --name a --kind empty";
+    fs::create_dir(desk.path("x.form~")).unwrap();
+    let message = "boxform: x.form: x.form~: Is a directory (os error 21); the file is as it was\n";
+    desk.fails(line, 2, message);
+    fs::remove_dir(desk.path("x.form~")).unwrap();
+    fs::remove_file(desk.path("x.form.sum")).unwrap();
+    fs::create_dir(desk.path("x.form.sum")).unwrap();
+    for line in [line, "check x.form"] {
+        let message = "boxform: x.form: its .sum cannot be read: Is a directory (os error 21)\n";
+        desk.fails(line, 2, message);
+    }
+}
+
 /// Root may write any file, so that this is told by the mode.
 #[test]
 fn a_read_only_file_is_refused() {
@@ -99,6 +117,30 @@ fn owner_group_and_mode_stay() {
             "{name}"
         );
     }
+}
+
+/// A file of another person in a folder where both may write: its owner could not be kept, so it stays.
+#[test]
+fn the_file_of_another_stays() {
+    let desk = club();
+    let all = Permissions::from_mode(0o777);
+    fs::set_permissions(&desk.folder, all).unwrap();
+    fs::set_permissions(desk.path("club.form"), Permissions::from_mode(0o666)).unwrap();
+    let line = "cp $boxform tool && chmod 755 tool && \
+                su nobody -s /bin/sh -c './tool set-text club.form --element 3 --text 8'";
+    if chown(&desk.folder, Some(12), None).is_err() {
+        println!("not tried: only root can work for another person");
+        return;
+    }
+    let before = desk.bytes("club.form");
+    let done = desk.shell(line);
+    let message = "boxform: club.form: the new file could not be given to the owner and group of the old one: ";
+    assert!(done.err.starts_with(message), "{}", done.err);
+    assert!(desk.bytes("club.form") == before);
+    assert_eq!(
+        desk.names(),
+        ["club.form", "club.form.sum", "club.form~", "tool"]
+    );
 }
 
 /// A symbolic link stays one; other names of the file (hard links) keep the store as it was, and that is told.

@@ -91,7 +91,7 @@ fn ask(difference: &Difference) -> Result<(), Failure> {
     );
     asked
         .and_then(|()| io::stdin().read_line(&mut answer))
-        .map_err(Failure::Output)?;
+        .map_err(|error| Failure::Use(format!("nobody could be asked: {error}")))?;
     match answer.trim() {
         "yes" | "y" => Ok(()),
         _ => Err(Failure::Held("not done; the file is as it was".to_string())),

@@ -85,7 +85,7 @@ pub struct Section {
 
 pub const SECTIONS: [Section; 6] = [
     Section {
-        title: "Files",
+        title: "The file",
         commands: FILES,
     },
     Section {

@@ -221,7 +221,12 @@ fn form_differences(old: &Form, new: &Form) -> Vec<String> {
     let definitions = |form: &Form| -> Vec<(String, String)> {
         let named = form.reader.definitions();
         named
-            .map(|definition| (definition.name.to_string(), form.content(definition.index)))
+            .map(|definition| {
+                (
+                    definition.name.to_string(),
+                    form.described(definition.index),
+                )
+            })
             .collect()
     };
     let attributes = |form: &Form| -> Vec<(String, String)> {

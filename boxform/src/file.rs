@@ -14,25 +14,44 @@ use std::path::{Path, PathBuf};
 
 /// The store in a file, which is as boxform left it.
 pub fn read(path: &Path) -> Result<Store, Failure> {
-    let (store, sum) = look(path)?;
+    as_left(path, look(path)?)
+}
+
+/// The store in a file that may differ from its sum.
+pub fn look(path: &Path) -> Result<(Store, Sum), Failure> {
+    let (bytes, sum) = read_summed(path).map_err(absent(path))?;
+    Ok((passing(path, bytes)?, sum))
+}
+
+/// The store, if it fits its sum.
+fn as_left(path: &Path, (store, sum): (Store, Sum)) -> Result<Store, Failure> {
     match sum {
         Sum::Differs => Err(Failure::Held(differs(path))),
         _ => Ok(store),
     }
 }
 
-/// The store in a file that may differ from its sum.
-pub fn look(path: &Path) -> Result<(Store, Sum), Failure> {
-    let (bytes, sum) = read_summed(path).map_err(Failure::of(path))?;
-    Ok((passing(path, bytes)?, sum))
+/// Names the file of an error; where it is gone and the store before is not, that is said.
+fn absent(path: &Path) -> impl Fn(io::Error) -> Failure + '_ {
+    move |error| {
+        let before = beside(path, "~");
+        if error.kind() == ErrorKind::NotFound && before.exists() {
+            let text = format!(
+                "{error}; the store before, {}, is there and can be copied",
+                before.display()
+            );
+            return Failure::of(path)(io::Error::new(error.kind(), text));
+        }
+        Failure::of(path)(error)
+    }
 }
 
 pub fn differs(path: &Path) -> String {
     let name = path.display();
     format!(
         "{name} is not as boxform left it, by its sum in {name}.sum: bits have flipped, or another program wrote it. \
-        Look at it with 'boxform show {name}'; \
-         'boxform undo {name}' brings back the store before, 'boxform sum {name}' takes this one as it is"
+         Look at it with 'boxform show {name}'; 'boxform undo {name}' brings back the store before, \
+         'boxform sum {name}' takes this one as it is"
     )
 }
 
@@ -42,7 +61,7 @@ pub fn passing(path: &Path, bytes: Vec<u8>) -> Result<Store, Failure> {
         return Ok(Store::from_bytes(bytes)?);
     }
     let mut reason = format!("{}: {}", path.display(), damage::reason(&bytes));
-    let before = fs::read(beside(path, "~")).unwrap_or_default();
+    let before = fs::read(beside(&real(path), "~")).unwrap_or_default();
     if check(&before).is_ok() {
         reason += &format!(
             "; 'boxform undo {}' brings back the store before",
@@ -52,9 +71,13 @@ pub fn passing(path: &Path, bytes: Vec<u8>) -> Result<Store, Failure> {
     Err(Failure::Refused(Refusal::BadStore, reason))
 }
 
+/// The path without links. A pipe has none, and nothing beside it either.
+fn real(path: &Path) -> PathBuf {
+    fs::canonicalize(path).unwrap_or_else(|_| path.to_path_buf())
+}
+
 fn read_summed(path: &Path) -> io::Result<(Vec<u8>, Sum)> {
-    // A pipe has no real path, and no sum either.
-    let real = fs::canonicalize(path).unwrap_or_else(|_| path.to_path_buf());
+    let real = real(path);
     let both = || {
         let bytes = read_bytes(path)?;
         let sum = sum::compare(&real, &bytes)?;
@@ -62,8 +85,8 @@ fn read_summed(path: &Path) -> io::Result<(Vec<u8>, Sum)> {
     };
     match both()? {
         (_, Sum::Differs) => {
-            // A change may have come between the two readings. None comes while the folder is locked.
-            let _folder = locked(&real)?;
+            // A change may have come between the two readings. None comes while the folder is locked, if it can be.
+            let _folder = locked(&real);
             both()
         }
         read => Ok(read),
@@ -117,7 +140,7 @@ impl Held {
     /// Holds a file that is there and may be written.
     pub fn of(name: &Path) -> Result<Held, Failure> {
         // Where the name is a link, the file behind it is replaced and not the link.
-        let path = fs::canonicalize(name).map_err(Failure::of(name))?;
+        let path = fs::canonicalize(name).map_err(absent(name))?;
         let held = Held::at(name, path)?;
         writable(&held.path).map_err(Failure::of(name))?;
         Ok(held)
@@ -150,11 +173,7 @@ impl Held {
     pub fn read(&self) -> Result<Store, Failure> {
         let bytes = read_bytes(&self.path).map_err(Failure::of(&self.name))?;
         let sum = sum::compare(&self.path, &bytes).map_err(Failure::of(&self.name))?;
-        let store = passing(&self.name, bytes)?;
-        match sum {
-            Sum::Differs => Err(Failure::Held(differs(&self.name))),
-            _ => Ok(store),
-        }
+        as_left(&self.name, (passing(&self.name, bytes)?, sum))
     }
 
     /// The bytes of the file, whatever they are.
@@ -166,6 +185,13 @@ impl Held {
     pub fn before(&self) -> Result<Store, Failure> {
         let path = beside(&self.path, "~");
         let name = beside(&self.name, "~");
+        if !path.exists() {
+            let text = format!(
+                "there is nothing to take back: {} is not there",
+                name.display()
+            );
+            return Err(Failure::Held(text));
+        }
         let bytes = read_bytes(&path).map_err(Failure::of(&name))?;
         if sum::compare(&self.path, &bytes).map_err(Failure::of(&name))? == Sum::Differs {
             let text = format!(
@@ -184,7 +210,6 @@ impl Held {
             .write_beside(before, after)
             .and_then(|()| self.take_name());
         if let Err(error) = replaced {
-            self.clear();
             let text = format!("{error}; the file is as it was");
             return Err(Failure::File(
                 self.name.clone(),
@@ -219,7 +244,11 @@ impl Held {
     }
 
     fn rename(&self, from: &str, to: &Path) -> io::Result<()> {
-        fs::rename(self.path.with_file_name(from), to)
+        let renamed = fs::rename(self.path.with_file_name(from), to);
+        renamed.map_err(|error| {
+            let text = format!("{}: {error}", file_name(to).display());
+            io::Error::new(error.kind(), text)
+        })
     }
 
     /// Brings the new names to the disk.
@@ -252,9 +281,6 @@ impl Held {
         let like = fs::metadata(&self.path).ok();
         let written = self.write(SUMS, &sum::text(&files), like.as_ref());
         let written = written.and_then(|()| self.rename(SUMS, &beside(&self.path, sum::SUFFIX)));
-        if written.is_err() {
-            self.clear();
-        }
         written.map_err(Failure::of(&self.name))?;
         self.settle()
     }
@@ -270,23 +296,32 @@ pub fn create(name: &Path, store: &Store) -> Result<(), Failure> {
     let folder = fs::canonicalize(folder).map_err(&fail)?;
     let held = Held::at(name, folder.join(file_name(name)))?;
     if fs::symlink_metadata(&held.path).is_ok() {
-        return Err(fail(ErrorKind::AlreadyExists.into()));
+        let text = "the file is there already, and stays as it is";
+        return Err(fail(io::Error::new(ErrorKind::AlreadyExists, text)));
     }
     held.write(NEW, store.as_bytes(), None).map_err(&fail)?;
     held.sum(store.as_bytes())?;
-    let made = held.link();
-    held.clear();
-    made.map_err(&fail)?;
+    held.link().map_err(&fail)?;
     held.settle()
+}
+
+/// The folder is still locked here.
+impl Drop for Held {
+    fn drop(&mut self) {
+        self.clear();
+    }
 }
 
 impl Held {
     /// Gives the new file its name, which no file has.
     fn link(&self) -> io::Result<()> {
-        match fs::hard_link(self.path.with_file_name(NEW), &self.path) {
-            // A link never takes the place of a file. Some disks have none.
-            Err(error) if error.kind() != ErrorKind::AlreadyExists => self.rename(NEW, &self.path),
-            linked => linked,
+        let linked = fs::hard_link(self.path.with_file_name(NEW), &self.path);
+        match linked.as_ref().map_err(io::Error::kind) {
+            // A link never takes the place of a file. Some disks have none, and then the name was free a moment ago.
+            Err(ErrorKind::PermissionDenied | ErrorKind::Unsupported) => {
+                self.rename(NEW, &self.path)
+            }
+            _ => linked,
         }
     }
 }
@@ -317,7 +352,8 @@ fn keep_owner(file: &File, like: &Metadata) -> io::Result<()> {
     }
     fchown(file, Some(like.uid()), Some(like.gid())).map_err(|error| {
         let text = format!(
-            "the new file could not be given to the owner and group of the old one: {error}"
+            "the new file could not be given to the owner and group of the old one: {error}; let its owner change it, \
+            or work on a copy"
         );
         io::Error::new(error.kind(), text)
     })

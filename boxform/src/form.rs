@@ -59,6 +59,16 @@ impl<'a> Form<'a> {
         model.map_or_else(String::new, |model| model.to_string())
     }
 
+    /// The same, where a complex definition without members is told from an EMPTY one, which the DTD does not.
+    pub fn described(&self, definition: u32) -> String {
+        let mut text = self.content(definition);
+        if self.kind(definition) == Some(Kind::Complex) && self.members(definition).next().is_none()
+        {
+            text += " (complex, no members yet)";
+        }
+        text
+    }
+
     /// The list that the last number of a place counts in: its sort and its members.
     pub fn list_at(&self, owner: u32, place: &[u32]) -> Option<(GroupSort, Members<'a>)> {
         let (_, groups) = place.split_last()?;

@@ -111,7 +111,8 @@ impl Given {
             .iter()
             .filter(|name| !name.starts_with('['))
             .count();
-        if (least..=most).contains(&self.operands.len()) {
+        let empty = self.operands.iter().any(|word| word.is_empty());
+        if (least..=most).contains(&self.operands.len()) && !empty {
             return Ok(());
         }
         let text = match (command.operands, self.operands.get(most)) {

@@ -89,7 +89,10 @@ impl Command {
             text += &hung(&argument.usage(), argument.about, 28);
         }
         let (title, status) = NOTES[NOTES.len() - 1];
-        text + &format!("\n{}", wrapped(&format!("{title}: {status}"), 0))
+        match self.more.contains(title) {
+            true => text,
+            false => text + &format!("\n{}", wrapped(&format!("{title}: {status}"), 0)),
+        }
     }
 }
 

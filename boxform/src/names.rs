@@ -105,6 +105,9 @@ impl Given {
                 )
             });
         }
+        if form.kind(owner).is_none() {
+            return Err(self.wrong("owner", "no definition has this index"));
+        }
         let Some(definition) = form.index(member) else {
             let known = form
                 .members(owner)

@@ -115,10 +115,7 @@ fn declarations(form: &Form) -> String {
     let mut text = "index  place  definitions, what they hold, and their attributes\n".to_string();
     for definition in form.reader.definitions() {
         let Definition { index, name, .. } = definition;
-        text += &format!(
-            "{index:5}         <!ELEMENT {name} {}>\n",
-            form.content(index)
-        );
+        text += &format!("{index:5}         {name} {}\n", form.described(index));
         for (place, particle) in form.places(index) {
             let indent = 2 * place.len();
             let place = place.to_string();

@@ -7,7 +7,7 @@
 use crate::sha256;
 use std::ffi::OsStr;
 use std::fs;
-use std::io;
+use std::io::{self, ErrorKind};
 use std::os::unix::ffi::OsStrExt;
 use std::path::{Path, PathBuf};
 
@@ -32,10 +32,14 @@ pub fn beside(path: &Path, suffix: &str) -> PathBuf {
 /// Whether the sum of these bytes stands in the file's sums.
 pub fn compare(path: &Path, bytes: &[u8]) -> io::Result<Sum> {
     let sums = match fs::read(beside(path, SUFFIX)) {
-        Err(error) if error.kind() == io::ErrorKind::NotFound => return Ok(Sum::None),
+        Err(error) if error.kind() == ErrorKind::NotFound => return Ok(Sum::None),
         // Where a name is too long to have sums, there are none.
-        Err(error) if error.kind() == io::ErrorKind::InvalidFilename => return Ok(Sum::None),
-        read => read?,
+        Err(error) if error.kind() == ErrorKind::InvalidFilename => return Ok(Sum::None),
+        Err(error) => {
+            let text = format!("its {SUFFIX} cannot be read: {error}");
+            return Err(io::Error::new(error.kind(), text));
+        }
+        Ok(sums) => sums,
     };
     let sum = sha256::hex(bytes);
     let found = sums.windows(sum.len()).any(|part| part == sum.as_bytes());

@@ -294,6 +294,10 @@ fn places_by_name() {
         (leg+,gap?)",
         ),
         (
+            "remove-element relay.form --owner 9 --place leg",
+            "--owner 9: no definition has this index",
+        ),
+        (
             "remove-element relay.form --owner legs --place 1-",
             "--place 1-: give a name, or one to five numbers with - \
         between them",
@@ -424,6 +428,7 @@ fn wrong_use() {
             "FILE is missing: give the file with the store\nusage: boxform check FILE",
         ),
         ("check club.form other.form", "other.form: give one FILE"),
+        ("check ''", "FILE is missing"),
         ("diff club.form", "give A and B"),
         ("check club.form --force yes", "unknown argument --force"),
         (

@@ -12,19 +12,19 @@ rows 11 of 4,096, 4,085 left
 next serial 12
 
 index  place  definitions, what they hold, and their attributes
-    0         <!ELEMENT race (finisher*)>
+    0         race (finisher*)
            1    finisher*
     0           @day #REQUIRED, fill "12 \"May\""
-    1         <!ELEMENT finisher (bib,(club,time?))>
+    1         finisher (bib,(club,time?))
            1    bib
            2    (club,time?)
          2-1      club
          2-2      time?
     1           @sex #IMPLIED
     2           @unit #FIXED "a\\b"
-    2         <!ELEMENT bib (#PCDATA)>
-    3         <!ELEMENT time (#PCDATA)>
-    4         <!ELEMENT club (#PCDATA)>
+    2         bib (#PCDATA)
+    3         time (#PCDATA)
+    4         club (#PCDATA)
 
 serial  child  row
      1         race  document 1
@@ -254,6 +254,12 @@ fn diff_says_what_differs_by_serial() {
 #[test]
 fn diff_of_strangers() {
     let desk = Desk::new();
+    for (file, kind) in [("c", "complex"), ("e", "empty")] {
+        desk.done(&format!("new {file}"));
+        desk.done(&format!("create-definition {file} --name x --kind {kind}"));
+    }
+    let out = "  definition x was EMPTY (complex, no members yet) and is EMPTY\n";
+    assert_eq!(desk.run("diff c e").out, out);
     for (file, names) in [("a", ["x", "y"]), ("b", ["y", "x"])] {
         desk.done(&format!("new {file}"));
         for name in names {

@@ -192,7 +192,11 @@ fn undo_takes_back_the_last_change_and_itself() {
 fn undo_where_there_is_nothing() {
     let desk = Desk::new();
     desk.done("new x.form");
-    desk.fails("undo x.form", 2, "boxform: x.form~: No such file");
+    desk.fails(
+        "undo x.form",
+        1,
+        "refused: there is nothing to take back: x.form~ is not there\n",
+    );
     fs::copy(desk.path("x.form"), desk.path("x.form~")).unwrap();
     desk.fails(
         "undo x.form",
@@ -240,13 +244,13 @@ fn undo_brings_back_a_store_from_damage() {
     }
 }
 
-/// Every bit of the file is flipped, one at a time. Some give another store that passes; the sum tells all of them.
+/// Bits all over the file are flipped, one at a time. Some give another store that passes; the sum tells all of them.
 #[test]
 fn every_flipped_bit_is_told() {
     let desk = club();
     let whole = desk.bytes("club.form");
     let (mut by_check, mut by_sum) = (0, 0);
-    for bit in (0..whole.len() * 8).step_by(5) {
+    for bit in (0..whole.len() * 8).step_by(11) {
         let mut bytes = whole.clone();
         bytes[bit / 8] ^= 1 << (bit % 8);
         fs::write(desk.path("club.form"), bytes).unwrap();
@@ -265,7 +269,7 @@ fn every_flipped_bit_is_told() {
             }
         }
     }
-    assert!(by_check > 100 && by_sum > 10, "{by_check} {by_sum}");
+    assert!(by_check > 50 && by_sum > 5, "{by_check} {by_sum}");
     println!(
         "of {} flipped bits the check told {by_check}, the sum alone {by_sum}",
         by_check + by_sum

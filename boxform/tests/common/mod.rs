@@ -184,17 +184,17 @@ impl Desk {
 /// The story of clubform with what boxform says to each line.
 pub const STORY: [(&str, &str); 14] = [
     ("new club.form", "club.form is new, with nothing in it; its sum is in club.form.sum"),
-    ("create-definition club.form --name race --kind complex", "definition race is new: EMPTY"),
-    ("create-definition club.form --name finisher --kind complex", "definition finisher is new: EMPTY"),
+    ("create-definition club.form --name race --kind complex", "definition race is new: EMPTY (complex, no members yet)"),
+    ("create-definition club.form --name finisher --kind complex", "definition finisher is new: EMPTY (complex, no members yet)"),
     ("create-definition club.form --name bib --kind pcdata", "definition bib is new: (#PCDATA)"),
     ("create-definition club.form --name time --kind pcdata", "definition time is new: (#PCDATA)"),
     (
         "insert-element club.form --owner race --place 0 --definition finisher --quantifier star",
-        "definition race was EMPTY and is (finisher*)",
+        "definition race was EMPTY (complex, no members yet) and is (finisher*)",
     ),
     (
         "insert-element club.form --owner finisher --place 0 --definition bib --quantifier none --text 0",
-        "definition finisher was EMPTY and is (bib)",
+        "definition finisher was EMPTY (complex, no members yet) and is (bib)",
     ),
     (
         "insert-element club.form --owner finisher --place 1 --definition time --quantifier none --text -",

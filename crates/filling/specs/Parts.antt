@@ -16,6 +16,7 @@ use Rattle.model.specs.Particle.{particleOf}
 use Rattle.model.specs.Members.{membersFrom, membersOf}
 use Rattle.rowpass.specs.Indices.{IndexForm}
 use Rattle.rowpass.specs.Reading.{definitionIn, attributeIn, modelPart, attributesOf, indexForm}
+use Rattle.records.specs.Records.{baseWidth}
 use Rattle.rows.specs.declared.Cursor.{Cursor}
 use Rattle.rows.specs.Written.{Room}
 use Rattle.filling.specs.declared.Filling.{Filling}
@@ -65,7 +66,7 @@ module _ (defs parts attrs : Bytes) (a : ℕ) (txt : Bytes) (h d : ℕ) where
 
 -- ---- what the writers ask
 pub record Asks (c : Cursor) (txt : Bytes) (a h d : ℕ) : Type 0 where
-  pub room : Room c
+  pub room : Room baseWidth c
   pub text : length txt ≤ 32
   pub attributes : a ≤ 64
   pub deep : d + h < 256

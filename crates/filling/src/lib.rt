@@ -8,9 +8,13 @@ ghost use lib.ListN.{length};
 ghost use Rattle.rules.specs.Model.{nothing, filling};
 ghost use Rattle.model.specs.Members.{membersFrom};
 ghost use Rattle.rowpass.specs.Reading.{attributeIn, indexForm};
+ghost use Rattle.records.specs.Records.{baseWidth};
 ghost use Rattle.rows.specs.Written.{Room, Written};
 ghost use Rattle.filling.specs.Fillings.{groupFilled, fillingRows};
 ghost use Rattle.filling.specs.Parts.{memberFilling, valueIn, requiredAt, requiredIn, definitionRows, memberRows, belowRows, membersAt, Asks, Indexed};
+
+/// The width of a value.
+const WIDTH: usize = 32;
 
 /// What a change fills with: nothing, a definition by its index, one row of an attribute by its index, or a group of a kind by the number
 /// of its first member in the particle body and the depth of its members.
@@ -48,19 +52,19 @@ fn put_attribute(
     c: Cursor,
     out: &mut [u8],
 ) -> Cursor
-    requires { ⌜ Room c × (j < 64) × (depth < 256) ⌝ }
-    ensures { λ r. ⌜ Written (requiredAt (now (attrs .entry)) depth i j) c (now (out .entry)) r (now (out .exit)) ⌝ }
+    requires { ⌜ Room baseWidth c × (j < 64) × (depth < 256) ⌝ }
+    ensures { λ r. ⌜ Written baseWidth (requiredAt (now (attrs .entry)) depth i j) c (now (out .entry)) r (now (out .exit)) ⌝ }
 {
     if rowpass::needs(attrs, i, j) {
-        return rows::put_new(2, depth, j, fill_of(attrs, j), c, out);
+        return rows::put_new(WIDTH, 2, depth, j, fill_of(attrs, j), c, out);
     }
     c
 }
 
 // Writes the REQUIRED attributes of definition i, of a attributes.
 fn put_required(i: usize, a: usize, attrs: &[u8], depth: usize, c: Cursor, out: &mut [u8]) -> Cursor
-    requires { ⌜ Room c × (a ≤ 64) × (depth < 256) ⌝ }
-    ensures { λ r. ⌜ Written (requiredIn (now (attrs .entry)) depth i a) c (now (out .entry)) r (now (out .exit)) ⌝ }
+    requires { ⌜ Room baseWidth c × (a ≤ 64) × (depth < 256) ⌝ }
+    ensures { λ r. ⌜ Written baseWidth (requiredIn (now (attrs .entry)) depth i a) c (now (out .entry)) r (now (out .exit)) ⌝ }
 {
     let mut r = c;
     let mut j = 0;
@@ -88,7 +92,7 @@ fn put_group(
     out: &mut [u8],
 ) -> Cursor
     requires { ⌜ (d ≤ 256) × Asks c (now text) a h depth ⌝ }
-    ensures { λ r. ⌜ Written (memberRows (now (defs .entry)) (now (parts .entry)) (now (attrs .entry)) a (now (text .entry)) h depth (filling kind (membersFrom d (now (s .entry))))) c (now (out .entry)) r (now (out .exit)) ⌝ }
+    ensures { λ r. ⌜ Written baseWidth (memberRows (now (defs .entry)) (now (parts .entry)) (now (attrs .entry)) a (now (text .entry)) h depth (filling kind (membersFrom d (now (s .entry))))) c (now (out .entry)) r (now (out .exit)) ⌝ }
 {
     if c.left == 0 {
         return c;
@@ -126,7 +130,7 @@ fn put_member(
     out: &mut [u8],
 ) -> Cursor
     requires { ⌜ (d < 256) × (4 ≤ length (now s)) × Asks c (now text) a h depth ⌝ }
-    ensures { λ r. ⌜ Written (memberRows (now (defs .entry)) (now (parts .entry)) (now (attrs .entry)) a (now (text .entry)) h depth (memberFilling d (now (s .entry)))) c (now (out .entry)) r (now (out .exit)) ⌝ }
+    ensures { λ r. ⌜ Written baseWidth (memberRows (now (defs .entry)) (now (parts .entry)) (now (attrs .entry)) a (now (text .entry)) h depth (memberFilling d (now (s .entry)))) c (now (out .entry)) r (now (out .exit)) ⌝ }
 {
     let p = model::read_particle(s, 0);
     let q = p.quantifier;
@@ -160,12 +164,12 @@ fn put_definition(
     out: &mut [u8],
 ) -> Cursor
     requires { ⌜ (i ≤ 256) × Asks c (now text) a h depth ⌝ }
-    ensures { λ r. ⌜ Written (definitionRows (now (defs .entry)) (now (parts .entry)) (now (attrs .entry)) a (now (text .entry)) h depth i) c (now (out .entry)) r (now (out .exit)) ⌝ }
+    ensures { λ r. ⌜ Written baseWidth (definitionRows (now (defs .entry)) (now (parts .entry)) (now (attrs .entry)) a (now (text .entry)) h depth i) c (now (out .entry)) r (now (out .exit)) ⌝ }
 {
     if h == 0 {
         return c;
     }
-    let e = rows::put_new(1, depth, i, &text[..0], c, out);
+    let e = rows::put_new(WIDTH, 1, depth, i, &text[..0], c, out);
     let r = put_required(i, a, attrs, depth + 1, e, out);
     put_below(i, defs, parts, a, attrs, text, h - 1, depth + 1, r, out)
 }
@@ -184,12 +188,12 @@ fn put_below(
     out: &mut [u8],
 ) -> Cursor
     requires { ⌜ (i ≤ 256) × Asks c (now text) a h depth ⌝ }
-    ensures { λ r. ⌜ Written (belowRows (now (defs .entry)) (now (parts .entry)) (now (attrs .entry)) a (now (text .entry)) h depth i) c (now (out .entry)) r (now (out .exit)) ⌝ }
+    ensures { λ r. ⌜ Written baseWidth (belowRows (now (defs .entry)) (now (parts .entry)) (now (attrs .entry)) a (now (text .entry)) h depth i) c (now (out .entry)) r (now (out .exit)) ⌝ }
 {
     let k = rowpass::kind_of(defs, i);
     match k {
         0 => c,
-        1 => rows::put_new(3, depth, 0, text, c, out),
+        1 => rows::put_new(WIDTH, 3, depth, 0, text, c, out),
         _ => put_group(
             rowpass::model_part(defs, parts, i),
             0,
@@ -223,7 +227,7 @@ fn put_members(
     out: &mut [u8],
 ) -> Cursor
     requires { ⌜ (first ≤ 256) × (d ≤ 256) × Asks c (now text) a h depth ⌝ }
-    ensures { λ r. ⌜ Written (memberRows (now (defs .entry)) (now (parts .entry)) (now (attrs .entry)) a (now (text .entry)) h depth (groupFilled kind (membersAt (now (parts .entry)) first d))) c (now (out .entry)) r (now (out .exit)) ⌝ }
+    ensures { λ r. ⌜ Written baseWidth (memberRows (now (defs .entry)) (now (parts .entry)) (now (attrs .entry)) a (now (text .entry)) h depth (groupFilled kind (membersAt (now (parts .entry)) first d))) c (now (out .entry)) r (now (out .exit)) ⌝ }
 {
     let s = rowpass::cut(parts, 4 * first, parts.len());
     if accepts_nothing(s, d, kind) {
@@ -246,12 +250,12 @@ pub fn put_filling(
     out: &mut [u8],
 ) -> Cursor
     requires { ⌜ Indexed what × Asks c (now text) a n depth ⌝ }
-    ensures { λ r. ⌜ Written (fillingRows (indexForm n (now (defs .entry)) (now (parts .entry)) (now (attrs .entry)) a) (λ j. attributeIn (now (attrs .entry)) j .value) (λ k d. membersAt (now (parts .entry)) k d) what (now (text .entry)) depth) c (now (out .entry)) r (now (out .exit)) ⌝ }
+    ensures { λ r. ⌜ Written baseWidth (fillingRows (indexForm n (now (defs .entry)) (now (parts .entry)) (now (attrs .entry)) a) (λ j. attributeIn (now (attrs .entry)) j .value) (λ k d. membersAt (now (parts .entry)) k d) what (now (text .entry)) depth) c (now (out .entry)) r (now (out .exit)) ⌝ }
 {
     match what {
         Filling::Nothing => c,
         Filling::Definition(i) => put_definition(i, defs, parts, a, attrs, text, n, depth, c, out),
-        Filling::Attribute(j) => rows::put_new(2, depth, j, text, c, out),
+        Filling::Attribute(j) => rows::put_new(WIDTH, 2, depth, j, text, c, out),
         Filling::Particles(k, first, d) => {
             put_members(k, first, d, defs, parts, a, attrs, text, n, depth, c, out)
         }

@@ -98,7 +98,7 @@ put-below-kind-of-requires : (t : ℕ) → put-below-lts.Need-kind-of-requires (
 put-below-kind-of-requires t c κs = search needs
 
 put-below-put-new-requires : (t : ℕ) → put-below-lts.Need-put-new-requires (put-below-calls t) (put-below-at t) put-below.Post
-put-below-put-new-requires t c κs = let q = c .before .before .before .before .before .before .before .before .pre .1 .1 in (q .room, omega (arith, q .deep), omega arith, q .text)
+put-below-put-new-requires t c κs = let q = c .before .before .before .before .before .before .before .before .pre .1 .1 in (omega arith, q .room, omega (arith, q .deep), omega arith, q .text)
 
 put-below-model-part-requires : (t : ℕ) → put-below-lts.Need-model-part-requires (put-below-calls t) (put-below-at t) put-below.Post
 put-below-model-part-requires t c κs = search needs
@@ -128,7 +128,7 @@ put-definition-slice-aggregate-put-new : (t : ℕ) → put-definition-lts.Need-s
 put-definition-slice-aggregate-put-new t c = search needs
 
 put-definition-put-new-requires : (t : ℕ) → put-definition-lts.Need-put-new-requires (put-definition-calls t) (put-definition-at t) put-definition.Post
-put-definition-put-new-requires t c κs = let q = c .before .before .before .before .before .before .before .before .pre .1 .1 in (q .room, omega (arith, q .deep), omega arith, omega arith)
+put-definition-put-new-requires t c κs = let q = c .before .before .before .before .before .before .before .before .pre .1 .1 in (omega arith, q .room, omega (arith, q .deep), omega arith, omega arith)
 
 put-definition-add-put-required : (t : ℕ) → put-definition-lts.Need-add-put-required (put-definition-calls t) (put-definition-at t) put-definition.Post
 put-definition-add-put-required t c = let q = c .before .before .before .before .before .before .before .before .before .before .before .pre .1 .1 in omega (arith, q .deep)

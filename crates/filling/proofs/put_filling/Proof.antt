@@ -17,7 +17,7 @@ enum-known-what-2 : tie.Need-enum-known-what-2
 enum-known-what-2 c = search needs
 
 put-new-requires : tie.Need-put-new-requires
-put-new-requires c κs = let q = c .before .before .before .before .before .before .before .before .before .pre .1 in (q .room, omega (arith, q .deep), filled-attribute (c .before .before .before .before .before .before .before .before .before .args .what) _ (c .before .before .what2 .given .1) (c .before .before .before .before .before .before .before .before .before .pre .0), q .text)
+put-new-requires c κs = let q = c .before .before .before .before .before .before .before .before .before .pre .1 in (omega arith, q .room, omega (arith, q .deep), filled-attribute (c .before .before .before .before .before .before .before .before .before .args .what) _ (c .before .before .what2 .given .1) (c .before .before .before .before .before .before .before .before .before .pre .0), q .text)
 
 enum-known-what-3 : tie.Need-enum-known-what-3
 enum-known-what-3 c = search needs

@@ -248,6 +248,15 @@ module _ (ls : List Line) (l : Line) where
       by true q = absurd (f (eqb-eq (l .row .serial) (serialAt 0 (childrenOf (elementNamed x) k ls)) q ∙ ap (λ (j : ℕ). serialAt 0 (childrenOf (elementNamed x) j ls)) e))
       by false q = q
 
+  cut-back : (form : Form) (o t : Bytes) (new : Quantifier) (f : Option (Found Bytes)) → AtElement (IsCut o new ls l) f → Ruled (pickedPlan (quantifyPlan form ls o t new) f .takes) ls l
+  cut-back form o t new none z = absurd z
+  cut-back form o t new (some f) z = by (f .context) (f .picked) z
+    where
+      by : (c : Context Bytes) (y : Members Bytes) → OfElement (IsCut o new ls l c) y → Ruled (quantifyPlan form ls o t new c y .takes) ls l
+      by c done z = absurd z
+      by c (el old x rest) (s, k, (n, (u, i, e, h)), d) = (u .row, inr (u, i, refl), e, and-both (and-both s k) (and-both h (and-both n (ap not (first-back x (u .row .serial) e d)))))
+      by c (group q k ms rest) z = absurd z
+
   cut : (form : Form) (o t : Bytes) (new : Quantifier) (f : Option (Found Bytes)) → Ruled (pickedPlan (quantifyPlan form ls o t new) f .takes) ls l → AtElement (IsCut o new ls l) f
   cut form o t new none (u, a, e, h) = absurd (false≢true h)
   cut form o t new (some f) z = by (f .context) (f .picked) z
@@ -261,15 +270,6 @@ module _ (ls : List Line) (l : Line) where
           let s₃ = and-split (elementNamed x (l .row)) _ (s₂ .1) in
           (s₁ .0, s₁ .1, (s₃ .0, below-of (elementNamed o) refl u a e (s₂ .0)), first-test x (u .serial) e (not-true _ (s₃ .1)))
       by c (group q k ms rest) (u, a, e, h) = absurd (false≢true h)
-
-  cut-back : (form : Form) (o t : Bytes) (new : Quantifier) (f : Option (Found Bytes)) → AtElement (IsCut o new ls l) f → Ruled (pickedPlan (quantifyPlan form ls o t new) f .takes) ls l
-  cut-back form o t new none z = absurd z
-  cut-back form o t new (some f) z = by (f .context) (f .picked) z
-    where
-      by : (c : Context Bytes) (y : Members Bytes) → OfElement (IsCut o new ls l c) y → Ruled (quantifyPlan form ls o t new c y .takes) ls l
-      by c done z = absurd z
-      by c (el old x rest) (s, k, (n, (u, i, e, h)), d) = (u .row, inr (u, i, refl), e, and-both (and-both s k) (and-both h (and-both n (ap not (first-back x (u .row .serial) e d)))))
-      by c (group q k ms rest) z = absurd z
 
   dropped : (above : Owned → Row → Bool) → ((o : Owned) → above o ground ≡ false) → (o : Option Owned) → Ruled (dropPlan above o .takes) ls l → OfAttribute (IsDropped above ls l) o
   dropped above g none (u, a, e, h) = absurd (false≢true h)

@@ -16,7 +16,7 @@ use Rattle.rules.specs.Model.{Distinct}
 use Rattle.rules.specs.Store.{Row, Forest}
 use Rattle.rules.specs.Lines.{Line, lines, ground}
 use Rattle.rules.specs.Change.{Plan, newRows, number}
-use Rattle.rules.specs.Book.{Entry, stands, taken, untaken, Mark, old, spot, place, placed, spots, expand, spotCount, marks}
+use Rattle.rules.specs.Book.{Entry, stands, taken, untaken, Mark, old, spot, putSpot, placed, spots, expand, spotCount, marks}
 use Rattle.rules.specs.MadeTakenGiven.{linesMade}
 use Rattle.rules.proofs.PlanLaws.{Filled}
 use Rattle.history.specs.History.{serialOf, lineOf, entrySerials, entriesFrom, entriesBelow}
@@ -111,18 +111,18 @@ abbrev rowsOf : List Line → List Row
 rowsOf ls = map (λ (l : Line). l .row) ls
 
 module _ (k : ℕ) where
-  place-times : (later : Row → Bool) (u : ℕ) (below : List ℕ) (ms : List Mark) → times k (spotsIn (place later u below ms)) ≡ ones (eqb k u) + times k (spotsIn ms)
-  unfolding spotsIn place times
+  place-times : (later : Row → Bool) (u : ℕ) (below : List ℕ) (ms : List Mark) → times k (spotsIn (putSpot later u below ms)) ≡ ones (eqb k u) + times k (spotsIn ms)
+  unfolding spotsIn putSpot times
   place-times later u below [] = refl
   place-times later u below (spot v ∷ ms) = omega (arith, place-times later u below ms)
   place-times later u below (old (taken l) ∷ ms) = place-times later u below ms
   place-times later u below (old (stands l) ∷ ms) = by (any (eqb (l .parent)) below && not (eqb (l .parent) u && later (l .row))) refl (place-times later u (l .row .serial ∷ below) ms)
     where
       by : (c : Bool) → (any (eqb (l .parent)) below && not (eqb (l .parent) u && later (l .row))) ≡ c
-          → times k (spotsIn (place later u (l .row .serial ∷ below) ms)) ≡ ones (eqb k u) + times k (spotsIn ms)
-          → times k (spotsIn (place later u below (old (stands l) ∷ ms))) ≡ ones (eqb k u) + times k (spotsIn ms)
-      by true q x = rw (q, place) x
-      by false q x = rw (q, place)
+          → times k (spotsIn (putSpot later u (l .row .serial ∷ below) ms)) ≡ ones (eqb k u) + times k (spotsIn ms)
+          → times k (spotsIn (putSpot later u below (old (stands l) ∷ ms))) ≡ ones (eqb k u) + times k (spotsIn ms)
+      by true q x = rw (q, putSpot) x
+      by false q x = rw (q, putSpot)
 
   -- a row, and the rows after it
   placed-times : (p : Plan) (r : Row) (rs : List Row) (ms : List Mark) → times k (spotsIn ms) ≡ times k (filledIn (p .fills) rs)

@@ -11,8 +11,10 @@ use Rattle.rules.specs.Bytes.{Bytes}
 use Rattle.rules.specs.Preorder.{Deep}
 use Rattle.rules.specs.Layout.{FlatRow}
 use Rattle.rules.specs.Decode.{readRow}
+use Rattle.records.specs.Records.{baseWidth}
 use Rattle.rows.specs.declared.Cursor.{Cursor}
-use Rattle.rows.specs.Written.{Written, movedRow, valuedRow}
+use Rattle.layout.specs.RowBytes.{movedRow, valuedRow}
+use Rattle.rows.specs.Written.{Written}
 use Rattle.rows.proofs.WrittenLaws.{written-none, written-then, written-as}
 use Rattle.editing.specs.declared.Which.{Which}
 use Rattle.editing.specs.declared.Which.the-variants.{Nothing, Everything, Ground, Elements, Attributes, Serial}
@@ -55,10 +57,10 @@ module _ (p : Plan) (o : Open) (h : Head) (u : Bytes) where
 
 -- ---- a filling that is due, and one that is not
 module _ {due : Bool} {c : Cursor} {out : Bytes} where
-  pub owed-put : {w : List (Deep FlatRow)} {r : Cursor} {out′ : Bytes} → due ≡ true → Written w c out r out′ → Written (owed due w) c out r out′
+  pub owed-put : {w : List (Deep FlatRow)} {r : Cursor} {out′ : Bytes} → due ≡ true → Written baseWidth w c out r out′ → Written baseWidth (owed due w) c out r out′
   owed-put {w} e p = written-as (ap (λ (b : Bool). owed b w) e) p
 
-  pub owed-none : (w : List (Deep FlatRow)) → due ≡ false → Written (owed due w) c out c out
+  pub owed-none : (w : List (Deep FlatRow)) → due ≡ false → Written baseWidth (owed due w) c out c out
   owed-none w e = written-as (ap (λ (b : Bool). owed b w) e) written-none
 
 -- ---- a row that is kept
@@ -75,10 +77,10 @@ module _ (p : Plan) (v : Bytes) (h : Head) (row : Bytes) (s : Seen h row) (index
       ap₂ (λ (j : ℕ) (w : Bytes). valuedRow j w row) (sym moved-as) (ap (λ (z : Bool). elim z [ true ↦ v | false ↦ readRow row .row .value ]) t ∙ q)
 
   module _ {c r : Cursor} {out out′ : Bytes} where
-    pub row-valued : h .serial ≡ p .set → Written (valuedRow index v row ∷ []) c out r out′ → Written (keptRow p v (readRow row) ∷ []) c out r out′
+    pub row-valued : h .serial ≡ p .set → Written baseWidth (valuedRow index v row ∷ []) c out r out′ → Written baseWidth (keptRow p v (readRow row) ∷ []) c out r out′
     row-valued q w = written-as (ap (λ (x : Deep FlatRow). x ∷ []) (row-as true (eq-eqb (readRow row .row .serial) (p .set) (sym serial-as ∙ q)) v refl)) w
 
-    pub row-kept : (h .serial ≡ p .set → ⊥) → Written (movedRow index row ∷ []) c out r out′ → Written (keptRow p v (readRow row) ∷ []) c out r out′
+    pub row-kept : (h .serial ≡ p .set → ⊥) → Written baseWidth (movedRow index row ∷ []) c out r out′ → Written baseWidth (keptRow p v (readRow row) ∷ []) c out r out′
     row-kept q w = written-as (ap (λ (x : Deep FlatRow). x ∷ []) (row-as false (ne-eqb (readRow row .row .serial) (p .set) (λ z. q (serial-as ∙ z))) (readRow row .row .value) refl)) w
 
 pub seen : {h : Head} {row : Bytes} → WalkRow row → rowOf h (readRow row .row .value) ≡ readRow row → Seen h row
@@ -103,7 +105,7 @@ module _ (p : Plan) (v : Bytes) (fill : ℕ → List (Deep FlatRow)) (o : Open) 
           opened = g ∙ ap (taken o) (s .is) ∙ ap (λ (z : Bool). elim z [ true ↦ taken o (readRow row) | false ↦ kept p o (readRow row) ]) (sym (is-taken ∙ q));
         }
 
-    pub came-kept : {c d r : Cursor} {out out₁ out′ : Bytes} → b ≡ false → (f : Bool) → f ≡ isFilled p o (bare h) → Written (owed f (fill (h .depth))) c out d out₁ → Written (keptRow p v (readRow row) ∷ []) d out₁ r out′ → (k : Open) → k ≡ kept p o (bare h)
+    pub came-kept : {c d r : Cursor} {out out₁ out′ : Bytes} → b ≡ false → (f : Bool) → f ≡ isFilled p o (bare h) → Written baseWidth (owed f (fill (h .depth))) c out d out₁ → Written baseWidth (keptRow p v (readRow row) ∷ []) d out₁ r out′ → (k : Open) → k ≡ kept p o (bare h)
         → Came (emitted p v fill o (readRow row)) (onward p v fill o (readRow row)) c out (record { cursor = r; opened = k }) out′
     unfolding emitted onward
     came-kept q f ef w₁ w₂ k g =
@@ -130,7 +132,7 @@ module _ (p : Plan) (v : Bytes) (fill : ℕ → List (Deep FlatRow)) (o : Open) 
           opened = ap (λ (z : Bool). elim z [ true ↦ o | false ↦ onward p v fill (closed o (readRow row)) (readRow row) ]) (sym (is-gone ∙ q));
         }
 
-    pub step-on : {c d : Cursor} {r : Stepped} {out out₁ out′ : Bytes} → g ≡ false → (z : Bool) → z ≡ closes o (bare h) → (k : ℕ) → k ≡ o .below - 1 → (u : Open) → u ≡ closed o (bare h) → Written (owed (z && o .due) (fill k)) c out d out₁
+    pub step-on : {c d : Cursor} {r : Stepped} {out out₁ out′ : Bytes} → g ≡ false → (z : Bool) → z ≡ closes o (bare h) → (k : ℕ) → k ≡ o .below - 1 → (u : Open) → u ≡ closed o (bare h) → Written baseWidth (owed (z && o .due) (fill k)) c out d out₁
         → Came (emitted p v fill u (readRow row)) (onward p v fill u (readRow row)) d out₁ r out′ → Came (stepRows p v fill o (readRow row)) (stepOpen p v fill o (readRow row)) c out r out′
     unfolding stepRows stepOpen
     step-on q z ez k ek u eu w m =

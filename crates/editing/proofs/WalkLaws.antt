@@ -13,6 +13,7 @@ use Rattle.rules.specs.Layout.{FlatRow}
 use Rattle.rules.specs.Decode.{readRow}
 use Rattle.codec.proofs.Writers.{tail-seen}
 use Rattle.rowpass.specs.Reading.{rowsIn}
+use Rattle.records.specs.Records.{baseWidth}
 use Rattle.rows.specs.declared.Cursor.{Cursor}
 use Rattle.rows.specs.Written.{Written, Room}
 use Rattle.rows.proofs.WrittenLaws.{written-stop, written-then, written-as, written-long, written-room}
@@ -54,9 +55,9 @@ module _ (p : Plan) (v : Bytes) (fill : ℕ → List (Deep FlatRow)) where
 
 -- ---- the loop
 pub record Going (p : Plan) (v : Bytes) (fill : ℕ → List (Deep FlatRow)) (whole : List (Deep FlatRow)) (c : Cursor) (out : Bytes) (t : Bytes) (m : ℕ) (at : Cursor) (o : Open) (out′ : Bytes) : Type 0 where
-  pub goes : (r : Cursor) (out″ : Bytes) → Written (walked p v fill o (rowsIn m t)) at out′ r out″ → Written whole c out r out″
+  pub goes : (r : Cursor) (out″ : Bytes) → Written baseWidth (walked p v fill o (rowsIn m t)) at out′ r out″ → Written baseWidth whole c out r out″
   pub near : Near o
-  pub room : Room at
+  pub room : Room baseWidth at
   pub rows : WalkRows m t
   pub size : 44 * m ≤ length t
   pub long : length out′ ≡ length out
@@ -65,11 +66,11 @@ near-first : (p : Plan) → Near (atFirst p)
 near-first p = near-if (isGround (p .above)) (record { below = omega arith }) (record { below = omega arith })
 
 module _ {p : Plan} {v : Bytes} {fill : ℕ → List (Deep FlatRow)} where
-  pub going-start : {c : Cursor} {out t : Bytes} {m : ℕ} {o : Open} → WalkRows m t → 44 * m ≤ length t → Room c → o ≡ atFirst p → Going p v fill (walked p v fill (atFirst p) (rowsIn m t)) c out t m c o out
+  pub going-start : {c : Cursor} {out t : Bytes} {m : ℕ} {o : Open} → WalkRows m t → 44 * m ≤ length t → Room baseWidth c → o ≡ atFirst p → Going p v fill (walked p v fill (atFirst p) (rowsIn m t)) c out t m c o out
   going-start {t = t} {m = m} w h r e = record { goes = λ r′ out″ k. written-as (ap (λ (z : Open). walked p v fill z (rowsIn m t)) (sym e)) k; near = rw e (near-first p); room = r; rows = w; size = h; long = refl }
 
   module _ {whole : List (Deep FlatRow)} {c : Cursor} {out t : Bytes} {m : ℕ} {at : Cursor} {o : Open} {out′ : Bytes} (g : Going p v fill whole c out t m at o out′) where
-    pub going-stop : at .left ≡ 0 → Written whole c out at out′
+    pub going-stop : at .left ≡ 0 → Written baseWidth whole c out at out′
     going-stop e = g .goes at out′ (written-stop e)
 
     pub going-step : 0 < m → {s : Stepped} {out₁ : Bytes} → Came (stepRows p v fill o (readRow (take 44 t))) (stepOpen p v fill o (readRow (take 44 t))) at out′ s out₁
@@ -88,6 +89,6 @@ module _ {p : Plan} {v : Bytes} {fill : ℕ → List (Deep FlatRow)} where
         after : walked p v fill o (rowsIn m t) ≡ stepRows p v fill o (readRow (take 44 t)) ++ walked p v fill (stepOpen p v fill o (readRow (take 44 t))) (rowsIn (m - 1) (drop 44 t))
         after = ap (walked p v fill o) (rows-step m t h) ∙ walked-cons p v fill o (readRow (take 44 t)) (rowsIn (m - 1) (drop 44 t))
 
-    pub going-end : m ≡ 0 → (k : ℕ) → k ≡ o .below - 1 → {r : Cursor} {out″ : Bytes} → Written (owed (o .due) (fill k)) at out′ r out″ → Written whole c out r out″
+    pub going-end : m ≡ 0 → (k : ℕ) → k ≡ o .below - 1 → {r : Cursor} {out″ : Bytes} → Written baseWidth (owed (o .due) (fill k)) at out′ r out″ → Written baseWidth whole c out r out″
     going-end e k ek {r} {out″} w =
         g .goes r out″ (written-as (ap (λ (n : ℕ). walked p v fill o (rowsIn n t)) e ∙ walked-none p v fill o ∙ ap (λ (n : ℕ). owed (o .due) (fill n)) (sym ek)) w)

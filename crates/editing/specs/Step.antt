@@ -10,6 +10,7 @@ use Rattle.rules.specs.Preorder.{Deep}
 use Rattle.rules.specs.Layout.{FlatRow}
 use Rattle.rules.specs.Decode.{readRow}
 use Rattle.rowpass.specs.Reading.{indexForm, attributeIn}
+use Rattle.records.specs.Records.{baseWidth}
 use Rattle.rows.specs.declared.Cursor.{Cursor}
 use Rattle.rows.specs.Written.{Written, OldRow}
 use Rattle.filling.specs.Fillings.{fillingRows}
@@ -38,7 +39,7 @@ module _ (p : Plan) (v : Bytes) (fill : ℕ → List (Deep FlatRow)) where
 
 -- the rows xs were written, and o is open after them
 pub record Came (xs : List (Deep FlatRow)) (o : Open) (c : Cursor) (out : Bytes) (r : Stepped) (out′ : Bytes) : Type 0 where
-  pub written : Written xs c out (r .cursor) out′
+  pub written : Written baseWidth xs c out (r .cursor) out′
   pub opened : r .opened ≡ o
 
 -- the filling of a plan at a depth, from the bytes of the form
@@ -71,14 +72,14 @@ pub record Near (o : Open) : Type 0 where
 
 -- the bytes of an old row; a store that passes has no row deeper than 64
 pub record WalkRow (row : Bytes) : Type 0 where
-  pub old : OldRow row
+  pub old : OldRow baseWidth row
   pub depth : readRow row .depth ≤ 80
   pub index : readRow row .row .index ≤ 1000
 
 -- h is what was read of it
 pub record Seen (h : Head) (row : Bytes) : Type 0 where
   pub is : rowOf h (readRow row .row .value) ≡ readRow row
-  pub old : OldRow row
+  pub old : OldRow baseWidth row
   pub fair : Fair h
 
 -- count rows, one after the other

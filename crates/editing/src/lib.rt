@@ -7,9 +7,13 @@ ghost use Prim.Native.Nat.{_+_, _*_, _-_, _≤_, _<_};
 ghost use lib.ListN.{length};
 ghost use Rattle.rules.specs.Decode.{readRow};
 ghost use Rattle.rowpass.specs.Reading.{rowsIn};
+ghost use Rattle.records.specs.Records.{baseWidth};
 ghost use Rattle.rows.specs.Written.{Written, Room};
 ghost use Rattle.editing.specs.Walk.{matches, isEverything, isGround, markOf, isLater, spared, shifted, movedIndex, keptRow, gone, closes, closed, isBelow, isTaken, isFilled, taken, kept, owed, emitted, onward, walked, atFirst};
 ghost use Rattle.editing.specs.Step.{rowOf, bare, stepRows, stepOpen, Came, fillOf, Moves, Planned, Ready, Fair, Near, WalkRow, Seen, WalkRows};
+
+/// The width of a value.
+const WIDTH: usize = 32;
 
 /// Some rows: none; every row, and what stands above the documents; that alone; the elements of a definition; the rows of an attribute; the
 /// element with a serial.
@@ -320,8 +324,8 @@ fn put_owed<'a>(
     c: Cursor,
     out: &mut [u8],
 ) -> Cursor
-    requires { ⌜ Ready n a (now text) p × Room c × (depth ≤ 81) ⌝ }
-    ensures { λ r. ⌜ Written (owed due (fillOf n (now (defs .entry)) (now (parts .entry)) a (now (attrs .entry)) p (now (text .entry)) depth)) c (now (out .entry)) r (now (out .exit)) ⌝ }
+    requires { ⌜ Ready n a (now text) p × Room baseWidth c × (depth ≤ 81) ⌝ }
+    ensures { λ r. ⌜ Written baseWidth (owed due (fillOf n (now (defs .entry)) (now (parts .entry)) a (now (attrs .entry)) p (now (text .entry)) depth)) c (now (out .entry)) r (now (out .exit)) ⌝ }
 {
     if due {
         let what = p.filling;
@@ -332,14 +336,14 @@ fn put_owed<'a>(
 
 // A row that is kept.
 fn put_row(p: Plan, text: &[u8], h: Head, row: &[u8], c: Cursor, out: &mut [u8]) -> Cursor
-    requires { ⌜ Planned p × (length (now text) ≤ 32) × Seen h (now row) × Room c ⌝ }
-    ensures { λ r. ⌜ Written (keptRow p (now (text .entry)) (readRow (now (row .entry))) ∷ []) c (now (out .entry)) r (now (out .exit)) ⌝ }
+    requires { ⌜ Planned p × (length (now text) ≤ 32) × Seen h (now row) × Room baseWidth c ⌝ }
+    ensures { λ r. ⌜ Written baseWidth (keptRow p (now (text .entry)) (readRow (now (row .entry))) ∷ []) c (now (out .entry)) r (now (out .exit)) ⌝ }
 {
     let index = moved_index(p, h);
     if h.serial == p.set {
-        return rows::put_valued(row, index, text, c, out);
+        return rows::put_valued(WIDTH, row, index, text, c, out);
     }
-    rows::put_kept(row, index, c, out)
+    rows::put_kept(WIDTH, row, index, c, out)
 }
 
 // What comes of a row, where what it closes is closed.
@@ -357,7 +361,7 @@ fn come<'a>(
     c: Cursor,
     out: &mut [u8],
 ) -> Stepped
-    requires { ⌜ Ready n a (now text) p × Seen h (now row) × Room c ⌝ }
+    requires { ⌜ Ready n a (now text) p × Seen h (now row) × Room baseWidth c ⌝ }
     ensures { λ r. ⌜ Came (emitted p (now (text .entry)) (fillOf n (now (defs .entry)) (now (parts .entry)) a (now (attrs .entry)) p (now (text .entry))) o (readRow (now (row .entry)))) (onward p (now (text .entry)) (fillOf n (now (defs .entry)) (now (parts .entry)) a (now (attrs .entry)) p (now (text .entry))) o (readRow (now (row .entry)))) c (now (out .entry)) r (now (out .exit)) ⌝ }
 {
     if is_taken(p, o, h) {
@@ -389,7 +393,7 @@ fn step<'a>(
     c: Cursor,
     out: &mut [u8],
 ) -> Stepped
-    requires { ⌜ Ready n a (now text) p × WalkRow (now row) × Near o × Room c ⌝ }
+    requires { ⌜ Ready n a (now text) p × WalkRow (now row) × Near o × Room baseWidth c ⌝ }
     ensures { λ r. ⌜ Came (stepRows p (now (text .entry)) (fillOf n (now (defs .entry)) (now (parts .entry)) a (now (attrs .entry)) p (now (text .entry))) o (readRow (now (row .entry)))) (stepOpen p (now (text .entry)) (fillOf n (now (defs .entry)) (now (parts .entry)) a (now (attrs .entry)) p (now (text .entry))) o (readRow (now (row .entry)))) c (now (out .entry)) r (now (out .exit)) ⌝ }
 {
     let h = read_head(row);
@@ -420,8 +424,8 @@ pub fn walk<'a>(
     c: Cursor,
     out: &mut [u8],
 ) -> Cursor
-    requires { ⌜ Ready n a (now text) plan × WalkRows count (now rows) × (44 * count ≤ length (now rows)) × Room c ⌝ }
-    ensures { λ r. ⌜ Written (walked plan (now (text .entry)) (fillOf n (now (defs .entry)) (now (parts .entry)) a (now (attrs .entry)) plan (now (text .entry))) (atFirst plan) (rowsIn count (now (rows .entry)))) c (now (out .entry)) r (now (out .exit)) ⌝ }
+    requires { ⌜ Ready n a (now text) plan × WalkRows count (now rows) × (44 * count ≤ length (now rows)) × Room baseWidth c ⌝ }
+    ensures { λ r. ⌜ Written baseWidth (walked plan (now (text .entry)) (fillOf n (now (defs .entry)) (now (parts .entry)) a (now (attrs .entry)) plan (now (text .entry))) (atFirst plan) (rowsIn count (now (rows .entry)))) c (now (out .entry)) r (now (out .exit)) ⌝ }
 {
     let mut t = rows;
     let mut m = count;

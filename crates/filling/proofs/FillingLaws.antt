@@ -28,6 +28,7 @@ use Rattle.model.proofs.FactsLaws.{facts-nothing}
 use Rattle.model.proofs.MembersLaws.{members-few, members-deeper, members-stop, members-here}
 use Rattle.rowpass.specs.Indices.{IndexForm}
 use Rattle.rowpass.specs.Reading.{recordAt, definitionIn, attributeIn, particlesBefore, modelPart, attributesOf, indexForm}
+use Rattle.records.specs.Records.{baseWidth}
 use Rattle.rows.specs.declared.Cursor.{Cursor}
 use Rattle.rows.specs.Written.{Written, Room, newRow}
 use Rattle.rows.proofs.WrittenLaws.{written-none, written-then, written-as, written-room, written-long}
@@ -82,18 +83,18 @@ module _ (attrs : Bytes) (d i : ℕ) where
       by true = refl
       by false = refl
 
-  pub spare-written : (j : ℕ) {b : Bool} {c : Cursor} {out : Bytes} → b ≡ (eqb (attributeIn attrs j .owner) i && mustBePresent (sortOf (attributeIn attrs j .sort))) → b ≡ false → Written (requiredAt attrs d i j) c out c out
+  pub spare-written : (j : ℕ) {b : Bool} {c : Cursor} {out : Bytes} → b ≡ (eqb (attributeIn attrs j .owner) i && mustBePresent (sortOf (attributeIn attrs j .sort))) → b ≡ false → Written baseWidth (requiredAt attrs d i j) c out c out
   spare-written j e f = written-as (required-at j e ∙ ap (λ (z : Bool). rowIf z (newAttribute d j (valueIn attrs j))) f) written-none
 
-  pub needed-written : (j : ℕ) {b : Bool} {v : Bytes} {c r : Cursor} {out out′ : Bytes} → b ≡ (eqb (attributeIn attrs j .owner) i && mustBePresent (sortOf (attributeIn attrs j .sort))) → b ≡ true → v ≡ valueIn attrs j → Written (newRow 2 d j v ∷ []) c out r out′
-      → Written (requiredAt attrs d i j) c out r out′
+  pub needed-written : (j : ℕ) {b : Bool} {v : Bytes} {c r : Cursor} {out out′ : Bytes} → b ≡ (eqb (attributeIn attrs j .owner) i && mustBePresent (sortOf (attributeIn attrs j .sort))) → b ≡ true → v ≡ valueIn attrs j → Written baseWidth (newRow 2 d j v ∷ []) c out r out′
+      → Written baseWidth (requiredAt attrs d i j) c out r out′
   needed-written j e t w p = written-as (required-at j e ∙ ap (λ (z : Bool). rowIf z (newAttribute d j (valueIn attrs j))) t ∙ ap (λ (z : Bytes). newAttribute d j z ∷ []) (sym w)) p
 
-  pub required-none : {c : Cursor} {out : Bytes} → Written (requiredIn attrs d i 0) c out c out
+  pub required-none : {c : Cursor} {out : Bytes} → Written baseWidth (requiredIn attrs d i 0) c out c out
   unfolding requiredIn requiredRows
   required-none = written-none
 
-  pub required-on : (j : ℕ) {c r r′ : Cursor} {out out′ out″ : Bytes} → Written (requiredIn attrs d i j) c out r out′ → Written (requiredAt attrs d i j) r out′ r′ out″ → Written (requiredIn attrs d i (j + 1)) c out r′ out″
+  pub required-on : (j : ℕ) {c r r′ : Cursor} {out out′ out″ : Bytes} → Written baseWidth (requiredIn attrs d i j) c out r out′ → Written baseWidth (requiredAt attrs d i j) r out′ r′ out″ → Written baseWidth (requiredIn attrs d i (j + 1)) c out r′ out″
   unfolding requiredIn requiredAt
   required-on j p q =
       let e : 0 + j ≡ j = omega arith in
@@ -101,7 +102,7 @@ module _ (attrs : Bytes) (d i : ℕ) where
 
 -- the attributes below j are written
 pub record Putting (attrs : Bytes) (d i a : ℕ) (c : Cursor) (out : Bytes) (r : Cursor) (out′ : Bytes) (j : ℕ) : Type 0 where
-  pub written : Written (requiredIn attrs d i j) c out r out′
+  pub written : Written baseWidth (requiredIn attrs d i j) c out r out′
   pub low : j ≤ a
 
 -- ---- the members of depth d that s begins with
@@ -195,7 +196,7 @@ module _ (defs parts attrs : Bytes) (a : ℕ) (txt : Bytes) where
       ap₂ (λ (u v : List (Deep FlatRow)). newElement d i ∷ (u ++ v)) (form-required n a 0 defs parts attrs (valueIn attrs) (suc d) i 0 a ∙ sym (form-required 0 a 0 defs parts attrs (valueIn attrs) (suc d) i 0 a))
       (form-content n 0 a defs parts attrs (valueIn attrs) (λ j. fillIndex (indexForm n defs parts attrs a) (valueIn attrs) h txt (suc d) j) (λ j. fillIndex (indexForm 0 defs parts attrs a) (valueIn attrs) h txt (suc d) j) (λ j. sized n h (suc d) j) txt (suc d) (membersOf (modelPart defs parts i)) (definitionIn defs i .kind))
 
-  pub definition-sized : (n d i : ℕ) {c r : Cursor} {out out′ : Bytes} → Written (definitionRows defs parts attrs a txt n d i) c out r out′ → Written (fillIndex (indexForm n defs parts attrs a) (valueIn attrs) n txt d i) c out r out′
+  pub definition-sized : (n d i : ℕ) {c r : Cursor} {out out′ : Bytes} → Written baseWidth (definitionRows defs parts attrs a txt n d i) c out r out′ → Written baseWidth (fillIndex (indexForm n defs parts attrs a) (valueIn attrs) n txt d i) c out r out′
   unfolding definitionRows
   definition-sized n d i p = written-as (sized n n d i) p
 
@@ -206,12 +207,12 @@ module _ (defs parts attrs : Bytes) (a : ℕ) (txt : Bytes) where
 
   module _ (h d : ℕ) where
     -- ---- a definition
-    pub definition-low : (i : ℕ) {c : Cursor} {out : Bytes} → h ≡ 0 → Written (definitionRows defs parts attrs a txt h d i) c out c out
+    pub definition-low : (i : ℕ) {c : Cursor} {out : Bytes} → h ≡ 0 → Written baseWidth (definitionRows defs parts attrs a txt h d i) c out c out
     unfolding definitionRows fillIndex
     definition-low i e = rw e written-none
 
-    pub definition-written : (i : ℕ) {c e r r′ : Cursor} {out out₁ out₂ out′ : Bytes} → (h ≡ 0 → ⊥) → Written (newRow 1 d i [] ∷ []) c out e out₁ → Written (requiredIn attrs (d + 1) i a) e out₁ r out₂
-        → Written (belowRows defs parts attrs a txt (h - 1) (d + 1) i) r out₂ r′ out′ → Written (definitionRows defs parts attrs a txt h d i) c out r′ out′
+    pub definition-written : (i : ℕ) {c e r r′ : Cursor} {out out₁ out₂ out′ : Bytes} → (h ≡ 0 → ⊥) → Written baseWidth (newRow 1 d i [] ∷ []) c out e out₁ → Written baseWidth (requiredIn attrs (d + 1) i a) e out₁ r out₂
+        → Written baseWidth (belowRows defs parts attrs a txt (h - 1) (d + 1) i) r out₂ r′ out′ → Written baseWidth (definitionRows defs parts attrs a txt h d i) c out r′ out′
     definition-written i {c} {e} {r} {r′} {out} {out₁} {out₂} {out′} n p q s = written-as (by h n) (written-then p (written-then q s))
       where
         by : (k : ℕ) → (k ≡ 0 → ⊥) → definitionRows defs parts attrs a txt k d i ≡ newElement d i ∷ (requiredIn attrs (d + 1) i a ++ belowRows defs parts attrs a txt (k - 1) (d + 1) i)
@@ -226,16 +227,16 @@ module _ (defs parts attrs : Bytes) (a : ℕ) (txt : Bytes) where
       unfolding belowRows
       kind-told = ap (λ (z : ℕ). contentRows (formIn defs parts attrs a) (valueIn attrs) (λ j. definitionRows defs parts attrs a txt h d j) txt d (membersOf (modelPart defs parts i)) z) (sym e)
 
-      pub below-none : {c : Cursor} {out : Bytes} → k ≡ 0 → Written (belowRows defs parts attrs a txt h d i) c out c out
+      pub below-none : {c : Cursor} {out : Bytes} → k ≡ 0 → Written baseWidth (belowRows defs parts attrs a txt h d i) c out c out
       unfolding contentRows
       below-none z = written-as (kind-told ∙ rw z) written-none
 
-      pub below-text : {c r : Cursor} {out out′ : Bytes} → k ≡ 1 → Written (newRow 3 d 0 txt ∷ []) c out r out′ → Written (belowRows defs parts attrs a txt h d i) c out r out′
+      pub below-text : {c r : Cursor} {out out′ : Bytes} → k ≡ 1 → Written baseWidth (newRow 3 d 0 txt ∷ []) c out r out′ → Written baseWidth (belowRows defs parts attrs a txt h d i) c out r out′
       unfolding contentRows
       below-text z p = written-as (kind-told ∙ rw z) p
 
-      pub below-group : (s : Bytes) {c r : Cursor} {out out′ : Bytes} → (k ≡ 0 → ⊥) → (k ≡ 1 → ⊥) → s ≡ modelPart defs parts i → Written (memberRows defs parts attrs a txt h d (filling Sequence (membersFrom 0 s))) c out r out′
-          → Written (belowRows defs parts attrs a txt h d i) c out r out′
+      pub below-group : (s : Bytes) {c r : Cursor} {out out′ : Bytes} → (k ≡ 0 → ⊥) → (k ≡ 1 → ⊥) → s ≡ modelPart defs parts i → Written baseWidth (memberRows defs parts attrs a txt h d (filling Sequence (membersFrom 0 s))) c out r out′
+          → Written baseWidth (belowRows defs parts attrs a txt h d i) c out r out′
       unfolding contentRows memberRows
       below-group s n m q p = written-as (kind-told ∙ by k n m ∙ ap (λ (z : Bytes). memberRows defs parts attrs a txt h d (filling Sequence (membersFrom 0 z))) (sym q)) p
         where
@@ -255,37 +256,37 @@ module _ (defs parts attrs : Bytes) (a : ℕ) (txt : Bytes) where
         ∙ sym (append-assoc (definitionRows defs parts attrs a txt h d i) (memberRows defs parts attrs a txt h d u) (memberRows defs parts attrs a txt h d v))
 
     module _ (f : List ℕ) where
-      pub none-written : {c : Cursor} {out : Bytes} → f ≡ [] → Written (memberRows defs parts attrs a txt h d f) c out c out
+      pub none-written : {c : Cursor} {out : Bytes} → f ≡ [] → Written baseWidth (memberRows defs parts attrs a txt h d f) c out c out
       unfolding memberRows fillingsOf
       none-written e = rw e written-none
 
-      pub one-written : (i : ℕ) {c r : Cursor} {out out′ : Bytes} → f ≡ i ∷ [] → Written (definitionRows defs parts attrs a txt h d i) c out r out′ → Written (memberRows defs parts attrs a txt h d f) c out r out′
+      pub one-written : (i : ℕ) {c r : Cursor} {out out′ : Bytes} → f ≡ i ∷ [] → Written baseWidth (definitionRows defs parts attrs a txt h d i) c out r out′ → Written baseWidth (memberRows defs parts attrs a txt h d f) c out r out′
       unfolding memberRows fillingsOf
       one-written i e p = written-as (ap (λ (z : List ℕ). memberRows defs parts attrs a txt h d z) e ∙ append-nil (definitionRows defs parts attrs a txt h d i)) p
 
-      pub same-written : (g : List ℕ) {c r : Cursor} {out out′ : Bytes} → f ≡ g → Written (memberRows defs parts attrs a txt h d g) c out r out′ → Written (memberRows defs parts attrs a txt h d f) c out r out′
+      pub same-written : (g : List ℕ) {c r : Cursor} {out out′ : Bytes} → f ≡ g → Written baseWidth (memberRows defs parts attrs a txt h d g) c out r out′ → Written baseWidth (memberRows defs parts attrs a txt h d f) c out r out′
       same-written g e p = written-as (ap (λ (z : List ℕ). memberRows defs parts attrs a txt h d z) e) p
 
       -- of a group's first member, u, and of the others, v
       module _ (k : GroupKind) (u v : List ℕ) (e : f ≡ beside k u v) where
-        pub list-written : {c r r′ : Cursor} {out out′ out″ : Bytes} → k ≡ Sequence → Written (memberRows defs parts attrs a txt h d u) c out r out′ → Written (memberRows defs parts attrs a txt h d v) r out′ r′ out″
-            → Written (memberRows defs parts attrs a txt h d f) c out r′ out″
+        pub list-written : {c r r′ : Cursor} {out out′ out″ : Bytes} → k ≡ Sequence → Written baseWidth (memberRows defs parts attrs a txt h d u) c out r out′ → Written baseWidth (memberRows defs parts attrs a txt h d v) r out′ r′ out″
+            → Written baseWidth (memberRows defs parts attrs a txt h d f) c out r′ out″
         list-written q p s = written-as (ap (λ (z : List ℕ). memberRows defs parts attrs a txt h d z) (e ∙ ap (λ (z : GroupKind). beside z u v) q) ∙ members-more u v) (written-then p s)
 
-        pub first-written : {c r : Cursor} {out out′ : Bytes} → k ≡ Choice → Written (memberRows defs parts attrs a txt h d u) c out r out′ → Written (memberRows defs parts attrs a txt h d f) c out r out′
+        pub first-written : {c r : Cursor} {out out′ : Bytes} → k ≡ Choice → Written baseWidth (memberRows defs parts attrs a txt h d u) c out r out′ → Written baseWidth (memberRows defs parts attrs a txt h d f) c out r out′
         first-written q p = same-written u (e ∙ ap (λ (z : GroupKind). beside z u v) q) p
 
 -- ---- the members of a group, one after the other
 -- the members of depth e from t on are still to be written; once they are, all from s on are
 pub record Rest (defs parts attrs : Bytes) (a : ℕ) (txt : Bytes) (h d : ℕ) (k : GroupKind) (e : ℕ) (s : Bytes) (c : Cursor) (out t : Bytes) (r : Cursor) (out′ : Bytes) : Type 0 where
-  pub rest : {r′ : Cursor} {out″ : Bytes} → Written (memberRows defs parts attrs a txt h d (filling k (membersFrom e t))) r out′ r′ out″
-      → Written (memberRows defs parts attrs a txt h d (filling k (membersFrom e s))) c out r′ out″
-  pub room : Room r
+  pub rest : {r′ : Cursor} {out″ : Bytes} → Written baseWidth (memberRows defs parts attrs a txt h d (filling k (membersFrom e t))) r out′ r′ out″
+      → Written baseWidth (memberRows defs parts attrs a txt h d (filling k (membersFrom e s))) c out r′ out″
+  pub room : Room baseWidth r
   pub short : length t ≤ length s
   pub long : length out′ ≡ length out
 
 module _ {defs parts attrs : Bytes} {a : ℕ} {txt : Bytes} {h d : ℕ} {k : GroupKind} {e : ℕ} {s : Bytes} {c : Cursor} {out : Bytes} where
-  pub rest-starts : Room c → Rest defs parts attrs a txt h d k e s c out s c out
+  pub rest-starts : Room baseWidth c → Rest defs parts attrs a txt h d k e s c out s c out
   rest-starts m = record { rest = λ p. p; room = m; short = omega arith; long = refl }
 
   -- after the particle that t begins with, whose depth is own
@@ -303,7 +304,7 @@ module _ {defs parts attrs : Bytes} {a : ℕ} {txt : Bytes} {h d : ℕ} {k : Gro
           long = i .long;
         }
 
-    module _ (m : own ≤ e) (n : e ≤ own) {r′ : Cursor} {out″ : Bytes} (p : Written (memberRows defs parts attrs a txt h d (memberFilling e t)) r out′ r′ out″) where
+    module _ (m : own ≤ e) (n : e ≤ own) {r′ : Cursor} {out″ : Bytes} (p : Written baseWidth (memberRows defs parts attrs a txt h d (memberFilling e t)) r out′ r′ out″) where
       -- it is a member of a LIST, and was written
       pub rest-on : k ≡ Sequence → Rest defs parts attrs a txt h d k e s c out (take (length t - 4) (drop 4 t)) r′ out″
       rest-on q =
@@ -315,15 +316,15 @@ module _ {defs parts attrs : Bytes} {a : ℕ} {txt : Bytes} {h d : ℕ} {k : Gro
           }
 
       -- it is the first member of a CHOICE
-      pub rest-first : k ≡ Choice → Written (memberRows defs parts attrs a txt h d (filling k (membersFrom e s))) c out r′ out″
+      pub rest-first : k ≡ Choice → Written baseWidth (memberRows defs parts attrs a txt h d (filling k (membersFrom e s))) c out r′ out″
       rest-first q = i .rest (first-written defs parts attrs a txt h d (filling k (membersFrom e t)) k (memberFilling e t) (filling k (membersFrom e (take (length t - 4) (drop 4 t)))) (group-here e k t own l g m n) q p)
 
     -- it stands outside the group
-    pub rest-over : own < e → Written (memberRows defs parts attrs a txt h d (filling k (membersFrom e s))) c out r out′
+    pub rest-over : own < e → Written baseWidth (memberRows defs parts attrs a txt h d (filling k (membersFrom e s))) c out r out′
     rest-over m = i .rest (none-written defs parts attrs a txt h d (filling k (membersFrom e t)) (group-stop e k t own l g m))
 
   -- there is no particle more
-  pub rest-ends : {t : Bytes} {r : Cursor} {out′ : Bytes} → Rest defs parts attrs a txt h d k e s c out t r out′ → length t < 4 → Written (memberRows defs parts attrs a txt h d (filling k (membersFrom e s))) c out r out′
+  pub rest-ends : {t : Bytes} {r : Cursor} {out′ : Bytes} → Rest defs parts attrs a txt h d k e s c out t r out′ → length t < 4 → Written baseWidth (memberRows defs parts attrs a txt h d (filling k (membersFrom e s))) c out r out′
   rest-ends {t} i l = i .rest (none-written defs parts attrs a txt h d (filling k (membersFrom e t)) (group-few e k t l))
 
 -- ---- an index in a particle is a byte
@@ -371,16 +372,16 @@ module _ (n : ℕ) (defs parts attrs : Bytes) (a : ℕ) (what : Filling) (txt : 
   abbrev rowsFor : Filling → List (Deep FlatRow)
   rowsFor x = fillingRows (indexForm n defs parts attrs a) (valueIn attrs) (λ k e. membersAt parts k e) x txt d
 
-  pub nothing-filled : {c : Cursor} {out : Bytes} → what ≡ Nothing → Written (rowsFor what) c out c out
+  pub nothing-filled : {c : Cursor} {out : Bytes} → what ≡ Nothing → Written baseWidth (rowsFor what) c out c out
   nothing-filled e = written-as (ap (λ (x : Filling). rowsFor x) e) written-none
 
-  pub definition-filled : (i : ℕ) {c r : Cursor} {out out′ : Bytes} → what ≡ Definition i → Written (definitionRows defs parts attrs a txt n d i) c out r out′ → Written (rowsFor what) c out r out′
+  pub definition-filled : (i : ℕ) {c r : Cursor} {out out′ : Bytes} → what ≡ Definition i → Written baseWidth (definitionRows defs parts attrs a txt n d i) c out r out′ → Written baseWidth (rowsFor what) c out r out′
   definition-filled i e p = written-as (ap (λ (x : Filling). rowsFor x) e) (definition-sized defs parts attrs a txt n d i p)
 
-  pub attribute-filled : (j : ℕ) {c r : Cursor} {out out′ : Bytes} → what ≡ Attribute j → Written (newRow 2 d j txt ∷ []) c out r out′ → Written (rowsFor what) c out r out′
+  pub attribute-filled : (j : ℕ) {c r : Cursor} {out out′ : Bytes} → what ≡ Attribute j → Written baseWidth (newRow 2 d j txt ∷ []) c out r out′ → Written baseWidth (rowsFor what) c out r out′
   attribute-filled j e p = written-as (ap (λ (x : Filling). rowsFor x) e) p
 
-  pub particles-filled : (g : GroupKind) (k e : ℕ) {c r : Cursor} {out out′ : Bytes} → what ≡ Particles g k e → Written (memberRows defs parts attrs a txt n d (groupFilled g (membersAt parts k e))) c out r out′ → Written (rowsFor what) c out r out′
+  pub particles-filled : (g : GroupKind) (k e : ℕ) {c r : Cursor} {out out′ : Bytes} → what ≡ Particles g k e → Written baseWidth (memberRows defs parts attrs a txt n d (groupFilled g (membersAt parts k e))) c out r out′ → Written baseWidth (rowsFor what) c out r out′
   unfolding memberRows definitionRows
   particles-filled g k e q p =
       written-as

@@ -16,6 +16,7 @@ use Rattle.model.specs.Particle.{particleOf}
 use Rattle.model.specs.Members.{membersFrom, membersOf}
 use Rattle.rowpass.specs.Indices.{IndexForm}
 use Rattle.rowpass.specs.Reading.{definitionIn, attributeIn, modelPart, attributesOf, indexForm}
+use Rattle.records.specs.Records.{baseWidth}
 use Rattle.rows.specs.declared.Cursor.{Cursor}
 use Rattle.rows.specs.Written.{Room}
 use Rattle.filling.specs.declared.Filling.{Filling}
@@ -96,7 +97,7 @@ cursorIn l = record { at = getD l 0 0; left = getD l 1 0; serial = getD l 2 0 }
 
 -- ---- what the writers ask
 pub record Asks (c : Cursor) (txt : Bytes) (a h d : ℕ) : Type 0 where
-  pub room : Room c
+  pub room : Room baseWidth c
   pub text : length txt ≤ 32
   pub attributes : a ≤ 64
   pub deep : d + h < 256

@@ -9,9 +9,13 @@ ghost use lib.ListN.{length};
 ghost use Rattle.rules.specs.Model.{nothing, filling};
 ghost use Rattle.model.specs.Members.{membersFrom};
 ghost use Rattle.rowpass.specs.Reading.{attributeIn, indexForm};
+ghost use Rattle.records.specs.Records.{baseWidth};
 ghost use Rattle.rows.specs.Written.{Room, Written, newRow};
 ghost use Rattle.filling.specs.Fillings.{groupFilled, fillingRows};
 ghost use Rattle.filling.specs.Parts.{memberFilling, valueIn, requiredAt, requiredIn, membersAt, partsIn, definitionFilled, membersFilled, belowFilled, changeFilled, cursorIn, Asks, Indexed};
+
+/// The width of a value.
+const WIDTH: usize = 32;
 
 /// What a change fills with: nothing, a definition by its index, one row of an attribute by its index, or a group of a kind by the number
 /// of its first member in the particle body and the depth of its members.
@@ -46,22 +50,22 @@ fn created_value(attrs: &[u8], j: usize) -> &[u8]
 
 // Writes one row.
 fn put_row(sort: u8, depth: usize, index: usize, value: &[u8], c: &mut [usize; 3], out: &mut [u8])
-    requires { ⌜ Room (cursorIn (now c)) × (depth < 256) × (index < 65536) × (length (now value) ≤ 32) ⌝ }
-    ensures { λ _. ⌜ Written (newRow sort depth index (now (value .entry)) ∷ []) (cursorIn (now (c .entry))) (now (out .entry)) (cursorIn (now (c .exit))) (now (out .exit)) ⌝ }
+    requires { ⌜ Room baseWidth (cursorIn (now c)) × (depth < 256) × (index < 65536) × (length (now value) ≤ 32) ⌝ }
+    ensures { λ _. ⌜ Written baseWidth (newRow sort depth index (now (value .entry)) ∷ []) (cursorIn (now (c .entry))) (now (out .entry)) (cursorIn (now (c .exit))) (now (out .exit)) ⌝ }
 {
     let from = Cursor {
         at: c[0],
         left: c[1],
         serial: c[2],
     };
-    let r = rows::put_new(sort, depth, index, value, from, out);
+    let r = rows::put_new(WIDTH, sort, depth, index, value, from, out);
     *c = [r.at, r.left, r.serial];
 }
 
 // Writes attribute j, if it is one that definition i needs.
 fn put_attribute(i: usize, j: usize, attrs: &[u8], depth: usize, c: &mut [usize; 3], out: &mut [u8])
-    requires { ⌜ Room (cursorIn (now c)) × (j < 64) × (depth < 256) ⌝ }
-    ensures { λ _. ⌜ Written (requiredAt (now (attrs .entry)) depth i j) (cursorIn (now (c .entry))) (now (out .entry)) (cursorIn (now (c .exit))) (now (out .exit)) ⌝ }
+    requires { ⌜ Room baseWidth (cursorIn (now c)) × (j < 64) × (depth < 256) ⌝ }
+    ensures { λ _. ⌜ Written baseWidth (requiredAt (now (attrs .entry)) depth i j) (cursorIn (now (c .entry))) (now (out .entry)) (cursorIn (now (c .exit))) (now (out .exit)) ⌝ }
 {
     if rowpass::needs(attrs, i, j) {
         put_row(2, depth, j, created_value(attrs, j), c, out);
@@ -70,8 +74,8 @@ fn put_attribute(i: usize, j: usize, attrs: &[u8], depth: usize, c: &mut [usize;
 
 // Writes the REQUIRED attributes of definition i, of a attributes.
 fn put_required(i: usize, a: usize, attrs: &[u8], depth: usize, c: &mut [usize; 3], out: &mut [u8])
-    requires { ⌜ Room (cursorIn (now c)) × (a ≤ 64) × (depth < 256) ⌝ }
-    ensures { λ _. ⌜ Written (requiredIn (now (attrs .entry)) depth i a) (cursorIn (now (c .entry))) (now (out .entry)) (cursorIn (now (c .exit))) (now (out .exit)) ⌝ }
+    requires { ⌜ Room baseWidth (cursorIn (now c)) × (a ≤ 64) × (depth < 256) ⌝ }
+    ensures { λ _. ⌜ Written baseWidth (requiredIn (now (attrs .entry)) depth i a) (cursorIn (now (c .entry))) (now (out .entry)) (cursorIn (now (c .exit))) (now (out .exit)) ⌝ }
 {
     let mut j = 0;
     while j < a {
@@ -95,7 +99,7 @@ fn put_group(
     out: &mut [u8],
 )
     requires { ⌜ (d ≤ 256) × Asks (cursorIn (now c)) (now (now text)) a h depth ⌝ }
-    ensures { λ _. ⌜ Written (membersFilled (now (form .entry)) (now (now (text .entry))) a h depth (filling kind (membersFrom d (now (s .entry))))) (cursorIn (now (c .entry))) (now (out .entry)) (cursorIn (now (c .exit))) (now (out .exit)) ⌝ }
+    ensures { λ _. ⌜ Written baseWidth (membersFilled (now (form .entry)) (now (now (text .entry))) a h depth (filling kind (membersFrom d (now (s .entry))))) (cursorIn (now (c .entry))) (now (out .entry)) (cursorIn (now (c .exit))) (now (out .exit)) ⌝ }
 {
     let mut t = s;
     while t.len() >= 4 {
@@ -135,7 +139,7 @@ fn put_member(
     out: &mut [u8],
 )
     requires { ⌜ (d < 256) × (4 ≤ length (now s)) × Asks (cursorIn (now c)) (now (now text)) a h depth ⌝ }
-    ensures { λ _. ⌜ Written (membersFilled (now (form .entry)) (now (now (text .entry))) a h depth (memberFilling d (now (s .entry)))) (cursorIn (now (c .entry))) (now (out .entry)) (cursorIn (now (c .exit))) (now (out .exit)) ⌝ }
+    ensures { λ _. ⌜ Written baseWidth (membersFilled (now (form .entry)) (now (now (text .entry))) a h depth (memberFilling d (now (s .entry)))) (cursorIn (now (c .entry))) (now (out .entry)) (cursorIn (now (c .exit))) (now (out .exit)) ⌝ }
 {
     let p = model::read_particle(s, 0);
     let q = p.quantifier;
@@ -167,7 +171,7 @@ fn put_definition(
     out: &mut [u8],
 )
     requires { ⌜ (i ≤ 256) × Asks (cursorIn (now c)) (now (now text)) a h depth ⌝ }
-    ensures { λ _. ⌜ Written (definitionFilled (now (form .entry)) (now (now (text .entry))) a h depth i) (cursorIn (now (c .entry))) (now (out .entry)) (cursorIn (now (c .exit))) (now (out .exit)) ⌝ }
+    ensures { λ _. ⌜ Written baseWidth (definitionFilled (now (form .entry)) (now (now (text .entry))) a h depth i) (cursorIn (now (c .entry))) (now (out .entry)) (cursorIn (now (c .exit))) (now (out .exit)) ⌝ }
 {
     if h == 0 {
         return;
@@ -190,7 +194,7 @@ fn put_below(
     out: &mut [u8],
 )
     requires { ⌜ (i ≤ 256) × Asks (cursorIn (now c)) (now (now text)) a h depth ⌝ }
-    ensures { λ _. ⌜ Written (belowFilled (now (form .entry)) (now (now (text .entry))) a h depth i) (cursorIn (now (c .entry))) (now (out .entry)) (cursorIn (now (c .exit))) (now (out .exit)) ⌝ }
+    ensures { λ _. ⌜ Written baseWidth (belowFilled (now (form .entry)) (now (now (text .entry))) a h depth i) (cursorIn (now (c .entry))) (now (out .entry)) (cursorIn (now (c .exit))) (now (out .exit)) ⌝ }
 {
     let k = rowpass::kind_of(form[0], i);
     match k {
@@ -217,7 +221,7 @@ fn put_members(
     out: &mut [u8],
 )
     requires { ⌜ (first ≤ 256) × (d ≤ 256) × Asks (cursorIn (now c)) (now (now text)) a h depth ⌝ }
-    ensures { λ _. ⌜ Written (membersFilled (now (form .entry)) (now (now (text .entry))) a h depth (groupFilled kind (membersAt (partsIn (now (form .entry))) first d))) (cursorIn (now (c .entry))) (now (out .entry)) (cursorIn (now (c .exit))) (now (out .exit)) ⌝ }
+    ensures { λ _. ⌜ Written baseWidth (membersFilled (now (form .entry)) (now (now (text .entry))) a h depth (groupFilled kind (membersAt (partsIn (now (form .entry))) first d))) (cursorIn (now (c .entry))) (now (out .entry)) (cursorIn (now (c .exit))) (now (out .exit)) ⌝ }
 {
     let parts = form[1];
     let s = rowpass::cut(parts, 4 * first, parts.len());
@@ -239,7 +243,7 @@ fn put_any(
     out: &mut [u8],
 )
     requires { ⌜ Indexed what × Asks (cursorIn (now c)) (now (now text)) a h depth ⌝ }
-    ensures { λ _. ⌜ Written (changeFilled (now (form .entry)) (now (now (text .entry))) a h depth what) (cursorIn (now (c .entry))) (now (out .entry)) (cursorIn (now (c .exit))) (now (out .exit)) ⌝ }
+    ensures { λ _. ⌜ Written baseWidth (changeFilled (now (form .entry)) (now (now (text .entry))) a h depth what) (cursorIn (now (c .entry))) (now (out .entry)) (cursorIn (now (c .exit))) (now (out .exit)) ⌝ }
 {
     match what {
         Filling::Nothing => {}
@@ -274,7 +278,7 @@ pub fn put_filling<'a>(
     out: &mut [u8],
 ) -> Cursor
     requires { ⌜ Indexed what × Asks c (now text) a n depth ⌝ }
-    ensures { λ r. ⌜ Written (fillingRows (indexForm n (now (defs .entry)) (now (parts .entry)) (now (attrs .entry)) a) (λ j. attributeIn (now (attrs .entry)) j .value) (λ k d. membersAt (now (parts .entry)) k d) what (now (text .entry)) depth) c (now (out .entry)) r (now (out .exit)) ⌝ }
+    ensures { λ r. ⌜ Written baseWidth (fillingRows (indexForm n (now (defs .entry)) (now (parts .entry)) (now (attrs .entry)) a) (λ j. attributeIn (now (attrs .entry)) j .value) (λ k d. membersAt (now (parts .entry)) k d) what (now (text .entry)) depth) c (now (out .entry)) r (now (out .exit)) ⌝ }
 {
     let form = [defs, parts, attrs];
     let mut r = [c.at, c.left, c.serial];

@@ -33,7 +33,7 @@ numbered-old n (x ∷ xs) (a, e) =
     (ap (λ (b : Bool). elim b as (λ z. ℕ) [ true ↦ n | false ↦ x .row .serial ]) (ne-eqb (x .row .serial) 0 (λ q. omega arith)))
     (numbered-old (n + isNew x) xs e)
 
-pub bytes-old : (n : ℕ) (xs : List (Deep FlatRow)) → Every Old xs → each (rowBytes baseWidth) xs ≡ rowsBytes n xs
+pub bytes-old : (n : ℕ) (xs : List (Deep FlatRow)) → Every Old xs → each (rowBytes baseWidth) xs ≡ rowsBytes baseWidth n xs
 unfolding rowsBytes
 bytes-old n xs e = ap (each (rowBytes baseWidth)) (sym (numbered-old n xs e))
 

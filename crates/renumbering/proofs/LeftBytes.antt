@@ -120,7 +120,7 @@ module _ (bs : Bytes) (p : passes bs ≡ true) (i : ℕ) (h : i < definitionCoun
 
   -- q: the plan that the code makes
   pub rows-laid : (a b : ℕ) (q : Plan) (v : Bytes) {out out₁ : Bytes} {at : ℕ} {r : Cursor} → Counted (attributesOf i (f .attributes)) (attributeCount bs) a → Counted (attributesOf (suc i) (f .attributes)) (attributeCount bs) b
-      → q ≡ shifting (i + 1) b (b - a) → Written (rowsAfter q v f) (walkFrom at bs) out r out₁ → Laid (each (rowBytes baseWidth) (destroyed i f .rows)) out at (r .at) out₁
+      → q ≡ shifting (i + 1) b (b - a) → Written baseWidth (rowsAfter q v f) (walkFrom at bs) out r out₁ → Laid (each (rowBytes baseWidth) (destroyed i f .rows)) out at (r .at) out₁
   rows-laid a b q v ca cb e w =
       laid-as (bytes-old (numberAt 4 4 bs) (destroyed i f .rows) rows-old)
       (written-fitting (written-as (rows-are a b v (ca .is) (cb .is) ∙ ap (λ (s : Plan). rowsAfter s v f) (sym e)) w) (omega (arith, rows-left bs p i h, x .rows, x .fewRows)))

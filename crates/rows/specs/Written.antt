@@ -1,17 +1,16 @@
--- What a writer of rows leaves: as far as it may write, the rows with their serials, one after the other.
--- Assumes nothing.
+-- What a writer of rows leaves: where they all fit the rows with their serials, one after the other; and always how many more may be written.
 use Prim.Native.Nat.{ℕ, _+_, _-_, _*_, _<_, _≤_}
 use mathlib.Core.Path.{_≡_}
 use mathlib.Core.Bool.{true, false}
-use mathlib.Core.List.{List, [], _∷_, _++_}
+use mathlib.Core.List.{List, [], _∷_}
 use lib.Dec.{eqb}
-use lib.ListN.{length, take}
+use lib.ListN.{length}
 use Rattle.rules.specs.Bytes.{Bytes}
 use Rattle.rules.specs.Preorder.{Deep}
-use Rattle.rules.specs.Layout.{le, field, FlatRow, rowBytes, each}
+use Rattle.rules.specs.Layout.{FlatRow, rowSize, rowBytes, each}
 use Rattle.rules.specs.Decode.{readRow}
 use Rattle.codec.specs.Laid.{Laid}
-use Rattle.records.specs.Records.{baseWidth}
+use Rattle.layout.specs.RowBytes.{rowOf}
 use Rattle.rows.specs.declared.Cursor.{Cursor}
 
 -- 'New rows get serials in document order': as `isNew`, `newRows`, `given` and `number` of the rules, on rows in a list; a new row has serial 0
@@ -31,41 +30,33 @@ numbered n [] = []
 numbered n (x ∷ xs) = withSerial n x ∷ numbered (n + isNew x) xs
 
 -- the bytes of rows, the new ones with serials from n on
-unfoldable pub rowsBytes : ℕ → List (Deep FlatRow) → Bytes
-rowsBytes n xs = each (rowBytes baseWidth) (numbered n xs)
-
--- The first `left` of the rows xs were written from the cursor c on; r is the cursor after them.
-pub record Written (xs : List (Deep FlatRow)) (c : Cursor) (out : Bytes) (r : Cursor) (out′ : Bytes) : Type 0 where
-  pub left : r .left ≡ c .left - length xs
-  pub serial : r .serial ≡ c .serial + newIn (take (c .left) xs)
-  pub laid : Laid (rowsBytes (c .serial) (take (c .left) xs)) out (c .at) (r .at) out′
+unfoldable pub rowsBytes : ℕ → ℕ → List (Deep FlatRow) → Bytes
+rowsBytes w n xs = each (rowBytes w) (numbered n xs)
 
 -- there is room in the numbers for all that may be written
-pub record Room (c : Cursor) : Type 0 where
-  pub places : c .at + 44 * c .left < 4611686018427387904
+pub record Room (w : ℕ) (c : Cursor) : Type 0 where
+  pub places : c .at + rowSize w * c .left < 4611686018427387904
   pub serials : c .serial + c .left < 4611686018427387904
+
+-- the rows xs were written from the cursor c on, all of them
+pub record Fitted (w : ℕ) (xs : List (Deep FlatRow)) (c : Cursor) (out : Bytes) (r : Cursor) (out′ : Bytes) : Type 0 where
+  pub serial : r .serial ≡ c .serial + newIn xs
+  pub laid : Laid (rowsBytes w (c .serial) xs) out (c .at) (r .at) out′
+
+-- A writer of the rows xs was handed the cursor c and left the cursor r. Where not all of them may be written, they are counted and nothing is said
+-- of what was laid.
+pub record Written (w : ℕ) (xs : List (Deep FlatRow)) (c : Cursor) (out : Bytes) (r : Cursor) (out′ : Bytes) : Type 0 where
+  pub left : r .left ≡ c .left - length xs
+  pub fitted : length xs ≤ c .left → Fitted w xs c out r out′
+  pub room : Room w c → Room w r
+  pub long : length out′ ≡ length out
 
 -- ---- single rows
 -- a new row has no serial yet
 abbrev pub newRow : ℕ → ℕ → ℕ → Bytes → Deep FlatRow
-newRow sort depth index value = record { depth = depth; row = record { sort = sort; index = index; serial = 0; value = value } }
+newRow sort depth index value = rowOf sort depth index 0 value
 
 -- the bytes are those of a row that has a serial
-pub record OldRow (row : Bytes) : Type 0 where
-  pub written : rowBytes baseWidth (readRow row) ≡ row
+pub record OldRow (w : ℕ) (row : Bytes) : Type 0 where
+  pub written : rowBytes w (readRow row) ≡ row
   pub old : 1 ≤ readRow row .row .serial
-
--- the row with another index and value
-abbrev pub valuedRow : ℕ → Bytes → Bytes → Deep FlatRow
-valuedRow index value row = record { depth = readRow row .depth; row = record { sort = readRow row .row .sort; index = index; serial = readRow row .row .serial; value = value } }
-
--- .. with another index
-abbrev pub movedRow : ℕ → Bytes → Deep FlatRow
-movedRow index row = valuedRow index (readRow row .row .value) row
-
--- the two parts of a row's bytes
-unfoldable pub rowStart : ℕ → ℕ → ℕ → ℕ → Bytes
-rowStart sort depth index serial = sort ∷ depth ∷ le 2 index ++ le 4 serial
-
-unfoldable pub rowEnd : Bytes → Bytes
-rowEnd value = length value ∷ 0 ∷ field baseWidth value ++ (0 ∷ 0 ∷ [])

@@ -1,5 +1,4 @@
 -- What an edit answers.
--- Assumes nothing.
 use Prim.Native.Nat.{ℕ, _+_, _-_, _*_, _<_, _≤_}
 use native.Mathlib.Omega.{arith}
 use mathlib.Core.Path.{_≡_, refl, ap, _∙_, sym}
@@ -19,8 +18,8 @@ use Rattle.codec.specs.Laid.{Laid}
 use Rattle.codec.proofs.Writers.{laid-then, laid-as}
 use Rattle.lookup.specs.Bodies.{bodiesOf}
 use Rattle.rows.specs.declared.Cursor.{Cursor}
-use Rattle.rows.specs.Written.{newIn, numbered, rowsBytes, Written}
-use Rattle.rows.proofs.WrittenLaws.{All, written-all, written-full, written-fitting, length-numbered}
+use Rattle.rows.specs.Written.{newIn, numbered, rowsBytes, Fitted, Written}
+use Rattle.rows.proofs.WrittenLaws.{written-all, written-full, written-fitting, length-numbered}
 use Rattle.editing.specs.declared.Plan.{Plan}
 use Rattle.storing.specs.Stores.{limited}
 use Rattle.storing.specs.Planned.{rowsAfter, plannedIn}
@@ -64,29 +63,29 @@ module _ {bs : Bytes} (h : Holds bs) {form : Bytes} {d p a : ℕ} (x : Forms for
       ap (λ (z : FlatStore). length (flatBytes baseWidth z)) after-is ∙ reformed-length x f next (numbered (f .next) xs)
       ∙ ap (λ (n : ℕ). headerSize + length form + 44 * n) (length-numbered (f .next) xs)
 
-  bytes : flatBytes baseWidth after ≡ (headed next d p a (length xs) bs ++ form) ++ rowsBytes (f .next) xs
+  bytes : flatBytes baseWidth after ≡ (headed next d p a (length xs) bs ++ form) ++ rowsBytes baseWidth (f .next) xs
   unfolding rowsBytes
   bytes =
       ap (flatBytes baseWidth) after-is ∙ reformed-bytes x f next (numbered (f .next) xs) (whole h)
       ∙ ap (λ (n : ℕ). (headed next d p a n bs ++ form) ++ each (rowBytes baseWidth) (numbered (f .next) xs)) (length-numbered (f .next) xs)
 
   -- ---- the walk was counted, to r
-  module _ {at : ℕ} {r : Cursor} {small small′ : Bytes} (out : Bytes) (w : Written xs (walkFrom at bs) small r small′) where
+  module _ {at : ℕ} {r : Cursor} {small small′ : Bytes} (out : Bytes) (w : Written baseWidth xs (walkFrom at bs) small r small′) where
     pub edit-ceiling : r .left ≡ 0 → Answers (limited (length out) after) out 16 0 out
     edit-ceiling e = answers-refused 16 (limited-ceiling (length out) after (ceilings ∙ lt-leb (length xs) 4096 (written-full w e)))
 
     module _ (more : r .left ≡ 0 → ⊥) where
-      all : All xs (walkFrom at bs) small r small′
+      all : (4097 ≡ r .left + length xs) × Fitted baseWidth xs (walkFrom at bs) small r small′
       all = written-all w more
 
       few : withinCeilings after ≡ true
-      few = ceilings ∙ le-leb (length xs) 4096 (omega (arith, all .rows))
+      few = ceilings ∙ le-leb (length xs) 4096 (omega (arith, all .0))
 
       next-is : r .serial ≡ next
-      next-is = all .serial ∙ ap (λ (n : ℕ). n + newIn xs) (sym (next-of bs))
+      next-is = all .1 .serial ∙ ap (λ (n : ℕ). n + newIn xs) (sym (next-of bs))
 
       count-is : 4097 - r .left ≡ length xs
-      count-is = omega (arith, all .rows)
+      count-is = omega (arith, all .0)
 
       pub edit-serials : highestNumber < r .serial → Answers (limited (length out) after) out 17 0 out
       edit-serials e = answers-refused 17 (limited-serials (length out) after few (omega (arith, next-after, next-is)))
@@ -96,8 +95,8 @@ module _ {bs : Bytes} (h : Holds bs) {form : Bytes} {d p a : ℕ} (x : Forms for
         edit-buffer e = answers-refused 18 (limited-buffer (length out) after few (omega (arith, next-after, next-is)) (omega (arith, size, count-is)))
 
         pub edit-written : headerSize + length form + 44 * (4097 - r .left) ≤ length out → {at′ : ℕ} {r′ : Cursor} {out₁ out′ : Bytes} → Laid (headed (r .serial) d p a (4097 - r .left) bs ++ form) out 0 at′ out₁
-            → Written xs (walkFrom at′ bs) out₁ r′ out′ → Answers (limited (length out) after) out 0 (r′ .at) out′
+            → Written baseWidth xs (walkFrom at′ bs) out₁ r′ out′ → Answers (limited (length out) after) out 0 (r′ .at) out′
         edit-written e laid w′ =
             answers-wrote (limited-none (length out) after few (omega (arith, next-after, next-is)) (omega (arith, size, count-is)))
-            (laid-as (bytes ∙ (λ i. (headed (sym next-is i) d p a (sym count-is i) bs ++ form) ++ rowsBytes (next-of bs i) xs)) (laid-then laid (written-fitting w′ (omega (arith, all .rows)))))
+            (laid-as (bytes ∙ (λ i. (headed (sym next-is i) d p a (sym count-is i) bs ++ form) ++ rowsBytes baseWidth (next-of bs i) xs)) (laid-then laid (written-fitting w′ (omega (arith, all .0)))))
             (omega (arith, size, count-is))

@@ -98,10 +98,10 @@ module _ {bs : Bytes} (q : passes bs ≡ true) {n : ℕ} {defs parts : Bytes} {a
       ∙ (λ i. walked p v (λ d. fillingRows (read-form h q i) (λ j. read-value h q j i) (λ k e. members-at h k e i) (p .filling) v d) (atFirst p) (read-rows h i)))
 
   -- .. and written from the serials of the store on
-  pub walk-from : (p : Plan) (v : Bytes) {at next : ℕ} {out : Bytes} {r : Cursor} {out′ : Bytes} → NumberAt 4 bs next → Written (walked p v (fillOf n defs parts a attrs p v) (atFirst p) (bytes.rowsIn count rows)) (record { at = at; left = 4097; serial = next }) out r out′
-      → Written (rowsAfter p v (bodiesOf bs)) (walkFrom at bs) out r out′
+  pub walk-from : (p : Plan) (v : Bytes) {at next : ℕ} {out : Bytes} {r : Cursor} {out′ : Bytes} → NumberAt 4 bs next → Written baseWidth (walked p v (fillOf n defs parts a attrs p v) (atFirst p) (bytes.rowsIn count rows)) (record { at = at; left = 4097; serial = next }) out r out′
+      → Written baseWidth (rowsAfter p v (bodiesOf bs)) (walkFrom at bs) out r out′
   walk-from p v {at} {next} {out} {r} {out′} m w =
-      written-as (rows-after p v) (subst (λ (k : ℕ). Written (walked p v (fillOf n defs parts a attrs p v) (atFirst p) (bytes.rowsIn count rows)) (record { at = at; left = 4097; serial = k }) out r out′) (m .value) w)
+      written-as (rows-after p v) (subst (λ (k : ℕ). Written baseWidth (walked p v (fillOf n defs parts a attrs p v) (atFirst p) (bytes.rowsIn count rows)) (record { at = at; left = 4097; serial = k }) out r out′) (m .value) w)
 
-pub walk-room : {bs : Bytes} {at next : ℕ} → at < 549755813888 → NumberAt 4 bs next → Room (record { at = at; left = 4097; serial = next })
+pub walk-room : {bs : Bytes} {at next : ℕ} → at < 549755813888 → NumberAt 4 bs next → Room baseWidth (record { at = at; left = 4097; serial = next })
 walk-room l m = record { places = omega arith; serials = omega (arith, m .small) }

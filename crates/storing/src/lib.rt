@@ -100,7 +100,7 @@ fn put_form(
 /// The walk over the rows of a store, which writes from `at` on.
 pub fn walk_rows(store: &[u8], plan: Plan, text: &[u8], at: usize, out: &mut [u8]) -> Cursor
     requires { ⌜ (passes (now store) ≡ true) × (isValue baseWidth (now text) ≡ true) × Sized plan × (at < 549755813888) ⌝ }
-    ensures { λ r. ⌜ Written (rowsAfter plan (now (text .entry)) (bodiesOf (now (store .entry)))) (walkFrom at (now (store .entry))) (now (out .entry)) r (now (out .exit)) ⌝ }
+    ensures { λ r. ⌜ Written baseWidth (rowsAfter plan (now (text .entry)) (bodiesOf (now (store .entry)))) (walkFrom at (now (store .entry))) (now (out .entry)) r (now (out .exit)) ⌝ }
 {
     let n = validity::number(store, 12);
     let a = validity::number(store, 28);

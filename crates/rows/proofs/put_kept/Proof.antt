@@ -1,7 +1,5 @@
 -- `rows::put_kept` meets its contract.
--- Assumes nothing.
-use Rattle.rows.proofs.WrittenLaws.{after-index, part-length, kept-written, written-stop, old-length}
-use native.Mathlib.Omega.{arith}
+use Rattle.rows.proofs.WrittenLaws.{written-stop, old-written}
 use borrow.Author.Needs.{needs}
 use Rattle.rows.proofs.put_kept.Statement.{statement}
 use Rattle.rows.proofs.put_kept.Tie as tie
@@ -9,40 +7,17 @@ use Rattle.rows.proofs.put_kept.Tie as tie
 returns : tie.Need-returns
 returns c = written-stop (c .if1 .taken)
 
-put-index-requires : tie.Need-put-index-requires
-put-index-requires c κs = (omega (arith, c .before .before .before .before .before .pre .0), omega arith, old-length (c .before .before .before .before .before .pre .1))
+put-row-moved-requires : tie.Need-put-row-moved-requires
+put-row-moved-requires c κs = search needs
 
-sub-put : tie.Need-sub-put
-sub-put c = search needs
-
-part-put-start : tie.Need-part-put-start
-part-put-start c = search needs
-
-part-put-end : tie.Need-part-put-end
-part-put-end c = omega (arith, old-length (c .before .before .before .before .before .before .before .before .pre .1))
-
-put-requires : tie.Need-put-requires
-put-requires c κs = omega (arith, after-index (c .before .before .before .before .before .before .before .before .before .before .pre .1) (c .before .before .before .before .before .before .before .before .before .before .args .index) (c .before .before .before .before .put-index .ensures), part-length (c .before .before .before .before .before .before .before .before .before .before .args .row .now) 4 40 (c .before .before .before .before .before .before .before .before .before .before .pre .1) (omega arith), c .before .before .before .before .before .before .before .before .before .before .pre .0 .places)
-
-sub-t11 : tie.Need-sub-t11
-sub-t11 c = search needs
+sub-t10 : tie.Need-sub-t10
+sub-t10 c = search needs
 
 same-length : tie.Need-same-length
 same-length c = search needs
 
 returns-2 : tie.Need-returns-2
-returns-2 c = kept-written (c .before .before .before .before .before .before .before .before .before .before .if1 .left) (c .before .before .before .before .before .before .before .before .before .before .before .before .before .before .pre .1) (c .before .before .before .before .before .before .before .before .put-index .ensures) (c .before .before .before .put .ensures)
+returns-2 c = old-written (c .before .before .before .before .before .if1 .left) (c .before .before .before .before .before .before .before .before .before .pre .2) (c .before .before .before .put-row-moved .ensures)
 
 pub put-kept-spec : {M : Type 1} → statement M
-put-kept-spec =
-    tie.close
-    (tie.spec
-    returns
-    put-index-requires
-    sub-put
-    part-put-start
-    part-put-end
-    put-requires
-    sub-t11
-    same-length
-    returns-2)
+put-kept-spec = tie.close (tie.spec returns put-row-moved-requires sub-t10 same-length returns-2)

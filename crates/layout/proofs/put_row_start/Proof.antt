@@ -1,11 +1,10 @@
--- `rows::put_start` meets its contract.
--- Assumes nothing.
-use Rattle.rows.proofs.WrittenLaws.{start-is}
+-- `layout::put_row_start` meets its contract.
+use Rattle.layout.proofs.RowLaws.{start-is}
 use native.Mathlib.Omega.{arith}
 use Rattle.codec.proofs.Writers.{laid-as, laid-then}
 use borrow.Author.Needs.{needs}
-use Rattle.rows.proofs.put_start.Statement.{statement}
-use Rattle.rows.proofs.put_start.Tie as tie
+use Rattle.layout.proofs.put_row_start.Statement.{statement}
+use Rattle.layout.proofs.put_row_start.Tie as tie
 
 put-u8-requires : tie.Need-put-u8-requires
 put-u8-requires c κs = search needs
@@ -28,8 +27,8 @@ same-length c = search needs
 returns : tie.Need-returns
 returns c = let a = c .before .before .before .before .before .before .before .before .before .before .before .before .before .before .before .before .before .args in laid-as (start-is (a .sort) (a .depth) (a .index) (a .serial)) (laid-then (laid-then (laid-then (c .before .before .before .before .before .before .before .before .before .before .before .before .before .before .put-u8 .ensures) (c .before .before .before .before .before .before .before .before .before .before .put-u82 .ensures)) (c .before .before .before .before .before .before .put-u16 .ensures)) (c .before .before .put-u32 .ensures))
 
-pub put-start-spec : {M : Type 1} → statement M
-put-start-spec =
+pub put-row-start-spec : {M : Type 1} → statement M
+put-row-start-spec =
     tie.close
     (tie.spec
     put-u8-requires

@@ -1,12 +1,11 @@
--- `rows::put_index` meets its contract.
--- Assumes nothing.
+-- `layout::put_row_index` meets its contract.
 use mathlib.Core.Path.{sym}
 use native.Mathlib.Omega.{arith}
 use Rattle.codec.proofs.Writers.{laid-then}
 use lib.Seq.{length-take-le}
 use borrow.Author.Needs.{needs}
-use Rattle.rows.proofs.put_index.Statement.{statement}
-use Rattle.rows.proofs.put_index.Tie as tie
+use Rattle.layout.proofs.put_row_index.Statement.{statement}
+use Rattle.layout.proofs.put_row_index.Tie as tie
 
 slice-aggregate-put : tie.Need-slice-aggregate-put
 slice-aggregate-put c = sym (length-take-le 2 (c .before .before .before .args .row .now) (omega arith))
@@ -26,7 +25,7 @@ same-length c = search needs
 returns : tie.Need-returns
 returns c = laid-then (c .before .before .before .before .before .before .put .ensures) (c .before .before .put-u16 .ensures)
 
-pub put-index-spec : {M : Type 1} → statement M
-put-index-spec =
+pub put-row-index-spec : {M : Type 1} → statement M
+put-row-index-spec =
     tie.close
     (tie.spec slice-aggregate-put put-requires cast-put-u16 put-u16-requires same-length returns)

@@ -311,12 +311,12 @@ fn at_first(p: Plan) -> Open
 // ---- the walk
 
 // The filling at a depth, if it is due.
-fn put_owed(
+fn put_owed<'a>(
     n: usize,
-    defs: &[u8],
-    parts: &[u8],
+    defs: &'a [u8],
+    parts: &'a [u8],
     a: usize,
-    attrs: &[u8],
+    attrs: &'a [u8],
     p: Plan,
     text: &[u8],
     due: bool,
@@ -347,12 +347,12 @@ fn put_row(p: Plan, text: &[u8], h: Head, row: &[u8], c: Cursor, out: &mut [u8])
 }
 
 // What comes of a row, where what it closes is closed.
-fn come(
+fn come<'a>(
     n: usize,
-    defs: &[u8],
-    parts: &[u8],
+    defs: &'a [u8],
+    parts: &'a [u8],
     a: usize,
-    attrs: &[u8],
+    attrs: &'a [u8],
     p: Plan,
     text: &[u8],
     h: Head,
@@ -380,12 +380,12 @@ fn come(
 }
 
 // One row.
-fn step(
+fn step<'a>(
     n: usize,
-    defs: &[u8],
-    parts: &[u8],
+    defs: &'a [u8],
+    parts: &'a [u8],
     a: usize,
-    attrs: &[u8],
+    attrs: &'a [u8],
     p: Plan,
     text: &[u8],
     row: &[u8],
@@ -411,12 +411,12 @@ fn step(
 }
 
 /// The walk over `count` rows. It stops where no row may be written any more.
-pub fn walk(
+pub fn walk<'a>(
     n: usize,
-    defs: &[u8],
-    parts: &[u8],
+    defs: &'a [u8],
+    parts: &'a [u8],
     a: usize,
-    attrs: &[u8],
+    attrs: &'a [u8],
     rows: &[u8],
     count: usize,
     plan: Plan,

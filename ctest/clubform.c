@@ -1,35 +1,36 @@
-/* The library called from C: clubform's story with every number, length and the printed text, the other changes, and refusals, which change no byte of
- * the output buffer. It ends with 0 if all is as it should be, and says what is not. */
+/* The library called from C, by what the header says alone: clubform's story with every number, length and the printed
+ * text, the other changes, and every refusal, which changes no byte of the output buffer. It ends with 0 if all is as
+ * it should be, and says what is not. */
 #include "formstore.h"
 
 #include <stdio.h>
 #include <string.h>
 
-#define LONGEST                                                                                                                  \
-    (40 + FORMSTORE_MAX_DEFINITIONS * 20 + FORMSTORE_MAX_PARTICLES * 4 + FORMSTORE_MAX_ATTRIBUTES * 52 + FORMSTORE_MAX_ROWS * 44)
+enum { EMPTY = FORMSTORE_KIND_EMPTY, PCDATA = FORMSTORE_KIND_PCDATA, COMPLEX = FORMSTORE_KIND_COMPLEX };
+enum { NONE = FORMSTORE_QUANTIFIER_NONE, QMARK = FORMSTORE_QUANTIFIER_QMARK };
+enum { STAR = FORMSTORE_QUANTIFIER_STAR, PLUS = FORMSTORE_QUANTIFIER_PLUS };
+enum { LIST = FORMSTORE_GROUP_LIST, CHOICE = FORMSTORE_GROUP_CHOICE };
+enum { IMPLIED = FORMSTORE_ATTRIBUTE_IMPLIED, REQUIRED = FORMSTORE_ATTRIBUTE_REQUIRED };
+enum { FIXED = FORMSTORE_ATTRIBUTE_FIXED };
 
-_Static_assert(FORMSTORE_ACCEPTED == 0 && FORMSTORE_BUFFER == 18, "the numbers of the table");
-_Static_assert(LONGEST == 185896, "the ceilings");
-
-enum { EMPTY = 0, PCDATA = 1, COMPLEX = 2 };
-enum { NONE = 0, QMARK = 1, STAR = 2, PLUS = 3 };
-enum { LIST = 1, CHOICE = 2 };
-enum { IMPLIED = 0, REQUIRED = 1, FIXED = 2 };
+/* The definitions of the story, by index. */
 enum { RACE, FINISHER, BIB, TIME, CLUB };
 
 /* A call reads the store in one buffer and writes the other, which is full of BACKGROUND before it. */
 #define BACKGROUND 0xEE
-static uint8_t buffers[2][LONGEST];
+static uint8_t buffers[2][FORMSTORE_LONGEST];
 static int now;
 static size_t length;
 
 #define STORE buffers[now], length
-#define OUT buffers[1 - now], LONGEST
+#define OUT buffers[1 - now], FORMSTORE_LONGEST
 #define BYTES(text) (const uint8_t *)(text), sizeof(text) - 1
 #define PLACE(...) (const uint32_t[]){__VA_ARGS__}, sizeof((const uint32_t[]){__VA_ARGS__}) / sizeof(uint32_t)
 
 static int calls;
 static int wrong;
+/* How often each number was answered. */
+static int answered[FORMSTORE_BUFFER + 1];
 
 static void expect(const char *call, int holds, const char *what)
 {
@@ -48,42 +49,53 @@ static int kept_from(const uint8_t *buffer, size_t from, size_t size)
     return 1;
 }
 
+static void count(struct formstore_answer answer)
+{
+    calls++;
+    if (answer.number <= FORMSTORE_BUFFER)
+        answered[answer.number]++;
+}
+
+static int every_refusal(void)
+{
+    for (size_t number = FORMSTORE_BAD_STORE; number <= FORMSTORE_BUFFER; number++)
+        if (!answered[number])
+            return 0;
+    return 1;
+}
+
 /* The call is accepted and leaves a store of this length, from which the next one goes on. */
 static void accept(const char *call, struct formstore_answer answer, size_t wanted)
 {
-    calls++;
+    count(answer);
     expect(call, answer.number == FORMSTORE_ACCEPTED, "it was refused");
     expect(call, answer.length == wanted, "the length is another one");
-    expect(call, kept_from(buffers[1 - now], answer.length, LONGEST), "a byte past the length was written");
+    expect(call, kept_from(buffers[1 - now], answer.length, FORMSTORE_LONGEST), "a byte past the length was written");
     if (answer.number != FORMSTORE_ACCEPTED)
         return;
     now = 1 - now;
     length = answer.length;
     expect(call, formstore_check(STORE) == 0, "the store does not pass");
-    memset(buffers[1 - now], BACKGROUND, LONGEST);
+    memset(buffers[1 - now], BACKGROUND, FORMSTORE_LONGEST);
 }
 
 /* The call is refused with this number and leaves the output buffer alone. */
 static void refuse(const char *call, struct formstore_answer answer, uint32_t wanted)
 {
-    calls++;
+    count(answer);
     expect(call, answer.number == wanted, "the number is another one");
     expect(call, answer.length == 0, "the length is not 0");
-    expect(call, kept_from(buffers[1 - now], 0, LONGEST), "the buffer was written");
-    memset(buffers[1 - now], BACKGROUND, LONGEST);
+    expect(call, kept_from(buffers[1 - now], 0, FORMSTORE_LONGEST), "the buffer was written");
+    memset(buffers[1 - now], BACKGROUND, FORMSTORE_LONGEST);
 }
 
-/* Version 1, next serial 1, four empty bodies that start at 40. */
 static void fresh(void)
 {
-    memset(buffers, 0, sizeof buffers);
+    static const uint8_t bytes[FORMSTORE_FRESH_LENGTH] = FORMSTORE_FRESH;
     now = 0;
-    length = 40;
-    buffers[now][0] = 1;
-    buffers[now][4] = 1;
-    for (size_t body = 0; body < 4; body++)
-        buffers[now][8 + 8 * body] = 40;
-    memset(buffers[1 - now], BACKGROUND, LONGEST);
+    length = sizeof bytes;
+    memcpy(buffers[now], bytes, sizeof bytes);
+    memset(buffers[1 - now], BACKGROUND, FORMSTORE_LONGEST);
     expect("check", formstore_check(STORE) == 0, "a fresh store does not pass");
 }
 
@@ -103,13 +115,13 @@ static void clubform(void)
     accept("create club", formstore_create_definition(STORE, BYTES("club"), PCDATA, OUT), 416);
     accept("club in finisher", formstore_insert_element(STORE, FINISHER, PLACE(1), CLUB, NONE, BYTES("none"), OUT), 508);
     accept("time to ?", formstore_change_quantifier(STORE, FINISHER, PLACE(3), QMARK, BYTES(""), OUT), 508);
-    expect("clubform", buffers[now][4] == 9, "the next serial is not 9");
+    expect("clubform", formstore_next_serial(buffers[now]) == 9, "the next serial is not 9");
 }
 
 /* The store prints this text, and not into a buffer that is one byte shorter. */
 static void prints(const char *call, const char *wanted)
 {
-    static uint8_t text[4096];
+    static uint8_t text[FORMSTORE_LONGEST_TEXT];
     size_t size = strlen(wanted);
     memset(text, BACKGROUND, sizeof text);
     struct formstore_answer answer = formstore_print(STORE, text, size - 1);
@@ -164,6 +176,22 @@ static void refusals(void)
     refuse("short buffer", formstore_set_text(STORE, 5, BYTES("19:05"), buffers[1 - now], length - 1), FORMSTORE_BUFFER);
 }
 
+/* Sixty-four definitions are the most, and the last serials cannot be given. */
+static void last_refusals(void)
+{
+    char name[] = "d00";
+    fresh();
+    for (size_t count = 0; count < FORMSTORE_MAX_DEFINITIONS; count++) {
+        name[1] = (char)('0' + count / 10);
+        name[2] = (char)('0' + count % 10);
+        accept(name, formstore_create_definition(STORE, BYTES(name), COMPLEX, OUT), length + 20);
+    }
+    refuse("one more", formstore_create_definition(STORE, BYTES("more"), EMPTY, OUT), FORMSTORE_CEILING);
+    memset(buffers[now] + 4, 0xFF, 4);
+    expect("check", formstore_check(STORE) == 0, "the last next serial does not pass");
+    refuse("no serial", formstore_add_document(STORE, 0, BYTES(""), OUT), FORMSTORE_SERIALS);
+}
+
 /* The changes that clubform does not make, from the store that it leaves. */
 static void other_changes(void)
 {
@@ -199,6 +227,8 @@ int main(void)
     refusals();
     clubform_prints();
     other_changes();
+    last_refusals();
+    expect("refusals", every_refusal(), "a refusal was not met");
     printf("%d calls from C, %d wrong\n", calls, wrong);
     return wrong != 0;
 }

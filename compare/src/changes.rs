@@ -26,6 +26,13 @@ macro_rules! changes {
             }
         }
 
+        /// The name of the call.
+        pub fn name(call: &Call) -> &'static str {
+            match call {
+                $(Call::$case { .. } => stringify!($name),)*
+            }
+        }
+
         /// Reads the arguments of the call with this name, if there is one.
         pub fn read(name: &str, words: &mut Words) -> Option<Call> {
             match name {

@@ -2,11 +2,15 @@
 //! panics where a guard byte or the input has changed.
 
 pub mod changes;
+pub mod header;
 pub mod histories;
 pub mod hostile;
+pub mod marks;
 pub mod reading;
+pub mod stack;
 pub mod threads;
 pub mod words;
+pub mod worst;
 
 use formstore::raw;
 pub use formstore::raw::{Answer, Found};

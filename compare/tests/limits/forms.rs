@@ -141,13 +141,6 @@ fn values() {
     });
 }
 
-fn group(particle: Particle) -> Particle {
-    Particle {
-        quantifier: Quantifier::None,
-        term: Term::Group(GroupKind::List, vec![particle]),
-    }
-}
-
 /// All in one model, so that its count passes a byte: 51 elements in four groups each, and one more.
 #[test]
 fn particles_at_the_ceiling_and_one_more() {

@@ -8,6 +8,7 @@ mod forms;
 
 use common::{notation, LONGEST};
 use compare::agreed;
+use compare::worst::{add_required, group, member, nested_form};
 use second::layout::encode;
 use second::store::*;
 use second::Call;
@@ -62,39 +63,6 @@ fn judge_values(store: &[u8], calls: impl Fn(&[u8]) -> Vec<Call>) {
     }
     for length in 0..=257 {
         judge(&vec![b'v'; length], length <= 32);
-    }
-}
-
-/// A form in which each definition has so many of those behind it in its model, all NONE.
-fn nested_form(definitions: usize, members: usize) -> Store {
-    let mut store = Store::fresh();
-    for index in 0..definitions {
-        let behind = index + 1..definitions.min(index + 1 + members);
-        store.form.definitions.push(Definition {
-            name: format!("n{index}").into_bytes(),
-            kind: Kind::Complex,
-            model: behind.map(member).collect(),
-        });
-    }
-    store
-}
-
-fn member(index: usize) -> Particle {
-    Particle {
-        quantifier: Quantifier::None,
-        term: Term::Element(index),
-    }
-}
-
-/// Gives a definition so many REQUIRED attributes; the definitions behind it have none.
-fn add_required(store: &mut Store, owner: usize, count: usize) {
-    for number in 0..count {
-        store.form.attributes.push(Attribute {
-            owner,
-            name: format!("r{number}").into_bytes(),
-            sort: AttributeSort::Required,
-            value: b"fill".to_vec(),
-        });
     }
 }
 

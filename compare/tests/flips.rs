@@ -1,0 +1,23 @@
+//! Every single bit of the store that clubform leaves, flipped: the library judges as the second implementation does. Some of them give another store that
+//! passes, which only a checksum beside the store can tell.
+
+#[path = "../../rust/examples/clubform.rs"]
+mod clubform;
+
+#[test]
+fn single_bits() {
+    let store = clubform::clubform().expect("no change is refused");
+    let mut bytes = store.into_bytes();
+    let bits = 8 * bytes.len();
+    let mut passing = 0;
+    for bit in 0..bits {
+        bytes[bit / 8] ^= 1 << (bit % 8);
+        let number = compare::check(&bytes);
+        assert_eq!(number, second::check(&bytes), "bit {bit}");
+        passing += usize::from(number == 0);
+        bytes[bit / 8] ^= 1 << (bit % 8);
+    }
+    println!("{passing} of {bits} flipped bits pass the check");
+    // Those of the value `7`, which stays in the range of values, are among them.
+    assert!((1..bits / 4).contains(&passing));
+}

@@ -60,52 +60,52 @@ const BAD_LINES: &[(&str, i32, &str)] = &[
     (
         "set-text --element 2 --text 7",
         1,
-        "refused (9, wrong kind): --element 2: finisher 2 holds elements",
+        "line 3: refused (9, wrong kind): --element 2: finisher 2 holds elements",
     ),
     (
         "set-text --element 3 --text ü",
         1,
-        "refused (3, bad value): --text ü: only plain ASCII, no ü",
+        "line 3: refused (3, bad value): --text ü: only plain ASCII, no ü",
     ),
     (
         "set-text --element 3",
         2,
-        "boxform: --text is missing: the new text\nusage: boxform set-text --element SERIAL",
+        "boxform: line 3: --text is missing: the new text\nusage: boxform set-text --element SERIAL",
     ),
     (
         "set-text club.form --element 3 --text 8",
         2,
-        "boxform: club.form: there is nothing to give to set-text",
+        "boxform: line 3: club.form: there is nothing to give to set-text",
     ),
     (
         "set-txt --element 3 --text 8",
         2,
-        "boxform: set-txt is no change; did you mean set-text?",
+        "boxform: line 3: set-txt is no change; did you mean set-text?",
     ),
     (
         "show",
         2,
-        "boxform: show is no change; there are: create-definition, ",
+        "boxform: line 3: show is no change; there are: create-definition, ",
     ),
     (
         "set-text --element 3 --text 'a",
         2,
-        "boxform: a quote is not closed on the line",
+        "boxform: line 3: a quote is not closed on the line",
     ),
     (
         "set-text --element 3 --text \\",
         2,
-        "boxform: the line ends after a \\",
+        "boxform: line 3: the line ends after a \\",
     ),
     (
         "set-text --help",
         2,
-        "boxform: there is no help within a script",
+        "boxform: line 3: there is no help within a script",
     ),
     (
         "destroy-element --element 2 --yes",
         2,
-        "boxform: --yes and --dry-run are for the whole script",
+        "boxform: line 3: --yes and --dry-run are for the whole script",
     ),
 ];
 
@@ -114,12 +114,7 @@ fn a_script_fails_with_its_line_and_changes_nothing() {
     let desk = club();
     for (second, status, message) in BAD_LINES.iter().copied() {
         let script = format!("set-text --element 3 --text 8\n# next\n{second}\n");
-        desk.fails_with(
-            "run club.form",
-            &script,
-            status,
-            &format!("line 3: {message}"),
-        );
+        desk.fails_with("run club.form", &script, status, message);
     }
     desk.fails_with(
         "run club.form",
@@ -273,7 +268,7 @@ const BAD_TABLES: &[(&str, &str, i32, &str)] = &[
         "--columns bib,club",
         "8,a\n9\n",
         2,
-        "line 2: boxform: it has 1 fields, and there are 2 columns: bib,club",
+        "boxform: line 2: it has 1 fields, and there are 2 columns: bib,club",
     ),
     (
         "--columns bib,club",
@@ -291,13 +286,13 @@ const BAD_TABLES: &[(&str, &str, i32, &str)] = &[
         "--columns bib,club",
         "8,\"a\"b\n",
         2,
-        "line 1: boxform: after the closing quote of a field comes the separator",
+        "boxform: line 1: after the closing quote of a field comes the separator",
     ),
     (
         "--columns bib,club",
         "7,x\n8,\"a\n",
         2,
-        "line 2: boxform: a quote is not closed",
+        "boxform: line 2: a quote is not closed",
     ),
     (
         "--columns bib,club",

@@ -538,6 +538,14 @@ fn why_a_file_does_not_pass() {
 
 /// Words that are wrong use, and what is said.
 const WRONG_USE: &[(&str, &str)] = &[
+    (
+        "club.form show",
+        "unknown command club.form; the command comes first: boxform show club.form",
+    ),
+    (
+        "load club.form list.csv --parent 1",
+        "list.csv: give one FILE; what it reads comes through its input, after <",
+    ),
     ("", "give a command"),
     (
         "paint club.form",

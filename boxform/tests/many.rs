@@ -265,6 +265,18 @@ fn a_column_of_its_own() {
 /// Arguments and tables that fail, with the status and what is said.
 const BAD_TABLES: &[(&str, &str, i32, &str)] = &[
     (
+        "--columns bib,club,bib",
+        "8,a,9\n",
+        2,
+        "boxform: column bib: it stands twice",
+    ),
+    (
+        "--columns bib,@unit",
+        "8,\n9,h\n",
+        1,
+        "line 2: refused (15, no match): --value h: the attribute is fixed to \"min\"",
+    ),
+    (
         "--columns bib,club",
         "8,a\n9\n",
         2,
@@ -343,6 +355,7 @@ const BAD_TABLES: &[(&str, &str, i32, &str)] = &[
 fn a_table_fails_with_its_line_and_changes_nothing() {
     let desk = club();
     desk.done("create-definition club.form --name walker --kind complex");
+    desk.done("add-attribute club.form --owner finisher --name unit --sort fixed --value min");
     for (line, table, status, message) in BAD_TABLES.iter().copied() {
         desk.fails_with(
             &format!("load club.form --parent 1 {line}"),

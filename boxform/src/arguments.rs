@@ -93,14 +93,14 @@ pub const GAP: Argument = needed(
     "place",
     "PLACE",
     "insert after this member of the model: its name, or its number; 0 is before the first, 2-1 after the first member \
-    of the group that is \
+     of the group that is \
      member 2, OWNER/PLACE names the owner too",
 );
 pub const PLACE: Argument = needed(
     "place",
     "PLACE",
     "the member of the model: its name, or its number from 1; 2-1 is the first member of the group that is member 2, \
-    OWNER/PLACE names \
+     OWNER/PLACE names \
      the owner too, NAME/.. is the group around NAME",
 );
 pub const QUANTIFIER: Argument = code::<Quantifier>(
@@ -158,7 +158,7 @@ pub const COLUMNS: Argument = free(
     "columns",
     "NAMES",
     "what the fields of a line are, with commas between: names of elements, or @NAME for an attribute; without it the \
-    first line names them",
+     first line names them",
 );
 pub const LOADED: Argument = free(
     "definition",

@@ -116,7 +116,7 @@ pub fn undo(given: &Given) -> Result<(), Failure> {
         Err(_) if given.has("dry-run") => {
             return put(
                 b"nothing is written\n  would bring back a store that passes, in \
-        the place of one that does not\n",
+                  the place of one that does not\n",
             )
         }
         _ => held.replace(&now, back.as_bytes())?,

@@ -126,7 +126,7 @@ const FILES: &[Command] = &[
         &[],
         "Says whether the store in FILE passes the check, and whether it is as boxform left it.",
         "A store that does not pass is told with the reason: empty, cut short, no form store, or which part of the \
-        form or which element is damaged.",
+         form or which element is damaged.",
     ),
     plain(
         "sum",
@@ -143,7 +143,7 @@ const FILES: &[Command] = &[
         &[DRY_RUN],
         "Brings back the store before the last change, FILE~.",
         "What was in FILE is then in FILE~, so that a second undo takes back the first. Serials given since may be \
-        given again. FILE itself may be damaged.",
+         given again. FILE itself may be damaged.",
     ),
 ];
 
@@ -155,7 +155,7 @@ const READING: &[Command] = &[
         &[DOCUMENT, DOCTYPE],
         "Prints the DTD, then a line for each document.",
         "With --document, the line of that document alone; with --doctype, the document whole: 'boxform print FILE \
-        --document 1 --doctype | xmllint --valid -'. \
+         --document 1 --doctype | xmllint --valid -'. \
          An attribute that is #FIXED and absent in a document is supplied by every reader of the DTD, so it need not \
          be there to have its value.",
     ),
@@ -166,7 +166,7 @@ const READING: &[Command] = &[
         &[DOCUMENT, ONE_ELEMENT, JSON],
         "Shows definitions with their places, attributes, and rows with serials and child numbers.",
         "All numbers that the changes want are there: the index of a definition or attribute at the left, the place of \
-        each member, the serial of each row, and the \
+         each member, the serial of each row, and the \
          number of an element among its parent's children. Quotes and \\ in a value have a \\ before them.",
     ),
     plain(
@@ -176,7 +176,7 @@ const READING: &[Command] = &[
         &[],
         "Says what differs from store A to store B: the form in words, the rows by serial.",
         "A row that only A has is marked -, one that only B has +, one with another value !. Exit status: 0 nothing \
-        differs, 1 something does, 2 wrong use or file \
+         differs, 1 something does, 2 wrong use or file \
          error; a store that does not pass is refused with 1 as well.",
     ),
 ];
@@ -234,7 +234,7 @@ const FORM: &[Command] = &[
         },
         "Change 5: changes the quantifier of an element; the lists follow.",
         "Where it may come no longer many times, the first of each stays and the others go; where it must come now, it \
-        is made where none stands.",
+         is made where none stands.",
     ),
     change(
         "convert-to-group",
@@ -362,7 +362,7 @@ const MANY: &[Command] = &[
         &[],
         "Makes the changes of a script that it reads from its input, all or none.",
         "A line is a change in the words of its command, without FILE: set-text --element 5 --text '19:04'. Blanks \
-        part words; '..' and \"..\" hold them together, a \\ \
+         part words; '..' and \"..\" hold them together, a \\ \
          takes the next character as it is (not within '..'). Empty lines and lines that begin with # say nothing. The \
          first line that fails is told with its number, \
          and then the file is as it was. Rows that go from before to after are asked for once, with --yes.",
@@ -374,7 +374,7 @@ const MANY: &[Command] = &[
         &[PARENT, COLUMNS, LOADED, LOAD_CHILD, SEPARATOR, DRY_RUN],
         "Adds a child for each line of a table that it reads from its input (CSV), all or none.",
         "A field that holds the separator or quotes stands between quotes, with its quotes doubled. An empty field \
-        gives an element that must be there the empty text, \
+         gives an element that must be there the empty text, \
          and leaves one out that need not be. Lines with nothing in them are passed over. The first line that fails is \
          told with its number, and then the file is as \
          it was.",

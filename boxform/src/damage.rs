@@ -69,7 +69,7 @@ fn parts(bytes: &[u8]) -> Result<Parts<'_>, String> {
         let (offset, count) = (field(8 + 8 * at), field(12 + 8 * at));
         if offset != start || count > *most {
             return Err(format!("the table of contents is damaged: {count} {name} at byte {offset}; at most {most} at \
-            byte {start} can be"));
+                                byte {start} can be"));
         }
         start += count * size;
         ends[at + 1] = start;

@@ -64,7 +64,10 @@ impl fmt::Display for Failure {
             Failure::Use(text) => write!(out, "boxform: {text}"),
             Failure::File(path, error) => write!(out, "boxform: {}: {error}", path.display()),
             Failure::Output(error) => write!(out, "boxform: the output cannot be written: {error}"),
-            Failure::Line(line, failure) => write!(out, "line {line}: {failure}"),
+            Failure::Line(line, failure) => match &**failure {
+                Failure::Use(text) => write!(out, "boxform: line {line}: {text}"),
+                failure => write!(out, "line {line}: {failure}"),
+            },
             Failure::Differ => Ok(()),
         }
     }

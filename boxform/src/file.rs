@@ -353,7 +353,7 @@ fn keep_owner(file: &File, like: &Metadata) -> io::Result<()> {
     fchown(file, Some(like.uid()), Some(like.gid())).map_err(|error| {
         let text = format!(
             "the new file could not be given to the owner and group of the old one: {error}; let its owner change it, \
-            or work on a copy"
+             or work on a copy"
         );
         io::Error::new(error.kind(), text)
     })

@@ -1,7 +1,7 @@
 //! The words of a command as they were given.
 
 use crate::arguments::Argument;
-use crate::commands::Command;
+use crate::commands::{Action, Command};
 use crate::failure::Failure;
 use crate::suggest::instead;
 use formstore::Code;
@@ -121,7 +121,15 @@ impl Given {
                 word.display(),
                 command.name
             ),
-            (["FILE"], Some(word)) => format!("{}: give one FILE", word.display()),
+            (["FILE"], Some(word)) => {
+                let input = match command.action {
+                    Action::Run | Action::Load => {
+                        "; what it reads comes through its input, after <"
+                    }
+                    _ => "",
+                };
+                format!("{}: give one FILE{input}", word.display())
+            }
             (["FILE"], None) => "FILE is missing: give the file with the store".to_string(),
             (names, _) => format!("give {}", names.join(" and ")),
         };

@@ -9,14 +9,14 @@ pub const VERSION: &str = concat!("boxform ", env!("CARGO_PKG_VERSION"));
 
 pub const ABOUT: &str =
     "Works on the form store of a timing box that stands in FILE: a DTD, and the finish lists \
-under it.";
+     under it.";
 
 /// What holds for all commands, by subject. The man page has it too.
 pub const NOTES: [(&str, &str); 4] = [
     (
         "Changes",
         "Every change says what it did: what it changed in the form, and the rows that it made, took and set. One that \
-        takes rows asks first at a terminal; elsewhere \
+         takes rows asks first at a terminal; elsewhere \
          it is refused without --yes. --dry-run says what would be done and writes nothing. A refusal has its number \
          in the store's table of refusals, and leaves the \
          file as it was.",
@@ -24,7 +24,7 @@ pub const NOTES: [(&str, &str); 4] = [
     (
         "Files",
         "A file is never written in place: a new one is written beside it, brought to the disk and then takes its \
-        name, so that a crash leaves the old one or the new \
+         name, so that a crash leaves the old one or the new \
          one, whole. The file before the last change stays as FILE~, and 'undo' brings it back. FILE.sum has the sums \
          of both, as sha256sum writes and checks \
          them; a file that no longer fits its sum is told, and only 'show' and 'diff' still read it. A file without \
@@ -38,7 +38,7 @@ pub const NOTES: [(&str, &str); 4] = [
     (
         "Words",
         "A word that begins with - is an argument; after -- none is. A value stands behind its argument or behind =, \
-        as in --text=-. Definitions and attributes \
+         as in --text=-. Definitions and attributes \
          go by name or index, elements by serial, members of a model by name or place; 'show' has all these numbers.",
     ),
     ("Exit status", "0 done, 1 refused (the file is as it was), 2 wrong use or file error."),

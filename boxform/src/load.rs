@@ -84,6 +84,11 @@ fn table(given: &Given, text: &[u8]) -> Result<Table, Failure> {
 }
 
 fn plan(given: &Given, store: &Store, names: &[String]) -> Result<Plan, Failure> {
+    if let Some(name) =
+        (1..names.len()).find_map(|at| names[..at].iter().find(|name| **name == names[at]))
+    {
+        return Err(Failure::Use(format!("column {name}: it stands twice")));
+    }
     let form = Form::of(store);
     let parent = given.number("parent")?;
     let Some(owner) = Lists::of(store).definition(parent) else {
@@ -191,7 +196,7 @@ fn add(
     for (column, value) in plan.columns.iter().zip(&record.fields) {
         match column {
             Column::Attribute(attribute) if !value.is_empty() => {
-                store.set_attribute(serial, *attribute, value)?
+                set_attribute(store, serial, *attribute, value)?
             }
             _ => {}
         }
@@ -278,18 +283,42 @@ fn add_element(
     definition: u32,
     text: &[u8],
 ) -> Result<(), Failure> {
-    let given = || {
-        let number = |number: u32| number.to_string().into_bytes();
-        Given::made(vec![
-            ("parent", number(parent)),
-            ("child", number(child)),
-            ("definition", number(definition)),
-            ("text", text.to_vec()),
-        ])
-    };
-    store
-        .add_element(parent, child, definition, text)
-        .map_err(|refusal| {
-            Failure::Refused(refusal, explain("add-element", &given(), store, refusal))
-        })
+    let added = store.add_element(parent, child, definition, text);
+    added.map_err(|refusal| {
+        let numbers = [
+            ("parent", parent),
+            ("child", child),
+            ("definition", definition),
+        ];
+        refused(store, refusal, "add-element", &numbers, ("text", text))
+    })
+}
+
+/// Sets an attribute; a refusal says why, as it does of the command.
+fn set_attribute(
+    store: &mut Store,
+    element: u32,
+    attribute: u32,
+    value: &[u8],
+) -> Result<(), Failure> {
+    let set = store.set_attribute(element, attribute, value);
+    set.map_err(|refusal| {
+        let numbers = [("element", element), ("attribute", attribute)];
+        refused(store, refusal, "set-attribute", &numbers, ("value", value))
+    })
+}
+
+/// The refusal of a change that was made from a field, as if its arguments had been given.
+fn refused(
+    store: &Store,
+    refusal: Refusal,
+    change: &str,
+    numbers: &[(&'static str, u32)],
+    (flag, text): (&'static str, &[u8]),
+) -> Failure {
+    let numbers = numbers
+        .iter()
+        .map(|(flag, number)| (*flag, number.to_string().into_bytes()));
+    let given = Given::made(numbers.chain([(flag, text.to_vec())]).collect());
+    Failure::Refused(refusal, explain(change, &given, store, refusal))
 }

@@ -65,19 +65,24 @@ fn run(words: impl Iterator<Item = OsString>) -> Result<(), Failure> {
     if first == "--version" || first == "-V" {
         return put(format!("{}\n", help::VERSION).as_bytes());
     }
-    let command = find(&first.to_string_lossy())?;
-    match given::read(command, words)? {
+    let words: Vec<OsString> = words.collect();
+    let command = find(&first.to_string_lossy(), words.first())?;
+    match given::read(command, words.into_iter())? {
         Asked::Help => put(command.help().as_bytes()),
         Asked::Run(given) => act(command, &given),
     }
 }
 
-/// The command of this name.
-fn find(name: &str) -> Result<&'static Command, Failure> {
-    let found = commands().find(|command| command.name == name);
-    found.ok_or_else(|| {
+/// The command of this name. Where the next word is one, the two were swapped.
+fn find(name: &str, next: Option<&OsString>) -> Result<&'static Command, Failure> {
+    let named = |name: &str| commands().find(|command| command.name == name);
+    let swapped = next.and_then(|next| named(&next.to_string_lossy()));
+    named(name).ok_or_else(|| {
         let names: Vec<&str> = commands().map(|command| command.name).collect();
-        let instead = suggest::instead(name, &names);
+        let instead = match swapped {
+            Some(command) => format!("the command comes first: boxform {} {name}", command.name),
+            None => suggest::instead(name, &names),
+        };
         Failure::Use(format!("unknown command {name}; {instead}"))
     })
 }
@@ -155,6 +160,6 @@ fn diff(one: &Path, other: &Path) -> Result<(), Failure> {
 fn tell_of(given: &Given) -> Result<(), Failure> {
     match given.operands.first() {
         None => put(help::overview().as_bytes()),
-        Some(name) => put(find(&name.to_string_lossy())?.help().as_bytes()),
+        Some(name) => put(find(&name.to_string_lossy(), None)?.help().as_bytes()),
     }
 }

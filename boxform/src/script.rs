@@ -4,9 +4,10 @@ use crate::change::{apply, change_file};
 use crate::commands::{commands, Action, Change, Command};
 use crate::failure::Failure;
 use crate::given::{read, Asked, Given};
+use crate::output::note;
 use crate::suggest::instead;
 use std::ffi::OsString;
-use std::io::{self, Read};
+use std::io::{self, IsTerminal, Read};
 use std::os::unix::ffi::OsStringExt;
 
 /// A change of the script, with its line.
@@ -29,6 +30,9 @@ pub fn run(given: &Given) -> Result<(), Failure> {
 
 /// All that is read from the input, without the mark that some programs put before a text.
 pub fn input() -> Result<Vec<u8>, Failure> {
+    if io::stdin().is_terminal() {
+        note("this reads what you type, up to Ctrl-D at the start of a line");
+    }
     let mut bytes = Vec::new();
     let read = io::stdin().lock().read_to_end(&mut bytes);
     read.map_err(|error| Failure::Use(format!("the input cannot be read: {error}")))?;

@@ -39,6 +39,13 @@ impl Killer {
         }
     }
 
+    /// Says how it went; enough runs must have been killed for that to say something.
+    fn tell(&self, what: &str, done: usize) {
+        let killed = self.killed;
+        println!("{what}: {killed} of {KILLS} runs killed, {done} did it all the same, no file empty or half");
+        assert!(killed > KILLS / 8, "only {killed} runs were killed");
+    }
+
     fn run(&mut self, desk: &Desk, line: &str) {
         let start = Instant::now();
         let mut child = desk.boxform(line).stdout(Stdio::null()).spawn().unwrap();
@@ -78,15 +85,7 @@ fn new_is_killed_at_any_moment() {
             fs::remove_file(desk.path("x.form")).unwrap();
         }
     }
-    println!(
-        "new: {} of {KILLS} runs killed, {made} made the file, no file empty or half",
-        killer.killed
-    );
-    assert!(
-        killer.killed > KILLS / 8,
-        "only {} runs were killed",
-        killer.killed
-    );
+    killer.tell("new", made);
     desk.done("new x.form");
     assert_eq!(
         desk.names(),
@@ -121,16 +120,7 @@ fn changes_are_killed_at_any_moment() {
             );
         }
     }
-    println!(
-        "changes: {} of {KILLS} runs killed, {changed} changed the file, none left it empty or \
-    half",
-        killer.killed
-    );
-    assert!(
-        killer.killed > KILLS / 8,
-        "only {} runs were killed",
-        killer.killed
-    );
+    killer.tell("changes", changed);
     desk.done(&line(10));
     assert_eq!(desk.names(), ["club.form", "club.form.sum", "club.form~"]);
     assert_eq!(

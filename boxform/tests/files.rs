@@ -8,34 +8,36 @@ use std::io::{BufRead, BufReader};
 use std::os::unix::fs::{chown, symlink, MetadataExt, PermissionsExt};
 use std::process::Stdio;
 
+const FILE_ERRORS: &[(&str, &str)] = &[
+    ("check absent.form", "absent.form: No such file"),
+    (
+        "set-text absent.form --element 3 --text a",
+        "absent.form: No such file",
+    ),
+    ("check .", ".: Is a directory"),
+    (
+        "set-text folder --element 3 --text a",
+        "folder: this is no file with a store",
+    ),
+    (
+        "new club.form",
+        "club.form: the file is there already, and stays as it is",
+    ),
+    (
+        "new folder",
+        "folder: the file is there already, and stays as it is",
+    ),
+    ("new nowhere/club.form", "nowhere/club.form: No such file"),
+    ("undo absent.form", "absent.form: No such file"),
+    ("sum absent.form", "absent.form: No such file"),
+    ("diff club.form absent.form", "absent.form: No such file"),
+];
+
 #[test]
 fn file_errors() {
     let desk = club();
     fs::create_dir(desk.path("folder")).unwrap();
-    for (line, message) in [
-        ("check absent.form", "absent.form: No such file"),
-        (
-            "set-text absent.form --element 3 --text a",
-            "absent.form: No such file",
-        ),
-        ("check .", ".: Is a directory"),
-        (
-            "set-text folder --element 3 --text a",
-            "folder: this is no file with a store",
-        ),
-        (
-            "new club.form",
-            "club.form: the file is there already, and stays as it is",
-        ),
-        (
-            "new folder",
-            "folder: the file is there already, and stays as it is",
-        ),
-        ("new nowhere/club.form", "nowhere/club.form: No such file"),
-        ("undo absent.form", "absent.form: No such file"),
-        ("sum absent.form", "absent.form: No such file"),
-        ("diff club.form absent.form", "absent.form: No such file"),
-    ] {
+    for (line, message) in FILE_ERRORS.iter().copied() {
         desk.fails(line, 2, &format!("boxform: {message}"));
     }
     fs::remove_file(desk.path("club.form")).unwrap();
@@ -128,7 +130,7 @@ fn the_file_of_another_stays() {
     fs::set_permissions(desk.path("club.form"), Permissions::from_mode(0o666)).unwrap();
     let line = "cp $boxform tool && chmod 755 tool && \
                 su nobody -s /bin/sh -c './tool set-text club.form --element 3 --text 8'";
-    if chown(&desk.folder, Some(12), None).is_err() {
+    if desk.shell("su nobody -s /bin/sh -c true").status != Some(0) {
         println!("not tried: only root can work for another person");
         return;
     }
@@ -177,8 +179,7 @@ fn long_names() {
     for name in [&longer, &longest] {
         let length = name.len();
         let message = format!(
-            "boxform: {name}: the name has {length} bytes; with .sum behind it, at most 251 can \
-        be\n"
+            "boxform: {name}: the name has {length} bytes; with .sum behind it, at most 251 can be\n"
         );
         desk.fails(&format!("new {name}"), 2, &message);
         fs::copy(desk.path(&long), desk.path(name)).unwrap();
@@ -198,8 +199,9 @@ fn long_names() {
 #[test]
 fn names_of_any_bytes() {
     let desk = Desk::new();
-    let line = "name=$(printf 'L\\344ufer') && $boxform new \"$name\" && $boxform check \"$name\" && sha256sum \
-    --status -c \"$name.sum\"";
+    let line =
+        "name=$(printf 'L\\344ufer') && $boxform new \"$name\" && $boxform check \"$name\" && \
+                sha256sum --status -c \"$name.sum\"";
     let done = desk.shell(line);
     assert_eq!(done.status, Some(0), "{}", done.err);
     assert!(

@@ -55,68 +55,66 @@ fn quotes_in_a_script() {
     }
 }
 
+/// Lines that fail, with the status and what is said.
+const BAD_LINES: &[(&str, i32, &str)] = &[
+    (
+        "set-text --element 2 --text 7",
+        1,
+        "line 3: refused (9, wrong kind): --element 2: finisher 2 holds elements",
+    ),
+    (
+        "set-text --element 3 --text ü",
+        1,
+        "line 3: refused (3, bad value): --text ü: only plain ASCII, no ü",
+    ),
+    (
+        "set-text --element 3",
+        2,
+        "boxform: line 3: --text is missing: the new text\nusage: boxform set-text --element SERIAL",
+    ),
+    (
+        "set-text club.form --element 3 --text 8",
+        2,
+        "boxform: line 3: club.form: there is nothing to give to set-text",
+    ),
+    (
+        "set-txt --element 3 --text 8",
+        2,
+        "boxform: line 3: set-txt is no change; did you mean set-text?",
+    ),
+    (
+        "show",
+        2,
+        "boxform: line 3: show is no change; there are: create-definition, ",
+    ),
+    (
+        "set-text --element 3 --text 'a",
+        2,
+        "boxform: line 3: a quote is not closed on the line",
+    ),
+    (
+        "set-text --element 3 --text \\",
+        2,
+        "boxform: line 3: the line ends after a \\",
+    ),
+    (
+        "set-text --help",
+        2,
+        "boxform: line 3: there is no help within a script",
+    ),
+    (
+        "destroy-element --element 2 --yes",
+        2,
+        "boxform: line 3: --yes and --dry-run are for the whole script",
+    ),
+];
+
 #[test]
 fn a_script_fails_with_its_line_and_changes_nothing() {
     let desk = club();
-    for (second, status, message) in [
-        (
-            "set-text --element 2 --text 7",
-            1,
-            "refused (9, wrong kind): --element 2: finisher 2 holds elements",
-        ),
-        (
-            "set-text --element 3 --text ü",
-            1,
-            "refused (3, bad value): --text ü: only plain ASCII, no ü",
-        ),
-        (
-            "set-text --element 3",
-            2,
-            "boxform: --text is missing: the new text\nusage: boxform set-text --element SERIAL",
-        ),
-        (
-            "set-text club.form --element 3 --text 8",
-            2,
-            "boxform: club.form: there is nothing to give to set-text",
-        ),
-        (
-            "set-txt --element 3 --text 8",
-            2,
-            "boxform: set-txt is no change; did you mean set-text?",
-        ),
-        (
-            "show",
-            2,
-            "boxform: show is no change; there are: create-definition, ",
-        ),
-        (
-            "set-text --element 3 --text 'a",
-            2,
-            "boxform: a quote is not closed on the line",
-        ),
-        (
-            "set-text --element 3 --text \\",
-            2,
-            "boxform: the line ends after a \\",
-        ),
-        (
-            "set-text --help",
-            2,
-            "boxform: there is no help within a script",
-        ),
-        (
-            "destroy-element --element 2 --yes",
-            2,
-            "boxform: --yes and --dry-run are for the whole script",
-        ),
-    ] {
+    for (second, status, message) in BAD_LINES.iter().copied() {
         let script = format!("set-text --element 3 --text 8\n# next\n{second}\n");
-        desk.fails_with(
-            "run club.form",
-            &script,
-            status,
-            &format!("line 3: {message}"),
-        );
+        desk.fails_with("run club.form", &script, status, message);
     }
     desk.fails_with(
         "run club.form",
@@ -141,14 +139,8 @@ fn what_a_script_makes_and_takes() {
     );
 }
 
-/// 500 finishers of a club with bib, name and time.
-#[test]
-fn five_hundred_finishers() {
-    let desk = Desk::new();
-    desk.done("new race.form");
-    desk.done_with(
-        "run race.form",
-        "create-definition --name race --kind complex
+/// A race without finishers.
+const RACE_FORM: &str = "create-definition --name race --kind complex
          create-definition --name finisher --kind complex
          create-definition --name bib --kind pcdata
          create-definition --name name --kind pcdata
@@ -157,8 +149,14 @@ fn five_hundred_finishers() {
          insert-element --owner finisher --place 0 --definition bib --quantifier none --text -
          insert-element --owner finisher --place bib --definition name --quantifier none --text -
          insert-element --owner finisher --place name --definition time --quantifier none --text -
-         add-document --definition race",
-    );
+         add-document --definition race";
+
+/// 500 finishers of a club with bib, name and time.
+#[test]
+fn five_hundred_finishers() {
+    let desk = Desk::new();
+    desk.done("new race.form");
+    desk.done_with("run race.form", RACE_FORM);
     let table: String = (1..=500)
         .map(|bib| {
             format!(
@@ -180,8 +178,8 @@ fn five_hundred_finishers() {
     );
     let printed = desk.done("print race.form");
     assert_eq!(printed.matches("<finisher>").count(), 500);
-    let first = "<race><finisher><bib>1</bib><name>Runner, \
-    1</name><time>1:00:01</time></finisher><finisher><bib>2</bib>";
+    let first = "<race><finisher><bib>1</bib><name>Runner, 1</name><time>1:00:01</time></finisher>\
+                 <finisher><bib>2</bib>";
     assert!(printed.contains(first));
     assert!(printed.ends_with("<name>Runner, 500</name><time>1:08:20</time></finisher></race>\n"));
     desk.validate(&printed);
@@ -190,7 +188,8 @@ fn five_hundred_finishers() {
         line,
         &table,
         1,
-        "line 86: refused (16, ceiling): the rows do not suffice: 4,096 of 4,096 are used, 0 are left",
+        "line 86: refused (16, ceiling): the rows do not suffice: 4,096 of 4,096 are used, 0 \
+         are left",
     );
 }
 
@@ -234,7 +233,8 @@ fn fields_become_what_their_columns_say() {
         (
             "--columns @sex,bib --separator ;",
             "f;8\n\n;9",
-            "OLD<finisher sex=\"f\"><bib>8</bib><club></club></finisher><finisher><bib>9</bib><club></club></finisher>",
+            "OLD<finisher \
+             sex=\"f\"><bib>8</bib><club></club></finisher><finisher><bib>9</bib><club></club></finisher>",
         ),
         // Before those that stand, in the order of the table.
         (
@@ -262,90 +262,101 @@ fn a_column_of_its_own() {
         .ends_with("</finisher><club>a</club><club>b</club></race>\n"));
 }
 
+/// Arguments and tables that fail, with the status and what is said.
+const BAD_TABLES: &[(&str, &str, i32, &str)] = &[
+    (
+        "--columns bib,club,bib",
+        "8,a,9\n",
+        2,
+        "boxform: column bib: it stands twice",
+    ),
+    (
+        "--columns bib,@unit",
+        "8,\n9,h\n",
+        1,
+        "line 2: refused (15, no match): --value h: the attribute is fixed to \"min\"",
+    ),
+    (
+        "--columns bib,club",
+        "8,a\n9\n",
+        2,
+        "boxform: line 2: it has 1 fields, and there are 2 columns: bib,club",
+    ),
+    (
+        "--columns bib,club",
+        "8,a\n\n9,Köln\n",
+        1,
+        "line 3: refused (3, bad value): club Köln: only plain ASCII, no ö",
+    ),
+    (
+        "--columns bib,club",
+        "8,\"a\nb\"\n",
+        1,
+        "line 1: refused (3, bad value): club a\nb: only plain ASCII, no line break",
+    ),
+    (
+        "--columns bib,club",
+        "8,\"a\"b\n",
+        2,
+        "boxform: line 1: after the closing quote of a field comes the separator",
+    ),
+    (
+        "--columns bib,club",
+        "7,x\n8,\"a\n",
+        2,
+        "boxform: line 2: a quote is not closed",
+    ),
+    (
+        "--columns bib,club",
+        "bib,club\n8,a\n",
+        2,
+        "boxform: --columns bib,club: line 1 of the table names the columns itself",
+    ),
+    (
+        "--columns bib,team",
+        "8,a\n",
+        2,
+        "boxform: give --definition: of what race can hold (finisher), not one alone has the \
+         columns bib,team",
+    ),
+    (
+        "--columns bib,team --definition finisher",
+        "8,a\n",
+        2,
+        "boxform: column team: finisher has none, it is (bib,club,time?)",
+    ),
+    (
+        "--columns bib --definition walker",
+        "8\n",
+        2,
+        "boxform: column bib: walker has none, it is EMPTY",
+    ),
+    (
+        "--columns bib --child 7",
+        "8\n",
+        1,
+        "line 1: refused (8, no place): --child 7: race 1 has 1 elements in it",
+    ),
+    (
+        "--columns bib --separator ab",
+        "8\n",
+        2,
+        "boxform: --separator ab: give one character of plain ASCII",
+    ),
+    (
+        "--columns club --definition club",
+        "8\n",
+        1,
+        "line 1: refused (15, no match): club is not in (finisher*)",
+    ),
+];
+
 #[test]
 fn a_table_fails_with_its_line_and_changes_nothing() {
     let desk = club();
     desk.done("create-definition club.form --name walker --kind complex");
-    for (line, table, status, message) in [
-        (
-            "--columns bib,club",
-            "8,a\n9\n",
-            2,
-            "line 2: boxform: it has 1 fields, and there are 2 columns: bib,club",
-        ),
-        (
-            "--columns bib,club",
-            "8,a\n\n9,Köln\n",
-            1,
-            "line 3: refused (3, bad value): club Köln: only plain ASCII, no \
-        ö",
-        ),
-        (
-            "--columns bib,club",
-            "8,\"a\nb\"\n",
-            1,
-            "line 1: refused (3, bad value): club a\nb: only plain ASCII, no \
-        line break",
-        ),
-        (
-            "--columns bib,club",
-            "8,\"a\"b\n",
-            2,
-            "line 1: boxform: after the closing quote of a field comes the \
-        separator",
-        ),
-        (
-            "--columns bib,club",
-            "7,x\n8,\"a\n",
-            2,
-            "line 2: boxform: a quote is not closed",
-        ),
-        (
-            "--columns bib,club",
-            "bib,club\n8,a\n",
-            2,
-            "boxform: --columns bib,club: line 1 of the table names the \
-        columns itself",
-        ),
-        (
-            "--columns bib,team",
-            "8,a\n",
-            2,
-            "boxform: give --definition: of what race can hold (finisher), not one \
-        alone has the columns bib,team",
-        ),
-        (
-            "--columns bib,team --definition finisher",
-            "8,a\n",
-            2,
-            "boxform: column team: finisher has none, it is \
-        (bib,club,time?)",
-        ),
-        (
-            "--columns bib --definition walker",
-            "8\n",
-            2,
-            "boxform: column bib: walker has none, it is EMPTY",
-        ),
-        (
-            "--columns bib --child 7",
-            "8\n",
-            1,
-            "line 1: refused (8, no place): --child 7: race 1 has 1 elements in it",
-        ),
-        (
-            "--columns bib --separator ab",
-            "8\n",
-            2,
-            "boxform: --separator ab: give one character of plain ASCII",
-        ),
-        (
-            "--columns club --definition club",
-            "8\n",
-            1,
-            "line 1: refused (15, no match): club is not in (finisher*)",
-        ),
-    ] {
+    desk.done("add-attribute club.form --owner finisher --name unit --sort fixed --value min");
+    for (line, table, status, message) in BAD_TABLES.iter().copied() {
         desk.fails_with(
             &format!("load club.form --parent 1 {line}"),
             table,

@@ -192,11 +192,33 @@ fn a_pipe_is_read() {
     assert_eq!((done.status, done.out.as_str()), (Some(0), RACE));
 }
 
+const CHANGES: &str = "
+    remove-element --place finisher/time
+    destroy-definition --definition time
+    create-definition --name team --kind empty
+    add-attribute --owner race --name day --sort required --value 1
+    set-text --element 7 --text 'LG \"Nord\"'
+    change-quantifier --place race/finisher --quantifier plus --text -
+    add-element --parent 1 --child end --definition finisher --text 8
+";
+
 const DIFFERENCE: &str = r#"  definition race was (finisher*) and is (finisher+)
-  definition time is gone: (#PCDATA)
   definition finisher was (bib,club,time?) and is (bib,club)
+  definition time is gone: (#PCDATA)
   definition team is new: EMPTY
   attribute race.day is new: #REQUIRED, fill "1"
+  only the first has 1 element, 2 rows in all: time 5
+  only the second has 3 elements, 6 rows in all: serials 9 to 14
+  both have, with another value, club 7 from "none" to "LG \"Nord\""
+-      5  time in finisher 2
+-      6  text in time 5 "19:04"
+!      8  text in club 7 "none" is now "LG \"Nord\""
++      9  @day in race 1 "1"
++     10  finisher in race 1
++     11  bib in finisher 10
++     12  text in bib 11 "8"
++     13  club in finisher 10
++     14  text in club 13 "8"
 "#;
 
 #[test]
@@ -204,45 +226,10 @@ fn diff_says_what_differs_by_serial() {
     let desk = club();
     std::fs::copy(desk.path("club.form"), desk.path("old.form")).unwrap();
     assert_eq!(desk.done("diff old.form club.form"), "nothing differs\n");
-    desk.done_with(
-        "run club.form --yes",
-        "remove-element --place finisher/time
-         destroy-definition --definition time
-         create-definition --name team --kind empty
-         add-attribute --owner race --name day --sort required --value 1
-         set-text --element 7 --text 'LG \"Nord\"'
-         change-quantifier --place race/finisher --quantifier plus --text -
-         add-element --parent 1 --child end --definition finisher --text 8",
-    );
+    desk.done_with("run club.form --yes", CHANGES);
     let done = desk.run("diff old.form club.form");
     assert_eq!((done.status, done.err.as_str()), (Some(1), ""));
-    let mut lines: Vec<&str> = done.out.lines().collect();
-    let rows = lines.split_off(8);
-    for line in DIFFERENCE.lines() {
-        assert!(lines.contains(&line), "{line}: {}", done.out);
-    }
-    assert_eq!(
-        lines[5..],
-        [
-            "  only the first has 1 element, 2 rows in all: time 5",
-            "  only the second has 3 elements, 6 rows in all: serials 9 to 14",
-            "  both have, with another value, club 7 from \"none\" to \"LG \\\"Nord\\\"\"",
-        ]
-    );
-    assert_eq!(
-        rows,
-        [
-            "-      5  time in finisher 2",
-            "-      6  text in time 5 \"19:04\"",
-            "!      8  text in club 7 \"none\" is now \"LG \\\"Nord\\\"\"",
-            "+      9  @day in race 1 \"1\"",
-            "+     10  finisher in race 1",
-            "+     11  bib in finisher 10",
-            "+     12  text in bib 11 \"8\"",
-            "+     13  club in finisher 10",
-            "+     14  text in club 13 \"8\"",
-        ]
-    );
+    assert_eq!(done.out, DIFFERENCE);
     let back = desk.run("diff club.form old.form").out;
     assert!(
         back.contains("  the next serial was 15 and is 9\n"),
@@ -293,14 +280,11 @@ fn diff_of_strangers() {
     assert_eq!(desk.run("diff a nowhere").status, Some(2));
 }
 
-/// What cannot be printed is an error; a change that is made is done, whether or not anybody reads that.
 #[test]
-fn nobody_reads() {
+fn what_cannot_be_printed_is_an_error() {
     let desk = club();
-    for (to, why) in [
-        (">/dev/full", "No space left on device (os error 28)"),
-        (">&-", "the output is closed"),
-    ] {
+    let full = "No space left on device (os error 28)";
+    for (to, why) in [(">/dev/full", full), (">&-", "the output is closed")] {
         for line in [
             "print club.form",
             "show club.form",
@@ -309,33 +293,30 @@ fn nobody_reads() {
         ] {
             let done = desk.shell(&format!("$boxform {line} {to}"));
             assert_eq!(done.status, Some(2), "{line} {to}");
-            assert_eq!(
-                done.err,
-                format!("boxform: the output cannot be written: {why}\n"),
-                "{line} {to}"
-            );
+            let message = format!("boxform: the output cannot be written: {why}\n");
+            assert_eq!(done.err, message, "{line} {to}");
         }
-    }
-    for (to, text) in [(">/dev/full", "8"), (">&-", "9")] {
-        let done = desk.shell(&format!(
-            "$boxform set-text club.form --element 3 --text {text} {to}"
-        ));
-        assert_eq!(done.status, Some(0));
-        assert!(
-            done.err
-                .starts_with("boxform: it is done, but what was done cannot be told: "),
-            "{}",
-            done.err
-        );
-        assert!(desk
-            .done("print club.form")
-            .contains(&format!("<bib>{text}</bib>")));
     }
     let done = desk.shell("$boxform check club.form 2>&-");
     assert_eq!(
         (done.status, done.out.as_str()),
         (Some(0), "passes; it is as boxform left it\n")
     );
+}
+
+/// The status says that it is done, so that nobody does it again.
+#[test]
+fn a_change_is_done_though_it_cannot_be_told() {
+    let desk = club();
+    for (to, text) in [(">/dev/full", "8"), (">&-", "9")] {
+        let line = format!("$boxform set-text club.form --element 3 --text {text} {to}");
+        let done = desk.shell(&line);
+        assert_eq!(done.status, Some(0));
+        let message = "boxform: it is done, but what was done cannot be told: ";
+        assert!(done.err.starts_with(message), "{}", done.err);
+        let printed = desk.done("print club.form");
+        assert!(printed.contains(&format!("<bib>{text}</bib>")));
+    }
 }
 
 #[test]

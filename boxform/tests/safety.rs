@@ -48,14 +48,14 @@ fn a_change_that_takes_rows_wants_a_yes() {
     desk.fails(
         line,
         1,
-        "refused: this would take 581 elements, 1,162 rows in all; give --yes to do it, or --dry-run to see all that \
-        it does\n",
+        "refused: this would take 581 elements, 1,162 rows in all; give --yes to do it, or \
+         --dry-run to see all that it does\n",
     );
     let files = desk.files();
     assert_eq!(
         desk.done(&format!("{line} --dry-run")),
-        "nothing is written\n  definition finisher was (bib,club,time?) and is (bib,club)\n  would take 581 elements, \
-        1,162 rows in all\n"
+        "nothing is written\n  definition finisher was (bib,club,time?) and is (bib,club)\n  \
+         would take 581 elements, 1,162 rows in all\n"
     );
     assert!(files == desk.files());
     assert_eq!(

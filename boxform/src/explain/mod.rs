@@ -83,10 +83,15 @@ impl<'a> Case<'a> {
         format!("{} {serial}", self.form.name(definition))
     }
 
-    /// `584 finisher`, of those in the lists.
+    /// `584 finisher stand in the lists`.
     fn instances(&self, definition: u32) -> String {
         let count = self.lists.instances(definition).count();
-        format!("{} {}", thousands(count), self.form.name(definition))
+        let stand = if count == 1 { "stands" } else { "stand" };
+        format!(
+            "{} {} {stand} in the lists",
+            thousands(count),
+            self.form.name(definition)
+        )
     }
 
     fn bad_value(&self) -> Option<String> {

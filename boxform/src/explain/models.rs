@@ -40,26 +40,10 @@ impl Case<'_> {
 
     /// Why a place is not there.
     fn absent(&self, owner: u32, place: &[u32]) -> Option<String> {
-        for length in 1..place.len() {
-            let here = place_text(&place[..length]);
-            match self.form.particle_at(owner, &place[..length]) {
-                Some(Particle {
-                    term: Term::Group { .. },
-                    ..
-                }) => {}
-                Some(particle) => {
-                    return Some(format!(
-                        "{here} is the element {} and no group",
-                        self.form.text(&particle)
-                    ))
-                }
-                None => {
-                    return Some(format!(
-                        "there is no member {here} in {}",
-                        self.form.content(owner)
-                    ))
-                }
-            }
+        if let Some(fault) =
+            (1..place.len()).find_map(|length| self.no_group(owner, &place[..length]))
+        {
+            return Some(fault);
         }
         let (_, members) = self.form.list_at(owner, place)?;
         let first = u32::from(self.change != "insert-element");
@@ -81,19 +65,37 @@ impl Case<'_> {
         })
     }
 
+    /// Why a place that should lead on is no group.
+    fn no_group(&self, owner: u32, place: &[u32]) -> Option<String> {
+        let here = place_text(place);
+        match self.form.particle_at(owner, place) {
+            Some(particle) => match particle.term {
+                Term::Group { .. } => None,
+                Term::Element { .. } => Some(format!(
+                    "{here} is the element {} and no group",
+                    self.form.text(&particle)
+                )),
+            },
+            None => Some(format!(
+                "there is no member {here} in {}",
+                self.form.content(owner)
+            )),
+        }
+    }
+
     /// An element where a group is wanted, or the other way round.
     fn wrong_sort(&self, place: &[u32], particle: &Particle) -> String {
         let text = self.form.text(particle);
         let Term::Group { members, .. } = &particle.term else {
             return format!("this is the element {text} and no group; 'change-quantifier' and 'remove-element' are for \
-            elements");
+                            elements");
         };
         let members = (1..).zip(members.clone()).map(|(number, member)| {
             format!("{}-{number} {}", place_text(place), self.form.text(&member))
         });
         let members = members.collect::<Vec<_>>().join(", ");
         format!("this is the group {text} and no element; its members are {members}; 'change-group-quantifier' and \
-        'flatten-group' are for groups")
+                 'flatten-group' are for groups")
     }
 
     /// 2: a model or a document has it. 3: the model has it.
@@ -184,18 +186,18 @@ impl Case<'_> {
     pub(super) fn default(&self) -> String {
         match (self.change, self.given.text("sort").as_str()) {
             ("add-attribute", "implied") => self.told("value", "an implied attribute takes no value; leave --value \
-            out"),
+                                                                out"),
             ("add-attribute", _) => "--value is missing or empty: a required attribute wants the value that the lists \
-            get".to_string(),
+                                     get".to_string(),
             _ => "--text is missing or empty: it must come now, so give the text of those that are made in the \
-            lists".to_string(),
+                  lists".to_string(),
         }
     }
 
     /// The lists that stand do not say where an element would have to come or go.
     pub(super) fn off_spine(&self) -> Option<String> {
         let (owner, place) = self.located()?;
-        let stand = format!("{} stand in the lists", self.instances(owner));
+        let stand = self.instances(owner);
         let old = self
             .form
             .particle_at(owner, &place)
@@ -207,13 +209,13 @@ impl Case<'_> {
                 "quantifier",
                 &format!(
                     "{stand}, each may have the group many times, and nothing \
-            says which to keep; it can be cut only while none stands"
+                     says which to keep; it can be cut only while none stands"
                 ),
             ));
         }
         let (at, group) = self.loose_group(owner, &place)?;
         let why = format!("{stand}, and the group {group} at place {at} may be left out, repeated or not chosen in \
-        them, so nothing says where");
+                           them, so nothing says where");
         Some(self.told("quantifier", &match self.change {
             "insert-element" => format!("{why} one must come; give qmark or star"),
             _ => {
@@ -238,6 +240,7 @@ impl Case<'_> {
         })
     }
 
+    /// 4 would leave a group empty; 6 and 7 would mix the sorts, or 7 lose a quantifier.
     pub(super) fn grouping(&self) -> Option<String> {
         let (owner, place) = self.located()?;
         let (sort, _) = self.form.list_at(owner, &place)?;
@@ -245,39 +248,28 @@ impl Case<'_> {
         Some(match self.change {
             "remove-element" => {
                 let group = place_text(&place[..place.len() - 1]);
-                self.told(
-                    "place",
-                    &format!(
-                        "it is the last member of group {group}, and a group is not empty; \
-                'flatten-group' comes first"
-                    ),
-                )
+                let fault =
+                    format!("it is the last member of group {group}, and no group is empty");
+                self.told("place", &format!("{fault}; 'flatten-group' comes first"))
             }
-            "convert-to-group" => self.told(
-                "sort",
-                &format!(
-                    "the members stand in a {list}, so a group of several is \
-            a {list} too; one member alone can be either"
-                ),
-            ),
-            _ => {
-                let particle = self.particle()?;
-                let fault = match particle.quantifier {
-                    Quantifier::None => format!(
-                        "it has several members and stands in a {list} of the other sort, so \
-                    it stays"
-                    ),
-                    quantifier => format!(
-                        "it has the quantifier '{}'; 'change-group-quantifier --quantifier none' \
-                    comes first",
-                        quantifier.mark()
-                    ),
-                };
-                self.told(
-                    "place",
-                    &format!("this is the group {}: {fault}", self.form.text(&particle)),
-                )
+            "convert-to-group" => {
+                let fault =
+                    format!("the members stand in a {list}, so a group of several is a {list} too");
+                self.told("sort", &format!("{fault}; one member alone can be either"))
             }
+            _ => self.told("place", &self.cannot_flatten(list)?),
         })
+    }
+
+    fn cannot_flatten(&self, list: &str) -> Option<String> {
+        let particle = self.particle()?;
+        let why = match particle.quantifier.mark() {
+            "" => format!("it has several members and stands in a {list} of the other sort, so it stays"),
+            mark => format!("it has the quantifier '{mark}'; 'change-group-quantifier --quantifier none' comes first"),
+        };
+        Some(format!(
+            "this is the group {}: {why}",
+            self.form.text(&particle)
+        ))
     }
 }

@@ -3,7 +3,7 @@
 use super::Case;
 use crate::form::{place_text, quoted, Form};
 use crate::lists::Line;
-use formstore::{Content, Kind, Particle, Quantifier};
+use formstore::{Code, Content, Kind, Particle, Quantifier};
 
 impl Case<'_> {
     /// No element has the serial, or it does not have the attribute.
@@ -112,35 +112,33 @@ impl Case<'_> {
         let definition = self.definition("definition")?;
         let owner = self.lists.definition(parent)?;
         let (name, model) = (self.form.name(definition), self.form.content(owner));
+        let around = self.element(parent);
         let Some(place) = self.form.place_of(owner, definition) else {
             return Some(format!(
-                "{name} is not in {model}, which is what {} holds",
-                self.element(parent)
+                "{name} is not in {model}, which is what {around} holds"
             ));
         };
         let children: Vec<&Line> = self.lists.children(parent).collect();
-        let fitting: Vec<String> = (0..=children.len() as u32)
-            .filter(|child| self.fits(parent, *child, definition))
-            .map(|child| child.to_string())
-            .collect();
+        let numbers = 0..=children.len() as u32;
+        let fitting = numbers.filter(|child| self.fits(parent, *child, definition));
+        let fitting: Vec<String> = fitting.map(|child| child.to_string()).collect();
         if !fitting.is_empty() {
-            return Some(self.told(
-                "child",
-                &format!(
-                    "{name} does not fit there in {model}; in {} it fits as child {}",
-                    self.element(parent),
-                    fitting.join(" or ")
-                ),
-            ));
+            let fault =
+                format!("{name} does not fit there in {model}; in {around} it fits as child");
+            return Some(self.told("child", &format!("{fault} {}", fitting.join(" or "))));
         }
         let stands = children
             .iter()
             .find(|line| line.definition() == Some(definition));
         Some(match stands {
-            Some(line) if once(&self.form, owner, &place) => format!("{name} may come once in {model}; in {} it is \
-            there already, {}", self.element(parent), self.element(line.row.serial)),
-            _ => format!("{name} fits nowhere in {}: its children are {}, and {model} allows no {name} with \
-            them", self.element(parent), self.child_names(&children)),
+            Some(line) if once(&self.form, owner, &place) => {
+                let there = self.element(line.row.serial);
+                format!("{name} may come once in {model}; in {around} it is there already, {there}")
+            }
+            _ => {
+                let names = self.child_names(&children);
+                format!("{name} fits nowhere in {around}: {model} allows no {name} beside its children, {names}")
+            }
         })
     }
 
@@ -177,11 +175,9 @@ impl Case<'_> {
         );
         let place = self.form.place_of(owner, definition)?;
         let particle = self.form.particle_at(owner, &place)?;
-        if place.len() == 1 && matches!(particle.quantifier, Quantifier::None | Quantifier::Plus) {
-            text += &format!(
-                "; 'change-quantifier --place {}/{name} --quantifier qmark' lets it be absent",
-                self.form.name(owner)
-            );
+        if place.len() == 1 {
+            let (owner, looser) = (self.form.name(owner), looser(particle.quantifier));
+            text += &format!("; 'change-quantifier --place {owner}/{name} --quantifier {looser}' lets it be absent");
         }
         Some(self.told("element", &text))
     }
@@ -191,17 +187,25 @@ impl Case<'_> {
         let (owner, place) = self.located()?;
         let (_, groups) = place.split_last()?;
         let group = self.form.particle_at(owner, groups)?;
-        Some(self.told(
-            "place",
-            &format!(
-            "{} stand in the lists and may have chosen it, and {} must hold one of its members; \
-            'change-group-quantifier --owner {} --place {} --quantifier qmark' lets it be absent",
+        let (stand, text, looser) = (
             self.instances(owner),
             self.form.text(&group),
-            self.form.name(owner),
-            place_text(groups)
-        ),
-        ))
+            looser(group.quantifier),
+        );
+        let (name, at) = (self.form.name(owner), place_text(groups));
+        let fault = format!(
+            "{stand} and may have chosen it, and {text} must hold one of its members; \
+             'change-group-quantifier --place {name}/{at} --quantifier {looser}' lets it be absent"
+        );
+        Some(self.told("place", &fault))
+    }
+}
+
+/// The quantifier that also lets it be absent.
+fn looser(quantifier: Quantifier) -> &'static str {
+    match quantifier {
+        Quantifier::None | Quantifier::Qmark => Quantifier::Qmark.word(),
+        Quantifier::Star | Quantifier::Plus => Quantifier::Star.word(),
     }
 }
 

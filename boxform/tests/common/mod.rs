@@ -183,33 +183,61 @@ impl Desk {
 
 /// The story of clubform with what boxform says to each line.
 pub const STORY: [(&str, &str); 14] = [
-    ("new club.form", "club.form is new, with nothing in it; its sum is in club.form.sum"),
-    ("create-definition club.form --name race --kind complex", "definition race is new: EMPTY (complex, no members yet)"),
-    ("create-definition club.form --name finisher --kind complex", "definition finisher is new: EMPTY (complex, no members yet)"),
-    ("create-definition club.form --name bib --kind pcdata", "definition bib is new: (#PCDATA)"),
-    ("create-definition club.form --name time --kind pcdata", "definition time is new: (#PCDATA)"),
+    (
+        "new club.form",
+        "club.form is new, with nothing in it; its sum is in club.form.sum",
+    ),
+    (
+        "create-definition club.form --name race --kind complex",
+        "definition race is new: EMPTY (complex, no members yet)",
+    ),
+    (
+        "create-definition club.form --name finisher --kind complex",
+        "definition finisher is new: EMPTY (complex, no members yet)",
+    ),
+    (
+        "create-definition club.form --name bib --kind pcdata",
+        "definition bib is new: (#PCDATA)",
+    ),
+    (
+        "create-definition club.form --name time --kind pcdata",
+        "definition time is new: (#PCDATA)",
+    ),
     (
         "insert-element club.form --owner race --place 0 --definition finisher --quantifier star",
         "definition race was EMPTY (complex, no members yet) and is (finisher*)",
     ),
     (
-        "insert-element club.form --owner finisher --place 0 --definition bib --quantifier none --text 0",
+        "insert-element club.form --owner finisher --place 0 --definition bib --quantifier none \
+         --text 0",
         "definition finisher was EMPTY (complex, no members yet) and is (bib)",
     ),
     (
-        "insert-element club.form --owner finisher --place 1 --definition time --quantifier none --text -",
+        "insert-element club.form --owner finisher --place 1 --definition time --quantifier \
+         none --text -",
         "definition finisher was (bib) and is (bib,time)",
     ),
-    ("add-document club.form --definition race", "made 1 element: serial 1"),
+    (
+        "add-document club.form --definition race",
+        "made 1 element: serial 1",
+    ),
     (
         "add-element club.form --parent 1 --child 0 --definition finisher --text 7",
         "made 3 elements, 5 rows in all: serials 2 to 6",
     ),
-    ("set-text club.form --element 5 --text 19:04", "set time 5 from \"7\" to \"19:04\""),
-    ("create-definition club.form --name club --kind pcdata", "definition club is new: (#PCDATA)"),
     (
-        "insert-element club.form --owner finisher --place 1 --definition club --quantifier none --text none",
-        "definition finisher was (bib,time) and is (bib,club,time)\n  made 1 element, 2 rows in all: serials 7 to 8",
+        "set-text club.form --element 5 --text 19:04",
+        "set time 5 from \"7\" to \"19:04\"",
+    ),
+    (
+        "create-definition club.form --name club --kind pcdata",
+        "definition club is new: (#PCDATA)",
+    ),
+    (
+        "insert-element club.form --owner finisher --place 1 --definition club --quantifier \
+         none --text none",
+        "definition finisher was (bib,time) and is (bib,club,time)\n  made 1 element, 2 rows in \
+         all: serials 7 to 8",
     ),
     (
         "change-quantifier club.form --owner finisher --place 3 --quantifier qmark",

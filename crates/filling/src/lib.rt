@@ -7,10 +7,14 @@ ghost use Prim.Native.Nat.{ℕ, _+_, _<_, _≤_};
 ghost use lib.ListN.{length};
 ghost use Rattle.rules.specs.Model.{nothing, filling};
 ghost use Rattle.model.specs.Members.{membersFrom};
+ghost use Rattle.records.specs.Records.{baseWidth};
 ghost use Rattle.rowpass.specs.Reading.{attributeIn, indexForm};
 ghost use Rattle.rows.specs.Written.{Room, Written};
 ghost use Rattle.filling.specs.Fillings.{groupFilled, fillingRows};
 ghost use Rattle.filling.specs.Parts.{memberFilling, valueIn, requiredAt, requiredIn, definitionRows, memberRows, belowRows, membersAt, Asks, Indexed};
+
+// The width of a value.
+const VALUE_WIDTH: usize = 32;
 
 /// What a change fills with: nothing, a definition by its index, one row of an attribute by its index, or a group of a kind by the number
 /// of its first member in the particle body and the depth of its members.
@@ -35,8 +39,8 @@ fn fill_of(attrs: &[u8], j: usize) -> &[u8]
     requires { ⌜ j ≤ 64 ⌝ }
     ensures { λ r. ⌜ (now r ≡ valueIn (now (attrs .entry)) j) × (length (now r) ≤ 32) ⌝ }
 {
-    let record = rowpass::cut(attrs, 52 * j, 52);
-    rowpass::cut(record, 20, codec::byte(record, 19) as usize)
+    let record = layout::window(attrs, 52 * j, 52);
+    layout::window(record, 20, codec::byte(record, 19) as usize)
 }
 
 // Writes attribute j, if it is one that definition i needs.
@@ -51,7 +55,7 @@ fn put_attribute(
     requires { ⌜ Room c × (j < 64) × (depth < 256) ⌝ }
     ensures { λ r. ⌜ Written (requiredAt (now (attrs .entry)) depth i j) c (now (out .entry)) r (now (out .exit)) ⌝ }
 {
-    if rowpass::needs(attrs, i, j) {
+    if rowpass::needs(VALUE_WIDTH, attrs, i, j) {
         return rows::put_new(2, depth, j, fill_of(attrs, j), c, out);
     }
     c
@@ -225,7 +229,7 @@ fn put_members(
     requires { ⌜ (first ≤ 256) × (d ≤ 256) × Asks c (now text) a h depth ⌝ }
     ensures { λ r. ⌜ Written (memberRows (now (defs .entry)) (now (parts .entry)) (now (attrs .entry)) a (now (text .entry)) h depth (groupFilled kind (membersAt (now (parts .entry)) first d))) c (now (out .entry)) r (now (out .exit)) ⌝ }
 {
-    let s = rowpass::cut(parts, 4 * first, parts.len());
+    let s = layout::window(parts, 4 * first, parts.len());
     if accepts_nothing(s, d, kind) {
         return c;
     }
@@ -246,7 +250,7 @@ pub fn put_filling(
     out: &mut [u8],
 ) -> Cursor
     requires { ⌜ Indexed what × Asks c (now text) a n depth ⌝ }
-    ensures { λ r. ⌜ Written (fillingRows (indexForm n (now (defs .entry)) (now (parts .entry)) (now (attrs .entry)) a) (λ j. attributeIn (now (attrs .entry)) j .value) (λ k d. membersAt (now (parts .entry)) k d) what (now (text .entry)) depth) c (now (out .entry)) r (now (out .exit)) ⌝ }
+    ensures { λ r. ⌜ Written (fillingRows (indexForm baseWidth n (now (defs .entry)) (now (parts .entry)) (now (attrs .entry)) a) (λ j. attributeIn baseWidth (now (attrs .entry)) j .value) (λ k d. membersAt (now (parts .entry)) k d) what (now (text .entry)) depth) c (now (out .entry)) r (now (out .exit)) ⌝ }
 {
     match what {
         Filling::Nothing => c,

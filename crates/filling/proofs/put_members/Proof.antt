@@ -5,17 +5,17 @@ use borrow.Author.Needs.{needs}
 use Rattle.filling.proofs.put_members.Statement.{statement}
 use Rattle.filling.proofs.put_members.Tie as tie
 
-mul-cut : tie.Need-mul-cut
-mul-cut c = search needs
+mul-window : tie.Need-mul-window
+mul-window c = search needs
 
-cut-requires : tie.Need-cut-requires
-cut-requires c κs = search needs
+window-requires : tie.Need-window-requires
+window-requires c κs = search needs
 
 accepts-nothing-requires : tie.Need-accepts-nothing-requires
 accepts-nothing-requires c κs = search needs
 
 returns : tie.Need-returns
-returns c = let a = c .before .before .before .before .before .before .before .before .args in none-written (a .defs .now) (a .parts .now) (a .attrs .now) (a .a) (a .text .now) (a .h) (a .depth) (groupFilled (a .kind) (membersAt (a .parts .now) (a .first) (a .d))) (group-empty (a .parts .now) _ (a .first) (a .d) (c .before .before .cut .ensures) (a .kind) _ (c .before .accepts-nothing .ensures) (c .if1 .taken))
+returns c = let a = c .before .before .before .before .before .before .before .before .args in none-written (a .defs .now) (a .parts .now) (a .attrs .now) (a .a) (a .text .now) (a .h) (a .depth) (groupFilled (a .kind) (membersAt (a .parts .now) (a .first) (a .d))) (group-empty (a .parts .now) _ (a .first) (a .d) (c .before .before .window .ensures) (a .kind) _ (c .before .accepts-nothing .ensures) (c .if1 .taken))
 
 put-group-requires : tie.Need-put-group-requires
 put-group-requires c κs = search needs
@@ -24,14 +24,14 @@ same-length : tie.Need-same-length
 same-length c = search needs
 
 returns-2 : tie.Need-returns-2
-returns-2 c = let a = c .before .before .before .before .before .before .before .before .before .before .before .before .args in same-written (a .defs .now) (a .parts .now) (a .attrs .now) (a .a) (a .text .now) (a .h) (a .depth) (groupFilled (a .kind) (membersAt (a .parts .now) (a .first) (a .d))) _ (group-full (a .parts .now) _ (a .first) (a .d) (c .before .before .before .before .before .before .cut .ensures) (a .kind) _ (c .before .before .before .before .before .accepts-nothing .ensures) (c .before .before .before .before .if1 .left)) (c .before .before .put-group .ensures)
+returns-2 c = let a = c .before .before .before .before .before .before .before .before .before .before .before .before .args in same-written (a .defs .now) (a .parts .now) (a .attrs .now) (a .a) (a .text .now) (a .h) (a .depth) (groupFilled (a .kind) (membersAt (a .parts .now) (a .first) (a .d))) _ (group-full (a .parts .now) _ (a .first) (a .d) (c .before .before .before .before .before .before .window .ensures) (a .kind) _ (c .before .before .before .before .before .accepts-nothing .ensures) (c .before .before .before .before .if1 .left)) (c .before .before .put-group .ensures)
 
 pub put-members-spec : {M : Type 1} → statement M
 put-members-spec =
     tie.close
     (tie.spec
-    mul-cut
-    cut-requires
+    mul-window
+    window-requires
     accepts-nothing-requires
     returns
     put-group-requires

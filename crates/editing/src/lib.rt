@@ -6,8 +6,8 @@ ghost use mathlib.Core.List.{[], _∷_};
 ghost use Prim.Native.Nat.{_+_, _*_, _-_, _≤_, _<_};
 ghost use lib.ListN.{length};
 ghost use Rattle.rules.specs.Decode.{readRow};
-ghost use Rattle.rowpass.specs.Reading.{rowsIn};
 ghost use Rattle.records.specs.Records.{baseWidth};
+ghost use Rattle.rowpass.specs.Reading.{rowsIn};
 ghost use Rattle.rows.specs.Written.{Written, Room};
 ghost use Rattle.editing.specs.Walk.{matches, isEverything, isGround, markOf, isLater, spared, shifted, movedIndex, keptRow, gone, closes, closed, isBelow, isTaken, isFilled, taken, kept, owed, emitted, onward, walked, atFirst};
 ghost use Rattle.editing.specs.Step.{rowOf, bare, stepRows, stepOpen, Came, fillOf, Moves, Planned, Ready, Fair, Near, WalkRow, Seen, WalkRows};
@@ -425,7 +425,7 @@ pub fn walk<'a>(
     out: &mut [u8],
 ) -> Cursor
     requires { ⌜ Ready n a (now text) plan × WalkRows count (now rows) × (44 * count ≤ length (now rows)) × Room baseWidth c ⌝ }
-    ensures { λ r. ⌜ Written baseWidth (walked plan (now (text .entry)) (fillOf n (now (defs .entry)) (now (parts .entry)) a (now (attrs .entry)) plan (now (text .entry))) (atFirst plan) (rowsIn count (now (rows .entry)))) c (now (out .entry)) r (now (out .exit)) ⌝ }
+    ensures { λ r. ⌜ Written baseWidth (walked plan (now (text .entry)) (fillOf n (now (defs .entry)) (now (parts .entry)) a (now (attrs .entry)) plan (now (text .entry))) (atFirst plan) (rowsIn baseWidth count (now (rows .entry)))) c (now (out .entry)) r (now (out .exit)) ⌝ }
 {
     let mut t = rows;
     let mut m = count;

@@ -27,8 +27,9 @@ use Rattle.model.specs.Members.{indexMember, membersFrom, membersOf}
 use Rattle.model.proofs.FactsLaws.{facts-nothing}
 use Rattle.model.proofs.MembersLaws.{members-few, members-deeper, members-stop, members-here}
 use Rattle.rowpass.specs.Indices.{IndexForm}
-use Rattle.rowpass.specs.Reading.{recordAt, definitionIn, attributeIn, particlesBefore, modelPart, attributesOf, indexForm}
+use Rattle.layout.specs.Bodies.{recordAt}
 use Rattle.records.specs.Records.{baseWidth}
+use Rattle.rowpass.specs.Reading.{definitionIn, attributeIn, particlesBefore, modelPart, attributesOf, indexForm}
 use Rattle.rows.specs.declared.Cursor.{Cursor}
 use Rattle.rows.specs.Written.{Written, Room, newRow}
 use Rattle.rows.proofs.WrittenLaws.{written-none, written-then, written-as, written-room, written-long}
@@ -75,18 +76,18 @@ module _ (attrs : Bytes) (d i : ℕ) where
   rowIf true x = x ∷ []
   rowIf false x = []
 
-  required-at : (j : ℕ) {b : Bool} → b ≡ (eqb (attributeIn attrs j .owner) i && mustBePresent (sortOf (attributeIn attrs j .sort))) → requiredAt attrs d i j ≡ rowIf b (newAttribute d j (valueIn attrs j))
+  required-at : (j : ℕ) {b : Bool} → b ≡ (eqb (attributeIn baseWidth attrs j .owner) i && mustBePresent (sortOf (attributeIn baseWidth attrs j .sort))) → requiredAt attrs d i j ≡ rowIf b (newAttribute d j (valueIn attrs j))
   unfolding requiredAt requiredRows
-  required-at j {b} e = by (eqb (attributeIn attrs j .owner) i && mustBePresent (sortOf (attributeIn attrs j .sort))) ∙ ap (λ (z : Bool). rowIf z (newAttribute d j (valueIn attrs j))) (sym e)
+  required-at j {b} e = by (eqb (attributeIn baseWidth attrs j .owner) i && mustBePresent (sortOf (attributeIn baseWidth attrs j .sort))) ∙ ap (λ (z : Bool). rowIf z (newAttribute d j (valueIn attrs j))) (sym e)
     where
       by : (c : Bool) → elim c as (λ z. List (Deep FlatRow)) [ true ↦ newAttribute d j (valueIn attrs j) ∷ [] | false ↦ [] ] ≡ rowIf c (newAttribute d j (valueIn attrs j))
       by true = refl
       by false = refl
 
-  pub spare-written : (j : ℕ) {b : Bool} {c : Cursor} {out : Bytes} → b ≡ (eqb (attributeIn attrs j .owner) i && mustBePresent (sortOf (attributeIn attrs j .sort))) → b ≡ false → Written baseWidth (requiredAt attrs d i j) c out c out
+  pub spare-written : (j : ℕ) {b : Bool} {c : Cursor} {out : Bytes} → b ≡ (eqb (attributeIn baseWidth attrs j .owner) i && mustBePresent (sortOf (attributeIn baseWidth attrs j .sort))) → b ≡ false → Written baseWidth (requiredAt attrs d i j) c out c out
   spare-written j e f = written-as (required-at j e ∙ ap (λ (z : Bool). rowIf z (newAttribute d j (valueIn attrs j))) f) written-none
 
-  pub needed-written : (j : ℕ) {b : Bool} {v : Bytes} {c r : Cursor} {out out′ : Bytes} → b ≡ (eqb (attributeIn attrs j .owner) i && mustBePresent (sortOf (attributeIn attrs j .sort))) → b ≡ true → v ≡ valueIn attrs j → Written baseWidth (newRow 2 d j v ∷ []) c out r out′
+  pub needed-written : (j : ℕ) {b : Bool} {v : Bytes} {c r : Cursor} {out out′ : Bytes} → b ≡ (eqb (attributeIn baseWidth attrs j .owner) i && mustBePresent (sortOf (attributeIn baseWidth attrs j .sort))) → b ≡ true → v ≡ valueIn attrs j → Written baseWidth (newRow 2 d j v ∷ []) c out r out′
       → Written baseWidth (requiredAt attrs d i j) c out r out′
   needed-written j e t w p = written-as (required-at j e ∙ ap (λ (z : Bool). rowIf z (newAttribute d j (valueIn attrs j))) t ∙ ap (λ (z : Bytes). newAttribute d j z ∷ []) (sym w)) p
 
@@ -98,7 +99,7 @@ module _ (attrs : Bytes) (d i : ℕ) where
   unfolding requiredIn requiredAt
   required-on j p q =
       let e : 0 + j ≡ j = omega arith in
-      rw (add-one j) (written-as (required-last (attributesOf attrs 0) (valueIn attrs) d i 0 j) (written-then p (rw e q)))
+      rw (add-one j) (written-as (required-last (attributesOf baseWidth attrs 0) (valueIn attrs) d i 0 j) (written-then p (rw e q)))
 
 -- the attributes below j are written
 pub record Putting (attrs : Bytes) (d i a : ℕ) (c : Cursor) (out : Bytes) (r : Cursor) (out′ : Bytes) (j : ℕ) : Type 0 where
@@ -167,21 +168,21 @@ module _ (d : ℕ) (s : Bytes) (p : Particle) (e : p ≡ particleOf (readParticl
 
 -- ---- definitions
 -- the attributes of a form do not depend on its definitions
-form-required : (n a b : ℕ) (defs parts attrs : Bytes) (value : ℕ → Bytes) (d i j k : ℕ) → requiredRows (indexForm n defs parts attrs a) value d i j k ≡ requiredRows (attributesOf attrs b) value d i j k
+form-required : (n a b : ℕ) (defs parts attrs : Bytes) (value : ℕ → Bytes) (d i j k : ℕ) → requiredRows (indexForm baseWidth n defs parts attrs a) value d i j k ≡ requiredRows (attributesOf baseWidth attrs b) value d i j k
 unfolding requiredRows
 form-required n a b defs parts attrs value d i j zero = refl
 form-required n a b defs parts attrs value d i j (suc k) =
-    let e : requiredRows (indexForm n defs parts attrs a) value d i (suc j) k ≡ requiredRows (attributesOf attrs b) value d i (suc j) k = form-required n a b defs parts attrs value d i (suc j) k in
-    λ z. elim (eqb (attributeIn attrs j .owner) i && mustBePresent (sortOf (attributeIn attrs j .sort))) as (λ x. List (Deep FlatRow)) [ true ↦ newAttribute d j (value j) ∷ e z | false ↦ e z ]
+    let e : requiredRows (indexForm baseWidth n defs parts attrs a) value d i (suc j) k ≡ requiredRows (attributesOf baseWidth attrs b) value d i (suc j) k = form-required n a b defs parts attrs value d i (suc j) k in
+    λ z. elim (eqb (attributeIn baseWidth attrs j .owner) i && mustBePresent (sortOf (attributeIn baseWidth attrs j .sort))) as (λ x. List (Deep FlatRow)) [ true ↦ newAttribute d j (value j) ∷ e z | false ↦ e z ]
 
 -- nor fillings on the number of definitions
-form-fillings : (n m a : ℕ) (defs parts attrs : Bytes) (value : ℕ → Bytes) (f g : ℕ → List (Deep FlatRow)) → ((j : ℕ) → f j ≡ g j) → (is : List ℕ) → fillingsOf (indexForm n defs parts attrs a) value f is ≡ fillingsOf (indexForm m defs parts attrs a) value g is
+form-fillings : (n m a : ℕ) (defs parts attrs : Bytes) (value : ℕ → Bytes) (f g : ℕ → List (Deep FlatRow)) → ((j : ℕ) → f j ≡ g j) → (is : List ℕ) → fillingsOf (indexForm baseWidth n defs parts attrs a) value f is ≡ fillingsOf (indexForm baseWidth m defs parts attrs a) value g is
 unfolding fillingsOf
 form-fillings n m a defs parts attrs value f g e [] = refl
 form-fillings n m a defs parts attrs value f g e (i ∷ is) = ap₂ (λ (u v : List (Deep FlatRow)). u ++ v) (e i) (form-fillings n m a defs parts attrs value f g e is)
 
 form-content : (n m a : ℕ) (defs parts attrs : Bytes) (value : ℕ → Bytes) (f g : ℕ → List (Deep FlatRow)) → ((j : ℕ) → f j ≡ g j) → (txt : Bytes) (d : ℕ) (ms : Members ℕ) (k : ℕ)
-    → contentRows (indexForm n defs parts attrs a) value f txt d ms k ≡ contentRows (indexForm m defs parts attrs a) value g txt d ms k
+    → contentRows (indexForm baseWidth n defs parts attrs a) value f txt d ms k ≡ contentRows (indexForm baseWidth m defs parts attrs a) value g txt d ms k
 unfolding contentRows
 form-content n m a defs parts attrs value f g e txt d ms zero = refl
 form-content n m a defs parts attrs value f g e txt d ms (suc zero) = refl
@@ -189,14 +190,14 @@ form-content n m a defs parts attrs value f g e txt d ms (suc (suc k)) = form-fi
 
 module _ (defs parts attrs : Bytes) (a : ℕ) (txt : Bytes) where
   -- how many definitions there are is not looked at
-  sized : (n h d i : ℕ) → fillIndex (indexForm n defs parts attrs a) (valueIn attrs) h txt d i ≡ fillIndex (indexForm 0 defs parts attrs a) (valueIn attrs) h txt d i
+  sized : (n h d i : ℕ) → fillIndex (indexForm baseWidth n defs parts attrs a) (valueIn attrs) h txt d i ≡ fillIndex (indexForm baseWidth 0 defs parts attrs a) (valueIn attrs) h txt d i
   unfolding fillIndex
   sized n zero d i = refl
   sized n (suc h) d i =
       ap₂ (λ (u v : List (Deep FlatRow)). newElement d i ∷ (u ++ v)) (form-required n a 0 defs parts attrs (valueIn attrs) (suc d) i 0 a ∙ sym (form-required 0 a 0 defs parts attrs (valueIn attrs) (suc d) i 0 a))
-      (form-content n 0 a defs parts attrs (valueIn attrs) (λ j. fillIndex (indexForm n defs parts attrs a) (valueIn attrs) h txt (suc d) j) (λ j. fillIndex (indexForm 0 defs parts attrs a) (valueIn attrs) h txt (suc d) j) (λ j. sized n h (suc d) j) txt (suc d) (membersOf (modelPart defs parts i)) (definitionIn defs i .kind))
+      (form-content n 0 a defs parts attrs (valueIn attrs) (λ j. fillIndex (indexForm baseWidth n defs parts attrs a) (valueIn attrs) h txt (suc d) j) (λ j. fillIndex (indexForm baseWidth 0 defs parts attrs a) (valueIn attrs) h txt (suc d) j) (λ j. sized n h (suc d) j) txt (suc d) (membersOf (modelPart defs parts i)) (definitionIn defs i .kind))
 
-  pub definition-sized : (n d i : ℕ) {c r : Cursor} {out out′ : Bytes} → Written baseWidth (definitionRows defs parts attrs a txt n d i) c out r out′ → Written baseWidth (fillIndex (indexForm n defs parts attrs a) (valueIn attrs) n txt d i) c out r out′
+  pub definition-sized : (n d i : ℕ) {c r : Cursor} {out out′ : Bytes} → Written baseWidth (definitionRows defs parts attrs a txt n d i) c out r out′ → Written baseWidth (fillIndex (indexForm baseWidth n defs parts attrs a) (valueIn attrs) n txt d i) c out r out′
   unfolding definitionRows
   definition-sized n d i p = written-as (sized n n d i) p
 
@@ -370,7 +371,7 @@ part-short defs parts i s e =
 -- ---- what a change fills with
 module _ (n : ℕ) (defs parts attrs : Bytes) (a : ℕ) (what : Filling) (txt : Bytes) (d : ℕ) where
   abbrev rowsFor : Filling → List (Deep FlatRow)
-  rowsFor x = fillingRows (indexForm n defs parts attrs a) (valueIn attrs) (λ k e. membersAt parts k e) x txt d
+  rowsFor x = fillingRows (indexForm baseWidth n defs parts attrs a) (valueIn attrs) (λ k e. membersAt parts k e) x txt d
 
   pub nothing-filled : {c : Cursor} {out : Bytes} → what ≡ Nothing → Written baseWidth (rowsFor what) c out c out
   nothing-filled e = written-as (ap (λ (x : Filling). rowsFor x) e) written-none
@@ -386,7 +387,7 @@ module _ (n : ℕ) (defs parts attrs : Bytes) (a : ℕ) (what : Filling) (txt : 
   particles-filled g k e q p =
       written-as
       (ap (λ (x : Filling). rowsFor x) q
-      ∙ form-fillings n 0 a defs parts attrs (valueIn attrs) (λ i. fillIndex (indexForm n defs parts attrs a) (valueIn attrs) n txt d i) (λ i. fillIndex (indexForm 0 defs parts attrs a) (valueIn attrs) n txt d i) (λ i. sized defs parts attrs a txt n n d i)
+      ∙ form-fillings n 0 a defs parts attrs (valueIn attrs) (λ i. fillIndex (indexForm baseWidth n defs parts attrs a) (valueIn attrs) n txt d i) (λ i. fillIndex (indexForm baseWidth 0 defs parts attrs a) (valueIn attrs) n txt d i) (λ i. sized defs parts attrs a txt n n d i)
       (groupFilled g (membersAt parts k e)))
       p
 

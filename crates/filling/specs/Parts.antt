@@ -15,6 +15,7 @@ use Rattle.model.specs.declared.What.the-variants.{Element, Group}
 use Rattle.model.specs.Particle.{particleOf}
 use Rattle.model.specs.Members.{membersFrom, membersOf}
 use Rattle.rowpass.specs.Indices.{IndexForm}
+use Rattle.records.specs.Records.{baseWidth}
 use Rattle.rowpass.specs.Reading.{definitionIn, attributeIn, modelPart, attributesOf, indexForm}
 use Rattle.records.specs.Records.{baseWidth}
 use Rattle.rows.specs.declared.Cursor.{Cursor}
@@ -39,18 +40,18 @@ membersAt parts k e = membersFrom e (drop (4 * k) parts)
 
 -- ---- rows of depth d
 abbrev pub valueIn : Bytes → ℕ → Bytes
-valueIn attrs j = attributeIn attrs j .value
+valueIn attrs j = attributeIn baseWidth attrs j .value
 
 -- of the attributes those that are REQUIRED of definition i: number j alone, and all below n
 unfoldable pub requiredAt : Bytes → ℕ → ℕ → ℕ → List (Deep FlatRow)
-requiredAt attrs d i j = requiredRows (attributesOf attrs 0) (valueIn attrs) d i j 1
+requiredAt attrs d i j = requiredRows (attributesOf baseWidth attrs 0) (valueIn attrs) d i j 1
 
 unfoldable pub requiredIn : Bytes → ℕ → ℕ → ℕ → List (Deep FlatRow)
-requiredIn attrs d i n = requiredRows (attributesOf attrs 0) (valueIn attrs) d i 0 n
+requiredIn attrs d i n = requiredRows (attributesOf baseWidth attrs 0) (valueIn attrs) d i 0 n
 
 -- how many definitions there are is not looked at
 abbrev pub formIn : Bytes → Bytes → Bytes → ℕ → IndexForm
-formIn defs parts attrs a = indexForm 0 defs parts attrs a
+formIn defs parts attrs a = indexForm baseWidth 0 defs parts attrs a
 
 -- of definitions of at most height h
 module _ (defs parts attrs : Bytes) (a : ℕ) (txt : Bytes) (h d : ℕ) where
@@ -89,7 +90,7 @@ module _ (fs : List (RefT Bytes)) (txt : Bytes) (a h d : ℕ) where
   belowFilled i = belowRows (defsIn fs) (partsIn fs) (attrsIn fs) a txt h d i
 
   abbrev pub changeFilled : Filling → List (Deep FlatRow)
-  changeFilled what = fillingRows (indexForm h (defsIn fs) (partsIn fs) (attrsIn fs) a) (valueIn (attrsIn fs)) (λ k e. membersAt (partsIn fs) k e) what txt d
+  changeFilled what = fillingRows (indexForm baseWidth h (defsIn fs) (partsIn fs) (attrsIn fs) a) (valueIn (attrsIn fs)) (λ k e. membersAt (partsIn fs) k e) what txt d
 
 -- a cursor as it is lent: where the next row goes, how many may still be written, the next serial
 abbrev pub cursorIn : List ℕ → Cursor

@@ -8,14 +8,15 @@ ghost use mathlib.Core.List.{[], _∷_};
 ghost use lib.ListN.{length};
 ghost use Rattle.rules.specs.Model.{nothing, filling};
 ghost use Rattle.model.specs.Members.{membersFrom};
+ghost use Rattle.records.specs.Records.{baseWidth};
 ghost use Rattle.rowpass.specs.Reading.{attributeIn, indexForm};
 ghost use Rattle.records.specs.Records.{baseWidth};
 ghost use Rattle.rows.specs.Written.{Room, Written, newRow};
 ghost use Rattle.filling.specs.Fillings.{groupFilled, fillingRows};
 ghost use Rattle.filling.specs.Parts.{memberFilling, valueIn, requiredAt, requiredIn, membersAt, partsIn, definitionFilled, membersFilled, belowFilled, changeFilled, cursorIn, Asks, Indexed};
 
-/// The width of a value.
-const WIDTH: usize = 32;
+// The width of a value.
+const VALUE_WIDTH: usize = 32;
 
 /// What a change fills with: nothing, a definition by its index, one row of an attribute by its index, or a group of a kind by the number
 /// of its first member in the particle body and the depth of its members.
@@ -40,8 +41,8 @@ fn created_value(attrs: &[u8], j: usize) -> &[u8]
     requires { ⌜ j ≤ 64 ⌝ }
     ensures { λ r. ⌜ (now r ≡ valueIn (now (attrs .entry)) j) × (length (now r) ≤ 32) ⌝ }
 {
-    let record = rowpass::cut(attrs, 52 * j, 52);
-    rowpass::cut(record, 20, codec::byte(record, 19) as usize)
+    let record = layout::window(attrs, 52 * j, 52);
+    layout::window(record, 20, codec::byte(record, 19) as usize)
 }
 
 // ---- The writers of a filling call each other as deep as definitions and groups are nested. So that their frames on the stack stay
@@ -58,7 +59,7 @@ fn put_row(sort: u8, depth: usize, index: usize, value: &[u8], c: &mut [usize; 3
         left: c[1],
         serial: c[2],
     };
-    let r = rows::put_new(WIDTH, sort, depth, index, value, from, out);
+    let r = rows::put_new(VALUE_WIDTH, sort, depth, index, value, from, out);
     *c = [r.at, r.left, r.serial];
 }
 
@@ -67,7 +68,7 @@ fn put_attribute(i: usize, j: usize, attrs: &[u8], depth: usize, c: &mut [usize;
     requires { ⌜ Room baseWidth (cursorIn (now c)) × (j < 64) × (depth < 256) ⌝ }
     ensures { λ _. ⌜ Written baseWidth (requiredAt (now (attrs .entry)) depth i j) (cursorIn (now (c .entry))) (now (out .entry)) (cursorIn (now (c .exit))) (now (out .exit)) ⌝ }
 {
-    if rowpass::needs(attrs, i, j) {
+    if rowpass::needs(VALUE_WIDTH, attrs, i, j) {
         put_row(2, depth, j, created_value(attrs, j), c, out);
     }
 }
@@ -224,7 +225,7 @@ fn put_members(
     ensures { λ _. ⌜ Written baseWidth (membersFilled (now (form .entry)) (now (now (text .entry))) a h depth (groupFilled kind (membersAt (partsIn (now (form .entry))) first d))) (cursorIn (now (c .entry))) (now (out .entry)) (cursorIn (now (c .exit))) (now (out .exit)) ⌝ }
 {
     let parts = form[1];
-    let s = rowpass::cut(parts, 4 * first, parts.len());
+    let s = layout::window(parts, 4 * first, parts.len());
     if accepts_nothing(s, d, kind) {
         return;
     }
@@ -278,7 +279,7 @@ pub fn put_filling<'a>(
     out: &mut [u8],
 ) -> Cursor
     requires { ⌜ Indexed what × Asks c (now text) a n depth ⌝ }
-    ensures { λ r. ⌜ Written baseWidth (fillingRows (indexForm n (now (defs .entry)) (now (parts .entry)) (now (attrs .entry)) a) (λ j. attributeIn (now (attrs .entry)) j .value) (λ k d. membersAt (now (parts .entry)) k d) what (now (text .entry)) depth) c (now (out .entry)) r (now (out .exit)) ⌝ }
+    ensures { λ r. ⌜ Written baseWidth (fillingRows (indexForm baseWidth n (now (defs .entry)) (now (parts .entry)) (now (attrs .entry)) a) (λ j. attributeIn baseWidth (now (attrs .entry)) j .value) (λ k d. membersAt (now (parts .entry)) k d) what (now (text .entry)) depth) c (now (out .entry)) r (now (out .exit)) ⌝ }
 {
     let form = [defs, parts, attrs];
     let mut r = [c.at, c.left, c.serial];

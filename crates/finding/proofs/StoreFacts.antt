@@ -35,6 +35,7 @@ use Rattle.lookup.specs.Bodies.{bodiesOf}
 use Rattle.layout.specs.Bodies.{widthOf}
 use Rattle.lookup.proofs.Laws.{from-step, from-none, from-all}
 use Rattle.rowpass.specs.Indices.{IndexForm}
+use Rattle.records.specs.Records.{baseWidth}
 use Rattle.rowpass.specs.Reading.{indexForm}
 use Rattle.validity.specs.Reading.{Agrees}
 use Rattle.validity.specs.Check.{definitionsIn, particlesIn, attributesIn, rowsIn}
@@ -58,7 +59,7 @@ docsIn bs = storeIn bs .docs
 
 -- the form by index that the bytes say
 abbrev pub byIndex : Bytes → IndexForm
-byIndex bs = indexForm (definitionCount bs) (definitionsIn bs) (particlesIn bs) (attributesIn bs) (attributeCount bs)
+byIndex bs = indexForm baseWidth (definitionCount bs) (definitionsIn bs) (particlesIn bs) (attributesIn bs) (attributeCount bs)
 
 pub record Whole (bs : Bytes) : Type 0 where
   pub holds : Holds bs

@@ -3,24 +3,24 @@ use borrow.Author.Needs.{needs}
 use Rattle.filling.proofs.created_value.Statement.{statement}
 use Rattle.filling.proofs.created_value.Tie as tie
 
-mul-cut : tie.Need-mul-cut
-mul-cut c = search needs
+mul-window : tie.Need-mul-window
+mul-window c = search needs
 
-cut-requires : tie.Need-cut-requires
-cut-requires c κs = search needs
+window-requires : tie.Need-window-requires
+window-requires c κs = search needs
 
 byte-requires : tie.Need-byte-requires
 byte-requires c κs = search needs
 
-cast-cut : tie.Need-cast-cut
-cast-cut c = search needs
+cast-window : tie.Need-cast-window
+cast-window c = search needs
 
-cut-requires-2 : tie.Need-cut-requires-2
-cut-requires-2 c κs = search needs
+window-requires-2 : tie.Need-window-requires-2
+window-requires-2 c κs = search needs
 
 returns : tie.Need-returns
-returns c = let a = c .before .before .before .before .args in fill-told (a .attrs .now) (a .j) _ _ _ (c .before .before .cut .ensures) (c .before .byte .ensures) (c .cut2 .ensures)
+returns c = let a = c .before .before .before .before .args in fill-told (a .attrs .now) (a .j) _ _ _ (c .before .before .window .ensures) (c .before .byte .ensures) (c .window2 .ensures)
 
 pub created-value-spec : {M : Type 1} → statement M
 created-value-spec =
-    tie.close (tie.spec mul-cut cut-requires byte-requires cast-cut cut-requires-2 returns)
+    tie.close (tie.spec mul-window window-requires byte-requires cast-window window-requires-2 returns)

@@ -7,8 +7,8 @@ use Rattle.rowpass.proofs.kept.Tie as tie
 returns : tie.Need-returns
 returns c = search needs
 
-byte-requires : tie.Need-byte-requires
-byte-requires c κs = search needs
+row-depth-requires : tie.Need-row-depth-requires
+row-depth-requires c κs = search needs
 
 cast-result : tie.Need-cast-result
 cast-result c = search needs
@@ -17,7 +17,7 @@ add-result : tie.Need-add-result
 add-result c = search needs
 
 returns-2 : tie.Need-returns-2
-returns-2 c = keeps-step _ _ _ (c .before .if1 .left) (c .byte .ensures) (omega arith)
+returns-2 c = keeps-step _ _ _ (c .before .if1 .left) (c .row-depth .ensures) (omega arith)
 
 pub kept-spec : {M : Type 1} → statement M
-kept-spec = tie.close (tie.spec returns byte-requires cast-result add-result returns-2)
+kept-spec = tie.close (tie.spec returns row-depth-requires cast-result add-result returns-2)

@@ -42,7 +42,9 @@ impl Killer {
     /// Says how it went; enough runs must have been killed for that to say something.
     fn tell(&self, what: &str, done: usize) {
         let killed = self.killed;
-        println!("{what}: {killed} of {KILLS} runs killed, {done} did it all the same, no file empty or half");
+        println!(
+            "{what}: {killed} of {KILLS} runs killed, {done} had done it, no file empty or half"
+        );
         assert!(killed > KILLS / 8, "only {killed} runs were killed");
     }
 

@@ -12,6 +12,7 @@ use Rattle.rules.specs.Preorder.{Deep}
 use Rattle.rules.specs.Layout.{FlatRow}
 use Rattle.rules.specs.Decode.{readRow}
 use Rattle.codec.proofs.Writers.{tail-seen}
+use Rattle.records.specs.Records.{baseWidth}
 use Rattle.rowpass.specs.Reading.{rowsIn}
 use Rattle.records.specs.Records.{baseWidth}
 use Rattle.rows.specs.declared.Cursor.{Cursor}
@@ -35,7 +36,7 @@ unfolding WalkRows
 rows-rest zero t h w = absurd (omega arith)
 rows-rest (suc m) t h w = rw sub-one (w .1)
 
-rows-step : (m : ℕ) (t : Bytes) → 0 < m → rowsIn m t ≡ readRow (take 44 t) ∷ rowsIn (m - 1) (drop 44 t)
+rows-step : (m : ℕ) (t : Bytes) → 0 < m → rowsIn baseWidth m t ≡ readRow (take 44 t) ∷ rowsIn baseWidth (m - 1) (drop 44 t)
 rows-step zero t h = absurd (omega arith)
 rows-step (suc m) t h = rw sub-one
 
@@ -55,7 +56,7 @@ module _ (p : Plan) (v : Bytes) (fill : ℕ → List (Deep FlatRow)) where
 
 -- ---- the loop
 pub record Going (p : Plan) (v : Bytes) (fill : ℕ → List (Deep FlatRow)) (whole : List (Deep FlatRow)) (c : Cursor) (out : Bytes) (t : Bytes) (m : ℕ) (at : Cursor) (o : Open) (out′ : Bytes) : Type 0 where
-  pub goes : (r : Cursor) (out″ : Bytes) → Written baseWidth (walked p v fill o (rowsIn m t)) at out′ r out″ → Written baseWidth whole c out r out″
+  pub goes : (r : Cursor) (out″ : Bytes) → Written baseWidth (walked p v fill o (rowsIn baseWidth m t)) at out′ r out″ → Written baseWidth whole c out r out″
   pub near : Near o
   pub room : Room baseWidth at
   pub rows : WalkRows m t
@@ -66,8 +67,8 @@ near-first : (p : Plan) → Near (atFirst p)
 near-first p = near-if (isGround (p .above)) (record { below = omega arith }) (record { below = omega arith })
 
 module _ {p : Plan} {v : Bytes} {fill : ℕ → List (Deep FlatRow)} where
-  pub going-start : {c : Cursor} {out t : Bytes} {m : ℕ} {o : Open} → WalkRows m t → 44 * m ≤ length t → Room baseWidth c → o ≡ atFirst p → Going p v fill (walked p v fill (atFirst p) (rowsIn m t)) c out t m c o out
-  going-start {t = t} {m = m} w h r e = record { goes = λ r′ out″ k. written-as (ap (λ (z : Open). walked p v fill z (rowsIn m t)) (sym e)) k; near = rw e (near-first p); room = r; rows = w; size = h; long = refl }
+  pub going-start : {c : Cursor} {out t : Bytes} {m : ℕ} {o : Open} → WalkRows m t → 44 * m ≤ length t → Room baseWidth c → o ≡ atFirst p → Going p v fill (walked p v fill (atFirst p) (rowsIn baseWidth m t)) c out t m c o out
+  going-start {t = t} {m = m} w h r e = record { goes = λ r′ out″ k. written-as (ap (λ (z : Open). walked p v fill z (rowsIn baseWidth m t)) (sym e)) k; near = rw e (near-first p); room = r; rows = w; size = h; long = refl }
 
   module _ {whole : List (Deep FlatRow)} {c : Cursor} {out t : Bytes} {m : ℕ} {at : Cursor} {o : Open} {out′ : Bytes} (g : Going p v fill whole c out t m at o out′) where
     pub going-stop : at .left ≡ 0 → Written baseWidth whole c out at out′
@@ -78,7 +79,7 @@ module _ {p : Plan} {v : Bytes} {fill : ℕ → List (Deep FlatRow)} where
     going-step h {s} {out₁} k =
         rw (tail-seen t 44)
         (record {
-          goes = λ r out″ w. g .goes r out″ (written-as (after ∙ ap (λ (z : Open). stepRows p v fill o (readRow (take 44 t)) ++ walked p v fill z (rowsIn (m - 1) (drop 44 t))) (sym (k .opened))) (written-then (k .written) w));
+          goes = λ r out″ w. g .goes r out″ (written-as (after ∙ ap (λ (z : Open). stepRows p v fill o (readRow (take 44 t)) ++ walked p v fill z (rowsIn baseWidth (m - 1) (drop 44 t))) (sym (k .opened))) (written-then (k .written) w));
           near = rw (k .opened) (near-step p v fill o (readRow (take 44 t)) (g .near) (rows-first m t h (g .rows) .depth));
           room = written-room (k .written) (g .room);
           rows = rows-rest m t h (g .rows);
@@ -86,9 +87,9 @@ module _ {p : Plan} {v : Bytes} {fill : ℕ → List (Deep FlatRow)} where
           long = written-long (k .written) ∙ g .long;
         })
       where
-        after : walked p v fill o (rowsIn m t) ≡ stepRows p v fill o (readRow (take 44 t)) ++ walked p v fill (stepOpen p v fill o (readRow (take 44 t))) (rowsIn (m - 1) (drop 44 t))
-        after = ap (walked p v fill o) (rows-step m t h) ∙ walked-cons p v fill o (readRow (take 44 t)) (rowsIn (m - 1) (drop 44 t))
+        after : walked p v fill o (rowsIn baseWidth m t) ≡ stepRows p v fill o (readRow (take 44 t)) ++ walked p v fill (stepOpen p v fill o (readRow (take 44 t))) (rowsIn baseWidth (m - 1) (drop 44 t))
+        after = ap (walked p v fill o) (rows-step m t h) ∙ walked-cons p v fill o (readRow (take 44 t)) (rowsIn baseWidth (m - 1) (drop 44 t))
 
     pub going-end : m ≡ 0 → (k : ℕ) → k ≡ o .below - 1 → {r : Cursor} {out″ : Bytes} → Written baseWidth (owed (o .due) (fill k)) at out′ r out″ → Written baseWidth whole c out r out″
     going-end e k ek {r} {out″} w =
-        g .goes r out″ (written-as (ap (λ (n : ℕ). walked p v fill o (rowsIn n t)) e ∙ walked-none p v fill o ∙ ap (λ (n : ℕ). owed (o .due) (fill n)) (sym ek)) w)
+        g .goes r out″ (written-as (ap (λ (n : ℕ). walked p v fill o (rowsIn baseWidth n t)) e ∙ walked-none p v fill o ∙ ap (λ (n : ℕ). owed (o .due) (fill n)) (sym ek)) w)

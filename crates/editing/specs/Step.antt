@@ -9,6 +9,7 @@ use Rattle.rules.specs.Bytes.{Bytes}
 use Rattle.rules.specs.Preorder.{Deep}
 use Rattle.rules.specs.Layout.{FlatRow}
 use Rattle.rules.specs.Decode.{readRow}
+use Rattle.records.specs.Records.{baseWidth}
 use Rattle.rowpass.specs.Reading.{indexForm, attributeIn}
 use Rattle.records.specs.Records.{baseWidth}
 use Rattle.rows.specs.declared.Cursor.{Cursor}
@@ -44,7 +45,7 @@ pub record Came (xs : List (Deep FlatRow)) (o : Open) (c : Cursor) (out : Bytes)
 
 -- the filling of a plan at a depth, from the bytes of the form
 abbrev pub fillOf : ℕ → Bytes → Bytes → ℕ → Bytes → Plan → Bytes → ℕ → List (Deep FlatRow)
-fillOf n defs parts a attrs p text d = fillingRows (indexForm n defs parts attrs a) (λ j. attributeIn attrs j .value) (λ k e. membersAt parts k e) (p .filling) text d
+fillOf n defs parts a attrs p text d = fillingRows (indexForm baseWidth n defs parts attrs a) (λ j. attributeIn baseWidth attrs j .value) (λ k e. membersAt parts k e) (p .filling) text d
 
 -- ---- how large the numbers are that the walk meets
 -- indices of at most 1,000 move up by at most 1,000; those of a store that passes are at most 64

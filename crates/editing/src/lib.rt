@@ -6,6 +6,7 @@ ghost use mathlib.Core.List.{[], _∷_};
 ghost use Prim.Native.Nat.{_+_, _*_, _-_, _≤_, _<_};
 ghost use lib.ListN.{length};
 ghost use Rattle.rules.specs.Decode.{readRow};
+ghost use Rattle.records.specs.Records.{baseWidth};
 ghost use Rattle.rowpass.specs.Reading.{rowsIn};
 ghost use Rattle.records.specs.Records.{baseWidth};
 ghost use Rattle.rows.specs.Written.{Written, Room};
@@ -329,7 +330,7 @@ fn put_owed<'a>(
 {
     if due {
         let what = p.filling;
-        return filling::put_filling(n, defs, parts, a, attrs, what, text, depth, c, out);
+        return filling::put_filling(WIDTH, n, defs, parts, a, attrs, what, text, depth, c, out);
     }
     c
 }
@@ -425,7 +426,7 @@ pub fn walk<'a>(
     out: &mut [u8],
 ) -> Cursor
     requires { ⌜ Ready n a (now text) plan × WalkRows count (now rows) × (44 * count ≤ length (now rows)) × Room baseWidth c ⌝ }
-    ensures { λ r. ⌜ Written baseWidth (walked plan (now (text .entry)) (fillOf n (now (defs .entry)) (now (parts .entry)) a (now (attrs .entry)) plan (now (text .entry))) (atFirst plan) (rowsIn count (now (rows .entry)))) c (now (out .entry)) r (now (out .exit)) ⌝ }
+    ensures { λ r. ⌜ Written baseWidth (walked plan (now (text .entry)) (fillOf n (now (defs .entry)) (now (parts .entry)) a (now (attrs .entry)) plan (now (text .entry))) (atFirst plan) (rowsIn baseWidth count (now (rows .entry)))) c (now (out .entry)) r (now (out .exit)) ⌝ }
 {
     let mut t = rows;
     let mut m = count;

@@ -30,6 +30,7 @@ use Rattle.history.proofs.FormLaws.{attribute-owned, owner-found, owner-at, own
 use Rattle.history.proofs.Untouched.{keep-in}
 use Rattle.history.proofs.StandingLaws.{serialOf, standing-every, found-element, children-are, children-given}
 use Rattle.rowpass.specs.Indices.{IndexForm}
+use Rattle.records.specs.Records.{baseWidth}
 use Rattle.rowpass.specs.Reading.{attributeIn}
 use Rattle.validity.specs.Check.{attributesIn}
 use Rattle.validity.proofs.IndexLaws.{known-index, index-once}
@@ -156,10 +157,10 @@ module _ (bs : Bytes) (w : Whole bs) (a : ℕ) where
       row-known : known (formIn bs) (f .row .name) ≡ true
       row-known = ap isThere (defined bs w k i f .found)
 
-      pub mine : attributeIn (attributesIn bs) a .owner ≡ rowIn bs i .row .index → o .owner .name ≡ f .row .name
+      pub mine : attributeIn baseWidth (attributesIn bs) a .owner ≡ rowIn bs i .row .index → o .owner .name ≡ f .row .name
       mine e = index-once (formIn bs) (o .owner .name) (f .row .name) is-known row-known (sym (entry .owner) ∙ e ∙ defined bs w k i f .index)
 
-      pub not-mine : (attributeIn (attributesIn bs) a .owner ≡ rowIn bs i .row .index → ⊥) → same (o .owner .name) (f .row .name) ≡ false
+      pub not-mine : (attributeIn baseWidth (attributesIn bs) a .owner ≡ rowIn bs i .row .index → ⊥) → same (o .owner .name) (f .row .name) ≡ false
       not-mine h = differs bytes (o .owner .name) (f .row .name) (λ e. h (entry .owner ∙ ap (λ (z : Bytes). indexOf z (formIn bs)) e ∙ sym (defined bs w k i f .index)))
 
       unknown-is : unknownAttribute k a (storeIn bs) ≡ not (same (o .owner .name) (f .row .name))
@@ -240,10 +241,10 @@ module _ (bs : Bytes) (w : Whole bs) (a : ℕ) where
     pub refused-none : a < attributeCount bs → NoElement bs k → AttributeRefused k a (storeIn bs) 7
     refused-none l f = let (o, at) = owned l in refused (gives-next (ap₂ isOther at (f .found)) (gives-hit (f .there)))
 
-    pub refused-other : {i : ℕ} → a < attributeCount bs → Element bs k i → (attributeIn (attributesIn bs) a .owner ≡ rowIn bs i .row .index → ⊥) → AttributeRefused k a (storeIn bs) 6
+    pub refused-other : {i : ℕ} → a < attributeCount bs → Element bs k i → (attributeIn baseWidth (attributesIn bs) a .owner ≡ rowIn bs i .row .index → ⊥) → AttributeRefused k a (storeIn bs) 6
     refused-other l f h = let (o, at) = owned l in refused (gives-hit (unknown-is o at f ∙ ap not (not-mine o at f h)))
 
-    pub refused-not : {i : ℕ} → a < attributeCount bs → Element bs k i → attributeIn (attributesIn bs) a .owner ≡ rowIn bs i .row .index → AttributeRefused k a (storeIn bs) 0
+    pub refused-not : {i : ℕ} → a < attributeCount bs → Element bs k i → attributeIn baseWidth (attributesIn bs) a .owner ≡ rowIn bs i .row .index → AttributeRefused k a (storeIn bs) 0
     refused-not l f h = let (o, at) = owned l in refused (gives-next (unknown-is o at f ∙ ap not (bytes .same← (o .owner .name) (f .row .name) (mine o at f h))) (gives-next (f .there) gives-none))
 
     -- ---- none of them holds
@@ -287,7 +288,7 @@ module _ (bs : Bytes) (w : Whole bs) (a : ℕ) where
     pub same-row : {i : ℕ} (f : Element bs k i) → y .owned .owner .name ≡ f .row .name
     same-row f = y .mine ∙ ap nameOf (some-same (sym (y .found) ∙ f .found))
 
-    pub owner-is : {i : ℕ} (f : Element bs k i) → attributeIn (attributesIn bs) a .owner ≡ rowIn bs i .row .index
+    pub owner-is : {i : ℕ} (f : Element bs k i) → attributeIn baseWidth (attributesIn bs) a .owner ≡ rowIn bs i .row .index
     owner-is {i} f = entry (y .owned) (y .at) .owner ∙ ap (λ (z : Bytes). indexOf z (formIn bs)) (same-row f) ∙ sym (defined bs w k i f .index)
 
     pub inside : a < attributeCount bs
@@ -327,12 +328,12 @@ module _ (bs : Bytes) (w : Whole bs) (a : ℕ) where
       unfolding conditions
       drop-7 e = gives-next (both x z .0) (gives-hit (ap₂ (λ (u v : Bool). u || v) (both x z .1) (missing ∙ eq-eqb r 0 e)))
 
-      module _ (e : r ≡ 0 → ⊥) {j : ℕ} (d : j ≡ rowIn bs i .row .index) {c : Bool} (m : c ≡ (eqb (attributeIn (attributesIn bs) a .owner) j && byIndex bs .needed a)) where
+      module _ (e : r ≡ 0 → ⊥) {j : ℕ} (d : j ≡ rowIn bs i .row .index) {c : Bool} (m : c ≡ (eqb (attributeIn baseWidth (attributesIn bs) a .owner) j && byIndex bs .needed a)) where
         there : (noElement k (storeIn bs) || isAbsent k (rowsOf (storeIn bs)) (attributeAt a (formIn bs))) ≡ false
         there = ap₂ (λ (u v : Bool). u || v) (both x z .1) (missing ∙ ne-eqb r 0 e)
 
         needed : c ≡ byIndex bs .needed a
-        needed = m ∙ ap (λ (u : Bool). u && byIndex bs .needed a) (eq-eqb (attributeIn (attributesIn bs) a .owner) j (owner-is (known-of x z) f ∙ sym d))
+        needed = m ∙ ap (λ (u : Bool). u && byIndex bs .needed a) (eq-eqb (attributeIn baseWidth (attributesIn bs) a .owner) j (owner-is (known-of x z) f ∙ sym d))
 
         after-is : not (conforming (formIn bs) (after (destroyAttributeRow k a) (storeIn bs) .docs)) ≡ c
         after-is = ap not (drop-is (known-of x z)) ∙ Bool·not-not (byIndex bs .needed a) ∙ sym needed

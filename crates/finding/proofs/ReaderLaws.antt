@@ -11,7 +11,7 @@ use Rattle.rules.specs.Layout.{FlatRow}
 use Rattle.rules.specs.Model.{Members}
 use Rattle.rules.specs.Decode.{readRow, rowCount}
 use Rattle.rules.specs.Lines.{serialAt}
-use Rattle.rowpass.specs.Reading.{recordAt}
+use Rattle.layout.specs.Bodies.{recordAt}
 use Rattle.model.specs.Steps.{runs}
 use Rattle.validity.specs.Check.{rowsIn}
 use Rattle.finding.specs.Finding.{rowsFrom, children, childrenAt, modelAt, fitsAt, hasPlace, serialIn, serialOf, word}

@@ -34,6 +34,7 @@ use Rattle.history.proofs.StandingLaws.{serialOf, standing-every, standing-line
 use Rattle.lookup.specs.Bodies.{bodiesOf}
 use Rattle.lookup.proofs.Laws.{from-step, from-none, from-all}
 use Rattle.rowpass.specs.Indices.{IndexForm}
+use Rattle.records.specs.Records.{baseWidth}
 use Rattle.rowpass.specs.Reading.{indexForm}
 use Rattle.validity.specs.Reading.{Agrees}
 use Rattle.validity.specs.Check.{definitionsIn, particlesIn, attributesIn, rowsIn}
@@ -57,7 +58,7 @@ docsIn bs = storeIn bs .docs
 
 -- the form by index that the bytes say
 abbrev pub byIndex : Bytes → IndexForm
-byIndex bs = indexForm (definitionCount bs) (definitionsIn bs) (particlesIn bs) (attributesIn bs) (attributeCount bs)
+byIndex bs = indexForm baseWidth (definitionCount bs) (definitionsIn bs) (particlesIn bs) (attributesIn bs) (attributeCount bs)
 
 pub record Whole (bs : Bytes) : Type 0 where
   pub holds : Holds bs

@@ -11,7 +11,7 @@ use Rattle.rules.specs.Bytes.{Bytes}
 use Rattle.rules.specs.Preorder.{Deep}
 use Rattle.rules.specs.Layout.{FlatRow}
 use Rattle.rules.specs.Decode.{readRow}
-use Rattle.rowpass.specs.Reading.{recordAt}
+use Rattle.layout.specs.Bodies.{recordAt}
 use Rattle.lookup.proofs.Laws.{from-step, from-none}
 use Rattle.finding.specs.Finding.{rowsFrom, Begins, next, children, Child, Test, seek}
 

@@ -16,7 +16,8 @@ use Rattle.rules.specs.Decode.{readRow, rowCount}
 use Rattle.lookup.specs.Bodies.{recordsFrom}
 use Rattle.model.specs.Members.{membersOf}
 use Rattle.model.specs.Steps.{runs}
-use Rattle.rowpass.specs.Reading.{recordAt, definitionIn, modelPart}
+use Rattle.layout.specs.Bodies.{recordAt}
+use Rattle.rowpass.specs.Reading.{definitionIn, modelPart}
 use Rattle.validity.specs.Check.{definitionsIn, particlesIn, rowsIn}
 
 -- the rows of a body from number i on, `count` in all

@@ -9,7 +9,9 @@ ghost use Rattle.rules.specs.Passing.{passes};
 ghost use Rattle.rules.specs.Change.{addDocument, addElement, destroyElement, setAttribute, destroyAttributeRow, setText};
 ghost use Rattle.rules.specs.Refusal.{first, conditions, noElement, rowsOf};
 ghost use Rattle.rules.specs.Decode.{readRow};
-ghost use Rattle.rowpass.specs.Reading.{recordAt, attributeIn};
+ghost use Rattle.layout.specs.Bodies.{recordAt};
+ghost use Rattle.records.specs.Records.{baseWidth};
+ghost use Rattle.rowpass.specs.Reading.{attributeIn};
 ghost use Rattle.validity.specs.Check.{attributesIn, rowsIn};
 ghost use Rattle.storing.specs.Stores.{storeIn};
 ghost use Rattle.plans.specs.CallPlans.{attributeSerial};
@@ -17,12 +19,15 @@ ghost use Rattle.model.specs.Members.{membersOf};
 ghost use Rattle.model.specs.Steps.{runs};
 ghost use Rattle.finding.specs.Finding.{rowsFrom, Begins, ElementAt, ParentAt, AttributeRefused, RowOf, childrenAt, kindAt, modelAt, fitsAt, hasPlace, Child, children, elementRow, isThis, isParent, seek, serialIn, serialOf, newName, keptName, word, Stepped};
 
+// The width of a value.
+const VALUE_WIDTH: usize = 32;
+
 // The bytes of row i.
 fn row(rows: &[u8], i: usize) -> &[u8]
     requires { ⌜ i ≤ 4096 ⌝ }
     ensures { λ r. ⌜ now r ≡ recordAt 44 i (now (rows .entry)) ⌝ }
 {
-    rowpass::cut(rows, 44 * i, 44)
+    layout::window(rows, 44 * i, 44)
 }
 
 // Whether a row is the element row with a serial.
@@ -306,7 +311,7 @@ pub fn add_document_refusal(store: &[u8], definition: u32, text: &[u8]) -> u32
     requires { ⌜ passes (now store) ≡ true ⌝ }
     ensures { λ r. ⌜ r ≡ first (conditions (addDocument definition (now (text .entry))) (storeIn (now (store .entry)))) ⌝ }
 {
-    if !records::is_value(text) {
+    if !records::is_value(VALUE_WIDTH, text) {
         return 3;
     }
     if definition as usize >= records::number(store, 12) {
@@ -320,7 +325,7 @@ pub fn set_text_refusal(store: &[u8], element: u32, text: &[u8]) -> u32
     requires { ⌜ passes (now store) ≡ true ⌝ }
     ensures { λ r. ⌜ r ≡ first (conditions (setText element (now (text .entry))) (storeIn (now (store .entry)))) ⌝ }
 {
-    if !records::is_value(text) {
+    if !records::is_value(VALUE_WIDTH, text) {
         return 3;
     }
     let i = find_element(store, element);
@@ -422,10 +427,10 @@ pub fn child_serial(store: &[u8], parent: u32, child: u32) -> u32
 // The definition index of an attribute's owner.
 fn owner_of(store: &[u8], attribute: usize) -> usize
     requires { ⌜ attribute ≤ 64 ⌝ }
-    ensures { λ r. ⌜ r ≡ attributeIn (attributesIn (now (store .entry))) attribute .owner ⌝ }
+    ensures { λ r. ⌜ r ≡ attributeIn baseWidth (attributesIn (now (store .entry))) attribute .owner ⌝ }
 {
     let attrs = validity::body(store, 24, 52);
-    codec::byte(rowpass::cut(attrs, 52 * attribute, 52), 0) as usize
+    codec::byte(layout::window(attrs, 52 * attribute, 52), 0) as usize
 }
 
 // The serial of the row of an attribute right below row i; 0 if there is none.
@@ -466,7 +471,7 @@ pub fn set_attribute_refusal(store: &[u8], element: u32, attribute: u32, value: 
     requires { ⌜ passes (now store) ≡ true ⌝ }
     ensures { λ r. ⌜ r ≡ first (conditions (setAttribute element attribute (now (value .entry))) (storeIn (now (store .entry)))) ⌝ }
 {
-    if !records::is_value(value) {
+    if !records::is_value(VALUE_WIDTH, value) {
         return 3;
     }
     let refusal = attribute_refusal(store, element, attribute);
@@ -474,7 +479,7 @@ pub fn set_attribute_refusal(store: &[u8], element: u32, attribute: u32, value: 
         return refusal;
     }
     let attrs = validity::body(store, 24, 52);
-    if !rowpass::value_may(attrs, attribute as usize, value) {
+    if !rowpass::value_may(VALUE_WIDTH, attrs, attribute as usize, value) {
         return 15;
     }
     0
@@ -494,7 +499,12 @@ pub fn destroy_attribute_row_refusal(store: &[u8], element: u32, attribute: u32)
         return 7;
     }
     let attrs = validity::body(store, 24, 52);
-    if rowpass::needs(attrs, definition_at(store, i), attribute as usize) {
+    if rowpass::needs(
+        VALUE_WIDTH,
+        attrs,
+        definition_at(store, i),
+        attribute as usize,
+    ) {
         return 15;
     }
     0

@@ -26,6 +26,9 @@ ghost use Rattle.placing.specs.Placing.{modelIn, foundBy};
 ghost use Rattle.marking.specs.Marking.{marksAt};
 ghost use Rattle.inserting.specs.Inserting.{inModel, comesRound, modelConditions, placeConditions};
 
+// The width of a value.
+const VALUE_WIDTH: usize = 32;
+
 // ---- the model
 // Whether no element among the particles has the index i.
 fn lacks(part: &[u8], i: usize) -> bool
@@ -139,7 +142,7 @@ pub fn insert_element_refusal(
     requires { ⌜ passes (now store) ≡ true ⌝ }
     ensures { λ r. ⌜ r ≡ first (conditions (insertElement owner (now (place .entry)) definition quantifier (now (text .entry))) (storeIn (now (store .entry)))) ⌝ }
 {
-    if !records::is_value(text) {
+    if !records::is_value(VALUE_WIDTH, text) {
         return 3;
     }
     if quantifier > 3 {

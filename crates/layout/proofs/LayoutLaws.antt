@@ -21,6 +21,21 @@ product size n h g =
     let k : size * n ≤ 65535 * 4294967295 = mul-le-mul {n₁ = size} {m₁ = n} {n₂ = 65535} {m₂ = 4294967295} (omega arith) (omega arith) in
     record { value = refl; small = omega arith }
 
+-- room for m records is room for the first, and past it for the others
+module _ (size m n : ℕ) (h : m ≡ 0 → ⊥) (g : size * m ≤ n) where
+  room-split : size * m ≡ size * (m - 1) + size
+  room-split = let e : m ≡ suc (m - 1) = by m h in ap (λ (k : ℕ). size * k) e ∙ mul-suc size (m - 1)
+    where
+      by : (k : ℕ) → (k ≡ 0 → ⊥) → k ≡ suc (k - 1)
+      by zero f = absurd (f refl)
+      by (suc k) f = omega arith
+
+  pub room-first : size ≤ n
+  room-first = omega (arith, room-split, g)
+
+  pub room-rest : size * (m - 1) ≤ n - size
+  room-rest = omega (arith, room-split, g)
+
 -- ---- windows
 module _ (s : Bytes) (at n : ℕ) where
   pub window-past : length s < at → [] ≡ windowOf at n s

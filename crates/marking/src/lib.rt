@@ -35,9 +35,9 @@ pub fn marks(part: &[u8], p: usize, n: usize) -> [u8; MAX_DEFINITIONS]
     ensures { λ r. ⌜ r ≡ marksAt n p (now (part .entry)) ⌝ }
 {
     let mut of = [0; MAX_DEFINITIONS];
-    mark(rowpass::cut(part, 0, PARTICLE_SIZE * p), 1, &mut of);
+    mark(layout::window(part, 0, PARTICLE_SIZE * p), 1, &mut of);
     mark(
-        rowpass::cut(part, PARTICLE_SIZE * p, PARTICLE_SIZE * n),
+        layout::window(part, PARTICLE_SIZE * p, PARTICLE_SIZE * n),
         2,
         &mut of,
     );

@@ -21,11 +21,14 @@ ghost use Rattle.rules.specs.Change.{removeElement, changeQuantifier, convertTo
 ghost use Rattle.rules.specs.Refusal.{_if_, first, conditions, wrongDefault};
 ghost use Rattle.model.specs.Members.{membersFrom};
 ghost use Rattle.model.specs.Particle.{particleOf};
-ghost use Rattle.rowpass.specs.Reading.{recordAt};
+ghost use Rattle.layout.specs.Bodies.{recordAt};
 ghost use Rattle.lookup.specs.Bodies.{bodiesOf};
 ghost use Rattle.storing.specs.Stores.{storeIn};
 ghost use Rattle.finding.specs.Finding.{Gives};
 ghost use Rattle.placing.specs.Placing.{attributeBody, ownNamed, hasInstance, partIn, pickOf, Picking, oneIf, unlikeKind, convertTests, isOff, earlyTests, quantifierTests, requantify, choiceLeft, Removable, removeTests};
+
+// The width of a value.
+const VALUE_WIDTH: usize = 32;
 
 // ---- attributes
 /// The record of attribute i.
@@ -43,7 +46,7 @@ fn is_own(rec: &[u8], owner: u32, name: &[u8]) -> bool
     ensures { λ r. ⌜ r ≡ ownNamed owner (now (name .entry)) (readAttribute (now (rec .entry))) ⌝ }
 {
     let used = codec::byte(rec, 1) as usize;
-    let same = codec::equal(name, rowpass::cut(rec, 2, used));
+    let same = codec::equal(name, layout::window(rec, 2, used));
     (codec::byte(rec, 0) as u32 == owner) & same
 }
 
@@ -82,7 +85,7 @@ pub fn instance_exists(store: &[u8], definition: u32) -> bool
     let count = records::number(store, 36);
     let mut i = 0;
     while i < count {
-        let row = rowpass::cut(rows, 44 * i, 44);
+        let row = layout::window(rows, 44 * i, 44);
         if (codec::byte(row, 0) == 1) & (codec::get_u16(row, 2) == definition) {
             return true;
         }
@@ -326,7 +329,7 @@ fn choice_left(part: &[u8], start: usize, p: usize, d: usize) -> bool
 {
     let x = model::read_particle(part, 4 * (start - 1));
     let q = x.quantifier;
-    let before = accepts_nothing(rowpass::cut(part, 4 * start, 4 * (p - start)), d);
+    let before = accepts_nothing(layout::window(part, 4 * start, 4 * (p - start)), d);
     let after = accepts_nothing(records::after(part, 4 * p + 4), d);
     (model::skips(q) | before) | after
 }
@@ -375,7 +378,7 @@ pub fn remove_element_refusal(store: &[u8], owner: u32, place: &[u32]) -> u32
 fn early_refusal(store: &[u8], owner: u32, quantifier: u32, text: &[u8]) -> u32
     ensures { λ r. ⌜ Gives r (earlyTests owner quantifier (now (text .entry)) (now (store .entry))) ⌝ }
 {
-    if !records::is_value(text) {
+    if !records::is_value(VALUE_WIDTH, text) {
         return 3;
     }
     if quantifier > 3 {
@@ -482,7 +485,7 @@ pub fn add_attribute_refusal(store: &[u8], owner: u32, name: &[u8], sort: u32, v
     if !records::stored_name(name) {
         return 2;
     }
-    if !records::is_value(value) {
+    if !records::is_value(VALUE_WIDTH, value) {
         return 3;
     }
     if sort > 2 {

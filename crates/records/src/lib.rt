@@ -9,6 +9,7 @@ ghost use Rattle.rules.specs.Bytes.{all, between};
 ghost use Rattle.rules.specs.Layout.{definitionSize, attributeSize};
 ghost use Rattle.rules.specs.Decode.{sized, sortOf};
 ghost use Rattle.rules.specs.WellFormed.{startsName, inName, storedName, isValue, isFill};
+ghost use Rattle.layout.specs.Bodies.{Width};
 ghost use Rattle.records.specs.Records.{baseWidth, NumberAt, zeros, filled, nameFits, valueFits, definitionFits, attributeFits, unusedFit, rowFits, eachFits, countsFit, offsetsFit, headerFits};
 
 const BASE_VERSION: usize = 1;
@@ -126,10 +127,10 @@ pub fn stored_name(s: &[u8]) -> bool
 }
 
 /// Whether the bytes are a value.
-pub fn is_value(s: &[u8]) -> bool
-    ensures { λ r. ⌜ r ≡ isValue baseWidth (now (s .entry)) ⌝ }
+pub fn is_value(w: usize, s: &[u8]) -> bool
+    ensures { λ r. ⌜ r ≡ isValue w (now (s .entry)) ⌝ }
 {
-    (s.len() <= VALUE_WIDTH) & all_printable(s)
+    (s.len() <= w) & all_printable(s)
 }
 
 // Whether a value may stand in an attribute of a sort: none if IMPLIED (0), one if REQUIRED (1).
@@ -171,10 +172,10 @@ fn name_fits(rec: &[u8], at: usize) -> bool
 }
 
 // Whether a value of `used` bytes stands at `at`.
-fn value_fits(rec: &[u8], at: usize, used: usize) -> bool
-    ensures { λ r. ⌜ r ≡ valueFits baseWidth (now (rec .entry)) at used ⌝ }
+fn value_fits(w: usize, rec: &[u8], at: usize, used: usize) -> bool
+    ensures { λ r. ⌜ r ≡ valueFits w (now (rec .entry)) at used ⌝ }
 {
-    is_value(first(after(rec, at), used)) & filled(rec, at, used, VALUE_WIDTH)
+    is_value(w, first(after(rec, at), used)) & filled(rec, at, used, w)
 }
 
 // ---- records
@@ -189,27 +190,30 @@ pub fn definition_fits(rec: &[u8]) -> bool
 }
 
 /// Whether a record is that of an attribute, among n definitions.
-pub fn attribute_fits(rec: &[u8], n: usize) -> bool
-    ensures { λ r. ⌜ r ≡ attributeFits baseWidth n (now (rec .entry)) ⌝ }
+pub fn attribute_fits(w: usize, rec: &[u8], n: usize) -> bool
+    ensures { λ r. ⌜ r ≡ attributeFits w n (now (rec .entry)) ⌝ }
 {
     let owner = wide(byte(rec, 0));
     let sort = byte(rec, 18);
     let used = wide(byte(rec, 19));
     let value = first(after(rec, 20), used);
     (owner < n)
-        & (name_fits(rec, 1) & ((sort <= 2) & (value_fits(rec, 20, used) & is_fill(sort, value))))
+        & (name_fits(rec, 1)
+            & ((sort <= 2) & (value_fits(w, rec, 20, used) & is_fill(sort, value))))
 }
 
 // Whether the bytes of a row that no field has are zeros.
-fn unused_fit(rec: &[u8]) -> bool
-    ensures { λ r. ⌜ r ≡ unusedFit baseWidth (now (rec .entry)) ⌝ }
+fn unused_fit(w: usize, rec: &[u8]) -> bool
+    requires { ⌜ Width w ⌝ }
+    ensures { λ r. ⌜ r ≡ unusedFit w (now (rec .entry)) ⌝ }
 {
-    (byte(rec, 9) == 0) & ((byte(rec, 10 + VALUE_WIDTH) == 0) & (byte(rec, 11 + VALUE_WIDTH) == 0))
+    (byte(rec, 9) == 0) & ((byte(rec, 10 + w) == 0) & (byte(rec, 11 + w) == 0))
 }
 
 /// Whether a record is a row's, apart from its depth.
-pub fn row_fits(rec: &[u8]) -> bool
-    ensures { λ r. ⌜ r ≡ rowFits baseWidth (now (rec .entry)) ⌝ }
+pub fn row_fits(w: usize, rec: &[u8]) -> bool
+    requires { ⌜ Width w ⌝ }
+    ensures { λ r. ⌜ r ≡ rowFits w (now (rec .entry)) ⌝ }
 {
     let sort = byte(rec, 0);
     let used = wide(byte(rec, 8));
@@ -217,7 +221,7 @@ pub fn row_fits(rec: &[u8]) -> bool
     let known = (1 <= sort) & (sort <= 3);
     let element = (sort != 1) | (used == 0);
     let text = (sort != 3) | (index == 0);
-    known & (value_fits(rec, 10, used) & (element & (text & unused_fit(rec))))
+    known & (value_fits(w, rec, 10, used) & (element & (text & unused_fit(w, rec))))
 }
 
 // ---- bodies
@@ -247,16 +251,18 @@ pub fn definitions_fit(body: &[u8], count: usize) -> bool
 }
 
 /// Whether the first `count` records of a body are those of attributes, among n definitions.
-pub fn attributes_fit(body: &[u8], count: usize, n: usize) -> bool
-    ensures { λ r. ⌜ r ≡ eachFits (attributeFits baseWidth n) (attributeSize baseWidth) count (now (body .entry)) ⌝ }
+pub fn attributes_fit(w: usize, body: &[u8], count: usize, n: usize) -> bool
+    requires { ⌜ Width w ⌝ }
+    ensures { λ r. ⌜ r ≡ eachFits (attributeFits w n) (attributeSize w) count (now (body .entry)) ⌝ }
 {
+    let size = layout::attribute_size(w);
     let mut rest = body;
     let mut left = count;
     while 0 < left {
-        if !attribute_fits(first(rest, ATTRIBUTE_SIZE), n) {
+        if !attribute_fits(w, first(rest, size), n) {
             return false;
         }
-        let read = least(ATTRIBUTE_SIZE, rest.len());
+        let read = least(size, rest.len());
         rest = &rest[read..];
         left -= 1;
     }

@@ -1,5 +1,4 @@
 -- The automaton judges the rows after the attributes as the definition does.
--- Assumes nothing.
 use Prim.Native.Nat.{ℕ, zero, suc}
 use native.Mathlib.Omega.{arith}
 use mathlib.Core.Path.{_≡_, refl, ap, sym, _∙_}

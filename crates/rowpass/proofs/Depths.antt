@@ -1,5 +1,4 @@
 -- Depths: where a number stands to another, what `build` makes of the first row, and that the rows of a forest rise.
--- Assumes nothing.
 use Prim.Native.Nat.{ℕ, suc, _+_, _-_, _≤_, _<_}
 use native.Mathlib.Omega.{arith}
 use mathlib.Core.Path.{_≡_, refl, sym, subst}

@@ -1,5 +1,4 @@
 -- The pass with the automaton of a form accepts exactly the rows of documents that conform to it.
--- Assumes nothing.
 use Prim.Native.Nat.{ℕ, suc, _<_}
 use native.Mathlib.Omega.{arith}
 use mathlib.Core.Path.{_≡_, refl, ap, _∙_, sym}

@@ -1,5 +1,4 @@
 -- The loop of the pass: what is left to judge gives the verdict, and what the verdict says.
--- Assumes nothing.
 use Prim.Native.Nat.{ℕ, zero, suc, _+_, _*_, _-_, _≤_, _<_}
 use native.Mathlib.Omega.{arith}
 use native.Mathlib.Numerals.{add-one, sub-one}
@@ -11,15 +10,17 @@ use lib.ListN.{length, getD, set, take, drop, replicate, length-set, length-drop
 use lib.Seq.{getD-take, getD-drop}
 use Rattle.rules.specs.Bytes.{Bytes}
 use Rattle.rules.specs.Model.{Distinct, names}
+use Rattle.rules.specs.Layout.{rowSize}
 use Rattle.rules.specs.Decode.{readRow}
 use Rattle.rules.proofs.Words.{and-both, and-split}
 use Rattle.codec.proofs.Writers.{tail-seen}
-use Rattle.records.specs.Records.{baseWidth, rowFits, eachFits}
+use Rattle.layout.proofs.LayoutLaws.{room-first, room-rest}
+use Rattle.records.specs.Records.{rowFits, eachFits}
 use Rattle.rowpass.specs.declared.Level.{Level}
 use Rattle.rowpass.specs.Indices.{IndexForm, Documents}
 use Rattle.rowpass.specs.Machine.{closed, opened, machine, keeps}
 use Rattle.rowpass.specs.Judge.{ground, judge}
-use Rattle.rowpass.specs.Reading.{rowsIn, fieldsFit, judged, noLevels, verdict}
+use Rattle.rowpass.specs.Reading.{rowsIn, fieldsFit, keepsOf, judged, noLevels, verdict}
 use Rattle.rowpass.proofs.MachineLaws.{Within, machine-pops, machine-stops, machine-takes}
 use Rattle.rowpass.proofs.JudgeLaws.{documents-judged}
 
@@ -40,58 +41,64 @@ first-fails true xs false ys h = and-none xs
 first-fails false xs y ys h = refl
 
 -- ---- rows
-rows-none : (m : ℕ) (t : Bytes) → m ≡ 0 → rowsIn m t ≡ []
-rows-none m t e = rw e
+module _ (w m : ℕ) (t : Bytes) where
+  rows-none : m ≡ 0 → rowsIn w m t ≡ []
+  rows-none e = rw e
 
-rows-step : (m : ℕ) (t : Bytes) → (m ≡ 0 → ⊥) → rowsIn m t ≡ readRow (take 44 t) ∷ rowsIn (m - 1) (drop 44 t)
-rows-step zero t h = absurd (h refl)
-rows-step (suc m) t h = rw sub-one
+  fields-none : m ≡ 0 → fieldsFit w m t ≡ true
+  unfolding eachFits
+  fields-none e = rw e
 
-fields-none : (m : ℕ) (t : Bytes) → m ≡ 0 → fieldsFit m t ≡ true
+rows-step : (w m : ℕ) (t : Bytes) → (m ≡ 0 → ⊥) → rowsIn w m t ≡ readRow (take (rowSize w) t) ∷ rowsIn w (m - 1) (drop (rowSize w) t)
+rows-step w zero t h = absurd (h refl)
+rows-step w (suc m) t h = rw sub-one
+
+fields-step : (w m : ℕ) (t : Bytes) → (m ≡ 0 → ⊥) → fieldsFit w m t ≡ (rowFits w (take (rowSize w) t) && fieldsFit w (m - 1) (drop (rowSize w) t))
 unfolding eachFits
-fields-none m t e = rw e
+fields-step w zero t h = absurd (h refl)
+fields-step w (suc m) t h = rw sub-one
 
-fields-step : (m : ℕ) (t : Bytes) → (m ≡ 0 → ⊥) → fieldsFit m t ≡ (rowFits baseWidth (take 44 t) && fieldsFit (m - 1) (drop 44 t))
-unfolding eachFits
-fields-step zero t h = absurd (h refl)
-fields-step (suc m) t h = rw sub-one
+pub keeps-step : (m d : ℕ) (t : Bytes) → (m ≡ 0 → ⊥) → d ≡ readRow t .depth → d < 256 → (d + 1 ≡ keepsOf m t) × (d + 1 ≤ 256)
+keeps-step zero d t h e l = absurd (h refl)
+keeps-step (suc m) d t h e l = (add-one d ∙ ap suc e, omega arith)
 
-pub keeps-none : (m : ℕ) (t : Bytes) → m ≡ 0 → (0 ≡ keeps (rowsIn m t)) × (0 ≤ 256)
-keeps-none m t e = (rw (rows-none m t e), omega arith)
+pub keeps-some : (m keep : ℕ) (t : Bytes) → (m ≡ 0 → ⊥) → keep ≡ keepsOf m t → 1 ≤ keep
+keeps-some zero keep t h e = absurd (h refl)
+keeps-some (suc m) keep t h e = omega arith
 
-keeps-depth : (m : ℕ) (t : Bytes) → (m ≡ 0 → ⊥) → keeps (rowsIn m t) ≡ suc (getD t 1 0)
-keeps-depth m t h = ap keeps (rows-step m t h) ∙ ap suc (getD-take 44 t 1 0 (omega arith))
-
-pub keeps-step : (m d : ℕ) (t : Bytes) → (m ≡ 0 → ⊥) → d ≡ getD t 1 0 → d < 256 → (d + 1 ≡ keeps (rowsIn m t)) × (d + 1 ≤ 256)
-keeps-step m d t h e l = (rw (keeps-depth m t h, add-one d, e), omega arith)
-
-pub keeps-some : (m keep : ℕ) (t : Bytes) → (m ≡ 0 → ⊥) → keep ≡ keeps (rowsIn m t) → 1 ≤ keep
-keeps-some m keep t h e = let f : keep ≡ suc (getD t 1 0) = e ∙ keeps-depth m t h in omega arith
+-- the first row's depth stands in its first bytes
+pub keeps-read : (w m keep : ℕ) (t : Bytes) → keep ≡ keepsOf m t → keep ≡ keeps (rowsIn w m t)
+keeps-read w zero keep t e = e
+keeps-read w (suc m) keep t e = e ∙ ap suc (sym (getD-take (rowSize w) t 1 0 (omega arith)))
 
 -- ---- the loop
-pub record Pass (f : IndexForm) (goal : Bool) (l : List Level) (live : ℕ) (t : Bytes) (m : ℕ) : Type 0 where
-  pub is : goal ≡ judged f l live m t
+-- what is left to judge gives the goal; there is a level for each depth, and room for the rows that are left
+pub record Pass (w : ℕ) (f : IndexForm) (goal : Bool) (l : List Level) (live : ℕ) (t : Bytes) (m : ℕ) : Type 0 where
+  pub is : goal ≡ judged w f l live m t
   pub long : length l ≡ 257
   pub low : live ≤ 257
-  pub room : 44 * m ≤ length t
+  pub room : rowSize w * m ≤ length t
 
-pub pass-starts : (f : IndexForm) (count : ℕ) (rows : Bytes) → 44 * count ≤ length rows → Pass f (verdict f count rows) (replicate 257 ground) 1 rows count
+pub pass-starts : (w : ℕ) (f : IndexForm) (count : ℕ) (rows : Bytes) → rowSize w * count ≤ length rows → Pass w f (verdict w f count rows) (replicate 257 ground) 1 rows count
 unfolding verdict noLevels
-pass-starts f count rows h = record { is = refl; long = refl; low = omega arith; room = h }
+pass-starts w f count rows h = record { is = refl; long = refl; low = omega arith; room = h }
 
-module _ (f : IndexForm) {goal : Bool} (l : List Level) {live : ℕ} (t : Bytes) {m : ℕ} (p : Pass f goal l live t m) (keep : ℕ) (ek : keep ≡ keeps (rowsIn m t)) where
-  popped : keep < live → goal ≡ (fieldsFit m t && (judge f .ends (getD l (live - 1) ground) && machine (judge f) ground l (live - 1) (rowsIn m t)))
+module _ (w : ℕ) (f : IndexForm) {goal : Bool} (l : List Level) {live : ℕ} (t : Bytes) {m : ℕ} (p : Pass w f goal l live t m) (keep : ℕ) (ek′ : keep ≡ keepsOf m t) where
+  ek : keep ≡ keeps (rowsIn w m t)
+  ek = keeps-read w m keep t ek′
+
+  popped : keep < live → goal ≡ (fieldsFit w m t && (judge f .ends (getD l (live - 1) ground) && machine (judge f) ground l (live - 1) (rowsIn w m t)))
   popped h =
       let e : live ≡ suc (live - 1) = omega arith in
       p .is
-      ∙ ap (λ (k : ℕ). judged f l k m t) e
-      ∙ ap (λ (b : Bool). fieldsFit m t && b) (machine-pops (judge f) ground l (live - 1) (rowsIn m t) (omega arith))
+      ∙ ap (λ (k : ℕ). judged w f l k m t) e
+      ∙ ap (λ (b : Bool). fieldsFit w m t && b) (machine-pops (judge f) ground l (live - 1) (rowsIn w m t) (omega (arith, ek)))
 
-  pub pass-pops : keep < live → (b : Bool) → b ≡ judge f .ends (getD l (live - 1) ground) → b ≡ true → Pass f goal l (live - 1) t m
+  pub pass-pops : keep < live → (b : Bool) → b ≡ judge f .ends (getD l (live - 1) ground) → b ≡ true → Pass w f goal l (live - 1) t m
   pass-pops h b e q =
       let s : judge f .ends (getD l (live - 1) ground) ≡ true = sym e ∙ q in
       record {
-        is = popped h ∙ ap (λ (c : Bool). fieldsFit m t && (c && machine (judge f) ground l (live - 1) (rowsIn m t))) s;
+        is = popped h ∙ ap (λ (c : Bool). fieldsFit w m t && (c && machine (judge f) ground l (live - 1) (rowsIn w m t))) s;
         long = p .long;
         low = omega (arith, p .low);
         room = p .room;
@@ -100,64 +107,68 @@ module _ (f : IndexForm) {goal : Bool} (l : List Level) {live : ℕ} (t : Bytes)
   pub pass-owes : keep < live → (b : Bool) → b ≡ judge f .ends (getD l (live - 1) ground) → b ≡ false → false ≡ goal
   pass-owes h b e q =
       let s : judge f .ends (getD l (live - 1) ground) ≡ false = sym e ∙ q in
-      sym (popped h ∙ ap (λ (c : Bool). fieldsFit m t && (c && machine (judge f) ground l (live - 1) (rowsIn m t))) s ∙ and-none (fieldsFit m t))
+      sym (popped h ∙ ap (λ (c : Bool). fieldsFit w m t && (c && machine (judge f) ground l (live - 1) (rowsIn w m t))) s ∙ and-none (fieldsFit w m t))
 
   pub pass-stops : live < keep → false ≡ goal
   pass-stops h =
-      sym (p .is ∙ ap (λ (b : Bool). fieldsFit m t && b) (machine-stops (judge f) ground l live (rowsIn m t) (omega arith)) ∙ and-none (fieldsFit m t))
+      sym (p .is ∙ ap (λ (b : Bool). fieldsFit w m t && b) (machine-stops (judge f) ground l live (rowsIn w m t) (omega (arith, ek))) ∙ and-none (fieldsFit w m t))
 
   pub pass-ends : m ≡ 0 → live ≤ keep → true ≡ goal
   unfolding machine closed
   pass-ends e h =
-      let z : keep ≡ 0 = ek ∙ ap keeps (rows-none m t e) in
+      let z : keep ≡ 0 = ek ∙ ap keeps (rows-none w m t e) in
       let y : live ≡ 0 = omega arith in
-      sym (p .is ∙ rw (y, fields-none m t e, rows-none m t e))
+      sym (p .is ∙ rw (y, fields-none w m t e, rows-none w m t e))
 
-  module _ (h : m ≡ 0 → ⊥) (u : live ≤ keep) (w : keep ≤ live) (row : Bytes) (er : row ≡ take 44 t) where
+  module _ (h : m ≡ 0 → ⊥) (u : live ≤ keep) (v : keep ≤ live) (size : ℕ) (z : size ≡ rowSize w) (row : Bytes) (er′ : row ≡ take size t) where
+    er : row ≡ take (rowSize w) t
+    er = er′ ∙ ap (λ (k : ℕ). take k t) z
+
     deep : keep ≡ suc (getD row 1 0)
-    deep = ek ∙ ap keeps (rows-step m t h) ∙ ap (λ (s : Bytes). suc (getD s 1 0)) (sym er)
+    deep = ek ∙ ap keeps (rows-step w m t h) ∙ ap (λ (s : Bytes). suc (getD s 1 0)) (sym er)
 
     -- the rows after this one
     abbrev later : Bool
-    later = machine (judge f) ground (opened (judge f) ground l (keep - 1) (readRow row .row)) (keep + 1) (rowsIn (m - 1) (drop 44 t))
+    later = machine (judge f) ground (opened (judge f) ground l (keep - 1) (readRow row .row)) (keep + 1) (rowsIn w (m - 1) (drop (rowSize w) t))
 
-    taken : goal ≡ ((rowFits baseWidth row && fieldsFit (m - 1) (drop 44 t)) && (judge f .may (getD l (keep - 1) ground) (readRow row .row) && later))
+    taken : goal ≡ ((rowFits w row && fieldsFit w (m - 1) (drop (rowSize w) t)) && (judge f .may (getD l (keep - 1) ground) (readRow row .row) && later))
     taken =
         let e : live ≡ suc (getD row 1 0) = omega (arith, deep) in
         let d : keep - 1 ≡ getD row 1 0 = omega (arith, deep) in
         p .is
-        ∙ rw (d, e, fields-step m t h, rows-step m t h, ← er, add-one keep, deep)
-        (ap (λ (b : Bool). (rowFits baseWidth row && fieldsFit (m - 1) (drop 44 t)) && b) (machine-takes (judge f) ground l (readRow row) (rowsIn (m - 1) (drop 44 t))))
+        ∙ rw (d, e, fields-step w m t h, rows-step w m t h, ← er, add-one keep, deep)
+        (ap (λ (b : Bool). (rowFits w row && fieldsFit w (m - 1) (drop (rowSize w) t)) && b) (machine-takes (judge f) ground l (readRow row) (rowsIn w (m - 1) (drop (rowSize w) t))))
 
-    module _ (b : Bool) (e : b ≡ (rowFits baseWidth row && judge f .may (getD l (keep - 1) ground) (readRow row .row))) where
+    module _ (b : Bool) (e : b ≡ (rowFits w row && judge f .may (getD l (keep - 1) ground) (readRow row .row))) where
       pub pass-takes : keep ≤ 256 → b ≡ true → (x y : Level) → x ≡ judge f .next (getD l (keep - 1) ground) (readRow row .row) → y ≡ judge f .enter (readRow row .row)
-          → Pass f goal (set (set l (keep - 1) x) keep y) (keep + 1) (take (length t - 44) (drop 44 t)) (m - 1)
+          → Pass w f goal (set (set l (keep - 1) x) keep y) (keep + 1) (take (length t - size) (drop size t)) (m - 1)
       pass-takes k q x y ex ey =
-          let v : suc (keep - 1) ≡ keep = omega (arith, deep) in
-          rw (tail-seen t 44, ex, ey)
+          let n : suc (keep - 1) ≡ keep = omega (arith, deep) in
+          rw (z, tail-seen t (rowSize w), ex, ey)
           (record {
-            is = rw v at (taken ∙ first-passes (rowFits baseWidth row) (fieldsFit (m - 1) (drop 44 t)) (judge f .may (getD l (keep - 1) ground) (readRow row .row)) later (sym e ∙ q));
+            is = rw n at (taken ∙ first-passes (rowFits w row) (fieldsFit w (m - 1) (drop (rowSize w) t)) (judge f .may (getD l (keep - 1) ground) (readRow row .row)) later (sym e ∙ q));
             long = simp length-set (p .long);
             low = omega arith;
-            room = simp length-drop (omega (arith, p .room));
+            room = simp length-drop (room-rest (rowSize w) m (length t) h (p .room));
           })
 
       pub pass-refuses : b ≡ false → false ≡ goal
-      pass-refuses q = sym (taken ∙ first-fails (rowFits baseWidth row) (fieldsFit (m - 1) (drop 44 t)) (judge f .may (getD l (keep - 1) ground) (readRow row .row)) later (sym e ∙ q))
+      pass-refuses q = sym (taken ∙ first-fails (rowFits w row) (fieldsFit w (m - 1) (drop (rowSize w) t)) (judge f .may (getD l (keep - 1) ground) (readRow row .row)) later (sym e ∙ q))
 
 -- ---- what the verdict says
-rows-within : (m : ℕ) (t : Bytes) → ((i : ℕ) → getD t i 0 < 256) → Within 256 (rowsIn m t)
-rows-within zero t h = tt
-rows-within (suc m) t h = ((rw (getD-take 44 t 1 0 (omega arith)) (h 1)), rows-within m (drop 44 t) (λ i. rw (getD-drop 44 t i 0) (h (44 + i))))
+rows-within : (w m : ℕ) (t : Bytes) → ((i : ℕ) → getD t i 0 < 256) → Within 256 (rowsIn w m t)
+rows-within w zero t h = tt
+rows-within w (suc m) t h =
+    ((rw (getD-take (rowSize w) t 1 0 (omega arith)) (h 1)), rows-within w m (drop (rowSize w) t) (λ i. rw (getD-drop (rowSize w) t i 0) (h (rowSize w + i))))
 
 -- THE VERDICT: the fields fit, and the rows are those of documents that conform
-pub verdict-says : (f : IndexForm) (count : ℕ) (rows : Bytes) (r : Bool) → r ≡ verdict f count rows → ((i : ℕ) → i < f .size → Distinct (names (f .model i))) → ((i : ℕ) → getD rows i 0 < 256)
-    → (r ≡ true) ↔ ((fieldsFit count rows ≡ true) × Documents f (rowsIn count rows))
+pub verdict-says : (w : ℕ) (f : IndexForm) (count : ℕ) (rows : Bytes) (r : Bool) → r ≡ verdict w f count rows → ((i : ℕ) → i < f .size → Distinct (names (f .model i)))
+    → ((i : ℕ) → getD rows i 0 < 256) → (r ≡ true) ↔ ((fieldsFit w count rows ≡ true) × Documents f (rowsIn w count rows))
 unfolding verdict noLevels
-verdict-says f count rows r e sound small =
-    let j = documents-judged f sound 256 (rowsIn count rows) noLevels refl refl (rows-within count rows small) in (
+verdict-says w f count rows r e sound small =
+    let j = documents-judged f sound 256 (rowsIn w count rows) noLevels refl refl (rows-within w count rows small) in (
       λ h.
-          let (a, b) = and-split (fieldsFit count rows) (machine (judge f) ground noLevels 1 (rowsIn count rows)) (sym e ∙ h) in
+          let (a, b) = and-split (fieldsFit w count rows) (machine (judge f) ground noLevels 1 (rowsIn w count rows)) (sym e ∙ h) in
           (a, j .0 b),
       λ d. e ∙ and-both (d .0) (j .1 (d .1)),
     )

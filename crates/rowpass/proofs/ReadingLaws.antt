@@ -1,51 +1,37 @@
 -- What the code reads is what the form and the row say.
--- Assumes nothing.
 use Prim.Native.Nat.{ℕ, zero, suc, _+_, _*_, _-_, _≤_, _<_}
 use native.Mathlib.Omega.{arith}
 use native.Mathlib.Numerals.{add-one, sub-one}
 use mathlib.Core.Path.{_≡_, refl, ap, sym, _∙_}
 use mathlib.Core.Bool.{Bool, true, false, not, _&&_}
-use mathlib.Core.List.{[]}
 use lib.Dec.{ltb, leb, eqb}
-use lib.ListN.{length, take, drop, getD, length-drop, drop-of-length-le}
-use lib.Seq.{getD-drop, drop-drop, take-all, take-nil}
+use lib.ListN.{take, drop, getD}
 use borrow.Author.Tests.{lt-ltb, le-ltb, le-leb, lt-leb, eq-eqb, ne-eqb}
 use Rattle.rules.specs.Bytes.{Bytes, same}
 use Rattle.rules.specs.Model.{Members}
-use Rattle.rules.specs.Layout.{FlatRow}
-use Rattle.rules.specs.Decode.{numberAt, sortOf, readRow}
+use Rattle.rules.specs.Layout.{definitionSize, attributeSize, FlatRow}
+use Rattle.rules.specs.Decode.{numberAt, sortOf, readDefinition, readAttribute, readRow}
 use Rattle.rules.specs.Conforming.{mustBePresent, allows}
 use Rattle.codec.proofs.Numbers.{number-two}
+use Rattle.layout.specs.Bodies.{recordAt}
 use Rattle.model.specs.Steps.{steps, finishes}
 use Rattle.model.specs.Members.{membersOf}
 use Rattle.rowpass.specs.declared.Level.{Level}
 use Rattle.rowpass.specs.Indices.{IndexForm}
 use Rattle.rowpass.specs.Judge.{every, spare, childMay, childrenEnd, attributeMay, freed, rowMay, may, ends, after, entered}
-use Rattle.rowpass.specs.Reading.{recordAt, definitionIn, attributeIn, particlesBefore, modelPart}
-
--- ---- parts of a byte string, as far as it goes
-module _ (s : Bytes) (at n : ℕ) where
-  pub cut-past : length s < at → [] ≡ take n (drop at s)
-  cut-past h = rw (drop-of-length-le s {i = at} (omega arith), take-nil)
-
-  pub cut-short : length s - at < n → take (length s - at) (drop at s) ≡ take n (drop at s)
-  cut-short h =
-      take-all (length s - at) (drop at s) (omega (arith, length-drop at s)) ∙ sym (take-all n (drop at s) (omega (arith, length-drop at s)))
-
-  pub cut-whole : take (at + n - at) (drop at s) ≡ take n (drop at s)
-  cut-whole = let e : at + n - at ≡ n = omega arith in rw e
+use Rattle.rowpass.specs.Reading.{definitionIn, attributeIn, particlesBefore, modelPart}
 
 -- a number of two bytes
 pub number-small : (s : Bytes) (at : ℕ) → ((i : ℕ) → getD s i 0 < 256) → numberAt at 2 s < 65536
 number-small s at h = let a = h at in let b = h (at + 1) in omega (arith, number-two s at)
 
 -- ---- definitions
-module _ (record′ defs : Bytes) (i : ℕ) (e : record′ ≡ recordAt 20 i defs) where
-  pub kind-read : (k : ℕ) → k ≡ getD record′ 17 0 → k ≡ definitionIn defs i .kind
-  kind-read k h = h ∙ rw e (sym (getD-drop 17 (recordAt 20 i defs) 0 0))
+module _ (record′ defs : Bytes) (i : ℕ) (e : record′ ≡ recordAt definitionSize i defs) where
+  pub kind-read : (k : ℕ) → k ≡ readDefinition record′ .kind → k ≡ definitionIn defs i .kind
+  kind-read k h = h ∙ ap (λ (s : Bytes). readDefinition s .kind) e
 
-  pub particles-read : (k : ℕ) → k ≡ numberAt 18 2 record′ → k ≡ definitionIn defs i .particles
-  particles-read k h = h ∙ rw (e, drop-drop 1 17 (recordAt 20 i defs))
+  pub particles-read : (k : ℕ) → k ≡ readDefinition record′ .particles → k ≡ definitionIn defs i .particles
+  particles-read k h = h ∙ ap (λ (s : Bytes). readDefinition s .particles) e
 
 pub before-more : (defs : Bytes) (j sum k : ℕ) → sum ≡ particlesBefore defs j → k ≡ definitionIn defs j .particles → sum + k ≡ particlesBefore defs (j + 1)
 unfolding particlesBefore
@@ -71,25 +57,26 @@ allows-fixed zero fill v h = absurd (omega arith)
 allows-fixed (suc zero) fill v h = absurd (omega arith)
 allows-fixed (suc (suc s)) fill v h = refl
 
-module _ (record′ attrs : Bytes) (j : ℕ) (e : record′ ≡ recordAt 52 j attrs) where
-  sort-read : (s : ℕ) → s ≡ getD record′ 18 0 → s ≡ attributeIn attrs j .sort
-  sort-read s h = h ∙ rw e (sym (getD-drop 18 (recordAt 52 j attrs) 0 0))
+-- record′ is attribute j
+module _ (w : ℕ) (record′ attrs : Bytes) (j : ℕ) (e : record′ ≡ recordAt (attributeSize w) j attrs) where
+  sort-read : (s : ℕ) → s ≡ readAttribute record′ .sort → s ≡ attributeIn w attrs j .sort
+  sort-read s h = h ∙ ap (λ (b : Bytes). readAttribute b .sort) e
 
-  pub owner-read : (o : ℕ) → o ≡ getD record′ 0 0 → o ≡ attributeIn attrs j .owner
-  owner-read o h = h ∙ rw e
+  pub owner-read : (o : ℕ) → o ≡ readAttribute record′ .owner → o ≡ attributeIn w attrs j .owner
+  owner-read o h = h ∙ ap (λ (b : Bytes). readAttribute b .owner) e
 
-  pub needs-read : (i o s : ℕ) → o ≡ getD record′ 0 0 → s ≡ getD record′ 18 0
-      → (eqb o i && eqb s 1) ≡ (eqb (attributeIn attrs j .owner) i && mustBePresent (sortOf (attributeIn attrs j .sort)))
+  pub needs-read : (i o s : ℕ) → o ≡ readAttribute record′ .owner → s ≡ readAttribute record′ .sort
+      → (eqb o i && eqb s 1) ≡ (eqb (attributeIn w attrs j .owner) i && mustBePresent (sortOf (attributeIn w attrs j .sort)))
   needs-read i o s p q = rw (owner-read o p, ← sort-read s q, is-required s)
 
-  pub value-any : (s : ℕ) (v : Bytes) → s ≡ getD record′ 18 0 → s < 2 → true ≡ allows (sortOf (attributeIn attrs j .sort)) (attributeIn attrs j .value) v
-  value-any s v q h = rw (← sort-read s q) (allows-any s (attributeIn attrs j .value) v h)
+  pub value-any : (s : ℕ) (v : Bytes) → s ≡ readAttribute record′ .sort → s < 2 → true ≡ allows (sortOf (attributeIn w attrs j .sort)) (attributeIn w attrs j .value) v
+  value-any s v q h = rw (← sort-read s q) (allows-any s (attributeIn w attrs j .value) v h)
 
-  pub value-fixed : (s l : ℕ) (fill v : Bytes) (b : Bool) → s ≡ getD record′ 18 0 → 2 ≤ s → l ≡ getD record′ 19 0 → fill ≡ take l (drop 20 record′) → b ≡ same fill v
-      → b ≡ allows (sortOf (attributeIn attrs j .sort)) (attributeIn attrs j .value) v
-  value-fixed s l fill v b q h m t r =
-      let w : fill ≡ attributeIn attrs j .value = t ∙ rw (m, e, getD-drop 18 (recordAt 52 j attrs) 1 0, drop-drop 2 18 (recordAt 52 j attrs)) in
-      r ∙ rw (← sort-read s q, w) (allows-fixed s (attributeIn attrs j .value) v h)
+  pub value-fixed : (s : ℕ) (fill v : Bytes) (b : Bool) → s ≡ readAttribute record′ .sort → 2 ≤ s → fill ≡ readAttribute record′ .value → b ≡ same fill v
+      → b ≡ allows (sortOf (attributeIn w attrs j .sort)) (attributeIn w attrs j .value) v
+  value-fixed s fill v b q h t r =
+      let x : fill ≡ attributeIn w attrs j .value = t ∙ ap (λ (u : Bytes). readAttribute u .value) e in
+      r ∙ rw (← sort-read s q, x) (allows-fixed s (attributeIn w attrs j .value) v h)
 
 -- ---- levels
 module _ (l : Level) (sort index s j : ℕ) (es : s ≡ sort) (ej : j ≡ index) where
@@ -177,8 +164,8 @@ module _ (f : IndexForm) (i seen : ℕ) (r : FlatRow) (j : ℕ) (e : j ≡ r .in
       let l : r .index < f .attributes = omega arith in
       rw (attribute-opened f i seen r z, le-leb (seen - 1) (r .index) g, lt-ltb (r .index) (f .attributes) l, eo, ea, eb, e)
 
-pub value-read : (f : IndexForm) (j : ℕ) (row v : Bytes) (l : ℕ) (b : Bool) → l ≡ getD row 8 0 → v ≡ take l (drop 10 row) → b ≡ f .allows j v → b ≡ f .allows j (readRow row .row .value)
-value-read f j row v l b e q h = h ∙ ap (f .allows j) (q ∙ ap (λ (k : ℕ). take k (drop 10 row)) e)
+pub value-read : (f : IndexForm) (j : ℕ) (row v : Bytes) (b : Bool) → v ≡ readRow row .row .value → b ≡ f .allows j v → b ≡ f .allows j (readRow row .row .value)
+value-read f j row v b q h = h ∙ ap (f .allows j) q
 
 -- ---- rows
 module _ (f : IndexForm) (l : Level) (r : FlatRow) (s : ℕ) (e : s ≡ r .sort) where

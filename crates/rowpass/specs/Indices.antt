@@ -1,5 +1,4 @@
 -- Conforming said by indices: what the bytes of a form say, and when the rows of documents conform to it.
--- Assumes nothing.
 use Prim.Native.Nat.{ℕ, zero, suc, _<_, _≤_}
 use mathlib.Core.Path.{_≡_}
 use mathlib.Core.Bool.{Bool, true, false}

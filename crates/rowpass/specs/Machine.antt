@@ -1,5 +1,4 @@
 -- The rows of trees, judged in one pass: an automaton for what stands below a row, and a level for each row that is open.
--- Assumes nothing.
 use Prim.Native.Nat.{ℕ, zero, suc}
 use mathlib.Core.Path.{_≡_}
 use mathlib.Core.Bool.{Bool, true, false, _&&_}

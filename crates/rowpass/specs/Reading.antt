@@ -1,5 +1,4 @@
--- The bytes of a form and of rows, read: the form by indices, and the verdict of the one pass.
--- Assumes nothing.
+-- The bytes of a form and of rows, read at the width `w` of a value: the form by indices, and the verdict of the one pass.
 use Prim.Native.Nat.{ℕ, zero, suc, _+_, _*_}
 use mathlib.Core.Bool.{Bool, _&&_}
 use mathlib.Core.List.{List, []}
@@ -9,7 +8,8 @@ use Rattle.rules.specs.Preorder.{Deep}
 use Rattle.rules.specs.Layout.{definitionSize, particleSize, attributeSize, rowSize, FlatDefinition, FlatAttribute, FlatRow}
 use Rattle.rules.specs.Decode.{readDefinition, readAttribute, readRow, readMany, sortOf}
 use Rattle.rules.specs.Conforming.{mustBePresent, allows}
-use Rattle.records.specs.Records.{baseWidth, rowFits, eachFits}
+use Rattle.layout.specs.Bodies.{recordAt}
+use Rattle.records.specs.Records.{rowFits, eachFits}
 use Rattle.rowpass.specs.declared.Level.{Level}
 use Rattle.model.specs.Members.{membersOf}
 use Rattle.rowpass.specs.Indices.{IndexForm}
@@ -17,15 +17,11 @@ use Rattle.rowpass.specs.Machine.{machine}
 use Rattle.rowpass.specs.Judge.{judge, ground}
 
 -- ---- the form
--- record i of a body of records of one size
-abbrev pub recordAt : ℕ → ℕ → Bytes → Bytes
-recordAt size i bs = take size (drop (size * i) bs)
-
 abbrev pub definitionIn : Bytes → ℕ → FlatDefinition
 definitionIn defs i = readDefinition (recordAt definitionSize i defs)
 
-abbrev pub attributeIn : Bytes → ℕ → FlatAttribute
-attributeIn attrs j = readAttribute (recordAt (attributeSize baseWidth) j attrs)
+abbrev pub attributeIn : ℕ → Bytes → ℕ → FlatAttribute
+attributeIn w attrs j = readAttribute (recordAt (attributeSize w) j attrs)
 
 -- how many particles stand before definition i's
 unfoldable pub particlesBefore : Bytes → ℕ → ℕ
@@ -37,36 +33,41 @@ unfoldable pub modelPart : Bytes → Bytes → ℕ → Bytes
 modelPart defs parts i = take (particleSize * definitionIn defs i .particles) (drop (particleSize * particlesBefore defs i) parts)
 
 -- n definitions, a attributes
-abbrev pub indexForm : ℕ → Bytes → Bytes → Bytes → ℕ → IndexForm
-indexForm n defs parts attrs a =
+abbrev pub indexForm : ℕ → ℕ → Bytes → Bytes → Bytes → ℕ → IndexForm
+indexForm w n defs parts attrs a =
     record {
       size = n;
       kind = λ i. definitionIn defs i .kind;
       model = λ i. membersOf (modelPart defs parts i);
       attributes = a;
-      owner = λ j. attributeIn attrs j .owner;
-      needed = λ j. mustBePresent (sortOf (attributeIn attrs j .sort));
-      allows = λ j v. allows (sortOf (attributeIn attrs j .sort)) (attributeIn attrs j .value) v;
+      owner = λ j. attributeIn w attrs j .owner;
+      needed = λ j. mustBePresent (sortOf (attributeIn w attrs j .sort));
+      allows = λ j v. allows (sortOf (attributeIn w attrs j .sort)) (attributeIn w attrs j .value) v;
     }
 
 -- the attributes alone
-abbrev pub attributesOf : Bytes → ℕ → IndexForm
-attributesOf attrs a = indexForm 0 [] [] attrs a
+abbrev pub attributesOf : ℕ → Bytes → ℕ → IndexForm
+attributesOf w attrs a = indexForm w 0 [] [] attrs a
 
 -- ---- the rows
-abbrev pub rowsIn : ℕ → Bytes → List (Deep FlatRow)
-rowsIn count bs = readMany readRow (rowSize baseWidth) count bs
+abbrev pub rowsIn : ℕ → ℕ → Bytes → List (Deep FlatRow)
+rowsIn w count bs = readMany readRow (rowSize w) count bs
 
-abbrev pub fieldsFit : ℕ → Bytes → Bool
-fieldsFit count bs = eachFits (rowFits baseWidth) (rowSize baseWidth) count bs
+abbrev pub fieldsFit : ℕ → ℕ → Bytes → Bool
+fieldsFit w count bs = eachFits (rowFits w) (rowSize w) count bs
+
+-- how many levels the first of `count` rows leaves open
+abbrev pub keepsOf : ℕ → Bytes → ℕ
+keepsOf zero bs = 0
+keepsOf (suc count) bs = suc (readRow bs .depth)
 
 -- of rows from here on, with `live` levels open
-abbrev pub judged : IndexForm → List Level → ℕ → ℕ → Bytes → Bool
-judged f l live count bs = fieldsFit count bs && machine (judge f) ground l live (rowsIn count bs)
+abbrev pub judged : ℕ → IndexForm → List Level → ℕ → ℕ → Bytes → Bool
+judged w f l live count bs = fieldsFit w count bs && machine (judge f) ground l live (rowsIn w count bs)
 
 -- A depth is a byte, so 257 levels are enough.
 unfoldable pub noLevels : List Level
 noLevels = replicate 257 ground
 
-unfoldable pub verdict : IndexForm → ℕ → Bytes → Bool
-verdict f count bs = judged f noLevels 1 count bs
+unfoldable pub verdict : ℕ → IndexForm → ℕ → Bytes → Bool
+verdict w f count bs = judged w f noLevels 1 count bs

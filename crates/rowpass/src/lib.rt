@@ -4,17 +4,17 @@ ghost use mathlib.Core.Logic.{_↔_};
 ghost use mathlib.Core.Bool.{true, _&&_};
 ghost use Prim.Native.Nat.{ℕ, _*_, _<_, _≤_};
 ghost use lib.Dec.{eqb};
-ghost use lib.ListN.{length, take, drop};
+ghost use lib.ListN.{length};
 ghost use Rattle.rules.specs.Model.{Distinct, names};
 ghost use Rattle.rules.specs.Layout.{rowSize};
-ghost use Rattle.rules.specs.Decode.{numberAt, readRow, readMany, sortOf};
+ghost use Rattle.rules.specs.Decode.{readRow, readMany, sortOf};
 ghost use Rattle.rules.specs.Conforming.{mustBePresent, allows};
-ghost use Rattle.records.specs.Records.{baseWidth, rowFits, eachFits};
+ghost use Rattle.layout.specs.Bodies.{Width};
+ghost use Rattle.records.specs.Records.{rowFits, eachFits};
 ghost use Rattle.model.specs.Members.{membersOf};
 ghost use Rattle.rowpass.specs.Indices.{Documents};
-ghost use Rattle.rowpass.specs.Machine.{keeps};
 ghost use Rattle.rowpass.specs.Judge.{every, spare, childMay, childrenEnd, attributeMay, freed, rowMay, may, ends, after, entered, judge};
-ghost use Rattle.rowpass.specs.Reading.{definitionIn, attributeIn, particlesBefore, modelPart, attributesOf, indexForm, rowsIn, verdict};
+ghost use Rattle.rowpass.specs.Reading.{definitionIn, attributeIn, particlesBefore, modelPart, attributesOf, indexForm, keepsOf, verdict};
 
 /// A place that is open. `holds`: 0 documents, 1 the rows below an element, 2 nothing. Of an element: its definition, 1 and the
 /// first attribute that may still come (0: none may), and 1 and its last child's index (0: no child yet). 12 bytes.
@@ -32,27 +32,13 @@ const DOCUMENTS: Level = Level {
     last: 0,
 };
 
-// The n bytes from `at` on, as far as s goes.
-pub fn cut(s: &[u8], at: usize, n: usize) -> &[u8]
-    ensures { λ r. ⌜ now r ≡ take n (drop at (now (s .entry))) ⌝ }
-{
-    if s.len() < at {
-        return &s[..0];
-    }
-    if s.len() - at < n {
-        return &s[at..];
-    }
-    let end = at + n;
-    &s[at..end]
-}
-
 // ---- definitions
 // The code of definition i's kind.
 pub fn kind_of(defs: &[u8], i: usize) -> u8
     requires { ⌜ i ≤ 256 ⌝ }
     ensures { λ r. ⌜ r ≡ definitionIn (now (defs .entry)) i .kind ⌝ }
 {
-    codec::byte(cut(defs, 20 * i, 20), 17)
+    layout::definition_kind(layout::definition_at(defs, i))
 }
 
 // How many particles definition i has.
@@ -60,7 +46,7 @@ pub fn particles_of(defs: &[u8], i: usize) -> usize
     requires { ⌜ i ≤ 256 ⌝ }
     ensures { λ r. ⌜ (r ≡ definitionIn (now (defs .entry)) i .particles) × (r < 4294967296) ⌝ }
 {
-    codec::get_u16(cut(defs, 20 * i, 20), 18) as usize
+    layout::definition_particles(layout::definition_at(defs, i)) as usize
 }
 
 // How many particles stand before definition i's.
@@ -82,7 +68,7 @@ pub fn model_part<'a>(defs: &[u8], parts: &'a [u8], i: usize) -> &'a [u8]
     requires { ⌜ i ≤ 256 ⌝ }
     ensures { λ r. ⌜ now r ≡ modelPart (now (defs .entry)) (now (parts .entry)) i ⌝ }
 {
-    cut(
+    layout::window(
         parts,
         4 * particles_before(defs, i),
         4 * particles_of(defs, i),
@@ -118,35 +104,35 @@ fn children_end(defs: &[u8], parts: &[u8], i: usize, last: usize) -> bool
 
 // ---- attributes
 // Whether attribute j may have the value v.
-pub fn value_may(attrs: &[u8], j: usize, v: &[u8]) -> bool
-    requires { ⌜ j ≤ 64 ⌝ }
-    ensures { λ r. ⌜ r ≡ allows (sortOf (attributeIn (now (attrs .entry)) j .sort)) (attributeIn (now (attrs .entry)) j .value) (now (v .entry)) ⌝ }
+pub fn value_may(w: usize, attrs: &[u8], j: usize, v: &[u8]) -> bool
+    requires { ⌜ Width w × (j ≤ 64) ⌝ }
+    ensures { λ r. ⌜ r ≡ allows (sortOf (attributeIn w (now (attrs .entry)) j .sort)) (attributeIn w (now (attrs .entry)) j .value) (now (v .entry)) ⌝ }
 {
-    let record = cut(attrs, 52 * j, 52);
-    if codec::byte(record, 18) < 2 {
+    let record = layout::attribute_at(w, attrs, j);
+    if layout::attribute_sort(record) < 2 {
         return true;
     }
-    codec::equal(cut(record, 20, codec::byte(record, 19) as usize), v)
+    codec::equal(layout::attribute_value(record), v)
 }
 
 // Whether attribute j is one that definition i needs.
-pub fn needs(attrs: &[u8], i: usize, j: usize) -> bool
-    requires { ⌜ j ≤ 64 ⌝ }
-    ensures { λ r. ⌜ r ≡ (eqb (attributeIn (now (attrs .entry)) j .owner) i && mustBePresent (sortOf (attributeIn (now (attrs .entry)) j .sort))) ⌝ }
+pub fn needs(w: usize, attrs: &[u8], i: usize, j: usize) -> bool
+    requires { ⌜ Width w × (j ≤ 64) ⌝ }
+    ensures { λ r. ⌜ r ≡ (eqb (attributeIn w (now (attrs .entry)) j .owner) i && mustBePresent (sortOf (attributeIn w (now (attrs .entry)) j .sort))) ⌝ }
 {
-    let record = cut(attrs, 52 * j, 52);
-    (codec::byte(record, 0) as usize == i) & (codec::byte(record, 18) == 1)
+    let record = layout::attribute_at(w, attrs, j);
+    (layout::attribute_owner(record) == i) & (layout::attribute_sort(record) == 1)
 }
 
 // Whether definition i needs none of the attributes from `from` up to `to`.
-fn spares(attrs: &[u8], i: usize, from: usize, to: usize) -> bool
-    requires { ⌜ to ≤ 64 ⌝ }
-    ensures { λ r. ⌜ r ≡ every (spare (attributesOf (now (attrs .entry)) 0) i) to from ⌝ }
+fn spares(w: usize, attrs: &[u8], i: usize, from: usize, to: usize) -> bool
+    requires { ⌜ Width w × (to ≤ 64) ⌝ }
+    ensures { λ r. ⌜ r ≡ every (spare (attributesOf w (now (attrs .entry)) 0) i) to from ⌝ }
 {
     let mut k = to;
     while k > from {
         k -= 1;
-        if needs(attrs, i, k) {
+        if needs(w, attrs, i, k) {
             return false;
         }
     }
@@ -154,22 +140,22 @@ fn spares(attrs: &[u8], i: usize, from: usize, to: usize) -> bool
 }
 
 // Whether no attribute that definition i needs is owed any more.
-fn is_freed(attrs: &[u8], a: usize, i: usize, seen: usize) -> bool
-    requires { ⌜ a ≤ 64 ⌝ }
-    ensures { λ r. ⌜ r ≡ freed (attributesOf (now (attrs .entry)) a) i seen ⌝ }
+fn is_freed(w: usize, attrs: &[u8], a: usize, i: usize, seen: usize) -> bool
+    requires { ⌜ Width w × (a ≤ 64) ⌝ }
+    ensures { λ r. ⌜ r ≡ freed (attributesOf w (now (attrs .entry)) a) i seen ⌝ }
 {
     if seen == 0 {
         return true;
     }
-    spares(attrs, i, seen - 1, a)
+    spares(w, attrs, i, seen - 1, a)
 }
 
 // Whether an attribute's row may come next.
-fn attribute_may(attrs: &[u8], a: usize, i: usize, seen: usize, row: &[u8]) -> bool
-    requires { ⌜ a ≤ 64 ⌝ }
-    ensures { λ r. ⌜ r ≡ attributeMay (attributesOf (now (attrs .entry)) a) i seen (readRow (now (row .entry)) .row) ⌝ }
+fn attribute_may(w: usize, attrs: &[u8], a: usize, i: usize, seen: usize, row: &[u8]) -> bool
+    requires { ⌜ Width w × (a ≤ 64) ⌝ }
+    ensures { λ r. ⌜ r ≡ attributeMay (attributesOf w (now (attrs .entry)) a) i seen (readRow (now (row .entry)) .row) ⌝ }
 {
-    let j = codec::get_u16(row, 2) as usize;
+    let j = layout::row_index(row) as usize;
     if seen == 0 {
         return false;
     }
@@ -179,30 +165,39 @@ fn attribute_may(attrs: &[u8], a: usize, i: usize, seen: usize, row: &[u8]) -> b
     if j >= a {
         return false;
     }
-    let owner = codec::byte(cut(attrs, 52 * j, 52), 0) as usize;
-    let v = cut(row, 10, codec::byte(row, 8) as usize);
-    (owner == i) & (value_may(attrs, j, v) & spares(attrs, i, seen - 1, j))
+    let owner = layout::attribute_owner(layout::attribute_at(w, attrs, j));
+    let v = layout::row_value(row);
+    (owner == i) & (value_may(w, attrs, j, v) & spares(w, attrs, i, seen - 1, j))
 }
 
 // ---- rows
 // Whether a row may come next below an element of definition l.index.
-fn row_may(defs: &[u8], parts: &[u8], a: usize, attrs: &[u8], l: Level, row: &[u8]) -> bool
-    requires { ⌜ (l .index ≤ 64) × (a ≤ 64) ⌝ }
-    ensures { λ r. ⌜ r ≡ rowMay (indexForm 0 (now (defs .entry)) (now (parts .entry)) (now (attrs .entry)) a) (eqb (readRow (now (row .entry)) .row .sort) 2) l (readRow (now (row .entry)) .row) ⌝ }
+fn row_may(
+    w: usize,
+    defs: &[u8],
+    parts: &[u8],
+    a: usize,
+    attrs: &[u8],
+    l: Level,
+    row: &[u8],
+) -> bool
+    requires { ⌜ Width w × (l .index ≤ 64) × (a ≤ 64) ⌝ }
+    ensures { λ r. ⌜ r ≡ rowMay (indexForm w 0 (now (defs .entry)) (now (parts .entry)) (now (attrs .entry)) a) (eqb (readRow (now (row .entry)) .row .sort) 2) l (readRow (now (row .entry)) .row) ⌝ }
 {
     let i = l.index as usize;
     let seen = l.seen as usize;
     let last = l.last as usize;
-    let sort = codec::byte(row, 0);
+    let sort = layout::row_sort(row);
     if sort == 2 {
-        return attribute_may(attrs, a, i, seen, row);
+        return attribute_may(w, attrs, a, i, seen, row);
     }
-    let index = codec::get_u16(row, 2) as usize;
-    is_freed(attrs, a, i, seen) & child_may(defs, parts, i, last, sort, index)
+    let index = layout::row_index(row) as usize;
+    is_freed(w, attrs, a, i, seen) & child_may(defs, parts, i, last, sort, index)
 }
 
 // Whether a row may come next at a level.
 fn may_come(
+    w: usize,
     n: usize,
     defs: &[u8],
     parts: &[u8],
@@ -211,12 +206,12 @@ fn may_come(
     l: Level,
     row: &[u8],
 ) -> bool
-    requires { ⌜ (n ≤ 64) × (a ≤ 64) ⌝ }
-    ensures { λ r. ⌜ r ≡ may (indexForm n (now (defs .entry)) (now (parts .entry)) (now (attrs .entry)) a) (l .holds) l (readRow (now (row .entry)) .row) ⌝ }
+    requires { ⌜ Width w × (n ≤ 64) × (a ≤ 64) ⌝ }
+    ensures { λ r. ⌜ r ≡ may (indexForm w n (now (defs .entry)) (now (parts .entry)) (now (attrs .entry)) a) (l .holds) l (readRow (now (row .entry)) .row) ⌝ }
 {
     let h = l.holds;
     if h == 0 {
-        return codec::byte(row, 0) == 1;
+        return layout::row_sort(row) == 1;
     }
     if h != 1 {
         return false;
@@ -224,13 +219,13 @@ fn may_come(
     if l.index as usize >= n {
         return false;
     }
-    row_may(defs, parts, a, attrs, l, row)
+    row_may(w, defs, parts, a, attrs, l, row)
 }
 
 // Whether nothing more is owed at a level.
-fn may_end(n: usize, defs: &[u8], parts: &[u8], a: usize, attrs: &[u8], l: Level) -> bool
-    requires { ⌜ (n ≤ 64) × (a ≤ 64) ⌝ }
-    ensures { λ r. ⌜ r ≡ ends (indexForm n (now (defs .entry)) (now (parts .entry)) (now (attrs .entry)) a) (l .holds) l ⌝ }
+fn may_end(w: usize, n: usize, defs: &[u8], parts: &[u8], a: usize, attrs: &[u8], l: Level) -> bool
+    requires { ⌜ Width w × (n ≤ 64) × (a ≤ 64) ⌝ }
+    ensures { λ r. ⌜ r ≡ ends (indexForm w n (now (defs .entry)) (now (parts .entry)) (now (attrs .entry)) a) (l .holds) l ⌝ }
 {
     let i = l.index as usize;
     if l.holds != 1 {
@@ -239,7 +234,7 @@ fn may_end(n: usize, defs: &[u8], parts: &[u8], a: usize, attrs: &[u8], l: Level
     if i >= n {
         return false;
     }
-    is_freed(attrs, a, i, l.seen as usize) & children_end(defs, parts, i, l.last as usize)
+    is_freed(w, attrs, a, i, l.seen as usize) & children_end(defs, parts, i, l.last as usize)
 }
 
 // The level after a row.
@@ -247,7 +242,7 @@ fn after_row(l: Level, row: &[u8]) -> Level
     ensures { λ r. ⌜ r ≡ after (eqb (readRow (now (row .entry)) .row .sort) 2) l (readRow (now (row .entry)) .row .index) ⌝ }
 {
     let index = row_index(row) as u32;
-    if codec::byte(row, 0) == 2 {
+    if layout::row_sort(row) == 2 {
         return Level {
             holds: l.holds,
             index: l.index,
@@ -267,7 +262,7 @@ fn after_row(l: Level, row: &[u8]) -> Level
 fn below_row(row: &[u8]) -> Level
     ensures { λ r. ⌜ r ≡ entered (eqb (readRow (now (row .entry)) .row .sort) 1) (readRow (now (row .entry)) .row .index) ⌝ }
 {
-    if codec::byte(row, 0) == 1 {
+    if layout::row_sort(row) == 1 {
         return Level {
             holds: 1,
             index: row_index(row),
@@ -285,13 +280,14 @@ fn below_row(row: &[u8]) -> Level
 
 // A row's index, in the size of a level's field.
 fn row_index(row: &[u8]) -> u16
-    ensures { λ r. ⌜ r ≡ numberAt 2 2 (now (row .entry)) ⌝ }
+    ensures { λ r. ⌜ r ≡ readRow (now (row .entry)) .row .index ⌝ }
 {
-    codec::get_u16(row, 2) as u16
+    layout::row_index(row) as u16
 }
 
 // Whether a row's fields fit and it may come next at a level.
 fn row_passes(
+    w: usize,
     n: usize,
     defs: &[u8],
     parts: &[u8],
@@ -300,24 +296,25 @@ fn row_passes(
     l: Level,
     row: &[u8],
 ) -> bool
-    requires { ⌜ (n ≤ 64) × (a ≤ 64) ⌝ }
-    ensures { λ r. ⌜ r ≡ (rowFits baseWidth (now (row .entry)) && judge (indexForm n (now (defs .entry)) (now (parts .entry)) (now (attrs .entry)) a) .may l (readRow (now (row .entry)) .row)) ⌝ }
+    requires { ⌜ Width w × (n ≤ 64) × (a ≤ 64) ⌝ }
+    ensures { λ r. ⌜ r ≡ (rowFits w (now (row .entry)) && judge (indexForm w n (now (defs .entry)) (now (parts .entry)) (now (attrs .entry)) a) .may l (readRow (now (row .entry)) .row)) ⌝ }
 {
-    records::row_fits(row) & may_come(n, defs, parts, a, attrs, l, row)
+    records::row_fits(w, row) & may_come(w, n, defs, parts, a, attrs, l, row)
 }
 
 // How many levels stay open: none where no row is left, and those up to the next row's own.
 fn kept(t: &[u8], m: usize) -> usize
-    ensures { λ r. ⌜ (r ≡ keeps (rowsIn m (now (t .entry)))) × (r ≤ 256) ⌝ }
+    ensures { λ r. ⌜ (r ≡ keepsOf m (now (t .entry))) × (r ≤ 256) ⌝ }
 {
     if m == 0 {
         return 0;
     }
-    codec::byte(t, 1) as usize + 1
+    layout::row_depth(t) + 1
 }
 
 // The one pass: a row closes the levels deeper than its own, comes next at its own, and opens one more.
 fn pass(
+    w: usize,
     n: usize,
     defs: &[u8],
     parts: &[u8],
@@ -326,10 +323,11 @@ fn pass(
     rows: &[u8],
     count: usize,
 ) -> bool
-    requires { ⌜ (n ≤ 64) × (a ≤ 64) × (44 * count ≤ length (now rows)) ⌝ }
-    ensures { λ r. ⌜ r ≡ verdict (indexForm n (now (defs .entry)) (now (parts .entry)) (now (attrs .entry)) a) count (now (rows .entry)) ⌝ }
+    requires { ⌜ Width w × (n ≤ 64) × (a ≤ 64) × (rowSize w * count ≤ length (now rows)) ⌝ }
+    ensures { λ r. ⌜ r ≡ verdict w (indexForm w n (now (defs .entry)) (now (parts .entry)) (now (attrs .entry)) a) count (now (rows .entry)) ⌝ }
 {
     // a depth is a byte: 257 levels of 12 bytes, 3,084 in all
+    let size = layout::row_size(w);
     let mut levels = [DOCUMENTS; 257];
     let mut live = 1;
     let mut t = rows;
@@ -339,7 +337,7 @@ fn pass(
         if keep < live {
             live -= 1;
             let l = levels[live];
-            if !may_end(n, defs, parts, a, attrs, l) {
+            if !may_end(w, n, defs, parts, a, attrs, l) {
                 return false;
             }
         } else {
@@ -351,14 +349,14 @@ fn pass(
             }
             let d = keep - 1;
             let l = levels[d];
-            let row = &t[..44];
-            if !row_passes(n, defs, parts, a, attrs, l, row) {
+            let row = &t[..size];
+            if !row_passes(w, n, defs, parts, a, attrs, l, row) {
                 return false;
             }
             levels[d] = after_row(l, row);
             levels[keep] = below_row(row);
             live = keep + 1;
-            t = &t[44..];
+            t = &t[size..];
             m -= 1;
         }
     }
@@ -367,6 +365,7 @@ fn pass(
 /// Whether the rows' fields fit and they are those of documents that conform to a form of n definitions and a attributes in which
 /// no model names an element twice.
 pub fn rows_pass(
+    w: usize,
     n: usize,
     defs: &[u8],
     parts: &[u8],
@@ -375,8 +374,8 @@ pub fn rows_pass(
     rows: &[u8],
     count: usize,
 ) -> bool
-    requires { ⌜ (n ≤ 64) × (a ≤ 64) × (44 * count ≤ length (now rows)) × ((i : ℕ) → i < n → Distinct (names (indexForm n (now defs) (now parts) (now attrs) a .model i))) ⌝ }
-    ensures { λ r. ⌜ (r ≡ true) ↔ ((eachFits (rowFits baseWidth) (rowSize baseWidth) count (now (rows .entry)) ≡ true) × Documents (indexForm n (now (defs .entry)) (now (parts .entry)) (now (attrs .entry)) a) (readMany readRow (rowSize baseWidth) count (now (rows .entry)))) ⌝ }
+    requires { ⌜ Width w × (n ≤ 64) × (a ≤ 64) × (rowSize w * count ≤ length (now rows)) × ((i : ℕ) → i < n → Distinct (names (indexForm w n (now defs) (now parts) (now attrs) a .model i))) ⌝ }
+    ensures { λ r. ⌜ (r ≡ true) ↔ ((eachFits (rowFits w) (rowSize w) count (now (rows .entry)) ≡ true) × Documents (indexForm w n (now (defs .entry)) (now (parts .entry)) (now (attrs .entry)) a) (readMany readRow (rowSize w) count (now (rows .entry)))) ⌝ }
 {
-    pass(n, defs, parts, a, attrs, rows, count)
+    pass(w, n, defs, parts, a, attrs, rows, count)
 }

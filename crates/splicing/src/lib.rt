@@ -41,7 +41,7 @@ fn past(s: &[u8], n: usize) -> &[u8]
     requires { ⌜ n < 4611686018427387904 ⌝ }
     ensures { λ r. ⌜ now r ≡ drop (4 * n) (now (s .entry)) ⌝ }
 {
-    rowpass::cut(s, 4 * n, s.len())
+    layout::window(s, 4 * n, s.len())
 }
 
 fn shifted(depth: u8, deeper: bool) -> u8
@@ -220,13 +220,17 @@ fn put_head(part: &[u8], edit: Edit, first: usize, n: usize, out: &mut [u8], at:
     ensures { λ r. ⌜ Laid (each particleBytes (recounted (countAfter (editOf edit) (drop n (particlesOf (now (part .entry))))) first (take n (particlesOf (now (part .entry)))))) (now (out .entry)) at r (now (out .exit)) ⌝ }
 {
     if first == 0 {
-        return codec::put(rowpass::cut(part, 0, 4 * n), out, at);
+        return codec::put(layout::window(part, 0, 4 * n), out, at);
     }
     let held = 4 * (first - 1);
-    let next = codec::put(rowpass::cut(part, 0, held), out, at);
-    let group = rowpass::cut(part, held, 4);
+    let next = codec::put(layout::window(part, 0, held), out, at);
+    let group = layout::window(part, held, 4);
     let inner = put_recounted(group, past(part, n), edit, out, next);
-    codec::put(rowpass::cut(part, held + 4, 4 * n - 4 * first), out, inner)
+    codec::put(
+        layout::window(part, held + 4, 4 * n - 4 * first),
+        out,
+        inner,
+    )
 }
 
 // ---- the whole part
@@ -261,8 +265,8 @@ pub fn put_particles(
     requires { ⌜ Body (editOf edit) holder n first k (now parts) × (at + 4 * length (now parts) < 2305843009213693952) ⌝ }
     ensures { λ r. ⌜ Laid (each particleBytes (spliced first k (partAfter (editOf edit) holder n (particlesOf (partIn first k (now (parts .entry))))) (particlesOf (now (parts .entry))))) (now (out .entry)) at r (now (out .exit)) ⌝ }
 {
-    let next = codec::put(rowpass::cut(parts, 0, 4 * first), out, at);
-    let own = rowpass::cut(parts, 4 * first, 4 * k);
+    let next = codec::put(layout::window(parts, 0, 4 * first), out, at);
+    let own = layout::window(parts, 4 * first, 4 * k);
     let end = put_part(own, edit, holder, n, out, next);
     codec::put(past(parts, first + k), out, end)
 }
@@ -275,9 +279,9 @@ pub fn put_counted(defs: &[u8], o: usize, n: u32, out: &mut [u8], at: usize) -> 
     ensures { λ r. ⌜ Laid (countedBytes o n (now (defs .entry))) (now (out .entry)) at r (now (out .exit)) ⌝ }
 {
     let place = 20 * o + 18;
-    let next = codec::put(rowpass::cut(defs, 0, place), out, at);
+    let next = codec::put(layout::window(defs, 0, place), out, at);
     let end = codec::put_u16(out, next, n);
-    codec::put(rowpass::cut(defs, place + 2, defs.len()), out, end)
+    codec::put(layout::window(defs, place + 2, defs.len()), out, end)
 }
 
 // ---- the ceiling of depth

@@ -90,18 +90,18 @@ module _ {bs : Bytes} (q : passes bs ≡ true) {n : ℕ} {defs parts : Bytes} {a
       (walk-rows (rowCount bs) (rowsIn bs) (rows-small h) (omega (arith, rows-whole h)) (rows-fit h q) (subst (λ (ys : List (Deep FlatRow)). Every Bounded ys) (sym b) (rows-bounded (storeIn bs) (holds bs q .good)))))
 
   -- the rows that the walk leaves are those after the plan
-  rows-after : (p : Plan) (v : Bytes) → rowsAfter p v (bodiesOf bs) ≡ walked p v (fillOf n defs parts a attrs p v) (atFirst p) (bytes.rowsIn count rows)
+  rows-after : (p : Plan) (v : Bytes) → rowsAfter p v (bodiesOf bs) ≡ walked p v (fillOf n defs parts a attrs p v) (atFirst p) (bytes.rowsIn baseWidth count rows)
   unfolding rowsAfter bodiesOf
   rows-after p v =
       sym
-      ((λ i. walked p v (fillOf (x .n-is i) (x .defs-is i) (x .parts-is i) (x .a-is i) (x .attrs-is i) p v) (atFirst p) (bytes.rowsIn (x .count-is i) (x .rows-is i)))
+      ((λ i. walked p v (fillOf (x .n-is i) (x .defs-is i) (x .parts-is i) (x .a-is i) (x .attrs-is i) p v) (atFirst p) (bytes.rowsIn baseWidth (x .count-is i) (x .rows-is i)))
       ∙ (λ i. walked p v (λ d. fillingRows (read-form h q i) (λ j. read-value h q j i) (λ k e. members-at h k e i) (p .filling) v d) (atFirst p) (read-rows h i)))
 
   -- .. and written from the serials of the store on
-  pub walk-from : (p : Plan) (v : Bytes) {at next : ℕ} {out : Bytes} {r : Cursor} {out′ : Bytes} → NumberAt 4 bs next → Written baseWidth (walked p v (fillOf n defs parts a attrs p v) (atFirst p) (bytes.rowsIn count rows)) (record { at = at; left = 4097; serial = next }) out r out′
+  pub walk-from : (p : Plan) (v : Bytes) {at next : ℕ} {out : Bytes} {r : Cursor} {out′ : Bytes} → NumberAt 4 bs next → Written baseWidth (walked p v (fillOf n defs parts a attrs p v) (atFirst p) (bytes.rowsIn baseWidth count rows)) (record { at = at; left = 4097; serial = next }) out r out′
       → Written baseWidth (rowsAfter p v (bodiesOf bs)) (walkFrom at bs) out r out′
   walk-from p v {at} {next} {out} {r} {out′} m w =
-      written-as (rows-after p v) (subst (λ (k : ℕ). Written baseWidth (walked p v (fillOf n defs parts a attrs p v) (atFirst p) (bytes.rowsIn count rows)) (record { at = at; left = 4097; serial = k }) out r out′) (m .value) w)
+      written-as (rows-after p v) (subst (λ (k : ℕ). Written baseWidth (walked p v (fillOf n defs parts a attrs p v) (atFirst p) (bytes.rowsIn baseWidth count rows)) (record { at = at; left = 4097; serial = k }) out r out′) (m .value) w)
 
 pub walk-room : {bs : Bytes} {at next : ℕ} → at < 549755813888 → NumberAt 4 bs next → Room baseWidth (record { at = at; left = 4097; serial = next })
 walk-room l m = record { places = omega arith; serials = omega (arith, m .small) }

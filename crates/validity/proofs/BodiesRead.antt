@@ -22,7 +22,8 @@ use Rattle.records.specs.Records.{baseWidth, rowFits, eachFits}
 use Rattle.forms.specs.Bodies.{definitions, particles, attributes, formOf}
 use Rattle.forms.proofs.Reading.{definitions-length, attributes-length}
 use Rattle.rowpass.specs.Indices.{IndexForm}
-use Rattle.rowpass.specs.Reading.{recordAt, definitionIn, attributeIn, modelPart}
+use Rattle.layout.specs.Bodies.{recordAt}
+use Rattle.rowpass.specs.Reading.{definitionIn, attributeIn, modelPart}
 use Rattle.rowpass.specs.Reading as bytes
 use Rattle.validity.specs.Reading.{indexMembers, partAt, noDefinition, noAttribute, entryOf, indexForm}
 use Rattle.validity.specs.Check.{definitionsIn, particlesIn, attributesIn, rowsIn, FormPasses, FormIn, RowsPass, SerialsIn}
@@ -57,7 +58,7 @@ module _ {n : ℕ} {defs : Bytes} {p : ℕ} {parts : Bytes} {a : ℕ} {attrs : B
   definition-any : (i : ℕ) → definitionIn defs i ≡ getD (definitions n defs) i noDefinition
   definition-any = by-range n (definition-in laid x) (λ i l. definition-past i l ∙ sym (List·getD-eq-default (definitions n defs) noDefinition {n = i} (omega (arith, definitions-length n defs))))
 
-  attribute-any : (j : ℕ) → attributeIn attrs j ≡ entryOf j (attributes a attrs)
+  attribute-any : (j : ℕ) → attributeIn baseWidth attrs j ≡ entryOf j (attributes a attrs)
   attribute-any =
       by-range a (attribute-in laid x)
       (λ j l. ap readAttribute (record-past (attributeSize baseWidth) j a attrs (laid .bodies .attributeBody .whole) l) ∙ sym (List·getD-eq-default (attributes a attrs) noAttribute {n = j} (omega (arith, attributes-length a attrs))))
@@ -71,7 +72,7 @@ module _ {n : ℕ} {defs : Bytes} {p : ℕ} {parts : Bytes} {a : ℕ} {attrs : B
   model-any : (i : ℕ) → membersOf (modelPart defs parts i) ≡ indexMembers (build (partAt i (definitions n defs) (particles p parts)) 0)
   model-any = by-range n (model-in laid x) model-past
 
-  index-is : bytes.indexForm n defs parts attrs a ≡ indexForm (formOf n defs p parts a attrs)
+  index-is : bytes.indexForm baseWidth n defs parts attrs a ≡ indexForm (formOf n defs p parts a attrs)
   index-is = λ i.
       record {
         size = sym (definitions-length n defs) i;
@@ -85,8 +86,8 @@ module _ {n : ℕ} {defs : Bytes} {p : ℕ} {parts : Bytes} {a : ℕ} {attrs : B
 
 -- ---- of a byte string that passes
 module _ {bs : Bytes} (h : Headed bs) where
-  told : passes bs ≡ true → FormIn bs × RowsPass (bytes.indexForm (definitionCount bs) (definitionsIn bs) (particlesIn bs) (attributesIn bs) (attributeCount bs)) (rowCount bs) (rowsIn bs) × SerialsIn bs
-  told = passes-in h (bytes.indexForm (definitionCount bs) (definitionsIn bs) (particlesIn bs) (attributesIn bs) (attributeCount bs)) (λ x. index-agrees (laid-in h) (x .passes)) .0
+  told : passes bs ≡ true → FormIn bs × RowsPass (bytes.indexForm baseWidth (definitionCount bs) (definitionsIn bs) (particlesIn bs) (attributesIn bs) (attributeCount bs)) (rowCount bs) (rowsIn bs) × SerialsIn bs
+  told = passes-in h (bytes.indexForm baseWidth (definitionCount bs) (definitionsIn bs) (particlesIn bs) (attributesIn bs) (attributeCount bs)) (λ x. index-agrees (laid-in h) (x .passes)) .0
 
   pub form-in : passes bs ≡ true → FormIn bs
   form-in q = told q .0
@@ -95,12 +96,12 @@ module _ {bs : Bytes} (h : Headed bs) where
   pub rows-fit : passes bs ≡ true → eachFits (rowFits baseWidth) (rowSize baseWidth) (rowCount bs) (rowsIn bs) ≡ true
   rows-fit q = told q .1 .fields
 
-  pub read-form : passes bs ≡ true → bytes.indexForm (definitionCount bs) (definitionsIn bs) (particlesIn bs) (attributesIn bs) (attributeCount bs) ≡ indexForm (flatOf bs)
+  pub read-form : passes bs ≡ true → bytes.indexForm baseWidth (definitionCount bs) (definitionsIn bs) (particlesIn bs) (attributesIn bs) (attributeCount bs) ≡ indexForm (flatOf bs)
   read-form q =
       index-is (laid-in h) (form-in q .passes)
       ∙ (λ i. indexForm (record { version = 0; next = 0; definitions = sym (same-definitions h) i; particles = sym (same-particles h) i; attributes = sym (same-attributes h) i; rows = [] }))
 
-  pub read-value : passes bs ≡ true → (j : ℕ) → attributeIn (attributesIn bs) j .value ≡ entryOf j (flatOf bs .attributes) .value
+  pub read-value : passes bs ≡ true → (j : ℕ) → attributeIn baseWidth (attributesIn bs) j .value ≡ entryOf j (flatOf bs .attributes) .value
   read-value q j = ap (λ (c : FlatAttribute). c .value) (attribute-any (laid-in h) (form-in q .passes) j ∙ ap (entryOf j) (sym (same-attributes h)))
 
   pub read-rows : readMany readRow (rowSize baseWidth) (rowCount bs) (rowsIn bs) ≡ flatOf bs .rows

@@ -16,6 +16,7 @@ use Rattle.rules.specs.Layout.{definitionSize, attributeSize, rowSize}
 use Rattle.rules.specs.Decode.{numberAt, readRow, readMany, definitionCount, particleCount, attributeCount, rowCount}
 use Rattle.rules.specs.Passing.{passes}
 use Rattle.codec.specs.Part.{partOf}
+use Rattle.layout.specs.Bodies.{Width}
 use Rattle.records.specs.Records.{baseWidth, NumberAt, definitionFits, attributeFits, rowFits, eachFits, headerFits}
 use Rattle.records.proofs.RecordLaws.{small-of}
 use Rattle.forms.specs.FormTests.{bodiesFit}
@@ -77,7 +78,7 @@ cutOf bs = record { n = definitionCount bs; defs = definitionsIn bs; p = particl
 
 -- rows for the form that is cut out
 abbrev RowsAt : Cut → ℕ → Bytes → Type 0
-RowsAt c m s = RowsPass (indexForm (c .n) (c .defs) (c .parts) (c .attrs) (c .a)) m s
+RowsAt c m s = RowsPass (indexForm baseWidth (c .n) (c .defs) (c .parts) (c .attrs) (c .a)) m s
 
 pub record CutOf (bs : Bytes) (n : ℕ) (defs : Bytes) (p : ℕ) (parts : Bytes) (a : ℕ) (attrs : Bytes) : Type 0 where
   pub same : cutOf bs ≡ record { n = n; defs = defs; p = p; parts = parts; a = a; attrs = attrs }
@@ -103,15 +104,15 @@ module _ {bs : Bytes} {n : ℕ} {defs : Bytes} {p : ℕ} {parts : Bytes} {a : �
 
   -- ---- the rows
   module _ {count : ℕ} {rows : Bytes} (u : count ≡ rowCount bs) (v : rows ≡ rowsIn bs) where
-    pub rows-asked : FormIn bs → (n ≤ 64) × (a ≤ 64) × (44 * count ≤ length rows) × ((i : ℕ) → i < n → Distinct (names (indexForm n defs parts attrs a .model i)))
+    pub rows-asked : FormIn bs → Width baseWidth × (n ≤ 64) × (a ≤ 64) × (rowSize baseWidth * count ≤ length rows) × ((i : ℕ) → i < n → Distinct (names (indexForm baseWidth n defs parts attrs a .model i)))
     rows-asked x =
         let form : FormPasses n defs p parts a attrs = subst (λ (c : Cut). FormPasses (c .n) (c .defs) (c .p) (c .parts) (c .a) (c .attrs)) (k .same) (x .passes) in
-        (cut-laid .bodies .definitionBody .few, cut-laid .bodies .attributeBody .few, omega (arith, ap (λ (s : Bytes). length s) v, rows-whole h), index-once cut-laid form)
+        (omega arith, cut-laid .bodies .definitionBody .few, cut-laid .bodies .attributeBody .few, omega (arith, ap (λ (s : Bytes). length s) v, rows-whole h), index-once cut-laid form)
 
-    pub rows-in : {r : Bool} → (r ≡ true) ↔ ((eachFits (rowFits baseWidth) (rowSize baseWidth) count rows ≡ true) × Documents (indexForm n defs parts attrs a) (readMany readRow (rowSize baseWidth) count rows)) → (r ≡ true) ↔ RowsIn bs
+    pub rows-in : {r : Bool} → (r ≡ true) ↔ ((eachFits (rowFits baseWidth) (rowSize baseWidth) count rows ≡ true) × Documents (indexForm baseWidth n defs parts attrs a) (readMany readRow (rowSize baseWidth) count rows)) → (r ≡ true) ↔ RowsIn bs
     rows-in {r} (f, g) = (
       λ e. let (x, y) = f e in record { passes = back (record { fields = x; documents = y }) },
-      λ x. let y : RowsPass (indexForm n defs parts attrs a) count rows = there (x .passes) in g (y .fields, y .documents),
+      λ x. let y : RowsPass (indexForm baseWidth n defs parts attrs a) count rows = there (x .passes) in g (y .fields, y .documents),
     )
       where
         back : RowsAt given count rows → RowsAt (cutOf bs) (rowCount bs) (rowsIn bs)
@@ -139,8 +140,8 @@ headless bs {b} h q = by (passes bs) refl
     by false e = refl
 
 module _ {bs : Bytes} (h : Headed bs) where
-  all-in : (passes bs ≡ true) ↔ (FormIn bs × RowsPass (indexForm (definitionCount bs) (definitionsIn bs) (particlesIn bs) (attributesIn bs) (attributeCount bs)) (rowCount bs) (rowsIn bs) × SerialsIn bs)
-  all-in = passes-in h (indexForm (definitionCount bs) (definitionsIn bs) (particlesIn bs) (attributesIn bs) (attributeCount bs)) (λ x. index-agrees (laid-in h) (x .passes))
+  all-in : (passes bs ≡ true) ↔ (FormIn bs × RowsPass (indexForm baseWidth (definitionCount bs) (definitionsIn bs) (particlesIn bs) (attributesIn bs) (attributeCount bs)) (rowCount bs) (rowsIn bs) × SerialsIn bs)
+  all-in = passes-in h (indexForm baseWidth (definitionCount bs) (definitionsIn bs) (particlesIn bs) (attributesIn bs) (attributeCount bs)) (λ x. index-agrees (laid-in h) (x .passes))
 
   not-passed : (passes bs ≡ true → ⊥) → false ≡ passes bs
   not-passed f = by (passes bs) refl

@@ -66,7 +66,7 @@ module _ {n : ℕ} {defs : Bytes} {p : ℕ} {parts : Bytes} {a : ℕ} {attrs : B
   unfolding definitions
   definition-in i l = sym (many-at readDefinition definitionSize i n defs noDefinition l)
 
-  pub attribute-in : (j : ℕ) → j < a → attributeIn attrs j ≡ entryOf j (attributes a attrs)
+  pub attribute-in : (j : ℕ) → j < a → attributeIn baseWidth attrs j ≡ entryOf j (attributes a attrs)
   unfolding attributes
   attribute-in j l = sym (many-at readAttribute (attributeSize baseWidth) j a attrs noAttribute l)
 
@@ -92,7 +92,7 @@ module _ {n : ℕ} {defs : Bytes} {p : ℕ} {parts : Bytes} {a : ℕ} {attrs : B
   form-count : length (unflat f .form) ≡ n
   form-count = form-size f ∙ definitions-length n defs
 
-  pub index-agrees : Agrees (bytes.indexForm n defs parts attrs a) (unflat f .form)
+  pub index-agrees : Agrees (bytes.indexForm baseWidth n defs parts attrs a) (unflat f .form)
   index-agrees =
       record {
         size = sym form-count;
@@ -115,5 +115,5 @@ module _ {n : ℕ} {defs : Bytes} {p : ℕ} {parts : Bytes} {a : ℕ} {attrs : B
       distinct-unmap (λ j. nameAt j (namesOf (unflat f .form))) (names (indexMembers (build (partAt i (definitions n defs) (particles p parts)) 0)))
       (subst (λ (ns : List Bytes). Distinct ns) (read-names (namesOf (unflat f .form)) (build (partAt i (definitions n defs) (particles p parts)) 0)) (r .once))
 
-  pub index-once : (i : ℕ) → i < n → Distinct (names (bytes.indexForm n defs parts attrs a .model i))
+  pub index-once : (i : ℕ) → i < n → Distinct (names (bytes.indexForm baseWidth n defs parts attrs a .model i))
   index-once i l = subst (λ (m : Members ℕ). Distinct (names m)) (sym (model-in i l)) (once-in i l)

@@ -52,7 +52,7 @@ pub record RowsPass (F : IndexForm) (count : ℕ) (rows : Bytes) : Type 0 where
 
 -- of a byte string
 pub record RowsIn (bs : Bytes) : Type 0 where
-  pub passes : RowsPass (indexForm (definitionCount bs) (definitionsIn bs) (particlesIn bs) (attributesIn bs) (attributeCount bs)) (rowCount bs) (rowsIn bs)
+  pub passes : RowsPass (indexForm baseWidth (definitionCount bs) (definitionsIn bs) (particlesIn bs) (attributesIn bs) (attributeCount bs)) (rowCount bs) (rowsIn bs)
 
 pub record SerialsIn (bs : Bytes) : Type 0 where
   pub fits : fitting (numberAt 4 4 bs) (serialsOf (rowCount bs) (rowsIn bs)) ≡ true

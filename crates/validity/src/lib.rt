@@ -8,6 +8,9 @@ ghost use Rattle.records.specs.Records.{baseWidth, NumberAt, headerFits};
 ghost use Rattle.forms.specs.Bodies.{Bodies};
 ghost use Rattle.validity.specs.Check.{bodyAt, FormPasses, FormIn, RowsIn, SerialsIn};
 
+// The width of a value.
+const VALUE_WIDTH: usize = 32;
+
 const DEFINITION_SIZE: usize = 20;
 
 const PARTICLE_SIZE: usize = 4;
@@ -46,7 +49,7 @@ fn form_fits(n: usize, defs: &[u8], p: usize, parts: &[u8], a: usize, attrs: &[u
     if !records::definitions_fit(defs, n) {
         return false;
     }
-    if !records::attributes_fit(attrs, a, n) {
+    if !records::attributes_fit(VALUE_WIDTH, attrs, a, n) {
         return false;
     }
     if !forms::bodies_fit(n, defs, p, parts, a, attrs) {
@@ -83,7 +86,7 @@ fn documents_pass(store: &[u8]) -> bool
     let parts = body(store, 16, PARTICLE_SIZE);
     let attrs = body(store, 24, ATTRIBUTE_SIZE);
     let rows = body(store, 32, ROW_SIZE);
-    rowpass::rows_pass(n, defs, parts, a, attrs, rows, count)
+    rowpass::rows_pass(VALUE_WIDTH, n, defs, parts, a, attrs, rows, count)
 }
 
 // Whether the serials pass: each from 1, below the next serial, no two alike.

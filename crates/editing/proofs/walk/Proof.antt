@@ -4,6 +4,7 @@ use native.Mathlib.Omega.{arith}
 use mathlib.Core.Path.{sym}
 use lib.Seq.{length-take-le}
 use borrow.Author.Needs.{needs}
+use Rattle.records.specs.Records.{baseWidth}
 use Rattle.rowpass.specs.Reading.{rowsIn}
 use Rattle.editing.specs.Walk.{walked, atFirst}
 use Rattle.editing.specs.Step.{fillOf}
@@ -12,7 +13,7 @@ use Rattle.editing.proofs.walk.Statement.{statement}
 use Rattle.editing.proofs.walk.Tie as tie
 
 abbrev Inv-loop : tie.InvT-loop
-Inv-loop n defs parts a attrs rows count plan text out₀ t₀ m₀ at₀ o₀ out t m at o = Going plan text (fillOf n defs parts a attrs plan text) (walked plan text (fillOf n defs parts a attrs plan text) (atFirst plan) (rowsIn count rows)) at₀ out₀ t m at o out
+Inv-loop n defs parts a attrs rows count plan text out₀ t₀ m₀ at₀ o₀ out t m at o = Going plan text (fillOf n defs parts a attrs plan text) (walked plan text (fillOf n defs parts a attrs plan text) (atFirst plan) (rowsIn baseWidth count rows)) at₀ out₀ t m at o out
 
 abbrev μ-loop : tie.MeasureT-loop
 μ-loop n defs parts a attrs rows count plan text out₀ t₀ m₀ at₀ o₀ out t m at o = m

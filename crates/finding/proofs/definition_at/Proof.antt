@@ -2,7 +2,7 @@ use mathlib.Core.Path.{ap, _∙_}
 use mathlib.Core.List.{List}
 use Prim.Native.Nat.{ℕ}
 use Rattle.rules.specs.Decode.{numberAt}
-use Rattle.rowpass.specs.Reading.{recordAt}
+use Rattle.layout.specs.Bodies.{recordAt}
 use borrow.Author.Needs.{needs}
 use Rattle.finding.proofs.definition_at.Statement.{statement}
 use Rattle.finding.proofs.definition_at.Tie as tie

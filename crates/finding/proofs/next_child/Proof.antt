@@ -6,7 +6,7 @@ use Prim.Native.Nat.{ℕ, _-_}
 use native.Mathlib.Omega.{arith}
 use lib.Dec.{eqb}
 use lib.ListN.{getD}
-use Rattle.rowpass.specs.Reading.{recordAt}
+use Rattle.layout.specs.Bodies.{recordAt}
 use Rattle.finding.proofs.SuffixLaws.{child-of, Stepping, step-start, step-past, step-hit, step-less, step-none}
 use Rattle.finding.proofs.next_child.Statement.{statement}
 use Rattle.finding.proofs.next_child.Tie as tie

@@ -4,6 +4,7 @@ use Prim.Native.Nat.{ℕ}
 use native.Mathlib.Omega.{arith}
 use Rattle.rules.specs.Decode.{sortOf}
 use Rattle.rules.specs.Conforming.{allows}
+use Rattle.records.specs.Records.{baseWidth}
 use Rattle.rowpass.specs.Reading.{attributeIn}
 use Rattle.finding.proofs.StoreFacts.{Whole, whole}
 use Rattle.finding.proofs.AttributeRefusals.{set-3, set-early, set-15, set-0, known-of, inside}
@@ -32,12 +33,12 @@ value-may-requires c κs = let a = c .before .before .before .before .before .be
 returns-3 : tie.Need-returns-3
 returns-3 c = let a = c .before .before .before .before .before .before .before .before .before .args in
     set-15 (a .store .now) (whole _ (c .before .before .before .before .before .before .before .before .before .pre)) (a .attribute) (a .element) (a .value .now) (c .before .before .before .before .before .before .is-value .ensures) (c .before .before .before .before .before .if1 .left) (c .before .before .before .before .attribute-refusal .ensures) (c .before .before .before .if2 .left)
-    (c .before .value-may .ensures ∙ ap (λ (b : List ℕ). allows (sortOf (attributeIn b (a .attribute) .sort)) (attributeIn b (a .attribute) .value) (a .value .now)) (c .before .before .body .ensures)) (c .if3 .taken) .is
+    (c .before .value-may .ensures ∙ ap (λ (b : List ℕ). allows (sortOf (attributeIn baseWidth b (a .attribute) .sort)) (attributeIn baseWidth b (a .attribute) .value) (a .value .now)) (c .before .before .body .ensures)) (c .if3 .taken) .is
 
 returns-4 : tie.Need-returns-4
 returns-4 c = let a = c .before .before .before .before .before .before .before .before .before .args in
     set-0 (a .store .now) (whole _ (c .before .before .before .before .before .before .before .before .before .pre)) (a .attribute) (a .element) (a .value .now) (c .before .before .before .before .before .before .is-value .ensures) (c .before .before .before .before .before .if1 .left) (c .before .before .before .before .attribute-refusal .ensures) (c .before .before .before .if2 .left)
-    (c .before .value-may .ensures ∙ ap (λ (b : List ℕ). allows (sortOf (attributeIn b (a .attribute) .sort)) (attributeIn b (a .attribute) .value) (a .value .now)) (c .before .before .body .ensures)) (c .if3 .left) .is
+    (c .before .value-may .ensures ∙ ap (λ (b : List ℕ). allows (sortOf (attributeIn baseWidth b (a .attribute) .sort)) (attributeIn baseWidth b (a .attribute) .value) (a .value .now)) (c .before .before .body .ensures)) (c .if3 .left) .is
 
 pub set-attribute-refusal-spec : {M : Type 1} → statement M
 set-attribute-refusal-spec =

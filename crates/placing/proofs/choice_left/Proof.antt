@@ -12,17 +12,17 @@ mul-read-particle c = search needs
 read-particle-requires : tie.Need-read-particle-requires
 read-particle-requires c κs = search needs
 
-mul-cut : tie.Need-mul-cut
-mul-cut c = search needs
+mul-window : tie.Need-mul-window
+mul-window c = search needs
 
-sub-cut : tie.Need-sub-cut
-sub-cut c = search needs
+sub-window : tie.Need-sub-window
+sub-window c = search needs
 
-mul-cut-2 : tie.Need-mul-cut-2
-mul-cut-2 c = search needs
+mul-window-2 : tie.Need-mul-window-2
+mul-window-2 c = search needs
 
-cut-requires : tie.Need-cut-requires
-cut-requires c κs = search needs
+window-requires : tie.Need-window-requires
+window-requires c κs = search needs
 
 accepts-nothing-requires : tie.Need-accepts-nothing-requires
 accepts-nothing-requires c κs = search needs
@@ -43,7 +43,7 @@ skips-requires : tie.Need-skips-requires
 skips-requires c κs = search needs
 
 returns : tie.Need-returns
-returns c = let a = c .before .before .before .before .before .before .before .args in left-read (a .part .now) (a .start) (a .p) (a .d) (c .before .before .before .before .before .read-particle .ensures) (c .skips .ensures) (c .before .before .before .before .cut .ensures) (c .before .before .before .accepts-nothing .ensures) (c .before .before .after .ensures) (c .before .accepts-nothing2 .ensures)
+returns c = let a = c .before .before .before .before .before .before .before .args in left-read (a .part .now) (a .start) (a .p) (a .d) (c .before .before .before .before .before .read-particle .ensures) (c .skips .ensures) (c .before .before .before .before .window .ensures) (c .before .before .before .accepts-nothing .ensures) (c .before .before .after .ensures) (c .before .accepts-nothing2 .ensures)
 
 pub choice-left-spec : {M : Type 1} → statement M
 choice-left-spec =
@@ -52,10 +52,10 @@ choice-left-spec =
     sub-read-particle
     mul-read-particle
     read-particle-requires
-    mul-cut
-    sub-cut
-    mul-cut-2
-    cut-requires
+    mul-window
+    sub-window
+    mul-window-2
+    window-requires
     accepts-nothing-requires
     mul-after
     add-after

@@ -23,11 +23,11 @@ number-requires c κs = search needs
 loop-holds : tie.Need-loop-holds Inv-loop μ-loop
 loop-holds c = (c .number .ensures .small, searching-start readRow 44 (instanceRow (c .before .before .before .args .definition)) (c .before .body .result .now) _)
 
-mul-cut : tie.Need-mul-cut Inv-loop μ-loop
-mul-cut c = omega (arith, c .before .loop .inv .0)
+mul-window : tie.Need-mul-window Inv-loop μ-loop
+mul-window c = omega (arith, c .before .loop .inv .0)
 
-cut-requires : tie.Need-cut-requires Inv-loop μ-loop
-cut-requires c κs = search needs
+window-requires : tie.Need-window-requires Inv-loop μ-loop
+window-requires c κs = search needs
 
 byte-requires : tie.Need-byte-requires Inv-loop μ-loop
 byte-requires c κs = search needs
@@ -36,7 +36,7 @@ get-u16-requires : tie.Need-get-u16-requires Inv-loop μ-loop
 get-u16-requires c κs = search needs
 
 returns : tie.Need-returns Inv-loop μ-loop
-returns c = instances-any (c .before .before .before .before .before .before .before .before .before .args .store .now) (c .before .before .before .before .before .before .before .before .before .args .definition) (c .before .before .before .before .before .before .number .ensures) (c .before .before .before .before .before .before .before .body .ensures) (searching-hit readRow 44 (instanceRow (c .before .before .before .before .before .before .before .before .before .args .definition)) (c .before .before .before .before .before .before .before .body .result .now) _ _ (c .before .before .before .before .before .loop .inv .1) (omega arith) (instance-row (c .before .before .before .before .before .before .before .before .before .args .definition) _ (c .before .before .before .cut .ensures) (c .before .before .byte .ensures) (c .before .get-u16 .ensures)) (c .if1 .taken))
+returns c = instances-any (c .before .before .before .before .before .before .before .before .before .args .store .now) (c .before .before .before .before .before .before .before .before .before .args .definition) (c .before .before .before .before .before .before .number .ensures) (c .before .before .before .before .before .before .before .body .ensures) (searching-hit readRow 44 (instanceRow (c .before .before .before .before .before .before .before .before .before .args .definition)) (c .before .before .before .before .before .before .before .body .result .now) _ _ (c .before .before .before .before .before .loop .inv .1) (omega arith) (instance-row (c .before .before .before .before .before .before .before .before .before .args .definition) _ (c .before .before .before .window .ensures) (c .before .before .byte .ensures) (c .before .get-u16 .ensures)) (c .if1 .taken))
 
 add-i : tie.Need-add-i Inv-loop μ-loop
 add-i c = search needs
@@ -45,7 +45,7 @@ loop-less : tie.Need-loop-less Inv-loop μ-loop
 loop-less c = search needs
 
 loop-again : tie.Need-loop-again Inv-loop μ-loop
-loop-again c = (c .before .before .before .before .before .loop .inv .0, searching-on readRow 44 (instanceRow (c .before .before .before .before .before .before .before .before .before .args .definition)) (c .before .before .before .before .before .before .before .body .result .now) _ _ (c .before .before .before .before .before .loop .inv .1) (omega arith) (instance-row (c .before .before .before .before .before .before .before .before .before .args .definition) _ (c .before .before .before .cut .ensures) (c .before .before .byte .ensures) (c .before .get-u16 .ensures)) (c .if1 .left))
+loop-again c = (c .before .before .before .before .before .loop .inv .0, searching-on readRow 44 (instanceRow (c .before .before .before .before .before .before .before .before .before .args .definition)) (c .before .before .before .before .before .before .before .body .result .now) _ _ (c .before .before .before .before .before .loop .inv .1) (omega arith) (instance-row (c .before .before .before .before .before .before .before .before .before .args .definition) _ (c .before .before .before .window .ensures) (c .before .before .byte .ensures) (c .before .get-u16 .ensures)) (c .if1 .left))
 
 returns-2 : tie.Need-returns-2 Inv-loop μ-loop
 returns-2 c = instances-any (c .before .before .before .before .before .args .store .now) (c .before .before .before .before .before .args .definition) (c .before .before .number .ensures) (c .before .before .before .body .ensures) (searching-end readRow 44 (instanceRow (c .before .before .before .before .before .args .definition)) (c .before .before .before .body .result .now) _ _ (c .before .loop .inv .1) (omega arith))
@@ -59,8 +59,8 @@ instance-exists-spec =
     body-requires
     number-requires
     loop-holds
-    mul-cut
-    cut-requires
+    mul-window
+    window-requires
     byte-requires
     get-u16-requires
     returns

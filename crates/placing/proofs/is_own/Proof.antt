@@ -9,8 +9,8 @@ byte-requires c κs = search needs
 cast-used : tie.Need-cast-used
 cast-used c = search needs
 
-cut-requires : tie.Need-cut-requires
-cut-requires c κs = search needs
+window-requires : tie.Need-window-requires
+window-requires c κs = search needs
 
 equal-requires : tie.Need-equal-requires
 equal-requires c κs = search needs
@@ -22,7 +22,7 @@ cast-result : tie.Need-cast-result
 cast-result c = search needs
 
 returns : tie.Need-returns
-returns c = own-read _ (c .before .before .before .before .before .before .args .name .now) (c .before .before .before .before .before .before .args .rec .now) (c .before .before .before .byte .ensures) (c .before .before .cut .ensures) (c .before .equal .ensures) (c .byte2 .ensures)
+returns c = own-read _ (c .before .before .before .before .before .before .args .name .now) (c .before .before .before .before .before .before .args .rec .now) (c .before .before .before .byte .ensures) (c .before .before .window .ensures) (c .before .equal .ensures) (c .byte2 .ensures)
 
 pub is-own-spec : {M : Type 1} → statement M
 is-own-spec =
@@ -30,7 +30,7 @@ is-own-spec =
     (tie.spec
     byte-requires
     cast-used
-    cut-requires
+    window-requires
     equal-requires
     byte-requires-2
     cast-result

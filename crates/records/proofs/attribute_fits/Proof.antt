@@ -1,6 +1,5 @@
 use mathlib.Core.Path.{_∙_}
 use Rattle.records.proofs.CodeLaws.{attribute-of}
-use Rattle.records.specs.Records.{baseWidth}
 use borrow.Author.Needs.{needs}
 use Rattle.records.proofs.attribute_fits.Statement.{statement}
 use Rattle.records.proofs.attribute_fits.Tie as tie
@@ -45,7 +44,7 @@ is-fill-requires : tie.Need-is-fill-requires
 is-fill-requires c κs = search needs
 
 returns : tie.Need-returns
-returns c = let a = c .before .before .before .before .before .before .before .before .before .before .before .args in attribute-of baseWidth (a .n) (a .rec .now) _ _ _ _ _ (c .before .before .before .before .before .before .before .before .wide .ensures ∙ c .before .before .before .before .before .before .before .before .before .byte .ensures) (c .before .before .before .before .before .before .before .byte2 .ensures) (c .before .before .before .before .before .wide2 .ensures ∙ c .before .before .before .before .before .before .byte3 .ensures) (c .before .before .before .before .after .ensures) (c .before .before .before .first .ensures) (c .before .before .name-fits .ensures) (c .before .value-fits .ensures) (c .is-fill .ensures)
+returns c = let a = c .before .before .before .before .before .before .before .before .before .before .before .args in attribute-of (a .w) (a .n) (a .rec .now) _ _ _ _ _ (c .before .before .before .before .before .before .before .before .wide .ensures ∙ c .before .before .before .before .before .before .before .before .before .byte .ensures) (c .before .before .before .before .before .before .before .byte2 .ensures) (c .before .before .before .before .before .wide2 .ensures ∙ c .before .before .before .before .before .before .byte3 .ensures) (c .before .before .before .before .after .ensures) (c .before .before .before .first .ensures) (c .before .before .name-fits .ensures) (c .before .value-fits .ensures) (c .is-fill .ensures)
 
 pub attribute-fits-spec : {M : Type 1} → statement M
 attribute-fits-spec =

@@ -1,6 +1,8 @@
-use mathlib.Core.Path.{_≡_}
+use Prim.Native.Nat.{ℕ, min}
+use mathlib.Core.Path.{_≡_, ap, _∙_}
+use lib.ListN.{length, take}
 use Rattle.records.proofs.CodeLaws.{each-on, each-off, each-end}
-use Rattle.records.specs.Records.{baseWidth, attributeFits, eachFits}
+use Rattle.records.specs.Records.{attributeFits, eachFits}
 use Rattle.rules.specs.Layout.{attributeSize}
 use native.Mathlib.Omega.{arith}
 use borrow.Author.Tests.{not-true, not-false}
@@ -14,10 +16,13 @@ use Rattle.records.proofs.first.Reads as first-reads
 use Rattle.records.proofs.least.Reads as least-reads
 
 abbrev Inv-loop : tie.InvT-loop
-Inv-loop body count n rest₀ left₀ rest left = eachFits (attributeFits baseWidth n) (attributeSize baseWidth) count body ≡ eachFits (attributeFits baseWidth n) (attributeSize baseWidth) left rest
+Inv-loop w body count n size₀ rest₀ left₀ rest left = eachFits (attributeFits w n) (attributeSize w) count body ≡ eachFits (attributeFits w n) (attributeSize w) left rest
 
 abbrev μ-loop : tie.MeasureT-loop
-μ-loop body count n rest₀ left₀ rest left = left
+μ-loop w body count n size₀ rest₀ left₀ rest left = left
+
+attribute-size-requires : tie.Need-attribute-size-requires Inv-loop μ-loop
+attribute-size-requires c κs = search needs
 
 loop-holds : tie.Need-loop-holds Inv-loop μ-loop
 loop-holds c = search needs
@@ -29,7 +34,7 @@ attribute-fits-requires : tie.Need-attribute-fits-requires Inv-loop μ-loop
 attribute-fits-requires c κs = search needs
 
 returns : tie.Need-returns Inv-loop μ-loop
-returns c = each-off (attributeFits baseWidth (c .before .before .before .before .before .before .args .n)) (attributeSize baseWidth) (c .before .before .before .before .loop .left) (c .before .before .before .before .loop .rest .now) (c .before .before .before .before .loop .inv) _ (omega arith) (c .before .before .first .ensures) (c .before .attribute-fits .ensures) (not-true _ (c .if1 .taken))
+returns c = each-off (attributeFits (c .before .before .before .before .before .before .before .args .w) (c .before .before .before .before .before .before .before .args .n)) (attributeSize (c .before .before .before .before .before .before .before .args .w)) (c .before .before .before .before .loop .left) (c .before .before .before .before .loop .rest .now) (c .before .before .before .before .loop .inv) _ (omega arith) (c .before .before .first .ensures ∙ ap (λ (k : ℕ). take k (c .before .before .before .before .loop .rest .now)) (c .before .before .before .before .before .attribute-size .ensures)) (c .before .attribute-fits .ensures) (not-true _ (c .if1 .taken))
 
 least-requires : tie.Need-least-requires Inv-loop μ-loop
 least-requires c κs = search needs
@@ -50,10 +55,10 @@ loop-less : tie.Need-loop-less Inv-loop μ-loop
 loop-less c = search needs
 
 loop-again : tie.Need-loop-again Inv-loop μ-loop
-loop-again c = each-on (attributeFits baseWidth (c .before .before .before .before .before .before .before .before .args .n)) (attributeSize baseWidth) (c .before .before .before .before .before .before .loop .left) (c .before .before .before .before .before .before .loop .rest .now) (c .before .before .before .before .before .before .loop .inv) _ _ (omega arith) (c .before .before .before .before .first .ensures) (c .before .before .before .attribute-fits .ensures) (not-false _ (c .before .before .if1 .left)) (c .before .least .ensures)
+loop-again c = each-on (attributeFits (c .before .before .before .before .before .before .before .before .before .args .w) (c .before .before .before .before .before .before .before .before .before .args .n)) (attributeSize (c .before .before .before .before .before .before .before .before .before .args .w)) (c .before .before .before .before .before .before .loop .left) (c .before .before .before .before .before .before .loop .rest .now) (c .before .before .before .before .before .before .loop .inv) _ _ (omega arith) (c .before .before .before .before .first .ensures ∙ ap (λ (k : ℕ). take k (c .before .before .before .before .before .before .loop .rest .now)) (c .before .before .before .before .before .before .before .attribute-size .ensures)) (c .before .before .before .attribute-fits .ensures) (not-false _ (c .before .before .if1 .left)) (c .before .least .ensures ∙ ap (λ (k : ℕ). min k (length (c .before .before .before .before .before .before .loop .rest .now))) (c .before .before .before .before .before .before .before .attribute-size .ensures))
 
 returns-2 : tie.Need-returns-2 Inv-loop μ-loop
-returns-2 c = each-end (attributeFits baseWidth (c .before .before .before .args .n)) (attributeSize baseWidth) (c .before .loop .left) (c .before .loop .rest .now) (c .before .loop .inv) (omega arith)
+returns-2 c = each-end (attributeFits (c .before .before .before .before .args .w) (c .before .before .before .before .args .n)) (attributeSize (c .before .before .before .before .args .w)) (c .before .loop .left) (c .before .loop .rest .now) (c .before .loop .inv) (omega arith)
 
 pub attributes-fit-spec : {M : Type 1} → statement M
 attributes-fit-spec =
@@ -61,6 +66,7 @@ attributes-fit-spec =
     (tie.spec
     Inv-loop
     μ-loop
+    attribute-size-requires
     loop-holds
     first-requires
     attribute-fits-requires

@@ -1,4 +1,3 @@
-use Rattle.records.specs.Records.{baseWidth}
 use mathlib.Core.Path.{ap}
 use mathlib.Core.Bool.{Bool, _&&_}
 use lib.Dec.{leb}
@@ -14,7 +13,7 @@ all-printable-requires : tie.Need-all-printable-requires
 all-printable-requires c κs = search needs
 
 returns : tie.Need-returns
-returns c = ap (λ (t : Bool). leb (length (c .before .before .args .s .now)) baseWidth && t) (c .all-printable .ensures)
+returns c = ap (λ (t : Bool). leb (length (c .before .before .args .s .now)) (c .before .before .args .w) && t) (c .all-printable .ensures)
 
 pub is-value-spec : {M : Type 1} → statement M
 is-value-spec = tie.close (tie.spec all-printable-requires returns)

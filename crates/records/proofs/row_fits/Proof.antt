@@ -1,6 +1,5 @@
 use mathlib.Core.Path.{_∙_}
 use Rattle.records.proofs.CodeLaws.{row-of}
-use Rattle.records.specs.Records.{baseWidth}
 use borrow.Author.Needs.{needs}
 use Rattle.records.proofs.row_fits.Statement.{statement}
 use Rattle.records.proofs.row_fits.Tie as tie
@@ -31,7 +30,7 @@ unused-fit-requires : tie.Need-unused-fit-requires
 unused-fit-requires c κs = search needs
 
 returns : tie.Need-returns
-returns c = row-of baseWidth (c .before .before .before .before .before .before .before .args .rec .now) _ _ _ (c .before .before .before .before .before .byte .ensures) (c .before .before .before .wide .ensures ∙ c .before .before .before .before .byte2 .ensures) (c .before .before .get-u16 .ensures) (c .before .value-fits .ensures) (c .unused-fit .ensures)
+returns c = row-of (c .before .before .before .before .before .before .before .args .w) (c .before .before .before .before .before .before .before .args .rec .now) _ _ _ (c .before .before .before .before .before .byte .ensures) (c .before .before .before .wide .ensures ∙ c .before .before .before .before .byte2 .ensures) (c .before .before .get-u16 .ensures) (c .before .value-fits .ensures) (c .unused-fit .ensures)
 
 pub row-fits-spec : {M : Type 1} → statement M
 row-fits-spec =

@@ -1,5 +1,4 @@
 use Rattle.records.proofs.CodeLaws.{unused-of}
-use Rattle.records.specs.Records.{baseWidth}
 use borrow.Author.Needs.{needs}
 use Rattle.records.proofs.unused_fit.Statement.{statement}
 use Rattle.records.proofs.unused_fit.Tie as tie
@@ -23,7 +22,7 @@ byte-requires-3 : tie.Need-byte-requires-3
 byte-requires-3 c κs = search needs
 
 returns : tie.Need-returns
-returns c = unused-of baseWidth (c .before .before .before .before .args .rec .now) _ _ _ (c .before .before .byte .ensures) (c .before .byte2 .ensures) (c .byte3 .ensures)
+returns c = unused-of (c .before .before .before .before .args .w) (c .before .before .before .before .args .rec .now) _ _ _ (c .before .before .byte .ensures) (c .before .byte2 .ensures) (c .byte3 .ensures)
 
 pub unused-fit-spec : {M : Type 1} → statement M
 unused-fit-spec =

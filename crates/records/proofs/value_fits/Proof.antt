@@ -1,4 +1,3 @@
-use Rattle.records.specs.Records.{baseWidth}
 use Rattle.records.proofs.CodeLaws.{value-fits-of}
 use borrow.Author.Needs.{needs}
 use Rattle.records.proofs.value_fits.Statement.{statement}
@@ -23,7 +22,7 @@ filled-requires : tie.Need-filled-requires
 filled-requires c κs = search needs
 
 returns : tie.Need-returns
-returns c = let a = c .before .before .before .before .before .args in value-fits-of baseWidth (a .rec .now) (a .at) (a .used) _ _ (c .before .before .before .after .ensures) (c .before .before .first .ensures) (c .before .is-value .ensures) (c .filled .ensures)
+returns c = let a = c .before .before .before .before .before .args in value-fits-of (a .w) (a .rec .now) (a .at) (a .used) _ _ (c .before .before .before .after .ensures) (c .before .before .first .ensures) (c .before .is-value .ensures) (c .filled .ensures)
 
 pub value-fits-spec : {M : Type 1} → statement M
 value-fits-spec =

@@ -9,22 +9,22 @@ row-index-requires c κs = search needs
 cast-index : tie.Need-cast-index
 cast-index c = search needs
 
-byte-requires : tie.Need-byte-requires
-byte-requires c κs = search needs
+row-sort-requires : tie.Need-row-sort-requires
+row-sort-requires c κs = search needs
 
 add-t7 : tie.Need-add-t7
 add-t7 c = search needs
 
 returns : tie.Need-returns
-returns c = after-attribute (c .before .before .before .before .args .l) _ _ _ _ (c .before .byte .ensures) (c .before .before .row-index .ensures) (c .if1 .taken)
+returns c = after-attribute (c .before .before .before .before .args .l) _ _ _ _ (c .before .row-sort .ensures) (c .before .before .row-index .ensures) (c .if1 .taken)
 
 add-t8 : tie.Need-add-t8
 add-t8 c = search needs
 
 returns-2 : tie.Need-returns-2
-returns-2 c = after-child (c .before .before .before .before .args .l) _ _ _ _ (c .before .byte .ensures) (c .before .before .row-index .ensures) (c .if1 .left)
+returns-2 c = after-child (c .before .before .before .before .args .l) _ _ _ _ (c .before .row-sort .ensures) (c .before .before .row-index .ensures) (c .if1 .left)
 
 pub after-row-spec : {M : Type 1} → statement M
 after-row-spec =
     tie.close
-    (tie.spec row-index-requires cast-index byte-requires add-t7 returns add-t8 returns-2)
+    (tie.spec row-index-requires cast-index row-sort-requires add-t7 returns add-t8 returns-2)

@@ -7,17 +7,14 @@ use Rattle.rowpass.proofs.kept.Tie as tie
 returns : tie.Need-returns
 returns c = search needs
 
-byte-requires : tie.Need-byte-requires
-byte-requires c κs = search needs
-
-cast-result : tie.Need-cast-result
-cast-result c = search needs
+row-depth-requires : tie.Need-row-depth-requires
+row-depth-requires c κs = search needs
 
 add-result : tie.Need-add-result
-add-result c = search needs
+add-result c = omega (arith, c .row-depth .ensures, c .before .before .shared-slice-known .given 1)
 
 returns-2 : tie.Need-returns-2
-returns-2 c = keeps-step _ _ _ (c .before .if1 .left) (c .byte .ensures) (omega arith)
+returns-2 c = keeps-step _ _ _ (c .before .if1 .left) (c .row-depth .ensures) (omega (arith, c .row-depth .ensures, c .before .before .shared-slice-known .given 1))
 
 pub kept-spec : {M : Type 1} → statement M
-kept-spec = tie.close (tie.spec returns byte-requires cast-result add-result returns-2)
+kept-spec = tie.close (tie.spec returns row-depth-requires add-result returns-2)

@@ -3,17 +3,14 @@ use borrow.Author.Needs.{needs}
 use Rattle.rowpass.proofs.kind_of.Statement.{statement}
 use Rattle.rowpass.proofs.kind_of.Tie as tie
 
-mul-cut : tie.Need-mul-cut
-mul-cut c = search needs
+definition-at-requires : tie.Need-definition-at-requires
+definition-at-requires c κs = search needs
 
-cut-requires : tie.Need-cut-requires
-cut-requires c κs = search needs
-
-byte-requires : tie.Need-byte-requires
-byte-requires c κs = search needs
+definition-kind-requires : tie.Need-definition-kind-requires
+definition-kind-requires c κs = search needs
 
 returns : tie.Need-returns
-returns c = let a = c .before .before .before .args in kind-read _ (a .defs .now) (a .i) (c .before .cut .ensures) _ (c .byte .ensures)
+returns c = let a = c .before .before .before .args in kind-read _ (a .defs .now) (a .i) (c .before .definition-at .ensures) _ (c .definition-kind .ensures)
 
 pub kind-of-spec : {M : Type 1} → statement M
-kind-of-spec = tie.close (tie.spec mul-cut cut-requires byte-requires returns)
+kind-of-spec = tie.close (tie.spec definition-at-requires definition-kind-requires returns)

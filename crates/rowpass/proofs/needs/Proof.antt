@@ -3,24 +3,18 @@ use borrow.Author.Needs.{needs}
 use Rattle.rowpass.proofs.needs.Statement.{statement}
 use Rattle.rowpass.proofs.needs.Tie as tie
 
-mul-cut : tie.Need-mul-cut
-mul-cut c = search needs
+attribute-at-requires : tie.Need-attribute-at-requires
+attribute-at-requires c κs = search needs
 
-cut-requires : tie.Need-cut-requires
-cut-requires c κs = search needs
+attribute-owner-requires : tie.Need-attribute-owner-requires
+attribute-owner-requires c κs = search needs
 
-byte-requires : tie.Need-byte-requires
-byte-requires c κs = search needs
-
-cast-result : tie.Need-cast-result
-cast-result c = search needs
-
-byte-requires-2 : tie.Need-byte-requires-2
-byte-requires-2 c κs = search needs
+attribute-sort-requires : tie.Need-attribute-sort-requires
+attribute-sort-requires c κs = search needs
 
 returns : tie.Need-returns
-returns c = let a = c .before .before .before .before .args in needs-read _ (a .attrs .now) (a .j) (c .before .before .cut .ensures) (a .i) _ _ (c .before .byte .ensures) (c .byte2 .ensures)
+returns c = let a = c .before .before .before .before .args in needs-read (a .w) _ (a .attrs .now) (a .j) (c .before .before .attribute-at .ensures) (a .i) _ _ (c .before .attribute-owner .ensures) (c .attribute-sort .ensures)
 
 pub needs-spec : {M : Type 1} → statement M
 needs-spec =
-    tie.close (tie.spec mul-cut cut-requires byte-requires cast-result byte-requires-2 returns)
+    tie.close (tie.spec attribute-at-requires attribute-owner-requires attribute-sort-requires returns)

@@ -4,14 +4,14 @@ use borrow.Author.Needs.{needs}
 use Rattle.rowpass.proofs.row_index.Statement.{statement}
 use Rattle.rowpass.proofs.row_index.Tie as tie
 
-get-u16-requires : tie.Need-get-u16-requires
-get-u16-requires c κs = search needs
+row-index-requires : tie.Need-row-index-requires
+row-index-requires c κs = search needs
 
 cast-result : tie.Need-cast-result
-cast-result c = let a = c .before .before .args in omega (arith, c .get-u16 .ensures, number-small (a .row .now) 2 (λ i. omega (arith, c .before .shared-slice-known .given i)))
+cast-result c = let a = c .before .before .args in omega (arith, c .row-index .ensures, number-small (a .row .now) 2 (λ i. omega (arith, c .before .shared-slice-known .given i)))
 
 returns : tie.Need-returns
 returns c = search needs
 
 pub row-index-spec : {M : Type 1} → statement M
-row-index-spec = tie.close (tie.spec get-u16-requires cast-result returns)
+row-index-spec = tie.close (tie.spec row-index-requires cast-result returns)

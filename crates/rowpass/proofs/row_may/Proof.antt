@@ -14,17 +14,17 @@ cast-seen c = search needs
 cast-last : tie.Need-cast-last
 cast-last c = search needs
 
-byte-requires : tie.Need-byte-requires
-byte-requires c κs = search needs
+row-sort-requires : tie.Need-row-sort-requires
+row-sort-requires c κs = search needs
 
 attribute-may-requires : tie.Need-attribute-may-requires
 attribute-may-requires c κs = search needs
 
 returns : tie.Need-returns
-returns c = let a = c .before .before .before .before .before .before .before .before .before .before .args in row-attribute (indexForm 0 (a .defs .now) (a .parts .now) (a .attrs .now) (a .a)) (a .l) (readRow (a .row .now) .row) _ (c .before .before .byte .ensures) (c .before .if1 .taken) _ (c .attribute-may .ensures)
+returns c = let a = c .before .before .before .before .before .before .before .before .before .before .args in row-attribute (indexForm (a .w) 0 (a .defs .now) (a .parts .now) (a .attrs .now) (a .a)) (a .l) (readRow (a .row .now) .row) _ (c .before .before .row-sort .ensures) (c .before .if1 .taken) _ (c .attribute-may .ensures)
 
-get-u16-requires : tie.Need-get-u16-requires
-get-u16-requires c κs = search needs
+row-index-requires : tie.Need-row-index-requires
+row-index-requires c κs = search needs
 
 cast-index : tie.Need-cast-index
 cast-index c = search needs
@@ -36,7 +36,7 @@ child-may-requires : tie.Need-child-may-requires
 child-may-requires c κs = search needs
 
 returns-2 : tie.Need-returns-2
-returns-2 c = let a = c .before .before .before .before .before .before .before .before .before .before .before .before .args in row-child (indexForm 0 (a .defs .now) (a .parts .now) (a .attrs .now) (a .a)) (a .l) (readRow (a .row .now) .row) _ (c .before .before .before .before .byte .ensures) (c .before .before .before .if1 .left) _ _ _ (c .before .before .get-u16 .ensures) (c .before .is-freed .ensures) (c .child-may .ensures)
+returns-2 c = let a = c .before .before .before .before .before .before .before .before .before .before .before .before .args in row-child (indexForm (a .w) 0 (a .defs .now) (a .parts .now) (a .attrs .now) (a .a)) (a .l) (readRow (a .row .now) .row) _ (c .before .before .before .before .row-sort .ensures) (c .before .before .before .if1 .left) _ _ _ (c .before .before .row-index .ensures) (c .before .is-freed .ensures) (c .child-may .ensures)
 
 pub row-may-spec : {M : Type 1} → statement M
 row-may-spec =
@@ -45,10 +45,10 @@ row-may-spec =
     cast-i
     cast-seen
     cast-last
-    byte-requires
+    row-sort-requires
     attribute-may-requires
     returns
-    get-u16-requires
+    row-index-requires
     cast-index
     is-freed-requires
     child-may-requires

@@ -7,14 +7,14 @@ use borrow.Author.Needs.{needs}
 use Rattle.splicing.proofs.past.Statement.{statement}
 use Rattle.splicing.proofs.past.Tie as tie
 
-mul-cut : tie.Need-mul-cut
-mul-cut c = search needs
+mul-window : tie.Need-mul-window
+mul-window c = search needs
 
-cut-requires : tie.Need-cut-requires
-cut-requires c κs = search needs
+window-requires : tie.Need-window-requires
+window-requires c κs = search needs
 
 returns : tie.Need-returns
-returns c = c .cut .ensures ∙ cut-past (c .before .before .args .s .now) (4 * c .before .before .args .n)
+returns c = c .window .ensures ∙ cut-past (c .before .before .args .s .now) (4 * c .before .before .args .n)
 
 pub past-spec : {M : Type 1} → statement M
-past-spec = tie.close (tie.spec mul-cut cut-requires returns)
+past-spec = tie.close (tie.spec mul-window window-requires returns)

@@ -1,5 +1,4 @@
 -- `validity::documents_pass` meets its contract. The form that passed says that no model names an element twice.
--- Assumes nothing.
 use borrow.Author.Needs.{needs}
 use mathlib.Core.Path.{refl}
 use Rattle.validity.proofs.CallLaws.{cut-of, headed, rows-asked, rows-in}

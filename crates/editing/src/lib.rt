@@ -329,7 +329,7 @@ fn put_owed<'a>(
 {
     if due {
         let what = p.filling;
-        return filling::put_filling(n, defs, parts, a, attrs, what, text, depth, c, out);
+        return filling::put_filling(WIDTH, n, defs, parts, a, attrs, what, text, depth, c, out);
     }
     c
 }

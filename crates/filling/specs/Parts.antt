@@ -1,4 +1,4 @@
--- The filling of what the bytes of a form hold: of particles, of definitions, of what a change fills with.
+-- The filling of what the bytes of a form hold at the width `w` of a value: of particles, of definitions, of what a change fills with.
 use Prim.Native.Nat.{ℕ, suc, _+_, _*_, _<_, _≤_}
 use mathlib.Core.Bool.{_||_}
 use mathlib.Core.List.{List, [], _∷_}
@@ -14,10 +14,9 @@ use Rattle.model.specs.declared.What.{What}
 use Rattle.model.specs.declared.What.the-variants.{Element, Group}
 use Rattle.model.specs.Particle.{particleOf}
 use Rattle.model.specs.Members.{membersFrom, membersOf}
+use Rattle.layout.specs.Bodies.{Width}
 use Rattle.rowpass.specs.Indices.{IndexForm}
-use Rattle.records.specs.Records.{baseWidth}
 use Rattle.rowpass.specs.Reading.{definitionIn, attributeIn, modelPart, attributesOf, indexForm}
-use Rattle.records.specs.Records.{baseWidth}
 use Rattle.rows.specs.declared.Cursor.{Cursor}
 use Rattle.rows.specs.Written.{Room}
 use Rattle.filling.specs.declared.Filling.{Filling}
@@ -39,31 +38,31 @@ unfoldable pub membersAt : Bytes → ℕ → ℕ → Members ℕ
 membersAt parts k e = membersFrom e (drop (4 * k) parts)
 
 -- ---- rows of depth d
-abbrev pub valueIn : Bytes → ℕ → Bytes
-valueIn attrs j = attributeIn baseWidth attrs j .value
+abbrev pub valueIn : ℕ → Bytes → ℕ → Bytes
+valueIn w attrs j = attributeIn w attrs j .value
 
 -- of the attributes those that are REQUIRED of definition i: number j alone, and all below n
-unfoldable pub requiredAt : Bytes → ℕ → ℕ → ℕ → List (Deep FlatRow)
-requiredAt attrs d i j = requiredRows (attributesOf baseWidth attrs 0) (valueIn attrs) d i j 1
+unfoldable pub requiredAt : ℕ → Bytes → ℕ → ℕ → ℕ → List (Deep FlatRow)
+requiredAt w attrs d i j = requiredRows (attributesOf w attrs 0) (valueIn w attrs) d i j 1
 
-unfoldable pub requiredIn : Bytes → ℕ → ℕ → ℕ → List (Deep FlatRow)
-requiredIn attrs d i n = requiredRows (attributesOf baseWidth attrs 0) (valueIn attrs) d i 0 n
+unfoldable pub requiredIn : ℕ → Bytes → ℕ → ℕ → ℕ → List (Deep FlatRow)
+requiredIn w attrs d i n = requiredRows (attributesOf w attrs 0) (valueIn w attrs) d i 0 n
 
 -- how many definitions there are is not looked at
-abbrev pub formIn : Bytes → Bytes → Bytes → ℕ → IndexForm
-formIn defs parts attrs a = indexForm baseWidth 0 defs parts attrs a
+abbrev pub formIn : ℕ → Bytes → Bytes → Bytes → ℕ → IndexForm
+formIn w defs parts attrs a = indexForm w 0 defs parts attrs a
 
 -- of definitions of at most height h
-module _ (defs parts attrs : Bytes) (a : ℕ) (txt : Bytes) (h d : ℕ) where
+module _ (w : ℕ) (defs parts attrs : Bytes) (a : ℕ) (txt : Bytes) (h d : ℕ) where
   unfoldable pub definitionRows : ℕ → List (Deep FlatRow)
-  definitionRows i = fillIndex (formIn defs parts attrs a) (valueIn attrs) h txt d i
+  definitionRows i = fillIndex (formIn w defs parts attrs a) (valueIn w attrs) h txt d i
 
   unfoldable pub memberRows : List ℕ → List (Deep FlatRow)
-  memberRows is = fillingsOf (formIn defs parts attrs a) (valueIn attrs) (λ i. definitionRows i) is
+  memberRows is = fillingsOf (formIn w defs parts attrs a) (valueIn w attrs) (λ i. definitionRows i) is
 
   -- what stands below an element of definition i, after its attributes
   unfoldable pub belowRows : ℕ → List (Deep FlatRow)
-  belowRows i = contentRows (formIn defs parts attrs a) (valueIn attrs) (λ j. definitionRows j) txt d (membersOf (modelPart defs parts i)) (definitionIn defs i .kind)
+  belowRows i = contentRows (formIn w defs parts attrs a) (valueIn w attrs) (λ j. definitionRows j) txt d (membersOf (modelPart defs parts i)) (definitionIn defs i .kind)
 
 -- ---- a form as it is lent: definitions, particles, attributes
 abbrev pub lentIn : List (RefT Bytes) → ℕ → Bytes
@@ -78,28 +77,37 @@ partsIn fs = lentIn fs 1
 abbrev pub attrsIn : List (RefT Bytes) → Bytes
 attrsIn fs = lentIn fs 2
 
+-- the width of a value and the number of attributes, as they are lent
+abbrev pub widthIn : List ℕ → ℕ
+widthIn ks = getD ks 0 0
+
+abbrev pub countIn : List ℕ → ℕ
+countIn ks = getD ks 1 0
+
 -- the rows of a definition, of members, of what stands below an element, and of what a change fills with
-module _ (fs : List (RefT Bytes)) (txt : Bytes) (a h d : ℕ) where
+module _ (ks : List ℕ) (fs : List (RefT Bytes)) (txt : Bytes) (h d : ℕ) where
   abbrev pub definitionFilled : ℕ → List (Deep FlatRow)
-  definitionFilled i = definitionRows (defsIn fs) (partsIn fs) (attrsIn fs) a txt h d i
+  definitionFilled i = definitionRows (widthIn ks) (defsIn fs) (partsIn fs) (attrsIn fs) (countIn ks) txt h d i
 
   abbrev pub membersFilled : List ℕ → List (Deep FlatRow)
-  membersFilled is = memberRows (defsIn fs) (partsIn fs) (attrsIn fs) a txt h d is
+  membersFilled is = memberRows (widthIn ks) (defsIn fs) (partsIn fs) (attrsIn fs) (countIn ks) txt h d is
 
   abbrev pub belowFilled : ℕ → List (Deep FlatRow)
-  belowFilled i = belowRows (defsIn fs) (partsIn fs) (attrsIn fs) a txt h d i
+  belowFilled i = belowRows (widthIn ks) (defsIn fs) (partsIn fs) (attrsIn fs) (countIn ks) txt h d i
 
   abbrev pub changeFilled : Filling → List (Deep FlatRow)
-  changeFilled what = fillingRows (indexForm baseWidth h (defsIn fs) (partsIn fs) (attrsIn fs) a) (valueIn (attrsIn fs)) (λ k e. membersAt (partsIn fs) k e) what txt d
+  changeFilled what =
+      fillingRows (indexForm (widthIn ks) h (defsIn fs) (partsIn fs) (attrsIn fs) (countIn ks)) (valueIn (widthIn ks) (attrsIn fs)) (λ k e. membersAt (partsIn fs) k e) what txt d
 
 -- a cursor as it is lent: where the next row goes, how many may still be written, the next serial
 abbrev pub cursorIn : List ℕ → Cursor
 cursorIn l = record { at = getD l 0 0; left = getD l 1 0; serial = getD l 2 0 }
 
 -- ---- what the writers ask
-pub record Asks (c : Cursor) (txt : Bytes) (a h d : ℕ) : Type 0 where
-  pub room : Room baseWidth c
-  pub text : length txt ≤ 32
+pub record Asks (w : ℕ) (c : Cursor) (txt : Bytes) (a h d : ℕ) : Type 0 where
+  pub width : Width w
+  pub room : Room w c
+  pub text : length txt ≤ w
   pub attributes : a ≤ 64
   pub deep : d + h < 256
 

@@ -8,15 +8,11 @@ ghost use mathlib.Core.List.{[], _∷_};
 ghost use lib.ListN.{length};
 ghost use Rattle.rules.specs.Model.{nothing, filling};
 ghost use Rattle.model.specs.Members.{membersFrom};
-ghost use Rattle.records.specs.Records.{baseWidth};
 ghost use Rattle.rowpass.specs.Reading.{attributeIn, indexForm};
-ghost use Rattle.records.specs.Records.{baseWidth};
+ghost use Rattle.layout.specs.Bodies.{Width};
 ghost use Rattle.rows.specs.Written.{Room, Written, newRow};
 ghost use Rattle.filling.specs.Fillings.{groupFilled, fillingRows};
-ghost use Rattle.filling.specs.Parts.{memberFilling, valueIn, requiredAt, requiredIn, membersAt, partsIn, definitionFilled, membersFilled, belowFilled, changeFilled, cursorIn, Asks, Indexed};
-
-// The width of a value.
-const VALUE_WIDTH: usize = 32;
+ghost use Rattle.filling.specs.Parts.{memberFilling, valueIn, requiredAt, requiredIn, membersAt, partsIn, widthIn, countIn, definitionFilled, membersFilled, belowFilled, changeFilled, cursorIn, Asks, Indexed};
 
 /// What a change fills with: nothing, a definition by its index, one row of an attribute by its index, or a group of a kind by the number
 /// of its first member in the particle body and the depth of its members.
@@ -37,50 +33,73 @@ fn accepts_nothing(s: &[u8], d: usize, kind: GroupKind) -> bool
 }
 
 // The value that attribute j has in a created row, where it is one that must be present.
-fn created_value(attrs: &[u8], j: usize) -> &[u8]
-    requires { ⌜ j ≤ 64 ⌝ }
-    ensures { λ r. ⌜ (now r ≡ valueIn (now (attrs .entry)) j) × (length (now r) ≤ 32) ⌝ }
+fn created_value(w: usize, attrs: &[u8], j: usize) -> &[u8]
+    requires { ⌜ Width w × (j ≤ 64) ⌝ }
+    ensures { λ r. ⌜ (now r ≡ valueIn w (now (attrs .entry)) j) × (length (now r) ≤ w) ⌝ }
 {
-    let record = layout::window(attrs, 52 * j, 52);
-    layout::window(record, 20, codec::byte(record, 19) as usize)
+    layout::attribute_value(layout::attribute_at(w, attrs, j))
 }
 
 // ---- The writers of a filling call each other as deep as definitions and groups are nested. So that their frames on the stack stay
-// small, the form is lent as one array of slices (definitions, particles, attributes), the text by one reference, and the cursor as one
-// array of numbers (its place, what is left, its serial).
+// small, the form is lent as one array of slices (definitions, particles, attributes), the text by one reference, the width of a
+// value and the number of attributes as one array of numbers, and the cursor as another (its place, what is left, its serial).
 
 // Writes one row.
-fn put_row(sort: u8, depth: usize, index: usize, value: &[u8], c: &mut [usize; 3], out: &mut [u8])
-    requires { ⌜ Room baseWidth (cursorIn (now c)) × (depth < 256) × (index < 65536) × (length (now value) ≤ 32) ⌝ }
-    ensures { λ _. ⌜ Written baseWidth (newRow sort depth index (now (value .entry)) ∷ []) (cursorIn (now (c .entry))) (now (out .entry)) (cursorIn (now (c .exit))) (now (out .exit)) ⌝ }
+fn put_row(
+    w: usize,
+    sort: u8,
+    depth: usize,
+    index: usize,
+    value: &[u8],
+    c: &mut [usize; 3],
+    out: &mut [u8],
+)
+    requires { ⌜ Width w × Room w (cursorIn (now c)) × (depth < 256) × (index < 65536) × (length (now value) ≤ w) ⌝ }
+    ensures { λ _. ⌜ Written w (newRow sort depth index (now (value .entry)) ∷ []) (cursorIn (now (c .entry))) (now (out .entry)) (cursorIn (now (c .exit))) (now (out .exit)) ⌝ }
 {
     let from = Cursor {
         at: c[0],
         left: c[1],
         serial: c[2],
     };
-    let r = rows::put_new(VALUE_WIDTH, sort, depth, index, value, from, out);
+    let r = rows::put_new(w, sort, depth, index, value, from, out);
     *c = [r.at, r.left, r.serial];
 }
 
 // Writes attribute j, if it is one that definition i needs.
-fn put_attribute(i: usize, j: usize, attrs: &[u8], depth: usize, c: &mut [usize; 3], out: &mut [u8])
-    requires { ⌜ Room baseWidth (cursorIn (now c)) × (j < 64) × (depth < 256) ⌝ }
-    ensures { λ _. ⌜ Written baseWidth (requiredAt (now (attrs .entry)) depth i j) (cursorIn (now (c .entry))) (now (out .entry)) (cursorIn (now (c .exit))) (now (out .exit)) ⌝ }
+fn put_attribute(
+    w: usize,
+    i: usize,
+    j: usize,
+    attrs: &[u8],
+    depth: usize,
+    c: &mut [usize; 3],
+    out: &mut [u8],
+)
+    requires { ⌜ Width w × Room w (cursorIn (now c)) × (j < 64) × (depth < 256) ⌝ }
+    ensures { λ _. ⌜ Written w (requiredAt w (now (attrs .entry)) depth i j) (cursorIn (now (c .entry))) (now (out .entry)) (cursorIn (now (c .exit))) (now (out .exit)) ⌝ }
 {
-    if rowpass::needs(VALUE_WIDTH, attrs, i, j) {
-        put_row(2, depth, j, created_value(attrs, j), c, out);
+    if rowpass::needs(w, attrs, i, j) {
+        put_row(w, 2, depth, j, created_value(w, attrs, j), c, out);
     }
 }
 
 // Writes the REQUIRED attributes of definition i, of a attributes.
-fn put_required(i: usize, a: usize, attrs: &[u8], depth: usize, c: &mut [usize; 3], out: &mut [u8])
-    requires { ⌜ Room baseWidth (cursorIn (now c)) × (a ≤ 64) × (depth < 256) ⌝ }
-    ensures { λ _. ⌜ Written baseWidth (requiredIn (now (attrs .entry)) depth i a) (cursorIn (now (c .entry))) (now (out .entry)) (cursorIn (now (c .exit))) (now (out .exit)) ⌝ }
+fn put_required(
+    w: usize,
+    i: usize,
+    a: usize,
+    attrs: &[u8],
+    depth: usize,
+    c: &mut [usize; 3],
+    out: &mut [u8],
+)
+    requires { ⌜ Width w × Room w (cursorIn (now c)) × (a ≤ 64) × (depth < 256) ⌝ }
+    ensures { λ _. ⌜ Written w (requiredIn w (now (attrs .entry)) depth i a) (cursorIn (now (c .entry))) (now (out .entry)) (cursorIn (now (c .exit))) (now (out .exit)) ⌝ }
 {
     let mut j = 0;
     while j < a {
-        put_attribute(i, j, attrs, depth, c, out);
+        put_attribute(w, i, j, attrs, depth, c, out);
         j += 1;
     }
 }
@@ -93,14 +112,14 @@ fn put_group(
     kind: GroupKind,
     form: &[&[u8]; 3],
     text: &&[u8],
-    a: usize,
+    sizes: &[usize; 2],
     h: usize,
     depth: usize,
     c: &mut [usize; 3],
     out: &mut [u8],
 )
-    requires { ⌜ (d ≤ 256) × Asks (cursorIn (now c)) (now (now text)) a h depth ⌝ }
-    ensures { λ _. ⌜ Written baseWidth (membersFilled (now (form .entry)) (now (now (text .entry))) a h depth (filling kind (membersFrom d (now (s .entry))))) (cursorIn (now (c .entry))) (now (out .entry)) (cursorIn (now (c .exit))) (now (out .exit)) ⌝ }
+    requires { ⌜ (d ≤ 256) × Asks (widthIn (now sizes)) (cursorIn (now c)) (now (now text)) (countIn (now sizes)) h depth ⌝ }
+    ensures { λ _. ⌜ Written (widthIn (now (sizes .entry))) (membersFilled (now (sizes .entry)) (now (form .entry)) (now (now (text .entry))) h depth (filling kind (membersFrom d (now (s .entry))))) (cursorIn (now (c .entry))) (now (out .entry)) (cursorIn (now (c .exit))) (now (out .exit)) ⌝ }
 {
     let mut t = s;
     while t.len() >= 4 {
@@ -114,7 +133,7 @@ fn put_group(
         if d < own {
             t = &t[4..];
         } else {
-            put_member(t, d, form, text, a, h, depth, c, out);
+            put_member(t, d, form, text, sizes, h, depth, c, out);
             match kind {
                 GroupKind::Sequence => {
                     t = &t[4..];
@@ -133,29 +152,29 @@ fn put_member(
     d: usize,
     form: &[&[u8]; 3],
     text: &&[u8],
-    a: usize,
+    sizes: &[usize; 2],
     h: usize,
     depth: usize,
     c: &mut [usize; 3],
     out: &mut [u8],
 )
-    requires { ⌜ (d < 256) × (4 ≤ length (now s)) × Asks (cursorIn (now c)) (now (now text)) a h depth ⌝ }
-    ensures { λ _. ⌜ Written baseWidth (membersFilled (now (form .entry)) (now (now (text .entry))) a h depth (memberFilling d (now (s .entry)))) (cursorIn (now (c .entry))) (now (out .entry)) (cursorIn (now (c .exit))) (now (out .exit)) ⌝ }
+    requires { ⌜ (d < 256) × (4 ≤ length (now s)) × Asks (widthIn (now sizes)) (cursorIn (now c)) (now (now text)) (countIn (now sizes)) h depth ⌝ }
+    ensures { λ _. ⌜ Written (widthIn (now (sizes .entry))) (membersFilled (now (sizes .entry)) (now (form .entry)) (now (now (text .entry))) h depth (memberFilling d (now (s .entry)))) (cursorIn (now (c .entry))) (now (out .entry)) (cursorIn (now (c .exit))) (now (out .exit)) ⌝ }
 {
     let p = model::read_particle(s, 0);
     let q = p.quantifier;
-    let w = p.what;
+    let what = p.what;
     if model::skips(q) {
         return;
     }
-    match w {
-        What::Element(i) => put_definition(i, form, text, a, h, depth, c, out),
+    match what {
+        What::Element(i) => put_definition(i, form, text, sizes, h, depth, c, out),
         What::Group(k, _) => {
             let t = &s[4..];
             if accepts_nothing(t, d + 1, k) {
                 return;
             }
-            put_group(t, d + 1, k, form, text, a, h, depth, c, out)
+            put_group(t, d + 1, k, form, text, sizes, h, depth, c, out)
         }
     }
 }
@@ -165,22 +184,23 @@ fn put_definition(
     i: usize,
     form: &[&[u8]; 3],
     text: &&[u8],
-    a: usize,
+    sizes: &[usize; 2],
     h: usize,
     depth: usize,
     c: &mut [usize; 3],
     out: &mut [u8],
 )
-    requires { ⌜ (i ≤ 256) × Asks (cursorIn (now c)) (now (now text)) a h depth ⌝ }
-    ensures { λ _. ⌜ Written baseWidth (definitionFilled (now (form .entry)) (now (now (text .entry))) a h depth i) (cursorIn (now (c .entry))) (now (out .entry)) (cursorIn (now (c .exit))) (now (out .exit)) ⌝ }
+    requires { ⌜ (i ≤ 256) × Asks (widthIn (now sizes)) (cursorIn (now c)) (now (now text)) (countIn (now sizes)) h depth ⌝ }
+    ensures { λ _. ⌜ Written (widthIn (now (sizes .entry))) (definitionFilled (now (sizes .entry)) (now (form .entry)) (now (now (text .entry))) h depth i) (cursorIn (now (c .entry))) (now (out .entry)) (cursorIn (now (c .exit))) (now (out .exit)) ⌝ }
 {
     if h == 0 {
         return;
     }
+    let w = sizes[0];
     let t = *text;
-    put_row(1, depth, i, &t[..0], c, out);
-    put_required(i, a, form[2], depth + 1, c, out);
-    put_below(i, form, text, a, h - 1, depth + 1, c, out)
+    put_row(w, 1, depth, i, &t[..0], c, out);
+    put_required(w, i, sizes[1], form[2], depth + 1, c, out);
+    put_below(i, form, text, sizes, h - 1, depth + 1, c, out)
 }
 
 // Writes the text of definition i, or the filling of its top list.
@@ -188,22 +208,33 @@ fn put_below(
     i: usize,
     form: &[&[u8]; 3],
     text: &&[u8],
-    a: usize,
+    sizes: &[usize; 2],
     h: usize,
     depth: usize,
     c: &mut [usize; 3],
     out: &mut [u8],
 )
-    requires { ⌜ (i ≤ 256) × Asks (cursorIn (now c)) (now (now text)) a h depth ⌝ }
-    ensures { λ _. ⌜ Written baseWidth (belowFilled (now (form .entry)) (now (now (text .entry))) a h depth i) (cursorIn (now (c .entry))) (now (out .entry)) (cursorIn (now (c .exit))) (now (out .exit)) ⌝ }
+    requires { ⌜ (i ≤ 256) × Asks (widthIn (now sizes)) (cursorIn (now c)) (now (now text)) (countIn (now sizes)) h depth ⌝ }
+    ensures { λ _. ⌜ Written (widthIn (now (sizes .entry))) (belowFilled (now (sizes .entry)) (now (form .entry)) (now (now (text .entry))) h depth i) (cursorIn (now (c .entry))) (now (out .entry)) (cursorIn (now (c .exit))) (now (out .exit)) ⌝ }
 {
     let k = rowpass::kind_of(form[0], i);
     match k {
         0 => {}
-        1 => put_row(3, depth, 0, *text, c, out),
+        1 => put_row(sizes[0], 3, depth, 0, *text, c, out),
         _ => {
             let s = rowpass::model_part(form[0], form[1], i);
-            put_group(s, 0, GroupKind::Sequence, form, text, a, h, depth, c, out)
+            put_group(
+                s,
+                0,
+                GroupKind::Sequence,
+                form,
+                text,
+                sizes,
+                h,
+                depth,
+                c,
+                out,
+            )
         }
     }
 }
@@ -215,21 +246,21 @@ fn put_members(
     d: usize,
     form: &[&[u8]; 3],
     text: &&[u8],
-    a: usize,
+    sizes: &[usize; 2],
     h: usize,
     depth: usize,
     c: &mut [usize; 3],
     out: &mut [u8],
 )
-    requires { ⌜ (first ≤ 256) × (d ≤ 256) × Asks (cursorIn (now c)) (now (now text)) a h depth ⌝ }
-    ensures { λ _. ⌜ Written baseWidth (membersFilled (now (form .entry)) (now (now (text .entry))) a h depth (groupFilled kind (membersAt (partsIn (now (form .entry))) first d))) (cursorIn (now (c .entry))) (now (out .entry)) (cursorIn (now (c .exit))) (now (out .exit)) ⌝ }
+    requires { ⌜ (first ≤ 256) × (d ≤ 256) × Asks (widthIn (now sizes)) (cursorIn (now c)) (now (now text)) (countIn (now sizes)) h depth ⌝ }
+    ensures { λ _. ⌜ Written (widthIn (now (sizes .entry))) (membersFilled (now (sizes .entry)) (now (form .entry)) (now (now (text .entry))) h depth (groupFilled kind (membersAt (partsIn (now (form .entry))) first d))) (cursorIn (now (c .entry))) (now (out .entry)) (cursorIn (now (c .exit))) (now (out .exit)) ⌝ }
 {
     let parts = form[1];
     let s = layout::window(parts, 4 * first, parts.len());
     if accepts_nothing(s, d, kind) {
         return;
     }
-    put_group(s, d, kind, form, text, a, h, depth, c, out)
+    put_group(s, d, kind, form, text, sizes, h, depth, c, out)
 }
 
 // Writes what a change fills with.
@@ -237,26 +268,26 @@ fn put_any(
     what: Filling,
     form: &[&[u8]; 3],
     text: &&[u8],
-    a: usize,
+    sizes: &[usize; 2],
     h: usize,
     depth: usize,
     c: &mut [usize; 3],
     out: &mut [u8],
 )
-    requires { ⌜ Indexed what × Asks (cursorIn (now c)) (now (now text)) a h depth ⌝ }
-    ensures { λ _. ⌜ Written baseWidth (changeFilled (now (form .entry)) (now (now (text .entry))) a h depth what) (cursorIn (now (c .entry))) (now (out .entry)) (cursorIn (now (c .exit))) (now (out .exit)) ⌝ }
+    requires { ⌜ Indexed what × Asks (widthIn (now sizes)) (cursorIn (now c)) (now (now text)) (countIn (now sizes)) h depth ⌝ }
+    ensures { λ _. ⌜ Written (widthIn (now (sizes .entry))) (changeFilled (now (sizes .entry)) (now (form .entry)) (now (now (text .entry))) h depth what) (cursorIn (now (c .entry))) (now (out .entry)) (cursorIn (now (c .exit))) (now (out .exit)) ⌝ }
 {
     match what {
         Filling::Nothing => {}
-        Filling::Definition(i) => put_definition(i, form, text, a, h, depth, c, out),
-        Filling::Attribute(j) => put_row(2, depth, j, *text, c, out),
+        Filling::Definition(i) => put_definition(i, form, text, sizes, h, depth, c, out),
+        Filling::Attribute(j) => put_row(sizes[0], 2, depth, j, *text, c, out),
         Filling::Particles(k, first, d) => put_members(
             k,
             first,
             d,
             form,
             text,
-            a,
+            sizes,
             h,
             depth,
             c,
@@ -267,6 +298,7 @@ fn put_any(
 
 /// Writes what a change fills with, as rows of depth `depth`: n definitions, a attributes.
 pub fn put_filling<'a>(
+    w: usize,
     n: usize,
     defs: &'a [u8],
     parts: &'a [u8],
@@ -278,12 +310,13 @@ pub fn put_filling<'a>(
     c: Cursor,
     out: &mut [u8],
 ) -> Cursor
-    requires { ⌜ Indexed what × Asks c (now text) a n depth ⌝ }
-    ensures { λ r. ⌜ Written baseWidth (fillingRows (indexForm baseWidth n (now (defs .entry)) (now (parts .entry)) (now (attrs .entry)) a) (λ j. attributeIn baseWidth (now (attrs .entry)) j .value) (λ k d. membersAt (now (parts .entry)) k d) what (now (text .entry)) depth) c (now (out .entry)) r (now (out .exit)) ⌝ }
+    requires { ⌜ Indexed what × Asks w c (now text) a n depth ⌝ }
+    ensures { λ r. ⌜ Written w (fillingRows (indexForm w n (now (defs .entry)) (now (parts .entry)) (now (attrs .entry)) a) (λ j. attributeIn w (now (attrs .entry)) j .value) (λ k d. membersAt (now (parts .entry)) k d) what (now (text .entry)) depth) c (now (out .entry)) r (now (out .exit)) ⌝ }
 {
     let form = [defs, parts, attrs];
+    let sizes = [w, a];
     let mut r = [c.at, c.left, c.serial];
-    put_any(what, &form, &text, a, n, depth, &mut r, out);
+    put_any(what, &form, &text, &sizes, n, depth, &mut r, out);
     Cursor {
         at: r[0],
         left: r[1],

@@ -3,7 +3,7 @@ use lib.ListN.{take, drop, length-take, length-drop, length}
 use Rattle.rules.specs.Model.{filling}
 use Rattle.model.specs.Members.{membersFrom}
 use Rattle.rows.proofs.WrittenLaws.{written-stop, written-room, written-long}
-use Rattle.filling.specs.Parts.{defsIn, partsIn, attrsIn, cursorIn}
+use Rattle.filling.specs.Parts.{defsIn, partsIn, attrsIn, widthIn, countIn, cursorIn}
 use Rattle.filling.proofs.FillingLaws.{Rest, rest-starts, rest-deeper, rest-on, rest-first, rest-over, rest-ends, member-skips, member-element, member-nothing, member-group, definition-low, definition-written, below-none, below-text, below-group, none-written, one-written, same-written, index-small, top, rank, rank-particles, rank-part, rank-height, part-short}
 use borrow.Author.Needs.{needs}
 use native.Mathlib.Omega.{arith}
@@ -33,55 +33,55 @@ use Rattle.rowpass.proofs.model_part.Reads as model-part-reads
 use Rattle.filling.proofs.+put_below+put_definition+put_group+put_member.{statement}
 use Rattle.filling.proofs.+put_below+put_definition+put_group+put_member.Tie.{close}
 
-abbrev μ-put-below : Measures 6 put-below-kinds.ps ℕ
+abbrev μ-put-below : Measures 7 put-below-kinds.ps ℕ
 μ-put-below κs a = rank (a .1 .1 .1 .1 .0) top
 
-abbrev μ-put-definition : Measures 6 put-definition-kinds.ps ℕ
+abbrev μ-put-definition : Measures 7 put-definition-kinds.ps ℕ
 μ-put-definition κs a = rank (a .1 .1 .1 .1 .0) 0
 
-abbrev μ-put-group : Measures 7 put-group-kinds.ps ℕ
+abbrev μ-put-group : Measures 8 put-group-kinds.ps ℕ
 μ-put-group κs a = rank (a .1 .1 .1 .1 .1 .1 .0) (4 * length (a .0 .now) + 1)
 
-abbrev μ-put-member : Measures 7 put-member-kinds.ps ℕ
+abbrev μ-put-member : Measures 8 put-member-kinds.ps ℕ
 μ-put-member κs a = rank (a .1 .1 .1 .1 .1 .0) (4 * length (a .0 .now))
 
-abbrev put-below-at : ℕ → In 6 put-below-kinds.ps
-put-below-at t = and 6 put-below-kinds.ps (is 6 put-below-kinds.ps μ-put-below t) put-below.Pre
+abbrev put-below-at : ℕ → In 7 put-below-kinds.ps
+put-below-at t = and 7 put-below-kinds.ps (is 7 put-below-kinds.ps μ-put-below t) put-below.Pre
 
-abbrev put-below-below : ℕ → In 6 put-below-kinds.ps
+abbrev put-below-below : ℕ → In 7 put-below-kinds.ps
 put-below-below t =
-    and 6 put-below-kinds.ps (falls 6 put-below-kinds.ps _<_ μ-put-below t) put-below.Pre
+    and 7 put-below-kinds.ps (falls 7 put-below-kinds.ps _<_ μ-put-below t) put-below.Pre
 
-abbrev put-definition-at : ℕ → In 6 put-definition-kinds.ps
+abbrev put-definition-at : ℕ → In 7 put-definition-kinds.ps
 put-definition-at t =
     and
-    6
+    7
     put-definition-kinds.ps
-    (is 6 put-definition-kinds.ps μ-put-definition t)
+    (is 7 put-definition-kinds.ps μ-put-definition t)
     put-definition.Pre
 
-abbrev put-definition-below : ℕ → In 6 put-definition-kinds.ps
+abbrev put-definition-below : ℕ → In 7 put-definition-kinds.ps
 put-definition-below t =
     and
-    6
+    7
     put-definition-kinds.ps
-    (falls 6 put-definition-kinds.ps _<_ μ-put-definition t)
+    (falls 7 put-definition-kinds.ps _<_ μ-put-definition t)
     put-definition.Pre
 
-abbrev put-group-at : ℕ → In 7 put-group-kinds.ps
-put-group-at t = and 7 put-group-kinds.ps (is 7 put-group-kinds.ps μ-put-group t) put-group.Pre
+abbrev put-group-at : ℕ → In 8 put-group-kinds.ps
+put-group-at t = and 8 put-group-kinds.ps (is 8 put-group-kinds.ps μ-put-group t) put-group.Pre
 
-abbrev put-group-below : ℕ → In 7 put-group-kinds.ps
+abbrev put-group-below : ℕ → In 8 put-group-kinds.ps
 put-group-below t =
-    and 7 put-group-kinds.ps (falls 7 put-group-kinds.ps _<_ μ-put-group t) put-group.Pre
+    and 8 put-group-kinds.ps (falls 8 put-group-kinds.ps _<_ μ-put-group t) put-group.Pre
 
-abbrev put-member-at : ℕ → In 7 put-member-kinds.ps
+abbrev put-member-at : ℕ → In 8 put-member-kinds.ps
 put-member-at t =
-    and 7 put-member-kinds.ps (is 7 put-member-kinds.ps μ-put-member t) put-member.Pre
+    and 8 put-member-kinds.ps (is 8 put-member-kinds.ps μ-put-member t) put-member.Pre
 
-abbrev put-member-below : ℕ → In 7 put-member-kinds.ps
+abbrev put-member-below : ℕ → In 8 put-member-kinds.ps
 put-member-below t =
-    and 7 put-member-kinds.ps (falls 7 put-member-kinds.ps _<_ μ-put-member t) put-member.Pre
+    and 8 put-member-kinds.ps (falls 8 put-member-kinds.ps _<_ μ-put-member t) put-member.Pre
 
 abbrev put-below-calls : ℕ → put-below-lts.Claims
 put-below-calls t = (kind-of-reads.Asked, kind-of-reads.Learnt, put-row-reads.Asked, put-row-reads.Learnt, model-part-reads.Asked, model-part-reads.Learnt, put-group-below t, put-group.Post)
@@ -101,8 +101,11 @@ put-below-element-copy-out-kind-of t c = search needs
 put-below-kind-of-requires : (t : ℕ) → put-below-lts.Need-kind-of-requires (put-below-calls t) (put-below-at t) put-below.Post
 put-below-kind-of-requires t c κs = search needs
 
+put-below-element-copy-out-put-row : (t : ℕ) → put-below-lts.Need-element-copy-out-put-row (put-below-calls t) (put-below-at t) put-below.Post
+put-below-element-copy-out-put-row t c = search needs
+
 put-below-put-row-requires : (t : ℕ) → put-below-lts.Need-put-row-requires (put-below-calls t) (put-below-at t) put-below.Post
-put-below-put-row-requires t c κs = let q = c .before .before .before .before .before .before .before .pre .1 .1 in (q .room, omega (arith, q .deep), omega arith, q .text)
+put-below-put-row-requires t c κs = let q = c .before .before .before .before .before .before .before .before .pre .1 .1 in (q .width, q .room, omega (arith, q .deep), omega arith, q .text)
 
 put-below-element-copy-out-model-part : (t : ℕ) → put-below-lts.Need-element-copy-out-model-part (put-below-calls t) (put-below-at t) put-below.Post
 put-below-element-copy-out-model-part t c = search needs
@@ -118,61 +121,68 @@ put-below-put-group-requires : (t : ℕ) → put-below-lts.Need-put-group-requir
 put-below-put-group-requires t c κs = let a = c .before .before .before .before .before .before .before .before .before .args in let q = c .before .before .before .before .before .before .before .before .before .pre .1 .1 in let short = part-short (defsIn (a .form .now)) (partsIn (a .form .now)) (a .i) (c .before .before .model-part .result .now) (c .before .before .model-part .ensures) in (omega (arith, rank-part (a .h) (length (c .before .before .model-part .result .now)) (omega arith)), (omega arith, q))
 
 put-below-returns : (t : ℕ) → put-below-lts.Need-returns (put-below-calls t) (put-below-at t) put-below.Post
-put-below-returns t c = let a = c .before .before .before .before .args in below-none (defsIn (a .form .now)) (partsIn (a .form .now)) (attrsIn (a .form .now)) (a .a) (a .text .now .now) (a .h) (a .depth) (a .i) _ (c .before .kind-of .ensures) (omega arith)
+put-below-returns t c = let a = c .before .before .before .before .args in below-none (widthIn (a .sizes .now)) (defsIn (a .form .now)) (partsIn (a .form .now)) (attrsIn (a .form .now)) (countIn (a .sizes .now)) (a .text .now .now) (a .h) (a .depth) (a .i) _ (c .before .kind-of .ensures) (omega arith)
 
 put-below-same-length : (t : ℕ) → put-below-lts.Need-same-length (put-below-calls t) (put-below-at t) put-below.Post
 put-below-same-length t c = search needs
 
 put-below-returns-2 : (t : ℕ) → put-below-lts.Need-returns-2 (put-below-calls t) (put-below-at t) put-below.Post
-put-below-returns-2 t c = let a = c .before .before .before .before .before .before .before .before .before .before .args in below-text (defsIn (a .form .now)) (partsIn (a .form .now)) (attrsIn (a .form .now)) (a .a) (a .text .now .now) (a .h) (a .depth) (a .i) _ (c .before .before .before .before .before .before .before .kind-of .ensures) (omega arith) (c .before .before .put-row .ensures)
+put-below-returns-2 t c = let a = c .before .before .before .before .before .before .before .before .before .before .before .args in below-text (widthIn (a .sizes .now)) (defsIn (a .form .now)) (partsIn (a .form .now)) (attrsIn (a .form .now)) (countIn (a .sizes .now)) (a .text .now .now) (a .h) (a .depth) (a .i) _ (c .before .before .before .before .before .before .before .before .kind-of .ensures) (omega arith) (c .before .before .put-row .ensures)
 
 put-below-same-length-2 : (t : ℕ) → put-below-lts.Need-same-length-2 (put-below-calls t) (put-below-at t) put-below.Post
 put-below-same-length-2 t c = search needs
 
 put-below-returns-3 : (t : ℕ) → put-below-lts.Need-returns-3 (put-below-calls t) (put-below-at t) put-below.Post
-put-below-returns-3 t c = let a = c .before .before .before .before .before .before .before .before .before .before .before .before .args in below-group (defsIn (a .form .now)) (partsIn (a .form .now)) (attrsIn (a .form .now)) (a .a) (a .text .now .now) (a .h) (a .depth) (a .i) _ (c .before .before .before .before .before .before .before .before .before .kind-of .ensures) _ (λ e. omega arith) (λ e. omega arith) (c .before .before .before .before .before .model-part .ensures) (c .before .before .put-group .ensures)
+put-below-returns-3 t c = let a = c .before .before .before .before .before .before .before .before .before .before .before .before .args in below-group (widthIn (a .sizes .now)) (defsIn (a .form .now)) (partsIn (a .form .now)) (attrsIn (a .form .now)) (countIn (a .sizes .now)) (a .text .now .now) (a .h) (a .depth) (a .i) _ (c .before .before .before .before .before .before .before .before .before .kind-of .ensures) _ (λ e. omega arith) (λ e. omega arith) (c .before .before .before .before .before .model-part .ensures) (c .before .before .put-group .ensures)
 
 put-definition-returns : (t : ℕ) → put-definition-lts.Need-returns (put-definition-calls t) (put-definition-at t) put-definition.Post
-put-definition-returns t c = let a = c .before .before .args in definition-low (defsIn (a .form .now)) (partsIn (a .form .now)) (attrsIn (a .form .now)) (a .a) (a .text .now .now) (a .h) (a .depth) (a .i) (omega arith)
+put-definition-returns t c = let a = c .before .before .args in definition-low (widthIn (a .sizes .now)) (defsIn (a .form .now)) (partsIn (a .form .now)) (attrsIn (a .form .now)) (countIn (a .sizes .now)) (a .text .now .now) (a .h) (a .depth) (a .i) (omega arith)
+
+put-definition-element-copy-out-w : (t : ℕ) → put-definition-lts.Need-element-copy-out-w (put-definition-calls t) (put-definition-at t) put-definition.Post
+put-definition-element-copy-out-w t c = search needs
 
 put-definition-slice-aggregate-put-row : (t : ℕ) → put-definition-lts.Need-slice-aggregate-put-row (put-definition-calls t) (put-definition-at t) put-definition.Post
 put-definition-slice-aggregate-put-row t c = search needs
 
 put-definition-put-row-requires : (t : ℕ) → put-definition-lts.Need-put-row-requires (put-definition-calls t) (put-definition-at t) put-definition.Post
-put-definition-put-row-requires t c κs = let q = c .before .before .before .before .before .before .pre .1 .1 in (q .room, omega (arith, q .deep), omega arith, omega arith)
+put-definition-put-row-requires t c κs = let q = c .before .before .before .before .before .before .before .pre .1 .1 in (q .width, q .room, omega (arith, q .deep), omega arith, omega arith)
 
 put-definition-element-copy-out-put-required :
     (t : ℕ) → put-definition-lts.Need-element-copy-out-put-required (put-definition-calls t) (put-definition-at t) put-definition.Post
 put-definition-element-copy-out-put-required t c = search needs
 
+put-definition-element-copy-out-put-required-2 :
+    (t : ℕ) → put-definition-lts.Need-element-copy-out-put-required-2 (put-definition-calls t) (put-definition-at t) put-definition.Post
+put-definition-element-copy-out-put-required-2 t c = search needs
+
 put-definition-add-put-required : (t : ℕ) → put-definition-lts.Need-add-put-required (put-definition-calls t) (put-definition-at t) put-definition.Post
-put-definition-add-put-required t c = let q = c .before .before .before .before .before .before .before .before .before .before .pre .1 .1 in omega (arith, q .deep)
+put-definition-add-put-required t c = let q = c .before .before .before .before .before .before .before .before .before .before .before .before .pre .1 .1 in omega (arith, q .deep)
 
 put-definition-put-required-requires : (t : ℕ) → put-definition-lts.Need-put-required-requires (put-definition-calls t) (put-definition-at t) put-definition.Post
-put-definition-put-required-requires t c κs = let q = c .before .before .before .before .before .before .before .before .before .before .before .before .pre .1 .1 in (written-room (c .before .before .before .before .before .put-row .ensures) (q .room), q .attributes, omega (arith, q .deep))
+put-definition-put-required-requires t c κs = let q = c .before .before .before .before .before .before .before .before .before .before .before .before .before .before .pre .1 .1 in (q .width, written-room (c .before .before .before .before .before .before .put-row .ensures) (q .room), q .attributes, omega (arith, q .deep))
 
 put-definition-sub-put-below : (t : ℕ) → put-definition-lts.Need-sub-put-below (put-definition-calls t) (put-definition-at t) put-definition.Post
 put-definition-sub-put-below t c = omega arith
 
 put-definition-add-put-below : (t : ℕ) → put-definition-lts.Need-add-put-below (put-definition-calls t) (put-definition-at t) put-definition.Post
-put-definition-add-put-below t c = let q = c .before .before .before .before .before .before .before .before .before .before .before .before .before .before .before .pre .1 .1 in omega (arith, q .deep)
+put-definition-add-put-below t c = let q = c .before .before .before .before .before .before .before .before .before .before .before .before .before .before .before .before .before .pre .1 .1 in omega (arith, q .deep)
 
 put-definition-put-below-requires : (t : ℕ) → put-definition-lts.Need-put-below-requires (put-definition-calls t) (put-definition-at t) put-definition.Post
-put-definition-put-below-requires t c κs = let a = c .before .before .before .before .before .before .before .before .before .before .before .before .before .before .before .before .before .args in let q = c .before .before .before .before .before .before .before .before .before .before .before .before .before .before .before .before .before .pre .1 .1 in (omega (arith, rank-height (a .h) (λ e. omega arith)), (omega arith, record { room = written-room (c .before .before .before .before .put-required .ensures) (written-room (c .before .before .before .before .before .before .before .before .before .before .put-row .ensures) (q .room)); text = q .text; attributes = q .attributes; deep = omega (arith, q .deep) }))
+put-definition-put-below-requires t c κs = let a = c .before .before .before .before .before .before .before .before .before .before .before .before .before .before .before .before .before .before .before .args in let q = c .before .before .before .before .before .before .before .before .before .before .before .before .before .before .before .before .before .before .before .pre .1 .1 in (omega (arith, rank-height (a .h) (λ e. omega arith)), (omega arith, record { width = q .width; room = written-room (c .before .before .before .before .put-required .ensures) (written-room (c .before .before .before .before .before .before .before .before .before .before .before .put-row .ensures) (q .room)); text = q .text; attributes = q .attributes; deep = omega (arith, q .deep) }))
 
 put-definition-same-length : (t : ℕ) → put-definition-lts.Need-same-length (put-definition-calls t) (put-definition-at t) put-definition.Post
 put-definition-same-length t c = search needs
 
 put-definition-returns-2 : (t : ℕ) → put-definition-lts.Need-returns-2 (put-definition-calls t) (put-definition-at t) put-definition.Post
-put-definition-returns-2 t c = let a = c .before .before .before .before .before .before .before .before .before .before .before .before .before .before .before .before .before .before .before .before .args in definition-written (defsIn (a .form .now)) (partsIn (a .form .now)) (attrsIn (a .form .now)) (a .a) (a .text .now .now) (a .h) (a .depth) (a .i) (λ e. omega arith) (c .before .before .before .before .before .before .before .before .before .before .before .before .before .put-row .ensures) (c .before .before .before .before .before .before .before .put-required .ensures) (c .before .before .put-below .ensures)
+put-definition-returns-2 t c = let a = c .before .before .before .before .before .before .before .before .before .before .before .before .before .before .before .before .before .before .before .before .before .before .args in definition-written (widthIn (a .sizes .now)) (defsIn (a .form .now)) (partsIn (a .form .now)) (attrsIn (a .form .now)) (countIn (a .sizes .now)) (a .text .now .now) (a .h) (a .depth) (a .i) (λ e. omega arith) (c .before .before .before .before .before .before .before .before .before .before .before .before .before .before .put-row .ensures) (c .before .before .before .before .before .before .before .put-required .ensures) (c .before .before .put-below .ensures)
 
 -- the members from t on are still to be written
 abbrev put-group-Inv-loop : put-group-lts.InvT-loop
-put-group-Inv-loop s d kind form text a h depth c₀ out₀ t₀ c out t =
-    Rest (defsIn form) (partsIn form) (attrsIn form) a (text .now) h depth kind d s (cursorIn c₀) out₀ t (cursorIn c) out
+put-group-Inv-loop s d kind form text sizes h depth c₀ out₀ t₀ c out t =
+    Rest (widthIn sizes) (defsIn form) (partsIn form) (attrsIn form) (countIn sizes) (text .now) h depth kind d s (cursorIn c₀) out₀ t (cursorIn c) out
 
 abbrev put-group-μ-loop : put-group-lts.MeasureT-loop
-put-group-μ-loop s d kind form text a h depth c₀ out₀ t₀ c out t = length t
+put-group-μ-loop s d kind form text sizes h depth c₀ out₀ t₀ c out t = length t
 
 put-group-loop-holds : (t : ℕ) → put-group-lts.Need-loop-holds (put-group-calls t) (put-group-at t) put-group.Post put-group-Inv-loop put-group-μ-loop
 put-group-loop-holds t c = rest-starts (c .before .before .pre .1 .1 .room)
@@ -214,7 +224,7 @@ put-group-loop-again : (t : ℕ) → put-group-lts.Need-loop-again (put-group-ca
 put-group-loop-again t c = rest-deeper (c .before .before .before .before .before .before .before .loop .inv) (omega arith) _ (c .before .before .before .before .before .byte .ensures) (omega arith)
 
 put-group-put-member-requires : (t : ℕ) → put-group-lts.Need-put-member-requires (put-group-calls t) (put-group-at t) put-group.Post put-group-Inv-loop put-group-μ-loop
-put-group-put-member-requires t c κs = let a = c .before .before .before .before .before .before .before .before .before .before .before .args in let q = c .before .before .before .before .before .before .before .before .before .before .before .pre .1 .1 in let i = c .before .before .before .before .before .before .before .before .loop .inv in (omega (arith, rank-particles (a .h) (4 * length (c .before .before .before .before .before .before .before .before .loop .t .now)) (4 * length (a .s .now) + 1) (omega (arith, i .short))), (omega arith, omega arith, record { room = i .room; text = q .text; attributes = q .attributes; deep = q .deep }))
+put-group-put-member-requires t c κs = let a = c .before .before .before .before .before .before .before .before .before .before .before .args in let q = c .before .before .before .before .before .before .before .before .before .before .before .pre .1 .1 in let i = c .before .before .before .before .before .before .before .before .loop .inv in (omega (arith, rank-particles (a .h) (4 * length (c .before .before .before .before .before .before .before .before .loop .t .now)) (4 * length (a .s .now) + 1) (omega (arith, i .short))), (omega arith, omega arith, record { width = q .width; room = i .room; text = q .text; attributes = q .attributes; deep = q .deep }))
 
 put-group-enum-told : (t : ℕ) → put-group-lts.Need-enum-told (put-group-calls t) (put-group-at t) put-group.Post put-group-Inv-loop put-group-μ-loop
 put-group-enum-told t c = search needs
@@ -256,16 +266,16 @@ put-member-skips-requires : (t : ℕ) → put-member-lts.Need-skips-requires (pu
 put-member-skips-requires t c κs = search needs
 
 put-member-returns : (t : ℕ) → put-member-lts.Need-returns (put-member-calls t) (put-member-at t) put-member.Post
-put-member-returns t c = let a = c .before .before .before .before .before .args in none-written (defsIn (a .form .now)) (partsIn (a .form .now)) (attrsIn (a .form .now)) (a .a) (a .text .now .now) (a .h) (a .depth) _ (member-skips (a .d) (a .s .now) _ (c .before .before .read-particle .ensures) _ (c .before .skips .ensures) (c .if1 .taken))
+put-member-returns t c = let a = c .before .before .before .before .before .args in none-written (widthIn (a .sizes .now)) (defsIn (a .form .now)) (partsIn (a .form .now)) (attrsIn (a .form .now)) (countIn (a .sizes .now)) (a .text .now .now) (a .h) (a .depth) _ (member-skips (a .d) (a .s .now) _ (c .before .before .read-particle .ensures) _ (c .before .skips .ensures) (c .if1 .taken))
 
-put-member-enum-known-w : (t : ℕ) → put-member-lts.Need-enum-known-w (put-member-calls t) (put-member-at t) put-member.Post
-put-member-enum-known-w t c = search needs
+put-member-enum-known-what : (t : ℕ) → put-member-lts.Need-enum-known-what (put-member-calls t) (put-member-at t) put-member.Post
+put-member-enum-known-what t c = search needs
 
 put-member-put-definition-requires : (t : ℕ) → put-member-lts.Need-put-definition-requires (put-member-calls t) (put-member-at t) put-member.Post
-put-member-put-definition-requires t c κs = let a = c .before .before .before .before .before .before .before .before .before .before .args in let q = c .before .before .before .before .before .before .before .before .before .before .pre .1 .2 in let i = index-small (a .s .now) _ _ (c .before .before .before .before .before .before .before .read-particle .ensures) (c .before .before .before .w .given .1) (c .before .before .before .before .before .before .before .before .before .shared-slice-known .given 2 .fits) in (omega (arith, rank-particles (a .h) 0 (4 * length (a .s .now)) (omega arith)), (omega arith, q))
+put-member-put-definition-requires t c κs = let a = c .before .before .before .before .before .before .before .before .before .before .args in let q = c .before .before .before .before .before .before .before .before .before .before .pre .1 .2 in let i = index-small (a .s .now) _ _ (c .before .before .before .before .before .before .before .read-particle .ensures) (c .before .before .before .what .given .1) (c .before .before .before .before .before .before .before .before .before .shared-slice-known .given 2 .fits) in (omega (arith, rank-particles (a .h) 0 (4 * length (a .s .now)) (omega arith)), (omega arith, q))
 
-put-member-enum-known-w-2 : (t : ℕ) → put-member-lts.Need-enum-known-w-2 (put-member-calls t) (put-member-at t) put-member.Post
-put-member-enum-known-w-2 t c = search needs
+put-member-enum-known-what-2 : (t : ℕ) → put-member-lts.Need-enum-known-what-2 (put-member-calls t) (put-member-at t) put-member.Post
+put-member-enum-known-what-2 t c = search needs
 
 put-member-sub-t : (t : ℕ) → put-member-lts.Need-sub-t (put-member-calls t) (put-member-at t) put-member.Post
 put-member-sub-t t c = search needs
@@ -283,7 +293,7 @@ put-member-accepts-nothing-requires : (t : ℕ) → put-member-lts.Need-accepts-
 put-member-accepts-nothing-requires t c κs = search needs
 
 put-member-returns-2 : (t : ℕ) → put-member-lts.Need-returns-2 (put-member-calls t) (put-member-at t) put-member.Post
-put-member-returns-2 t c = let a = c .before .before .before .before .before .before .before .before .before .before .before .args in none-written (defsIn (a .form .now)) (partsIn (a .form .now)) (attrsIn (a .form .now)) (a .a) (a .text .now .now) (a .h) (a .depth) _ (member-nothing (a .d) (a .s .now) _ (c .before .before .before .before .before .before .before .before .read-particle .ensures) _ (c .before .before .before .before .before .before .before .skips .ensures) (c .before .before .before .before .before .before .if1 .left) _ _ (c .before .before .before .before .w2 .given .1) _ refl _ (c .before .accepts-nothing .ensures) (c .if2 .taken))
+put-member-returns-2 t c = let a = c .before .before .before .before .before .before .before .before .before .before .before .args in none-written (widthIn (a .sizes .now)) (defsIn (a .form .now)) (partsIn (a .form .now)) (attrsIn (a .form .now)) (countIn (a .sizes .now)) (a .text .now .now) (a .h) (a .depth) _ (member-nothing (a .d) (a .s .now) _ (c .before .before .before .before .before .before .before .before .read-particle .ensures) _ (c .before .before .before .before .before .before .before .skips .ensures) (c .before .before .before .before .before .before .if1 .left) _ _ (c .before .before .before .before .what2 .given .1) _ refl _ (c .before .accepts-nothing .ensures) (c .if2 .taken))
 
 put-member-add-put-group : (t : ℕ) → put-member-lts.Need-add-put-group (put-member-calls t) (put-member-at t) put-member.Post
 put-member-add-put-group t c = search needs
@@ -295,13 +305,13 @@ put-member-same-length : (t : ℕ) → put-member-lts.Need-same-length (put-memb
 put-member-same-length t c = search needs
 
 put-member-returns-3 : (t : ℕ) → put-member-lts.Need-returns-3 (put-member-calls t) (put-member-at t) put-member.Post
-put-member-returns-3 t c = let a = c .before .before .before .before .before .before .before .before .before .before .before .before .before .args in one-written (defsIn (a .form .now)) (partsIn (a .form .now)) (attrsIn (a .form .now)) (a .a) (a .text .now .now) (a .h) (a .depth) _ _ (member-element (a .d) (a .s .now) _ (c .before .before .before .before .before .before .before .before .before .before .read-particle .ensures) _ (c .before .before .before .before .before .before .before .before .before .skips .ensures) (c .before .before .before .before .before .before .before .before .if1 .left) _ (c .before .before .before .before .before .before .w .given .1)) (c .before .before .put-definition .ensures)
+put-member-returns-3 t c = let a = c .before .before .before .before .before .before .before .before .before .before .before .before .before .args in one-written (widthIn (a .sizes .now)) (defsIn (a .form .now)) (partsIn (a .form .now)) (attrsIn (a .form .now)) (countIn (a .sizes .now)) (a .text .now .now) (a .h) (a .depth) _ _ (member-element (a .d) (a .s .now) _ (c .before .before .before .before .before .before .before .before .before .before .read-particle .ensures) _ (c .before .before .before .before .before .before .before .before .before .skips .ensures) (c .before .before .before .before .before .before .before .before .if1 .left) _ (c .before .before .before .before .before .before .what .given .1)) (c .before .before .put-definition .ensures)
 
 put-member-same-length-2 : (t : ℕ) → put-member-lts.Need-same-length-2 (put-member-calls t) (put-member-at t) put-member.Post
 put-member-same-length-2 t c = search needs
 
 put-member-returns-4 : (t : ℕ) → put-member-lts.Need-returns-4 (put-member-calls t) (put-member-at t) put-member.Post
-put-member-returns-4 t c = let a = c .before .before .before .before .before .before .before .before .before .before .before .before .before .before .before .before .args in same-written (defsIn (a .form .now)) (partsIn (a .form .now)) (attrsIn (a .form .now)) (a .a) (a .text .now .now) (a .h) (a .depth) _ _ (member-group (a .d) (a .s .now) _ (c .before .before .before .before .before .before .before .before .before .before .before .before .before .read-particle .ensures) _ (c .before .before .before .before .before .before .before .before .before .before .before .before .skips .ensures) (c .before .before .before .before .before .before .before .before .before .before .before .if1 .left) _ _ (c .before .before .before .before .before .before .before .before .before .w2 .given .1) _ refl _ (c .before .before .before .before .before .before .accepts-nothing .ensures) (c .before .before .before .before .before .if2 .left)) (c .before .before .put-group .ensures)
+put-member-returns-4 t c = let a = c .before .before .before .before .before .before .before .before .before .before .before .before .before .before .before .before .args in same-written (widthIn (a .sizes .now)) (defsIn (a .form .now)) (partsIn (a .form .now)) (attrsIn (a .form .now)) (countIn (a .sizes .now)) (a .text .now .now) (a .h) (a .depth) _ _ (member-group (a .d) (a .s .now) _ (c .before .before .before .before .before .before .before .before .before .before .before .before .before .read-particle .ensures) _ (c .before .before .before .before .before .before .before .before .before .before .before .before .skips .ensures) (c .before .before .before .before .before .before .before .before .before .before .before .if1 .left) _ _ (c .before .before .before .before .before .before .before .before .before .what2 .given .1) _ refl _ (c .before .before .before .before .before .before .accepts-nothing .ensures) (c .before .before .before .before .before .if2 .left)) (c .before .before .put-group .ensures)
 
 pub +put-below+put-definition+put-group+put-member-spec : {M : Type 1} → statement M
 +put-below+put-definition+put-group+put-member-spec =
@@ -310,6 +320,7 @@ pub +put-below+put-definition+put-group+put-member-spec : {M : Type 1} → state
     put-below.Post
     (put-below-element-copy-out-kind-of t)
     (put-below-kind-of-requires t)
+    (put-below-element-copy-out-put-row t)
     (put-below-put-row-requires t)
     (put-below-element-copy-out-model-part t)
     (put-below-element-copy-out-model-part-2 t)
@@ -324,9 +335,11 @@ pub +put-below+put-definition+put-group+put-member-spec : {M : Type 1} → state
     (put-definition-at t)
     put-definition.Post
     (put-definition-returns t)
+    (put-definition-element-copy-out-w t)
     (put-definition-slice-aggregate-put-row t)
     (put-definition-put-row-requires t)
     (put-definition-element-copy-out-put-required t)
+    (put-definition-element-copy-out-put-required-2 t)
     (put-definition-add-put-required t)
     (put-definition-put-required-requires t)
     (put-definition-sub-put-below t)
@@ -370,9 +383,9 @@ pub +put-below+put-definition+put-group+put-member-spec : {M : Type 1} → state
     (put-member-read-particle-requires t)
     (put-member-skips-requires t)
     (put-member-returns t)
-    (put-member-enum-known-w t)
+    (put-member-enum-known-what t)
     (put-member-put-definition-requires t)
-    (put-member-enum-known-w-2 t)
+    (put-member-enum-known-what-2 t)
     (put-member-sub-t t)
     (put-member-part-t-start t)
     (put-member-part-t-end t)

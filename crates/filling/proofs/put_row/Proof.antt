@@ -2,14 +2,14 @@ use borrow.Author.Needs.{needs}
 use Rattle.filling.proofs.put_row.Statement.{statement}
 use Rattle.filling.proofs.put_row.Tie as tie
 
-element-copy-out-t11 : tie.Need-element-copy-out-t11
-element-copy-out-t11 c = search needs
+element-copy-out-t12 : tie.Need-element-copy-out-t12
+element-copy-out-t12 c = search needs
 
-element-copy-out-t14 : tie.Need-element-copy-out-t14
-element-copy-out-t14 c = search needs
+element-copy-out-t15 : tie.Need-element-copy-out-t15
+element-copy-out-t15 c = search needs
 
-element-copy-out-t17 : tie.Need-element-copy-out-t17
-element-copy-out-t17 c = search needs
+element-copy-out-t18 : tie.Need-element-copy-out-t18
+element-copy-out-t18 c = search needs
 
 put-new-requires : tie.Need-put-new-requires
 put-new-requires c κs = search needs
@@ -24,9 +24,9 @@ pub put-row-spec : {M : Type 1} → statement M
 put-row-spec =
     tie.close
     (tie.spec
-    element-copy-out-t11
-    element-copy-out-t14
-    element-copy-out-t17
+    element-copy-out-t12
+    element-copy-out-t15
+    element-copy-out-t18
     put-new-requires
     same-length
     returns)

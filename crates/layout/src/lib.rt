@@ -31,6 +31,16 @@ pub fn times(size: usize, n: usize) -> usize
     size * n
 }
 
+// ---- sizes
+
+/// Bytes of a row.
+pub fn row_size(w: usize) -> usize
+    requires { ⌜ Width w ⌝ }
+    ensures { λ r. ⌜ r ≡ rowSize w ⌝ }
+{
+    12 + w
+}
+
 // ---- records of a body
 
 /// Record i of a body of records of `size` bytes.

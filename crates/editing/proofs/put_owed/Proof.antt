@@ -1,16 +1,18 @@
-use Rattle.editing.proofs.StepLaws.{owed-put, owed-none}
+-- `editing::put_owed` meets its contract.
+use Rattle.editing.proofs.StepLaws.{at-width, owed-put, owed-none}
 use borrow.Author.Needs.{needs}
 use Rattle.editing.proofs.put_owed.Statement.{statement}
 use Rattle.editing.proofs.put_owed.Tie as tie
 
 put-filling-requires : tie.Need-put-filling-requires
-put-filling-requires c κs = search needs
+put-filling-requires c κs = (c .before .before .before .before .before .before .before .pre .1, c .before .before .before .before .before .before .before .pre .2)
 
 same-length : tie.Need-same-length
 same-length c = search needs
 
 returns : tie.Need-returns
-returns c = owed-put (c .before .before .before .before .if1 .taken) (c .before .before .put-filling .ensures)
+returns c = owed-put (c .before .before .before .before .if1 .taken)
+    (at-width (c .before .before .before .before .before .before .before .before .before .before .pre .0) (c .before .before .put-filling .ensures))
 
 returns-2 : tie.Need-returns-2
 returns-2 c = owed-none _ (c .if1 .left)

@@ -1,5 +1,4 @@
 -- The filling of particles and of definitions, one step on; and the rows that are written of it.
--- Assumes nothing.
 use Prim.Native.Nat.{ℕ, zero, suc, _+_, _-_, _*_, _<_, _≤_}
 use native.Mathlib.Omega.{arith}
 use native.Mathlib.Numerals.{add-one}
@@ -31,8 +30,8 @@ use Rattle.rowpass.specs.Indices.{IndexForm}
 use Rattle.rowpass.specs.Reading.{recordAt, definitionIn, attributeIn, particlesBefore, modelPart, attributesOf, indexForm}
 use Rattle.records.specs.Records.{baseWidth}
 use Rattle.rows.specs.declared.Cursor.{Cursor}
-use Rattle.rows.specs.Written.{Written, newRow}
-use Rattle.rows.proofs.WrittenLaws.{written-none, written-then, written-as}
+use Rattle.rows.specs.Written.{Written, Room, newRow}
+use Rattle.rows.proofs.WrittenLaws.{written-none, written-then, written-as, written-room, written-long}
 use Rattle.filling.specs.declared.Filling.{Filling}
 use Rattle.filling.specs.declared.Filling.the-variants.{Nothing, Definition, Attribute, Particles}
 use Rattle.filling.specs.Fillings.{newElement, newAttribute, requiredRows, fillingsOf, contentRows, fillIndex, groupFilled, fillingRows}
@@ -276,6 +275,57 @@ module _ (defs parts attrs : Bytes) (a : ℕ) (txt : Bytes) where
 
         pub first-written : {c r : Cursor} {out out′ : Bytes} → k ≡ Choice → Written baseWidth (memberRows defs parts attrs a txt h d u) c out r out′ → Written baseWidth (memberRows defs parts attrs a txt h d f) c out r out′
         first-written q p = same-written u (e ∙ ap (λ (z : GroupKind). beside z u v) q) p
+
+-- ---- the members of a group, one after the other
+-- the members of depth e from t on are still to be written; once they are, all from s on are
+pub record Rest (defs parts attrs : Bytes) (a : ℕ) (txt : Bytes) (h d : ℕ) (k : GroupKind) (e : ℕ) (s : Bytes) (c : Cursor) (out t : Bytes) (r : Cursor) (out′ : Bytes) : Type 0 where
+  pub rest : {r′ : Cursor} {out″ : Bytes} → Written baseWidth (memberRows defs parts attrs a txt h d (filling k (membersFrom e t))) r out′ r′ out″
+      → Written baseWidth (memberRows defs parts attrs a txt h d (filling k (membersFrom e s))) c out r′ out″
+  pub room : Room baseWidth r
+  pub short : length t ≤ length s
+  pub long : length out′ ≡ length out
+
+module _ {defs parts attrs : Bytes} {a : ℕ} {txt : Bytes} {h d : ℕ} {k : GroupKind} {e : ℕ} {s : Bytes} {c : Cursor} {out : Bytes} where
+  pub rest-starts : Room baseWidth c → Rest defs parts attrs a txt h d k e s c out s c out
+  rest-starts m = record { rest = λ p. p; room = m; short = omega arith; long = refl }
+
+  -- after the particle that t begins with, whose depth is own
+  module _ {t : Bytes} {r : Cursor} {out′ : Bytes} (i : Rest defs parts attrs a txt h d k e s c out t r out′) (l : 4 ≤ length t) (own : ℕ) (g : own ≡ getD t 3 0) where
+    next-short : length (take (length t - 4) (drop 4 t)) ≤ length s
+    next-short = omega (arith, i .short, length-take (length t - 4) (drop 4 t), length-drop 4 t)
+
+    -- it is deeper, so it belongs to another member
+    pub rest-deeper : e < own → Rest defs parts attrs a txt h d k e s c out (take (length t - 4) (drop 4 t)) r out′
+    rest-deeper m =
+        record {
+          rest = λ p. i .rest (same-written defs parts attrs a txt h d (filling k (membersFrom e t)) (filling k (membersFrom e (take (length t - 4) (drop 4 t)))) (group-deeper e k t own l g m) p);
+          room = i .room;
+          short = next-short;
+          long = i .long;
+        }
+
+    module _ (m : own ≤ e) (n : e ≤ own) {r′ : Cursor} {out″ : Bytes} (p : Written baseWidth (memberRows defs parts attrs a txt h d (memberFilling e t)) r out′ r′ out″) where
+      -- it is a member of a LIST, and was written
+      pub rest-on : k ≡ Sequence → Rest defs parts attrs a txt h d k e s c out (take (length t - 4) (drop 4 t)) r′ out″
+      rest-on q =
+          record {
+            rest = λ w. i .rest (list-written defs parts attrs a txt h d (filling k (membersFrom e t)) k (memberFilling e t) (filling k (membersFrom e (take (length t - 4) (drop 4 t)))) (group-here e k t own l g m n) q p w);
+            room = written-room p (i .room);
+            short = next-short;
+            long = written-long p ∙ i .long;
+          }
+
+      -- it is the first member of a CHOICE
+      pub rest-first : k ≡ Choice → Written baseWidth (memberRows defs parts attrs a txt h d (filling k (membersFrom e s))) c out r′ out″
+      rest-first q = i .rest (first-written defs parts attrs a txt h d (filling k (membersFrom e t)) k (memberFilling e t) (filling k (membersFrom e (take (length t - 4) (drop 4 t)))) (group-here e k t own l g m n) q p)
+
+    -- it stands outside the group
+    pub rest-over : own < e → Written baseWidth (memberRows defs parts attrs a txt h d (filling k (membersFrom e s))) c out r out′
+    rest-over m = i .rest (none-written defs parts attrs a txt h d (filling k (membersFrom e t)) (group-stop e k t own l g m))
+
+  -- there is no particle more
+  pub rest-ends : {t : Bytes} {r : Cursor} {out′ : Bytes} → Rest defs parts attrs a txt h d k e s c out t r out′ → length t < 4 → Written baseWidth (memberRows defs parts attrs a txt h d (filling k (membersFrom e s))) c out r out′
+  rest-ends {t} i l = i .rest (none-written defs parts attrs a txt h d (filling k (membersFrom e t)) (group-few e k t l))
 
 -- ---- an index in a particle is a byte
 abbrev elementIn : What → ℕ

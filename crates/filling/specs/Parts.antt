@@ -1,9 +1,9 @@
 -- The filling of what the bytes of a form hold: of particles, of definitions, of what a change fills with.
--- Assumes nothing.
 use Prim.Native.Nat.{ℕ, suc, _+_, _*_, _<_, _≤_}
 use mathlib.Core.Bool.{_||_}
 use mathlib.Core.List.{List, [], _∷_}
-use lib.ListN.{length, drop}
+use lib.ListN.{length, drop, getD}
+use denote.Ref.{RefT}
 use Rattle.rules.specs.declared.Quantifier.{Quantifier}
 use Rattle.rules.specs.Bytes.{Bytes}
 use Rattle.rules.specs.Model.{Members, skips, nothing, unless, filling}
@@ -21,7 +21,7 @@ use Rattle.rows.specs.declared.Cursor.{Cursor}
 use Rattle.rows.specs.Written.{Room}
 use Rattle.filling.specs.declared.Filling.{Filling}
 use Rattle.filling.specs.declared.Filling.the-variants.{Nothing, Definition, Attribute, Particles}
-use Rattle.filling.specs.Fillings.{requiredRows, fillingsOf, contentRows, fillIndex}
+use Rattle.filling.specs.Fillings.{requiredRows, fillingsOf, contentRows, fillIndex, fillingRows}
 
 -- ---- 'a particle that accepts nothing fills with nothing'
 -- a particle by what it is; `below` are its members
@@ -63,6 +63,37 @@ module _ (defs parts attrs : Bytes) (a : ℕ) (txt : Bytes) (h d : ℕ) where
   -- what stands below an element of definition i, after its attributes
   unfoldable pub belowRows : ℕ → List (Deep FlatRow)
   belowRows i = contentRows (formIn defs parts attrs a) (valueIn attrs) (λ j. definitionRows j) txt d (membersOf (modelPart defs parts i)) (definitionIn defs i .kind)
+
+-- ---- a form as it is lent: definitions, particles, attributes
+abbrev pub lentIn : List (RefT Bytes) → ℕ → Bytes
+lentIn fs k = getD fs k (record { ptr = (0, 0); name = 0; now = [] }) .now
+
+abbrev pub defsIn : List (RefT Bytes) → Bytes
+defsIn fs = lentIn fs 0
+
+abbrev pub partsIn : List (RefT Bytes) → Bytes
+partsIn fs = lentIn fs 1
+
+abbrev pub attrsIn : List (RefT Bytes) → Bytes
+attrsIn fs = lentIn fs 2
+
+-- the rows of a definition, of members, of what stands below an element, and of what a change fills with
+module _ (fs : List (RefT Bytes)) (txt : Bytes) (a h d : ℕ) where
+  abbrev pub definitionFilled : ℕ → List (Deep FlatRow)
+  definitionFilled i = definitionRows (defsIn fs) (partsIn fs) (attrsIn fs) a txt h d i
+
+  abbrev pub membersFilled : List ℕ → List (Deep FlatRow)
+  membersFilled is = memberRows (defsIn fs) (partsIn fs) (attrsIn fs) a txt h d is
+
+  abbrev pub belowFilled : ℕ → List (Deep FlatRow)
+  belowFilled i = belowRows (defsIn fs) (partsIn fs) (attrsIn fs) a txt h d i
+
+  abbrev pub changeFilled : Filling → List (Deep FlatRow)
+  changeFilled what = fillingRows (indexForm h (defsIn fs) (partsIn fs) (attrsIn fs) a) (valueIn (attrsIn fs)) (λ k e. membersAt (partsIn fs) k e) what txt d
+
+-- a cursor as it is lent: where the next row goes, how many may still be written, the next serial
+abbrev pub cursorIn : List ℕ → Cursor
+cursorIn l = record { at = getD l 0 0; left = getD l 1 0; serial = getD l 2 0 }
 
 -- ---- what the writers ask
 pub record Asks (c : Cursor) (txt : Bytes) (a h d : ℕ) : Type 0 where

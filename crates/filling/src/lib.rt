@@ -4,14 +4,15 @@ use rows::Cursor;
 use rules::GroupKind;
 ghost use mathlib.Core.Path.{_≡_};
 ghost use Prim.Native.Nat.{ℕ, _+_, _<_, _≤_};
+ghost use mathlib.Core.List.{[], _∷_};
 ghost use lib.ListN.{length};
 ghost use Rattle.rules.specs.Model.{nothing, filling};
 ghost use Rattle.model.specs.Members.{membersFrom};
 ghost use Rattle.rowpass.specs.Reading.{attributeIn, indexForm};
 ghost use Rattle.records.specs.Records.{baseWidth};
-ghost use Rattle.rows.specs.Written.{Room, Written};
+ghost use Rattle.rows.specs.Written.{Room, Written, newRow};
 ghost use Rattle.filling.specs.Fillings.{groupFilled, fillingRows};
-ghost use Rattle.filling.specs.Parts.{memberFilling, valueIn, requiredAt, requiredIn, definitionRows, memberRows, belowRows, membersAt, Asks, Indexed};
+ghost use Rattle.filling.specs.Parts.{memberFilling, valueIn, requiredAt, requiredIn, membersAt, partsIn, definitionFilled, membersFilled, belowFilled, changeFilled, cursorIn, Asks, Indexed};
 
 /// The width of a value.
 const WIDTH: usize = 32;
@@ -35,7 +36,7 @@ fn accepts_nothing(s: &[u8], d: usize, kind: GroupKind) -> bool
 }
 
 // The value that attribute j has in a created row, where it is one that must be present.
-fn fill_of(attrs: &[u8], j: usize) -> &[u8]
+fn created_value(attrs: &[u8], j: usize) -> &[u8]
     requires { ⌜ j ≤ 64 ⌝ }
     ensures { λ r. ⌜ (now r ≡ valueIn (now (attrs .entry)) j) × (length (now r) ≤ 32) ⌝ }
 {
@@ -43,36 +44,44 @@ fn fill_of(attrs: &[u8], j: usize) -> &[u8]
     rowpass::cut(record, 20, codec::byte(record, 19) as usize)
 }
 
+// ---- The writers of a filling call each other as deep as definitions and groups are nested. So that their frames on the stack stay
+// small, the form is lent as one array of slices (definitions, particles, attributes), the text by one reference, and the cursor as one
+// array of numbers (its place, what is left, its serial).
+
+// Writes one row.
+fn put_row(sort: u8, depth: usize, index: usize, value: &[u8], c: &mut [usize; 3], out: &mut [u8])
+    requires { ⌜ Room baseWidth (cursorIn (now c)) × (depth < 256) × (index < 65536) × (length (now value) ≤ 32) ⌝ }
+    ensures { λ _. ⌜ Written baseWidth (newRow sort depth index (now (value .entry)) ∷ []) (cursorIn (now (c .entry))) (now (out .entry)) (cursorIn (now (c .exit))) (now (out .exit)) ⌝ }
+{
+    let from = Cursor {
+        at: c[0],
+        left: c[1],
+        serial: c[2],
+    };
+    let r = rows::put_new(WIDTH, sort, depth, index, value, from, out);
+    *c = [r.at, r.left, r.serial];
+}
+
 // Writes attribute j, if it is one that definition i needs.
-fn put_attribute(
-    i: usize,
-    j: usize,
-    attrs: &[u8],
-    depth: usize,
-    c: Cursor,
-    out: &mut [u8],
-) -> Cursor
-    requires { ⌜ Room baseWidth c × (j < 64) × (depth < 256) ⌝ }
-    ensures { λ r. ⌜ Written baseWidth (requiredAt (now (attrs .entry)) depth i j) c (now (out .entry)) r (now (out .exit)) ⌝ }
+fn put_attribute(i: usize, j: usize, attrs: &[u8], depth: usize, c: &mut [usize; 3], out: &mut [u8])
+    requires { ⌜ Room baseWidth (cursorIn (now c)) × (j < 64) × (depth < 256) ⌝ }
+    ensures { λ _. ⌜ Written baseWidth (requiredAt (now (attrs .entry)) depth i j) (cursorIn (now (c .entry))) (now (out .entry)) (cursorIn (now (c .exit))) (now (out .exit)) ⌝ }
 {
     if rowpass::needs(attrs, i, j) {
-        return rows::put_new(WIDTH, 2, depth, j, fill_of(attrs, j), c, out);
+        put_row(2, depth, j, created_value(attrs, j), c, out);
     }
-    c
 }
 
 // Writes the REQUIRED attributes of definition i, of a attributes.
-fn put_required(i: usize, a: usize, attrs: &[u8], depth: usize, c: Cursor, out: &mut [u8]) -> Cursor
-    requires { ⌜ Room baseWidth c × (a ≤ 64) × (depth < 256) ⌝ }
-    ensures { λ r. ⌜ Written baseWidth (requiredIn (now (attrs .entry)) depth i a) c (now (out .entry)) r (now (out .exit)) ⌝ }
+fn put_required(i: usize, a: usize, attrs: &[u8], depth: usize, c: &mut [usize; 3], out: &mut [u8])
+    requires { ⌜ Room baseWidth (cursorIn (now c)) × (a ≤ 64) × (depth < 256) ⌝ }
+    ensures { λ _. ⌜ Written baseWidth (requiredIn (now (attrs .entry)) depth i a) (cursorIn (now (c .entry))) (now (out .entry)) (cursorIn (now (c .exit))) (now (out .exit)) ⌝ }
 {
-    let mut r = c;
     let mut j = 0;
     while j < a {
-        r = put_attribute(i, j, attrs, depth, r, out);
+        put_attribute(i, j, attrs, depth, c, out);
         j += 1;
     }
-    r
 }
 
 // Writes the filling of the members of depth d that s begins with, in a group of a kind. Their rows have the depth `depth`, and no
@@ -81,37 +90,39 @@ fn put_group(
     s: &[u8],
     d: usize,
     kind: GroupKind,
-    defs: &[u8],
-    parts: &[u8],
+    form: &[&[u8]; 3],
+    text: &&[u8],
     a: usize,
-    attrs: &[u8],
-    text: &[u8],
     h: usize,
     depth: usize,
-    c: Cursor,
+    c: &mut [usize; 3],
     out: &mut [u8],
-) -> Cursor
-    requires { ⌜ (d ≤ 256) × Asks c (now text) a h depth ⌝ }
-    ensures { λ r. ⌜ Written baseWidth (memberRows (now (defs .entry)) (now (parts .entry)) (now (attrs .entry)) a (now (text .entry)) h depth (filling kind (membersFrom d (now (s .entry))))) c (now (out .entry)) r (now (out .exit)) ⌝ }
+)
+    requires { ⌜ (d ≤ 256) × Asks (cursorIn (now c)) (now (now text)) a h depth ⌝ }
+    ensures { λ _. ⌜ Written baseWidth (membersFilled (now (form .entry)) (now (now (text .entry))) a h depth (filling kind (membersFrom d (now (s .entry))))) (cursorIn (now (c .entry))) (now (out .entry)) (cursorIn (now (c .exit))) (now (out .exit)) ⌝ }
 {
-    if c.left == 0 {
-        return c;
-    }
-    if s.len() < 4 {
-        return c;
-    }
-    let own = codec::byte(s, 3) as usize;
-    let t = &s[4..];
-    if d < own {
-        return put_group(t, d, kind, defs, parts, a, attrs, text, h, depth, c, out);
-    }
-    if own < d {
-        return c;
-    }
-    let r = put_member(s, d, defs, parts, a, attrs, text, h, depth, c, out);
-    match kind {
-        GroupKind::Sequence => put_group(t, d, kind, defs, parts, a, attrs, text, h, depth, r, out),
-        GroupKind::Choice => r,
+    let mut t = s;
+    while t.len() >= 4 {
+        let own = codec::byte(t, 3) as usize;
+        if c[1] == 0 {
+            return;
+        }
+        if own < d {
+            return;
+        }
+        if d < own {
+            t = &t[4..];
+        } else {
+            put_member(t, d, form, text, a, h, depth, c, out);
+            match kind {
+                GroupKind::Sequence => {
+                    t = &t[4..];
+                }
+                GroupKind::Choice => {
+                    return;
+                }
+            }
+        }
     }
 }
 
@@ -119,33 +130,31 @@ fn put_group(
 fn put_member(
     s: &[u8],
     d: usize,
-    defs: &[u8],
-    parts: &[u8],
+    form: &[&[u8]; 3],
+    text: &&[u8],
     a: usize,
-    attrs: &[u8],
-    text: &[u8],
     h: usize,
     depth: usize,
-    c: Cursor,
+    c: &mut [usize; 3],
     out: &mut [u8],
-) -> Cursor
-    requires { ⌜ (d < 256) × (4 ≤ length (now s)) × Asks c (now text) a h depth ⌝ }
-    ensures { λ r. ⌜ Written baseWidth (memberRows (now (defs .entry)) (now (parts .entry)) (now (attrs .entry)) a (now (text .entry)) h depth (memberFilling d (now (s .entry)))) c (now (out .entry)) r (now (out .exit)) ⌝ }
+)
+    requires { ⌜ (d < 256) × (4 ≤ length (now s)) × Asks (cursorIn (now c)) (now (now text)) a h depth ⌝ }
+    ensures { λ _. ⌜ Written baseWidth (membersFilled (now (form .entry)) (now (now (text .entry))) a h depth (memberFilling d (now (s .entry)))) (cursorIn (now (c .entry))) (now (out .entry)) (cursorIn (now (c .exit))) (now (out .exit)) ⌝ }
 {
     let p = model::read_particle(s, 0);
     let q = p.quantifier;
     let w = p.what;
     if model::skips(q) {
-        return c;
+        return;
     }
     match w {
-        What::Element(i) => put_definition(i, defs, parts, a, attrs, text, h, depth, c, out),
+        What::Element(i) => put_definition(i, form, text, a, h, depth, c, out),
         What::Group(k, _) => {
             let t = &s[4..];
             if accepts_nothing(t, d + 1, k) {
-                return c;
+                return;
             }
-            put_group(t, d + 1, k, defs, parts, a, attrs, text, h, depth, c, out)
+            put_group(t, d + 1, k, form, text, a, h, depth, c, out)
         }
     }
 }
@@ -153,61 +162,48 @@ fn put_member(
 // Writes the filling of definition i, of at most the height h: its element, its attributes, and what stands below it.
 fn put_definition(
     i: usize,
-    defs: &[u8],
-    parts: &[u8],
+    form: &[&[u8]; 3],
+    text: &&[u8],
     a: usize,
-    attrs: &[u8],
-    text: &[u8],
     h: usize,
     depth: usize,
-    c: Cursor,
+    c: &mut [usize; 3],
     out: &mut [u8],
-) -> Cursor
-    requires { ⌜ (i ≤ 256) × Asks c (now text) a h depth ⌝ }
-    ensures { λ r. ⌜ Written baseWidth (definitionRows (now (defs .entry)) (now (parts .entry)) (now (attrs .entry)) a (now (text .entry)) h depth i) c (now (out .entry)) r (now (out .exit)) ⌝ }
+)
+    requires { ⌜ (i ≤ 256) × Asks (cursorIn (now c)) (now (now text)) a h depth ⌝ }
+    ensures { λ _. ⌜ Written baseWidth (definitionFilled (now (form .entry)) (now (now (text .entry))) a h depth i) (cursorIn (now (c .entry))) (now (out .entry)) (cursorIn (now (c .exit))) (now (out .exit)) ⌝ }
 {
     if h == 0 {
-        return c;
+        return;
     }
-    let e = rows::put_new(WIDTH, 1, depth, i, &text[..0], c, out);
-    let r = put_required(i, a, attrs, depth + 1, e, out);
-    put_below(i, defs, parts, a, attrs, text, h - 1, depth + 1, r, out)
+    let t = *text;
+    put_row(1, depth, i, &t[..0], c, out);
+    put_required(i, a, form[2], depth + 1, c, out);
+    put_below(i, form, text, a, h - 1, depth + 1, c, out)
 }
 
 // Writes the text of definition i, or the filling of its top list.
 fn put_below(
     i: usize,
-    defs: &[u8],
-    parts: &[u8],
+    form: &[&[u8]; 3],
+    text: &&[u8],
     a: usize,
-    attrs: &[u8],
-    text: &[u8],
     h: usize,
     depth: usize,
-    c: Cursor,
+    c: &mut [usize; 3],
     out: &mut [u8],
-) -> Cursor
-    requires { ⌜ (i ≤ 256) × Asks c (now text) a h depth ⌝ }
-    ensures { λ r. ⌜ Written baseWidth (belowRows (now (defs .entry)) (now (parts .entry)) (now (attrs .entry)) a (now (text .entry)) h depth i) c (now (out .entry)) r (now (out .exit)) ⌝ }
+)
+    requires { ⌜ (i ≤ 256) × Asks (cursorIn (now c)) (now (now text)) a h depth ⌝ }
+    ensures { λ _. ⌜ Written baseWidth (belowFilled (now (form .entry)) (now (now (text .entry))) a h depth i) (cursorIn (now (c .entry))) (now (out .entry)) (cursorIn (now (c .exit))) (now (out .exit)) ⌝ }
 {
-    let k = rowpass::kind_of(defs, i);
+    let k = rowpass::kind_of(form[0], i);
     match k {
-        0 => c,
-        1 => rows::put_new(WIDTH, 3, depth, 0, text, c, out),
-        _ => put_group(
-            rowpass::model_part(defs, parts, i),
-            0,
-            GroupKind::Sequence,
-            defs,
-            parts,
-            a,
-            attrs,
-            text,
-            h,
-            depth,
-            c,
-            out,
-        ),
+        0 => {}
+        1 => put_row(3, depth, 0, *text, c, out),
+        _ => {
+            let s = rowpass::model_part(form[0], form[1], i);
+            put_group(s, 0, GroupKind::Sequence, form, text, a, h, depth, c, out)
+        }
     }
 }
 
@@ -216,33 +212,65 @@ fn put_members(
     kind: GroupKind,
     first: usize,
     d: usize,
-    defs: &[u8],
-    parts: &[u8],
+    form: &[&[u8]; 3],
+    text: &&[u8],
     a: usize,
-    attrs: &[u8],
-    text: &[u8],
     h: usize,
     depth: usize,
-    c: Cursor,
+    c: &mut [usize; 3],
     out: &mut [u8],
-) -> Cursor
-    requires { ⌜ (first ≤ 256) × (d ≤ 256) × Asks c (now text) a h depth ⌝ }
-    ensures { λ r. ⌜ Written baseWidth (memberRows (now (defs .entry)) (now (parts .entry)) (now (attrs .entry)) a (now (text .entry)) h depth (groupFilled kind (membersAt (now (parts .entry)) first d))) c (now (out .entry)) r (now (out .exit)) ⌝ }
+)
+    requires { ⌜ (first ≤ 256) × (d ≤ 256) × Asks (cursorIn (now c)) (now (now text)) a h depth ⌝ }
+    ensures { λ _. ⌜ Written baseWidth (membersFilled (now (form .entry)) (now (now (text .entry))) a h depth (groupFilled kind (membersAt (partsIn (now (form .entry))) first d))) (cursorIn (now (c .entry))) (now (out .entry)) (cursorIn (now (c .exit))) (now (out .exit)) ⌝ }
 {
+    let parts = form[1];
     let s = rowpass::cut(parts, 4 * first, parts.len());
     if accepts_nothing(s, d, kind) {
-        return c;
+        return;
     }
-    put_group(s, d, kind, defs, parts, a, attrs, text, h, depth, c, out)
+    put_group(s, d, kind, form, text, a, h, depth, c, out)
+}
+
+// Writes what a change fills with.
+fn put_any(
+    what: Filling,
+    form: &[&[u8]; 3],
+    text: &&[u8],
+    a: usize,
+    h: usize,
+    depth: usize,
+    c: &mut [usize; 3],
+    out: &mut [u8],
+)
+    requires { ⌜ Indexed what × Asks (cursorIn (now c)) (now (now text)) a h depth ⌝ }
+    ensures { λ _. ⌜ Written baseWidth (changeFilled (now (form .entry)) (now (now (text .entry))) a h depth what) (cursorIn (now (c .entry))) (now (out .entry)) (cursorIn (now (c .exit))) (now (out .exit)) ⌝ }
+{
+    match what {
+        Filling::Nothing => {}
+        Filling::Definition(i) => put_definition(i, form, text, a, h, depth, c, out),
+        Filling::Attribute(j) => put_row(2, depth, j, *text, c, out),
+        Filling::Particles(k, first, d) => put_members(
+            k,
+            first,
+            d,
+            form,
+            text,
+            a,
+            h,
+            depth,
+            c,
+            out,
+        ),
+    }
 }
 
 /// Writes what a change fills with, as rows of depth `depth`: n definitions, a attributes.
-pub fn put_filling(
+pub fn put_filling<'a>(
     n: usize,
-    defs: &[u8],
-    parts: &[u8],
+    defs: &'a [u8],
+    parts: &'a [u8],
     a: usize,
-    attrs: &[u8],
+    attrs: &'a [u8],
     what: Filling,
     text: &[u8],
     depth: usize,
@@ -252,12 +280,12 @@ pub fn put_filling(
     requires { ⌜ Indexed what × Asks c (now text) a n depth ⌝ }
     ensures { λ r. ⌜ Written baseWidth (fillingRows (indexForm n (now (defs .entry)) (now (parts .entry)) (now (attrs .entry)) a) (λ j. attributeIn (now (attrs .entry)) j .value) (λ k d. membersAt (now (parts .entry)) k d) what (now (text .entry)) depth) c (now (out .entry)) r (now (out .exit)) ⌝ }
 {
-    match what {
-        Filling::Nothing => c,
-        Filling::Definition(i) => put_definition(i, defs, parts, a, attrs, text, n, depth, c, out),
-        Filling::Attribute(j) => rows::put_new(WIDTH, 2, depth, j, text, c, out),
-        Filling::Particles(k, first, d) => {
-            put_members(k, first, d, defs, parts, a, attrs, text, n, depth, c, out)
-        }
+    let form = [defs, parts, attrs];
+    let mut r = [c.at, c.left, c.serial];
+    put_any(what, &form, &text, a, n, depth, &mut r, out);
+    Cursor {
+        at: r[0],
+        left: r[1],
+        serial: r[2],
     }
 }

@@ -2,8 +2,9 @@ use mathlib.Core.Path.{refl}
 use lib.ListN.{take, drop, length-take, length-drop, length}
 use Rattle.rules.specs.Model.{filling}
 use Rattle.model.specs.Members.{membersFrom}
-use Rattle.rows.proofs.WrittenLaws.{written-stop, written-room}
-use Rattle.filling.proofs.FillingLaws.{group-few, group-deeper, group-stop, group-here, member-skips, member-element, member-nothing, member-group, definition-low, definition-written, below-none, below-text, below-group, none-written, one-written, same-written, list-written, first-written, index-small, top, rank, rank-particles, rank-part, rank-height, part-short}
+use Rattle.rows.proofs.WrittenLaws.{written-stop, written-room, written-long}
+use Rattle.filling.specs.Parts.{defsIn, partsIn, attrsIn, cursorIn}
+use Rattle.filling.proofs.FillingLaws.{Rest, rest-starts, rest-deeper, rest-on, rest-first, rest-over, rest-ends, member-skips, member-element, member-nothing, member-group, definition-low, definition-written, below-none, below-text, below-group, none-written, one-written, same-written, index-small, top, rank, rank-particles, rank-part, rank-height, part-short}
 use borrow.Author.Needs.{needs}
 use native.Mathlib.Omega.{arith}
 use Prim.Native.Nat.{ℕ, _<_, _+_, _-_, _*_}
@@ -24,117 +25,131 @@ use Rattle.filling.proofs.+put_below+put_definition+put_group+put_membe
 use Rattle.codec.proofs.byte.Reads as byte-reads
 use Rattle.filling.proofs.accepts_nothing.Reads as accepts-nothing-reads
 use Rattle.filling.proofs.put_required.Reads as put-required-reads
-use Rattle.model.proofs.skips.Reads as skips-reads
+use Rattle.filling.proofs.put_row.Reads as put-row-reads
 use Rattle.model.proofs.read_particle.Reads as read-particle-reads
+use Rattle.model.proofs.skips.Reads as skips-reads
 use Rattle.rowpass.proofs.kind_of.Reads as kind-of-reads
 use Rattle.rowpass.proofs.model_part.Reads as model-part-reads
-use Rattle.rows.proofs.put_new.Reads as put-new-reads
 use Rattle.filling.proofs.+put_below+put_definition+put_group+put_member.{statement}
 use Rattle.filling.proofs.+put_below+put_definition+put_group+put_member.Tie.{close}
 
-abbrev μ-put-below : Measures 5 put-below-kinds.ps ℕ
-μ-put-below κs a = rank (a .1 .1 .1 .1 .1 .1 .0) top
+abbrev μ-put-below : Measures 6 put-below-kinds.ps ℕ
+μ-put-below κs a = rank (a .1 .1 .1 .1 .0) top
 
-abbrev μ-put-definition : Measures 5 put-definition-kinds.ps ℕ
-μ-put-definition κs a = rank (a .1 .1 .1 .1 .1 .1 .0) 0
+abbrev μ-put-definition : Measures 6 put-definition-kinds.ps ℕ
+μ-put-definition κs a = rank (a .1 .1 .1 .1 .0) 0
 
-abbrev μ-put-group : Measures 6 put-group-kinds.ps ℕ
-μ-put-group κs a = rank (a .1 .1 .1 .1 .1 .1 .1 .1 .0) (4 * length (a .0 .now) + 1)
+abbrev μ-put-group : Measures 7 put-group-kinds.ps ℕ
+μ-put-group κs a = rank (a .1 .1 .1 .1 .1 .1 .0) (4 * length (a .0 .now) + 1)
 
-abbrev μ-put-member : Measures 6 put-member-kinds.ps ℕ
-μ-put-member κs a = rank (a .1 .1 .1 .1 .1 .1 .1 .0) (4 * length (a .0 .now))
+abbrev μ-put-member : Measures 7 put-member-kinds.ps ℕ
+μ-put-member κs a = rank (a .1 .1 .1 .1 .1 .0) (4 * length (a .0 .now))
 
-abbrev put-below-at : ℕ → In 5 put-below-kinds.ps
-put-below-at t = and 5 put-below-kinds.ps (is 5 put-below-kinds.ps μ-put-below t) put-below.Pre
+abbrev put-below-at : ℕ → In 6 put-below-kinds.ps
+put-below-at t = and 6 put-below-kinds.ps (is 6 put-below-kinds.ps μ-put-below t) put-below.Pre
 
-abbrev put-below-below : ℕ → In 5 put-below-kinds.ps
+abbrev put-below-below : ℕ → In 6 put-below-kinds.ps
 put-below-below t =
-    and 5 put-below-kinds.ps (falls 5 put-below-kinds.ps _<_ μ-put-below t) put-below.Pre
+    and 6 put-below-kinds.ps (falls 6 put-below-kinds.ps _<_ μ-put-below t) put-below.Pre
 
-abbrev put-definition-at : ℕ → In 5 put-definition-kinds.ps
+abbrev put-definition-at : ℕ → In 6 put-definition-kinds.ps
 put-definition-at t =
     and
-    5
+    6
     put-definition-kinds.ps
-    (is 5 put-definition-kinds.ps μ-put-definition t)
+    (is 6 put-definition-kinds.ps μ-put-definition t)
     put-definition.Pre
 
-abbrev put-definition-below : ℕ → In 5 put-definition-kinds.ps
+abbrev put-definition-below : ℕ → In 6 put-definition-kinds.ps
 put-definition-below t =
     and
-    5
+    6
     put-definition-kinds.ps
-    (falls 5 put-definition-kinds.ps _<_ μ-put-definition t)
+    (falls 6 put-definition-kinds.ps _<_ μ-put-definition t)
     put-definition.Pre
 
-abbrev put-group-at : ℕ → In 6 put-group-kinds.ps
-put-group-at t = and 6 put-group-kinds.ps (is 6 put-group-kinds.ps μ-put-group t) put-group.Pre
+abbrev put-group-at : ℕ → In 7 put-group-kinds.ps
+put-group-at t = and 7 put-group-kinds.ps (is 7 put-group-kinds.ps μ-put-group t) put-group.Pre
 
-abbrev put-group-below : ℕ → In 6 put-group-kinds.ps
+abbrev put-group-below : ℕ → In 7 put-group-kinds.ps
 put-group-below t =
-    and 6 put-group-kinds.ps (falls 6 put-group-kinds.ps _<_ μ-put-group t) put-group.Pre
+    and 7 put-group-kinds.ps (falls 7 put-group-kinds.ps _<_ μ-put-group t) put-group.Pre
 
-abbrev put-member-at : ℕ → In 6 put-member-kinds.ps
+abbrev put-member-at : ℕ → In 7 put-member-kinds.ps
 put-member-at t =
-    and 6 put-member-kinds.ps (is 6 put-member-kinds.ps μ-put-member t) put-member.Pre
+    and 7 put-member-kinds.ps (is 7 put-member-kinds.ps μ-put-member t) put-member.Pre
 
-abbrev put-member-below : ℕ → In 6 put-member-kinds.ps
+abbrev put-member-below : ℕ → In 7 put-member-kinds.ps
 put-member-below t =
-    and 6 put-member-kinds.ps (falls 6 put-member-kinds.ps _<_ μ-put-member t) put-member.Pre
+    and 7 put-member-kinds.ps (falls 7 put-member-kinds.ps _<_ μ-put-member t) put-member.Pre
 
 abbrev put-below-calls : ℕ → put-below-lts.Claims
-put-below-calls t = (kind-of-reads.Asked, kind-of-reads.Learnt, put-new-reads.Asked, put-new-reads.Learnt, model-part-reads.Asked, model-part-reads.Learnt, put-group-below t, put-group.Post)
+put-below-calls t = (kind-of-reads.Asked, kind-of-reads.Learnt, put-row-reads.Asked, put-row-reads.Learnt, model-part-reads.Asked, model-part-reads.Learnt, put-group-below t, put-group.Post)
 
 abbrev put-definition-calls : ℕ → put-definition-lts.Claims
-put-definition-calls t = (put-new-reads.Asked, put-new-reads.Learnt, put-required-reads.Asked, put-required-reads.Learnt, put-below-below t, put-below.Post)
+put-definition-calls t = (put-row-reads.Asked, put-row-reads.Learnt, put-required-reads.Asked, put-required-reads.Learnt, put-below-below t, put-below.Post)
 
 abbrev put-group-calls : ℕ → put-group-lts.Claims
-put-group-calls t = (byte-reads.Asked, byte-reads.Learnt, put-group-below t, put-group.Post, put-member-below t, put-member.Post)
+put-group-calls t = (byte-reads.Asked, byte-reads.Learnt, put-member-below t, put-member.Post)
 
 abbrev put-member-calls : ℕ → put-member-lts.Claims
 put-member-calls t = (read-particle-reads.Asked, read-particle-reads.Learnt, skips-reads.Asked, skips-reads.Learnt, put-definition-below t, put-definition.Post, accepts-nothing-reads.Asked, accepts-nothing-reads.Learnt, put-group-below t, put-group.Post)
 
+put-below-element-copy-out-kind-of : (t : ℕ) → put-below-lts.Need-element-copy-out-kind-of (put-below-calls t) (put-below-at t) put-below.Post
+put-below-element-copy-out-kind-of t c = search needs
+
 put-below-kind-of-requires : (t : ℕ) → put-below-lts.Need-kind-of-requires (put-below-calls t) (put-below-at t) put-below.Post
 put-below-kind-of-requires t c κs = search needs
 
-put-below-put-new-requires : (t : ℕ) → put-below-lts.Need-put-new-requires (put-below-calls t) (put-below-at t) put-below.Post
-put-below-put-new-requires t c κs = let q = c .before .before .before .before .before .before .before .before .pre .1 .1 in (omega arith, q .room, omega (arith, q .deep), omega arith, q .text)
+put-below-put-row-requires : (t : ℕ) → put-below-lts.Need-put-row-requires (put-below-calls t) (put-below-at t) put-below.Post
+put-below-put-row-requires t c κs = let q = c .before .before .before .before .before .before .before .pre .1 .1 in (q .room, omega (arith, q .deep), omega arith, q .text)
+
+put-below-element-copy-out-model-part : (t : ℕ) → put-below-lts.Need-element-copy-out-model-part (put-below-calls t) (put-below-at t) put-below.Post
+put-below-element-copy-out-model-part t c = search needs
+
+put-below-element-copy-out-model-part-2 :
+    (t : ℕ) → put-below-lts.Need-element-copy-out-model-part-2 (put-below-calls t) (put-below-at t) put-below.Post
+put-below-element-copy-out-model-part-2 t c = search needs
 
 put-below-model-part-requires : (t : ℕ) → put-below-lts.Need-model-part-requires (put-below-calls t) (put-below-at t) put-below.Post
 put-below-model-part-requires t c κs = search needs
 
 put-below-put-group-requires : (t : ℕ) → put-below-lts.Need-put-group-requires (put-below-calls t) (put-below-at t) put-below.Post
-put-below-put-group-requires t c κs = let a = c .before .before .before .before .before .before .before .before .before .args in let q = c .before .before .before .before .before .before .before .before .before .pre .1 .1 in let short = part-short (a .defs .now) (a .parts .now) (a .i) (c .before .model-part .result .now) (c .before .model-part .ensures) in (omega (arith, rank-part (a .h) (length (c .before .model-part .result .now)) (omega arith)), (omega arith, q))
+put-below-put-group-requires t c κs = let a = c .before .before .before .before .before .before .before .before .before .args in let q = c .before .before .before .before .before .before .before .before .before .pre .1 .1 in let short = part-short (defsIn (a .form .now)) (partsIn (a .form .now)) (a .i) (c .before .before .model-part .result .now) (c .before .before .model-part .ensures) in (omega (arith, rank-part (a .h) (length (c .before .before .model-part .result .now)) (omega arith)), (omega arith, q))
 
 put-below-returns : (t : ℕ) → put-below-lts.Need-returns (put-below-calls t) (put-below-at t) put-below.Post
-put-below-returns t c = let a = c .before .before .before .before .before .before .before .args in below-none (a .defs .now) (a .parts .now) (a .attrs .now) (a .a) (a .text .now) (a .h) (a .depth) (a .i) _ (c .before .kind-of .ensures) (omega arith)
+put-below-returns t c = let a = c .before .before .before .before .args in below-none (defsIn (a .form .now)) (partsIn (a .form .now)) (attrsIn (a .form .now)) (a .a) (a .text .now .now) (a .h) (a .depth) (a .i) _ (c .before .kind-of .ensures) (omega arith)
 
 put-below-same-length : (t : ℕ) → put-below-lts.Need-same-length (put-below-calls t) (put-below-at t) put-below.Post
 put-below-same-length t c = search needs
 
 put-below-returns-2 : (t : ℕ) → put-below-lts.Need-returns-2 (put-below-calls t) (put-below-at t) put-below.Post
-put-below-returns-2 t c = let a = c .before .before .before .before .before .before .before .before .before .before .before .args in below-text (a .defs .now) (a .parts .now) (a .attrs .now) (a .a) (a .text .now) (a .h) (a .depth) (a .i) _ (c .before .before .before .before .before .kind-of .ensures) (omega arith) (c .before .before .put-new .ensures)
+put-below-returns-2 t c = let a = c .before .before .before .before .before .before .before .before .before .before .args in below-text (defsIn (a .form .now)) (partsIn (a .form .now)) (attrsIn (a .form .now)) (a .a) (a .text .now .now) (a .h) (a .depth) (a .i) _ (c .before .before .before .before .before .before .before .kind-of .ensures) (omega arith) (c .before .before .put-row .ensures)
 
 put-below-same-length-2 : (t : ℕ) → put-below-lts.Need-same-length-2 (put-below-calls t) (put-below-at t) put-below.Post
 put-below-same-length-2 t c = search needs
 
 put-below-returns-3 : (t : ℕ) → put-below-lts.Need-returns-3 (put-below-calls t) (put-below-at t) put-below.Post
-put-below-returns-3 t c = let a = c .before .before .before .before .before .before .before .before .before .before .before .before .args in below-group (a .defs .now) (a .parts .now) (a .attrs .now) (a .a) (a .text .now) (a .h) (a .depth) (a .i) _ (c .before .before .before .before .before .before .kind-of .ensures) _ (λ e. omega arith) (λ e. omega arith) (c .before .before .before .before .model-part .ensures) (c .before .before .put-group .ensures)
+put-below-returns-3 t c = let a = c .before .before .before .before .before .before .before .before .before .before .before .before .args in below-group (defsIn (a .form .now)) (partsIn (a .form .now)) (attrsIn (a .form .now)) (a .a) (a .text .now .now) (a .h) (a .depth) (a .i) _ (c .before .before .before .before .before .before .before .before .before .kind-of .ensures) _ (λ e. omega arith) (λ e. omega arith) (c .before .before .before .before .before .model-part .ensures) (c .before .before .put-group .ensures)
 
 put-definition-returns : (t : ℕ) → put-definition-lts.Need-returns (put-definition-calls t) (put-definition-at t) put-definition.Post
-put-definition-returns t c = let a = c .before .before .before .before .before .before .args in definition-low (a .defs .now) (a .parts .now) (a .attrs .now) (a .a) (a .text .now) (a .h) (a .depth) (a .i) (omega arith)
+put-definition-returns t c = let a = c .before .before .args in definition-low (defsIn (a .form .now)) (partsIn (a .form .now)) (attrsIn (a .form .now)) (a .a) (a .text .now .now) (a .h) (a .depth) (a .i) (omega arith)
 
-put-definition-slice-aggregate-put-new : (t : ℕ) → put-definition-lts.Need-slice-aggregate-put-new (put-definition-calls t) (put-definition-at t) put-definition.Post
-put-definition-slice-aggregate-put-new t c = search needs
+put-definition-slice-aggregate-put-row : (t : ℕ) → put-definition-lts.Need-slice-aggregate-put-row (put-definition-calls t) (put-definition-at t) put-definition.Post
+put-definition-slice-aggregate-put-row t c = search needs
 
-put-definition-put-new-requires : (t : ℕ) → put-definition-lts.Need-put-new-requires (put-definition-calls t) (put-definition-at t) put-definition.Post
-put-definition-put-new-requires t c κs = let q = c .before .before .before .before .before .before .before .before .pre .1 .1 in (omega arith, q .room, omega (arith, q .deep), omega arith, omega arith)
+put-definition-put-row-requires : (t : ℕ) → put-definition-lts.Need-put-row-requires (put-definition-calls t) (put-definition-at t) put-definition.Post
+put-definition-put-row-requires t c κs = let q = c .before .before .before .before .before .before .pre .1 .1 in (q .room, omega (arith, q .deep), omega arith, omega arith)
+
+put-definition-element-copy-out-put-required :
+    (t : ℕ) → put-definition-lts.Need-element-copy-out-put-required (put-definition-calls t) (put-definition-at t) put-definition.Post
+put-definition-element-copy-out-put-required t c = search needs
 
 put-definition-add-put-required : (t : ℕ) → put-definition-lts.Need-add-put-required (put-definition-calls t) (put-definition-at t) put-definition.Post
-put-definition-add-put-required t c = let q = c .before .before .before .before .before .before .before .before .before .before .before .pre .1 .1 in omega (arith, q .deep)
+put-definition-add-put-required t c = let q = c .before .before .before .before .before .before .before .before .before .before .pre .1 .1 in omega (arith, q .deep)
 
 put-definition-put-required-requires : (t : ℕ) → put-definition-lts.Need-put-required-requires (put-definition-calls t) (put-definition-at t) put-definition.Post
-put-definition-put-required-requires t c κs = let q = c .before .before .before .before .before .before .before .before .before .before .before .before .pre .1 .1 in (written-room (c .before .before .before .put-new .ensures) (q .room), q .attributes, omega (arith, q .deep))
+put-definition-put-required-requires t c κs = let q = c .before .before .before .before .before .before .before .before .before .before .before .before .pre .1 .1 in (written-room (c .before .before .before .before .before .put-row .ensures) (q .room), q .attributes, omega (arith, q .deep))
 
 put-definition-sub-put-below : (t : ℕ) → put-definition-lts.Need-sub-put-below (put-definition-calls t) (put-definition-at t) put-definition.Post
 put-definition-sub-put-below t c = omega arith
@@ -143,70 +158,96 @@ put-definition-add-put-below : (t : ℕ) → put-definition-lts.Need-add-put-bel
 put-definition-add-put-below t c = let q = c .before .before .before .before .before .before .before .before .before .before .before .before .before .before .before .pre .1 .1 in omega (arith, q .deep)
 
 put-definition-put-below-requires : (t : ℕ) → put-definition-lts.Need-put-below-requires (put-definition-calls t) (put-definition-at t) put-definition.Post
-put-definition-put-below-requires t c κs = let a = c .before .before .before .before .before .before .before .before .before .before .before .before .before .before .before .before .args in let q = c .before .before .before .before .before .before .before .before .before .before .before .before .before .before .before .before .pre .1 .1 in (omega (arith, rank-height (a .h) (λ e. omega arith)), (omega arith, record { room = written-room (c .before .before .before .put-required .ensures) (written-room (c .before .before .before .before .before .before .before .put-new .ensures) (q .room)); text = q .text; attributes = q .attributes; deep = omega (arith, q .deep) }))
+put-definition-put-below-requires t c κs = let a = c .before .before .before .before .before .before .before .before .before .before .before .before .before .before .before .before .before .args in let q = c .before .before .before .before .before .before .before .before .before .before .before .before .before .before .before .before .before .pre .1 .1 in (omega (arith, rank-height (a .h) (λ e. omega arith)), (omega arith, record { room = written-room (c .before .before .before .before .put-required .ensures) (written-room (c .before .before .before .before .before .before .before .before .before .before .put-row .ensures) (q .room)); text = q .text; attributes = q .attributes; deep = omega (arith, q .deep) }))
 
 put-definition-same-length : (t : ℕ) → put-definition-lts.Need-same-length (put-definition-calls t) (put-definition-at t) put-definition.Post
 put-definition-same-length t c = search needs
 
 put-definition-returns-2 : (t : ℕ) → put-definition-lts.Need-returns-2 (put-definition-calls t) (put-definition-at t) put-definition.Post
-put-definition-returns-2 t c = let a = c .before .before .before .before .before .before .before .before .before .before .before .before .before .before .before .before .before .before .before .args in definition-written (a .defs .now) (a .parts .now) (a .attrs .now) (a .a) (a .text .now) (a .h) (a .depth) (a .i) (λ e. omega arith) (c .before .before .before .before .before .before .before .before .before .before .put-new .ensures) (c .before .before .before .before .before .before .put-required .ensures) (c .before .before .put-below .ensures)
+put-definition-returns-2 t c = let a = c .before .before .before .before .before .before .before .before .before .before .before .before .before .before .before .before .before .before .before .before .args in definition-written (defsIn (a .form .now)) (partsIn (a .form .now)) (attrsIn (a .form .now)) (a .a) (a .text .now .now) (a .h) (a .depth) (a .i) (λ e. omega arith) (c .before .before .before .before .before .before .before .before .before .before .before .before .before .put-row .ensures) (c .before .before .before .before .before .before .before .put-required .ensures) (c .before .before .put-below .ensures)
 
-put-group-returns : (t : ℕ) → put-group-lts.Need-returns (put-group-calls t) (put-group-at t) put-group.Post
-put-group-returns t c = written-stop (omega arith)
+-- the members from t on are still to be written
+abbrev put-group-Inv-loop : put-group-lts.InvT-loop
+put-group-Inv-loop s d kind form text a h depth c₀ out₀ t₀ c out t =
+    Rest (defsIn form) (partsIn form) (attrsIn form) a (text .now) h depth kind d s (cursorIn c₀) out₀ t (cursorIn c) out
 
-put-group-returns-2 : (t : ℕ) → put-group-lts.Need-returns-2 (put-group-calls t) (put-group-at t) put-group.Post
-put-group-returns-2 t c = let a = c .before .before .before .before .before .before .before .before .before .args in none-written (a .defs .now) (a .parts .now) (a .attrs .now) (a .a) (a .text .now) (a .h) (a .depth) (filling (a .kind) (membersFrom (a .d) (a .s .now))) (group-few (a .d) (a .kind) (a .s .now) (omega arith))
+abbrev put-group-μ-loop : put-group-lts.MeasureT-loop
+put-group-μ-loop s d kind form text a h depth c₀ out₀ t₀ c out t = length t
 
-put-group-byte-requires : (t : ℕ) → put-group-lts.Need-byte-requires (put-group-calls t) (put-group-at t) put-group.Post
+put-group-loop-holds : (t : ℕ) → put-group-lts.Need-loop-holds (put-group-calls t) (put-group-at t) put-group.Post put-group-Inv-loop put-group-μ-loop
+put-group-loop-holds t c = rest-starts (c .before .before .pre .1 .1 .room)
+
+put-group-byte-requires : (t : ℕ) → put-group-lts.Need-byte-requires (put-group-calls t) (put-group-at t) put-group.Post put-group-Inv-loop put-group-μ-loop
 put-group-byte-requires t c κs = search needs
 
-put-group-cast-own : (t : ℕ) → put-group-lts.Need-cast-own (put-group-calls t) (put-group-at t) put-group.Post
+put-group-cast-own : (t : ℕ) → put-group-lts.Need-cast-own (put-group-calls t) (put-group-at t) put-group.Post put-group-Inv-loop put-group-μ-loop
 put-group-cast-own t c = search needs
 
-put-group-sub-t : (t : ℕ) → put-group-lts.Need-sub-t (put-group-calls t) (put-group-at t) put-group.Post
+put-group-element-copy-out-if1 : (t : ℕ) → put-group-lts.Need-element-copy-out-if1 (put-group-calls t) (put-group-at t) put-group.Post put-group-Inv-loop put-group-μ-loop
+put-group-element-copy-out-if1 t c = search needs
+
+put-group-same-length : (t : ℕ) → put-group-lts.Need-same-length (put-group-calls t) (put-group-at t) put-group.Post put-group-Inv-loop put-group-μ-loop
+put-group-same-length t c = c .before .before .before .before .loop .inv .long
+
+put-group-returns : (t : ℕ) → put-group-lts.Need-returns (put-group-calls t) (put-group-at t) put-group.Post put-group-Inv-loop put-group-μ-loop
+put-group-returns t c = c .before .before .before .before .loop .inv .rest (written-stop (omega arith))
+
+put-group-same-length-2 : (t : ℕ) → put-group-lts.Need-same-length-2 (put-group-calls t) (put-group-at t) put-group.Post put-group-Inv-loop put-group-μ-loop
+put-group-same-length-2 t c = c .before .before .before .before .before .loop .inv .long
+
+put-group-returns-2 : (t : ℕ) → put-group-lts.Need-returns-2 (put-group-calls t) (put-group-at t) put-group.Post put-group-Inv-loop put-group-μ-loop
+put-group-returns-2 t c = rest-over (c .before .before .before .before .before .loop .inv) (omega arith) _ (c .before .before .before .byte .ensures) (omega arith)
+
+put-group-sub-t : (t : ℕ) → put-group-lts.Need-sub-t (put-group-calls t) (put-group-at t) put-group.Post put-group-Inv-loop put-group-μ-loop
 put-group-sub-t t c = search needs
 
-put-group-part-t-start : (t : ℕ) → put-group-lts.Need-part-t-start (put-group-calls t) (put-group-at t) put-group.Post
+put-group-part-t-start : (t : ℕ) → put-group-lts.Need-part-t-start (put-group-calls t) (put-group-at t) put-group.Post put-group-Inv-loop put-group-μ-loop
 put-group-part-t-start t c = search needs
 
-put-group-part-t-end : (t : ℕ) → put-group-lts.Need-part-t-end (put-group-calls t) (put-group-at t) put-group.Post
+put-group-part-t-end : (t : ℕ) → put-group-lts.Need-part-t-end (put-group-calls t) (put-group-at t) put-group.Post put-group-Inv-loop put-group-μ-loop
 put-group-part-t-end t c = search needs
 
-put-group-put-group-requires : (t : ℕ) → put-group-lts.Need-put-group-requires (put-group-calls t) (put-group-at t) put-group.Post
-put-group-put-group-requires t c κs = let a = c .before .before .before .before .before .before .before .before .before .before .before .before .before .args in let q = c .before .before .before .before .before .before .before .before .before .before .before .before .before .pre .1 .1 in (omega (arith, rank-particles (a .h) (4 * length (take (length (a .s .now) - 4) (drop 4 (a .s .now))) + 1) (4 * length (a .s .now) + 1) (omega (arith, length-take (length (a .s .now) - 4) (drop 4 (a .s .now)), length-drop 4 (a .s .now)))), (omega arith, q))
+put-group-loop-less : (t : ℕ) → put-group-lts.Need-loop-less (put-group-calls t) (put-group-at t) put-group.Post put-group-Inv-loop put-group-μ-loop
+put-group-loop-less t c = search needs
 
-put-group-same-length : (t : ℕ) → put-group-lts.Need-same-length (put-group-calls t) (put-group-at t) put-group.Post
-put-group-same-length t c = search needs
+put-group-loop-again : (t : ℕ) → put-group-lts.Need-loop-again (put-group-calls t) (put-group-at t) put-group.Post put-group-Inv-loop put-group-μ-loop
+put-group-loop-again t c = rest-deeper (c .before .before .before .before .before .before .before .loop .inv) (omega arith) _ (c .before .before .before .before .before .byte .ensures) (omega arith)
 
-put-group-returns-3 : (t : ℕ) → put-group-lts.Need-returns-3 (put-group-calls t) (put-group-at t) put-group.Post
-put-group-returns-3 t c = let a = c .before .before .before .before .before .before .before .before .before .before .before .before .before .before .before .before .args in same-written (a .defs .now) (a .parts .now) (a .attrs .now) (a .a) (a .text .now) (a .h) (a .depth) (filling (a .kind) (membersFrom (a .d) (a .s .now))) _ (group-deeper (a .d) (a .kind) (a .s .now) _ (omega arith) (c .before .before .before .before .before .before .byte .ensures) (omega arith)) (c .before .before .put-group .ensures)
+put-group-put-member-requires : (t : ℕ) → put-group-lts.Need-put-member-requires (put-group-calls t) (put-group-at t) put-group.Post put-group-Inv-loop put-group-μ-loop
+put-group-put-member-requires t c κs = let a = c .before .before .before .before .before .before .before .before .before .before .before .args in let q = c .before .before .before .before .before .before .before .before .before .before .before .pre .1 .1 in let i = c .before .before .before .before .before .before .before .before .loop .inv in (omega (arith, rank-particles (a .h) (4 * length (c .before .before .before .before .before .before .before .before .loop .t .now)) (4 * length (a .s .now) + 1) (omega (arith, i .short))), (omega arith, omega arith, record { room = i .room; text = q .text; attributes = q .attributes; deep = q .deep }))
 
-put-group-returns-4 : (t : ℕ) → put-group-lts.Need-returns-4 (put-group-calls t) (put-group-at t) put-group.Post
-put-group-returns-4 t c = let a = c .before .before .before .before .before .before .before .before .before .before .before .before .before .args in none-written (a .defs .now) (a .parts .now) (a .attrs .now) (a .a) (a .text .now) (a .h) (a .depth) (filling (a .kind) (membersFrom (a .d) (a .s .now))) (group-stop (a .d) (a .kind) (a .s .now) _ (omega arith) (c .before .before .before .byte .ensures) (omega arith))
-
-put-group-put-member-requires : (t : ℕ) → put-group-lts.Need-put-member-requires (put-group-calls t) (put-group-at t) put-group.Post
-put-group-put-member-requires t c κs = let a = c .before .before .before .before .before .before .before .before .before .before .before .before .before .before .args in let q = c .before .before .before .before .before .before .before .before .before .before .before .before .before .before .pre .1 .1 in (omega (arith, rank-particles (a .h) (4 * length (a .s .now)) (4 * length (a .s .now) + 1) (omega arith)), (omega arith, omega arith, q))
-
-put-group-enum-told : (t : ℕ) → put-group-lts.Need-enum-told (put-group-calls t) (put-group-at t) put-group.Post
+put-group-enum-told : (t : ℕ) → put-group-lts.Need-enum-told (put-group-calls t) (put-group-at t) put-group.Post put-group-Inv-loop put-group-μ-loop
 put-group-enum-told t c = search needs
 
-put-group-put-group-requires-2 : (t : ℕ) → put-group-lts.Need-put-group-requires-2 (put-group-calls t) (put-group-at t) put-group.Post
-put-group-put-group-requires-2 t c κs = let a = c .before .before .before .before .before .before .before .before .before .before .before .before .before .before .before .before .before .before .before .before .args in let q = c .before .before .before .before .before .before .before .before .before .before .before .before .before .before .before .before .before .before .before .before .pre .1 .1 in (omega (arith, rank-particles (a .h) (4 * length (take (length (a .s .now) - 4) (drop 4 (a .s .now))) + 1) (4 * length (a .s .now) + 1) (omega (arith, length-take (length (a .s .now) - 4) (drop 4 (a .s .now)), length-drop 4 (a .s .now)))), (omega arith, record { room = written-room (c .before .before .before .before .before .put-member .ensures) (q .room); text = q .text; attributes = q .attributes; deep = q .deep }))
+put-group-sub-t-2 : (t : ℕ) → put-group-lts.Need-sub-t-2 (put-group-calls t) (put-group-at t) put-group.Post put-group-Inv-loop put-group-μ-loop
+put-group-sub-t-2 t c = search needs
 
-put-group-enum-told-2 : (t : ℕ) → put-group-lts.Need-enum-told-2 (put-group-calls t) (put-group-at t) put-group.Post
+put-group-part-t-start-2 : (t : ℕ) → put-group-lts.Need-part-t-start-2 (put-group-calls t) (put-group-at t) put-group.Post put-group-Inv-loop put-group-μ-loop
+put-group-part-t-start-2 t c = search needs
+
+put-group-part-t-end-2 : (t : ℕ) → put-group-lts.Need-part-t-end-2 (put-group-calls t) (put-group-at t) put-group.Post put-group-Inv-loop put-group-μ-loop
+put-group-part-t-end-2 t c = search needs
+
+put-group-loop-less-2 : (t : ℕ) → put-group-lts.Need-loop-less-2 (put-group-calls t) (put-group-at t) put-group.Post put-group-Inv-loop put-group-μ-loop
+put-group-loop-less-2 t c = search needs
+
+put-group-loop-again-2 : (t : ℕ) → put-group-lts.Need-loop-again-2 (put-group-calls t) (put-group-at t) put-group.Post put-group-Inv-loop put-group-μ-loop
+put-group-loop-again-2 t c = rest-on (c .before .before .before .before .before .before .before .before .before .before .before .before .before .before .loop .inv) (omega arith) _ (c .before .before .before .before .before .before .before .before .before .before .before .before .byte .ensures) (omega arith) (omega arith) (c .before .before .before .before .before .put-member .ensures) (c .before .enum-told .given .1)
+
+put-group-enum-told-2 : (t : ℕ) → put-group-lts.Need-enum-told-2 (put-group-calls t) (put-group-at t) put-group.Post put-group-Inv-loop put-group-μ-loop
 put-group-enum-told-2 t c = search needs
 
-put-group-same-length-2 : (t : ℕ) → put-group-lts.Need-same-length-2 (put-group-calls t) (put-group-at t) put-group.Post
-put-group-same-length-2 t c = search needs
+put-group-same-length-3 : (t : ℕ) → put-group-lts.Need-same-length-3 (put-group-calls t) (put-group-at t) put-group.Post put-group-Inv-loop put-group-μ-loop
+put-group-same-length-3 t c = let l = written-long (c .before .before .before .before .put-member .ensures) in omega (arith, c .before .before .before .before .before .before .before .before .before .before .before .before .before .loop .inv .long, l)
 
-put-group-returns-5 : (t : ℕ) → put-group-lts.Need-returns-5 (put-group-calls t) (put-group-at t) put-group.Post
-put-group-returns-5 t c = let a = c .before .before .before .before .before .before .before .before .before .before .before .before .before .before .before .before .before .before .before .before .before .before .before .args in list-written (a .defs .now) (a .parts .now) (a .attrs .now) (a .a) (a .text .now) (a .h) (a .depth) (filling (a .kind) (membersFrom (a .d) (a .s .now))) (a .kind) _ _ (group-here (a .d) (a .kind) (a .s .now) _ (omega arith) (c .before .before .before .before .before .before .before .before .before .before .before .before .before .byte .ensures) (omega arith) (omega arith)) (c .before .before .before .before .enum-told .given .1) (c .before .before .before .before .before .before .before .before .put-member .ensures) (c .before .before .put-group2 .ensures)
+put-group-returns-3 : (t : ℕ) → put-group-lts.Need-returns-3 (put-group-calls t) (put-group-at t) put-group.Post put-group-Inv-loop put-group-μ-loop
+put-group-returns-3 t c = rest-first (c .before .before .before .before .before .before .before .before .before .before .before .before .before .loop .inv) (omega arith) _ (c .before .before .before .before .before .before .before .before .before .before .before .byte .ensures) (omega arith) (omega arith) (c .before .before .before .before .put-member .ensures) (c .enum-told2 .given .1)
 
-put-group-same-length-3 : (t : ℕ) → put-group-lts.Need-same-length-3 (put-group-calls t) (put-group-at t) put-group.Post
-put-group-same-length-3 t c = search needs
+put-group-same-length-4 : (t : ℕ) → put-group-lts.Need-same-length-4 (put-group-calls t) (put-group-at t) put-group.Post put-group-Inv-loop put-group-μ-loop
+put-group-same-length-4 t c = c .before .loop .inv .long
 
-put-group-returns-6 : (t : ℕ) → put-group-lts.Need-returns-6 (put-group-calls t) (put-group-at t) put-group.Post
-put-group-returns-6 t c = let a = c .before .before .before .before .before .before .before .before .before .before .before .before .before .before .before .before .before .before .before .args in first-written (a .defs .now) (a .parts .now) (a .attrs .now) (a .a) (a .text .now) (a .h) (a .depth) (filling (a .kind) (membersFrom (a .d) (a .s .now))) (a .kind) _ _ (group-here (a .d) (a .kind) (a .s .now) _ (omega arith) (c .before .before .before .before .before .before .before .before .before .byte .ensures) (omega arith) (omega arith)) (c .enum-told2 .given .1) (c .before .before .before .before .put-member .ensures)
+put-group-returns-4 : (t : ℕ) → put-group-lts.Need-returns-4 (put-group-calls t) (put-group-at t) put-group.Post put-group-Inv-loop put-group-μ-loop
+put-group-returns-4 t c = rest-ends (c .before .loop .inv) (omega arith)
 
 put-member-read-particle-requires : (t : ℕ) → put-member-lts.Need-read-particle-requires (put-member-calls t) (put-member-at t) put-member.Post
 put-member-read-particle-requires t c κs = search needs
@@ -215,13 +256,13 @@ put-member-skips-requires : (t : ℕ) → put-member-lts.Need-skips-requires (pu
 put-member-skips-requires t c κs = search needs
 
 put-member-returns : (t : ℕ) → put-member-lts.Need-returns (put-member-calls t) (put-member-at t) put-member.Post
-put-member-returns t c = let a = c .before .before .before .before .before .before .before .before .before .args in none-written (a .defs .now) (a .parts .now) (a .attrs .now) (a .a) (a .text .now) (a .h) (a .depth) _ (member-skips (a .d) (a .s .now) _ (c .before .before .read-particle .ensures) _ (c .before .skips .ensures) (c .if1 .taken))
+put-member-returns t c = let a = c .before .before .before .before .before .args in none-written (defsIn (a .form .now)) (partsIn (a .form .now)) (attrsIn (a .form .now)) (a .a) (a .text .now .now) (a .h) (a .depth) _ (member-skips (a .d) (a .s .now) _ (c .before .before .read-particle .ensures) _ (c .before .skips .ensures) (c .if1 .taken))
 
 put-member-enum-known-w : (t : ℕ) → put-member-lts.Need-enum-known-w (put-member-calls t) (put-member-at t) put-member.Post
 put-member-enum-known-w t c = search needs
 
 put-member-put-definition-requires : (t : ℕ) → put-member-lts.Need-put-definition-requires (put-member-calls t) (put-member-at t) put-member.Post
-put-member-put-definition-requires t c κs = let a = c .before .before .before .before .before .before .before .before .before .before .before .before .before .args in let q = c .before .before .before .before .before .before .before .before .before .before .before .before .before .pre .1 .2 in let i = index-small (a .s .now) _ _ (c .before .before .before .before .before .before .read-particle .ensures) (c .before .before .w .given .1) (c .before .before .before .before .before .before .before .before .before .before .before .before .shared-slice-known .given 2 .fits) in (omega (arith, rank-particles (a .h) 0 (4 * length (a .s .now)) (omega arith)), (omega arith, q))
+put-member-put-definition-requires t c κs = let a = c .before .before .before .before .before .before .before .before .before .before .args in let q = c .before .before .before .before .before .before .before .before .before .before .pre .1 .2 in let i = index-small (a .s .now) _ _ (c .before .before .before .before .before .before .before .read-particle .ensures) (c .before .before .before .w .given .1) (c .before .before .before .before .before .before .before .before .before .shared-slice-known .given 2 .fits) in (omega (arith, rank-particles (a .h) 0 (4 * length (a .s .now)) (omega arith)), (omega arith, q))
 
 put-member-enum-known-w-2 : (t : ℕ) → put-member-lts.Need-enum-known-w-2 (put-member-calls t) (put-member-at t) put-member.Post
 put-member-enum-known-w-2 t c = search needs
@@ -242,33 +283,36 @@ put-member-accepts-nothing-requires : (t : ℕ) → put-member-lts.Need-accepts-
 put-member-accepts-nothing-requires t c κs = search needs
 
 put-member-returns-2 : (t : ℕ) → put-member-lts.Need-returns-2 (put-member-calls t) (put-member-at t) put-member.Post
-put-member-returns-2 t c = let a = c .before .before .before .before .before .before .before .before .before .before .before .before .before .before .before .args in none-written (a .defs .now) (a .parts .now) (a .attrs .now) (a .a) (a .text .now) (a .h) (a .depth) _ (member-nothing (a .d) (a .s .now) _ (c .before .before .before .before .before .before .before .before .read-particle .ensures) _ (c .before .before .before .before .before .before .before .skips .ensures) (c .before .before .before .before .before .before .if1 .left) _ _ (c .before .before .before .before .w2 .given .1) _ refl _ (c .before .accepts-nothing .ensures) (c .if2 .taken))
+put-member-returns-2 t c = let a = c .before .before .before .before .before .before .before .before .before .before .before .args in none-written (defsIn (a .form .now)) (partsIn (a .form .now)) (attrsIn (a .form .now)) (a .a) (a .text .now .now) (a .h) (a .depth) _ (member-nothing (a .d) (a .s .now) _ (c .before .before .before .before .before .before .before .before .read-particle .ensures) _ (c .before .before .before .before .before .before .before .skips .ensures) (c .before .before .before .before .before .before .if1 .left) _ _ (c .before .before .before .before .w2 .given .1) _ refl _ (c .before .accepts-nothing .ensures) (c .if2 .taken))
 
 put-member-add-put-group : (t : ℕ) → put-member-lts.Need-add-put-group (put-member-calls t) (put-member-at t) put-member.Post
 put-member-add-put-group t c = search needs
 
 put-member-put-group-requires : (t : ℕ) → put-member-lts.Need-put-group-requires (put-member-calls t) (put-member-at t) put-member.Post
-put-member-put-group-requires t c κs = let a = c .before .before .before .before .before .before .before .before .before .before .before .before .before .before .before .before .args in let q = c .before .before .before .before .before .before .before .before .before .before .before .before .before .before .before .before .pre .1 .2 in (omega (arith, rank-particles (a .h) (4 * length (take (length (a .s .now) - 4) (drop 4 (a .s .now))) + 1) (4 * length (a .s .now)) (omega (arith, length-take (length (a .s .now) - 4) (drop 4 (a .s .now)), length-drop 4 (a .s .now)))), (omega arith, q))
+put-member-put-group-requires t c κs = let a = c .before .before .before .before .before .before .before .before .before .before .before .before .before .args in let q = c .before .before .before .before .before .before .before .before .before .before .before .before .before .pre .1 .2 in (omega (arith, rank-particles (a .h) (4 * length (take (length (a .s .now) - 4) (drop 4 (a .s .now))) + 1) (4 * length (a .s .now)) (omega (arith, length-take (length (a .s .now) - 4) (drop 4 (a .s .now)), length-drop 4 (a .s .now)))), (omega arith, q))
 
 put-member-same-length : (t : ℕ) → put-member-lts.Need-same-length (put-member-calls t) (put-member-at t) put-member.Post
 put-member-same-length t c = search needs
 
 put-member-returns-3 : (t : ℕ) → put-member-lts.Need-returns-3 (put-member-calls t) (put-member-at t) put-member.Post
-put-member-returns-3 t c = let a = c .before .before .before .before .before .before .before .before .before .before .before .before .before .before .before .before .args in one-written (a .defs .now) (a .parts .now) (a .attrs .now) (a .a) (a .text .now) (a .h) (a .depth) _ _ (member-element (a .d) (a .s .now) _ (c .before .before .before .before .before .before .before .before .before .read-particle .ensures) _ (c .before .before .before .before .before .before .before .before .skips .ensures) (c .before .before .before .before .before .before .before .if1 .left) _ (c .before .before .before .before .before .w .given .1)) (c .before .before .put-definition .ensures)
+put-member-returns-3 t c = let a = c .before .before .before .before .before .before .before .before .before .before .before .before .before .args in one-written (defsIn (a .form .now)) (partsIn (a .form .now)) (attrsIn (a .form .now)) (a .a) (a .text .now .now) (a .h) (a .depth) _ _ (member-element (a .d) (a .s .now) _ (c .before .before .before .before .before .before .before .before .before .before .read-particle .ensures) _ (c .before .before .before .before .before .before .before .before .before .skips .ensures) (c .before .before .before .before .before .before .before .before .if1 .left) _ (c .before .before .before .before .before .before .w .given .1)) (c .before .before .put-definition .ensures)
 
 put-member-same-length-2 : (t : ℕ) → put-member-lts.Need-same-length-2 (put-member-calls t) (put-member-at t) put-member.Post
 put-member-same-length-2 t c = search needs
 
 put-member-returns-4 : (t : ℕ) → put-member-lts.Need-returns-4 (put-member-calls t) (put-member-at t) put-member.Post
-put-member-returns-4 t c = let a = c .before .before .before .before .before .before .before .before .before .before .before .before .before .before .before .before .before .before .before .args in same-written (a .defs .now) (a .parts .now) (a .attrs .now) (a .a) (a .text .now) (a .h) (a .depth) _ _ (member-group (a .d) (a .s .now) _ (c .before .before .before .before .before .before .before .before .before .before .before .before .read-particle .ensures) _ (c .before .before .before .before .before .before .before .before .before .before .before .skips .ensures) (c .before .before .before .before .before .before .before .before .before .before .if1 .left) _ _ (c .before .before .before .before .before .before .before .before .w2 .given .1) _ refl _ (c .before .before .before .before .before .accepts-nothing .ensures) (c .before .before .before .before .if2 .left)) (c .before .before .put-group .ensures)
+put-member-returns-4 t c = let a = c .before .before .before .before .before .before .before .before .before .before .before .before .before .before .before .before .args in same-written (defsIn (a .form .now)) (partsIn (a .form .now)) (attrsIn (a .form .now)) (a .a) (a .text .now .now) (a .h) (a .depth) _ _ (member-group (a .d) (a .s .now) _ (c .before .before .before .before .before .before .before .before .before .before .before .before .before .read-particle .ensures) _ (c .before .before .before .before .before .before .before .before .before .before .before .before .skips .ensures) (c .before .before .before .before .before .before .before .before .before .before .before .if1 .left) _ _ (c .before .before .before .before .before .before .before .before .before .w2 .given .1) _ refl _ (c .before .before .before .before .before .before .accepts-nothing .ensures) (c .before .before .before .before .before .if2 .left)) (c .before .before .put-group .ensures)
 
 pub +put-below+put-definition+put-group+put-member-spec : {M : Type 1} → statement M
 +put-below+put-definition+put-group+put-member-spec =
     close μ-put-below μ-put-definition μ-put-group μ-put-member (λ t. put-below-lts.spec (put-below-calls t)
     (put-below-at t)
     put-below.Post
+    (put-below-element-copy-out-kind-of t)
     (put-below-kind-of-requires t)
-    (put-below-put-new-requires t)
+    (put-below-put-row-requires t)
+    (put-below-element-copy-out-model-part t)
+    (put-below-element-copy-out-model-part-2 t)
     (put-below-model-part-requires t)
     (put-below-put-group-requires t)
     (put-below-returns t)
@@ -280,8 +324,9 @@ pub +put-below+put-definition+put-group+put-member-spec : {M : Type 1} → state
     (put-definition-at t)
     put-definition.Post
     (put-definition-returns t)
-    (put-definition-slice-aggregate-put-new t)
-    (put-definition-put-new-requires t)
+    (put-definition-slice-aggregate-put-row t)
+    (put-definition-put-row-requires t)
+    (put-definition-element-copy-out-put-required t)
     (put-definition-add-put-required t)
     (put-definition-put-required-requires t)
     (put-definition-sub-put-below t)
@@ -292,25 +337,33 @@ pub +put-below+put-definition+put-group+put-member-spec : {M : Type 1} → state
     (λ t. put-group-lts.spec (put-group-calls t)
     (put-group-at t)
     put-group.Post
-    (put-group-returns t)
-    (put-group-returns-2 t)
+    put-group-Inv-loop
+    put-group-μ-loop
+    (put-group-loop-holds t)
     (put-group-byte-requires t)
     (put-group-cast-own t)
+    (put-group-element-copy-out-if1 t)
+    (put-group-same-length t)
+    (put-group-returns t)
+    (put-group-same-length-2 t)
+    (put-group-returns-2 t)
     (put-group-sub-t t)
     (put-group-part-t-start t)
     (put-group-part-t-end t)
-    (put-group-put-group-requires t)
-    (put-group-same-length t)
-    (put-group-returns-3 t)
-    (put-group-returns-4 t)
+    (put-group-loop-less t)
+    (put-group-loop-again t)
     (put-group-put-member-requires t)
     (put-group-enum-told t)
-    (put-group-put-group-requires-2 t)
+    (put-group-sub-t-2 t)
+    (put-group-part-t-start-2 t)
+    (put-group-part-t-end-2 t)
+    (put-group-loop-less-2 t)
+    (put-group-loop-again-2 t)
     (put-group-enum-told-2 t)
-    (put-group-same-length-2 t)
-    (put-group-returns-5 t)
     (put-group-same-length-3 t)
-    (put-group-returns-6 t))
+    (put-group-returns-3 t)
+    (put-group-same-length-4 t)
+    (put-group-returns-4 t))
     λ t. put-member-lts.spec (put-member-calls t)
     (put-member-at t)
     put-member.Post

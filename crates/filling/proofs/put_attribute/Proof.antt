@@ -6,17 +6,17 @@ use Rattle.filling.proofs.put_attribute.Tie as tie
 needs-requires : tie.Need-needs-requires
 needs-requires c κs = search needs
 
-fill-of-requires : tie.Need-fill-of-requires
-fill-of-requires c κs = search needs
+created-value-requires : tie.Need-created-value-requires
+created-value-requires c κs = search needs
 
-put-new-requires : tie.Need-put-new-requires
-put-new-requires c κs = search needs
+put-row-requires : tie.Need-put-row-requires
+put-row-requires c κs = search needs
 
 same-length : tie.Need-same-length
 same-length c = search needs
 
 returns : tie.Need-returns
-returns c = let a = c .before .before .before .before .before .before .before .before .before .args in needed-written (a .attrs .now) (a .depth) (a .i) (a .j) (c .before .before .before .before .before .before .needs .ensures) (c .before .before .before .before .before .if1 .taken) (c .before .before .before .before .fill-of .ensures .0) (c .before .before .put-new .ensures)
+returns c = let a = c .before .before .before .before .before .before .before .before .before .before .args in needed-written (a .attrs .now) (a .depth) (a .i) (a .j) (c .before .before .before .before .before .before .before .needs .ensures) (c .before .before .before .before .before .before .if1 .taken) (c .before .before .before .before .before .created-value .ensures .0) (c .before .before .put-row .ensures)
 
 returns-2 : tie.Need-returns-2
 returns-2 c = let a = c .before .before .before .before .args in spare-written (a .attrs .now) (a .depth) (a .i) (a .j) (c .before .needs .ensures) (c .if1 .left)
@@ -24,4 +24,4 @@ returns-2 c = let a = c .before .before .before .before .args in spare-written (
 pub put-attribute-spec : {M : Type 1} → statement M
 put-attribute-spec =
     tie.close
-    (tie.spec needs-requires fill-of-requires put-new-requires same-length returns returns-2)
+    (tie.spec needs-requires created-value-requires put-row-requires same-length returns returns-2)

@@ -1,9 +1,12 @@
 use Rattle.filling.specs.Fillings.{groupFilled}
-use Rattle.filling.specs.Parts.{membersAt}
+use Rattle.filling.specs.Parts.{defsIn, partsIn, attrsIn, membersAt}
 use Rattle.filling.proofs.FillingLaws.{none-written, same-written, group-empty, group-full}
 use borrow.Author.Needs.{needs}
 use Rattle.filling.proofs.put_members.Statement.{statement}
 use Rattle.filling.proofs.put_members.Tie as tie
+
+element-copy-out-parts : tie.Need-element-copy-out-parts
+element-copy-out-parts c = search needs
 
 mul-cut : tie.Need-mul-cut
 mul-cut c = search needs
@@ -15,7 +18,7 @@ accepts-nothing-requires : tie.Need-accepts-nothing-requires
 accepts-nothing-requires c κs = search needs
 
 returns : tie.Need-returns
-returns c = let a = c .before .before .before .before .before .before .before .before .args in none-written (a .defs .now) (a .parts .now) (a .attrs .now) (a .a) (a .text .now) (a .h) (a .depth) (groupFilled (a .kind) (membersAt (a .parts .now) (a .first) (a .d))) (group-empty (a .parts .now) _ (a .first) (a .d) (c .before .before .cut .ensures) (a .kind) _ (c .before .accepts-nothing .ensures) (c .if1 .taken))
+returns c = let a = c .before .before .before .before .before .args in none-written (defsIn (a .form .now)) (partsIn (a .form .now)) (attrsIn (a .form .now)) (a .a) (a .text .now .now) (a .h) (a .depth) (groupFilled (a .kind) (membersAt (partsIn (a .form .now)) (a .first) (a .d))) (group-empty (partsIn (a .form .now)) _ (a .first) (a .d) (c .before .before .cut .ensures) (a .kind) _ (c .before .accepts-nothing .ensures) (c .if1 .taken))
 
 put-group-requires : tie.Need-put-group-requires
 put-group-requires c κs = search needs
@@ -24,12 +27,13 @@ same-length : tie.Need-same-length
 same-length c = search needs
 
 returns-2 : tie.Need-returns-2
-returns-2 c = let a = c .before .before .before .before .before .before .before .before .before .before .before .before .args in same-written (a .defs .now) (a .parts .now) (a .attrs .now) (a .a) (a .text .now) (a .h) (a .depth) (groupFilled (a .kind) (membersAt (a .parts .now) (a .first) (a .d))) _ (group-full (a .parts .now) _ (a .first) (a .d) (c .before .before .before .before .before .before .cut .ensures) (a .kind) _ (c .before .before .before .before .before .accepts-nothing .ensures) (c .before .before .before .before .if1 .left)) (c .before .before .put-group .ensures)
+returns-2 c = let a = c .before .before .before .before .before .before .before .before .before .before .args in same-written (defsIn (a .form .now)) (partsIn (a .form .now)) (attrsIn (a .form .now)) (a .a) (a .text .now .now) (a .h) (a .depth) (groupFilled (a .kind) (membersAt (partsIn (a .form .now)) (a .first) (a .d))) _ (group-full (partsIn (a .form .now)) _ (a .first) (a .d) (c .before .before .before .before .before .before .before .cut .ensures) (a .kind) _ (c .before .before .before .before .before .before .accepts-nothing .ensures) (c .before .before .before .before .before .if1 .left)) (c .before .before .put-group .ensures)
 
 pub put-members-spec : {M : Type 1} → statement M
 put-members-spec =
     tie.close
     (tie.spec
+    element-copy-out-parts
     mul-cut
     cut-requires
     accepts-nothing-requires

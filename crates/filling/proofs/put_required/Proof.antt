@@ -2,23 +2,24 @@ use Prim.Native.Nat.{ℕ, _-_}
 use native.Mathlib.Omega.{arith}
 use mathlib.Core.Path.{_≡_, ap}
 use borrow.Author.Needs.{needs}
-use Rattle.filling.specs.Parts.{requiredIn}
+use Rattle.filling.specs.Parts.{requiredIn, cursorIn}
 use Rattle.rows.proofs.WrittenLaws.{written-room, written-long, written-as}
 use Rattle.filling.proofs.FillingLaws.{Putting, required-none, required-on}
 use Rattle.filling.proofs.put_required.Statement.{statement}
 use Rattle.filling.proofs.put_required.Tie as tie
 
+-- the attributes below j are written
 abbrev Inv-loop : tie.InvT-loop
-Inv-loop i a attrs depth out₀ r₀ j₀ out r j = Putting attrs depth i a r₀ out₀ r out j
+Inv-loop i a attrs depth c₀ out₀ j₀ c out j = Putting attrs depth i a (cursorIn c₀) out₀ (cursorIn c) out j
 
 abbrev μ-loop : tie.MeasureT-loop
-μ-loop i a attrs depth out₀ r₀ j₀ out r j = a - j
+μ-loop i a attrs depth c₀ out₀ j₀ c out j = a - j
 
 loop-holds : tie.Need-loop-holds Inv-loop μ-loop
 loop-holds c = let a = c .before .before .args in record { written = required-none (a .attrs .now) (a .depth) (a .i); low = omega arith }
 
 put-attribute-requires : tie.Need-put-attribute-requires Inv-loop μ-loop
-put-attribute-requires c κs = (written-room (c .before .before .loop .inv .written) (c .before .before .before .before .before .pre .0), omega arith, omega arith)
+put-attribute-requires c κs = (written-room (c .before .before .before .loop .inv .written) (c .before .before .before .before .before .before .pre .0), omega arith, omega arith)
 
 add-j : tie.Need-add-j Inv-loop μ-loop
 add-j c = search needs
@@ -27,7 +28,7 @@ loop-less : tie.Need-loop-less Inv-loop μ-loop
 loop-less c = search needs
 
 loop-again : tie.Need-loop-again Inv-loop μ-loop
-loop-again c = let a = c .before .before .before .before .before .before .before .before .args in record { written = required-on (a .attrs .now) (a .depth) (a .i) _ (c .before .before .before .before .before .loop .inv .written) (c .before .before .put-attribute .ensures); low = omega arith }
+loop-again c = let a = c .before .before .before .before .before .before .before .before .before .args in record { written = required-on (a .attrs .now) (a .depth) (a .i) _ (c .before .before .before .before .before .before .loop .inv .written) (c .before .before .put-attribute .ensures); low = omega arith }
 
 same-length : tie.Need-same-length Inv-loop μ-loop
 same-length c = written-long (c .before .loop .inv .written)

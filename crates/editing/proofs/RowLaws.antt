@@ -1,14 +1,12 @@
 -- What the small functions answer of a row is what the walk says of it.
--- Assumes nothing.
 use Prim.Native.Nat.{ℕ, suc, _+_, _-_, _≤_, _<_}
 use native.Mathlib.Omega.{arith}
 use native.Mathlib.Numerals.{add-one}
 use mathlib.Core.Path.{_≡_, ap, sym, _∙_}
 use mathlib.Core.Bool.{Bool, true, false, not, _&&_, _||_}
-use lib.ListN.{getD}
 use borrow.Author.Tests.{le-leb, lt-leb, eq-eqb, ne-eqb}
 use Rattle.rules.specs.Bytes.{Bytes}
-use Rattle.rules.specs.Decode.{numberAt, readRow}
+use Rattle.rules.specs.Decode.{readRow}
 use Rattle.editing.specs.declared.Shift.{Shift}
 use Rattle.editing.specs.declared.Plan.{Plan}
 use Rattle.editing.specs.declared.Open.{Open}
@@ -50,13 +48,16 @@ module _ (o : Open) (h : Head) where
     pub kept-opens : b ≡ true → _≡_ {A = Open} (record { taking = 0; below = h .depth + 2; due = p .fills }) (kept p o (bare h))
     kept-opens t = let u : matches (p .above) (bare h .row) ≡ true = sym e ∙ t in let z : h .depth + 2 ≡ suc (suc (h .depth)) = omega arith in rw (u, z, kept)
 
-    pub kept-on : (i l : Bool) → b ≡ false → i ≡ isBelow o (bare h) → l ≡ isLater (p .marks) (p .later) (bare h .row) → _≡_ {A = Open} (record { taking = 0; below = o .below; due = o .due && not (i && l) }) (kept p o (bare h))
+    pub kept-on : (i l : Bool) → b ≡ false → i ≡ isBelow o (bare h) → l ≡ isLater (p .marks) (p .later) (bare h .row)
+        → _≡_ {A = Open} (record { taking = 0; below = o .below; due = o .due && not (i && l) }) (kept p o (bare h))
     kept-on i l t ei el = let u : matches (p .above) (bare h .row) ≡ false = sym e ∙ t in rw (u, ei, el, kept)
 
-  pub taken-by : (p : Plan) (a b m : Bool) → a ≡ isEverything (p .above) → b ≡ isBelow o (bare h) → m ≡ matches (p .takes) (bare h .row) → (((a || b) && m) && not (p .keeps && o .due)) ≡ isTaken p o (bare h)
+  pub taken-by : (p : Plan) (a b m : Bool) → a ≡ isEverything (p .above) → b ≡ isBelow o (bare h) → m ≡ matches (p .takes) (bare h .row)
+      → (((a || b) && m) && not (p .keeps && o .due)) ≡ isTaken p o (bare h)
   taken-by p a b m ea eb em = rw (ea, eb, em)
 
-  pub filled-by : (p : Plan) (b l s : Bool) → b ≡ isBelow o (bare h) → l ≡ isLater (p .marks) (p .later) (bare h .row) → s ≡ spared p (bare h .row) → ((o .due && b) && (l && not s)) ≡ isFilled p o (bare h)
+  pub filled-by : (p : Plan) (b l s : Bool) → b ≡ isBelow o (bare h) → l ≡ isLater (p .marks) (p .later) (bare h .row) → s ≡ spared p (bare h .row)
+      → ((o .due && b) && (l && not s)) ≡ isFilled p o (bare h)
   filled-by p b l s eb el es = rw (eb, el, es)
 
 module _ (p : Plan) (b : Bool) (e : b ≡ isGround (p .above)) where
@@ -67,6 +68,6 @@ module _ (p : Plan) (b : Bool) (e : b ≡ isGround (p .above)) where
   first-other t = let u : isGround (p .above) ≡ false = sym e ∙ t in rw (u, atFirst)
 
 -- ---- reading
-pub head-read : (row : Bytes) (d s i k : ℕ) → d ≡ getD row 1 0 → s ≡ getD row 0 0 → i ≡ numberAt 2 2 row → k ≡ numberAt 4 4 row
+pub head-read : (row : Bytes) (d s i k : ℕ) → d ≡ readRow row .depth → s ≡ readRow row .row .sort → i ≡ readRow row .row .index → k ≡ readRow row .row .serial
     → rowOf (record { depth = d; sort = s; index = i; serial = k }) (readRow row .row .value) ≡ readRow row
 head-read row d s i k ed es ei ek = rw (ed, es, ei, ek)

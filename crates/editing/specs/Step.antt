@@ -1,5 +1,4 @@
 -- One step of the walk: what the code reads of a row, and what comes of it.
--- Assumes nothing.
 use Prim.Native.Nat.{ℕ, zero, suc, _≤_}
 use mathlib.Core.Path.{_≡_}
 use mathlib.Core.Bool.{true, false, _&&_}
@@ -7,13 +6,13 @@ use mathlib.Core.List.{List, [], _++_}
 use lib.ListN.{length, take, drop}
 use Rattle.rules.specs.Bytes.{Bytes}
 use Rattle.rules.specs.Preorder.{Deep}
-use Rattle.rules.specs.Layout.{FlatRow}
+use Rattle.rules.specs.Layout.{FlatRow, rowSize}
 use Rattle.rules.specs.Decode.{readRow}
-use Rattle.records.specs.Records.{baseWidth}
 use Rattle.rowpass.specs.Reading.{indexForm, attributeIn}
-use Rattle.records.specs.Records.{baseWidth}
+use Rattle.layout.specs.Bodies.{Width}
 use Rattle.rows.specs.declared.Cursor.{Cursor}
 use Rattle.rows.specs.Written.{Written, OldRow}
+use Rattle.filling.specs.declared.Filling.{Filling}
 use Rattle.filling.specs.Fillings.{fillingRows}
 use Rattle.filling.specs.Parts.{membersAt, Indexed}
 use Rattle.editing.specs.declared.Plan.{Plan}
@@ -39,13 +38,16 @@ module _ (p : Plan) (v : Bytes) (fill : ℕ → List (Deep FlatRow)) where
   stepOpen o x = elim (gone o x) [ true ↦ o | false ↦ onward p v fill (closed o x) x ]
 
 -- the rows xs were written, and o is open after them
-pub record Came (xs : List (Deep FlatRow)) (o : Open) (c : Cursor) (out : Bytes) (r : Stepped) (out′ : Bytes) : Type 0 where
-  pub written : Written baseWidth xs c out (r .cursor) out′
+pub record Came (w : ℕ) (xs : List (Deep FlatRow)) (o : Open) (c : Cursor) (out : Bytes) (r : Stepped) (out′ : Bytes) : Type 0 where
+  pub written : Written w xs c out (r .cursor) out′
   pub opened : r .opened ≡ o
 
--- the filling of a plan at a depth, from the bytes of the form
-abbrev pub fillOf : ℕ → Bytes → Bytes → ℕ → Bytes → Plan → Bytes → ℕ → List (Deep FlatRow)
-fillOf n defs parts a attrs p text d = fillingRows (indexForm baseWidth n defs parts attrs a) (λ j. attributeIn baseWidth attrs j .value) (λ k e. membersAt parts k e) (p .filling) text d
+-- a filling at a depth, from the bytes of the form; and that of a plan
+abbrev pub fillWith : ℕ → ℕ → Bytes → Bytes → ℕ → Bytes → Filling → Bytes → ℕ → List (Deep FlatRow)
+fillWith w n defs parts a attrs what text d = fillingRows (indexForm w n defs parts attrs a) (λ j. attributeIn w attrs j .value) (λ k e. membersAt parts k e) what text d
+
+abbrev pub fillOf : ℕ → ℕ → Bytes → Bytes → ℕ → Bytes → Plan → Bytes → ℕ → List (Deep FlatRow)
+fillOf w n defs parts a attrs p text d = fillWith w n defs parts a attrs (p .filling) text d
 
 -- ---- how large the numbers are that the walk meets
 -- indices of at most 1,000 move up by at most 1,000; those of a store that passes are at most 64
@@ -57,10 +59,11 @@ pub record Planned (p : Plan) : Type 0 where
   pub attributes : Moves (p .attributes)
 
 -- the form, the plan and the text of a call
-pub record Ready (n a : ℕ) (txt : Bytes) (p : Plan) : Type 0 where
+pub record Ready (w n a : ℕ) (txt : Bytes) (p : Plan) : Type 0 where
+  pub width : Width w
   pub definitions : n ≤ 64
   pub attributes : a ≤ 64
-  pub text : length txt ≤ 32
+  pub text : length txt ≤ w
   pub plan : Planned p
   pub filling : Indexed (p .filling)
 
@@ -72,18 +75,18 @@ pub record Near (o : Open) : Type 0 where
   pub below : o .below ≤ 82
 
 -- the bytes of an old row; a store that passes has no row deeper than 64
-pub record WalkRow (row : Bytes) : Type 0 where
-  pub old : OldRow baseWidth row
+pub record WalkRow (w : ℕ) (row : Bytes) : Type 0 where
+  pub old : OldRow w row
   pub depth : readRow row .depth ≤ 80
   pub index : readRow row .row .index ≤ 1000
 
 -- h is what was read of it
-pub record Seen (h : Head) (row : Bytes) : Type 0 where
+pub record Seen (w : ℕ) (h : Head) (row : Bytes) : Type 0 where
   pub is : rowOf h (readRow row .row .value) ≡ readRow row
-  pub old : OldRow baseWidth row
+  pub old : OldRow w row
   pub fair : Fair h
 
 -- count rows, one after the other
-unfoldable pub WalkRows : ℕ → Bytes → Type 0
-WalkRows zero bs = Unit
-WalkRows (suc count) bs = WalkRow (take 44 bs) × WalkRows count (drop 44 bs)
+unfoldable pub WalkRows : ℕ → ℕ → Bytes → Type 0
+WalkRows w zero bs = Unit
+WalkRows w (suc count) bs = WalkRow w (take (rowSize w) bs) × WalkRows w count (drop (rowSize w) bs)

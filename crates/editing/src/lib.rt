@@ -5,15 +5,13 @@ ghost use mathlib.Core.Path.{_≡_};
 ghost use mathlib.Core.List.{[], _∷_};
 ghost use Prim.Native.Nat.{_+_, _*_, _-_, _≤_, _<_};
 ghost use lib.ListN.{length};
-ghost use Rattle.rules.specs.Decode.{readRow};
-ghost use Rattle.records.specs.Records.{baseWidth};
-ghost use Rattle.rowpass.specs.Reading.{rowsIn};
+ghost use Rattle.rules.specs.Layout.{rowSize};
+ghost use Rattle.rules.specs.Decode.{readRow, readMany};
+ghost use Rattle.layout.specs.Bodies.{Width};
 ghost use Rattle.rows.specs.Written.{Written, Room};
+ghost use Rattle.filling.specs.Parts.{Asks, Indexed};
 ghost use Rattle.editing.specs.Walk.{matches, isEverything, isGround, markOf, isLater, spared, shifted, movedIndex, keptRow, gone, closes, closed, isBelow, isTaken, isFilled, taken, kept, owed, emitted, onward, walked, atFirst};
-ghost use Rattle.editing.specs.Step.{rowOf, bare, stepRows, stepOpen, Came, fillOf, Moves, Planned, Ready, Fair, Near, WalkRow, Seen, WalkRows};
-
-/// The width of a value.
-const WIDTH: usize = 32;
+ghost use Rattle.editing.specs.Step.{rowOf, bare, stepRows, stepOpen, Came, fillWith, fillOf, Moves, Planned, Ready, Fair, Near, WalkRow, Seen, WalkRows};
 
 /// Some rows: none; every row, and what stands above the documents; that alone; the elements of a definition; the rows of an attribute; the
 /// element with a serial.
@@ -88,10 +86,10 @@ fn read_head(row: &[u8]) -> Head
     ensures { λ r. ⌜ rowOf r (readRow (now (row .entry)) .row .value) ≡ readRow (now (row .entry)) ⌝ }
 {
     Head {
-        depth: codec::byte(row, 1) as usize,
-        sort: codec::byte(row, 0),
-        index: codec::get_u16(row, 2) as usize,
-        serial: codec::get_u32(row, 4),
+        depth: layout::row_depth(row),
+        sort: layout::row_sort(row),
+        index: layout::row_index(row) as usize,
+        serial: layout::row_serial(row),
     }
 }
 
@@ -142,11 +140,11 @@ fn mark(p: Plan, h: Head) -> u8
     codec::byte(&p.marks, h.index)
 }
 
-// Whether a filling comes before a row.
-fn is_later(p: Plan, h: Head) -> bool
+// Whether a filling comes before a row with the mark m.
+fn is_later(p: Plan, h: Head, m: u8) -> bool
+    requires { ⌜ m ≡ markOf (p .marks) (bare h .row) ⌝ }
     ensures { λ r. ⌜ r ≡ isLater (p .marks) (p .later) (bare h .row) ⌝ }
 {
-    let m = mark(p, h);
     let l = p.later;
     match l {
         Later::Never => false,
@@ -157,10 +155,11 @@ fn is_later(p: Plan, h: Head) -> bool
 }
 
 // Whether a row is an element at the place, before which no filling comes.
-fn spared(p: Plan, h: Head) -> bool
+fn spared(p: Plan, h: Head, m: u8) -> bool
+    requires { ⌜ m ≡ markOf (p .marks) (bare h .row) ⌝ }
     ensures { λ r. ⌜ r ≡ spared p (bare h .row) ⌝ }
 {
-    p.spares & ((h.sort == 1) & (mark(p, h) == 2))
+    p.spares & ((h.sort == 1) & (m == 2))
 }
 
 // ---- renumbering
@@ -251,11 +250,11 @@ fn is_taken(p: Plan, o: Open, h: Head) -> bool
 }
 
 // Whether a filling comes right before a row.
-fn is_filled(p: Plan, o: Open, h: Head) -> bool
-    requires { ⌜ Fair h ⌝ }
+fn is_filled(p: Plan, o: Open, h: Head, m: u8) -> bool
+    requires { ⌜ Fair h × (m ≡ markOf (p .marks) (bare h .row)) ⌝ }
     ensures { λ r. ⌜ r ≡ isFilled p o (bare h) ⌝ }
 {
-    (o.due & is_below(o, h)) & (is_later(p, h) & !spared(p, h))
+    (o.due & is_below(o, h)) & (is_later(p, h, m) & !spared(p, h, m))
 }
 
 // ---- what is open after a row that is taken, after one that is kept, and before the first
@@ -271,8 +270,8 @@ fn taken(o: Open, h: Head) -> Open
     }
 }
 
-fn kept(p: Plan, o: Open, h: Head) -> Open
-    requires { ⌜ Fair h ⌝ }
+fn kept(p: Plan, o: Open, h: Head, m: u8) -> Open
+    requires { ⌜ Fair h × (m ≡ markOf (p .marks) (bare h .row)) ⌝ }
     ensures { λ r. ⌜ r ≡ kept p o (bare h) ⌝ }
 {
     let above = p.above;
@@ -286,7 +285,7 @@ fn kept(p: Plan, o: Open, h: Head) -> Open
     Open {
         taking: 0,
         below: o.below,
-        due: o.due & !(is_below(o, h) & is_later(p, h)),
+        due: o.due & !(is_below(o, h) & is_later(p, h, m)),
     }
 }
 
@@ -312,42 +311,43 @@ fn at_first(p: Plan) -> Open
 
 // The filling at a depth, if it is due.
 fn put_owed<'a>(
+    w: usize,
     n: usize,
     defs: &'a [u8],
     parts: &'a [u8],
     a: usize,
     attrs: &'a [u8],
-    p: Plan,
+    what: Filling,
     text: &[u8],
     due: bool,
     depth: usize,
     c: Cursor,
     out: &mut [u8],
 ) -> Cursor
-    requires { ⌜ Ready n a (now text) p × Room baseWidth c × (depth ≤ 81) ⌝ }
-    ensures { λ r. ⌜ Written baseWidth (owed due (fillOf n (now (defs .entry)) (now (parts .entry)) a (now (attrs .entry)) p (now (text .entry)) depth)) c (now (out .entry)) r (now (out .exit)) ⌝ }
+    requires { ⌜ Indexed what × Asks w c (now text) a n depth ⌝ }
+    ensures { λ r. ⌜ Written w (owed due (fillWith w n (now (defs .entry)) (now (parts .entry)) a (now (attrs .entry)) what (now (text .entry)) depth)) c (now (out .entry)) r (now (out .exit)) ⌝ }
 {
     if due {
-        let what = p.filling;
-        return filling::put_filling(WIDTH, n, defs, parts, a, attrs, what, text, depth, c, out);
+        return filling::put_filling(w, n, defs, parts, a, attrs, what, text, depth, c, out);
     }
     c
 }
 
 // A row that is kept.
-fn put_row(p: Plan, text: &[u8], h: Head, row: &[u8], c: Cursor, out: &mut [u8]) -> Cursor
-    requires { ⌜ Planned p × (length (now text) ≤ 32) × Seen h (now row) × Room baseWidth c ⌝ }
-    ensures { λ r. ⌜ Written baseWidth (keptRow p (now (text .entry)) (readRow (now (row .entry))) ∷ []) c (now (out .entry)) r (now (out .exit)) ⌝ }
+fn put_row(w: usize, p: Plan, text: &[u8], h: Head, row: &[u8], c: Cursor, out: &mut [u8]) -> Cursor
+    requires { ⌜ Width w × Planned p × (length (now text) ≤ w) × Seen w h (now row) × Room w c ⌝ }
+    ensures { λ r. ⌜ Written w (keptRow p (now (text .entry)) (readRow (now (row .entry))) ∷ []) c (now (out .entry)) r (now (out .exit)) ⌝ }
 {
     let index = moved_index(p, h);
     if h.serial == p.set {
-        return rows::put_valued(WIDTH, row, index, text, c, out);
+        return rows::put_valued(w, row, index, text, c, out);
     }
-    rows::put_kept(WIDTH, row, index, c, out)
+    rows::put_kept(w, row, index, c, out)
 }
 
 // What comes of a row, where what it closes is closed.
 fn come<'a>(
+    w: usize,
     n: usize,
     defs: &'a [u8],
     parts: &'a [u8],
@@ -361,8 +361,8 @@ fn come<'a>(
     c: Cursor,
     out: &mut [u8],
 ) -> Stepped
-    requires { ⌜ Ready n a (now text) p × Seen h (now row) × Room baseWidth c ⌝ }
-    ensures { λ r. ⌜ Came (emitted p (now (text .entry)) (fillOf n (now (defs .entry)) (now (parts .entry)) a (now (attrs .entry)) p (now (text .entry))) o (readRow (now (row .entry)))) (onward p (now (text .entry)) (fillOf n (now (defs .entry)) (now (parts .entry)) a (now (attrs .entry)) p (now (text .entry))) o (readRow (now (row .entry)))) c (now (out .entry)) r (now (out .exit)) ⌝ }
+    requires { ⌜ Ready w n a (now text) p × Seen w h (now row) × Room w c ⌝ }
+    ensures { λ r. ⌜ Came w (emitted p (now (text .entry)) (fillOf w n (now (defs .entry)) (now (parts .entry)) a (now (attrs .entry)) p (now (text .entry))) o (readRow (now (row .entry)))) (onward p (now (text .entry)) (fillOf w n (now (defs .entry)) (now (parts .entry)) a (now (attrs .entry)) p (now (text .entry))) o (readRow (now (row .entry)))) c (now (out .entry)) r (now (out .exit)) ⌝ }
 {
     if is_taken(p, o, h) {
         return Stepped {
@@ -370,17 +370,33 @@ fn come<'a>(
             opened: taken(o, h),
         };
     }
-    let filled = is_filled(p, o, h);
-    let at = put_owed(n, defs, parts, a, attrs, p, text, filled, h.depth, c, out);
-    let next = put_row(p, text, h, row, at, out);
+    let m = mark(p, h);
+    let filled = is_filled(p, o, h, m);
+    let what = p.filling;
+    let at = put_owed(
+        w,
+        n,
+        defs,
+        parts,
+        a,
+        attrs,
+        what,
+        text,
+        filled,
+        h.depth,
+        c,
+        out,
+    );
+    let next = put_row(w, p, text, h, row, at, out);
     Stepped {
         cursor: next,
-        opened: kept(p, o, h),
+        opened: kept(p, o, h, m),
     }
 }
 
 // One row.
 fn step<'a>(
+    w: usize,
     n: usize,
     defs: &'a [u8],
     parts: &'a [u8],
@@ -393,8 +409,8 @@ fn step<'a>(
     c: Cursor,
     out: &mut [u8],
 ) -> Stepped
-    requires { ⌜ Ready n a (now text) p × WalkRow (now row) × Near o × Room baseWidth c ⌝ }
-    ensures { λ r. ⌜ Came (stepRows p (now (text .entry)) (fillOf n (now (defs .entry)) (now (parts .entry)) a (now (attrs .entry)) p (now (text .entry))) o (readRow (now (row .entry)))) (stepOpen p (now (text .entry)) (fillOf n (now (defs .entry)) (now (parts .entry)) a (now (attrs .entry)) p (now (text .entry))) o (readRow (now (row .entry)))) c (now (out .entry)) r (now (out .exit)) ⌝ }
+    requires { ⌜ Ready w n a (now text) p × WalkRow w (now row) × Near o × Room w c ⌝ }
+    ensures { λ r. ⌜ Came w (stepRows p (now (text .entry)) (fillOf w n (now (defs .entry)) (now (parts .entry)) a (now (attrs .entry)) p (now (text .entry))) o (readRow (now (row .entry)))) (stepOpen p (now (text .entry)) (fillOf w n (now (defs .entry)) (now (parts .entry)) a (now (attrs .entry)) p (now (text .entry))) o (readRow (now (row .entry)))) c (now (out .entry)) r (now (out .exit)) ⌝ }
 {
     let h = read_head(row);
     if gone(o, h) {
@@ -405,13 +421,15 @@ fn step<'a>(
     }
     let due = closes(o, h) & o.due;
     let depth = minus(o.below, 1);
-    let at = put_owed(n, defs, parts, a, attrs, p, text, due, depth, c, out);
+    let what = p.filling;
+    let at = put_owed(w, n, defs, parts, a, attrs, what, text, due, depth, c, out);
     let q = closed(o, h);
-    come(n, defs, parts, a, attrs, p, text, h, row, q, at, out)
+    come(w, n, defs, parts, a, attrs, p, text, h, row, q, at, out)
 }
 
 /// The walk over `count` rows. It stops where no row may be written any more.
 pub fn walk<'a>(
+    w: usize,
     n: usize,
     defs: &'a [u8],
     parts: &'a [u8],
@@ -424,9 +442,10 @@ pub fn walk<'a>(
     c: Cursor,
     out: &mut [u8],
 ) -> Cursor
-    requires { ⌜ Ready n a (now text) plan × WalkRows count (now rows) × (44 * count ≤ length (now rows)) × Room baseWidth c ⌝ }
-    ensures { λ r. ⌜ Written baseWidth (walked plan (now (text .entry)) (fillOf n (now (defs .entry)) (now (parts .entry)) a (now (attrs .entry)) plan (now (text .entry))) (atFirst plan) (rowsIn baseWidth count (now (rows .entry)))) c (now (out .entry)) r (now (out .exit)) ⌝ }
+    requires { ⌜ Ready w n a (now text) plan × WalkRows w count (now rows) × (rowSize w * count ≤ length (now rows)) × Room w c ⌝ }
+    ensures { λ r. ⌜ Written w (walked plan (now (text .entry)) (fillOf w n (now (defs .entry)) (now (parts .entry)) a (now (attrs .entry)) plan (now (text .entry))) (atFirst plan) (readMany readRow (rowSize w) count (now (rows .entry)))) c (now (out .entry)) r (now (out .exit)) ⌝ }
 {
+    let size = layout::row_size(w);
     let mut t = rows;
     let mut m = count;
     let mut at = c;
@@ -435,12 +454,15 @@ pub fn walk<'a>(
         if at.left == 0 {
             return at;
         }
-        let s = step(n, defs, parts, a, attrs, plan, text, &t[..44], o, at, out);
+        let row = &t[..size];
+        let s = step(w, n, defs, parts, a, attrs, plan, text, row, o, at, out);
         at = s.cursor;
         o = s.opened;
-        t = &t[44..];
+        t = &t[size..];
         m -= 1;
     }
     let depth = minus(o.below, 1);
-    put_owed(n, defs, parts, a, attrs, plan, text, o.due, depth, at, out)
+    let due = o.due;
+    let what = plan.filling;
+    put_owed(w, n, defs, parts, a, attrs, what, text, due, depth, at, out)
 }

@@ -1,5 +1,4 @@
 -- The walk over the rows of a byte string that passes: what it asks, and the rows that it leaves.
--- Assumes nothing.
 use Prim.Native.Nat.{ℕ, zero, suc, _+_, _*_, _<_, _≤_}
 use native.Mathlib.Nat.{mul-suc}
 use native.Mathlib.Omega.{arith}
@@ -42,7 +41,7 @@ use Rattle.storing.proofs.PartLaws.{members-at}
 use Rattle.storing.proofs.RowBounds.{Bounded, rows-bounded}
 
 -- ---- rows that fit and are bounded
-walk-rows : (count : ℕ) (s : Bytes) → Small s → 44 * count ≤ length s → eachFits (rowFits baseWidth) 44 count s ≡ true → Every Bounded (readMany readRow 44 count s) → WalkRows count s
+walk-rows : (count : ℕ) (s : Bytes) → Small s → 44 * count ≤ length s → eachFits (rowFits baseWidth) 44 count s ≡ true → Every Bounded (readMany readRow 44 count s) → WalkRows baseWidth count s
 unfolding WalkRows eachFits
 walk-rows zero s a l e b = tt
 walk-rows (suc count) s a l e b =
@@ -75,34 +74,34 @@ module _ {bs : Bytes} (q : passes bs ≡ true) {n : ℕ} {defs parts : Bytes} {a
   h : Headed bs
   h = headed-of q
 
-  pub walk-ready : {v : Bytes} {p : Plan} → isValue baseWidth v ≡ true → Sized p → Ready n a v p
+  pub walk-ready : {v : Bytes} {p : Plan} → isValue baseWidth v ≡ true → Sized p → Ready baseWidth n a v p
   walk-ready {v} t p =
-      record { definitions = omega (arith, x .n-is, laid-in h .bodies .definitionBody .few); attributes = omega (arith, x .a-is, laid-in h .bodies .attributeBody .few); text = value-width baseWidth v t; plan = p .moves; filling = p .filling }
+      record { width = omega arith; definitions = omega (arith, x .n-is, laid-in h .bodies .definitionBody .few); attributes = omega (arith, x .a-is, laid-in h .bodies .attributeBody .few); text = value-width baseWidth v t; plan = p .moves; filling = p .filling }
 
   pub walk-whole : 44 * count ≤ length rows
   walk-whole = omega (arith, ap (λ (s : Bytes). length s) (x .rows-is), x .count-is, rows-whole h)
 
-  pub walk-asked : WalkRows count rows
+  pub walk-asked : WalkRows baseWidth count rows
   unfolding bodiesOf widthOf
   walk-asked =
       let b : readMany readRow 44 (rowCount bs) (rowsIn bs) ≡ flat (storeIn bs) .rows = read-rows h ∙ ap (λ (f : FlatStore). f .rows) (holds bs q .bodies) in
-      subst (λ (s : Bytes). WalkRows count s) (sym (x .rows-is))
-      (subst (λ (k : ℕ). WalkRows k (rowsIn bs)) (sym (x .count-is))
+      subst (λ (s : Bytes). WalkRows baseWidth count s) (sym (x .rows-is))
+      (subst (λ (k : ℕ). WalkRows baseWidth k (rowsIn bs)) (sym (x .count-is))
       (walk-rows (rowCount bs) (rowsIn bs) (rows-small h) (omega (arith, rows-whole h)) (rows-fit h q) (subst (λ (ys : List (Deep FlatRow)). Every Bounded ys) (sym b) (rows-bounded (storeIn bs) (holds bs q .good)))))
 
   -- the rows that the walk leaves are those after the plan
-  rows-after : (p : Plan) (v : Bytes) → rowsAfter p v (bodiesOf bs) ≡ walked p v (fillOf n defs parts a attrs p v) (atFirst p) (bytes.rowsIn baseWidth count rows)
+  rows-after : (p : Plan) (v : Bytes) → rowsAfter p v (bodiesOf bs) ≡ walked p v (fillOf baseWidth n defs parts a attrs p v) (atFirst p) (bytes.rowsIn baseWidth count rows)
   unfolding rowsAfter bodiesOf widthOf
   rows-after p v =
       sym
-      ((λ i. walked p v (fillOf (x .n-is i) (x .defs-is i) (x .parts-is i) (x .a-is i) (x .attrs-is i) p v) (atFirst p) (bytes.rowsIn baseWidth (x .count-is i) (x .rows-is i)))
+      ((λ i. walked p v (fillOf baseWidth (x .n-is i) (x .defs-is i) (x .parts-is i) (x .a-is i) (x .attrs-is i) p v) (atFirst p) (bytes.rowsIn baseWidth (x .count-is i) (x .rows-is i)))
       ∙ (λ i. walked p v (λ d. fillingRows (read-form h q i) (λ j. read-value h q j i) (λ k e. members-at h k e i) (p .filling) v d) (atFirst p) (read-rows h i)))
 
   -- .. and written from the serials of the store on
-  pub walk-from : (p : Plan) (v : Bytes) {at next : ℕ} {out : Bytes} {r : Cursor} {out′ : Bytes} → NumberAt 4 bs next → Written baseWidth (walked p v (fillOf n defs parts a attrs p v) (atFirst p) (bytes.rowsIn baseWidth count rows)) (record { at = at; left = 4097; serial = next }) out r out′
+  pub walk-from : (p : Plan) (v : Bytes) {at next : ℕ} {out : Bytes} {r : Cursor} {out′ : Bytes} → NumberAt 4 bs next → Written baseWidth (walked p v (fillOf baseWidth n defs parts a attrs p v) (atFirst p) (bytes.rowsIn baseWidth count rows)) (record { at = at; left = 4097; serial = next }) out r out′
       → Written baseWidth (rowsAfter p v (bodiesOf bs)) (walkFrom at bs) out r out′
   walk-from p v {at} {next} {out} {r} {out′} m w =
-      written-as (rows-after p v) (subst (λ (k : ℕ). Written baseWidth (walked p v (fillOf n defs parts a attrs p v) (atFirst p) (bytes.rowsIn baseWidth count rows)) (record { at = at; left = 4097; serial = k }) out r out′) (m .value) w)
+      written-as (rows-after p v) (subst (λ (k : ℕ). Written baseWidth (walked p v (fillOf baseWidth n defs parts a attrs p v) (atFirst p) (bytes.rowsIn baseWidth count rows)) (record { at = at; left = 4097; serial = k }) out r out′) (m .value) w)
 
 pub walk-room : {bs : Bytes} {at next : ℕ} → at < 549755813888 → NumberAt 4 bs next → Room baseWidth (record { at = at; left = 4097; serial = next })
 walk-room l m = record { places = omega arith; serials = omega (arith, m .small) }

@@ -31,6 +31,9 @@ const MOST_ROWS: usize = 4097;
 
 const HEADER_SIZE: usize = 40;
 
+/// The width of a value.
+const WIDTH: usize = 32;
+
 /// Nothing is written.
 pub fn refused(number: u32) -> Answer
     ensures { λ r. ⌜ (r .number ≡ number) × (r .length ≡ 0) ⌝ }
@@ -114,7 +117,20 @@ pub fn walk_rows(store: &[u8], plan: Plan, text: &[u8], at: usize, out: &mut [u8
         left: MOST_ROWS,
         serial: validity::number(store, 4),
     };
-    editing::walk(n, defs, parts, a, attrs, rows, count, plan, text, c, out)
+    editing::walk(
+        WIDTH,
+        n,
+        defs,
+        parts,
+        a,
+        attrs,
+        rows,
+        count,
+        plan,
+        text,
+        c,
+        out,
+    )
 }
 
 /// The store after a plan and with another form: `form` holds the bytes of its d definitions, p particles and a attributes. A

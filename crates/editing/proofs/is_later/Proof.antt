@@ -2,9 +2,6 @@ use borrow.Author.Needs.{needs}
 use Rattle.editing.proofs.is_later.Statement.{statement}
 use Rattle.editing.proofs.is_later.Tie as tie
 
-mark-requires : tie.Need-mark-requires
-mark-requires c κs = search needs
-
 enum-told : tie.Need-enum-told
 enum-told c = search needs
 
@@ -27,13 +24,12 @@ returns-3 : tie.Need-returns-3
 returns-3 c = rw (c .before .before .before .l2 .given .1)
 
 returns-4 : tie.Need-returns-4
-returns-4 c = rw (c .before .enum-told2 .given .1, c .before .before .before .mark .ensures)
+returns-4 c = rw (c .before .enum-told2 .given .1, c .before .before .before .pre)
 
 pub is-later-spec : {M : Type 1} → statement M
 is-later-spec =
     tie.close
     (tie.spec
-    mark-requires
     enum-told
     enum-known-l
     enum-known-l-2

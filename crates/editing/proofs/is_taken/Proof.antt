@@ -13,7 +13,9 @@ matches-requires : tie.Need-matches-requires
 matches-requires c κs = search needs
 
 returns : tie.Need-returns
-returns c = let a = c .before .before .before .before .before .args in taken-by (a .o) (a .h) (a .p) _ _ _ (c .before .before .before .before .is-everything .ensures) (c .before .before .before .is-below .ensures) (c .before .before .matches .ensures)
+returns c =
+    let a = c .before .before .before .before .before .args in
+    taken-by (a .o) (a .h) (a .p) _ _ _ (c .before .before .before .before .is-everything .ensures) (c .before .before .before .is-below .ensures) (c .before .before .matches .ensures)
 
 pub is-taken-spec : {M : Type 1} → statement M
 is-taken-spec =

@@ -6,8 +6,8 @@ use Rattle.editing.proofs.kept.Tie as tie
 matches-requires : tie.Need-matches-requires
 matches-requires c κs = search needs
 
-add-t6 : tie.Need-add-t6
-add-t6 c = search needs
+add-t7 : tie.Need-add-t7
+add-t7 c = search needs
 
 returns : tie.Need-returns
 returns c = let s = c .before .before .before in kept-opens (s .args .o) (s .args .h) (s .args .p) _ (c .before .before .matches .ensures) (c .before .if1 .taken)
@@ -16,12 +16,15 @@ is-below-requires : tie.Need-is-below-requires
 is-below-requires c κs = search needs
 
 is-later-requires : tie.Need-is-later-requires
-is-later-requires c κs = search needs
+is-later-requires c κs = c .before .before .before .pre .1
 
 returns-2 : tie.Need-returns-2
-returns-2 c = let s = c .before .before .before .before .before in kept-on (s .args .o) (s .args .h) (s .args .p) _ (c .before .before .before .before .matches .ensures) _ _ (c .before .before .before .if1 .left) (c .before .before .is-below .ensures) (c .before .is-later .ensures)
+returns-2 c =
+    let s = c .before .before .before .before .before in
+    kept-on (s .args .o) (s .args .h) (s .args .p) _ (c .before .before .before .before .matches .ensures) _ _ (c .before .before .before .if1 .left) (c .before .before .is-below .ensures)
+    (c .before .is-later .ensures)
 
 pub kept-spec : {M : Type 1} → statement M
 kept-spec =
     tie.close
-    (tie.spec matches-requires add-t6 returns is-below-requires is-later-requires returns-2)
+    (tie.spec matches-requires add-t7 returns is-below-requires is-later-requires returns-2)

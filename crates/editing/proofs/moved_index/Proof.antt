@@ -13,7 +13,9 @@ shifted-requires-2 : tie.Need-shifted-requires-2
 shifted-requires-2 c κs = search needs
 
 returns-2 : tie.Need-returns-2
-returns-2 c = let s = c .before .before .before .before .before .before in moved-attribute (s .args .p) (s .args .h) _ (c .before .before .before .before .if1 .left) (c .before .before .if2 .taken) (c .shifted2 .ensures)
+returns-2 c =
+    let s = c .before .before .before .before .before .before in
+    moved-attribute (s .args .p) (s .args .h) _ (c .before .before .before .before .if1 .left) (c .before .before .if2 .taken) (c .shifted2 .ensures)
 
 returns-3 : tie.Need-returns-3
 returns-3 c = let s = c .before .before .before .before in moved-text (s .args .p) (s .args .h) (s .args .h .index) (c .before .before .if1 .left) (c .if2 .left) (s .pre .1 .index)

@@ -1,10 +1,11 @@
+-- `editing::put_owed` meets its contract.
 use Rattle.editing.proofs.StepLaws.{owed-put, owed-none}
 use borrow.Author.Needs.{needs}
 use Rattle.editing.proofs.put_owed.Statement.{statement}
 use Rattle.editing.proofs.put_owed.Tie as tie
 
 put-filling-requires : tie.Need-put-filling-requires
-put-filling-requires c κs = search needs
+put-filling-requires c κs = let p = c .before .before .before .before .before .before .before .pre in (p .0, p .1)
 
 same-length : tie.Need-same-length
 same-length c = search needs

@@ -1,3 +1,4 @@
+-- `editing::put_row` meets its contract.
 use Rattle.editing.proofs.StepLaws.{row-valued, row-kept}
 use borrow.Author.Needs.{needs}
 use Rattle.editing.proofs.put_row.Statement.{statement}
@@ -13,7 +14,10 @@ same-length : tie.Need-same-length
 same-length c = search needs
 
 returns : tie.Need-returns
-returns c = let s = c .before .before .before .before .before .before .before .before .before .before .before in row-valued (s .args .p) (s .args .text .now) (s .args .h) (s .args .row .now) (s .pre .2) _ (c .before .before .before .before .before .before .before .moved-index .ensures .0) (c .before .before .before .before .if1 .taken) (c .before .before .put-valued .ensures)
+returns c =
+    let s = c .before .before .before .before .before .before .before .before .before .before .before in
+    row-valued (s .args .p) (s .args .text .now) (s .args .h) (s .args .row .now) (s .pre .3) _ (c .before .before .before .before .before .before .before .moved-index .ensures .0)
+    (c .before .before .before .before .if1 .taken) (c .before .before .put-valued .ensures)
 
 put-kept-requires : tie.Need-put-kept-requires
 put-kept-requires c κs = search needs
@@ -22,7 +26,10 @@ same-length-2 : tie.Need-same-length-2
 same-length-2 c = search needs
 
 returns-2 : tie.Need-returns-2
-returns-2 c = let s = c .before .before .before .before .before .before .before .before .before .before .before in row-kept (s .args .p) (s .args .text .now) (s .args .h) (s .args .row .now) (s .pre .2) _ (c .before .before .before .before .before .before .before .moved-index .ensures .0) (c .before .before .before .before .if1 .left) (c .before .before .put-kept .ensures)
+returns-2 c =
+    let s = c .before .before .before .before .before .before .before .before .before .before .before in
+    row-kept (s .args .p) (s .args .text .now) (s .args .h) (s .args .row .now) (s .pre .3) _ (c .before .before .before .before .before .before .before .moved-index .ensures .0)
+    (c .before .before .before .before .if1 .left) (c .before .before .put-kept .ensures)
 
 pub put-row-spec : {M : Type 1} → statement M
 put-row-spec =

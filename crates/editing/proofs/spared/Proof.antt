@@ -2,11 +2,8 @@ use borrow.Author.Needs.{needs}
 use Rattle.editing.proofs.spared.Statement.{statement}
 use Rattle.editing.proofs.spared.Tie as tie
 
-mark-requires : tie.Need-mark-requires
-mark-requires c κs = search needs
-
 returns : tie.Need-returns
-returns c = rw (c .before .mark .ensures)
+returns c = rw (c .before .before .pre)
 
 pub spared-spec : {M : Type 1} → statement M
-spared-spec = tie.close (tie.spec mark-requires returns)
+spared-spec = tie.close (tie.spec returns)

@@ -8,9 +8,6 @@ ghost use Rattle.records.specs.Records.{baseWidth, NumberAt, headerFits};
 ghost use Rattle.forms.specs.Bodies.{Bodies};
 ghost use Rattle.validity.specs.Check.{bodyAt, FormPasses, FormIn, RowsIn, SerialsIn};
 
-// The width of a value.
-const VALUE_WIDTH: usize = 32;
-
 const DEFINITION_SIZE: usize = 20;
 
 const PARTICLE_SIZE: usize = 4;

@@ -1,5 +1,4 @@
 -- Loops over pairs of records: what is left to compare from one on.
--- Assumes nothing.
 use Prim.Native.Nat.{ℕ, _*_, _≤_, _<_}
 use lib.ListN.{take, drop}
 use borrow.Author.Tests.{le-leb, lt-leb}
@@ -8,10 +7,10 @@ use mathlib.Core.Bool.{Bool, true, false, _&&_, _||_, not}
 use mathlib.Core.List.{List, [], _∷_, map}
 use Rattle.rules.specs.Bytes.{Bytes, same, bytes, any}
 use Rattle.rules.specs.Model.{member, distinct}
-use Rattle.rules.specs.Layout.{baseVersion, valueWidth, definitionSize, particleSize, FlatDefinition, FlatAttribute, FlatStore}
+use Rattle.rules.specs.Layout.{definitionSize, particleSize, attributeSize, FlatDefinition, FlatAttribute, FlatStore}
 use Rattle.rules.specs.Decode.{flatName, readDefinition, readParticle, readAttribute, readBodies}
 use Rattle.forms.specs.FormTests.{definitionsApart, modelsFit, clashes, ownersRise, attributesApart, bodiesFit}
-use Rattle.forms.specs.Bodies.{attributeWidth, definitions, particles, attributes, formOf, apart, sameName}
+use Rattle.forms.specs.Bodies.{definitions, particles, attributes, formOf, apart, sameName}
 use Rattle.forms.proofs.Reading.{definitions-length, many-front}
 
 -- ---- an entry like this one, further on
@@ -75,11 +74,11 @@ unfolding ownersRise
 owners-end least e = rw e
 
 -- ---- the whole
-pub bodies-by : (n : ℕ) (defs : Bytes) (p : ℕ) (parts : Bytes) (a : ℕ) (attrs : Bytes) {t u v w : Bool}
-    → t ≡ definitionsApart (definitions n defs) → u ≡ modelsFit n (definitions n defs) (particles p parts) → v ≡ ownersRise 0 (attributes a attrs) → w ≡ attributesApart (attributes a attrs)
-    → (t && (u && (v && w))) ≡ bodiesFit (formOf n defs p parts a attrs)
+pub bodies-by : (w n : ℕ) (defs : Bytes) (p : ℕ) (parts : Bytes) (a : ℕ) (attrs : Bytes) {t u v x : Bool}
+    → t ≡ definitionsApart (definitions n defs) → u ≡ modelsFit n (definitions n defs) (particles p parts) → v ≡ ownersRise 0 (attributes w a attrs) → x ≡ attributesApart (attributes w a attrs)
+    → (t && (u && (v && x))) ≡ bodiesFit (formOf w n defs p parts a attrs)
 unfolding bodiesFit
-bodies-by n defs p parts a attrs ht hu hv hw = rw (ht, hu, hv, hw, bodiesFit, definitions-length n defs)
+bodies-by w n defs p parts a attrs ht hu hv hw = rw (ht, hu, hv, hw, bodiesFit, definitions-length n defs)
 
 -- the tests look at the three bodies and no further
 pub bodies-only : (f g : FlatStore) → f .definitions ≡ g .definitions → f .particles ≡ g .particles → f .attributes ≡ g .attributes → bodiesFit f ≡ bodiesFit g
@@ -87,13 +86,20 @@ unfolding bodiesFit
 bodies-only f g d p a = rw (bodiesFit, d, p, a)
 
 -- the bodies that follow one another in a byte string
-pub bodies-read : (version next n p a r : ℕ) (bs : Bytes)
-    → bodiesFit (readBodies (valueWidth baseVersion) version next n p a r bs)
-    ≡ bodiesFit (formOf n (take (definitionSize * n) bs) p (take (particleSize * p) (drop (definitionSize * n) bs)) a (take (attributeWidth * a) (drop (particleSize * p) (drop (definitionSize * n) bs))))
-unfolding definitions particles attributes
-bodies-read version next n p a r bs =
-    bodies-only (readBodies (valueWidth baseVersion) version next n p a r bs)
-    (formOf n (take (definitionSize * n) bs) p (take (particleSize * p) (drop (definitionSize * n) bs)) a (take (attributeWidth * a) (drop (particleSize * p) (drop (definitionSize * n) bs))))
-    (sym (many-front readDefinition definitionSize n bs))
-    (sym (many-front readParticle particleSize p (drop (definitionSize * n) bs)))
-    (sym (many-front readAttribute attributeWidth a (drop (particleSize * p) (drop (definitionSize * n) bs))))
+module _ (w version next n p a r : ℕ) (bs : Bytes) where
+  abbrev definitionPart : Bytes
+  definitionPart = take (definitionSize * n) bs
+
+  abbrev particlePart : Bytes
+  particlePart = take (particleSize * p) (drop (definitionSize * n) bs)
+
+  abbrev attributePart : Bytes
+  attributePart = take (attributeSize w * a) (drop (particleSize * p) (drop (definitionSize * n) bs))
+
+  pub bodies-read : bodiesFit (readBodies w version next n p a r bs) ≡ bodiesFit (formOf w n definitionPart p particlePart a attributePart)
+  unfolding definitions particles attributes
+  bodies-read =
+      bodies-only (readBodies w version next n p a r bs) (formOf w n definitionPart p particlePart a attributePart)
+      (sym (many-front readDefinition definitionSize n bs))
+      (sym (many-front readParticle particleSize p (drop (definitionSize * n) bs)))
+      (sym (many-front readAttribute (attributeSize w) a (drop (particleSize * p) (drop (definitionSize * n) bs))))

@@ -1,5 +1,4 @@
 -- Records of a body, one by one: their bytes where the code reads them, and what is left from one on.
--- Assumes nothing.
 use mathlib.Core.Path.{_≡_, refl, sym, ap, ap₂, _∙_}
 use mathlib.Core.List.{List, [], _∷_}
 use Prim.Native.Nat.{ℕ, zero, suc, _+_, _*_, _-_, _≤_, _<_}
@@ -9,11 +8,12 @@ use native.Mathlib.Nat.{le-of-suc-le-suc, not-suc-le-zero, mul-zero, mul-suc}
 use lib.ListN.{length, take, drop, getD, length-take, drop-of-length-le}
 use lib.Seq.{getD-take, getD-drop, take-nil, take-take, take-all, drop-drop}
 use Rattle.rules.specs.Bytes.{Bytes}
-use Rattle.rules.specs.Layout.{definitionSize, particleSize}
+use Rattle.rules.specs.Layout.{definitionSize, particleSize, attributeSize}
 use Rattle.rules.specs.Decode.{numberAt, unle, readDefinition, readParticle, readAttribute, readMany}
 use Rattle.codec.specs.Part.{partOf}
 use Rattle.codec.proofs.Strings.{part-there}
-use Rattle.forms.specs.Bodies.{attributeWidth, recordAt, definitionAt, particleAt, attributeAt, definitions, particles, attributes}
+use Rattle.layout.specs.Bodies.{windowOf}
+use Rattle.forms.specs.Bodies.{recordAt, definitionAt, particleAt, attributeAt, definitions, particles, attributes}
 
 -- ---- parts of a list
 drop-take : {A : Type 0} (k m : ℕ) (l : List A) → drop k (take (k + m) l) ≡ take m (drop k l)
@@ -76,9 +76,9 @@ pub particles-length : (n : ℕ) (s : Bytes) → length (particles n s) ≡ n
 unfolding particles
 particles-length n s = many-length readParticle particleSize n s
 
-pub attributes-length : (n : ℕ) (s : Bytes) → length (attributes n s) ≡ n
+pub attributes-length : (w n : ℕ) (s : Bytes) → length (attributes w n s) ≡ n
 unfolding attributes
-attributes-length n s = many-length readAttribute attributeWidth n s
+attributes-length w n s = many-length readAttribute (attributeSize w) n s
 
 pub definitions-from : (i n : ℕ) (s : Bytes) → i < n → drop i (definitions n s) ≡ definitionAt i s ∷ drop (i + 1) (definitions n s)
 unfolding definitions recordAt
@@ -88,9 +88,9 @@ pub particles-from : (i n : ℕ) (s : Bytes) → i < n → drop i (particles n s
 unfolding particles recordAt
 particles-from i n s h = rw add-one (many-from readParticle particleSize i n s h)
 
-pub attributes-from : (i n : ℕ) (s : Bytes) → i < n → drop i (attributes n s) ≡ attributeAt i s ∷ drop (i + 1) (attributes n s)
+pub attributes-from : (w i n : ℕ) (s : Bytes) → i < n → drop i (attributes w n s) ≡ attributeAt w i s ∷ drop (i + 1) (attributes w n s)
 unfolding attributes recordAt
-attributes-from i n s h = rw add-one (many-from readAttribute attributeWidth i n s h)
+attributes-from w i n s h = rw add-one (many-from readAttribute (attributeSize w) i n s h)
 
 pub definitions-end : (i n : ℕ) (s : Bytes) → n ≤ i → drop i (definitions n s) ≡ []
 definitions-end i n s h = drop-of-length-le (definitions n s) {i = i} (omega (arith, definitions-length n s))
@@ -98,8 +98,8 @@ definitions-end i n s h = drop-of-length-le (definitions n s) {i = i} (omega (ar
 pub particles-end : (i n : ℕ) (s : Bytes) → n ≤ i → drop i (particles n s) ≡ []
 particles-end i n s h = drop-of-length-le (particles n s) {i = i} (omega (arith, particles-length n s))
 
-pub attributes-end : (i n : ℕ) (s : Bytes) → n ≤ i → drop i (attributes n s) ≡ []
-attributes-end i n s h = drop-of-length-le (attributes n s) {i = i} (omega (arith, attributes-length n s))
+pub attributes-end : (w i n : ℕ) (s : Bytes) → n ≤ i → drop i (attributes w n s) ≡ []
+attributes-end w i n s h = drop-of-length-le (attributes w n s) {i = i} (omega (arith, attributes-length w n s))
 
 -- the particles of one model
 pub particles-part : (at c n : ℕ) (s : Bytes) → at + c ≤ n → particleSize * n ≡ length s → particles c (partOf (particleSize * at) (particleSize * c) s) ≡ take c (drop at (particles n s))
@@ -133,15 +133,15 @@ definition-name i s =
     let e : definitionSize * i + 0 ≡ definitionSize * i = omega arith in
     ap₂ (λ (k : ℕ) (t : Bytes). take k t) (ap (λ (k : ℕ). getD s k 0) (sym e) ∙ sym (field-at definitionSize i 0 s (omega arith))) (sym (rest-at 1 19 i s))
 
-pub attribute-name : (i : ℕ) (s : Bytes) → take (getD s (attributeWidth * i + 1) 0) (take 50 (drop (attributeWidth * i + 1 + 1) s)) ≡ attributeAt i s .name
-attribute-name i s =
-    let e : attributeWidth * i + 1 + 1 ≡ attributeWidth * i + 2 = omega arith in
-    rw e (ap₂ (λ (k : ℕ) (t : Bytes). take k t) (sym (field-at attributeWidth i 1 s (omega arith))) (sym (rest-at 2 50 i s)))
+-- the fields of an attribute's record
+module _ (w i : ℕ) (s : Bytes) {rec : Bytes} (e : rec ≡ windowOf (attributeSize w * i) (attributeSize w) s) where
+  pub attribute-name : {r : Bytes} → r ≡ readAttribute rec .name → r ≡ attributeAt w i s .name
+  unfolding recordAt
+  attribute-name h = h ∙ ap (λ (t : Bytes). readAttribute t .name) e
 
-pub attribute-owner : (i : ℕ) (s : Bytes) → getD s (attributeWidth * i) 0 ≡ attributeAt i s .owner
-attribute-owner i s =
-    let e : attributeWidth * i + 0 ≡ attributeWidth * i = omega arith in
-    ap (λ (k : ℕ). getD s k 0) (sym e) ∙ sym (field-at attributeWidth i 0 s (omega arith))
+  pub attribute-owner : {r : ℕ} → r ≡ readAttribute rec .owner → r ≡ attributeAt w i s .owner
+  unfolding recordAt
+  attribute-owner h = h ∙ ap (λ (t : Bytes). readAttribute t .owner) e
 
 pub definition-size : (i : ℕ) (s : Bytes) → numberAt (definitionSize * i + 18) 2 s ≡ definitionAt i s .particles
 definition-size i s =

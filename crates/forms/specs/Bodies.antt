@@ -1,5 +1,4 @@
--- The bodies of a form as lists of records, and the tests of FormTests as the code goes through them: record by record.
--- Assumes nothing.
+-- The bodies of a form as lists of records, at the width `w` of a value, and the tests of FormTests as the code goes through them: record by record.
 use Prim.Native.Nat.{ℕ, suc, _*_, _≤_}
 use mathlib.Core.Path.{_≡_}
 use mathlib.Core.Bool.{Bool, true, false, _&&_, not}
@@ -9,14 +8,10 @@ use lib.ListN.{length, take, drop}
 use Rattle.rules.specs.Bytes.{Bytes, same, any}
 use Rattle.rules.specs.Store.{heads}
 use Rattle.rules.specs.Preorder.{Deep, build}
-use Rattle.rules.specs.Layout.{baseVersion, valueWidth, definitionSize, particleSize, attributeSize, FlatDefinition, FlatParticle, FlatAttribute, FlatStore}
+use Rattle.rules.specs.Layout.{baseVersion, definitionSize, particleSize, attributeSize, FlatDefinition, FlatParticle, FlatAttribute, FlatStore}
 use Rattle.rules.specs.Decode.{readDefinition, readParticle, readAttribute, readMany}
 
 -- ---- bodies
--- the size of an attribute in a store of this version
-abbrev pub attributeWidth : ℕ
-attributeWidth = attributeSize (valueWidth baseVersion)
-
 -- a body of n records of one size, at most `most` of them
 pub record Body (most size n : ℕ) (s : Bytes) : Type 0 where
   pub few : n ≤ most
@@ -32,8 +27,8 @@ definitionAt i s = readDefinition (recordAt definitionSize i s)
 abbrev pub particleAt : ℕ → Bytes → Deep FlatParticle
 particleAt i s = readParticle (recordAt particleSize i s)
 
-abbrev pub attributeAt : ℕ → Bytes → FlatAttribute
-attributeAt i s = readAttribute (recordAt attributeWidth i s)
+abbrev pub attributeAt : ℕ → ℕ → Bytes → FlatAttribute
+attributeAt w i s = readAttribute (recordAt (attributeSize w) i s)
 
 unfoldable pub definitions : ℕ → Bytes → List FlatDefinition
 definitions n s = readMany readDefinition definitionSize n s
@@ -41,24 +36,24 @@ definitions n s = readMany readDefinition definitionSize n s
 unfoldable pub particles : ℕ → Bytes → List (Deep FlatParticle)
 particles p s = readMany readParticle particleSize p s
 
-unfoldable pub attributes : ℕ → Bytes → List FlatAttribute
-attributes a s = readMany readAttribute attributeWidth a s
+unfoldable pub attributes : ℕ → ℕ → Bytes → List FlatAttribute
+attributes w a s = readMany readAttribute (attributeSize w) a s
 
 -- the three bodies of a form, no larger than the ceilings
-pub record Bodies (n : ℕ) (defs : Bytes) (p : ℕ) (parts : Bytes) (a : ℕ) (attrs : Bytes) : Type 0 where
+pub record Bodies (w n : ℕ) (defs : Bytes) (p : ℕ) (parts : Bytes) (a : ℕ) (attrs : Bytes) : Type 0 where
   pub definitionBody : Body 64 definitionSize n defs
   pub particleBody : Body 256 particleSize p parts
-  pub attributeBody : Body 64 attributeWidth a attrs
+  pub attributeBody : Body 64 (attributeSize w) a attrs
 
 -- a store of this version that has these bodies, and no rows
-abbrev pub formOf : ℕ → Bytes → ℕ → Bytes → ℕ → Bytes → FlatStore
-formOf n defs p parts a attrs =
+abbrev pub formOf : ℕ → ℕ → Bytes → ℕ → Bytes → ℕ → Bytes → FlatStore
+formOf w n defs p parts a attrs =
     record {
       version = baseVersion;
       next = 0;
       definitions = definitions n defs;
       particles = particles p parts;
-      attributes = attributes a attrs;
+      attributes = attributes w a attrs;
       rows = [];
     }
 

@@ -3,16 +3,15 @@ ghost use mathlib.Core.Path.{_≡_};
 ghost use Prim.Native.Nat.{_+_, _*_, _<_, _≤_};
 ghost use lib.ListN.{length, take, drop, getD};
 ghost use Rattle.rules.specs.Bytes.{any};
-ghost use Rattle.rules.specs.Layout.{definitionSize, particleSize};
+ghost use Rattle.rules.specs.Layout.{definitionSize, particleSize, attributeSize};
+ghost use Rattle.layout.specs.Bodies.{Width};
 ghost use Rattle.forms.specs.FormTests.{clashes, definitionsApart, modelFits, modelsFit, ownersRise, attributesApart, bodiesFit};
-ghost use Rattle.forms.specs.Bodies.{Body, attributeWidth, recordAt, definitionAt, particleAt, attributeAt, definitions, particles, attributes, Bodies, formOf, sameName, sameElement, countFits, membersFrom, stands};
+ghost use Rattle.forms.specs.Bodies.{Body, recordAt, definitionAt, particleAt, attributeAt, definitions, particles, attributes, Bodies, formOf, sameName, sameElement, countFits, membersFrom, stands};
 
-// the sizes of the three records
+// the sizes of a definition and of a particle
 const DEFINITION: usize = 20;
 
 const PARTICLE: usize = 4;
-
-const ATTRIBUTE: usize = 52;
 
 // the fields of a particle, a byte each
 const SORT: usize = 0;
@@ -88,38 +87,38 @@ pub fn definitions_apart(n: usize, defs: &[u8]) -> bool
     true
 }
 
-fn owner(attrs: &[u8], i: usize) -> usize
-    requires { ⌜ attributeWidth * (i + 1) ≤ length (now attrs) ⌝ }
-    ensures { λ r. ⌜ r ≡ attributeAt i (now (attrs .entry)) .owner ⌝ }
+fn owner(w: usize, attrs: &[u8], i: usize) -> usize
+    requires { ⌜ Width w × (i < 64) ⌝ }
+    ensures { λ r. ⌜ r ≡ attributeAt w i (now (attrs .entry)) .owner ⌝ }
 {
-    wide(codec::byte(attrs, ATTRIBUTE * i))
+    layout::attribute_owner(layout::attribute_at(w, attrs, i))
 }
 
-fn attribute_name(attrs: &[u8], i: usize) -> &[u8]
-    requires { ⌜ attributeWidth * (i + 1) ≤ length (now attrs) ⌝ }
-    ensures { λ r. ⌜ now r ≡ attributeAt i (now (attrs .entry)) .name ⌝ }
+fn attribute_name(w: usize, attrs: &[u8], i: usize) -> &[u8]
+    requires { ⌜ Width w × (i < 64) ⌝ }
+    ensures { λ r. ⌜ now r ≡ attributeAt w i (now (attrs .entry)) .name ⌝ }
 {
-    text(attrs, ATTRIBUTE * i + 1, ATTRIBUTE - 2)
+    layout::attribute_name(layout::attribute_at(w, attrs, i))
 }
 
 // Whether attributes i and j have one owner and one name.
-fn same_attribute(attrs: &[u8], i: usize, j: usize) -> bool
-    requires { ⌜ (attributeWidth * (i + 1) ≤ length (now attrs)) × (attributeWidth * (j + 1) ≤ length (now attrs)) ⌝ }
-    ensures { λ r. ⌜ r ≡ clashes (attributeAt i (now (attrs .entry))) (attributeAt j (now (attrs .entry))) ⌝ }
+fn same_attribute(w: usize, attrs: &[u8], i: usize, j: usize) -> bool
+    requires { ⌜ Width w × (i < 64) × (j < 64) ⌝ }
+    ensures { λ r. ⌜ r ≡ clashes (attributeAt w i (now (attrs .entry))) (attributeAt w j (now (attrs .entry))) ⌝ }
 {
-    let named = codec::equal(attribute_name(attrs, i), attribute_name(attrs, j));
-    (owner(attrs, i) == owner(attrs, j)) & named
+    let named = codec::equal(attribute_name(w, attrs, i), attribute_name(w, attrs, j));
+    (owner(w, attrs, i) == owner(w, attrs, j)) & named
 }
 
 // Whether a later attribute has the owner and the name of attribute i.
-fn attribute_again(a: usize, attrs: &[u8], i: usize) -> bool
-    requires { ⌜ Body 64 attributeWidth a (now attrs) × (i < a) ⌝ }
-    ensures { λ r. ⌜ r ≡ any (clashes (attributeAt i (now (attrs .entry)))) (drop (i + 1) (attributes a (now (attrs .entry)))) ⌝ }
+fn attribute_again(w: usize, a: usize, attrs: &[u8], i: usize) -> bool
+    requires { ⌜ Width w × Body 64 (attributeSize w) a (now attrs) × (i < a) ⌝ }
+    ensures { λ r. ⌜ r ≡ any (clashes (attributeAt w i (now (attrs .entry)))) (drop (i + 1) (attributes w a (now (attrs .entry)))) ⌝ }
 {
     let mut j = i;
     while j + 1 < a {
         j += 1;
-        if same_attribute(attrs, i, j) {
+        if same_attribute(w, attrs, i, j) {
             return true;
         }
     }
@@ -127,13 +126,13 @@ fn attribute_again(a: usize, attrs: &[u8], i: usize) -> bool
 }
 
 /// Whether no two attributes have one owner and one name: at most 64 * 63 / 2 comparisons.
-pub fn attributes_apart(a: usize, attrs: &[u8]) -> bool
-    requires { ⌜ Body 64 attributeWidth a (now attrs) ⌝ }
-    ensures { λ r. ⌜ r ≡ attributesApart (attributes a (now (attrs .entry))) ⌝ }
+pub fn attributes_apart(w: usize, a: usize, attrs: &[u8]) -> bool
+    requires { ⌜ Width w × Body 64 (attributeSize w) a (now attrs) ⌝ }
+    ensures { λ r. ⌜ r ≡ attributesApart (attributes w a (now (attrs .entry))) ⌝ }
 {
     let mut i = 0;
     while i < a {
-        if attribute_again(a, attrs, i) {
+        if attribute_again(w, a, attrs, i) {
             return false;
         }
         i += 1;
@@ -142,14 +141,14 @@ pub fn attributes_apart(a: usize, attrs: &[u8]) -> bool
 }
 
 /// Whether the attributes stand in the order of their owners.
-pub fn owners_rise(a: usize, attrs: &[u8]) -> bool
-    requires { ⌜ Body 64 attributeWidth a (now attrs) ⌝ }
-    ensures { λ r. ⌜ r ≡ ownersRise 0 (attributes a (now (attrs .entry))) ⌝ }
+pub fn owners_rise(w: usize, a: usize, attrs: &[u8]) -> bool
+    requires { ⌜ Width w × Body 64 (attributeSize w) a (now attrs) ⌝ }
+    ensures { λ r. ⌜ r ≡ ownersRise 0 (attributes w a (now (attrs .entry))) ⌝ }
 {
     let mut least: usize = 0;
     let mut i = 0;
     while i < a {
-        let o = owner(attrs, i);
+        let o = owner(w, attrs, i);
         if o < least {
             return false;
         }
@@ -292,12 +291,20 @@ pub fn models_fit(n: usize, defs: &[u8], p: usize, parts: &[u8]) -> bool
 
 /// Whether the three bodies of a form fit together. At the ceilings: 64 * 63 / 2 pairs of definitions and as many of attributes,
 /// and 256 * 255 particles looked at.
-pub fn bodies_fit(n: usize, defs: &[u8], p: usize, parts: &[u8], a: usize, attrs: &[u8]) -> bool
-    requires { ⌜ Bodies n (now defs) p (now parts) a (now attrs) ⌝ }
-    ensures { λ r. ⌜ r ≡ bodiesFit (formOf n (now (defs .entry)) p (now (parts .entry)) a (now (attrs .entry))) ⌝ }
+pub fn bodies_fit(
+    w: usize,
+    n: usize,
+    defs: &[u8],
+    p: usize,
+    parts: &[u8],
+    a: usize,
+    attrs: &[u8],
+) -> bool
+    requires { ⌜ Width w × Bodies w n (now defs) p (now parts) a (now attrs) ⌝ }
+    ensures { λ r. ⌜ r ≡ bodiesFit (formOf w n (now (defs .entry)) p (now (parts .entry)) a (now (attrs .entry))) ⌝ }
 {
     let apart = definitions_apart(n, defs);
     let models = models_fit(n, defs, p, parts);
-    let ordered = owners_rise(a, attrs);
-    apart & (models & (ordered & attributes_apart(a, attrs)))
+    let ordered = owners_rise(w, a, attrs);
+    apart & (models & (ordered & attributes_apart(w, a, attrs)))
 }

@@ -7,7 +7,7 @@ use native.Mathlib.Nat.{mul-le-mul, mul-suc, mul-zero}
 use lib.ListN.{length, take, drop, getD, length-drop, drop-of-length-le}
 use lib.Seq.{take-nil, take-all, drop-drop}
 use Rattle.rules.specs.Bytes.{Bytes}
-use Rattle.rules.specs.Layout.{valueWidth, attributeSize, rowSize, FlatAttribute, FlatRow}
+use Rattle.rules.specs.Layout.{valueWidth, headerSize, definitionSize, particleSize, attributeSize, rowSize, FlatAttribute, FlatRow}
 use Rattle.rules.specs.Preorder.{Deep}
 use Rattle.rules.specs.Decode.{numberAt, readAttribute, readRow, readMany, definitionCount, particleCount, attributeCount, rowCount, readFlat}
 use Rattle.rules.proofs.DecodeLaws.{width-bound}
@@ -35,6 +35,20 @@ module _ (size m n : ℕ) (h : m ≡ 0 → ⊥) (g : size * m ≤ n) where
 
   pub room-rest : size * (m - 1) ≤ n - size
   room-rest = omega (arith, room-split, g)
+
+-- where the rows begin, and where they end
+module _ (w n p a : ℕ) (size start t : ℕ) where
+  pub attributes-through : n < 4294967296 → p < 4294967296 → size ≡ attributeSize w → Place (headerSize + definitionSize * n + particleSize * p) start → Product size a t
+      → Place (headerSize + definitionSize * n + particleSize * p + attributeSize w * a) (start + t)
+  attributes-through h g e s m =
+      let k : t ≡ attributeSize w * a = m .value ∙ ap (λ (x : ℕ). x * a) e in
+      record { value = (λ i. s .value i + k i); small = omega (arith, s .value, m .small) }
+
+  pub rows-through : (m : ℕ) → size ≡ rowSize w → Place (headerSize + definitionSize * n + particleSize * p + attributeSize w * a) start → Product size m t
+      → start + t ≡ headerSize + (definitionSize * n + (particleSize * p + (attributeSize w * a + rowSize w * m)))
+  rows-through m e s q =
+      let k : t ≡ rowSize w * m = q .value ∙ ap (λ (x : ℕ). x * m) e in
+      omega (arith, s .value, k)
 
 -- ---- windows
 module _ (s : Bytes) (at n : ℕ) where

@@ -268,6 +268,68 @@ pub fn attribute_in(store: &[u8], i: usize) -> &[u8]
     )
 }
 
+// ---- the offsets in the header
+
+pub fn definition_offset(store: &[u8]) -> usize
+    ensures { λ r. ⌜ Number (numberAt 8 4 (now (store .entry))) r ⌝ }
+{
+    number(store, 8)
+}
+
+pub fn particle_offset(store: &[u8]) -> usize
+    ensures { λ r. ⌜ Number (numberAt 16 4 (now (store .entry))) r ⌝ }
+{
+    number(store, 16)
+}
+
+pub fn attribute_offset(store: &[u8]) -> usize
+    ensures { λ r. ⌜ Number (numberAt 24 4 (now (store .entry))) r ⌝ }
+{
+    number(store, 24)
+}
+
+pub fn row_offset(store: &[u8]) -> usize
+    ensures { λ r. ⌜ Number (numberAt 32 4 (now (store .entry))) r ⌝ }
+{
+    number(store, 32)
+}
+
+// ---- where the bodies begin and where a store ends, by counts
+
+/// Bytes before n definitions, and those of the definitions.
+pub fn through_definitions(n: usize) -> usize
+    requires { ⌜ n < 4294967296 ⌝ }
+    ensures { λ r. ⌜ Place (headerSize + definitionSize * n) r ⌝ }
+{
+    40 + 20 * n
+}
+
+/// The same with p particles.
+pub fn through_particles(n: usize, p: usize) -> usize
+    requires { ⌜ (n < 4294967296) × (p < 4294967296) ⌝ }
+    ensures { λ r. ⌜ Place (headerSize + definitionSize * n + particleSize * p) r ⌝ }
+{
+    40 + 20 * n + 4 * p
+}
+
+/// The same with a attributes.
+pub fn through_attributes(w: usize, n: usize, p: usize, a: usize) -> usize
+    requires { ⌜ Width w × (n < 4294967296) × (p < 4294967296) × (a < 4294967296) ⌝ }
+    ensures { λ r. ⌜ Place (headerSize + definitionSize * n + particleSize * p + attributeSize w * a) r ⌝ }
+{
+    let start = through_particles(n, p);
+    start + times(attribute_size(w), a)
+}
+
+/// The same with m rows: the length of a store.
+pub fn through_rows(w: usize, n: usize, p: usize, a: usize, m: usize) -> usize
+    requires { ⌜ Width w × (n < 4294967296) × (p < 4294967296) × (a < 4294967296) × (m < 4294967296) ⌝ }
+    ensures { λ r. ⌜ r ≡ headerSize + (definitionSize * n + (particleSize * p + (attributeSize w * a + rowSize w * m))) ⌝ }
+{
+    let start = through_attributes(w, n, p, a);
+    start + times(row_size(w), m)
+}
+
 /// What the header says, and the width of a value by the version.
 pub struct Shape {
     pub version: u32,

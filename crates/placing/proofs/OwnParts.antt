@@ -43,7 +43,7 @@ use Rattle.finding.proofs.StoreFacts.{formIn, byIndex}
 
 module _ {n : ℕ} {defs : Bytes} {p : ℕ} {parts : Bytes} {a : ℕ} {attrs : Bytes} (laid : Laid n defs p parts a attrs) (x : FormPasses n defs p parts a attrs) where
   abbrev f : FlatStore
-  f = formOf n defs p parts a attrs
+  f = formOf baseWidth n defs p parts a attrs
 
   fields : FieldsFit baseWidth f
   fields = fields-fit laid (x .definitions) (x .attributes)

@@ -1,5 +1,4 @@
 -- What a loop that tests each byte has left, from byte i on; parts of a byte string.
--- Assumes nothing.
 use Prim.Native.Nat.{ℕ, zero, suc, min, _+_, _*_, _-_, _≤_, _<_}
 use native.Mathlib.Nat.{min-eq-left, min-eq-right}
 use native.Mathlib.Numerals.{add-one}
@@ -16,6 +15,7 @@ use Rattle.rules.specs.Layout.{nameWidth, headerSize, definitionSize, particleS
 use Rattle.rules.specs.WellFormed.{startsName, inName, storedName, isValue, isFill}
 use Rattle.rules.specs.Decode.{numberAt, definitionCount, particleCount, attributeCount, rowCount, sized, sortOf}
 use Rattle.rules.specs.Passing.{knownVersion}
+use Rattle.layout.specs.Bodies.{Place}
 use Rattle.records.specs.Records.{zeros, used, filled, nameFits, valueFits, definitionFits, attributeFits, unusedFit, rowFits, eachFits, countsFit, offsetsFit, headerFits}
 use Rattle.records.proofs.RecordLaws.{drop-take}
 
@@ -111,21 +111,27 @@ unfolding countsFit
 counts-of bs d p a r e f g h = λ i. leb (e i) 64 && (leb (f i) 256 && (leb (g i) 64 && leb (h i) 4096))
 
 module _ (w : ℕ) (bs : Bytes) (d p a : ℕ) (e : d ≡ definitionCount bs) (f : p ≡ particleCount bs) (g : a ≡ attributeCount bs) where
-  pub offsets-of : (x y z u : ℕ) → x ≡ numberAt 8 4 bs → y ≡ numberAt 16 4 bs → z ≡ numberAt 24 4 bs → u ≡ numberAt 32 4 bs
-      → (eqb x headerSize && (eqb y (headerSize + definitionSize * d) && (eqb z (headerSize + definitionSize * d + particleSize * p) && eqb u (headerSize + definitionSize * d + particleSize * p + attributeSize w * a)))) ≡ offsetsFit w bs
+  -- the places are those that the counts give, and the offsets are tested against them
+  pub offsets-of : {h x y z : ℕ} → Place headerSize h → Place (headerSize + definitionSize * d) x → Place (headerSize + definitionSize * d + particleSize * p) y
+      → Place (headerSize + definitionSize * d + particleSize * p + attributeSize w * a) z
+      → (k l m n : ℕ) → k ≡ numberAt 8 4 bs → l ≡ numberAt 16 4 bs → m ≡ numberAt 24 4 bs → n ≡ numberAt 32 4 bs
+      → (eqb k h && (eqb l x && (eqb m y && eqb n z))) ≡ offsetsFit w bs
   unfolding offsetsFit
-  offsets-of x y z u k l m n = λ i.
-      eqb (k i) headerSize
-      && (eqb (l i) (headerSize + definitionSize * e i)
-      && (eqb (m i) (headerSize + definitionSize * e i + particleSize * f i) && eqb (n i) (headerSize + definitionSize * e i + particleSize * f i + attributeSize w * g i)))
+  offsets-of q r s t k l m n u v x y =
+      (λ i. eqb (u i) (q .value i) && (eqb (v i) (r .value i) && (eqb (x i) (s .value i) && eqb (y i) (t .value i))))
+      ∙ (λ i.
+      eqb (numberAt 8 4 bs) headerSize
+      && (eqb (numberAt 16 4 bs) (headerSize + definitionSize * e i)
+      && (eqb (numberAt 24 4 bs) (headerSize + definitionSize * e i + particleSize * f i)
+      && eqb (numberAt 32 4 bs) (headerSize + definitionSize * e i + particleSize * f i + attributeSize w * g i))))
 
-  pub sized-of : (r : ℕ) → r ≡ rowCount bs → eqb (length bs) (headerSize + (definitionSize * d + (particleSize * p + (attributeSize w * a + rowSize w * r)))) ≡ sized w bs
-  sized-of r h = λ i. eqb (length bs) (headerSize + (definitionSize * e i + (particleSize * f i + (attributeSize w * g i + rowSize w * h i))))
+  pub sized-of : (r n : ℕ) → r ≡ rowCount bs → n ≡ headerSize + (definitionSize * d + (particleSize * p + (attributeSize w * a + rowSize w * r))) → eqb (length bs) n ≡ sized w bs
+  sized-of r n h q = ap (eqb (length bs)) q ∙ (λ i. eqb (length bs) (headerSize + (definitionSize * e i + (particleSize * f i + (attributeSize w * g i + rowSize w * h i)))))
 
-pub header-of : (w : ℕ) (bs : Bytes) (version next : ℕ) {c o s : Bool} → version ≡ numberAt 0 4 bs → next ≡ numberAt 4 4 bs → c ≡ countsFit bs → o ≡ offsetsFit w bs → s ≡ sized w bs
-    → (leb headerSize (length bs) && (knownVersion version && (c && (o && (s && leb 1 next))))) ≡ headerFits w bs
+pub header-of : (w : ℕ) (bs : Bytes) (h version next : ℕ) {c o s : Bool} → h ≡ headerSize → version ≡ numberAt 0 4 bs → next ≡ numberAt 4 4 bs → c ≡ countsFit bs → o ≡ offsetsFit w bs → s ≡ sized w bs
+    → (leb h (length bs) && (knownVersion version && (c && (o && (s && leb 1 next))))) ≡ headerFits w bs
 unfolding headerFits
-header-of w bs version next v n c o s = λ i. leb headerSize (length bs) && (knownVersion (v i) && (c i && (o i && (s i && leb 1 (n i)))))
+header-of w bs h version next q v n c o s = λ i. leb (q i) (length bs) && (knownVersion (v i) && (c i && (o i && (s i && leb 1 (n i)))))
 
 -- ---- what a loop over records has left: `left` records of `rest`
 drop-least : (n : ℕ) (bs : Bytes) → drop (min n (length bs)) bs ≡ drop n bs

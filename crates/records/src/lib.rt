@@ -10,23 +10,13 @@ ghost use Rattle.rules.specs.Layout.{definitionSize, attributeSize};
 ghost use Rattle.rules.specs.Decode.{sized, sortOf};
 ghost use Rattle.rules.specs.WellFormed.{startsName, inName, storedName, isValue, isFill};
 ghost use Rattle.layout.specs.Bodies.{Width};
-ghost use Rattle.records.specs.Records.{baseWidth, NumberAt, zeros, filled, nameFits, valueFits, definitionFits, attributeFits, unusedFit, rowFits, eachFits, countsFit, offsetsFit, headerFits};
+ghost use Rattle.records.specs.Records.{NumberAt, zeros, filled, nameFits, valueFits, definitionFits, attributeFits, unusedFit, rowFits, eachFits, countsFit, offsetsFit, headerFits};
 
 const BASE_VERSION: usize = 1;
 
 const NAME_WIDTH: usize = 16;
 
-const VALUE_WIDTH: usize = 32;
-
-const HEADER_SIZE: usize = 40;
-
 const DEFINITION_SIZE: usize = 20;
-
-const PARTICLE_SIZE: usize = 4;
-
-const ATTRIBUTE_SIZE: usize = 20 + VALUE_WIDTH;
-
-const ROW_SIZE: usize = 12 + VALUE_WIDTH;
 
 // ---- bytes
 
@@ -282,46 +272,50 @@ pub fn number(store: &[u8], at: usize) -> usize
 fn counts_fit(store: &[u8]) -> bool
     ensures { λ r. ⌜ r ≡ countsFit (now (store .entry)) ⌝ }
 {
-    let definitions = number(store, 12);
-    let particles = number(store, 20);
-    let attributes = number(store, 28);
-    let rows = number(store, 36);
+    let definitions = layout::definition_count(store);
+    let particles = layout::particle_count(store);
+    let attributes = layout::attribute_count(store);
+    let rows = layout::row_count(store);
     (definitions <= 64) & ((particles <= 256) & ((attributes <= 64) & (rows <= 4096)))
 }
 
 // Whether each body begins where the one before it ends.
-fn offsets_fit(store: &[u8]) -> bool
-    ensures { λ r. ⌜ r ≡ offsetsFit baseWidth (now (store .entry)) ⌝ }
+fn offsets_fit(w: usize, store: &[u8]) -> bool
+    requires { ⌜ Width w ⌝ }
+    ensures { λ r. ⌜ r ≡ offsetsFit w (now (store .entry)) ⌝ }
 {
-    let at_particles = HEADER_SIZE + DEFINITION_SIZE * number(store, 12);
-    let at_attributes = at_particles + PARTICLE_SIZE * number(store, 20);
-    let at_rows = at_attributes + ATTRIBUTE_SIZE * number(store, 28);
-    let definitions = number(store, 8);
-    let particles = number(store, 16);
-    let attributes = number(store, 24);
-    let rows = number(store, 32);
-    (definitions == HEADER_SIZE)
+    let n = layout::definition_count(store);
+    let p = layout::particle_count(store);
+    let at_particles = layout::through_definitions(n);
+    let at_attributes = layout::through_particles(n, p);
+    let at_rows = layout::through_attributes(w, n, p, layout::attribute_count(store));
+    let definitions = layout::definition_offset(store);
+    let particles = layout::particle_offset(store);
+    let attributes = layout::attribute_offset(store);
+    let rows = layout::row_offset(store);
+    (definitions == layout::through_definitions(0))
         & ((particles == at_particles) & ((attributes == at_attributes) & (rows == at_rows)))
 }
 
 // Whether the string is as long as its counts say.
-fn is_sized(store: &[u8]) -> bool
-    ensures { λ r. ⌜ r ≡ sized baseWidth (now (store .entry)) ⌝ }
+fn is_sized(w: usize, store: &[u8]) -> bool
+    requires { ⌜ Width w ⌝ }
+    ensures { λ r. ⌜ r ≡ sized w (now (store .entry)) ⌝ }
 {
-    let definitions = DEFINITION_SIZE * number(store, 12);
-    let particles = PARTICLE_SIZE * number(store, 20);
-    let attributes = ATTRIBUTE_SIZE * number(store, 28);
-    let rows = ROW_SIZE * number(store, 36);
-    store.len() == HEADER_SIZE + (definitions + (particles + (attributes + rows)))
+    let n = layout::definition_count(store);
+    let p = layout::particle_count(store);
+    let a = layout::attribute_count(store);
+    store.len() == layout::through_rows(w, n, p, a, layout::row_count(store))
 }
 
 /// Whether a header stands at the front of a string: a known version, a next serial, counts and offsets that the length agrees with.
-pub fn header_fits(store: &[u8]) -> bool
-    ensures { λ r. ⌜ r ≡ headerFits baseWidth (now (store .entry)) ⌝ }
+pub fn header_fits(w: usize, store: &[u8]) -> bool
+    requires { ⌜ Width w ⌝ }
+    ensures { λ r. ⌜ r ≡ headerFits w (now (store .entry)) ⌝ }
 {
-    let version = number(store, 0);
-    let next = number(store, 4);
-    (HEADER_SIZE <= store.len())
+    let version = layout::version_in(store);
+    let next = layout::next_serial(store);
+    (layout::through_definitions(0) <= store.len())
         & ((version == BASE_VERSION)
-            & (counts_fit(store) & (offsets_fit(store) & (is_sized(store) & (1 <= next)))))
+            & (counts_fit(store) & (offsets_fit(w, store) & (is_sized(w, store) & (1 <= next)))))
 }

@@ -6,3 +6,4 @@ pub mod Children
 pub mod JudgeLaws
 pub mod ReadingLaws
 pub mod PassLaws
+pub mod StepLaws

@@ -2,3 +2,4 @@ pub mod Indices
 pub mod Machine
 pub mod Judge
 pub mod Reading
+pub mod Steps

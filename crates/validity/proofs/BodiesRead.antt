@@ -58,10 +58,10 @@ module _ {n : ℕ} {defs : Bytes} {p : ℕ} {parts : Bytes} {a : ℕ} {attrs : B
   definition-any : (i : ℕ) → definitionIn defs i ≡ getD (definitions n defs) i noDefinition
   definition-any = by-range n (definition-in laid x) (λ i l. definition-past i l ∙ sym (List·getD-eq-default (definitions n defs) noDefinition {n = i} (omega (arith, definitions-length n defs))))
 
-  attribute-any : (j : ℕ) → attributeIn baseWidth attrs j ≡ entryOf j (attributes a attrs)
+  attribute-any : (j : ℕ) → attributeIn baseWidth attrs j ≡ entryOf j (attributes baseWidth a attrs)
   attribute-any =
       by-range a (attribute-in laid x)
-      (λ j l. ap readAttribute (record-past (attributeSize baseWidth) j a attrs (laid .bodies .attributeBody .whole) l) ∙ sym (List·getD-eq-default (attributes a attrs) noAttribute {n = j} (omega (arith, attributes-length a attrs))))
+      (λ j l. ap readAttribute (record-past (attributeSize baseWidth) j a attrs (laid .bodies .attributeBody .whole) l) ∙ sym (List·getD-eq-default (attributes baseWidth a attrs) noAttribute {n = j} (omega (arith, attributes-length baseWidth a attrs))))
 
   model-past : (i : ℕ) → n ≤ i → membersOf (modelPart defs parts i) ≡ indexMembers (build (partAt i (definitions n defs) (particles p parts)) 0)
   unfolding modelPart membersFrom particlesOf indexMembers
@@ -72,13 +72,13 @@ module _ {n : ℕ} {defs : Bytes} {p : ℕ} {parts : Bytes} {a : ℕ} {attrs : B
   model-any : (i : ℕ) → membersOf (modelPart defs parts i) ≡ indexMembers (build (partAt i (definitions n defs) (particles p parts)) 0)
   model-any = by-range n (model-in laid x) model-past
 
-  index-is : bytes.indexForm baseWidth n defs parts attrs a ≡ indexForm (formOf n defs p parts a attrs)
+  index-is : bytes.indexForm baseWidth n defs parts attrs a ≡ indexForm (formOf baseWidth n defs p parts a attrs)
   index-is = λ i.
       record {
         size = sym (definitions-length n defs) i;
         kind = λ j. definition-any j i .kind;
         model = λ j. model-any j i;
-        attributes = sym (attributes-length a attrs) i;
+        attributes = sym (attributes-length baseWidth a attrs) i;
         owner = λ j. attribute-any j i .owner;
         needed = λ j. mustBePresent (sortOf (attribute-any j i .sort));
         allows = λ j v. allows (sortOf (attribute-any j i .sort)) (attribute-any j i .value) v;

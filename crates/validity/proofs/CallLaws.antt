@@ -46,11 +46,11 @@ same-truth false true (f, g) (h, k) = g (h refl)
 same-truth false false (f, g) (h, k) = refl
 
 -- ---- the form
-pub laid-of : {n : ℕ} {defs : Bytes} {p : ℕ} {parts : Bytes} {a : ℕ} {attrs : Bytes} → Bodies n defs p parts a attrs → ((i : ℕ) → Fits w8 (getD defs i 0)) → ((i : ℕ) → Fits w8 (getD attrs i 0)) → Laid n defs p parts a attrs
+pub laid-of : {n : ℕ} {defs : Bytes} {p : ℕ} {parts : Bytes} {a : ℕ} {attrs : Bytes} → Bodies baseWidth n defs p parts a attrs → ((i : ℕ) → Fits w8 (getD defs i 0)) → ((i : ℕ) → Fits w8 (getD attrs i 0)) → Laid n defs p parts a attrs
 laid-of {n} {defs} {p} {parts} {a} {attrs} b d c = record { bodies = b; definitions = small-of defs (λ i. omega (arith, d i)); attributes = small-of attrs (λ i. omega (arith, c i)) }
 
 pub form-by : {n : ℕ} {defs : Bytes} {p : ℕ} {parts : Bytes} {a : ℕ} {attrs : Bytes} {r : Heights} → Laid n defs p parts a attrs → eachFits definitionFits definitionSize n defs ≡ true → eachFits (attributeFits baseWidth n) (attributeSize baseWidth) a attrs ≡ true
-    → bodiesFit (formOf n defs p parts a attrs) ≡ true → Ranked n (membersIn defs parts) r → (r .fit ≡ true) ↔ FormPasses n defs p parts a attrs
+    → bodiesFit (formOf baseWidth n defs p parts a attrs) ≡ true → Ranked n (membersIn defs parts) r → (r .fit ≡ true) ↔ FormPasses n defs p parts a attrs
 form-by laid d c b k = (λ e. record { definitions = d; attributes = c; bodies = b; circle = circle-fit laid d c b k .0 e }, λ x. circle-fit laid d c b k .1 (x .circle))
 
 -- ---- the bodies of a string

@@ -54,7 +54,7 @@ part-members p parts b c whole l =
 
 module _ {n : ℕ} {defs : Bytes} {p : ℕ} {parts : Bytes} {a : ℕ} {attrs : Bytes} (laid : Laid n defs p parts a attrs) (x : FormPasses n defs p parts a attrs) where
   abbrev f : FlatStore
-  f = formOf n defs p parts a attrs
+  f = formOf baseWidth n defs p parts a attrs
 
   fields : FieldsFit baseWidth f
   fields = fields-fit laid (x .definitions) (x .attributes)
@@ -66,7 +66,7 @@ module _ {n : ℕ} {defs : Bytes} {p : ℕ} {parts : Bytes} {a : ℕ} {attrs : B
   unfolding definitions
   definition-in i l = sym (many-at readDefinition definitionSize i n defs noDefinition l)
 
-  pub attribute-in : (j : ℕ) → j < a → attributeIn baseWidth attrs j ≡ entryOf j (attributes a attrs)
+  pub attribute-in : (j : ℕ) → j < a → attributeIn baseWidth attrs j ≡ entryOf j (attributes baseWidth a attrs)
   unfolding attributes
   attribute-in j l = sym (many-at readAttribute (attributeSize baseWidth) j a attrs noAttribute l)
 
@@ -99,14 +99,14 @@ module _ {n : ℕ} {defs : Bytes} {p : ℕ} {parts : Bytes} {a : ℕ} {attrs : B
         kind = λ i l. ap (λ (d : FlatDefinition). d .kind) (definition-in i (omega (arith, form-count))) ∙ agrees .kind i l;
         model = λ i l. agrees .model i l ∙ ap (λ (m : Members ℕ). rename (λ j. nameAt j (namesOf (unflat f .form))) m) (sym (model-in i (omega (arith, form-count))));
         inRange = λ i l j m. agrees .inRange i l j (subst (λ (z : Members ℕ). List·Memᴰ j (names z)) (model-in i (omega (arith, form-count))) m);
-        attributes = sym (attributes-length a attrs) ∙ agrees .attributes;
+        attributes = sym (attributes-length baseWidth a attrs) ∙ agrees .attributes;
         owner = λ j l. ap (λ (c : FlatAttribute). c .owner) (attribute-in j (short j l)) ∙ agrees .owner j l;
         needed = λ j l. ap (λ (c : FlatAttribute). mustBePresent (sortOf (c .sort))) (attribute-in j (short j l)) ∙ agrees .needed j l;
         allows = λ j l v. ap (λ (c : FlatAttribute). allows (sortOf (c .sort)) (c .value) v) (attribute-in j (short j l)) ∙ agrees .allows j l v;
       }
     where
       short : (j : ℕ) → j < length (allAttributes 0 (unflat f .form)) → j < a
-      short j l = omega (arith, agrees .attributes, attributes-length a attrs)
+      short j l = omega (arith, agrees .attributes, attributes-length baseWidth a attrs)
 
   -- ---- no model names an element twice
   once-in : (i : ℕ) → i < n → Distinct (names (indexMembers (build (partAt i (definitions n defs) (particles p parts)) 0)))

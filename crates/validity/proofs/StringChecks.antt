@@ -127,7 +127,7 @@ module _ {bs : Bytes} (h : Headed bs) where
       ap (λ (ys : Bytes). drop (particleSize * particleCount bs) ys) (drop-drop (definitionSize * definitionCount bs) headerSize bs)
       ∙ drop-drop (particleSize * particleCount bs) (atParticles bs) bs
 
-  pub same-attributes : flatOf bs .attributes ≡ attributes (attributeCount bs) (attributesIn bs)
+  pub same-attributes : flatOf bs .attributes ≡ attributes baseWidth (attributeCount bs) (attributesIn bs)
   unfolding attributes
   same-attributes =
       ap (readMany readAttribute (attributeSize baseWidth) (attributeCount bs)) from-attributes
@@ -141,7 +141,7 @@ module _ {bs : Bytes} (h : Headed bs) where
 
   -- the form alone
   abbrev pub formIn : FlatStore
-  formIn = formOf (definitionCount bs) (definitionsIn bs) (particleCount bs) (particlesIn bs) (attributeCount bs) (attributesIn bs)
+  formIn = formOf baseWidth (definitionCount bs) (definitionsIn bs) (particleCount bs) (particlesIn bs) (attributeCount bs) (attributesIn bs)
 
   pub same-form : unflat (flatOf bs) .form ≡ unflat formIn .form
   same-form = λ i. readForm (map flatName (same-definitions i)) 0 (same-definitions i) (same-particles i) (same-attributes i)

@@ -36,8 +36,8 @@ rowsIn bs = bodyAt 32 (rowSize baseWidth) bs
 pub record FormPasses (n : ℕ) (defs : Bytes) (p : ℕ) (parts : Bytes) (a : ℕ) (attrs : Bytes) : Type 0 where
   pub definitions : eachFits definitionFits definitionSize n defs ≡ true
   pub attributes : eachFits (attributeFits baseWidth n) (attributeSize baseWidth) a attrs ≡ true
-  pub bodies : bodiesFit (formOf n defs p parts a attrs) ≡ true
-  pub circle : (x : Bytes) → Reaches (unflat (formOf n defs p parts a attrs) .form) x x → ⊥
+  pub bodies : bodiesFit (formOf baseWidth n defs p parts a attrs) ≡ true
+  pub circle : (x : Bytes) → Reaches (unflat (formOf baseWidth n defs p parts a attrs) .form) x x → ⊥
 
 -- of a byte string
 pub record FormIn (bs : Bytes) : Type 0 where

@@ -8,9 +8,6 @@ ghost use Rattle.records.specs.Records.{baseWidth, NumberAt, headerFits};
 ghost use Rattle.forms.specs.Bodies.{Bodies};
 ghost use Rattle.validity.specs.Check.{bodyAt, FormPasses, FormIn, RowsIn, SerialsIn};
 
-// The width of a value.
-const VALUE_WIDTH: usize = 32;
-
 const DEFINITION_SIZE: usize = 20;
 
 const PARTICLE_SIZE: usize = 4;
@@ -45,7 +42,7 @@ pub fn body(store: &[u8], entry: usize, size: usize) -> &[u8]
 
 // Whether the bodies of a form pass: each definition and attribute by itself, the bodies together, and no circle.
 fn form_fits(n: usize, defs: &[u8], p: usize, parts: &[u8], a: usize, attrs: &[u8]) -> bool
-    requires { ⌜ Bodies n (now defs) p (now parts) a (now attrs) ⌝ }
+    requires { ⌜ Bodies baseWidth n (now defs) p (now parts) a (now attrs) ⌝ }
     ensures { λ r. ⌜ (r ≡ true) ↔ FormPasses n (now (defs .entry)) p (now (parts .entry)) a (now (attrs .entry)) ⌝ }
 {
     if !records::definitions_fit(defs, n) {
@@ -54,7 +51,7 @@ fn form_fits(n: usize, defs: &[u8], p: usize, parts: &[u8], a: usize, attrs: &[u
     if !records::attributes_fit(VALUE_WIDTH, attrs, a, n) {
         return false;
     }
-    if !forms::bodies_fit(n, defs, p, parts, a, attrs) {
+    if !forms::bodies_fit(VALUE_WIDTH, n, defs, p, parts, a, attrs) {
         return false;
     }
     let heights = circles::heights_of(n, defs, parts);
@@ -107,7 +104,7 @@ fn serials_pass(store: &[u8]) -> bool
 pub fn passes(store: &[u8]) -> bool
     ensures { λ r. ⌜ r ≡ passes (now (store .entry)) ⌝ }
 {
-    if !records::header_fits(store) {
+    if !records::header_fits(VALUE_WIDTH, store) {
         return false;
     }
     if !form_passes(store) {

@@ -1,5 +1,4 @@
 -- `forms::owners_rise` meets its contract. The loop's invariant: the owners from i on rise from `least` on if and only if all rise. The measure is what is left of the attributes.
--- Assumes nothing.
 use mathlib.Core.Path.{_≡_, refl, sym, _∙_}
 use Prim.Native.Nat.{_-_}
 use native.Mathlib.Omega.{arith}
@@ -13,10 +12,10 @@ use Rattle.forms.proofs.owners_rise.Statement.{statement}
 use Rattle.forms.proofs.owners_rise.Tie as tie
 
 abbrev Inv-loop : tie.InvT-loop
-Inv-loop a attrs least₀ i₀ least i = ownersRise least (drop i (attributes a attrs)) ≡ ownersRise 0 (attributes a attrs)
+Inv-loop w a attrs least₀ i₀ least i = ownersRise least (drop i (attributes w a attrs)) ≡ ownersRise 0 (attributes w a attrs)
 
 abbrev μ-loop : tie.MeasureT-loop
-μ-loop a attrs least₀ i₀ least i = a - i
+μ-loop w a attrs least₀ i₀ least i = a - i
 
 loop-holds : tie.Need-loop-holds Inv-loop μ-loop
 loop-holds c = refl
@@ -26,7 +25,7 @@ owner-requires c κs = search needs
 
 returns : tie.Need-returns Inv-loop μ-loop
 returns c = let a = c .before .before .before .before .before .args in
-    sym (owners-off (c .before .before .before .loop .least) (attributes-from (c .before .before .before .loop .i) (a .a) (a .attrs .now) (omega arith)) (c .before .owner .ensures) (c .if1 .taken)) ∙ c .before .before .before .loop .inv
+    sym (owners-off (c .before .before .before .loop .least) (attributes-from (a .w) (c .before .before .before .loop .i) (a .a) (a .attrs .now) (omega arith)) (c .before .owner .ensures) (c .if1 .taken)) ∙ c .before .before .before .loop .inv
 
 add-i : tie.Need-add-i Inv-loop μ-loop
 add-i c = omega arith
@@ -36,11 +35,11 @@ loop-less c = omega arith
 
 loop-again : tie.Need-loop-again Inv-loop μ-loop
 loop-again c = let a = c .before .before .before .before .before .args in
-    owners-on (c .before .before .before .loop .least) (attributes-from (c .before .before .before .loop .i) (a .a) (a .attrs .now) (omega arith)) (c .before .owner .ensures) (c .if1 .left) ∙ c .before .before .before .loop .inv
+    owners-on (c .before .before .before .loop .least) (attributes-from (a .w) (c .before .before .before .loop .i) (a .a) (a .attrs .now) (omega arith)) (c .before .owner .ensures) (c .if1 .left) ∙ c .before .before .before .loop .inv
 
 returns-2 : tie.Need-returns-2 Inv-loop μ-loop
 returns-2 c = let a = c .before .before .before .args in
-    sym (owners-end (c .before .loop .least) (attributes-end (c .before .loop .i) (a .a) (a .attrs .now) (omega arith))) ∙ c .before .loop .inv
+    sym (owners-end (c .before .loop .least) (attributes-end (a .w) (c .before .loop .i) (a .a) (a .attrs .now) (omega arith))) ∙ c .before .loop .inv
 
 pub owners-rise-spec : {M : Type 1} → statement M
 owners-rise-spec =

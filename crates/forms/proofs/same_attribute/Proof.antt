@@ -1,5 +1,4 @@
 -- `forms::same_attribute` meets its contract. Owner and name, compared.
--- Assumes nothing.
 use mathlib.Core.Path.{_∙_, ap₂}
 use mathlib.Core.Bool.{Bool, _&&_}
 use Prim.Native.Nat.{ℕ}

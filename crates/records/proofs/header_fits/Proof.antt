@@ -1,5 +1,4 @@
 use Rattle.records.proofs.CodeLaws.{header-of}
-use Rattle.records.specs.Records.{baseWidth}
 use borrow.Author.Needs.{needs}
 use Rattle.records.proofs.header_fits.Statement.{statement}
 use Rattle.records.proofs.header_fits.Tie as tie
@@ -7,14 +6,16 @@ use Rattle.records.proofs.header_fits.Reads as reads
 use Rattle.records.proofs.header_fits.Lts as lts
 use Rattle.records.proofs.counts_fit.Reads as counts-fit-reads
 use Rattle.records.proofs.is_sized.Reads as is-sized-reads
-use Rattle.records.proofs.number.Reads as number-reads
 use Rattle.records.proofs.offsets_fit.Reads as offsets-fit-reads
 
-number-requires : tie.Need-number-requires
-number-requires c κs = search needs
+version-in-requires : tie.Need-version-in-requires
+version-in-requires c κs = search needs
 
-number-requires-2 : tie.Need-number-requires-2
-number-requires-2 c κs = search needs
+next-serial-requires : tie.Need-next-serial-requires
+next-serial-requires c κs = search needs
+
+through-definitions-requires : tie.Need-through-definitions-requires
+through-definitions-requires c κs = search needs
 
 counts-fit-requires : tie.Need-counts-fit-requires
 counts-fit-requires c κs = search needs
@@ -26,14 +27,18 @@ is-sized-requires : tie.Need-is-sized-requires
 is-sized-requires c κs = search needs
 
 returns : tie.Need-returns
-returns c = header-of baseWidth (c .before .before .before .before .before .before .args .store .now) _ _ (c .before .before .before .before .number .ensures .value) (c .before .before .before .number2 .ensures .value) (c .before .before .counts-fit .ensures) (c .before .offsets-fit .ensures) (c .is-sized .ensures)
+returns c =
+    let a = c .before .before .before .before .before .before .before .args in
+    header-of (a .w) (a .store .now) _ _ _ (c .before .before .before .through-definitions .ensures .value) (c .before .before .before .before .before .version-in .ensures .value) (c .before .before .before .before .next-serial .ensures .value)
+    (c .before .before .counts-fit .ensures) (c .before .offsets-fit .ensures) (c .is-sized .ensures)
 
 pub header-fits-spec : {M : Type 1} → statement M
 header-fits-spec =
     tie.close
     (tie.spec
-    number-requires
-    number-requires-2
+    version-in-requires
+    next-serial-requires
+    through-definitions-requires
     counts-fit-requires
     offsets-fit-requires
     is-sized-requires

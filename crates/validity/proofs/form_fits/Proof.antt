@@ -1,5 +1,4 @@
 -- `validity::form_fits` meets its contract: a test that fails refutes a field of FormPasses, and the last leaves the circles.
--- Assumes nothing.
 use borrow.Author.Needs.{needs}
 use Rattle.validity.proofs.CallLaws.{refused, kept, laid-of, form-by}
 use Rattle.validity.proofs.form_fits.Statement.{statement}

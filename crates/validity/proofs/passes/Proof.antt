@@ -1,5 +1,4 @@
 -- `validity::passes` meets its contract: a test that fails refutes that the string passes, and all of them show it.
--- Assumes nothing.
 use borrow.Author.Needs.{needs}
 use borrow.Author.Tests.{not-false}
 use Rattle.validity.proofs.CallLaws.{kept, headed, headless, formless, rowless, passed}

@@ -1,0 +1,30 @@
+use native.Mathlib.Omega.{arith}
+use Rattle.layout.proofs.LayoutLaws.{attributes-through}
+use borrow.Author.Needs.{needs}
+use Rattle.layout.proofs.through_attributes.Statement.{statement}
+use Rattle.layout.proofs.through_attributes.Tie as tie
+use Rattle.layout.proofs.through_attributes.Reads as reads
+use Rattle.layout.proofs.through_attributes.Lts as lts
+use Rattle.layout.proofs.attribute_size.Reads as attribute-size-reads
+use Rattle.layout.proofs.through_particles.Reads as through-particles-reads
+use Rattle.layout.proofs.times.Reads as times-reads
+
+through-particles-requires : tie.Need-through-particles-requires
+through-particles-requires c κs = search needs
+
+attribute-size-requires : tie.Need-attribute-size-requires
+attribute-size-requires c κs = search needs
+
+times-requires : tie.Need-times-requires
+times-requires c κs = search needs
+
+add-result : tie.Need-add-result
+add-result c = search needs
+
+returns : tie.Need-returns
+returns c = let a = c .before .before .before .args in attributes-through (a .w) (a .n) (a .p) (a .a) _ _ _ (omega arith) (omega arith) (c .before .attribute-size .ensures) (c .before .before .through-particles .ensures) (c .times .ensures)
+
+pub through-attributes-spec : {M : Type 1} → statement M
+through-attributes-spec =
+    tie.close
+    (tie.spec through-particles-requires attribute-size-requires times-requires add-result returns)

@@ -1,0 +1,29 @@
+use Rattle.layout.proofs.LayoutLaws.{rows-through}
+use borrow.Author.Needs.{needs}
+use Rattle.layout.proofs.through_rows.Statement.{statement}
+use Rattle.layout.proofs.through_rows.Tie as tie
+use Rattle.layout.proofs.through_rows.Reads as reads
+use Rattle.layout.proofs.through_rows.Lts as lts
+use Rattle.layout.proofs.row_size.Reads as row-size-reads
+use Rattle.layout.proofs.through_attributes.Reads as through-attributes-reads
+use Rattle.layout.proofs.times.Reads as times-reads
+
+through-attributes-requires : tie.Need-through-attributes-requires
+through-attributes-requires c κs = search needs
+
+row-size-requires : tie.Need-row-size-requires
+row-size-requires c κs = search needs
+
+times-requires : tie.Need-times-requires
+times-requires c κs = search needs
+
+add-result : tie.Need-add-result
+add-result c = search needs
+
+returns : tie.Need-returns
+returns c = let a = c .before .before .before .args in rows-through (a .w) (a .n) (a .p) (a .a) _ _ _ (a .m) (c .before .row-size .ensures) (c .before .before .through-attributes .ensures) (c .times .ensures)
+
+pub through-rows-spec : {M : Type 1} → statement M
+through-rows-spec =
+    tie.close
+    (tie.spec through-attributes-requires row-size-requires times-requires add-result returns)

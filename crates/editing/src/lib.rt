@@ -86,7 +86,7 @@ fn read_head(row: &[u8]) -> Head
     ensures { λ r. ⌜ rowOf r (readRow (now (row .entry)) .row .value) ≡ readRow (now (row .entry)) ⌝ }
 {
     Head {
-        depth: layout::row_depth(row),
+        depth: layout::row_depth(row) as usize,
         sort: layout::row_sort(row),
         index: layout::row_index(row) as usize,
         serial: layout::row_serial(row),

@@ -7,14 +7,17 @@ use Rattle.editing.proofs.read_head.Tie as tie
 row-depth-requires : tie.Need-row-depth-requires
 row-depth-requires c κs = search needs
 
+cast-t3 : tie.Need-cast-t3
+cast-t3 c = search needs
+
 row-sort-requires : tie.Need-row-sort-requires
 row-sort-requires c κs = search needs
 
 row-index-requires : tie.Need-row-index-requires
 row-index-requires c κs = search needs
 
-cast-t5 : tie.Need-cast-t5
-cast-t5 c = search needs
+cast-t6 : tie.Need-cast-t6
+cast-t6 c = search needs
 
 row-serial-requires : tie.Need-row-serial-requires
 row-serial-requires c κs = search needs
@@ -26,4 +29,4 @@ returns c = head-read (c .before .before .before .before .before .args .row .now
 pub read-head-spec : {M : Type 1} → statement M
 read-head-spec =
     tie.close
-    (tie.spec row-depth-requires row-sort-requires row-index-requires cast-t5 row-serial-requires returns)
+    (tie.spec row-depth-requires cast-t3 row-sort-requires row-index-requires cast-t6 row-serial-requires returns)

@@ -21,6 +21,7 @@ use Rattle.rules.proofs.Height.{lookup-member, reaches-then}
 use Rattle.rules.proofs.PlanLaws.{AtMostOne}
 use Rattle.history.proofs.Rowwise.{Standing}
 use Rattle.history.proofs.StandingLaws.{standing-every, one-row, no-zero}
+use Rattle.rules.proofs.ConformingLaws.{is-attribute, is-element, is-text}
 
 -- ---- lines and the rows that stand
 line-stands : (up : ℕ) (f : Forest Row) (l : Line) → List·Memᴰ l (lines up f) → (c : Forest Row) × Standing f (l .row) c
@@ -110,21 +111,6 @@ module _ (d : Definition) (rows : List Row) (e : ElementRows d rows) where
       ⊎-elim (λ f. absurd (false≢true (ap isElement (sym (e .attributes .sorts r f) ∙ a)))) (λ n. element-named (d .content) (e .back) (e .content) r n a) (parted r i)
 
 -- ---- documents that conform
-attribute-is : (s : RowSort) → isAttribute s ≡ true → s ≡ attribute
-attribute-is element e = absurd (false≢true e)
-attribute-is attribute e = refl
-attribute-is text e = absurd (false≢true e)
-
-text-is : (s : RowSort) → isText s ≡ true → s ≡ text
-text-is element e = absurd (false≢true e)
-text-is attribute e = absurd (false≢true e)
-text-is text e = refl
-
-element-is : (s : RowSort) → isElement s ≡ true → s ≡ element
-element-is element e = refl
-element-is attribute e = absurd (false≢true e)
-element-is text e = absurd (false≢true e)
-
 -- what is said of a row, by its sort
 abbrev BySort : Form → Bytes → List Row → RowSort → Type 0
 BySort form n rows s = elim s [ element ↦ (d : Definition) × (lookup n form ≡ some d) × ElementRows d rows | attribute ↦ rows ≡ [] | text ↦ rows ≡ [] ]
@@ -166,12 +152,12 @@ module _ (w : ℕ) (form : Form) (well : WellFormed w form) (next : ℕ) (docs :
       (λ d m rows e r s i j a b.
       let x = and-split (isAttribute (r .sort)) (same n (r .name)) a in
       let y = and-split (isAttribute (s .sort)) (same n (s .name)) b in
-      one-attribute d rows e (well .definitions d m .attributeNames) r s i j (attribute-is (r .sort) (x .0)) (attribute-is (s .sort) (y .0))
+      one-attribute d rows e (well .definitions d m .attributeNames) r s i j (is-attribute (r .sort) (x .0)) (is-attribute (s .sort) (y .0))
       (sym (same-eq n (r .name) (x .1)) ∙ same-eq n (s .name) (y .1)))
 
   -- 'PCDATA has exactly one text row'
   pub one-of-text : AtMostOne isTextRow (lines 0 docs)
-  one-of-text = below-one isTextRow (λ r s t. false≢true (ap isText (sym s) ∙ t)) (λ d m rows e r s i j a b. one-text-row d rows e r s i j (text-is (r .sort) a) (text-is (s .sort) b))
+  one-of-text = below-one isTextRow (λ r s t. false≢true (ap isText (sym s) ∙ t)) (λ d m rows e r s i j a b. one-text-row d rows e r s i j (is-text (r .sort) a) (is-text (s .sort) b))
 
   -- an element below a row: its name is a member of the definition of that row, which is an element
   member-below : (u l : Line) → List·Memᴰ u (lines 0 docs) → List·Memᴰ l (lines 0 docs) → u .row .serial ≡ l .parent → l .row .sort ≡ element
@@ -206,9 +192,9 @@ module _ (w : ℕ) (form : Form) (well : WellFormed w form) (next : ℕ) (docs :
   instance-spared owner x N f l i h n =
       let (a, b) = and-split (isElement (l .row .sort)) (same owner (l .row .name)) h in
       let name : owner ≡ l .row .name = same-eq owner (l .row .name) b in
-      let r : Reaches form owner owner = subst (λ (z : Bytes). Reaches form owner z) (sym name) (reached owner x N f i n (element-is (l .row .sort) a)) in
+      let r : Reaches form owner owner = subst (λ (z : Bytes). Reaches form owner z) (sym name) (reached owner x N f i n (is-element (l .row .sort) a)) in
       let (c, k) = line-stands 0 docs l i in
-      by (l .row) c k name (element-is (l .row .sort) a) r
+      by (l .row) c k name (is-element (l .row .sort) a) r
     where
       by : (u : Row) (c : Forest Row) → Standing docs u c → owner ≡ u .name → u .sort ≡ element → Reaches form owner owner → ⊥
       by u c k name s r = at (u .sort) s (standing-every (λ r below. RowConforms form r below) docs (cf .rows) u c k)

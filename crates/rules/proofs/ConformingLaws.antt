@@ -17,17 +17,17 @@ use Rattle.rules.proofs.Correct.{accepts-conforms}
 use Rattle.rules.proofs.SerialLaws.{every-row-is}
 
 -- ---- sorts
-is-element : (s : RowSort) → isElement s ≡ true → s ≡ element
+pub is-element : (s : RowSort) → isElement s ≡ true → s ≡ element
 is-element element e = refl
 is-element attribute e = absurd (false≢true e)
 is-element text e = absurd (false≢true e)
 
-is-attribute : (s : RowSort) → isAttribute s ≡ true → s ≡ attribute
+pub is-attribute : (s : RowSort) → isAttribute s ≡ true → s ≡ attribute
 is-attribute element e = absurd (false≢true e)
 is-attribute attribute e = refl
 is-attribute text e = absurd (false≢true e)
 
-is-text : (s : RowSort) → isText s ≡ true → s ≡ text
+pub is-text : (s : RowSort) → isText s ≡ true → s ≡ text
 is-text element e = absurd (false≢true e)
 is-text attribute e = absurd (false≢true e)
 is-text text e = refl

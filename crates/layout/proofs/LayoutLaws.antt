@@ -123,6 +123,10 @@ pub rows-window : (s : Shape) (bs r : Bytes) (x p : ℕ) → Place (rowsStart s)
 unfolding rowBody
 rows-window s bs r x p a m e = e ∙ (λ i. windowOf (a .value i) (m .value i) bs)
 
+-- a body by the shape that was read is the body by the string's own shape
+pub by-shape : (body : Shape → Bytes → Bytes) (bs : Bytes) {s : Shape} {r : Bytes} → ShapeOf bs s → r ≡ body s bs → r ≡ body (shapeOf bs) bs
+by-shape body bs s e = e ∙ ap (λ (z : Shape). body z bs) (s .is)
+
 -- ---- what the bodies hold
 -- record number i of those that are read
 pub record-read : {A : Type 0} (f : Bytes → A) (size count i : ℕ) (s : Bytes) (none : A) → i < count → getD (readMany f size count s) i none ≡ f (recordAt size i s)

@@ -88,6 +88,19 @@ attributeBody s bs = windowOf (attributesStart s) (attributeSize (s .width) * s 
 unfoldable pub rowBody : Shape → Bytes → Bytes
 rowBody s bs = windowOf (rowsStart s) (rowSize (s .width) * s .rows) bs
 
+-- the four bodies of a byte string, by what its own header says
+abbrev pub definitionsIn : Bytes → Bytes
+definitionsIn bs = definitionBody (shapeOf bs) bs
+
+abbrev pub particlesIn : Bytes → Bytes
+particlesIn bs = particleBody (shapeOf bs) bs
+
+abbrev pub attributesIn : Bytes → Bytes
+attributesIn bs = attributeBody (shapeOf bs) bs
+
+abbrev pub rowsIn : Bytes → Bytes
+rowsIn bs = rowBody (shapeOf bs) bs
+
 -- attribute number i of a byte string, at the width that its version says
 unfoldable pub attributeIn : Bytes → ℕ → Bytes
 attributeIn bs i =

@@ -7,7 +7,7 @@ ghost use Rattle.rules.specs.Layout.{valueWidth, headerSize, definitionSize, pa
 ghost use Rattle.rules.specs.Decode.{numberAt, readDefinition, readAttribute, readRow, definitionCount, particleCount, attributeCount, rowCount};
 ghost use Rattle.codec.specs.Laid.{Laid};
 ghost use Rattle.layout.specs.RowBytes.{rowOf, rowStart, rowEnd, movedRow, valuedRow, WholeRow, RowLaid};
-ghost use Rattle.layout.specs.Bodies.{Width, windowOf, Product, recordAt, Number, WidthIn, Sized, ShapeOf, attributesStart, rowsStart, Place, definitionBody, particleBody, attributeBody, rowBody, attributeIn};
+ghost use Rattle.layout.specs.Bodies.{Width, windowOf, Product, recordAt, Number, WidthIn, Sized, ShapeOf, attributesStart, rowsStart, Place, definitionBody, particleBody, attributeBody, rowBody, definitionsIn, particlesIn, attributesIn, rowsIn, attributeIn};
 
 /// The n bytes from `at` on, fewer where s ends before.
 pub fn window(s: &[u8], at: usize, n: usize) -> &[u8]
@@ -409,6 +409,38 @@ pub fn row_body(store: &[u8], s: Shape) -> &[u8]
 {
     let start = rows_start(s);
     window(store, start, times(12 + s.width, s.rows))
+}
+
+/// The definitions of a store, by its own header.
+pub fn definitions_of(store: &[u8]) -> &[u8]
+    ensures { λ r. ⌜ now r ≡ definitionsIn (now (store .entry)) ⌝ }
+{
+    let s = shape_of(store);
+    definition_body(store, s)
+}
+
+/// The particles of a store, by its own header.
+pub fn particles_of(store: &[u8]) -> &[u8]
+    ensures { λ r. ⌜ now r ≡ particlesIn (now (store .entry)) ⌝ }
+{
+    let s = shape_of(store);
+    particle_body(store, s)
+}
+
+/// The attributes of a store, by its own header.
+pub fn attributes_of(store: &[u8]) -> &[u8]
+    ensures { λ r. ⌜ now r ≡ attributesIn (now (store .entry)) ⌝ }
+{
+    let s = shape_of(store);
+    attribute_body(store, s)
+}
+
+/// The rows of a store, by its own header.
+pub fn rows_of(store: &[u8]) -> &[u8]
+    ensures { λ r. ⌜ now r ≡ rowsIn (now (store .entry)) ⌝ }
+{
+    let s = shape_of(store);
+    row_body(store, s)
 }
 
 // ---- a row, written

@@ -11,7 +11,7 @@ use Rattle.rules.specs.Bytes.{Bytes, ascii, same, same-eq, eqb-eq}
 use Rattle.rules.specs.Model.{names, nothing, filling, member, full, distinct}
 use Rattle.rules.specs.Automaton.{accepts, continues, facts}
 use Rattle.rules.specs.Store.{RowSort, element, attribute, text, Row, Store}
-use Rattle.rules.specs.Layout.{rowCode}
+use Rattle.rules.specs.Layout.{valueWidth, rowCode}
 use Rattle.rules.specs.Decode.{confirm, numberAt}
 use Rattle.rules.specs.WellFormed.{goodDefinition, wellFormed}
 use Rattle.rules.specs.Conforming.{strip, fitsRow, conforming}
@@ -106,7 +106,7 @@ pub record Clubform : Type 0 where
   pub book-next : end .book .next ≡ 9
 
 pub clubform-end : Clubform
-unfolding names nothing filling member full distinct facts continues accepts plug kindAt spine before around afterMembers find _⊕_ edited place placeOf goodDefinition wellFormed strip fitsRow conforming goodSerials good fillAttributes fillEach fillContent fillWithin findRow childrenOf attributeAt formAfter plan prune eachRow plant newRows given number after conditions refusal confirm outcome printed printOutcome untaken rowBySerial falls mark putSpot spots expand spotCount note step run clubform
+unfolding valueWidth names nothing filling member full distinct facts continues accepts plug kindAt spine before around afterMembers find _⊕_ edited place placeOf goodDefinition wellFormed strip fitsRow conforming goodSerials good fillAttributes fillEach fillContent fillWithin findRow childrenOf attributeAt formAfter plan prune eachRow plant newRows given number after conditions refusal confirm outcome printed printOutcome untaken rowBySerial falls mark putSpot spots expand spotCount note step run clubform
 clubform-end = record { size = refl; next = refl; check = refl; print = refl; rows = refl; row-count = refl; book-next = refl }
 
 -- the store's rows are the book's untaken lines, in its order

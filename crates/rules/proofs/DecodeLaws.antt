@@ -275,6 +275,7 @@ version-bound : (v : ℕ) → knownVersion v ≡ true → v < 4294967296
 version-bound v h = omega (arith, eqb-true v baseVersion h)
 
 pub width-bound : (v : ℕ) → valueWidth v < 256
+unfolding valueWidth
 width-bound v = lit< tt
 
 -- ---- the parts of the test

@@ -122,7 +122,7 @@ pub record Examples : Type 0 where
   pub p12 : refuses (insertElement 0 (2 ∷ 3 ∷ []) 4 0 (ascii "t")) (emptyOf nested) ≡ 8
 
 pub examples : Examples
-unfolding names nothing filling member full distinct facts continues accepts plug kindAt spine before around afterMembers find _⊕_ edited place placeOf goodDefinition wellFormed strip fitsRow conforming goodSerials good fillAttributes fillEach fillContent fillWithin findRow childrenOf attributeAt formAfter plan prune eachRow plant newRows given number after conditions refusal
+unfolding valueWidth names nothing filling member full distinct facts continues accepts plug kindAt spine before around afterMembers find _⊕_ edited place placeOf goodDefinition wellFormed strip fitsRow conforming goodSerials good fillAttributes fillEach fillContent fillWithin findRow childrenOf attributeAt formAfter plan prune eachRow plant newRows given number after conditions refusal
 examples =
     record {
       p1 = refl;
@@ -191,7 +191,7 @@ pub record PlausibleAndFalse : Type 0 where
   pub choice-left : refuses (removeElement 0 (1 ∷ 2 ∷ [])) (storeOf (group None Choice (el None a (el None b done)) done) (b ∷ [])) ≡ 15
 
 pub plausible-and-false : PlausibleAndFalse
-unfolding names nothing filling member full distinct facts continues accepts plug kindAt spine before around afterMembers find _⊕_ edited place placeOf goodDefinition wellFormed strip fitsRow conforming goodSerials good fillAttributes fillEach fillContent fillWithin findRow childrenOf attributeAt formAfter plan prune eachRow plant newRows given number after conditions refusal confirm outcome
+unfolding valueWidth names nothing filling member full distinct facts continues accepts plug kindAt spine before around afterMembers find _⊕_ edited place placeOf goodDefinition wellFormed strip fitsRow conforming goodSerials good fillAttributes fillEach fillContent fillWithin findRow childrenOf attributeAt formAfter plan prune eachRow plant newRows given number after conditions refusal confirm outcome
 plausible-and-false =
     record {
       club-as-child-0 = refl;
@@ -273,7 +273,7 @@ pub record More : Type 0 where
   pub text : printOutcome (encode printable) 9999 ≡ wrote printableText
 
 pub more : More
-unfolding names nothing filling member full distinct facts continues accepts plug kindAt spine before around afterMembers find _⊕_ edited place placeOf goodDefinition wellFormed strip fitsRow conforming goodSerials good fillAttributes fillEach fillContent fillWithin findRow childrenOf attributeAt formAfter plan prune eachRow plant newRows given number after conditions refusal confirm outcome printed printOutcome
+unfolding valueWidth names nothing filling member full distinct facts continues accepts plug kindAt spine before around afterMembers find _⊕_ edited place placeOf goodDefinition wellFormed strip fitsRow conforming goodSerials good fillAttributes fillEach fillContent fillWithin findRow childrenOf attributeAt formAfter plan prune eachRow plant newRows given number after conditions refusal confirm outcome printed printOutcome
 more =
     record {
       group-gain-without-text = refl;

@@ -10,7 +10,7 @@ use Rattle.rules.specs.declared.Quantifier.the-variants.{Star}
 use Rattle.rules.specs.Model.{done, el, names, nothing, filling, member, full, distinct}
 use Rattle.rules.specs.Automaton.{accepts, continues, facts}
 use Rattle.rules.specs.Store.{empty, complex, Form, element, Store}
-use Rattle.rules.specs.Layout.{baseVersion}
+use Rattle.rules.specs.Layout.{valueWidth, baseVersion}
 use Rattle.rules.specs.Decode.{confirm, numberAt}
 use Rattle.rules.specs.WellFormed.{goodDefinition, wellFormed}
 use Rattle.rules.specs.Conforming.{strip, fitsRow, conforming}
@@ -98,7 +98,7 @@ pub record Laps : Type 0 where
   pub next-store : numberAt 4 4 (end .store) ≡ 14
 
 pub laps-end : Laps
-unfolding names nothing filling member full distinct facts continues accepts plug kindAt spine before around afterMembers find _⊕_ edited place placeOf goodDefinition wellFormed strip fitsRow conforming goodSerials good fillAttributes fillEach fillContent fillWithin findRow childrenOf attributeAt formAfter plan prune eachRow plant newRows given number after conditions refusal confirm outcome untaken rowBySerial falls mark putSpot spots expand spotCount note step run laps splits oneLap refusedCalls
+unfolding valueWidth names nothing filling member full distinct facts continues accepts plug kindAt spine before around afterMembers find _⊕_ edited place placeOf goodDefinition wellFormed strip fitsRow conforming goodSerials good fillAttributes fillEach fillContent fillWithin findRow childrenOf attributeAt formAfter plan prune eachRow plant newRows given number after conditions refusal confirm outcome untaken rowBySerial falls mark putSpot spots expand spotCount note step run laps splits oneLap refusedCalls
 laps-end =
     record {
       lines = refl;

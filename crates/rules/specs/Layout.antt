@@ -17,7 +17,7 @@ use Rattle.rules.specs.Preorder.{Deep, flatten}
 abbrev pub baseVersion : ℕ
 baseVersion = 1
 
-abbrev pub valueWidth : ℕ → ℕ
+unfoldable pub valueWidth : ℕ → ℕ
 valueWidth version = 32
 
 abbrev pub nameWidth : ℕ

@@ -18,15 +18,15 @@ use Rattle.rules.specs.Decode.{readRow, readMany, readDefinition, readAttribute
 use Rattle.rules.specs.Conforming.{mustBePresent, allows}
 use Rattle.rules.specs.Passing.{passes}
 use Rattle.model.specs.Members.{particlesOf, membersFrom, membersOf}
-use Rattle.records.specs.Records.{baseWidth, rowFits, eachFits}
+use Rattle.records.specs.Records.{rowFits, eachFits}
 use Rattle.forms.specs.Bodies.{definitions, particles, attributes, formOf}
 use Rattle.forms.proofs.Reading.{definitions-length, attributes-length}
 use Rattle.rowpass.specs.Indices.{IndexForm}
-use Rattle.layout.specs.Bodies.{recordAt}
+use Rattle.layout.specs.Bodies.{recordAt, widthOf, definitionsIn, particlesIn, attributesIn, rowsIn}
 use Rattle.rowpass.specs.Reading.{definitionIn, attributeIn, modelPart}
 use Rattle.rowpass.specs.Reading as bytes
 use Rattle.validity.specs.Reading.{indexMembers, partAt, noDefinition, noAttribute, entryOf, indexForm}
-use Rattle.validity.specs.Check.{definitionsIn, particlesIn, attributesIn, rowsIn, FormPasses, FormIn, RowsPass, SerialsIn}
+use Rattle.validity.specs.Check.{FormPasses, FormIn, RowsPass, SerialsIn}
 use Rattle.validity.proofs.FormLaws.{Laid}
 use Rattle.validity.proofs.IndexReads.{definition-in, attribute-in, model-in, index-agrees}
 use Rattle.validity.proofs.StringChecks.{Headed, laid-in, formIn, same-definitions, same-particles, same-attributes, same-rows, passes-in}
@@ -51,17 +51,17 @@ by-range {P} n f g i = by (ltb i n) refl
     by true e = f i (ltb-true i n e)
     by false e = g i (ltb-false i n e)
 
-module _ {n : ℕ} {defs : Bytes} {p : ℕ} {parts : Bytes} {a : ℕ} {attrs : Bytes} (laid : Laid n defs p parts a attrs) (x : FormPasses n defs p parts a attrs) where
+module _ {w n : ℕ} {defs : Bytes} {p : ℕ} {parts : Bytes} {a : ℕ} {attrs : Bytes} (laid : Laid w n defs p parts a attrs) (x : FormPasses w n defs p parts a attrs) where
   definition-past : (i : ℕ) → n ≤ i → definitionIn defs i ≡ noDefinition
   definition-past i l = ap readDefinition (record-past definitionSize i n defs (laid .bodies .definitionBody .whole) l)
 
   definition-any : (i : ℕ) → definitionIn defs i ≡ getD (definitions n defs) i noDefinition
   definition-any = by-range n (definition-in laid x) (λ i l. definition-past i l ∙ sym (List·getD-eq-default (definitions n defs) noDefinition {n = i} (omega (arith, definitions-length n defs))))
 
-  attribute-any : (j : ℕ) → attributeIn baseWidth attrs j ≡ entryOf j (attributes baseWidth a attrs)
+  attribute-any : (j : ℕ) → attributeIn w attrs j ≡ entryOf j (attributes w a attrs)
   attribute-any =
       by-range a (attribute-in laid x)
-      (λ j l. ap readAttribute (record-past (attributeSize baseWidth) j a attrs (laid .bodies .attributeBody .whole) l) ∙ sym (List·getD-eq-default (attributes baseWidth a attrs) noAttribute {n = j} (omega (arith, attributes-length baseWidth a attrs))))
+      (λ j l. ap readAttribute (record-past (attributeSize w) j a attrs (laid .bodies .attributeBody .whole) l) ∙ sym (List·getD-eq-default (attributes w a attrs) noAttribute {n = j} (omega (arith, attributes-length w a attrs))))
 
   model-past : (i : ℕ) → n ≤ i → membersOf (modelPart defs parts i) ≡ indexMembers (build (partAt i (definitions n defs) (particles p parts)) 0)
   unfolding modelPart membersFrom particlesOf indexMembers
@@ -72,13 +72,13 @@ module _ {n : ℕ} {defs : Bytes} {p : ℕ} {parts : Bytes} {a : ℕ} {attrs : B
   model-any : (i : ℕ) → membersOf (modelPart defs parts i) ≡ indexMembers (build (partAt i (definitions n defs) (particles p parts)) 0)
   model-any = by-range n (model-in laid x) model-past
 
-  index-is : bytes.indexForm baseWidth n defs parts attrs a ≡ indexForm (formOf baseWidth n defs p parts a attrs)
+  index-is : bytes.indexForm w n defs parts attrs a ≡ indexForm (formOf w n defs p parts a attrs)
   index-is = λ i.
       record {
         size = sym (definitions-length n defs) i;
         kind = λ j. definition-any j i .kind;
         model = λ j. model-any j i;
-        attributes = sym (attributes-length baseWidth a attrs) i;
+        attributes = sym (attributes-length w a attrs) i;
         owner = λ j. attribute-any j i .owner;
         needed = λ j. mustBePresent (sortOf (attribute-any j i .sort));
         allows = λ j v. allows (sortOf (attribute-any j i .sort)) (attribute-any j i .value) v;
@@ -86,23 +86,23 @@ module _ {n : ℕ} {defs : Bytes} {p : ℕ} {parts : Bytes} {a : ℕ} {attrs : B
 
 -- ---- of a byte string that passes
 module _ {bs : Bytes} (h : Headed bs) where
-  told : passes bs ≡ true → FormIn bs × RowsPass (bytes.indexForm baseWidth (definitionCount bs) (definitionsIn bs) (particlesIn bs) (attributesIn bs) (attributeCount bs)) (rowCount bs) (rowsIn bs) × SerialsIn bs
-  told = passes-in h (bytes.indexForm baseWidth (definitionCount bs) (definitionsIn bs) (particlesIn bs) (attributesIn bs) (attributeCount bs)) (λ x. index-agrees (laid-in h) (x .passes)) .0
+  told : passes bs ≡ true → FormIn bs × RowsPass (widthOf bs) (bytes.indexForm (widthOf bs) (definitionCount bs) (definitionsIn bs) (particlesIn bs) (attributesIn bs) (attributeCount bs)) (rowCount bs) (rowsIn bs) × SerialsIn bs
+  told = passes-in h (bytes.indexForm (widthOf bs) (definitionCount bs) (definitionsIn bs) (particlesIn bs) (attributesIn bs) (attributeCount bs)) (λ x. index-agrees (laid-in h) (x .passes)) .0
 
   pub form-in : passes bs ≡ true → FormIn bs
   form-in q = told q .0
 
   -- each row by itself
-  pub rows-fit : passes bs ≡ true → eachFits (rowFits baseWidth) (rowSize baseWidth) (rowCount bs) (rowsIn bs) ≡ true
+  pub rows-fit : passes bs ≡ true → eachFits (rowFits (widthOf bs)) (rowSize (widthOf bs)) (rowCount bs) (rowsIn bs) ≡ true
   rows-fit q = told q .1 .fields
 
-  pub read-form : passes bs ≡ true → bytes.indexForm baseWidth (definitionCount bs) (definitionsIn bs) (particlesIn bs) (attributesIn bs) (attributeCount bs) ≡ indexForm (flatOf bs)
+  pub read-form : passes bs ≡ true → bytes.indexForm (widthOf bs) (definitionCount bs) (definitionsIn bs) (particlesIn bs) (attributesIn bs) (attributeCount bs) ≡ indexForm (flatOf bs)
   read-form q =
       index-is (laid-in h) (form-in q .passes)
       ∙ (λ i. indexForm (record { version = 0; next = 0; definitions = sym (same-definitions h) i; particles = sym (same-particles h) i; attributes = sym (same-attributes h) i; rows = [] }))
 
-  pub read-value : passes bs ≡ true → (j : ℕ) → attributeIn baseWidth (attributesIn bs) j .value ≡ entryOf j (flatOf bs .attributes) .value
+  pub read-value : passes bs ≡ true → (j : ℕ) → attributeIn (widthOf bs) (attributesIn bs) j .value ≡ entryOf j (flatOf bs .attributes) .value
   read-value q j = ap (λ (c : FlatAttribute). c .value) (attribute-any (laid-in h) (form-in q .passes) j ∙ ap (entryOf j) (sym (same-attributes h)))
 
-  pub read-rows : readMany readRow (rowSize baseWidth) (rowCount bs) (rowsIn bs) ≡ flatOf bs .rows
+  pub read-rows : readMany readRow (rowSize (widthOf bs)) (rowCount bs) (rowsIn bs) ≡ flatOf bs .rows
   read-rows = sym (same-rows h)

@@ -14,9 +14,8 @@ use Rattle.rules.specs.Model.{Distinct, names}
 use Rattle.rules.specs.Layout.{definitionSize, attributeSize, rowSize}
 use Rattle.rules.specs.Decode.{numberAt, readRow, readMany, definitionCount, particleCount, attributeCount, rowCount}
 use Rattle.rules.specs.Passing.{passes}
-use Rattle.codec.specs.Part.{partOf}
-use Rattle.layout.specs.Bodies.{Width}
-use Rattle.records.specs.Records.{baseWidth, NumberAt, definitionFits, attributeFits, rowFits, eachFits, headerFits}
+use Rattle.layout.specs.Bodies.{Width, widthOf, definitionsIn, particlesIn, attributesIn, rowsIn}
+use Rattle.records.specs.Records.{definitionFits, attributeFits, rowFits, eachFits, headerFits}
 use Rattle.records.proofs.RecordLaws.{small-of}
 use Rattle.forms.specs.FormTests.{bodiesFit}
 use Rattle.forms.specs.Bodies.{Bodies, formOf}
@@ -26,7 +25,7 @@ use Rattle.circles.specs.Deep.{Ranked}
 use Rattle.serials.specs.Serials.{serialsOf, fitting}
 use Rattle.rowpass.specs.Indices.{Documents}
 use Rattle.rowpass.specs.Reading.{indexForm}
-use Rattle.validity.specs.Check.{bodyAt, definitionsIn, particlesIn, attributesIn, rowsIn, FormPasses, FormIn, RowsPass, RowsIn, SerialsIn}
+use Rattle.validity.specs.Check.{FormPasses, FormIn, RowsPass, RowsIn, SerialsIn}
 use Rattle.validity.proofs.FormLaws.{Laid, circle-fit}
 use Rattle.validity.proofs.StringChecks.{Headed, header, laid-in, rows-whole, passes-header, passes-in}
 use Rattle.validity.proofs.IndexReads.{index-agrees, index-once}
@@ -46,25 +45,16 @@ same-truth false true (f, g) (h, k) = g (h refl)
 same-truth false false (f, g) (h, k) = refl
 
 -- ---- the form
-pub laid-of : {n : ℕ} {defs : Bytes} {p : ℕ} {parts : Bytes} {a : ℕ} {attrs : Bytes} → Bodies baseWidth n defs p parts a attrs → ((i : ℕ) → Fits w8 (getD defs i 0)) → ((i : ℕ) → Fits w8 (getD attrs i 0)) → Laid n defs p parts a attrs
-laid-of {n} {defs} {p} {parts} {a} {attrs} b d c = record { bodies = b; definitions = small-of defs (λ i. omega (arith, d i)); attributes = small-of attrs (λ i. omega (arith, c i)) }
+pub laid-of : {w n : ℕ} {defs : Bytes} {p : ℕ} {parts : Bytes} {a : ℕ} {attrs : Bytes} → Bodies w n defs p parts a attrs → ((i : ℕ) → Fits w8 (getD defs i 0)) → ((i : ℕ) → Fits w8 (getD attrs i 0)) → Laid w n defs p parts a attrs
+laid-of {w} {n} {defs} {p} {parts} {a} {attrs} b d c = record { bodies = b; definitions = small-of defs (λ i. omega (arith, d i)); attributes = small-of attrs (λ i. omega (arith, c i)) }
 
-pub form-by : {n : ℕ} {defs : Bytes} {p : ℕ} {parts : Bytes} {a : ℕ} {attrs : Bytes} {r : Heights} → Laid n defs p parts a attrs → eachFits definitionFits definitionSize n defs ≡ true → eachFits (attributeFits baseWidth n) (attributeSize baseWidth) a attrs ≡ true
-    → bodiesFit (formOf baseWidth n defs p parts a attrs) ≡ true → Ranked n (membersIn defs parts) r → (r .fit ≡ true) ↔ FormPasses n defs p parts a attrs
+pub form-by : {w n : ℕ} {defs : Bytes} {p : ℕ} {parts : Bytes} {a : ℕ} {attrs : Bytes} {r : Heights} → Laid w n defs p parts a attrs → eachFits definitionFits definitionSize n defs ≡ true → eachFits (attributeFits w n) (attributeSize w) a attrs ≡ true
+    → bodiesFit (formOf w n defs p parts a attrs) ≡ true → Ranked n (membersIn defs parts) r → (r .fit ≡ true) ↔ FormPasses w n defs p parts a attrs
 form-by laid d c b k = (λ e. record { definitions = d; attributes = c; bodies = b; circle = circle-fit laid d c b k .0 e }, λ x. circle-fit laid d c b k .1 (x .circle))
-
--- ---- the bodies of a string
-pub body-of : (bs : Bytes) (entry size : ℕ) {at count : ℕ} {r : Bytes} → NumberAt entry bs at → NumberAt (entry + 4) bs count → r ≡ partOf at (size * count) bs → r ≡ bodyAt entry size bs
-unfolding bodyAt
-body-of bs entry size x y e = e ∙ (λ i. partOf (x .value i) (size * y .value i) bs)
-
-pub product-small : {bs : Bytes} {at count : ℕ} (size : ℕ) → size ≤ 52 → NumberAt at bs count → size * count < 18446744073709551616
-product-small {bs} {at} {count} size l x =
-    let k : size * count ≤ 52 * 4294967296 = mul-le-mul {n₁ = size} {m₁ = count} {n₂ = 52} {m₂ = 4294967296} l (omega (arith, x .small)) in
-    omega arith
 
 -- the counts and bodies of a form
 pub record Cut : Type 0 where
+  pub w : ℕ
   pub n : ℕ
   pub defs : Bytes
   pub p : ℕ
@@ -73,45 +63,45 @@ pub record Cut : Type 0 where
   pub attrs : Bytes
 
 abbrev pub cutOf : Bytes → Cut
-cutOf bs = record { n = definitionCount bs; defs = definitionsIn bs; p = particleCount bs; parts = particlesIn bs; a = attributeCount bs; attrs = attributesIn bs }
+cutOf bs = record { w = widthOf bs; n = definitionCount bs; defs = definitionsIn bs; p = particleCount bs; parts = particlesIn bs; a = attributeCount bs; attrs = attributesIn bs }
 
 -- rows for the form that is cut out
 abbrev RowsAt : Cut → ℕ → Bytes → Type 0
-RowsAt c m s = RowsPass (indexForm baseWidth (c .n) (c .defs) (c .parts) (c .attrs) (c .a)) m s
+RowsAt c m s = RowsPass (c .w) (indexForm (c .w) (c .n) (c .defs) (c .parts) (c .attrs) (c .a)) m s
 
-pub record CutOf (bs : Bytes) (n : ℕ) (defs : Bytes) (p : ℕ) (parts : Bytes) (a : ℕ) (attrs : Bytes) : Type 0 where
-  pub same : cutOf bs ≡ record { n = n; defs = defs; p = p; parts = parts; a = a; attrs = attrs }
+pub record CutOf (bs : Bytes) (w n : ℕ) (defs : Bytes) (p : ℕ) (parts : Bytes) (a : ℕ) (attrs : Bytes) : Type 0 where
+  pub same : cutOf bs ≡ record { w = w; n = n; defs = defs; p = p; parts = parts; a = a; attrs = attrs }
 
-pub cut-of : (bs : Bytes) {n : ℕ} {defs : Bytes} {p : ℕ} {parts : Bytes} {a : ℕ} {attrs : Bytes} → n ≡ definitionCount bs → p ≡ particleCount bs → a ≡ attributeCount bs → defs ≡ definitionsIn bs → parts ≡ particlesIn bs → attrs ≡ attributesIn bs → CutOf bs n defs p parts a attrs
-cut-of bs x y z d q c = record { same = λ i. record { n = sym x i; defs = sym d i; p = sym y i; parts = sym q i; a = sym z i; attrs = sym c i } }
+pub cut-of : (bs : Bytes) {w n : ℕ} {defs : Bytes} {p : ℕ} {parts : Bytes} {a : ℕ} {attrs : Bytes} → w ≡ widthOf bs → n ≡ definitionCount bs → p ≡ particleCount bs → a ≡ attributeCount bs → defs ≡ definitionsIn bs → parts ≡ particlesIn bs → attrs ≡ attributesIn bs → CutOf bs w n defs p parts a attrs
+cut-of bs v x y z d q c = record { same = λ i. record { w = sym v i; n = sym x i; defs = sym d i; p = sym y i; parts = sym q i; a = sym z i; attrs = sym c i } }
 
-pub headed : (bs : Bytes) → headerFits baseWidth bs ≡ true → ((i : ℕ) → Fits w8 (getD bs i 0)) → Headed bs
+pub headed : (bs : Bytes) → headerFits (widthOf bs) bs ≡ true → ((i : ℕ) → Fits w8 (getD bs i 0)) → Headed bs
 headed bs h s = record { small = small-of bs (λ i. omega (arith, s i)); header = h }
 
-module _ {bs : Bytes} {n : ℕ} {defs : Bytes} {p : ℕ} {parts : Bytes} {a : ℕ} {attrs : Bytes} (h : Headed bs) (k : CutOf bs n defs p parts a attrs) where
+module _ {bs : Bytes} {w n : ℕ} {defs : Bytes} {p : ℕ} {parts : Bytes} {a : ℕ} {attrs : Bytes} (h : Headed bs) (k : CutOf bs w n defs p parts a attrs) where
   abbrev given : Cut
-  given = record { n = n; defs = defs; p = p; parts = parts; a = a; attrs = attrs }
+  given = record { w = w; n = n; defs = defs; p = p; parts = parts; a = a; attrs = attrs }
 
-  pub cut-laid : Laid n defs p parts a attrs
-  cut-laid = subst (λ (c : Cut). Laid (c .n) (c .defs) (c .p) (c .parts) (c .a) (c .attrs)) (k .same) (laid-in h)
+  pub cut-laid : Laid w n defs p parts a attrs
+  cut-laid = subst (λ (c : Cut). Laid (c .w) (c .n) (c .defs) (c .p) (c .parts) (c .a) (c .attrs)) (k .same) (laid-in h)
 
-  pub cut-form : {r : Bool} → (r ≡ true) ↔ FormPasses n defs p parts a attrs → (r ≡ true) ↔ FormIn bs
+  pub cut-form : {r : Bool} → (r ≡ true) ↔ FormPasses w n defs p parts a attrs → (r ≡ true) ↔ FormIn bs
   cut-form {r} (f, g) = (
-    λ e. record { passes = subst (λ (c : Cut). FormPasses (c .n) (c .defs) (c .p) (c .parts) (c .a) (c .attrs)) (sym (k .same)) (f e) },
-    λ x. g (subst (λ (c : Cut). FormPasses (c .n) (c .defs) (c .p) (c .parts) (c .a) (c .attrs)) (k .same) (x .passes)),
+    λ e. record { passes = subst (λ (c : Cut). FormPasses (c .w) (c .n) (c .defs) (c .p) (c .parts) (c .a) (c .attrs)) (sym (k .same)) (f e) },
+    λ x. g (subst (λ (c : Cut). FormPasses (c .w) (c .n) (c .defs) (c .p) (c .parts) (c .a) (c .attrs)) (k .same) (x .passes)),
   )
 
   -- ---- the rows
   module _ {count : ℕ} {rows : Bytes} (u : count ≡ rowCount bs) (v : rows ≡ rowsIn bs) where
-    pub rows-asked : FormIn bs → Width baseWidth × (n ≤ 64) × (a ≤ 64) × (rowSize baseWidth * count ≤ length rows) × ((i : ℕ) → i < n → Distinct (names (indexForm baseWidth n defs parts attrs a .model i)))
+    pub rows-asked : FormIn bs → Width w × (n ≤ 64) × (a ≤ 64) × (rowSize w * count ≤ length rows) × ((i : ℕ) → i < n → Distinct (names (indexForm w n defs parts attrs a .model i)))
     rows-asked x =
-        let form : FormPasses n defs p parts a attrs = subst (λ (c : Cut). FormPasses (c .n) (c .defs) (c .p) (c .parts) (c .a) (c .attrs)) (k .same) (x .passes) in
+        let form : FormPasses w n defs p parts a attrs = subst (λ (c : Cut). FormPasses (c .w) (c .n) (c .defs) (c .p) (c .parts) (c .a) (c .attrs)) (k .same) (x .passes) in
         (omega arith, cut-laid .bodies .definitionBody .few, cut-laid .bodies .attributeBody .few, omega (arith, ap (λ (s : Bytes). length s) v, rows-whole h), index-once cut-laid form)
 
-    pub rows-in : {r : Bool} → (r ≡ true) ↔ ((eachFits (rowFits baseWidth) (rowSize baseWidth) count rows ≡ true) × Documents (indexForm baseWidth n defs parts attrs a) (readMany readRow (rowSize baseWidth) count rows)) → (r ≡ true) ↔ RowsIn bs
+    pub rows-in : {r : Bool} → (r ≡ true) ↔ ((eachFits (rowFits w) (rowSize w) count rows ≡ true) × Documents (indexForm w n defs parts attrs a) (readMany readRow (rowSize w) count rows)) → (r ≡ true) ↔ RowsIn bs
     rows-in {r} (f, g) = (
       λ e. let (x, y) = f e in record { passes = back (record { fields = x; documents = y }) },
-      λ x. let y : RowsPass (indexForm baseWidth n defs parts attrs a) count rows = there (x .passes) in g (y .fields, y .documents),
+      λ x. let y : RowsPass w (indexForm w n defs parts attrs a) count rows = there (x .passes) in g (y .fields, y .documents),
     )
       where
         back : RowsAt given count rows → RowsAt (cutOf bs) (rowCount bs) (rowsIn bs)
@@ -125,13 +115,13 @@ module _ {bs : Bytes} (h : Headed bs) {count : ℕ} (u : count ≡ rowCount bs) 
   pub serials-asked : count ≤ 4096
   serials-asked = omega (arith, header h .fewRows)
 
-  pub serials-in : {next : ℕ} {rows : Bytes} {r : Bool} → next ≡ numberAt 4 4 bs → rows ≡ rowsIn bs → r ≡ fitting next (serialsOf baseWidth count rows) → (r ≡ true) ↔ SerialsIn bs
+  pub serials-in : {next : ℕ} {rows : Bytes} {r : Bool} → next ≡ numberAt 4 4 bs → rows ≡ rowsIn bs → r ≡ fitting next (serialsOf (widthOf bs) count rows) → (r ≡ true) ↔ SerialsIn bs
   serials-in {next} {rows} {r} x y e =
-      let q : r ≡ fitting (numberAt 4 4 bs) (serialsOf baseWidth (rowCount bs) (rowsIn bs)) = e ∙ (λ i. fitting (x i) (serialsOf baseWidth (u i) (y i))) in
+      let q : r ≡ fitting (numberAt 4 4 bs) (serialsOf (widthOf bs) (rowCount bs) (rowsIn bs)) = e ∙ (λ i. fitting (x i) (serialsOf (widthOf bs) (u i) (y i))) in
       (λ z. record { fits = sym q ∙ z }, λ z. q ∙ z .fits)
 
 -- ---- all
-pub headless : (bs : Bytes) {b : Bool} → not b ≡ true → b ≡ headerFits baseWidth bs → false ≡ passes bs
+pub headless : (bs : Bytes) {b : Bool} → not b ≡ true → b ≡ headerFits (widthOf bs) bs → false ≡ passes bs
 headless bs {b} h q = by (passes bs) refl
   where
     by : (z : Bool) → passes bs ≡ z → false ≡ z
@@ -139,8 +129,8 @@ headless bs {b} h q = by (passes bs) refl
     by false e = refl
 
 module _ {bs : Bytes} (h : Headed bs) where
-  all-in : (passes bs ≡ true) ↔ (FormIn bs × RowsPass (indexForm baseWidth (definitionCount bs) (definitionsIn bs) (particlesIn bs) (attributesIn bs) (attributeCount bs)) (rowCount bs) (rowsIn bs) × SerialsIn bs)
-  all-in = passes-in h (indexForm baseWidth (definitionCount bs) (definitionsIn bs) (particlesIn bs) (attributesIn bs) (attributeCount bs)) (λ x. index-agrees (laid-in h) (x .passes))
+  all-in : (passes bs ≡ true) ↔ (FormIn bs × RowsPass (widthOf bs) (indexForm (widthOf bs) (definitionCount bs) (definitionsIn bs) (particlesIn bs) (attributesIn bs) (attributeCount bs)) (rowCount bs) (rowsIn bs) × SerialsIn bs)
+  all-in = passes-in h (indexForm (widthOf bs) (definitionCount bs) (definitionsIn bs) (particlesIn bs) (attributesIn bs) (attributeCount bs)) (λ x. index-agrees (laid-in h) (x .passes))
 
   not-passed : (passes bs ≡ true → ⊥) → false ≡ passes bs
   not-passed f = by (passes bs) refl

@@ -22,7 +22,7 @@ use Rattle.rules.proofs.BooleanLaws.{Every, every-map, every-at}
 use Rattle.rules.proofs.LayoutLaws.{Small}
 use Rattle.rules.proofs.PreorderLaws.{rising}
 use Rattle.codec.proofs.Records.{many-at}
-use Rattle.records.specs.Records.{baseWidth, definitionFits, attributeFits, eachFits}
+use Rattle.records.specs.Records.{definitionFits, attributeFits, eachFits}
 use Rattle.records.proofs.RecordLaws.{FittingDefinition, definition-fields, FittingAttribute, attribute-fields, body-fields}
 use Rattle.forms.specs.FormTests.{elementsIn, shaped, modelFits, modelsFit, bodiesFit}
 use Rattle.forms.specs.Bodies.{Bodies, recordAt, definitions, particles, attributes, formOf}
@@ -92,27 +92,27 @@ count-at n defs i l = definition-size i defs ∙ ap (λ (d : FlatDefinition). d 
 
 -- ---- the bodies of a form
 -- bodies of bytes
-pub record Laid (n : ℕ) (defs : Bytes) (p : ℕ) (parts : Bytes) (a : ℕ) (attrs : Bytes) : Type 0 where
-  pub bodies : Bodies baseWidth n defs p parts a attrs
+pub record Laid (w n : ℕ) (defs : Bytes) (p : ℕ) (parts : Bytes) (a : ℕ) (attrs : Bytes) : Type 0 where
+  pub bodies : Bodies w n defs p parts a attrs
   pub definitions : Small defs
   pub attributes : Small attrs
 
-module _ {n : ℕ} {defs : Bytes} {p : ℕ} {parts : Bytes} {a : ℕ} {attrs : Bytes} (laid : Laid n defs p parts a attrs) where
-  module _ (d : eachFits definitionFits definitionSize n defs ≡ true) (c : eachFits (attributeFits baseWidth n) (attributeSize baseWidth) a attrs ≡ true) where
-    pub fields-fit : FieldsFit baseWidth (formOf baseWidth n defs p parts a attrs)
+module _ {w n : ℕ} {defs : Bytes} {p : ℕ} {parts : Bytes} {a : ℕ} {attrs : Bytes} (laid : Laid w n defs p parts a attrs) where
+  module _ (d : eachFits definitionFits definitionSize n defs ≡ true) (c : eachFits (attributeFits w n) (attributeSize w) a attrs ≡ true) where
+    pub fields-fit : FieldsFit w (formOf w n defs p parts a attrs)
     unfolding definitions attributes
     fields-fit =
         record {
           definitions = every-map FittingDefinition DefinitionFits (definitions n defs) definition-told
               (body-fields readDefinition definitionBytes definitionFits definitionSize FittingDefinition definition-fields n defs (laid .definitions) (omega (arith, laid .bodies .definitionBody .whole)) d);
-          attributes = subst (λ (m : ℕ). Every (AttributeFits baseWidth m) (attributes baseWidth a attrs)) (sym (definitions-length n defs))
-              (every-map (FittingAttribute baseWidth n) (AttributeFits baseWidth n) (attributes baseWidth a attrs) (attribute-told baseWidth n)
-              (body-fields readAttribute (attributeBytes baseWidth) (attributeFits baseWidth n) (attributeSize baseWidth) (FittingAttribute baseWidth n) (λ x s l. attribute-fields baseWidth n x) a attrs (laid .attributes) (omega (arith, laid .bodies .attributeBody .whole)) c));
+          attributes = subst (λ (m : ℕ). Every (AttributeFits w m) (attributes w a attrs)) (sym (definitions-length n defs))
+              (every-map (FittingAttribute w n) (AttributeFits w n) (attributes w a attrs) (attribute-told w n)
+              (body-fields readAttribute (attributeBytes w) (attributeFits w n) (attributeSize w) (FittingAttribute w n) (λ x s l. attribute-fields w n x) a attrs (laid .attributes) (omega (arith, laid .bodies .attributeBody .whole)) c));
         }
 
-    module _ (b : bodiesFit (formOf baseWidth n defs p parts a attrs) ≡ true) where
+    module _ (b : bodiesFit (formOf w n defs p parts a attrs) ≡ true) where
       models : modelsFit (length (definitions n defs)) (definitions n defs) (particles p parts) ≡ true
-      models = bodies-of (formOf baseWidth n defs p parts a attrs) b .models
+      models = bodies-of (formOf w n defs p parts a attrs) b .models
 
       -- the counts give the particles that are there
       pub before-all : before n (definitions n defs) ≡ p
@@ -127,7 +127,7 @@ module _ {n : ℕ} {defs : Bytes} {p : ℕ} {parts : Bytes} {a : ℕ} {attrs : B
 
       readable : Readable defs parts n p
       unfolding definitions particles
-      readable = record { few = start-all; long = long; once = bodies-of (formOf baseWidth n defs p parts a attrs) b .apart; shaped = all-shaped (length (definitions n defs)) (definitions n defs) (particles p parts) (fields-fit .definitions) models }
+      readable = record { few = start-all; long = long; once = bodies-of (formOf w n defs p parts a attrs) b .apart; shaped = all-shaped (length (definitions n defs)) (definitions n defs) (particles p parts) (fields-fit .definitions) models }
 
       members-are : (i : ℕ) → i < n → membersIn defs parts i ≡ elementsIn (partAt i (definitions n defs) (particles p parts))
       unfolding definitions particles
@@ -136,24 +136,24 @@ module _ {n : ℕ} {defs : Bytes} {p : ℕ} {parts : Bytes} {a : ℕ} {attrs : B
 
       within : Within n (membersIn defs parts)
       within i l j m =
-          let size : length (reads.formOf (formOf baseWidth n defs p parts a attrs)) ≡ n = form-size (formOf baseWidth n defs p parts a attrs) ∙ definitions-length n defs in
-          let x : ModelRead (reads.formOf (formOf baseWidth n defs p parts a attrs)) (form-apart baseWidth (formOf baseWidth n defs p parts a attrs) fields-fit b) (partAt i (definitions n defs) (particles p parts)) = model-at baseWidth (formOf baseWidth n defs p parts a attrs) fields-fit b i (omega arith) in
+          let size : length (reads.formOf (formOf w n defs p parts a attrs)) ≡ n = form-size (formOf w n defs p parts a attrs) ∙ definitions-length n defs in
+          let x : ModelRead (reads.formOf (formOf w n defs p parts a attrs)) (form-apart w (formOf w n defs p parts a attrs) fields-fit b) (partAt i (definitions n defs) (particles p parts)) = model-at w (formOf w n defs p parts a attrs) fields-fit b i (omega arith) in
           omega (
             arith,
-            every-at (λ k. k < length (reads.formOf (formOf baseWidth n defs p parts a attrs))) j (names (indexMembers (build (partAt i (definitions n defs) (particles p parts)) 0))) (x .below)
+            every-at (λ k. k < length (reads.formOf (formOf w n defs p parts a attrs))) j (names (indexMembers (build (partAt i (definitions n defs) (particles p parts)) 0))) (x .below)
                 (subst (λ (ks : List ℕ). List·Memᴰ j ks) (members-are i l ∙ sym (x .indices)) m),
           )
 
       -- the members that the bytes have are those of the form that is read
-      pub members-indexed : Indexed (membersIn defs parts) (unflat (formOf baseWidth n defs p parts a attrs) .form)
+      pub members-indexed : Indexed (membersIn defs parts) (unflat (formOf w n defs p parts a attrs) .form)
       unfolding definitions particles
-      members-indexed = form-read readable (attributes baseWidth a attrs) within
+      members-indexed = form-read readable (attributes w a attrs) within
 
       -- the part of a definition is there
       pub part-room : (i : ℕ) → i < n → startAt defs i + countAt defs i ≤ p
       part-room i l = omega (arith, start-room defs n i l, start-all)
 
       -- the heights fit just where no definition reaches itself
-      pub circle-fit : {r : Heights} → Ranked n (membersIn defs parts) r → (r .fit ≡ true) ↔ ((x : Bytes) → Reaches (unflat (formOf baseWidth n defs p parts a attrs) .form) x x → ⊥)
+      pub circle-fit : {r : Heights} → Ranked n (membersIn defs parts) r → (r .fit ≡ true) ↔ ((x : Bytes) → Reaches (unflat (formOf w n defs p parts a attrs) .form) x x → ⊥)
       unfolding definitions particles
-      circle-fit {r} k = (λ e. fit-read readable (attributes baseWidth a attrs) k .0 e .1, λ f. fit-read readable (attributes baseWidth a attrs) k .1 (within, f))
+      circle-fit {r} k = (λ e. fit-read readable (attributes w a attrs) k .0 e .1, λ f. fit-read readable (attributes w a attrs) k .1 (within, f))

@@ -16,7 +16,6 @@ use Rattle.codec.proofs.Strings.{part-there}
 use Rattle.codec.proofs.Records.{many-at}
 use Rattle.model.specs.Members.{particlesOf, membersFrom, membersOf}
 use Rattle.model.specs.Members as model
-use Rattle.records.specs.Records.{baseWidth}
 use Rattle.forms.specs.Bodies.{definitions, particles, attributes, formOf}
 use Rattle.forms.proofs.Reading.{definitions-length, attributes-length, particles-part}
 use Rattle.rowpass.specs.Reading.{definitionIn, attributeIn, particlesBefore, modelPart}
@@ -52,23 +51,23 @@ part-members p parts b c whole l =
     count : length (take (particleSize * c) (drop (particleSize * b) parts)) / particleSize ≡ c
     count = let e : length (take (particleSize * c) (drop (particleSize * b) parts)) ≡ 4 * c = omega (arith, length-take (particleSize * c) (drop (particleSize * b) parts), length-drop (particleSize * b) parts) in omega arith
 
-module _ {n : ℕ} {defs : Bytes} {p : ℕ} {parts : Bytes} {a : ℕ} {attrs : Bytes} (laid : Laid n defs p parts a attrs) (x : FormPasses n defs p parts a attrs) where
+module _ {w n : ℕ} {defs : Bytes} {p : ℕ} {parts : Bytes} {a : ℕ} {attrs : Bytes} (laid : Laid w n defs p parts a attrs) (x : FormPasses w n defs p parts a attrs) where
   abbrev f : FlatStore
-  f = formOf baseWidth n defs p parts a attrs
+  f = formOf w n defs p parts a attrs
 
-  fields : FieldsFit baseWidth f
+  fields : FieldsFit w f
   fields = fields-fit laid (x .definitions) (x .attributes)
 
   agrees : Agrees (indexForm f) (unflat f .form)
-  agrees = form-agrees baseWidth f fields (x .bodies)
+  agrees = form-agrees w f fields (x .bodies)
 
   pub definition-in : (i : ℕ) → i < n → definitionIn defs i ≡ getD (definitions n defs) i noDefinition
   unfolding definitions
   definition-in i l = sym (many-at readDefinition definitionSize i n defs noDefinition l)
 
-  pub attribute-in : (j : ℕ) → j < a → attributeIn baseWidth attrs j ≡ entryOf j (attributes baseWidth a attrs)
+  pub attribute-in : (j : ℕ) → j < a → attributeIn w attrs j ≡ entryOf j (attributes w a attrs)
   unfolding attributes
-  attribute-in j l = sym (many-at readAttribute (attributeSize baseWidth) j a attrs noAttribute l)
+  attribute-in j l = sym (many-at readAttribute (attributeSize w) j a attrs noAttribute l)
 
   before-in : (i : ℕ) → i ≤ n → particlesBefore defs i ≡ before i (definitions n defs)
   unfolding particlesBefore
@@ -92,28 +91,28 @@ module _ {n : ℕ} {defs : Bytes} {p : ℕ} {parts : Bytes} {a : ℕ} {attrs : B
   form-count : length (unflat f .form) ≡ n
   form-count = form-size f ∙ definitions-length n defs
 
-  pub index-agrees : Agrees (bytes.indexForm baseWidth n defs parts attrs a) (unflat f .form)
+  pub index-agrees : Agrees (bytes.indexForm w n defs parts attrs a) (unflat f .form)
   index-agrees =
       record {
         size = sym form-count;
         kind = λ i l. ap (λ (d : FlatDefinition). d .kind) (definition-in i (omega (arith, form-count))) ∙ agrees .kind i l;
         model = λ i l. agrees .model i l ∙ ap (λ (m : Members ℕ). rename (λ j. nameAt j (namesOf (unflat f .form))) m) (sym (model-in i (omega (arith, form-count))));
         inRange = λ i l j m. agrees .inRange i l j (subst (λ (z : Members ℕ). List·Memᴰ j (names z)) (model-in i (omega (arith, form-count))) m);
-        attributes = sym (attributes-length baseWidth a attrs) ∙ agrees .attributes;
+        attributes = sym (attributes-length w a attrs) ∙ agrees .attributes;
         owner = λ j l. ap (λ (c : FlatAttribute). c .owner) (attribute-in j (short j l)) ∙ agrees .owner j l;
         needed = λ j l. ap (λ (c : FlatAttribute). mustBePresent (sortOf (c .sort))) (attribute-in j (short j l)) ∙ agrees .needed j l;
         allows = λ j l v. ap (λ (c : FlatAttribute). allows (sortOf (c .sort)) (c .value) v) (attribute-in j (short j l)) ∙ agrees .allows j l v;
       }
     where
       short : (j : ℕ) → j < length (allAttributes 0 (unflat f .form)) → j < a
-      short j l = omega (arith, agrees .attributes, attributes-length baseWidth a attrs)
+      short j l = omega (arith, agrees .attributes, attributes-length w a attrs)
 
   -- ---- no model names an element twice
   once-in : (i : ℕ) → i < n → Distinct (names (indexMembers (build (partAt i (definitions n defs) (particles p parts)) 0)))
   once-in i l =
-      let r : ModelRead (unflat f .form) (form-apart baseWidth f fields (x .bodies)) (partAt i (definitions n defs) (particles p parts)) = model-at baseWidth f fields (x .bodies) i (omega (arith, form-count)) in
+      let r : ModelRead (unflat f .form) (form-apart w f fields (x .bodies)) (partAt i (definitions n defs) (particles p parts)) = model-at w f fields (x .bodies) i (omega (arith, form-count)) in
       distinct-unmap (λ j. nameAt j (namesOf (unflat f .form))) (names (indexMembers (build (partAt i (definitions n defs) (particles p parts)) 0)))
       (subst (λ (ns : List Bytes). Distinct ns) (read-names (namesOf (unflat f .form)) (build (partAt i (definitions n defs) (particles p parts)) 0)) (r .once))
 
-  pub index-once : (i : ℕ) → i < n → Distinct (names (bytes.indexForm baseWidth n defs parts attrs a .model i))
+  pub index-once : (i : ℕ) → i < n → Distinct (names (bytes.indexForm w n defs parts attrs a .model i))
   index-once i l = subst (λ (m : Members ℕ). Distinct (names m)) (sym (model-in i l)) (once-in i l)

@@ -1,7 +1,7 @@
 -- A byte string whose header fits passes just where its form, its rows and its serials do.
 use Prim.Native.Nat.{ℕ, _+_, _*_, _≤_}
 use native.Mathlib.Omega.{arith}
-use mathlib.Core.Path.{_≡_, ap, _∙_, sym, subst}
+use mathlib.Core.Path.{_≡_, refl, ap, _∙_, sym, subst}
 use mathlib.Core.Logic.{_↔_}
 use mathlib.Core.Bool.{true, _&&_}
 use mathlib.Core.List.{List, map}
@@ -21,10 +21,8 @@ use Rattle.rules.proofs.Words.{and-both, and-split}
 use Rattle.rules.proofs.BooleanLaws.{every-map}
 use Rattle.rules.proofs.LayoutLaws.{Small}
 use Rattle.rules.proofs.DecodeLaws.{passes-tests}
-use Rattle.codec.specs.Part.{partOf}
-use Rattle.codec.proofs.Strings.{part-there}
 use Rattle.codec.proofs.Records.{many-within}
-use Rattle.records.specs.Records.{baseWidth, definitionFits, attributeFits, rowFits, eachFits, atParticles, atAttributes, atRows, headerFits}
+use Rattle.records.specs.Records.{definitionFits, attributeFits, rowFits, eachFits, atParticles, atAttributes, atRows, headerFits}
 use Rattle.records.specs.Records as records
 use Rattle.records.proofs.RecordLaws.{small-take, small-drop, FittingDefinition, FittingAttribute, FittingRow, each-fits-cut}
 use Rattle.records.proofs.StringLaws.{FittingHeader, header-fields, string-canonical, FittingFlat, string-fields, store-header-fits, store-bodies-fit}
@@ -34,7 +32,8 @@ use Rattle.forms.proofs.Laws.{bodies-only}
 use Rattle.serials.specs.Serials.{serialOf, serialsOf, fitting}
 use Rattle.rowpass.specs.Indices.{IndexForm, Documents}
 use Rattle.validity.specs.Reading.{DefinitionFits, AttributeFits, FieldsFit, indexForm, Agrees, RowFits, serialsIn, serialsFit, Checks, FlatPasses}
-use Rattle.validity.specs.Check.{bodyAt, definitionsIn, particlesIn, attributesIn, rowsIn, FormIn, RowsPass, SerialsIn}
+use Rattle.layout.specs.Bodies.{widthOf, shapeOf, attributesStart, rowsStart, definitionBody, particleBody, attributeBody, rowBody, definitionsIn, particlesIn, attributesIn, rowsIn}
+use Rattle.validity.specs.Check.{FormIn, RowsPass, SerialsIn}
 use Rattle.validity.proofs.FormGood.{form-agrees, ceilings-counted}
 use Rattle.validity.proofs.StoreReads.{checks-read, flatOf, passes-read}
 use Rattle.validity.proofs.FormLaws.{definition-told, attribute-told, Laid}
@@ -55,36 +54,36 @@ serials-told next ks l m = (
 )
 
 -- a string that passes has a header that fits
-pub passes-header : (bs : Bytes) → passes bs ≡ true → headerFits baseWidth bs ≡ true
+pub passes-header : (bs : Bytes) → passes bs ≡ true → headerFits (widthOf bs) bs ≡ true
 passes-header bs q =
     let (s, e, g) = passes-tests bs .0 q in
-    subst (λ (ys : Bytes). headerFits baseWidth ys ≡ true) e (store-header-fits s g)
+    subst (λ (ys : Bytes). headerFits (widthOf ys) ys ≡ true) e (store-header-fits s g)
 
 -- bytes whose header fits
 pub record Headed (bs : Bytes) : Type 0 where
   pub small : Small bs
-  pub header : headerFits baseWidth bs ≡ true
+  pub header : headerFits (widthOf bs) bs ≡ true
 
 module _ {bs : Bytes} (h : Headed bs) where
-  pub header : FittingHeader baseWidth bs
-  header = header-fields baseWidth bs (h .header)
+  pub header : FittingHeader (widthOf bs) bs
+  header = header-fields (widthOf bs) bs (h .header)
 
   -- ---- the bodies
   definitions-cut : definitionsIn bs ≡ take (definitionSize * definitionCount bs) (drop headerSize bs)
-  unfolding bodyAt
-  definitions-cut = ap (λ (k : ℕ). partOf k (definitionSize * definitionCount bs) bs) (header .definitionsAt) ∙ part-there headerSize (definitionSize * definitionCount bs) bs (omega (arith, header .size))
+  unfolding definitionBody shapeOf
+  definitions-cut = refl
 
   particles-cut : particlesIn bs ≡ take (particleSize * particleCount bs) (drop (atParticles bs) bs)
-  unfolding bodyAt
-  particles-cut = ap (λ (k : ℕ). partOf k (particleSize * particleCount bs) bs) (header .particlesAt) ∙ part-there (atParticles bs) (particleSize * particleCount bs) bs (omega (arith, header .size))
+  unfolding particleBody shapeOf
+  particles-cut = refl
 
-  attributes-cut : attributesIn bs ≡ take (attributeSize baseWidth * attributeCount bs) (drop (atAttributes bs) bs)
-  unfolding bodyAt
-  attributes-cut = ap (λ (k : ℕ). partOf k (attributeSize baseWidth * attributeCount bs) bs) (header .attributesAt) ∙ part-there (atAttributes bs) (attributeSize baseWidth * attributeCount bs) bs (omega (arith, header .size))
+  attributes-cut : attributesIn bs ≡ take (attributeSize (widthOf bs) * attributeCount bs) (drop (atAttributes bs) bs)
+  unfolding attributeBody attributesStart shapeOf
+  attributes-cut = refl
 
-  rows-cut : rowsIn bs ≡ take (rowSize baseWidth * rowCount bs) (drop (atRows baseWidth bs) bs)
-  unfolding bodyAt
-  rows-cut = ap (λ (k : ℕ). partOf k (rowSize baseWidth * rowCount bs) bs) (header .rowsAt) ∙ part-there (atRows baseWidth bs) (rowSize baseWidth * rowCount bs) bs (omega (arith, header .size))
+  rows-cut : rowsIn bs ≡ take (rowSize (widthOf bs) * rowCount bs) (drop (atRows (widthOf bs) bs) bs)
+  unfolding rowBody rowsStart attributesStart shapeOf
+  rows-cut = refl
 
   cut-length : (at n : ℕ) {ys : Bytes} → ys ≡ take n (drop at bs) → at + n ≤ length bs → n ≡ length ys
   cut-length at n e l = omega (arith, ap (λ (zs : Bytes). length zs) e, length-take n (drop at bs), length-drop at bs)
@@ -92,23 +91,23 @@ module _ {bs : Bytes} (h : Headed bs) where
   cut-small : (at n : ℕ) {ys : Bytes} → ys ≡ take n (drop at bs) → Small ys
   cut-small at n e = subst Small (sym e) (small-take n (small-drop at (h .small)))
 
-  pub laid-in : Laid (definitionCount bs) (definitionsIn bs) (particleCount bs) (particlesIn bs) (attributeCount bs) (attributesIn bs)
+  pub laid-in : Laid (widthOf bs) (definitionCount bs) (definitionsIn bs) (particleCount bs) (particlesIn bs) (attributeCount bs) (attributesIn bs)
   laid-in =
       record {
         bodies = record {
           definitionBody = record { few = header .fewDefinitions; whole = cut-length headerSize (definitionSize * definitionCount bs) definitions-cut (omega (arith, header .size)) };
           particleBody = record { few = header .fewParticles; whole = cut-length (atParticles bs) (particleSize * particleCount bs) particles-cut (omega (arith, header .size)) };
-          attributeBody = record { few = header .fewAttributes; whole = cut-length (atAttributes bs) (attributeSize baseWidth * attributeCount bs) attributes-cut (omega (arith, header .size)) };
+          attributeBody = record { few = header .fewAttributes; whole = cut-length (atAttributes bs) (attributeSize (widthOf bs) * attributeCount bs) attributes-cut (omega (arith, header .size)) };
         };
         definitions = cut-small headerSize (definitionSize * definitionCount bs) definitions-cut;
-        attributes = cut-small (atAttributes bs) (attributeSize baseWidth * attributeCount bs) attributes-cut;
+        attributes = cut-small (atAttributes bs) (attributeSize (widthOf bs) * attributeCount bs) attributes-cut;
       }
 
-  pub rows-whole : rowSize baseWidth * rowCount bs ≡ length (rowsIn bs)
-  rows-whole = cut-length (atRows baseWidth bs) (rowSize baseWidth * rowCount bs) rows-cut (omega (arith, header .size))
+  pub rows-whole : rowSize (widthOf bs) * rowCount bs ≡ length (rowsIn bs)
+  rows-whole = cut-length (atRows (widthOf bs) bs) (rowSize (widthOf bs) * rowCount bs) rows-cut (omega (arith, header .size))
 
   pub rows-small : Small (rowsIn bs)
-  rows-small = cut-small (atRows baseWidth bs) (rowSize baseWidth * rowCount bs) rows-cut
+  rows-small = cut-small (atRows (widthOf bs) bs) (rowSize (widthOf bs) * rowCount bs) rows-cut
 
   -- ---- what is read of them
   pub same-definitions : flatOf bs .definitions ≡ definitions (definitionCount bs) (definitionsIn bs)
@@ -127,21 +126,21 @@ module _ {bs : Bytes} (h : Headed bs) where
       ap (λ (ys : Bytes). drop (particleSize * particleCount bs) ys) (drop-drop (definitionSize * definitionCount bs) headerSize bs)
       ∙ drop-drop (particleSize * particleCount bs) (atParticles bs) bs
 
-  pub same-attributes : flatOf bs .attributes ≡ attributes baseWidth (attributeCount bs) (attributesIn bs)
+  pub same-attributes : flatOf bs .attributes ≡ attributes (widthOf bs) (attributeCount bs) (attributesIn bs)
   unfolding attributes
   same-attributes =
-      ap (readMany readAttribute (attributeSize baseWidth) (attributeCount bs)) from-attributes
-      ∙ sym (ap (readMany readAttribute (attributeSize baseWidth) (attributeCount bs)) attributes-cut ∙ many-within readAttribute (attributeSize baseWidth) (attributeCount bs) (drop (atAttributes bs) bs))
+      ap (readMany readAttribute (attributeSize (widthOf bs)) (attributeCount bs)) from-attributes
+      ∙ sym (ap (readMany readAttribute (attributeSize (widthOf bs)) (attributeCount bs)) attributes-cut ∙ many-within readAttribute (attributeSize (widthOf bs)) (attributeCount bs) (drop (atAttributes bs) bs))
 
-  pub same-rows : flatOf bs .rows ≡ readMany readRow (rowSize baseWidth) (rowCount bs) (rowsIn bs)
+  pub same-rows : flatOf bs .rows ≡ readMany readRow (rowSize (widthOf bs)) (rowCount bs) (rowsIn bs)
   same-rows =
-      ap (readMany readRow (rowSize baseWidth) (rowCount bs))
-      (ap (λ (ys : Bytes). drop (attributeSize baseWidth * attributeCount bs) ys) from-attributes ∙ drop-drop (attributeSize baseWidth * attributeCount bs) (atAttributes bs) bs)
-      ∙ sym (ap (readMany readRow (rowSize baseWidth) (rowCount bs)) rows-cut ∙ many-within readRow (rowSize baseWidth) (rowCount bs) (drop (atRows baseWidth bs) bs))
+      ap (readMany readRow (rowSize (widthOf bs)) (rowCount bs))
+      (ap (λ (ys : Bytes). drop (attributeSize (widthOf bs) * attributeCount bs) ys) from-attributes ∙ drop-drop (attributeSize (widthOf bs) * attributeCount bs) (atAttributes bs) bs)
+      ∙ sym (ap (readMany readRow (rowSize (widthOf bs)) (rowCount bs)) rows-cut ∙ many-within readRow (rowSize (widthOf bs)) (rowCount bs) (drop (atRows (widthOf bs) bs) bs))
 
   -- the form alone
   abbrev pub formIn : FlatStore
-  formIn = formOf baseWidth (definitionCount bs) (definitionsIn bs) (particleCount bs) (particlesIn bs) (attributeCount bs) (attributesIn bs)
+  formIn = formOf (widthOf bs) (definitionCount bs) (definitionsIn bs) (particleCount bs) (particlesIn bs) (attributeCount bs) (attributesIn bs)
 
   pub same-form : unflat (flatOf bs) .form ≡ unflat formIn .form
   same-form = λ i. readForm (map flatName (same-definitions i)) 0 (same-definitions i) (same-particles i) (same-attributes i)
@@ -149,7 +148,7 @@ module _ {bs : Bytes} (h : Headed bs) where
   same-bodies : bodiesFit (flatOf bs) ≡ bodiesFit formIn
   same-bodies = bodies-only (flatOf bs) formIn same-definitions same-particles same-attributes
 
-  same-serials : serialsIn (flatOf bs .rows) ≡ serialsOf baseWidth (rowCount bs) (rowsIn bs)
+  same-serials : serialsIn (flatOf bs .rows) ≡ serialsOf (widthOf bs) (rowCount bs) (rowsIn bs)
   unfolding serialsOf
   same-serials = ap (λ (xs : List (Deep FlatRow)). map serialOf xs) same-rows
 
@@ -158,22 +157,22 @@ module _ {bs : Bytes} (h : Headed bs) where
   definitions-each =
       ap (eachFits definitionFits definitionSize (definitionCount bs)) definitions-cut ∙ each-fits-cut definitionFits definitionSize (definitionCount bs) (definitionSize * definitionCount bs) (drop headerSize bs) (omega arith)
 
-  attributes-each : eachFits (attributeFits baseWidth (definitionCount bs)) (attributeSize baseWidth) (attributeCount bs) (attributesIn bs) ≡ eachFits (attributeFits baseWidth (definitionCount bs)) (attributeSize baseWidth) (attributeCount bs) (drop (atAttributes bs) bs)
+  attributes-each : eachFits (attributeFits (widthOf bs) (definitionCount bs)) (attributeSize (widthOf bs)) (attributeCount bs) (attributesIn bs) ≡ eachFits (attributeFits (widthOf bs) (definitionCount bs)) (attributeSize (widthOf bs)) (attributeCount bs) (drop (atAttributes bs) bs)
   attributes-each =
-      ap (eachFits (attributeFits baseWidth (definitionCount bs)) (attributeSize baseWidth) (attributeCount bs)) attributes-cut
-      ∙ each-fits-cut (attributeFits baseWidth (definitionCount bs)) (attributeSize baseWidth) (attributeCount bs) (attributeSize baseWidth * attributeCount bs) (drop (atAttributes bs) bs) (omega arith)
+      ap (eachFits (attributeFits (widthOf bs) (definitionCount bs)) (attributeSize (widthOf bs)) (attributeCount bs)) attributes-cut
+      ∙ each-fits-cut (attributeFits (widthOf bs) (definitionCount bs)) (attributeSize (widthOf bs)) (attributeCount bs) (attributeSize (widthOf bs) * attributeCount bs) (drop (atAttributes bs) bs) (omega arith)
 
-  rows-each : eachFits (rowFits baseWidth) (rowSize baseWidth) (rowCount bs) (rowsIn bs) ≡ eachFits (rowFits baseWidth) (rowSize baseWidth) (rowCount bs) (drop (atRows baseWidth bs) bs)
+  rows-each : eachFits (rowFits (widthOf bs)) (rowSize (widthOf bs)) (rowCount bs) (rowsIn bs) ≡ eachFits (rowFits (widthOf bs)) (rowSize (widthOf bs)) (rowCount bs) (drop (atRows (widthOf bs) bs) bs)
   rows-each =
-      ap (eachFits (rowFits baseWidth) (rowSize baseWidth) (rowCount bs)) rows-cut
-      ∙ each-fits-cut (rowFits baseWidth) (rowSize baseWidth) (rowCount bs) (rowSize baseWidth * rowCount bs) (drop (atRows baseWidth bs) bs) (omega arith)
+      ap (eachFits (rowFits (widthOf bs)) (rowSize (widthOf bs)) (rowCount bs)) rows-cut
+      ∙ each-fits-cut (rowFits (widthOf bs)) (rowSize (widthOf bs)) (rowCount bs) (rowSize (widthOf bs) * rowCount bs) (drop (atRows (widthOf bs) bs) bs) (omega arith)
 
   -- ---- the tests; F: the form by index
   module _ (F : IndexForm) (agrees : FormIn bs → Agrees F (unflat formIn .form)) where
     abbrev Tests : Type 0
-    Tests = FormIn bs × RowsPass F (rowCount bs) (rowsIn bs) × SerialsIn bs
+    Tests = FormIn bs × RowsPass (widthOf bs) F (rowCount bs) (rowsIn bs) × SerialsIn bs
 
-    checks-as : (G H : IndexForm) → FieldsFit baseWidth (flatOf bs) → bodiesFit (flatOf bs) ≡ true → Agrees G (unflat (flatOf bs) .form) → Agrees H (unflat (flatOf bs) .form) → Checks G (flatOf bs) → Checks H (flatOf bs)
+    checks-as : (G H : IndexForm) → FieldsFit (widthOf bs) (flatOf bs) → bodiesFit (flatOf bs) ≡ true → Agrees G (unflat (flatOf bs) .form) → Agrees H (unflat (flatOf bs) .form) → Checks G (flatOf bs) → Checks H (flatOf bs)
     checks-as G H fields bodies x y c = checks-read (flatOf bs) fields bodies H y .0 (checks-read (flatOf bs) fields bodies G x .1 c)
 
     agrees-read : FormIn bs → Agrees F (unflat (flatOf bs) .form)
@@ -182,7 +181,7 @@ module _ {bs : Bytes} (h : Headed bs) where
     passes→ : passes bs ≡ true → Tests
     passes→ q =
         let (s, e, g) = passes-tests bs .0 q in
-        let each : EachFits baseWidth bs = each-fits baseWidth bs .0 (subst (λ (ys : Bytes). records.bodiesFit baseWidth ys ≡ true) e (store-bodies-fit s g)) in
+        let each : EachFits (widthOf bs) bs = each-fits (widthOf bs) bs .0 (subst (λ (ys : Bytes). records.bodiesFit (widthOf ys) ys ≡ true) e (store-bodies-fit s g)) in
         let p : FlatPasses (flatOf bs) = passes-read bs .0 q .1 in
         let form : FormIn bs =
         record {
@@ -193,23 +192,23 @@ module _ {bs : Bytes} (h : Headed bs) where
             circle = subst (λ (z : Form). (x : Bytes) → Reaches z x x → ⊥) same-form (p .checks .circle);
           };
         } in
-        let c : Checks F (flatOf bs) = checks-as (indexForm (flatOf bs)) F (p .fields) (p .bodies) (form-agrees baseWidth (flatOf bs) (p .fields) (p .bodies)) (agrees-read form) (p .checks) in (
+        let c : Checks F (flatOf bs) = checks-as (indexForm (flatOf bs)) F (p .fields) (p .bodies) (form-agrees (widthOf bs) (flatOf bs) (p .fields) (p .bodies)) (agrees-read form) (p .checks) in (
           form,
           record { fields = rows-each ∙ each .rows; documents = subst (λ (xs : List (Deep FlatRow)). Documents F xs) same-rows (c .documents) },
           record { fits = ap (fitting (numberAt 4 4 bs)) (sym same-serials) ∙ serials-told (numberAt 4 4 bs) (serialsIn (flatOf bs .rows)) (header .next) (next-most each) .0 (c .serials) },
         )
       where
-        next-most : EachFits baseWidth bs → numberAt 4 4 bs ≤ highestNumber
-        next-most each = omega (arith, string-fields baseWidth bs (h .small) (h .header) (each-fits baseWidth bs .1 each) .most)
+        next-most : EachFits (widthOf bs) bs → numberAt 4 4 bs ≤ highestNumber
+        next-most each = omega (arith, string-fields (widthOf bs) bs (h .small) (h .header) (each-fits (widthOf bs) bs .1 each) .most)
 
     passes← : Tests → passes bs ≡ true
     passes← (form, rows, serials) =
-        let each : records.bodiesFit baseWidth bs ≡ true = each-fits baseWidth bs .1 (record { definitions = sym definitions-each ∙ form .passes .definitions; attributes = sym attributes-each ∙ form .passes .attributes; rows = sym rows-each ∙ rows .fields }) in
-        let f : FittingFlat baseWidth (flatOf bs) = string-fields baseWidth bs (h .small) (h .header) each in
-        let fields : FieldsFit baseWidth (flatOf bs) =
+        let each : records.bodiesFit (widthOf bs) bs ≡ true = each-fits (widthOf bs) bs .1 (record { definitions = sym definitions-each ∙ form .passes .definitions; attributes = sym attributes-each ∙ form .passes .attributes; rows = sym rows-each ∙ rows .fields }) in
+        let f : FittingFlat (widthOf bs) (flatOf bs) = string-fields (widthOf bs) bs (h .small) (h .header) each in
+        let fields : FieldsFit (widthOf bs) (flatOf bs) =
         record {
           definitions = every-map FittingDefinition DefinitionFits (flatOf bs .definitions) definition-told (f .definitions);
-          attributes = every-map (FittingAttribute baseWidth (length (flatOf bs .definitions))) (AttributeFits baseWidth (length (flatOf bs .definitions))) (flatOf bs .attributes) (attribute-told baseWidth (length (flatOf bs .definitions))) (f .attributes);
+          attributes = every-map (FittingAttribute (widthOf bs) (length (flatOf bs .definitions))) (AttributeFits (widthOf bs) (length (flatOf bs .definitions))) (flatOf bs .attributes) (attribute-told (widthOf bs) (length (flatOf bs .definitions))) (f .attributes);
         } in
         let bodies : bodiesFit (flatOf bs) ≡ true = same-bodies ∙ form .passes .bodies in
         let c : Checks F (flatOf bs) =
@@ -217,12 +216,12 @@ module _ {bs : Bytes} (h : Headed bs) where
           version = f .version;
           ceilings = ceilings-counted (flatOf bs) bodies ∙ and-both (le-leb _ 64 (f .fewDefinitions)) (and-both (le-leb _ 256 (f .fewParticles)) (and-both (le-leb _ 64 (f .fewAttributes)) (le-leb _ 4096 (f .fewRows))));
           circle = subst (λ (z : Form). (x : Bytes) → Reaches z x x → ⊥) (sym same-form) (form .passes .circle);
-          rows = every-map (FittingRow baseWidth) (λ x. RowFits baseWidth (x .row)) (flatOf bs .rows) (row-told baseWidth) (f .rows);
+          rows = every-map (FittingRow (widthOf bs)) (λ x. RowFits (widthOf bs) (x .row)) (flatOf bs .rows) (row-told (widthOf bs)) (f .rows);
           documents = subst (λ (xs : List (Deep FlatRow)). Documents F xs) (sym same-rows) (rows .documents);
           serials = serials-told (numberAt 4 4 bs) (serialsIn (flatOf bs .rows)) (header .next) (omega (arith, f .most)) .1 (ap (fitting (numberAt 4 4 bs)) same-serials ∙ serials .fits);
         } in
         passes-read bs .1
-        (string-canonical baseWidth bs (h .small) (h .header) each, record { fields = fields; bodies = bodies; checks = checks-as F (indexForm (flatOf bs)) fields bodies (agrees-read form) (form-agrees baseWidth (flatOf bs) fields bodies) c })
+        (string-canonical (widthOf bs) bs (h .small) (h .header) each, record { fields = fields; bodies = bodies; checks = checks-as F (indexForm (flatOf bs)) fields bodies (agrees-read form) (form-agrees (widthOf bs) (flatOf bs) fields bodies) c })
 
-    pub passes-in : (passes bs ≡ true) ↔ (FormIn bs × RowsPass F (rowCount bs) (rowsIn bs) × SerialsIn bs)
+    pub passes-in : (passes bs ≡ true) ↔ (FormIn bs × RowsPass (widthOf bs) F (rowCount bs) (rowsIn bs) × SerialsIn bs)
     passes-in = (passes→, passes←)

@@ -1,5 +1,6 @@
 -- The layout at any width: products, windows, and what the fields read.
 use mathlib.Core.Path.{_≡_, refl, sym, ap, _∙_}
+use mathlib.Core.Bool.{true}
 use mathlib.Core.List.{List, [], _∷_}
 use Prim.Native.Nat.{ℕ, zero, suc, _+_, _-_, _*_, _<_, _≤_}
 use native.Mathlib.Omega.{arith}
@@ -7,10 +8,13 @@ use native.Mathlib.Nat.{mul-le-mul, mul-suc, mul-zero}
 use lib.ListN.{length, take, drop, getD, length-drop, drop-of-length-le}
 use lib.Seq.{take-nil, take-all, drop-drop}
 use Rattle.rules.specs.Bytes.{Bytes}
-use Rattle.rules.specs.Layout.{valueWidth, headerSize, definitionSize, particleSize, attributeSize, rowSize, FlatAttribute, FlatRow}
+use Rattle.rules.specs.Store.{Store}
+use Rattle.rules.specs.Layout.{valueWidth, headerSize, definitionSize, particleSize, attributeSize, rowSize, FlatAttribute, FlatRow, FlatStore, flat, encode}
+use Rattle.rules.specs.Passing.{good}
 use Rattle.rules.specs.Preorder.{Deep}
 use Rattle.rules.specs.Decode.{numberAt, readAttribute, readRow, readMany, definitionCount, particleCount, attributeCount, rowCount, readFlat}
-use Rattle.rules.proofs.DecodeLaws.{width-bound}
+use Rattle.rules.proofs.LayoutLaws.{read-bytes}
+use Rattle.rules.proofs.DecodeLaws.{width-bound, width-most, good-flat}
 use Rattle.codec.proofs.Records.{many-at, many-within}
 use Rattle.layout.specs.declared.Shape.{Shape}
 use Rattle.layout.specs.Bodies.{windowOf, Product, recordAt, widthOf, WidthIn, Number, Sized, shapeOf, ShapeOf, attributesStart, rowsStart, Place, definitionBody, particleBody, attributeBody, rowBody, attributeIn}
@@ -95,9 +99,19 @@ pub width-small : (bs : Bytes) → widthOf bs < 256
 unfolding widthOf
 width-small bs = width-bound (numberAt 0 4 bs)
 
+-- what the bytes of a form are bounded by
+pub width-within : (bs : Bytes) → widthOf bs ≤ 96
+unfolding widthOf
+width-within bs = width-most (numberAt 0 4 bs)
+
 pub width-in : {bs : Bytes} {v r : ℕ} → v ≡ numberAt 0 4 bs → r ≡ valueWidth v → WidthIn bs r
 unfolding widthOf
 width-in {v = v} e g = record { value = g ∙ ap valueWidth e; small = omega (arith, g, width-bound v) }
+
+-- the width of a store's own encoding
+pub version-read : (s : Store) → good s ≡ true → widthOf (encode s) ≡ valueWidth (s .version)
+unfolding widthOf
+version-read s g = ap (λ (f : FlatStore). valueWidth (f .version)) (read-bytes (valueWidth (s .version)) (flat s) (good-flat s g))
 
 pub attributes-place : (s : Shape) → Sized s → Place (attributesStart s) (40 + 20 * s .definitions + 4 * s .particles)
 unfolding attributesStart

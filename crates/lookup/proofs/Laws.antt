@@ -22,6 +22,7 @@ use Rattle.rules.proofs.LayoutLaws.{read-bytes}
 use Rattle.rules.proofs.DecodeLaws.{good-flat, read-good}
 use Rattle.layout.specs.declared.Shape.{Shape}
 use Rattle.layout.specs.Bodies.{widthOf, windowOf, recordAt, shapeOf, ShapeOf, Place, rowsStart, attributesStart, WidthIn, Product}
+use Rattle.layout.proofs.LayoutLaws.{version-read}
 use Rattle.lookup.specs.Bodies.{Begins, RowPlace, RowsOf, recordsFrom, bodiesOf, rowStart, rowBody, rowPart}
 use Rattle.lookup.specs.Finding.{Looks, foundOn, foundAt}
 
@@ -216,10 +217,6 @@ part-value bs k n h e =
 
 -- ---- on a store that passes
 -- what a byte string that passes holds is what is read
-version-read : (s : Store) → good s ≡ true → widthOf (encode s) ≡ valueWidth (s .version)
-unfolding widthOf
-version-read s g = ap (λ (f : FlatStore). valueWidth (f .version)) (read-bytes (valueWidth (s .version)) (flat s) (good-flat s g))
-
 width-read : (bs : Bytes) (s : Store) → readStore bs ≡ some s → widthOf bs ≡ valueWidth (s .version)
 width-read bs s h = let (e, g) = read-good bs s h in ap widthOf (sym e) ∙ version-read s g
 

@@ -22,7 +22,7 @@ use Rattle.rules.specs.Passing.{knownVersion, laidRow, good}
 use Rattle.rules.proofs.Words.{and-both, and-split}
 use Rattle.rules.proofs.BooleanLaws.{Every, every-map, every-append, every-zip, none-nil}
 use Rattle.rules.proofs.LayoutLaws.{Small, unle-le, GoodFlatDefinition, GoodFlatAttribute, GoodFlatRow, GoodFlat, length-definition, length-particle, length-attribute, length-row, length-each, length-flatBytes, sized-bytes}
-use Rattle.rules.proofs.DecodeLaws.{GoodParts, good-parts, DefinitionParts, every-definition, good-flat}
+use Rattle.rules.proofs.DecodeLaws.{width-bound, GoodParts, good-parts, DefinitionParts, every-definition, good-flat}
 use Rattle.records.specs.Records.{definitionFits, attributeFits, rowFits, eachFits, atParticles, atAttributes, atRows, bodiesFit, countsFit, offsetsFit, headerFits}
 use Rattle.records.proofs.RecordLaws.{small-drop, number-then, number-bound, name-length, value-length, FittingDefinition, definition-canonical, definition-fields, definition-fits, particle-canonical, FittingAttribute, attribute-canonical, attribute-fields, attribute-fits, FittingRow, row-canonical, row-fields, row-fits, length-many, body-then, body-canonical, body-fields, body-fits, body-fits-whole}
 
@@ -422,11 +422,8 @@ store-fields s g = of (good-parts s g) (good-flat s g)
         }
 
 -- all that the laws use of the width of a value
-narrow : (version : ℕ) → valueWidth version < 256
-narrow version = lit< tt
-
 pub store-header-fits : (s : Store) → good s ≡ true → headerFits (valueWidth (s .version)) (encode s) ≡ true
-store-header-fits s g = header-fits (valueWidth (s .version)) (flat s) (store-fields s g) (narrow (s .version))
+store-header-fits s g = header-fits (valueWidth (s .version)) (flat s) (store-fields s g) (width-bound (s .version))
 
 pub store-bodies-fit : (s : Store) → good s ≡ true → bodiesFit (valueWidth (s .version)) (encode s) ≡ true
 store-bodies-fit s g = bodies-fit (valueWidth (s .version)) (flat s) (store-fields s g)

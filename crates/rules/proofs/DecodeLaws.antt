@@ -278,6 +278,11 @@ pub width-bound : (v : ℕ) → valueWidth v < 256
 unfolding valueWidth
 width-bound v = lit< tt
 
+-- no version has a value of more than 96 bytes
+pub width-most : (v : ℕ) → valueWidth v ≤ 96
+unfolding valueWidth
+width-most v = omega arith
+
 -- ---- the parts of the test
 -- what `good` says, apart from distinct names and serials
 pub record GoodParts (s : Store) : Type 0 where

@@ -1,6 +1,5 @@
 -- What the calls of the check find, put together.
 use Prim.Native.Nat.{ℕ, _+_, _*_, _<_, _≤_}
-use native.Mathlib.Nat.{mul-le-mul}
 use native.Mathlib.Omega.{arith}
 use mathlib.Core.Path.{_≡_, refl, ap, _∙_, sym, subst}
 use mathlib.Core.Logic.{_↔_}
@@ -14,7 +13,9 @@ use Rattle.rules.specs.Model.{Distinct, names}
 use Rattle.rules.specs.Layout.{definitionSize, attributeSize, rowSize}
 use Rattle.rules.specs.Decode.{numberAt, readRow, readMany, definitionCount, particleCount, attributeCount, rowCount}
 use Rattle.rules.specs.Passing.{passes}
-use Rattle.layout.specs.Bodies.{Width, widthOf, definitionsIn, particlesIn, attributesIn, rowsIn}
+use Rattle.layout.specs.declared.Shape.{Shape}
+use Rattle.layout.specs.Bodies.{Width, widthOf, shapeOf, ShapeOf, definitionBody, particleBody, attributeBody, rowBody, definitionsIn, particlesIn, attributesIn, rowsIn}
+use Rattle.layout.proofs.LayoutLaws.{by-shape}
 use Rattle.records.specs.Records.{definitionFits, attributeFits, rowFits, eachFits, headerFits}
 use Rattle.records.proofs.RecordLaws.{small-of}
 use Rattle.forms.specs.FormTests.{bodiesFit}
@@ -72,8 +73,28 @@ RowsAt c m s = RowsPass (c .w) (indexForm (c .w) (c .n) (c .defs) (c .parts) (c 
 pub record CutOf (bs : Bytes) (w n : ℕ) (defs : Bytes) (p : ℕ) (parts : Bytes) (a : ℕ) (attrs : Bytes) : Type 0 where
   pub same : cutOf bs ≡ record { w = w; n = n; defs = defs; p = p; parts = parts; a = a; attrs = attrs }
 
-pub cut-of : (bs : Bytes) {w n : ℕ} {defs : Bytes} {p : ℕ} {parts : Bytes} {a : ℕ} {attrs : Bytes} → w ≡ widthOf bs → n ≡ definitionCount bs → p ≡ particleCount bs → a ≡ attributeCount bs → defs ≡ definitionsIn bs → parts ≡ particlesIn bs → attrs ≡ attributesIn bs → CutOf bs w n defs p parts a attrs
-cut-of bs v x y z d q c = record { same = λ i. record { w = sym v i; n = sym x i; defs = sym d i; p = sym y i; parts = sym q i; a = sym z i; attrs = sym c i } }
+-- the parts that a shape cuts out are those of the string
+module _ {bs : Bytes} {s : Shape} (x : ShapeOf bs s) where
+  pub cut-of : {defs parts attrs : Bytes} → defs ≡ definitionBody s bs → parts ≡ particleBody s bs → attrs ≡ attributeBody s bs
+      → CutOf bs (s .width) (s .definitions) defs (s .particles) parts (s .attributes) attrs
+  unfolding shapeOf
+  cut-of d p a =
+      let z : shapeOf bs ≡ s = sym (x .is) in
+      let d′ : definitionsIn bs ≡ _ = sym (by-shape definitionBody bs x d) in
+      let p′ : particlesIn bs ≡ _ = sym (by-shape particleBody bs x p) in
+      let a′ : attributesIn bs ≡ _ = sym (by-shape attributeBody bs x a) in
+      record { same = λ i. record { w = z i .width; n = z i .definitions; defs = d′ i; p = z i .particles; parts = p′ i; a = z i .attributes; attrs = a′ i } }
+
+  pub rows-counted : s .rows ≡ rowCount bs
+  unfolding shapeOf
+  rows-counted = ap (λ (z : Shape). z .rows) (x .is)
+
+  pub rows-of : {rows : Bytes} → rows ≡ rowBody s bs → rows ≡ rowsIn bs
+  rows-of e = by-shape rowBody bs x e
+
+  pub width-is : s .width ≡ widthOf bs
+  unfolding shapeOf
+  width-is = ap (λ (z : Shape). z .width) (x .is)
 
 pub headed : (bs : Bytes) → headerFits (widthOf bs) bs ≡ true → ((i : ℕ) → Fits w8 (getD bs i 0)) → Headed bs
 headed bs h s = record { small = small-of bs (λ i. omega (arith, s i)); header = h }
@@ -93,10 +114,11 @@ module _ {bs : Bytes} {w n : ℕ} {defs : Bytes} {p : ℕ} {parts : Bytes} {a : 
 
   -- ---- the rows
   module _ {count : ℕ} {rows : Bytes} (u : count ≡ rowCount bs) (v : rows ≡ rowsIn bs) where
-    pub rows-asked : FormIn bs → Width w × (n ≤ 64) × (a ≤ 64) × (rowSize w * count ≤ length rows) × ((i : ℕ) → i < n → Distinct (names (indexForm w n defs parts attrs a .model i)))
-    rows-asked x =
+    pub rows-asked : Width w → FormIn bs → Width w × (n ≤ 64) × (a ≤ 64) × (rowSize w * count ≤ length rows) × ((i : ℕ) → i < n → Distinct (names (indexForm w n defs parts attrs a .model i)))
+    rows-asked narrow x =
+        let e : rowSize w * count ≡ rowSize (widthOf bs) * rowCount bs = λ i. rowSize (k .same (~ i) .w) * u i in
         let form : FormPasses w n defs p parts a attrs = subst (λ (c : Cut). FormPasses (c .w) (c .n) (c .defs) (c .p) (c .parts) (c .a) (c .attrs)) (k .same) (x .passes) in
-        (omega arith, cut-laid .bodies .definitionBody .few, cut-laid .bodies .attributeBody .few, omega (arith, ap (λ (s : Bytes). length s) v, rows-whole h), index-once cut-laid form)
+        (narrow, cut-laid .bodies .definitionBody .few, cut-laid .bodies .attributeBody .few, omega (arith, ap (λ (s : Bytes). length s) v, rows-whole h), index-once cut-laid form)
 
     pub rows-in : {r : Bool} → (r ≡ true) ↔ ((eachFits (rowFits w) (rowSize w) count rows ≡ true) × Documents (indexForm w n defs parts attrs a) (readMany readRow (rowSize w) count rows)) → (r ≡ true) ↔ RowsIn bs
     rows-in {r} (f, g) = (
@@ -115,9 +137,9 @@ module _ {bs : Bytes} (h : Headed bs) {count : ℕ} (u : count ≡ rowCount bs) 
   pub serials-asked : count ≤ 4096
   serials-asked = omega (arith, header h .fewRows)
 
-  pub serials-in : {next : ℕ} {rows : Bytes} {r : Bool} → next ≡ numberAt 4 4 bs → rows ≡ rowsIn bs → r ≡ fitting next (serialsOf (widthOf bs) count rows) → (r ≡ true) ↔ SerialsIn bs
-  serials-in {next} {rows} {r} x y e =
-      let q : r ≡ fitting (numberAt 4 4 bs) (serialsOf (widthOf bs) (rowCount bs) (rowsIn bs)) = e ∙ (λ i. fitting (x i) (serialsOf (widthOf bs) (u i) (y i))) in
+  pub serials-in : {w next : ℕ} {rows : Bytes} {r : Bool} → w ≡ widthOf bs → next ≡ numberAt 4 4 bs → rows ≡ rowsIn bs → r ≡ fitting next (serialsOf w count rows) → (r ≡ true) ↔ SerialsIn bs
+  serials-in {w} {next} {rows} {r} v x y e =
+      let q : r ≡ fitting (numberAt 4 4 bs) (serialsOf (widthOf bs) (rowCount bs) (rowsIn bs)) = e ∙ (λ i. fitting (x i) (serialsOf (v i) (u i) (y i))) in
       (λ z. record { fits = sym q ∙ z }, λ z. q ∙ z .fits)
 
 -- ---- all

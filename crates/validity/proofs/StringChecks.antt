@@ -13,7 +13,7 @@ use Rattle.rules.specs.Bytes.{Bytes, numbers, all}
 use Rattle.rules.specs.Model.{distinct}
 use Rattle.rules.specs.Store.{Form}
 use Rattle.rules.specs.Preorder.{Deep}
-use Rattle.rules.specs.Layout.{headerSize, definitionSize, particleSize, attributeSize, rowSize, FlatRow, FlatStore}
+use Rattle.rules.specs.Layout.{headerSize, definitionSize, particleSize, attributeSize, rowSize, FlatRow, FlatStore, encode}
 use Rattle.rules.specs.Decode.{numberAt, readDefinition, readParticle, readAttribute, readRow, readMany, definitionCount, particleCount, attributeCount, rowCount, readForm, flatName, unflat}
 use Rattle.rules.specs.WellFormed.{highestNumber, Reaches}
 use Rattle.rules.specs.Passing.{passes}
@@ -22,6 +22,7 @@ use Rattle.rules.proofs.BooleanLaws.{every-map}
 use Rattle.rules.proofs.LayoutLaws.{Small}
 use Rattle.rules.proofs.DecodeLaws.{passes-tests}
 use Rattle.codec.proofs.Records.{many-within}
+use Rattle.layout.proofs.LayoutLaws.{version-read}
 use Rattle.records.specs.Records.{definitionFits, attributeFits, rowFits, eachFits, atParticles, atAttributes, atRows, headerFits}
 use Rattle.records.specs.Records as records
 use Rattle.records.proofs.RecordLaws.{small-take, small-drop, FittingDefinition, FittingAttribute, FittingRow, each-fits-cut}
@@ -57,7 +58,13 @@ serials-told next ks l m = (
 pub passes-header : (bs : Bytes) → passes bs ≡ true → headerFits (widthOf bs) bs ≡ true
 passes-header bs q =
     let (s, e, g) = passes-tests bs .0 q in
-    subst (λ (ys : Bytes). headerFits (widthOf ys) ys ≡ true) e (store-header-fits s g)
+    subst (λ (ys : Bytes). headerFits (widthOf ys) ys ≡ true) e (subst (λ (w : ℕ). headerFits w (encode s) ≡ true) (sym (version-read s g)) (store-header-fits s g))
+
+-- .. and bodies that fit
+passes-bodies : (bs : Bytes) → passes bs ≡ true → records.bodiesFit (widthOf bs) bs ≡ true
+passes-bodies bs q =
+    let (s, e, g) = passes-tests bs .0 q in
+    subst (λ (ys : Bytes). records.bodiesFit (widthOf ys) ys ≡ true) e (subst (λ (w : ℕ). records.bodiesFit w (encode s) ≡ true) (sym (version-read s g)) (store-bodies-fit s g))
 
 -- bytes whose header fits
 pub record Headed (bs : Bytes) : Type 0 where
@@ -127,12 +134,13 @@ module _ {bs : Bytes} (h : Headed bs) where
       ∙ drop-drop (particleSize * particleCount bs) (atParticles bs) bs
 
   pub same-attributes : flatOf bs .attributes ≡ attributes (widthOf bs) (attributeCount bs) (attributesIn bs)
-  unfolding attributes
+  unfolding attributes widthOf
   same-attributes =
       ap (readMany readAttribute (attributeSize (widthOf bs)) (attributeCount bs)) from-attributes
       ∙ sym (ap (readMany readAttribute (attributeSize (widthOf bs)) (attributeCount bs)) attributes-cut ∙ many-within readAttribute (attributeSize (widthOf bs)) (attributeCount bs) (drop (atAttributes bs) bs))
 
   pub same-rows : flatOf bs .rows ≡ readMany readRow (rowSize (widthOf bs)) (rowCount bs) (rowsIn bs)
+  unfolding widthOf
   same-rows =
       ap (readMany readRow (rowSize (widthOf bs)) (rowCount bs))
       (ap (λ (ys : Bytes). drop (attributeSize (widthOf bs) * attributeCount bs) ys) from-attributes ∙ drop-drop (attributeSize (widthOf bs) * attributeCount bs) (atAttributes bs) bs)
@@ -173,15 +181,16 @@ module _ {bs : Bytes} (h : Headed bs) where
     Tests = FormIn bs × RowsPass (widthOf bs) F (rowCount bs) (rowsIn bs) × SerialsIn bs
 
     checks-as : (G H : IndexForm) → FieldsFit (widthOf bs) (flatOf bs) → bodiesFit (flatOf bs) ≡ true → Agrees G (unflat (flatOf bs) .form) → Agrees H (unflat (flatOf bs) .form) → Checks G (flatOf bs) → Checks H (flatOf bs)
+    unfolding widthOf
     checks-as G H fields bodies x y c = checks-read (flatOf bs) fields bodies H y .0 (checks-read (flatOf bs) fields bodies G x .1 c)
 
     agrees-read : FormIn bs → Agrees F (unflat (flatOf bs) .form)
     agrees-read x = subst (λ (z : Form). Agrees F z) (sym same-form) (agrees x)
 
     passes→ : passes bs ≡ true → Tests
+    unfolding widthOf
     passes→ q =
-        let (s, e, g) = passes-tests bs .0 q in
-        let each : EachFits (widthOf bs) bs = each-fits (widthOf bs) bs .0 (subst (λ (ys : Bytes). records.bodiesFit (widthOf ys) ys ≡ true) e (store-bodies-fit s g)) in
+        let each : EachFits (widthOf bs) bs = each-fits (widthOf bs) bs .0 (passes-bodies bs q) in
         let p : FlatPasses (flatOf bs) = passes-read bs .0 q .1 in
         let form : FormIn bs =
         record {
@@ -202,6 +211,7 @@ module _ {bs : Bytes} (h : Headed bs) where
         next-most each = omega (arith, string-fields (widthOf bs) bs (h .small) (h .header) (each-fits (widthOf bs) bs .1 each) .most)
 
     passes← : Tests → passes bs ≡ true
+    unfolding widthOf
     passes← (form, rows, serials) =
         let each : records.bodiesFit (widthOf bs) bs ≡ true = each-fits (widthOf bs) bs .1 (record { definitions = sym definitions-each ∙ form .passes .definitions; attributes = sym attributes-each ∙ form .passes .attributes; rows = sym rows-each ∙ rows .fields }) in
         let f : FittingFlat (widthOf bs) (flatOf bs) = string-fields (widthOf bs) bs (h .small) (h .header) each in

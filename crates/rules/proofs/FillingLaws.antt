@@ -179,7 +179,7 @@ fill-absent version a table f q = rw (q, fillAttributes)
 pub created-allows : (s : AttributeSort) (fill : Bytes) → allows s fill (createdValue s fill) ≡ true
 created-allows implied fill = refl
 created-allows required fill = refl
-created-allows fixed fill = same-refl fill
+created-allows fixed fill = cc (same-refl fill)
 
 begins-fill : (version : ℕ) (n : Bytes) (table : List Attribute) (f : Forest Row) → (List·Memᴰ n (map attributeName table) → ⊥) → headAttribute (heads f) ≡ false → begins n (heads (fillAttributes version table f)) ≡ false
 unfolding fillAttributes

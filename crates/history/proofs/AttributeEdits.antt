@@ -22,7 +22,8 @@ use Rattle.history.proofs.Untouched.{keep-all, keep-in, plant-none}
 
 -- ---- one entry of the table, when the rest is known
 pub data Step (version : ℕ) (a : Attribute) (table : List Attribute) (rows rest : List Row) : Type 0 where
-  took : (r : Row) (more : List Row) → rows ≡ r ∷ more → begins (a .name) (r ∷ more) ≡ true → allows (a .sort) (a .value) (r .value) ≡ true → strip version table more ≡ some rest → Step version a table rows rest
+  took : (r : Row) (more : List Row) → rows ≡ r ∷ more → begins (a .name) (r ∷ more) ≡ true → allows (a .sort) (a .value) (r .value) ≡ true → strip version table more ≡ some rest
+      → Step version a table rows rest
   passed : begins (a .name) rows ≡ false → mustBePresent version (a .sort) ≡ false → strip version table rows ≡ some rest → Step version a table rows rest
 
 none-some : {A : Type 0} {x : A} → none ≡ some x → ⊥
@@ -37,7 +38,8 @@ strip-step version a table [] rest e = by (mustBePresent version (a .sort)) refl
     by false m = passed refl m (rw (m, strip) at e)
 strip-step version a table (r ∷ rows) rest e = by (begins (a .name) (r ∷ rows)) refl (mustBePresent version (a .sort)) refl (allows (a .sort) (a .value) (r .value)) refl
   where
-    by : (b : Bool) → begins (a .name) (r ∷ rows) ≡ b → (m : Bool) → mustBePresent version (a .sort) ≡ m → (v : Bool) → allows (a .sort) (a .value) (r .value) ≡ v → Step version a table (r ∷ rows) rest
+    by : (b : Bool) → begins (a .name) (r ∷ rows) ≡ b → (m : Bool) → mustBePresent version (a .sort) ≡ m → (v : Bool) → allows (a .sort) (a .value) (r .value) ≡ v
+        → Step version a table (r ∷ rows) rest
     by true b m p true v = took r rows refl b v (sym (strip-take version a table r rows b v) ∙ e)
     by true b m p false v = let z : strip version (a ∷ table) (r ∷ rows) ≡ none = rw (b, strip) (rw v) in absurd (none-some (sym z ∙ e))
     by false b true p v q = let z : strip version (a ∷ table) (r ∷ rows) ≡ none = rw (b, strip) (rw p) in absurd (none-some (sym z ∙ e))
@@ -92,12 +94,14 @@ unfolding strip
 strip-more version [] more rows rest e = let z : rows ≡ rest = cc e in ap (strip version more) z
 strip-more version (a ∷ table) more rows rest e = by (strip-step version a table rows rest e) (strip-more version table more)
   where
-    by : Step version a table rows rest → ((rows rest : List Row) → strip version table rows ≡ some rest → strip version (table ++ more) rows ≡ strip version more rest) → strip version (a ∷ (table ++ more)) rows ≡ strip version more rest
+    by : Step version a table rows rest → ((rows rest : List Row) → strip version table rows ≡ some rest → strip version (table ++ more) rows ≡ strip version more rest)
+        → strip version (a ∷ (table ++ more)) rows ≡ strip version more rest
     by (took r rs q b v t) f = ap (strip version (a ∷ (table ++ more))) q ∙ strip-take version a (table ++ more) r rs b v ∙ f rs rest t
     by (passed b m t) f = strip-past version a (table ++ more) rows b m ∙ f rows rest t
 
 -- an entry that need not be present, with no row
-pub strip-added : (version : ℕ) (a : Attribute) (table : List Attribute) (rows rest : List Row) → mustBePresent version (a .sort) ≡ false → all noAttribute rest ≡ true → strip version table rows ≡ some rest → strip version (table ++ a ∷ []) rows ≡ some rest
+pub strip-added : (version : ℕ) (a : Attribute) (table : List Attribute) (rows rest : List Row) → mustBePresent version (a .sort) ≡ false → all noAttribute rest ≡ true
+    → strip version table rows ≡ some rest → strip version (table ++ a ∷ []) rows ≡ some rest
 unfolding strip
 strip-added version a table rows rest m n e = strip-more version table (a ∷ []) rows rest e ∙ strip-past version a [] rest (begins-none (a .name) rest (plain-head rest n)) m
 
@@ -138,7 +142,8 @@ module _ (version : ℕ) (p : Plan) (u : Row) (later : (r : Row) → p .later u 
   strip-planted [] rows rest f s n e = let z : rows ≡ rest = cc e in ap (λ (l : List Row). some (plantRows p u true l)) z ∙ ap (λ (l : List Row). some l) (planted-none rest (plain-head rest n))
   strip-planted (a ∷ table) rows rest f s n e = by (strip-step version a table rows rest e) (λ rows. strip-planted table rows rest (λ m. f (List·Memᴰ·tail m)) s n)
     where
-      by : Step version a table rows rest → ((rows : List Row) → strip version table rows ≡ some rest → strip version table (plantRows p u true rows) ≡ some (x ∷ rest)) → strip version (a ∷ table) (plantRows p u true rows) ≡ some (x ∷ rest)
+      by : Step version a table rows rest → ((rows : List Row) → strip version table rows ≡ some rest → strip version table (plantRows p u true rows) ≡ some (x ∷ rest))
+          → strip version (a ∷ table) (plantRows p u true rows) ≡ some (x ∷ rest)
       by (took r rs q b v t) g =
           ap (λ (l : List Row). strip version (a ∷ table) (plantRows p u true l)) q
           ∙ ap (strip version (a ∷ table)) (planted-past r rs (ap isAttribute (begins-attribute (a .name) r rs b .0)))
@@ -148,12 +153,14 @@ module _ (version : ℕ) (p : Plan) (u : Row) (later : (r : Row) → p .later u 
 
 -- ---- an attribute's rows taken, and its entry
 -- every attribute row is an entry's
-pub owned-rows : (version : ℕ) (table : List Attribute) (rows rest : List Row) → all noAttribute rest ≡ true → strip version table rows ≡ some rest → (r : Row) → List·Memᴰ r rows → isAttribute (r .sort) ≡ true → List·Memᴰ (r .name) (map attributeName table)
+pub owned-rows : (version : ℕ) (table : List Attribute) (rows rest : List Row) → all noAttribute rest ≡ true → strip version table rows ≡ some rest → (r : Row) → List·Memᴰ r rows
+    → isAttribute (r .sort) ≡ true → List·Memᴰ (r .name) (map attributeName table)
 unfolding strip
 owned-rows version [] rows rest n e r m h = let z : rows ≡ rest = cc e in absurd (false≢true (sym (plain-in rows (rw z n) r m) ∙ h))
 owned-rows version (a ∷ table) rows rest n e r m h = by (strip-step version a table rows rest e) (λ rows t m. owned-rows version table rows rest n t r m h)
   where
-    by : Step version a table rows rest → ((rows : List Row) → strip version table rows ≡ some rest → List·Memᴰ r rows → List·Memᴰ (r .name) (map attributeName table)) → List·Memᴰ (r .name) (map attributeName (a ∷ table))
+    by : Step version a table rows rest → ((rows : List Row) → strip version table rows ≡ some rest → List·Memᴰ r rows → List·Memᴰ (r .name) (map attributeName table))
+        → List·Memᴰ (r .name) (map attributeName (a ∷ table))
     by (took s rs q b v t) f =
         ⊎-elim (λ i. List·Memᴰ·head (ap nameOf i ∙ sym (begins-attribute (a .name) s rs b .1))) (λ i. List·Memᴰ·tail (f rs t i)) (List·Memᴰ·cases-cons (rw q at m))
     by (passed b p t) f = List·Memᴰ·tail (f rows t m)
@@ -171,7 +178,8 @@ module _ (version : ℕ) (n : Bytes) where
   keep-not r rows e = rw (e, keep)
 
   -- a table without the name has no row of it
-  keep-owned : (table : List Attribute) (rows rest : List Row) → (List·Memᴰ n (map attributeName table) → ⊥) → all noAttribute rest ≡ true → strip version table rows ≡ some rest → keep other rows ≡ rows
+  keep-owned : (table : List Attribute) (rows rest : List Row) → (List·Memᴰ n (map attributeName table) → ⊥) → all noAttribute rest ≡ true → strip version table rows ≡ some rest
+      → keep other rows ≡ rows
   keep-owned table rows rest f p e = keep-all other rows (λ r m. by r m (isAttribute (r .sort)) refl)
     where
       by : (r : Row) → List·Memᴰ r rows → (c : Bool) → isAttribute (r .sort) ≡ c → other r ≡ true
@@ -201,11 +209,15 @@ module _ (version : ℕ) (n : Bytes) where
       Goal : Type 0
       Goal = strip version (lacking n (a ∷ table)) (keep other rows) ≡ some rest
 
-      by : (c : Bool) → same n (a .name) ≡ c → Step version a table rows rest → ((rows : List Row) → strip version table rows ≡ some rest → strip version (lacking n table) (keep other rows) ≡ some rest) → Goal
+      by : (c : Bool) → same n (a .name) ≡ c → Step version a table rows rest
+          → ((rows : List Row) → strip version table rows ≡ some rest → strip version (lacking n table) (keep other rows) ≡ some rest) → Goal
       by true g (took r rs q b v t) f =
           let (s, k) = begins-attribute (a .name) r rs b in
           let o : other r ≡ false = rw (s, same-eq n (a .name) g ∙ k) (ap not (same-refl (r .name))) in
-          rw (g, lacking) (ap (λ (l : List Row). strip version table (keep other l)) q ∙ ap (strip version table) (keep-not r rs o ∙ keep-owned table rs rest (λ m. new (Memᴰ·cast (sym (same-eq n (a .name) g)) m)) p t) ∙ t)
+          rw (g, lacking)
+          (ap (λ (l : List Row). strip version table (keep other l)) q
+          ∙ ap (strip version table) (keep-not r rs o ∙ keep-owned table rs rest (λ m. new (Memᴰ·cast (sym (same-eq n (a .name) g)) m)) p t)
+          ∙ t)
       by true g (passed b m t) f = rw (g, lacking) (ap (strip version table) (keep-owned table rows rest (λ i. new (Memᴰ·cast (sym (same-eq n (a .name) g)) i)) p t) ∙ t)
       by false g (took r rs q b v t) f =
           let (s, k) = begins-attribute (a .name) r rs b in

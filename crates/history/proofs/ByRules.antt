@@ -72,7 +72,8 @@ known room (setText k t) s a = tt
 
 -- ---- which rows are filled does not depend on values
 module _ (k : ℕ) (v : Bytes) (r : Row) where
-  insert-alike : (version : ℕ) (form : Form) (o t n : Bytes) (q : Quantifier) (f : Option (Found Bytes)) → insertPlan version form o t q n f .fills (revalue k v r) ≡ insertPlan version form o t q n f .fills r
+  insert-alike : (version : ℕ) (form : Form) (o t n : Bytes) (q : Quantifier) (f : Option (Found Bytes))
+      → insertPlan version form o t q n f .fills (revalue k v r) ≡ insertPlan version form o t q n f .fills r
   insert-alike version form o t n q none = refl
   insert-alike version form o t n q (some f) = refl
 
@@ -111,7 +112,8 @@ module _ (k : ℕ) (v : Bytes) (r : Row) where
   unfolding plan
   fills-alike (createDefinition n j) version form ls = refl
   fills-alike (destroyDefinition i) version form ls = refl
-  fills-alike (insertElement o p i q t) version form ls = insert-alike version form (nameAtIndex o form) t (nameAtIndex i form) (quantifierOf q) (foundIn (insert (quantifierOf q) (nameAtIndex i form)) o p form)
+  fills-alike (insertElement o p i q t) version form ls =
+      insert-alike version form (nameAtIndex o form) t (nameAtIndex i form) (quantifierOf q) (foundIn (insert (quantifierOf q) (nameAtIndex i form)) o p form)
   fills-alike (removeElement o p) version form ls = remove-alike (nameAtIndex o form) (foundIn remove o p form)
   fills-alike (changeQuantifier o p q t) version form ls = quantify-alike version form ls (nameAtIndex o form) t (quantifierOf q) (foundIn (quantify (quantifierOf q)) o p form)
   fills-alike (convertToGroup o p n j) version form ls = refl
@@ -196,7 +198,8 @@ module _ (room : ℕ) (c : Call) (s : Store) (g : good s ≡ true) (accepted : r
       small = subst (λ (n : ℕ). n < b .next) (sym e) (once .below (serialOf l) (in-book l i) .1)
 
       stood : List·Memᴰ m (untaken (left p (b .entries)))
-      stood = subst (λ (z : List Entry). List·Memᴰ m (untaken z)) (olds-marks p (b .entries)) (expand-old (p .filling) (blank-plan c (s .version) (s .form) ls) (b .next) (marks p (b .entries)) m small j)
+      stood =
+          subst (λ (z : List Entry). List·Memᴰ m (untaken z)) (olds-marks p (b .entries)) (expand-old (p .filling) (blank-plan c (s .version) (s .form) ls) (b .next) (marks p (b .entries)) m small j)
 
       was : (x : Line) × List·Memᴰ x (untaken (marked p (b .entries))) × (m ≡ valued (p .set) (p .value) x)
       was = revalue-old (p .set) (p .value) (marked p (b .entries)) m stood

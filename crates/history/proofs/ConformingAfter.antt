@@ -137,12 +137,15 @@ pub record Within (n : Bytes) (p : Plan) : Type 0 where
   pub fills : (r : Row) → elementNamed n r ≡ false → p .fills r ≡ false
   pub set : p .set ≡ 0
 
-module _ (version : ℕ) (form form′ : Form) (d d′ : Definition) (replaced : Replaced form form′ d d′) (next : ℕ) (docs : Forest Row) (serials : GoodSerials next docs) (p : Plan) (within : Within (d .name) p) where
+module _ (version : ℕ) (form form′ : Form) (d d′ : Definition) (replaced : Replaced form form′ d d′) (next : ℕ) (docs : Forest Row) (serials : GoodSerials next docs) (p : Plan)
+    (within : Within (d .name) p) where
   pub conforming-replaced : everyRow (λ r below. fitsRow version form′ r below) (p .filling) ≡ true
-      → ((r : Row) (b : Forest Row) → Standing docs r b → elementNamed (d .name) r ≡ true → fitsDefinition version (some d) (heads b) ≡ true → fitsDefinition version (some d′) (childrenAfter p r (heads b)) ≡ true)
+      → ((r : Row) (b : Forest Row) → Standing docs r b → elementNamed (d .name) r ≡ true → fitsDefinition version (some d) (heads b) ≡ true
+      → fitsDefinition version (some d′) (childrenAfter p r (heads b)) ≡ true)
       → conforming version form docs ≡ true → conforming version form′ (changed p docs) ≡ true
   conforming-replaced new step =
-      conforming-elements version form form′ next docs serials p (within .set) (λ e. absurd (false≢true (sym (within .fills ground refl) ∙ e))) new (λ r b i q. within .fills r (not-element r q)) (λ r b c i s q h. by r b c i s q h (same (d .name) (r .name)) refl)
+      conforming-elements version form form′ next docs serials p (within .set) (λ e. absurd (false≢true (sym (within .fills ground refl) ∙ e))) new
+      (λ r b i q. within .fills r (not-element r q)) (λ r b c i s q h. by r b c i s q h (same (d .name) (r .name)) refl)
     where
       not-element : (r : Row) → isElement (r .sort) ≡ false → elementNamed (d .name) r ≡ false
       not-element r q = rw q
@@ -158,5 +161,6 @@ module _ (version : ℕ) (form form′ : Form) (d d′ : Definition) (replaced :
           ∙ step r b i (and-both (ap isElement s) e) (ap (λ (k : Definition). fitsDefinition version (some k) (heads b)) (sym y) ∙ h)
       by r b c i s q h false e =
           let f : elementNamed (d .name) r ≡ false = rw s e in
-          ap₂ (λ (o : Option Definition) (l : List Row). fitsDefinition version o l) (replaced .others (r .name) (λ k. false≢true (sym e ∙ bytes .same← (d .name) (r .name) (sym k))) ∙ q) (children-kept next docs serials p (within .set) r b i (λ t m. within .takes r t f) (within .fills r f))
+          ap₂ (λ (o : Option Definition) (l : List Row). fitsDefinition version o l) (replaced .others (r .name) (λ k. false≢true (sym e ∙ bytes .same← (d .name) (r .name) (sym k))) ∙ q)
+          (children-kept next docs serials p (within .set) r b i (λ t m. within .takes r t f) (within .fills r f))
           ∙ h

@@ -52,7 +52,8 @@ module _ (w : ℕ) (s : Store) (ok : wellFormed w (s .form) ≡ true) (serials :
   unfolding p
   inside = rw (a .planned ls) (edit-inside (s .version) (s .form) ls (nameAtIndex (a .o) (s .form)) (a .txt) (a .edit) (a .found .context) (a .found .picked))
 
-  row : (r : Row) (b : Forest Row) → Standing (s .docs) r b → fitsRow (s .version) (s .form) r (heads b) ≡ true → fitsRow (s .version) (formAfter c (s .form)) (revalued p r) (childrenAfter p r (heads b)) ≡ true
+  row : (r : Row) (b : Forest Row) → Standing (s .docs) r b → fitsRow (s .version) (s .form) r (heads b) ≡ true
+      → fitsRow (s .version) (formAfter c (s .form)) (revalued p r) (childrenAfter p r (heads b)) ≡ true
   unfolding p ls
   row r b i h =
       ap (λ (z : Row). fitsRow (s .version) (formAfter c (s .form)) z (childrenAfter p r (heads b))) (same-row (s .next) (s .docs) serials p (inside .set) r b i)

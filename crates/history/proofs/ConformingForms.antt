@@ -54,7 +54,9 @@ module _ (version w : ℕ) (form : Form) (ok : wellFormed w form ≡ true) (docs
   pub standing-fits : (r : Row) (b : Forest Row) → Standing docs r b → fitsRow version form r (heads b) ≡ true
   unfolding conforming
   standing-fits =
-      standing-every (λ r rows. fitsRow version form r rows ≡ true) docs (every-row (λ r below. fitsRow version form r below) docs .0 (and-split (all (λ (r : Row). isElement (r .sort)) (heads docs)) (everyRow (λ r below. fitsRow version form r below) docs) conforms .1))
+      standing-every (λ r rows. fitsRow version form r rows ≡ true) docs
+      (every-row (λ r below. fitsRow version form r below) docs .0
+      (and-split (all (λ (r : Row). isElement (r .sort)) (heads docs)) (everyRow (λ r below. fitsRow version form r below) docs) conforms .1))
 
   standing-conforms : (r : Row) (b : Forest Row) → Standing docs r b → RowConforms version form r (heads b)
   standing-conforms r b i = row-is version form (λ n d e. definition-good w form ok n d e .once) (λ n d e. definition-good w form ok n d e .attributeNames) r (heads b) .0 (standing-fits r b i)
@@ -131,7 +133,8 @@ module _ (w : ℕ) (s : Store) (ok : wellFormed w (s .form) ≡ true) (serials :
 
         by : (c : Bool) → mustBePresent (s .version) (sortOf k) ≡ c → fitsDefinition (s .version) (some more) (childrenAfter plan₉ r (heads b)) ≡ true
         by false q =
-            ap (fitsDefinition (s .version) (some more)) (children-kept (s .next) (s .docs) serials plan₉ refl r b i (λ t m. refl) (rw q)) ∙ added-absent (s .version) (newAttribute n k v) owner new (heads b) h q
+            ap (fitsDefinition (s .version) (some more)) (children-kept (s .next) (s .docs) serials plan₉ refl r b i (λ t m. refl) (rw q))
+            ∙ added-absent (s .version) (newAttribute n k v) owner new (heads b) h q
         by true q =
             ap (fitsDefinition (s .version) (some more)) (children-left plan₉ r (heads b) (λ t m. refl) ∙ stays)
             ∙ added-present (s .version) (newAttribute n k v) owner new (heads b) h plan₉ r (λ t. refl) refl
@@ -156,7 +159,8 @@ module _ (w : ℕ) (s : Store) (ok : wellFormed w (s .form) ≡ true) (serials :
     abbrev plan₁₀ : Plan
     plan₁₀ = taking (λ u r. elementNamed (o .owner .name) u && attributeNamed (o .attribute .name) r)
 
-    step₁₀ : lookup (o .owner .name) (s .form) ≡ some (o .owner) → (r : Row) (b : Forest Row) → Standing (s .docs) r b → elementNamed (o .owner .name) r ≡ true → fitsDefinition (s .version) (some (o .owner)) (heads b) ≡ true
+    step₁₀ : lookup (o .owner .name) (s .form) ≡ some (o .owner) → (r : Row) (b : Forest Row) → Standing (s .docs) r b → elementNamed (o .owner .name) r ≡ true
+        → fitsDefinition (s .version) (some (o .owner)) (heads b) ≡ true
         → fitsDefinition (s .version) (some (withAttributes (lacking (o .attribute .name)) (o .owner))) (childrenAfter plan₁₀ r (heads b)) ≡ true
     step₁₀ found r b i e h =
         ap (fitsDefinition (s .version) (some (withAttributes (lacking (o .attribute .name)) (o .owner)))) left
@@ -177,5 +181,6 @@ module _ (w : ℕ) (s : Store) (ok : wellFormed w (s .form) ≡ true) (serials :
     unfolding plan
     conforming-10 a at replaced =
         ap (λ (x : Option Owned). conforming (s .version) (formAfter (destroyAttribute a) (s .form)) (changed (dropPlan (λ o u. elementNamed (o .owner .name) u) x) (s .docs))) at
-        ∙ conforming-replaced (s .version) (s .form) (formAfter (destroyAttribute a) (s .form)) (o .owner) (withAttributes (lacking (o .attribute .name)) (o .owner)) replaced (s .next) (s .docs) serials plan₁₀
+        ∙ conforming-replaced (s .version) (s .form) (formAfter (destroyAttribute a) (s .form)) (o .owner) (withAttributes (lacking (o .attribute .name)) (o .owner)) replaced (s .next)
+        (s .docs) serials plan₁₀
         (record { takes = λ r t e. rw e; fills = λ r e. refl; set = refl }) refl (step₁₀ (replaced .was)) conforms

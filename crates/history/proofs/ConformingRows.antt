@@ -40,8 +40,10 @@ module _ (w : ℕ) (s : Store) (ok : wellFormed w (s .form) ≡ true) (serials :
   pub conforming-11 : (i : ℕ) (t : Bytes) → known (s .form) (nameAtIndex i (s .form)) ≡ true → conforming (s .version) (formAfter (addDocument i t) (s .form)) (docsAfter (addDocument i t) s) ≡ true
   unfolding plan formAfter
   conforming-11 i t there =
-      conforming-elements (s .version) (s .form) (s .form) (s .next) (s .docs) serials p refl (λ e. ap (all (λ (r : Row). isElement (r .sort))) (filling-heads (s .version) (length (s .form)) (s .form) t n height))
-      (filling-fits (s .version) (s .form) (λ n d e. definition-good w (s .form) ok n d e .once) (λ n d e. definition-good w (s .form) ok n d e .attributeNames) (λ n d e. definition-good w (s .form) ok n d e .groups) t (length (s .form)) n height)
+      conforming-elements (s .version) (s .form) (s .form) (s .next) (s .docs) serials p refl
+      (λ e. ap (all (λ (r : Row). isElement (r .sort))) (filling-heads (s .version) (length (s .form)) (s .form) t n height))
+      (filling-fits (s .version) (s .form) (λ n d e. definition-good w (s .form) ok n d e .once) (λ n d e. definition-good w (s .form) ok n d e .attributeNames)
+      (λ n d e. definition-good w (s .form) ok n d e .groups) t (length (s .form)) n height)
       (λ r b j q. off r b j)
       (λ r b d j q e h. ap₂ (λ (o : Option Definition) (l : List Row). fitsDefinition (s .version) o l) e (children-kept (s .next) (s .docs) serials p refl r b j (λ u m. refl) (off r b j)) ∙ h)
       conforms

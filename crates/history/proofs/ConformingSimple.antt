@@ -67,13 +67,15 @@ module _ (room : ℕ) (s : Store) (x : GoodTests s) where
       let (models, roots) = or-split (any (λ (d : Definition). member bytes (nameAtIndex i (s .form)) (names (members d))) (s .form)) (any (elementNamed (nameAtIndex i (s .form))) (heads (s .docs))) used in
       conforming-2 w s (x .form) (x .serials) (x .docs) i models roots (without-other i (s .form))
 
-  after-9 : (o : ℕ) (n : Bytes) (k : ℕ) (v : Bytes) → refusal room (addAttribute o n k v) s ≡ 0 → conforming (s .version) (formAfter (addAttribute o n k v) (s .form)) (docsAfter (addAttribute o n k v) s) ≡ true
+  after-9 : (o : ℕ) (n : Bytes) (k : ℕ) (v : Bytes) → refusal room (addAttribute o n k v) s ≡ 0
+      → conforming (s .version) (formAfter (addAttribute o n k v) (s .form)) (docsAfter (addAttribute o n k v) s) ≡ true
   unfolding formAfter conditions
   after-9 o n k v a =
       let (name, (value, (code, (fresh, (there, more))))) = unmet room (addAttribute o n k v) s a in
       conforming-9 w s (x .form) (x .serials) (x .docs) o n k v fresh (replaced-at (s .form) once o (not-past o (s .form) there) (withAttributes (λ table. table ++ newAttribute n k v ∷ [])) (λ d. refl))
 
-  after-10 : (a : ℕ) (y : Option Owned) → attributeAt a (s .form) ≡ y → isOther y none ≡ false → conforming (s .version) (formAfter (destroyAttribute a) (s .form)) (docsAfter (destroyAttribute a) s) ≡ true
+  after-10 : (a : ℕ) (y : Option Owned) → attributeAt a (s .form) ≡ y → isOther y none ≡ false
+      → conforming (s .version) (formAfter (destroyAttribute a) (s .form)) (docsAfter (destroyAttribute a) s) ≡ true
   unfolding formAfter
   after-10 a none q e = absurd (false≢true (sym e))
   after-10 a (some o) q e = conforming-10 w s (x .form) (x .serials) (x .docs) o a q replaced

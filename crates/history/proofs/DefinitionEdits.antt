@@ -49,7 +49,8 @@ module _ (version : ℕ) (a : Attribute) (d : Definition) (new : List·Memᴰ (a
   unfolding strip
   added-present p u later one =
       ap (fitsStripped (d .content))
-      (strip-more version (d .attributes) (a ∷ []) (plantRows p u true rows) (attributeRow a ∷ was .rest) (strip-planted version p u later (attributeRow a) one (d .attributes) rows (was .rest) new refl plain (was .off))
+      (strip-more version (d .attributes) (a ∷ []) (plantRows p u true rows) (attributeRow a ∷ was .rest)
+      (strip-planted version p u later (attributeRow a) one (d .attributes) rows (was .rest) new refl plain (was .off))
       ∙ strip-take version a [] (attributeRow a) (was .rest) (begins-this (a .name) (attributeRow a) (was .rest) refl refl) (created-allows (a .sort) (a .value)))
       ∙ was .content
 

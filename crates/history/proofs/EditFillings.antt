@@ -66,7 +66,8 @@ filling-reaches version h form txt n =
     step m d e (inr r) i j = let own : List·Memᴰ i (membersOf m form) = rw e j in reaches-then form r (directly own)
 
 -- every row of the plan is one of a filling
-every-planned : (version : ℕ) (P : Row → List Row → Type 0) (form : Form) (ls : List Line) (owner txt : Bytes) (e : Edit Bytes) (c : Context Bytes) (t : Members Bytes) → ((m : Bytes) → List·Memᴰ m (filled e t) → EveryRow P (fillDefinition version form txt m))
+every-planned : (version : ℕ) (P : Row → List Row → Type 0) (form : Form) (ls : List Line) (owner txt : Bytes) (e : Edit Bytes) (c : Context Bytes) (t : Members Bytes)
+    → ((m : Bytes) → List·Memᴰ m (filled e t) → EveryRow P (fillDefinition version form txt m))
     → EveryRow P (editPlan version form ls owner txt e c t .filling)
 every-planned version P form ls owner txt (insert q n) c t f = f n (List·Memᴰ·head refl)
 every-planned version P form ls owner txt remove c done f = tt
@@ -83,12 +84,14 @@ every-two P Q S g bare x y = tt
 every-two P Q S g (tree r b t) (p, x, u) (q, y, v) = (g r _ p q, every-two P Q S g b x y, every-two P Q S g t u v)
 
 -- a row fits alike in forms that have the same definition for it
-pub fits-alike : (version : ℕ) (form form′ : Form) (r : Row) (b : List Row) → (r .sort ≡ element → lookup (r .name) form′ ≡ lookup (r .name) form) → fitsRow version form′ r b ≡ fitsRow version form r b
+pub fits-alike : (version : ℕ) (form form′ : Form) (r : Row) (b : List Row) → (r .sort ≡ element → lookup (r .name) form′ ≡ lookup (r .name) form)
+    → fitsRow version form′ r b ≡ fitsRow version form r b
 unfolding fitsRow
 fits-alike version form form′ r b = by (r .sort) (lookup (r .name) form′) (lookup (r .name) form)
   where
     by : (s : RowSort) (o o′ : Option Definition) → (s ≡ element → o ≡ o′)
-        → _≡_ {A = Bool} (elim s [ element ↦ fitsDefinition version o b | attribute ↦ isNone b | text ↦ isNone b ]) (elim s [ element ↦ fitsDefinition version o′ b | attribute ↦ isNone b | text ↦ isNone b ])
+        → _≡_ {A = Bool} (elim s [ element ↦ fitsDefinition version o b | attribute ↦ isNone b | text ↦ isNone b ])
+        (elim s [ element ↦ fitsDefinition version o′ b | attribute ↦ isNone b | text ↦ isNone b ])
     by element o o′ e = ap (λ (z : Option Definition). fitsDefinition version z b) (e refl)
     by attribute o o′ e = refl
     by text o o′ e = refl
@@ -115,7 +118,8 @@ module _ (w : ℕ) (form : Form) (ok : wellFormed w form ≡ true) (d : Definiti
 
     module _ (version : ℕ) (ls : List Line) (txt : Bytes) (i : Insertable form (d .name) e) where
       -- the filling in a form that differs in the owner's definition alone
-      pub filling-fits-in : (form′ : Form) → ((n : Bytes) → (n ≡ d .name → ⊥) → lookup n form′ ≡ lookup n form) → everyRow (λ x b. fitsRow version form′ x b) (editPlan version form ls (d .name) txt e (f .context) (f .picked) .filling) ≡ true
+      pub filling-fits-in : (form′ : Form) → ((n : Bytes) → (n ≡ d .name → ⊥) → lookup n form′ ≡ lookup n form)
+          → everyRow (λ x b. fitsRow version form′ x b) (editPlan version form ls (d .name) txt e (f .context) (f .picked) .filling) ≡ true
       filling-fits-in form′ others =
           every-row (λ x b. fitsRow version form′ x b) (editPlan version form ls (d .name) txt e (f .context) (f .picked) .filling) .1
           (every-planned version (λ x b. fitsRow version form′ x b ≡ true) form ls (d .name) txt e (f .context) (f .picked) (λ m k. one m (filled-outside i m k)))
@@ -130,12 +134,14 @@ module _ (w : ℕ) (form : Form) (ok : wellFormed w form ≡ true) (d : Definiti
           one : (m : Bytes) → Joins form (d .name) m → EveryRow (λ x b. fitsRow version form′ x b ≡ true) (fillDefinition version form txt m)
           one m o =
               every-two (λ x b. x .sort ≡ element → (x .name ≡ m) ⊎ Reaches form m (x .name)) (λ x b. fitsRow version form x b ≡ true) (λ x b. fitsRow version form′ x b ≡ true)
-              (λ x b r q. fits-alike version form form′ x b (λ s. others (x .name) (away m o (x .name) (r s))) ∙ q) (fillDefinition version form txt m) (filling-reaches version (length form) form txt m)
+              (λ x b r q. fits-alike version form form′ x b (λ s. others (x .name) (away m o (x .name) (r s))) ∙ q) (fillDefinition version form txt m)
+              (filling-reaches version (length form) form txt m)
               (every-row (λ x b. fitsRow version form x b) (fillDefinition version form txt m) .0
               (filling-fits version form (λ n c q. good n c q .once) (λ n c q. good n c q .attributeNames) (λ n c q. good n c q .groups) txt (length form) m (definition-deep w form ok m (o .known))))
 
       pub filling-rows-fit : everyRow (λ x b. fitsRow version form x b) (editPlan version form ls (d .name) txt e (f .context) (f .picked) .filling) ≡ true
       filling-rows-fit = filling-fits-in form (λ n g. refl)
 
-      pub filling-rows-fit-after : (o : ℕ) (at : List ℕ) → nameAtIndex o form ≡ d .name → everyRow (λ x b. fitsRow version (editModel o at e form) x b) (editPlan version form ls (d .name) txt e (f .context) (f .picked) .filling) ≡ true
+      pub filling-rows-fit-after : (o : ℕ) (at : List ℕ) → nameAtIndex o form ≡ d .name
+          → everyRow (λ x b. fitsRow version (editModel o at e form) x b) (editPlan version form ls (d .name) txt e (f .context) (f .picked) .filling) ≡ true
       filling-rows-fit-after o at q = filling-fits-in (editModel o at e form) (λ n g. update-other (inModel (editAt e at)) (λ c. refl) o form n (λ x. g (x ∙ q)))

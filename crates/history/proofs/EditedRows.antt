@@ -24,11 +24,13 @@ use Rattle.history.proofs.EditFillings.{fits-alike, filling-fits-in}
 use Rattle.history.proofs.InstanceFits.{editedDefinition, instance-fits}
 use Rattle.history.proofs.AcceptedEdits.{Accepted}
 
-fits-element : (version : ℕ) (form : Form) (u : Row) (d : Definition) (rows : List Row) → isElement (u .sort) ≡ true → lookup (u .name) form ≡ some d → fitsRow version form u rows ≡ fitsDefinition version (some d) rows
+fits-element : (version : ℕ) (form : Form) (u : Row) (d : Definition) (rows : List Row) → isElement (u .sort) ≡ true → lookup (u .name) form ≡ some d
+    → fitsRow version form u rows ≡ fitsDefinition version (some d) rows
 unfolding fitsRow
 fits-element version form u d rows e q = by (u .sort) e ∙ ap (λ (o : Option Definition). fitsDefinition version o rows) q
   where
-    by : (s : RowSort) → isElement s ≡ true → elim s as (λ x. Bool) [ element ↦ fitsDefinition version (lookup (u .name) form) rows | attribute ↦ isNone rows | text ↦ isNone rows ] ≡ fitsDefinition version (lookup (u .name) form) rows
+    by : (s : RowSort) → isElement s ≡ true
+        → elim s as (λ x. Bool) [ element ↦ fitsDefinition version (lookup (u .name) form) rows | attribute ↦ isNone rows | text ↦ isNone rows ] ≡ fitsDefinition version (lookup (u .name) form) rows
     by element e = refl
     by attribute e = absurd (false≢true e)
     by text e = absurd (false≢true e)
@@ -63,10 +65,12 @@ module _ (w : ℕ) (s : Store) (ok : wellFormed w (s .form) ≡ true) (c : Call)
           let (is, called) = and-split (isElement (u .sort)) (same (d .name) (u .name)) named in
           let q : u .name ≡ d .name = sym (same-eq (d .name) (u .name) called) in
           fits-element (s .version) (formAfter c (s .form)) u (editedDefinition d (a .edit) (a .found)) after is (ap (λ (z : Bytes). lookup z (formAfter c (s .form))) q ∙ owner-after)
-          ∙ instance-fits (s .version) w (s .form) ok d (a .looked) (members d) (a .content) (a .edit) (a .at) (a .found) (a .there) (a .placed) (a .fitting (seen named)) ls (a .txt) u rows (a .insertable) named below
+          ∙ instance-fits (s .version) w (s .form) ok d (a .looked) (members d) (a .content) (a .edit) (a .at) (a .found) (a .there) (a .placed) (a .fitting (seen named)) ls (a .txt) u rows
+          (a .insertable) named below
           (sym (fits-element (s .version) (s .form) u d rows is (ap (λ (z : Bytes). lookup z (s .form)) q ∙ a .looked)) ∙ h)
       by false other =
-          fits-alike (s .version) (s .form) (formAfter c (s .form)) u after (λ e. others-after (u .name) (λ q. false≢true (sym other ∙ and-both (ap isElement e) (bytes .same← (d .name) (u .name) (sym q)))))
+          fits-alike (s .version) (s .form) (formAfter c (s .form)) u after
+          (λ e. others-after (u .name) (λ q. false≢true (sym other ∙ and-both (ap isElement e) (bytes .same← (d .name) (u .name) (sym q)))))
           ∙ ap (fitsRow (s .version) (s .form) u) (edit-others (s .version) (s .form) ls (d .name) (a .txt) u rows other (below .given) (a .found .context) (a .edit) (a .found .picked))
           ∙ h
 
@@ -74,4 +78,5 @@ module _ (w : ℕ) (s : Store) (ok : wellFormed w (s .form) ≡ true) (c : Call)
   pub filling-fits-after : (ls : List Line) → everyRow (λ x b. fitsRow (s .version) (formAfter c (s .form)) x b) (plan c (s .version) (s .form) ls .filling) ≡ true
   filling-fits-after ls =
       ap (λ (z : Plan). everyRow (λ x b. fitsRow (s .version) (formAfter c (s .form)) x b) (z .filling)) (a .planned ls)
-      ∙ filling-fits-in w (s .form) ok (definitionAt (a .o) (s .form)) (a .looked) (members (definitionAt (a .o) (s .form))) (a .content) (a .edit) (a .at) (a .found) (a .there) (s .version) ls (a .txt) (a .insertable) (formAfter c (s .form)) others-after
+      ∙ filling-fits-in w (s .form) ok (definitionAt (a .o) (s .form)) (a .looked) (members (definitionAt (a .o) (s .form))) (a .content) (a .edit) (a .at) (a .found) (a .there)
+      (s .version) ls (a .txt) (a .insertable) (formAfter c (s .form)) others-after

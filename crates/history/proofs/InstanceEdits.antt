@@ -106,7 +106,8 @@ group-cases true false me ns f rs = refl
 group-cases true true true ns f rs = refl
 group-cases true true false ns f rs = refl
 
-module _ (version : ℕ) (form : Form) (ls : List Line) (owner txt : Bytes) (u : Row) (front back : List Row) (named : elementNamed owner u ≡ true) (below : Below ls u (front ++ back)) (attributes : Sorted attribute front) (elements : Sorted element back) where
+module _ (version : ℕ) (form : Form) (ls : List Line) (owner txt : Bytes) (u : Row) (front back : List Row) (named : elementNamed owner u ≡ true) (below : Below ls u (front ++ back))
+    (attributes : Sorted attribute front) (elements : Sorted element back) where
   -- the children that pass a test are behind the attribute rows
   seen-back : (test : Row → Bool) → ((x : Row) → List·Memᴰ x front → test x ≡ false) → childrenOf test (u .serial) ls ≡ map rowSerial (keep test back)
   seen-back test f = below .seen test ∙ ap (map rowSerial) (keep-beside test front back ∙ ap (λ (z : List Row). z ++ keep test back) (keep-none test front f))
@@ -141,7 +142,8 @@ module _ (version : ℕ) (form : Form) (ls : List Line) (owner txt : Bytes) (u :
         → childrenAfter (editPlan version form ls owner txt remove c (el q x t)) u (front ++ back) ≡ front ++ childRows bytes nameOf (map elementRow) remove c (el q x t) back
     unfolding childRows
     remove-rows q x t =
-        after-split (editPlan version form ls owner txt remove c (el q x t)) u [] front back refl (below .given) (λ y m. ap₂ (λ (a b : Bool). a && b) named (front-other x y m)) (λ e. absurd (false≢true e))
+        after-split (editPlan version form ls owner txt remove c (el q x t)) u [] front back refl (below .given) (λ y m. ap₂ (λ (a b : Bool). a && b) named (front-other x y m))
+        (λ e. absurd (false≢true e))
         ∙ ap (λ (z : List Row). front ++ z) (keep-erase (λ r. not (elementNamed owner u && elementNamed x r)) x back (λ y m. ap₂ (λ (a b : Bool). not (a && b)) named (named-is x y (elements y m))))
 
     quantify-rows : (q r : Quantifier) (x : Bytes) (t : Members Bytes) → deep (length form) form x ≡ true
@@ -173,7 +175,8 @@ module _ (version : ℕ) (form : Form) (ls : List Line) (owner txt : Bytes) (u :
         → childrenAfter (editPlan version form ls owner txt (quantify r) c (group q j ms t)) u (front ++ back) ≡ front ++ childRows bytes nameOf (map elementRow) (quantify r) c (group q j ms t) back
     unfolding childRows refitGroupRows
     group-rows q r j ms t d =
-        after-split (editPlan version form ls owner txt (quantify r) c (group q j ms t)) u (before c) front back refl (below .given) (λ y m. refl) (λ e. (front-later (before c) u, back-later (before c) u))
+        after-split (editPlan version form ls owner txt (quantify r) c (group q j ms t)) u (before c) front back refl (below .given) (λ y m. refl)
+        (λ e. (front-later (before c) u, back-later (before c) u))
         ∙ ap (λ (z : List Row). front ++ z) (
         due-same _ ((spine c && gains q r) && not me) (before c) _ (map elementRow (groupFilling r j ms)) _ back
         (ap₂ (λ (a b : Bool). (spine c && gains q r) && (a && b)) named (ap isNone (seen-back (elementAmong (names ms)) (λ y m. not-element (y .sort) (member bytes (y .name) (names ms)) (attributes y m))) ∙ among-none (names ms) back elements))
@@ -205,7 +208,8 @@ and-no false b e = refl
 no-and : (a b c : Bool) → b ≡ false → (a && (b && c)) ≡ false
 no-and a b c e = and-no a (b && c) (ap (λ (z : Bool). z && c) e)
 
-module _ (version : ℕ) (form : Form) (ls : List Line) (owner txt : Bytes) (u : Row) (rows : List Row) (other : elementNamed owner u ≡ false) (given : (x : Row) → List·Memᴰ x rows → x .serial ≡ 0 → ⊥) (c : Context Bytes) where
+module _ (version : ℕ) (form : Form) (ls : List Line) (owner txt : Bytes) (u : Row) (rows : List Row) (other : elementNamed owner u ≡ false)
+    (given : (x : Row) → List·Memᴰ x rows → x .serial ≡ 0 → ⊥) (c : Context Bytes) where
   -- what is no instance keeps the rows below it
   pub edit-others : (e : Edit Bytes) (t : Members Bytes) → childrenAfter (editPlan version form ls owner txt e c t) u rows ≡ rows
   edit-others (insert q n) t = untouched (editPlan version form ls owner txt (insert q n) c t) u rows refl given (λ x m. refl) (and-no (not (skips q) && spine c) (elementNamed owner u) other)

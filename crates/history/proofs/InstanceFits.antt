@@ -121,7 +121,8 @@ module _ (version w : ℕ) (form : Form) (ok : wellFormed w form ≡ true) (d : 
   after-sound : Sound (modelAfter e f)
   after-sound = change-sound bytes e p ms f (place-of e p ms f found) fits before-sound
 
-  element-fits : (rows : List Row) (x : ElementRows version d rows) → fitsDefinition version (some (editedDefinition d e f)) (x .front ++ childRows bytes nameOf (map elementRow) e (f .context) (f .picked) (x .back)) ≡ true
+  element-fits : (rows : List Row) (x : ElementRows version d rows)
+      → fitsDefinition version (some (editedDefinition d e f)) (x .front ++ childRows bytes nameOf (map elementRow) e (f .context) (f .picked) (x .back)) ≡ true
   element-fits rows x =
       element-is version (editedDefinition d e f) (after-sound .distinct) (definition-good w form ok (d .name) d at .attributeNames) (x .front ++ rest) .1
       record {
@@ -148,7 +149,8 @@ module _ (version w : ℕ) (form : Form) (ok : wellFormed w form ≡ true) (d : 
 
   -- AN INSTANCE: the rows right below it fit the new model
   pub instance-fits : (ls : List Line) (txt : Bytes) (u : Row) (rows : List Row) → Insertable form (d .name) e → elementNamed (d .name) u ≡ true → Below ls u rows
-      → fitsDefinition version (some d) rows ≡ true → fitsDefinition version (some (editedDefinition d e f)) (childrenAfter (editPlan version form ls (d .name) txt e (f .context) (f .picked)) u rows) ≡ true
+      → fitsDefinition version (some d) rows ≡ true
+      → fitsDefinition version (some (editedDefinition d e f)) (childrenAfter (editPlan version form ls (d .name) txt e (f .context) (f .picked)) u rows) ≡ true
   instance-fits ls txt u rows i named below h = by (rows-of rows h)
     where
       elements : (x : ElementRows version d rows) → Sorted element (x .back)
@@ -158,7 +160,8 @@ module _ (version w : ℕ) (form : Form) (ok : wellFormed w form ≡ true) (d : 
       by x =
           ap (fitsDefinition version (some (editedDefinition d e f))) (
           ap (childrenAfter (editPlan version form ls (d .name) txt e (f .context) (f .picked)) u) (sym (x .split))
-          ∙ edit-rows version form ls (d .name) txt u (x .front) (x .back) named (rw (x .split) below) (x .attributes .sorts) (elements x) (f .context) e (f .picked) (λ m k. definition-deep w form ok m (filled-outside w form ok d at ms is e p f found i m k .known)))
+          ∙ edit-rows version form ls (d .name) txt u (x .front) (x .back) named (rw (x .split) below) (x .attributes .sorts) (elements x) (f .context) e (f .picked)
+          (λ m k. definition-deep w form ok m (filled-outside w form ok d at ms is e p f found i m k .known)))
           ∙ element-fits rows x
 
   -- without a plan: 6 and 7 leave the rows as they are
@@ -166,4 +169,6 @@ module _ (version w : ℕ) (form : Form) (ok : wellFormed w form ≡ true) (d : 
   instance-still-fits l rows h = by (rows-of rows h)
     where
       by : ElementRows version d rows → fitsDefinition version (some (editedDefinition d e f)) rows ≡ true
-      by x = ap (fitsDefinition version (some (editedDefinition d e f))) (sym (x .split) ∙ ap (λ (z : List Row). x .front ++ z) (sym (rows-left e (f .context) (f .picked) l (x .back)))) ∙ element-fits rows x
+      by x =
+          ap (fitsDefinition version (some (editedDefinition d e f))) (sym (x .split) ∙ ap (λ (z : List Row). x .front ++ z) (sym (rows-left e (f .context) (f .picked) l (x .back))))
+          ∙ element-fits rows x

@@ -57,7 +57,8 @@ module _ (w : Row → Row) (sorts : (r : Row) → w r .sort ≡ r .sort) (names 
   mapped-strip version [] rows k = refl
   mapped-strip version (a ∷ table) [] k = by (mustBePresent version (a .sort)) refl (mapped-strip version table [] k)
     where
-      by : (c : Bool) → mustBePresent version (a .sort) ≡ c → strip version table [] ≡ Option·map (map w) (strip version table []) → strip version (a ∷ table) [] ≡ Option·map (map w) (strip version (a ∷ table) [])
+      by : (c : Bool) → mustBePresent version (a .sort) ≡ c → strip version table [] ≡ Option·map (map w) (strip version table [])
+          → strip version (a ∷ table) [] ≡ Option·map (map w) (strip version (a ∷ table) [])
       by true q x = rw (q, strip)
       by false q x = rw (q, strip) x
   mapped-strip version (a ∷ table) (r ∷ rows) k =
@@ -134,7 +135,8 @@ every-number q h n f = sym (every-each q wipe h (number n f)) ∙ ap (everyRow q
 
 pub conforming-number : (version : ℕ) (form : Form) (n : ℕ) (f : Forest Row) → conforming version form (number n f) ≡ conforming version form f
 unfolding conforming
-conforming-number version form n f = ap₂ (λ (x y : Bool). x && y) roots (every-number (λ r below. fitsRow version form r below) (λ r rows. mapped-row wipe (λ s. refl) (λ s. refl) version form r rows (λ s m e. refl)) n f)
+conforming-number version form n f =
+    ap₂ (λ (x y : Bool). x && y) roots (every-number (λ r below. fitsRow version form r below) (λ r rows. mapped-row wipe (λ s. refl) (λ s. refl) version form r rows (λ s m e. refl)) n f)
   where
     top : (g : Forest Row) → all (λ (r : Row). isElement (r .sort)) (heads (eachRow wipe g)) ≡ all (λ (r : Row). isElement (r .sort)) (heads g)
     top g = ap (all (λ (r : Row). isElement (r .sort))) (heads-each wipe g) ∙ mapped-elements wipe (λ s. refl) (λ s. refl) (heads g)

@@ -43,7 +43,8 @@ blank-remove owner done = tt
 blank-remove owner (el q x rest) = tt
 blank-remove owner (group q k ms rest) = tt
 
-blank-quantify : (version : ℕ) (form : Form) (ls : List Line) (owner txt : Bytes) (new : Quantifier) (c : Context Bytes) (t : Members Bytes) → Blank (quantifyPlan version form ls owner txt new c t .filling)
+blank-quantify : (version : ℕ) (form : Form) (ls : List Line) (owner txt : Bytes) (new : Quantifier) (c : Context Bytes) (t : Members Bytes)
+    → Blank (quantifyPlan version form ls owner txt new c t .filling)
 blank-quantify version form ls owner txt new c done = tt
 blank-quantify version form ls owner txt new c (el old x rest) = blank-fill version form txt x
 blank-quantify version form ls owner txt new c (group old k ms rest) =
@@ -54,7 +55,8 @@ blank-picked f x none = tt
 blank-picked f x (some y) = x (y .context) (y .picked)
 
 -- changes 5 and 8
-blank-requantify : (version : ℕ) (form : Form) (ls : List Line) (o : ℕ) (txt : Bytes) (q : Quantifier) (x : Option (Found Bytes)) → Blank (pickedPlan (quantifyPlan version form ls (nameAtIndex o form) txt q) x .filling)
+blank-requantify : (version : ℕ) (form : Form) (ls : List Line) (o : ℕ) (txt : Bytes) (q : Quantifier) (x : Option (Found Bytes))
+    → Blank (pickedPlan (quantifyPlan version form ls (nameAtIndex o form) txt q) x .filling)
 blank-requantify version form ls o txt q x = blank-picked (quantifyPlan version form ls (nameAtIndex o form) txt q) (blank-quantify version form ls (nameAtIndex o form) txt q) x
 
 blank-set : (ls : List Line) (k : ℕ) (v : Bytes) (o : Option Owned) → Blank (setPlan ls k v o .filling)

@@ -59,7 +59,8 @@ lacked false f = refl
 
 module _ (version : ℕ) (a : Attribute) (table : List Attribute) where
   -- rows of the other attributes alone
-  rows-past : (front : List Row) → (List·Memᴰ (a .name) (map attributeName table) → ⊥) → mustBePresent version (a .sort) ≡ false → AttributeRows version table front → AttributeRows version (a ∷ table) front
+  rows-past : (front : List Row) → (List·Memᴰ (a .name) (map attributeName table) → ⊥) → mustBePresent version (a .sort) ≡ false → AttributeRows version table front
+      → AttributeRows version (a ∷ table) front
   rows-past front new may x =
       record {
         sorts = x .sorts;
@@ -121,7 +122,8 @@ unfoldable pub begins : Bytes → List Row → Bool
 begins n [] = false
 begins n (r ∷ rows) = isAttribute (r .sort) && same n (r .name)
 
-pub strip-past : (version : ℕ) (a : Attribute) (table : List Attribute) (rows : List Row) → begins (a .name) rows ≡ false → mustBePresent version (a .sort) ≡ false → strip version (a ∷ table) rows ≡ strip version table rows
+pub strip-past : (version : ℕ) (a : Attribute) (table : List Attribute) (rows : List Row) → begins (a .name) rows ≡ false → mustBePresent version (a .sort) ≡ false
+    → strip version (a ∷ table) rows ≡ strip version table rows
 unfolding strip begins
 strip-past version a table [] h m = rw (m, strip)
 strip-past version a table (r ∷ rows) h m = rw (h, strip) (rw m)
@@ -131,11 +133,13 @@ unfolding strip begins
 strip-lacks version a table [] h m = rw (m, strip)
 strip-lacks version a table (r ∷ rows) h m = rw (h, strip) (rw m)
 
-pub strip-take : (version : ℕ) (a : Attribute) (table : List Attribute) (r : Row) (rows : List Row) → begins (a .name) (r ∷ rows) ≡ true → allows (a .sort) (a .value) (r .value) ≡ true → strip version (a ∷ table) (r ∷ rows) ≡ strip version table rows
+pub strip-take : (version : ℕ) (a : Attribute) (table : List Attribute) (r : Row) (rows : List Row) → begins (a .name) (r ∷ rows) ≡ true → allows (a .sort) (a .value) (r .value) ≡ true
+    → strip version (a ∷ table) (r ∷ rows) ≡ strip version table rows
 unfolding strip begins
 strip-take version a table r rows h m = rw (h, strip) (rw m)
 
-strip-wrong : (version : ℕ) (a : Attribute) (table : List Attribute) (r : Row) (rows : List Row) → begins (a .name) (r ∷ rows) ≡ true → allows (a .sort) (a .value) (r .value) ≡ false → strip version (a ∷ table) (r ∷ rows) ≡ none
+strip-wrong : (version : ℕ) (a : Attribute) (table : List Attribute) (r : Row) (rows : List Row) → begins (a .name) (r ∷ rows) ≡ true → allows (a .sort) (a .value) (r .value) ≡ false
+    → strip version (a ∷ table) (r ∷ rows) ≡ none
 unfolding strip begins
 strip-wrong version a table r rows h m = rw (h, strip) (rw m)
 
@@ -148,10 +152,12 @@ pub record Cut (version : ℕ) (table : List Attribute) (rows rest : List Row) :
 no-rows : (version : ℕ) → AttributeRows version [] []
 no-rows version = record { sorts = λ r m. absurd (List·Memᴰ·not-nil m); owned = tt; present = λ a m q. absurd (List·Memᴰ·not-nil m); equal = λ a m r i. absurd (List·Memᴰ·not-nil i) }
 
-cut-past : (version : ℕ) (a : Attribute) (table : List Attribute) (rows rest : List Row) → (List·Memᴰ (a .name) (map attributeName table) → ⊥) → mustBePresent version (a .sort) ≡ false → Cut version table rows rest → Cut version (a ∷ table) rows rest
+cut-past : (version : ℕ) (a : Attribute) (table : List Attribute) (rows rest : List Row) → (List·Memᴰ (a .name) (map attributeName table) → ⊥) → mustBePresent version (a .sort) ≡ false
+    → Cut version table rows rest → Cut version (a ∷ table) rows rest
 cut-past version a table rows rest new may x = record { front = x .front; split = x .split; attributes = rows-past version a table (x .front) new may (x .attributes) }
 
-cut-add : (version : ℕ) (a : Attribute) (table : List Attribute) (r : Row) (rows rest : List Row) → (List·Memᴰ (a .name) (map attributeName table) → ⊥) → begins (a .name) (r ∷ rows) ≡ true → allows (a .sort) (a .value) (r .value) ≡ true
+cut-add : (version : ℕ) (a : Attribute) (table : List Attribute) (r : Row) (rows rest : List Row) → (List·Memᴰ (a .name) (map attributeName table) → ⊥) → begins (a .name) (r ∷ rows) ≡ true
+    → allows (a .sort) (a .value) (r .value) ≡ true
     → Cut version table rows rest → Cut version (a ∷ table) (r ∷ rows) rest
 unfolding begins
 cut-add version a table r rows rest new e v x =
@@ -197,7 +203,8 @@ pub begins-this : (n : Bytes) (r : Row) (rows : List Row) → r .sort ≡ attrib
 unfolding begins
 begins-this n r rows s e = and-both (ap isAttribute s) (rw e (same-refl n))
 
-strip← : (version : ℕ) (table : List Attribute) (front back : List Row) → Distinct (map attributeName table) → headAttribute back ≡ false → AttributeRows version table front → strip version table (front ++ back) ≡ some back
+strip← : (version : ℕ) (table : List Attribute) (front back : List Row) → Distinct (map attributeName table) → headAttribute back ≡ false → AttributeRows version table front
+    → strip version table (front ++ back) ≡ some back
 unfolding strip
 strip← version [] [] back d h x = refl
 strip← version [] (r ∷ front) back d h x = absurd (x .owned)
@@ -216,14 +223,16 @@ strip← version (a ∷ table) (r ∷ front) back (new, d) h x = by (x .owned) (
         strip-take version a table r (front ++ back) (begins-this (a .name) r (front ++ back) is e) (x .equal a (List·Memᴰ·head refl) r (List·Memᴰ·head refl) e)
         ∙ f front back d h (rows-take version a table r front new e o x)
     by (inr o) f =
-        strip-past version a table (r ∷ (front ++ back)) (begins-other (a .name) r (front ++ back) is (λ e. out (List·Memᴰ·head e))) (lacked (mustBePresent version (a .sort)) (λ q. out (x .present a (List·Memᴰ·head refl) q)))
+        strip-past version a table (r ∷ (front ++ back)) (begins-other (a .name) r (front ++ back) is (λ e. out (List·Memᴰ·head e)))
+        (lacked (mustBePresent version (a .sort)) (λ q. out (x .present a (List·Memᴰ·head refl) q)))
         ∙ f (r ∷ front) back d h (rows-back version a table (r ∷ front) o x)
       where
         out : List·Memᴰ (a .name) (map nameOf (r ∷ front)) → ⊥
         out m = new (in-order (map nameOf (r ∷ front)) (map attributeName table) o (a .name) m)
 
 -- the attribute rows end before the first row that is no attribute
-pub strip-is : (version : ℕ) (table : List Attribute) (rows rest : List Row) → Distinct (map attributeName table) → headAttribute rest ≡ false → (strip version table rows ≡ some rest) ↔ Cut version table rows rest
+pub strip-is : (version : ℕ) (table : List Attribute) (rows rest : List Row) → Distinct (map attributeName table) → headAttribute rest ≡ false
+    → (strip version table rows ≡ some rest) ↔ Cut version table rows rest
 strip-is version table rows rest d h = (
   strip→ version table rows rest d,
   λ c. ap (λ (z : List Row). strip version table z) (sym (c .split)) ∙ strip← version table (c .front) rest d h (c .attributes),
@@ -266,7 +275,8 @@ module _ (version : ℕ) (d : Definition) (once : Distinct (names (members d))) 
 
   element← : ElementRows version d below → fitsStripped (d .content) (strip version (d .attributes) below) ≡ true
   element← x =
-      ap (fitsStripped (d .content)) (strip-is version (d .attributes) below (x .back) apart (content-head (d .content) (x .back) (x .content)) .1 (record { front = x .front; split = x .split; attributes = x .attributes }))
+      ap (fitsStripped (d .content))
+      (strip-is version (d .attributes) below (x .back) apart (content-head (d .content) (x .back) (x .content)) .1 (record { front = x .front; split = x .split; attributes = x .attributes }))
       ∙ content← (d .content) once (x .back) (x .content)
 
   pub element-is : (fitsDefinition version (some d) below ≡ true) ↔ ElementRows version d below
@@ -279,7 +289,8 @@ none→ (r ∷ rows) e = absurd (false≢true e)
 
 module _ (version : ℕ) (form : Form) (once : (n : Bytes) (d : Definition) → lookup n form ≡ some d → Distinct (names (members d)))
     (apart : (n : Bytes) (d : Definition) → lookup n form ≡ some d → Distinct (map attributeName (d .attributes))) where
-  found→ : (n : Bytes) (below : List Row) (o : Option Definition) → lookup n form ≡ o → fitsDefinition version o below ≡ true → (d : Definition) × (lookup n form ≡ some d) × ElementRows version d below
+  found→ : (n : Bytes) (below : List Row) (o : Option Definition) → lookup n form ≡ o → fitsDefinition version o below ≡ true
+      → (d : Definition) × (lookup n form ≡ some d) × ElementRows version d below
   found→ n below none q e = absurd (false≢true e)
   found→ n below (some d) q e = (d, q, element-is version d (once n d q) (apart n d q) below .0 e)
 

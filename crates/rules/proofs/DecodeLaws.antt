@@ -213,12 +213,14 @@ fits-not (complex ms) rows h =
 
 -- What holds of the attribute rows with names in the table, and of the rows that fit the content, holds of all rows.
 module _ (version : ℕ) (P : Row → Type 0) (c : Content) (others : (rows : List Row) → fits c rows ≡ true → Every P rows) where
-  pub strip-every : (table : List Attribute) (rows : List Row) → ((r : Row) → isAttribute (r .sort) ≡ true → owns table (r .name) ≡ true → P r) → fitsStripped c (strip version table rows) ≡ true → Every P rows
+  pub strip-every : (table : List Attribute) (rows : List Row) → ((r : Row) → isAttribute (r .sort) ≡ true → owns table (r .name) ≡ true → P r)
+      → fitsStripped c (strip version table rows) ≡ true → Every P rows
   unfolding strip
   strip-every [] rows own h = others rows h
   strip-every (a ∷ table) [] own h = tt
   strip-every (a ∷ table) (r ∷ rows) own h =
-      by (isAttribute (r .sort) && same (a .name) (r .name)) refl (allows (a .sort) (a .value) (r .value)) refl (mustBePresent version (a .sort)) refl (strip-every table rows later) (strip-every table (r ∷ rows) later)
+      by (isAttribute (r .sort) && same (a .name) (r .name)) refl (allows (a .sort) (a .value) (r .value)) refl (mustBePresent version (a .sort)) refl (strip-every table rows later)
+      (strip-every table (r ∷ rows) later)
     where
       later : (x : Row) → isAttribute (x .sort) ≡ true → owns table (x .name) ≡ true → P x
       later x e o = own x e (or-right (same (x .name) (a .name)) o)
@@ -239,7 +241,8 @@ below-owned version form r below h = by (r .sort) refl
     at : (o : Option Definition) → fitsDefinition version o below ≡ true → Every (Owned o) below
     at none e = absurd (false≢true e)
     at (some d) e =
-        strip-every version (Owned (some d)) (d .content) (λ rows f. every-map (λ r. isAttribute (r .sort) ≡ true → ⊥) (Owned (some d)) rows (λ r n a. absurd (n a)) (fits-not (d .content) rows f)) (d .attributes) below (λ r a o b. o) e
+        strip-every version (Owned (some d)) (d .content)
+        (λ rows f. every-map (λ r. isAttribute (r .sort) ≡ true → ⊥) (Owned (some d)) rows (λ r n a. absurd (n a)) (fits-not (d .content) rows f)) (d .attributes) below (λ r a o b. o) e
 
     no-rows : isNone below ≡ true → Every (Owned (lookup (r .name) form)) below
     no-rows e = rw (none-nil below e) tt
@@ -263,7 +266,8 @@ module _ (version w : ℕ) (form : Form) where
       by attribute q = rw q (name-attribute form 0 owner (r .name) (o (ap isAttribute q)))
       by text q = rw q (sym (none-nil (r .name) (and-right (isValue w (r .value)) (isNone (r .name)) (rw (q, laidRow) at l))))
 
-  found-below : (owner : Bytes) (f : Forest Row) → EveryRow (λ r below. fitsRow version form r below ≡ true) f → EveryRow (λ r below. laidRow w r ≡ true) f → Every (Owned (lookup owner form)) (heads f)
+  found-below : (owner : Bytes) (f : Forest Row) → EveryRow (λ r below. fitsRow version form r below ≡ true) f → EveryRow (λ r below. laidRow w r ≡ true) f
+      → Every (Owned (lookup owner form)) (heads f)
       → FoundBelow form owner f
   unfolding FoundBelow
   found-below owner bare h l o = tt

@@ -56,12 +56,14 @@ module _ (P : Row → List Row → Type 0) where
   every-each fill [] x = tt
   every-each fill (n ∷ ns) x = every-beside (fill n) (fillEach fill ns) (x n (List·Memᴰ·head refl)) (every-each fill ns (λ m i. x m (List·Memᴰ·tail i)))
 
-  every-attributes : (version : ℕ) (table : List Attribute) (f : Forest Row) → ((a : Attribute) → List·Memᴰ a table → P (attributeRow a) []) → EveryRow P f → EveryRow P (fillAttributes version table f)
+  every-attributes : (version : ℕ) (table : List Attribute) (f : Forest Row) → ((a : Attribute) → List·Memᴰ a table → P (attributeRow a) []) → EveryRow P f
+      → EveryRow P (fillAttributes version table f)
   unfolding fillAttributes
   every-attributes version [] f x y = y
   every-attributes version (a ∷ table) f x y = by (mustBePresent version (a .sort)) (every-attributes version table f (λ b i. x b (List·Memᴰ·tail i)) y)
     where
-      by : (c : Bool) → EveryRow P (fillAttributes version table f) → EveryRow P (elim c as (λ z. Forest Row) [ true ↦ tree (attributeRow a) bare (fillAttributes version table f) | false ↦ fillAttributes version table f ])
+      by : (c : Bool) → EveryRow P (fillAttributes version table f)
+          → EveryRow P (elim c as (λ z. Forest Row) [ true ↦ tree (attributeRow a) bare (fillAttributes version table f) | false ↦ fillAttributes version table f ])
       by true z = (x a (List·Memᴰ·head refl), tt, z)
       by false z = z
 
@@ -73,7 +75,8 @@ textRow txt = record { serial = 0; sort = text; name = []; value = txt }
 abbrev pub fillBelow : ℕ → ℕ → Form → Bytes → Definition → Forest Row
 fillBelow version h form txt d = fillAttributes version (d .attributes) (fillContent (λ m. fillWithin version h form txt m) txt (d .content))
 
-pub fill-known : (version h : ℕ) (form : Form) (txt n : Bytes) (d : Definition) → lookup n form ≡ some d → fillWithin version (suc h) form txt n ≡ tree (elementRow n) (fillBelow version h form txt d) bare
+pub fill-known : (version h : ℕ) (form : Form) (txt n : Bytes) (d : Definition) → lookup n form ≡ some d
+    → fillWithin version (suc h) form txt n ≡ tree (elementRow n) (fillBelow version h form txt d) bare
 unfolding fillWithin
 fill-known version h form txt n d q = rw (q, fillWithin)
 
@@ -104,7 +107,8 @@ module _ (version : ℕ) (form : Form) (txt : Bytes) (P : Row → List Row → T
     (elements : (h : ℕ) (n : Bytes) (d : Definition) → Q (suc h) n → lookup n form ≡ some d → P (elementRow n) (heads (fillBelow version h form txt d)))
     (attributes : (n : Bytes) (d : Definition) → lookup n form ≡ some d → (a : Attribute) → List·Memᴰ a (d .attributes) → P (attributeRow a) [])
     (texts : P (textRow txt) []) where
-  every-content : (h : ℕ) (c : Content) → ((m : Bytes) → List·Memᴰ m (names (modelOf c)) → EveryRow P (fillWithin version h form txt m)) → EveryRow P (fillContent (λ m. fillWithin version h form txt m) txt c)
+  every-content : (h : ℕ) (c : Content) → ((m : Bytes) → List·Memᴰ m (names (modelOf c)) → EveryRow P (fillWithin version h form txt m))
+      → EveryRow P (fillContent (λ m. fillWithin version h form txt m) txt c)
   unfolding fillContent
   every-content h empty f = tt
   every-content h pcdata f = (texts, tt, tt)
@@ -118,15 +122,20 @@ module _ (version : ℕ) (form : Form) (txt : Bytes) (P : Row → List Row → T
       by : (o : Option Definition) → lookup n form ≡ o → ((m : Bytes) → Q h m → EveryRow P (fillWithin version h form txt m)) → EveryRow P (fillWithin version (suc h) form txt n)
       by none q f = rw (fill-unknown version h form txt n q) tt
       by (some d) q f =
-          rw (fill-known version h form txt n d q)
-          (elements h n d x q, every-attributes P version (d .attributes) (fillContent (λ m. fillWithin version h form txt m) txt (d .content)) (attributes n d q) (every-content h (d .content) (λ m i. f m (down h n d x q m i))), tt)
+          rw (fill-known version h form txt n d q) (
+            elements h n d x q,
+            every-attributes P version (d .attributes) (fillContent (λ m. fillWithin version h form txt m) txt (d .content)) (attributes n d q)
+                (every-content h (d .content) (λ m i. f m (down h n d x q m i))),
+            tt,
+          )
 
 -- no row has a serial yet
 pub filling-serials : (version h : ℕ) (form : Form) (txt n : Bytes) → EveryRow (λ r b. r .serial ≡ 0) (fillWithin version h form txt n)
 filling-serials version h form txt n = every-filled version form txt (λ r b. r .serial ≡ 0) (λ k m. Unit {0}) (λ k m d x q i j. tt) (λ k m d x q. refl) (λ m d q a i. refl) refl h n tt
 
 -- the rows of a filling can be laid
-pub filling-laid : (version w h : ℕ) (form : Form) (txt n : Bytes) → ((m : Bytes) (d : Definition) → lookup m form ≡ some d → (a : Attribute) → List·Memᴰ a (d .attributes) → isValue w (a .value) ≡ true)
+pub filling-laid : (version w h : ℕ) (form : Form) (txt n : Bytes)
+    → ((m : Bytes) (d : Definition) → lookup m form ≡ some d → (a : Attribute) → List·Memᴰ a (d .attributes) → isValue w (a .value) ≡ true)
     → isValue w txt ≡ true → EveryRow (λ r b. laidRow w r ≡ true) (fillWithin version h form txt n)
 filling-laid version w h form txt n values v =
     every-filled version form txt (λ r b. laidRow w r ≡ true) (λ k m. Unit {0}) (λ k m d x q i j. tt) (λ k m d x q. refl) values (and-both v refl) h n tt
@@ -167,7 +176,8 @@ module _ (version h : ℕ) (form : Form) (txt : Bytes) where
       sorted (n ∷ ns) = sorted ns
 
 -- ---- the attribute rows of a filling are those that must be present
-fill-present : (version : ℕ) (a : Attribute) (table : List Attribute) (f : Forest Row) → mustBePresent version (a .sort) ≡ true → fillAttributes version (a ∷ table) f ≡ tree (attributeRow a) bare (fillAttributes version table f)
+fill-present : (version : ℕ) (a : Attribute) (table : List Attribute) (f : Forest Row) → mustBePresent version (a .sort) ≡ true
+    → fillAttributes version (a ∷ table) f ≡ tree (attributeRow a) bare (fillAttributes version table f)
 unfolding fillAttributes
 fill-present version a table f q = rw (q, fillAttributes)
 
@@ -181,24 +191,29 @@ created-allows implied fill = refl
 created-allows required fill = refl
 created-allows fixed fill = cc (same-refl fill)
 
-begins-fill : (version : ℕ) (n : Bytes) (table : List Attribute) (f : Forest Row) → (List·Memᴰ n (map attributeName table) → ⊥) → headAttribute (heads f) ≡ false → begins n (heads (fillAttributes version table f)) ≡ false
+begins-fill : (version : ℕ) (n : Bytes) (table : List Attribute) (f : Forest Row) → (List·Memᴰ n (map attributeName table) → ⊥) → headAttribute (heads f) ≡ false
+    → begins n (heads (fillAttributes version table f)) ≡ false
 unfolding fillAttributes
 begins-fill version n [] f new h = begins-none n (heads f) h
 begins-fill version n (a ∷ table) f new h = by (mustBePresent version (a .sort)) refl (begins-fill version n table f (λ m. new (List·Memᴰ·tail m)) h)
   where
     by : (c : Bool) → mustBePresent version (a .sort) ≡ c → begins n (heads (fillAttributes version table f)) ≡ false → begins n (heads (fillAttributes version (a ∷ table) f)) ≡ false
-    by true q x = ap (λ (g : Forest Row). begins n (heads g)) (fill-present version a table f q) ∙ begins-other n (attributeRow a) (heads (fillAttributes version table f)) refl (λ e. new (List·Memᴰ·head e))
+    by true q x =
+        ap (λ (g : Forest Row). begins n (heads g)) (fill-present version a table f q) ∙ begins-other n (attributeRow a) (heads (fillAttributes version table f)) refl (λ e. new (List·Memᴰ·head e))
     by false q x = ap (λ (g : Forest Row). begins n (heads g)) (fill-absent version a table f q) ∙ x
 
-pub strip-fill : (version : ℕ) (table : List Attribute) (f : Forest Row) → Distinct (map attributeName table) → headAttribute (heads f) ≡ false → strip version table (heads (fillAttributes version table f)) ≡ some (heads f)
+pub strip-fill : (version : ℕ) (table : List Attribute) (f : Forest Row) → Distinct (map attributeName table) → headAttribute (heads f) ≡ false
+    → strip version table (heads (fillAttributes version table f)) ≡ some (heads f)
 unfolding fillAttributes strip
 strip-fill version [] f d h = refl
 strip-fill version (a ∷ table) f (new, d) h = by (mustBePresent version (a .sort)) refl (strip-fill version table f d h)
   where
-    by : (c : Bool) → mustBePresent version (a .sort) ≡ c → strip version table (heads (fillAttributes version table f)) ≡ some (heads f) → strip version (a ∷ table) (heads (fillAttributes version (a ∷ table) f)) ≡ some (heads f)
+    by : (c : Bool) → mustBePresent version (a .sort) ≡ c → strip version table (heads (fillAttributes version table f)) ≡ some (heads f)
+        → strip version (a ∷ table) (heads (fillAttributes version (a ∷ table) f)) ≡ some (heads f)
     by true q x =
         ap (λ (g : Forest Row). strip version (a ∷ table) (heads g)) (fill-present version a table f q)
-        ∙ strip-take version a table (attributeRow a) (heads (fillAttributes version table f)) (begins-this (a .name) (attributeRow a) (heads (fillAttributes version table f)) refl refl) (created-allows (a .sort) (a .value))
+        ∙ strip-take version a table (attributeRow a) (heads (fillAttributes version table f)) (begins-this (a .name) (attributeRow a) (heads (fillAttributes version table f)) refl refl)
+        (created-allows (a .sort) (a .value))
         ∙ x
     by false q x =
         ap (λ (g : Forest Row). strip version (a ∷ table) (heads g)) (fill-absent version a table f q)
@@ -221,7 +236,8 @@ module _ (version : ℕ) (form : Form) (once : (n : Bytes) (d : Definition) → 
       all-deep : all (λ m. deep h form m) (filling Sequence ms) ≡ true
       all-deep = all-test (λ m. deep h form m) (filling Sequence ms) .1 (λ m i. f m (in-filling m Sequence ms i))
 
-  definition-fits : (h : ℕ) (d : Definition) → Distinct (names (members d)) → Distinct (map attributeName (d .attributes)) → fits (d .content) (heads (fillContent (λ m. fillWithin version h form txt m) txt (d .content))) ≡ true
+  definition-fits : (h : ℕ) (d : Definition) → Distinct (names (members d)) → Distinct (map attributeName (d .attributes))
+      → fits (d .content) (heads (fillContent (λ m. fillWithin version h form txt m) txt (d .content))) ≡ true
       → fitsDefinition version (some d) (heads (fillBelow version h form txt d)) ≡ true
   definition-fits h d o p f =
       ap (fitsStripped (d .content)) (strip-fill version (d .attributes) content p (content-head (d .content) (heads content) (content-is (d .content) o (heads content) .0 f))) ∙ f
@@ -273,7 +289,8 @@ fill-more version zero k form txt n l e = absurd (not-deep form n e)
 fill-more version (suc h) zero form txt n l e = absurd (omega arith)
 fill-more version (suc h) (suc k) form txt n l e = by (deep-there h form n e) (fill-more version h k form txt)
   where
-    by : (d : Definition) × (lookup n form ≡ some d) → ((m : Bytes) → h ≤ k → deep h form m ≡ true → fillWithin version k form txt m ≡ fillWithin version h form txt m) → fillWithin version (suc k) form txt n ≡ fillWithin version (suc h) form txt n
+    by : (d : Definition) × (lookup n form ≡ some d) → ((m : Bytes) → h ≤ k → deep h form m ≡ true → fillWithin version k form txt m ≡ fillWithin version h form txt m)
+        → fillWithin version (suc k) form txt n ≡ fillWithin version (suc h) form txt n
     by (d, q) x =
         fill-known version k form txt n d q
         ∙ ap (λ (z : Forest Row). tree (elementRow n) (fillAttributes version (d .attributes) z) bare)

@@ -170,7 +170,8 @@ module _ (ls : List Line) (big : (m : Line) → List·Memᴰ m ls → 1 ≤ m .r
   set-after (createDefinition n k) version form = unset (plan (createDefinition n k) version form ls) refl
   set-after (destroyDefinition j) version form = unset (plan (destroyDefinition j) version form ls) refl
   set-after (insertElement o p j q t) version form =
-      unset (plan (insertElement o p j q t) version form ls) (set-inserted version form (nameAtIndex o form) t (nameAtIndex j form) (quantifierOf q) (foundIn (insert (quantifierOf q) (nameAtIndex j form)) o p form))
+      unset (plan (insertElement o p j q t) version form ls)
+      (set-inserted version form (nameAtIndex o form) t (nameAtIndex j form) (quantifierOf q) (foundIn (insert (quantifierOf q) (nameAtIndex j form)) o p form))
   set-after (removeElement o p) version form = unset (plan (removeElement o p) version form ls) (set-removed (nameAtIndex o form) (foundIn remove o p form))
   set-after (changeQuantifier o p q t) version form =
       unset (plan (changeQuantifier o p q t) version form ls) (set-quantified version form (nameAtIndex o form) t (quantifierOf q) (foundIn (quantify (quantifierOf q)) o p form))
@@ -208,7 +209,8 @@ module _ (ls : List Line) (l : Line) where
   sets k v none u r = refl
   sets k v (some o) u r = sets-at k o v (childrenOf (attributeNamed (o .attribute .name)) k ls) u r
 
-  regroups : (version : ℕ) (form : Form) (o t : Bytes) (new : Quantifier) (f : Option (Found Bytes)) → noGroupAt f ≡ false → (u r : Row) → pickedPlan (quantifyPlan version form ls o t new) f .takes u r ≡ false
+  regroups : (version : ℕ) (form : Form) (o t : Bytes) (new : Quantifier) (f : Option (Found Bytes)) → noGroupAt f ≡ false → (u r : Row)
+      → pickedPlan (quantifyPlan version form ls o t new) f .takes u r ≡ false
   regroups version form o t new none g u r = refl
   regroups version form o t new (some f) g u r = by (f .context) (f .picked) g
     where
@@ -248,7 +250,8 @@ module _ (ls : List Line) (l : Line) where
       by true q = absurd (f (eqb-eq (l .row .serial) (serialAt 0 (childrenOf (elementNamed x) k ls)) q ∙ ap (λ (j : ℕ). serialAt 0 (childrenOf (elementNamed x) j ls)) e))
       by false q = q
 
-  cut-back : (version : ℕ) (form : Form) (o t : Bytes) (new : Quantifier) (f : Option (Found Bytes)) → AtElement (IsCut o new ls l) f → Ruled (pickedPlan (quantifyPlan version form ls o t new) f .takes) ls l
+  cut-back : (version : ℕ) (form : Form) (o t : Bytes) (new : Quantifier) (f : Option (Found Bytes)) → AtElement (IsCut o new ls l) f
+      → Ruled (pickedPlan (quantifyPlan version form ls o t new) f .takes) ls l
   cut-back version form o t new none z = absurd z
   cut-back version form o t new (some f) z = by (f .context) (f .picked) z
     where
@@ -257,7 +260,8 @@ module _ (ls : List Line) (l : Line) where
       by c (el old x rest) (s, k, (n, (u, i, e, h)), d) = (u .row, inr (u, i, refl), e, and-both (and-both s k) (and-both h (and-both n (ap not (first-back x (u .row .serial) e d)))))
       by c (group q k ms rest) z = absurd z
 
-  cut : (version : ℕ) (form : Form) (o t : Bytes) (new : Quantifier) (f : Option (Found Bytes)) → Ruled (pickedPlan (quantifyPlan version form ls o t new) f .takes) ls l → AtElement (IsCut o new ls l) f
+  cut : (version : ℕ) (form : Form) (o t : Bytes) (new : Quantifier) (f : Option (Found Bytes)) → Ruled (pickedPlan (quantifyPlan version form ls o t new) f .takes) ls l
+      → AtElement (IsCut o new ls l) f
   cut version form o t new none (u, a, e, h) = absurd (false≢true h)
   cut version form o t new (some f) z = by (f .context) (f .picked) z
     where
@@ -410,7 +414,8 @@ module _ (ls : List Line) (u : ℕ) where
   abbrev LackingAll : Bytes → Quantifier → Context Bytes → Quantifier → Members Bytes → Type 0
   LackingAll o new c old ms = (spine c ≡ true) × (gains old new ≡ true) × (childrenOf (elementAmong (names ms)) u ls ≡ [])
 
-  group-gained : (version : ℕ) (form : Form) (o t : Bytes) (new : Quantifier) (f : Option (Found Bytes)) → noGroupAt f ≡ false → Filled (pickedPlan (quantifyPlan version form ls o t new) f .fills) ls u
+  group-gained : (version : ℕ) (form : Form) (o t : Bytes) (new : Quantifier) (f : Option (Found Bytes)) → noGroupAt f ≡ false
+      → Filled (pickedPlan (quantifyPlan version form ls o t new) f .fills) ls u
       → AtGroup (λ c old ms. LackingAll o new c old ms) f × HasLine (elementNamed o) ls u
   group-gained version form o t new none g z = absurd (false≢true (sym g))
   group-gained version form o t new (some f) g z = by (f .context) (f .picked) g z
@@ -456,7 +461,8 @@ module _ (ls : List Line) (u : ℕ) where
   unfolding plan MakesBelow
   makes (createDefinition n k) version form g z = nowhere (λ r. false) (λ r. refl) ls u z
   makes (destroyDefinition i) version form g z = nowhere (λ r. false) (λ r. refl) ls u z
-  makes (insertElement o p i q t) version form g z = inserted version form (nameAtIndex o form) t (nameAtIndex i form) (quantifierOf q) (foundIn (insert (quantifierOf q) (nameAtIndex i form)) o p form) z
+  makes (insertElement o p i q t) version form g z =
+      inserted version form (nameAtIndex o form) t (nameAtIndex i form) (quantifierOf q) (foundIn (insert (quantifierOf q) (nameAtIndex i form)) o p form) z
   makes (removeElement o p) version form g z = nowhere _ (removes-fill (nameAtIndex o form) (foundIn remove o p form)) ls u z
   makes (changeQuantifier o p q t) version form g z = gained version form (nameAtIndex o form) t (quantifierOf q) (foundIn (quantify (quantifierOf q)) o p form) g z
   makes (convertToGroup o p n k) version form g z = nowhere (λ r. false) (λ r. refl) ls u z
@@ -479,7 +485,8 @@ module _ (ls : List Line) (u : ℕ) where
   unfolding plan MakesBelow
   filled (createDefinition n k) version form g z = absurd z
   filled (destroyDefinition i) version form g z = absurd z
-  filled (insertElement o p i q t) version form g (x, y) = inserted-back version form (nameAtIndex o form) t (nameAtIndex i form) (quantifierOf q) (foundIn (insert (quantifierOf q) (nameAtIndex i form)) o p form) x y
+  filled (insertElement o p i q t) version form g (x, y) =
+      inserted-back version form (nameAtIndex o form) t (nameAtIndex i form) (quantifierOf q) (foundIn (insert (quantifierOf q) (nameAtIndex i form)) o p form) x y
   filled (removeElement o p) version form g z = absurd z
   filled (changeQuantifier o p q t) version form g (x, y) = gained-back version form (nameAtIndex o form) t (quantifierOf q) (foundIn (quantify (quantifierOf q)) o p form) x y
   filled (convertToGroup o p n k) version form g z = absurd z
@@ -499,7 +506,8 @@ module _ (ls : List Line) (u : ℕ) where
   filling-inserted version form o t n q none z = absurd z
   filling-inserted version form o t n q (some f) z = refl
 
-  filling-quantified : (version : ℕ) (form : Form) (o t : Bytes) (new : Quantifier) (f : Option (Found Bytes)) → pickedPlan (quantifyPlan version form ls o t new) f .filling ≡ fillingAt version form t new f
+  filling-quantified : (version : ℕ) (form : Form) (o t : Bytes) (new : Quantifier) (f : Option (Found Bytes))
+      → pickedPlan (quantifyPlan version form ls o t new) f .filling ≡ fillingAt version form t new f
   filling-quantified version form o t new none = refl
   filling-quantified version form o t new (some f) = by (f .context) (f .picked)
     where

@@ -28,7 +28,7 @@ use Rattle.history.proofs.Moments.{start-good, moment-good}
 use Rattle.history.proofs.Theorem.{demand-3-by}
 
 module _ (room : ℕ) (c : Call) (s : Store) (x : GoodTests s) (a : refusal room c s ≡ 0) where
-  conforms : (e : Bool) → editsModel c ≡ e → conforming (formAfter c (s .form)) (docsAfter c s) ≡ true
+  conforms : (e : Bool) → editsModel c ≡ e → conforming (s .version) (formAfter c (s .form)) (docsAfter c s) ≡ true
   conforms true e = conforming-edited (valueWidth (s .version)) s (x .form) (x .serials) c (accepted-edit (valueWidth (s .version)) s (x .form) c e (unmet room c s a)) (x .docs)
   conforms false e = conforming-after-simple room s x c e a
 

@@ -44,7 +44,7 @@ pub record Accepted (s : Store) (c : Call) : Type 0 where
   pub placed : misplaced bytes edit (found .context) (found .picked) ≡ false
   pub fitting : instanceExists (nameAtIndex o (s .form)) s ≡ true → unfit edit (found .context) (found .picked) ≡ false
   pub insertable : Insertable (s .form) (nameAtIndex o (s .form)) edit
-  pub planned : (ls : List Line) → plan c (s .form) ls ≡ editPlan (s .form) ls (nameAtIndex o (s .form)) txt edit (found .context) (found .picked)
+  pub planned : (ls : List Line) → plan c (s .version) (s .form) ls ≡ editPlan (s .version) (s .form) ls (nameAtIndex o (s .form)) txt edit (found .context) (found .picked)
   pub formed : formAfter c (s .form) ≡ editModel o at edit (s .form)
 
 -- ---- the calls
@@ -54,7 +54,8 @@ module _ (w : ℕ) (s : Store) (ok : wellFormed w (s .form) ≡ true) (o : ℕ) 
 
   accept : (c : Call) (e : Edit Bytes) (txt : Bytes) (f : Found Bytes) → beyond o (s .form) ≡ false → placeOf e p (members (definitionAt o (s .form))) ≡ some f → isComplex (definitionAt o (s .form) .content) ≡ true
       → misplaced bytes e (f .context) (f .picked) ≡ false → (instanceExists (nameAtIndex o (s .form)) s ≡ true → unfit e (f .context) (f .picked) ≡ false) → Insertable (s .form) (nameAtIndex o (s .form)) e
-      → ((ls : List Line) → plan c (s .form) ls ≡ editPlan (s .form) ls (nameAtIndex o (s .form)) txt e (f .context) (f .picked)) → formAfter c (s .form) ≡ editModel o p e (s .form) → Accepted s c
+      → ((ls : List Line) → plan c (s .version) (s .form) ls ≡ editPlan (s .version) (s .form) ls (nameAtIndex o (s .form)) txt e (f .context) (f .picked))
+      → formAfter c (s .form) ≡ editModel o p e (s .form) → Accepted s c
   accept c e txt f l at x m u i pl fo =
       record {
         o = o;
@@ -104,7 +105,7 @@ module _ (w : ℕ) (s : Store) (ok : wellFormed w (s .form) ≡ true) (o : ℕ) 
       by (some f) at a b =
           accept (insertElement o p i q t) e t f (or-split (beyond o (s .form)) (beyond i (s .form)) c6 .0) at (not-false (isComplex (definitionAt o (s .form) .content)) c9)
           (ap (λ (z : Members Bytes). member bytes n (names z)) (place-right e p model f at) ∙ c10) (λ x. and-false (instanceExists (nameAtIndex o (s .form)) s) (insertOff (f .context) (quantifierOf q)) b x) outside
-          (λ ls. ap (insertPlan (s .form) (nameAtIndex o (s .form)) t (quantifierOf q) n) at) refl
+          (λ ls. ap (insertPlan (s .version) (s .form) (nameAtIndex o (s .form)) t (quantifierOf q) n) at) refl
 
   pub accepted-remove : Unmet (conditions (removeElement o p) s) → Accepted s (removeElement o p)
   unfolding conditions plan formAfter
@@ -119,11 +120,14 @@ module _ (w : ℕ) (s : Store) (ok : wellFormed w (s .form) ≡ true) (o : ℕ) 
           (λ ls. ap (pickedPlan (λ c t. removePlan (nameAtIndex o (s .form)) t)) at) refl
 
   -- the plans and the forms of 5 and 8 are the same
-  quantified : (c : Call) (r : Quantifier) (t : Bytes) → ((ls : List Line) → plan c (s .form) ls ≡ pickedPlan (quantifyPlan (s .form) ls (nameAtIndex o (s .form)) t r) (placeOf (quantify r) p (members (definitionAt o (s .form)))))
+  quantified : (c : Call) (r : Quantifier) (t : Bytes)
+      → ((ls : List Line) → plan c (s .version) (s .form) ls
+      ≡ pickedPlan (quantifyPlan (s .version) (s .form) ls (nameAtIndex o (s .form)) t r) (placeOf (quantify r) p (members (definitionAt o (s .form)))))
       → formAfter c (s .form) ≡ editModel o p (quantify r) (s .form) → beyond o (s .form) ≡ false → (f : Found Bytes) → placeOf (quantify r) p (members (definitionAt o (s .form))) ≡ some f → isDone (f .picked) ≡ false
       → (instanceExists (nameAtIndex o (s .form)) s ≡ true → unfit (quantify r) (f .context) (f .picked) ≡ false) → Accepted s c
   quantified c r t pl fo l f at a u =
-      accept c (quantify r) t f l at (some-complex (quantify r) f at a) (quantify-placed (f .context) r (f .picked) a) u tt (λ ls. pl ls ∙ ap (pickedPlan (quantifyPlan (s .form) ls (nameAtIndex o (s .form)) t r)) at) fo
+      accept c (quantify r) t f l at (some-complex (quantify r) f at a) (quantify-placed (f .context) r (f .picked) a) u tt
+      (λ ls. pl ls ∙ ap (pickedPlan (quantifyPlan (s .version) (s .form) ls (nameAtIndex o (s .form)) t r)) at) fo
 
   pub accepted-quantify : (q : ℕ) (t : Bytes) → Unmet (conditions (changeQuantifier o p q t) s) → Accepted s (changeQuantifier o p q t)
   unfolding conditions plan formAfter

@@ -95,9 +95,9 @@ unfolding after note
 agree-after c s b a g =
     record {
       version = g .version;
-      next = rw (g .next, g .form, g .rows) (ap (λ (k : ℕ). s .next + k) (plan-count (plan c (s .form) (lines 0 (s .docs))) (s .docs) (b .entries) (g .rows) a));
+      next = rw (g .next, g .version, g .form, g .rows) (ap (λ (k : ℕ). s .next + k) (plan-count (plan c (s .version) (s .form) (lines 0 (s .docs))) (s .docs) (b .entries) (g .rows) a));
       form = ap (λ (f : Form). formAfter c f) (g .form);
-      rows = rw (g .next, g .form, g .rows) (plan-lines (plan c (s .form) (lines 0 (s .docs))) (s .docs) (b .entries) (g .rows) a (s .next));
+      rows = rw (g .next, g .version, g .form, g .rows) (plan-lines (plan c (s .version) (s .form) (lines 0 (s .docs))) (s .docs) (b .entries) (g .rows) a (s .next));
     }
 
 -- ---- serials

@@ -1,5 +1,6 @@
 -- The rows right below one element when an attribute is added to its table or taken out of it.
 -- Assumes nothing.
+use Prim.Native.Nat.{ℕ}
 use mathlib.Core.Path.{_≡_, refl, sym, ap, _∙_}
 use mathlib.Core.Logic.{⊎-elim}
 use mathlib.Core.Bool.{Bool, true, false, not, false≢true}
@@ -20,27 +21,29 @@ use Rattle.history.proofs.RowEdits.{keep, plantRows}
 use Rattle.history.proofs.Untouched.{keep-all, keep-in, plant-none}
 
 -- ---- one entry of the table, when the rest is known
-pub data Step (a : Attribute) (table : List Attribute) (rows rest : List Row) : Type 0 where
-  took : (r : Row) (more : List Row) → rows ≡ r ∷ more → begins (a .name) (r ∷ more) ≡ true → allows (a .sort) (a .value) (r .value) ≡ true → strip table more ≡ some rest → Step a table rows rest
-  passed : begins (a .name) rows ≡ false → mustBePresent (a .sort) ≡ false → strip table rows ≡ some rest → Step a table rows rest
+pub data Step (version : ℕ) (a : Attribute) (table : List Attribute) (rows rest : List Row) : Type 0 where
+  took : (r : Row) (more : List Row) → rows ≡ r ∷ more → begins (a .name) (r ∷ more) ≡ true → allows (a .sort) (a .value) (r .value) ≡ true → strip version table more ≡ some rest
+      → Step version a table rows rest
+  passed : begins (a .name) rows ≡ false → mustBePresent version (a .sort) ≡ false → strip version table rows ≡ some rest → Step version a table rows rest
 
 none-some : {A : Type 0} {x : A} → none ≡ some x → ⊥
 none-some e = let z : false ≡ true = cc e in false≢true z
 
-pub strip-step : (a : Attribute) (table : List Attribute) (rows rest : List Row) → strip (a ∷ table) rows ≡ some rest → Step a table rows rest
+pub strip-step : (version : ℕ) (a : Attribute) (table : List Attribute) (rows rest : List Row) → strip version (a ∷ table) rows ≡ some rest → Step version a table rows rest
 unfolding strip begins
-strip-step a table [] rest e = by (mustBePresent (a .sort)) refl
+strip-step version a table [] rest e = by (mustBePresent version (a .sort)) refl
   where
-    by : (m : Bool) → mustBePresent (a .sort) ≡ m → Step a table [] rest
+    by : (m : Bool) → mustBePresent version (a .sort) ≡ m → Step version a table [] rest
     by true m = absurd (none-some (rw (m, strip) at e))
     by false m = passed refl m (rw (m, strip) at e)
-strip-step a table (r ∷ rows) rest e = by (begins (a .name) (r ∷ rows)) refl (mustBePresent (a .sort)) refl (allows (a .sort) (a .value) (r .value)) refl
+strip-step version a table (r ∷ rows) rest e = by (begins (a .name) (r ∷ rows)) refl (mustBePresent version (a .sort)) refl (allows (a .sort) (a .value) (r .value)) refl
   where
-    by : (b : Bool) → begins (a .name) (r ∷ rows) ≡ b → (m : Bool) → mustBePresent (a .sort) ≡ m → (v : Bool) → allows (a .sort) (a .value) (r .value) ≡ v → Step a table (r ∷ rows) rest
-    by true b m p true v = took r rows refl b v (sym (strip-take a table r rows b v) ∙ e)
-    by true b m p false v = let z : strip (a ∷ table) (r ∷ rows) ≡ none = rw (b, strip) (rw v) in absurd (none-some (sym z ∙ e))
-    by false b true p v q = let z : strip (a ∷ table) (r ∷ rows) ≡ none = rw (b, strip) (rw p) in absurd (none-some (sym z ∙ e))
-    by false b false p v q = passed b p (sym (strip-past a table (r ∷ rows) b p) ∙ e)
+    by : (b : Bool) → begins (a .name) (r ∷ rows) ≡ b → (m : Bool) → mustBePresent version (a .sort) ≡ m → (v : Bool) → allows (a .sort) (a .value) (r .value) ≡ v
+        → Step version a table (r ∷ rows) rest
+    by true b m p true v = took r rows refl b v (sym (strip-take version a table r rows b v) ∙ e)
+    by true b m p false v = let z : strip version (a ∷ table) (r ∷ rows) ≡ none = rw (b, strip) (rw v) in absurd (none-some (sym z ∙ e))
+    by false b true p v q = let z : strip version (a ∷ table) (r ∷ rows) ≡ none = rw (b, strip) (rw p) in absurd (none-some (sym z ∙ e))
+    by false b false p v q = passed b p (sym (strip-past version a table (r ∷ rows) b p) ∙ e)
 
 -- ---- content: no attribute row among it
 abbrev pub noAttribute : Row → Bool
@@ -86,19 +89,21 @@ plain-in (s ∷ rows) e r m =
     ⊎-elim (λ q. rw q (not-true (isAttribute (s .sort)) x)) (λ n. plain-in rows y r n) (List·Memᴰ·cases-cons m)
 
 -- ---- a longer table goes on with what the shorter left
-pub strip-more : (table more : List Attribute) (rows rest : List Row) → strip table rows ≡ some rest → strip (table ++ more) rows ≡ strip more rest
+pub strip-more : (version : ℕ) (table more : List Attribute) (rows rest : List Row) → strip version table rows ≡ some rest → strip version (table ++ more) rows ≡ strip version more rest
 unfolding strip
-strip-more [] more rows rest e = let z : rows ≡ rest = cc e in ap (strip more) z
-strip-more (a ∷ table) more rows rest e = by (strip-step a table rows rest e) (strip-more table more)
+strip-more version [] more rows rest e = let z : rows ≡ rest = cc e in ap (strip version more) z
+strip-more version (a ∷ table) more rows rest e = by (strip-step version a table rows rest e) (strip-more version table more)
   where
-    by : Step a table rows rest → ((rows rest : List Row) → strip table rows ≡ some rest → strip (table ++ more) rows ≡ strip more rest) → strip (a ∷ (table ++ more)) rows ≡ strip more rest
-    by (took r rs q b v t) f = ap (strip (a ∷ (table ++ more))) q ∙ strip-take a (table ++ more) r rs b v ∙ f rs rest t
-    by (passed b m t) f = strip-past a (table ++ more) rows b m ∙ f rows rest t
+    by : Step version a table rows rest → ((rows rest : List Row) → strip version table rows ≡ some rest → strip version (table ++ more) rows ≡ strip version more rest)
+        → strip version (a ∷ (table ++ more)) rows ≡ strip version more rest
+    by (took r rs q b v t) f = ap (strip version (a ∷ (table ++ more))) q ∙ strip-take version a (table ++ more) r rs b v ∙ f rs rest t
+    by (passed b m t) f = strip-past version a (table ++ more) rows b m ∙ f rows rest t
 
 -- an entry that need not be present, with no row
-pub strip-added : (a : Attribute) (table : List Attribute) (rows rest : List Row) → mustBePresent (a .sort) ≡ false → all noAttribute rest ≡ true → strip table rows ≡ some rest → strip (table ++ a ∷ []) rows ≡ some rest
+pub strip-added : (version : ℕ) (a : Attribute) (table : List Attribute) (rows rest : List Row) → mustBePresent version (a .sort) ≡ false → all noAttribute rest ≡ true
+    → strip version table rows ≡ some rest → strip version (table ++ a ∷ []) rows ≡ some rest
 unfolding strip
-strip-added a table rows rest m n e = strip-more table (a ∷ []) rows rest e ∙ strip-past a [] rest (begins-none (a .name) rest (plain-head rest n)) m
+strip-added version a table rows rest m n e = strip-more version table (a ∷ []) rows rest e ∙ strip-past version a [] rest (begins-none (a .name) rest (plain-head rest n)) m
 
 is-attribute : (s : RowSort) → isAttribute s ≡ true → s ≡ attribute
 is-attribute element e = absurd (false≢true e)
@@ -110,7 +115,7 @@ begins-attribute : (n : Bytes) (r : Row) (rows : List Row) → begins n (r ∷ r
 unfolding begins
 begins-attribute n r rows e = let (x, y) = and-split (isAttribute (r .sort)) (same n (r .name)) e in (is-attribute (r .sort) x, same-eq n (r .name) y)
 
-module _ (p : Plan) (u : Row) (later : (r : Row) → p .later u r ≡ noAttribute r) (x : Row) (one : heads (p .filling) ≡ x ∷ []) where
+module _ (version : ℕ) (p : Plan) (u : Row) (later : (r : Row) → p .later u r ≡ noAttribute r) (x : Row) (one : heads (p .filling) ≡ x ∷ []) where
   planted-none : (rows : List Row) → headAttribute rows ≡ false → plantRows p u true rows ≡ x ∷ rows
   unfolding plantRows headAttribute
   planted-none [] h = one
@@ -132,32 +137,35 @@ module _ (p : Plan) (u : Row) (later : (r : Row) → p .later u r ≡ noAttribut
 
   -- the rows of the table come off, the new row stays
   pub strip-planted : (table : List Attribute) (rows rest : List Row) → (List·Memᴰ (x .name) (map attributeName table) → ⊥) → x .sort ≡ attribute → all noAttribute rest ≡ true
-      → strip table rows ≡ some rest → strip table (plantRows p u true rows) ≡ some (x ∷ rest)
+      → strip version table rows ≡ some rest → strip version table (plantRows p u true rows) ≡ some (x ∷ rest)
   unfolding strip
   strip-planted [] rows rest f s n e = let z : rows ≡ rest = cc e in ap (λ (l : List Row). some (plantRows p u true l)) z ∙ ap (λ (l : List Row). some l) (planted-none rest (plain-head rest n))
-  strip-planted (a ∷ table) rows rest f s n e = by (strip-step a table rows rest e) (λ rows. strip-planted table rows rest (λ m. f (List·Memᴰ·tail m)) s n)
+  strip-planted (a ∷ table) rows rest f s n e = by (strip-step version a table rows rest e) (λ rows. strip-planted table rows rest (λ m. f (List·Memᴰ·tail m)) s n)
     where
-      by : Step a table rows rest → ((rows : List Row) → strip table rows ≡ some rest → strip table (plantRows p u true rows) ≡ some (x ∷ rest)) → strip (a ∷ table) (plantRows p u true rows) ≡ some (x ∷ rest)
+      by : Step version a table rows rest → ((rows : List Row) → strip version table rows ≡ some rest → strip version table (plantRows p u true rows) ≡ some (x ∷ rest))
+          → strip version (a ∷ table) (plantRows p u true rows) ≡ some (x ∷ rest)
       by (took r rs q b v t) g =
-          ap (λ (l : List Row). strip (a ∷ table) (plantRows p u true l)) q
-          ∙ ap (strip (a ∷ table)) (planted-past r rs (ap isAttribute (begins-attribute (a .name) r rs b .0)))
-          ∙ strip-take a table r (plantRows p u true rs) (begins-this (a .name) r (plantRows p u true rs) (begins-attribute (a .name) r rs b .0) (sym (begins-attribute (a .name) r rs b .1))) v
+          ap (λ (l : List Row). strip version (a ∷ table) (plantRows p u true l)) q
+          ∙ ap (strip version (a ∷ table)) (planted-past r rs (ap isAttribute (begins-attribute (a .name) r rs b .0)))
+          ∙ strip-take version a table r (plantRows p u true rs) (begins-this (a .name) r (plantRows p u true rs) (begins-attribute (a .name) r rs b .0) (sym (begins-attribute (a .name) r rs b .1))) v
           ∙ g rs t
-      by (passed b m t) g = strip-past a table (plantRows p u true rows) (planted-begins (a .name) rows (λ q. f (List·Memᴰ·head (sym q))) s b) m ∙ g rows t
+      by (passed b m t) g = strip-past version a table (plantRows p u true rows) (planted-begins (a .name) rows (λ q. f (List·Memᴰ·head (sym q))) s b) m ∙ g rows t
 
 -- ---- an attribute's rows taken, and its entry
 -- every attribute row is an entry's
-pub owned-rows : (table : List Attribute) (rows rest : List Row) → all noAttribute rest ≡ true → strip table rows ≡ some rest → (r : Row) → List·Memᴰ r rows → isAttribute (r .sort) ≡ true → List·Memᴰ (r .name) (map attributeName table)
+pub owned-rows : (version : ℕ) (table : List Attribute) (rows rest : List Row) → all noAttribute rest ≡ true → strip version table rows ≡ some rest → (r : Row) → List·Memᴰ r rows
+    → isAttribute (r .sort) ≡ true → List·Memᴰ (r .name) (map attributeName table)
 unfolding strip
-owned-rows [] rows rest n e r m h = let z : rows ≡ rest = cc e in absurd (false≢true (sym (plain-in rows (rw z n) r m) ∙ h))
-owned-rows (a ∷ table) rows rest n e r m h = by (strip-step a table rows rest e) (λ rows t m. owned-rows table rows rest n t r m h)
+owned-rows version [] rows rest n e r m h = let z : rows ≡ rest = cc e in absurd (false≢true (sym (plain-in rows (rw z n) r m) ∙ h))
+owned-rows version (a ∷ table) rows rest n e r m h = by (strip-step version a table rows rest e) (λ rows t m. owned-rows version table rows rest n t r m h)
   where
-    by : Step a table rows rest → ((rows : List Row) → strip table rows ≡ some rest → List·Memᴰ r rows → List·Memᴰ (r .name) (map attributeName table)) → List·Memᴰ (r .name) (map attributeName (a ∷ table))
+    by : Step version a table rows rest → ((rows : List Row) → strip version table rows ≡ some rest → List·Memᴰ r rows → List·Memᴰ (r .name) (map attributeName table))
+        → List·Memᴰ (r .name) (map attributeName (a ∷ table))
     by (took s rs q b v t) f =
         ⊎-elim (λ i. List·Memᴰ·head (ap nameOf i ∙ sym (begins-attribute (a .name) s rs b .1))) (λ i. List·Memᴰ·tail (f rs t i)) (List·Memᴰ·cases-cons (rw q at m))
     by (passed b p t) f = List·Memᴰ·tail (f rows t m)
 
-module _ (n : Bytes) where
+module _ (version : ℕ) (n : Bytes) where
   abbrev other : Row → Bool
   other r = not (attributeNamed n r)
 
@@ -170,12 +178,13 @@ module _ (n : Bytes) where
   keep-not r rows e = rw (e, keep)
 
   -- a table without the name has no row of it
-  keep-owned : (table : List Attribute) (rows rest : List Row) → (List·Memᴰ n (map attributeName table) → ⊥) → all noAttribute rest ≡ true → strip table rows ≡ some rest → keep other rows ≡ rows
+  keep-owned : (table : List Attribute) (rows rest : List Row) → (List·Memᴰ n (map attributeName table) → ⊥) → all noAttribute rest ≡ true → strip version table rows ≡ some rest
+      → keep other rows ≡ rows
   keep-owned table rows rest f p e = keep-all other rows (λ r m. by r m (isAttribute (r .sort)) refl)
     where
       by : (r : Row) → List·Memᴰ r rows → (c : Bool) → isAttribute (r .sort) ≡ c → other r ≡ true
       by r m false h = rw h
-      by r m true h = rw (h, differs bytes n (r .name) (λ q. f (Memᴰ·cast q (owned-rows table rows rest p e r m h))))
+      by r m true h = rw (h, differs bytes n (r .name) (λ q. f (Memᴰ·cast q (owned-rows version table rows rest p e r m h))))
 
   begins-kept : (k : Bytes) (rows : List Row) → ((r : Row) → List·Memᴰ r rows → isAttribute (r .sort) ≡ true → k ≡ r .name → ⊥) → begins k (keep other rows) ≡ false
   begins-kept k rows f = by (keep other rows) (λ r m. f r (keep-in other rows r m))
@@ -188,32 +197,36 @@ module _ (n : Bytes) where
           of true e = let (s, q) = begins-attribute k r rows e in absurd (f r (List·Memᴰ·head refl) (ap isAttribute s) q)
           of false e = e
 
-  pub strip-lacking : (table : List Attribute) (rows rest : List Row) → Distinct (map attributeName table) → all noAttribute rest ≡ true → strip table rows ≡ some rest
-      → strip (lacking n table) (keep other rows) ≡ some rest
+  pub strip-lacking : (table : List Attribute) (rows rest : List Row) → Distinct (map attributeName table) → all noAttribute rest ≡ true → strip version table rows ≡ some rest
+      → strip version (lacking n table) (keep other rows) ≡ some rest
   unfolding strip
   strip-lacking [] rows rest d p e = let z : rows ≡ rest = cc e in ap (λ (l : List Row). some l) (keep-all other rows (λ r m. kept r (plain-in rows (rw z p) r m)) ∙ z)
     where
       kept : (r : Row) → isAttribute (r .sort) ≡ false → other r ≡ true
       kept r h = rw h
-  strip-lacking (a ∷ table) rows rest (new, d) p e = by (same n (a .name)) refl (strip-step a table rows rest e) (λ rows. strip-lacking table rows rest d p)
+  strip-lacking (a ∷ table) rows rest (new, d) p e = by (same n (a .name)) refl (strip-step version a table rows rest e) (λ rows. strip-lacking table rows rest d p)
     where
       Goal : Type 0
-      Goal = strip (lacking n (a ∷ table)) (keep other rows) ≡ some rest
+      Goal = strip version (lacking n (a ∷ table)) (keep other rows) ≡ some rest
 
-      by : (c : Bool) → same n (a .name) ≡ c → Step a table rows rest → ((rows : List Row) → strip table rows ≡ some rest → strip (lacking n table) (keep other rows) ≡ some rest) → Goal
+      by : (c : Bool) → same n (a .name) ≡ c → Step version a table rows rest
+          → ((rows : List Row) → strip version table rows ≡ some rest → strip version (lacking n table) (keep other rows) ≡ some rest) → Goal
       by true g (took r rs q b v t) f =
           let (s, k) = begins-attribute (a .name) r rs b in
           let o : other r ≡ false = rw (s, same-eq n (a .name) g ∙ k) (ap not (same-refl (r .name))) in
-          rw (g, lacking) (ap (λ (l : List Row). strip table (keep other l)) q ∙ ap (strip table) (keep-not r rs o ∙ keep-owned table rs rest (λ m. new (Memᴰ·cast (sym (same-eq n (a .name) g)) m)) p t) ∙ t)
-      by true g (passed b m t) f = rw (g, lacking) (ap (strip table) (keep-owned table rows rest (λ i. new (Memᴰ·cast (sym (same-eq n (a .name) g)) i)) p t) ∙ t)
+          rw (g, lacking)
+          (ap (λ (l : List Row). strip version table (keep other l)) q
+          ∙ ap (strip version table) (keep-not r rs o ∙ keep-owned table rs rest (λ m. new (Memᴰ·cast (sym (same-eq n (a .name) g)) m)) p t)
+          ∙ t)
+      by true g (passed b m t) f = rw (g, lacking) (ap (strip version table) (keep-owned table rows rest (λ i. new (Memᴰ·cast (sym (same-eq n (a .name) g)) i)) p t) ∙ t)
       by false g (took r rs q b v t) f =
           let (s, k) = begins-attribute (a .name) r rs b in
           let o : other r ≡ true = rw (s, ← k) (ap not g) in
           rw (g, lacking)
-          (ap (λ (l : List Row). strip (a ∷ lacking n table) (keep other l)) q
-          ∙ ap (strip (a ∷ lacking n table)) (keep-this r rs o)
-          ∙ strip-take a (lacking n table) r (keep other rs) (begins-this (a .name) r (keep other rs) s (sym k)) v
+          (ap (λ (l : List Row). strip version (a ∷ lacking n table) (keep other l)) q
+          ∙ ap (strip version (a ∷ lacking n table)) (keep-this r rs o)
+          ∙ strip-take version a (lacking n table) r (keep other rs) (begins-this (a .name) r (keep other rs) s (sym k)) v
           ∙ f rs t)
       by false g (passed b m t) f =
           rw (g, lacking)
-          (strip-past a (lacking n table) (keep other rows) (begins-kept (a .name) rows (λ r i h q. new (Memᴰ·cast q (owned-rows table rows rest p t r i h)))) m ∙ f rows t)
+          (strip-past version a (lacking n table) (keep other rows) (begins-kept (a .name) rows (λ r i h q. new (Memᴰ·cast q (owned-rows version table rows rest p t r i h)))) m ∙ f rows t)

@@ -72,9 +72,10 @@ known room (setText k t) s a = tt
 
 -- ---- which rows are filled does not depend on values
 module _ (k : ℕ) (v : Bytes) (r : Row) where
-  insert-alike : (form : Form) (o t n : Bytes) (q : Quantifier) (f : Option (Found Bytes)) → insertPlan form o t q n f .fills (revalue k v r) ≡ insertPlan form o t q n f .fills r
-  insert-alike form o t n q none = refl
-  insert-alike form o t n q (some f) = refl
+  insert-alike : (version : ℕ) (form : Form) (o t n : Bytes) (q : Quantifier) (f : Option (Found Bytes))
+      → insertPlan version form o t q n f .fills (revalue k v r) ≡ insertPlan version form o t q n f .fills r
+  insert-alike version form o t n q none = refl
+  insert-alike version form o t n q (some f) = refl
 
   remove-alike : (o : Bytes) (f : Option (Found Bytes)) → pickedPlan (λ c t. removePlan o t) f .fills (revalue k v r) ≡ pickedPlan (λ c t. removePlan o t) f .fills r
   remove-alike o none = refl
@@ -85,12 +86,12 @@ module _ (k : ℕ) (v : Bytes) (r : Row) where
       by (el q x rest) = refl
       by (group q j ms rest) = refl
 
-  quantify-alike : (form : Form) (ls : List Line) (o t : Bytes) (q : Quantifier) (f : Option (Found Bytes))
-      → pickedPlan (quantifyPlan form ls o t q) f .fills (revalue k v r) ≡ pickedPlan (quantifyPlan form ls o t q) f .fills r
-  quantify-alike form ls o t q none = refl
-  quantify-alike form ls o t q (some f) = by (f .context) (f .picked)
+  quantify-alike : (version : ℕ) (form : Form) (ls : List Line) (o t : Bytes) (q : Quantifier) (f : Option (Found Bytes))
+      → pickedPlan (quantifyPlan version form ls o t q) f .fills (revalue k v r) ≡ pickedPlan (quantifyPlan version form ls o t q) f .fills r
+  quantify-alike version form ls o t q none = refl
+  quantify-alike version form ls o t q (some f) = by (f .context) (f .picked)
     where
-      by : (c : Context Bytes) (x : Members Bytes) → quantifyPlan form ls o t q c x .fills (revalue k v r) ≡ quantifyPlan form ls o t q c x .fills r
+      by : (c : Context Bytes) (x : Members Bytes) → quantifyPlan version form ls o t q c x .fills (revalue k v r) ≡ quantifyPlan version form ls o t q c x .fills r
       by c done = refl
       by c (el q x rest) = refl
       by c (group q j ms rest) = refl
@@ -107,24 +108,25 @@ module _ (k : ℕ) (v : Bytes) (r : Row) where
       by [] = refl
       by (s ∷ ss) = refl
 
-  fills-alike : (c : Call) (form : Form) (ls : List Line) → plan c form ls .fills (revalue k v r) ≡ plan c form ls .fills r
+  fills-alike : (c : Call) (version : ℕ) (form : Form) (ls : List Line) → plan c version form ls .fills (revalue k v r) ≡ plan c version form ls .fills r
   unfolding plan
-  fills-alike (createDefinition n j) form ls = refl
-  fills-alike (destroyDefinition i) form ls = refl
-  fills-alike (insertElement o p i q t) form ls = insert-alike form (nameAtIndex o form) t (nameAtIndex i form) (quantifierOf q) (foundIn (insert (quantifierOf q) (nameAtIndex i form)) o p form)
-  fills-alike (removeElement o p) form ls = remove-alike (nameAtIndex o form) (foundIn remove o p form)
-  fills-alike (changeQuantifier o p q t) form ls = quantify-alike form ls (nameAtIndex o form) t (quantifierOf q) (foundIn (quantify (quantifierOf q)) o p form)
-  fills-alike (convertToGroup o p n j) form ls = refl
-  fills-alike (flattenGroup o p) form ls = refl
-  fills-alike (changeGroupQuantifier o p q t) form ls = quantify-alike form ls (nameAtIndex o form) t (quantifierOf q) (foundIn (quantify (quantifierOf q)) o p form)
-  fills-alike (addAttribute o n j x) form ls = refl
-  fills-alike (destroyAttribute a) form ls = drop-alike (λ o u. elementNamed (o .owner .name) u) (attributeAt a form)
-  fills-alike (addDocument i t) form ls = refl
-  fills-alike (addElement e j i t) form ls = refl
-  fills-alike (destroyElement e) form ls = refl
-  fills-alike (setAttribute e a x) form ls = set-alike ls e x (attributeAt a form)
-  fills-alike (destroyAttributeRow e a) form ls = drop-alike (λ o u. elementWith e u) (attributeAt a form)
-  fills-alike (setText e t) form ls = refl
+  fills-alike (createDefinition n j) version form ls = refl
+  fills-alike (destroyDefinition i) version form ls = refl
+  fills-alike (insertElement o p i q t) version form ls =
+      insert-alike version form (nameAtIndex o form) t (nameAtIndex i form) (quantifierOf q) (foundIn (insert (quantifierOf q) (nameAtIndex i form)) o p form)
+  fills-alike (removeElement o p) version form ls = remove-alike (nameAtIndex o form) (foundIn remove o p form)
+  fills-alike (changeQuantifier o p q t) version form ls = quantify-alike version form ls (nameAtIndex o form) t (quantifierOf q) (foundIn (quantify (quantifierOf q)) o p form)
+  fills-alike (convertToGroup o p n j) version form ls = refl
+  fills-alike (flattenGroup o p) version form ls = refl
+  fills-alike (changeGroupQuantifier o p q t) version form ls = quantify-alike version form ls (nameAtIndex o form) t (quantifierOf q) (foundIn (quantify (quantifierOf q)) o p form)
+  fills-alike (addAttribute o n j x) version form ls = refl
+  fills-alike (destroyAttribute a) version form ls = drop-alike (λ o u. elementNamed (o .owner .name) u) (attributeAt a form)
+  fills-alike (addDocument i t) version form ls = refl
+  fills-alike (addElement e j i t) version form ls = refl
+  fills-alike (destroyElement e) version form ls = refl
+  fills-alike (setAttribute e a x) version form ls = set-alike ls e x (attributeAt a form)
+  fills-alike (destroyAttributeRow e a) version form ls = drop-alike (λ o u. elementWith e u) (attributeAt a form)
+  fills-alike (setText e t) version form ls = refl
 
 -- ---- a row that is filled is not taken
 none-taken : {N : Line → Type 0} {ls : List Line} → ((x : Line) → N x → ⊥) → {l : Line} → IsTaken N ls l → ⊥
@@ -144,7 +146,7 @@ module _ (room : ℕ) (c : Call) (s : Store) (g : good s ≡ true) (accepted : r
   ls = lines 0 (s .docs)
 
   abbrev p : Plan
-  p = plan c (s .form) ls
+  p = plan c (s .version) (s .form) ls
 
   whole : Good s
   whole = good-is s .0 g
@@ -180,8 +182,8 @@ module _ (room : ℕ) (c : Call) (s : Store) (g : good s ≡ true) (accepted : r
   -- ---- taken
   taken-named : (l : Line) → List·Memᴰ l ls → List·Memᴰ (serialOf l) (takenSerials (marked p (b .entries))) ↔ IsTaken (λ x. NamedBy c (s .form) ls x) ls l
   taken-named l i = (
-    λ t. taken-as ls (λ x j r. named ls x c (s .form) said r) i (taken-then-under (p .takes) (s .docs) (b .entries) h apart (once .once) from-one l i t),
-    λ u. under-then-taken (p .takes) (s .docs) (b .entries) h apart (once .once) from-one l i (taken-as ls (λ x j n. ruled ls x c (s .form) (has-above ground (s .docs) x j) n) i u),
+    λ t. taken-as ls (λ x j r. named ls x c (s .version) (s .form) said r) i (taken-then-under (p .takes) (s .docs) (b .entries) h apart (once .once) from-one l i t),
+    λ u. under-then-taken (p .takes) (s .docs) (b .entries) h apart (once .once) from-one l i (taken-as ls (λ x j n. ruled ls x c (s .version) (s .form) (has-above ground (s .docs) x j) n) i u),
   )
 
   -- ---- given
@@ -190,13 +192,14 @@ module _ (room : ℕ) (c : Call) (s : Store) (g : good s ≡ true) (accepted : r
       ap (λ (z : Line). z .row .value) (was .2) ∙ valued-value (p .set) (p .value) (was .0)
       ∙ ap (λ (z : Line). setBy p z) same
       ∙ set-after ls serial-from-one one-line (λ n. one-of-attribute (valueWidth (s .version)) (s .form) (whole .form) (s .next) (s .docs) (whole .serials) (whole .docs) n)
-      (one-of-text (valueWidth (s .version)) (s .form) (whole .form) (s .next) (s .docs) (whole .serials) (whole .docs)) l i c (s .form)
+      (one-of-text (valueWidth (s .version)) (s .form) (whole .form) (s .next) (s .docs) (whole .serials) (whole .docs)) l i c (s .version) (s .form)
     where
       small : serialOf m < b .next
       small = subst (λ (n : ℕ). n < b .next) (sym e) (once .below (serialOf l) (in-book l i) .1)
 
       stood : List·Memᴰ m (untaken (left p (b .entries)))
-      stood = subst (λ (z : List Entry). List·Memᴰ m (untaken z)) (olds-marks p (b .entries)) (expand-old (p .filling) (blank-plan c (s .form) ls) (b .next) (marks p (b .entries)) m small j)
+      stood =
+          subst (λ (z : List Entry). List·Memᴰ m (untaken z)) (olds-marks p (b .entries)) (expand-old (p .filling) (blank-plan c (s .version) (s .form) ls) (b .next) (marks p (b .entries)) m small j)
 
       was : (x : Line) × List·Memᴰ x (untaken (marked p (b .entries))) × (m ≡ valued (p .set) (p .value) x)
       was = revalue-old (p .set) (p .value) (marked p (b .entries)) m stood
@@ -224,7 +227,7 @@ module _ (room : ℕ) (c : Call) (s : Store) (g : good s ≡ true) (accepted : r
       by none n = none-taken (λ y z. z) n
       by (some f) n = at (f .context) (f .picked) n
 
-  filled-stays : (d : Call) (l : Line) → List·Memᴰ l ls → MakesBelow d (s .form) ls (serialOf l) → IsTaken (λ x. NamedBy d (s .form) ls x) ls l → ⊥
+  filled-stays : (d : Call) (l : Line) → List·Memᴰ l ls → MakesBelow d (s .version) (s .form) ls (serialOf l) → IsTaken (λ x. NamedBy d (s .form) ls x) ls l → ⊥
   unfolding NamedBy MakesBelow
   filled-stays (createDefinition n e) l i m t = m
   filled-stays (destroyDefinition e) l i m t = m
@@ -252,12 +255,12 @@ module _ (room : ℕ) (c : Call) (s : Store) (g : good s ≡ true) (accepted : r
         was .0,
         left-in (was .0) (was .1),
         ap (λ (z : Line). serialOf z) (sym (was .2)) ∙ e,
-        sym (fills-alike (p .set) (p .value) (was .0 .row) c (s .form) ls) ∙ ap (λ (z : Line). p .fills (z .row)) (sym (was .2)) ∙ t,
+        sym (fills-alike (p .set) (p .value) (was .0 .row) c (s .version) (s .form) ls) ∙ ap (λ (z : Line). p .fills (z .row)) (sym (was .2)) ∙ t,
       )
 
   still : (l : Line) → List·Memᴰ l ls → p .fills (l .row) ≡ true → List·Memᴰ l (untaken (marked p (b .entries)))
   still l i t =
-      ⊎-elim (λ x. absurd (filled-stays c l i (makes ls (serialOf l) c (s .form) said (inr (l, i, refl, t))) (taken-named l i .0 x))) (λ j. j)
+      ⊎-elim (λ x. absurd (filled-stays c l i (makes ls (serialOf l) c (s .version) (s .form) said (inr (l, i, refl, t))) (taken-named l i .0 x))) (λ j. j)
       (taken-or-left (p .takes) (s .docs) (b .entries) h apart (once .once) from-one l i)
 
   filled-after : (u : ℕ) → Filled (p .fills) ls u → Filled (p .fills) (untaken (left p (b .entries))) u
@@ -268,16 +271,16 @@ module _ (room : ℕ) (c : Call) (s : Store) (g : good s ≡ true) (accepted : r
         subst (λ (z : List Line). List·Memᴰ (valued (p .set) (p .value) l) z) (sym (untaken-revalue (p .set) (p .value) (marked p (b .entries))))
             (Memᴰ·map (onLine (revalue (p .set) (p .value))) (still l i t)),
         e,
-        fills-alike (p .set) (p .value) (l .row) c (s .form) ls ∙ t,
+        fills-alike (p .set) (p .value) (l .row) c (s .version) (s .form) ls ∙ t,
       )
 
   parents : List ℕ
   parents = spotsIn (marks p (b .entries))
 
-  each-parent : (u : ℕ) → List·Memᴰ u (spotsIn (marks p (b .entries))) ↔ MakesBelow c (s .form) ls u
+  each-parent : (u : ℕ) → List·Memᴰ u (spotsIn (marks p (b .entries))) ↔ MakesBelow c (s .version) (s .form) ls u
   each-parent u = (
-    λ i. makes ls u c (s .form) said (filled-before u (spots-filled p (b .entries) u .0 i)),
-    λ m. spots-filled p (b .entries) u .1 (filled-after u (filled ls u c (s .form) said m)),
+    λ i. makes ls u c (s .version) (s .form) said (filled-before u (spots-filled p (b .entries) u .0 i)),
+    λ m. spots-filled p (b .entries) u .1 (filled-after u (filled ls u c (s .version) (s .form) said m)),
   )
 
   entries-left : entrySerials (left p (b .entries)) ≡ entrySerials (b .entries)
@@ -288,24 +291,24 @@ module _ (room : ℕ) (c : Call) (s : Store) (g : good s ≡ true) (accepted : r
       spots-once p (b .entries) (distinct-untaken (left p (b .entries)) (subst (λ (z : List ℕ). Distinct z) (sym entries-left) (once .once)))
       (λ n i. from-one n (subst (λ (z : List ℕ). List·Memᴰ n z) entries-left (untaken-in n (left p (b .entries)) i)))
 
-  made-rows : (u : ℕ) → List·Memᴰ u (spotsIn (marks p (b .entries))) → p .filling ≡ rowsMade c (s .form)
-  made-rows u i = filling-made ls u c (s .form) (each-parent u .0 i)
+  made-rows : (u : ℕ) → List·Memᴰ u (spotsIn (marks p (b .entries))) → p .filling ≡ rowsMade c (s .version) (s .form)
+  made-rows u i = filling-made ls u c (s .version) (s .form) (each-parent u .0 i)
 
-  made-lines : entriesFrom (b .next) (expand (p .filling) (b .next) (marks p (b .entries))) ≡ standing (linesMade (rowsMade c (s .form)) (b .next) (spotsIn (marks p (b .entries))))
+  made-lines : entriesFrom (b .next) (expand (p .filling) (b .next) (marks p (b .entries))) ≡ standing (linesMade (rowsMade c (s .version) (s .form)) (b .next) (spotsIn (marks p (b .entries))))
   made-lines =
-      expand-new (b .next) (p .filling) (blank-plan c (s .form) ls) (b .next) (le-refl (b .next)) (marks p (b .entries))
+      expand-new (b .next) (p .filling) (blank-plan c (s .version) (s .form) ls) (b .next) (le-refl (b .next)) (marks p (b .entries))
       (λ n i. once .below n (subst (λ (z : List ℕ). List·Memᴰ n z) (marks-serials p (b .entries)) i) .1)
-      ∙ ap (λ (z : List Line). standing z) (made-as (p .filling) (rowsMade c (s .form)) (spotsIn (marks p (b .entries))) made-rows (b .next))
+      ∙ ap (λ (z : List Line). standing z) (made-as (p .filling) (rowsMade c (s .version) (s .form)) (spotsIn (marks p (b .entries))) made-rows (b .next))
 
-  made-next : b .next + newRows (p .filling) * spotCount (marks p (b .entries)) ≡ b .next + newRows (rowsMade c (s .form)) * length (spotsIn (marks p (b .entries)))
+  made-next : b .next + newRows (p .filling) * spotCount (marks p (b .entries)) ≡ b .next + newRows (rowsMade c (s .version) (s .form)) * length (spotsIn (marks p (b .entries)))
   made-next =
       ap (λ (n : ℕ). b .next + n)
-      (ap (λ (n : ℕ). newRows (p .filling) * n) (spots-length (marks p (b .entries))) ∙ count-as (p .filling) (rowsMade c (s .form)) (spotsIn (marks p (b .entries))) made-rows)
+      (ap (λ (n : ℕ). newRows (p .filling) * n) (spots-length (marks p (b .entries))) ∙ count-as (p .filling) (rowsMade c (s .version) (s .form)) (spotsIn (marks p (b .entries))) made-rows)
 
   other-lines : entrySerials (entriesBelow (b .next) (expand (p .filling) (b .next) (marks p (b .entries)))) ≡ everMade b
   other-lines =
       ap entrySerials
-      (expand-others (b .next) (p .filling) (blank-plan c (s .form) ls) (b .next) (le-refl (b .next)) (marks p (b .entries))
+      (expand-others (b .next) (p .filling) (blank-plan c (s .version) (s .form) ls) (b .next) (le-refl (b .next)) (marks p (b .entries))
       (λ n i. once .below n (subst (λ (z : List ℕ). List·Memᴰ n z) (marks-serials p (b .entries)) i) .1))
       ∙ marks-serials p (b .entries)
 
@@ -318,13 +321,13 @@ module _ (room : ℕ) (c : Call) (s : Store) (g : good s ≡ true) (accepted : r
   made-by-rules =
       record {
         parents = spotsIn (marks p (b .entries));
-        each = rw (agree .form, h) each-parent;
+        each = rw (agree .version, agree .form, h) each-parent;
         one = one-parent;
-        lines = rw (agree .form, h) made-lines;
-        next = rw (agree .form, h) made-next;
-        others = rw (agree .form, h) other-lines;
+        lines = rw (agree .version, agree .form, h) made-lines;
+        next = rw (agree .version, agree .form, h) made-next;
+        others = rw (agree .version, agree .form, h) other-lines;
       }
 
   pub by-the-rules : ByTheRules c b (note c b)
   unfolding note
-  by-the-rules = record { form = refl; takes = rw (agree .form, h) taken-after; gives = rw (agree .form, h) given-after; makes = made-by-rules }
+  by-the-rules = record { form = refl; takes = rw (agree .version, agree .form, h) taken-after; gives = rw (agree .version, agree .form, h) given-after; makes = made-by-rules }

@@ -27,30 +27,32 @@ use Rattle.history.proofs.Numbered.{mapped-row, conforming-number}
 use Rattle.history.proofs.ConformingAfter.{conforming-changed, conforming-elements}
 
 -- 12 to 15: condition 15 says it of the numbered rows
-pub conforming-checked : (c : Call) (s : Store) → not (conforming (s .form) (after c s .docs)) ≡ false → conforming (s .form) (docsAfter c s) ≡ true
+pub conforming-checked : (c : Call) (s : Store) → not (conforming (s .version) (s .form) (after c s .docs)) ≡ false → conforming (s .version) (s .form) (docsAfter c s) ≡ true
 unfolding after
-conforming-checked c s e = sym (conforming-number (s .form) (s .next) (docsAfter c s)) ∙ not-false (conforming (s .form) (after c s .docs)) e
+conforming-checked c s e = sym (conforming-number (s .version) (s .form) (s .next) (docsAfter c s)) ∙ not-false (conforming (s .version) (s .form) (after c s .docs)) e
   where
     not-false : (b : Bool) → not b ≡ false → b ≡ true
     not-false true e = refl
     not-false false e = sym e
 
-module _ (w : ℕ) (s : Store) (ok : wellFormed w (s .form) ≡ true) (serials : GoodSerials (s .next) (s .docs)) (conforms : conforming (s .form) (s .docs) ≡ true) where
+module _ (w : ℕ) (s : Store) (ok : wellFormed w (s .form) ≡ true) (serials : GoodSerials (s .next) (s .docs)) (conforms : conforming (s .version) (s .form) (s .docs) ≡ true) where
   -- 11: the filling stands last
-  pub conforming-11 : (i : ℕ) (t : Bytes) → known (s .form) (nameAtIndex i (s .form)) ≡ true → conforming (formAfter (addDocument i t) (s .form)) (docsAfter (addDocument i t) s) ≡ true
+  pub conforming-11 : (i : ℕ) (t : Bytes) → known (s .form) (nameAtIndex i (s .form)) ≡ true → conforming (s .version) (formAfter (addDocument i t) (s .form)) (docsAfter (addDocument i t) s) ≡ true
   unfolding plan formAfter
   conforming-11 i t there =
-      conforming-elements (s .form) (s .form) (s .next) (s .docs) serials p refl (λ e. ap (all (λ (r : Row). isElement (r .sort))) (filling-heads (length (s .form)) (s .form) t n height))
-      (filling-fits (s .form) (λ n d e. definition-good w (s .form) ok n d e .once) (λ n d e. definition-good w (s .form) ok n d e .attributeNames) (λ n d e. definition-good w (s .form) ok n d e .groups) t (length (s .form)) n height)
+      conforming-elements (s .version) (s .form) (s .form) (s .next) (s .docs) serials p refl
+      (λ e. ap (all (λ (r : Row). isElement (r .sort))) (filling-heads (s .version) (length (s .form)) (s .form) t n height))
+      (filling-fits (s .version) (s .form) (λ n d e. definition-good w (s .form) ok n d e .once) (λ n d e. definition-good w (s .form) ok n d e .attributeNames)
+      (λ n d e. definition-good w (s .form) ok n d e .groups) t (length (s .form)) n height)
       (λ r b j q. off r b j)
-      (λ r b d j q e h. ap₂ (λ (o : Option Definition) (l : List Row). fitsDefinition o l) e (children-kept (s .next) (s .docs) serials p refl r b j (λ u m. refl) (off r b j)) ∙ h)
+      (λ r b d j q e h. ap₂ (λ (o : Option Definition) (l : List Row). fitsDefinition (s .version) o l) e (children-kept (s .next) (s .docs) serials p refl r b j (λ u m. refl) (off r b j)) ∙ h)
       conforms
     where
       n : Bytes
       n = nameAtIndex i (s .form)
 
       p : Plan
-      p = making (λ r. eqb (r .serial) 0) neither (fillDefinition (s .form) t n)
+      p = making (λ r. eqb (r .serial) 0) neither (fillDefinition (s .version) (s .form) t n)
 
       height : deep (length (s .form)) (s .form) n ≡ true
       height = definition-deep w (s .form) ok n there
@@ -59,9 +61,9 @@ module _ (w : ℕ) (s : Store) (ok : wellFormed w (s .form) ≡ true) (serials :
       off r b j = differs numbers (r .serial) 0 (no-zero (s .next) (s .docs) serials r b j)
 
   -- 16: the row that is set is a text
-  pub conforming-16 : (k : ℕ) (t : Bytes) → conforming (formAfter (setText k t) (s .form)) (docsAfter (setText k t) s) ≡ true
+  pub conforming-16 : (k : ℕ) (t : Bytes) → conforming (s .version) (formAfter (setText k t) (s .form)) (docsAfter (setText k t) s) ≡ true
   unfolding plan formAfter
-  conforming-16 k t = conforming-changed (s .form) (s .form) p (s .docs) (λ e. absurd (false≢true e)) refl row conforms
+  conforming-16 k t = conforming-changed (s .version) (s .form) (s .form) p (s .docs) (λ e. absurd (false≢true e)) refl row conforms
     where
       p : Plan
       p = setting (serialAt 0 (childrenOf isTextRow k (lines 0 (s .docs)))) t
@@ -76,8 +78,8 @@ module _ (w : ℕ) (s : Store) (ok : wellFormed w (s .form) ≡ true) (serials :
           let (c, j) = standing-child (s .docs) r b i u m in
           ap (λ (z : Row). z .value) (revalued-other p u (λ e. no-text (u .sort) h (first-child (s .next) (s .docs) serials isTextRow k u c j e)))
 
-      row : (r : Row) (b : Forest Row) → Standing (s .docs) r b → fitsRow (s .form) r (heads b) ≡ true → fitsRow (s .form) (revalued p r) (childrenAfter p r (heads b)) ≡ true
+      row : (r : Row) (b : Forest Row) → Standing (s .docs) r b → fitsRow (s .version) (s .form) r (heads b) ≡ true → fitsRow (s .version) (s .form) (revalued p r) (childrenAfter p r (heads b)) ≡ true
       row r b i h =
-          ap (fitsRow (s .form) (revalued p r)) (children-cut p r (heads b) refl ∙ ap (map (revalued p)) (keep-all (λ u. true) (heads b) (λ u m. refl)))
-          ∙ mapped-row (revalued p) (λ u. refl) (λ u. refl) (s .form) r (heads b) (kept r b i)
+          ap (fitsRow (s .version) (s .form) (revalued p r)) (children-cut p r (heads b) refl ∙ ap (map (revalued p)) (keep-all (λ u. true) (heads b) (λ u m. refl)))
+          ∙ mapped-row (revalued p) (λ u. refl) (λ u. refl) (s .version) (s .form) r (heads b) (kept r b i)
           ∙ h

@@ -30,7 +30,7 @@ use Rattle.history.proofs.LaidAfter.{givenValue, laid-after}
 -- what `good` says of the form and the rows, as tests
 pub record GoodTests (s : Store) : Type 0 where
   pub form : wellFormed (valueWidth (s .version)) (s .form) ≡ true
-  pub docs : conforming (s .form) (s .docs) ≡ true
+  pub docs : conforming (s .version) (s .form) (s .docs) ≡ true
   pub values : everyRow (λ r below. laidRow (valueWidth (s .version)) r) (s .docs) ≡ true
   pub serials : GoodSerials (s .next) (s .docs)
 
@@ -40,14 +40,14 @@ good-tests s e =
     let (v, e₁) = and-split (knownVersion (s .version)) _ e in
     let (c, e₂) = and-split (withinCeilings (flat s)) _ e₁ in
     let (f, e₃) = and-split (wellFormed (valueWidth (s .version)) (s .form)) _ e₂ in
-    let (d, e₄) = and-split (conforming (s .form) (s .docs)) _ e₃ in
+    let (d, e₄) = and-split (conforming (s .version) (s .form) (s .docs)) _ e₃ in
     let (l, n) = and-split (everyRow (λ r below. laidRow (valueWidth (s .version)) r) (s .docs)) (goodSerials (s .next) (s .docs)) e₄ in
     record { form = f; docs = d; values = l; serials = good-serials (s .next) (s .docs) .0 n }
 
 -- the test on the store that is left is that on the rows without new serials
-pub conforming-after : (c : Call) (s : Store) → conforming (after c s .form) (after c s .docs) ≡ conforming (formAfter c (s .form)) (docsAfter c s)
+pub conforming-after : (c : Call) (s : Store) → conforming (after c s .version) (after c s .form) (after c s .docs) ≡ conforming (s .version) (formAfter c (s .form)) (docsAfter c s)
 unfolding after
-conforming-after c s = conforming-number (formAfter c (s .form)) (s .next) (docsAfter c s)
+conforming-after c s = conforming-number (s .version) (formAfter c (s .form)) (s .next) (docsAfter c s)
 
 module _ (room : ℕ) (s : Store) (x : GoodTests s) where
   abbrev w : ℕ
@@ -56,24 +56,26 @@ module _ (room : ℕ) (s : Store) (x : GoodTests s) where
   once : Distinct (map definitionName (s .form))
   once = well-formed w (s .form) .0 (x .form) .names
 
-  after-1 : (n : Bytes) (k : ℕ) → conforming (formAfter (createDefinition n k) (s .form)) (docsAfter (createDefinition n k) s) ≡ true
+  after-1 : (n : Bytes) (k : ℕ) → conforming (s .version) (formAfter (createDefinition n k) (s .form)) (docsAfter (createDefinition n k) s) ≡ true
   unfolding formAfter
   after-1 n k = conforming-1 w s (x .form) (x .serials) (x .docs) n k (λ m e. lookup-old m (s .form) _ e)
 
-  after-2 : (i : ℕ) → refusal room (destroyDefinition i) s ≡ 0 → conforming (formAfter (destroyDefinition i) (s .form)) (docsAfter (destroyDefinition i) s) ≡ true
+  after-2 : (i : ℕ) → refusal room (destroyDefinition i) s ≡ 0 → conforming (s .version) (formAfter (destroyDefinition i) (s .form)) (docsAfter (destroyDefinition i) s) ≡ true
   unfolding formAfter conditions
   after-2 i a =
       let (there, (used, end)) = unmet room (destroyDefinition i) s a in
       let (models, roots) = or-split (any (λ (d : Definition). member bytes (nameAtIndex i (s .form)) (names (members d))) (s .form)) (any (elementNamed (nameAtIndex i (s .form))) (heads (s .docs))) used in
       conforming-2 w s (x .form) (x .serials) (x .docs) i models roots (without-other i (s .form))
 
-  after-9 : (o : ℕ) (n : Bytes) (k : ℕ) (v : Bytes) → refusal room (addAttribute o n k v) s ≡ 0 → conforming (formAfter (addAttribute o n k v) (s .form)) (docsAfter (addAttribute o n k v) s) ≡ true
+  after-9 : (o : ℕ) (n : Bytes) (k : ℕ) (v : Bytes) → refusal room (addAttribute o n k v) s ≡ 0
+      → conforming (s .version) (formAfter (addAttribute o n k v) (s .form)) (docsAfter (addAttribute o n k v) s) ≡ true
   unfolding formAfter conditions
   after-9 o n k v a =
       let (name, (value, (code, (fresh, (there, more))))) = unmet room (addAttribute o n k v) s a in
       conforming-9 w s (x .form) (x .serials) (x .docs) o n k v fresh (replaced-at (s .form) once o (not-past o (s .form) there) (withAttributes (λ table. table ++ newAttribute n k v ∷ [])) (λ d. refl))
 
-  after-10 : (a : ℕ) (y : Option Owned) → attributeAt a (s .form) ≡ y → isOther y none ≡ false → conforming (formAfter (destroyAttribute a) (s .form)) (docsAfter (destroyAttribute a) s) ≡ true
+  after-10 : (a : ℕ) (y : Option Owned) → attributeAt a (s .form) ≡ y → isOther y none ≡ false
+      → conforming (s .version) (formAfter (destroyAttribute a) (s .form)) (docsAfter (destroyAttribute a) s) ≡ true
   unfolding formAfter
   after-10 a none q e = absurd (false≢true (sym e))
   after-10 a (some o) q e = conforming-10 w s (x .form) (x .serials) (x .docs) o a q replaced
@@ -89,13 +91,13 @@ module _ (room : ℕ) (s : Store) (x : GoodTests s) where
           rw (q, formAfter)
           (subst (λ (d : Definition). Replaced (s .form) (update j less (s .form)) d (less d)) (owner-at a (s .form) once o q) (replaced-at (s .form) once j (owner-below a (s .form) once o q) less (λ d. refl)))
 
-  after-11 : (i : ℕ) (t : Bytes) → refusal room (addDocument i t) s ≡ 0 → conforming (formAfter (addDocument i t) (s .form)) (docsAfter (addDocument i t) s) ≡ true
+  after-11 : (i : ℕ) (t : Bytes) → refusal room (addDocument i t) s ≡ 0 → conforming (s .version) (formAfter (addDocument i t) (s .form)) (docsAfter (addDocument i t) s) ≡ true
   unfolding conditions
   after-11 i t a =
       let (value, (there, end)) = unmet room (addDocument i t) s a in
       conforming-11 w s (x .form) (x .serials) (x .docs) i t (ap isThere (definition-found i (s .form) once (not-past i (s .form) there)))
 
-  pub conforming-after-simple : (c : Call) → editsModel c ≡ false → refusal room c s ≡ 0 → conforming (formAfter c (s .form)) (docsAfter c s) ≡ true
+  pub conforming-after-simple : (c : Call) → editsModel c ≡ false → refusal room c s ≡ 0 → conforming (s .version) (formAfter c (s .form)) (docsAfter c s) ≡ true
   unfolding formAfter conditions
   conforming-after-simple (createDefinition n k) e a = after-1 n k
   conforming-after-simple (destroyDefinition i) e a = after-2 i a

@@ -56,9 +56,9 @@ filled-from form owner (convert j n) t i m k = absurd (List·Memᴰ·not-nil k)
 filled-from form owner flatten t i m k = absurd (List·Memᴰ·not-nil k)
 
 -- ---- the rows of a filling
-pub filling-reaches : (h : ℕ) (form : Form) (txt n : Bytes) → EveryRow (λ x b. x .sort ≡ element → (x .name ≡ n) ⊎ Reaches form n (x .name)) (fillWithin h form txt n)
-filling-reaches h form txt n =
-    every-filled form txt (λ x b. x .sort ≡ element → (x .name ≡ n) ⊎ Reaches form n (x .name)) (λ k m. (m ≡ n) ⊎ Reaches form n m) (λ k m d q e i j. inr (step m d e q i j)) (λ k m d q e s. q)
+pub filling-reaches : (version h : ℕ) (form : Form) (txt n : Bytes) → EveryRow (λ x b. x .sort ≡ element → (x .name ≡ n) ⊎ Reaches form n (x .name)) (fillWithin version h form txt n)
+filling-reaches version h form txt n =
+    every-filled version form txt (λ x b. x .sort ≡ element → (x .name ≡ n) ⊎ Reaches form n (x .name)) (λ k m. (m ≡ n) ⊎ Reaches form n m) (λ k m d q e i j. inr (step m d e q i j)) (λ k m d q e s. q)
     (λ m d e a i s. absurd (false≢true (ap isElement s))) (λ s. absurd (false≢true (ap isElement s))) h n (inl refl)
   where
     step : (m : Bytes) (d : Definition) → lookup m form ≡ some d → (m ≡ n) ⊎ Reaches form n m → (i : Bytes) → List·Memᴰ i (names (members d)) → Reaches form n i
@@ -66,30 +66,33 @@ filling-reaches h form txt n =
     step m d e (inr r) i j = let own : List·Memᴰ i (membersOf m form) = rw e j in reaches-then form r (directly own)
 
 -- every row of the plan is one of a filling
-every-planned : (P : Row → List Row → Type 0) (form : Form) (ls : List Line) (owner txt : Bytes) (e : Edit Bytes) (c : Context Bytes) (t : Members Bytes) → ((m : Bytes) → List·Memᴰ m (filled e t) → EveryRow P (fillDefinition form txt m))
-    → EveryRow P (editPlan form ls owner txt e c t .filling)
-every-planned P form ls owner txt (insert q n) c t f = f n (List·Memᴰ·head refl)
-every-planned P form ls owner txt remove c done f = tt
-every-planned P form ls owner txt remove c (el q x t) f = tt
-every-planned P form ls owner txt remove c (group q k ms t) f = tt
-every-planned P form ls owner txt (quantify r) c done f = tt
-every-planned P form ls owner txt (quantify r) c (el q x t) f = f x (List·Memᴰ·head refl)
-every-planned P form ls owner txt (quantify r) c (group q k ms t) f = every-each P (λ n. fillDefinition form txt n) (groupFilling r k ms) f
-every-planned P form ls owner txt (convert j n) c t f = tt
-every-planned P form ls owner txt flatten c t f = tt
+every-planned : (version : ℕ) (P : Row → List Row → Type 0) (form : Form) (ls : List Line) (owner txt : Bytes) (e : Edit Bytes) (c : Context Bytes) (t : Members Bytes)
+    → ((m : Bytes) → List·Memᴰ m (filled e t) → EveryRow P (fillDefinition version form txt m))
+    → EveryRow P (editPlan version form ls owner txt e c t .filling)
+every-planned version P form ls owner txt (insert q n) c t f = f n (List·Memᴰ·head refl)
+every-planned version P form ls owner txt remove c done f = tt
+every-planned version P form ls owner txt remove c (el q x t) f = tt
+every-planned version P form ls owner txt remove c (group q k ms t) f = tt
+every-planned version P form ls owner txt (quantify r) c done f = tt
+every-planned version P form ls owner txt (quantify r) c (el q x t) f = f x (List·Memᴰ·head refl)
+every-planned version P form ls owner txt (quantify r) c (group q k ms t) f = every-each P (λ n. fillDefinition version form txt n) (groupFilling r k ms) f
+every-planned version P form ls owner txt (convert j n) c t f = tt
+every-planned version P form ls owner txt flatten c t f = tt
 
 every-two : (P Q S : Row → List Row → Type 0) → ((r : Row) (b : List Row) → P r b → Q r b → S r b) → (f : Forest Row) → EveryRow P f → EveryRow Q f → EveryRow S f
 every-two P Q S g bare x y = tt
 every-two P Q S g (tree r b t) (p, x, u) (q, y, v) = (g r _ p q, every-two P Q S g b x y, every-two P Q S g t u v)
 
 -- a row fits alike in forms that have the same definition for it
-pub fits-alike : (form form′ : Form) (r : Row) (b : List Row) → (r .sort ≡ element → lookup (r .name) form′ ≡ lookup (r .name) form) → fitsRow form′ r b ≡ fitsRow form r b
+pub fits-alike : (version : ℕ) (form form′ : Form) (r : Row) (b : List Row) → (r .sort ≡ element → lookup (r .name) form′ ≡ lookup (r .name) form)
+    → fitsRow version form′ r b ≡ fitsRow version form r b
 unfolding fitsRow
-fits-alike form form′ r b = by (r .sort) (lookup (r .name) form′) (lookup (r .name) form)
+fits-alike version form form′ r b = by (r .sort) (lookup (r .name) form′) (lookup (r .name) form)
   where
     by : (s : RowSort) (o o′ : Option Definition) → (s ≡ element → o ≡ o′)
-        → _≡_ {A = Bool} (elim s [ element ↦ fitsDefinition o b | attribute ↦ isNone b | text ↦ isNone b ]) (elim s [ element ↦ fitsDefinition o′ b | attribute ↦ isNone b | text ↦ isNone b ])
-    by element o o′ e = ap (λ (z : Option Definition). fitsDefinition z b) (e refl)
+        → _≡_ {A = Bool} (elim s [ element ↦ fitsDefinition version o b | attribute ↦ isNone b | text ↦ isNone b ])
+        (elim s [ element ↦ fitsDefinition version o′ b | attribute ↦ isNone b | text ↦ isNone b ])
+    by element o o′ e = ap (λ (z : Option Definition). fitsDefinition version z b) (e refl)
     by attribute o o′ e = refl
     by text o o′ e = refl
 
@@ -113,12 +116,13 @@ module _ (w : ℕ) (form : Form) (ok : wellFormed w form ≡ true) (d : Definiti
         own-names : names (members d) ≡ before (f .context) ++ (names (f .picked) ++ after (f .context))
         own-names = ap (λ (z : Content). names (modelOf z)) is ∙ sym (ap names (place-right e p ms f found)) ∙ names-plug (f .context) (f .picked)
 
-    module _ (ls : List Line) (txt : Bytes) (i : Insertable form (d .name) e) where
+    module _ (version : ℕ) (ls : List Line) (txt : Bytes) (i : Insertable form (d .name) e) where
       -- the filling in a form that differs in the owner's definition alone
-      pub filling-fits-in : (form′ : Form) → ((n : Bytes) → (n ≡ d .name → ⊥) → lookup n form′ ≡ lookup n form) → everyRow (λ x b. fitsRow form′ x b) (editPlan form ls (d .name) txt e (f .context) (f .picked) .filling) ≡ true
+      pub filling-fits-in : (form′ : Form) → ((n : Bytes) → (n ≡ d .name → ⊥) → lookup n form′ ≡ lookup n form)
+          → everyRow (λ x b. fitsRow version form′ x b) (editPlan version form ls (d .name) txt e (f .context) (f .picked) .filling) ≡ true
       filling-fits-in form′ others =
-          every-row (λ x b. fitsRow form′ x b) (editPlan form ls (d .name) txt e (f .context) (f .picked) .filling) .1
-          (every-planned (λ x b. fitsRow form′ x b ≡ true) form ls (d .name) txt e (f .context) (f .picked) (λ m k. one m (filled-outside i m k)))
+          every-row (λ x b. fitsRow version form′ x b) (editPlan version form ls (d .name) txt e (f .context) (f .picked) .filling) .1
+          (every-planned version (λ x b. fitsRow version form′ x b ≡ true) form ls (d .name) txt e (f .context) (f .picked) (λ m k. one m (filled-outside i m k)))
         where
           good : (n : Bytes) (c : Definition) → lookup n form ≡ some c → GoodDefinition w form c
           good = definition-good w form ok
@@ -127,15 +131,17 @@ module _ (w : ℕ) (form : Form) (ok : wellFormed w form ≡ true) (d : Definiti
           away m o n (inl q) x = o .other (sym q ∙ x)
           away m o n (inr r) x = o .straight (rw x at r)
 
-          one : (m : Bytes) → Joins form (d .name) m → EveryRow (λ x b. fitsRow form′ x b ≡ true) (fillDefinition form txt m)
+          one : (m : Bytes) → Joins form (d .name) m → EveryRow (λ x b. fitsRow version form′ x b ≡ true) (fillDefinition version form txt m)
           one m o =
-              every-two (λ x b. x .sort ≡ element → (x .name ≡ m) ⊎ Reaches form m (x .name)) (λ x b. fitsRow form x b ≡ true) (λ x b. fitsRow form′ x b ≡ true)
-              (λ x b r q. fits-alike form form′ x b (λ s. others (x .name) (away m o (x .name) (r s))) ∙ q) (fillDefinition form txt m) (filling-reaches (length form) form txt m)
-              (every-row (λ x b. fitsRow form x b) (fillDefinition form txt m) .0
-              (filling-fits form (λ n c q. good n c q .once) (λ n c q. good n c q .attributeNames) (λ n c q. good n c q .groups) txt (length form) m (definition-deep w form ok m (o .known))))
+              every-two (λ x b. x .sort ≡ element → (x .name ≡ m) ⊎ Reaches form m (x .name)) (λ x b. fitsRow version form x b ≡ true) (λ x b. fitsRow version form′ x b ≡ true)
+              (λ x b r q. fits-alike version form form′ x b (λ s. others (x .name) (away m o (x .name) (r s))) ∙ q) (fillDefinition version form txt m)
+              (filling-reaches version (length form) form txt m)
+              (every-row (λ x b. fitsRow version form x b) (fillDefinition version form txt m) .0
+              (filling-fits version form (λ n c q. good n c q .once) (λ n c q. good n c q .attributeNames) (λ n c q. good n c q .groups) txt (length form) m (definition-deep w form ok m (o .known))))
 
-      pub filling-rows-fit : everyRow (λ x b. fitsRow form x b) (editPlan form ls (d .name) txt e (f .context) (f .picked) .filling) ≡ true
+      pub filling-rows-fit : everyRow (λ x b. fitsRow version form x b) (editPlan version form ls (d .name) txt e (f .context) (f .picked) .filling) ≡ true
       filling-rows-fit = filling-fits-in form (λ n g. refl)
 
-      pub filling-rows-fit-after : (o : ℕ) (at : List ℕ) → nameAtIndex o form ≡ d .name → everyRow (λ x b. fitsRow (editModel o at e form) x b) (editPlan form ls (d .name) txt e (f .context) (f .picked) .filling) ≡ true
+      pub filling-rows-fit-after : (o : ℕ) (at : List ℕ) → nameAtIndex o form ≡ d .name
+          → everyRow (λ x b. fitsRow version (editModel o at e form) x b) (editPlan version form ls (d .name) txt e (f .context) (f .picked) .filling) ≡ true
       filling-rows-fit-after o at q = filling-fits-in (editModel o at e form) (λ n g. update-other (inModel (editAt e at)) (λ c. refl) o form n (λ x. g (x ∙ q)))

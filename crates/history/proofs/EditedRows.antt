@@ -24,11 +24,13 @@ use Rattle.history.proofs.EditFillings.{fits-alike, filling-fits-in}
 use Rattle.history.proofs.InstanceFits.{editedDefinition, instance-fits}
 use Rattle.history.proofs.AcceptedEdits.{Accepted}
 
-fits-element : (form : Form) (u : Row) (d : Definition) (rows : List Row) → isElement (u .sort) ≡ true → lookup (u .name) form ≡ some d → fitsRow form u rows ≡ fitsDefinition (some d) rows
+fits-element : (version : ℕ) (form : Form) (u : Row) (d : Definition) (rows : List Row) → isElement (u .sort) ≡ true → lookup (u .name) form ≡ some d
+    → fitsRow version form u rows ≡ fitsDefinition version (some d) rows
 unfolding fitsRow
-fits-element form u d rows e q = by (u .sort) e ∙ ap (λ (o : Option Definition). fitsDefinition o rows) q
+fits-element version form u d rows e q = by (u .sort) e ∙ ap (λ (o : Option Definition). fitsDefinition version o rows) q
   where
-    by : (s : RowSort) → isElement s ≡ true → elim s as (λ x. Bool) [ element ↦ fitsDefinition (lookup (u .name) form) rows | attribute ↦ isNone rows | text ↦ isNone rows ] ≡ fitsDefinition (lookup (u .name) form) rows
+    by : (s : RowSort) → isElement s ≡ true
+        → elim s as (λ x. Bool) [ element ↦ fitsDefinition version (lookup (u .name) form) rows | attribute ↦ isNone rows | text ↦ isNone rows ] ≡ fitsDefinition version (lookup (u .name) form) rows
     by element e = refl
     by attribute e = absurd (false≢true e)
     by text e = absurd (false≢true e)
@@ -49,29 +51,32 @@ module _ (w : ℕ) (s : Store) (ok : wellFormed w (s .form) ≡ true) (c : Call)
   others-after n f = ap (lookup n) (a .formed) ∙ update-other (inModel (editAt (a .edit) (a .at))) (λ x. refl) (a .o) (s .form) n f
 
   pub row-fits-after : (ls : List Line) (u : Row) (rows : List Row) → (elementNamed (nameAtIndex (a .o) (s .form)) u ≡ true → instanceExists (nameAtIndex (a .o) (s .form)) s ≡ true) → Below ls u rows
-      → fitsRow (s .form) u rows ≡ true → fitsRow (formAfter c (s .form)) u (childrenAfter (plan c (s .form) ls) u rows) ≡ true
-  row-fits-after ls u rows seen below h = ap (λ (z : Plan). fitsRow (formAfter c (s .form)) u (childrenAfter z u rows)) (a .planned ls) ∙ by (elementNamed (d .name) u) refl
+      → fitsRow (s .version) (s .form) u rows ≡ true → fitsRow (s .version) (formAfter c (s .form)) u (childrenAfter (plan c (s .version) (s .form) ls) u rows) ≡ true
+  row-fits-after ls u rows seen below h = ap (λ (z : Plan). fitsRow (s .version) (formAfter c (s .form)) u (childrenAfter z u rows)) (a .planned ls) ∙ by (elementNamed (d .name) u) refl
     where
       d : Definition
       d = definitionAt (a .o) (s .form)
 
       after : List Row
-      after = childrenAfter (editPlan (s .form) ls (d .name) (a .txt) (a .edit) (a .found .context) (a .found .picked)) u rows
+      after = childrenAfter (editPlan (s .version) (s .form) ls (d .name) (a .txt) (a .edit) (a .found .context) (a .found .picked)) u rows
 
-      by : (b : Bool) → elementNamed (d .name) u ≡ b → fitsRow (formAfter c (s .form)) u after ≡ true
+      by : (b : Bool) → elementNamed (d .name) u ≡ b → fitsRow (s .version) (formAfter c (s .form)) u after ≡ true
       by true named =
           let (is, called) = and-split (isElement (u .sort)) (same (d .name) (u .name)) named in
           let q : u .name ≡ d .name = sym (same-eq (d .name) (u .name) called) in
-          fits-element (formAfter c (s .form)) u (editedDefinition d (a .edit) (a .found)) after is (ap (λ (z : Bytes). lookup z (formAfter c (s .form))) q ∙ owner-after)
-          ∙ instance-fits w (s .form) ok d (a .looked) (members d) (a .content) (a .edit) (a .at) (a .found) (a .there) (a .placed) (a .fitting (seen named)) ls (a .txt) u rows (a .insertable) named below
-          (sym (fits-element (s .form) u d rows is (ap (λ (z : Bytes). lookup z (s .form)) q ∙ a .looked)) ∙ h)
+          fits-element (s .version) (formAfter c (s .form)) u (editedDefinition d (a .edit) (a .found)) after is (ap (λ (z : Bytes). lookup z (formAfter c (s .form))) q ∙ owner-after)
+          ∙ instance-fits (s .version) w (s .form) ok d (a .looked) (members d) (a .content) (a .edit) (a .at) (a .found) (a .there) (a .placed) (a .fitting (seen named)) ls (a .txt) u rows
+          (a .insertable) named below
+          (sym (fits-element (s .version) (s .form) u d rows is (ap (λ (z : Bytes). lookup z (s .form)) q ∙ a .looked)) ∙ h)
       by false other =
-          fits-alike (s .form) (formAfter c (s .form)) u after (λ e. others-after (u .name) (λ q. false≢true (sym other ∙ and-both (ap isElement e) (bytes .same← (d .name) (u .name) (sym q)))))
-          ∙ ap (fitsRow (s .form) u) (edit-others (s .form) ls (d .name) (a .txt) u rows other (below .given) (a .found .context) (a .edit) (a .found .picked))
+          fits-alike (s .version) (s .form) (formAfter c (s .form)) u after
+          (λ e. others-after (u .name) (λ q. false≢true (sym other ∙ and-both (ap isElement e) (bytes .same← (d .name) (u .name) (sym q)))))
+          ∙ ap (fitsRow (s .version) (s .form) u) (edit-others (s .version) (s .form) ls (d .name) (a .txt) u rows other (below .given) (a .found .context) (a .edit) (a .found .picked))
           ∙ h
 
   -- the rows made fit too
-  pub filling-fits-after : (ls : List Line) → everyRow (λ x b. fitsRow (formAfter c (s .form)) x b) (plan c (s .form) ls .filling) ≡ true
+  pub filling-fits-after : (ls : List Line) → everyRow (λ x b. fitsRow (s .version) (formAfter c (s .form)) x b) (plan c (s .version) (s .form) ls .filling) ≡ true
   filling-fits-after ls =
-      ap (λ (z : Plan). everyRow (λ x b. fitsRow (formAfter c (s .form)) x b) (z .filling)) (a .planned ls)
-      ∙ filling-fits-in w (s .form) ok (definitionAt (a .o) (s .form)) (a .looked) (members (definitionAt (a .o) (s .form))) (a .content) (a .edit) (a .at) (a .found) (a .there) ls (a .txt) (a .insertable) (formAfter c (s .form)) others-after
+      ap (λ (z : Plan). everyRow (λ x b. fitsRow (s .version) (formAfter c (s .form)) x b) (z .filling)) (a .planned ls)
+      ∙ filling-fits-in w (s .form) ok (definitionAt (a .o) (s .form)) (a .looked) (members (definitionAt (a .o) (s .form))) (a .content) (a .edit) (a .at) (a .found) (a .there)
+      (s .version) ls (a .txt) (a .insertable) (formAfter c (s .form)) others-after

@@ -30,12 +30,12 @@ use Rattle.history.proofs.RowEdits.{keep, childrenAfter}
 use Rattle.history.proofs.InstanceRows.{rowSerial, keep-all, keep-none, keep-beside, named-is, keep-erase, keep-first, named-none, among-none, whenDue, after-split, untouched}
 
 -- the plan of an edit of the owner's model, at the place c before the members t
-abbrev pub editPlan : Form → List Line → Bytes → Bytes → Edit Bytes → Context Bytes → Members Bytes → Plan
-editPlan form ls owner txt (insert q n) c t = insertPlan form owner txt q n (some (record { context = c; picked = t }))
-editPlan form ls owner txt remove c t = removePlan owner t
-editPlan form ls owner txt (quantify r) c t = quantifyPlan form ls owner txt r c t
-editPlan form ls owner txt (convert j n) c t = keeping
-editPlan form ls owner txt flatten c t = keeping
+abbrev pub editPlan : ℕ → Form → List Line → Bytes → Bytes → Edit Bytes → Context Bytes → Members Bytes → Plan
+editPlan version form ls owner txt (insert q n) c t = insertPlan version form owner txt q n (some (record { context = c; picked = t }))
+editPlan version form ls owner txt remove c t = removePlan owner t
+editPlan version form ls owner txt (quantify r) c t = quantifyPlan version form ls owner txt r c t
+editPlan version form ls owner txt (convert j n) c t = keeping
+editPlan version form ls owner txt flatten c t = keeping
 
 -- the names that it fills
 abbrev pub filled : Edit Bytes → Members Bytes → List Bytes
@@ -106,7 +106,8 @@ group-cases true false me ns f rs = refl
 group-cases true true true ns f rs = refl
 group-cases true true false ns f rs = refl
 
-module _ (form : Form) (ls : List Line) (owner txt : Bytes) (u : Row) (front back : List Row) (named : elementNamed owner u ≡ true) (below : Below ls u (front ++ back)) (attributes : Sorted attribute front) (elements : Sorted element back) where
+module _ (version : ℕ) (form : Form) (ls : List Line) (owner txt : Bytes) (u : Row) (front back : List Row) (named : elementNamed owner u ≡ true) (below : Below ls u (front ++ back))
+    (attributes : Sorted attribute front) (elements : Sorted element back) where
   -- the children that pass a test are behind the attribute rows
   seen-back : (test : Row → Bool) → ((x : Row) → List·Memᴰ x front → test x ≡ false) → childrenOf test (u .serial) ls ≡ map rowSerial (keep test back)
   seen-back test f = below .seen test ∙ ap (map rowSerial) (keep-beside test front back ∙ ap (λ (z : List Row). z ++ keep test back) (keep-none test front f))
@@ -130,31 +131,32 @@ module _ (form : Form) (ls : List Line) (owner txt : Bytes) (u : Row) (front bac
 
   module _ (c : Context Bytes) where
     insert-rows : (q : Quantifier) (n : Bytes) (t : Members Bytes) → deep (length form) form n ≡ true
-        → childrenAfter (editPlan form ls owner txt (insert q n) c t) u (front ++ back) ≡ front ++ childRows bytes nameOf (map elementRow) (insert q n) c t back
+        → childrenAfter (editPlan version form ls owner txt (insert q n) c t) u (front ++ back) ≡ front ++ childRows bytes nameOf (map elementRow) (insert q n) c t back
     unfolding childRows
     insert-rows q n t d =
-        after-split (editPlan form ls owner txt (insert q n) c t) u (before c) front back refl (below .given) (λ x m. refl) (λ e. (front-later (before c) u, back-later (before c) u))
+        after-split (editPlan version form ls owner txt (insert q n) c t) u (before c) front back refl (below .given) (λ x m. refl) (λ e. (front-later (before c) u, back-later (before c) u))
         ∙ ap (λ (z : List Row). front ++ z) (due-same _ (not (skips q) && spine c) (before c) _ (elementRow n ∷ []) _ back
-        (and-named (not (skips q) && spine c) (elementNamed owner u) named) (filling-heads (length form) form txt n d) (keep-all (λ r. true) back (λ x m. refl)))
+        (and-named (not (skips q) && spine c) (elementNamed owner u) named) (filling-heads version (length form) form txt n d) (keep-all (λ r. true) back (λ x m. refl)))
 
     remove-rows : (q : Quantifier) (x : Bytes) (t : Members Bytes)
-        → childrenAfter (editPlan form ls owner txt remove c (el q x t)) u (front ++ back) ≡ front ++ childRows bytes nameOf (map elementRow) remove c (el q x t) back
+        → childrenAfter (editPlan version form ls owner txt remove c (el q x t)) u (front ++ back) ≡ front ++ childRows bytes nameOf (map elementRow) remove c (el q x t) back
     unfolding childRows
     remove-rows q x t =
-        after-split (editPlan form ls owner txt remove c (el q x t)) u [] front back refl (below .given) (λ y m. ap₂ (λ (a b : Bool). a && b) named (front-other x y m)) (λ e. absurd (false≢true e))
+        after-split (editPlan version form ls owner txt remove c (el q x t)) u [] front back refl (below .given) (λ y m. ap₂ (λ (a b : Bool). a && b) named (front-other x y m))
+        (λ e. absurd (false≢true e))
         ∙ ap (λ (z : List Row). front ++ z) (keep-erase (λ r. not (elementNamed owner u && elementNamed x r)) x back (λ y m. ap₂ (λ (a b : Bool). not (a && b)) named (named-is x y (elements y m))))
 
     quantify-rows : (q r : Quantifier) (x : Bytes) (t : Members Bytes) → deep (length form) form x ≡ true
-        → childrenAfter (editPlan form ls owner txt (quantify r) c (el q x t)) u (front ++ back) ≡ front ++ childRows bytes nameOf (map elementRow) (quantify r) c (el q x t) back
+        → childrenAfter (editPlan version form ls owner txt (quantify r) c (el q x t)) u (front ++ back) ≡ front ++ childRows bytes nameOf (map elementRow) (quantify r) c (el q x t) back
     unfolding childRows refitRows
     quantify-rows q r x t d =
-        after-split (editPlan form ls owner txt (quantify r) c (el q x t)) u (before c) front back refl (below .given)
+        after-split (editPlan version form ls owner txt (quantify r) c (el q x t)) u (before c) front back refl (below .given)
         (λ y m. and-none (spine c && cuts q r) (elementNamed owner u) (elementNamed x y && not (eqb (y .serial) k)) (ap (λ (z : Bool). z && not (eqb (y .serial) k)) (front-other x y m)))
         (λ e. (front-later (before c) u, back-later (before c) u))
         ∙ ap (λ (z : List Row). front ++ z) (
         due-same _ ((spine c && gains q r) && not me) (before c) _ (elementRow x ∷ []) _ (elim (spine c && cuts q r) as (λ z. List Row) [ true ↦ firstRows bytes nameOf x back | false ↦ back ])
         (ap₂ (λ (a b : Bool). (spine c && gains q r) && (a && b)) named (ap isNone (seen-back (elementNamed x) (front-other x)) ∙ named-none x back elements))
-        (filling-heads (length form) form txt x d) (cut (spine c && cuts q r))
+        (filling-heads version (length form) form txt x d) (cut (spine c && cuts q r))
         ∙ refit-cases (spine c) (cuts q r) (gains q r) me (before c) (elementRow x ∷ []) (firstRows bytes nameOf x back) back (λ e. first-none x back (λ m. false≢true (sym e ∙ member-in bytes x (map nameOf back) m))))
       where
         k : ℕ
@@ -170,14 +172,15 @@ module _ (form : Form) (ls : List Line) (owner txt : Bytes) (u : Row) (front bac
         cut false = keep-all (λ y. true) back (λ y m. refl)
 
     group-rows : (q r : Quantifier) (j : GroupKind) (ms t : Members Bytes) → ((m : Bytes) → List·Memᴰ m (groupFilling r j ms) → deep (length form) form m ≡ true)
-        → childrenAfter (editPlan form ls owner txt (quantify r) c (group q j ms t)) u (front ++ back) ≡ front ++ childRows bytes nameOf (map elementRow) (quantify r) c (group q j ms t) back
+        → childrenAfter (editPlan version form ls owner txt (quantify r) c (group q j ms t)) u (front ++ back) ≡ front ++ childRows bytes nameOf (map elementRow) (quantify r) c (group q j ms t) back
     unfolding childRows refitGroupRows
     group-rows q r j ms t d =
-        after-split (editPlan form ls owner txt (quantify r) c (group q j ms t)) u (before c) front back refl (below .given) (λ y m. refl) (λ e. (front-later (before c) u, back-later (before c) u))
+        after-split (editPlan version form ls owner txt (quantify r) c (group q j ms t)) u (before c) front back refl (below .given) (λ y m. refl)
+        (λ e. (front-later (before c) u, back-later (before c) u))
         ∙ ap (λ (z : List Row). front ++ z) (
         due-same _ ((spine c && gains q r) && not me) (before c) _ (map elementRow (groupFilling r j ms)) _ back
         (ap₂ (λ (a b : Bool). (spine c && gains q r) && (a && b)) named (ap isNone (seen-back (elementAmong (names ms)) (λ y m. not-element (y .sort) (member bytes (y .name) (names ms)) (attributes y m))) ∙ among-none (names ms) back elements))
-        (each-heads (length form) form txt (groupFilling r j ms) (all-test (λ m. deep (length form) form m) (groupFilling r j ms) .1 d)) (keep-all (λ r. true) back (λ x m. refl))
+        (each-heads version (length form) form txt (groupFilling r j ms) (all-test (λ m. deep (length form) form m) (groupFilling r j ms) .1 d)) (keep-all (λ r. true) back (λ x m. refl))
         ∙ group-cases (spine c) (gains q r) me (before c) (map elementRow (groupFilling r j ms)) back)
       where
         me : Bool
@@ -185,7 +188,7 @@ module _ (form : Form) (ls : List Line) (owner txt : Bytes) (u : Row) (front bac
 
     -- THE ROWS OF AN INSTANCE: the rows made for a name are one element
     pub edit-rows : (e : Edit Bytes) (t : Members Bytes) → ((m : Bytes) → List·Memᴰ m (filled e t) → deep (length form) form m ≡ true)
-        → childrenAfter (editPlan form ls owner txt e c t) u (front ++ back) ≡ front ++ childRows bytes nameOf (map elementRow) e c t back
+        → childrenAfter (editPlan version form ls owner txt e c t) u (front ++ back) ≡ front ++ childRows bytes nameOf (map elementRow) e c t back
     unfolding childRows
     edit-rows (insert q n) t d = insert-rows q n t (d n (List·Memᴰ·head refl))
     edit-rows remove done d = keeping-rows
@@ -205,20 +208,21 @@ and-no false b e = refl
 no-and : (a b c : Bool) → b ≡ false → (a && (b && c)) ≡ false
 no-and a b c e = and-no a (b && c) (ap (λ (z : Bool). z && c) e)
 
-module _ (form : Form) (ls : List Line) (owner txt : Bytes) (u : Row) (rows : List Row) (other : elementNamed owner u ≡ false) (given : (x : Row) → List·Memᴰ x rows → x .serial ≡ 0 → ⊥) (c : Context Bytes) where
+module _ (version : ℕ) (form : Form) (ls : List Line) (owner txt : Bytes) (u : Row) (rows : List Row) (other : elementNamed owner u ≡ false)
+    (given : (x : Row) → List·Memᴰ x rows → x .serial ≡ 0 → ⊥) (c : Context Bytes) where
   -- what is no instance keeps the rows below it
-  pub edit-others : (e : Edit Bytes) (t : Members Bytes) → childrenAfter (editPlan form ls owner txt e c t) u rows ≡ rows
-  edit-others (insert q n) t = untouched (editPlan form ls owner txt (insert q n) c t) u rows refl given (λ x m. refl) (and-no (not (skips q) && spine c) (elementNamed owner u) other)
+  pub edit-others : (e : Edit Bytes) (t : Members Bytes) → childrenAfter (editPlan version form ls owner txt e c t) u rows ≡ rows
+  edit-others (insert q n) t = untouched (editPlan version form ls owner txt (insert q n) c t) u rows refl given (λ x m. refl) (and-no (not (skips q) && spine c) (elementNamed owner u) other)
   edit-others remove done = untouched keeping u rows refl given (λ x m. refl) refl
-  edit-others remove (el q x t) = untouched (editPlan form ls owner txt remove c (el q x t)) u rows refl given (λ y m. ap (λ (z : Bool). z && elementNamed x y) other) refl
+  edit-others remove (el q x t) = untouched (editPlan version form ls owner txt remove c (el q x t)) u rows refl given (λ y m. ap (λ (z : Bool). z && elementNamed x y) other) refl
   edit-others remove (group q k ms t) = untouched keeping u rows refl given (λ x m. refl) refl
   edit-others (quantify r) done = untouched keeping u rows refl given (λ x m. refl) refl
   edit-others (quantify r) (el q x t) =
-      untouched (editPlan form ls owner txt (quantify r) c (el q x t)) u rows refl given
+      untouched (editPlan version form ls owner txt (quantify r) c (el q x t)) u rows refl given
       (λ y m. no-and (spine c && cuts q r) (elementNamed owner u) (elementNamed x y && not (eqb (y .serial) (serialAt 0 (childrenOf (elementNamed x) (u .serial) ls)))) other)
       (no-and (spine c && gains q r) (elementNamed owner u) (isNone (childrenOf (elementNamed x) (u .serial) ls)) other)
   edit-others (quantify r) (group q k ms t) =
-      untouched (editPlan form ls owner txt (quantify r) c (group q k ms t)) u rows refl given (λ y m. refl)
+      untouched (editPlan version form ls owner txt (quantify r) c (group q k ms t)) u rows refl given (λ y m. refl)
       (no-and (spine c && gains q r) (elementNamed owner u) (isNone (childrenOf (elementAmong (names ms)) (u .serial) ls)) other)
   edit-others (convert j n) t = untouched keeping u rows refl given (λ x m. refl) refl
   edit-others flatten t = untouched keeping u rows refl given (λ x m. refl) refl

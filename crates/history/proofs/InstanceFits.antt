@@ -113,7 +113,7 @@ rows-left flatten c t l rs = refl
 abbrev pub editedDefinition : Definition → Edit Bytes → Found Bytes → Definition
 editedDefinition d e f = record { name = d .name; content = complex (modelAfter e f); attributes = d .attributes }
 
-module _ (w : ℕ) (form : Form) (ok : wellFormed w form ≡ true) (d : Definition) (at : lookup (d .name) form ≡ some d) (ms : Members Bytes) (is : d .content ≡ complex ms)
+module _ (version w : ℕ) (form : Form) (ok : wellFormed w form ≡ true) (d : Definition) (at : lookup (d .name) form ≡ some d) (ms : Members Bytes) (is : d .content ≡ complex ms)
     (e : Edit Bytes) (p : List ℕ) (f : Found Bytes) (found : placeOf e p ms ≡ some f) (fits : misplaced bytes e (f .context) (f .picked) ≡ false) (kept : unfit e (f .context) (f .picked) ≡ false) where
   before-sound : Sound ms
   before-sound = record { distinct = rw is at (definition-good w form ok (d .name) d at .once); full = rw is at (definition-good w form ok (d .name) d at .groups) }
@@ -121,9 +121,10 @@ module _ (w : ℕ) (form : Form) (ok : wellFormed w form ≡ true) (d : Definiti
   after-sound : Sound (modelAfter e f)
   after-sound = change-sound bytes e p ms f (place-of e p ms f found) fits before-sound
 
-  element-fits : (rows : List Row) (x : ElementRows d rows) → fitsDefinition (some (editedDefinition d e f)) (x .front ++ childRows bytes nameOf (map elementRow) e (f .context) (f .picked) (x .back)) ≡ true
+  element-fits : (rows : List Row) (x : ElementRows version d rows)
+      → fitsDefinition version (some (editedDefinition d e f)) (x .front ++ childRows bytes nameOf (map elementRow) e (f .context) (f .picked) (x .back)) ≡ true
   element-fits rows x =
-      element-is (editedDefinition d e f) (after-sound .distinct) (definition-good w form ok (d .name) d at .attributeNames) (x .front ++ rest) .1
+      element-is version (editedDefinition d e f) (after-sound .distinct) (definition-good w form ok (d .name) d at .attributeNames) (x .front ++ rest) .1
       record {
         front = x .front;
         back = rest;
@@ -143,27 +144,31 @@ module _ (w : ℕ) (form : Form) (ok : wellFormed w form ≡ true) (d : Definiti
       content : Sorted element (x .back) × Conforms ms (map nameOf (x .back))
       content = rw is at (x .content)
 
-  rows-of : (rows : List Row) → fitsDefinition (some d) rows ≡ true → ElementRows d rows
-  rows-of rows h = element-is d (definition-good w form ok (d .name) d at .once) (definition-good w form ok (d .name) d at .attributeNames) rows .0 h
+  rows-of : (rows : List Row) → fitsDefinition version (some d) rows ≡ true → ElementRows version d rows
+  rows-of rows h = element-is version d (definition-good w form ok (d .name) d at .once) (definition-good w form ok (d .name) d at .attributeNames) rows .0 h
 
   -- AN INSTANCE: the rows right below it fit the new model
   pub instance-fits : (ls : List Line) (txt : Bytes) (u : Row) (rows : List Row) → Insertable form (d .name) e → elementNamed (d .name) u ≡ true → Below ls u rows
-      → fitsDefinition (some d) rows ≡ true → fitsDefinition (some (editedDefinition d e f)) (childrenAfter (editPlan form ls (d .name) txt e (f .context) (f .picked)) u rows) ≡ true
+      → fitsDefinition version (some d) rows ≡ true
+      → fitsDefinition version (some (editedDefinition d e f)) (childrenAfter (editPlan version form ls (d .name) txt e (f .context) (f .picked)) u rows) ≡ true
   instance-fits ls txt u rows i named below h = by (rows-of rows h)
     where
-      elements : (x : ElementRows d rows) → Sorted element (x .back)
+      elements : (x : ElementRows version d rows) → Sorted element (x .back)
       elements x = let (s, l) = rw is at (x .content) in s
 
-      by : ElementRows d rows → fitsDefinition (some (editedDefinition d e f)) (childrenAfter (editPlan form ls (d .name) txt e (f .context) (f .picked)) u rows) ≡ true
+      by : ElementRows version d rows → fitsDefinition version (some (editedDefinition d e f)) (childrenAfter (editPlan version form ls (d .name) txt e (f .context) (f .picked)) u rows) ≡ true
       by x =
-          ap (fitsDefinition (some (editedDefinition d e f))) (
-          ap (childrenAfter (editPlan form ls (d .name) txt e (f .context) (f .picked)) u) (sym (x .split))
-          ∙ edit-rows form ls (d .name) txt u (x .front) (x .back) named (rw (x .split) below) (x .attributes .sorts) (elements x) (f .context) e (f .picked) (λ m k. definition-deep w form ok m (filled-outside w form ok d at ms is e p f found i m k .known)))
+          ap (fitsDefinition version (some (editedDefinition d e f))) (
+          ap (childrenAfter (editPlan version form ls (d .name) txt e (f .context) (f .picked)) u) (sym (x .split))
+          ∙ edit-rows version form ls (d .name) txt u (x .front) (x .back) named (rw (x .split) below) (x .attributes .sorts) (elements x) (f .context) e (f .picked)
+          (λ m k. definition-deep w form ok m (filled-outside w form ok d at ms is e p f found i m k .known)))
           ∙ element-fits rows x
 
   -- without a plan: 6 and 7 leave the rows as they are
-  pub instance-still-fits : leavesRows e ≡ true → (rows : List Row) → fitsDefinition (some d) rows ≡ true → fitsDefinition (some (editedDefinition d e f)) rows ≡ true
+  pub instance-still-fits : leavesRows e ≡ true → (rows : List Row) → fitsDefinition version (some d) rows ≡ true → fitsDefinition version (some (editedDefinition d e f)) rows ≡ true
   instance-still-fits l rows h = by (rows-of rows h)
     where
-      by : ElementRows d rows → fitsDefinition (some (editedDefinition d e f)) rows ≡ true
-      by x = ap (fitsDefinition (some (editedDefinition d e f))) (sym (x .split) ∙ ap (λ (z : List Row). x .front ++ z) (sym (rows-left e (f .context) (f .picked) l (x .back)))) ∙ element-fits rows x
+      by : ElementRows version d rows → fitsDefinition version (some (editedDefinition d e f)) rows ≡ true
+      by x =
+          ap (fitsDefinition version (some (editedDefinition d e f))) (sym (x .split) ∙ ap (λ (z : List Row). x .front ++ z) (sym (rows-left e (f .context) (f .picked) l (x .back))))
+          ∙ element-fits rows x

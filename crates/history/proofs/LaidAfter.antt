@@ -66,19 +66,19 @@ set-laid w p r f h = by (eqb (r .serial) (p .set)) refl
     by true q = let (e, g) = f (eqb-eq (r .serial) (p .set) q) in rw q (valued (r .sort) (p .value) e g h)
     by false q = rw q h
 
-module _ (w : ℕ) (form : Form) (ok : wellFormed w form ≡ true) (txt : Bytes) (value : isValue w txt ≡ true) where
+module _ (version w : ℕ) (form : Form) (ok : wellFormed w form ≡ true) (txt : Bytes) (value : isValue w txt ≡ true) where
   values : (n : Bytes) (d : Definition) → lookup n form ≡ some d → (a : Attribute) → List·Memᴰ a (d .attributes) → isValue w (a .value) ≡ true
   values n d e a m =
       let (x, y) = and-split (storedName (a .name)) (isValue w (a .value) && isFill (a .sort) (a .value)) (definition-good w form ok n d e .attributes a m) in
       and-split (isValue w (a .value)) (isFill (a .sort) (a .value)) y .0
 
-  pub fill-laid : (n : Bytes) → everyRow (laid w) (fillDefinition form txt n) ≡ true
-  fill-laid n = every-row (laid w) (fillDefinition form txt n) .1 (filling-laid w (length form) form txt n values value)
+  pub fill-laid : (n : Bytes) → everyRow (laid w) (fillDefinition version form txt n) ≡ true
+  fill-laid n = every-row (laid w) (fillDefinition version form txt n) .1 (filling-laid version w (length form) form txt n values value)
 
-  pub fills-laid : (ns : List Bytes) → everyRow (laid w) (fillEach (λ n. fillDefinition form txt n) ns) ≡ true
+  pub fills-laid : (ns : List Bytes) → everyRow (laid w) (fillEach (λ n. fillDefinition version form txt n) ns) ≡ true
   fills-laid ns =
-      every-row (laid w) (fillEach (λ n. fillDefinition form txt n) ns) .1
-      (every-each (λ r b. laidRow w r ≡ true) (λ n. fillDefinition form txt n) ns (λ n m. filling-laid w (length form) form txt n values value))
+      every-row (laid w) (fillEach (λ n. fillDefinition version form txt n) ns) .1
+      (every-each (λ r b. laidRow w r ≡ true) (λ n. fillDefinition version form txt n) ns (λ n m. filling-laid version w (length form) form txt n values value))
 
 module _ (w next : ℕ) (docs : Forest Row) (serials : GoodSerials next docs) where
   -- a plan whose rows can be laid, and whose value is one for the row that gets it
@@ -97,10 +97,10 @@ module _ (w next : ℕ) (docs : Forest Row) (serials : GoodSerials next docs) wh
       → p .set ≡ serialAt 0 (childrenOf test k (lines 0 docs)) → Lays p
   lays-set p test k e f v q = record { filling = e; sets = λ r b i h. (f r (first-child next docs serials test k r b i (h ∙ q)), v) }
 
-  module _ (form : Form) (ok : wellFormed w form ≡ true) where
-    insert-lays : (owner txt : Bytes) (q : Quantifier) (n : Bytes) → isValue w txt ≡ true → (o : Option (Found Bytes)) → Lays (insertPlan form owner txt q n o)
-    insert-lays owner txt q n v none = lays-rows (insertPlan form owner txt q n none) refl refl
-    insert-lays owner txt q n v (some f) = lays-rows (insertPlan form owner txt q n (some f)) refl (fill-laid w form ok txt v n)
+  module _ (version : ℕ) (form : Form) (ok : wellFormed w form ≡ true) where
+    insert-lays : (owner txt : Bytes) (q : Quantifier) (n : Bytes) → isValue w txt ≡ true → (o : Option (Found Bytes)) → Lays (insertPlan version form owner txt q n o)
+    insert-lays owner txt q n v none = lays-rows (insertPlan version form owner txt q n none) refl refl
+    insert-lays owner txt q n v (some f) = lays-rows (insertPlan version form owner txt q n (some f)) refl (fill-laid version w form ok txt v n)
 
     remove-lays : (owner : Bytes) (o : Option (Found Bytes)) → Lays (pickedPlan (λ c t. removePlan owner t) o)
     remove-lays owner none = lays-rows keeping refl refl
@@ -111,14 +111,14 @@ module _ (w next : ℕ) (docs : Forest Row) (serials : GoodSerials next docs) wh
         by (el q x t) = lays-rows (removePlan owner (el q x t)) refl refl
         by (group q k ms t) = lays-rows keeping refl refl
 
-    quantify-lays : (ls : List Line) (owner txt : Bytes) (q : Quantifier) → isValue w txt ≡ true → (o : Option (Found Bytes)) → Lays (pickedPlan (quantifyPlan form ls owner txt q) o)
+    quantify-lays : (ls : List Line) (owner txt : Bytes) (q : Quantifier) → isValue w txt ≡ true → (o : Option (Found Bytes)) → Lays (pickedPlan (quantifyPlan version form ls owner txt q) o)
     quantify-lays ls owner txt q v none = lays-rows keeping refl refl
     quantify-lays ls owner txt q v (some f) = by (f .picked)
       where
-        by : (t : Members Bytes) → Lays (quantifyPlan form ls owner txt q (f .context) t)
+        by : (t : Members Bytes) → Lays (quantifyPlan version form ls owner txt q (f .context) t)
         by done = lays-rows keeping refl refl
-        by (el old x t) = lays-rows (quantifyPlan form ls owner txt q (f .context) (el old x t)) refl (fill-laid w form ok txt v x)
-        by (group old k ms t) = lays-rows (quantifyPlan form ls owner txt q (f .context) (group old k ms t)) refl (fills-laid w form ok txt v (groupFilling q k ms))
+        by (el old x t) = lays-rows (quantifyPlan version form ls owner txt q (f .context) (el old x t)) refl (fill-laid version w form ok txt v x)
+        by (group old k ms t) = lays-rows (quantifyPlan version form ls owner txt q (f .context) (group old k ms t)) refl (fills-laid version w form ok txt v (groupFilling q k ms))
 
     drop-lays : (above : Owned → Row → Bool) (o : Option Owned) → Lays (dropPlan above o)
     drop-lays above none = lays-rows keeping refl refl
@@ -140,7 +140,7 @@ module _ (w next : ℕ) (docs : Forest Row) (serials : GoodSerials next docs) wh
         by [] q = lays-rows (setAt k o v []) refl (and-both e refl)
         by (n ∷ ns) q = lays-set (setAt k o v (n ∷ ns)) (attributeNamed (o .attribute .name)) k refl no-element e (sym (ap (serialAt 0) q))
 
-    pub plan-lays : (c : Call) → givenValue w c ≡ true → Lays (plan c form (lines 0 docs))
+    pub plan-lays : (c : Call) → givenValue w c ≡ true → Lays (plan c version form (lines 0 docs))
     unfolding plan
     plan-lays (createDefinition n k) e = lays-rows keeping refl refl
     plan-lays (destroyDefinition i) e = lays-rows keeping refl refl
@@ -151,14 +151,14 @@ module _ (w next : ℕ) (docs : Forest Row) (serials : GoodSerials next docs) wh
     plan-lays (convertToGroup o p n k) e = lays-rows keeping refl refl
     plan-lays (flattenGroup o p) e = lays-rows keeping refl refl
     plan-lays (changeGroupQuantifier o p q t) e = quantify-lays (lines 0 docs) (nameAtIndex o form) t (quantifierOf q) e (placeOf (quantify (quantifierOf q)) p (members (definitionAt o form)))
-    plan-lays (addAttribute o n k v) e = lays-rows (plan (addAttribute o n k v) form (lines 0 docs)) refl (and-both e refl)
+    plan-lays (addAttribute o n k v) e = lays-rows (plan (addAttribute o n k v) version form (lines 0 docs)) refl (and-both e refl)
     plan-lays (destroyAttribute a) e = drop-lays (λ o u. elementNamed (o .owner .name) u) (attributeAt a form)
-    plan-lays (addDocument i t) e = lays-rows (plan (addDocument i t) form (lines 0 docs)) refl (fill-laid w form ok t e (nameAtIndex i form))
-    plan-lays (addElement k j i t) e = lays-rows (plan (addElement k j i t) form (lines 0 docs)) refl (fill-laid w form ok t e (nameAtIndex i form))
-    plan-lays (destroyElement k) e = lays-rows (plan (destroyElement k) form (lines 0 docs)) refl refl
+    plan-lays (addDocument i t) e = lays-rows (plan (addDocument i t) version form (lines 0 docs)) refl (fill-laid version w form ok t e (nameAtIndex i form))
+    plan-lays (addElement k j i t) e = lays-rows (plan (addElement k j i t) version form (lines 0 docs)) refl (fill-laid version w form ok t e (nameAtIndex i form))
+    plan-lays (destroyElement k) e = lays-rows (plan (destroyElement k) version form (lines 0 docs)) refl refl
     plan-lays (setAttribute k a v) e = set-lays k v e (attributeAt a form)
     plan-lays (destroyAttributeRow k a) e = drop-lays (λ o u. elementWith k u) (attributeAt a form)
-    plan-lays (setText k t) e = lays-set (plan (setText k t) form (lines 0 docs)) isTextRow k refl (λ r h. of (r .sort) h) e refl
+    plan-lays (setText k t) e = lays-set (plan (setText k t) version form (lines 0 docs)) isTextRow k refl (λ r h. of (r .sort) h) e refl
       where
         of : (x : RowSort) → isText x ≡ true → isElement x ≡ false
         of element h = sym h
@@ -167,7 +167,7 @@ module _ (w next : ℕ) (docs : Forest Row) (serials : GoodSerials next docs) wh
 
 module _ (w : ℕ) (c : Call) (s : Store) (ok : wellFormed w (s .form) ≡ true) (serials : GoodSerials (s .next) (s .docs)) (given : givenValue w c ≡ true) (before : everyRow (λ r below. laidRow w r) (s .docs) ≡ true) where
   pub laid-docs : everyRow (λ r below. laidRow w r) (docsAfter c s) ≡ true
-  laid-docs = laid-changed w (s .next) (s .docs) serials (plan c (s .form) (lines 0 (s .docs))) (plan-lays w (s .next) (s .docs) serials (s .form) ok c given) before
+  laid-docs = laid-changed w (s .next) (s .docs) serials (plan c (s .version) (s .form) (lines 0 (s .docs))) (plan-lays w (s .next) (s .docs) serials (s .version) (s .form) ok c given) before
 
   pub laid-after : everyRow (λ r below. laidRow w r) (after c s .docs) ≡ true
   unfolding after

@@ -52,32 +52,33 @@ module _ (w : Row → Row) (sorts : (r : Row) → w r .sort ≡ r .sort) (names 
   abbrev Kept : List Row → Type 0
   Kept rows = (r : Row) → List·Memᴰ r rows → isAttribute (r .sort) ≡ true → w r .value ≡ r .value
 
-  mapped-strip : (table : List Attribute) (rows : List Row) → Kept rows → strip table (map w rows) ≡ Option·map (map w) (strip table rows)
+  mapped-strip : (version : ℕ) (table : List Attribute) (rows : List Row) → Kept rows → strip version table (map w rows) ≡ Option·map (map w) (strip version table rows)
   unfolding strip
-  mapped-strip [] rows k = refl
-  mapped-strip (a ∷ table) [] k = by (mustBePresent (a .sort)) refl (mapped-strip table [] k)
+  mapped-strip version [] rows k = refl
+  mapped-strip version (a ∷ table) [] k = by (mustBePresent version (a .sort)) refl (mapped-strip version table [] k)
     where
-      by : (c : Bool) → mustBePresent (a .sort) ≡ c → strip table [] ≡ Option·map (map w) (strip table []) → strip (a ∷ table) [] ≡ Option·map (map w) (strip (a ∷ table) [])
+      by : (c : Bool) → mustBePresent version (a .sort) ≡ c → strip version table [] ≡ Option·map (map w) (strip version table [])
+          → strip version (a ∷ table) [] ≡ Option·map (map w) (strip version (a ∷ table) [])
       by true q x = rw (q, strip)
       by false q x = rw (q, strip) x
-  mapped-strip (a ∷ table) (r ∷ rows) k =
-      by (isAttribute (r .sort)) refl (same (a .name) (r .name)) refl (mapped-strip table rows (λ s m. k s (List·Memᴰ·tail m))) (mapped-strip table (r ∷ rows) k)
+  mapped-strip version (a ∷ table) (r ∷ rows) k =
+      by (isAttribute (r .sort)) refl (same (a .name) (r .name)) refl (mapped-strip version table rows (λ s m. k s (List·Memᴰ·tail m))) (mapped-strip version table (r ∷ rows) k)
     where
       Goal : Type 0
-      Goal = strip (a ∷ table) (w r ∷ map w rows) ≡ Option·map (map w) (strip (a ∷ table) (r ∷ rows))
+      Goal = strip version (a ∷ table) (w r ∷ map w rows) ≡ Option·map (map w) (strip version (a ∷ table) (r ∷ rows))
 
-      other : (isAttribute (r .sort) && same (a .name) (r .name)) ≡ false → strip table (w r ∷ map w rows) ≡ Option·map (map w) (strip table (r ∷ rows)) → Goal
-      other e y = miss (mustBePresent (a .sort)) refl
+      other : (isAttribute (r .sort) && same (a .name) (r .name)) ≡ false → strip version table (w r ∷ map w rows) ≡ Option·map (map w) (strip version table (r ∷ rows)) → Goal
+      other e y = miss (mustBePresent version (a .sort)) refl
         where
           e′ : (isAttribute (w r .sort) && same (a .name) (w r .name)) ≡ false
           e′ = ap₂ (λ (s : RowSort) (n : Bytes). isAttribute s && same (a .name) n) (sorts r) (names r) ∙ e
 
-          miss : (m : Bool) → mustBePresent (a .sort) ≡ m → Goal
+          miss : (m : Bool) → mustBePresent version (a .sort) ≡ m → Goal
           miss true m = rw (e, strip) (rw (e′, strip) (rw m))
           miss false m = rw (e, strip) (rw (e′, strip) (rw m y))
 
-      by : (c : Bool) → isAttribute (r .sort) ≡ c → (d : Bool) → same (a .name) (r .name) ≡ d → strip table (map w rows) ≡ Option·map (map w) (strip table rows)
-          → strip table (w r ∷ map w rows) ≡ Option·map (map w) (strip table (r ∷ rows)) → Goal
+      by : (c : Bool) → isAttribute (r .sort) ≡ c → (d : Bool) → same (a .name) (r .name) ≡ d → strip version table (map w rows) ≡ Option·map (map w) (strip version table rows)
+          → strip version table (w r ∷ map w rows) ≡ Option·map (map w) (strip version table (r ∷ rows)) → Goal
       by false e d h x y = other (rw e) y
       by true e false h x y = other (rw (e, h)) y
       by true e true h x y = hit (allows (a .sort) (a .value) (r .value)) refl
@@ -95,16 +96,16 @@ module _ (w : Row → Row) (sorts : (r : Row) → w r .sort ≡ r .sort) (names 
           hit true m = rw (e₀, strip) (rw (e′, strip) (rw v (rw m x)))
           hit false m = rw (e₀, strip) (rw (e′, strip) (rw v (rw m)))
 
-  pub mapped-row : (form : Form) (r : Row) (rows : List Row) → Kept rows → fitsRow form (w r) (map w rows) ≡ fitsRow form r rows
+  pub mapped-row : (version : ℕ) (form : Form) (r : Row) (rows : List Row) → Kept rows → fitsRow version form (w r) (map w rows) ≡ fitsRow version form r rows
   unfolding fitsRow
-  mapped-row form r rows k = ap₂ (λ (s : RowSort) (n : Bytes). tested s n (map w rows)) (sorts r) (names r) ∙ by (r .sort)
+  mapped-row version form r rows k = ap₂ (λ (s : RowSort) (n : Bytes). tested s n (map w rows)) (sorts r) (names r) ∙ by (r .sort)
     where
-      found : (o : Option Definition) → fitsDefinition o (map w rows) ≡ fitsDefinition o rows
+      found : (o : Option Definition) → fitsDefinition version o (map w rows) ≡ fitsDefinition version o rows
       found none = refl
-      found (some d) = ap (fitsStripped (d .content)) (mapped-strip (d .attributes) rows k) ∙ mapped-stripped (d .content) (strip (d .attributes) rows)
+      found (some d) = ap (fitsStripped (d .content)) (mapped-strip version (d .attributes) rows k) ∙ mapped-stripped (d .content) (strip version (d .attributes) rows)
 
       tested : RowSort → Bytes → List Row → Bool
-      tested s n rs = elim s [ element ↦ fitsDefinition (lookup n form) rs | attribute ↦ isNone rs | text ↦ isNone rs ]
+      tested s n rs = elim s [ element ↦ fitsDefinition version (lookup n form) rs | attribute ↦ isNone rs | text ↦ isNone rs ]
 
       by : (s : RowSort) → tested s (r .name) (map w rows) ≡ tested s (r .name) rows
       by element = found (lookup (r .name) form)
@@ -132,9 +133,10 @@ wipe-number n (tree r b t) = λ i. tree (wipe-given n r i) (wipe-number (n + isN
 pub every-number : (q : Row → List Row → Bool) → ((r : Row) (rows : List Row) → q (wipe r) (map wipe rows) ≡ q r rows) → (n : ℕ) (f : Forest Row) → everyRow q (number n f) ≡ everyRow q f
 every-number q h n f = sym (every-each q wipe h (number n f)) ∙ ap (everyRow q) (wipe-number n f) ∙ every-each q wipe h f
 
-pub conforming-number : (form : Form) (n : ℕ) (f : Forest Row) → conforming form (number n f) ≡ conforming form f
+pub conforming-number : (version : ℕ) (form : Form) (n : ℕ) (f : Forest Row) → conforming version form (number n f) ≡ conforming version form f
 unfolding conforming
-conforming-number form n f = ap₂ (λ (x y : Bool). x && y) roots (every-number (λ r below. fitsRow form r below) (λ r rows. mapped-row wipe (λ s. refl) (λ s. refl) form r rows (λ s m e. refl)) n f)
+conforming-number version form n f =
+    ap₂ (λ (x y : Bool). x && y) roots (every-number (λ r below. fitsRow version form r below) (λ r rows. mapped-row wipe (λ s. refl) (λ s. refl) version form r rows (λ s m e. refl)) n f)
   where
     top : (g : Forest Row) → all (λ (r : Row). isElement (r .sort)) (heads (eachRow wipe g)) ≡ all (λ (r : Row). isElement (r .sort)) (heads g)
     top g = ap (all (λ (r : Row). isElement (r .sort))) (heads-each wipe g) ∙ mapped-elements wipe (λ s. refl) (λ s. refl) (heads g)

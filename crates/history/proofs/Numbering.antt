@@ -31,31 +31,33 @@ abbrev pub Blank : Forest Row → Type 0
 Blank f = EveryRow (λ r b. r .serial ≡ 0) f
 
 -- ---- the rows that a plan makes
-blank-fill : (form : Form) (txt n : Bytes) → Blank (fillDefinition form txt n)
-blank-fill form txt n = filling-serials (length form) form txt n
+blank-fill : (version : ℕ) (form : Form) (txt n : Bytes) → Blank (fillDefinition version form txt n)
+blank-fill version form txt n = filling-serials version (length form) form txt n
 
-blank-insert : (form : Form) (owner txt : Bytes) (q : Quantifier) (n : Bytes) (o : Option (Found Bytes)) → Blank (insertPlan form owner txt q n o .filling)
-blank-insert form owner txt q n none = tt
-blank-insert form owner txt q n (some f) = blank-fill form txt n
+blank-insert : (version : ℕ) (form : Form) (owner txt : Bytes) (q : Quantifier) (n : Bytes) (o : Option (Found Bytes)) → Blank (insertPlan version form owner txt q n o .filling)
+blank-insert version form owner txt q n none = tt
+blank-insert version form owner txt q n (some f) = blank-fill version form txt n
 
 blank-remove : (owner : Bytes) (t : Members Bytes) → Blank (removePlan owner t .filling)
 blank-remove owner done = tt
 blank-remove owner (el q x rest) = tt
 blank-remove owner (group q k ms rest) = tt
 
-blank-quantify : (form : Form) (ls : List Line) (owner txt : Bytes) (new : Quantifier) (c : Context Bytes) (t : Members Bytes) → Blank (quantifyPlan form ls owner txt new c t .filling)
-blank-quantify form ls owner txt new c done = tt
-blank-quantify form ls owner txt new c (el old x rest) = blank-fill form txt x
-blank-quantify form ls owner txt new c (group old k ms rest) =
-    every-each (λ r b. r .serial ≡ 0) (λ n. fillDefinition form txt n) (groupFilling new k ms) (λ n i. blank-fill form txt n)
+blank-quantify : (version : ℕ) (form : Form) (ls : List Line) (owner txt : Bytes) (new : Quantifier) (c : Context Bytes) (t : Members Bytes)
+    → Blank (quantifyPlan version form ls owner txt new c t .filling)
+blank-quantify version form ls owner txt new c done = tt
+blank-quantify version form ls owner txt new c (el old x rest) = blank-fill version form txt x
+blank-quantify version form ls owner txt new c (group old k ms rest) =
+    every-each (λ r b. r .serial ≡ 0) (λ n. fillDefinition version form txt n) (groupFilling new k ms) (λ n i. blank-fill version form txt n)
 
 blank-picked : (f : Context Bytes → Members Bytes → Plan) → ((c : Context Bytes) (t : Members Bytes) → Blank (f c t .filling)) → (o : Option (Found Bytes)) → Blank (pickedPlan f o .filling)
 blank-picked f x none = tt
 blank-picked f x (some y) = x (y .context) (y .picked)
 
 -- changes 5 and 8
-blank-requantify : (form : Form) (ls : List Line) (o : ℕ) (txt : Bytes) (q : Quantifier) (x : Option (Found Bytes)) → Blank (pickedPlan (quantifyPlan form ls (nameAtIndex o form) txt q) x .filling)
-blank-requantify form ls o txt q x = blank-picked (quantifyPlan form ls (nameAtIndex o form) txt q) (blank-quantify form ls (nameAtIndex o form) txt q) x
+blank-requantify : (version : ℕ) (form : Form) (ls : List Line) (o : ℕ) (txt : Bytes) (q : Quantifier) (x : Option (Found Bytes))
+    → Blank (pickedPlan (quantifyPlan version form ls (nameAtIndex o form) txt q) x .filling)
+blank-requantify version form ls o txt q x = blank-picked (quantifyPlan version form ls (nameAtIndex o form) txt q) (blank-quantify version form ls (nameAtIndex o form) txt q) x
 
 blank-set : (ls : List Line) (k : ℕ) (v : Bytes) (o : Option Owned) → Blank (setPlan ls k v o .filling)
 blank-set ls k v none = tt
@@ -69,26 +71,26 @@ blank-drop : (above : Owned → Row → Bool) (o : Option Owned) → Blank (drop
 blank-drop above none = tt
 blank-drop above (some o) = tt
 
-pub blank-plan : (c : Call) (form : Form) (ls : List Line) → Blank (plan c form ls .filling)
+pub blank-plan : (c : Call) (version : ℕ) (form : Form) (ls : List Line) → Blank (plan c version form ls .filling)
 unfolding plan
-blank-plan (Change.createDefinition n k) form ls = tt
-blank-plan (Change.destroyDefinition i) form ls = tt
-blank-plan (Change.insertElement o p i q t) form ls =
-    blank-insert form (nameAtIndex o form) t (quantifierOf q) (nameAtIndex i form) (placeOf (Edit.insert (quantifierOf q) (nameAtIndex i form)) p (members (definitionAt o form)))
-blank-plan (Change.removeElement o p) form ls =
+blank-plan (Change.createDefinition n k) version form ls = tt
+blank-plan (Change.destroyDefinition i) version form ls = tt
+blank-plan (Change.insertElement o p i q t) version form ls =
+    blank-insert version form (nameAtIndex o form) t (quantifierOf q) (nameAtIndex i form) (placeOf (Edit.insert (quantifierOf q) (nameAtIndex i form)) p (members (definitionAt o form)))
+blank-plan (Change.removeElement o p) version form ls =
     blank-picked (λ c t. removePlan (nameAtIndex o form) t) (λ c t. blank-remove (nameAtIndex o form) t) (placeOf Edit.remove p (members (definitionAt o form)))
-blank-plan (Change.changeQuantifier o p q t) form ls = blank-requantify form ls o t (quantifierOf q) (placeOf (Edit.quantify (quantifierOf q)) p (members (definitionAt o form)))
-blank-plan (Change.convertToGroup o p n k) form ls = tt
-blank-plan (Change.flattenGroup o p) form ls = tt
-blank-plan (Change.changeGroupQuantifier o p q t) form ls = blank-requantify form ls o t (quantifierOf q) (placeOf (Edit.quantify (quantifierOf q)) p (members (definitionAt o form)))
-blank-plan (Change.addAttribute o n k v) form ls = (refl, tt, tt)
-blank-plan (Change.destroyAttribute a) form ls = blank-drop (λ o u. elementNamed (o .owner .name) u) (attributeAt a form)
-blank-plan (Change.addDocument i t) form ls = blank-fill form t (nameAtIndex i form)
-blank-plan (Change.addElement k j i t) form ls = blank-fill form t (nameAtIndex i form)
-blank-plan (Change.destroyElement k) form ls = tt
-blank-plan (Change.setAttribute k a v) form ls = blank-set ls k v (attributeAt a form)
-blank-plan (Change.destroyAttributeRow k a) form ls = blank-drop (λ o u. elementWith k u) (attributeAt a form)
-blank-plan (Change.setText k t) form ls = tt
+blank-plan (Change.changeQuantifier o p q t) version form ls = blank-requantify version form ls o t (quantifierOf q) (placeOf (Edit.quantify (quantifierOf q)) p (members (definitionAt o form)))
+blank-plan (Change.convertToGroup o p n k) version form ls = tt
+blank-plan (Change.flattenGroup o p) version form ls = tt
+blank-plan (Change.changeGroupQuantifier o p q t) version form ls = blank-requantify version form ls o t (quantifierOf q) (placeOf (Edit.quantify (quantifierOf q)) p (members (definitionAt o form)))
+blank-plan (Change.addAttribute o n k v) version form ls = (refl, tt, tt)
+blank-plan (Change.destroyAttribute a) version form ls = blank-drop (λ o u. elementNamed (o .owner .name) u) (attributeAt a form)
+blank-plan (Change.addDocument i t) version form ls = blank-fill version form t (nameAtIndex i form)
+blank-plan (Change.addElement k j i t) version form ls = blank-fill version form t (nameAtIndex i form)
+blank-plan (Change.destroyElement k) version form ls = tt
+blank-plan (Change.setAttribute k a v) version form ls = blank-set ls k v (attributeAt a form)
+blank-plan (Change.destroyAttributeRow k a) version form ls = blank-drop (λ o u. elementWith k u) (attributeAt a form)
+blank-plan (Change.setText k t) version form ls = tt
 
 -- ---- their serials
 new-one : (r : Row) → r .serial ≡ 0 → isNew r ≡ 1

@@ -131,7 +131,7 @@ module _ (m : Moment) (h : Holds m) (a : Asked) (o : Onward m (step a m)) where
 
     accepted-back : (k : ℕ) → StandsAt k m ⊎ MadeBy k a m → (TakenBy k a m → ⊥) → StandsAt k (step a m)
     accepted-back k (inr (e′, x)) f =
-        standing-from (m .book .next) k (step a m .book .entries) (linesMade (rowsMade (a .call) (m .book .form)) (m .book .next) (rules .makes .parents)) (rules .makes .lines) x
+        standing-from (m .book .next) k (step a m .book .entries) (linesMade (rowsMade (a .call) (m .book .version) (m .book .form)) (m .book .next) (rules .makes .parents)) (rules .makes .lines) x
     accepted-back k (inl i) f =
         let (l, j, q) = serial-line k (untaken (m .book .entries)) i in
         ⊎-elim (λ t. absurd (f (e, (l, j, sym q, rules .takes l j .0 (subst (λ (z : ℕ). List·Memᴰ z (takenSerials (step a m .book .entries))) q t))))) (λ s. s)

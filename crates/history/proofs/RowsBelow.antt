@@ -69,7 +69,7 @@ named-once (x ∷ rows) d r s (List·Memᴰ·tail i) (List·Memᴰ·head f) q = 
 named-once (x ∷ rows) d r s (List·Memᴰ·tail i) (List·Memᴰ·tail j) q = named-once rows (d .1) r s i j q
 
 -- ---- the rows right below an element
-module _ (d : Definition) (rows : List Row) (e : ElementRows d rows) where
+module _ {version : ℕ} (d : Definition) (rows : List Row) (e : ElementRows version d rows) where
   parted : (r : Row) → List·Memᴰ r rows → List·Memᴰ r (e .front) ⊎ List·Memᴰ r (e .back)
   parted r i = List·Memᴰ·append-cases (e .front) (subst (λ (z : List Row). List·Memᴰ r z) (sym (e .split)) i)
 
@@ -112,28 +112,28 @@ module _ (d : Definition) (rows : List Row) (e : ElementRows d rows) where
 
 -- ---- documents that conform
 -- what is said of a row, by its sort
-abbrev BySort : Form → Bytes → List Row → RowSort → Type 0
-BySort form n rows s = elim s [ element ↦ (d : Definition) × (lookup n form ≡ some d) × ElementRows d rows | attribute ↦ rows ≡ [] | text ↦ rows ≡ [] ]
+abbrev BySort : ℕ → Form → Bytes → List Row → RowSort → Type 0
+BySort version form n rows s = elim s [ element ↦ (d : Definition) × (lookup n form ≡ some d) × ElementRows version d rows | attribute ↦ rows ≡ [] | text ↦ rows ≡ [] ]
 
 same-line : (l m : Line) → l .parent ≡ m .parent → l .row ≡ m .row → l ≡ m
 same-line l m p q = λ i. record { parent = p i; row = q i }
 
-module _ (w : ℕ) (form : Form) (well : WellFormed w form) (next : ℕ) (docs : Forest Row) (good : GoodSerials next docs) (cf : Conforming form docs) where
+module _ {version : ℕ} (w : ℕ) (form : Form) (well : WellFormed w form) (next : ℕ) (docs : Forest Row) (good : GoodSerials next docs) (cf : Conforming version form docs) where
   -- a row with rows below it is an element of a definition
   abbrev Defined : Row → List Row → Type 0
-  Defined u rows = (d : Definition) × (lookup (u .name) form ≡ some d) × ElementRows d rows × (u .sort ≡ element)
+  Defined u rows = (d : Definition) × (lookup (u .name) form ≡ some d) × ElementRows version d rows × (u .sort ≡ element)
 
   defined : (u : Row) (c : Forest Row) → Standing docs u c → (r : Row) → List·Memᴰ r (heads c) → Defined u (heads c)
-  defined u c i r m = by (u .sort) refl (standing-every (λ r below. RowConforms form r below) docs (cf .rows) u c i)
+  defined u c i r m = by (u .sort) refl (standing-every (λ r below. RowConforms version form r below) docs (cf .rows) u c i)
     where
-      by : (s : RowSort) → u .sort ≡ s → BySort form (u .name) (heads c) s → Defined u (heads c)
+      by : (s : RowSort) → u .sort ≡ s → BySort version form (u .name) (heads c) s → Defined u (heads c)
       by element q (d, e, x) = (d, e, x, q)
       by attribute q e = absurd (List·Memᴰ·not-nil (subst (λ (z : List Row). List·Memᴰ r z) e m))
       by text q e = absurd (List·Memᴰ·not-nil (subst (λ (z : List Row). List·Memᴰ r z) e m))
 
   -- two lines below one row
   below-one : (test : Row → Bool) → (test-element : (r : Row) → r .sort ≡ element → test r ≡ true → ⊥)
-      → ((d : Definition) → List·Memᴰ d form → (rows : List Row) → ElementRows d rows → (r s : Row) → List·Memᴰ r rows → List·Memᴰ s rows → test r ≡ true → test s ≡ true → r ≡ s)
+      → ((d : Definition) → List·Memᴰ d form → (rows : List Row) → ElementRows version d rows → (r s : Row) → List·Memᴰ r rows → List·Memᴰ s rows → test r ≡ true → test s ≡ true → r ≡ s)
       → AtMostOne test (lines 0 docs)
   below-one test not-root one l m i j p a b = by (line-parent 0 docs l i) (line-parent 0 docs m j)
     where
@@ -197,9 +197,9 @@ module _ (w : ℕ) (form : Form) (well : WellFormed w form) (next : ℕ) (docs :
       by (l .row) c k name (is-element (l .row .sort) a) r
     where
       by : (u : Row) (c : Forest Row) → Standing docs u c → owner ≡ u .name → u .sort ≡ element → Reaches form owner owner → ⊥
-      by u c k name s r = at (u .sort) s (standing-every (λ r below. RowConforms form r below) docs (cf .rows) u c k)
+      by u c k name s r = at (u .sort) s (standing-every (λ r below. RowConforms version form r below) docs (cf .rows) u c k)
         where
-          at : (s : RowSort) → s ≡ element → BySort form (u .name) (heads c) s → ⊥
+          at : (s : RowSort) → s ≡ element → BySort version form (u .name) (heads c) s → ⊥
           at element q (d, e, y) =
               let (m, g) = lookup-member (u .name) form d e in
               let o : owner ≡ d .name = name ∙ sym g in

@@ -118,7 +118,7 @@ keeps-note c b =
     (subst (λ (z : List Entry). Keeps z (expand (p .filling) (b .next) (marks p (b .entries)))) (olds-marks p (b .entries)) (keeps-expand (p .filling) (b .next) (marks p (b .entries)))))
   where
     p : Plan
-    p = plan c (b .form) (untaken (b .entries))
+    p = plan c (b .version) (b .form) (untaken (b .entries))
 
 -- ---- no serial twice, taken lines counted
 abbrev pub lineSerials : List Line → List ℕ
@@ -184,11 +184,11 @@ unfolding note
 once-note c b o =
     spent-once (note c b)
     (spent-more (newRows (p .filling) * spotCount (marks p (b .entries))) (once-spent b o)
-    (λ k. expand-times (p .filling) (blank-plan c (b .form) (untaken (b .entries))) k (b .next) (marks p (b .entries))
+    (λ k. expand-times (p .filling) (blank-plan c (b .version) (b .form) (untaken (b .entries))) k (b .next) (marks p (b .entries))
     ∙ ap (λ (ks : List ℕ). times k ks + times k (range (b .next) (newRows (p .filling) * spotCount (marks p (b .entries))))) (marks-serials p (b .entries))))
   where
     p : Plan
-    p = plan c (b .form) (untaken (b .entries))
+    p = plan c (b .version) (b .form) (untaken (b .entries))
 
 pub next-rises : (c : Call) (b : Book) → b .next ≤ note c b .next
 unfolding note

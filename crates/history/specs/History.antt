@@ -138,11 +138,11 @@ entriesBelow n (e ∷ es) = elim (leb n (serialOf (lineOf e))) [ true ↦ entrie
 pub record Makes (c : Call) (b after : Book) : Type 0 where
   -- the serials of the rows below which it makes rows: exactly those that the rules name, each once
   pub parents : List ℕ
-  pub each : (u : ℕ) → List·Memᴰ u parents ↔ MakesBelow c (b .form) (untaken (b .entries)) u
+  pub each : (u : ℕ) → List·Memᴰ u parents ↔ MakesBelow c (b .version) (b .form) (untaken (b .entries)) u
   pub one : Distinct parents
   -- the new lines, with sort, name, parent and value, and the next serials in document order; none of them taken
-  pub lines : entriesFrom (b .next) (after .entries) ≡ map (λ (l : Line). stands l) (linesMade (rowsMade c (b .form)) (b .next) parents)
-  pub next : after .next ≡ b .next + newRows (rowsMade c (b .form)) * length parents
+  pub lines : entriesFrom (b .next) (after .entries) ≡ map (λ (l : Line). stands l) (linesMade (rowsMade c (b .version) (b .form)) (b .next) parents)
+  pub next : after .next ≡ b .next + newRows (rowsMade c (b .version) (b .form)) * length parents
   -- all other lines are those that the book had
   pub others : entrySerials (entriesBelow (b .next) (after .entries)) ≡ everMade b
 

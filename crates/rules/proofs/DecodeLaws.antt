@@ -212,19 +212,21 @@ fits-not (complex ms) rows h =
     every-map (λ r. isElement (r .sort) ≡ true) (λ r. isAttribute (r .sort) ≡ true → ⊥) rows (λ r e. element-not (r .sort) e) (every-of (λ (r : Row). isElement (r .sort)) rows (and-left (all (λ (r : Row). isElement (r .sort)) rows) (accepts bytes ms (map nameOf rows)) h))
 
 -- What holds of the attribute rows with names in the table, and of the rows that fit the content, holds of all rows.
-module _ (P : Row → Type 0) (c : Content) (others : (rows : List Row) → fits c rows ≡ true → Every P rows) where
-  pub strip-every : (table : List Attribute) (rows : List Row) → ((r : Row) → isAttribute (r .sort) ≡ true → owns table (r .name) ≡ true → P r) → fitsStripped c (strip table rows) ≡ true → Every P rows
+module _ (version : ℕ) (P : Row → Type 0) (c : Content) (others : (rows : List Row) → fits c rows ≡ true → Every P rows) where
+  pub strip-every : (table : List Attribute) (rows : List Row) → ((r : Row) → isAttribute (r .sort) ≡ true → owns table (r .name) ≡ true → P r)
+      → fitsStripped c (strip version table rows) ≡ true → Every P rows
   unfolding strip
   strip-every [] rows own h = others rows h
   strip-every (a ∷ table) [] own h = tt
   strip-every (a ∷ table) (r ∷ rows) own h =
-      by (isAttribute (r .sort) && same (a .name) (r .name)) refl (allows (a .sort) (a .value) (r .value)) refl (mustBePresent (a .sort)) refl (strip-every table rows later) (strip-every table (r ∷ rows) later)
+      by (isAttribute (r .sort) && same (a .name) (r .name)) refl (allows (a .sort) (a .value) (r .value)) refl (mustBePresent version (a .sort)) refl (strip-every table rows later)
+      (strip-every table (r ∷ rows) later)
     where
       later : (x : Row) → isAttribute (x .sort) ≡ true → owns table (x .name) ≡ true → P x
       later x e o = own x e (or-right (same (x .name) (a .name)) o)
 
-      by : (t : Bool) → (isAttribute (r .sort) && same (a .name) (r .name)) ≡ t → (u : Bool) → allows (a .sort) (a .value) (r .value) ≡ u → (v : Bool) → mustBePresent (a .sort) ≡ v
-          → (fitsStripped c (strip table rows) ≡ true → Every P rows) → (fitsStripped c (strip table (r ∷ rows)) ≡ true → Every P (r ∷ rows)) → Every P (r ∷ rows)
+      by : (t : Bool) → (isAttribute (r .sort) && same (a .name) (r .name)) ≡ t → (u : Bool) → allows (a .sort) (a .value) (r .value) ≡ u → (v : Bool) → mustBePresent version (a .sort) ≡ v
+          → (fitsStripped c (strip version table rows) ≡ true → Every P rows) → (fitsStripped c (strip version table (r ∷ rows)) ≡ true → Every P (r ∷ rows)) → Every P (r ∷ rows)
       by true q true p v m f g =
           let (k, e) = and-split (isAttribute (r .sort)) (same (a .name) (r .name)) q in
           (own r k (or-left (owns table (r .name)) (bytes .same← (r .name) (a .name) (sym (same-eq (a .name) (r .name) e)))), f (rw (q, strip, p) at h))
@@ -232,14 +234,15 @@ module _ (P : Row → Type 0) (c : Content) (others : (rows : List Row) → fits
       by false q u p true m f g = absurd (false≢true (rw (q, strip, m) at h))
       by false q u p false m f g = g (rw (q, strip, m) at h)
 
-below-owned : (form : Form) (r : Row) (below : List Row) → fitsRow form r below ≡ true → Every (Owned (lookup (r .name) form)) below
+below-owned : (version : ℕ) (form : Form) (r : Row) (below : List Row) → fitsRow version form r below ≡ true → Every (Owned (lookup (r .name) form)) below
 unfolding fitsRow
-below-owned form r below h = by (r .sort) refl
+below-owned version form r below h = by (r .sort) refl
   where
-    at : (o : Option Definition) → fitsDefinition o below ≡ true → Every (Owned o) below
+    at : (o : Option Definition) → fitsDefinition version o below ≡ true → Every (Owned o) below
     at none e = absurd (false≢true e)
     at (some d) e =
-        strip-every (Owned (some d)) (d .content) (λ rows f. every-map (λ r. isAttribute (r .sort) ≡ true → ⊥) (Owned (some d)) rows (λ r n a. absurd (n a)) (fits-not (d .content) rows f)) (d .attributes) below (λ r a o b. o) e
+        strip-every version (Owned (some d)) (d .content)
+        (λ rows f. every-map (λ r. isAttribute (r .sort) ≡ true → ⊥) (Owned (some d)) rows (λ r n a. absurd (n a)) (fits-not (d .content) rows f)) (d .attributes) below (λ r a o b. o) e
 
     no-rows : isNone below ≡ true → Every (Owned (lookup (r .name) form)) below
     no-rows e = rw (none-nil below e) tt
@@ -249,26 +252,27 @@ below-owned form r below h = by (r .sort) refl
     by attribute q = no-rows (rw (q, fitsRow) at h)
     by text q = no-rows (rw (q, fitsRow) at h)
 
-pub fits-known : (o : Option Definition) (below : List Row) → fitsDefinition o below ≡ true → isThere o ≡ true
-fits-known none below e = e
-fits-known (some d) below e = refl
+pub fits-known : (version : ℕ) (o : Option Definition) (below : List Row) → fitsDefinition version o below ≡ true → isThere o ≡ true
+fits-known version none below e = e
+fits-known version (some d) below e = refl
 
-module _ (w : ℕ) (form : Form) where
-  row-found : (owner : Bytes) (r : Row) (below : List Row) → fitsRow form r below ≡ true → laidRow w r ≡ true → Owned (lookup owner form) r → Found form owner r
+module _ (version w : ℕ) (form : Form) where
+  row-found : (owner : Bytes) (r : Row) (below : List Row) → fitsRow version form r below ≡ true → laidRow w r ≡ true → Owned (lookup owner form) r → Found form owner r
   unfolding fitsRow
   row-found owner r below h l o = by (r .sort) refl
     where
       by : (s : RowSort) → r .sort ≡ s → Found form owner r
-      by element q = rw q (name-index form (r .name) (fits-known (lookup (r .name) form) below (rw (q, fitsRow) at h)))
+      by element q = rw q (name-index form (r .name) (fits-known version (lookup (r .name) form) below (rw (q, fitsRow) at h)))
       by attribute q = rw q (name-attribute form 0 owner (r .name) (o (ap isAttribute q)))
       by text q = rw q (sym (none-nil (r .name) (and-right (isValue w (r .value)) (isNone (r .name)) (rw (q, laidRow) at l))))
 
-  found-below : (owner : Bytes) (f : Forest Row) → EveryRow (λ r below. fitsRow form r below ≡ true) f → EveryRow (λ r below. laidRow w r ≡ true) f → Every (Owned (lookup owner form)) (heads f)
+  found-below : (owner : Bytes) (f : Forest Row) → EveryRow (λ r below. fitsRow version form r below ≡ true) f → EveryRow (λ r below. laidRow w r ≡ true) f
+      → Every (Owned (lookup owner form)) (heads f)
       → FoundBelow form owner f
   unfolding FoundBelow
   found-below owner bare h l o = tt
   found-below owner (tree r b t) h l o =
-      (row-found owner r (heads b) (h .0) (l .0) (o .0), found-below (r .name) b (h .1) (l .1) (below-owned form r (heads b) (h .0)), found-below owner t (h .2) (l .2) (o .1))
+      (row-found owner r (heads b) (h .0) (l .0) (o .0), found-below (r .name) b (h .1) (l .1) (below-owned version form r (heads b) (h .0)), found-below owner t (h .2) (l .2) (o .1))
 
 -- ---- all that the laws use of the versions: the number fits its field, and the length of a value fits a byte
 version-bound : (v : ℕ) → knownVersion v ≡ true → v < 4294967296
@@ -294,7 +298,7 @@ pub record GoodParts (s : Store) : Type 0 where
   pub rowCount : length (flat s .rows) ≤ 4096
   pub definitions : Every (λ d. goodDefinition (valueWidth (s .version)) (s .form) d ≡ true) (s .form)
   pub roots : Every (λ r. isElement (r .sort) ≡ true) (heads (s .docs))
-  pub rows : EveryRow (λ r below. fitsRow (s .form) r below ≡ true) (s .docs)
+  pub rows : EveryRow (λ r below. fitsRow (s .version) (s .form) r below ≡ true) (s .docs)
   pub values : EveryRow (λ r below. laidRow (valueWidth (s .version)) r ≡ true) (s .docs)
   pub serials : all (λ k. leb 1 k && ltb k (s .next)) (serials (s .docs)) ≡ true
   pub least : 1 ≤ s .next
@@ -306,7 +310,7 @@ good-parts s h =
     let (version, h₁) = and-split (knownVersion (s .version)) _ h in
     let (ceilings, h₂) = and-split (withinCeilings (flat s)) _ h₁ in
     let (form, h₃) = and-split (wellFormed (valueWidth (s .version)) (s .form)) _ h₂ in
-    let (docs, h₄) = and-split (conforming (s .form) (s .docs)) _ h₃ in
+    let (docs, h₄) = and-split (conforming (s .version) (s .form) (s .docs)) _ h₃ in
     let (values, numbered) = and-split (everyRow (λ r below. laidRow (valueWidth (s .version)) r) (s .docs)) _ h₄ in
     let (c₀, c₁) = and-split (leb (length (flat s .definitions)) 64) _ ceilings in
     let (c₂, c₃) = and-split (leb (length (flat s .particles)) 256) _ c₁ in
@@ -325,7 +329,7 @@ good-parts s h =
       rowCount = leb-true _ _ c₇;
       definitions = every-of (goodDefinition (valueWidth (s .version)) (s .form)) (s .form) (and-right (distinct bytes (map definitionName (s .form))) _ form);
       roots = every-of (λ (r : Row). isElement (r .sort)) (heads (s .docs)) r₀;
-      rows = every-row (λ r below. fitsRow (s .form) r below) (s .docs) r₁;
+      rows = every-row (λ r below. fitsRow (s .version) (s .form) r below) (s .docs) r₁;
       values = every-row (λ r below. laidRow (valueWidth (s .version)) r) (s .docs) values;
       serials = s₂;
       least = leb-true _ _ s₄;
@@ -465,7 +469,7 @@ module _ (s : Store) (g : good s ≡ true) where
 
   pub good-found : FoundBelow (s .form) [] (s .docs)
   good-found =
-      found-below (valueWidth (s .version)) (s .form) [] (s .docs) (parts .rows) (parts .values)
+      found-below (s .version) (valueWidth (s .version)) (s .form) [] (s .docs) (parts .rows) (parts .values)
       (every-map (λ r. isElement (r .sort) ≡ true) (Owned (lookup [] (s .form))) (heads (s .docs)) (λ r e a. absurd (element-not (r .sort) e a)) (parts .roots))
 
 -- ---- the string

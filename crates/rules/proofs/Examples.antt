@@ -23,7 +23,7 @@ use Rattle.rules.specs.Filling.{fillAttributes, fillEach, fillContent, f
 use Rattle.rules.specs.Place.{plug, kindAt, spine, before, around, afterMembers, find}
 use Rattle.rules.specs.Edit.{_⊕_, edited, place, placeOf}
 use Rattle.rules.specs.Lines.{findRow, childrenOf}
-use Rattle.rules.specs.Change.{Call, destroyDefinition, insertElement, removeElement, changeQuantifier, convertToGroup, changeGroupQuantifier, definitionAt, attributeAt, formAfter, plan, prune, eachRow, plant, newRows, given, number, after}
+use Rattle.rules.specs.Change.{Call, destroyDefinition, insertElement, removeElement, changeQuantifier, convertToGroup, changeGroupQuantifier, setAttribute, destroyAttributeRow, definitionAt, attributeAt, formAfter, plan, prune, eachRow, plant, newRows, given, number, after}
 use Rattle.rules.specs.Refusal.{conditions, refusal}
 use Rattle.rules.specs.Outcome.{wrote, outcome}
 use Rattle.rules.specs.Print.{printed, printOutcome}
@@ -286,4 +286,32 @@ more =
       choice-member = refl;
       choice-around-list = refl;
       text = refl;
+    }
+
+-- ---- an attribute by its sort, in a store of the base version: in `printable`, r has an IMPLIED one, number 0, a
+-- REQUIRED one, 1, and a FIXED one, 2. The laws take what is said of a sort as it stands; these say what it is.
+pub record Sorts : Type 0 where
+  -- 'REQUIRED present'
+  pub required-row : refuses (destroyAttributeRow 1 1) printable ≡ 15
+  pub fixed-row : refuses (destroyAttributeRow 1 2) printable ≡ 0
+  -- 'FIXED equal if present'
+  pub fixed-value : refuses (setAttribute 1 2 (ascii "x")) printable ≡ 15
+  pub fixed-value-given : refuses (setAttribute 1 2 (ascii "\"<&>")) printable ≡ 0
+  pub required-value : refuses (setAttribute 1 1 (ascii "x")) printable ≡ 0
+  pub implied-value : refuses (setAttribute 1 0 (ascii "x")) printable ≡ 0
+  -- 'its REQUIRED attributes with their fills'
+  pub created : fillAttributes baseVersion (definitionAt 0 (printable .form) .attributes) bare
+      ≡ tree (record { serial = 0; sort = attribute; name = ascii "q"; value = ascii "0" }) bare bare
+
+pub sorts : Sorts
+unfolding member facts continues accepts strip fitsRow conforming fillAttributes findRow childrenOf attributeAt formAfter plan prune eachRow plant newRows given number after conditions refusal
+sorts =
+    record {
+      required-row = refl;
+      fixed-row = refl;
+      fixed-value = refl;
+      fixed-value-given = refl;
+      required-value = refl;
+      implied-value = refl;
+      created = refl;
     }

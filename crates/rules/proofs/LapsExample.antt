@@ -140,7 +140,7 @@ abbrev fourLines : List Entry
 fourLines = stands race1 ∷ stands lap2 ∷ taken lap3 ∷ stands race4 ∷ []
 
 abbrev splitPlan : Plan
-splitPlan = plan (insertElement 0 (1 ∷ []) 2 0 (ascii "t")) raceForm (untaken fourLines)
+splitPlan = plan (insertElement 0 (1 ∷ []) 2 0 (ascii "t")) baseVersion raceForm (untaken fourLines)
 
 pub record Spots : Type 0 where
   pub marks-are : marks splitPlan fourLines

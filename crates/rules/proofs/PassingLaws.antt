@@ -26,9 +26,9 @@ module _ (w : ℕ) (form : Form) (ok : wellFormed w form ≡ true) where
   pub apart : (n : Bytes) (d : Definition) → lookup n form ≡ some d → Distinct (map attributeName (d .attributes))
   apart n d e = definition-good w form ok n d e .attributeNames
 
-  -- in a well-formed form the test for conforming decides it
-  pub conforming-good : (docs : Forest Row) → (conforming form docs ≡ true) ↔ Conforming form docs
-  conforming-good docs = conforming-is form once apart docs
+-- in a well-formed form the test for conforming decides it
+pub conforming-good : (version w : ℕ) (form : Form) → wellFormed w form ≡ true → (docs : Forest Row) → (conforming version form docs ≡ true) ↔ Conforming version form docs
+conforming-good version w form ok docs = conforming-is version form (once w form ok) (apart w form ok) docs
 
 module _ (s : Store) where
   laid : Row → List Row → Bool
@@ -40,13 +40,13 @@ module _ (s : Store) where
       let (v, e₁) = and-split (knownVersion (s .version)) _ e in
       let (c, e₂) = and-split (withinCeilings (flat s)) _ e₁ in
       let (f, e₃) = and-split (wellFormed (valueWidth (s .version)) (s .form)) _ e₂ in
-      let (d, e₄) = and-split (conforming (s .form) (s .docs)) _ e₃ in
+      let (d, e₄) = and-split (conforming (s .version) (s .form) (s .docs)) _ e₃ in
       let (l, n) = and-split (everyRow laid (s .docs)) (goodSerials (s .next) (s .docs)) e₄ in
       record {
         version = v;
         ceilings = c;
         form = well-formed (valueWidth (s .version)) (s .form) .0 f;
-        docs = conforming-good (valueWidth (s .version)) (s .form) f (s .docs) .0 d;
+        docs = conforming-good (s .version) (valueWidth (s .version)) (s .form) f (s .docs) .0 d;
         values = every-row laid (s .docs) .0 l;
         serials = good-serials (s .next) (s .docs) .0 n;
       }
@@ -56,7 +56,7 @@ module _ (s : Store) where
   good← g =
       let f : wellFormed (valueWidth (s .version)) (s .form) ≡ true = well-formed (valueWidth (s .version)) (s .form) .1 (g .form) in
       and-both (g .version) (and-both (g .ceilings) (and-both f
-      (and-both (conforming-good (valueWidth (s .version)) (s .form) f (s .docs) .1 (g .docs))
+      (and-both (conforming-good (s .version) (valueWidth (s .version)) (s .form) f (s .docs) .1 (g .docs))
       (and-both (every-row laid (s .docs) .1 (g .values)) (good-serials (s .next) (s .docs) .1 (g .serials))))))
 
   pub good-is : (good s ≡ true) ↔ Good s

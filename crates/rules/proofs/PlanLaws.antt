@@ -14,7 +14,7 @@ use Rattle.rules.specs.Model.{Members, done, el, group, names, skips}
 use Rattle.rules.specs.Quantifiers.{gains, cuts}
 use Rattle.rules.specs.Place.{Context, Found, spine}
 use Rattle.rules.specs.Edit.{insert, remove, quantify}
-use Rattle.rules.specs.Store.{AttributeSort, implied, required, fixed, Form, Row}
+use Rattle.rules.specs.Store.{Form, Row}
 use Rattle.rules.specs.Decode.{quantifierOf, sortOf}
 use Rattle.rules.specs.Conforming.{isElement, mustBePresent}
 use Rattle.rules.specs.Filling.{fillDefinition}
@@ -126,9 +126,9 @@ module _ (ls : List Line) (big : (m : Line) → List·Memᴰ m ls → 1 ≤ m .r
   unset : (p : Plan) → p .set ≡ 0 → setBy p l ≡ l .row .value
   unset p e = ap (λ (z : Bool). valueIf z (p .value) l) (ap (λ (k : ℕ). eqb (l .row .serial) k) e ∙ not-zero)
 
-  set-inserted : (form : Form) (o t n : Bytes) (q : Quantifier) (f : Option (Found Bytes)) → insertPlan form o t q n f .set ≡ 0
-  set-inserted form o t n q none = refl
-  set-inserted form o t n q (some f) = refl
+  set-inserted : (version : ℕ) (form : Form) (o t n : Bytes) (q : Quantifier) (f : Option (Found Bytes)) → insertPlan version form o t q n f .set ≡ 0
+  set-inserted version form o t n q none = refl
+  set-inserted version form o t n q (some f) = refl
 
   set-removed : (o : Bytes) (f : Option (Found Bytes)) → pickedPlan (λ c t. removePlan o t) f .set ≡ 0
   set-removed o none = refl
@@ -139,11 +139,11 @@ module _ (ls : List Line) (big : (m : Line) → List·Memᴰ m ls → 1 ≤ m .r
       by (el q x rest) = refl
       by (group q k ms rest) = refl
 
-  set-quantified : (form : Form) (o t : Bytes) (q : Quantifier) (f : Option (Found Bytes)) → pickedPlan (quantifyPlan form ls o t q) f .set ≡ 0
-  set-quantified form o t q none = refl
-  set-quantified form o t q (some f) = by (f .context) (f .picked)
+  set-quantified : (version : ℕ) (form : Form) (o t : Bytes) (q : Quantifier) (f : Option (Found Bytes)) → pickedPlan (quantifyPlan version form ls o t q) f .set ≡ 0
+  set-quantified version form o t q none = refl
+  set-quantified version form o t q (some f) = by (f .context) (f .picked)
     where
-      by : (c : Context Bytes) (x : Members Bytes) → quantifyPlan form ls o t q c x .set ≡ 0
+      by : (c : Context Bytes) (x : Members Bytes) → quantifyPlan version form ls o t q c x .set ≡ 0
       by c done = refl
       by c (el q x rest) = refl
       by c (group q k ms rest) = refl
@@ -165,27 +165,28 @@ module _ (ls : List Line) (big : (m : Line) → List·Memᴰ m ls → 1 ≤ m .r
   set-given k v (some o) = set-one k v o (attributeNamed (o .attribute .name)) (attributes (o .attribute .name))
 
   -- THE VALUES: what the plan sets of a line is its value after the call
-  pub set-after : (c : Call) (form : Form) → setBy (plan c form ls) l ≡ valueAfter c form l
+  pub set-after : (c : Call) (version : ℕ) (form : Form) → setBy (plan c version form ls) l ≡ valueAfter c form l
   unfolding plan valueAfter
-  set-after (createDefinition n k) form = unset (plan (createDefinition n k) form ls) refl
-  set-after (destroyDefinition j) form = unset (plan (destroyDefinition j) form ls) refl
-  set-after (insertElement o p j q t) form =
-      unset (plan (insertElement o p j q t) form ls) (set-inserted form (nameAtIndex o form) t (nameAtIndex j form) (quantifierOf q) (foundIn (insert (quantifierOf q) (nameAtIndex j form)) o p form))
-  set-after (removeElement o p) form = unset (plan (removeElement o p) form ls) (set-removed (nameAtIndex o form) (foundIn remove o p form))
-  set-after (changeQuantifier o p q t) form =
-      unset (plan (changeQuantifier o p q t) form ls) (set-quantified form (nameAtIndex o form) t (quantifierOf q) (foundIn (quantify (quantifierOf q)) o p form))
-  set-after (convertToGroup o p n k) form = unset (plan (convertToGroup o p n k) form ls) refl
-  set-after (flattenGroup o p) form = unset (plan (flattenGroup o p) form ls) refl
-  set-after (changeGroupQuantifier o p q t) form =
-      unset (plan (changeGroupQuantifier o p q t) form ls) (set-quantified form (nameAtIndex o form) t (quantifierOf q) (foundIn (quantify (quantifierOf q)) o p form))
-  set-after (addAttribute o n k v) form = unset (plan (addAttribute o n k v) form ls) refl
-  set-after (destroyAttribute a) form = unset (plan (destroyAttribute a) form ls) (set-dropped _ (attributeAt a form))
-  set-after (addDocument j t) form = unset (plan (addDocument j t) form ls) refl
-  set-after (addElement k j d t) form = unset (plan (addElement k j d t) form ls) refl
-  set-after (destroyElement k) form = unset (plan (destroyElement k) form ls) refl
-  set-after (setAttribute k a v) form = set-given k v (attributeAt a form)
-  set-after (destroyAttributeRow k a) form = unset (plan (destroyAttributeRow k a) form ls) (set-dropped _ (attributeAt a form))
-  set-after (setText k t) form = ap (λ (z : Bool). valueIf z t l) (the-first isTextRow k ls big same texts l i)
+  set-after (createDefinition n k) version form = unset (plan (createDefinition n k) version form ls) refl
+  set-after (destroyDefinition j) version form = unset (plan (destroyDefinition j) version form ls) refl
+  set-after (insertElement o p j q t) version form =
+      unset (plan (insertElement o p j q t) version form ls)
+      (set-inserted version form (nameAtIndex o form) t (nameAtIndex j form) (quantifierOf q) (foundIn (insert (quantifierOf q) (nameAtIndex j form)) o p form))
+  set-after (removeElement o p) version form = unset (plan (removeElement o p) version form ls) (set-removed (nameAtIndex o form) (foundIn remove o p form))
+  set-after (changeQuantifier o p q t) version form =
+      unset (plan (changeQuantifier o p q t) version form ls) (set-quantified version form (nameAtIndex o form) t (quantifierOf q) (foundIn (quantify (quantifierOf q)) o p form))
+  set-after (convertToGroup o p n k) version form = unset (plan (convertToGroup o p n k) version form ls) refl
+  set-after (flattenGroup o p) version form = unset (plan (flattenGroup o p) version form ls) refl
+  set-after (changeGroupQuantifier o p q t) version form =
+      unset (plan (changeGroupQuantifier o p q t) version form ls) (set-quantified version form (nameAtIndex o form) t (quantifierOf q) (foundIn (quantify (quantifierOf q)) o p form))
+  set-after (addAttribute o n k v) version form = unset (plan (addAttribute o n k v) version form ls) refl
+  set-after (destroyAttribute a) version form = unset (plan (destroyAttribute a) version form ls) (set-dropped _ (attributeAt a form))
+  set-after (addDocument j t) version form = unset (plan (addDocument j t) version form ls) refl
+  set-after (addElement k j d t) version form = unset (plan (addElement k j d t) version form ls) refl
+  set-after (destroyElement k) version form = unset (plan (destroyElement k) version form ls) refl
+  set-after (setAttribute k a v) version form = set-given k v (attributeAt a form)
+  set-after (destroyAttributeRow k a) version form = unset (plan (destroyAttributeRow k a) version form ls) (set-dropped _ (attributeAt a form))
+  set-after (setText k t) version form = ap (λ (z : Bool). valueIf z t l) (the-first isTextRow k ls big same texts l i)
 
 -- ---- taken
 module _ (ls : List Line) (l : Line) where
@@ -196,9 +197,9 @@ module _ (ls : List Line) (l : Line) where
   nothing-ruled : (takes : Row → Row → Bool) → ((u r : Row) → takes u r ≡ false) → Ruled takes ls l → ⊥
   nothing-ruled takes f (u, a, e, h) = false≢true (sym (f u (l .row)) ∙ h)
 
-  inserts : (form : Form) (o t n : Bytes) (q : Quantifier) (f : Option (Found Bytes)) (u r : Row) → insertPlan form o t q n f .takes u r ≡ false
-  inserts form o t n q none u r = refl
-  inserts form o t n q (some f) u r = refl
+  inserts : (version : ℕ) (form : Form) (o t n : Bytes) (q : Quantifier) (f : Option (Found Bytes)) (u r : Row) → insertPlan version form o t q n f .takes u r ≡ false
+  inserts version form o t n q none u r = refl
+  inserts version form o t n q (some f) u r = refl
 
   sets-at : (k : ℕ) (o : Owned) (v : Bytes) (ks : List ℕ) (u r : Row) → setAt k o v ks .takes u r ≡ false
   sets-at k o v [] u r = refl
@@ -208,11 +209,12 @@ module _ (ls : List Line) (l : Line) where
   sets k v none u r = refl
   sets k v (some o) u r = sets-at k o v (childrenOf (attributeNamed (o .attribute .name)) k ls) u r
 
-  regroups : (form : Form) (o t : Bytes) (new : Quantifier) (f : Option (Found Bytes)) → noGroupAt f ≡ false → (u r : Row) → pickedPlan (quantifyPlan form ls o t new) f .takes u r ≡ false
-  regroups form o t new none g u r = refl
-  regroups form o t new (some f) g u r = by (f .context) (f .picked) g
+  regroups : (version : ℕ) (form : Form) (o t : Bytes) (new : Quantifier) (f : Option (Found Bytes)) → noGroupAt f ≡ false → (u r : Row)
+      → pickedPlan (quantifyPlan version form ls o t new) f .takes u r ≡ false
+  regroups version form o t new none g u r = refl
+  regroups version form o t new (some f) g u r = by (f .context) (f .picked) g
     where
-      by : (c : Context Bytes) (x : Members Bytes) → noGroupAt (some (record { context = c; picked = x })) ≡ false → quantifyPlan form ls o t new c x .takes u r ≡ false
+      by : (c : Context Bytes) (x : Members Bytes) → noGroupAt (some (record { context = c; picked = x })) ≡ false → quantifyPlan version form ls o t new c x .takes u r ≡ false
       by c done g = refl
       by c (el q x rest) g = absurd (false≢true (sym g))
       by c (group q k ms rest) g = refl
@@ -248,20 +250,22 @@ module _ (ls : List Line) (l : Line) where
       by true q = absurd (f (eqb-eq (l .row .serial) (serialAt 0 (childrenOf (elementNamed x) k ls)) q ∙ ap (λ (j : ℕ). serialAt 0 (childrenOf (elementNamed x) j ls)) e))
       by false q = q
 
-  cut-back : (form : Form) (o t : Bytes) (new : Quantifier) (f : Option (Found Bytes)) → AtElement (IsCut o new ls l) f → Ruled (pickedPlan (quantifyPlan form ls o t new) f .takes) ls l
-  cut-back form o t new none z = absurd z
-  cut-back form o t new (some f) z = by (f .context) (f .picked) z
+  cut-back : (version : ℕ) (form : Form) (o t : Bytes) (new : Quantifier) (f : Option (Found Bytes)) → AtElement (IsCut o new ls l) f
+      → Ruled (pickedPlan (quantifyPlan version form ls o t new) f .takes) ls l
+  cut-back version form o t new none z = absurd z
+  cut-back version form o t new (some f) z = by (f .context) (f .picked) z
     where
-      by : (c : Context Bytes) (y : Members Bytes) → OfElement (IsCut o new ls l c) y → Ruled (quantifyPlan form ls o t new c y .takes) ls l
+      by : (c : Context Bytes) (y : Members Bytes) → OfElement (IsCut o new ls l c) y → Ruled (quantifyPlan version form ls o t new c y .takes) ls l
       by c done z = absurd z
       by c (el old x rest) (s, k, (n, (u, i, e, h)), d) = (u .row, inr (u, i, refl), e, and-both (and-both s k) (and-both h (and-both n (ap not (first-back x (u .row .serial) e d)))))
       by c (group q k ms rest) z = absurd z
 
-  cut : (form : Form) (o t : Bytes) (new : Quantifier) (f : Option (Found Bytes)) → Ruled (pickedPlan (quantifyPlan form ls o t new) f .takes) ls l → AtElement (IsCut o new ls l) f
-  cut form o t new none (u, a, e, h) = absurd (false≢true h)
-  cut form o t new (some f) z = by (f .context) (f .picked) z
+  cut : (version : ℕ) (form : Form) (o t : Bytes) (new : Quantifier) (f : Option (Found Bytes)) → Ruled (pickedPlan (quantifyPlan version form ls o t new) f .takes) ls l
+      → AtElement (IsCut o new ls l) f
+  cut version form o t new none (u, a, e, h) = absurd (false≢true h)
+  cut version form o t new (some f) z = by (f .context) (f .picked) z
     where
-      by : (c : Context Bytes) (y : Members Bytes) → Ruled (quantifyPlan form ls o t new c y .takes) ls l → OfElement (IsCut o new ls l c) y
+      by : (c : Context Bytes) (y : Members Bytes) → Ruled (quantifyPlan version form ls o t new c y .takes) ls l → OfElement (IsCut o new ls l c) y
       by c done (u, a, e, h) = absurd (false≢true h)
       by c (el old x rest) (u, a, e, h) =
           let s = and-split (spine c && cuts old new) _ h in
@@ -280,44 +284,44 @@ module _ (ls : List Line) (l : Line) where
   dropped-back above (some o) (n, (u, i, e, h)) = (u .row, inr (u, i, refl), e, and-both h n)
 
   -- THE TAKING RULE: the lines that the plan's rule takes are those that the call names
-  pub named : (c : Call) (form : Form) → Known c form ls → Ruled (plan c form ls .takes) ls l → NamedBy c form ls l
+  pub named : (c : Call) (version : ℕ) (form : Form) → Known c form ls → Ruled (plan c version form ls .takes) ls l → NamedBy c form ls l
   unfolding plan NamedBy
-  named (createDefinition n k) form g r = absurd (false≢true (r .3))
-  named (destroyDefinition i) form g r = absurd (false≢true (r .3))
-  named (insertElement o p i q t) form g r =
-      nothing-ruled _ (inserts form (nameAtIndex o form) t (nameAtIndex i form) (quantifierOf q) (foundIn (insert (quantifierOf q) (nameAtIndex i form)) o p form)) r
-  named (removeElement o p) form g r = removed (nameAtIndex o form) (foundIn remove o p form) r
-  named (changeQuantifier o p q t) form g r = cut form (nameAtIndex o form) t (quantifierOf q) (foundIn (quantify (quantifierOf q)) o p form) r
-  named (convertToGroup o p n k) form g r = absurd (false≢true (r .3))
-  named (flattenGroup o p) form g r = absurd (false≢true (r .3))
-  named (changeGroupQuantifier o p q t) form g r = nothing-ruled _ (regroups form (nameAtIndex o form) t (quantifierOf q) (foundIn (quantify (quantifierOf q)) o p form) g) r
-  named (addAttribute o n k v) form g r = absurd (false≢true (r .3))
-  named (destroyAttribute a) form g r = dropped _ (λ o. refl) (attributeAt a form) r
-  named (addDocument i t) form g r = absurd (false≢true (r .3))
-  named (addElement k j i t) form g r = absurd (false≢true (r .3))
-  named (destroyElement k) form g r = r .3
-  named (setAttribute k a v) form g r = nothing-ruled _ (sets k v (attributeAt a form)) r
-  named (destroyAttributeRow k a) form g r = dropped _ (λ o. refl) (attributeAt a form) r
-  named (setText k t) form g r = absurd (false≢true (r .3))
+  named (createDefinition n k) version form g r = absurd (false≢true (r .3))
+  named (destroyDefinition i) version form g r = absurd (false≢true (r .3))
+  named (insertElement o p i q t) version form g r =
+      nothing-ruled _ (inserts version form (nameAtIndex o form) t (nameAtIndex i form) (quantifierOf q) (foundIn (insert (quantifierOf q) (nameAtIndex i form)) o p form)) r
+  named (removeElement o p) version form g r = removed (nameAtIndex o form) (foundIn remove o p form) r
+  named (changeQuantifier o p q t) version form g r = cut version form (nameAtIndex o form) t (quantifierOf q) (foundIn (quantify (quantifierOf q)) o p form) r
+  named (convertToGroup o p n k) version form g r = absurd (false≢true (r .3))
+  named (flattenGroup o p) version form g r = absurd (false≢true (r .3))
+  named (changeGroupQuantifier o p q t) version form g r = nothing-ruled _ (regroups version form (nameAtIndex o form) t (quantifierOf q) (foundIn (quantify (quantifierOf q)) o p form) g) r
+  named (addAttribute o n k v) version form g r = absurd (false≢true (r .3))
+  named (destroyAttribute a) version form g r = dropped _ (λ o. refl) (attributeAt a form) r
+  named (addDocument i t) version form g r = absurd (false≢true (r .3))
+  named (addElement k j i t) version form g r = absurd (false≢true (r .3))
+  named (destroyElement k) version form g r = r .3
+  named (setAttribute k a v) version form g r = nothing-ruled _ (sets k v (attributeAt a form)) r
+  named (destroyAttributeRow k a) version form g r = dropped _ (λ o. refl) (attributeAt a form) r
+  named (setText k t) version form g r = absurd (false≢true (r .3))
 
-  pub ruled : (c : Call) (form : Form) → (w : Row) × Above ls w × (w .serial ≡ l .parent) → NamedBy c form ls l → Ruled (plan c form ls .takes) ls l
+  pub ruled : (c : Call) (version : ℕ) (form : Form) → (w : Row) × Above ls w × (w .serial ≡ l .parent) → NamedBy c form ls l → Ruled (plan c version form ls .takes) ls l
   unfolding plan NamedBy
-  ruled (createDefinition n k) form up z = absurd z
-  ruled (destroyDefinition i) form up z = absurd z
-  ruled (insertElement o p i q t) form up z = absurd z
-  ruled (removeElement o p) form up z = removed-back (nameAtIndex o form) (foundIn remove o p form) z
-  ruled (changeQuantifier o p q t) form up z = cut-back form (nameAtIndex o form) t (quantifierOf q) (foundIn (quantify (quantifierOf q)) o p form) z
-  ruled (convertToGroup o p n k) form up z = absurd z
-  ruled (flattenGroup o p) form up z = absurd z
-  ruled (changeGroupQuantifier o p q t) form up z = absurd z
-  ruled (addAttribute o n k v) form up z = absurd z
-  ruled (destroyAttribute a) form up z = dropped-back _ (attributeAt a form) z
-  ruled (addDocument i t) form up z = absurd z
-  ruled (addElement k j i t) form up z = absurd z
-  ruled (destroyElement k) form up z = (up .0, up .1, up .2, z)
-  ruled (setAttribute k a v) form up z = absurd z
-  ruled (destroyAttributeRow k a) form up z = dropped-back _ (attributeAt a form) z
-  ruled (setText k t) form up z = absurd z
+  ruled (createDefinition n k) version form up z = absurd z
+  ruled (destroyDefinition i) version form up z = absurd z
+  ruled (insertElement o p i q t) version form up z = absurd z
+  ruled (removeElement o p) version form up z = removed-back (nameAtIndex o form) (foundIn remove o p form) z
+  ruled (changeQuantifier o p q t) version form up z = cut-back version form (nameAtIndex o form) t (quantifierOf q) (foundIn (quantify (quantifierOf q)) o p form) z
+  ruled (convertToGroup o p n k) version form up z = absurd z
+  ruled (flattenGroup o p) version form up z = absurd z
+  ruled (changeGroupQuantifier o p q t) version form up z = absurd z
+  ruled (addAttribute o n k v) version form up z = absurd z
+  ruled (destroyAttribute a) version form up z = dropped-back _ (attributeAt a form) z
+  ruled (addDocument i t) version form up z = absurd z
+  ruled (addElement k j i t) version form up z = absurd z
+  ruled (destroyElement k) version form up z = (up .0, up .1, up .2, z)
+  ruled (setAttribute k a v) version form up z = absurd z
+  ruled (destroyAttributeRow k a) version form up z = dropped-back _ (attributeAt a form) z
+  ruled (setText k t) version form up z = absurd z
 
 -- ---- made
 -- the plan makes rows below the row with serial u; the documents stand below `ground`
@@ -332,14 +336,6 @@ filled-there fills test ls f g u (inr (l, i, e, h)) = ((l, i, e, h), (l, i, e, f
 nowhere : (fills : Row → Bool) → ((r : Row) → fills r ≡ false) → (ls : List Line) (u : ℕ) → Filled fills ls u → ⊥
 nowhere fills f ls u (inl (e, h)) = false≢true (sym (f ground) ∙ h)
 nowhere fills f ls u (inr (l, i, e, h)) = false≢true (sym (f (l .row)) ∙ h)
-
-required-is : (s : AttributeSort) → mustBePresent s ≡ true → s ≡ required
-required-is implied e = absurd (false≢true e)
-required-is required e = refl
-required-is fixed e = absurd (false≢true e)
-
-required-of : (s : AttributeSort) → s ≡ required → mustBePresent s ≡ true
-required-of s e = ap mustBePresent e
 
 -- an element with that serial
 element-with : (k : ℕ) (ls : List Line) (u : ℕ) → Filled (elementWith k) ls u → u ≡ k
@@ -360,19 +356,19 @@ module _ (ls : List Line) (u : ℕ) where
   drops-fill above none r = refl
   drops-fill above (some o) r = refl
 
-  inserted : (form : Form) (o t n : Bytes) (q : Quantifier) (f : Option (Found Bytes)) → Filled (insertPlan form o t q n f .fills) ls u
+  inserted : (version : ℕ) (form : Form) (o t n : Bytes) (q : Quantifier) (f : Option (Found Bytes)) → Filled (insertPlan version form o t q n f .fills) ls u
       → AtPlace (λ c. (spine c ≡ true) × (skips q ≡ false)) f × HasLine (elementNamed o) ls u
-  inserted form o t n q none z = absurd (nowhere (λ r. false) (λ r. refl) ls u z)
-  inserted form o t n q (some f) z =
+  inserted version form o t n q none z = absurd (nowhere (λ r. false) (λ r. refl) ls u z)
+  inserted version form o t n q (some f) z =
       let fills : Row → Bool = λ r. (not (skips q) && spine (f .context)) && elementNamed o r in
       let (y, w) = filled-there fills (elementNamed o) ls (λ r h. and-split (not (skips q) && spine (f .context)) (elementNamed o r) h .1) refl u z in
       let s = and-split (not (skips q)) (spine (f .context)) (and-split (not (skips q) && spine (f .context)) (elementNamed o (y .0 .row)) (y .3) .0) in
       ((s .1, not-true (skips q) (s .0)), w)
 
-  inserted-back : (form : Form) (o t n : Bytes) (q : Quantifier) (f : Option (Found Bytes)) → AtPlace (λ c. (spine c ≡ true) × (skips q ≡ false)) f → HasLine (elementNamed o) ls u
-      → Filled (insertPlan form o t q n f .fills) ls u
-  inserted-back form o t n q none z y = absurd z
-  inserted-back form o t n q (some f) (s, k) (l, i, e, h) = inr (l, i, e, and-both (and-both (ap not k) s) h)
+  inserted-back : (version : ℕ) (form : Form) (o t n : Bytes) (q : Quantifier) (f : Option (Found Bytes)) → AtPlace (λ c. (spine c ≡ true) × (skips q ≡ false)) f → HasLine (elementNamed o) ls u
+      → Filled (insertPlan version form o t q n f .fills) ls u
+  inserted-back version form o t n q none z y = absurd z
+  inserted-back version form o t n q (some f) (s, k) (l, i, e, h) = inr (l, i, e, and-both (and-both (ap not k) s) h)
 
   -- the lines of an instance that lacks a child
   lacks : (test : Row → Bool) (o : Bytes) (a : Bool) → Filled (λ r. a && (elementNamed o r && isNone (childrenOf test (r .serial) ls))) ls u
@@ -391,12 +387,12 @@ module _ (ls : List Line) (u : ℕ) where
   abbrev Lacking : Bytes → Quantifier → Context Bytes → Quantifier → Bytes → Type 0
   Lacking o new c old x = (spine c ≡ true) × (gains old new ≡ true) × (childrenOf (elementNamed x) u ls ≡ [])
 
-  gained : (form : Form) (o t : Bytes) (new : Quantifier) (f : Option (Found Bytes)) → noElementAt f ≡ false → Filled (pickedPlan (quantifyPlan form ls o t new) f .fills) ls u
+  gained : (version : ℕ) (form : Form) (o t : Bytes) (new : Quantifier) (f : Option (Found Bytes)) → noElementAt f ≡ false → Filled (pickedPlan (quantifyPlan version form ls o t new) f .fills) ls u
       → AtElement (λ c old x. Lacking o new c old x) f × HasLine (elementNamed o) ls u
-  gained form o t new none g z = absurd (false≢true (sym g))
-  gained form o t new (some f) g z = by (f .context) (f .picked) g z
+  gained version form o t new none g z = absurd (false≢true (sym g))
+  gained version form o t new (some f) g z = by (f .context) (f .picked) g z
     where
-      by : (c : Context Bytes) (x : Members Bytes) → noElementAt (some (record { context = c; picked = x })) ≡ false → Filled (quantifyPlan form ls o t new c x .fills) ls u
+      by : (c : Context Bytes) (x : Members Bytes) → noElementAt (some (record { context = c; picked = x })) ≡ false → Filled (quantifyPlan version form ls o t new c x .fills) ls u
           → OfElement (λ old x. Lacking o new c old x) x × HasLine (elementNamed o) ls u
       by c done g z = absurd (false≢true (sym g))
       by c (el old x rest) g z =
@@ -405,12 +401,12 @@ module _ (ls : List Line) (u : ℕ) where
           ((s .0, s .1, e), w)
       by c (group q k ms rest) g z = absurd (false≢true (sym g))
 
-  gained-back : (form : Form) (o t : Bytes) (new : Quantifier) (f : Option (Found Bytes)) → AtElement (λ c old x. Lacking o new c old x) f → HasLine (elementNamed o) ls u
-      → Filled (pickedPlan (quantifyPlan form ls o t new) f .fills) ls u
-  gained-back form o t new none z y = absurd z
-  gained-back form o t new (some f) z y = by (f .context) (f .picked) z
+  gained-back : (version : ℕ) (form : Form) (o t : Bytes) (new : Quantifier) (f : Option (Found Bytes)) → AtElement (λ c old x. Lacking o new c old x) f → HasLine (elementNamed o) ls u
+      → Filled (pickedPlan (quantifyPlan version form ls o t new) f .fills) ls u
+  gained-back version form o t new none z y = absurd z
+  gained-back version form o t new (some f) z y = by (f .context) (f .picked) z
     where
-      by : (c : Context Bytes) (x : Members Bytes) → OfElement (λ old x. Lacking o new c old x) x → Filled (quantifyPlan form ls o t new c x .fills) ls u
+      by : (c : Context Bytes) (x : Members Bytes) → OfElement (λ old x. Lacking o new c old x) x → Filled (quantifyPlan version form ls o t new c x .fills) ls u
       by c done z = absurd z
       by c (el old x rest) (s, g, e) = lacks-back (elementNamed x) o (spine c && gains old new) (and-both s g) e y
       by c (group q k ms rest) z = absurd z
@@ -418,12 +414,13 @@ module _ (ls : List Line) (u : ℕ) where
   abbrev LackingAll : Bytes → Quantifier → Context Bytes → Quantifier → Members Bytes → Type 0
   LackingAll o new c old ms = (spine c ≡ true) × (gains old new ≡ true) × (childrenOf (elementAmong (names ms)) u ls ≡ [])
 
-  group-gained : (form : Form) (o t : Bytes) (new : Quantifier) (f : Option (Found Bytes)) → noGroupAt f ≡ false → Filled (pickedPlan (quantifyPlan form ls o t new) f .fills) ls u
+  group-gained : (version : ℕ) (form : Form) (o t : Bytes) (new : Quantifier) (f : Option (Found Bytes)) → noGroupAt f ≡ false
+      → Filled (pickedPlan (quantifyPlan version form ls o t new) f .fills) ls u
       → AtGroup (λ c old ms. LackingAll o new c old ms) f × HasLine (elementNamed o) ls u
-  group-gained form o t new none g z = absurd (false≢true (sym g))
-  group-gained form o t new (some f) g z = by (f .context) (f .picked) g z
+  group-gained version form o t new none g z = absurd (false≢true (sym g))
+  group-gained version form o t new (some f) g z = by (f .context) (f .picked) g z
     where
-      by : (c : Context Bytes) (x : Members Bytes) → noGroupAt (some (record { context = c; picked = x })) ≡ false → Filled (quantifyPlan form ls o t new c x .fills) ls u
+      by : (c : Context Bytes) (x : Members Bytes) → noGroupAt (some (record { context = c; picked = x })) ≡ false → Filled (quantifyPlan version form ls o t new c x .fills) ls u
           → OfGroup (λ old ms. LackingAll o new c old ms) x × HasLine (elementNamed o) ls u
       by c done g z = absurd (false≢true (sym g))
       by c (el old x rest) g z = absurd (false≢true (sym g))
@@ -432,12 +429,12 @@ module _ (ls : List Line) (u : ℕ) where
           let s = and-split (spine c) (gains old new) a in
           ((s .0, s .1, e), w)
 
-  group-gained-back : (form : Form) (o t : Bytes) (new : Quantifier) (f : Option (Found Bytes)) → AtGroup (λ c old ms. LackingAll o new c old ms) f → HasLine (elementNamed o) ls u
-      → Filled (pickedPlan (quantifyPlan form ls o t new) f .fills) ls u
-  group-gained-back form o t new none z y = absurd z
-  group-gained-back form o t new (some f) z y = by (f .context) (f .picked) z
+  group-gained-back : (version : ℕ) (form : Form) (o t : Bytes) (new : Quantifier) (f : Option (Found Bytes)) → AtGroup (λ c old ms. LackingAll o new c old ms) f → HasLine (elementNamed o) ls u
+      → Filled (pickedPlan (quantifyPlan version form ls o t new) f .fills) ls u
+  group-gained-back version form o t new none z y = absurd z
+  group-gained-back version form o t new (some f) z y = by (f .context) (f .picked) z
     where
-      by : (c : Context Bytes) (x : Members Bytes) → OfGroup (λ old ms. LackingAll o new c old ms) x → Filled (quantifyPlan form ls o t new c x .fills) ls u
+      by : (c : Context Bytes) (x : Members Bytes) → OfGroup (λ old ms. LackingAll o new c old ms) x → Filled (quantifyPlan version form ls o t new c x .fills) ls u
       by c done z = absurd z
       by c (el old x rest) z = absurd z
       by c (group old k ms rest) (s, g, e) = lacks-back (elementAmong (names ms)) o (spine c && gains old new) (and-both s g) e y
@@ -460,58 +457,61 @@ module _ (ls : List Line) (u : ℕ) where
       by (s ∷ ss) e = absurd (cons≢nil e)
 
   -- WHERE ROWS ARE MADE: the plan fills below the rows below which the call makes rows
-  pub makes : (c : Call) (form : Form) → Known c form ls → Filled (plan c form ls .fills) ls u → MakesBelow c form ls u
+  pub makes : (c : Call) (version : ℕ) (form : Form) → Known c form ls → Filled (plan c version form ls .fills) ls u → MakesBelow c version form ls u
   unfolding plan MakesBelow
-  makes (createDefinition n k) form g z = nowhere (λ r. false) (λ r. refl) ls u z
-  makes (destroyDefinition i) form g z = nowhere (λ r. false) (λ r. refl) ls u z
-  makes (insertElement o p i q t) form g z = inserted form (nameAtIndex o form) t (nameAtIndex i form) (quantifierOf q) (foundIn (insert (quantifierOf q) (nameAtIndex i form)) o p form) z
-  makes (removeElement o p) form g z = nowhere _ (removes-fill (nameAtIndex o form) (foundIn remove o p form)) ls u z
-  makes (changeQuantifier o p q t) form g z = gained form (nameAtIndex o form) t (quantifierOf q) (foundIn (quantify (quantifierOf q)) o p form) g z
-  makes (convertToGroup o p n k) form g z = nowhere (λ r. false) (λ r. refl) ls u z
-  makes (flattenGroup o p) form g z = nowhere (λ r. false) (λ r. refl) ls u z
-  makes (changeGroupQuantifier o p q t) form g z = group-gained form (nameAtIndex o form) t (quantifierOf q) (foundIn (quantify (quantifierOf q)) o p form) g z
-  makes (addAttribute o n k v) form g z =
-      let fills : Row → Bool = λ r. mustBePresent (sortOf k) && elementNamed (nameAtIndex o form) r in
-      let (y, w) = filled-there fills (elementNamed (nameAtIndex o form)) ls (λ r h. and-split (mustBePresent (sortOf k)) (elementNamed (nameAtIndex o form) r) h .1) refl u z in
-      (required-is (sortOf k) (and-split (mustBePresent (sortOf k)) _ (y .3) .0), w)
-  makes (destroyAttribute a) form g z = nowhere _ (drops-fill _ (attributeAt a form)) ls u z
-  makes (addDocument i t) form g (inl (e, h)) = e
-  makes (addDocument i t) form g (inr (l, i′, e, h)) = sym e ∙ eqb-eq (l .row .serial) 0 h
-  makes (addElement k j i t) form g z = element-with k ls u z
-  makes (destroyElement k) form g z = nowhere (λ r. false) (λ r. refl) ls u z
-  makes (setAttribute k a v) form g z = set-fill k v (attributeAt a form) z
-  makes (destroyAttributeRow k a) form g z = nowhere _ (drops-fill _ (attributeAt a form)) ls u z
-  makes (setText k t) form g z = nowhere (λ r. false) (λ r. refl) ls u z
+  makes (createDefinition n k) version form g z = nowhere (λ r. false) (λ r. refl) ls u z
+  makes (destroyDefinition i) version form g z = nowhere (λ r. false) (λ r. refl) ls u z
+  makes (insertElement o p i q t) version form g z =
+      inserted version form (nameAtIndex o form) t (nameAtIndex i form) (quantifierOf q) (foundIn (insert (quantifierOf q) (nameAtIndex i form)) o p form) z
+  makes (removeElement o p) version form g z = nowhere _ (removes-fill (nameAtIndex o form) (foundIn remove o p form)) ls u z
+  makes (changeQuantifier o p q t) version form g z = gained version form (nameAtIndex o form) t (quantifierOf q) (foundIn (quantify (quantifierOf q)) o p form) g z
+  makes (convertToGroup o p n k) version form g z = nowhere (λ r. false) (λ r. refl) ls u z
+  makes (flattenGroup o p) version form g z = nowhere (λ r. false) (λ r. refl) ls u z
+  makes (changeGroupQuantifier o p q t) version form g z = group-gained version form (nameAtIndex o form) t (quantifierOf q) (foundIn (quantify (quantifierOf q)) o p form) g z
+  makes (addAttribute o n k v) version form g z =
+      let fills : Row → Bool = λ r. mustBePresent version (sortOf k) && elementNamed (nameAtIndex o form) r in
+      let (y, w) = filled-there fills (elementNamed (nameAtIndex o form)) ls (λ r h. and-split (mustBePresent version (sortOf k)) (elementNamed (nameAtIndex o form) r) h .1) refl u z in
+      (and-split (mustBePresent version (sortOf k)) _ (y .3) .0, w)
+  makes (destroyAttribute a) version form g z = nowhere _ (drops-fill _ (attributeAt a form)) ls u z
+  makes (addDocument i t) version form g (inl (e, h)) = e
+  makes (addDocument i t) version form g (inr (l, i′, e, h)) = sym e ∙ eqb-eq (l .row .serial) 0 h
+  makes (addElement k j i t) version form g z = element-with k ls u z
+  makes (destroyElement k) version form g z = nowhere (λ r. false) (λ r. refl) ls u z
+  makes (setAttribute k a v) version form g z = set-fill k v (attributeAt a form) z
+  makes (destroyAttributeRow k a) version form g z = nowhere _ (drops-fill _ (attributeAt a form)) ls u z
+  makes (setText k t) version form g z = nowhere (λ r. false) (λ r. refl) ls u z
 
-  pub filled : (c : Call) (form : Form) → Known c form ls → MakesBelow c form ls u → Filled (plan c form ls .fills) ls u
+  pub filled : (c : Call) (version : ℕ) (form : Form) → Known c form ls → MakesBelow c version form ls u → Filled (plan c version form ls .fills) ls u
   unfolding plan MakesBelow
-  filled (createDefinition n k) form g z = absurd z
-  filled (destroyDefinition i) form g z = absurd z
-  filled (insertElement o p i q t) form g (x, y) = inserted-back form (nameAtIndex o form) t (nameAtIndex i form) (quantifierOf q) (foundIn (insert (quantifierOf q) (nameAtIndex i form)) o p form) x y
-  filled (removeElement o p) form g z = absurd z
-  filled (changeQuantifier o p q t) form g (x, y) = gained-back form (nameAtIndex o form) t (quantifierOf q) (foundIn (quantify (quantifierOf q)) o p form) x y
-  filled (convertToGroup o p n k) form g z = absurd z
-  filled (flattenGroup o p) form g z = absurd z
-  filled (changeGroupQuantifier o p q t) form g (x, y) = group-gained-back form (nameAtIndex o form) t (quantifierOf q) (foundIn (quantify (quantifierOf q)) o p form) x y
-  filled (addAttribute o n k v) form g (x, (l, i, e, h)) = inr (l, i, e, and-both (required-of (sortOf k) x) h)
-  filled (destroyAttribute a) form g z = absurd z
-  filled (addDocument i t) form g z = inl (z, refl)
-  filled (addElement k j i t) form (l, i′, e, h) z = inr (l, i′, e ∙ sym z, h)
-  filled (destroyElement k) form g z = absurd z
-  filled (setAttribute k a v) form (l, i, e, h) (x, y) = set-fill-back k v (attributeAt a form) x (inr (l, i, e ∙ sym y, h))
-  filled (destroyAttributeRow k a) form g z = absurd z
-  filled (setText k t) form g z = absurd z
+  filled (createDefinition n k) version form g z = absurd z
+  filled (destroyDefinition i) version form g z = absurd z
+  filled (insertElement o p i q t) version form g (x, y) =
+      inserted-back version form (nameAtIndex o form) t (nameAtIndex i form) (quantifierOf q) (foundIn (insert (quantifierOf q) (nameAtIndex i form)) o p form) x y
+  filled (removeElement o p) version form g z = absurd z
+  filled (changeQuantifier o p q t) version form g (x, y) = gained-back version form (nameAtIndex o form) t (quantifierOf q) (foundIn (quantify (quantifierOf q)) o p form) x y
+  filled (convertToGroup o p n k) version form g z = absurd z
+  filled (flattenGroup o p) version form g z = absurd z
+  filled (changeGroupQuantifier o p q t) version form g (x, y) = group-gained-back version form (nameAtIndex o form) t (quantifierOf q) (foundIn (quantify (quantifierOf q)) o p form) x y
+  filled (addAttribute o n k v) version form g (x, (l, i, e, h)) = inr (l, i, e, and-both x h)
+  filled (destroyAttribute a) version form g z = absurd z
+  filled (addDocument i t) version form g z = inl (z, refl)
+  filled (addElement k j i t) version form (l, i′, e, h) z = inr (l, i′, e ∙ sym z, h)
+  filled (destroyElement k) version form g z = absurd z
+  filled (setAttribute k a v) version form (l, i, e, h) (x, y) = set-fill-back k v (attributeAt a form) x (inr (l, i, e ∙ sym y, h))
+  filled (destroyAttributeRow k a) version form g z = absurd z
+  filled (setText k t) version form g z = absurd z
 
-  filling-inserted : (form : Form) (o t n : Bytes) (q : Quantifier) (f : Option (Found Bytes)) → AtPlace (λ c. (spine c ≡ true) × (skips q ≡ false)) f
-      → insertPlan form o t q n f .filling ≡ fillDefinition form t n
-  filling-inserted form o t n q none z = absurd z
-  filling-inserted form o t n q (some f) z = refl
+  filling-inserted : (version : ℕ) (form : Form) (o t n : Bytes) (q : Quantifier) (f : Option (Found Bytes)) → AtPlace (λ c. (spine c ≡ true) × (skips q ≡ false)) f
+      → insertPlan version form o t q n f .filling ≡ fillDefinition version form t n
+  filling-inserted version form o t n q none z = absurd z
+  filling-inserted version form o t n q (some f) z = refl
 
-  filling-quantified : (form : Form) (o t : Bytes) (new : Quantifier) (f : Option (Found Bytes)) → pickedPlan (quantifyPlan form ls o t new) f .filling ≡ fillingAt form t new f
-  filling-quantified form o t new none = refl
-  filling-quantified form o t new (some f) = by (f .context) (f .picked)
+  filling-quantified : (version : ℕ) (form : Form) (o t : Bytes) (new : Quantifier) (f : Option (Found Bytes))
+      → pickedPlan (quantifyPlan version form ls o t new) f .filling ≡ fillingAt version form t new f
+  filling-quantified version form o t new none = refl
+  filling-quantified version form o t new (some f) = by (f .context) (f .picked)
     where
-      by : (c : Context Bytes) (x : Members Bytes) → quantifyPlan form ls o t new c x .filling ≡ fillingOf form t new x
+      by : (c : Context Bytes) (x : Members Bytes) → quantifyPlan version form ls o t new c x .filling ≡ fillingOf version form t new x
       by c done = refl
       by c (el q x rest) = refl
       by c (group q k ms rest) = refl
@@ -525,22 +525,22 @@ module _ (ls : List Line) (u : ℕ) where
       by (s ∷ ss) e = absurd (cons≢nil e)
 
   -- WHICH ROWS: what the plan fills with there are the rows that the call makes
-  pub filling-made : (c : Call) (form : Form) → MakesBelow c form ls u → plan c form ls .filling ≡ rowsMade c form
+  pub filling-made : (c : Call) (version : ℕ) (form : Form) → MakesBelow c version form ls u → plan c version form ls .filling ≡ rowsMade c version form
   unfolding plan MakesBelow rowsMade
-  filling-made (createDefinition n k) form z = absurd z
-  filling-made (destroyDefinition i) form z = absurd z
-  filling-made (insertElement o p i q t) form (x, y) =
-      filling-inserted form (nameAtIndex o form) t (nameAtIndex i form) (quantifierOf q) (foundIn (insert (quantifierOf q) (nameAtIndex i form)) o p form) x
-  filling-made (removeElement o p) form z = absurd z
-  filling-made (changeQuantifier o p q t) form z = filling-quantified form (nameAtIndex o form) t (quantifierOf q) (foundIn (quantify (quantifierOf q)) o p form)
-  filling-made (convertToGroup o p n k) form z = absurd z
-  filling-made (flattenGroup o p) form z = absurd z
-  filling-made (changeGroupQuantifier o p q t) form z = filling-quantified form (nameAtIndex o form) t (quantifierOf q) (foundIn (quantify (quantifierOf q)) o p form)
-  filling-made (addAttribute o n k v) form z = refl
-  filling-made (destroyAttribute a) form z = absurd z
-  filling-made (addDocument i t) form z = refl
-  filling-made (addElement k j i t) form z = refl
-  filling-made (destroyElement k) form z = absurd z
-  filling-made (setAttribute k a v) form (x, y) = filling-set k v (attributeAt a form) x
-  filling-made (destroyAttributeRow k a) form z = absurd z
-  filling-made (setText k t) form z = absurd z
+  filling-made (createDefinition n k) version form z = absurd z
+  filling-made (destroyDefinition i) version form z = absurd z
+  filling-made (insertElement o p i q t) version form (x, y) =
+      filling-inserted version form (nameAtIndex o form) t (nameAtIndex i form) (quantifierOf q) (foundIn (insert (quantifierOf q) (nameAtIndex i form)) o p form) x
+  filling-made (removeElement o p) version form z = absurd z
+  filling-made (changeQuantifier o p q t) version form z = filling-quantified version form (nameAtIndex o form) t (quantifierOf q) (foundIn (quantify (quantifierOf q)) o p form)
+  filling-made (convertToGroup o p n k) version form z = absurd z
+  filling-made (flattenGroup o p) version form z = absurd z
+  filling-made (changeGroupQuantifier o p q t) version form z = filling-quantified version form (nameAtIndex o form) t (quantifierOf q) (foundIn (quantify (quantifierOf q)) o p form)
+  filling-made (addAttribute o n k v) version form z = refl
+  filling-made (destroyAttribute a) version form z = absurd z
+  filling-made (addDocument i t) version form z = refl
+  filling-made (addElement k j i t) version form z = refl
+  filling-made (destroyElement k) version form z = absurd z
+  filling-made (setAttribute k a v) version form (x, y) = filling-set k v (attributeAt a form) x
+  filling-made (destroyAttributeRow k a) version form z = absurd z
+  filling-made (setText k t) version form z = absurd z

@@ -173,20 +173,22 @@ fits-within h form (complex ms) d a rows f =
     let w : Conforms ms (map nameOf rows) = accepts-conforms bytes ms (d .distinct) (map nameOf rows) .0 (and-right (all (λ (r : Row). isElement (r .sort)) rows) (accepts bytes ms (map nameOf rows)) f) in
     every-in (Within h form) rows (λ r m e. all-in (λ n. deep h form n) (r .name) (names ms) a (letters Sequence ms .inside (map nameOf rows) w (r .name) (Memᴰ·map nameOf m)))
 
-module _ (form : Form) (models : Every (λ d. Sound (members d)) form) where
-  below-within : (h : ℕ) (r : Row) (below : List Row) → r .sort ≡ element → fitsRow form r below ≡ true → deep (suc h) form (r .name) ≡ true → Every (Within h form) below
+module _ (version : ℕ) (form : Form) (models : Every (λ d. Sound (members d)) form) where
+  below-within : (h : ℕ) (r : Row) (below : List Row) → r .sort ≡ element → fitsRow version form r below ≡ true → deep (suc h) form (r .name) ≡ true → Every (Within h form) below
   unfolding fitsRow deep
   below-within h r below q f g = at (lookup (r .name) form) (lookup-given (λ d. Sound (members d)) form (r .name) models) (rw (q, fitsRow) at f) g
     where
-      at : (o : Option Definition) → Given (λ d. Sound (members d)) o → fitsDefinition o below ≡ true → elim o [ none ↦ false | some d ↦ all (λ m. deep h form m) (names (members d)) ] ≡ true → Every (Within h form) below
+      at : (o : Option Definition) → Given (λ d. Sound (members d)) o → fitsDefinition version o below ≡ true
+          → elim o [ none ↦ false | some d ↦ all (λ m. deep h form m) (names (members d)) ] ≡ true → Every (Within h form) below
       at none m e k = absurd (false≢true e)
-      at (some d) m e k = strip-every (Within h form) (d .content) (fits-within h form (d .content) m k) (d .attributes) below (λ x a o b. absurd (element-not (x .sort) b a)) e
+      at (some d) m e k = strip-every version (Within h form) (d .content) (fits-within h form (d .content) m k) (d .attributes) below (λ x a o b. absurd (element-not (x .sort) b a)) e
 
   none-below : (P : Deep FlatRow → Type 0) (depth : ℕ) (owner : Bytes) (b : Forest Row) → isNone (heads b) ≡ true → Every P (flatten depth (indexed form owner b))
   none-below P depth owner bare e = tt
   none-below P depth owner (tree r b t) e = absurd (false≢true e)
 
-  row-depths : (h depth : ℕ) (owner : Bytes) (f : Forest Row) → EveryRow (λ r below. fitsRow form r below ≡ true) f → Every (Within h form) (heads f) → Every (λ x. x .depth ≤ depth + h) (flatten depth (indexed form owner f))
+  row-depths : (h depth : ℕ) (owner : Bytes) (f : Forest Row) → EveryRow (λ r below. fitsRow version form r below ≡ true) f → Every (Within h form) (heads f)
+      → Every (λ x. x .depth ≤ depth + h) (flatten depth (indexed form owner f))
   unfolding fitsRow deep
   row-depths h depth owner bare e a = tt
   row-depths h depth owner (tree r b t) e a = (
@@ -227,13 +229,14 @@ laid-rows w form depth owner (tree r b t) u a =
       every-append LaidRow (flatten (suc depth) (indexed form (r .name) b)) (flatten depth (indexed form owner t)) (laid-rows w form (suc depth) (r .name) b u (a .1)) (laid-rows w form depth owner t u (a .2)),
     )
 
-heads-known : (form : Form) (f : Forest Row) → EveryRow (λ r below. fitsRow form r below ≡ true) f → Every (λ r. isElement (r .sort) ≡ true → known form (r .name) ≡ true) (heads f)
+heads-known : (version : ℕ) (form : Form) (f : Forest Row) → EveryRow (λ r below. fitsRow version form r below ≡ true) f
+    → Every (λ r. isElement (r .sort) ≡ true → known form (r .name) ≡ true) (heads f)
 unfolding fitsRow
-heads-known form bare a = tt
-heads-known form (tree r b t) a = (by (r .sort) refl, heads-known form t (a .2))
+heads-known version form bare a = tt
+heads-known version form (tree r b t) a = (by (r .sort) refl, heads-known version form t (a .2))
   where
     by : (s : RowSort) → r .sort ≡ s → isElement (r .sort) ≡ true → known form (r .name) ≡ true
-    by element q e = fits-known (lookup (r .name) form) (heads b) (rw (q, fitsRow) at (a .0))
+    by element q e = fits-known version (lookup (r .name) form) (heads b) (rw (q, fitsRow) at (a .0))
     by attribute q e = absurd (false≢true (rw q at e))
     by text q e = absurd (false≢true (rw q at e))
 
@@ -252,8 +255,11 @@ module _ (s : Store) (g : good s ≡ true) where
   pub good-depths : Every (λ x. x .depth ≤ length (s .form)) (flat s .rows)
   good-depths =
       every-map (λ x. x .depth ≤ 0 + length (s .form)) (λ x. x .depth ≤ length (s .form)) (flat s .rows) (λ x l. omega arith)
-      (row-depths (s .form) (every-map (DefinitionParts (valueWidth (s .version)) (s .form)) (λ d. Sound (members d)) (s .form) (λ d e. e .model) (every-definition s g)) (length (s .form)) 0 [] (s .docs) (good-parts s g .rows)
-      (every-map (λ r. isElement (r .sort) ≡ true → known (s .form) (r .name) ≡ true) (Within (length (s .form)) (s .form)) (heads (s .docs)) (λ r f e. good-deep (r .name) (f e)) (heads-known (s .form) (s .docs) (good-parts s g .rows))))
+      (row-depths (s .version) (s .form)
+      (every-map (DefinitionParts (valueWidth (s .version)) (s .form)) (λ d. Sound (members d)) (s .form) (λ d e. e .model) (every-definition s g))
+      (length (s .form)) 0 [] (s .docs) (good-parts s g .rows)
+      (every-map (λ r. isElement (r .sort) ≡ true → known (s .form) (r .name) ≡ true) (Within (length (s .form)) (s .form)) (heads (s .docs)) (λ r f e. good-deep (r .name) (f e))
+      (heads-known (s .version) (s .form) (s .docs) (good-parts s g .rows))))
 
   pub good-small : SmallFlat (flat s)
   good-small =

@@ -101,7 +101,7 @@ marks p es = placed p ground (spots p (map (revalueEntry (p .set) (p .value)) (m
 -- an accepted call
 unfoldable pub note : Call → Book → Book
 note c b =
-    let p : Plan = plan c (b .form) (untaken (b .entries)) in
+    let p : Plan = plan c (b .version) (b .form) (untaken (b .entries)) in
     record {
       version = b .version;
       next = b .next + newRows (p .filling) * spotCount (marks p (b .entries));

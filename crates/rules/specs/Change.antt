@@ -129,7 +129,7 @@ formAfter (setAttribute k a v) form = form
 formAfter (destroyAttributeRow k a) form = form
 formAfter (setText k t) form = form
 
--- ---- what a change does to the rows, as a plan read off the form and the lines
+-- ---- what a change does to the rows, as a plan read off the version, the form and the lines
 -- takes: the row, below its parent, is taken with all below it ('taking rule')
 -- fills, later, filling: below each row that `fills`, the rows `filling` come before the first row that is `later`, else last; the
 --   row `ground` has the documents below it
@@ -170,10 +170,10 @@ abbrev pub laterThan : List Bytes → Row → Row → Bool
 laterThan ns u r = isElement (r .sort) && not (member bytes (r .name) ns)
 
 -- 3, in a spine list: each instance gets one filling
-abbrev pub insertPlan : Form → Bytes → Bytes → Quantifier → Bytes → Option (Found Bytes) → Plan
-insertPlan form owner txt q n none = keeping
-insertPlan form owner txt q n (some f) =
-    making (λ r. (not (skips q) && spine (f .context)) && elementNamed owner r) (laterThan (before (f .context))) (fillDefinition form txt n)
+abbrev pub insertPlan : ℕ → Form → Bytes → Bytes → Quantifier → Bytes → Option (Found Bytes) → Plan
+insertPlan version form owner txt q n none = keeping
+insertPlan version form owner txt q n (some f) =
+    making (λ r. (not (skips q) && spine (f .context)) && elementNamed owner r) (laterThan (before (f .context))) (fillDefinition version form txt n)
 
 -- 4: those children of instances
 abbrev pub removePlan : Bytes → Members Bytes → Plan
@@ -194,20 +194,20 @@ abbrev pub lacks : (Row → Bool) → Row → List Line → Bool
 lacks p u ls = isNone (childrenOf p (u .serial) ls)
 
 -- 5 and 8, in a spine list. A cut keeps each instance's first; a gain puts a filling where none stands.
-abbrev pub quantifyPlan : Form → List Line → Bytes → Bytes → Quantifier → Context Bytes → Members Bytes → Plan
-quantifyPlan form ls owner txt new c done = keeping
-quantifyPlan form ls owner txt new c (el old x rest) =
+abbrev pub quantifyPlan : ℕ → Form → List Line → Bytes → Bytes → Quantifier → Context Bytes → Members Bytes → Plan
+quantifyPlan version form ls owner txt new c done = keeping
+quantifyPlan version form ls owner txt new c (el old x rest) =
     record {
       takes = λ u r. (spine c && cuts old new) && (elementNamed owner u && (elementNamed x r && not (eqb (r .serial) (firstChild x u ls))));
       fills = λ r. (spine c && gains old new) && (elementNamed owner r && lacks (elementNamed x) r ls);
       later = laterThan (before c);
-      filling = fillDefinition form txt x;
+      filling = fillDefinition version form txt x;
       set = 0;
       value = [];
     }
-quantifyPlan form ls owner txt new c (group old k ms rest) =
+quantifyPlan version form ls owner txt new c (group old k ms rest) =
     making (λ r. (spine c && gains old new) && (elementNamed owner r && lacks (elementAmong (names ms)) r ls)) (laterThan (before c))
-    (fillEach (λ n. fillDefinition form txt n) (groupFilling new k ms))
+    (fillEach (λ n. fillDefinition version form txt n) (groupFilling new k ms))
 
 abbrev pub pickedPlan : (Context Bytes → Members Bytes → Plan) → Option (Found Bytes) → Plan
 pickedPlan f none = keeping
@@ -234,28 +234,28 @@ abbrev pub dropPlan : (Owned → Row → Bool) → Option Owned → Plan
 dropPlan above none = keeping
 dropPlan above (some o) = taking (λ u r. above o u && attributeNamed (o .attribute .name) r)
 
-unfoldable pub plan : Call → Form → List Line → Plan
-plan (createDefinition n k) form ls = keeping
-plan (destroyDefinition i) form ls = keeping
-plan (insertElement o p i q t) form ls =
-    insertPlan form (nameAtIndex o form) t (quantifierOf q) (nameAtIndex i form) (placeOf (insert (quantifierOf q) (nameAtIndex i form)) p (members (definitionAt o form)))
-plan (removeElement o p) form ls = pickedPlan (λ c t. removePlan (nameAtIndex o form) t) (placeOf remove p (members (definitionAt o form)))
-plan (changeQuantifier o p q t) form ls =
-    pickedPlan (quantifyPlan form ls (nameAtIndex o form) t (quantifierOf q)) (placeOf (quantify (quantifierOf q)) p (members (definitionAt o form)))
-plan (convertToGroup o p n k) form ls = keeping
-plan (flattenGroup o p) form ls = keeping
-plan (changeGroupQuantifier o p q t) form ls =
-    pickedPlan (quantifyPlan form ls (nameAtIndex o form) t (quantifierOf q)) (placeOf (quantify (quantifierOf q)) p (members (definitionAt o form)))
-plan (addAttribute o n k v) form ls =
-    making (λ r. mustBePresent (sortOf k) && elementNamed (nameAtIndex o form) r) (λ u r. not (isAttribute (r .sort))) (tree (attributeRow (newAttribute n k v)) bare bare)
-plan (destroyAttribute a) form ls = dropPlan (λ o u. elementNamed (o .owner .name) u) (attributeAt a form)
-plan (addDocument i t) form ls = making isGround neither (fillDefinition form t (nameAtIndex i form))
-plan (addElement k j i t) form ls =
-    making (elementWith k) (λ u r. eqb (r .serial) (serialAt j (childrenOf isElementRow k ls))) (fillDefinition form t (nameAtIndex i form))
-plan (destroyElement k) form ls = taking (λ u r. elementWith k r)
-plan (setAttribute k a v) form ls = setPlan ls k v (attributeAt a form)
-plan (destroyAttributeRow k a) form ls = dropPlan (λ o u. elementWith k u) (attributeAt a form)
-plan (setText k t) form ls = setting (serialAt 0 (childrenOf isTextRow k ls)) t
+unfoldable pub plan : Call → ℕ → Form → List Line → Plan
+plan (createDefinition n k) version form ls = keeping
+plan (destroyDefinition i) version form ls = keeping
+plan (insertElement o p i q t) version form ls =
+    insertPlan version form (nameAtIndex o form) t (quantifierOf q) (nameAtIndex i form) (placeOf (insert (quantifierOf q) (nameAtIndex i form)) p (members (definitionAt o form)))
+plan (removeElement o p) version form ls = pickedPlan (λ c t. removePlan (nameAtIndex o form) t) (placeOf remove p (members (definitionAt o form)))
+plan (changeQuantifier o p q t) version form ls =
+    pickedPlan (quantifyPlan version form ls (nameAtIndex o form) t (quantifierOf q)) (placeOf (quantify (quantifierOf q)) p (members (definitionAt o form)))
+plan (convertToGroup o p n k) version form ls = keeping
+plan (flattenGroup o p) version form ls = keeping
+plan (changeGroupQuantifier o p q t) version form ls =
+    pickedPlan (quantifyPlan version form ls (nameAtIndex o form) t (quantifierOf q)) (placeOf (quantify (quantifierOf q)) p (members (definitionAt o form)))
+plan (addAttribute o n k v) version form ls =
+    making (λ r. mustBePresent version (sortOf k) && elementNamed (nameAtIndex o form) r) (λ u r. not (isAttribute (r .sort))) (tree (attributeRow (newAttribute n k v)) bare bare)
+plan (destroyAttribute a) version form ls = dropPlan (λ o u. elementNamed (o .owner .name) u) (attributeAt a form)
+plan (addDocument i t) version form ls = making isGround neither (fillDefinition version form t (nameAtIndex i form))
+plan (addElement k j i t) version form ls =
+    making (elementWith k) (λ u r. eqb (r .serial) (serialAt j (childrenOf isElementRow k ls))) (fillDefinition version form t (nameAtIndex i form))
+plan (destroyElement k) version form ls = taking (λ u r. elementWith k r)
+plan (setAttribute k a v) version form ls = setPlan ls k v (attributeAt a form)
+plan (destroyAttributeRow k a) version form ls = dropPlan (λ o u. elementWith k u) (attributeAt a form)
+plan (setText k t) version form ls = setting (serialAt 0 (childrenOf isTextRow k ls)) t
 
 -- ---- a plan carried out on the documents
 unfoldable pub prune : (Row → Row → Bool) → Row → Forest Row → Forest Row
@@ -301,7 +301,7 @@ number n (tree r b t) = tree (given n r) (number (n + isNew r) b) (number (n + (
 
 -- the store that an accepted call leaves
 abbrev pub docsAfter : Call → Store → Forest Row
-docsAfter c s = changed (plan c (s .form) (lines 0 (s .docs))) (s .docs)
+docsAfter c s = changed (plan c (s .version) (s .form) (lines 0 (s .docs))) (s .docs)
 
 unfoldable pub after : Call → Store → Store
 after c s =

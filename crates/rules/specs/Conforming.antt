@@ -32,12 +32,24 @@ InOrder [] table = Unit {0}
 InOrder (x ∷ xs) [] = ⊥
 InOrder (x ∷ xs) (y ∷ table) = ((x ≡ y) × InOrder xs table) ⊎ InOrder (x ∷ xs) table
 
+-- 'REQUIRED present': must a row of this attribute be there, in a store of this version
+abbrev pub mustBePresent : ℕ → AttributeSort → Bool
+mustBePresent version implied = false
+mustBePresent version required = true
+mustBePresent version fixed = false
+
+-- 'FIXED equal if present': is a value right for an attribute of this sort, with this fill
+abbrev pub allows : AttributeSort → Bytes → Bytes → Bool
+allows implied fill v = true
+allows required fill v = true
+allows fixed fill v = same fill v
+
 -- 'attribute rows are the owner's, each at most once, REQUIRED present, FIXED equal if present', in table order
-pub record AttributeRows (table : List Attribute) (rows : List Row) : Type 0 where
+pub record AttributeRows (version : ℕ) (table : List Attribute) (rows : List Row) : Type 0 where
   pub sorts : Sorted attribute rows
   pub owned : InOrder (map nameOf rows) (map attributeName table)
-  pub present : (a : Attribute) → List·Memᴰ a table → a .sort ≡ required → List·Memᴰ (a .name) (map nameOf rows)
-  pub equal : (a : Attribute) → List·Memᴰ a table → a .sort ≡ fixed → (r : Row) → List·Memᴰ r rows → r .name ≡ a .name → r .value ≡ a .value
+  pub present : (a : Attribute) → List·Memᴰ a table → mustBePresent version (a .sort) ≡ true → List·Memᴰ (a .name) (map nameOf rows)
+  pub equal : (a : Attribute) → List·Memᴰ a table → (r : Row) → List·Memᴰ r rows → r .name ≡ a .name → allows (a .sort) (a .value) (r .value) ≡ true
 
 -- 'an element's children in order are in its model's language; EMPTY has none, PCDATA has no elements and exactly one text row'
 abbrev pub ContentRows : Content → List Row → Type 0
@@ -46,20 +58,20 @@ ContentRows pcdata rows = (r : Row) × (rows ≡ r ∷ []) × (r .sort ≡ text)
 ContentRows (complex ms) rows = Sorted element rows × Conforms ms (map nameOf rows)
 
 -- the rows right below an element: its attribute rows, then its content
-pub record ElementRows (d : Definition) (below : List Row) : Type 0 where
+pub record ElementRows (version : ℕ) (d : Definition) (below : List Row) : Type 0 where
   pub front : List Row
   pub back : List Row
   pub split : front ++ back ≡ below
-  pub attributes : AttributeRows (d .attributes) front
+  pub attributes : AttributeRows version (d .attributes) front
   pub content : ContentRows (d .content) back
 
 -- attributes and texts hold nothing
-abbrev pub RowConforms : Form → Row → List Row → Type 0
-RowConforms form r below = elim (r .sort) [ element ↦ (d : Definition) × (lookup (r .name) form ≡ some d) × ElementRows d below | attribute ↦ below ≡ [] | text ↦ below ≡ [] ]
+abbrev pub RowConforms : ℕ → Form → Row → List Row → Type 0
+RowConforms version form r below = elim (r .sort) [ element ↦ (d : Definition) × (lookup (r .name) form ≡ some d) × ElementRows version d below | attribute ↦ below ≡ [] | text ↦ below ≡ [] ]
 
-pub record Conforming (form : Form) (docs : Forest Row) : Type 0 where
+pub record Conforming (version : ℕ) (form : Form) (docs : Forest Row) : Type 0 where
   pub roots : Sorted element (heads docs)
-  pub rows : EveryRow (λ r below. RowConforms form r below) docs
+  pub rows : EveryRow (λ r below. RowConforms version form r below) docs
 
 -- ---- the same as a test
 abbrev pub isElement : RowSort → Bool
@@ -81,25 +93,14 @@ abbrev pub everyRow : (Row → List Row → Bool) → Forest Row → Bool
 everyRow p bare = true
 everyRow p (tree r b t) = p r (heads b) && (everyRow p b && everyRow p t)
 
--- must a row of this attribute be there; is a value right for it
-abbrev pub mustBePresent : AttributeSort → Bool
-mustBePresent implied = false
-mustBePresent required = true
-mustBePresent fixed = false
-
-abbrev pub allows : AttributeSort → Bytes → Bytes → Bool
-allows implied fill v = true
-allows required fill v = true
-allows fixed fill v = same fill v
-
 -- the attribute rows taken off the front, in table order
-unfoldable pub strip : List Attribute → List Row → Option (List Row)
-strip [] rows = some rows
-strip (a ∷ table) [] = elim (mustBePresent (a .sort)) [ true ↦ none | false ↦ strip table [] ]
-strip (a ∷ table) (r ∷ rows) =
+unfoldable pub strip : ℕ → List Attribute → List Row → Option (List Row)
+strip version [] rows = some rows
+strip version (a ∷ table) [] = elim (mustBePresent version (a .sort)) [ true ↦ none | false ↦ strip version table [] ]
+strip version (a ∷ table) (r ∷ rows) =
     elim (isAttribute (r .sort) && same (a .name) (r .name)) [
-      | true ↦ elim (allows (a .sort) (a .value) (r .value)) [ true ↦ strip table rows | false ↦ none ]
-      | false ↦ elim (mustBePresent (a .sort)) [ true ↦ none | false ↦ strip table (r ∷ rows) ]
+      | true ↦ elim (allows (a .sort) (a .value) (r .value)) [ true ↦ strip version table rows | false ↦ none ]
+      | false ↦ elim (mustBePresent version (a .sort)) [ true ↦ none | false ↦ strip version table (r ∷ rows) ]
     ]
 
 abbrev pub isOneText : List Row → Bool
@@ -115,12 +116,12 @@ abbrev pub fitsStripped : Content → Option (List Row) → Bool
 fitsStripped c none = false
 fitsStripped c (some rows) = fits c rows
 
-abbrev pub fitsDefinition : Option Definition → List Row → Bool
-fitsDefinition none below = false
-fitsDefinition (some d) below = fitsStripped (d .content) (strip (d .attributes) below)
+abbrev pub fitsDefinition : ℕ → Option Definition → List Row → Bool
+fitsDefinition version none below = false
+fitsDefinition version (some d) below = fitsStripped (d .content) (strip version (d .attributes) below)
 
-unfoldable pub fitsRow : Form → Row → List Row → Bool
-fitsRow form r below = elim (r .sort) [ element ↦ fitsDefinition (lookup (r .name) form) below | attribute ↦ isNone below | text ↦ isNone below ]
+unfoldable pub fitsRow : ℕ → Form → Row → List Row → Bool
+fitsRow version form r below = elim (r .sort) [ element ↦ fitsDefinition version (lookup (r .name) form) below | attribute ↦ isNone below | text ↦ isNone below ]
 
-unfoldable pub conforming : Form → Forest Row → Bool
-conforming form docs = all (λ (r : Row). isElement (r .sort)) (heads docs) && everyRow (λ r below. fitsRow form r below) docs
+unfoldable pub conforming : ℕ → Form → Forest Row → Bool
+conforming version form docs = all (λ (r : Row). isElement (r .sort)) (heads docs) && everyRow (λ r below. fitsRow version form r below) docs

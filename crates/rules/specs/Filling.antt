@@ -12,16 +12,21 @@ use Rattle.rules.specs.Store.{Content, empty, pcdata, complex, Attribute
 use Rattle.rules.specs.WellFormed.{lookup}
 use Rattle.rules.specs.Conforming.{mustBePresent}
 
--- 'its REQUIRED attributes with their fills'
-abbrev pub createdValue : Attribute → Bytes
-createdValue a = a .value
+-- the value of a created row, of an attribute of this sort with this fill
+abbrev pub createdValue : AttributeSort → Bytes → Bytes
+createdValue sort fill = fill
 
 abbrev pub attributeRow : Attribute → Row
-attributeRow a = record { serial = 0; sort = attribute; name = a .name; value = createdValue a }
+attributeRow a = record { serial = 0; sort = attribute; name = a .name; value = createdValue (a .sort) (a .value) }
 
-unfoldable pub fillAttributes : List Attribute → Forest Row → Forest Row
-fillAttributes [] content = content
-fillAttributes (a ∷ table) content = elim (mustBePresent (a .sort)) [ true ↦ tree (attributeRow a) bare (fillAttributes table content) | false ↦ fillAttributes table content ]
+-- 'its REQUIRED attributes with their fills'
+unfoldable pub fillAttributes : ℕ → List Attribute → Forest Row → Forest Row
+fillAttributes version [] content = content
+fillAttributes version (a ∷ table) content =
+    elim (mustBePresent version (a .sort)) [
+      | true ↦ tree (attributeRow a) bare (fillAttributes version table content)
+      | false ↦ fillAttributes version table content
+    ]
 
 -- fillings one after the other; `fill` is that of a definition
 unfoldable pub fillEach : (Bytes → Forest Row) → List Bytes → Forest Row
@@ -37,15 +42,15 @@ fillContent fill txt (complex ms) = fillEach fill (filling Sequence ms)
 abbrev pub elementRow : Bytes → Row
 elementRow n = record { serial = 0; sort = element; name = n; value = [] }
 
--- the filling of a definition of at most this height
-unfoldable pub fillWithin : ℕ → Form → Bytes → Bytes → Forest Row
-fillWithin zero form txt n = bare
-fillWithin (suc h) form txt n =
+-- the filling of a definition of at most this height, in a store of this version
+unfoldable pub fillWithin : ℕ → ℕ → Form → Bytes → Bytes → Forest Row
+fillWithin version zero form txt n = bare
+fillWithin version (suc h) form txt n =
     elim (lookup n form) [
       | none ↦ bare
-      | some d ↦ tree (elementRow n) (fillAttributes (d .attributes) (fillContent (λ m. fillWithin h form txt m) txt (d .content))) bare
+      | some d ↦ tree (elementRow n) (fillAttributes version (d .attributes) (fillContent (λ m. fillWithin version h form txt m) txt (d .content))) bare
     ]
 
 -- no definition is higher than the form has definitions
-abbrev pub fillDefinition : Form → Bytes → Bytes → Forest Row
-fillDefinition form txt n = fillWithin (length form) form txt n
+abbrev pub fillDefinition : ℕ → Form → Bytes → Bytes → Forest Row
+fillDefinition version form txt n = fillWithin version (length form) form txt n

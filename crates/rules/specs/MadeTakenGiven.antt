@@ -1,6 +1,6 @@
 -- 'What was made, taken and given', call by call: which lines the taking rule names, which value a line has after a
--- call, and below which rows a call makes which rows. Said of the form and the lines that stand, apart from the plans
--- of Change.antt.
+-- call, and below which rows a call makes which rows. Said of the form and the lines that stand, and of the version
+-- where the rows made depend on it, apart from the plans of Change.antt.
 use Prim.Native.Nat.{ℕ, _+_}
 use mathlib.Core.Path.{_≡_}
 use mathlib.Core.Bool.{Bool, true, false, _&&_}
@@ -13,9 +13,10 @@ use Rattle.rules.specs.Model.{Members, done, el, group, names, skips}
 use Rattle.rules.specs.Quantifiers.{gains, cuts}
 use Rattle.rules.specs.Place.{Context, Found, spine}
 use Rattle.rules.specs.Edit.{Edit, insert, remove, quantify, placeOf}
-use Rattle.rules.specs.Store.{required, Form, attribute, Row, Forest, bare, tree, members}
+use Rattle.rules.specs.Store.{Form, attribute, Row, Forest, bare, tree, members}
 use Rattle.rules.specs.Decode.{quantifierOf, sortOf}
-use Rattle.rules.specs.Filling.{fillEach, fillDefinition}
+use Rattle.rules.specs.Conforming.{mustBePresent}
+use Rattle.rules.specs.Filling.{createdValue, fillEach, fillDefinition}
 use Rattle.rules.specs.Lines.{Line, lines, isTextRow, elementNamed, elementAmong, attributeNamed, elementWith, childrenOf, serialAt}
 use Rattle.rules.specs.Change.{Call, createDefinition, destroyDefinition, insertElement, removeElement, changeQuantifier, convertToGroup, flattenGroup, changeGroupQuantifier, addAttribute, destroyAttribute, addDocument, addElement, destroyElement, setAttribute, destroyAttributeRow, setText, definitionAt, nameAtIndex, Owned, attributeAt, groupFilling, newRows, number}
 
@@ -145,43 +146,43 @@ valueAfter (setText k t) form l = valueIf (isTextOf k l) t l
 -- 5 and 8: 'In a spine list: gain puts a filling where none stands'; 8: 'an instance without a child of the group'
 -- 9: 'REQUIRED adds a row to each instance'
 -- 11: a document; 12: below the element with that serial; 14: below it, where it has no row of the attribute
-unfoldable pub MakesBelow : Call → Form → List Line → ℕ → Type 0
-MakesBelow (createDefinition n k) form ls u = ⊥
-MakesBelow (destroyDefinition i) form ls u = ⊥
-MakesBelow (insertElement o p i q t) form ls u =
+unfoldable pub MakesBelow : Call → ℕ → Form → List Line → ℕ → Type 0
+MakesBelow (createDefinition n k) version form ls u = ⊥
+MakesBelow (destroyDefinition i) version form ls u = ⊥
+MakesBelow (insertElement o p i q t) version form ls u =
     AtPlace (λ c. (spine c ≡ true) × (skips (quantifierOf q) ≡ false)) (foundIn (insert (quantifierOf q) (nameAtIndex i form)) o p form) × HasLine (elementNamed (nameAtIndex o form)) ls u
-MakesBelow (removeElement o p) form ls u = ⊥
-MakesBelow (changeQuantifier o p q t) form ls u =
+MakesBelow (removeElement o p) version form ls u = ⊥
+MakesBelow (changeQuantifier o p q t) version form ls u =
     AtElement (λ c old x. (spine c ≡ true) × (gains old (quantifierOf q) ≡ true) × (childrenOf (elementNamed x) u ls ≡ [])) (foundIn (quantify (quantifierOf q)) o p form)
     × HasLine (elementNamed (nameAtIndex o form)) ls u
-MakesBelow (convertToGroup o p n k) form ls u = ⊥
-MakesBelow (flattenGroup o p) form ls u = ⊥
-MakesBelow (changeGroupQuantifier o p q t) form ls u =
+MakesBelow (convertToGroup o p n k) version form ls u = ⊥
+MakesBelow (flattenGroup o p) version form ls u = ⊥
+MakesBelow (changeGroupQuantifier o p q t) version form ls u =
     AtGroup (λ c old ms. (spine c ≡ true) × (gains old (quantifierOf q) ≡ true) × (childrenOf (elementAmong (names ms)) u ls ≡ [])) (foundIn (quantify (quantifierOf q)) o p form)
     × HasLine (elementNamed (nameAtIndex o form)) ls u
-MakesBelow (addAttribute o n k v) form ls u = (sortOf k ≡ required) × HasLine (elementNamed (nameAtIndex o form)) ls u
-MakesBelow (destroyAttribute a) form ls u = ⊥
-MakesBelow (addDocument i t) form ls u = u ≡ 0
-MakesBelow (addElement k j i t) form ls u = u ≡ k
-MakesBelow (destroyElement k) form ls u = ⊥
-MakesBelow (setAttribute k a v) form ls u = OfAttribute (λ o. childrenOf (attributeNamed (o .attribute .name)) k ls ≡ []) (attributeAt a form) × (u ≡ k)
-MakesBelow (destroyAttributeRow k a) form ls u = ⊥
-MakesBelow (setText k t) form ls u = ⊥
+MakesBelow (addAttribute o n k v) version form ls u = (mustBePresent version (sortOf k) ≡ true) × HasLine (elementNamed (nameAtIndex o form)) ls u
+MakesBelow (destroyAttribute a) version form ls u = ⊥
+MakesBelow (addDocument i t) version form ls u = u ≡ 0
+MakesBelow (addElement k j i t) version form ls u = u ≡ k
+MakesBelow (destroyElement k) version form ls u = ⊥
+MakesBelow (setAttribute k a v) version form ls u = OfAttribute (λ o. childrenOf (attributeNamed (o .attribute .name)) k ls ≡ []) (attributeAt a form) × (u ≡ k)
+MakesBelow (destroyAttributeRow k a) version form ls u = ⊥
+MakesBelow (setText k t) version form ls u = ⊥
 
 -- one row of an attribute, without a serial yet
 abbrev pub oneAttribute : Bytes → Bytes → Forest Row
 oneAttribute n v = tree (record { serial = 0; sort = attribute; name = n; value = v }) bare bare
 
 -- 5: a filling of the element at the place; 8: 'the group's filling under its new quantifier'
-abbrev pub fillingOf : Form → Bytes → Quantifier → Members Bytes → Forest Row
-fillingOf form t new done = bare
-fillingOf form t new (el q x rest) = fillDefinition form t x
-fillingOf form t new (group q k ms rest) = fillEach (λ n. fillDefinition form t n) (groupFilling new k ms)
+abbrev pub fillingOf : ℕ → Form → Bytes → Quantifier → Members Bytes → Forest Row
+fillingOf version form t new done = bare
+fillingOf version form t new (el q x rest) = fillDefinition version form t x
+fillingOf version form t new (group q k ms rest) = fillEach (λ n. fillDefinition version form t n) (groupFilling new k ms)
 
 -- the same at the place found
-abbrev pub fillingAt : Form → Bytes → Quantifier → Option (Found Bytes) → Forest Row
-fillingAt form t new none = bare
-fillingAt form t new (some f) = fillingOf form t new (f .picked)
+abbrev pub fillingAt : ℕ → Form → Bytes → Quantifier → Option (Found Bytes) → Forest Row
+fillingAt version form t new none = bare
+fillingAt version form t new (some f) = fillingOf version form t new (f .picked)
 
 -- 14: the attribute's row with the value given
 abbrev pub setRow : Bytes → Option Owned → Forest Row
@@ -190,23 +191,23 @@ setRow v (some o) = oneAttribute (o .attribute .name) v
 
 -- the rows that a call makes below each of these, without serials yet: fillings with the call's text; 9: the
 -- attribute's row with its fill; 14: with the value given
-unfoldable pub rowsMade : Call → Form → Forest Row
-rowsMade (createDefinition n k) form = bare
-rowsMade (destroyDefinition i) form = bare
-rowsMade (insertElement o p i q t) form = fillDefinition form t (nameAtIndex i form)
-rowsMade (removeElement o p) form = bare
-rowsMade (changeQuantifier o p q t) form = fillingAt form t (quantifierOf q) (foundIn (quantify (quantifierOf q)) o p form)
-rowsMade (convertToGroup o p n k) form = bare
-rowsMade (flattenGroup o p) form = bare
-rowsMade (changeGroupQuantifier o p q t) form = fillingAt form t (quantifierOf q) (foundIn (quantify (quantifierOf q)) o p form)
-rowsMade (addAttribute o n k v) form = oneAttribute n v
-rowsMade (destroyAttribute a) form = bare
-rowsMade (addDocument i t) form = fillDefinition form t (nameAtIndex i form)
-rowsMade (addElement k j i t) form = fillDefinition form t (nameAtIndex i form)
-rowsMade (destroyElement k) form = bare
-rowsMade (setAttribute k a v) form = setRow v (attributeAt a form)
-rowsMade (destroyAttributeRow k a) form = bare
-rowsMade (setText k t) form = bare
+unfoldable pub rowsMade : Call → ℕ → Form → Forest Row
+rowsMade (createDefinition n k) version form = bare
+rowsMade (destroyDefinition i) version form = bare
+rowsMade (insertElement o p i q t) version form = fillDefinition version form t (nameAtIndex i form)
+rowsMade (removeElement o p) version form = bare
+rowsMade (changeQuantifier o p q t) version form = fillingAt version form t (quantifierOf q) (foundIn (quantify (quantifierOf q)) o p form)
+rowsMade (convertToGroup o p n k) version form = bare
+rowsMade (flattenGroup o p) version form = bare
+rowsMade (changeGroupQuantifier o p q t) version form = fillingAt version form t (quantifierOf q) (foundIn (quantify (quantifierOf q)) o p form)
+rowsMade (addAttribute o n k v) version form = oneAttribute n (createdValue (sortOf k) v)
+rowsMade (destroyAttribute a) version form = bare
+rowsMade (addDocument i t) version form = fillDefinition version form t (nameAtIndex i form)
+rowsMade (addElement k j i t) version form = fillDefinition version form t (nameAtIndex i form)
+rowsMade (destroyElement k) version form = bare
+rowsMade (setAttribute k a v) version form = setRow v (attributeAt a form)
+rowsMade (destroyAttributeRow k a) version form = bare
+rowsMade (setText k t) version form = bare
 
 -- such rows below each of the rows with these serials, each row 'with the next serial, which then rises by 1'
 unfoldable pub linesMade : Forest Row → ℕ → List ℕ → List Line

@@ -37,7 +37,7 @@ pub record Good (s : Store) : Type 0 where
   pub version : knownVersion (s .version) ≡ true
   pub ceilings : withinCeilings (flat s) ≡ true
   pub form : WellFormed (valueWidth (s .version)) (s .form)
-  pub docs : Conforming (s .form) (s .docs)
+  pub docs : Conforming (s .version) (s .form) (s .docs)
   pub values : EveryRow (λ r below. laidRow (valueWidth (s .version)) r ≡ true) (s .docs)
   pub serials : GoodSerials (s .next) (s .docs)
 
@@ -55,7 +55,7 @@ good s =
     knownVersion (s .version)
     && (withinCeilings (flat s)
     && (wellFormed (valueWidth (s .version)) (s .form)
-    && (conforming (s .form) (s .docs)
+    && (conforming (s .version) (s .form) (s .docs)
     && (everyRow (λ r below. laidRow (valueWidth (s .version)) r) (s .docs) && goodSerials (s .next) (s .docs)))))
 
 abbrev pub goodRead : Option Store → Option Store

@@ -223,22 +223,22 @@ conditions (addElement k j i t) s =
     ∷ 6 if past i (s .form)
     ∷ 7 if noElement k s
     ∷ 8 if ltb (length (childrenOf isElementRow k (rowsOf s))) j
-    ∷ 15 if not (conforming (s .form) (after (addElement k j i t) s .docs))
+    ∷ 15 if not (conforming (s .version) (s .form) (after (addElement k j i t) s .docs))
     ∷ []
 conditions (destroyElement k) s =
     7 if noElement k s
-    ∷ 15 if not (conforming (s .form) (after (destroyElement k) s .docs))
+    ∷ 15 if not (conforming (s .version) (s .form) (after (destroyElement k) s .docs))
     ∷ []
 conditions (setAttribute k a v) s =
     3 if badText s v
     ∷ 6 if unknownAttribute k a s
     ∷ 7 if noElement k s
-    ∷ 15 if not (conforming (s .form) (after (setAttribute k a v) s .docs))
+    ∷ 15 if not (conforming (s .version) (s .form) (after (setAttribute k a v) s .docs))
     ∷ []
 conditions (destroyAttributeRow k a) s =
     6 if unknownAttribute k a s
     ∷ 7 if (noElement k s || isAbsent k (rowsOf s) (attributeAt a (s .form)))
-    ∷ 15 if not (conforming (s .form) (after (destroyAttributeRow k a) s .docs))
+    ∷ 15 if not (conforming (s .version) (s .form) (after (destroyAttributeRow k a) s .docs))
     ∷ []
 conditions (setText k t) s =
     3 if badText s t

@@ -304,7 +304,7 @@ pub record Sorts : Type 0 where
       ≡ tree (record { serial = 0; sort = attribute; name = ascii "q"; value = ascii "0" }) bare bare
 
 pub sorts : Sorts
-unfolding member facts continues accepts strip fitsRow conforming fillAttributes findRow childrenOf attributeAt formAfter plan prune eachRow plant newRows given number after conditions refusal
+unfolding valueWidth member facts continues accepts strip fitsRow conforming fillAttributes findRow childrenOf attributeAt formAfter plan prune eachRow plant newRows given number after conditions refusal
 sorts =
     record {
       required-row = refl;

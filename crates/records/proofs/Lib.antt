@@ -1,3 +1,4 @@
 pub mod RecordLaws
 pub mod StringLaws
 pub mod CodeLaws
+pub mod SortLaws

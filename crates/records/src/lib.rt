@@ -9,6 +9,8 @@ ghost use Rattle.rules.specs.Bytes.{all, between};
 ghost use Rattle.rules.specs.Layout.{definitionSize, attributeSize};
 ghost use Rattle.rules.specs.Decode.{sized, sortOf};
 ghost use Rattle.rules.specs.WellFormed.{startsName, inName, storedName, isValue, isFill};
+ghost use Rattle.rules.specs.Conforming.{mustBePresent, allows};
+ghost use Rattle.rules.specs.Filling.{createdValue};
 ghost use Rattle.layout.specs.Bodies.{Width};
 ghost use Rattle.records.specs.Records.{NumberAt, zeros, filled, nameFits, valueFits, definitionFits, attributeFits, unusedFit, rowFits, eachFits, countsFit, offsetsFit, headerFits};
 
@@ -318,4 +320,30 @@ pub fn header_fits(w: usize, store: &[u8]) -> bool
     (layout::through_definitions(0) <= store.len())
         & ((version == BASE_VERSION)
             & (counts_fit(store) & (offsets_fit(w, store) & (is_sized(w, store) & (1 <= next)))))
+}
+
+// ---- what an attribute's sort says
+
+/// Whether a row of an attribute of this sort must be there, in a store of this version.
+pub fn must_be_present(version: usize, sort: u8) -> bool
+    ensures { λ r. ⌜ r ≡ mustBePresent version (sortOf sort) ⌝ }
+{
+    sort == 1
+}
+
+/// Whether a value is right for an attribute of this sort and this fill.
+pub fn value_allowed(sort: u8, fill: &[u8], value: &[u8]) -> bool
+    ensures { λ r. ⌜ r ≡ allows (sortOf sort) (now (fill .entry)) (now (value .entry)) ⌝ }
+{
+    if sort < 2 {
+        return true;
+    }
+    codec::equal(fill, value)
+}
+
+/// The value of a created row of an attribute of this sort and this fill.
+pub fn created_value(sort: u8, fill: &[u8]) -> &[u8]
+    ensures { λ r. ⌜ now r ≡ createdValue (sortOf sort) (now (fill .entry)) ⌝ }
+{
+    fill
 }

@@ -42,21 +42,6 @@ unfolding modelPart
 model-read defs parts i a b e h = rw (e, h)
 
 -- ---- attributes
-is-required : (s : ℕ) → eqb s 1 ≡ mustBePresent (sortOf s)
-is-required zero = refl
-is-required (suc zero) = refl
-is-required (suc (suc s)) = ne-eqb (suc (suc s)) 1 (λ e. omega arith)
-
-allows-any : (s : ℕ) (fill v : Bytes) → s < 2 → true ≡ allows (sortOf s) fill v
-allows-any zero fill v h = refl
-allows-any (suc zero) fill v h = refl
-allows-any (suc (suc s)) fill v h = absurd (omega arith)
-
-allows-fixed : (s : ℕ) (fill v : Bytes) → 2 ≤ s → same fill v ≡ allows (sortOf s) fill v
-allows-fixed zero fill v h = absurd (omega arith)
-allows-fixed (suc zero) fill v h = absurd (omega arith)
-allows-fixed (suc (suc s)) fill v h = refl
-
 -- record′ is attribute j
 module _ (w : ℕ) (record′ attrs : Bytes) (j : ℕ) (e : record′ ≡ recordAt (attributeSize w) j attrs) where
   sort-read : (s : ℕ) → s ≡ readAttribute record′ .sort → s ≡ attributeIn w attrs j .sort
@@ -65,18 +50,15 @@ module _ (w : ℕ) (record′ attrs : Bytes) (j : ℕ) (e : record′ ≡ record
   pub owner-read : (o : ℕ) → o ≡ readAttribute record′ .owner → o ≡ attributeIn w attrs j .owner
   owner-read o h = h ∙ ap (λ (b : Bytes). readAttribute b .owner) e
 
-  pub needs-read : (i o s : ℕ) → o ≡ readAttribute record′ .owner → s ≡ readAttribute record′ .sort
-      → (eqb o i && eqb s 1) ≡ (eqb (attributeIn w attrs j .owner) i && mustBePresent (sortOf (attributeIn w attrs j .sort)))
-  needs-read i o s p q = rw (owner-read o p, ← sort-read s q, is-required s)
+  pub needs-read : (version i o s : ℕ) (b : Bool) → o ≡ readAttribute record′ .owner → s ≡ readAttribute record′ .sort → b ≡ mustBePresent version (sortOf s)
+      → (eqb o i && b) ≡ (eqb (attributeIn w attrs j .owner) i && mustBePresent version (sortOf (attributeIn w attrs j .sort)))
+  needs-read version i o s b p q r = rw (owner-read o p, r, sort-read s q)
 
-  pub value-any : (s : ℕ) (v : Bytes) → s ≡ readAttribute record′ .sort → s < 2 → true ≡ allows (sortOf (attributeIn w attrs j .sort)) (attributeIn w attrs j .value) v
-  value-any s v q h = rw (← sort-read s q) (allows-any s (attributeIn w attrs j .value) v h)
-
-  pub value-fixed : (s : ℕ) (fill v : Bytes) (b : Bool) → s ≡ readAttribute record′ .sort → 2 ≤ s → fill ≡ readAttribute record′ .value → b ≡ same fill v
+  pub value-allowed : (s : ℕ) (fill v : Bytes) (b : Bool) → s ≡ readAttribute record′ .sort → fill ≡ readAttribute record′ .value → b ≡ allows (sortOf s) fill v
       → b ≡ allows (sortOf (attributeIn w attrs j .sort)) (attributeIn w attrs j .value) v
-  value-fixed s fill v b q h t r =
+  value-allowed s fill v b q t r =
       let x : fill ≡ attributeIn w attrs j .value = t ∙ ap (λ (u : Bytes). readAttribute u .value) e in
-      r ∙ rw (← sort-read s q, x) (allows-fixed s (attributeIn w attrs j .value) v h)
+      r ∙ rw (sort-read s q, x)
 
 -- ---- levels
 module _ (l : Level) (sort index s j : ℕ) (es : s ≡ sort) (ej : j ≡ index) where

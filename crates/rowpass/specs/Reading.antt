@@ -33,21 +33,21 @@ unfoldable pub modelPart : Bytes → Bytes → ℕ → Bytes
 modelPart defs parts i = take (particleSize * definitionIn defs i .particles) (drop (particleSize * particlesBefore defs i) parts)
 
 -- n definitions, a attributes
-abbrev pub indexForm : ℕ → ℕ → Bytes → Bytes → Bytes → ℕ → IndexForm
-indexForm w n defs parts attrs a =
+abbrev pub indexForm : ℕ → ℕ → ℕ → Bytes → Bytes → Bytes → ℕ → IndexForm
+indexForm version w n defs parts attrs a =
     record {
       size = n;
       kind = λ i. definitionIn defs i .kind;
       model = λ i. membersOf (modelPart defs parts i);
       attributes = a;
       owner = λ j. attributeIn w attrs j .owner;
-      needed = λ j. mustBePresent (sortOf (attributeIn w attrs j .sort));
+      needed = λ j. mustBePresent version (sortOf (attributeIn w attrs j .sort));
       allows = λ j v. allows (sortOf (attributeIn w attrs j .sort)) (attributeIn w attrs j .value) v;
     }
 
 -- the attributes alone
-abbrev pub attributesOf : ℕ → Bytes → ℕ → IndexForm
-attributesOf w attrs a = indexForm w 0 [] [] attrs a
+abbrev pub attributesOf : ℕ → ℕ → Bytes → ℕ → IndexForm
+attributesOf version w attrs a = indexForm version w 0 [] [] attrs a
 
 -- ---- the rows
 abbrev pub rowsIn : ℕ → ℕ → Bytes → List (Deep FlatRow)

@@ -109,30 +109,29 @@ pub fn value_may(w: usize, attrs: &[u8], j: usize, v: &[u8]) -> bool
     ensures { λ r. ⌜ r ≡ allows (sortOf (attributeIn w (now (attrs .entry)) j .sort)) (attributeIn w (now (attrs .entry)) j .value) (now (v .entry)) ⌝ }
 {
     let record = layout::attribute_at(w, attrs, j);
-    if layout::attribute_sort(record) < 2 {
-        return true;
-    }
-    codec::equal(layout::attribute_value(record), v)
+    let sort = layout::attribute_sort(record);
+    records::value_allowed(sort, layout::attribute_value(record), v)
 }
 
 // Whether attribute j is one that definition i needs.
-pub fn needs(w: usize, attrs: &[u8], i: usize, j: usize) -> bool
+pub fn needs(version: usize, w: usize, attrs: &[u8], i: usize, j: usize) -> bool
     requires { ⌜ Width w × (j ≤ 64) ⌝ }
-    ensures { λ r. ⌜ r ≡ (eqb (attributeIn w (now (attrs .entry)) j .owner) i && mustBePresent (sortOf (attributeIn w (now (attrs .entry)) j .sort))) ⌝ }
+    ensures { λ r. ⌜ r ≡ (eqb (attributeIn w (now (attrs .entry)) j .owner) i && mustBePresent version (sortOf (attributeIn w (now (attrs .entry)) j .sort))) ⌝ }
 {
     let record = layout::attribute_at(w, attrs, j);
-    (layout::attribute_owner(record) == i) & (layout::attribute_sort(record) == 1)
+    let sort = layout::attribute_sort(record);
+    (layout::attribute_owner(record) == i) & records::must_be_present(version, sort)
 }
 
 // Whether definition i needs none of the attributes from `from` up to `to`.
-fn spares(w: usize, attrs: &[u8], i: usize, from: usize, to: usize) -> bool
+fn spares(version: usize, w: usize, attrs: &[u8], i: usize, from: usize, to: usize) -> bool
     requires { ⌜ Width w × (to ≤ 64) ⌝ }
-    ensures { λ r. ⌜ r ≡ every (spare (attributesOf w (now (attrs .entry)) 0) i) to from ⌝ }
+    ensures { λ r. ⌜ r ≡ every (spare (attributesOf version w (now (attrs .entry)) 0) i) to from ⌝ }
 {
     let mut k = to;
     while k > from {
         k -= 1;
-        if needs(w, attrs, i, k) {
+        if needs(version, w, attrs, i, k) {
             return false;
         }
     }
@@ -140,20 +139,28 @@ fn spares(w: usize, attrs: &[u8], i: usize, from: usize, to: usize) -> bool
 }
 
 // Whether no attribute that definition i needs is owed any more.
-fn is_freed(w: usize, attrs: &[u8], a: usize, i: usize, seen: usize) -> bool
+fn is_freed(version: usize, w: usize, attrs: &[u8], a: usize, i: usize, seen: usize) -> bool
     requires { ⌜ Width w × (a ≤ 64) ⌝ }
-    ensures { λ r. ⌜ r ≡ freed (attributesOf w (now (attrs .entry)) a) i seen ⌝ }
+    ensures { λ r. ⌜ r ≡ freed (attributesOf version w (now (attrs .entry)) a) i seen ⌝ }
 {
     if seen == 0 {
         return true;
     }
-    spares(w, attrs, i, seen - 1, a)
+    spares(version, w, attrs, i, seen - 1, a)
 }
 
 // Whether an attribute's row may come next.
-fn attribute_may(w: usize, attrs: &[u8], a: usize, i: usize, seen: usize, row: &[u8]) -> bool
+fn attribute_may(
+    version: usize,
+    w: usize,
+    attrs: &[u8],
+    a: usize,
+    i: usize,
+    seen: usize,
+    row: &[u8],
+) -> bool
     requires { ⌜ Width w × (a ≤ 64) ⌝ }
-    ensures { λ r. ⌜ r ≡ attributeMay (attributesOf w (now (attrs .entry)) a) i seen (readRow (now (row .entry)) .row) ⌝ }
+    ensures { λ r. ⌜ r ≡ attributeMay (attributesOf version w (now (attrs .entry)) a) i seen (readRow (now (row .entry)) .row) ⌝ }
 {
     let j = layout::row_index(row) as usize;
     if seen == 0 {
@@ -167,12 +174,13 @@ fn attribute_may(w: usize, attrs: &[u8], a: usize, i: usize, seen: usize, row: &
     }
     let owner = layout::attribute_owner(layout::attribute_at(w, attrs, j));
     let v = layout::row_value(row);
-    (owner == i) & (value_may(w, attrs, j, v) & spares(w, attrs, i, seen - 1, j))
+    (owner == i) & (value_may(w, attrs, j, v) & spares(version, w, attrs, i, seen - 1, j))
 }
 
 // ---- rows
 // Whether a row may come next below an element of definition l.index.
 fn row_may(
+    version: usize,
     w: usize,
     defs: &[u8],
     parts: &[u8],
@@ -182,21 +190,22 @@ fn row_may(
     row: &[u8],
 ) -> bool
     requires { ⌜ Width w × (l .index ≤ 64) × (a ≤ 64) ⌝ }
-    ensures { λ r. ⌜ r ≡ rowMay (indexForm w 0 (now (defs .entry)) (now (parts .entry)) (now (attrs .entry)) a) (eqb (readRow (now (row .entry)) .row .sort) 2) l (readRow (now (row .entry)) .row) ⌝ }
+    ensures { λ r. ⌜ r ≡ rowMay (indexForm version w 0 (now (defs .entry)) (now (parts .entry)) (now (attrs .entry)) a) (eqb (readRow (now (row .entry)) .row .sort) 2) l (readRow (now (row .entry)) .row) ⌝ }
 {
     let i = l.index as usize;
     let seen = l.seen as usize;
     let last = l.last as usize;
     let sort = layout::row_sort(row);
     if sort == 2 {
-        return attribute_may(w, attrs, a, i, seen, row);
+        return attribute_may(version, w, attrs, a, i, seen, row);
     }
     let index = layout::row_index(row) as usize;
-    is_freed(w, attrs, a, i, seen) & child_may(defs, parts, i, last, sort, index)
+    is_freed(version, w, attrs, a, i, seen) & child_may(defs, parts, i, last, sort, index)
 }
 
 // Whether a row may come next at a level.
 fn may_come(
+    version: usize,
     w: usize,
     n: usize,
     defs: &[u8],
@@ -207,7 +216,7 @@ fn may_come(
     row: &[u8],
 ) -> bool
     requires { ⌜ Width w × (n ≤ 64) × (a ≤ 64) ⌝ }
-    ensures { λ r. ⌜ r ≡ may (indexForm w n (now (defs .entry)) (now (parts .entry)) (now (attrs .entry)) a) (l .holds) l (readRow (now (row .entry)) .row) ⌝ }
+    ensures { λ r. ⌜ r ≡ may (indexForm version w n (now (defs .entry)) (now (parts .entry)) (now (attrs .entry)) a) (l .holds) l (readRow (now (row .entry)) .row) ⌝ }
 {
     let h = l.holds;
     if h == 0 {
@@ -219,13 +228,22 @@ fn may_come(
     if l.index as usize >= n {
         return false;
     }
-    row_may(w, defs, parts, a, attrs, l, row)
+    row_may(version, w, defs, parts, a, attrs, l, row)
 }
 
 // Whether nothing more is owed at a level.
-fn may_end(w: usize, n: usize, defs: &[u8], parts: &[u8], a: usize, attrs: &[u8], l: Level) -> bool
+fn may_end(
+    version: usize,
+    w: usize,
+    n: usize,
+    defs: &[u8],
+    parts: &[u8],
+    a: usize,
+    attrs: &[u8],
+    l: Level,
+) -> bool
     requires { ⌜ Width w × (n ≤ 64) × (a ≤ 64) ⌝ }
-    ensures { λ r. ⌜ r ≡ ends (indexForm w n (now (defs .entry)) (now (parts .entry)) (now (attrs .entry)) a) (l .holds) l ⌝ }
+    ensures { λ r. ⌜ r ≡ ends (indexForm version w n (now (defs .entry)) (now (parts .entry)) (now (attrs .entry)) a) (l .holds) l ⌝ }
 {
     let i = l.index as usize;
     if l.holds != 1 {
@@ -234,7 +252,8 @@ fn may_end(w: usize, n: usize, defs: &[u8], parts: &[u8], a: usize, attrs: &[u8]
     if i >= n {
         return false;
     }
-    is_freed(w, attrs, a, i, l.seen as usize) & children_end(defs, parts, i, l.last as usize)
+    is_freed(version, w, attrs, a, i, l.seen as usize)
+        & children_end(defs, parts, i, l.last as usize)
 }
 
 // The level after a row.
@@ -287,6 +306,7 @@ fn row_index(row: &[u8]) -> u16
 
 // Whether a row's fields fit and it may come next at a level.
 fn row_passes(
+    version: usize,
     w: usize,
     n: usize,
     defs: &[u8],
@@ -297,9 +317,9 @@ fn row_passes(
     row: &[u8],
 ) -> bool
     requires { ⌜ Width w × (n ≤ 64) × (a ≤ 64) ⌝ }
-    ensures { λ r. ⌜ r ≡ (rowFits w (now (row .entry)) && judge (indexForm w n (now (defs .entry)) (now (parts .entry)) (now (attrs .entry)) a) .may l (readRow (now (row .entry)) .row)) ⌝ }
+    ensures { λ r. ⌜ r ≡ (rowFits w (now (row .entry)) && judge (indexForm version w n (now (defs .entry)) (now (parts .entry)) (now (attrs .entry)) a) .may l (readRow (now (row .entry)) .row)) ⌝ }
 {
-    records::row_fits(w, row) & may_come(w, n, defs, parts, a, attrs, l, row)
+    records::row_fits(w, row) & may_come(version, w, n, defs, parts, a, attrs, l, row)
 }
 
 // How many levels stay open: none where no row is left, and those up to the next row's own.
@@ -314,6 +334,7 @@ fn kept(t: &[u8], m: usize) -> usize
 
 // The one pass: a row closes the levels deeper than its own, comes next at its own, and opens one more.
 fn pass(
+    version: usize,
     w: usize,
     n: usize,
     defs: &[u8],
@@ -324,7 +345,7 @@ fn pass(
     count: usize,
 ) -> bool
     requires { ⌜ Width w × (n ≤ 64) × (a ≤ 64) × (rowSize w * count ≤ length (now rows)) ⌝ }
-    ensures { λ r. ⌜ r ≡ verdict w (indexForm w n (now (defs .entry)) (now (parts .entry)) (now (attrs .entry)) a) count (now (rows .entry)) ⌝ }
+    ensures { λ r. ⌜ r ≡ verdict w (indexForm version w n (now (defs .entry)) (now (parts .entry)) (now (attrs .entry)) a) count (now (rows .entry)) ⌝ }
 {
     // a depth is a byte: 257 levels of 12 bytes, 3,084 in all
     let size = layout::row_size(w);
@@ -337,7 +358,7 @@ fn pass(
         if keep < live {
             live -= 1;
             let l = levels[live];
-            if !may_end(w, n, defs, parts, a, attrs, l) {
+            if !may_end(version, w, n, defs, parts, a, attrs, l) {
                 return false;
             }
         } else {
@@ -350,7 +371,7 @@ fn pass(
             let d = keep - 1;
             let l = levels[d];
             let row = &t[..size];
-            if !row_passes(w, n, defs, parts, a, attrs, l, row) {
+            if !row_passes(version, w, n, defs, parts, a, attrs, l, row) {
                 return false;
             }
             levels[d] = after_row(l, row);
@@ -365,6 +386,7 @@ fn pass(
 /// Whether the rows' fields fit and they are those of documents that conform to a form of n definitions and a attributes in which
 /// no model names an element twice.
 pub fn rows_pass(
+    version: usize,
     w: usize,
     n: usize,
     defs: &[u8],
@@ -374,8 +396,8 @@ pub fn rows_pass(
     rows: &[u8],
     count: usize,
 ) -> bool
-    requires { ⌜ Width w × (n ≤ 64) × (a ≤ 64) × (rowSize w * count ≤ length (now rows)) × ((i : ℕ) → i < n → Distinct (names (indexForm w n (now defs) (now parts) (now attrs) a .model i))) ⌝ }
-    ensures { λ r. ⌜ (r ≡ true) ↔ ((eachFits (rowFits w) (rowSize w) count (now (rows .entry)) ≡ true) × Documents (indexForm w n (now (defs .entry)) (now (parts .entry)) (now (attrs .entry)) a) (readMany readRow (rowSize w) count (now (rows .entry)))) ⌝ }
+    requires { ⌜ Width w × (n ≤ 64) × (a ≤ 64) × (rowSize w * count ≤ length (now rows)) × ((i : ℕ) → i < n → Distinct (names (indexForm version w n (now defs) (now parts) (now attrs) a .model i))) ⌝ }
+    ensures { λ r. ⌜ (r ≡ true) ↔ ((eachFits (rowFits w) (rowSize w) count (now (rows .entry)) ≡ true) × Documents (indexForm version w n (now (defs .entry)) (now (parts .entry)) (now (attrs .entry)) a) (readMany readRow (rowSize w) count (now (rows .entry)))) ⌝ }
 {
-    pass(w, n, defs, parts, a, attrs, rows, count)
+    pass(version, w, n, defs, parts, a, attrs, rows, count)
 }

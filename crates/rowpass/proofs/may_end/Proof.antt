@@ -9,10 +9,10 @@ cast-i : tie.Need-cast-i
 cast-i c = search needs
 
 returns : tie.Need-returns
-returns c = let a = c .before .before .before .before .before .before .args in ends-other (indexForm (a .w) (a .n) (a .defs .now) (a .parts .now) (a .attrs .now) (a .a)) (a .l) _ (c .if1 .taken)
+returns c = let a = c .before .before .before .before .before .before .args in ends-other (indexForm (a .version) (a .w) (a .n) (a .defs .now) (a .parts .now) (a .attrs .now) (a .a)) (a .l) _ (c .if1 .taken)
 
 returns-2 : tie.Need-returns-2
-returns-2 c = let a = c .before .before .before .before .before .before .before .args in ends-unknown (indexForm (a .w) (a .n) (a .defs .now) (a .parts .now) (a .attrs .now) (a .a)) (a .l) _ (c .before .if1 .left) (omega arith)
+returns-2 c = let a = c .before .before .before .before .before .before .before .args in ends-unknown (indexForm (a .version) (a .w) (a .n) (a .defs .now) (a .parts .now) (a .attrs .now) (a .a)) (a .l) _ (c .before .if1 .left) (omega arith)
 
 cast-is-freed : tie.Need-cast-is-freed
 cast-is-freed c = search needs
@@ -27,7 +27,7 @@ children-end-requires : tie.Need-children-end-requires
 children-end-requires c κs = search needs
 
 returns-3 : tie.Need-returns-3
-returns-3 c = let a = c .before .before .before .before .before .before .before .before .before .before .before .args in ends-known (indexForm (a .w) (a .n) (a .defs .now) (a .parts .now) (a .attrs .now) (a .a)) (a .l) _ (c .before .before .before .before .before .if1 .left) (omega arith) _ _ (c .before .before .is-freed .ensures) (c .children-end .ensures)
+returns-3 c = let a = c .before .before .before .before .before .before .before .before .before .before .before .args in ends-known (indexForm (a .version) (a .w) (a .n) (a .defs .now) (a .parts .now) (a .attrs .now) (a .a)) (a .l) _ (c .before .before .before .before .before .if1 .left) (omega arith) _ _ (c .before .before .is-freed .ensures) (c .children-end .ensures)
 
 pub may-end-spec : {M : Type 1} → statement M
 may-end-spec =

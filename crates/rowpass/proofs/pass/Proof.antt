@@ -13,10 +13,10 @@ use Rattle.rowpass.proofs.pass.Statement.{statement}
 use Rattle.rowpass.proofs.pass.Tie as tie
 
 abbrev Inv-loop : tie.InvT-loop
-Inv-loop w n defs parts a attrs rows count size₀ levels₀ live₀ t₀ m₀ levels live t m = Pass w (indexForm w n defs parts attrs a) (verdict w (indexForm w n defs parts attrs a) count rows) levels live t m
+Inv-loop version w n defs parts a attrs rows count size₀ levels₀ live₀ t₀ m₀ levels live t m = Pass w (indexForm version w n defs parts attrs a) (verdict w (indexForm version w n defs parts attrs a) count rows) levels live t m
 
 abbrev μ-loop : tie.MeasureT-loop
-μ-loop w n defs parts a attrs rows count size₀ levels₀ live₀ t₀ m₀ levels live t m = m * 258 + live
+μ-loop version w n defs parts a attrs rows count size₀ levels₀ live₀ t₀ m₀ levels live t m = m * 258 + live
 
 row-size-requires : tie.Need-row-size-requires Inv-loop μ-loop
 row-size-requires c κs = search needs
@@ -44,7 +44,7 @@ returns c =
     let a = c .before .before .before .before .before .before .before .before .before .before .before .args in
     let at = c .before .before .before .before .before .loop in
     let keep = c .before .before .before .before .kept in
-    pass-owes (a .w) (indexForm (a .w) (a .n) (a .defs .now) (a .parts .now) (a .attrs .now) (a .a)) (at .levels) (at .t .now) (at .inv) (keep .result) (keep .ensures .0) (omega arith) _ (c .before .may-end .ensures) (not-true _ (c .if2 .taken))
+    pass-owes (a .w) (indexForm (a .version) (a .w) (a .n) (a .defs .now) (a .parts .now) (a .attrs .now) (a .a)) (at .levels) (at .t .now) (at .inv) (keep .result) (keep .ensures .0) (omega arith) _ (c .before .may-end .ensures) (not-true _ (c .if2 .taken))
 
 loop-less : tie.Need-loop-less Inv-loop μ-loop
 loop-less c = search needs
@@ -54,21 +54,21 @@ loop-again c =
     let a = c .before .before .before .before .before .before .before .before .before .before .before .args in
     let at = c .before .before .before .before .before .loop in
     let keep = c .before .before .before .before .kept in
-    pass-pops (a .w) (indexForm (a .w) (a .n) (a .defs .now) (a .parts .now) (a .attrs .now) (a .a)) (at .levels) (at .t .now) (at .inv) (keep .result) (keep .ensures .0) (omega arith) _ (c .before .may-end .ensures) (not-false _ (c .if2 .left))
+    pass-pops (a .w) (indexForm (a .version) (a .w) (a .n) (a .defs .now) (a .parts .now) (a .attrs .now) (a .a)) (at .levels) (at .t .now) (at .inv) (keep .result) (keep .ensures .0) (omega arith) _ (c .before .may-end .ensures) (not-false _ (c .if2 .left))
 
 returns-2 : tie.Need-returns-2 Inv-loop μ-loop
 returns-2 c =
     let a = c .before .before .before .before .before .before .before .before .before .args in
     let at = c .before .before .before .loop in
     let keep = c .before .before .kept in
-    pass-stops (a .w) (indexForm (a .w) (a .n) (a .defs .now) (a .parts .now) (a .attrs .now) (a .a)) (at .levels) (at .t .now) (at .inv) (keep .result) (keep .ensures .0) (omega arith)
+    pass-stops (a .w) (indexForm (a .version) (a .w) (a .n) (a .defs .now) (a .parts .now) (a .attrs .now) (a .a)) (at .levels) (at .t .now) (at .inv) (keep .result) (keep .ensures .0) (omega arith)
 
 returns-3 : tie.Need-returns-3 Inv-loop μ-loop
 returns-3 c =
     let a = c .before .before .before .before .before .before .before .before .before .before .args in
     let at = c .before .before .before .before .loop in
     let keep = c .before .before .before .kept in
-    pass-ends (a .w) (indexForm (a .w) (a .n) (a .defs .now) (a .parts .now) (a .attrs .now) (a .a)) (at .levels) (at .t .now) (at .inv) (keep .result) (keep .ensures .0) (c .if4 .taken) (omega arith)
+    pass-ends (a .w) (indexForm (a .version) (a .w) (a .n) (a .defs .now) (a .parts .now) (a .attrs .now) (a .a)) (at .levels) (at .t .now) (at .inv) (keep .result) (keep .ensures .0) (c .if4 .taken) (omega arith)
 
 sub-d : tie.Need-sub-d Inv-loop μ-loop
 sub-d c = keeps-some _ _ _ (c .if4 .left) (c .before .before .before .kept .ensures .0)
@@ -93,7 +93,7 @@ returns-4 c =
     let a = c .before .before .before .before .before .before .before .before .before .before .before .before .before .before .args in
     let at = c .before .before .before .before .before .before .before .before .loop in
     let keep = c .before .before .before .before .before .before .before .kept in
-    pass-refuses (a .w) (indexForm (a .w) (a .n) (a .defs .now) (a .parts .now) (a .attrs .now) (a .a)) (at .levels) (at .t .now) (at .inv) (keep .result) (keep .ensures .0) (c .before .before .before .before .if4 .left) (omega arith) (omega arith) _ (c .before .before .before .before .before .before .before .before .before .row-size .ensures) _ refl _ (c .before .row-passes .ensures) (not-true _ (c .if5 .taken))
+    pass-refuses (a .w) (indexForm (a .version) (a .w) (a .n) (a .defs .now) (a .parts .now) (a .attrs .now) (a .a)) (at .levels) (at .t .now) (at .inv) (keep .result) (keep .ensures .0) (c .before .before .before .before .if4 .left) (omega arith) (omega arith) _ (c .before .before .before .before .before .before .before .before .before .row-size .ensures) _ refl _ (c .before .row-passes .ensures) (not-true _ (c .if5 .taken))
 
 after-row-requires : tie.Need-after-row-requires Inv-loop μ-loop
 after-row-requires c κs = search needs
@@ -142,7 +142,7 @@ loop-again-2 c =
     let a = c .before .before .before .before .before .before .before .before .before .before .before .before .before .before .before .before .before .args in
     let at = c .before .before .before .before .before .before .before .before .before .before .before .loop in
     let keep = c .before .before .before .before .before .before .before .before .before .before .kept in
-    pass-takes (a .w) (indexForm (a .w) (a .n) (a .defs .now) (a .parts .now) (a .attrs .now) (a .a)) (at .levels) (at .t .now) (at .inv) (keep .result) (keep .ensures .0) (c .before .before .before .before .before .before .before .if4 .left) (omega arith) (omega arith) _ (c .before .before .before .before .before .before .before .before .before .before .before .before .row-size .ensures) _ refl _
+    pass-takes (a .w) (indexForm (a .version) (a .w) (a .n) (a .defs .now) (a .parts .now) (a .attrs .now) (a .a)) (at .levels) (at .t .now) (at .inv) (keep .result) (keep .ensures .0) (c .before .before .before .before .before .before .before .if4 .left) (omega arith) (omega arith) _ (c .before .before .before .before .before .before .before .before .before .before .before .before .row-size .ensures) _ refl _
     (c .before .before .before .before .row-passes .ensures) (keep .ensures .1) (not-false _ (c .before .before .before .if5 .left)) _ _ (c .before .before .after-row .ensures) (c .before .below-row .ensures)
 
 pub pass-spec : {M : Type 1} → statement M

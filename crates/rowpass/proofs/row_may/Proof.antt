@@ -21,7 +21,7 @@ attribute-may-requires : tie.Need-attribute-may-requires
 attribute-may-requires c κs = search needs
 
 returns : tie.Need-returns
-returns c = let a = c .before .before .before .before .before .before .before .before .before .before .args in row-attribute (indexForm (a .w) 0 (a .defs .now) (a .parts .now) (a .attrs .now) (a .a)) (a .l) (readRow (a .row .now) .row) _ (c .before .before .row-sort .ensures) (c .before .if1 .taken) _ (c .attribute-may .ensures)
+returns c = let a = c .before .before .before .before .before .before .before .before .before .before .args in row-attribute (indexForm (a .version) (a .w) 0 (a .defs .now) (a .parts .now) (a .attrs .now) (a .a)) (a .l) (readRow (a .row .now) .row) _ (c .before .before .row-sort .ensures) (c .before .if1 .taken) _ (c .attribute-may .ensures)
 
 row-index-requires : tie.Need-row-index-requires
 row-index-requires c κs = search needs
@@ -36,7 +36,7 @@ child-may-requires : tie.Need-child-may-requires
 child-may-requires c κs = search needs
 
 returns-2 : tie.Need-returns-2
-returns-2 c = let a = c .before .before .before .before .before .before .before .before .before .before .before .before .args in row-child (indexForm (a .w) 0 (a .defs .now) (a .parts .now) (a .attrs .now) (a .a)) (a .l) (readRow (a .row .now) .row) _ (c .before .before .before .before .row-sort .ensures) (c .before .before .before .if1 .left) _ _ _ (c .before .before .row-index .ensures) (c .before .is-freed .ensures) (c .child-may .ensures)
+returns-2 c = let a = c .before .before .before .before .before .before .before .before .before .before .before .before .args in row-child (indexForm (a .version) (a .w) 0 (a .defs .now) (a .parts .now) (a .attrs .now) (a .a)) (a .l) (readRow (a .row .now) .row) _ (c .before .before .before .before .row-sort .ensures) (c .before .before .before .if1 .left) _ _ _ (c .before .before .row-index .ensures) (c .before .is-freed .ensures) (c .child-may .ensures)
 
 pub row-may-spec : {M : Type 1} → statement M
 row-may-spec =

@@ -1,5 +1,4 @@
-use Rattle.rowpass.proofs.ReadingLaws.{value-any, value-fixed}
-use native.Mathlib.Omega.{arith}
+use Rattle.rowpass.proofs.ReadingLaws.{value-allowed}
 use borrow.Author.Needs.{needs}
 use Rattle.rowpass.proofs.value_may.Statement.{statement}
 use Rattle.rowpass.proofs.value_may.Tie as tie
@@ -10,25 +9,19 @@ attribute-at-requires c κs = search needs
 attribute-sort-requires : tie.Need-attribute-sort-requires
 attribute-sort-requires c κs = search needs
 
-returns : tie.Need-returns
-returns c = let a = c .before .before .before .before .before .args in value-any (a .w) _ (a .attrs .now) (a .j) (c .before .before .attribute-at .ensures) _ (a .v .now) (c .before .attribute-sort .ensures) (omega arith)
-
 attribute-value-requires : tie.Need-attribute-value-requires
 attribute-value-requires c κs = search needs
 
-equal-requires : tie.Need-equal-requires
-equal-requires c κs = search needs
+value-allowed-requires : tie.Need-value-allowed-requires
+value-allowed-requires c κs = search needs
 
-returns-2 : tie.Need-returns-2
-returns-2 c = let a = c .before .before .before .before .before .before .before .args in value-fixed (a .w) _ (a .attrs .now) (a .j) (c .before .before .before .before .attribute-at .ensures) _ _ (a .v .now) _ (c .before .before .before .attribute-sort .ensures) (omega arith) (c .before .attribute-value .ensures) (c .equal .ensures)
+returns : tie.Need-returns
+returns c =
+    let a = c .before .before .before .before .before .before .args in
+    let record-at = c .before .before .before .attribute-at .ensures in
+    value-allowed (a .w) _ (a .attrs .now) (a .j) record-at _ _ (a .v .now) _ (c .before .before .attribute-sort .ensures) (c .before .attribute-value .ensures) (c .value-allowed .ensures)
 
 pub value-may-spec : {M : Type 1} → statement M
 value-may-spec =
     tie.close
-    (tie.spec
-    attribute-at-requires
-    attribute-sort-requires
-    returns
-    attribute-value-requires
-    equal-requires
-    returns-2)
+    (tie.spec attribute-at-requires attribute-sort-requires attribute-value-requires value-allowed-requires returns)

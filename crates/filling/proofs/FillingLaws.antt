@@ -72,39 +72,39 @@ module _ (F : IndexForm) (value : ℕ → Bytes) (d i : ℕ) where
       by true e = ap (λ (z : List (Deep FlatRow)). newAttribute d j (value j) ∷ z) e
       by false e = e
 
-module _ (w : ℕ) (attrs : Bytes) (d i : ℕ) where
+module _ (version w : ℕ) (attrs : Bytes) (d i : ℕ) where
   abbrev rowIf : Bool → Deep FlatRow → List (Deep FlatRow)
   rowIf true x = x ∷ []
   rowIf false x = []
 
-  required-at : (j : ℕ) {b : Bool} → b ≡ (eqb (attributeIn w attrs j .owner) i && mustBePresent (sortOf (attributeIn w attrs j .sort))) → requiredAt w attrs d i j ≡ rowIf b (newAttribute d j (valueIn w attrs j))
+  required-at : (j : ℕ) {b : Bool} → b ≡ (eqb (attributeIn w attrs j .owner) i && mustBePresent version (sortOf (attributeIn w attrs j .sort))) → requiredAt version w attrs d i j ≡ rowIf b (newAttribute d j (valueIn w attrs j))
   unfolding requiredAt requiredRows
-  required-at j {b} e = by (eqb (attributeIn w attrs j .owner) i && mustBePresent (sortOf (attributeIn w attrs j .sort))) ∙ ap (λ (z : Bool). rowIf z (newAttribute d j (valueIn w attrs j))) (sym e)
+  required-at j {b} e = by (eqb (attributeIn w attrs j .owner) i && mustBePresent version (sortOf (attributeIn w attrs j .sort))) ∙ ap (λ (z : Bool). rowIf z (newAttribute d j (valueIn w attrs j))) (sym e)
     where
       by : (c : Bool) → elim c as (λ z. List (Deep FlatRow)) [ true ↦ newAttribute d j (valueIn w attrs j) ∷ [] | false ↦ [] ] ≡ rowIf c (newAttribute d j (valueIn w attrs j))
       by true = refl
       by false = refl
 
-  pub spare-written : (j : ℕ) {b : Bool} {c : Cursor} {out : Bytes} → b ≡ (eqb (attributeIn w attrs j .owner) i && mustBePresent (sortOf (attributeIn w attrs j .sort))) → b ≡ false → Written w (requiredAt w attrs d i j) c out c out
+  pub spare-written : (j : ℕ) {b : Bool} {c : Cursor} {out : Bytes} → b ≡ (eqb (attributeIn w attrs j .owner) i && mustBePresent version (sortOf (attributeIn w attrs j .sort))) → b ≡ false → Written w (requiredAt version w attrs d i j) c out c out
   spare-written j e f = written-as (required-at j e ∙ ap (λ (z : Bool). rowIf z (newAttribute d j (valueIn w attrs j))) f) written-none
 
-  pub needed-written : (j : ℕ) {b : Bool} {v : Bytes} {c r : Cursor} {out out′ : Bytes} → b ≡ (eqb (attributeIn w attrs j .owner) i && mustBePresent (sortOf (attributeIn w attrs j .sort))) → b ≡ true → v ≡ valueIn w attrs j → Written w (newRow 2 d j v ∷ []) c out r out′
-      → Written w (requiredAt w attrs d i j) c out r out′
+  pub needed-written : (j : ℕ) {b : Bool} {v : Bytes} {c r : Cursor} {out out′ : Bytes} → b ≡ (eqb (attributeIn w attrs j .owner) i && mustBePresent version (sortOf (attributeIn w attrs j .sort))) → b ≡ true → v ≡ valueIn w attrs j → Written w (newRow 2 d j v ∷ []) c out r out′
+      → Written w (requiredAt version w attrs d i j) c out r out′
   needed-written j e t m p = written-as (required-at j e ∙ ap (λ (z : Bool). rowIf z (newAttribute d j (valueIn w attrs j))) t ∙ ap (λ (z : Bytes). newAttribute d j z ∷ []) (sym m)) p
 
-  pub required-none : {c : Cursor} {out : Bytes} → Written w (requiredIn w attrs d i 0) c out c out
+  pub required-none : {c : Cursor} {out : Bytes} → Written w (requiredIn version w attrs d i 0) c out c out
   unfolding requiredIn requiredRows
   required-none = written-none
 
-  pub required-on : (j : ℕ) {c r r′ : Cursor} {out out′ out″ : Bytes} → Written w (requiredIn w attrs d i j) c out r out′ → Written w (requiredAt w attrs d i j) r out′ r′ out″ → Written w (requiredIn w attrs d i (j + 1)) c out r′ out″
+  pub required-on : (j : ℕ) {c r r′ : Cursor} {out out′ out″ : Bytes} → Written w (requiredIn version w attrs d i j) c out r out′ → Written w (requiredAt version w attrs d i j) r out′ r′ out″ → Written w (requiredIn version w attrs d i (j + 1)) c out r′ out″
   unfolding requiredIn requiredAt
   required-on j p q =
       let e : 0 + j ≡ j = omega arith in
-      rw (add-one j) (written-as (required-last (attributesOf w attrs 0) (valueIn w attrs) d i 0 j) (written-then p (rw e q)))
+      rw (add-one j) (written-as (required-last (attributesOf version w attrs 0) (valueIn w attrs) d i 0 j) (written-then p (rw e q)))
 
 -- the attributes below j are written
-pub record Putting (w : ℕ) (attrs : Bytes) (d i a : ℕ) (c : Cursor) (out : Bytes) (r : Cursor) (out′ : Bytes) (j : ℕ) : Type 0 where
-  pub written : Written w (requiredIn w attrs d i j) c out r out′
+pub record Putting (version w : ℕ) (attrs : Bytes) (d i a : ℕ) (c : Cursor) (out : Bytes) (r : Cursor) (out′ : Bytes) (j : ℕ) : Type 0 where
+  pub written : Written w (requiredIn version w attrs d i j) c out r out′
   pub low : j ≤ a
 
 -- ---- the members of depth d that s begins with
@@ -169,55 +169,55 @@ module _ (d : ℕ) (s : Bytes) (p : Particle) (e : p ≡ particleOf (readParticl
 
 -- ---- definitions
 -- the attributes of a form do not depend on its definitions
-form-required : (w n a b : ℕ) (defs parts attrs : Bytes) (value : ℕ → Bytes) (d i j k : ℕ) → requiredRows (indexForm w n defs parts attrs a) value d i j k ≡ requiredRows (attributesOf w attrs b) value d i j k
+form-required : (version w n a b : ℕ) (defs parts attrs : Bytes) (value : ℕ → Bytes) (d i j k : ℕ) → requiredRows (indexForm version w n defs parts attrs a) value d i j k ≡ requiredRows (attributesOf version w attrs b) value d i j k
 unfolding requiredRows
-form-required w n a b defs parts attrs value d i j zero = refl
-form-required w n a b defs parts attrs value d i j (suc k) =
-    let e : requiredRows (indexForm w n defs parts attrs a) value d i (suc j) k ≡ requiredRows (attributesOf w attrs b) value d i (suc j) k = form-required w n a b defs parts attrs value d i (suc j) k in
-    λ z. elim (eqb (attributeIn w attrs j .owner) i && mustBePresent (sortOf (attributeIn w attrs j .sort))) as (λ x. List (Deep FlatRow)) [ true ↦ newAttribute d j (value j) ∷ e z | false ↦ e z ]
+form-required version w n a b defs parts attrs value d i j zero = refl
+form-required version w n a b defs parts attrs value d i j (suc k) =
+    let e : requiredRows (indexForm version w n defs parts attrs a) value d i (suc j) k ≡ requiredRows (attributesOf version w attrs b) value d i (suc j) k = form-required version w n a b defs parts attrs value d i (suc j) k in
+    λ z. elim (eqb (attributeIn w attrs j .owner) i && mustBePresent version (sortOf (attributeIn w attrs j .sort))) as (λ x. List (Deep FlatRow)) [ true ↦ newAttribute d j (value j) ∷ e z | false ↦ e z ]
 
 -- nor fillings on the number of definitions
-form-fillings : (w n m a : ℕ) (defs parts attrs : Bytes) (value : ℕ → Bytes) (f g : ℕ → List (Deep FlatRow)) → ((j : ℕ) → f j ≡ g j) → (is : List ℕ) → fillingsOf (indexForm w n defs parts attrs a) value f is ≡ fillingsOf (indexForm w m defs parts attrs a) value g is
+form-fillings : (version w n m a : ℕ) (defs parts attrs : Bytes) (value : ℕ → Bytes) (f g : ℕ → List (Deep FlatRow)) → ((j : ℕ) → f j ≡ g j) → (is : List ℕ) → fillingsOf (indexForm version w n defs parts attrs a) value f is ≡ fillingsOf (indexForm version w m defs parts attrs a) value g is
 unfolding fillingsOf
-form-fillings w n m a defs parts attrs value f g e [] = refl
-form-fillings w n m a defs parts attrs value f g e (i ∷ is) = ap₂ (λ (u v : List (Deep FlatRow)). u ++ v) (e i) (form-fillings w n m a defs parts attrs value f g e is)
+form-fillings version w n m a defs parts attrs value f g e [] = refl
+form-fillings version w n m a defs parts attrs value f g e (i ∷ is) = ap₂ (λ (u v : List (Deep FlatRow)). u ++ v) (e i) (form-fillings version w n m a defs parts attrs value f g e is)
 
-form-content : (w n m a : ℕ) (defs parts attrs : Bytes) (value : ℕ → Bytes) (f g : ℕ → List (Deep FlatRow)) → ((j : ℕ) → f j ≡ g j) → (txt : Bytes) (d : ℕ) (ms : Members ℕ) (k : ℕ)
-    → contentRows (indexForm w n defs parts attrs a) value f txt d ms k ≡ contentRows (indexForm w m defs parts attrs a) value g txt d ms k
+form-content : (version w n m a : ℕ) (defs parts attrs : Bytes) (value : ℕ → Bytes) (f g : ℕ → List (Deep FlatRow)) → ((j : ℕ) → f j ≡ g j) → (txt : Bytes) (d : ℕ) (ms : Members ℕ) (k : ℕ)
+    → contentRows (indexForm version w n defs parts attrs a) value f txt d ms k ≡ contentRows (indexForm version w m defs parts attrs a) value g txt d ms k
 unfolding contentRows
-form-content w n m a defs parts attrs value f g e txt d ms zero = refl
-form-content w n m a defs parts attrs value f g e txt d ms (suc zero) = refl
-form-content w n m a defs parts attrs value f g e txt d ms (suc (suc k)) = form-fillings w n m a defs parts attrs value f g e (filling Sequence ms)
+form-content version w n m a defs parts attrs value f g e txt d ms zero = refl
+form-content version w n m a defs parts attrs value f g e txt d ms (suc zero) = refl
+form-content version w n m a defs parts attrs value f g e txt d ms (suc (suc k)) = form-fillings version w n m a defs parts attrs value f g e (filling Sequence ms)
 
-module _ (w : ℕ) (defs parts attrs : Bytes) (a : ℕ) (txt : Bytes) where
+module _ (version w : ℕ) (defs parts attrs : Bytes) (a : ℕ) (txt : Bytes) where
   -- how many definitions there are is not looked at
-  sized : (n h d i : ℕ) → fillIndex (indexForm w n defs parts attrs a) (valueIn w attrs) h txt d i ≡ fillIndex (indexForm w 0 defs parts attrs a) (valueIn w attrs) h txt d i
+  sized : (n h d i : ℕ) → fillIndex (indexForm version w n defs parts attrs a) (valueIn w attrs) h txt d i ≡ fillIndex (indexForm version w 0 defs parts attrs a) (valueIn w attrs) h txt d i
   unfolding fillIndex
   sized n zero d i = refl
   sized n (suc h) d i =
-      ap₂ (λ (u v : List (Deep FlatRow)). newElement d i ∷ (u ++ v)) (form-required w n a 0 defs parts attrs (valueIn w attrs) (suc d) i 0 a ∙ sym (form-required w 0 a 0 defs parts attrs (valueIn w attrs) (suc d) i 0 a))
-      (form-content w n 0 a defs parts attrs (valueIn w attrs) (λ j. fillIndex (indexForm w n defs parts attrs a) (valueIn w attrs) h txt (suc d) j) (λ j. fillIndex (indexForm w 0 defs parts attrs a) (valueIn w attrs) h txt (suc d) j) (λ j. sized n h (suc d) j) txt (suc d) (membersOf (modelPart defs parts i)) (definitionIn defs i .kind))
+      ap₂ (λ (u v : List (Deep FlatRow)). newElement d i ∷ (u ++ v)) (form-required version w n a 0 defs parts attrs (valueIn w attrs) (suc d) i 0 a ∙ sym (form-required version w 0 a 0 defs parts attrs (valueIn w attrs) (suc d) i 0 a))
+      (form-content version w n 0 a defs parts attrs (valueIn w attrs) (λ j. fillIndex (indexForm version w n defs parts attrs a) (valueIn w attrs) h txt (suc d) j) (λ j. fillIndex (indexForm version w 0 defs parts attrs a) (valueIn w attrs) h txt (suc d) j) (λ j. sized n h (suc d) j) txt (suc d) (membersOf (modelPart defs parts i)) (definitionIn defs i .kind))
 
-  pub definition-sized : (n d i : ℕ) {c r : Cursor} {out out′ : Bytes} → Written w (definitionRows w defs parts attrs a txt n d i) c out r out′ → Written w (fillIndex (indexForm w n defs parts attrs a) (valueIn w attrs) n txt d i) c out r out′
+  pub definition-sized : (n d i : ℕ) {c r : Cursor} {out out′ : Bytes} → Written w (definitionRows version w defs parts attrs a txt n d i) c out r out′ → Written w (fillIndex (indexForm version w n defs parts attrs a) (valueIn w attrs) n txt d i) c out r out′
   unfolding definitionRows
   definition-sized n d i p = written-as (sized n n d i) p
 
   module _ (h d : ℕ) where
-    definition-more : (i : ℕ) → definitionRows w defs parts attrs a txt (suc h) d i ≡ newElement d i ∷ (requiredIn w attrs (suc d) i a ++ belowRows w defs parts attrs a txt h (suc d) i)
+    definition-more : (i : ℕ) → definitionRows version w defs parts attrs a txt (suc h) d i ≡ newElement d i ∷ (requiredIn version w attrs (suc d) i a ++ belowRows version w defs parts attrs a txt h (suc d) i)
     unfolding definitionRows belowRows requiredIn fillIndex
-    definition-more i = ap (λ (u : List (Deep FlatRow)). newElement d i ∷ (u ++ belowRows w defs parts attrs a txt h (suc d) i)) (form-required w 0 a 0 defs parts attrs (valueIn w attrs) (suc d) i 0 a)
+    definition-more i = ap (λ (u : List (Deep FlatRow)). newElement d i ∷ (u ++ belowRows version w defs parts attrs a txt h (suc d) i)) (form-required version w 0 a 0 defs parts attrs (valueIn w attrs) (suc d) i 0 a)
 
   module _ (h d : ℕ) where
     -- ---- a definition
-    pub definition-low : (i : ℕ) {c : Cursor} {out : Bytes} → h ≡ 0 → Written w (definitionRows w defs parts attrs a txt h d i) c out c out
+    pub definition-low : (i : ℕ) {c : Cursor} {out : Bytes} → h ≡ 0 → Written w (definitionRows version w defs parts attrs a txt h d i) c out c out
     unfolding definitionRows fillIndex
     definition-low i e = rw e written-none
 
-    pub definition-written : (i : ℕ) {c e r r′ : Cursor} {out out₁ out₂ out′ : Bytes} → (h ≡ 0 → ⊥) → Written w (newRow 1 d i [] ∷ []) c out e out₁ → Written w (requiredIn w attrs (d + 1) i a) e out₁ r out₂
-        → Written w (belowRows w defs parts attrs a txt (h - 1) (d + 1) i) r out₂ r′ out′ → Written w (definitionRows w defs parts attrs a txt h d i) c out r′ out′
+    pub definition-written : (i : ℕ) {c e r r′ : Cursor} {out out₁ out₂ out′ : Bytes} → (h ≡ 0 → ⊥) → Written w (newRow 1 d i [] ∷ []) c out e out₁ → Written w (requiredIn version w attrs (d + 1) i a) e out₁ r out₂
+        → Written w (belowRows version w defs parts attrs a txt (h - 1) (d + 1) i) r out₂ r′ out′ → Written w (definitionRows version w defs parts attrs a txt h d i) c out r′ out′
     definition-written i {c} {e} {r} {r′} {out} {out₁} {out₂} {out′} n p q s = written-as (by h n) (written-then p (written-then q s))
       where
-        by : (k : ℕ) → (k ≡ 0 → ⊥) → definitionRows w defs parts attrs a txt k d i ≡ newElement d i ∷ (requiredIn w attrs (d + 1) i a ++ belowRows w defs parts attrs a txt (k - 1) (d + 1) i)
+        by : (k : ℕ) → (k ≡ 0 → ⊥) → definitionRows version w defs parts attrs a txt k d i ≡ newElement d i ∷ (requiredIn version w attrs (d + 1) i a ++ belowRows version w defs parts attrs a txt (k - 1) (d + 1) i)
         by zero x = absurd (x refl)
         by (suc k) x =
             let m : suc k - 1 ≡ k = omega arith in
@@ -225,79 +225,79 @@ module _ (w : ℕ) (defs parts attrs : Bytes) (a : ℕ) (txt : Bytes) where
 
     -- ---- what stands below an element of definition i, whose kind is k
     module _ (i k : ℕ) (e : k ≡ definitionIn defs i .kind) where
-      kind-told : belowRows w defs parts attrs a txt h d i ≡ contentRows (formIn w defs parts attrs a) (valueIn w attrs) (λ j. definitionRows w defs parts attrs a txt h d j) txt d (membersOf (modelPart defs parts i)) k
+      kind-told : belowRows version w defs parts attrs a txt h d i ≡ contentRows (formIn version w defs parts attrs a) (valueIn w attrs) (λ j. definitionRows version w defs parts attrs a txt h d j) txt d (membersOf (modelPart defs parts i)) k
       unfolding belowRows
-      kind-told = ap (λ (z : ℕ). contentRows (formIn w defs parts attrs a) (valueIn w attrs) (λ j. definitionRows w defs parts attrs a txt h d j) txt d (membersOf (modelPart defs parts i)) z) (sym e)
+      kind-told = ap (λ (z : ℕ). contentRows (formIn version w defs parts attrs a) (valueIn w attrs) (λ j. definitionRows version w defs parts attrs a txt h d j) txt d (membersOf (modelPart defs parts i)) z) (sym e)
 
-      pub below-none : {c : Cursor} {out : Bytes} → k ≡ 0 → Written w (belowRows w defs parts attrs a txt h d i) c out c out
+      pub below-none : {c : Cursor} {out : Bytes} → k ≡ 0 → Written w (belowRows version w defs parts attrs a txt h d i) c out c out
       unfolding contentRows
       below-none z = written-as (kind-told ∙ rw z) written-none
 
-      pub below-text : {c r : Cursor} {out out′ : Bytes} → k ≡ 1 → Written w (newRow 3 d 0 txt ∷ []) c out r out′ → Written w (belowRows w defs parts attrs a txt h d i) c out r out′
+      pub below-text : {c r : Cursor} {out out′ : Bytes} → k ≡ 1 → Written w (newRow 3 d 0 txt ∷ []) c out r out′ → Written w (belowRows version w defs parts attrs a txt h d i) c out r out′
       unfolding contentRows
       below-text z p = written-as (kind-told ∙ rw z) p
 
-      pub below-group : (s : Bytes) {c r : Cursor} {out out′ : Bytes} → (k ≡ 0 → ⊥) → (k ≡ 1 → ⊥) → s ≡ modelPart defs parts i → Written w (memberRows w defs parts attrs a txt h d (filling Sequence (membersFrom 0 s))) c out r out′
-          → Written w (belowRows w defs parts attrs a txt h d i) c out r out′
+      pub below-group : (s : Bytes) {c r : Cursor} {out out′ : Bytes} → (k ≡ 0 → ⊥) → (k ≡ 1 → ⊥) → s ≡ modelPart defs parts i → Written w (memberRows version w defs parts attrs a txt h d (filling Sequence (membersFrom 0 s))) c out r out′
+          → Written w (belowRows version w defs parts attrs a txt h d i) c out r out′
       unfolding contentRows memberRows
-      below-group s n m q p = written-as (kind-told ∙ by k n m ∙ ap (λ (z : Bytes). memberRows w defs parts attrs a txt h d (filling Sequence (membersFrom 0 z))) (sym q)) p
+      below-group s n m q p = written-as (kind-told ∙ by k n m ∙ ap (λ (z : Bytes). memberRows version w defs parts attrs a txt h d (filling Sequence (membersFrom 0 z))) (sym q)) p
         where
           by : (k : ℕ) → (k ≡ 0 → ⊥) → (k ≡ 1 → ⊥)
-              → contentRows (formIn w defs parts attrs a) (valueIn w attrs) (λ j. definitionRows w defs parts attrs a txt h d j) txt d (membersOf (modelPart defs parts i)) k
-              ≡ memberRows w defs parts attrs a txt h d (filling Sequence (membersFrom 0 (modelPart defs parts i)))
+              → contentRows (formIn version w defs parts attrs a) (valueIn w attrs) (λ j. definitionRows version w defs parts attrs a txt h d j) txt d (membersOf (modelPart defs parts i)) k
+              ≡ memberRows version w defs parts attrs a txt h d (filling Sequence (membersFrom 0 (modelPart defs parts i)))
           by zero n m = absurd (n refl)
           by (suc zero) n m = absurd (m refl)
           by (suc (suc k)) n m = refl
 
     -- ---- members; f: the definitions that they fill with
-    members-more : (u v : List ℕ) → memberRows w defs parts attrs a txt h d (u ++ v) ≡ memberRows w defs parts attrs a txt h d u ++ memberRows w defs parts attrs a txt h d v
+    members-more : (u v : List ℕ) → memberRows version w defs parts attrs a txt h d (u ++ v) ≡ memberRows version w defs parts attrs a txt h d u ++ memberRows version w defs parts attrs a txt h d v
     unfolding memberRows fillingsOf
     members-more [] v = refl
     members-more (i ∷ u) v =
-        ap (λ (z : List (Deep FlatRow)). definitionRows w defs parts attrs a txt h d i ++ z) (members-more u v)
-        ∙ sym (append-assoc (definitionRows w defs parts attrs a txt h d i) (memberRows w defs parts attrs a txt h d u) (memberRows w defs parts attrs a txt h d v))
+        ap (λ (z : List (Deep FlatRow)). definitionRows version w defs parts attrs a txt h d i ++ z) (members-more u v)
+        ∙ sym (append-assoc (definitionRows version w defs parts attrs a txt h d i) (memberRows version w defs parts attrs a txt h d u) (memberRows version w defs parts attrs a txt h d v))
 
     module _ (f : List ℕ) where
-      pub none-written : {c : Cursor} {out : Bytes} → f ≡ [] → Written w (memberRows w defs parts attrs a txt h d f) c out c out
+      pub none-written : {c : Cursor} {out : Bytes} → f ≡ [] → Written w (memberRows version w defs parts attrs a txt h d f) c out c out
       unfolding memberRows fillingsOf
       none-written e = rw e written-none
 
-      pub one-written : (i : ℕ) {c r : Cursor} {out out′ : Bytes} → f ≡ i ∷ [] → Written w (definitionRows w defs parts attrs a txt h d i) c out r out′ → Written w (memberRows w defs parts attrs a txt h d f) c out r out′
+      pub one-written : (i : ℕ) {c r : Cursor} {out out′ : Bytes} → f ≡ i ∷ [] → Written w (definitionRows version w defs parts attrs a txt h d i) c out r out′ → Written w (memberRows version w defs parts attrs a txt h d f) c out r out′
       unfolding memberRows fillingsOf
-      one-written i e p = written-as (ap (λ (z : List ℕ). memberRows w defs parts attrs a txt h d z) e ∙ append-nil (definitionRows w defs parts attrs a txt h d i)) p
+      one-written i e p = written-as (ap (λ (z : List ℕ). memberRows version w defs parts attrs a txt h d z) e ∙ append-nil (definitionRows version w defs parts attrs a txt h d i)) p
 
-      pub same-written : (g : List ℕ) {c r : Cursor} {out out′ : Bytes} → f ≡ g → Written w (memberRows w defs parts attrs a txt h d g) c out r out′ → Written w (memberRows w defs parts attrs a txt h d f) c out r out′
-      same-written g e p = written-as (ap (λ (z : List ℕ). memberRows w defs parts attrs a txt h d z) e) p
+      pub same-written : (g : List ℕ) {c r : Cursor} {out out′ : Bytes} → f ≡ g → Written w (memberRows version w defs parts attrs a txt h d g) c out r out′ → Written w (memberRows version w defs parts attrs a txt h d f) c out r out′
+      same-written g e p = written-as (ap (λ (z : List ℕ). memberRows version w defs parts attrs a txt h d z) e) p
 
       -- of a group's first member, u, and of the others, v
       module _ (k : GroupKind) (u v : List ℕ) (e : f ≡ beside k u v) where
-        pub list-written : {c r r′ : Cursor} {out out′ out″ : Bytes} → k ≡ Sequence → Written w (memberRows w defs parts attrs a txt h d u) c out r out′ → Written w (memberRows w defs parts attrs a txt h d v) r out′ r′ out″
-            → Written w (memberRows w defs parts attrs a txt h d f) c out r′ out″
-        list-written q p s = written-as (ap (λ (z : List ℕ). memberRows w defs parts attrs a txt h d z) (e ∙ ap (λ (z : GroupKind). beside z u v) q) ∙ members-more u v) (written-then p s)
+        pub list-written : {c r r′ : Cursor} {out out′ out″ : Bytes} → k ≡ Sequence → Written w (memberRows version w defs parts attrs a txt h d u) c out r out′ → Written w (memberRows version w defs parts attrs a txt h d v) r out′ r′ out″
+            → Written w (memberRows version w defs parts attrs a txt h d f) c out r′ out″
+        list-written q p s = written-as (ap (λ (z : List ℕ). memberRows version w defs parts attrs a txt h d z) (e ∙ ap (λ (z : GroupKind). beside z u v) q) ∙ members-more u v) (written-then p s)
 
-        pub first-written : {c r : Cursor} {out out′ : Bytes} → k ≡ Choice → Written w (memberRows w defs parts attrs a txt h d u) c out r out′ → Written w (memberRows w defs parts attrs a txt h d f) c out r out′
+        pub first-written : {c r : Cursor} {out out′ : Bytes} → k ≡ Choice → Written w (memberRows version w defs parts attrs a txt h d u) c out r out′ → Written w (memberRows version w defs parts attrs a txt h d f) c out r out′
         first-written q p = same-written u (e ∙ ap (λ (z : GroupKind). beside z u v) q) p
 
 -- ---- the members of a group, one after the other
 -- the members of depth e from t on are still to be written; once they are, all from s on are
-pub record Rest (w : ℕ) (defs parts attrs : Bytes) (a : ℕ) (txt : Bytes) (h d : ℕ) (k : GroupKind) (e : ℕ) (s : Bytes) (c : Cursor) (out t : Bytes) (r : Cursor) (out′ : Bytes) : Type 0 where
-  pub rest : {r′ : Cursor} {out″ : Bytes} → Written w (memberRows w defs parts attrs a txt h d (filling k (membersFrom e t))) r out′ r′ out″
-      → Written w (memberRows w defs parts attrs a txt h d (filling k (membersFrom e s))) c out r′ out″
+pub record Rest (version w : ℕ) (defs parts attrs : Bytes) (a : ℕ) (txt : Bytes) (h d : ℕ) (k : GroupKind) (e : ℕ) (s : Bytes) (c : Cursor) (out t : Bytes) (r : Cursor) (out′ : Bytes) : Type 0 where
+  pub rest : {r′ : Cursor} {out″ : Bytes} → Written w (memberRows version w defs parts attrs a txt h d (filling k (membersFrom e t))) r out′ r′ out″
+      → Written w (memberRows version w defs parts attrs a txt h d (filling k (membersFrom e s))) c out r′ out″
   pub room : Room w r
   pub short : length t ≤ length s
   pub long : length out′ ≡ length out
 
-module _ {w : ℕ} {defs parts attrs : Bytes} {a : ℕ} {txt : Bytes} {h d : ℕ} {k : GroupKind} {e : ℕ} {s : Bytes} {c : Cursor} {out : Bytes} where
-  pub rest-starts : Room w c → Rest w defs parts attrs a txt h d k e s c out s c out
+module _ {version w : ℕ} {defs parts attrs : Bytes} {a : ℕ} {txt : Bytes} {h d : ℕ} {k : GroupKind} {e : ℕ} {s : Bytes} {c : Cursor} {out : Bytes} where
+  pub rest-starts : Room w c → Rest version w defs parts attrs a txt h d k e s c out s c out
   rest-starts m = record { rest = λ p. p; room = m; short = omega arith; long = refl }
 
   -- after the particle that t begins with, whose depth is own
-  module _ {t : Bytes} {r : Cursor} {out′ : Bytes} (i : Rest w defs parts attrs a txt h d k e s c out t r out′) (l : 4 ≤ length t) (own : ℕ) (g : own ≡ getD t 3 0) where
+  module _ {t : Bytes} {r : Cursor} {out′ : Bytes} (i : Rest version w defs parts attrs a txt h d k e s c out t r out′) (l : 4 ≤ length t) (own : ℕ) (g : own ≡ getD t 3 0) where
     next-short : length (take (length t - 4) (drop 4 t)) ≤ length s
     next-short = omega (arith, i .short, length-take (length t - 4) (drop 4 t), length-drop 4 t)
 
     -- it is deeper, so it belongs to another member
-    pub rest-deeper : e < own → Rest w defs parts attrs a txt h d k e s c out (take (length t - 4) (drop 4 t)) r out′
+    pub rest-deeper : e < own → Rest version w defs parts attrs a txt h d k e s c out (take (length t - 4) (drop 4 t)) r out′
     rest-deeper m =
         record {
           rest = λ p. i .rest (same-written w defs parts attrs a txt h d (filling k (membersFrom e t)) (filling k (membersFrom e (take (length t - 4) (drop 4 t)))) (group-deeper e k t own l g m) p);
@@ -306,9 +306,9 @@ module _ {w : ℕ} {defs parts attrs : Bytes} {a : ℕ} {txt : Bytes} {h d : ℕ
           long = i .long;
         }
 
-    module _ (m : own ≤ e) (n : e ≤ own) {r′ : Cursor} {out″ : Bytes} (p : Written w (memberRows w defs parts attrs a txt h d (memberFilling e t)) r out′ r′ out″) where
+    module _ (m : own ≤ e) (n : e ≤ own) {r′ : Cursor} {out″ : Bytes} (p : Written w (memberRows version w defs parts attrs a txt h d (memberFilling e t)) r out′ r′ out″) where
       -- it is a member of a LIST, and was written
-      pub rest-on : k ≡ Sequence → Rest w defs parts attrs a txt h d k e s c out (take (length t - 4) (drop 4 t)) r′ out″
+      pub rest-on : k ≡ Sequence → Rest version w defs parts attrs a txt h d k e s c out (take (length t - 4) (drop 4 t)) r′ out″
       rest-on q =
           record {
             rest = λ x. i .rest (list-written w defs parts attrs a txt h d (filling k (membersFrom e t)) k (memberFilling e t) (filling k (membersFrom e (take (length t - 4) (drop 4 t)))) (group-here e k t own l g m n) q p x);
@@ -318,15 +318,15 @@ module _ {w : ℕ} {defs parts attrs : Bytes} {a : ℕ} {txt : Bytes} {h d : ℕ
           }
 
       -- it is the first member of a CHOICE
-      pub rest-first : k ≡ Choice → Written w (memberRows w defs parts attrs a txt h d (filling k (membersFrom e s))) c out r′ out″
+      pub rest-first : k ≡ Choice → Written w (memberRows version w defs parts attrs a txt h d (filling k (membersFrom e s))) c out r′ out″
       rest-first q = i .rest (first-written w defs parts attrs a txt h d (filling k (membersFrom e t)) k (memberFilling e t) (filling k (membersFrom e (take (length t - 4) (drop 4 t)))) (group-here e k t own l g m n) q p)
 
     -- it stands outside the group
-    pub rest-over : own < e → Written w (memberRows w defs parts attrs a txt h d (filling k (membersFrom e s))) c out r out′
+    pub rest-over : own < e → Written w (memberRows version w defs parts attrs a txt h d (filling k (membersFrom e s))) c out r out′
     rest-over m = i .rest (none-written w defs parts attrs a txt h d (filling k (membersFrom e t)) (group-stop e k t own l g m))
 
   -- there is no particle more
-  pub rest-ends : {t : Bytes} {r : Cursor} {out′ : Bytes} → Rest w defs parts attrs a txt h d k e s c out t r out′ → length t < 4 → Written w (memberRows w defs parts attrs a txt h d (filling k (membersFrom e s))) c out r out′
+  pub rest-ends : {t : Bytes} {r : Cursor} {out′ : Bytes} → Rest version w defs parts attrs a txt h d k e s c out t r out′ → length t < 4 → Written w (memberRows version w defs parts attrs a txt h d (filling k (membersFrom e s))) c out r out′
   rest-ends {t} i l = i .rest (none-written w defs parts attrs a txt h d (filling k (membersFrom e t)) (group-few e k t l))
 
 -- ---- an index in a particle is a byte
@@ -370,25 +370,25 @@ part-short defs parts i s e =
     omega (arith, ap length e, length-take n (drop m parts), length-drop m parts)
 
 -- ---- what a change fills with
-module _ (w n : ℕ) (defs parts attrs : Bytes) (a : ℕ) (what : Filling) (txt : Bytes) (d : ℕ) where
+module _ (version w n : ℕ) (defs parts attrs : Bytes) (a : ℕ) (what : Filling) (txt : Bytes) (d : ℕ) where
   abbrev rowsFor : Filling → List (Deep FlatRow)
-  rowsFor x = fillingRows (indexForm w n defs parts attrs a) (valueIn w attrs) (λ k e. membersAt parts k e) x txt d
+  rowsFor x = fillingRows (indexForm version w n defs parts attrs a) (valueIn w attrs) (λ k e. membersAt parts k e) x txt d
 
   pub nothing-filled : {c : Cursor} {out : Bytes} → what ≡ Nothing → Written w (rowsFor what) c out c out
   nothing-filled e = written-as (ap (λ (x : Filling). rowsFor x) e) written-none
 
-  pub definition-filled : (i : ℕ) {c r : Cursor} {out out′ : Bytes} → what ≡ Definition i → Written w (definitionRows w defs parts attrs a txt n d i) c out r out′ → Written w (rowsFor what) c out r out′
+  pub definition-filled : (i : ℕ) {c r : Cursor} {out out′ : Bytes} → what ≡ Definition i → Written w (definitionRows version w defs parts attrs a txt n d i) c out r out′ → Written w (rowsFor what) c out r out′
   definition-filled i e p = written-as (ap (λ (x : Filling). rowsFor x) e) (definition-sized w defs parts attrs a txt n d i p)
 
   pub attribute-filled : (j : ℕ) {c r : Cursor} {out out′ : Bytes} → what ≡ Attribute j → Written w (newRow 2 d j txt ∷ []) c out r out′ → Written w (rowsFor what) c out r out′
   attribute-filled j e p = written-as (ap (λ (x : Filling). rowsFor x) e) p
 
-  pub particles-filled : (g : GroupKind) (k e : ℕ) {c r : Cursor} {out out′ : Bytes} → what ≡ Particles g k e → Written w (memberRows w defs parts attrs a txt n d (groupFilled g (membersAt parts k e))) c out r out′ → Written w (rowsFor what) c out r out′
+  pub particles-filled : (g : GroupKind) (k e : ℕ) {c r : Cursor} {out out′ : Bytes} → what ≡ Particles g k e → Written w (memberRows version w defs parts attrs a txt n d (groupFilled g (membersAt parts k e))) c out r out′ → Written w (rowsFor what) c out r out′
   unfolding memberRows definitionRows
   particles-filled g k e q p =
       written-as
       (ap (λ (x : Filling). rowsFor x) q
-      ∙ form-fillings w n 0 a defs parts attrs (valueIn w attrs) (λ i. fillIndex (indexForm w n defs parts attrs a) (valueIn w attrs) n txt d i) (λ i. fillIndex (indexForm w 0 defs parts attrs a) (valueIn w attrs) n txt d i) (λ i. sized w defs parts attrs a txt n n d i)
+      ∙ form-fillings version w n 0 a defs parts attrs (valueIn w attrs) (λ i. fillIndex (indexForm version w n defs parts attrs a) (valueIn w attrs) n txt d i) (λ i. fillIndex (indexForm version w 0 defs parts attrs a) (valueIn w attrs) n txt d i) (λ i. sized w defs parts attrs a txt n n d i)
       (groupFilled g (membersAt parts k e)))
       p
 

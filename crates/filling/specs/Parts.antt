@@ -9,7 +9,8 @@ use Rattle.rules.specs.Bytes.{Bytes}
 use Rattle.rules.specs.Model.{Members, skips, nothing, unless, filling}
 use Rattle.rules.specs.Preorder.{Deep}
 use Rattle.rules.specs.Layout.{FlatRow}
-use Rattle.rules.specs.Decode.{readParticle}
+use Rattle.rules.specs.Decode.{readParticle, sortOf}
+use Rattle.rules.specs.Filling.{createdValue}
 use Rattle.model.specs.declared.What.{What}
 use Rattle.model.specs.declared.What.the-variants.{Element, Group}
 use Rattle.model.specs.Particle.{particleOf}
@@ -38,31 +39,32 @@ unfoldable pub membersAt : Bytes → ℕ → ℕ → Members ℕ
 membersAt parts k e = membersFrom e (drop (4 * k) parts)
 
 -- ---- rows of depth d
+-- the value of a created row of attribute j
 abbrev pub valueIn : ℕ → Bytes → ℕ → Bytes
-valueIn w attrs j = attributeIn w attrs j .value
+valueIn w attrs j = createdValue (sortOf (attributeIn w attrs j .sort)) (attributeIn w attrs j .value)
 
 -- of the attributes those that are REQUIRED of definition i: number j alone, and all below n
-unfoldable pub requiredAt : ℕ → Bytes → ℕ → ℕ → ℕ → List (Deep FlatRow)
-requiredAt w attrs d i j = requiredRows (attributesOf w attrs 0) (valueIn w attrs) d i j 1
+unfoldable pub requiredAt : ℕ → ℕ → Bytes → ℕ → ℕ → ℕ → List (Deep FlatRow)
+requiredAt version w attrs d i j = requiredRows (attributesOf version w attrs 0) (valueIn w attrs) d i j 1
 
-unfoldable pub requiredIn : ℕ → Bytes → ℕ → ℕ → ℕ → List (Deep FlatRow)
-requiredIn w attrs d i n = requiredRows (attributesOf w attrs 0) (valueIn w attrs) d i 0 n
+unfoldable pub requiredIn : ℕ → ℕ → Bytes → ℕ → ℕ → ℕ → List (Deep FlatRow)
+requiredIn version w attrs d i n = requiredRows (attributesOf version w attrs 0) (valueIn w attrs) d i 0 n
 
 -- how many definitions there are is not looked at
-abbrev pub formIn : ℕ → Bytes → Bytes → Bytes → ℕ → IndexForm
-formIn w defs parts attrs a = indexForm w 0 defs parts attrs a
+abbrev pub formIn : ℕ → ℕ → Bytes → Bytes → Bytes → ℕ → IndexForm
+formIn version w defs parts attrs a = indexForm version w 0 defs parts attrs a
 
 -- of definitions of at most height h
-module _ (w : ℕ) (defs parts attrs : Bytes) (a : ℕ) (txt : Bytes) (h d : ℕ) where
+module _ (version w : ℕ) (defs parts attrs : Bytes) (a : ℕ) (txt : Bytes) (h d : ℕ) where
   unfoldable pub definitionRows : ℕ → List (Deep FlatRow)
-  definitionRows i = fillIndex (formIn w defs parts attrs a) (valueIn w attrs) h txt d i
+  definitionRows i = fillIndex (formIn version w defs parts attrs a) (valueIn w attrs) h txt d i
 
   unfoldable pub memberRows : List ℕ → List (Deep FlatRow)
-  memberRows is = fillingsOf (formIn w defs parts attrs a) (valueIn w attrs) (λ i. definitionRows i) is
+  memberRows is = fillingsOf (formIn version w defs parts attrs a) (valueIn w attrs) (λ i. definitionRows i) is
 
   -- what stands below an element of definition i, after its attributes
   unfoldable pub belowRows : ℕ → List (Deep FlatRow)
-  belowRows i = contentRows (formIn w defs parts attrs a) (valueIn w attrs) (λ j. definitionRows j) txt d (membersOf (modelPart defs parts i)) (definitionIn defs i .kind)
+  belowRows i = contentRows (formIn version w defs parts attrs a) (valueIn w attrs) (λ j. definitionRows j) txt d (membersOf (modelPart defs parts i)) (definitionIn defs i .kind)
 
 -- ---- a form as it is lent: definitions, particles, attributes
 abbrev pub lentIn : List (RefT Bytes) → ℕ → Bytes
@@ -77,27 +79,30 @@ partsIn fs = lentIn fs 1
 abbrev pub attrsIn : List (RefT Bytes) → Bytes
 attrsIn fs = lentIn fs 2
 
--- the width of a value and the number of attributes, as they are lent
+-- the width of a value, the number of attributes and the version, as they are lent
 abbrev pub widthIn : List ℕ → ℕ
 widthIn ks = getD ks 0 0
 
 abbrev pub countIn : List ℕ → ℕ
 countIn ks = getD ks 1 0
 
+abbrev pub versionIn : List ℕ → ℕ
+versionIn ks = getD ks 2 0
+
 -- the rows of a definition, of members, of what stands below an element, and of what a change fills with
 module _ (ks : List ℕ) (fs : List (RefT Bytes)) (txt : Bytes) (h d : ℕ) where
   abbrev pub definitionFilled : ℕ → List (Deep FlatRow)
-  definitionFilled i = definitionRows (widthIn ks) (defsIn fs) (partsIn fs) (attrsIn fs) (countIn ks) txt h d i
+  definitionFilled i = definitionRows (versionIn ks) (widthIn ks) (defsIn fs) (partsIn fs) (attrsIn fs) (countIn ks) txt h d i
 
   abbrev pub membersFilled : List ℕ → List (Deep FlatRow)
-  membersFilled is = memberRows (widthIn ks) (defsIn fs) (partsIn fs) (attrsIn fs) (countIn ks) txt h d is
+  membersFilled is = memberRows (versionIn ks) (widthIn ks) (defsIn fs) (partsIn fs) (attrsIn fs) (countIn ks) txt h d is
 
   abbrev pub belowFilled : ℕ → List (Deep FlatRow)
-  belowFilled i = belowRows (widthIn ks) (defsIn fs) (partsIn fs) (attrsIn fs) (countIn ks) txt h d i
+  belowFilled i = belowRows (versionIn ks) (widthIn ks) (defsIn fs) (partsIn fs) (attrsIn fs) (countIn ks) txt h d i
 
   abbrev pub changeFilled : Filling → List (Deep FlatRow)
   changeFilled what =
-      fillingRows (indexForm (widthIn ks) h (defsIn fs) (partsIn fs) (attrsIn fs) (countIn ks)) (valueIn (widthIn ks) (attrsIn fs)) (λ k e. membersAt (partsIn fs) k e) what txt d
+      fillingRows (indexForm (versionIn ks) (widthIn ks) h (defsIn fs) (partsIn fs) (attrsIn fs) (countIn ks)) (valueIn (widthIn ks) (attrsIn fs)) (λ k e. membersAt (partsIn fs) k e) what txt d
 
 -- a cursor as it is lent: where the next row goes, how many may still be written, the next serial
 abbrev pub cursorIn : List ℕ → Cursor

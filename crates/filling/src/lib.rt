@@ -37,7 +37,9 @@ fn created_value(w: usize, attrs: &[u8], j: usize) -> &[u8]
     requires { ⌜ Width w × (j ≤ 64) ⌝ }
     ensures { λ r. ⌜ (now r ≡ valueIn w (now (attrs .entry)) j) × (length (now r) ≤ w) ⌝ }
 {
-    layout::attribute_value(layout::attribute_at(w, attrs, j))
+    let record = layout::attribute_at(w, attrs, j);
+    let sort = layout::attribute_sort(record);
+    records::created_value(sort, layout::attribute_value(record))
 }
 
 // ---- The writers of a filling call each other as deep as definitions and groups are nested. So that their frames on the stack stay
@@ -68,6 +70,7 @@ fn put_row(
 
 // Writes attribute j, if it is one that definition i needs.
 fn put_attribute(
+    version: usize,
     w: usize,
     i: usize,
     j: usize,
@@ -77,15 +80,16 @@ fn put_attribute(
     out: &mut [u8],
 )
     requires { ⌜ Width w × Room w (cursorIn (now c)) × (j < 64) × (depth < 256) ⌝ }
-    ensures { λ _. ⌜ Written w (requiredAt w (now (attrs .entry)) depth i j) (cursorIn (now (c .entry))) (now (out .entry)) (cursorIn (now (c .exit))) (now (out .exit)) ⌝ }
+    ensures { λ _. ⌜ Written w (requiredAt version w (now (attrs .entry)) depth i j) (cursorIn (now (c .entry))) (now (out .entry)) (cursorIn (now (c .exit))) (now (out .exit)) ⌝ }
 {
-    if rowpass::needs(w, attrs, i, j) {
+    if rowpass::needs(version, w, attrs, i, j) {
         put_row(w, 2, depth, j, created_value(w, attrs, j), c, out);
     }
 }
 
 // Writes the REQUIRED attributes of definition i, of a attributes.
 fn put_required(
+    version: usize,
     w: usize,
     i: usize,
     a: usize,
@@ -95,11 +99,11 @@ fn put_required(
     out: &mut [u8],
 )
     requires { ⌜ Width w × Room w (cursorIn (now c)) × (a ≤ 64) × (depth < 256) ⌝ }
-    ensures { λ _. ⌜ Written w (requiredIn w (now (attrs .entry)) depth i a) (cursorIn (now (c .entry))) (now (out .entry)) (cursorIn (now (c .exit))) (now (out .exit)) ⌝ }
+    ensures { λ _. ⌜ Written w (requiredIn version w (now (attrs .entry)) depth i a) (cursorIn (now (c .entry))) (now (out .entry)) (cursorIn (now (c .exit))) (now (out .exit)) ⌝ }
 {
     let mut j = 0;
     while j < a {
-        put_attribute(w, i, j, attrs, depth, c, out);
+        put_attribute(version, w, i, j, attrs, depth, c, out);
         j += 1;
     }
 }
@@ -112,7 +116,7 @@ fn put_group(
     kind: GroupKind,
     form: &[&[u8]; 3],
     text: &&[u8],
-    sizes: &[usize; 2],
+    sizes: &[usize; 3],
     h: usize,
     depth: usize,
     c: &mut [usize; 3],
@@ -152,7 +156,7 @@ fn put_member(
     d: usize,
     form: &[&[u8]; 3],
     text: &&[u8],
-    sizes: &[usize; 2],
+    sizes: &[usize; 3],
     h: usize,
     depth: usize,
     c: &mut [usize; 3],
@@ -184,7 +188,7 @@ fn put_definition(
     i: usize,
     form: &[&[u8]; 3],
     text: &&[u8],
-    sizes: &[usize; 2],
+    sizes: &[usize; 3],
     h: usize,
     depth: usize,
     c: &mut [usize; 3],
@@ -199,7 +203,7 @@ fn put_definition(
     let w = sizes[0];
     let t = *text;
     put_row(w, 1, depth, i, &t[..0], c, out);
-    put_required(w, i, sizes[1], form[2], depth + 1, c, out);
+    put_required(sizes[2], w, i, sizes[1], form[2], depth + 1, c, out);
     put_below(i, form, text, sizes, h - 1, depth + 1, c, out)
 }
 
@@ -208,7 +212,7 @@ fn put_below(
     i: usize,
     form: &[&[u8]; 3],
     text: &&[u8],
-    sizes: &[usize; 2],
+    sizes: &[usize; 3],
     h: usize,
     depth: usize,
     c: &mut [usize; 3],
@@ -246,7 +250,7 @@ fn put_members(
     d: usize,
     form: &[&[u8]; 3],
     text: &&[u8],
-    sizes: &[usize; 2],
+    sizes: &[usize; 3],
     h: usize,
     depth: usize,
     c: &mut [usize; 3],
@@ -268,7 +272,7 @@ fn put_any(
     what: Filling,
     form: &[&[u8]; 3],
     text: &&[u8],
-    sizes: &[usize; 2],
+    sizes: &[usize; 3],
     h: usize,
     depth: usize,
     c: &mut [usize; 3],
@@ -298,6 +302,7 @@ fn put_any(
 
 /// Writes what a change fills with, as rows of depth `depth`: n definitions, a attributes.
 pub fn put_filling<'a>(
+    version: usize,
     w: usize,
     n: usize,
     defs: &'a [u8],
@@ -311,10 +316,10 @@ pub fn put_filling<'a>(
     out: &mut [u8],
 ) -> Cursor
     requires { ⌜ Indexed what × Asks w c (now text) a n depth ⌝ }
-    ensures { λ r. ⌜ Written w (fillingRows (indexForm w n (now (defs .entry)) (now (parts .entry)) (now (attrs .entry)) a) (λ j. attributeIn w (now (attrs .entry)) j .value) (λ k d. membersAt (now (parts .entry)) k d) what (now (text .entry)) depth) c (now (out .entry)) r (now (out .exit)) ⌝ }
+    ensures { λ r. ⌜ Written w (fillingRows (indexForm version w n (now (defs .entry)) (now (parts .entry)) (now (attrs .entry)) a) (λ j. valueIn w (now (attrs .entry)) j) (λ k d. membersAt (now (parts .entry)) k d) what (now (text .entry)) depth) c (now (out .entry)) r (now (out .exit)) ⌝ }
 {
     let form = [defs, parts, attrs];
-    let sizes = [w, a];
+    let sizes = [w, a, version];
     let mut r = [c.at, c.left, c.serial];
     put_any(what, &form, &text, &sizes, n, depth, &mut r, out);
     Cursor {

@@ -6,6 +6,7 @@ use mathlib.Core.Bool.{true}
 use mathlib.Core.List.{[], _∷_}
 use lib.Dec.{leb}
 use lib.ListN.{length}
+use Rattle.rules.specs.Layout.{valueWidth}
 use Rattle.rules.specs.Bytes.{Bytes, ascii}
 use Rattle.rules.specs.Model.{names, nothing, filling, member, full, distinct}
 use Rattle.rules.specs.Automaton.{accepts, continues, facts}
@@ -48,7 +49,7 @@ pub record Accepted : Type 0 where
   pub next-is : numberAt 4 4 (stage 13) ≡ 9
 
 pub accepted : Accepted
-unfolding names nothing filling member full distinct facts continues accepts plug kindAt spine before around afterMembers find _⊕_ edited place placeOf goodDefinition wellFormed strip fitsRow conforming goodSerials good fillAttributes fillEach fillContent fillWithin findRow childrenOf attributeAt formAfter plan prune eachRow plant newRows given number after conditions refusal confirm outcome printed printOutcome step run history stage lastText
+unfolding valueWidth names nothing filling member full distinct facts continues accepts plug kindAt spine before around afterMembers find _⊕_ edited place placeOf goodDefinition wellFormed strip fitsRow conforming goodSerials good fillAttributes fillEach fillContent fillWithin findRow childrenOf attributeAt formAfter plan prune eachRow plant newRows given number after conditions refusal confirm outcome printed printOutcome step run history stage lastText
 accepted =
     record {
       create-race = record { writes = refl; fits = refl };

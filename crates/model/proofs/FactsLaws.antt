@@ -25,7 +25,7 @@ use Rattle.model.specs.Steps.{steps, finishes, runs}
 use Rattle.model.proofs.MembersLaws.{members-few, members-deeper, members-stop, members-here}
 
 -- ---- parts side by side: nothing beside a part, and three parts
-and-true : (a : Bool) → (a && true) ≡ a
+pub and-true : (a : Bool) → (a && true) ≡ a
 and-true true = refl
 and-true false = refl
 
@@ -33,7 +33,7 @@ or-false : (a : Bool) → (a || false) ≡ a
 or-false true = refl
 or-false false = refl
 
-or-never : (a b : Bool) → (a || (b && false)) ≡ a
+pub or-never : (a b : Bool) → (a || (b && false)) ≡ a
 or-never true b = refl
 or-never false true = refl
 or-never false false = refl

@@ -24,6 +24,7 @@ use Rattle.model.specs.Steps.{steps, finishes}
 use Rattle.model.proofs.FactsLaws.{facts-nothing, and-true, or-never}
 use Rattle.nexts.specs.declared.Nexts.{Nexts}
 use Rattle.nexts.specs.Nexts.{Told}
+use Rattle.nexts.specs.Names.{After}
 use Rattle.nexts.specs.Line.{Line, Kept, Filled, Laid}
 
 -- ---- what a word's first can be does not depend on x
@@ -62,17 +63,9 @@ module _ (ms : Members ℕ) (x : ℕ) (r : Nexts) (t : Told r (λ y. facts numbe
   unfolding steps
   first-steps y h = t .first-is y h ∙ alike-facts Sequence ms x y y .first-same
 
-  follow-steps : (y : ℕ) → y < 64 → has (r .follow) y ≡ steps ms (suc x) y
-  unfolding steps
-  follow-steps y h = t .follow-is y h
-
   nothing-finishes : r .nothing ≡ finishes ms 0
   unfolding finishes
   nothing-finishes = t .nothing-is x ∙ facts-nothing numbers Sequence ms x x
-
-  last-finishes : r .last ≡ finishes ms (suc x)
-  unfolding finishes
-  last-finishes = t .last-is x
 
 -- ---- the loop over the last children
 pub record Filling (n : ℕ) (ms : Members ℕ) (t : List ℕ) (at x ends : ℕ) (t′ : List ℕ) : Type 0 where
@@ -106,9 +99,9 @@ ends-more x last old b f eb eo = by (ltb last x) refl (eqb last x) refl
         rw (eo, e, q, le-ltb last (suc x) (omega (arith, ltb-false last x e, z))) (never b)
 
 module _ (n : ℕ) (ms : Members ℕ) (t : List ℕ) (at x ends : ℕ) (t′ : List ℕ) (l : Filling n ms t at x ends t′) (small : n ≤ 64) (room : at + 67 ≤ length t) where
-  pub filling-on : x < n → (r : Nexts) → Told r (λ y. facts numbers Sequence ms x y) → (one more all : ℕ) → one ≡ bit x → more ≡ given (r .last) one → all ≡ union ends more
+  pub filling-on : x < n → (r : Nexts) → After ms x r → (one more all : ℕ) → one ≡ bit x → more ≡ given (r .last) one → all ≡ union ends more
       → Filling n ms t at (x + 1) all (set t′ (at + 1 + x) (r .follow))
-  filling-on h r told one more all e₁ e₂ e₃ =
+  filling-on h r after one more all e₁ e₂ e₃ =
       record {
         low = omega arith;
         long = length-set t′ (at + 1 + x) (r .follow) ∙ l .long;
@@ -118,7 +111,7 @@ module _ (n : ℕ) (ms : Members ℕ) (t : List ℕ) (at x ends : ℕ) (t′ : L
               ends-is =
                   λ last k. ap (λ (s : ℕ). has s last) (e₃ ∙ ap (union ends) (e₂ ∙ ap (given (r .last)) e₁)) ∙ has-union ends (given (r .last) (bit x)) last
                   ∙ ap (λ (b : Bool). has ends last || b) (has-given (r .last) (bit x) last ∙ ap (λ (b : Bool). r .last && b) (has-bit x last k))
-                  ∙ ends-more x last (has ends last) (r .last) (λ i. finishes ms (suc i)) (last-finishes ms x r told) (l .laid .ends-is last k)
+                  ∙ ends-more x last (has ends last) (r .last) (λ i. finishes ms (suc i)) (after .last-is) (l .laid .ends-is last k)
                   ∙ ap (λ (i : ℕ). ltb last i && finishes ms (suc last)) (sym (add-one x));
               rest = record { kept = λ j k. getD-set-other t′ (at + 1 + x) j (r .follow) 0 (λ e. omega arith) ∙ l .laid .rest .kept j k };
             };
@@ -127,7 +120,7 @@ module _ (n : ℕ) (ms : Members ℕ) (t : List ℕ) (at x ends : ℕ) (t′ : L
       by : (last y : ℕ) → last < x + 1 → y < 64 → (b : Bool) → eqb last x ≡ b → has (getD (set t′ (at + 1 + x) (r .follow)) (at + 1 + last) 0) y ≡ steps ms (suc last) y
       by last y k m true e =
           let z : last ≡ x = eqb-true last x e in
-          rw (z, getD-set-same t′ (at + 1 + x) (r .follow) 0 (omega (arith, l .long))) (follow-steps ms x r told y m)
+          rw (z, getD-set-same t′ (at + 1 + x) (r .follow) 0 (omega (arith, l .long))) (after .follow-is y m)
       by last y k m false e =
           let z : last ≡ x → ⊥ = eqb-false last x e in
           ap (λ (s : ℕ). has s y) (getD-set-other t′ (at + 1 + x) (at + 1 + last) (r .follow) 0 (λ q. z (omega arith))) ∙ l .laid .next-is last y (omega (arith, z)) m

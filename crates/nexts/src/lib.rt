@@ -13,6 +13,7 @@ ghost use Rattle.rules.specs.Automaton.{facts};
 ghost use Rattle.model.specs.Particle.{firstFacts};
 ghost use Rattle.model.specs.Members.{membersFrom, membersOf};
 ghost use Rattle.nexts.specs.Nexts.{nextsSingle, nextsEmpty, nextsJoin, nextsQuantify, Told};
+ghost use Rattle.nexts.specs.Names.{FirstName, NamesIn, After};
 ghost use Rattle.nexts.specs.Line.{Laid, Filled};
 
 /// Of a part of a model and a last child x: whether it accepts nothing, what can be a word's first, whether x can be a word's
@@ -160,15 +161,50 @@ pub fn nexts_of(ms: &[u8], x: usize) -> Nexts
     nexts_from(ms, 0, GroupKind::Sequence, x)
 }
 
+// The element that t begins with, where its first particle is one (sort 0).
+fn first_name(t: &[u8]) -> u64
+    ensures { λ r. ⌜ FirstName (now (t .entry)) r ⌝ }
+{
+    if codec::byte(t, 0) != 0 {
+        return 0;
+    }
+    sets::bit(codec::byte(t, 2) as usize)
+}
+
+// The elements that a model names.
+fn names_in(ms: &[u8]) -> u64
+    ensures { λ r. ⌜ NamesIn (now (ms .entry)) r ⌝ }
+{
+    let mut names: u64 = 0;
+    let mut t = ms;
+    while t.len() >= 4 {
+        names = sets::union(names, first_name(t));
+        t = &t[4..];
+    }
+    names
+}
+
+// What may follow x, and whether a child is owed after it; the model need not be read where it does not name x.
+fn after_child(ms: &[u8], names: u64, x: usize) -> Nexts
+    requires { ⌜ (x < 64) × NamesIn (now ms) names ⌝ }
+    ensures { λ r. ⌜ After (membersOf (now (ms .entry))) x r ⌝ }
+{
+    if sets::contains(names, x) {
+        return nexts_of(ms, x);
+    }
+    no_members(GroupKind::Choice)
+}
+
 // Writes at `at + 1 + x` what may follow the child x, for each x below n; gives those after which no child is owed.
 fn fill_after(ms: &[u8], n: usize, at: usize, t: &mut [u64]) -> u64
     requires { ⌜ (n ≤ 64) × (at + 67 ≤ length (now t)) ⌝ }
     ensures { λ r. ⌜ Laid (membersOf (now (ms .entry))) (now (t .entry)) at n r (now (t .exit)) ⌝ }
 {
+    let names = names_in(ms);
     let mut ends: u64 = 0;
     let mut x = 0;
     while x < n {
-        let r = nexts_of(ms, x);
+        let r = after_child(ms, names, x);
         t[at + 1 + x] = r.follow;
         ends = sets::union(ends, sets::given(r.last, sets::bit(x)));
         x += 1;

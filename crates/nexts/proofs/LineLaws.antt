@@ -86,7 +86,7 @@ never true = refl
 never false = refl
 
 -- the set with x in it where b says so
-ends-more : (x last : ℕ) (old b : Bool) (f : ℕ → Bool) → b ≡ f x → old ≡ (ltb last x && f last) → (old || (b && eqb last x)) ≡ (ltb last (suc x) && f last)
+pub ends-more : (x last : ℕ) (old b : Bool) (f : ℕ → Bool) → b ≡ f x → old ≡ (ltb last x && f last) → (old || (b && eqb last x)) ≡ (ltb last (suc x) && f last)
 ends-more x last old b f eb eo = by (ltb last x) refl (eqb last x) refl
   where
     by : (c : Bool) → ltb last x ≡ c → (d : Bool) → eqb last x ≡ d → (old || (b && eqb last x)) ≡ (ltb last (suc x) && f last)

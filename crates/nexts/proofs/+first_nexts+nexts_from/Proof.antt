@@ -1,3 +1,5 @@
+-- `nexts::first_nexts` and `nexts::nexts_from` meet their contracts.
+-- Assumes nothing.
 use Prim.Native.Nat.{_+_, _-_, _*_}
 use native.Mathlib.Omega.{arith}
 use borrow.Author.Needs.{needs}

@@ -1,31 +1,23 @@
+-- `nexts::after_child` meets its contract.
+-- Assumes nothing.
 use borrow.Author.Tests.{not-false}
 use Rattle.nexts.proofs.NamesLaws.{after-named, after-other}
 use borrow.Author.Needs.{needs}
 use Rattle.nexts.proofs.after_child.Statement.{statement}
 use Rattle.nexts.proofs.after_child.Tie as tie
-use Rattle.nexts.proofs.after_child.Reads as reads
-use Rattle.nexts.proofs.after_child.Lts as lts
-use Rattle.nexts.proofs.nexts_of.Reads as nexts-of-reads
-use Rattle.nexts.proofs.no_members.Reads as no-members-reads
-use Rattle.sets.proofs.contains.Reads as contains-reads
 
--- src/lib.rt:192:8
 contains-requires : tie.Need-contains-requires
 contains-requires c κs = search needs
 
--- src/lib.rt:193:9
 nexts-of-requires : tie.Need-nexts-of-requires
 nexts-of-requires c κs = search needs
 
--- src/lib.rt:193:9
 returns : tie.Need-returns
 returns c = after-named _ _ _ (c .nexts-of .ensures)
 
--- src/lib.rt:195:5
 no-members-requires : tie.Need-no-members-requires
 no-members-requires c κs = search needs
 
--- src/lib.rt:188:1
 returns-2 : tie.Need-returns-2
 returns-2 c = after-other _ _ _ _ _ (c .before .before .before .before .pre .1) (c .before .before .before .before .pre .0) (c .before .before .contains .ensures) (c .before .if1 .left) (c .no-members .ensures)
 

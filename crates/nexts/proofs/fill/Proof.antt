@@ -1,3 +1,5 @@
+-- `nexts::fill` meets its contract.
+-- Assumes nothing.
 use Rattle.model.specs.Members.{membersOf}
 use Rattle.nexts.proofs.LineLaws.{line-filled}
 use native.Mathlib.Omega.{arith}
@@ -5,61 +7,43 @@ use lib.ListN.{length-set}
 use borrow.Author.Needs.{needs}
 use Rattle.nexts.proofs.fill.Statement.{statement}
 use Rattle.nexts.proofs.fill.Tie as tie
-use Rattle.nexts.proofs.fill.Reads as reads
-use Rattle.nexts.proofs.fill.Lts as lts
-use Rattle.nexts.proofs.fill_after.Reads as fill-after-reads
-use Rattle.nexts.proofs.nexts_of.Reads as nexts-of-reads
-use Rattle.sets.proofs.given.Reads as given-reads
 
--- src/lib.rt:185:9
 nexts-of-requires : tie.Need-nexts-of-requires
 nexts-of-requires c κs = search needs
 
--- src/lib.rt:186:9
 fill-after-requires : tie.Need-fill-after-requires
 fill-after-requires c κs = search needs
 
--- src/lib.rt:187:5
 mul-t : tie.Need-mul-t
 mul-t c = search needs
 
--- src/lib.rt:187:5
 slice-write-t : tie.Need-slice-write-t
 slice-write-t c = search needs
 
--- src/lib.rt:188:7
 add-t : tie.Need-add-t
 add-t c = search needs
 
--- src/lib.rt:188:5
 mul-t-2 : tie.Need-mul-t-2
 mul-t-2 c = search needs
 
--- src/lib.rt:188:5
 slice-write-t-2 : tie.Need-slice-write-t-2
 slice-write-t-2 c = simp length-set (omega arith)
 
--- src/lib.rt:189:18
 given-requires : tie.Need-given-requires
 given-requires c κs = search needs
 
--- src/lib.rt:189:7
 add-t-2 : tie.Need-add-t-2
 add-t-2 c = search needs
 
--- src/lib.rt:189:5
 mul-t-3 : tie.Need-mul-t-3
 mul-t-3 c = search needs
 
--- src/lib.rt:189:5
 slice-write-t-3 : tie.Need-slice-write-t-3
 slice-write-t-3 c = simp length-set (omega arith)
 
--- src/lib.rt:181:1
 same-length : tie.Need-same-length
 same-length c = search needs
 
--- src/lib.rt:181:1
 returns : tie.Need-returns
 returns c = let a = c .before .before .before .before .before .before .before .before .args in line-filled (a .n) (membersOf (a .ms .now)) (a .t .now) (a .at) _ _ (c .before .before .before .fill-after .ensures) (c .before .before .before .fill-after .kept .1 .1 .1 .0) (c .before .before .before .before .before .before .before .before .pre .0) (c .before .before .before .before .before .before .before .before .pre .1) _ (c .before .before .before .before .before .nexts-of .ensures) _ (c .given .ensures)
 

@@ -136,9 +136,13 @@ module _ (d : ℕ) (k : GroupKind) (x y : ℕ) (s : Bytes) where
     unfolding firstFacts particleOf facts
     facts-here e = rw (members-here d s h e) (by (getD s 0 0))
       where
+        below : ℕ → Facts
+        below sort = facts numbers (kindIn (whatOf sort (getD s 2 0))) (membersFrom (suc d) (drop 4 s)) x y
+
         by : (sort : ℕ)
             → facts numbers k (indexMember (readParticle s .row) sort (membersFrom (suc d) (drop 4 s)) (membersFrom d (drop 4 s))) x y
-            ≡ join k (particleFacts (record { what = whatOf sort (getD s 2 0); quantifier = particleOf (readParticle s) .quantifier }) (facts numbers (kindIn (whatOf sort (getD s 2 0))) (membersFrom (suc d) (drop 4 s)) x y) x y) (facts numbers k (membersFrom d (drop 4 s)) x y)
+            ≡ join k (particleFacts (record { what = whatOf sort (getD s 2 0); quantifier = particleOf (readParticle s) .quantifier }) (below sort) x y)
+            (facts numbers k (membersFrom d (drop 4 s)) x y)
         by zero = refl
         by (suc n) = refl
 

@@ -78,7 +78,12 @@ filling-starts n ms t at =
     record {
       low = omega arith;
       long = refl;
-      laid = record { next-is = λ last y h. absurd (omega arith); ends-is = λ last h. has-none last ∙ sym (ap (λ (b : Bool). b && finishes ms (suc last)) (le-ltb last 0 (omega arith))); rest = record { kept = λ j h. refl } };
+      laid =
+          record {
+            next-is = λ last y h. absurd (omega arith);
+            ends-is = λ last h. has-none last ∙ sym (ap (λ (b : Bool). b && finishes ms (suc last)) (le-ltb last 0 (omega arith)));
+            rest = record { kept = λ j h. refl };
+          };
     }
 
 never : (b : Bool) → (b && false) ≡ false
@@ -168,7 +173,9 @@ module _ (n : ℕ) (ms : Members ℕ) (t : List ℕ) (at ends : ℕ) (t′ : Lis
               next-is = next;
               ends-is =
                   λ x h. ap (λ (s : ℕ). has s x) ends-at ∙ l .ends-is x (omega arith) ∙ ap (λ (b : Bool). b && finishes ms (suc x)) (lt-ltb x n h);
-              nothing-is = ap (λ (s : ℕ). has s 0) (nothing-at ∙ e) ∙ has-given (none .nothing) 1 0 ∙ ap (λ (b : Bool). none .nothing && b) (has-first 1) ∙ and-true (none .nothing) ∙ nothing-finishes ms 0 none told;
+              nothing-is =
+                  ap (λ (s : ℕ). has s 0) (nothing-at ∙ e) ∙ has-given (none .nothing) 1 0
+                  ∙ ap (λ (b : Bool). none .nothing && b) (has-first 1) ∙ and-true (none .nothing) ∙ nothing-finishes ms 0 none told;
             };
         rest = record { kept = λ j h. other j (λ q. omega arith) (λ q. omega arith) (λ q. omega arith) ∙ l .rest .kept j h };
       }

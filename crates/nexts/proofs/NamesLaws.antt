@@ -58,10 +58,13 @@ never-first : (x : ℕ) (s : Bytes) → (getD s 0 0 ≡ 0 → getD s 2 0 ≡ x �
 unfolding firstFacts particleOf
 never-first x s differs rest d y = by (getD s 0 0) refl
   where
+    below : ℕ → Facts
+    below sort = facts numbers (kindIn (whatOf sort (getD s 2 0))) (membersFrom (suc d) (drop 4 s)) x y
+
     by : (sort : ℕ) → getD s 0 0 ≡ sort
-        → Never (particleFacts (record { what = whatOf sort (getD s 2 0); quantifier = particleOf (readParticle s) .quantifier }) (facts numbers (kindIn (whatOf sort (getD s 2 0))) (membersFrom (suc d) (drop 4 s)) x y) x y)
+        → Never (particleFacts (record { what = whatOf sort (getD s 2 0); quantifier = particleOf (readParticle s) .quantifier }) (below sort) x y)
     by zero e = never-quantify (particleOf (readParticle s) .quantifier) (single numbers (getD s 2 0) x y) (record { last-not = ne-eqb x (getD s 2 0) (λ q. differs e (sym q)); follow-not = refl })
-    by (suc n) e = never-quantify (particleOf (readParticle s) .quantifier) (facts numbers (kindIn (whatOf (suc n) (getD s 2 0))) (membersFrom (suc d) (drop 4 s)) x y) (rest (kindIn (whatOf (suc n) (getD s 2 0))) (suc d) y)
+    by (suc n) e = never-quantify (particleOf (readParticle s) .quantifier) (below (suc n)) (rest (kindIn (whatOf (suc n) (getD s 2 0))) (suc d) y)
 
 pub absent-on : (x : ℕ) (s : Bytes) → 4 ≤ length s → (getD s 0 0 ≡ 0 → getD s 2 0 ≡ x → ⊥) → Absent x (drop 4 s) → Absent x s
 absent-on x s h differs rest k d y = by (ltb d (getD s 3 0)) refl (eqb d (getD s 3 0)) refl
@@ -69,7 +72,8 @@ absent-on x s h differs rest k d y = by (ltb d (getD s 3 0)) refl (eqb d (getD s
     by : (b : Bool) → ltb d (getD s 3 0) ≡ b → (c : Bool) → eqb d (getD s 3 0) ≡ c → Never (facts numbers k (membersFrom d s) x y)
     by true e c q = rw (members-deeper d s h (ltb-true d (getD s 3 0) e)) (rest k d y)
     by false e true q =
-        never-as _ _ (facts-here d k x y s h (sym (eqb-true d (getD s 3 0) q))) (never-join k (firstFacts d s x y) (facts numbers k (membersFrom d (drop 4 s)) x y) (never-first x s differs rest d y) (rest k d y))
+        never-as _ _ (facts-here d k x y s h (sym (eqb-true d (getD s 3 0) q)))
+        (never-join k (firstFacts d s x y) (facts numbers k (membersFrom d (drop 4 s)) x y) (never-first x s differs rest d y) (rest k d y))
     by false e false q =
         let z : d ≡ getD s 3 0 → ⊥ = eqb-false d (getD s 3 0) q in
         never-as _ _ (facts-stop d k x y s h (omega (arith, ltb-false d (getD s 3 0) e, z))) (never-empty k)

@@ -81,7 +81,8 @@ told-as r r′ f g e s t =
 module _ (d x : ℕ) (s : Bytes) (p : Particle) (ep : p ≡ particleOf (readParticle s)) where
   pub told-element : (i : ℕ) (here r : Nexts) → p .what ≡ Element i → here ≡ nextsSingle i x → r ≡ nextsQuantify (p .quantifier) here → Told r (λ y. firstFacts d s x y)
   told-element i here r w eh er =
-      told-as (nextsQuantify (p .quantifier) (nextsSingle i x)) r (λ y. quantify (p .quantifier) (single numbers i x y)) (λ y. firstFacts d s x y) (er ∙ ap (nextsQuantify (p .quantifier)) eh) (λ y. first-element d x y s p ep i _ w refl)
+      told-as (nextsQuantify (p .quantifier) (nextsSingle i x)) r (λ y. quantify (p .quantifier) (single numbers i x y)) (λ y. firstFacts d s x y) (er ∙ ap (nextsQuantify (p .quantifier)) eh)
+      (λ y. first-element d x y s p ep i _ w refl)
       (told-quantify (p .quantifier) (nextsSingle i x) (λ y. single numbers i x y) (told-single i x))
 
   pub told-group : (j : GroupKind) (n : ℕ) (below r : Nexts) → p .what ≡ Group j n → Told below (λ y. facts numbers j (membersFrom (d + 1) (take (length s - 4) (drop 4 s))) x y)

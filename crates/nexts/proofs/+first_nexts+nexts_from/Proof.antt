@@ -46,7 +46,8 @@ nexts-from-below t =
     and 1 nexts-from-kinds.ps (falls 1 nexts-from-kinds.ps _<_ μ-nexts-from t) nexts-from.Pre
 
 abbrev first-nexts-calls : ℕ → first-nexts-lts.Claims
-first-nexts-calls t = (read-particle-reads.Asked, read-particle-reads.Learnt, one-element-reads.Asked, one-element-reads.Learnt, quantified-reads.Asked, quantified-reads.Learnt, nexts-from-below t, nexts-from.Post)
+first-nexts-calls t =
+    (read-particle-reads.Asked, read-particle-reads.Learnt, one-element-reads.Asked, one-element-reads.Learnt, quantified-reads.Asked, quantified-reads.Learnt, nexts-from-below t, nexts-from.Post)
 
 abbrev nexts-from-calls : ℕ → nexts-from-lts.Claims
 nexts-from-calls t = (no-members-reads.Asked, no-members-reads.Learnt, byte-reads.Asked, byte-reads.Learnt, first-nexts-below t, first-nexts.Post, joined-reads.Asked, joined-reads.Learnt)
@@ -79,17 +80,26 @@ first-nexts-add-nexts-from : (t : ℕ) → first-nexts-lts.Need-add-nexts-from (
 first-nexts-add-nexts-from t c = search needs
 
 first-nexts-nexts-from-requires : (t : ℕ) → first-nexts-lts.Need-nexts-from-requires (first-nexts-calls t) (first-nexts-at t) first-nexts.Post
-first-nexts-nexts-from-requires t c κs = let t = c .before .before .before .before .before .before .args .t .now in (omega (arith, length-take (length t - 4) (drop 4 t), length-drop 4 t), omega arith)
+first-nexts-nexts-from-requires t c κs =
+    let t = c .before .before .before .before .before .before .args .t .now in
+    (omega (arith, length-take (length t - 4) (drop 4 t), length-drop 4 t), omega arith)
 
 first-nexts-quantified-requires-2 : (t : ℕ) → first-nexts-lts.Need-quantified-requires-2 (first-nexts-calls t) (first-nexts-at t) first-nexts.Post
 first-nexts-quantified-requires-2 t c κs = search needs
 
 first-nexts-returns : (t : ℕ) → first-nexts-lts.Need-returns (first-nexts-calls t) (first-nexts-at t) first-nexts.Post
-first-nexts-returns t c = let a = c .before .before .before .before .before .before .before .args in told-element (a .d) (a .x) (a .t .now) _ (c .before .before .before .before .before .read-particle .ensures) _ _ _ (c .before .before .before .what .given .1) (c .before .one-element .ensures) (c .quantified .ensures)
+first-nexts-returns t c =
+    let a = c .before .before .before .before .before .before .before .args in
+    told-element (a .d) (a .x) (a .t .now) _ (c .before .before .before .before .before .read-particle .ensures) _ _ _ (c .before .before .before .what .given .1)
+    (c .before .one-element .ensures) (c .quantified .ensures)
 
 first-nexts-returns-2 : (t : ℕ) → first-nexts-lts.Need-returns-2 (first-nexts-calls t) (first-nexts-at t) first-nexts.Post
-first-nexts-returns-2 t c = let a = c .before .before .before .before .before .before .before .before .args in told-group (a .d) (a .x) (a .t .now) _ (c .before .before .before .before .before .before .read-particle .ensures) _ _ _ _ (c .before .before .before .before .what2 .given .1) (c .before .nexts-from .ensures) (c .quantified2 .ensures)
+first-nexts-returns-2 t c =
+    let a = c .before .before .before .before .before .before .before .before .args in
+    told-group (a .d) (a .x) (a .t .now) _ (c .before .before .before .before .before .before .read-particle .ensures) _ _ _ _
+    (c .before .before .before .before .what2 .given .1) (c .before .nexts-from .ensures) (c .quantified2 .ensures)
 
+-- f tells the facts of the members before t
 abbrev nexts-from-Inv-loop : nexts-from-lts.InvT-loop
 nexts-from-Inv-loop s d kind x f₀ t₀ f t = Telling kind d x s t f
 
@@ -109,7 +119,10 @@ nexts-from-cast-depth : (t : ℕ) → nexts-from-lts.Need-cast-depth (nexts-from
 nexts-from-cast-depth t c = search needs
 
 nexts-from-returns : (t : ℕ) → nexts-from-lts.Need-returns (nexts-from-calls t) (nexts-from-at t) nexts-from.Post nexts-from-Inv-loop nexts-from-μ-loop
-nexts-from-returns t c = let a = c .before .before .before .before .before .before .args in let at-loop = c .before .before .before in telling-stop (a .kind) (a .d) (a .x) (a .s .now) (at-loop .loop .t .now) _ (at-loop .loop .inv) _ (omega arith) (c .before .byte .ensures) (omega arith)
+nexts-from-returns t c =
+    let a = c .before .before .before .before .before .before .args in
+    let at-loop = c .before .before .before in
+    telling-stop (a .kind) (a .d) (a .x) (a .s .now) (at-loop .loop .t .now) _ (at-loop .loop .inv) _ (omega arith) (c .before .byte .ensures) (omega arith)
 
 nexts-from-sub-t : (t : ℕ) → nexts-from-lts.Need-sub-t (nexts-from-calls t) (nexts-from-at t) nexts-from.Post nexts-from-Inv-loop nexts-from-μ-loop
 nexts-from-sub-t t c = search needs
@@ -124,7 +137,11 @@ nexts-from-loop-less : (t : ℕ) → nexts-from-lts.Need-loop-less (nexts-from-c
 nexts-from-loop-less t c = let t = c .before .before .before .before .before .loop .t .now in omega (arith, length-take (length t - 4) (drop 4 t), length-drop 4 t)
 
 nexts-from-loop-again : (t : ℕ) → nexts-from-lts.Need-loop-again (nexts-from-calls t) (nexts-from-at t) nexts-from.Post nexts-from-Inv-loop nexts-from-μ-loop
-nexts-from-loop-again t c = let a = c .before .before .before .before .before .before .before .before .args in let at-loop = c .before .before .before .before .before in telling-deeper (a .kind) (a .d) (a .x) (a .s .now) (at-loop .loop .t .now) _ (at-loop .loop .inv) _ (omega arith) (c .before .before .before .byte .ensures) (omega arith)
+nexts-from-loop-again t c =
+    let a = c .before .before .before .before .before .before .before .before .args in
+    let at-loop = c .before .before .before .before .before in
+    telling-deeper (a .kind) (a .d) (a .x) (a .s .now) (at-loop .loop .t .now) _ (at-loop .loop .inv) _ (omega arith) (c .before .before .before .byte .ensures)
+    (omega arith)
 
 nexts-from-first-nexts-requires : (t : ℕ) → nexts-from-lts.Need-first-nexts-requires (nexts-from-calls t) (nexts-from-at t) nexts-from.Post nexts-from-Inv-loop nexts-from-μ-loop
 nexts-from-first-nexts-requires t c κs = (omega (arith, c .before .before .before .before .loop .inv .short), (omega arith, omega arith))
@@ -145,7 +162,11 @@ nexts-from-loop-less-2 : (t : ℕ) → nexts-from-lts.Need-loop-less-2 (nexts-fr
 nexts-from-loop-less-2 t c = let t = c .before .before .before .before .before .before .before .loop .t .now in omega (arith, length-take (length t - 4) (drop 4 t), length-drop 4 t)
 
 nexts-from-loop-again-2 : (t : ℕ) → nexts-from-lts.Need-loop-again-2 (nexts-from-calls t) (nexts-from-at t) nexts-from.Post nexts-from-Inv-loop nexts-from-μ-loop
-nexts-from-loop-again-2 t c = let a = c .before .before .before .before .before .before .before .before .before .before .args in let at-loop = c .before .before .before .before .before .before .before in telling-on (a .kind) (a .d) (a .x) (a .s .now) (at-loop .loop .t .now) _ (at-loop .loop .inv) _ (omega arith) (c .before .before .before .before .before .byte .ensures) (omega arith) (omega arith) _ _ (c .before .before .first-nexts .ensures) (c .before .joined .ensures)
+nexts-from-loop-again-2 t c =
+    let a = c .before .before .before .before .before .before .before .before .before .before .args in
+    let at-loop = c .before .before .before .before .before .before .before in
+    telling-on (a .kind) (a .d) (a .x) (a .s .now) (at-loop .loop .t .now) _ (at-loop .loop .inv) _ (omega arith)
+    (c .before .before .before .before .before .byte .ensures) (omega arith) (omega arith) _ _ (c .before .before .first-nexts .ensures) (c .before .joined .ensures)
 
 nexts-from-returns-2 : (t : ℕ) → nexts-from-lts.Need-returns-2 (nexts-from-calls t) (nexts-from-at t) nexts-from.Post nexts-from-Inv-loop nexts-from-μ-loop
 nexts-from-returns-2 t c = let a = c .before .before .before .before .args in telling-few (a .kind) (a .d) (a .x) (a .s .now) _ _ (c .before .loop .inv) (omega arith)

@@ -19,7 +19,9 @@ no-members-requires : tie.Need-no-members-requires
 no-members-requires c κs = search needs
 
 returns-2 : tie.Need-returns-2
-returns-2 c = after-other _ _ _ _ _ (c .before .before .before .before .pre .1) (c .before .before .before .before .pre .0) (c .before .before .contains .ensures) (c .before .if1 .left) (c .no-members .ensures)
+returns-2 c =
+    after-other _ _ _ _ _ (c .before .before .before .before .pre .1) (c .before .before .before .before .pre .0) (c .before .before .contains .ensures)
+    (c .before .if1 .left) (c .no-members .ensures)
 
 pub after-child-spec : {M : Type 1} → statement M
 after-child-spec =

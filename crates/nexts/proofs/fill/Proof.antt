@@ -45,7 +45,11 @@ same-length : tie.Need-same-length
 same-length c = search needs
 
 returns : tie.Need-returns
-returns c = let a = c .before .before .before .before .before .before .before .before .args in line-filled (a .n) (membersOf (a .ms .now)) (a .t .now) (a .at) _ _ (c .before .before .before .fill-after .ensures) (c .before .before .before .fill-after .kept .1 .1 .1 .0) (c .before .before .before .before .before .before .before .before .pre .0) (c .before .before .before .before .before .before .before .before .pre .1) _ (c .before .before .before .before .before .nexts-of .ensures) _ (c .given .ensures)
+returns c =
+    let a = c .before .before .before .before .before .before .before .before .args in
+    line-filled (a .n) (membersOf (a .ms .now)) (a .t .now) (a .at) _ _ (c .before .before .before .fill-after .ensures)
+    (c .before .before .before .fill-after .kept .1 .1 .1 .0) (c .before .before .before .before .before .before .before .before .pre .0)
+    (c .before .before .before .before .before .before .before .before .pre .1) _ (c .before .before .before .before .before .nexts-of .ensures) _ (c .given .ensures)
 
 pub fill-spec : {M : Type 1} → statement M
 fill-spec =

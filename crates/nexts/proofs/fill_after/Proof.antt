@@ -55,14 +55,19 @@ loop-again : tie.Need-loop-again Inv-loop μ-loop
 loop-again c =
     let a = c .before .before .before .before .before .before .before .before .before .args in
     let at-loop = c .before .before .before .before .before in
-    filling-on (a .n) (membersOf (a .ms .now)) (a .t .now) (a .at) _ _ _ (at-loop .loop .inv) (c .before .before .before .before .before .before .before .before .before .pre .0) (c .before .before .before .before .before .before .before .before .before .pre .1) (omega arith) _ (c .before .before .before .after-child .ensures) _ _ _
+    filling-on (a .n) (membersOf (a .ms .now)) (a .t .now) (a .at) _ _ _ (at-loop .loop .inv)
+    (c .before .before .before .before .before .before .before .before .before .pre .0)
+    (c .before .before .before .before .before .before .before .before .before .pre .1) (omega arith) _ (c .before .before .before .after-child .ensures) _ _ _
     (c .before .before .bit .ensures) (c .before .given .ensures) (c .union .ensures)
 
 same-length : tie.Need-same-length Inv-loop μ-loop
 same-length c = c .before .loop .inv .long
 
 returns : tie.Need-returns Inv-loop μ-loop
-returns c = let a = c .before .before .before .before .before .args in filling-ends (a .n) (membersOf (a .ms .now)) (a .t .now) (a .at) _ _ _ (c .before .loop .inv) (c .before .before .before .before .before .pre .0) (c .before .before .before .before .before .pre .1) (omega arith)
+returns c =
+    let a = c .before .before .before .before .before .args in
+    filling-ends (a .n) (membersOf (a .ms .now)) (a .t .now) (a .at) _ _ _ (c .before .loop .inv) (c .before .before .before .before .before .pre .0)
+    (c .before .before .before .before .before .pre .1) (omega arith)
 
 pub fill-after-spec : {M : Type 1} → statement M
 fill-after-spec =

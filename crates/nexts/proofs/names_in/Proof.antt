@@ -8,6 +8,7 @@ use Rattle.nexts.proofs.NamesLaws.{Naming, naming-starts, naming-on, na
 use Rattle.nexts.proofs.names_in.Statement.{statement}
 use Rattle.nexts.proofs.names_in.Tie as tie
 
+-- what is neither in the set nor in the particles from t on is not in the model
 abbrev Inv-loop : tie.InvT-loop
 Inv-loop ms names₀ t₀ names t = Naming ms t names
 

@@ -45,6 +45,7 @@ abbrev first-facts-below : ℕ → In 1 first-facts-kinds.ps
 first-facts-below t =
     and 1 first-facts-kinds.ps (falls 1 first-facts-kinds.ps _<_ μ-first-facts t) first-facts.Pre
 
+-- f are the facts of the members before t
 abbrev facts-from-Inv-loop : facts-from-lts.InvT-loop
 facts-from-Inv-loop s d kind x y f₀ t₀ f t = Joining kind d x y s t f
 
@@ -55,7 +56,8 @@ abbrev facts-from-calls : ℕ → facts-from-lts.Claims
 facts-from-calls t = (no-members-reads.Asked, no-members-reads.Learnt, byte-reads.Asked, byte-reads.Learnt, first-facts-below t, first-facts.Post, joined-reads.Asked, joined-reads.Learnt)
 
 abbrev first-facts-calls : ℕ → first-facts-lts.Claims
-first-facts-calls t = (read-particle-reads.Asked, read-particle-reads.Learnt, one-element-reads.Asked, one-element-reads.Learnt, quantified-reads.Asked, quantified-reads.Learnt, facts-from-below t, facts-from.Post)
+first-facts-calls t =
+    (read-particle-reads.Asked, read-particle-reads.Learnt, one-element-reads.Asked, one-element-reads.Learnt, quantified-reads.Asked, quantified-reads.Learnt, facts-from-below t, facts-from.Post)
 
 facts-from-no-members-requires : (t : ℕ) → facts-from-lts.Need-no-members-requires (facts-from-calls t) (facts-from-at t) facts-from.Post facts-from-Inv-loop facts-from-μ-loop
 facts-from-no-members-requires t c κs = search needs
@@ -70,7 +72,10 @@ facts-from-cast-depth : (t : ℕ) → facts-from-lts.Need-cast-depth (facts-from
 facts-from-cast-depth t c = search needs
 
 facts-from-returns : (t : ℕ) → facts-from-lts.Need-returns (facts-from-calls t) (facts-from-at t) facts-from.Post facts-from-Inv-loop facts-from-μ-loop
-facts-from-returns t c = let a = c .before .before .before .before .before .before .args in let at-loop = c .before .before .before in joining-stop (a .kind) (a .d) (a .x) (a .y) (a .s .now) (at-loop .loop .t .now) _ (at-loop .loop .inv) _ (omega arith) (c .before .byte .ensures) (omega arith)
+facts-from-returns t c =
+    let a = c .before .before .before .before .before .before .args in
+    let at-loop = c .before .before .before in
+    joining-stop (a .kind) (a .d) (a .x) (a .y) (a .s .now) (at-loop .loop .t .now) _ (at-loop .loop .inv) _ (omega arith) (c .before .byte .ensures) (omega arith)
 
 facts-from-sub-t : (t : ℕ) → facts-from-lts.Need-sub-t (facts-from-calls t) (facts-from-at t) facts-from.Post facts-from-Inv-loop facts-from-μ-loop
 facts-from-sub-t t c = search needs
@@ -85,7 +90,11 @@ facts-from-loop-less : (t : ℕ) → facts-from-lts.Need-loop-less (facts-from-c
 facts-from-loop-less t c = let t = c .before .before .before .before .before .loop .t .now in omega (arith, length-take (length t - 4) (drop 4 t), length-drop 4 t)
 
 facts-from-loop-again : (t : ℕ) → facts-from-lts.Need-loop-again (facts-from-calls t) (facts-from-at t) facts-from.Post facts-from-Inv-loop facts-from-μ-loop
-facts-from-loop-again t c = let a = c .before .before .before .before .before .before .before .before .args in let at-loop = c .before .before .before .before .before in joining-deeper (a .kind) (a .d) (a .x) (a .y) (a .s .now) (at-loop .loop .t .now) _ (at-loop .loop .inv) _ (omega arith) (c .before .before .before .byte .ensures) (omega arith)
+facts-from-loop-again t c =
+    let a = c .before .before .before .before .before .before .before .before .args in
+    let at-loop = c .before .before .before .before .before in
+    joining-deeper (a .kind) (a .d) (a .x) (a .y) (a .s .now) (at-loop .loop .t .now) _ (at-loop .loop .inv) _ (omega arith) (c .before .before .before .byte .ensures)
+    (omega arith)
 
 facts-from-first-facts-requires : (t : ℕ) → facts-from-lts.Need-first-facts-requires (facts-from-calls t) (facts-from-at t) facts-from.Post facts-from-Inv-loop facts-from-μ-loop
 facts-from-first-facts-requires t c κs = (omega (arith, c .before .before .before .before .loop .inv .short), (omega arith, omega arith))
@@ -106,7 +115,11 @@ facts-from-loop-less-2 : (t : ℕ) → facts-from-lts.Need-loop-less-2 (facts-fr
 facts-from-loop-less-2 t c = let t = c .before .before .before .before .before .before .before .loop .t .now in omega (arith, length-take (length t - 4) (drop 4 t), length-drop 4 t)
 
 facts-from-loop-again-2 : (t : ℕ) → facts-from-lts.Need-loop-again-2 (facts-from-calls t) (facts-from-at t) facts-from.Post facts-from-Inv-loop facts-from-μ-loop
-facts-from-loop-again-2 t c = let a = c .before .before .before .before .before .before .before .before .before .before .args in let at-loop = c .before .before .before .before .before .before .before in joining-on (a .kind) (a .d) (a .x) (a .y) (a .s .now) (at-loop .loop .t .now) _ (at-loop .loop .inv) _ (omega arith) (c .before .before .before .before .before .byte .ensures) (omega arith) (omega arith) _ _ (c .before .before .first-facts .ensures) (c .before .joined .ensures)
+facts-from-loop-again-2 t c =
+    let a = c .before .before .before .before .before .before .before .before .before .before .args in
+    let at-loop = c .before .before .before .before .before .before .before in
+    joining-on (a .kind) (a .d) (a .x) (a .y) (a .s .now) (at-loop .loop .t .now) _ (at-loop .loop .inv) _ (omega arith)
+    (c .before .before .before .before .before .byte .ensures) (omega arith) (omega arith) _ _ (c .before .before .first-facts .ensures) (c .before .joined .ensures)
 
 facts-from-returns-2 : (t : ℕ) → facts-from-lts.Need-returns-2 (facts-from-calls t) (facts-from-at t) facts-from.Post facts-from-Inv-loop facts-from-μ-loop
 facts-from-returns-2 t c = let a = c .before .before .before .before .args in joining-few (a .kind) (a .d) (a .x) (a .y) (a .s .now) _ _ (c .before .loop .inv) (omega arith)
@@ -139,16 +152,24 @@ first-facts-add-facts-from : (t : ℕ) → first-facts-lts.Need-add-facts-from (
 first-facts-add-facts-from t c = search needs
 
 first-facts-facts-from-requires : (t : ℕ) → first-facts-lts.Need-facts-from-requires (first-facts-calls t) (first-facts-at t) first-facts.Post
-first-facts-facts-from-requires t c κs = let t = c .before .before .before .before .before .before .args .t .now in (omega (arith, length-take (length t - 4) (drop 4 t), length-drop 4 t), omega arith)
+first-facts-facts-from-requires t c κs =
+    let t = c .before .before .before .before .before .before .args .t .now in
+    (omega (arith, length-take (length t - 4) (drop 4 t), length-drop 4 t), omega arith)
 
 first-facts-quantified-requires-2 : (t : ℕ) → first-facts-lts.Need-quantified-requires-2 (first-facts-calls t) (first-facts-at t) first-facts.Post
 first-facts-quantified-requires-2 t c κs = search needs
 
 first-facts-returns : (t : ℕ) → first-facts-lts.Need-returns (first-facts-calls t) (first-facts-at t) first-facts.Post
-first-facts-returns t c = let a = c .before .before .before .before .before .before .before .args in first-element (a .d) (a .x) (a .y) (a .t .now) _ (c .before .before .before .before .before .read-particle .ensures) _ _ (c .before .before .before .what .given .1) (rw (← (c .before .one-element .ensures)) (c .quantified .ensures))
+first-facts-returns t c =
+    let a = c .before .before .before .before .before .before .before .args in
+    first-element (a .d) (a .x) (a .y) (a .t .now) _ (c .before .before .before .before .before .read-particle .ensures) _ _ (c .before .before .before .what .given .1)
+    (rw (← (c .before .one-element .ensures)) (c .quantified .ensures))
 
 first-facts-returns-2 : (t : ℕ) → first-facts-lts.Need-returns-2 (first-facts-calls t) (first-facts-at t) first-facts.Post
-first-facts-returns-2 t c = let a = c .before .before .before .before .before .before .before .before .args in first-group (a .d) (a .x) (a .y) (a .t .now) _ (c .before .before .before .before .before .before .read-particle .ensures) _ _ _ _ (c .before .before .before .before .what2 .given .1) (c .before .facts-from .ensures) (c .quantified2 .ensures)
+first-facts-returns-2 t c =
+    let a = c .before .before .before .before .before .before .before .before .args in
+    first-group (a .d) (a .x) (a .y) (a .t .now) _ (c .before .before .before .before .before .before .read-particle .ensures) _ _ _ _
+    (c .before .before .before .before .what2 .given .1) (c .before .facts-from .ensures) (c .quantified2 .ensures)
 
 pub +facts-from+first-facts-spec : {M : Type 1} → statement M
 +facts-from+first-facts-spec = close μ-facts-from μ-first-facts (λ t. facts-from-lts.spec (facts-from-calls t)

@@ -1,12 +1,12 @@
 -- The facts of a part of the particle body, one particle on; and what the automaton's steps come to.
 -- Assumes nothing.
-use mathlib.Core.Path.{_≡_, refl, ap, ap₂, _∙_}
-use mathlib.Core.Bool.{Bool, _&&_, _||_}
+use mathlib.Core.Path.{_≡_, refl, sym, ap, ap₂, _∙_}
+use mathlib.Core.Bool.{Bool, true, false, _&&_, _||_}
 use mathlib.Core.List.{List, [], _∷_}
 use Prim.Native.Nat.{ℕ, zero, suc, _+_, _-_, _<_, _≤_}
 use native.Mathlib.Omega.{arith}
 use native.Mathlib.Numerals.{add-one}
-use lib.ListN.{length, take, drop, getD}
+use lib.ListN.{length, take, drop, getD, length-take, length-drop}
 use Rattle.rules.specs.declared.Facts.{Facts}
 use Rattle.rules.specs.declared.Quantifier.{Quantifier}
 use Rattle.rules.specs.declared.Quantifier.the-variants.{None, Qmark, Star, Plus}
@@ -17,40 +17,166 @@ use Rattle.rules.specs.Model.{Members, done, el, group, Equality, skips, both, 
 use Rattle.rules.specs.Decode.{readParticle}
 use Rattle.rules.specs.Automaton.{single, empty, join, quantify, facts, continues, accepts}
 use Rattle.codec.proofs.Writers.{tail-seen}
+use Rattle.model.specs.declared.What.the-variants.{Element, Group}
 use Rattle.model.specs.declared.Particle.{Particle}
-use Rattle.model.specs.Particle.{whatOf, particleOf, kindIn, particleFacts}
+use Rattle.model.specs.Particle.{whatOf, particleOf, kindIn, particleFacts, firstFacts}
 use Rattle.model.specs.Members.{indexMember, membersFrom}
 use Rattle.model.specs.Steps.{steps, finishes, runs}
 use Rattle.model.proofs.MembersLaws.{members-few, members-deeper, members-stop, members-here}
 
+-- ---- parts side by side: nothing beside a part, and three parts
+pub and-true : (a : Bool) → (a && true) ≡ a
+and-true true = refl
+and-true false = refl
+
+or-false : (a : Bool) → (a || false) ≡ a
+or-false true = refl
+or-false false = refl
+
+pub or-never : (a b : Bool) → (a || (b && false)) ≡ a
+or-never true b = refl
+or-never false true = refl
+or-never false false = refl
+
+and-assoc : (a b c : Bool) → ((a && b) && c) ≡ (a && (b && c))
+and-assoc true b c = refl
+and-assoc false b c = refl
+
+or-assoc : (a b c : Bool) → ((a || b) || c) ≡ (a || (b || c))
+or-assoc true b c = refl
+or-assoc false b c = refl
+
+first-assoc : (na nb a b c : Bool) → ((a || (na && b)) || ((na && nb) && c)) ≡ (a || (na && (b || (nb && c))))
+first-assoc na nb true b c = refl
+first-assoc true nb false b c = refl
+first-assoc false nb false b c = refl
+
+last-assoc : (nb nc a b c : Bool) → (c || (nc && (b || (nb && a)))) ≡ ((c || (nc && b)) || ((nb && nc) && a))
+last-assoc nb nc a b true = refl
+last-assoc true true a b false = refl
+last-assoc false true a b false = refl
+last-assoc true false a b false = refl
+last-assoc false false a b false = refl
+
+follow-assoc : (fa fb fc la lb nb b c : Bool)
+    → ((((fa || fb) || (la && b)) || fc) || ((lb || (nb && la)) && c)) ≡ ((fa || ((fb || fc) || (lb && c))) || (la && (b || (nb && c))))
+follow-assoc true fb fc la lb nb b c = refl
+follow-assoc false true fc la lb nb b c = refl
+follow-assoc false false true false lb nb b c = refl
+follow-assoc false false true true lb nb true c = refl
+follow-assoc false false true true lb nb false c = refl
+follow-assoc false false false false true nb b c = sym (or-false c)
+follow-assoc false false false false false true b c = refl
+follow-assoc false false false false false false b c = refl
+follow-assoc false false false true true nb true true = refl
+follow-assoc false false false true true nb true false = refl
+follow-assoc false false false true false nb true c = refl
+follow-assoc false false false true true nb false true = refl
+follow-assoc false false false true true nb false false = by nb
+  where
+    by : (nb : Bool) → false ≡ (nb && false)
+    by true = refl
+    by false = refl
+follow-assoc false false false true false nb false c = ap (λ (b : Bool). b && c) (and-true nb)
+
+pub join-left : (k : GroupKind) (f : Facts) → join k (empty k) f ≡ f
+join-left Sequence f = λ i. record { nothing = f .nothing; first = f .first; last = or-never (f .last) (f .nothing) i; follow = or-false (f .follow) i }
+join-left Choice f = refl
+
+pub join-right : (k : GroupKind) (f : Facts) → join k f (empty k) ≡ f
+join-right Sequence f =
+    λ i. record {
+      nothing = and-true (f .nothing) i;
+      first = or-never (f .first) (f .nothing) i;
+      last = f .last;
+      follow = (or-never (f .follow || false) (f .last) ∙ or-false (f .follow)) i;
+    }
+join-right Choice f = λ i. record { nothing = or-false (f .nothing) i; first = or-false (f .first) i; last = or-false (f .last) i; follow = or-false (f .follow) i }
+
+pub join-assoc : (k : GroupKind) (f g h : Facts) → join k (join k f g) h ≡ join k f (join k g h)
+join-assoc Sequence f g h =
+    λ i. record {
+      nothing = and-assoc (f .nothing) (g .nothing) (h .nothing) i;
+      first = first-assoc (f .nothing) (g .nothing) (f .first) (g .first) (h .first) i;
+      last = last-assoc (g .nothing) (h .nothing) (f .last) (g .last) (h .last) i;
+      follow = follow-assoc (f .follow) (g .follow) (h .follow) (f .last) (g .last) (g .nothing) (g .first) (h .first) i;
+    }
+join-assoc Choice f g h =
+    λ i. record {
+      nothing = or-assoc (f .nothing) (g .nothing) (h .nothing) i;
+      first = or-assoc (f .first) (g .first) (h .first) i;
+      last = or-assoc (f .last) (g .last) (h .last) i;
+      follow = or-assoc (f .follow) (g .follow) (h .follow) i;
+    }
+
+-- ---- one particle
+module _ (d x y : ℕ) (s : Bytes) (p : Particle) (ep : p ≡ particleOf (readParticle s)) where
+  pub first-element : (i : ℕ) (r : Facts) → p .what ≡ Element i → r ≡ quantify (p .quantifier) (single numbers i x y) → r ≡ firstFacts d s x y
+  unfolding firstFacts
+  first-element i r w e = rw (← ep, w) e
+
+  pub first-group : (j : GroupKind) (n : ℕ) (below r : Facts) → p .what ≡ Group j n → below ≡ facts numbers j (membersFrom (d + 1) (take (length s - 4) (drop 4 s))) x y
+      → r ≡ quantify (p .quantifier) below → r ≡ firstFacts d s x y
+  unfolding firstFacts
+  first-group j n below r w eb e =
+      let u : below ≡ facts numbers j (membersFrom (suc d) (drop 4 s)) x y = eb ∙ rw (tail-seen s 4, add-one d) in
+      rw (← ep, w, ← u) e
+
 module _ (d : ℕ) (k : GroupKind) (x y : ℕ) (s : Bytes) where
-  pub facts-few : (r : Facts) → length s < 4 → r ≡ empty k → r ≡ facts numbers k (membersFrom d s) x y
+  pub facts-few : length s < 4 → facts numbers k (membersFrom d s) x y ≡ empty k
   unfolding facts
-  facts-few r h e = rw (members-few d s h) e
+  facts-few h = rw (members-few d s h)
 
-  module _ (e : ℕ) (h : 4 ≤ length s) (g : e ≡ getD s 3 0) where
-    pub facts-deeper : (r : Facts) → d < e → r ≡ facts numbers k (membersFrom d (take (length s - 4) (drop 4 s))) x y → r ≡ facts numbers k (membersFrom d s) x y
-    facts-deeper r l f = f ∙ rw (tail-seen s 4, members-deeper d s h (omega arith))
-
-    pub facts-stop : (r : Facts) → e < d → r ≡ empty k → r ≡ facts numbers k (membersFrom d s) x y
+  module _ (h : 4 ≤ length s) where
+    pub facts-stop : getD s 3 0 < d → facts numbers k (membersFrom d s) x y ≡ empty k
     unfolding facts
-    facts-stop r l f = rw (members-stop d s h (omega arith)) f
+    facts-stop l = rw (members-stop d s h l)
 
-    -- p is the first particle, at depth d; below, here and rest are the facts of its members, of it, and of the members after it
-    pub facts-here : (p : Particle) (inside : GroupKind) (below here rest r : Facts) → e ≤ d → d ≤ e → p ≡ particleOf (readParticle s) → inside ≡ kindIn (p .what)
-        → below ≡ facts numbers inside (membersFrom (d + 1) (take (length s - 4) (drop 4 s))) x y → here ≡ particleFacts p below x y
-        → rest ≡ facts numbers k (membersFrom d (take (length s - 4) (drop 4 s))) x y → r ≡ join k here rest → r ≡ facts numbers k (membersFrom d s) x y
-    unfolding particleOf facts
-    facts-here p inside below here rest r l m ep ek eb eh et er =
-        let u : here ≡ particleFacts (particleOf (readParticle s)) (facts numbers (kindIn (particleOf (readParticle s) .what)) (membersFrom (suc d) (drop 4 s)) x y) x y = eh ∙ rw (eb, ek, ep, tail-seen s 4, add-one d) in
-        let v : rest ≡ facts numbers k (membersFrom d (drop 4 s)) x y = et ∙ rw (tail-seen s 4) in
-        er ∙ rw (u, v, members-here d s h (omega arith)) (by (getD s 0 0))
+    pub facts-here : getD s 3 0 ≡ d → facts numbers k (membersFrom d s) x y ≡ join k (firstFacts d s x y) (facts numbers k (membersFrom d (drop 4 s)) x y)
+    unfolding firstFacts particleOf facts
+    facts-here e = rw (members-here d s h e) (by (getD s 0 0))
       where
+        below : ℕ → Facts
+        below sort = facts numbers (kindIn (whatOf sort (getD s 2 0))) (membersFrom (suc d) (drop 4 s)) x y
+
         by : (sort : ℕ)
-            → join k (particleFacts (record { what = whatOf sort (getD s 2 0); quantifier = particleOf (readParticle s) .quantifier }) (facts numbers (kindIn (whatOf sort (getD s 2 0))) (membersFrom (suc d) (drop 4 s)) x y) x y) (facts numbers k (membersFrom d (drop 4 s)) x y)
-            ≡ facts numbers k (indexMember (readParticle s .row) sort (membersFrom (suc d) (drop 4 s)) (membersFrom d (drop 4 s))) x y
+            → facts numbers k (indexMember (readParticle s .row) sort (membersFrom (suc d) (drop 4 s)) (membersFrom d (drop 4 s))) x y
+            ≡ join k (particleFacts (record { what = whatOf sort (getD s 2 0); quantifier = particleOf (readParticle s) .quantifier }) (below sort) x y)
+            (facts numbers k (membersFrom d (drop 4 s)) x y)
         by zero = refl
         by (suc n) = refl
+
+-- ---- the loop over members beside one another: f are the facts of those before t, so that with those from t on they are the whole's
+pub record Joining (k : GroupKind) (d x y : ℕ) (s t : Bytes) (f : Facts) : Type 0 where
+  pub short : length t ≤ length s
+  pub is : join k f (facts numbers k (membersFrom d t) x y) ≡ facts numbers k (membersFrom d s) x y
+
+module _ (k : GroupKind) (d x y : ℕ) (s : Bytes) where
+  pub joining-starts : (f : Facts) → f ≡ empty k → Joining k d x y s s f
+  joining-starts f e = record { short = omega arith; is = rw e (join-left k (facts numbers k (membersFrom d s) x y)) }
+
+  module _ (t : Bytes) (f : Facts) (j : Joining k d x y s t f) where
+    pub joining-few : length t < 4 → f ≡ facts numbers k (membersFrom d s) x y
+    joining-few h = sym (join-right k f) ∙ sym (ap (join k f) (facts-few d k x y t h)) ∙ j .is
+
+    shorter : length (take (length t - 4) (drop 4 t)) ≤ length s
+    shorter = omega (arith, j .short, length-take (length t - 4) (drop 4 t), length-drop 4 t)
+
+    module _ (e : ℕ) (h : 4 ≤ length t) (g : e ≡ getD t 3 0) where
+      pub joining-stop : e < d → f ≡ facts numbers k (membersFrom d s) x y
+      joining-stop l = sym (join-right k f) ∙ sym (ap (join k f) (facts-stop d k x y t h (omega arith))) ∙ j .is
+
+      pub joining-deeper : d < e → Joining k d x y s (take (length t - 4) (drop 4 t)) f
+      joining-deeper l = record { short = shorter; is = rw (tail-seen t 4, ← members-deeper d t h (omega arith)) (j .is) }
+
+      pub joining-on : e ≤ d → d ≤ e → (here r : Facts) → here ≡ firstFacts d t x y → r ≡ join k f here → Joining k d x y s (take (length t - 4) (drop 4 t)) r
+      joining-on l m here r eh er =
+          record {
+            short = shorter;
+            is =
+                rw (tail-seen t 4, er, eh) (join-assoc k f (firstFacts d t x y) (facts numbers k (membersFrom d (drop 4 t)) x y))
+                ∙ sym (ap (join k f) (facts-here d k x y t h (omega arith))) ∙ j .is;
+          }
 
 -- ---- the automaton's steps
 pub facts-nothing : {A : Type 0} (E : Equality A) (k : GroupKind) (ms : Members A) (x y : A) → facts E k ms x y .nothing ≡ nothing k ms

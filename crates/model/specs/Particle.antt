@@ -1,17 +1,19 @@
 -- A particle as the code has it, of what its four bytes hold.
 -- Assumes nothing.
 use Prim.Native.Nat.{ℕ, zero, suc}
+use lib.ListN.{drop}
 use Rattle.rules.specs.declared.Facts.{Facts}
 use Rattle.rules.specs.declared.GroupKind.{GroupKind}
 use Rattle.rules.specs.declared.GroupKind.the-variants.{Sequence}
-use Rattle.rules.specs.Bytes.{numbers}
+use Rattle.rules.specs.Bytes.{Bytes, numbers}
 use Rattle.rules.specs.Preorder.{Deep}
 use Rattle.rules.specs.Layout.{FlatParticle}
-use Rattle.rules.specs.Decode.{quantifierOf, groupOf}
-use Rattle.rules.specs.Automaton.{single, quantify}
+use Rattle.rules.specs.Decode.{quantifierOf, groupOf, readParticle}
+use Rattle.rules.specs.Automaton.{single, quantify, facts}
 use Rattle.model.specs.declared.What.{What}
 use Rattle.model.specs.declared.What.the-variants.{Element, Group}
 use Rattle.model.specs.declared.Particle.{Particle}
+use Rattle.model.specs.Members.{membersFrom}
 
 -- sort 0 is an element, any other a group
 abbrev pub whatOf : ℕ → ℕ → What
@@ -33,3 +35,8 @@ onceFacts (Group k n) below x y = below
 
 abbrev pub particleFacts : Particle → Facts → ℕ → ℕ → Facts
 particleFacts p below x y = quantify (p .quantifier) (onceFacts (p .what) below x y)
+
+-- those of the particle of depth d that s begins with
+unfoldable pub firstFacts : ℕ → Bytes → ℕ → ℕ → Facts
+firstFacts d s x y =
+    particleFacts (particleOf (readParticle s)) (facts numbers (kindIn (particleOf (readParticle s) .what)) (membersFrom (suc d) (drop 4 s)) x y) x y

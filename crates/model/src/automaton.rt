@@ -1,16 +1,16 @@
 // The one-pass test of a row's children against a model: what a part of the model lets follow what.
-use super::Particle;
 use super::What;
 use super::read_particle;
 use rules::Facts;
 use rules::GroupKind;
 use rules::Quantifier;
 ghost use mathlib.Core.Path.{_≡_};
-ghost use Prim.Native.Nat.{_≤_};
+ghost use Prim.Native.Nat.{_<_, _≤_};
+ghost use lib.ListN.{length};
 ghost use Rattle.rules.specs.declared.GroupKind.the-variants.{Sequence, Choice};
 ghost use Rattle.rules.specs.Bytes.{numbers};
 ghost use Rattle.rules.specs.Automaton.{single, empty, join, quantify, facts};
-ghost use Rattle.model.specs.Particle.{kindIn, particleFacts};
+ghost use Rattle.model.specs.Particle.{kindIn, firstFacts};
 ghost use Rattle.model.specs.Members.{membersFrom, membersOf};
 ghost use Rattle.model.specs.Steps.{steps, finishes};
 
@@ -112,41 +112,41 @@ fn one_element(i: usize, x: usize, y: usize) -> Facts
     }
 }
 
-// The facts of a particle; `below` are those of its members.
-fn particle_facts(p: Particle, below: Facts, x: usize, y: usize) -> Facts
-    ensures { λ r. ⌜ r ≡ particleFacts p below x y ⌝ }
+// The facts of the particle of depth d that t begins with, from those of its members, one deeper.
+fn first_facts(t: &[u8], d: usize, x: usize, y: usize) -> Facts
+    requires { ⌜ (d < 256) × (4 ≤ length (now t)) ⌝ }
+    ensures { λ r. ⌜ r ≡ firstFacts d (now (t .entry)) x y ⌝ }
 {
+    let p = read_particle(t, 0);
     let what = p.what;
     let q = p.quantifier;
     match what {
         What::Element(i) => quantified(q, one_element(i, x, y)),
-        What::Group(_, _) => quantified(q, below),
+        What::Group(kind, _) => quantified(q, facts_from(&t[4..], d + 1, kind, x, y)),
     }
 }
 
-/// The facts of the members of depth d that s begins with, in a group of a kind. A particle's members are those one deeper; what
-/// is deeper still belongs to others.
+/// The facts of the members of depth d that s begins with, in a group of a kind. What is deeper belongs to them; the first that is
+/// less deep ends them.
 pub fn facts_from(s: &[u8], d: usize, kind: GroupKind, x: usize, y: usize) -> Facts
     requires { ⌜ d ≤ 256 ⌝ }
     ensures { λ r. ⌜ r ≡ facts numbers kind (membersFrom d (now (s .entry))) x y ⌝ }
 {
-    if s.len() < 4 {
-        return no_members(kind);
+    let mut f = no_members(kind);
+    let mut t = s;
+    while t.len() >= 4 {
+        let depth = codec::byte(t, 3) as usize;
+        if depth < d {
+            return f;
+        }
+        if d < depth {
+            t = &t[4..];
+        } else {
+            f = joined(kind, f, first_facts(t, d, x, y));
+            t = &t[4..];
+        }
     }
-    let depth = codec::byte(s, 3) as usize;
-    let t = &s[4..];
-    if d < depth {
-        return facts_from(t, d, kind, x, y);
-    }
-    if depth < d {
-        return no_members(kind);
-    }
-    let p = read_particle(s, 0);
-    let what = p.what;
-    let below = facts_from(t, d + 1, kind_in(what), x, y);
-    let here = particle_facts(p, below, x, y);
-    let rest = facts_from(t, d, kind, x, y);
-    joined(kind, here, rest)
+    f
 }
 
 /// The facts of a whole model and two definition indices.

@@ -7,3 +7,4 @@ pub mod JudgeLaws
 pub mod ReadingLaws
 pub mod PassLaws
 pub mod StepLaws
+pub mod TableLaws

@@ -112,18 +112,14 @@ complex-ends zero ms last a b = absurd (a refl)
 complex-ends (suc zero) ms last a b = absurd (b refl)
 complex-ends (suc (suc k)) ms last a b = refl
 
-module _ (kind k : ℕ) (e : k ≡ kind) (a : k ≡ 0 → ⊥) (b : k ≡ 1 → ⊥) (part part′ : Bytes) (p : part ≡ part′) (last : ℕ) (r : Bool) where
-  pub child-word : (sort index : ℕ) → r ≡ steps (membersOf part) last index → (eqb sort 1 && r) ≡ childMay kind (membersOf part′) last sort index
-  child-word sort index h = rw (← e, ← p, complex-may k (membersOf part) last sort index a b, h)
+module _ (kind k : ℕ) (e : k ≡ kind) (a : k ≡ 0 → ⊥) (b : k ≡ 1 → ⊥) (ms : Members ℕ) (last : ℕ) (r : Bool) where
+  pub child-word : (sort index : ℕ) → r ≡ steps ms last index → (eqb sort 1 && r) ≡ childMay kind ms last sort index
+  child-word sort index h = rw (← e, complex-may k ms last sort index a b, h)
 
-  pub end-word : r ≡ finishes (membersOf part) last → r ≡ childrenEnd kind (membersOf part′) last
-  end-word h = rw (← e, ← p, complex-ends k (membersOf part) last a b) h
+  pub end-word : r ≡ finishes ms last → r ≡ childrenEnd kind ms last
+  end-word h = rw (← e, complex-ends k ms last a b) h
 
 -- ---- attribute rows
-pub freed-open : (f : IndexForm) (i seen : ℕ) (b : Bool) → (seen ≡ 0 → ⊥) → b ≡ every (spare f i) (f .attributes) (seen - 1) → b ≡ freed f i seen
-freed-open f i zero b z e = absurd (z refl)
-freed-open f i (suc a) b z e = rw sub-one at e
-
 attribute-opened : (f : IndexForm) (i seen : ℕ) (r : FlatRow) → (seen ≡ 0 → ⊥)
     → attributeMay f i seen r ≡ (leb (seen - 1) (r .index) && (ltb (r .index) (f .attributes) && (eqb (f .owner (r .index)) i && (f .allows (r .index) (r .value) && every (spare f i) (r .index) (seen - 1)))))
 attribute-opened f i zero r z = absurd (z refl)

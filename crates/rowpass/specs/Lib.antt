@@ -3,3 +3,4 @@ pub mod Machine
 pub mod Judge
 pub mod Reading
 pub mod Steps
+pub mod Table

@@ -1,8 +1,8 @@
 // One pass over the tree rows: the fields of each, their depths, and whether they are those of documents that conform.
 ghost use mathlib.Core.Path.{_≡_};
 ghost use mathlib.Core.Logic.{_↔_};
-ghost use mathlib.Core.Bool.{true, _&&_};
-ghost use Prim.Native.Nat.{ℕ, _*_, _<_, _≤_};
+ghost use mathlib.Core.Bool.{true, not, _&&_};
+ghost use Prim.Native.Nat.{ℕ, _+_, _*_, _<_, _≤_};
 ghost use lib.Dec.{eqb};
 ghost use lib.ListN.{length};
 ghost use Rattle.rules.specs.Model.{Distinct, names};
@@ -11,10 +11,13 @@ ghost use Rattle.rules.specs.Decode.{readRow, readMany, sortOf};
 ghost use Rattle.rules.specs.Conforming.{mustBePresent, allows};
 ghost use Rattle.layout.specs.Bodies.{Width};
 ghost use Rattle.records.specs.Records.{rowFits, eachFits};
+ghost use Rattle.sets.specs.Sets.{has};
 ghost use Rattle.model.specs.Members.{membersOf};
+ghost use Rattle.model.specs.Steps.{steps, finishes};
 ghost use Rattle.rowpass.specs.Indices.{Documents};
-ghost use Rattle.rowpass.specs.Judge.{every, spare, childMay, childrenEnd, attributeMay, freed, rowMay, may, ends, after, entered, judge};
+ghost use Rattle.rowpass.specs.Judge.{every, childMay, childrenEnd, attributeMay, rowMay, may, ends, after, entered, judge};
 ghost use Rattle.rowpass.specs.Reading.{definitionIn, attributeIn, particlesBefore, modelPart, attributesOf, indexForm, keepsOf, verdict};
+ghost use Rattle.rowpass.specs.Table.{Needed, freedOf, Modelled, Lined, OneNeed, Needs, Tabled};
 
 /// A place that is open. `holds`: 0 documents, 1 the rows below an element, 2 nothing. Of an element: its definition, 1 and the
 /// first attribute that may still come (0: none may), and 1 and its last child's index (0: no child yet). 12 bytes.
@@ -75,30 +78,134 @@ pub fn model_part<'a>(defs: &[u8], parts: &'a [u8], i: usize) -> &'a [u8]
     )
 }
 
+// ---- the table: a line of 68 sets for each definition, what nexts::fill writes and the attributes that it needs
+const TABLE: usize = 4352;
+
+// The models' sets.
+fn lay_models(n: usize, defs: &[u8], parts: &[u8], table: &mut [u64])
+    requires { ⌜ (n ≤ 64) × (4352 ≤ length (now table)) ⌝ }
+    ensures { λ _. ⌜ Lined n (now (defs .entry)) (now (parts .entry)) n (now (table .exit)) ⌝ }
+{
+    let mut i = 0;
+    while i < n {
+        nexts::fill(model_part(defs, parts, i), n, 68 * i, table);
+        table[68 * i + 67] = 0;
+        i += 1;
+    }
+}
+
+// Attribute j, if its owner needs it.
+fn lay_need(version: usize, w: usize, n: usize, attrs: &[u8], j: usize, table: &mut [u64])
+    requires { ⌜ Width w × (n ≤ 64) × (j < 64) × (4352 ≤ length (now table)) ⌝ }
+    ensures { λ _. ⌜ OneNeed version w n (now (attrs .entry)) j (now (table .entry)) (now (table .exit)) ⌝ }
+{
+    let record = layout::attribute_at(w, attrs, j);
+    let i = layout::attribute_owner(record);
+    if !records::must_be_present(version, layout::attribute_sort(record)) {
+        return;
+    }
+    if i >= n {
+        return;
+    }
+    let old = table[68 * i + 67];
+    table[68 * i + 67] = sets::with(old, j);
+}
+
+// The attributes that each definition needs.
+fn lay_needs(version: usize, w: usize, n: usize, a: usize, attrs: &[u8], table: &mut [u64])
+    requires { ⌜ Width w × (n ≤ 64) × (a ≤ 64) × (4352 ≤ length (now table)) ⌝ }
+    ensures { λ _. ⌜ Needs version w n (now (attrs .entry)) a (now (table .entry)) (now (table .exit)) ⌝ }
+{
+    let mut j = 0;
+    while j < a {
+        lay_need(version, w, n, attrs, j, table);
+        j += 1;
+    }
+}
+
+fn fill_table(
+    version: usize,
+    w: usize,
+    n: usize,
+    defs: &[u8],
+    parts: &[u8],
+    a: usize,
+    attrs: &[u8],
+    table: &mut [u64],
+)
+    requires { ⌜ Width w × (n ≤ 64) × (a ≤ 64) × (4352 ≤ length (now table)) ⌝ }
+    ensures { λ _. ⌜ Tabled version w n (now (defs .entry)) (now (parts .entry)) (now (attrs .entry)) a (now (table .exit)) ⌝ }
+{
+    lay_models(n, defs, parts, table);
+    lay_needs(version, w, n, a, attrs, table);
+}
+
 // ---- children
+// Whether the child `index` may come after `last`; what the table does not have is looked up in the model.
+fn may_follow(
+    n: usize,
+    defs: &[u8],
+    parts: &[u8],
+    table: &[u64],
+    i: usize,
+    last: usize,
+    index: usize,
+) -> bool
+    requires { ⌜ (n ≤ 64) × (i < n) × (4352 ≤ length (now table)) × Modelled n (now defs) (now parts) n (now table) ⌝ }
+    ensures { λ r. ⌜ r ≡ steps (membersOf (modelPart (now (defs .entry)) (now (parts .entry)) i)) last index ⌝ }
+{
+    if (last <= n) & (index < 64) {
+        return sets::contains(table[68 * i + last], index);
+    }
+    model::automaton::steps(model_part(defs, parts, i), last, index)
+}
+
+// Whether no child is owed after `last`.
+fn may_finish(n: usize, defs: &[u8], parts: &[u8], table: &[u64], i: usize, last: usize) -> bool
+    requires { ⌜ (n ≤ 64) × (i < n) × (4352 ≤ length (now table)) × Modelled n (now defs) (now parts) n (now table) ⌝ }
+    ensures { λ r. ⌜ r ≡ finishes (membersOf (modelPart (now (defs .entry)) (now (parts .entry)) i)) last ⌝ }
+{
+    if last == 0 {
+        return sets::contains(table[68 * i + 66], 0);
+    }
+    if last <= n {
+        return sets::contains(table[68 * i + 65], last - 1);
+    }
+    model::automaton::finishes(model_part(defs, parts, i), last)
+}
+
 // Whether a row may come next after the child `last`.
-fn child_may(defs: &[u8], parts: &[u8], i: usize, last: usize, sort: u8, index: usize) -> bool
-    requires { ⌜ i ≤ 64 ⌝ }
+fn child_may(
+    n: usize,
+    defs: &[u8],
+    parts: &[u8],
+    table: &[u64],
+    i: usize,
+    last: usize,
+    sort: u8,
+    index: usize,
+) -> bool
+    requires { ⌜ (n ≤ 64) × (i < n) × (4352 ≤ length (now table)) × Modelled n (now defs) (now parts) n (now table) ⌝ }
     ensures { λ r. ⌜ r ≡ childMay (definitionIn (now (defs .entry)) i .kind) (membersOf (modelPart (now (defs .entry)) (now (parts .entry)) i)) last sort index ⌝ }
 {
     let k = kind_of(defs, i);
     match k {
         0 => false,
         1 => (sort == 3) & (last == 0),
-        _ => (sort == 1) & model::automaton::steps(model_part(defs, parts, i), last, index),
+        _ => (sort == 1) & may_follow(n, defs, parts, table, i, last, index),
     }
 }
 
 // Whether the children may end with `last`.
-fn children_end(defs: &[u8], parts: &[u8], i: usize, last: usize) -> bool
-    requires { ⌜ i ≤ 64 ⌝ }
+fn children_end(n: usize, defs: &[u8], parts: &[u8], table: &[u64], i: usize, last: usize) -> bool
+    requires { ⌜ (n ≤ 64) × (i < n) × (4352 ≤ length (now table)) × Modelled n (now defs) (now parts) n (now table) ⌝ }
     ensures { λ r. ⌜ r ≡ childrenEnd (definitionIn (now (defs .entry)) i .kind) (membersOf (modelPart (now (defs .entry)) (now (parts .entry)) i)) last ⌝ }
 {
     let k = kind_of(defs, i);
     match k {
         0 => true,
         1 => last != 0,
-        _ => model::automaton::finishes(model_part(defs, parts, i), last),
+        _ => may_finish(n, defs, parts, table, i, last),
     }
 }
 
@@ -123,43 +230,37 @@ pub fn needs(version: usize, w: usize, attrs: &[u8], i: usize, j: usize) -> bool
     (layout::attribute_owner(record) == i) & records::must_be_present(version, sort)
 }
 
-// Whether definition i needs none of the attributes from `from` up to `to`.
-fn spares(version: usize, w: usize, attrs: &[u8], i: usize, from: usize, to: usize) -> bool
-    requires { ⌜ Width w × (to ≤ 64) ⌝ }
-    ensures { λ r. ⌜ r ≡ every (spare (attributesOf version w (now (attrs .entry)) 0) i) to from ⌝ }
+// Whether none of the attributes from `from` up to `to` is needed.
+fn spares(needed: u64, from: usize, to: usize) -> bool
+    requires { ⌜ to ≤ 64 ⌝ }
+    ensures { λ r. ⌜ r ≡ every (λ j. not (has needed j)) to from ⌝ }
 {
-    let mut k = to;
-    while k > from {
-        k -= 1;
-        if needs(version, w, attrs, i, k) {
-            return false;
-        }
-    }
-    true
+    sets::none_between(needed, from, to)
 }
 
-// Whether no attribute that definition i needs is owed any more.
-fn is_freed(version: usize, w: usize, attrs: &[u8], a: usize, i: usize, seen: usize) -> bool
-    requires { ⌜ Width w × (a ≤ 64) ⌝ }
-    ensures { λ r. ⌜ r ≡ freed (attributesOf version w (now (attrs .entry)) a) i seen ⌝ }
+// Whether no attribute that is needed is owed any more.
+fn is_freed(needed: u64, a: usize, seen: usize) -> bool
+    requires { ⌜ a ≤ 64 ⌝ }
+    ensures { λ r. ⌜ r ≡ freedOf needed a seen ⌝ }
 {
     if seen == 0 {
         return true;
     }
-    spares(version, w, attrs, i, seen - 1, a)
+    spares(needed, seen - 1, a)
 }
 
-// Whether an attribute's row may come next.
+// Whether an attribute's row may come next below definition i, which needs `needed`.
 fn attribute_may(
     version: usize,
     w: usize,
     attrs: &[u8],
     a: usize,
+    needed: u64,
     i: usize,
     seen: usize,
     row: &[u8],
 ) -> bool
-    requires { ⌜ Width w × (a ≤ 64) ⌝ }
+    requires { ⌜ Width w × (a ≤ 64) × Needed version w (now attrs) a i needed ⌝ }
     ensures { λ r. ⌜ r ≡ attributeMay (attributesOf version w (now (attrs .entry)) a) i seen (readRow (now (row .entry)) .row) ⌝ }
 {
     let j = layout::row_index(row) as usize;
@@ -174,7 +275,7 @@ fn attribute_may(
     }
     let owner = layout::attribute_owner(layout::attribute_at(w, attrs, j));
     let v = layout::row_value(row);
-    (owner == i) & (value_may(w, attrs, j, v) & spares(version, w, attrs, i, seen - 1, j))
+    (owner == i) & (value_may(w, attrs, j, v) & spares(needed, seen - 1, j))
 }
 
 // ---- rows
@@ -182,25 +283,28 @@ fn attribute_may(
 fn row_may(
     version: usize,
     w: usize,
+    n: usize,
     defs: &[u8],
     parts: &[u8],
     a: usize,
     attrs: &[u8],
+    table: &[u64],
     l: Level,
     row: &[u8],
 ) -> bool
-    requires { ⌜ Width w × (l .index ≤ 64) × (a ≤ 64) ⌝ }
+    requires { ⌜ Width w × (n ≤ 64) × (a ≤ 64) × Tabled version w n (now defs) (now parts) (now attrs) a (now table) × (l .index < n) ⌝ }
     ensures { λ r. ⌜ r ≡ rowMay (indexForm version w 0 (now (defs .entry)) (now (parts .entry)) (now (attrs .entry)) a) (eqb (readRow (now (row .entry)) .row .sort) 2) l (readRow (now (row .entry)) .row) ⌝ }
 {
     let i = l.index as usize;
     let seen = l.seen as usize;
     let last = l.last as usize;
+    let needed = table[68 * i + 67];
     let sort = layout::row_sort(row);
     if sort == 2 {
-        return attribute_may(version, w, attrs, a, i, seen, row);
+        return attribute_may(version, w, attrs, a, needed, i, seen, row);
     }
     let index = layout::row_index(row) as usize;
-    is_freed(version, w, attrs, a, i, seen) & child_may(defs, parts, i, last, sort, index)
+    is_freed(needed, a, seen) & child_may(n, defs, parts, table, i, last, sort, index)
 }
 
 // Whether a row may come next at a level.
@@ -212,10 +316,11 @@ fn may_come(
     parts: &[u8],
     a: usize,
     attrs: &[u8],
+    table: &[u64],
     l: Level,
     row: &[u8],
 ) -> bool
-    requires { ⌜ Width w × (n ≤ 64) × (a ≤ 64) ⌝ }
+    requires { ⌜ Width w × (n ≤ 64) × (a ≤ 64) × Tabled version w n (now defs) (now parts) (now attrs) a (now table) ⌝ }
     ensures { λ r. ⌜ r ≡ may (indexForm version w n (now (defs .entry)) (now (parts .entry)) (now (attrs .entry)) a) (l .holds) l (readRow (now (row .entry)) .row) ⌝ }
 {
     let h = l.holds;
@@ -228,7 +333,7 @@ fn may_come(
     if l.index as usize >= n {
         return false;
     }
-    row_may(version, w, defs, parts, a, attrs, l, row)
+    row_may(version, w, n, defs, parts, a, attrs, table, l, row)
 }
 
 // Whether nothing more is owed at a level.
@@ -240,9 +345,10 @@ fn may_end(
     parts: &[u8],
     a: usize,
     attrs: &[u8],
+    table: &[u64],
     l: Level,
 ) -> bool
-    requires { ⌜ Width w × (n ≤ 64) × (a ≤ 64) ⌝ }
+    requires { ⌜ Width w × (n ≤ 64) × (a ≤ 64) × Tabled version w n (now defs) (now parts) (now attrs) a (now table) ⌝ }
     ensures { λ r. ⌜ r ≡ ends (indexForm version w n (now (defs .entry)) (now (parts .entry)) (now (attrs .entry)) a) (l .holds) l ⌝ }
 {
     let i = l.index as usize;
@@ -252,8 +358,9 @@ fn may_end(
     if i >= n {
         return false;
     }
-    is_freed(version, w, attrs, a, i, l.seen as usize)
-        & children_end(defs, parts, i, l.last as usize)
+    let needed = table[68 * i + 67];
+    let free = is_freed(needed, a, l.seen as usize);
+    free & children_end(n, defs, parts, table, i, l.last as usize)
 }
 
 // The level after a row.
@@ -313,13 +420,14 @@ fn row_passes(
     parts: &[u8],
     a: usize,
     attrs: &[u8],
+    table: &[u64],
     l: Level,
     row: &[u8],
 ) -> bool
-    requires { ⌜ Width w × (n ≤ 64) × (a ≤ 64) ⌝ }
+    requires { ⌜ Width w × (n ≤ 64) × (a ≤ 64) × Tabled version w n (now defs) (now parts) (now attrs) a (now table) ⌝ }
     ensures { λ r. ⌜ r ≡ (rowFits w (now (row .entry)) && judge (indexForm version w n (now (defs .entry)) (now (parts .entry)) (now (attrs .entry)) a) .may l (readRow (now (row .entry)) .row)) ⌝ }
 {
-    records::row_fits(w, row) & may_come(version, w, n, defs, parts, a, attrs, l, row)
+    records::row_fits(w, row) & may_come(version, w, n, defs, parts, a, attrs, table, l, row)
 }
 
 // How many levels stay open: none where no row is left, and those up to the next row's own.
@@ -341,10 +449,11 @@ fn pass(
     parts: &[u8],
     a: usize,
     attrs: &[u8],
+    table: &[u64],
     rows: &[u8],
     count: usize,
 ) -> bool
-    requires { ⌜ Width w × (n ≤ 64) × (a ≤ 64) × (rowSize w * count ≤ length (now rows)) ⌝ }
+    requires { ⌜ Width w × (n ≤ 64) × (a ≤ 64) × (rowSize w * count ≤ length (now rows)) × Tabled version w n (now defs) (now parts) (now attrs) a (now table) ⌝ }
     ensures { λ r. ⌜ r ≡ verdict w (indexForm version w n (now (defs .entry)) (now (parts .entry)) (now (attrs .entry)) a) count (now (rows .entry)) ⌝ }
 {
     // a depth is a byte: 257 levels of 12 bytes, 3,084 in all
@@ -358,7 +467,7 @@ fn pass(
         if keep < live {
             live -= 1;
             let l = levels[live];
-            if !may_end(version, w, n, defs, parts, a, attrs, l) {
+            if !may_end(version, w, n, defs, parts, a, attrs, table, l) {
                 return false;
             }
         } else {
@@ -371,7 +480,7 @@ fn pass(
             let d = keep - 1;
             let l = levels[d];
             let row = &t[..size];
-            if !row_passes(version, w, n, defs, parts, a, attrs, l, row) {
+            if !row_passes(version, w, n, defs, parts, a, attrs, table, l, row) {
                 return false;
             }
             levels[d] = after_row(l, row);
@@ -399,5 +508,7 @@ pub fn rows_pass(
     requires { ⌜ Width w × (n ≤ 64) × (a ≤ 64) × (rowSize w * count ≤ length (now rows)) × ((i : ℕ) → i < n → Distinct (names (indexForm version w n (now defs) (now parts) (now attrs) a .model i))) ⌝ }
     ensures { λ r. ⌜ (r ≡ true) ↔ ((eachFits (rowFits w) (rowSize w) count (now (rows .entry)) ≡ true) × Documents (indexForm version w n (now (defs .entry)) (now (parts .entry)) (now (attrs .entry)) a) (readMany readRow (rowSize w) count (now (rows .entry)))) ⌝ }
 {
-    pass(version, w, n, defs, parts, a, attrs, rows, count)
+    let mut table: [u64; TABLE] = [0; TABLE];
+    fill_table(version, w, n, defs, parts, a, attrs, &mut table);
+    pass(version, w, n, defs, parts, a, attrs, &table, rows, count)
 }

@@ -1,5 +1,4 @@
-use Rattle.rowpass.specs.Reading.{attributesOf}
-use Rattle.rowpass.proofs.ReadingLaws.{freed-open}
+use Rattle.rowpass.proofs.TableLaws.{freed-from}
 use borrow.Author.Needs.{needs}
 use Rattle.rowpass.proofs.is_freed.Statement.{statement}
 use Rattle.rowpass.proofs.is_freed.Tie as tie
@@ -14,7 +13,7 @@ spares-requires : tie.Need-spares-requires
 spares-requires c κs = search needs
 
 returns-2 : tie.Need-returns-2
-returns-2 c = let a = c .before .before .before .args in freed-open (attributesOf (a .version) (a .w) (a .attrs .now) (a .a)) (a .i) (a .seen) _ (c .before .if1 .left) (c .spares .ensures)
+returns-2 c = let a = c .before .before .args in freed-from (a .needed) (a .a) (a .seen) _ (c .before .if1 .left) (c .spares .ensures)
 
 pub is-freed-spec : {M : Type 1} → statement M
 is-freed-spec = tie.close (tie.spec returns sub-spares spares-requires returns-2)

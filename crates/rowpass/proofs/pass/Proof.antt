@@ -13,10 +13,10 @@ use Rattle.rowpass.proofs.pass.Statement.{statement}
 use Rattle.rowpass.proofs.pass.Tie as tie
 
 abbrev Inv-loop : tie.InvT-loop
-Inv-loop version w n defs parts a attrs rows count size₀ levels₀ live₀ t₀ m₀ levels live t m = Pass w (indexForm version w n defs parts attrs a) (verdict w (indexForm version w n defs parts attrs a) count rows) levels live t m
+Inv-loop version w n defs parts a attrs table rows count size₀ levels₀ live₀ t₀ m₀ levels live t m = Pass w (indexForm version w n defs parts attrs a) (verdict w (indexForm version w n defs parts attrs a) count rows) levels live t m
 
 abbrev μ-loop : tie.MeasureT-loop
-μ-loop version w n defs parts a attrs rows count size₀ levels₀ live₀ t₀ m₀ levels live t m = m * 258 + live
+μ-loop version w n defs parts a attrs table rows count size₀ levels₀ live₀ t₀ m₀ levels live t m = m * 258 + live
 
 row-size-requires : tie.Need-row-size-requires Inv-loop μ-loop
 row-size-requires c κs = search needs
@@ -41,7 +41,7 @@ may-end-requires c κs = search needs
 
 returns : tie.Need-returns Inv-loop μ-loop
 returns c =
-    let a = c .before .before .before .before .before .before .before .before .before .before .before .args in
+    let a = c .before .before .before .before .before .before .before .before .before .before .before .before .args in
     let at = c .before .before .before .before .before .loop in
     let keep = c .before .before .before .before .kept in
     pass-owes (a .w) (indexForm (a .version) (a .w) (a .n) (a .defs .now) (a .parts .now) (a .attrs .now) (a .a)) (at .levels) (at .t .now) (at .inv) (keep .result) (keep .ensures .0) (omega arith) _ (c .before .may-end .ensures) (not-true _ (c .if2 .taken))
@@ -51,21 +51,21 @@ loop-less c = search needs
 
 loop-again : tie.Need-loop-again Inv-loop μ-loop
 loop-again c =
-    let a = c .before .before .before .before .before .before .before .before .before .before .before .args in
+    let a = c .before .before .before .before .before .before .before .before .before .before .before .before .args in
     let at = c .before .before .before .before .before .loop in
     let keep = c .before .before .before .before .kept in
     pass-pops (a .w) (indexForm (a .version) (a .w) (a .n) (a .defs .now) (a .parts .now) (a .attrs .now) (a .a)) (at .levels) (at .t .now) (at .inv) (keep .result) (keep .ensures .0) (omega arith) _ (c .before .may-end .ensures) (not-false _ (c .if2 .left))
 
 returns-2 : tie.Need-returns-2 Inv-loop μ-loop
 returns-2 c =
-    let a = c .before .before .before .before .before .before .before .before .before .args in
+    let a = c .before .before .before .before .before .before .before .before .before .before .args in
     let at = c .before .before .before .loop in
     let keep = c .before .before .kept in
     pass-stops (a .w) (indexForm (a .version) (a .w) (a .n) (a .defs .now) (a .parts .now) (a .attrs .now) (a .a)) (at .levels) (at .t .now) (at .inv) (keep .result) (keep .ensures .0) (omega arith)
 
 returns-3 : tie.Need-returns-3 Inv-loop μ-loop
 returns-3 c =
-    let a = c .before .before .before .before .before .before .before .before .before .before .args in
+    let a = c .before .before .before .before .before .before .before .before .before .before .before .args in
     let at = c .before .before .before .before .loop in
     let keep = c .before .before .before .kept in
     pass-ends (a .w) (indexForm (a .version) (a .w) (a .n) (a .defs .now) (a .parts .now) (a .attrs .now) (a .a)) (at .levels) (at .t .now) (at .inv) (keep .result) (keep .ensures .0) (c .if4 .taken) (omega arith)
@@ -82,7 +82,7 @@ array-copy-out-l-2 c = search needs
 slice-aggregate-row : tie.Need-slice-aggregate-row Inv-loop μ-loop
 slice-aggregate-row c =
     let at = c .before .before .before .before .before .before .loop in
-    let room = room-first (rowSize (c .before .before .before .before .before .before .before .before .before .before .before .before .args .w)) (at .m) (length (at .t .now)) (c .before .before .if4 .left) (at .inv .room) in
+    let room = room-first (rowSize (c .before .before .before .before .before .before .before .before .before .before .before .before .before .args .w)) (at .m) (length (at .t .now)) (c .before .before .if4 .left) (at .inv .room) in
     sym (length-take-le _ (at .t .now) (omega (arith, room, c .before .before .before .before .before .before .before .row-size .ensures)))
 
 row-passes-requires : tie.Need-row-passes-requires Inv-loop μ-loop
@@ -90,7 +90,7 @@ row-passes-requires c κs = search needs
 
 returns-4 : tie.Need-returns-4 Inv-loop μ-loop
 returns-4 c =
-    let a = c .before .before .before .before .before .before .before .before .before .before .before .before .before .before .args in
+    let a = c .before .before .before .before .before .before .before .before .before .before .before .before .before .before .before .args in
     let at = c .before .before .before .before .before .before .before .before .loop in
     let keep = c .before .before .before .before .before .before .before .kept in
     pass-refuses (a .w) (indexForm (a .version) (a .w) (a .n) (a .defs .now) (a .parts .now) (a .attrs .now) (a .a)) (at .levels) (at .t .now) (at .inv) (keep .result) (keep .ensures .0) (c .before .before .before .before .if4 .left) (omega arith) (omega arith) _ (c .before .before .before .before .before .before .before .before .before .row-size .ensures) _ refl _ (c .before .row-passes .ensures) (not-true _ (c .if5 .taken))
@@ -119,13 +119,13 @@ add-live c = search needs
 sub-t : tie.Need-sub-t Inv-loop μ-loop
 sub-t c =
     let at = c .before .before .before .before .before .before .before .before .before .before .loop in
-    let room = room-first (rowSize (c .before .before .before .before .before .before .before .before .before .before .before .before .before .before .before .before .args .w)) (at .m) (length (at .t .now)) (c .before .before .before .before .before .before .if4 .left) (at .inv .room) in
+    let room = room-first (rowSize (c .before .before .before .before .before .before .before .before .before .before .before .before .before .before .before .before .before .args .w)) (at .m) (length (at .t .now)) (c .before .before .before .before .before .before .if4 .left) (at .inv .room) in
     omega (arith, room, c .before .before .before .before .before .before .before .before .before .before .before .row-size .ensures)
 
 part-t-start : tie.Need-part-t-start Inv-loop μ-loop
 part-t-start c =
     let at = c .before .before .before .before .before .before .before .before .before .before .loop in
-    let room = room-first (rowSize (c .before .before .before .before .before .before .before .before .before .before .before .before .before .before .before .before .args .w)) (at .m) (length (at .t .now)) (c .before .before .before .before .before .before .if4 .left) (at .inv .room) in
+    let room = room-first (rowSize (c .before .before .before .before .before .before .before .before .before .before .before .before .before .before .before .before .before .args .w)) (at .m) (length (at .t .now)) (c .before .before .before .before .before .before .if4 .left) (at .inv .room) in
     omega (arith, room, c .before .before .before .before .before .before .before .before .before .before .before .row-size .ensures)
 
 part-t-end : tie.Need-part-t-end Inv-loop μ-loop
@@ -139,7 +139,7 @@ loop-less-2 c = search needs
 
 loop-again-2 : tie.Need-loop-again-2 Inv-loop μ-loop
 loop-again-2 c =
-    let a = c .before .before .before .before .before .before .before .before .before .before .before .before .before .before .before .before .before .args in
+    let a = c .before .before .before .before .before .before .before .before .before .before .before .before .before .before .before .before .before .before .args in
     let at = c .before .before .before .before .before .before .before .before .before .before .before .loop in
     let keep = c .before .before .before .before .before .before .before .before .before .before .kept in
     pass-takes (a .w) (indexForm (a .version) (a .w) (a .n) (a .defs .now) (a .parts .now) (a .attrs .now) (a .a)) (at .levels) (at .t .now) (at .inv) (keep .result) (keep .ensures .0) (c .before .before .before .before .before .before .before .if4 .left) (omega arith) (omega arith) _ (c .before .before .before .before .before .before .before .before .before .before .before .before .row-size .ensures) _ refl _

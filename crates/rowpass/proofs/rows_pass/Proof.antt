@@ -4,13 +4,31 @@ use borrow.Author.Needs.{needs}
 use Rattle.rowpass.proofs.rows_pass.Statement.{statement}
 use Rattle.rowpass.proofs.rows_pass.Tie as tie
 
+slice-aggregate-fill-table : tie.Need-slice-aggregate-fill-table
+slice-aggregate-fill-table c = search needs
+
+fill-table-requires : tie.Need-fill-table-requires
+fill-table-requires c κs = search needs
+
+slice-aggregate-pass : tie.Need-slice-aggregate-pass
+slice-aggregate-pass c = search needs
+
 pass-requires : tie.Need-pass-requires
 pass-requires c κs = search needs
 
 returns : tie.Need-returns
 returns c =
-    let a = c .before .before .before .before .before .args in
-    verdict-says (a .w) (indexForm (a .version) (a .w) (a .n) (a .defs .now) (a .parts .now) (a .attrs .now) (a .a)) (a .count) (a .rows .now) _ (c .pass .ensures) (c .before .before .before .before .before .pre .4) (λ i. c .before .shared-slice-known4 .given i .fits)
+    let start = c .before .before .before .before .before .before .before .before .before in
+    let a = start .args in
+    verdict-says (a .w) (indexForm (a .version) (a .w) (a .n) (a .defs .now) (a .parts .now) (a .attrs .now) (a .a)) (a .count) (a .rows .now) _ (c .pass .ensures) (start .pre .4)
+    (λ i. c .before .before .before .before .before .shared-slice-known4 .given i .fits)
 
 pub rows-pass-spec : {M : Type 1} → statement M
-rows-pass-spec = tie.close (tie.spec pass-requires returns)
+rows-pass-spec =
+    tie.close
+    (tie.spec
+    slice-aggregate-fill-table
+    fill-table-requires
+    slice-aggregate-pass
+    pass-requires
+    returns)

@@ -1,0 +1,3 @@
+pub mod ToldLaws
+pub mod NamesLaws
+pub mod LineLaws

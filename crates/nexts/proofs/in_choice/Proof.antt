@@ -1,0 +1,13 @@
+-- `nexts::in_choice` meets its contract.
+-- Assumes nothing.
+use mathlib.Core.Path.{refl}
+use Rattle.sets.specs.Sets.{union}
+use Rattle.nexts.proofs.in_choice.Statement.{statement}
+use Rattle.nexts.proofs.in_choice.Tie as tie
+
+returns : tie.Need-returns
+unfolding union
+returns c = refl
+
+pub in-choice-spec : {M : Type 1} → statement M
+in-choice-spec = tie.close (tie.spec returns)

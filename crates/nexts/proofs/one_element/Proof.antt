@@ -1,0 +1,14 @@
+-- `nexts::one_element` meets its contract.
+-- Assumes nothing.
+use borrow.Author.Needs.{needs}
+use Rattle.nexts.proofs.one_element.Statement.{statement}
+use Rattle.nexts.proofs.one_element.Tie as tie
+
+bit-requires : tie.Need-bit-requires
+bit-requires c κs = search needs
+
+returns : tie.Need-returns
+returns c = rw (c .bit .ensures)
+
+pub one-element-spec : {M : Type 1} → statement M
+one-element-spec = tie.close (tie.spec bit-requires returns)

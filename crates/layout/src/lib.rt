@@ -489,6 +489,9 @@ pub fn put_row_moved(w: usize, row: &[u8], index: usize, out: &mut [u8], at: usi
     requires { ⌜ Width w × WholeRow w (now row) × (at + rowSize w < 9223372036854775808) × (index < 65536) ⌝ }
     ensures { λ r. ⌜ RowLaid w (movedRow index (now (row .entry))) (now (out .entry)) at r (now (out .exit)) ⌝ }
 {
+    if row_index(row) == index as u32 {
+        return codec::put(row, out, at);
+    }
     let next = put_row_index(row, index, out, at);
     let end = 12 + w;
     codec::put(&row[4..end], out, next)

@@ -127,7 +127,23 @@ fn printable(x: u8) -> bool
     (b' ' <= x) & (x <= b'~')
 }
 
-fn all_printable(s: &[u8]) -> bool
+// Whether the eight bytes from i on are printable.
+fn eight_printable(s: &[u8], i: usize) -> bool
+    requires { ⌜ i + 8 ≤ length (now s) ⌝ }
+    ensures { λ r. ⌜ r ≡ all (between 0x20 0x7E) (take 8 (drop i (now (s .entry)))) ⌝ }
+{
+    let a = printable(s[i]);
+    let b = printable(s[i + 1]);
+    let c = printable(s[i + 2]);
+    let d = printable(s[i + 3]);
+    let e = printable(s[i + 4]);
+    let f = printable(s[i + 5]);
+    let g = printable(s[i + 6]);
+    let h = printable(s[i + 7]);
+    a & (b & (c & (d & (e & (f & (g & h))))))
+}
+
+fn single_printable(s: &[u8]) -> bool
     ensures { λ r. ⌜ r ≡ all (between 0x20 0x7E) (now (s .entry)) ⌝ }
 {
     let mut i = 0;
@@ -138,6 +154,23 @@ fn all_printable(s: &[u8]) -> bool
         i += 1;
     }
     true
+}
+
+fn all_printable(s: &[u8]) -> bool
+    ensures { λ r. ⌜ r ≡ all (between 0x20 0x7E) (now (s .entry)) ⌝ }
+{
+    if s.len() < 8 {
+        return single_printable(s);
+    }
+    let last = s.len() - 8;
+    let mut i = 0;
+    while i < last {
+        if !eight_printable(s, i) {
+            return false;
+        }
+        i += 8;
+    }
+    eight_printable(s, last)
 }
 
 /// Whether the bytes are a name that may stand in a store.

@@ -135,6 +135,15 @@ pub fn row_serial(row: &[u8]) -> u32
     codec::get_u32(row, 4)
 }
 
+/// The serial of row i, read with no window.
+pub fn row_serial_at(w: usize, rows: &[u8], i: usize) -> u32
+    requires { ⌜ Width w × (i < 4294967296) ⌝ }
+    ensures { λ r. ⌜ r ≡ readRow (recordAt (rowSize w) i (now (rows .entry))) .row .serial ⌝ }
+{
+    let start = times(12 + w, i);
+    codec::get_u32(rows, start + 4)
+}
+
 pub fn row_value(row: &[u8]) -> &[u8]
     ensures { λ r. ⌜ now r ≡ readRow (now (row .entry)) .row .value ⌝ }
 {

@@ -1,8 +1,8 @@
 // Bytes and little-endian numbers in a byte string: read, written, copied, compared.
 ghost use mathlib.Core.Path.{_≡_};
 ghost use mathlib.Core.List.{[], _∷_, _++_};
-ghost use Prim.Native.Nat.{_+_, _<_, _≤_, _^_};
-ghost use lib.ListN.{length, drop, getD, set};
+ghost use Prim.Native.Nat.{_+_, _*_, _<_, _≤_, _^_};
+ghost use lib.ListN.{length, take, drop, getD, set};
 ghost use lib.Seq.{sets};
 ghost use Rattle.rules.specs.Bytes.{same};
 ghost use Rattle.rules.specs.Layout.{le};
@@ -23,32 +23,47 @@ fn wide(x: u8) -> u32
     x as u32
 }
 
+fn two(a: u8, b: u8) -> u32
+    ensures { λ r. ⌜ r ≡ a + 256 * b ⌝ }
+{
+    wide(a) + 256 * wide(b)
+}
+
+fn four(a: u8, b: u8, c: u8, d: u8) -> u32
+    ensures { λ r. ⌜ r ≡ a + 256 * b + 65536 * c + 16777216 * d ⌝ }
+{
+    wide(a) + 256 * wide(b) + 65536 * wide(c) + 16777216 * wide(d)
+}
+
 /// The number of two bytes at `at`; bytes past the end count 0.
 pub fn get_u16(s: &[u8], at: usize) -> u32
     ensures { λ r. ⌜ r ≡ numberAt at 2 (now (s .entry)) ⌝ }
 {
-    if at < s.len() {
-        let a = wide(byte(s, at));
-        let b = wide(byte(s, at + 1));
-        a + 256 * b
-    } else {
-        0
+    if s.len() <= at {
+        return 0;
     }
+    if 2 <= s.len() - at {
+        return two(s[at], s[at + 1]);
+    }
+    wide(s[at])
 }
 
 /// The number of four bytes at `at`; bytes past the end count 0.
 pub fn get_u32(s: &[u8], at: usize) -> u32
     ensures { λ r. ⌜ r ≡ numberAt at 4 (now (s .entry)) ⌝ }
 {
-    if at < s.len() {
-        let a = wide(byte(s, at));
-        let b = wide(byte(s, at + 1));
-        let c = wide(byte(s, at + 2));
-        let d = wide(byte(s, at + 3));
-        a + 256 * b + 65536 * c + 16777216 * d
-    } else {
-        0
+    if s.len() <= at {
+        return 0;
     }
+    if 4 <= s.len() - at {
+        return four(s[at], s[at + 1], s[at + 2], s[at + 3]);
+    }
+    four(
+        byte(s, at),
+        byte(s, at + 1),
+        byte(s, at + 2),
+        byte(s, at + 3),
+    )
 }
 
 /// The n bytes from `at` on, or none where s is too short for them.
@@ -91,17 +106,58 @@ pub fn store(out: &mut [u8], at: usize, x: u8)
     }
 }
 
+// Copies the eight bytes from i on.
+fn copy_eight(src: &[u8], out: &mut [u8], i: usize)
+    requires { ⌜ (i + 8 ≤ length (now src)) × (i + 8 ≤ length (now out)) ⌝ }
+    ensures { λ _. ⌜ now (out .exit) ≡ sets (now (out .entry)) i (take 8 (drop i (now (src .entry)))) ⌝ }
+{
+    let a = src[i];
+    let b = src[i + 1];
+    let c = src[i + 2];
+    let d = src[i + 3];
+    let e = src[i + 4];
+    let f = src[i + 5];
+    let g = src[i + 6];
+    let h = src[i + 7];
+    out[i] = a;
+    out[i + 1] = b;
+    out[i + 2] = c;
+    out[i + 3] = d;
+    out[i + 4] = e;
+    out[i + 5] = f;
+    out[i + 6] = g;
+    out[i + 7] = h;
+}
+
+fn copy_singly(src: &[u8], out: &mut [u8])
+    requires { ⌜ length (now src) ≤ length (now out) ⌝ }
+    ensures { λ _. ⌜ now (out .exit) ≡ now (src .entry) ++ drop (length (now (src .entry))) (now (out .entry)) ⌝ }
+{
+    let mut i = 0;
+    while i < src.len() {
+        out[i] = src[i];
+        i += 1;
+    }
+}
+
 /// Copies all of src to the front of out.
+// By eights; the last eight may overlap those before.
 pub fn copy(src: &[u8], out: &mut [u8]) -> usize
     requires { ⌜ length (now src) ≤ length (now out) ⌝ }
     ensures { λ r. ⌜ (r ≡ length (now (src .entry))) × (now (out .exit) ≡ now (src .entry) ++ drop (length (now (src .entry))) (now (out .entry))) ⌝ }
 {
     let n = src.len();
-    let mut i = 0;
-    while i < n {
-        out[i] = src[i];
-        i += 1;
+    if n < 8 {
+        copy_singly(src, out);
+        return n;
     }
+    let last = n - 8;
+    let mut i = 0;
+    while i < last {
+        copy_eight(src, out, i);
+        i += 8;
+    }
+    copy_eight(src, out, last);
     n
 }
 
@@ -124,6 +180,10 @@ pub fn put(src: &[u8], out: &mut [u8], at: usize) -> usize
     ensures { λ r. ⌜ Laid (now (src .entry)) (now (out .entry)) at r (now (out .exit)) ⌝ }
 {
     let next = at + src.len();
+    if next <= out.len() {
+        copy(src, &mut out[at..]);
+        return next;
+    }
     if at <= out.len() {
         lay(src, &mut out[at..]);
     }

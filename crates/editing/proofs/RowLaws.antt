@@ -2,8 +2,8 @@
 use Prim.Native.Nat.{ℕ, suc, _+_, _-_, _≤_, _<_}
 use native.Mathlib.Omega.{arith}
 use native.Mathlib.Numerals.{add-one}
-use mathlib.Core.Path.{_≡_, ap, sym, _∙_}
-use mathlib.Core.Bool.{Bool, true, false, not, _&&_, _||_}
+use mathlib.Core.Path.{_≡_, refl, ap, sym, _∙_}
+use mathlib.Core.Bool.{Bool, true, false, not, _&&_, _||_, false≢true}
 use borrow.Author.Tests.{le-leb, lt-leb, eq-eqb, ne-eqb}
 use Rattle.rules.specs.Bytes.{Bytes}
 use Rattle.rules.specs.Decode.{readRow}
@@ -12,7 +12,7 @@ use Rattle.editing.specs.declared.Plan.{Plan}
 use Rattle.editing.specs.declared.Open.{Open}
 use Rattle.editing.specs.declared.Head.{Head}
 use Rattle.editing.specs.Walk.{matches, isEverything, isGround, isLater, spared, shifted, movedIndex, closes, closed, isBelow, isTaken, isFilled, taken, kept, atFirst}
-use Rattle.editing.specs.Step.{rowOf, bare, Moves}
+use Rattle.editing.specs.Step.{rowOf, bare, staysDue, Moves}
 
 -- ---- renumbering
 module _ (s : Shift) (i : ℕ) (small : i ≤ 1000) where
@@ -33,6 +33,12 @@ module _ (p : Plan) (h : Head) (r : ℕ) where
   moved-text n m l = (rw (ne-eqb (h .sort) 1 n, ne-eqb (h .sort) 2 m, movedIndex), omega arith)
 
 -- ---- what is open
+-- nothing is due right below
+pub due-still : (d b l : Bool) → (d && b) ≡ false → d ≡ (d && not (b && l))
+due-still false b l e = refl
+due-still true false l e = refl
+due-still true true l e = absurd (false≢true (sym e))
+
 module _ (o : Open) (h : Head) where
   pub taken-is : _≡_ {A = Open} (record { taking = h .depth + 1; below = o .below; due = o .due }) (taken o (bare h))
   taken-is = rw (add-one (h .depth))
@@ -48,9 +54,8 @@ module _ (o : Open) (h : Head) where
     pub kept-opens : b ≡ true → _≡_ {A = Open} (record { taking = 0; below = h .depth + 2; due = p .fills }) (kept p o (bare h))
     kept-opens t = let u : matches (p .above) (bare h .row) ≡ true = sym e ∙ t in let z : h .depth + 2 ≡ suc (suc (h .depth)) = omega arith in rw (u, z, kept)
 
-    pub kept-on : (i l : Bool) → b ≡ false → i ≡ isBelow o (bare h) → l ≡ isLater (p .marks) (p .later) (bare h .row)
-        → _≡_ {A = Open} (record { taking = 0; below = o .below; due = o .due && not (i && l) }) (kept p o (bare h))
-    kept-on i l t ei el = let u : matches (p .above) (bare h .row) ≡ false = sym e ∙ t in rw (u, ei, el, kept)
+    pub kept-on : (d : Bool) → b ≡ false → d ≡ staysDue p o (bare h) → _≡_ {A = Open} (record { taking = 0; below = o .below; due = d }) (kept p o (bare h))
+    kept-on d t ed = let u : matches (p .above) (bare h .row) ≡ false = sym e ∙ t in rw (u, ed, kept)
 
   pub taken-by : (p : Plan) (a b m : Bool) → a ≡ isEverything (p .above) → b ≡ isBelow o (bare h) → m ≡ matches (p .takes) (bare h .row)
       → (((a || b) && m) && not (p .keeps && o .due)) ≡ isTaken p o (bare h)

@@ -24,7 +24,7 @@ use Rattle.editing.specs.declared.Open.{Open}
 use Rattle.editing.specs.declared.Head.{Head}
 use Rattle.editing.specs.declared.Stepped.{Stepped}
 use Rattle.editing.specs.Walk.{matches, isEverything, isLater, spared, movedIndex, keptRow, gone, closes, closed, isBelow, isTaken, isFilled, taken, kept, owed, rowDepth, emitted, onward}
-use Rattle.editing.specs.Step.{rowOf, bare, stepRows, stepOpen, Came, Ready, Near, WalkRow, Seen}
+use Rattle.editing.specs.Step.{rowOf, bare, rowWith, stepRows, stepOpen, Came, Ready, Near, WalkRow, Seen}
 
 -- ---- no test looks at a row's value
 matches-any : (w : Which) (h : Head) (u : Bytes) → matches w (rowOf h u .row) ≡ matches w (bare h .row)
@@ -75,6 +75,13 @@ pub asks-of : {w n a : ℕ} {txt : Bytes} {p : Plan} {c : Cursor} {d : ℕ} → 
 asks-of r m h = record { width = r .width; room = m; text = r .text; attributes = r .attributes; deep = omega (arith, r .definitions) }
 
 -- ---- a row that is kept
+module _ {w : ℕ} {valued : Bool} (index : ℕ) (v row : Bytes) {c r : Cursor} {out out′ : Bytes} where
+  pub with-value : valued ≡ true → Written w (valuedRow index v row ∷ []) c out r out′ → Written w (rowWith valued index v row ∷ []) c out r out′
+  with-value e p = written-as (ap (λ (b : Bool). rowWith b index v row ∷ []) e) p
+
+  pub with-own : valued ≡ false → Written w (movedRow index row ∷ []) c out r out′ → Written w (rowWith valued index v row ∷ []) c out r out′
+  with-own e p = written-as (ap (λ (b : Bool). rowWith b index v row ∷ []) e) p
+
 module _ {w : ℕ} (p : Plan) (v : Bytes) (h : Head) (row : Bytes) (s : Seen w h row) (index : ℕ) (e : index ≡ movedIndex p (bare h .row)) where
   moved-as : index ≡ movedIndex p (readRow row .row)
   moved-as = e ∙ ap (λ (x : Deep FlatRow). movedIndex p (x .row)) (s .is)
@@ -87,12 +94,8 @@ module _ {w : ℕ} (p : Plan) (v : Bytes) (h : Head) (row : Bytes) (s : Seen w h
   row-as b t u q =
       ap₂ (λ (j : ℕ) (u : Bytes). valuedRow j u row) (sym moved-as) (ap (λ (z : Bool). elim z [ true ↦ v | false ↦ readRow row .row .value ]) t ∙ q)
 
-  module _ {c r : Cursor} {out out′ : Bytes} where
-    pub row-valued : h .serial ≡ p .set → Written w (valuedRow index v row ∷ []) c out r out′ → Written w (keptRow p v (readRow row) ∷ []) c out r out′
-    row-valued q x = written-as (ap (λ (x : Deep FlatRow). x ∷ []) (row-as true (eq-eqb (readRow row .row .serial) (p .set) (sym serial-as ∙ q)) v refl)) x
-
-    pub row-kept : (h .serial ≡ p .set → ⊥) → Written w (movedRow index row ∷ []) c out r out′ → Written w (keptRow p v (readRow row) ∷ []) c out r out′
-    row-kept q x = written-as (ap (λ (x : Deep FlatRow). x ∷ []) (row-as false (ne-eqb (readRow row .row .serial) (p .set) (λ z. q (serial-as ∙ z))) (readRow row .row .value) refl)) x
+  pub row-kept : {c r : Cursor} {out out′ : Bytes} → Written w (rowWith (eqb (h .serial) (p .set)) index v row ∷ []) c out r out′ → Written w (keptRow p v (readRow row) ∷ []) c out r out′
+  row-kept x = written-as (ap (λ (x : Deep FlatRow). x ∷ []) (row-as (eqb (h .serial) (p .set)) (ap (λ (k : ℕ). eqb k (p .set)) (sym serial-as)) _ refl)) x
 
 pub seen : {w : ℕ} {h : Head} {row : Bytes} → WalkRow w row → rowOf h (readRow row .row .value) ≡ readRow row → Seen w h row
 seen r e =
@@ -134,6 +137,13 @@ module _ {w : ℕ} (p : Plan) (v : Bytes) (fill : ℕ → List (Deep FlatRow)) (
           opened = g ∙ sym (kept-any p o h (readRow row .row .value)) ∙ ap (kept p o) (s .is) ∙ ap (λ (z : Bool). elim z [ true ↦ taken o (readRow row) | false ↦ kept p o (readRow row) ])
               (sym (is-taken ∙ q));
         }
+
+    -- nothing is due right below
+    pub came-still : {c r : Cursor} {out out′ : Bytes} → b ≡ false → (o .due && isBelow o (bare h)) ≡ false → Written w (keptRow p v (readRow row) ∷ []) c out r out′ → (k : Open) → k ≡ kept p o (bare h)
+        → Came w (emitted p v fill o (readRow row)) (onward p v fill o (readRow row)) c out (record { cursor = r; opened = k }) out′
+    came-still q n x k g =
+        let none : false ≡ isFilled p o (bare h) = sym (ap (λ (z : Bool). z && (isLater (p .marks) (p .later) (bare h .row) && not (spared p (bare h .row)))) n) in
+        came-kept q false none (owed-none (fill (h .depth)) refl) x k g
 
   module _ (g : Bool) (e : g ≡ gone o (bare h)) where
     is-gone : gone o (readRow row) ≡ g

@@ -1,7 +1,7 @@
 -- One step of the walk: what the code reads of a row, and what comes of it.
 use Prim.Native.Nat.{ℕ, zero, suc, _≤_}
 use mathlib.Core.Path.{_≡_}
-use mathlib.Core.Bool.{true, false, _&&_}
+use mathlib.Core.Bool.{Bool, true, false, not, _&&_}
 use mathlib.Core.List.{List, [], _++_}
 use lib.ListN.{length, take, drop}
 use Rattle.rules.specs.Bytes.{Bytes}
@@ -10,6 +10,7 @@ use Rattle.rules.specs.Layout.{FlatRow, rowSize}
 use Rattle.rules.specs.Decode.{readRow}
 use Rattle.rowpass.specs.Reading.{indexForm, attributeIn}
 use Rattle.layout.specs.Bodies.{Width}
+use Rattle.layout.specs.RowBytes.{valuedRow}
 use Rattle.rows.specs.declared.Cursor.{Cursor}
 use Rattle.rows.specs.Written.{Written, OldRow}
 use Rattle.filling.specs.declared.Filling.{Filling}
@@ -20,7 +21,7 @@ use Rattle.editing.specs.declared.Shift.{Shift}
 use Rattle.editing.specs.declared.Open.{Open}
 use Rattle.editing.specs.declared.Head.{Head}
 use Rattle.editing.specs.declared.Stepped.{Stepped}
-use Rattle.editing.specs.Walk.{gone, closes, closed, owed, rowDepth, emitted, onward}
+use Rattle.editing.specs.Walk.{isLater, gone, closes, closed, isBelow, owed, rowDepth, emitted, onward}
 
 -- a row with what was read of it, and a value
 abbrev pub rowOf : Head → Bytes → Deep FlatRow
@@ -28,6 +29,14 @@ rowOf h v = record { depth = h .depth; row = record { sort = h .sort; index = h 
 
 abbrev pub bare : Head → Deep FlatRow
 bare h = rowOf h []
+
+-- an old row with another index, and with another value if b
+abbrev pub rowWith : Bool → ℕ → Bytes → Bytes → Deep FlatRow
+rowWith b index v row = valuedRow index (elim b [ true ↦ v | false ↦ readRow row .row .value ]) row
+
+-- what is due stays due after a row that opens nothing
+abbrev pub staysDue : Plan → Open → Deep FlatRow → Bool
+staysDue p o x = o .due && not (isBelow o x && isLater (p .marks) (p .later) (x .row))
 
 module _ (p : Plan) (v : Bytes) (fill : ℕ → List (Deep FlatRow)) where
   -- the rows that come of a row, and what is open after it

@@ -2,16 +2,17 @@
 use filling::Filling;
 use rows::Cursor;
 ghost use mathlib.Core.Path.{_≡_};
+ghost use mathlib.Core.Bool.{false};
 ghost use mathlib.Core.List.{[], _∷_};
 ghost use Prim.Native.Nat.{_+_, _*_, _-_, _≤_, _<_};
 ghost use lib.ListN.{length};
 ghost use Rattle.rules.specs.Layout.{rowSize};
 ghost use Rattle.rules.specs.Decode.{readRow, readMany};
 ghost use Rattle.layout.specs.Bodies.{Width};
-ghost use Rattle.rows.specs.Written.{Written, Room};
+ghost use Rattle.rows.specs.Written.{Written, Room, OldRow};
 ghost use Rattle.filling.specs.Parts.{Asks, Indexed};
 ghost use Rattle.editing.specs.Walk.{matches, isEverything, isGround, markOf, isLater, spared, shifted, movedIndex, keptRow, gone, closes, closed, isBelow, isTaken, isFilled, taken, kept, owed, emitted, onward, walked, atFirst};
-ghost use Rattle.editing.specs.Step.{rowOf, bare, stepRows, stepOpen, Came, fillWith, fillOf, Moves, Planned, Ready, Fair, Near, WalkRow, Seen, WalkRows};
+ghost use Rattle.editing.specs.Step.{rowOf, bare, rowWith, staysDue, stepRows, stepOpen, Came, fillWith, fillOf, Moves, Planned, Ready, Fair, Near, WalkRow, Seen, WalkRows};
 
 /// Some rows: none; every row, and what stands above the documents; that alone; the elements of a definition; the rows of an attribute; the
 /// element with a serial.
@@ -270,8 +271,9 @@ fn taken(o: Open, h: Head) -> Open
     }
 }
 
-fn kept(p: Plan, o: Open, h: Head, m: u8) -> Open
-    requires { ⌜ Fair h × (m ≡ markOf (p .marks) (bare h .row)) ⌝ }
+// `due`: what is due stays due after the row.
+fn kept(p: Plan, o: Open, h: Head, due: bool) -> Open
+    requires { ⌜ Fair h × (due ≡ staysDue p o (bare h)) ⌝ }
     ensures { λ r. ⌜ r ≡ kept p o (bare h) ⌝ }
 {
     let above = p.above;
@@ -285,7 +287,7 @@ fn kept(p: Plan, o: Open, h: Head, m: u8) -> Open
     Open {
         taking: 0,
         below: o.below,
-        due: o.due & !(is_below(o, h) & is_later(p, h, m)),
+        due,
     }
 }
 
@@ -333,16 +335,68 @@ fn put_owed<'a>(
     c
 }
 
-// A row that is kept.
-fn put_row(w: usize, p: Plan, text: &[u8], h: Head, row: &[u8], c: Cursor, out: &mut [u8]) -> Cursor
-    requires { ⌜ Width w × Planned p × (length (now text) ≤ w) × Seen w h (now row) × Room w c ⌝ }
-    ensures { λ r. ⌜ Written w (keptRow p (now (text .entry)) (readRow (now (row .entry))) ∷ []) c (now (out .entry)) r (now (out .exit)) ⌝ }
+// A row that is kept, which gets the text if `valued`.
+fn put_row(
+    w: usize,
+    index: usize,
+    valued: bool,
+    text: &[u8],
+    row: &[u8],
+    c: Cursor,
+    out: &mut [u8],
+) -> Cursor
+    requires { ⌜ Width w × (index ≤ 2000) × (length (now text) ≤ w) × OldRow w (now row) × Room w c ⌝ }
+    ensures { λ r. ⌜ Written w (rowWith valued index (now (text .entry)) (now (row .entry)) ∷ []) c (now (out .entry)) r (now (out .exit)) ⌝ }
 {
-    let index = moved_index(p, h);
-    if h.serial == p.set {
+    if valued {
         return rows::put_valued(w, row, index, text, c, out);
     }
     rows::put_kept(w, row, index, c, out)
+}
+
+// What comes of a row that is not taken, where a filling may come right before it.
+fn come_due<'a>(
+    w: usize,
+    n: usize,
+    defs: &'a [u8],
+    parts: &'a [u8],
+    a: usize,
+    attrs: &'a [u8],
+    p: Plan,
+    text: &[u8],
+    h: Head,
+    row: &[u8],
+    o: Open,
+    c: Cursor,
+    out: &mut [u8],
+) -> Stepped
+    requires { ⌜ Ready w n a (now text) p × Seen w h (now row) × Room w c × (isTaken p o (bare h) ≡ false) ⌝ }
+    ensures { λ r. ⌜ Came w (emitted p (now (text .entry)) (fillOf w n (now (defs .entry)) (now (parts .entry)) a (now (attrs .entry)) p (now (text .entry))) o (readRow (now (row .entry)))) (onward p (now (text .entry)) (fillOf w n (now (defs .entry)) (now (parts .entry)) a (now (attrs .entry)) p (now (text .entry))) o (readRow (now (row .entry)))) c (now (out .entry)) r (now (out .exit)) ⌝ }
+{
+    let m = mark(p, h);
+    let filled = is_filled(p, o, h, m);
+    let what = p.filling;
+    let at = put_owed(
+        w,
+        n,
+        defs,
+        parts,
+        a,
+        attrs,
+        what,
+        text,
+        filled,
+        h.depth,
+        c,
+        out,
+    );
+    let index = moved_index(p, h);
+    let next = put_row(w, index, h.serial == p.set, text, row, at, out);
+    let due = o.due & !(is_below(o, h) & is_later(p, h, m));
+    Stepped {
+        cursor: next,
+        opened: kept(p, o, h, due),
+    }
 }
 
 // What comes of a row, where what it closes is closed.
@@ -370,27 +424,14 @@ fn come<'a>(
             opened: taken(o, h),
         };
     }
-    let m = mark(p, h);
-    let filled = is_filled(p, o, h, m);
-    let what = p.filling;
-    let at = put_owed(
-        w,
-        n,
-        defs,
-        parts,
-        a,
-        attrs,
-        what,
-        text,
-        filled,
-        h.depth,
-        c,
-        out,
-    );
-    let next = put_row(w, p, text, h, row, at, out);
+    if o.due & is_below(o, h) {
+        return come_due(w, n, defs, parts, a, attrs, p, text, h, row, o, c, out);
+    }
+    let index = moved_index(p, h);
+    let next = put_row(w, index, h.serial == p.set, text, row, c, out);
     Stepped {
         cursor: next,
-        opened: kept(p, o, h, m),
+        opened: kept(p, o, h, o.due),
     }
 }
 
@@ -462,7 +503,9 @@ pub fn walk<'a>(
         m -= 1;
     }
     let depth = minus(o.below, 1);
-    let due = o.due;
-    let what = plan.filling;
-    put_owed(w, n, defs, parts, a, attrs, what, text, due, depth, at, out)
+    if o.due {
+        let what = plan.filling;
+        return filling::put_filling(w, n, defs, parts, a, attrs, what, text, depth, at, out);
+    }
+    at
 }

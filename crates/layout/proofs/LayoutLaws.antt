@@ -6,13 +6,13 @@ use Prim.Native.Nat.{ℕ, zero, suc, _+_, _-_, _*_, _<_, _≤_}
 use native.Mathlib.Omega.{arith}
 use native.Mathlib.Nat.{mul-le-mul, mul-suc, mul-zero}
 use lib.ListN.{length, take, drop, getD, length-drop, drop-of-length-le}
-use lib.Seq.{take-nil, take-all, drop-drop}
+use lib.Seq.{take-nil, take-all, take-take, drop-drop}
 use Rattle.rules.specs.Bytes.{Bytes}
 use Rattle.rules.specs.Store.{Store}
 use Rattle.rules.specs.Layout.{valueWidth, headerSize, definitionSize, particleSize, attributeSize, rowSize, FlatAttribute, FlatRow, FlatStore, flat, encode}
 use Rattle.rules.specs.Passing.{good}
 use Rattle.rules.specs.Preorder.{Deep}
-use Rattle.rules.specs.Decode.{numberAt, readAttribute, readRow, readMany, definitionCount, particleCount, attributeCount, rowCount, readFlat}
+use Rattle.rules.specs.Decode.{unle, numberAt, readAttribute, readRow, readMany, definitionCount, particleCount, attributeCount, rowCount, readFlat}
 use Rattle.rules.proofs.LayoutLaws.{read-bytes}
 use Rattle.rules.proofs.DecodeLaws.{width-bound, width-most, good-flat}
 use Rattle.codec.proofs.Records.{many-at, many-within}
@@ -168,3 +168,16 @@ unfolding attributeIn
 attribute-window {bs} i r width definitions particles product e =
     e
     ∙ (λ j. windowOf (40 + 20 * definitions .value j + 4 * particles .value j + (product .value ∙ ap (λ (v : ℕ). (20 + v) * i) (width .value)) j) (20 + width .value j) bs)
+
+-- a part of a front of the string
+part-within : (at k size : ℕ) (s : Bytes) → at + k ≤ size → take k (drop at (take size s)) ≡ take k (drop at s)
+part-within zero k size s h = take-take k size s (omega arith)
+part-within (suc at) k zero s h = absurd (omega arith)
+part-within (suc at) k (suc size) [] h = refl
+part-within (suc at) k (suc size) (x ∷ s) h = part-within at k size s (omega arith)
+
+-- the serial of a row, by its place in the body
+pub serial-placed : (w i p : ℕ) (s : Bytes) {r : ℕ} → Product (12 + w) i p → r ≡ numberAt (p + 4) 4 s → r ≡ readRow (recordAt (rowSize w) i s) .row .serial
+serial-placed w i p s x e =
+    let m : ℕ = rowSize w * i in
+    e ∙ ap (λ (k : ℕ). numberAt (k + 4) 4 s) (x .value) ∙ sym (ap unle (part-within 4 4 (rowSize w) (drop m s) (omega arith)) ∙ number-after m 4 4 s)

@@ -94,6 +94,10 @@ module _ {w : ℕ} {row : Bytes} (o : WholeRow w row) where
   pub part-length : (k n : ℕ) → k + n ≤ rowSize w → length (take n (drop k row)) ≡ n
   part-length k n h = length-take-le n (drop k row) (omega (arith, length-drop k row, row-length))
 
+  -- with its own index it is written whole
+  pub kept-laid : (index : ℕ) {at r : ℕ} {out out′ : Bytes} → readRow row .row .index ≡ index → Laid row out at r out′ → RowLaid w (movedRow index row) out at r out′
+  kept-laid index e q = laid-row {w = w} {x = movedRow index row} (laid-as (ap (λ (k : ℕ). rowBytes w (movedRow k row)) (sym e) ∙ o .written) q)
+
   module _ (index : ℕ) {at a : ℕ} {out out₁ : Bytes} (p : Laid (take 2 row ++ le 2 index) out at a out₁) where
     pub moved-laid : {r : ℕ} {out′ : Bytes} → Laid (take (12 + w - 4) (drop 4 row)) out₁ a r out′ → RowLaid w (movedRow index row) out at r out′
     moved-laid q = laid-row {w = w} {x = movedRow index row} (laid-as bytes (laid-then p q))

@@ -136,6 +136,15 @@ pub fn row_serial(row: &[u8]) -> u32
     codec::get_u32(row, 4)
 }
 
+/// The serial of row i, read with no window.
+pub fn row_serial_at(w: usize, rows: &[u8], i: usize) -> u32
+    requires { ⌜ Width w × (i < 4294967296) ⌝ }
+    ensures { λ r. ⌜ r ≡ readRow (recordAt (rowSize w) i (now (rows .entry))) .row .serial ⌝ }
+{
+    let start = times(12 + w, i);
+    codec::get_u32(rows, start + 4)
+}
+
 pub fn row_value(row: &[u8]) -> &[u8]
     ensures { λ r. ⌜ now r ≡ readRow (now (row .entry)) .row .value ⌝ }
 {
@@ -522,6 +531,9 @@ pub fn put_row_moved(w: usize, row: &[u8], index: usize, out: &mut [u8], at: usi
     requires { ⌜ Width w × WholeRow w (now row) × (at + rowSize w < 9223372036854775808) × (index < 65536) ⌝ }
     ensures { λ r. ⌜ RowLaid w (movedRow index (now (row .entry))) (now (out .entry)) at r (now (out .exit)) ⌝ }
 {
+    if row_index(row) == index as u32 {
+        return codec::put(row, out, at);
+    }
     let next = put_row_index(row, index, out, at);
     let end = 12 + w;
     codec::put(&row[4..end], out, next)

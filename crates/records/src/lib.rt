@@ -3,8 +3,8 @@ use codec::byte;
 use codec::get_u16;
 use codec::get_u32;
 ghost use mathlib.Core.Path.{_≡_};
-ghost use Prim.Native.Nat.{min};
-ghost use lib.ListN.{take, drop};
+ghost use Prim.Native.Nat.{min, _+_, _≤_};
+ghost use lib.ListN.{length, take, drop};
 ghost use Rattle.rules.specs.Bytes.{all, between};
 ghost use Rattle.rules.specs.Layout.{definitionSize, attributeSize};
 ghost use Rattle.rules.specs.Decode.{sized, sortOf};
@@ -48,8 +48,23 @@ fn wide(x: u8) -> usize
     x as usize
 }
 
-/// Whether all bytes are 0.
-pub fn zeros(s: &[u8]) -> bool
+// Whether the eight bytes from i on are 0.
+fn eight_zeros(s: &[u8], i: usize) -> bool
+    requires { ⌜ i + 8 ≤ length (now s) ⌝ }
+    ensures { λ r. ⌜ r ≡ zeros (take 8 (drop i (now (s .entry)))) ⌝ }
+{
+    let a = s[i] == 0;
+    let b = s[i + 1] == 0;
+    let c = s[i + 2] == 0;
+    let d = s[i + 3] == 0;
+    let e = s[i + 4] == 0;
+    let f = s[i + 5] == 0;
+    let g = s[i + 6] == 0;
+    let h = s[i + 7] == 0;
+    a & (b & (c & (d & (e & (f & (g & h))))))
+}
+
+fn single_zeros(s: &[u8]) -> bool
     ensures { λ r. ⌜ r ≡ zeros (now (s .entry)) ⌝ }
 {
     let mut i = 0;
@@ -60,6 +75,25 @@ pub fn zeros(s: &[u8]) -> bool
         i += 1;
     }
     true
+}
+
+/// Whether all bytes are 0.
+// By eights; the last eight may overlap those before.
+pub fn zeros(s: &[u8]) -> bool
+    ensures { λ r. ⌜ r ≡ zeros (now (s .entry)) ⌝ }
+{
+    if s.len() < 8 {
+        return single_zeros(s);
+    }
+    let last = s.len() - 8;
+    let mut i = 0;
+    while i < last {
+        if !eight_zeros(s, i) {
+            return false;
+        }
+        i += 8;
+    }
+    eight_zeros(s, last)
 }
 
 // ---- names and values
@@ -95,7 +129,23 @@ fn printable(x: u8) -> bool
     (b' ' <= x) & (x <= b'~')
 }
 
-fn all_printable(s: &[u8]) -> bool
+// Whether the eight bytes from i on are printable.
+fn eight_printable(s: &[u8], i: usize) -> bool
+    requires { ⌜ i + 8 ≤ length (now s) ⌝ }
+    ensures { λ r. ⌜ r ≡ all (between 0x20 0x7E) (take 8 (drop i (now (s .entry)))) ⌝ }
+{
+    let a = printable(s[i]);
+    let b = printable(s[i + 1]);
+    let c = printable(s[i + 2]);
+    let d = printable(s[i + 3]);
+    let e = printable(s[i + 4]);
+    let f = printable(s[i + 5]);
+    let g = printable(s[i + 6]);
+    let h = printable(s[i + 7]);
+    a & (b & (c & (d & (e & (f & (g & h))))))
+}
+
+fn single_printable(s: &[u8]) -> bool
     ensures { λ r. ⌜ r ≡ all (between 0x20 0x7E) (now (s .entry)) ⌝ }
 {
     let mut i = 0;
@@ -106,6 +156,23 @@ fn all_printable(s: &[u8]) -> bool
         i += 1;
     }
     true
+}
+
+fn all_printable(s: &[u8]) -> bool
+    ensures { λ r. ⌜ r ≡ all (between 0x20 0x7E) (now (s .entry)) ⌝ }
+{
+    if s.len() < 8 {
+        return single_printable(s);
+    }
+    let last = s.len() - 8;
+    let mut i = 0;
+    while i < last {
+        if !eight_printable(s, i) {
+            return false;
+        }
+        i += 8;
+    }
+    eight_printable(s, last)
 }
 
 /// Whether the bytes are a name that may stand in a store.

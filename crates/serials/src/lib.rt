@@ -14,7 +14,7 @@ fn serial_at(w: usize, rows: &[u8], k: usize) -> u32
     requires { ⌜ Width w × (k < 4096) ⌝ }
     ensures { λ r. ⌜ r ≡ serialAt w (now (rows .entry)) k ⌝ }
 {
-    layout::row_serial(layout::row_at(w, rows, k))
+    layout::row_serial_at(w, rows, k)
 }
 
 // The place below the row `from - 1` to which the walk for the serial s comes; PLACES where it meets a row with that serial.

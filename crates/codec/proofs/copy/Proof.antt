@@ -1,30 +1,40 @@
 -- `codec::copy` meets its contract.
 -- Assumes nothing.
-use mathlib.Core.Path.{_≡_, refl, _∙_}
-use mathlib.Core.List.{_++_}
-use Prim.Native.Nat.{_≤_, _<_, _-_, zero-le}
+use mathlib.Core.Path.{_≡_, refl, ap, _∙_}
+use mathlib.Core.List.{List, _++_}
+use Prim.Native.Nat.{ℕ, _+_, _≤_, _-_, zero-le}
 use native.Mathlib.Omega.{arith}
-use native.Mathlib.Numerals.{add-one}
-use lib.ListN.{length, take, drop, length-set}
-use lib.Seq.{take-length}
-use Rattle.codec.proofs.Writers.{copy-more}
+use lib.ListN.{length, take, drop}
+use lib.Seq.{sets, take-length}
+use borrow.Author.Needs.{needs}
+use Rattle.codec.proofs.Writers.{copy-part}
 use Rattle.codec.proofs.copy.Statement.{statement}
 use Rattle.codec.proofs.copy.Tie as tie
+use Rattle.codec.proofs.copy.Reads as reads
+use Rattle.codec.proofs.copy.Lts as lts
+use Rattle.codec.proofs.copy_eight.Reads as copy-eight-reads
+use Rattle.codec.proofs.copy_singly.Reads as copy-singly-reads
 
 abbrev Inv-loop : tie.InvT-loop
-Inv-loop src out₀ n i₀ out i = (i ≤ length src) × (out ≡ take i src ++ drop i out₀) × (length out ≡ length out₀)
+Inv-loop src out₀ n last i₀ out i = (i ≤ length src) × (out ≡ take i src ++ drop i out₀) × (length out ≡ length out₀)
 
 abbrev μ-loop : tie.MeasureT-loop
-μ-loop src out₀ n i₀ out i = length src - i
+μ-loop src out₀ n last i₀ out i = length src - i
+
+copy-singly-requires : tie.Need-copy-singly-requires Inv-loop μ-loop
+copy-singly-requires c κs = search needs
+
+same-length : tie.Need-same-length Inv-loop μ-loop
+same-length c = c .before .before .copy-singly .kept .1 .0
+
+returns : tie.Need-returns Inv-loop μ-loop
+returns c = (refl, c .before .before .copy-singly .ensures)
 
 loop-holds : tie.Need-loop-holds Inv-loop μ-loop
 loop-holds c = (zero-le, refl, refl)
 
-shared-slice-read-out : tie.Need-shared-slice-read-out Inv-loop μ-loop
-shared-slice-read-out c = omega arith
-
-slice-write-out : tie.Need-slice-write-out Inv-loop μ-loop
-slice-write-out c = omega arith
+copy-eight-requires : tie.Need-copy-eight-requires Inv-loop μ-loop
+copy-eight-requires c κs = (omega arith, omega arith)
 
 add-i : tie.Need-add-i Inv-loop μ-loop
 add-i c = omega arith
@@ -34,18 +44,32 @@ loop-less c = omega arith
 
 loop-again : tie.Need-loop-again Inv-loop μ-loop
 loop-again c =
-    let l = c .before .before in
-    let i = l .loop .i in
-    let src = l .before .args .src .now in
-    let h : i < length src = omega arith in
-    let g : i < length (l .before .args .out .now) = omega arith in
-    (omega arith, rw (l .loop .inv .1, add-one) (copy-more src _ i h g), simp length-set (l .loop .inv .2))
+    let l = c .before .before .before .before .before in
+    let s = l .before .before .before .before .args in (
+      omega arith,
+      c .before .before .copy-eight .ensures
+          ∙ ap (λ (o : List ℕ). sets o (l .loop .i) (take 8 (drop (l .loop .i) (s .src .now)))) (l .loop .inv .1)
+          ∙ copy-part (s .src .now) (s .out .now) (l .loop .i) (l .loop .i) 8 (omega arith) (omega arith) (omega arith) (omega arith),
+      c .before .before .copy-eight .kept .1 .0 ∙ l .loop .inv .2,
+    )
 
-same-length : tie.Need-same-length Inv-loop μ-loop
-same-length c = c .before .loop .inv .2
+copy-eight-requires-2 : tie.Need-copy-eight-requires-2 Inv-loop μ-loop
+copy-eight-requires-2 c κs = (omega arith, omega arith)
 
-returns : tie.Need-returns Inv-loop μ-loop
-returns c = let e : c .before .loop .i ≡ length (c .before .before .args .src .now) = omega arith in (refl, c .before .loop .inv .1 ∙ rw (e, take-length))
+same-length-2 : tie.Need-same-length-2 Inv-loop μ-loop
+same-length-2 c = c .before .before .copy-eight2 .kept .1 .0 ∙ c .before .before .before .before .before .loop .inv .2
+
+returns-2 : tie.Need-returns-2 Inv-loop μ-loop
+returns-2 c =
+    let l = c .before .before .before .before .before in
+    let s = l .before .before .before .before .args in
+    let e : length (s .src .now) - 8 + 8 ≡ length (s .src .now) = omega arith in (
+      refl,
+      c .before .before .copy-eight2 .ensures
+          ∙ ap (λ (o : List ℕ). sets o (length (s .src .now) - 8) (take 8 (drop (length (s .src .now) - 8) (s .src .now)))) (l .loop .inv .1)
+          ∙ copy-part (s .src .now) (s .out .now) (l .loop .i) (length (s .src .now) - 8) 8 (omega arith) (omega arith) (omega arith) (omega arith)
+          ∙ rw (e, take-length),
+    )
 
 pub copy-spec : {M : Type 1} → statement M
 copy-spec =
@@ -53,11 +77,14 @@ copy-spec =
     (tie.spec
     Inv-loop
     μ-loop
+    copy-singly-requires
+    same-length
+    returns
     loop-holds
-    shared-slice-read-out
-    slice-write-out
+    copy-eight-requires
     add-i
     loop-less
     loop-again
-    same-length
-    returns)
+    copy-eight-requires-2
+    same-length-2
+    returns-2)

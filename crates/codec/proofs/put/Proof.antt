@@ -1,14 +1,36 @@
 -- `codec::put` meets its contract.
 -- Assumes nothing.
 use mathlib.Core.Path.{refl, sym}
-use Rattle.codec.proofs.Writers.{tail-sets, sets-past}
+use Rattle.codec.proofs.Writers.{tail-copied, tail-sets, sets-past}
 use native.Mathlib.Omega.{arith}
 use borrow.Author.Needs.{needs}
 use Rattle.codec.proofs.put.Statement.{statement}
 use Rattle.codec.proofs.put.Tie as tie
+use Rattle.codec.proofs.put.Reads as reads
+use Rattle.codec.proofs.put.Lts as lts
+use Rattle.codec.proofs.copy.Reads as copy-reads
+use Rattle.codec.proofs.lay.Reads as lay-reads
 
 add-next : tie.Need-add-next
 add-next c = search needs
+
+sub-copy : tie.Need-sub-copy
+sub-copy c = search needs
+
+part-copy-start : tie.Need-part-copy-start
+part-copy-start c = search needs
+
+part-copy-end : tie.Need-part-copy-end
+part-copy-end c = search needs
+
+copy-requires : tie.Need-copy-requires
+copy-requires c κs = search needs
+
+same-length : tie.Need-same-length
+same-length c = search needs
+
+returns : tie.Need-returns
+returns c = let s = c .before .before .before .before .before .before .before .args in record { next = refl; stored = tail-copied (s .out .now) _ (s .src .now) (s .at) (omega arith) (c .before .before .copy .ensures .1) }
 
 sub-lay : tie.Need-sub-lay
 sub-lay c = search needs
@@ -22,24 +44,30 @@ part-lay-end c = search needs
 lay-requires : tie.Need-lay-requires
 lay-requires c κs = search needs
 
-same-length : tie.Need-same-length
-same-length c = search needs
-
-returns : tie.Need-returns
-returns c = let s = c .before .before .before .before .before .before .before .args in record { next = refl; stored = tail-sets (s .out .now) _ (s .src .now) (s .at) (omega arith) (c .before .before .lay .ensures) }
+same-length-2 : tie.Need-same-length-2
+same-length-2 c = search needs
 
 returns-2 : tie.Need-returns-2
-returns-2 c = let s = c .before .before .before .args in record { next = refl; stored = sym (sets-past (s .src .now) (s .out .now) (s .at) (omega arith)) }
+returns-2 c = let s = c .before .before .before .before .before .before .before .before .args in record { next = refl; stored = tail-sets (s .out .now) _ (s .src .now) (s .at) (omega arith) (c .before .before .lay .ensures) }
+
+returns-3 : tie.Need-returns-3
+returns-3 c = let s = c .before .before .before .before .args in record { next = refl; stored = sym (sets-past (s .src .now) (s .out .now) (s .at) (omega arith)) }
 
 pub put-spec : {M : Type 1} → statement M
 put-spec =
     tie.close
     (tie.spec
     add-next
+    sub-copy
+    part-copy-start
+    part-copy-end
+    copy-requires
+    same-length
+    returns
     sub-lay
     part-lay-start
     part-lay-end
     lay-requires
-    same-length
-    returns
-    returns-2)
+    same-length-2
+    returns-2
+    returns-3)

@@ -1,8 +1,10 @@
 -- `editing::come` meets its contract.
-use native.Mathlib.Omega.{arith}
-use borrow.Author.Needs.{needs}
+use mathlib.Core.Path.{ap, sym, _∙_}
+use mathlib.Core.Bool.{Bool, _&&_}
 use Rattle.editing.specs.Step.{fillOf}
-use Rattle.editing.proofs.StepLaws.{asks-of, came-taken, came-kept}
+use Rattle.editing.proofs.RowLaws.{due-still}
+use Rattle.editing.proofs.StepLaws.{came-taken, came-still, row-kept}
+use borrow.Author.Needs.{needs}
 use Rattle.editing.proofs.come.Statement.{statement}
 use Rattle.editing.proofs.come.Tie as tie
 
@@ -19,39 +21,41 @@ returns c =
     came-taken (a .p) (a .text .now) (fillOf (a .w) (a .n) (a .defs .now) (a .parts .now) (a .a) (a .attrs .now) (a .p) (a .text .now)) (a .o) (a .h) (a .row .now) (s .pre .1) _
     (c .before .before .is-taken .ensures) (c .before .if1 .taken) _ (c .taken .ensures)
 
-mark-requires : tie.Need-mark-requires
-mark-requires c κs = search needs
+is-below-requires : tie.Need-is-below-requires
+is-below-requires c κs = search needs
 
-is-filled-requires : tie.Need-is-filled-requires
-is-filled-requires c κs = (c .before .before .before .before .before .before .before .before .before .pre .1 .fair, c .mark .ensures)
-
-put-owed-requires : tie.Need-put-owed-requires
-put-owed-requires c κs =
-    let s = c .before .before .before .before .before .before .before .before .before .before .before in
-    (s .pre .0 .filling, asks-of (s .pre .0) (s .pre .2) (omega (arith, s .pre .1 .fair .depth)))
-
-put-row-requires : tie.Need-put-row-requires
-put-row-requires c κs =
-    let s = c .before .before .before .before .before .before .before .before .before .before .before .before .before .before .before in
-    (s .pre .0 .width, s .pre .0 .plan, s .pre .0 .text, s .pre .1, c .before .before .before .put-owed .ensures .room (s .pre .2))
-
-kept-requires : tie.Need-kept-requires
-kept-requires c κs =
-    let m = c .before .before .before .before .before .before .before .before .before in
-    (m .before .before .before .before .before .before .before .before .before .pre .1 .fair, m .mark .ensures)
+come-due-requires : tie.Need-come-due-requires
+come-due-requires c κs = let s = c .before .before .before .before .before .before .before .before .before .before .before .before in (s .pre .0, s .pre .1, s .pre .2, sym (c .before .before .before .before .before .is-taken .ensures) ∙ c .before .before .before .before .if1 .left)
 
 same-length : tie.Need-same-length
 same-length c = search needs
 
 returns-2 : tie.Need-returns-2
-returns-2 c =
+returns-2 c = c .before .before .come-due .ensures
+
+moved-index-requires : tie.Need-moved-index-requires
+moved-index-requires c κs = let s = c .before .before .before .before .before .before .before .before .before .before .before in (s .pre .0 .plan, s .pre .1 .fair)
+
+put-row-requires : tie.Need-put-row-requires
+put-row-requires c κs = let s = c .before .before .before .before .before .before .before .before .before .before .before .before .before .before .before in (s .pre .0 .width, c .before .before .before .moved-index .ensures .1, s .pre .0 .text, s .pre .1 .old, s .pre .2)
+
+kept-requires : tie.Need-kept-requires
+kept-requires c κs =
+    let s = c .before .before .before .before .before .before .before .before .before .before .before .before .before .before .before .before .before .before in
+    let o = s .args .o in
+    (s .pre .1 .fair, due-still (o .due) _ _ (ap (λ (z : Bool). o .due && z) (sym (c .before .before .before .before .before .before .before .before .before .is-below .ensures)) ∙ c .before .before .before .before .before .before .before .if2 .left))
+
+same-length-2 : tie.Need-same-length-2
+same-length-2 c = search needs
+
+returns-3 : tie.Need-returns-3
+returns-3 c =
     let s = c .before .before .before .before .before .before .before .before .before .before .before .before .before .before .before .before .before .before .before in
     let a = s .args in
-    came-kept (a .p) (a .text .now) (fillOf (a .w) (a .n) (a .defs .now) (a .parts .now) (a .a) (a .attrs .now) (a .p) (a .text .now)) (a .o) (a .h) (a .row .now) (s .pre .1) _
-    (c .before .before .before .before .before .before .before .before .before .before .before .before .is-taken .ensures)
-    (c .before .before .before .before .before .before .before .before .before .before .before .if1 .left) _
-    (c .before .before .before .before .before .before .before .before .before .is-filled .ensures)
-    (c .before .before .before .before .before .before .before .put-owed .ensures) (c .before .before .before .put-row .ensures) _ (c .kept .ensures)
+    came-still (a .p) (a .text .now) (fillOf (a .w) (a .n) (a .defs .now) (a .parts .now) (a .a) (a .attrs .now) (a .p) (a .text .now)) (a .o) (a .h) (a .row .now) (s .pre .1) _
+    (c .before .before .before .before .before .before .before .before .before .before .before .before .is-taken .ensures) (c .before .before .before .before .before .before .before .before .before .before .before .if1 .left)
+    (ap (λ (z : Bool). a .o .due && z) (sym (c .before .before .before .before .before .before .before .before .before .before .is-below .ensures)) ∙ c .before .before .before .before .before .before .before .before .if2 .left)
+    (row-kept (a .p) (a .text .now) (a .h) (a .row .now) (s .pre .1) _ (c .before .before .before .before .before .before .before .moved-index .ensures .0) (c .before .before .before .put-row .ensures)) _ (c .kept .ensures)
 
 pub come-spec : {M : Type 1} → statement M
 come-spec =
@@ -60,10 +64,12 @@ come-spec =
     is-taken-requires
     taken-requires
     returns
-    mark-requires
-    is-filled-requires
-    put-owed-requires
+    is-below-requires
+    come-due-requires
+    same-length
+    returns-2
+    moved-index-requires
     put-row-requires
     kept-requires
-    same-length
-    returns-2)
+    same-length-2
+    returns-3)

@@ -1,3 +1,4 @@
+-- `editing::kept` meets its contract.
 use Rattle.editing.proofs.RowLaws.{kept-opens, kept-on}
 use borrow.Author.Needs.{needs}
 use Rattle.editing.proofs.kept.Statement.{statement}
@@ -12,19 +13,8 @@ add-t7 c = search needs
 returns : tie.Need-returns
 returns c = let s = c .before .before .before in kept-opens (s .args .o) (s .args .h) (s .args .p) _ (c .before .before .matches .ensures) (c .before .if1 .taken)
 
-is-below-requires : tie.Need-is-below-requires
-is-below-requires c κs = search needs
-
-is-later-requires : tie.Need-is-later-requires
-is-later-requires c κs = c .before .before .before .pre .1
-
 returns-2 : tie.Need-returns-2
-returns-2 c =
-    let s = c .before .before .before .before .before in
-    kept-on (s .args .o) (s .args .h) (s .args .p) _ (c .before .before .before .before .matches .ensures) _ _ (c .before .before .before .if1 .left) (c .before .before .is-below .ensures)
-    (c .before .is-later .ensures)
+returns-2 c = let s = c .before .before in kept-on (s .args .o) (s .args .h) (s .args .p) _ (c .before .matches .ensures) _ (c .if1 .left) (s .pre .1)
 
 pub kept-spec : {M : Type 1} → statement M
-kept-spec =
-    tie.close
-    (tie.spec matches-requires add-t7 returns is-below-requires is-later-requires returns-2)
+kept-spec = tie.close (tie.spec matches-requires add-t7 returns returns-2)

@@ -1,11 +1,8 @@
 -- `editing::put_row` meets its contract.
-use Rattle.editing.proofs.StepLaws.{row-valued, row-kept}
+use Rattle.editing.proofs.StepLaws.{with-value, with-own}
 use borrow.Author.Needs.{needs}
 use Rattle.editing.proofs.put_row.Statement.{statement}
 use Rattle.editing.proofs.put_row.Tie as tie
-
-moved-index-requires : tie.Need-moved-index-requires
-moved-index-requires c κs = search needs
 
 put-valued-requires : tie.Need-put-valued-requires
 put-valued-requires c κs = search needs
@@ -14,10 +11,7 @@ same-length : tie.Need-same-length
 same-length c = search needs
 
 returns : tie.Need-returns
-returns c =
-    let s = c .before .before .before .before .before .before .before .before .before .before .before in
-    row-valued (s .args .p) (s .args .text .now) (s .args .h) (s .args .row .now) (s .pre .3) _ (c .before .before .before .before .before .before .before .moved-index .ensures .0)
-    (c .before .before .before .before .if1 .taken) (c .before .before .put-valued .ensures)
+returns c = let a = c .before .before .before .before .before .before .before .before .args in with-value (a .index) (a .text .now) (a .row .now) (c .before .before .before .before .if1 .taken) (c .before .before .put-valued .ensures)
 
 put-kept-requires : tie.Need-put-kept-requires
 put-kept-requires c κs = search needs
@@ -26,19 +20,9 @@ same-length-2 : tie.Need-same-length-2
 same-length-2 c = search needs
 
 returns-2 : tie.Need-returns-2
-returns-2 c =
-    let s = c .before .before .before .before .before .before .before .before .before .before .before in
-    row-kept (s .args .p) (s .args .text .now) (s .args .h) (s .args .row .now) (s .pre .3) _ (c .before .before .before .before .before .before .before .moved-index .ensures .0)
-    (c .before .before .before .before .if1 .left) (c .before .before .put-kept .ensures)
+returns-2 c = let a = c .before .before .before .before .before .before .before .before .args in with-own (a .index) (a .text .now) (a .row .now) (c .before .before .before .before .if1 .left) (c .before .before .put-kept .ensures)
 
 pub put-row-spec : {M : Type 1} → statement M
 put-row-spec =
     tie.close
-    (tie.spec
-    moved-index-requires
-    put-valued-requires
-    same-length
-    returns
-    put-kept-requires
-    same-length-2
-    returns-2)
+    (tie.spec put-valued-requires same-length returns put-kept-requires same-length-2 returns-2)

@@ -7,7 +7,7 @@ use Rattle.rules.specs.Layout.{rowSize}
 use Rattle.rules.specs.Decode.{readRow, readMany}
 use Rattle.editing.specs.Walk.{walked, atFirst}
 use Rattle.editing.specs.Step.{fillOf}
-use Rattle.editing.proofs.StepLaws.{asks-of}
+use Rattle.editing.proofs.StepLaws.{asks-of, owed-put, owed-none}
 use Rattle.editing.proofs.WalkLaws.{Going, going-start, going-stop, going-first, going-row, going-step, going-end}
 use Rattle.editing.proofs.walk.Statement.{statement}
 use Rattle.editing.proofs.walk.Tie as tie
@@ -83,19 +83,25 @@ loop-again c = going-step (c .before .before .before .before .before .before .be
 minus-requires : tie.Need-minus-requires Inv-loop μ-loop
 minus-requires c κs = search needs
 
-put-owed-requires : tie.Need-put-owed-requires Inv-loop μ-loop
-put-owed-requires c κs =
-    let s = c .before .before .before .before .before .before .before .before .before .before .before .before in (
+put-filling-requires : tie.Need-put-filling-requires Inv-loop μ-loop
+put-filling-requires c κs =
+    let s = c .before .before .before .before .before .before .before .before .before .before .before .before .before in (
       s .pre .0 .filling,
-      asks-of (s .pre .0) (c .before .before .before .loop .inv .room)
-          (omega (arith, c .before .before .before .loop .inv .near .below, c .before .minus .ensures)),
+      asks-of (s .pre .0) (c .before .before .before .before .loop .inv .room)
+          (omega (arith, c .before .before .before .before .loop .inv .near .below, c .before .before .minus .ensures)),
     )
 
 same-length-2 : tie.Need-same-length-2 Inv-loop μ-loop
-same-length-2 c = c .before .before .put-owed .ensures .long ∙ c .before .before .before .before .before .before .loop .inv .long
+same-length-2 c = c .before .before .put-filling .ensures .long ∙ c .before .before .before .before .before .before .before .loop .inv .long
 
 returns-2 : tie.Need-returns-2 Inv-loop μ-loop
-returns-2 c = going-end (c .before .before .before .before .before .before .loop .inv) (omega arith) _ (c .before .before .before .before .minus .ensures) (c .before .before .put-owed .ensures)
+returns-2 c = going-end (c .before .before .before .before .before .before .before .loop .inv) (omega arith) _ (c .before .before .before .before .before .minus .ensures) (owed-put (c .before .before .before .before .if2 .taken) (c .before .before .put-filling .ensures))
+
+same-length-3 : tie.Need-same-length-3 Inv-loop μ-loop
+same-length-3 c = c .before .before .before .loop .inv .long
+
+returns-3 : tie.Need-returns-3 Inv-loop μ-loop
+returns-3 c = going-end (c .before .before .before .loop .inv) (omega arith) _ (c .before .minus .ensures) (owed-none _ (c .if2 .left))
 
 pub walk-spec : {M : Type 1} → statement M
 walk-spec =
@@ -117,6 +123,8 @@ walk-spec =
     loop-less
     loop-again
     minus-requires
-    put-owed-requires
+    put-filling-requires
     same-length-2
-    returns-2)
+    returns-2
+    same-length-3
+    returns-3)

@@ -1,46 +1,67 @@
-use borrow.Author.Tests.{not-true, not-false}
 use Prim.Native.Nat.{_-_}
-use mathlib.Core.Path.{_≡_, sym, _∙_}
-use lib.ListN.{length, drop}
+use mathlib.Core.Path.{_≡_, refl}
+use mathlib.Core.Bool.{true}
+use lib.ListN.{length, take}
 use native.Mathlib.Omega.{arith}
-use Rattle.rules.specs.Bytes.{all, between}
-use Rattle.records.proofs.CodeLaws.{all-on, all-off, all-end}
+use borrow.Author.Tests.{not-true, not-false}
 use borrow.Author.Needs.{needs}
+use Rattle.rules.specs.Bytes.{all, between}
+use Rattle.records.proofs.CodeLaws.{part-on, part-off, part-end}
 use Rattle.records.proofs.all_printable.Statement.{statement}
 use Rattle.records.proofs.all_printable.Tie as tie
 use Rattle.records.proofs.all_printable.Reads as reads
 use Rattle.records.proofs.all_printable.Lts as lts
-use Rattle.records.proofs.printable.Reads as printable-reads
+use Rattle.records.proofs.eight_printable.Reads as eight-printable-reads
+use Rattle.records.proofs.single_printable.Reads as single-printable-reads
 
+-- the first i bytes are printable
 abbrev Inv-loop : tie.InvT-loop
-Inv-loop s i₀ i = all (between 0x20 0x7E) s ≡ all (between 0x20 0x7E) (drop i s)
+Inv-loop s last i₀ i = all (between 0x20 0x7E) (take i s) ≡ true
 
 abbrev μ-loop : tie.MeasureT-loop
-μ-loop s i₀ i = length s - i
+μ-loop s last i₀ i = length s - i
 
-loop-holds : tie.Need-loop-holds Inv-loop μ-loop
-loop-holds c = search needs
-
-shared-slice-read-printable : tie.Need-shared-slice-read-printable Inv-loop μ-loop
-shared-slice-read-printable c = search needs
-
-printable-requires : tie.Need-printable-requires Inv-loop μ-loop
-printable-requires c κs = search needs
+single-printable-requires : tie.Need-single-printable-requires Inv-loop μ-loop
+single-printable-requires c κs = search needs
 
 returns : tie.Need-returns Inv-loop μ-loop
-returns c = all-off (between 0x20 0x7E) (c .before .before .before .before .before .before .args .s .now) (c .before .before .before .before .loop .i) (c .before .before .before .before .loop .inv) (omega arith) (sym (c .before .printable .ensures) ∙ not-true _ (c .if1 .taken))
+returns c = c .single-printable .ensures
 
-add-i : tie.Need-add-i Inv-loop μ-loop
-add-i c = search needs
+sub-last : tie.Need-sub-last Inv-loop μ-loop
+sub-last c = omega arith
 
-loop-less : tie.Need-loop-less Inv-loop μ-loop
-loop-less c = search needs
+loop-holds : tie.Need-loop-holds Inv-loop μ-loop
+loop-holds c = refl
 
-loop-again : tie.Need-loop-again Inv-loop μ-loop
-loop-again c = all-on (between 0x20 0x7E) (c .before .before .before .before .before .before .args .s .now) (c .before .before .before .before .loop .i) (c .before .before .before .before .loop .inv) (omega arith) (sym (c .before .printable .ensures) ∙ not-false _ (c .if1 .left))
+eight-printable-requires : tie.Need-eight-printable-requires Inv-loop μ-loop
+eight-printable-requires c κs = omega arith
 
 returns-2 : tie.Need-returns-2 Inv-loop μ-loop
-returns-2 c = all-end (between 0x20 0x7E) (c .before .before .before .args .s .now) (c .before .loop .i) (c .before .loop .inv) (omega arith)
+returns-2 c =
+    let l = c .before .before .before in
+    let a = l .before .before .before .args in
+    part-off (between 0x20 0x7E) (a .s .now) (l .loop .i) (l .loop .inv) 8 (c .before .eight-printable .ensures) (not-true _ (c .if2 .taken))
+
+add-i : tie.Need-add-i Inv-loop μ-loop
+add-i c = omega arith
+
+loop-less : tie.Need-loop-less Inv-loop μ-loop
+loop-less c = omega arith
+
+loop-again : tie.Need-loop-again Inv-loop μ-loop
+loop-again c =
+    let l = c .before .before .before in
+    let a = l .before .before .before .args in
+    part-on (between 0x20 0x7E) (a .s .now) (l .loop .i) (l .loop .inv) 8 (c .before .eight-printable .ensures) (not-false _ (c .if2 .left))
+
+eight-printable-requires-2 : tie.Need-eight-printable-requires-2 Inv-loop μ-loop
+eight-printable-requires-2 c κs = omega arith
+
+returns-3 : tie.Need-returns-3 Inv-loop μ-loop
+returns-3 c =
+    let l = c .before .before in
+    let a = l .before .before .before .args in
+    part-end (between 0x20 0x7E) (a .s .now) (l .loop .i) (l .loop .inv) (length (a .s .now) - 8) 8 (omega arith) (omega arith) (c .eight-printable2 .ensures)
 
 pub all-printable-spec : {M : Type 1} → statement M
 all-printable-spec =
@@ -48,11 +69,14 @@ all-printable-spec =
     (tie.spec
     Inv-loop
     μ-loop
-    loop-holds
-    shared-slice-read-printable
-    printable-requires
+    single-printable-requires
     returns
+    sub-last
+    loop-holds
+    eight-printable-requires
+    returns-2
     add-i
     loop-less
     loop-again
-    returns-2)
+    eight-printable-requires-2
+    returns-3)

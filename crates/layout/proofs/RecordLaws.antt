@@ -1,7 +1,7 @@
 -- The bytes of a definition, a particle and an attribute, written part by part.
 use mathlib.Core.Path.{_≡_, refl, sym, ap, _∙_}
 use mathlib.Core.List.{[], _∷_, _++_}
-use Prim.Native.Nat.{ℕ, zero, suc, _+_, _-_, _≤_}
+use Prim.Native.Nat.{ℕ, zero, suc, _+_, _-_, _*_, _≤_}
 use native.Mathlib.Nat.{le-of-suc-le-suc}
 use native.Mathlib.Omega.{arith}
 use lib.ListN.{length, take, drop, replicate, length-drop}
@@ -11,7 +11,7 @@ use Rattle.rules.specs.Layout.{le, field, nameWidth, attributeSize, definitionB
 use Rattle.rules.specs.Decode.{readParticle}
 use Rattle.codec.specs.Laid.{Laid}
 use Rattle.codec.proofs.Writers.{laid-then, laid-as}
-use Rattle.layout.specs.Bodies.{windowOf}
+use Rattle.layout.specs.Bodies.{windowOf, Product}
 use Rattle.layout.specs.RecordBytes.{definitionOf, attributeOf, indexedBytes, ownedBytes}
 
 -- ---- a value, zero filled
@@ -43,3 +43,7 @@ pub owned-laid : (w : ℕ) (rec : Bytes) (owner : ℕ) {u out out₁ out₂ : By
     → Laid (ownedBytes owner rec) out at at₂ out₂
 unfolding ownedBytes
 owned-laid w rec owner h g a b = laid-as (ap (λ (l : Bytes). owner ∷ l) (sym (g ∙ take-all (20 + w) (drop 1 rec) (omega (arith, length-drop 1 rec))))) (laid-then a b)
+
+-- ---- parts of a body
+pub records-rest : (s r : Bytes) (size i p : ℕ) → Product size i p → r ≡ windowOf p (length s) s → r ≡ drop (size * i) s
+records-rest s r size i p x e = e ∙ take-all (length s) (drop p s) (omega (arith, length-drop p s)) ∙ ap (λ (k : ℕ). drop k s) (x .value)

@@ -27,7 +27,10 @@ pub fn is_taken(store: &[u8], name: &[u8]) -> bool
     let defs = layout::definitions_of(store);
     let mut i = 0;
     while i < count {
-        if codec::equal(name, layout::definition_name(layout::definition_at(defs, i))) {
+        if codec::equal(
+            name,
+            layout::definition_name(layout::definition_at(defs, i)),
+        ) {
             return true;
         }
         i += 1;

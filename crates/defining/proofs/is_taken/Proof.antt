@@ -1,0 +1,68 @@
+-- `defining::is_taken` meets its contract.
+use Prim.Native.Nat.{_-_}
+use native.Mathlib.Omega.{arith}
+use Rattle.rules.specs.Layout.{definitionSize}
+use Rattle.rules.specs.Decode.{readDefinition}
+use Rattle.defining.proofs.Searching.{Searching, searching-start, searching-hit, searching-on, searching-end}
+use Rattle.defining.proofs.Naming.{hasName, definitions-named, record-named}
+use borrow.Author.Needs.{needs}
+use Rattle.defining.proofs.is_taken.Statement.{statement}
+use Rattle.defining.proofs.is_taken.Tie as tie
+
+-- the definitions from number i on are left
+abbrev Inv-loop : tie.InvT-loop
+Inv-loop store name count defs i₀ i = Searching readDefinition definitionSize (hasName name) defs count i
+
+abbrev μ-loop : tie.MeasureT-loop
+μ-loop store name count defs i₀ i = count - i
+
+definition-count-requires : tie.Need-definition-count-requires Inv-loop μ-loop
+definition-count-requires c κs = search needs
+
+definitions-of-requires : tie.Need-definitions-of-requires Inv-loop μ-loop
+definitions-of-requires c κs = search needs
+
+loop-holds : tie.Need-loop-holds Inv-loop μ-loop
+loop-holds c = searching-start readDefinition definitionSize (hasName (c .before .before .before .before .args .name .now)) _ _
+
+definition-at-requires : tie.Need-definition-at-requires Inv-loop μ-loop
+definition-at-requires c κs = omega (arith, c .before .before .before .definition-count .ensures .small)
+
+definition-name-requires : tie.Need-definition-name-requires Inv-loop μ-loop
+definition-name-requires c κs = search needs
+
+equal-requires : tie.Need-equal-requires Inv-loop μ-loop
+equal-requires c κs = search needs
+
+returns : tie.Need-returns Inv-loop μ-loop
+returns c = let n = c .before .before .before .before .before .before .before .before .before .before .args .name .now in let l = c .before .before .before .before .before .loop in definitions-named (c .before .before .before .before .before .before .before .before .before .before .args .store .now) n (c .before .before .before .before .before .before .before .definition-count .ensures) (c .before .before .before .before .before .before .definitions-of .ensures) (searching-hit readDefinition definitionSize (hasName n) _ _ (l .i) (l .inv) (omega arith) (record-named n (l .i) _ (c .before .before .before .definition-at .ensures) (c .before .before .definition-name .ensures) (c .before .equal .ensures)) (c .if1 .taken))
+
+add-i : tie.Need-add-i Inv-loop μ-loop
+add-i c = search needs
+
+loop-less : tie.Need-loop-less Inv-loop μ-loop
+loop-less c = search needs
+
+loop-again : tie.Need-loop-again Inv-loop μ-loop
+loop-again c = let n = c .before .before .before .before .before .before .before .before .before .before .args .name .now in let l = c .before .before .before .before .before .loop in searching-on readDefinition definitionSize (hasName n) _ _ (l .i) (l .inv) (omega arith) (record-named n (l .i) _ (c .before .before .before .definition-at .ensures) (c .before .before .definition-name .ensures) (c .before .equal .ensures)) (c .if1 .left)
+
+returns-2 : tie.Need-returns-2 Inv-loop μ-loop
+returns-2 c = let n = c .before .before .before .before .before .before .args .name .now in let l = c .before .loop in definitions-named (c .before .before .before .before .before .before .args .store .now) n (c .before .before .before .definition-count .ensures) (c .before .before .definitions-of .ensures) (searching-end readDefinition definitionSize (hasName n) _ _ (l .i) (l .inv) (omega arith))
+
+pub is-taken-spec : {M : Type 1} → statement M
+is-taken-spec =
+    tie.close
+    (tie.spec
+    Inv-loop
+    μ-loop
+    definition-count-requires
+    definitions-of-requires
+    loop-holds
+    definition-at-requires
+    definition-name-requires
+    equal-requires
+    returns
+    add-i
+    loop-less
+    loop-again
+    returns-2)

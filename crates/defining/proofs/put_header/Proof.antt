@@ -1,0 +1,36 @@
+-- `defining::put_header` meets its contract.
+use mathlib.Core.Path.{sym}
+use Rattle.codec.proofs.Writers.{laid-as}
+use Rattle.layout.specs.Header.{headed}
+use borrow.Author.Needs.{needs}
+use Rattle.defining.proofs.put_header.Statement.{statement}
+use Rattle.defining.proofs.put_header.Tie as tie
+
+width-in-requires : tie.Need-width-in-requires
+width-in-requires c κs = search needs
+
+next-serial-requires : tie.Need-next-serial-requires
+next-serial-requires c κs = search needs
+
+row-count-requires : tie.Need-row-count-requires
+row-count-requires c κs = search needs
+
+put-header-requires : tie.Need-put-header-requires
+put-header-requires c κs = search needs
+
+same-length : tie.Need-same-length
+same-length c = search needs
+
+returns : tie.Need-returns
+returns c = let a = c .before .before .before .before .before .before .before .before .before .args in laid-as (λ i. headed (sym (c .before .before .before .before .before .before .width-in .ensures .value) i) (sym (c .before .before .before .before .before .next-serial .ensures .value) i) (a .d) (a .p) (a .a) (sym (c .before .before .before .before .row-count .ensures .value) i) (a .store .now)) (c .before .before .put-header .ensures)
+
+pub put-header-spec : {M : Type 1} → statement M
+put-header-spec =
+    tie.close
+    (tie.spec
+    width-in-requires
+    next-serial-requires
+    row-count-requires
+    put-header-requires
+    same-length
+    returns)

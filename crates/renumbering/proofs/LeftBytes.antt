@@ -1,6 +1,6 @@
 -- The bytes of what change 2 leaves, as the code writes them.
 -- Assumes nothing.
-use Prim.Native.Nat.{ℕ, suc, _+_, _-_, _*_, _<_}
+use Prim.Native.Nat.{ℕ, suc, _+_, _-_, _*_, _<_, _≤_}
 use native.Mathlib.Omega.{arith}
 use native.Mathlib.Numerals.{add-one}
 use mathlib.Core.Path.{_≡_, sym, ap, ap₂, _∙_}
@@ -67,6 +67,9 @@ module _ (bs : Bytes) (p : passes bs ≡ true) (i : ℕ) (h : i < definitionCoun
       in
       laid-as (each-append definitionBytes (take i (f .definitions)) (drop (i + 1) (f .definitions)) ∙ ap₂ (λ (y z : Bytes). y ++ z) (sym front) (sym back)) (laid-then a b)
 
+  pub definitions-short : {d : Bytes} → d ≡ definitionsIn bs → length d ≤ 1280
+  definitions-short e = omega (arith, ap length (e ∙ definitions-at x), length-each definitionBytes definitionSize length-definition (f .definitions), x .fewDefinitions)
+
   -- ---- models and attributes
   pub models-laid : {body : Bytes} {a b n : ℕ} {tail out out₁ out₂ : Bytes} {at at₁ at₂ : ℕ} → body ≡ particlesIn bs → Number (particleCount bs) n
       → Counted (particlesOf i (f .definitions)) (particleCount bs) a → Counted (particlesOf (suc i) (f .definitions)) (particleCount bs) b → tail ≡ drop (particleSize * b) body
@@ -118,9 +121,9 @@ module _ (bs : Bytes) (p : passes bs ≡ true) (i : ℕ) (h : i < definitionCoun
       ∙ (λ j. map (movedRow (lowered (add-one i j) 1) (lowered (eb j) (eb j - ea j))) (f .rows)))
 
   -- q: the plan that the code makes
-  pub rows-laid : {a b : ℕ} {q : Plan} {v : Bytes} {out out₁ : Bytes} {at : ℕ} {r : Cursor} → Counted (attributesOf i (f .attributes)) (attributeCount bs) a → Counted (attributesOf (suc i) (f .attributes)) (attributeCount bs) b
+  pub rows-laid : {a b : ℕ} {q : Plan} (v : Bytes) {out out₁ : Bytes} {at : ℕ} {r : Cursor} → Counted (attributesOf i (f .attributes)) (attributeCount bs) a → Counted (attributesOf (suc i) (f .attributes)) (attributeCount bs) b
       → q ≡ shifting (i + 1) b (b - a) → Written (widthOf bs) (rowsAfter q v f) (walkFrom at bs) out r out₁ → Laid (each (rowBytes (widthOf bs)) (destroyed i f .rows)) out at (r .at) out₁
-  rows-laid {a} {b} {q} {v} ca cb e w =
+  rows-laid {a} {b} {q} v ca cb e w =
       laid-as (bytes-old (widthOf bs) (numberAt 4 4 bs) (destroyed i f .rows) rows-old)
       (written-fitting (written-as (rows-are a b v (ca .is) (cb .is) ∙ ap (λ (s : Plan). rowsAfter s v f) (sym e)) w) (omega (arith, rows-left bs p i h, x .rows, x .fewRows)))
 

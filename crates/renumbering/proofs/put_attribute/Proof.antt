@@ -1,0 +1,32 @@
+-- `renumbering::put_attribute` meets its contract.
+use Rattle.renumbering.proofs.Moving.{attribute-laid}
+use Rattle.renumbering.specs.Bodies.{lowered}
+use Prim.Native.Nat.{suc}
+use borrow.Author.Needs.{needs}
+use Rattle.renumbering.proofs.put_attribute.Statement.{statement}
+use Rattle.renumbering.proofs.put_attribute.Tie as tie
+
+owner-byte-requires : tie.Need-owner-byte-requires
+owner-byte-requires c κs = search needs
+
+lower-byte-requires : tie.Need-lower-byte-requires
+lower-byte-requires c κs = search needs
+
+put-attribute-moved-requires : tie.Need-put-attribute-moved-requires
+put-attribute-moved-requires c κs = search needs
+
+same-length : tie.Need-same-length
+same-length c = search needs
+
+returns : tie.Need-returns
+returns c = attribute-laid (lowered (suc (c .before .before .before .before .before .before .before .before .args .definition)) 1) (c .before .before .before .before .before .before .before .before .args .rec .now) (c .before .before .before .before .before .owner-byte .ensures) (c .before .before .before .before .lower-byte .ensures) (c .before .before .put-attribute-moved .ensures)
+
+pub put-attribute-spec : {M : Type 1} → statement M
+put-attribute-spec =
+    tie.close
+    (tie.spec
+    owner-byte-requires
+    lower-byte-requires
+    put-attribute-moved-requires
+    same-length
+    returns)

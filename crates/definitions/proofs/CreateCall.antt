@@ -22,8 +22,7 @@ use Rattle.rules.proofs.LayoutLaws.{length-flatBytes}
 use Rattle.layout.specs.Bodies.{widthOf, Number}
 use Rattle.lookup.specs.Bodies.{bodiesOf}
 use Rattle.storing.specs.Stores.{storeIn}
-use Rattle.storing.proofs.StoreLaws.{holds}
-use Rattle.storing.proofs.LimitLaws.{width-of-bodies}
+use Rattle.storing.proofs.StoreLaws.{holds, width-of-bodies}
 use Rattle.defining.specs.Bodies.{newDefinition, named}
 use Rattle.definitions.specs.Bodies.{Limit, created}
 use Rattle.defining.proofs.Encoded.{Encoded, encoded}

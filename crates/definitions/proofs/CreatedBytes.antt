@@ -54,15 +54,14 @@ module _ {bs : Bytes} {f : FlatStore} (n : Bytes) (k : ℕ) (x : Encoded bs f) w
       (laid-then header (laid-then front (laid-then new back)))
 
   -- how far they have come
-  module _ {d p a : ℕ} {u out out₁ : Bytes} {at₁ : ℕ} (eu : u ≡ definitionsIn bs) (header : Laid (headed (widthOf bs) (numberAt 4 4 bs) (d + 1) p a (rowCount bs) bs) out 0 at₁ out₁) where
-    pub after-header : at₁ ≤ 40
-    after-header = omega (arith, header .next, headed-short (widthOf bs) (numberAt 4 4 bs) (d + 1) p a (rowCount bs) bs)
+  pub after-header : (d p a : ℕ) {out out₁ : Bytes} {at₁ : ℕ} → Laid (headed (widthOf bs) (numberAt 4 4 bs) d p a (rowCount bs) bs) out 0 at₁ out₁ → at₁ ≤ 40
+  after-header d p a header = omega (arith, header .next, headed-short (widthOf bs) (numberAt 4 4 bs) d p a (rowCount bs) bs)
 
-    pub front-short : length u ≤ 1280
-    front-short = omega (arith, ap length (eu ∙ definitions-at x), length-each definitionBytes definitionSize length-definition (f .definitions), x .fewDefinitions)
+  pub front-short : {u : Bytes} → u ≡ definitionsIn bs → length u ≤ 1280
+  front-short eu = omega (arith, ap length (eu ∙ definitions-at x), length-each definitionBytes definitionSize length-definition (f .definitions), x .fewDefinitions)
 
-  pub back-short : {rest : ℕ} {v : Bytes} → v ≡ drop rest bs → length v ≤ 2000000
-  back-short {rest} e =
+  pub back-short : (rest : ℕ) {v : Bytes} → v ≡ drop rest bs → length v ≤ 2000000
+  back-short rest e =
       omega (
         arith,
         ap length e,

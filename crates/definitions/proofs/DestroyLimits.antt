@@ -19,7 +19,7 @@ use Rattle.rules.proofs.BooleanLaws.{all-left, all-right}
 use Rattle.rules.proofs.LayoutLaws.{length-flatBytes}
 use Rattle.layout.specs.Bodies.{widthOf, WidthIn, Number}
 use Rattle.lookup.specs.Bodies.{bodiesOf}
-use Rattle.storing.proofs.LimitLaws.{width-of-bodies}
+use Rattle.storing.proofs.StoreLaws.{width-of-bodies}
 use Rattle.defining.specs.Bodies.{movedParticle}
 use Rattle.defining.proofs.Encoded.{Encoded, encoded}
 use Rattle.renumbering.specs.Bodies.{lowered, cutOut, particlesOf, Counted, destroyed}

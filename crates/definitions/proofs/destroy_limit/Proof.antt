@@ -1,0 +1,47 @@
+-- `definitions::destroy_limit` meets its contract.
+use Rattle.definitions.proofs.DestroyLimits.{short-room, enough-room}
+use native.Mathlib.Omega.{arith}
+use borrow.Author.Needs.{needs}
+use Rattle.definitions.proofs.destroy_limit.Statement.{statement}
+use Rattle.definitions.proofs.destroy_limit.Tie as tie
+
+width-in-requires : tie.Need-width-in-requires
+width-in-requires c κs = search needs
+
+definition-count-requires : tie.Need-definition-count-requires
+definition-count-requires c κs = search needs
+
+particles-left-requires : tie.Need-particles-left-requires
+particles-left-requires c κs = search needs
+
+attributes-left-requires : tie.Need-attributes-left-requires
+attributes-left-requires c κs = search needs
+
+row-count-requires : tie.Need-row-count-requires
+row-count-requires c κs = search needs
+
+sub-through-rows : tie.Need-sub-through-rows
+sub-through-rows c = search needs
+
+through-rows-requires : tie.Need-through-rows-requires
+through-rows-requires c κs = search needs
+
+returns : tie.Need-returns
+returns c = short-room (c .before .before .before .before .before .before .before .before .args .store .now) (c .before .before .before .before .before .before .before .before .pre .good) (c .before .before .before .before .before .before .before .before .args .i) (c .before .before .before .before .before .before .before .before .pre .there) _ _ (c .before .before .before .before .particles-left .ensures) (c .before .before .before .attributes-left .ensures) (c .before .before .before .before .before .before .before .before .args .room) (c .before .before .before .before .before .before .width-in .ensures) (c .before .before .before .before .before .definition-count .ensures) (c .before .before .row-count .ensures) (c .before .through-rows .ensures) (omega arith)
+
+returns-2 : tie.Need-returns-2
+returns-2 c = enough-room (c .before .before .before .before .before .before .before .before .args .store .now) (c .before .before .before .before .before .before .before .before .pre .good) (c .before .before .before .before .before .before .before .before .args .i) (c .before .before .before .before .before .before .before .before .pre .there) _ _ (c .before .before .before .before .particles-left .ensures) (c .before .before .before .attributes-left .ensures) (c .before .before .before .before .before .before .before .before .args .room) (c .before .before .before .before .before .before .width-in .ensures) (c .before .before .before .before .before .definition-count .ensures) (c .before .before .row-count .ensures) (c .before .through-rows .ensures) (omega arith)
+
+pub destroy-limit-spec : {M : Type 1} → statement M
+destroy-limit-spec =
+    tie.close
+    (tie.spec
+    width-in-requires
+    definition-count-requires
+    particles-left-requires
+    attributes-left-requires
+    row-count-requires
+    sub-through-rows
+    through-rows-requires
+    returns
+    returns-2)

@@ -44,7 +44,15 @@ fn form_passes(store: &[u8], s: Shape) -> bool
     let defs = layout::definition_body(store, s);
     let parts = layout::particle_body(store, s);
     let attrs = layout::attribute_body(store, s);
-    form_fits(s.width, s.definitions, defs, s.particles, parts, s.attributes, attrs)
+    form_fits(
+        s.width,
+        s.definitions,
+        defs,
+        s.particles,
+        parts,
+        s.attributes,
+        attrs,
+    )
 }
 
 // ---- the rows
@@ -58,7 +66,16 @@ fn documents_pass(store: &[u8], s: Shape) -> bool
     let parts = layout::particle_body(store, s);
     let attrs = layout::attribute_body(store, s);
     let rows = layout::row_body(store, s);
-    rowpass::rows_pass(s.width, s.definitions, defs, parts, s.attributes, attrs, rows, s.rows)
+    rowpass::rows_pass(
+        s.width,
+        s.definitions,
+        defs,
+        parts,
+        s.attributes,
+        attrs,
+        rows,
+        s.rows,
+    )
 }
 
 // Whether the serials pass: each from 1, below the next serial, no two alike.

@@ -96,6 +96,10 @@ module _ {bs : Bytes} {s : Shape} (x : ShapeOf bs s) where
   unfolding shapeOf
   width-is = ap (λ (z : Shape). z .width) (x .is)
 
+-- the header, tested at the width of the shape
+pub header-kept : {bs : Bytes} {s : Shape} → ShapeOf bs s → {b : Bool} → not b ≡ false → b ≡ headerFits (s .width) bs → headerFits (widthOf bs) bs ≡ true
+header-kept {bs} x h q = ap (λ (w : ℕ). headerFits w bs) (sym (width-is x)) ∙ kept h q
+
 pub headed : (bs : Bytes) → headerFits (widthOf bs) bs ≡ true → ((i : ℕ) → Fits w8 (getD bs i 0)) → Headed bs
 headed bs h s = record { small = small-of bs (λ i. omega (arith, s i)); header = h }
 
@@ -116,7 +120,8 @@ module _ {bs : Bytes} {w n : ℕ} {defs : Bytes} {p : ℕ} {parts : Bytes} {a : 
   module _ {count : ℕ} {rows : Bytes} (u : count ≡ rowCount bs) (v : rows ≡ rowsIn bs) where
     pub rows-asked : Width w → FormIn bs → Width w × (n ≤ 64) × (a ≤ 64) × (rowSize w * count ≤ length rows) × ((i : ℕ) → i < n → Distinct (names (indexForm w n defs parts attrs a .model i)))
     rows-asked narrow x =
-        let e : rowSize w * count ≡ rowSize (widthOf bs) * rowCount bs = λ i. rowSize (k .same (~ i) .w) * u i in
+        let z : cutOf bs ≡ given = k .same in
+        let e : rowSize w * count ≡ rowSize (widthOf bs) * rowCount bs = λ i. rowSize (sym z i .w) * u i in
         let form : FormPasses w n defs p parts a attrs = subst (λ (c : Cut). FormPasses (c .w) (c .n) (c .defs) (c .p) (c .parts) (c .a) (c .attrs)) (k .same) (x .passes) in
         (narrow, cut-laid .bodies .definitionBody .few, cut-laid .bodies .attributeBody .few, omega (arith, ap (λ (s : Bytes). length s) v, rows-whole h), index-once cut-laid form)
 
@@ -143,11 +148,11 @@ module _ {bs : Bytes} (h : Headed bs) {count : ℕ} (u : count ≡ rowCount bs) 
       (λ z. record { fits = sym q ∙ z }, λ z. q ∙ z .fits)
 
 -- ---- all
-pub headless : (bs : Bytes) {b : Bool} → not b ≡ true → b ≡ headerFits (widthOf bs) bs → false ≡ passes bs
-headless bs {b} h q = by (passes bs) refl
+pub headless : {bs : Bytes} {s : Shape} → ShapeOf bs s → {b : Bool} → not b ≡ true → b ≡ headerFits (s .width) bs → false ≡ passes bs
+headless {bs} x {b} h q = by (passes bs) refl
   where
     by : (z : Bool) → passes bs ≡ z → false ≡ z
-    by true e = absurd (false≢true (sym (not-true b h) ∙ q ∙ passes-header bs e))
+    by true e = absurd (false≢true (sym (not-true b h) ∙ q ∙ ap (λ (w : ℕ). headerFits w bs) (width-is x) ∙ passes-header bs e))
     by false e = refl
 
 module _ {bs : Bytes} (h : Headed bs) where

@@ -26,7 +26,7 @@ heights-of-requires : tie.Need-heights-of-requires
 heights-of-requires c κs = search needs
 
 returns-4 : tie.Need-returns-4
-returns-4 c = form-by (laid-of (c .before .before .before .before .before .before .before .before .before .before .pre) (c .before .before .before .before .before .before .before .before .before .shared-slice-known .given) (c .before .before .before .before .before .before .before .shared-slice-known3 .given)) (kept (c .before .before .before .before .before .if1 .left) (c .before .before .before .before .before .before .definitions-fit .ensures)) (kept (c .before .before .before .if2 .left) (c .before .before .before .before .attributes-fit .ensures)) (kept (c .before .if3 .left) (c .before .before .bodies-fit .ensures)) (c .heights-of .ensures)
+returns-4 c = form-by (laid-of (c .before .before .before .before .before .before .before .before .before .before .pre .1) (c .before .before .before .before .before .before .before .before .before .shared-slice-known .given) (c .before .before .before .before .before .before .before .shared-slice-known3 .given)) (kept (c .before .before .before .before .before .if1 .left) (c .before .before .before .before .before .before .definitions-fit .ensures)) (kept (c .before .before .before .if2 .left) (c .before .before .before .before .attributes-fit .ensures)) (kept (c .before .if3 .left) (c .before .before .bodies-fit .ensures)) (c .heights-of .ensures)
 
 pub form-fits-spec : {M : Type 1} → statement M
 form-fits-spec =

@@ -1,2 +1,3 @@
 pub mod LayoutLaws
 pub mod RowLaws
+pub mod HeaderLaws

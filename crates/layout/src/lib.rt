@@ -3,10 +3,11 @@ ghost use mathlib.Core.Path.{_≡_};
 ghost use mathlib.Core.List.{_++_};
 ghost use Prim.Native.Nat.{min, _+_, _*_, _<_, _≤_, _^_};
 ghost use lib.ListN.{length, take, drop, replicate};
-ghost use Rattle.rules.specs.Layout.{valueWidth, headerSize, definitionSize, particleSize, attributeSize, rowSize, le};
+ghost use Rattle.rules.specs.Layout.{valueWidth, headerSize, definitionSize, particleSize, attributeSize, rowSize, le, entry};
 ghost use Rattle.rules.specs.Decode.{numberAt, readDefinition, readAttribute, readRow, definitionCount, particleCount, attributeCount, rowCount};
 ghost use Rattle.codec.specs.Laid.{Laid};
 ghost use Rattle.layout.specs.RowBytes.{rowOf, rowStart, rowEnd, movedRow, valuedRow, WholeRow, RowLaid};
+ghost use Rattle.layout.specs.Header.{contents, headed};
 ghost use Rattle.layout.specs.Bodies.{Width, windowOf, Product, recordAt, Number, WidthIn, Sized, ShapeOf, attributesStart, rowsStart, Place, definitionBody, particleBody, attributeBody, rowBody, definitionsIn, particlesIn, attributesIn, rowsIn, attributeIn};
 
 /// The n bytes from `at` on, fewer where s ends before.
@@ -541,4 +542,63 @@ pub fn put_row_valued(
     let a = put_row_index(row, index, out, at);
     let b = codec::put(&row[4..8], out, a);
     put_row_end(w, value, out, b)
+}
+
+// ---- the header, written
+
+/// Bytes of the header.
+pub fn header_size() -> usize
+    ensures { λ r. ⌜ r ≡ headerSize ⌝ }
+{
+    40
+}
+
+// Writes an entry of the table of contents.
+fn put_entry(offset: usize, count: usize, out: &mut [u8], at: usize) -> usize
+    requires { ⌜ (offset < 4294967296) × (count < 4294967296) × (at < 4611686018427387904) ⌝ }
+    ensures { λ r. ⌜ Laid (entry offset count) (now (out .entry)) at r (now (out .exit)) ⌝ }
+{
+    let next = codec::put_u32(out, at, offset as u32);
+    codec::put_u32(out, next, count as u32)
+}
+
+/// Writes the table of contents for d definitions, p particles, a attributes and r rows.
+pub fn put_contents(
+    w: usize,
+    d: usize,
+    p: usize,
+    a: usize,
+    r: usize,
+    out: &mut [u8],
+    at: usize,
+) -> usize
+    requires { ⌜ Width w × (d ≤ 65) × (p ≤ 256) × (a ≤ 64) × (r < 4294967296) × (at ≤ 40) ⌝ }
+    ensures { λ next. ⌜ Laid (contents w d p a r) (now (out .entry)) at next (now (out .exit)) ⌝ }
+{
+    let particles = through_definitions(d);
+    let attributes = through_particles(d, p);
+    let rows = through_attributes(w, d, p, a);
+    let first = put_entry(40, d, out, at);
+    let second = put_entry(particles, p, out, first);
+    let third = put_entry(attributes, a, out, second);
+    put_entry(rows, r, out, third)
+}
+
+/// Writes the header of a store with another next serial and other counts.
+pub fn put_header(
+    w: usize,
+    store: &[u8],
+    next: usize,
+    d: usize,
+    p: usize,
+    a: usize,
+    r: usize,
+    out: &mut [u8],
+) -> usize
+    requires { ⌜ Width w × (next < 4294967296) × (d ≤ 65) × (p ≤ 256) × (a ≤ 64) × (r < 4294967296) ⌝ }
+    ensures { λ at. ⌜ Laid (headed w next d p a r (now (store .entry))) (now (out .entry)) 0 at (now (out .exit)) ⌝ }
+{
+    let version = codec::put(window(store, 0, 4), out, 0);
+    let serial = codec::put_u32(out, version, next as u32);
+    put_contents(w, d, p, a, r, out, serial)
 }

@@ -11,10 +11,9 @@ use lib.ListN.{length, drop}
 use lib.Seq.{sets-eq}
 use borrow.Author.Tests.{lt-ltb, le-ltb}
 use Rattle.rules.specs.Bytes.{Bytes}
-use Rattle.rules.specs.Layout.{FlatStore, flatBytes}
+use Rattle.rules.specs.Layout.{valueWidth, FlatStore, flatBytes}
 use Rattle.rules.specs.WellFormed.{withinCeilings, highestNumber}
 use Rattle.rules.specs.Outcome.{Outcome, refused, wrote, unlessRefused, Answers}
-use Rattle.records.specs.Records.{baseWidth}
 use Rattle.codec.specs.Laid.{Laid}
 use Rattle.storing.specs.Stores.{limited}
 
@@ -29,11 +28,14 @@ answers-wrote {o} {w} {out} e p h =
 
 -- ---- limits
 module _ (room : ℕ) (f : FlatStore) where
+  abbrev written : Bytes
+  written = flatBytes (valueWidth (f .version)) f
+
   -- by the three tests
   abbrev ofTests : Bool → Bool → Bool → Outcome
-  ofTests a b c = unlessRefused (elim (not a) [ true ↦ 16 | false ↦ elim b [ true ↦ 17 | false ↦ elim c [ true ↦ 18 | false ↦ 0 ] ] ]) (flatBytes baseWidth f)
+  ofTests a b c = unlessRefused (elim (not a) [ true ↦ 16 | false ↦ elim b [ true ↦ 17 | false ↦ elim c [ true ↦ 18 | false ↦ 0 ] ] ]) written
 
-  as-tests : {a b c : Bool} → withinCeilings f ≡ a → ltb highestNumber (f .next) ≡ b → ltb room (length (flatBytes baseWidth f)) ≡ c → limited room f ≡ ofTests a b c
+  as-tests : {a b c : Bool} → withinCeilings f ≡ a → ltb highestNumber (f .next) ≡ b → ltb room (length written) ≡ c → limited room f ≡ ofTests a b c
   unfolding limited
   as-tests x y z = λ i. ofTests (x i) (y i) (z i)
 
@@ -43,11 +45,11 @@ module _ (room : ℕ) (f : FlatStore) where
   pub limited-serials : withinCeilings f ≡ true → highestNumber < f .next → limited room f ≡ refused 17
   limited-serials x y = as-tests x (lt-ltb highestNumber (f .next) y) refl
 
-  pub limited-buffer : withinCeilings f ≡ true → f .next ≤ highestNumber → room < length (flatBytes baseWidth f) → limited room f ≡ refused 18
-  limited-buffer x y z = as-tests x (le-ltb highestNumber (f .next) y) (lt-ltb room (length (flatBytes baseWidth f)) z)
+  pub limited-buffer : withinCeilings f ≡ true → f .next ≤ highestNumber → room < length written → limited room f ≡ refused 18
+  limited-buffer x y z = as-tests x (le-ltb highestNumber (f .next) y) (lt-ltb room (length written) z)
 
-  pub limited-none : withinCeilings f ≡ true → f .next ≤ highestNumber → length (flatBytes baseWidth f) ≤ room → limited room f ≡ wrote (flatBytes baseWidth f)
-  limited-none x y z = as-tests x (le-ltb highestNumber (f .next) y) (le-ltb room (length (flatBytes baseWidth f)) z)
+  pub limited-none : withinCeilings f ≡ true → f .next ≤ highestNumber → length written ≤ room → limited room f ≡ wrote written
+  limited-none x y z = as-tests x (le-ltb highestNumber (f .next) y) (le-ltb room (length written) z)
 
 -- in the code's numbers
 pub answers-as : {o : Outcome} {out : Bytes} {n n′ l l′ : ℕ} {left : Bytes} → n ≡ n′ → l ≡ l′ → Answers o out n′ l′ left → Answers o out n l left

@@ -16,10 +16,9 @@ use Rattle.rules.specs.Decode.{readMany, readParticle, particleCount}
 use Rattle.model.specs.Members.{indexMembers, particlesOf, membersFrom}
 use Rattle.model.proofs.MembersLaws.{particles-few, particles-more}
 use Rattle.forms.specs.Bodies.{particles}
-use Rattle.validity.specs.Check.{particlesIn}
 use Rattle.validity.proofs.StringChecks.{Headed, laid-in, same-particles}
 use Rattle.lookup.specs.Bodies.{bodiesOf}
-use Rattle.layout.specs.Bodies.{widthOf}
+use Rattle.layout.specs.Bodies.{widthOf, particlesIn}
 use Rattle.filling.specs.Parts as bytes
 use Rattle.storing.specs.Planned.{membersAt}
 

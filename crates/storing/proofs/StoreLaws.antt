@@ -9,7 +9,7 @@ use mathlib.Core.Option.{Option, none, some}
 use mathlib.Core.List.{List, [], _∷_, _++_}
 use Rattle.rules.specs.Bytes.{Bytes}
 use Rattle.rules.specs.Store.{Store}
-use Rattle.rules.specs.Layout.{FlatStore, flat, encode, flatBytes}
+use Rattle.rules.specs.Layout.{valueWidth, FlatStore, flat, encode, flatBytes}
 use Rattle.rules.specs.Decode.{unflat}
 use Rattle.rules.specs.Passing.{good, readStore, isRead, passes}
 use Rattle.rules.specs.Change.{Call, after}
@@ -18,9 +18,15 @@ use Rattle.rules.specs.Outcome.{Outcome, refused, unlessRefused, onStore, outco
 use Rattle.rules.proofs.Words.{and-split}
 use Rattle.rules.proofs.DecodeLaws.{read-good, unflat-flat, good-known, good-found}
 use Rattle.history.proofs.Conditions.{numbered, conditions-numbered}
+use Rattle.layout.specs.Bodies.{widthOf}
 use Rattle.lookup.specs.Bodies.{bodiesOf}
 use Rattle.lookup.proofs.Laws.{bodies-flat}
 use Rattle.storing.specs.Stores.{storeIn, limited}
+
+-- the width of what is read off a byte string
+pub width-of-bodies : (bs : Bytes) → valueWidth (bodiesOf bs .version) ≡ widthOf bs
+unfolding bodiesOf widthOf
+width-of-bodies bs = refl
 
 -- the store that a passing byte string holds
 pub record Holds (bs : Bytes) : Type 0 where

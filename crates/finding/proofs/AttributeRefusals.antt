@@ -124,7 +124,7 @@ block-entry F form i j [] b a m = absurd (List·Memᴰ·not-nil m)
 block-entry F form i j (c ∷ table) b a m = ⊎-elim (λ e. (j, subst (λ (z : Attribute). Entry F form i j z) (sym e) (b .0))) (λ n. block-entry F form i (suc j) table (b .1) a n) (List·Memᴰ·cases-cons m)
 
 -- what the readers of an attribute find, at the width and in the body that were read
-module _ {bs : Bytes} {n : ℕ} {attrs : Bytes} (v : n ≡ widthOf bs) (e : attrs ≡ attributesIn bs) (a : ℕ) where
+module _ (bs : Bytes) {n : ℕ} {attrs : Bytes} (v : n ≡ widthOf bs) (e : attrs ≡ attributesIn bs) (a : ℕ) where
   pub allows-in : (t : Bytes) → allows (sortOf (attributeIn n attrs a .sort)) (attributeIn n attrs a .value) t ≡ byIndex bs .allows a t
   allows-in t = λ i. allows (sortOf (attributeIn (v i) (e i) a .sort)) (attributeIn (v i) (e i) a .value) t
 

@@ -90,14 +90,18 @@ whole bs q =
     }
 
 -- rows that a reader cut out are those of the string
-begins-in : (bs : Bytes) (p : Test) {n : ℕ} {rows : Bytes} {count r : ℕ} → n ≡ widthOf bs → rows ≡ rowsIn bs → count ≡ rowCount bs → Begins n rows count r (seek p (rowsFrom n rows count 0)) → Begins (widthOf bs) (rowsIn bs) (rowCount bs) r (seek p (rowsFrom (widthOf bs) (rowsIn bs) (rowCount bs) 0))
-begins-in bs p v e g b = record { from = (λ i. rowsFrom (v (~ i)) (e (~ i)) (g (~ i)) _) ∙ b .from ∙ (λ i. seek p (rowsFrom (v i) (e i) (g i) 0)); within = omega (arith, b .within, g) }
+begins-in : (bs : Bytes) (p : Test) {n : ℕ} {rows : Bytes} {count r : ℕ} → n ≡ widthOf bs → rows ≡ rowsIn bs → count ≡ rowCount bs → Begins n rows count r (seek p (rowsFrom n rows count 0))
+    → Begins (widthOf bs) (rowsIn bs) (rowCount bs) r (seek p (rowsFrom (widthOf bs) (rowsIn bs) (rowCount bs) 0))
+begins-in bs p {r = r} v e g b =
+    record { from = sym (λ i. rowsFrom (v i) (e i) (g i) r) ∙ b .from ∙ (λ i. seek p (rowsFrom (v i) (e i) (g i) 0)); within = omega (arith, b .within, g) }
 
-pub element-at-is : (bs : Bytes) → Whole bs → (k : ℕ) {n : ℕ} {rows : Bytes} {count r : ℕ} → n ≡ widthOf bs → rows ≡ rowsIn bs → count ≡ rowCount bs → Begins n rows count r (seek (isThis k) (rowsFrom n rows count 0)) → ElementAt bs k r
+pub element-at-is : (bs : Bytes) → Whole bs → (k : ℕ) {n : ℕ} {rows : Bytes} {count r : ℕ} → n ≡ widthOf bs → rows ≡ rowsIn bs → count ≡ rowCount bs → Begins n rows count r (seek (isThis k) (rowsFrom n rows count 0))
+    → ElementAt bs k r
 element-at-is bs w k v e g b =
     record { begins = begins-in bs (isThis k) v e g b; few = w .few }
 
-pub parent-at-is : (bs : Bytes) → Whole bs → (k : ℕ) {n : ℕ} {rows : Bytes} {count r : ℕ} → n ≡ widthOf bs → rows ≡ rowsIn bs → count ≡ rowCount bs → Begins n rows count r (seek (isParent k) (rowsFrom n rows count 0)) → ParentAt bs k r
+pub parent-at-is : (bs : Bytes) → Whole bs → (k : ℕ) {n : ℕ} {rows : Bytes} {count r : ℕ} → n ≡ widthOf bs → rows ≡ rowsIn bs → count ≡ rowCount bs → Begins n rows count r (seek (isParent k) (rowsFrom n rows count 0))
+    → ParentAt bs k r
 parent-at-is bs w k v e g b =
     record { begins = begins-in bs (isParent k) v e g b; few = w .few }
 

@@ -43,13 +43,13 @@ returns-3 : tie.Need-returns-3
 returns-3 c = let a = c .before .before .before .before .before .before .before .before .before .before .before .args in let w : Whole (a .store .now) = whole _ (c .before .before .before .before .before .before .before .before .before .before .before .pre) in
     let z = both _ w (a .attribute) (c .before .before .before .before .before .before .before .before .before .attribute-refusal .ensures) (c .before .before .before .before .before .before .before .before .if1 .left) .1 in
     drop-15 (a .store .now) w (a .attribute) (a .element) (c .before .before .before .before .before .before .before .before .before .attribute-refusal .ensures) (c .before .before .before .before .before .before .before .before .if1 .left) (element-there _ w _ _ (c .before .before .before .before .before .before .before .find-element .ensures .begins) (there _ w (c .before .before .before .before .before .before .before .find-element .ensures) z)) (c .before .before .before .before .before .before .attribute-at .ensures) (c .before .before .before .before .before .if2 .left) (c .before .before .definition-at .ensures)
-    (c .before .needs .ensures ∙ needs-in (c .before .before .before .before .width-in .ensures .value) (c .before .before .before .attributes-of .ensures) (a .attribute) (c .before .before .definition-at .result)) (c .if3 .taken) .is
+    (c .before .needs .ensures ∙ needs-in (a .store .now) (c .before .before .before .before .width-in .ensures .value) (c .before .before .before .attributes-of .ensures) (a .attribute) (c .before .before .definition-at .result)) (c .if3 .taken) .is
 
 returns-4 : tie.Need-returns-4
 returns-4 c = let a = c .before .before .before .before .before .before .before .before .before .before .before .args in let w : Whole (a .store .now) = whole _ (c .before .before .before .before .before .before .before .before .before .before .before .pre) in
     let z = both _ w (a .attribute) (c .before .before .before .before .before .before .before .before .before .attribute-refusal .ensures) (c .before .before .before .before .before .before .before .before .if1 .left) .1 in
     drop-0 (a .store .now) w (a .attribute) (a .element) (c .before .before .before .before .before .before .before .before .before .attribute-refusal .ensures) (c .before .before .before .before .before .before .before .before .if1 .left) (element-there _ w _ _ (c .before .before .before .before .before .before .before .find-element .ensures .begins) (there _ w (c .before .before .before .before .before .before .before .find-element .ensures) z)) (c .before .before .before .before .before .before .attribute-at .ensures) (c .before .before .before .before .before .if2 .left) (c .before .before .definition-at .ensures)
-    (c .before .needs .ensures ∙ needs-in (c .before .before .before .before .width-in .ensures .value) (c .before .before .before .attributes-of .ensures) (a .attribute) (c .before .before .definition-at .result)) (c .if3 .left) .is
+    (c .before .needs .ensures ∙ needs-in (a .store .now) (c .before .before .before .before .width-in .ensures .value) (c .before .before .before .attributes-of .ensures) (a .attribute) (c .before .before .definition-at .result)) (c .if3 .left) .is
 
 pub destroy-attribute-row-refusal-spec : {M : Type 1} → statement M
 destroy-attribute-row-refusal-spec =

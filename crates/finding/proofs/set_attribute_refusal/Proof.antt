@@ -31,12 +31,12 @@ value-may-requires c κs = let begin = c .before .before .before .before .before
 returns-3 : tie.Need-returns-3
 returns-3 c = let a = c .before .before .before .before .before .before .before .before .before .before .args in
     set-15 (a .store .now) (whole _ (c .before .before .before .before .before .before .before .before .before .before .pre)) (a .attribute) (a .element) (a .value .now) (c .before .before .before .before .before .before .before .width-in .ensures) (c .before .before .before .before .before .before .is-value .ensures) (c .before .before .before .before .before .if1 .left) (c .before .before .before .before .attribute-refusal .ensures) (c .before .before .before .if2 .left)
-    (c .before .value-may .ensures ∙ allows-in (c .before .before .before .before .before .before .before .width-in .ensures .value) (c .before .before .attributes-of .ensures) (a .attribute) (a .value .now)) (c .if3 .taken) .is
+    (c .before .value-may .ensures ∙ allows-in (a .store .now) (c .before .before .before .before .before .before .before .width-in .ensures .value) (c .before .before .attributes-of .ensures) (a .attribute) (a .value .now)) (c .if3 .taken) .is
 
 returns-4 : tie.Need-returns-4
 returns-4 c = let a = c .before .before .before .before .before .before .before .before .before .before .args in
     set-0 (a .store .now) (whole _ (c .before .before .before .before .before .before .before .before .before .before .pre)) (a .attribute) (a .element) (a .value .now) (c .before .before .before .before .before .before .before .width-in .ensures) (c .before .before .before .before .before .before .is-value .ensures) (c .before .before .before .before .before .if1 .left) (c .before .before .before .before .attribute-refusal .ensures) (c .before .before .before .if2 .left)
-    (c .before .value-may .ensures ∙ allows-in (c .before .before .before .before .before .before .before .width-in .ensures .value) (c .before .before .attributes-of .ensures) (a .attribute) (a .value .now)) (c .if3 .left) .is
+    (c .before .value-may .ensures ∙ allows-in (a .store .now) (c .before .before .before .before .before .before .before .width-in .ensures .value) (c .before .before .attributes-of .ensures) (a .attribute) (a .value .now)) (c .if3 .left) .is
 
 pub set-attribute-refusal-spec : {M : Type 1} → statement M
 set-attribute-refusal-spec =

@@ -1,6 +1,6 @@
 -- The bytes of a form are read back as it.
 -- Assumes nothing.
-use Prim.Native.Nat.{ℕ, _+_, _-_, _≤_}
+use Prim.Native.Nat.{ℕ, _+_, _-_, _*_, _≤_}
 use native.Mathlib.Omega.{arith}
 use mathlib.Core.Path.{_≡_, refl, ap, _∙_, sym, subst}
 use mathlib.Core.Bool.{Bool, true, false, _&&_, false≢true}
@@ -141,11 +141,12 @@ good-bodies {bs} h =
     subst (λ (w : ℕ). GoodFlat w (bodiesOf bs)) (width-of-bodies bs)
     (subst (λ (f : FlatStore). GoodFlat (valueWidth (f .version)) f) (sym (h .bodies)) (good-flat (storeIn bs) (h .good)))
 
-pub own-form : {bs : Bytes} → Holds bs → {start d p a : ℕ} → Begins bs start → Number (definitionCount bs) d → Number (particleCount bs) p → Number (attributeCount bs) a → FormOf (widthOf bs) (bodiesOf bs) (take (start - headerSize) (drop headerSize bs)) d p a
-own-form {bs} h b n m k =
+-- `head` and `start`: where the code finds that the form begins and ends
+pub own-form : {bs : Bytes} → Holds bs → {head start d p a : ℕ} → head ≡ headerSize → Begins bs start → Number (definitionCount bs) d → Number (particleCount bs) p → Number (attributeCount bs) a → FormOf (widthOf bs) (bodiesOf bs) (take (start - head) (drop head bs)) d p a
+own-form {bs} h e b n m k =
     let w : GoodFlat (widthOf bs) (bodiesOf bs) = good-bodies h in
     record {
-      bytes = ap (λ (j : ℕ). take (j - headerSize) (drop headerSize bs)) (b .start) ∙ form-at h;
+      bytes = (λ i. take (b .start i - e i) (drop (e i) bs)) ∙ form-at h;
       definitionCount = n .value ∙ counted-definitions bs;
       particleCount = m .value ∙ counted-particles bs;
       attributeCount = k .value ∙ counted-attributes bs;

@@ -122,5 +122,5 @@ module _ {bs : Bytes} (q : passes bs ≡ true) {w n : ℕ} {defs parts : Bytes} 
       (subst (λ (k : ℕ). Written k xs (walkFrom at bs) out r out′) (x .w-is)
       (subst (λ (k : ℕ). Written w xs (record { at = at; left = 4097; serial = k }) out r out′) (m .value) d))
 
-pub walk-room : {bs : Bytes} {w at next : ℕ} → Width w → at < 549755813888 → Number (numberAt 4 4 bs) next → Room w (record { at = at; left = 4097; serial = next })
+pub walk-room : {w at n next : ℕ} → Width w → at < 549755813888 → Number n next → Room w (record { at = at; left = 4097; serial = next })
 walk-room h l m = record { places = omega arith; serials = omega (arith, m .small) }

@@ -128,7 +128,8 @@ module _ (bs : Bytes) {n : ℕ} {attrs : Bytes} (v : n ≡ widthOf bs) (e : attr
   pub allows-in : (t : Bytes) → allows (sortOf (attributeIn n attrs a .sort)) (attributeIn n attrs a .value) t ≡ byIndex bs .allows a t
   allows-in t = λ i. allows (sortOf (attributeIn (v i) (e i) a .sort)) (attributeIn (v i) (e i) a .value) t
 
-  pub needs-in : (i : ℕ) → (eqb (attributeIn n attrs a .owner) i && mustBePresent (sortOf (attributeIn n attrs a .sort))) ≡ (eqb (attributeIn (widthOf bs) (attributesIn bs) a .owner) i && byIndex bs .needed a)
+  pub needs-in : (i : ℕ) → (eqb (attributeIn n attrs a .owner) i && mustBePresent (sortOf (attributeIn n attrs a .sort)))
+      ≡ (eqb (attributeIn (widthOf bs) (attributesIn bs) a .owner) i && byIndex bs .needed a)
   needs-in i = λ j. eqb (attributeIn (v j) (e j) a .owner) i && mustBePresent (sortOf (attributeIn (v j) (e j) a .sort))
 
 module _ (bs : Bytes) (w : Whole bs) (a : ℕ) where

@@ -15,7 +15,8 @@ use Rattle.layout.specs.Bodies.{widthOf, recordAt, rowsIn}
 use Rattle.model.specs.Steps.{runs}
 use Rattle.finding.specs.Finding.{rowsFrom, children, childrenAt, modelAt, fitsAt, hasPlace, serialIn, serialOf, word}
 
-module _ (bs : Bytes) (i s : ℕ) {w : ℕ} {rows : Bytes} {count depth : ℕ} (v : w ≡ widthOf bs) (e : rows ≡ rowsIn bs) (n : count ≡ rowCount bs) (d : depth ≡ suc (readRow (recordAt (rowSize w) i rows) .depth)) where
+module _ (bs : Bytes) (i s : ℕ) {w : ℕ} {rows : Bytes} {count depth : ℕ} (v : w ≡ widthOf bs) (e : rows ≡ rowsIn bs) (n : count ≡ rowCount bs)
+    (d : depth ≡ suc (readRow (recordAt (rowSize w) i rows) .depth)) where
   children-read : children s depth (rowsFrom w rows count (i + 1)) ≡ childrenAt bs s i
   unfolding childrenAt
   children-read =
@@ -28,7 +29,8 @@ module _ (bs : Bytes) (i s : ℕ) {w : ℕ} {rows : Bytes} {count depth : ℕ} (
   pub indexed-read : (a : ℕ) {r : ℕ} → r ≡ serialOf a (children s depth (rowsFrom w rows count (i + 1))) → r ≡ serialOf a (childrenAt bs s i)
   indexed-read a q = q ∙ ap (serialOf a) children-read
 
-module _ (bs : Bytes) (i : ℕ) {w : ℕ} {rows : Bytes} {count depth : ℕ} (v : w ≡ widthOf bs) (e : rows ≡ rowsIn bs) (n : count ≡ rowCount bs) (d : depth ≡ suc (readRow (recordAt (rowSize w) i rows) .depth)) where
+module _ (bs : Bytes) (i : ℕ) {w : ℕ} {rows : Bytes} {count depth : ℕ} (v : w ≡ widthOf bs) (e : rows ≡ rowsIn bs) (n : count ≡ rowCount bs)
+    (d : depth ≡ suc (readRow (recordAt (rowSize w) i rows) .depth)) where
   pub fits-read : (p new skip : ℕ) {ms : Members ℕ} → ms ≡ modelAt bs i → {r : Bool} → r ≡ runs ms 0 (word p new skip (children 1 depth (rowsFrom w rows count (i + 1)))) → r ≡ fitsAt bs i p new skip
   unfolding fitsAt
   fits-read p new skip {ms} m q = q ∙ ap (λ (z : List FlatRow). runs ms 0 (word p new skip z)) (children-read bs i 1 v e n d) ∙ ap (λ (z : Members ℕ). runs z 0 (word p new skip (childrenAt bs 1 i))) m

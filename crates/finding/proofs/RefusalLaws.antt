@@ -132,4 +132,5 @@ module _ (bs : Bytes) (w : Whole bs) where
 
       pub text-0 : c ≡ 1 → Gives 0 (conditions (setText k t) (storeIn bs))
       unfolding conditions
-      text-0 f = gives-next (fine-text bs t v e h) (gives-next (x .there) (gives-next (ap not (pcdata-is x ∙ pcdata-code (defined bs w k i x .definition) (sym (kind-is x) ∙ sym kind ∙ f))) gives-none))
+      text-0 f =
+          gives-next (fine-text bs t v e h) (gives-next (x .there) (gives-next (ap not (pcdata-is x ∙ pcdata-code (defined bs w k i x .definition) (sym (kind-is x) ∙ sym kind ∙ f))) gives-none))

@@ -2,6 +2,7 @@
 -- Assumes nothing.
 use Prim.Native.Nat.{ℕ, suc, _+_, _<_, _≤_}
 use native.Mathlib.Omega.{arith}
+use borrow.Author.Tests.{le-leb, not-false}
 use mathlib.Core.Path.{_≡_, refl, sym, ap, ap₂, _∙_, subst}
 use mathlib.Core.Logic.{_⊎_, inl, inr, ⊎-elim}
 use mathlib.Core.Bool.{Bool, true, false, _&&_, _||_, not, false≢true}
@@ -14,12 +15,12 @@ use Rattle.rules.specs.Store.{Definition, Form, RowSort, element, attribute, te
 use Rattle.rules.specs.Preorder.{Deep, flatten}
 use Rattle.rules.specs.Layout.{valueWidth, rowSize, FlatRow, FlatStore, rowCode, rowIndex, indexed, indexOf}
 use Rattle.rules.specs.Decode.{readRow, definitionCount, attributeCount, rowCount}
-use Rattle.rules.specs.WellFormed.{lookup, isThere}
+use Rattle.rules.specs.WellFormed.{isValue, lookup, isThere}
 use Rattle.rules.specs.Conforming.{isElement, isText, ElementRows, RowConforms}
 use Rattle.rules.specs.Change.{definitionAt}
 use Rattle.rules.specs.Passing.{Good, passes}
 use Rattle.rules.specs.Lines.{Line, lines, elementWith, findRow, childrenOf}
-use Rattle.rules.specs.Refusal.{rowsOf, noElement}
+use Rattle.rules.specs.Refusal.{badText, rowsOf, noElement}
 use Rattle.rules.proofs.Words.{or-cases, and-both, and-split}
 use Rattle.rules.proofs.BooleanLaws.{any-in}
 use Rattle.rules.proofs.LayoutLaws.{Small}
@@ -64,6 +65,14 @@ pub width-of-store : (bs : Bytes) → widthOf bs ≡ valueWidth (storeIn bs .ver
 unfolding storeIn bodiesOf widthOf
 width-of-store bs = refl
 
+-- a text that the change does not refuse is a value of the string's width
+pub value-given : (bs t : Bytes) → badText (storeIn bs) t ≡ false → isValue (widthOf bs) t ≡ true
+value-given bs t e = ap (λ (n : ℕ). isValue n t) (width-of-store bs) ∙ not-false (isValue (valueWidth (storeIn bs .version)) t) e
+
+-- none is one
+pub no-value : (bs : Bytes) → isValue (widthOf bs) [] ≡ true
+no-value bs = and-both (le-leb 0 (widthOf bs) (omega arith)) refl
+
 pub record Whole (bs : Bytes) : Type 0 where
   pub holds : Holds bs
   pub good : Good (storeIn bs)
@@ -95,13 +104,13 @@ begins-in : (bs : Bytes) (p : Test) {n : ℕ} {rows : Bytes} {count r : ℕ} →
 begins-in bs p {r = r} v e g b =
     record { from = sym (λ i. rowsFrom (v i) (e i) (g i) r) ∙ b .from ∙ (λ i. seek p (rowsFrom (v i) (e i) (g i) 0)); within = omega (arith, b .within, g) }
 
-pub element-at-is : (bs : Bytes) → Whole bs → (k : ℕ) {n : ℕ} {rows : Bytes} {count r : ℕ} → n ≡ widthOf bs → rows ≡ rowsIn bs → count ≡ rowCount bs → Begins n rows count r (seek (isThis k) (rowsFrom n rows count 0))
-    → ElementAt bs k r
+pub element-at-is : (bs : Bytes) → Whole bs → (k : ℕ) {n : ℕ} {rows : Bytes} {count r : ℕ} → n ≡ widthOf bs → rows ≡ rowsIn bs → count ≡ rowCount bs
+    → Begins n rows count r (seek (isThis k) (rowsFrom n rows count 0)) → ElementAt bs k r
 element-at-is bs w k v e g b =
     record { begins = begins-in bs (isThis k) v e g b; few = w .few }
 
-pub parent-at-is : (bs : Bytes) → Whole bs → (k : ℕ) {n : ℕ} {rows : Bytes} {count r : ℕ} → n ≡ widthOf bs → rows ≡ rowsIn bs → count ≡ rowCount bs → Begins n rows count r (seek (isParent k) (rowsFrom n rows count 0))
-    → ParentAt bs k r
+pub parent-at-is : (bs : Bytes) → Whole bs → (k : ℕ) {n : ℕ} {rows : Bytes} {count r : ℕ} → n ≡ widthOf bs → rows ≡ rowsIn bs → count ≡ rowCount bs
+    → Begins n rows count r (seek (isParent k) (rowsFrom n rows count 0)) → ParentAt bs k r
 parent-at-is bs w k v e g b =
     record { begins = begins-in bs (isParent k) v e g b; few = w .few }
 
@@ -176,13 +185,15 @@ module _ (bs : Bytes) (w : Whole bs) where
         by (inl h) = h
         by (inr h) = absurd (not-nil (sym (from-none readRow (rowSize (widthOf bs)) (rowsIn bs) (rowCount bs) i h) ∙ b .from ∙ l .rows))
 
-    located-step : rowAt (widthOf bs) (rowsIn bs) i ∷ rowsFrom (widthOf bs) (rowsIn bs) (rowCount bs) (i + 1) ≡ record { depth = l .depth; row = rowWritten (formIn bs) (l .owner) (l .row) } ∷ (flatten (suc (l .depth)) (indexed (formIn bs) (l .row .name) (l .below)) ++ l .rest)
+    located-step : rowAt (widthOf bs) (rowsIn bs) i ∷ rowsFrom (widthOf bs) (rowsIn bs) (rowCount bs) (i + 1)
+        ≡ record { depth = l .depth; row = rowWritten (formIn bs) (l .owner) (l .row) } ∷ (flatten (suc (l .depth)) (indexed (formIn bs) (l .row .name) (l .below)) ++ l .rest)
     located-step = sym (from-step readRow (rowSize (widthOf bs)) (rowsIn bs) (rowCount bs) i located-below) ∙ b .from ∙ l .rows
 
     pub located-here : rowAt (widthOf bs) (rowsIn bs) i ≡ record { depth = l .depth; row = rowWritten (formIn bs) (l .owner) (l .row) }
     located-here = first-same located-step
 
-    pub located-next : (s : ℕ) → children s (suc (l .depth)) (rowsFrom (widthOf bs) (rowsIn bs) (rowCount bs) (i + 1)) ≡ map (rowWritten (formIn bs) (l .row .name)) (keep (ofSort (formIn bs) s) (heads (l .below)))
+    pub located-next : (s : ℕ) → children s (suc (l .depth)) (rowsFrom (widthOf bs) (rowsIn bs) (rowCount bs) (i + 1))
+        ≡ map (rowWritten (formIn bs) (l .row .name)) (keep (ofSort (formIn bs) s) (heads (l .below)))
     located-next s = ap (children s (suc (l .depth))) (rest-same located-step) ∙ located-children (formIn bs) l s
 
     -- an element row is the one with its serial
@@ -221,7 +232,8 @@ module _ (bs : Bytes) (w : Whole bs) where
       sought-there : i < rowCount bs → (l : Located (formIn bs) (docsIn bs) (seek p (rowsFrom (widthOf bs) (rowsIn bs) (rowCount bs) 0))) × (q (l .row) (heads (l .below)) ≡ true)
       sought-there h = by sought
         where
-          by : Sought (seek p (rowsFrom (widthOf bs) (rowsIn bs) (rowCount bs) 0)) → (l : Located (formIn bs) (docsIn bs) (seek p (rowsFrom (widthOf bs) (rowsIn bs) (rowCount bs) 0))) × (q (l .row) (heads (l .below)) ≡ true)
+          by : Sought (seek p (rowsFrom (widthOf bs) (rowsIn bs) (rowCount bs) 0))
+              → (l : Located (formIn bs) (docsIn bs) (seek p (rowsFrom (widthOf bs) (rowsIn bs) (rowCount bs) 0))) × (q (l .row) (heads (l .below)) ≡ true)
           by (inl x) = x
           by (inr (f, e)) = absurd (not-nil (sym e ∙ sym (b .from) ∙ from-step readRow (rowSize (widthOf bs)) (rowsIn bs) (rowCount bs) i h))
 

@@ -88,7 +88,11 @@ step-start = record { rest = refl; onward = omega arith }
 
 module _ (w s d : ℕ) (rows : Bytes) (count start i : ℕ) (t : Stepping w s d rows count start i) where
   pub step-past : i < count → d ≤ rowAt w rows i .depth → (eqb (rowAt w rows i .depth) d && eqb (rowAt w rows i .row .sort) s) ≡ false → Stepping w s d rows count start (i + 1)
-  step-past h l e = record { rest = sym (next-other s d (rowAt w rows i) (rowsFrom w rows count (i + 1)) l e) ∙ sym (ap (next s d) (from-step readRow (rowSize w) rows count i h)) ∙ t .rest; onward = omega (arith, t .onward) }
+  step-past h l e =
+      record {
+        rest = sym (next-other s d (rowAt w rows i) (rowsFrom w rows count (i + 1)) l e) ∙ sym (ap (next s d) (from-step readRow (rowSize w) rows count i h)) ∙ t .rest;
+        onward = omega (arith, t .onward);
+      }
 
   pub step-hit : i < count → d ≤ rowAt w rows i .depth → (eqb (rowAt w rows i .depth) d && eqb (rowAt w rows i .row .sort) s) ≡ true → Begins w rows count i (next s d (rowsFrom w rows count start))
   step-hit h l e =
@@ -151,7 +155,9 @@ pub child-of : {w s d : ℕ} {rows : Bytes} {count start i : ℕ} → Begins w r
 child-of {w} {s} {d} {rows} {count} {start} {i} b l =
     record {
       same = ap (children s d) (b .from) ∙ children-next s d (rowsFrom w rows count start);
-      head = λ h. ap (children s d) (from-step readRow (rowSize w) rows count i h) ∙ children-first s d (rowAt w rows i) (rowsFrom w rows count (i + 1)) (rowsFrom w rows count start) (sym (b .from) ∙ from-step readRow (rowSize w) rows count i h);
+      head = λ h.
+          ap (children s d) (from-step readRow (rowSize w) rows count i h)
+          ∙ children-first s d (rowAt w rows i) (rowsFrom w rows count (i + 1)) (rowsFrom w rows count start) (sym (b .from) ∙ from-step readRow (rowSize w) rows count i h);
       later = l;
     }
 
@@ -160,14 +166,16 @@ pub record Looking {X : Type 0} (w s d : ℕ) (rows : Bytes) (count : ℕ) (φ :
   pub same : φ (children s d (rowsFrom w rows count i)) ≡ g
   pub head : i < count → children s d (rowsFrom w rows count i) ≡ rowAt w rows i .row ∷ children s d (rowsFrom w rows count (i + 1))
 
-pub look-start : {X : Type 0} {w s d : ℕ} {rows : Bytes} {count start i : ℕ} {φ : List FlatRow → X} → Child w s d rows count start i → Looking w s d rows count φ (φ (children s d (rowsFrom w rows count start))) i
+pub look-start : {X : Type 0} {w s d : ℕ} {rows : Bytes} {count start i : ℕ} {φ : List FlatRow → X} → Child w s d rows count start i
+    → Looking w s d rows count φ (φ (children s d (rowsFrom w rows count start))) i
 look-start {φ} c = record { same = ap φ (c .same); head = c .head }
 
 module _ {X : Type 0} (w s d : ℕ) (rows : Bytes) (count : ℕ) (φ : List FlatRow → X) (g : X) (i : ℕ) (l : Looking w s d rows count φ g i) where
   pub look-here : i < count → φ (rowAt w rows i .row ∷ children s d (rowsFrom w rows count (i + 1))) ≡ g
   look-here h = sym (ap φ (l .head h)) ∙ l .same
 
-  pub look-past : (ψ : List FlatRow → X) → i < count → φ (rowAt w rows i .row ∷ children s d (rowsFrom w rows count (i + 1))) ≡ ψ (children s d (rowsFrom w rows count (i + 1))) → {j : ℕ} → Child w s d rows count (i + 1) j → Looking w s d rows count ψ g j
+  pub look-past : (ψ : List FlatRow → X) → i < count → φ (rowAt w rows i .row ∷ children s d (rowsFrom w rows count (i + 1))) ≡ ψ (children s d (rowsFrom w rows count (i + 1)))
+      → {j : ℕ} → Child w s d rows count (i + 1) j → Looking w s d rows count ψ g j
   look-past ψ h e c = record { same = ap ψ (c .same) ∙ sym e ∙ look-here h; head = c .head }
 
   pub look-none : count ≤ i → φ [] ≡ g

@@ -10,7 +10,6 @@ use mathlib.Core.Option.{Option, none, some}
 use mathlib.Core.List.{List, [], _∷_, _++_, map}
 use lib.Dec.{eqb, ltb}
 use lib.ListN.{length, length-append}
-use lib.Seq.{drop-drop}
 use Rattle.rules.specs.Bytes.{Bytes, same, bytes, any, isNone}
 use Rattle.rules.specs.Model.{member}
 use Rattle.rules.specs.Store.{Attribute, Form}
@@ -20,7 +19,7 @@ use Rattle.rules.specs.WellFormed.{attributeName, isThere, givenName}
 use Rattle.rules.specs.Change.{addAttribute, destroyAttribute, Owned, entryAt, attributeAt, definitionAt}
 use Rattle.rules.specs.Refusal.{conditions, badText, isOther, wrongDefault}
 use Rattle.lookup.specs.Bodies.{bodiesOf}
-use Rattle.layout.specs.Bodies.{widthOf, WidthIn, Number, recordAt, attributesIn, attributeIn}
+use Rattle.layout.specs.Bodies.{WidthIn, Number, attributesIn}
 use Rattle.layout.proofs.LayoutLaws.{attributes-read}
 use Rattle.rules.proofs.BooleanLaws.{any-append}
 use Rattle.rules.proofs.DecodeLaws.{length-own}
@@ -29,7 +28,7 @@ use Rattle.storing.specs.Stores.{storeIn}
 use Rattle.finding.proofs.StoreFacts.{formIn, Whole}
 use Rattle.finding.specs.Finding.{Gives}
 use Rattle.finding.proofs.RefusalLaws.{gives-hit, gives-next, gives-none}
-use Rattle.placing.specs.Placing.{attributeBody, ownNamed}
+use Rattle.placing.specs.Placing.{ownNamed}
 
 -- ---- attributes of a form
 entry-in : (i : ℕ) (table : List Attribute) → isThere (entryAt i table) ≡ true → i < length table
@@ -110,13 +109,6 @@ pub attributes-any : (bs n : Bytes) (o : ℕ) {w count : ℕ} {attrs : Bytes} {r
 unfolding bodiesOf
 attributes-any bs n o v f e q =
     q ∙ (λ j. any (ownNamed o n) (readMany readAttribute (attributeSize (v .value j)) (e .value j) (f j))) ∙ ap (any (ownNamed o n)) (attributes-read bs)
-
-attribute-cut : (bs : Bytes) (i : ℕ) → attributeIn bs i ≡ recordAt (attributeSize (widthOf bs)) i (attributeBody bs)
-unfolding attributeIn attributeBody
-attribute-cut bs i = simp drop-drop
-
-pub attribute-place : (bs : Bytes) (i : ℕ) {rec : Bytes} → rec ≡ attributeIn bs i → rec ≡ recordAt (attributeSize (widthOf bs)) i (attributeBody bs)
-attribute-place bs i e = e ∙ attribute-cut bs i
 
 -- ---- the conditions
 module _ (bs : Bytes) (w : Whole bs) where

@@ -53,15 +53,18 @@ module _ (form : Form) (once : Distinct (map definitionName form)) (i : ℕ) (h 
       ∙ ap₂ (λ (u v : Bool). u || v) (rows-have (suc d) (r .name) (r .serial) b y) (rows-have d owner up t z)
       ∙ sym (any-append (λ (l : Line). elementNamed n (l .row)) (lines (r .serial) b) (lines up t)))
 
-pub instance-is : (bs : Bytes) → Whole bs → (o : ℕ) → o < length (formIn bs) → any (instanceRow o) (readMany readRow (rowSize (widthOf bs)) (rowCount bs) (rowsIn bs)) ≡ instanceExists (nameAtIndex o (formIn bs)) (storeIn bs)
+pub instance-is : (bs : Bytes) → Whole bs → (o : ℕ) → o < length (formIn bs)
+    → any (instanceRow o) (readMany readRow (rowSize (widthOf bs)) (rowCount bs) (rowsIn bs)) ≡ instanceExists (nameAtIndex o (formIn bs)) (storeIn bs)
 instance-is bs w o l =
     ap (any (instanceRow o)) (sym (from-all readRow (rowSize (widthOf bs)) (rowsIn bs) (rowCount bs) 0) ∙ w .rows)
     ∙ rows-have (formIn bs) (w .good .form .names) o l 0 [] 0 (docsIn bs) (w .good .docs .rows)
 
 -- ---- the loop over the rows
-pub instance-row : (o : ℕ) (at : Bytes) {row : Bytes} {index : ℕ} {sort : ℕ} → row ≡ at → sort ≡ readRow row .row .sort → index ≡ readRow row .row .index → (eqb sort 1 && eqb index o) ≡ instanceRow o (readRow at)
+pub instance-row : (o : ℕ) (at : Bytes) {row : Bytes} {index : ℕ} {sort : ℕ} → row ≡ at → sort ≡ readRow row .row .sort → index ≡ readRow row .row .index
+    → (eqb sort 1 && eqb index o) ≡ instanceRow o (readRow at)
 instance-row o at {row} e s x = ap₂ (λ (a b : ℕ). eqb a 1 && eqb b o) s x ∙ ap (λ (z : Bytes). instanceRow o (readRow z)) e
 
-pub instances-any : (bs : Bytes) (o : ℕ) {w count : ℕ} {rows : Bytes} {r : Bool} → WidthIn bs w → Number (rowCount bs) count → rows ≡ rowsIn bs → r ≡ any (instanceRow o) (readMany readRow (rowSize w) count rows)
+pub instances-any : (bs : Bytes) (o : ℕ) {w count : ℕ} {rows : Bytes} {r : Bool} → WidthIn bs w → Number (rowCount bs) count → rows ≡ rowsIn bs
+    → r ≡ any (instanceRow o) (readMany readRow (rowSize w) count rows)
     → r ≡ any (instanceRow o) (readMany readRow (rowSize (widthOf bs)) (rowCount bs) (rowsIn bs))
 instances-any bs o v e f q = q ∙ (λ j. any (instanceRow o) (readMany readRow (rowSize (v .value j)) (e .value j) (f j)))

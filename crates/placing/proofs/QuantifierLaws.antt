@@ -119,7 +119,8 @@ module _ (bs : Bytes) (w : Whole bs) (o : ℕ) (p : List ℕ) (q : ℕ) (t : Byt
   past-same = ap (λ (z : ℕ). not (ltb o z)) (w .agrees .size)
 
   held : (cs : List Condition) → (r ≡ 0 → ⊥) → Gives r (three (badText (storeIn bs) t) (ltb 3 q) (not (ltb o (length (formIn bs)))) cs)
-  held cs h = three-held (badText (storeIn bs) t) (ltb 3 q) (not (ltb o (length (formIn bs)))) cs (record { is = f .is ∙ ap (λ (z : Bool). first (three (badText (storeIn bs) t) (ltb 3 q) z [])) past-same }) h
+  held cs h =
+      three-held (badText (storeIn bs) t) (ltb 3 q) (not (ltb o (length (formIn bs)))) cs (record { is = f .is ∙ ap (λ (z : Bool). first (three (badText (storeIn bs) t) (ltb 3 q) z [])) past-same }) h
 
   pub requantify-early : (g : Bool) → (r ≡ 0 → ⊥) → Gives r (conditions (requantify g o p q t) (storeIn bs))
   unfolding conditions

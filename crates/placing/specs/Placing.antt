@@ -15,8 +15,8 @@ use Rattle.rules.specs.Model.{Members, el, group, rename, skips, nothing}
 use Rattle.rules.specs.Quantifiers.{relaxes, gains, cuts}
 use Rattle.rules.specs.Store.{members}
 use Rattle.rules.specs.Preorder.{Deep}
-use Rattle.rules.specs.Layout.{headerSize, definitionSize, particleSize, rowSize, FlatAttribute, FlatRow, indexOf, howMany}
-use Rattle.rules.specs.Decode.{readParticle, readRow, readMany, definitionCount, particleCount, rowCount}
+use Rattle.rules.specs.Layout.{rowSize, FlatAttribute, FlatRow, indexOf, howMany}
+use Rattle.rules.specs.Decode.{readParticle, readRow, readMany, definitionCount, rowCount}
 use Rattle.rules.specs.Place.{Found as Spot, gap, nth, find, plug, kindAt, spine, renameAround}
 use Rattle.rules.specs.Edit.{sameKind, lone, firstMembers, hasMembers}
 use Rattle.rules.specs.Change.{Call, changeQuantifier, changeGroupQuantifier, definitionAt}
@@ -35,9 +35,6 @@ use Rattle.placing.specs.declared.Picked.{Picked}
 use Rattle.placing.specs.declared.Picked.the-variants as pick
 
 -- ---- attributes
-unfoldable pub attributeBody : Bytes → Bytes
-attributeBody bs = drop (particleSize * particleCount bs) (drop (definitionSize * definitionCount bs) (drop headerSize bs))
-
 -- one named n of definition o
 abbrev pub ownNamed : ℕ → Bytes → FlatAttribute → Bool
 ownNamed o n a = eqb (a .owner) o && same n (a .name)

@@ -13,7 +13,7 @@ ghost use Rattle.rules.specs.declared.GroupKind.the-variants.{Choice};
 ghost use Rattle.rules.specs.Bytes.{any};
 ghost use Rattle.rules.specs.Model.{nothing};
 ghost use Rattle.rules.specs.Quantifiers.{many, gains, cuts};
-ghost use Rattle.rules.specs.Layout.{attributeSize, howMany};
+ghost use Rattle.rules.specs.Layout.{howMany};
 ghost use Rattle.rules.specs.Edit.{sameKind, isOne};
 ghost use Rattle.rules.specs.Decode.{groupOf, readParticle, readAttribute, definitionCount};
 ghost use Rattle.rules.specs.Passing.{passes};
@@ -21,21 +21,12 @@ ghost use Rattle.rules.specs.Change.{removeElement, changeQuantifier, convertTo
 ghost use Rattle.rules.specs.Refusal.{_if_, first, conditions, wrongDefault};
 ghost use Rattle.model.specs.Members.{membersFrom};
 ghost use Rattle.model.specs.Particle.{particleOf};
-ghost use Rattle.layout.specs.Bodies.{widthOf, recordAt};
 ghost use Rattle.lookup.specs.Bodies.{bodiesOf};
 ghost use Rattle.storing.specs.Stores.{storeIn};
 ghost use Rattle.finding.specs.Finding.{Gives};
-ghost use Rattle.placing.specs.Placing.{attributeBody, ownNamed, hasInstance, partIn, pickOf, Picking, oneIf, unlikeKind, convertTests, isOff, earlyTests, quantifierTests, requantify, choiceLeft, Removable, removeTests};
+ghost use Rattle.placing.specs.Placing.{ownNamed, hasInstance, partIn, pickOf, Picking, oneIf, unlikeKind, convertTests, isOff, earlyTests, quantifierTests, requantify, choiceLeft, Removable, removeTests};
 
 // ---- attributes
-/// The record of attribute i.
-pub fn attribute(store: &[u8], i: usize) -> &[u8]
-    requires { ⌜ i < 4294967296 ⌝ }
-    ensures { λ r. ⌜ now r ≡ recordAt (attributeSize (widthOf (now (store .entry)))) i (attributeBody (now (store .entry))) ⌝ }
-{
-    layout::attribute_in(store, i)
-}
-
 // Whether a record is that of an owner's attribute with a name.
 fn is_own(rec: &[u8], owner: u32, name: &[u8]) -> bool
     ensures { λ r. ⌜ r ≡ ownNamed owner (now (name .entry)) (readAttribute (now (rec .entry))) ⌝ }

@@ -13,7 +13,9 @@ attribute-owner-requires : tie.Need-attribute-owner-requires
 attribute-owner-requires c κs = search needs
 
 returns : tie.Need-returns
-returns c = let a = c .before .before .before .before .before .args in own-read (a .owner) (a .name .now) (a .rec .now) (c .before .before .attribute-name .ensures) (c .before .equal .ensures) (c .attribute-owner .ensures)
+returns c =
+    let a = c .before .before .before .before .before .args in
+    own-read (a .owner) (a .name .now) (a .rec .now) (c .before .before .attribute-name .ensures) (c .before .equal .ensures) (c .attribute-owner .ensures)
 
 pub is-own-spec : {M : Type 1} → statement M
 is-own-spec =

@@ -14,14 +14,13 @@ use Rattle.rules.proofs.LayoutLaws.{Small}
 use Rattle.rules.proofs.SmallBytes.{encode-small}
 use Rattle.codec.proofs.Strings.{part-there}
 use Rattle.lookup.specs.Bodies.{bodiesOf}
-use Rattle.layout.specs.Bodies.{widthOf}
+use Rattle.layout.specs.Bodies.{widthOf, definitionsIn, particlesIn}
 use Rattle.forms.specs.Bodies.{recordAt}
 use Rattle.forms.proofs.Reading.{definition-size}
 use Rattle.circles.specs.Members.{countAt, startAt, membersIn}
 use Rattle.circles.specs.Members as circles
 use Rattle.circles.proofs.CircleLaws.{Indexed}
 use Rattle.rowpass.specs.Reading.{definitionIn, particlesBefore, modelPart}
-use Rattle.validity.specs.Check.{definitionsIn, particlesIn}
 use Rattle.validity.proofs.FormLaws.{members-indexed, part-room}
 use Rattle.validity.proofs.StringChecks.{Headed, laid-in, passes-header, passes-in, same-form}
 use Rattle.validity.proofs.IndexReads.{index-agrees}

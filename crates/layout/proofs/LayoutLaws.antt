@@ -12,7 +12,7 @@ use Rattle.rules.specs.Store.{Store}
 use Rattle.rules.specs.Layout.{valueWidth, headerSize, definitionSize, particleSize, attributeSize, rowSize, FlatAttribute, FlatRow, FlatStore, flat, encode}
 use Rattle.rules.specs.Passing.{good}
 use Rattle.rules.specs.Preorder.{Deep}
-use Rattle.rules.specs.Decode.{numberAt, readAttribute, readRow, readMany, definitionCount, particleCount, attributeCount, rowCount, readFlat}
+use Rattle.rules.specs.Decode.{numberAt, readDefinition, readParticle, readAttribute, readRow, readMany, definitionCount, particleCount, attributeCount, rowCount, readFlat}
 use Rattle.rules.proofs.LayoutLaws.{read-bytes}
 use Rattle.rules.proofs.DecodeLaws.{width-bound, width-most, good-flat}
 use Rattle.codec.proofs.Records.{many-at, many-within}
@@ -168,3 +168,12 @@ unfolding attributeIn
 attribute-window {bs} i r width definitions particles product e =
     e
     ∙ (λ j. windowOf (40 + 20 * definitions .value j + 4 * particles .value j + (product .value ∙ ap (λ (v : ℕ). (20 + v) * i) (width .value)) j) (20 + width .value j) bs)
+
+-- ---- the other two bodies
+pub definitions-read : (bs : Bytes) → readMany readDefinition definitionSize (definitionCount bs) (definitionBody (shapeOf bs) bs) ≡ readFlat (widthOf bs) bs .definitions
+unfolding definitionBody shapeOf
+definitions-read bs = many-within readDefinition definitionSize (definitionCount bs) (drop headerSize bs)
+
+pub particles-read : (bs : Bytes) → readMany readParticle particleSize (particleCount bs) (particleBody (shapeOf bs) bs) ≡ readFlat (widthOf bs) bs .particles
+unfolding particleBody shapeOf
+particles-read bs = many-within readParticle particleSize (particleCount bs) (drop (headerSize + definitionSize * definitionCount bs) bs) ∙ simp drop-drop

@@ -14,7 +14,7 @@ use Rattle.rules.specs.Bytes.{Bytes, same, same-eq, bytes, isNone}
 use Rattle.rules.specs.Model.{Distinct}
 use Rattle.rules.specs.Store.{Attribute, Definition, Form, RowSort, element, attribute, text, Row, Forest, heads}
 use Rattle.rules.specs.Layout.{FlatRow, valueWidth, rowCode, indexOf, attributeIndex, ownAttributes, allAttributes}
-use Rattle.rules.specs.Decode.{attributeCount, sortOf}
+use Rattle.rules.specs.Decode.{numberAt, attributeCount, sortOf}
 use Rattle.rules.specs.WellFormed.{lookup, isThere, known, isValue, attributeName}
 use Rattle.rules.specs.Conforming.{nameOf, ElementRows, RowConforms, isAttribute, mustBePresent, allows, conforming}
 use Rattle.rules.specs.Lines.{elementWith, attributeNamed, findRow, childrenOf, serialAt}
@@ -119,18 +119,18 @@ unfolding many
 many-all o [] = refl
 many-all o (d ∷ ds) = omega (arith, length-append (ownAttributes o (d .attributes)) (allAttributes (suc o) ds), length-own o (d .attributes), many-all (suc o) ds)
 
-block-entry : (F : IndexForm) (form : Form) (i j : ℕ) (table : List Attribute) → Block F form i j table → (a : Attribute) → List·Memᴰ a table → (k : ℕ) × Entry F form i k a
-block-entry F form i j [] b a m = absurd (List·Memᴰ·not-nil m)
-block-entry F form i j (c ∷ table) b a m = ⊎-elim (λ e. (j, subst (λ (z : Attribute). Entry F form i j z) (sym e) (b .0))) (λ n. block-entry F form i (suc j) table (b .1) a n) (List·Memᴰ·cases-cons m)
+block-entry : (version : ℕ) (F : IndexForm) (form : Form) (i j : ℕ) (table : List Attribute) → Block version F form i j table → (a : Attribute) → List·Memᴰ a table → (k : ℕ) × Entry version F form i k a
+block-entry version F form i j [] b a m = absurd (List·Memᴰ·not-nil m)
+block-entry version F form i j (c ∷ table) b a m = ⊎-elim (λ e. (j, subst (λ (z : Attribute). Entry version F form i j z) (sym e) (b .0))) (λ n. block-entry version F form i (suc j) table (b .1) a n) (List·Memᴰ·cases-cons m)
 
 -- what the readers of an attribute find, at the width and in the body that were read
 module _ (bs : Bytes) {n : ℕ} {attrs : Bytes} (v : n ≡ widthOf bs) (e : attrs ≡ attributesIn bs) (a : ℕ) where
   pub allows-in : (t : Bytes) → allows (sortOf (attributeIn n attrs a .sort)) (attributeIn n attrs a .value) t ≡ byIndex bs .allows a t
   allows-in t = λ i. allows (sortOf (attributeIn (v i) (e i) a .sort)) (attributeIn (v i) (e i) a .value) t
 
-  pub needs-in : (i : ℕ) → (eqb (attributeIn n attrs a .owner) i && mustBePresent (sortOf (attributeIn n attrs a .sort)))
+  pub needs-in : {version : ℕ} → version ≡ numberAt 0 4 bs → (i : ℕ) → (eqb (attributeIn n attrs a .owner) i && mustBePresent version (sortOf (attributeIn n attrs a .sort)))
       ≡ (eqb (attributeIn (widthOf bs) (attributesIn bs) a .owner) i && byIndex bs .needed a)
-  needs-in i = λ j. eqb (attributeIn (v j) (e j) a .owner) i && mustBePresent (sortOf (attributeIn (v j) (e j) a .sort))
+  needs-in u i = λ j. eqb (attributeIn (v j) (e j) a .owner) i && mustBePresent (u j) (sortOf (attributeIn (v j) (e j) a .sort))
 
 module _ (bs : Bytes) (w : Whole bs) (a : ℕ) where
   count-is : attributeCount bs ≡ many (formIn bs)
@@ -152,12 +152,12 @@ module _ (bs : Bytes) (w : Whole bs) (a : ℕ) where
     is-known : known (formIn bs) (o .owner .name) ≡ true
     is-known = ap isThere (owner-found a (formIn bs) (w .good .form .names) o at)
 
-    entry : Entry (byIndex bs) (formIn bs) index a (o .attribute)
+    entry : Entry (storeIn bs .version) (byIndex bs) (formIn bs) index a (o .attribute)
     entry =
         let l : index < length (formIn bs) = owner-below a (formIn bs) (w .good .form .names) o at in
-        let (k, e) = block-entry (byIndex bs) (formIn bs) index (offset index (formIn bs)) (definitionAt index (formIn bs) .attributes) (block (valueWidth (storeIn bs .version)) (formIn bs) (ok (storeIn bs) (w .good)) (byIndex bs) (w .agrees) index l) (o .attribute)
+        let (k, e) = block-entry (storeIn bs .version) (byIndex bs) (formIn bs) index (offset index (formIn bs)) (definitionAt index (formIn bs) .attributes) (block (valueWidth (storeIn bs .version)) (formIn bs) (ok (storeIn bs) (w .good)) (byIndex bs) (w .agrees) index l) (o .attribute)
         (subst (λ (z : Definition). List·Memᴰ (o .attribute) (z .attributes)) (sym (owner-at a (formIn bs) (w .good .form .names) o at)) (attribute-owned a (formIn bs) o at .1)) in
-        subst (λ (z : ℕ). Entry (byIndex bs) (formIn bs) index z (o .attribute))
+        subst (λ (z : ℕ). Entry (storeIn bs .version) (byIndex bs) (formIn bs) index z (o .attribute))
         (sym (e .found) ∙ ap (λ (z : Bytes). attributeIndex z (o .attribute .name) (formIn bs)) (known-index (formIn bs) (o .owner .name) is-known .name) ∙ own-index a (formIn bs) o (w .good .form .names) apart at) e
 
     -- ---- of an element
@@ -272,24 +272,24 @@ module _ (bs : Bytes) (w : Whole bs) (a : ℕ) where
 
   -- ---- conforming after
   module _ {k : ℕ} (y : Known k) where
-    shape : (d : Definition) × (lookup (y .row .name) (formIn bs) ≡ some d) × ElementRows d (heads (y .below))
-    shape = conforms (y .row) (heads (y .below)) (y .sort) (standing-every (λ r below. RowConforms (formIn bs) r below) (docsIn bs) (w .good .docs .rows) (y .row) (y .below) (y .stands))
+    shape : (d : Definition) × (lookup (y .row .name) (formIn bs) ≡ some d) × ElementRows (storeIn bs .version) d (heads (y .below))
+    shape = conforms (y .row) (heads (y .below)) (y .sort) (standing-every (λ r below. RowConforms (storeIn bs .version) (formIn bs) r below) (docsIn bs) (w .good .docs .rows) (y .row) (y .below) (y .stands))
       where
-        conforms : (r : Row) (rows : List Row) → r .sort ≡ element → RowConforms (formIn bs) r rows → (d : Definition) × (lookup (r .name) (formIn bs) ≡ some d) × ElementRows d rows
+        conforms : (r : Row) (rows : List Row) → r .sort ≡ element → RowConforms (storeIn bs .version) (formIn bs) r rows → (d : Definition) × (lookup (r .name) (formIn bs) ≡ some d) × ElementRows (storeIn bs .version) d rows
         conforms r rows q x = rw q at x
 
     own : y .owned .owner ≡ shape .0
     own = some-same (sym (owner-found a (formIn bs) (w .good .form .names) (y .owned) (y .at)) ∙ ap (λ (z : Bytes). lookup z (formIn bs)) (y .mine) ∙ shape .1)
 
-    pub drop-is : conforming (formIn bs) (after (destroyAttributeRow k a) (storeIn bs) .docs) ≡ not (byIndex bs .needed a)
+    pub drop-is : conforming (storeIn bs .version) (formIn bs) (after (destroyAttributeRow k a) (storeIn bs) .docs) ≡ not (byIndex bs .needed a)
     drop-is =
-        ap (λ (z : ℕ). conforming (formIn bs) (after (destroyAttributeRow z a) (storeIn bs) .docs)) (sym (y .serial))
+        ap (λ (z : ℕ). conforming (storeIn bs .version) (formIn bs) (after (destroyAttributeRow z a) (storeIn bs) .docs)) (sym (y .serial))
         ∙ drop-conforms (storeIn bs) (w .good) (y .row) (y .below) (y .stands) (y .sort) (shape .0) (shape .1) (shape .2) a (y .owned) (y .at) own
         ∙ ap not (sym (entry (y .owned) (y .at) .needed))
 
-    pub set-is : (v : Bytes) → conforming (formIn bs) (after (setAttribute k a v) (storeIn bs) .docs) ≡ byIndex bs .allows a v
+    pub set-is : (v : Bytes) → conforming (storeIn bs .version) (formIn bs) (after (setAttribute k a v) (storeIn bs) .docs) ≡ byIndex bs .allows a v
     set-is v =
-        ap (λ (z : ℕ). conforming (formIn bs) (after (setAttribute z a v) (storeIn bs) .docs)) (sym (y .serial))
+        ap (λ (z : ℕ). conforming (storeIn bs .version) (formIn bs) (after (setAttribute z a v) (storeIn bs) .docs)) (sym (y .serial))
         ∙ set-conforms (storeIn bs) (w .good) (y .row) (y .below) (y .stands) (y .sort) (shape .0) (shape .1) (shape .2) a (y .owned) (y .at) own v
         ∙ sym (entry (y .owned) (y .at) .allowed v)
 
@@ -343,7 +343,7 @@ module _ (bs : Bytes) (w : Whole bs) (a : ℕ) where
         needed : c ≡ byIndex bs .needed a
         needed = m ∙ ap (λ (u : Bool). u && byIndex bs .needed a) (eq-eqb (attributeIn (widthOf bs) (attributesIn bs) a .owner) j (owner-is (known-of x z) f ∙ sym d))
 
-        after-is : not (conforming (formIn bs) (after (destroyAttributeRow k a) (storeIn bs) .docs)) ≡ c
+        after-is : not (conforming (storeIn bs .version) (formIn bs) (after (destroyAttributeRow k a) (storeIn bs) .docs)) ≡ c
         after-is = ap not (drop-is (known-of x z)) ∙ Bool·not-not (byIndex bs .needed a) ∙ sym needed
 
         pub drop-15 : c ≡ true → Gives 15 (conditions (destroyAttributeRow k a) (storeIn bs))

@@ -14,7 +14,7 @@ use Rattle.rules.specs.Bytes.{Bytes, any, eqb-eq, eqb-of}
 use Rattle.rules.specs.Store.{Definition, Form, RowSort, element, attribute, text, Row, Forest, heads}
 use Rattle.rules.specs.Preorder.{Deep, flatten}
 use Rattle.rules.specs.Layout.{valueWidth, rowSize, FlatRow, FlatStore, rowCode, rowIndex, indexed, indexOf}
-use Rattle.rules.specs.Decode.{readRow, definitionCount, attributeCount, rowCount}
+use Rattle.rules.specs.Decode.{numberAt, readRow, definitionCount, attributeCount, rowCount}
 use Rattle.rules.specs.WellFormed.{isValue, lookup, isThere}
 use Rattle.rules.specs.Conforming.{isElement, isText, ElementRows, RowConforms}
 use Rattle.rules.specs.Change.{definitionAt}
@@ -58,7 +58,7 @@ docsIn bs = storeIn bs .docs
 
 -- the form by index that the bytes say
 abbrev pub byIndex : Bytes → IndexForm
-byIndex bs = indexForm (widthOf bs) (definitionCount bs) (definitionsIn bs) (particlesIn bs) (attributesIn bs) (attributeCount bs)
+byIndex bs = indexForm (numberAt 0 4 bs) (widthOf bs) (definitionCount bs) (definitionsIn bs) (particlesIn bs) (attributesIn bs) (attributeCount bs)
 
 -- the width that the string says is the one of its store's version
 pub width-of-store : (bs : Bytes) → widthOf bs ≡ valueWidth (storeIn bs .version)
@@ -80,14 +80,14 @@ pub record Whole (bs : Bytes) : Type 0 where
   pub few : rowCount bs ≤ 4096
   pub fewDefinitions : definitionCount bs ≤ 64
   pub fewAttributes : attributeCount bs ≤ 64
-  pub agrees : Agrees (byIndex bs) (formIn bs)
+  pub agrees : Agrees (storeIn bs .version) (byIndex bs) (formIn bs)
 
 pub whole : (bs : Bytes) → passes bs ≡ true → Whole bs
 unfolding storeIn bodiesOf widthOf
 whole bs q =
     let h : Holds bs = holds bs q in
     let d : Headed bs = record { small = subst Small (h .written) (encode-small (storeIn bs) (h .good)); header = passes-header bs q } in
-    let form = passes-in d (byIndex bs) (λ x. index-agrees (laid-in d) (x .passes)) .0 q .0 in
+    let form = passes-in d (byIndex bs) (λ x. index-agrees (laid-in d) (x .passes) (numberAt 0 4 bs)) .0 q .0 in
     record {
       holds = h;
       good = good-is (storeIn bs) .0 (h .good);
@@ -95,7 +95,7 @@ whole bs q =
       few = header d .fewRows;
       fewDefinitions = header d .fewDefinitions;
       fewAttributes = header d .fewAttributes;
-      agrees = subst (λ (z : Form). Agrees (byIndex bs) z) (sym (same-form d)) (index-agrees (laid-in d) (form .passes));
+      agrees = subst (λ (z : Form). Agrees (storeIn bs .version) (byIndex bs) z) (sym (same-form d)) (index-agrees (laid-in d) (form .passes) (numberAt 0 4 bs));
     }
 
 -- rows that a reader cut out are those of the string
@@ -322,9 +322,9 @@ module _ (bs : Bytes) (w : Whole bs) where
         record { serial = l .row .serial; parent = located-element i b l (holder (l .row) (l .below) (l .stands) y m); child = y; among = m; here = g }
       where
         holder : (r : Row) (c : Forest Row) → Standing (docsIn bs) r c → (y : Row) → List·Memᴰ y (heads c) → isElement (r .sort) ≡ true
-        holder r c j y m = by (r .sort) (standing-every (λ r below. RowConforms (formIn bs) r below) (docsIn bs) (w .good .docs .rows) r c j)
+        holder r c j y m = by (r .sort) (standing-every (λ r below. RowConforms (storeIn bs .version) (formIn bs) r below) (docsIn bs) (w .good .docs .rows) r c j)
           where
-            by : (s : RowSort) → elim s as (λ z. Type 0) [ element ↦ (d : Definition) × (lookup (r .name) (formIn bs) ≡ some d) × ElementRows d (heads c) | attribute ↦ heads c ≡ [] | text ↦ heads c ≡ [] ] → isElement s ≡ true
+            by : (s : RowSort) → elim s as (λ z. Type 0) [ element ↦ (d : Definition) × (lookup (r .name) (formIn bs) ≡ some d) × ElementRows (storeIn bs .version) d (heads c) | attribute ↦ heads c ≡ [] | text ↦ heads c ≡ [] ] → isElement s ≡ true
             by element x = refl
             by attribute x = absurd (List·Memᴰ·not-nil (subst (λ (z : List Row). List·Memᴰ y z) x m))
             by text x = absurd (List·Memᴰ·not-nil (subst (λ (z : List Row). List·Memᴰ y z) x m))
@@ -336,7 +336,7 @@ module _ (bs : Bytes) (w : Whole bs) where
   pub record Defined (k i : ℕ) (e : Element bs k i) : Type 0 where
     pub definition : Definition
     pub found : lookup (e .row .name) (formIn bs) ≡ some definition
-    pub fits : ElementRows definition (heads (e .below))
+    pub fits : ElementRows (storeIn bs .version) definition (heads (e .below))
     pub index : rowAt (widthOf bs) (rowsIn bs) i .row .index ≡ indexOf (e .row .name) (formIn bs)
     pub below : indexOf (e .row .name) (formIn bs) < length (formIn bs)
     pub at : definitionAt (indexOf (e .row .name) (formIn bs)) (formIn bs) ≡ definition
@@ -346,7 +346,7 @@ module _ (bs : Bytes) (w : Whole bs) where
 
   pub defined : (k i : ℕ) (e : Element bs k i) → Defined k i e
   defined k i e =
-      let (d, g, x) = conforms (e .row) (heads (e .below)) (e .sort) (standing-every (λ r below. RowConforms (formIn bs) r below) (docsIn bs) (w .good .docs .rows) (e .row) (e .below) (e .stands)) in
+      let (d, g, x) = conforms (e .row) (heads (e .below)) (e .sort) (standing-every (λ r below. RowConforms (storeIn bs .version) (formIn bs) r below) (docsIn bs) (w .good .docs .rows) (e .row) (e .below) (e .stands)) in
       let n : Indexed (formIn bs) (e .row .name) = known-index (formIn bs) (e .row .name) (ap isThere g) in
       record {
         definition = d;
@@ -357,7 +357,7 @@ module _ (bs : Bytes) (w : Whole bs) where
         at = some-same (sym (n .found) ∙ g);
       }
     where
-      conforms : (r : Row) (rows : List Row) → r .sort ≡ element → RowConforms (formIn bs) r rows → (d : Definition) × (lookup (r .name) (formIn bs) ≡ some d) × ElementRows d rows
+      conforms : (r : Row) (rows : List Row) → r .sort ≡ element → RowConforms (storeIn bs .version) (formIn bs) r rows → (d : Definition) × (lookup (r .name) (formIn bs) ≡ some d) × ElementRows (storeIn bs .version) d rows
       conforms r rows q x = rw q at x
 
       row-index : (r : Row) (owner : Bytes) → r .sort ≡ element → rowIndex (formIn bs) owner r ≡ indexOf (r .name) (formIn bs)

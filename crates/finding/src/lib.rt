@@ -512,9 +512,16 @@ pub fn destroy_attribute_row_refusal(store: &[u8], element: u32, attribute: u32)
     if attribute_at(store, i, attribute as usize) == 0 {
         return 7;
     }
+    let version = layout::version_in(store);
     let w = layout::width_in(store);
     let attrs = layout::attributes_of(store);
-    if rowpass::needs(w, attrs, definition_at(store, i), attribute as usize) {
+    if rowpass::needs(
+        version,
+        w,
+        attrs,
+        definition_at(store, i),
+        attribute as usize,
+    ) {
         return 15;
     }
     0

@@ -55,7 +55,7 @@ unfolding storeIn bodiesOf widthOf
 reads bs q =
     let w : Whole bs = whole bs q in
     let d : Headed bs = record { small = subst Small (w .holds .written) (encode-small (storeIn bs) (w .holds .good)); header = passes-header bs q } in
-    let form = passes-in d (byIndex bs) (λ x. index-agrees (laid-in d) (x .passes)) .0 q .0 in
+    let form = passes-in d (byIndex bs) (λ x. index-agrees (laid-in d) (x .passes) _) .0 q .0 in
     record {
       whole = w;
       members = subst (λ (z : Form). Indexed (membersIn (definitionsIn bs) (particlesIn bs)) z) (sym (same-form d)) (members-indexed (laid-in d) (form .passes .definitions) (form .passes .attributes) (form .passes .bodies));

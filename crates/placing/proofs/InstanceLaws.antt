@@ -27,17 +27,17 @@ use Rattle.storing.specs.Stores.{storeIn}
 use Rattle.finding.proofs.StoreFacts.{formIn, docsIn, Whole}
 use Rattle.placing.specs.Placing.{instanceRow}
 
-module _ (form : Form) (once : Distinct (map definitionName form)) (i : ℕ) (h : i < length form) where
+module _ (version : ℕ) (form : Form) (once : Distinct (map definitionName form)) (i : ℕ) (h : i < length form) where
   abbrev n : Bytes
   n = nameAtIndex i form
 
-  known-row : (r : Row) (below : List Row) → r .sort ≡ element → RowConforms form r below → known form (r .name) ≡ true
+  known-row : (r : Row) (below : List Row) → r .sort ≡ element → RowConforms version form r below → known form (r .name) ≡ true
   known-row r below q x = ap isThere (told .1)
     where
-      told : (d : Definition) × (lookup (r .name) form ≡ some d) × ElementRows d below
+      told : (d : Definition) × (lookup (r .name) form ≡ some d) × ElementRows version d below
       told = rw q at x
 
-  row-same : (owner : Bytes) (r : Row) (below : List Row) → RowConforms form r below → (eqb (rowCode (r .sort)) 1 && eqb (rowIndex form owner r) i) ≡ elementNamed n r
+  row-same : (owner : Bytes) (r : Row) (below : List Row) → RowConforms version form r below → (eqb (rowCode (r .sort)) 1 && eqb (rowIndex form owner r) i) ≡ elementNamed n r
   row-same owner r below x = by (r .sort) refl
     where
       by : (s : RowSort) → r .sort ≡ s → (eqb (rowCode (r .sort)) 1 && eqb (rowIndex form owner r) i) ≡ elementNamed n r
@@ -45,7 +45,7 @@ module _ (form : Form) (once : Distinct (map definitionName form)) (i : ℕ) (h 
       by attribute q = rw q refl
       by text q = rw q refl
 
-  rows-have : (d : ℕ) (owner : Bytes) (up : ℕ) (f : Forest Row) → EveryRow (λ r below. RowConforms form r below) f → any (instanceRow i) (flatten d (indexed form owner f)) ≡ any (λ (l : Line). elementNamed n (l .row)) (lines up f)
+  rows-have : (d : ℕ) (owner : Bytes) (up : ℕ) (f : Forest Row) → EveryRow (λ r below. RowConforms version form r below) f → any (instanceRow i) (flatten d (indexed form owner f)) ≡ any (λ (l : Line). elementNamed n (l .row)) (lines up f)
   rows-have d owner up bare e = refl
   rows-have d owner up (tree r b t) (x, y, z) =
       ap₂ (λ (u v : Bool). u || v) (row-same owner r (heads b) x)
@@ -57,7 +57,7 @@ pub instance-is : (bs : Bytes) → Whole bs → (o : ℕ) → o < length (formIn
     → any (instanceRow o) (readMany readRow (rowSize (widthOf bs)) (rowCount bs) (rowsIn bs)) ≡ instanceExists (nameAtIndex o (formIn bs)) (storeIn bs)
 instance-is bs w o l =
     ap (any (instanceRow o)) (sym (from-all readRow (rowSize (widthOf bs)) (rowsIn bs) (rowCount bs) 0) ∙ w .rows)
-    ∙ rows-have (formIn bs) (w .good .form .names) o l 0 [] 0 (docsIn bs) (w .good .docs .rows)
+    ∙ rows-have (storeIn bs .version) (formIn bs) (w .good .form .names) o l 0 [] 0 (docsIn bs) (w .good .docs .rows)
 
 -- ---- the loop over the rows
 pub instance-row : (o : ℕ) (at : Bytes) {row : Bytes} {index : ℕ} {sort : ℕ} → row ≡ at → sort ≡ readRow row .row .sort → index ≡ readRow row .row .index

@@ -92,5 +92,5 @@ unfolding storeIn bodiesOf widthOf
 own-particles bs q o l =
     let h : Holds bs = holds bs q in
     let d : Headed bs = record { small = subst Small (h .written) (encode-small (storeIn bs) (h .good)); header = passes-header bs q } in
-    let form = passes-in d (byIndex bs) (λ x. index-agrees (laid-in d) (x .passes)) .0 q .0 in
+    let form = passes-in d (byIndex bs) (λ x. index-agrees (laid-in d) (x .passes) _) .0 q .0 in
     subst (λ (z : Form). particlesOf (modelPart (definitionsIn bs) (particlesIn bs) o) ≡ spread 0 (rename (λ m. indexOf m z) (members (definitionAt o z)))) (sym (same-form d)) (own-in (laid-in d) (form .passes) o l)

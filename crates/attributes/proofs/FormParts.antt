@@ -15,29 +15,26 @@ use Rattle.rules.specs.Passing.{passes}
 use Rattle.rules.proofs.LayoutLaws.{length-definition, length-particle, length-attribute, length-each}
 use Rattle.codec.specs.Laid.{Laid}
 use Rattle.codec.proofs.Writers.{laid-then, laid-as}
-use Rattle.layout.specs.Bodies.{widthOf}
+use Rattle.layout.specs.Bodies.{widthOf, WidthIn}
 use Rattle.layout.proofs.LayoutLaws.{width-within}
 use Rattle.layout.proofs.HeaderLaws.{attributes-short}
 use Rattle.lookup.specs.Bodies.{bodiesOf, Begins}
 use Rattle.storing.specs.Forms.{formBytes}
 use Rattle.storing.proofs.StoreLaws.{Holds, holds}
 use Rattle.storing.proofs.FormBytesLaws.{Few, few-of, few-definitions, few-particles, few-attributes, length-form}
-use Rattle.storing.proofs.FormLaws.{FormOf, own-form, within, counted-definitions, counted-particles, counted-attributes}
+use Rattle.storing.proofs.FormLaws.{own-form, within, counted-definitions, counted-particles, counted-attributes}
 use Rattle.defining.proofs.Encoded.{each-append}
 use Rattle.plans.specs.AttributeCalls.{attributesReplaced, attributeAdded, attributeDropped}
 use Rattle.attributes.specs.Attributes.{Stands}
 
 -- ---- the form of a store that passes
-module _ {bs : Bytes} (q : passes bs ≡ true) where
-  own : {start : ℕ} → Begins bs start → FormOf (widthOf bs) (bodiesOf bs) (take (start - headerSize) (drop headerSize bs)) (definitionCount bs) (particleCount bs) (attributeCount bs)
-  own b =
-      let h : Holds bs = holds bs q in
-      let x : Few (bodiesOf bs) = few-of (bodiesOf bs) (within h) in
-      own-form h b (record { value = refl; small = omega (arith, counted-definitions bs, few-definitions x) }) (record { value = refl; small = omega (arith, counted-particles bs, few-particles x) })
-      (record { value = refl; small = omega (arith, counted-attributes bs, few-attributes x) })
-
-  pub form-at : {form : Bytes} {start end : ℕ} → start ≡ headerSize → Begins bs end → form ≡ take (end - start) (drop start bs) → form ≡ formBytes (widthOf bs) (bodiesOf bs)
-  form-at {start = start} {end = end} h b e = e ∙ ap (λ (k : ℕ). take (end - k) (drop k bs)) h ∙ own b .bytes
+pub form-at : {bs : Bytes} → passes bs ≡ true → {start end : ℕ} → start ≡ headerSize → Begins bs end → {form : Bytes} → form ≡ take (end - start) (drop start bs) → form ≡ formBytes (widthOf bs) (bodiesOf bs)
+form-at {bs} q h b e =
+    let y : Holds bs = holds bs q in
+    let x : Few (bodiesOf bs) = few-of (bodiesOf bs) (within y) in
+    e
+    ∙ own-form y {d = definitionCount bs} {p = particleCount bs} {a = attributeCount bs} h b (record { value = refl; small = omega (arith, counted-definitions bs, few-definitions x) })
+    (record { value = refl; small = omega (arith, counted-particles bs, few-particles x) }) (record { value = refl; small = omega (arith, counted-attributes bs, few-attributes x) }) .bytes
 
 module _ (bs : Bytes) {form : Bytes} (q : passes bs ≡ true) (e : form ≡ formBytes (widthOf bs) (bodiesOf bs)) where
   form-small : length form ≤ 9728
@@ -57,6 +54,10 @@ module _ (bs : Bytes) {form : Bytes} (q : passes bs ≡ true) (e : form ≡ form
 
   pub rest-small : (at : ℕ) {u : Bytes} → u ≡ drop at form → length u ≤ 9728
   rest-small at w = omega (arith, ap length w, length-drop at form, form-small)
+
+-- an attribute at the width that the code reads
+pub wide-attribute : {bs : Bytes} {w : ℕ} {out : Bytes} {at r : ℕ} {out′ : Bytes} → WidthIn bs w → (c : FlatAttribute) → Laid (attributeBytes w c) out at r out′ → Laid (attributeBytes (widthOf bs) c) out at r out′
+wide-attribute x c l = laid-as (ap (λ (k : ℕ). attributeBytes k c) (sym (x .value))) l
 
 -- ---- the form, cut before attribute i
 module _ (w : ℕ) (f : FlatStore) (i : ℕ) where
@@ -87,7 +88,7 @@ module _ (w : ℕ) (f : FlatStore) (i : ℕ) where
           length-each definitionBytes definitionSize length-definition (f .definitions),
           length-each particleBytes particleSize length-particle (f .particles),
           length-each (attributeBytes w) (attributeSize w) (length-attribute w) (take i (f .attributes)),
-          length-take-le i (f .attributes) h,
+          ap (λ (k : ℕ). attributeSize w * k) (length-take-le i (f .attributes) h),
         )
 
     form-before : take at (formBytes w f) ≡ front

@@ -148,7 +148,7 @@ fn removing_plan(part: &[u8], owner: usize, p: usize) -> Plan
     requires { ⌜ p ≤ 256 ⌝ }
     ensures { λ r. ⌜ r ≡ removeElementPlan owner (getD (now (part .entry)) (4 * p + 2) 0) ⌝ }
 {
-    let index = codec::byte(part, 4 * p + 2) as usize;
+    let index = layout::particle_index(layout::particles_from(part, p)) as usize;
     plans::taking_plan(Which::Elements(owner), Which::Elements(index))
 }
 

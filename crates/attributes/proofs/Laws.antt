@@ -12,7 +12,7 @@ use lib.ListN.{length, take, replicate, length-replicate}
 use lib.Seq.{length-sets}
 use Rattle.rules.specs.Bytes.{Bytes}
 use Rattle.rules.specs.Layout.{FlatAttribute, FlatStore, flat}
-use Rattle.rules.specs.Decode.{definitionCount, attributeCount}
+use Rattle.rules.specs.Decode.{definitionCount, particleCount, attributeCount}
 use Rattle.rules.specs.WellFormed.{isName, isValue, withinCeilings}
 use Rattle.rules.specs.Passing.{passes}
 use Rattle.rules.specs.Change.{Call, addAttribute, destroyAttribute, Owned, after}
@@ -20,8 +20,9 @@ use Rattle.rules.specs.Refusal.{first, conditions, isOther}
 use Rattle.rules.specs.Outcome.{outcome, Answers}
 use Rattle.rules.proofs.DecodeLaws.{name-width, value-width}
 use Rattle.history.proofs.Conditions.{not-false, not-past}
-use Rattle.records.specs.Records.{baseWidth, NumberAt}
 use Rattle.codec.specs.Laid.{Laid}
+use Rattle.layout.specs.Bodies.{widthOf, Number}
+use Rattle.layout.proofs.LayoutLaws.{width-within}
 use Rattle.lookup.specs.Bodies.{bodiesOf, Begins}
 use Rattle.validity.proofs.AttributeBlocks.{below-or}
 use Rattle.editing.specs.declared.Plan.{Plan}
@@ -32,8 +33,8 @@ use Rattle.storing.specs.Writing.{Sized}
 use Rattle.storing.proofs.StoreLaws.{Holds, holds}
 use Rattle.storing.proofs.CallLaws.{answers-as, answers-written, passed}
 use Rattle.storing.proofs.FormBytesLaws.{form-short}
-use Rattle.storing.proofs.FormLaws.{bareForm, FormOf, forms-of, form-answers, form-ceiling, within, good-bodies}
-use Rattle.finding.proofs.StoreFacts.{Whole, whole}
+use Rattle.storing.proofs.FormLaws.{bareForm, FormOf, forms-of, form-answers, form-ceiling, within, good-bodies, counted-attributes}
+use Rattle.finding.proofs.StoreFacts.{Whole, whole, value-given, no-value}
 use Rattle.finding.proofs.AttributeRefusals.{unowned}
 use Rattle.plans.specs.AttributeCalls.{attributesTo, ownerAt, addAttributePlan, destroyAttributePlan, attributeAdded, attributeDropped}
 use Rattle.plans.proofs.CallsPlanned.{none-holds}
@@ -41,7 +42,7 @@ use Rattle.plans.proofs.FormsAfter.{good-attribute, added-ceiling, added-form, 
 use Rattle.plans.proofs.AttributeCallsPlanned.{add-attribute-planned, destroy-attribute-planned}
 use Rattle.attributes.specs.Attributes.{newEntry, Addable, Droppable, added, dropped, To}
 use Rattle.attributes.proofs.FormParts.{front-laid}
-use Rattle.attributes.proofs.CountLaws.{count-definitions, count-particles, count-attributes, attributes-counted}
+use Rattle.attributes.proofs.CountLaws.{count-definitions, count-particles, count-attributes}
 
 -- ---- no condition holds
 module _ (bs : Bytes) {b : Bool} {m : ℕ} (h : not b ≡ false) (e : b ≡ passes bs) where
@@ -56,8 +57,8 @@ module _ (bs : Bytes) {b : Bool} {m : ℕ} (h : not b ≡ false) (e : b ≡ pass
         name = not-false (isName n) name;
         short = name-width n (not-false (isName n) name);
         sort = ltb-false 2 k code;
-        value = not-false (isValue baseWidth v) value;
-        few = value-width baseWidth v (not-false (isValue baseWidth v) value);
+        value = value-given bs v value;
+        few = value-width (widthOf bs) v (value-given bs v value);
       }
 
   pub droppable : (a : ℕ) → m ≡ first (conditions (destroyAttribute a) (storeIn bs)) → m ≡ 0 → Droppable bs a
@@ -66,7 +67,7 @@ module _ (bs : Bytes) {b : Bool} {m : ℕ} (h : not b ≡ false) (e : b ≡ pass
       let (there, end) = none-holds (destroyAttribute a) (storeIn bs) (sym f ∙ z) in
       let w : Whole bs = whole bs (passed bs h e) in
       let l : a < attributeCount bs = ⊎-elim (λ (x : a < attributeCount bs). x) (λ (x : attributeCount bs ≤ a). absurd (false≢true (sym there ∙ ap (λ (o : Option Owned). isOther o none) (unowned bs w a x)))) (below-or a (attributeCount bs)) in
-      record { passes = passed bs h e; inside = omega (arith, attributes-counted bs); small = omega (arith, w .fewAttributes) }
+      record { passes = passed bs h e; inside = omega (arith, counted-attributes bs); small = omega (arith, w .fewAttributes) }
 
   -- f: the bodies that are left
   pub made : (c : Call) (room : ℕ) (f : FlatStore) {out : Bytes} {n l : ℕ} {left : Bytes} → m ≡ first (conditions c (storeIn bs)) → m ≡ 0
@@ -83,10 +84,10 @@ module _ (bs : Bytes) (q : passes bs ≡ true) where
   destroy-leaves a e = let kept : Holds bs = holds bs q in destroy-attribute-planned (storeIn bs) (kept .good) a [] e ∙ sym (ap (dropped a []) (kept .bodies))
 
 -- ---- a form in a buffer of its ceilings
-pub zeros-long : length (replicate {A = ℕ} 5632 0) ≡ 5632
-zeros-long = length-replicate {A = ℕ} 5632 0
+pub zeros-long : length (replicate {A = ℕ} 9728 0) ≡ 9728
+zeros-long = length-replicate {A = ℕ} 9728 0
 
-fits : {w buffer left : Bytes} {r : ℕ} → length buffer ≡ 5632 → length w ≤ 5632 → Laid w buffer 0 r left → r ≤ length left
+fits : {w buffer left : Bytes} {r : ℕ} → length buffer ≡ 9728 → length w ≤ 9728 → Laid w buffer 0 r left → r ≤ length left
 fits {w} {buffer} long few y = omega (arith, y .next, long, few, ap length (y .stored), length-sets buffer 0 w)
 
 -- ---- 9
@@ -94,7 +95,7 @@ module _ (bs : Bytes) (o : ℕ) (n : Bytes) (k : ℕ) (v : Bytes) (x : Addable b
   kept : Holds bs
   kept = holds bs (x .passes)
 
-  pub added-full : (room : ℕ) {a number len : ℕ} {out : Bytes} → NumberAt 28 bs a → 64 ≤ a → (number ≡ 16) × (len ≡ 0) → Answers (limited room (added o n k v (bodiesOf bs))) out number len out
+  pub added-full : (room : ℕ) {a number len : ℕ} {out : Bytes} → Number (attributeCount bs) a → 64 ≤ a → (number ≡ 16) × (len ≡ 0) → Answers (limited room (added o n k v (bodiesOf bs))) out number len out
   unfolding added
   added-full room {out = out} e l (n-is, l-is) =
       let f : FlatStore = bodiesOf bs in
@@ -104,15 +105,15 @@ module _ (bs : Bytes) (o : ℕ) (n : Bytes) (k : ℕ) (v : Bytes) (x : Addable b
       let a : Answers (limited room (added o n k v f)) out 16 0 out = form-ceiling (attributeAdded i c f) over (addAttributePlan o i k) v f room in
       record { number-is = n-is ∙ a .number-is; length-is = l-is ∙ a .length-is; buffer-is = a .buffer-is }
 
-  module _ {d p a i r : ℕ} {q : Plan} {buffer left : Bytes} (cd : NumberAt 12 bs d) (cp : NumberAt 20 bs p) (ca : NumberAt 28 bs a) (few : a < 64) (to : To o (bodiesOf bs .attributes) i) (same : q ≡ addAttributePlan o i k)
-      (long : length buffer ≡ 5632) (y : Laid (formBytes (attributeAdded i (newEntry o n k v) (bodiesOf bs))) buffer 0 r left) where
-    of-bytes : {form : Bytes} → form ≡ formBytes (attributeAdded i (newEntry o n k v) (bodiesOf bs)) → FormOf (attributeAdded i (newEntry o n k v) (bodiesOf bs)) form d p (a + 1)
+  module _ {d p a i r : ℕ} {q : Plan} {buffer left : Bytes} (cd : Number (definitionCount bs) d) (cp : Number (particleCount bs) p) (ca : Number (attributeCount bs) a) (few : a < 64) (to : To o (bodiesOf bs .attributes) i) (same : q ≡ addAttributePlan o i k)
+      (long : length buffer ≡ 9728) (y : Laid (formBytes (widthOf bs) (attributeAdded i (newEntry o n k v) (bodiesOf bs))) buffer 0 r left) where
+    of-bytes : {form : Bytes} → form ≡ formBytes (widthOf bs) (attributeAdded i (newEntry o n k v) (bodiesOf bs)) → FormOf (widthOf bs) (attributeAdded i (newEntry o n k v) (bodiesOf bs)) form d p (a + 1)
     of-bytes e =
-        added-form i (bodiesOf bs) (good-bodies kept) (within kept) (newEntry o n k v) (good-attribute o n k v (x .name) (x .value)) (omega (arith, count-attributes bs ca)) e (count-definitions bs cd)
+        added-form i (bodiesOf bs) (good-bodies kept) (within kept) (newEntry o n k v) (good-attribute (widthOf bs) o n k v (x .name) (x .value)) (omega (arith, count-attributes bs ca)) e (count-definitions bs cd)
         (count-particles bs cp) (omega (arith, count-attributes bs ca))
 
-    room-for : length (formBytes (attributeAdded i (newEntry o n k v) (bodiesOf bs))) ≤ 5632
-    room-for = form-short (forms-of (of-bytes refl))
+    room-for : length (formBytes (widthOf bs) (attributeAdded i (newEntry o n k v) (bodiesOf bs))) ≤ 9728
+    room-for = form-short (forms-of (of-bytes refl)) (width-within bs)
 
     pub added-fits : r ≤ length left
     added-fits = fits long room-for y
@@ -120,10 +121,10 @@ module _ (bs : Bytes) (o : ℕ) (n : Bytes) (k : ℕ) (v : Bytes) (x : Addable b
     pub added-long : r ≡ length (take r left)
     added-long = omega (arith, y .next, ap length (front-laid y (omega (arith, long, room-for))))
 
-    of : FormOf (attributeAdded i (newEntry o n k v) (bodiesOf bs)) (take r left) d p (a + 1)
+    of : FormOf (widthOf bs) (attributeAdded i (newEntry o n k v) (bodiesOf bs)) (take r left) d p (a + 1)
     of = of-bytes (front-laid y (omega (arith, long, room-for)))
 
-    pub added-asks : (passes bs ≡ true) × (isValue baseWidth v ≡ true) × Sized q × Forms (take r left) d p (a + 1)
+    pub added-asks : (passes bs ≡ true) × (isValue (widthOf bs) v ≡ true) × Sized q × Forms (widthOf bs) (take r left) d p (a + 1)
     added-asks = (
       x .passes,
       x .value,
@@ -131,7 +132,7 @@ module _ (bs : Bytes) (o : ℕ) (n : Bytes) (k : ℕ) (v : Bytes) (x : Addable b
       forms-of of,
     )
 
-    pub added-answers : (room : ℕ) {out : Bytes} {number len : ℕ} {end : Bytes} → Answers (limited room (plannedIn (formIn (take r left) d p (a + 1)) q v (bodiesOf bs))) out number len end
+    pub added-answers : (room : ℕ) {out : Bytes} {number len : ℕ} {end : Bytes} → Answers (limited room (plannedIn (formIn (widthOf bs) (take r left) d p (a + 1)) q v (bodiesOf bs))) out number len end
         → Answers (limited room (added o n k v (bodiesOf bs))) out number len end
     unfolding added
     added-answers room z =
@@ -147,15 +148,15 @@ module _ (bs : Bytes) (a : ℕ) (x : Droppable bs a) where
   stays : Holds bs
   stays = holds bs (x .passes)
 
-  module _ {d p count o r : ℕ} {q : Plan} {buffer left : Bytes} (cd : NumberAt 12 bs d) (cp : NumberAt 20 bs p) (ca : NumberAt 28 bs count) (own : o ≡ ownerAt a (bodiesOf bs .attributes)) (same : q ≡ destroyAttributePlan o a)
-      (long : length buffer ≡ 5632) (y : Laid (formBytes (attributeDropped a (bodiesOf bs))) buffer 0 r left) where
-    without-bytes : {form : Bytes} → form ≡ formBytes (attributeDropped a (bodiesOf bs)) → FormOf (attributeDropped a (bodiesOf bs)) form d p (count - 1)
+  module _ {d p count o r : ℕ} {q : Plan} {buffer left : Bytes} (cd : Number (definitionCount bs) d) (cp : Number (particleCount bs) p) (ca : Number (attributeCount bs) count) (own : o ≡ ownerAt a (bodiesOf bs .attributes)) (same : q ≡ destroyAttributePlan o a)
+      (long : length buffer ≡ 9728) (y : Laid (formBytes (widthOf bs) (attributeDropped a (bodiesOf bs))) buffer 0 r left) where
+    without-bytes : {form : Bytes} → form ≡ formBytes (widthOf bs) (attributeDropped a (bodiesOf bs)) → FormOf (widthOf bs) (attributeDropped a (bodiesOf bs)) form d p (count - 1)
     without-bytes e =
         dropped-form a (bodiesOf bs) (good-bodies stays) (within stays) (x .inside) e (count-definitions bs cd) (count-particles bs cp)
         (omega (arith, count-attributes bs ca, x .inside))
 
-    less-room : length (formBytes (attributeDropped a (bodiesOf bs))) ≤ 5632
-    less-room = form-short (forms-of (without-bytes refl))
+    less-room : length (formBytes (widthOf bs) (attributeDropped a (bodiesOf bs))) ≤ 9728
+    less-room = form-short (forms-of (without-bytes refl)) (width-within bs)
 
     pub dropped-fits : r ≤ length left
     dropped-fits = fits long less-room y
@@ -163,18 +164,18 @@ module _ (bs : Bytes) (a : ℕ) (x : Droppable bs a) where
     pub dropped-long : r ≡ length (take r left)
     dropped-long = omega (arith, y .next, ap length (front-laid y (omega (arith, long, less-room))))
 
-    without : FormOf (attributeDropped a (bodiesOf bs)) (take r left) d p (count - 1)
+    without : FormOf (widthOf bs) (attributeDropped a (bodiesOf bs)) (take r left) d p (count - 1)
     without = without-bytes (front-laid y (omega (arith, long, less-room)))
 
-    pub dropped-asks : (passes bs ≡ true) × (isValue baseWidth [] ≡ true) × Sized q × Forms (take r left) d p (count - 1)
+    pub dropped-asks : (passes bs ≡ true) × (isValue (widthOf bs) [] ≡ true) × Sized q × Forms (widthOf bs) (take r left) d p (count - 1)
     dropped-asks = (
       x .passes,
-      refl,
+      no-value bs,
       subst Sized (sym same) (record { moves = record { definitions = record { more = omega arith }; attributes = record { more = omega arith } }; filling = tt }),
       forms-of without,
     )
 
-    pub dropped-answers : (room : ℕ) {out : Bytes} {number len : ℕ} {end : Bytes} → Answers (limited room (plannedIn (formIn (take r left) d p (count - 1)) q [] (bodiesOf bs))) out number len end
+    pub dropped-answers : (room : ℕ) {out : Bytes} {number len : ℕ} {end : Bytes} → Answers (limited room (plannedIn (formIn (widthOf bs) (take r left) d p (count - 1)) q [] (bodiesOf bs))) out number len end
         → Answers (limited room (dropped a [] (bodiesOf bs))) out number len end
     unfolding dropped
     dropped-answers room z =

@@ -6,16 +6,17 @@ use mathlib.Core.Bool.{true}
 use mathlib.Core.List.{List, _∷_}
 use lib.ListN.{length}
 use Rattle.rules.specs.Bytes.{Bytes}
-use Rattle.rules.specs.Layout.{FlatAttribute, FlatStore}
+use Rattle.rules.specs.Layout.{definitionSize, particleSize, attributeSize, FlatAttribute, FlatStore}
 use Rattle.rules.specs.WellFormed.{isName, isValue}
 use Rattle.rules.specs.Passing.{passes}
-use Rattle.records.specs.Records.{baseWidth}
+use Rattle.layout.specs.Bodies.{widthOf}
+use Rattle.layout.specs.RecordBytes.{attributeOf}
 use Rattle.lookup.specs.Bodies.{bodiesOf}
 use Rattle.storing.specs.Planned.{plannedIn}
 use Rattle.plans.specs.AttributeCalls.{attributesTo, ownerAt, addAttributePlan, destroyAttributePlan, attributeAdded, attributeDropped}
 
 abbrev pub newEntry : ℕ → Bytes → ℕ → Bytes → FlatAttribute
-newEntry o n k v = record { owner = o; name = n; sort = k; value = v }
+newEntry o n k v = attributeOf o n k v
 
 -- the arguments of change 9 where no condition holds
 pub record Addable (bs : Bytes) (o : ℕ) (n : Bytes) (k : ℕ) (v : Bytes) : Type 0 where
@@ -24,8 +25,8 @@ pub record Addable (bs : Bytes) (o : ℕ) (n : Bytes) (k : ℕ) (v : Bytes) : Ty
   pub name : isName n ≡ true
   pub short : length n ≤ 16
   pub sort : k ≤ 2
-  pub value : isValue baseWidth v ≡ true
-  pub few : length v ≤ 32
+  pub value : isValue (widthOf bs) v ≡ true
+  pub few : length v ≤ widthOf bs
 
 -- .. of change 10
 pub record Droppable (bs : Bytes) (a : ℕ) : Type 0 where
@@ -42,10 +43,10 @@ added o n k v f =
 unfoldable pub dropped : ℕ → Bytes → FlatStore → FlatStore
 dropped a v f = plannedIn (attributeDropped a f) (destroyAttributePlan (ownerAt a (f .attributes)) a) v f
 
--- where attribute i stands in the bytes of the form
-pub record Stands (f : FlatStore) (i r : ℕ) : Type 0 where
-  pub place : r ≡ 20 * length (f .definitions) + (4 * length (f .particles) + 52 * i)
-  pub small : r < 549755813888
+-- where attribute i stands in the bytes of the form, at a width
+pub record Stands (w : ℕ) (f : FlatStore) (i r : ℕ) : Type 0 where
+  pub place : r ≡ definitionSize * length (f .definitions) + (particleSize * length (f .particles) + attributeSize w * i)
+  pub small : r < 562949953421312
 
 -- whether an attribute is one of those up to definition o: 1 or 0
 pub record UpTo (o : ℕ) (c : FlatAttribute) (r : ℕ) : Type 0 where

@@ -6,35 +6,22 @@ ghost use mathlib.Core.Bool.{true};
 ghost use mathlib.Core.List.{[]};
 ghost use Prim.Native.Nat.{_≤_, _<_};
 ghost use lib.ListN.{length};
-ghost use Rattle.rules.specs.Layout.{field, attributeBytes};
 ghost use Rattle.rules.specs.Decode.{readAttribute};
 ghost use Rattle.rules.specs.Passing.{passes};
 ghost use Rattle.rules.specs.Change.{addAttribute, destroyAttribute};
 ghost use Rattle.rules.specs.Outcome.{outcome, Answers};
-ghost use Rattle.records.specs.Records.{baseWidth};
 ghost use Rattle.codec.specs.Laid.{Laid};
+ghost use Rattle.layout.specs.Bodies.{widthOf};
 ghost use Rattle.lookup.specs.Bodies.{bodiesOf};
 ghost use Rattle.storing.specs.Stores.{limited};
 ghost use Rattle.storing.specs.Forms.{formBytes};
 ghost use Rattle.plans.specs.AttributeCalls.{ownerAt, attributeAdded, attributeDropped};
 ghost use Rattle.attributes.specs.Attributes.{newEntry, Addable, Droppable, added, dropped, Stands, UpTo, To};
 
-const HEADER_SIZE: usize = 40;
-
-const DEFINITION_SIZE: usize = 20;
-
-const PARTICLE_SIZE: usize = 4;
-
-const ATTRIBUTE_SIZE: usize = 52;
-
-const NAME_WIDTH: usize = 16;
-
-const VALUE_WIDTH: usize = 32;
-
 const MOST_ATTRIBUTES: usize = 64;
 
-/// The bytes of a form at its ceilings: 64 definitions, 256 particles, 64 attributes.
-const MOST_FORM: usize = 5632;
+/// The bytes of a form at its ceilings and of the widest values: 64 definitions, 256 particles, 64 attributes of 116 bytes.
+const MOST_FORM: usize = 9728;
 
 // ---- what the form has
 
@@ -42,7 +29,7 @@ const MOST_FORM: usize = 5632;
 fn is_up_to(rec: &[u8], owner: u32) -> usize
     ensures { λ r. ⌜ UpTo owner (readAttribute (now (rec .entry))) r ⌝ }
 {
-    let of = codec::byte(rec, 0) as u32;
+    let of = layout::owner_byte(rec) as u32;
     if of <= owner { 1 } else { 0 }
 }
 
@@ -50,11 +37,13 @@ fn is_up_to(rec: &[u8], owner: u32) -> usize
 fn attributes_to(store: &[u8], owner: u32) -> usize
     ensures { λ r. ⌜ To owner (bodiesOf (now (store .entry)) .attributes) r ⌝ }
 {
-    let count = records::number(store, 28);
+    let w = layout::width_in(store);
+    let count = layout::attribute_count(store);
+    let attrs = layout::attributes_of(store);
     let mut sum = 0;
     let mut i = 0;
     while i < count {
-        sum += is_up_to(placing::attribute(store, i), owner);
+        sum += is_up_to(layout::attribute_at(w, attrs, i), owner);
         i += 1;
     }
     sum
@@ -64,58 +53,33 @@ fn owner_of(store: &[u8], attribute: usize) -> usize
     requires { ⌜ Droppable (now store) attribute ⌝ }
     ensures { λ r. ⌜ r ≡ ownerAt attribute (bodiesOf (now (store .entry)) .attributes) ⌝ }
 {
-    codec::byte(placing::attribute(store, attribute), 0) as usize
+    let w = layout::width_in(store);
+    let attrs = layout::attributes_of(store);
+    layout::attribute_owner(layout::attribute_at(w, attrs, attribute))
 }
 
 // The bytes of definitions, particles and attributes.
 fn form_of(store: &[u8]) -> &[u8]
     requires { ⌜ passes (now store) ≡ true ⌝ }
-    ensures { λ r. ⌜ now r ≡ formBytes (bodiesOf (now (store .entry))) ⌝ }
+    ensures { λ r. ⌜ now r ≡ formBytes (widthOf (now (store .entry))) (bodiesOf (now (store .entry))) ⌝ }
 {
-    let start = lookup::row_start(store);
-    layout::window(store, HEADER_SIZE, start - HEADER_SIZE)
+    let start = layout::header_size();
+    let end = lookup::row_start(store);
+    layout::window(store, start, end - start)
 }
 
 // Where attribute i stands in them.
 fn place_of(store: &[u8], i: usize) -> usize
     requires { ⌜ i ≤ 64 ⌝ }
-    ensures { λ r. ⌜ Stands (bodiesOf (now (store .entry))) i r ⌝ }
+    ensures { λ r. ⌜ Stands (widthOf (now (store .entry))) (bodiesOf (now (store .entry))) i r ⌝ }
 {
-    let definitions = records::number(store, 12);
-    let particles = records::number(store, 20);
-    DEFINITION_SIZE * definitions + (PARTICLE_SIZE * particles + ATTRIBUTE_SIZE * i)
+    let w = layout::width_in(store);
+    let definitions = layout::definition_count(store);
+    let particles = layout::particle_count(store);
+    layout::through_attributes(w, definitions, particles, i) - layout::header_size()
 }
 
 // ---- the new form
-
-// Writes a field, zero filled.
-fn put_field(s: &[u8], width: usize, out: &mut [u8], at: usize) -> usize
-    requires { ⌜ (length (now s) ≤ width) × (width ≤ 32) × (at < 4611686018427387904) ⌝ }
-    ensures { λ r. ⌜ Laid (field width (now (s .entry))) (now (out .entry)) at r (now (out .exit)) ⌝ }
-{
-    let zeros = [0; 32];
-    let next = codec::put(s, out, at);
-    codec::put(records::first(&zeros, width - s.len()), out, next)
-}
-
-fn put_attribute(
-    owner: u32,
-    name: &[u8],
-    sort: u32,
-    value: &[u8],
-    out: &mut [u8],
-    at: usize,
-) -> usize
-    requires { ⌜ (owner < 64) × (length (now name) ≤ 16) × (sort ≤ 2) × (length (now value) ≤ 32) × (at < 1152921504606846976) ⌝ }
-    ensures { λ r. ⌜ Laid (attributeBytes baseWidth (newEntry owner (now (name .entry)) sort (now (value .entry)))) (now (out .entry)) at r (now (out .exit)) ⌝ }
-{
-    let first = codec::put_u8(out, at, owner as u8);
-    let second = codec::put_u8(out, first, name.len() as u8);
-    let third = put_field(name, NAME_WIDTH, out, second);
-    let fourth = codec::put_u8(out, third, sort as u8);
-    let fifth = codec::put_u8(out, fourth, value.len() as u8);
-    put_field(value, VALUE_WIDTH, out, fifth)
-}
 
 // Writes the form with a new attribute before attribute i.
 fn put_added(
@@ -128,24 +92,26 @@ fn put_added(
     out: &mut [u8],
 ) -> usize
     requires { ⌜ Addable (now store) owner (now name) sort (now value) × (i ≤ length (bodiesOf (now store) .attributes)) × (i ≤ 64) ⌝ }
-    ensures { λ r. ⌜ Laid (formBytes (attributeAdded i (newEntry owner (now (name .entry)) sort (now (value .entry))) (bodiesOf (now (store .entry))))) (now (out .entry)) 0 r (now (out .exit)) ⌝ }
+    ensures { λ r. ⌜ Laid (formBytes (widthOf (now (store .entry))) (attributeAdded i (newEntry owner (now (name .entry)) sort (now (value .entry))) (bodiesOf (now (store .entry))))) (now (out .entry)) 0 r (now (out .exit)) ⌝ }
 {
     let form = form_of(store);
     let place = place_of(store, i);
+    let w = layout::width_in(store);
     let first = codec::put(records::first(form, place), out, 0);
-    let second = put_attribute(owner, name, sort, value, out, first);
+    let second = layout::put_attribute(w, owner as u8, name, sort as u8, value, out, first);
     codec::put(records::after(form, place), out, second)
 }
 
 // Writes the form without attribute i.
 fn put_dropped(store: &[u8], i: usize, out: &mut [u8]) -> usize
     requires { ⌜ Droppable (now store) i ⌝ }
-    ensures { λ r. ⌜ Laid (formBytes (attributeDropped i (bodiesOf (now (store .entry))))) (now (out .entry)) 0 r (now (out .exit)) ⌝ }
+    ensures { λ r. ⌜ Laid (formBytes (widthOf (now (store .entry))) (attributeDropped i (bodiesOf (now (store .entry))))) (now (out .entry)) 0 r (now (out .exit)) ⌝ }
 {
     let form = form_of(store);
     let place = place_of(store, i);
+    let rest = place_of(store, i + 1);
     let next = codec::put(records::first(form, place), out, 0);
-    codec::put(records::after(form, place + ATTRIBUTE_SIZE), out, next)
+    codec::put(records::after(form, rest), out, next)
 }
 
 // ---- the store that is left
@@ -162,9 +128,9 @@ fn write_added(
     requires { ⌜ Addable (now store) owner (now name) sort (now value) ⌝ }
     ensures { λ r. ⌜ Answers (limited (length (now (out .entry))) (added owner (now (name .entry)) sort (now (value .entry)) (bodiesOf (now (store .entry))))) (now (out .entry)) (r .number) (r .length) (now (out .exit)) ⌝ }
 {
-    let d = records::number(store, 12);
-    let p = records::number(store, 20);
-    let a = records::number(store, 28);
+    let d = layout::definition_count(store);
+    let p = layout::particle_count(store);
+    let a = layout::attribute_count(store);
     if a >= MOST_ATTRIBUTES {
         return storing::refused(16);
     }
@@ -180,9 +146,9 @@ fn write_dropped(store: &[u8], attribute: usize, out: &mut [u8]) -> Answer
     requires { ⌜ Droppable (now store) attribute ⌝ }
     ensures { λ r. ⌜ Answers (limited (length (now (out .entry))) (dropped attribute [] (bodiesOf (now (store .entry))))) (now (out .entry)) (r .number) (r .length) (now (out .exit)) ⌝ }
 {
-    let d = records::number(store, 12);
-    let p = records::number(store, 20);
-    let a = records::number(store, 28);
+    let d = layout::definition_count(store);
+    let p = layout::particle_count(store);
+    let a = layout::attribute_count(store);
     let plan = plans::destroy_attribute_plan(owner_of(store, attribute), attribute);
     let mut form = [0; MOST_FORM];
     let length = put_dropped(store, attribute, &mut form);

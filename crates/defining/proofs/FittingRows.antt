@@ -1,5 +1,6 @@
 -- Rows that fit: elements are of known names, other rows hold nothing.
 -- Assumes nothing.
+use Prim.Native.Nat.{ℕ}
 use mathlib.Core.Path.{_≡_, refl, sym, ap, _∙_}
 use mathlib.Core.Bool.{true, false, false≢true}
 use mathlib.Core.List.{List, []}
@@ -9,13 +10,13 @@ use Rattle.rules.specs.Conforming.{EveryRow, isElement, fitsRow}
 use Rattle.rules.proofs.BooleanLaws.{Every, every-map, none-nil}
 use Rattle.rules.proofs.DecodeLaws.{fits-known}
 
-pub element-known : (form : Form) (r : Row) (below : List Row) → fitsRow form r below ≡ true → r .sort ≡ element → known form (r .name) ≡ true
+pub element-known : (version : ℕ) (form : Form) (r : Row) (below : List Row) → fitsRow version form r below ≡ true → r .sort ≡ element → known form (r .name) ≡ true
 unfolding fitsRow
-element-known form r below h q = fits-known (lookup (r .name) form) below (rw (q, fitsRow) at h)
+element-known version form r below h q = fits-known version (lookup (r .name) form) below (rw (q, fitsRow) at h)
 
-pub others-bare : (form : Form) (r : Row) (below : List Row) → fitsRow form r below ≡ true → isElement (r .sort) ≡ false → below ≡ []
+pub others-bare : (version : ℕ) (form : Form) (r : Row) (below : List Row) → fitsRow version form r below ≡ true → isElement (r .sort) ≡ false → below ≡ []
 unfolding fitsRow
-others-bare form r below h k = by (r .sort) refl
+others-bare version form r below h k = by (r .sort) refl
   where
     by : (s : RowSort) → r .sort ≡ s → below ≡ []
     by element q = absurd (false≢true (sym k ∙ ap isElement q))

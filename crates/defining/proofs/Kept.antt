@@ -68,10 +68,10 @@ keeping-docs f g = ap (λ (z : Forest Row). plant keeping ground false (eachRow 
 abbrev pub reformed : Store → Call → Store
 reformed s c = record { version = s .version; next = s .next; form = formAfter c (s .form); docs = s .docs }
 
-pub after-kept : (c : Call) (s : Store) → good s ≡ true → plan c (s .form) (lines 0 (s .docs)) ≡ keeping → after c s ≡ reformed s c
+pub after-kept : (c : Call) (s : Store) → good s ≡ true → plan c (s .version) (s .form) (lines 0 (s .docs)) ≡ keeping → after c s ≡ reformed s c
 unfolding after
 after-kept c s g e =
     let x : Given (s .docs) = good-given s g in
-    let k : changed (plan c (s .form) (lines 0 (s .docs))) (s .docs) ≡ s .docs = ap (λ (p : Plan). changed p (s .docs)) e ∙ keeping-docs (s .docs) x in
-    let n : s .next + newRows (changed (plan c (s .form) (lines 0 (s .docs))) (s .docs)) ≡ s .next = ap (λ (z : Forest Row). s .next + newRows z) k ∙ ap (λ (z : ℕ). s .next + z) (new-none (s .docs) x) ∙ add-zero (s .next) in
+    let k : changed (plan c (s .version) (s .form) (lines 0 (s .docs))) (s .docs) ≡ s .docs = ap (λ (p : Plan). changed p (s .docs)) e ∙ keeping-docs (s .docs) x in
+    let n : s .next + newRows (changed (plan c (s .version) (s .form) (lines 0 (s .docs))) (s .docs)) ≡ s .next = ap (λ (z : Forest Row). s .next + newRows z) k ∙ ap (λ (z : ℕ). s .next + z) (new-none (s .docs) x) ∙ add-zero (s .next) in
     λ i. record { version = s .version; next = n i; form = formAfter c (s .form); docs = (ap (number (s .next)) k ∙ number-none (s .next) (s .docs) x) i }

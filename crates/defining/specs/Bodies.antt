@@ -1,17 +1,17 @@
 -- The record of a new definition, and indices that move.
 -- Assumes nothing.
-use Prim.Native.Nat.{ℕ, _+_, _*_}
+use Prim.Native.Nat.{ℕ}
 use mathlib.Core.Bool.{Bool, true, false}
-use mathlib.Core.List.{List, _++_}
+use mathlib.Core.List.{List}
 use lib.Dec.{eqb}
 use Rattle.rules.specs.Bytes.{Bytes, same, any}
 use Rattle.rules.specs.Preorder.{Deep}
-use Rattle.rules.specs.Layout.{FlatDefinition, FlatParticle, FlatRow, entry, headerSize, definitionSize, particleSize, attributeSize}
-use Rattle.records.specs.Records.{baseWidth}
+use Rattle.rules.specs.Layout.{FlatDefinition, FlatParticle, FlatRow}
+use Rattle.layout.specs.RecordBytes.{definitionOf}
 
 -- ---- definitions
 abbrev pub newDefinition : Bytes → ℕ → FlatDefinition
-newDefinition n k = record { name = n; kind = k; particles = 0 }
+newDefinition n k = definitionOf n k 0
 
 -- one of the definitions has the name
 abbrev pub named : Bytes → List FlatDefinition → Bool

@@ -10,7 +10,7 @@ use lib.ListN.{length, length-append}
 use borrow.Author.Tests.{lt-ltb, le-ltb, le-leb, lt-leb, ltb-false}
 use Rattle.rules.specs.Bytes.{Bytes, all}
 use Rattle.rules.specs.Preorder.{Deep}
-use Rattle.rules.specs.Layout.{FlatParticle, FlatStore, flat, flatBytes}
+use Rattle.rules.specs.Layout.{valueWidth, definitionSize, FlatParticle, FlatStore, flat, flatBytes}
 use Rattle.rules.specs.Decode.{definitionCount}
 use Rattle.rules.specs.WellFormed.{storedName, known, withinCeilings, highestNumber}
 use Rattle.rules.specs.Passing.{passes}
@@ -19,10 +19,10 @@ use Rattle.rules.specs.Refusal.{first, conditions, _if_}
 use Rattle.rules.proofs.Words.{and-both, and-split}
 use Rattle.rules.proofs.DecodeLaws.{name-width}
 use Rattle.rules.proofs.LayoutLaws.{length-flatBytes}
-use Rattle.records.specs.Records.{baseWidth}
+use Rattle.layout.specs.Bodies.{widthOf, Number}
 use Rattle.lookup.specs.Bodies.{bodiesOf}
 use Rattle.storing.specs.Stores.{storeIn}
-use Rattle.storing.proofs.StoreLaws.{holds}
+use Rattle.storing.proofs.StoreLaws.{holds, width-of-bodies}
 use Rattle.defining.specs.Bodies.{newDefinition, named}
 use Rattle.definitions.specs.Bodies.{Limit, created}
 use Rattle.defining.proofs.Encoded.{Encoded, encoded}
@@ -95,9 +95,9 @@ module _ (n : Bytes) (k : ℕ) {bs : Bytes} {f : FlatStore} (x : Encoded bs f) w
   unfolding created
   within h = and-both (le-leb (length (created n k f .definitions)) 64 (omega (arith, grown, x .definitions))) (and-split (leb (length (f .definitions)) 64) (others-within f) (x .ceilings) .1)
 
-  pub length-created : length (flatBytes baseWidth (created n k f)) ≡ length bs + 20
+  pub length-created : length (flatBytes (widthOf bs) (created n k f)) ≡ length bs + definitionSize
   unfolding created
-  length-created = omega (arith, length-flatBytes baseWidth (created n k f), grown, length-flatBytes baseWidth f, ap length (x .written))
+  length-created = omega (arith, length-flatBytes (widthOf bs) (created n k f), grown, length-flatBytes (widthOf bs) f, ap length (x .written))
 
 module _ (n : Bytes) (k : ℕ) (bs : Bytes) (p : passes bs ≡ true) (room : ℕ) where
   abbrev f : FlatStore
@@ -107,14 +107,18 @@ module _ (n : Bytes) (k : ℕ) (bs : Bytes) (p : passes bs ≡ true) (room : ℕ
   unfolding created
   next-is = encoded bs p .next
 
-  pub at-ceiling : 64 ≤ definitionCount bs → Limit room f 16
-  at-ceiling h = limit-ceiling room f (full n k (encoded bs p) h)
+  wide : valueWidth (f .version) ≡ widthOf bs
+  unfolding created
+  wide = width-of-bodies bs
 
-  pub no-room : definitionCount bs < 64 → room < length bs + 20 → Limit room f 18
-  no-room h l = limit-room room f (within n k (encoded bs p) h) next-is (omega (arith, length-created n k (encoded bs p)))
+  pub at-ceiling : 64 ≤ definitionCount bs → Limit (widthOf bs) room f 16
+  at-ceiling h = limit-ceiling room f wide (full n k (encoded bs p) h)
 
-  pub no-limit : definitionCount bs < 64 → length bs + 20 ≤ room → Limit room f 0
-  no-limit h l = limit-none room f (within n k (encoded bs p) h) next-is (omega (arith, length-created n k (encoded bs p)))
+  pub no-room : definitionCount bs < 64 → room < length bs + definitionSize → Limit (widthOf bs) room f 18
+  no-room h l = limit-room room f wide (within n k (encoded bs p) h) next-is (omega (arith, length-created n k (encoded bs p)))
+
+  pub no-limit : definitionCount bs < 64 → length bs + definitionSize ≤ room → Limit (widthOf bs) room f 0
+  no-limit h l = limit-none room f wide (within n k (encoded bs p) h) next-is (omega (arith, length-created n k (encoded bs p)))
 
 -- ---- the store that is left
 pub flat-after-create : (bs n : Bytes) (k : ℕ) → passes bs ≡ true → k ≤ 2 → flat (after (createDefinition n k) (storeIn bs)) ≡ created n k (bodiesOf bs)

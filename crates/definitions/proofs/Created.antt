@@ -120,8 +120,8 @@ module _ (n : Bytes) (k : ℕ) (low : k ≤ 2) where
     rows-are : flat (record { version = s .version; next = s .next; form = grown; docs = s .docs }) .rows ≡ flat s .rows
     rows-are =
         moved-rows form grown stays Ok elements stays (λ o m e. attribute-old o m form (added ∷ []) e) [] 0 (s .docs) (roots-elements (Ok []) (heads (s .docs)) (parts .roots))
-        (every-row-map (λ r below. fitsRow form r below ≡ true) (OkRow form grown stays Ok elements stays (λ o m e. attribute-old o m form (added ∷ []) e))
-        (λ r below e. record { name = element-known form r below e; nothing = others-bare form r below e }) (s .docs) (parts .rows))
+        (every-row-map (λ r below. fitsRow (s .version) form r below ≡ true) (OkRow form grown stays Ok elements stays (λ o m e. attribute-old o m form (added ∷ []) e))
+        (λ r below e. record { name = element-known (s .version) form r below e; nothing = others-bare (s .version) form r below e }) (s .docs) (parts .rows))
         ∙ map-same (movedRow stays stays) unmoved-row (flat s .rows)
 
     pub flat-created : flat (after (createDefinition n k) s) ≡ created n k (flat s)

@@ -1,17 +1,17 @@
 -- The conditions of change 2, by what the code tests, and the store that it leaves.
 -- Assumes nothing.
-use Prim.Native.Nat.{ℕ, _+_, _*_, _<_, _≤_}
+use Prim.Native.Nat.{ℕ, _<_, _≤_}
 use native.Mathlib.Omega.{arith}
 use mathlib.Core.Path.{_≡_, refl, sym, ap, ap₂, _∙_}
 use mathlib.Core.Bool.{Bool, true, false, _||_, not}
 use mathlib.Core.List.{[], _∷_}
 use lib.Dec.{ltb}
-use lib.ListN.{length, drop, length-map}
+use lib.ListN.{length, length-map}
 use borrow.Author.Tests.{lt-ltb, le-ltb}
 use Rattle.rules.specs.Bytes.{Bytes, bytes, any}
 use Rattle.rules.specs.Model.{names, member}
 use Rattle.rules.specs.Store.{Definition, Store, members, heads}
-use Rattle.rules.specs.Layout.{FlatStore, flat, flatDefinition}
+use Rattle.rules.specs.Layout.{particleSize, rowSize, FlatStore, flat, flatDefinition}
 use Rattle.rules.specs.Decode.{readParticle, readRow, readMany, definitionCount, particleCount, rowCount}
 use Rattle.rules.specs.Lines.{elementNamed}
 use Rattle.rules.specs.Passing.{passes}
@@ -19,7 +19,8 @@ use Rattle.rules.specs.Change.{destroyDefinition, nameAtIndex, after}
 use Rattle.rules.specs.Refusal.{first, conditions, past, _if_}
 use Rattle.rules.proofs.Words.{or-split}
 use Rattle.history.proofs.Conditions.{first-append, conditions-numbered, not-past}
-use Rattle.lookup.specs.Bodies.{bodiesOf, rowStart}
+use Rattle.layout.specs.Bodies.{WidthIn, Number, particlesIn, rowsIn}
+use Rattle.lookup.specs.Bodies.{bodiesOf}
 use Rattle.storing.specs.Stores.{storeIn}
 use Rattle.storing.proofs.StoreLaws.{holds}
 use Rattle.renumbering.specs.Bodies.{isMember, isRoot, destroyed, Defined}
@@ -58,23 +59,32 @@ module _ (bs : Bytes) (i : ℕ) (p : passes bs ≡ true) where
     below : i < length (s .form)
     below = omega (arith, count-is)
 
-    -- the bodies that the code searches, with their counts
-    in-use : (ps rs : Bytes) (n m : ℕ) {a b : Bool} → ps ≡ drop (40 + 20 * definitionCount bs) bs → rs ≡ drop (rowStart bs) bs → n ≡ particleCount bs → m ≡ rowCount bs
-        → a ≡ any (isMember i) (readMany readParticle 4 n ps) → b ≡ any (isRoot i) (readMany readRow 44 m rs) → condition ≡ tests true (a || b)
-    in-use ps rs n m ep er en em ea eb =
-        condition-is
-        ∙ ap (λ (z : Bool). tests z (inModels || inRoots)) (lt-ltb i (length (s .form)) below)
-        ∙ ap₂ (λ (y z : Bool). tests true (y || z))
-        (sym (ea ∙ ap₂ (λ (k : ℕ) (l : Bytes). any (isMember i) (readMany readParticle 4 k l)) en ep ∙ sym (ap (any (isMember i)) (particles-read bs)) ∙ ap (λ (f : FlatStore). any (isMember i) (f .particles)) (holds bs p .bodies) ∙ used-in-models s (holds bs p .good) i below))
-        (sym (eb ∙ ap₂ (λ (k : ℕ) (l : Bytes). any (isRoot i) (readMany readRow 44 k l)) em er ∙ sym (ap (any (isRoot i)) (rows-read bs)) ∙ ap (λ (f : FlatStore). any (isRoot i) (f .rows)) (holds bs p .bodies) ∙ used-as-root s (holds bs p .good) i below))
+    -- the bodies that the code searches, with their counts and the width
+    module _ {w : ℕ} {ps rs : Bytes} {n m : ℕ} {a b : Bool} (ew : WidthIn bs w) (ep : ps ≡ particlesIn bs) (er : rs ≡ rowsIn bs) (en : Number (particleCount bs) n) (em : Number (rowCount bs) m)
+        (ea : a ≡ any (isMember i) (readMany readParticle particleSize n ps)) (eb : b ≡ any (isRoot i) (readMany readRow (rowSize w) m rs)) where
+      in-use : condition ≡ tests true (a || b)
+      in-use =
+          condition-is
+          ∙ ap (λ (z : Bool). tests z (inModels || inRoots)) (lt-ltb i (length (s .form)) below)
+          ∙ ap₂ (λ (y z : Bool). tests true (y || z))
+          (sym
+          (ea
+          ∙ ap₂ (λ (k : ℕ) (l : Bytes). any (isMember i) (readMany readParticle particleSize k l)) (en .value) ep
+          ∙ sym (ap (any (isMember i)) (particles-read bs))
+          ∙ ap (λ (f : FlatStore). any (isMember i) (f .particles)) (holds bs p .bodies)
+          ∙ used-in-models s (holds bs p .good) i below))
+          (sym
+          (eb
+          ∙ (λ j. any (isRoot i) (readMany readRow (rowSize (ew .value j)) (em .value j) (er j)))
+          ∙ sym (ap (any (isRoot i)) (rows-read bs))
+          ∙ ap (λ (f : FlatStore). any (isRoot i) (f .rows)) (holds bs p .bodies)
+          ∙ used-as-root s (holds bs p .good) i below))
 
-    module _ (ps rs : Bytes) (n m : ℕ) {a b : Bool} (ep : ps ≡ drop (40 + 20 * definitionCount bs) bs) (er : rs ≡ drop (rowStart bs) bs) (en : n ≡ particleCount bs) (em : m ≡ rowCount bs)
-        (ea : a ≡ any (isMember i) (readMany readParticle 4 n ps)) (eb : b ≡ any (isRoot i) (readMany readRow 44 m rs)) where
       pub used : (a || b) ≡ true → 10 ≡ condition
-      used e = sym (in-use ps rs n m ep er en em ea eb ∙ ap (tests true) e)
+      used e = sym (in-use ∙ ap (tests true) e)
 
       pub unused : (a || b) ≡ false → 0 ≡ condition
-      unused e = sym (in-use ps rs n m ep er en em ea eb ∙ ap (tests true) e)
+      unused e = sym (in-use ∙ ap (tests true) e)
 
   -- no condition holds
   unmet : condition ≡ 0 → (past i (s .form) ≡ false) × ((inModels || inRoots) ≡ false)

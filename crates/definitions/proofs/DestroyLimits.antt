@@ -2,7 +2,7 @@
 -- Assumes nothing.
 use Prim.Native.Nat.{ℕ, suc, _+_, _-_, _*_, _<_, _≤_}
 use native.Mathlib.Omega.{arith}
-use mathlib.Core.Path.{_≡_, refl, ap, ap₂, _∙_}
+use mathlib.Core.Path.{_≡_, refl, sym, ap, ap₂, _∙_}
 use mathlib.Core.Bool.{Bool, true, _&&_}
 use mathlib.Core.List.{List, [], _∷_, _++_, map}
 use lib.Dec.{leb}
@@ -10,15 +10,16 @@ use lib.ListN.{length, take, drop, take-append-drop}
 use borrow.Author.Tests.{le-leb}
 use Rattle.rules.specs.Bytes.{Bytes, all}
 use Rattle.rules.specs.Preorder.{Deep}
-use Rattle.rules.specs.Layout.{FlatParticle, FlatStore, flatBytes}
+use Rattle.rules.specs.Layout.{valueWidth, headerSize, definitionSize, particleSize, attributeSize, rowSize, FlatParticle, FlatStore, flatBytes}
 use Rattle.rules.specs.Decode.{definitionCount, rowCount}
 use Rattle.rules.specs.WellFormed.{withinCeilings, highestNumber}
 use Rattle.rules.specs.Passing.{passes}
 use Rattle.rules.proofs.Words.{and-both, and-split}
 use Rattle.rules.proofs.BooleanLaws.{all-left, all-right}
 use Rattle.rules.proofs.LayoutLaws.{length-flatBytes}
-use Rattle.records.specs.Records.{baseWidth}
+use Rattle.layout.specs.Bodies.{widthOf, WidthIn, Number}
 use Rattle.lookup.specs.Bodies.{bodiesOf}
+use Rattle.storing.proofs.StoreLaws.{width-of-bodies}
 use Rattle.defining.specs.Bodies.{movedParticle}
 use Rattle.defining.proofs.Encoded.{Encoded, encoded}
 use Rattle.renumbering.specs.Bodies.{lowered, cutOut, particlesOf, Counted, destroyed}
@@ -68,11 +69,24 @@ module _ (bs : Bytes) (p : passes bs ≡ true) (i : ℕ) (h : i < definitionCoun
     unfolding destroyed
     next-left = x .next
 
-    length-left : length (flatBytes baseWidth (destroyed i f)) ≡ 40 + 20 * (definitionCount bs - 1) + 4 * m + 52 * n + 44 * rowCount bs
-    length-left = omega (arith, length-flatBytes baseWidth (destroyed i f), definitions-left bs p i h, cm .is, cn .is, rows-left bs p i h)
+    wide : valueWidth (destroyed i f .version) ≡ widthOf bs
+    unfolding destroyed
+    wide = width-of-bodies bs
 
-    pub short-room : room < 40 + 20 * (definitionCount bs - 1) + 4 * m + 52 * n + 44 * rowCount bs → Limit room (destroyed i f) 18
-    short-room k = limit-room room (destroyed i f) within-left next-left (omega (arith, length-left))
+    -- k: the length as the code counts it
+    module _ {w d r k : ℕ} (ew : WidthIn bs w) (ed : Number (definitionCount bs) d) (er : Number (rowCount bs) r)
+        (ek : k ≡ headerSize + (definitionSize * (d - 1) + (particleSize * m + (attributeSize w * n + rowSize w * r)))) where
+      length-left : length (flatBytes (widthOf bs) (destroyed i f)) ≡ k
+      length-left =
+          length-flatBytes (widthOf bs) (destroyed i f)
+          ∙ (λ j.
+          headerSize
+          + (definitionSize * (definitions-left bs p i h ∙ ap (λ (z : ℕ). z - 1) (sym (ed .value))) j
+          + (particleSize * sym (cm .is) j + (attributeSize (sym (ew .value) j) * sym (cn .is) j + rowSize (sym (ew .value) j) * (rows-left bs p i h ∙ sym (er .value)) j))))
+          ∙ sym ek
 
-    pub enough-room : 40 + 20 * (definitionCount bs - 1) + 4 * m + 52 * n + 44 * rowCount bs ≤ room → Limit room (destroyed i f) 0
-    enough-room k = limit-none room (destroyed i f) within-left next-left (omega (arith, length-left))
+      pub short-room : room < k → Limit (widthOf bs) room (destroyed i f) 18
+      short-room l = limit-room room (destroyed i f) wide within-left next-left (omega (arith, length-left))
+
+      pub enough-room : k ≤ room → Limit (widthOf bs) room (destroyed i f) 0
+      enough-room l = limit-none room (destroyed i f) wide within-left next-left (omega (arith, length-left))

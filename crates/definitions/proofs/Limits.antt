@@ -6,37 +6,38 @@ use mathlib.Core.Path.{_≡_, refl, ap, _∙_}
 use mathlib.Core.Bool.{true, false}
 use lib.ListN.{length}
 use Rattle.rules.specs.Bytes.{Bytes}
-use Rattle.rules.specs.Layout.{FlatStore, flat, flatBytes}
+use Rattle.rules.specs.Layout.{valueWidth, FlatStore, flat, flatBytes}
 use Rattle.rules.specs.WellFormed.{withinCeilings, highestNumber}
 use Rattle.rules.specs.Passing.{passes}
 use Rattle.rules.specs.Change.{Call, after}
 use Rattle.rules.specs.Refusal.{first, conditions}
-use Rattle.rules.specs.Outcome.{unlessRefused, outcome, Answers}
-use Rattle.records.specs.Records.{baseWidth}
+use Rattle.rules.specs.Outcome.{wrote, unlessRefused, outcome, Answers}
 use Rattle.codec.specs.Laid.{Laid}
 use Rattle.storing.specs.Stores.{storeIn, limited}
 use Rattle.storing.proofs.LimitLaws.{answers-refused, answers-wrote, limited-ceiling, limited-buffer, limited-none}
 use Rattle.storing.proofs.CallLaws.{answers-written}
 use Rattle.definitions.specs.Bodies.{Limit}
 
-module _ (room : ℕ) (f : FlatStore) where
-  pub limit-ceiling : withinCeilings f ≡ false → Limit room f 16
+-- w: the width that the store's version says
+module _ {w : ℕ} (room : ℕ) (f : FlatStore) (wide : valueWidth (f .version) ≡ w) where
+  pub limit-ceiling : withinCeilings f ≡ false → Limit w room f 16
   limit-ceiling e = record { outcome = limited-ceiling room f e; fits = λ z. absurd (omega arith) }
 
-  pub limit-room : withinCeilings f ≡ true → f .next ≤ highestNumber → room < length (flatBytes baseWidth f) → Limit room f 18
-  limit-room e h k = record { outcome = limited-buffer room f e h k; fits = λ z. absurd (omega arith) }
+  module _ (e : withinCeilings f ≡ true) (h : f .next ≤ highestNumber) where
+    pub limit-room : room < length (flatBytes w f) → Limit w room f 18
+    limit-room k = record { outcome = limited-buffer room f e h (rw wide k); fits = λ z. absurd (omega arith) }
 
-  pub limit-none : withinCeilings f ≡ true → f .next ≤ highestNumber → length (flatBytes baseWidth f) ≤ room → Limit room f 0
-  limit-none e h k = record { outcome = limited-none room f e h k; fits = λ z. k }
+    pub limit-none : length (flatBytes w f) ≤ room → Limit w room f 0
+    limit-none k = record { outcome = limited-none room f e h (rw wide k) ∙ ap (λ (v : ℕ). wrote (flatBytes v f)) wide; fits = λ z. k }
 
 -- n: the first condition, 0; f: the bodies of the store that the call leaves; r: the first of the limits, or 0
-module _ (c : Call) (bs out : Bytes) (p : passes bs ≡ true) (n : ℕ) (e : n ≡ first (conditions c (storeIn bs))) (z : n ≡ 0) (f : FlatStore) (g : flat (after c (storeIn bs)) ≡ f) (r : ℕ) (l : Limit (length out) f r) where
+module _ (c : Call) (bs out : Bytes) (p : passes bs ≡ true) (n : ℕ) (e : n ≡ first (conditions c (storeIn bs))) (z : n ≡ 0) (f : FlatStore) (g : flat (after c (storeIn bs)) ≡ f) (w r : ℕ) (l : Limit w (length out) f r) where
   pub answers-limit : (r ≡ 0 → ⊥) → Answers (outcome c bs (length out)) out r 0 out
   answers-limit h = answers-written c bs (length out) p n e z f g (by r (l .outcome) h)
     where
-      by : (m : ℕ) → limited (length out) f ≡ unlessRefused m (flatBytes baseWidth f) → (m ≡ 0 → ⊥) → Answers (limited (length out) f) out m 0 out
+      by : (m : ℕ) → limited (length out) f ≡ unlessRefused m (flatBytes w f) → (m ≡ 0 → ⊥) → Answers (limited (length out) f) out m 0 out
       by zero q k = absurd (k refl)
       by (suc m) q k = answers-refused (suc m) q
 
-  pub answers-all : r ≡ 0 → {m : ℕ} {out′ : Bytes} → Laid (flatBytes baseWidth f) out 0 m out′ → Answers (outcome c bs (length out)) out 0 m out′
-  answers-all h laid = answers-written c bs (length out) p n e z f g (answers-wrote (l .outcome ∙ ap (λ (m : ℕ). unlessRefused m (flatBytes baseWidth f)) h) laid (l .fits h))
+  pub answers-all : r ≡ 0 → {m : ℕ} {out′ : Bytes} → Laid (flatBytes w f) out 0 m out′ → Answers (outcome c bs (length out)) out 0 m out′
+  answers-all h laid = answers-written c bs (length out) p n e z f g (answers-wrote (l .outcome ∙ ap (λ (m : ℕ). unlessRefused m (flatBytes w f)) h) laid (l .fits h))

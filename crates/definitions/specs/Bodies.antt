@@ -7,7 +7,6 @@ use lib.ListN.{length}
 use Rattle.rules.specs.Bytes.{Bytes}
 use Rattle.rules.specs.Layout.{FlatStore, flatBytes}
 use Rattle.rules.specs.Outcome.{unlessRefused}
-use Rattle.records.specs.Records.{baseWidth}
 use Rattle.storing.specs.Stores.{limited}
 use Rattle.defining.specs.Bodies.{newDefinition}
 
@@ -22,7 +21,7 @@ created n k f =
       rows = f .rows;
     }
 
--- r is the number of the first of the rows 16 to 18 that holds of a store by its bodies, 0 if none does
-pub record Limit (room : ℕ) (f : FlatStore) (r : ℕ) : Type 0 where
-  pub outcome : limited room f ≡ unlessRefused r (flatBytes baseWidth f)
-  pub fits : r ≡ 0 → length (flatBytes baseWidth f) ≤ room
+-- r is the number of the first of the rows 16 to 18 that holds of a store by its bodies, at its width, 0 if none does
+pub record Limit (w room : ℕ) (f : FlatStore) (r : ℕ) : Type 0 where
+  pub outcome : limited room f ≡ unlessRefused r (flatBytes w f)
+  pub fits : r ≡ 0 → length (flatBytes w f) ≤ room

@@ -9,22 +9,12 @@ ghost use Rattle.rules.specs.Passing.{passes};
 ghost use Rattle.rules.specs.Change.{createDefinition, destroyDefinition};
 ghost use Rattle.rules.specs.Refusal.{first, conditions};
 ghost use Rattle.rules.specs.Outcome.{outcome, Answers};
-ghost use Rattle.records.specs.Records.{baseWidth};
 ghost use Rattle.codec.specs.Laid.{Laid};
+ghost use Rattle.layout.specs.Bodies.{widthOf};
 ghost use Rattle.lookup.specs.Bodies.{bodiesOf};
 ghost use Rattle.storing.specs.Stores.{storeIn};
 ghost use Rattle.renumbering.specs.Bodies.{Defined, destroyed};
 ghost use Rattle.definitions.specs.Bodies.{created, Limit};
-
-const HEADER_SIZE: usize = 40;
-
-const DEFINITION_SIZE: usize = 20;
-
-const PARTICLE_SIZE: usize = 4;
-
-const ATTRIBUTE_SIZE: usize = 52;
-
-const ROW_SIZE: usize = 44;
 
 // ---- change 1
 
@@ -48,12 +38,12 @@ fn create_condition(store: &[u8], name: &[u8], kind: u32) -> u32
 // The number of the first limit that change 1 passes, 0 if it keeps within all.
 fn create_limit(store: &[u8], name: &[u8], kind: u32, room: usize) -> u32
     requires { ⌜ passes (now store) ≡ true ⌝ }
-    ensures { λ r. ⌜ Limit room (created (now (name .entry)) kind (bodiesOf (now (store .entry)))) r ⌝ }
+    ensures { λ r. ⌜ Limit (widthOf (now (store .entry))) room (created (now (name .entry)) kind (bodiesOf (now (store .entry)))) r ⌝ }
 {
-    if codec::get_u32(store, 12) >= 64 {
+    if layout::definition_count(store) >= 64 {
         return 16;
     }
-    if store.len() + DEFINITION_SIZE > room {
+    if store.len() + layout::definition_size() > room {
         return 18;
     }
     0
@@ -62,17 +52,15 @@ fn create_limit(store: &[u8], name: &[u8], kind: u32, room: usize) -> u32
 // Writes the store with a definition more.
 fn put_created(store: &[u8], name: &[u8], kind: u32, out: &mut [u8]) -> usize
     requires { ⌜ (passes (now store) ≡ true) × (length (now name) ≤ 16) × (kind ≤ 2) ⌝ }
-    ensures { λ r. ⌜ Laid (flatBytes baseWidth (created (now (name .entry)) kind (bodiesOf (now (store .entry))))) (now (out .entry)) 0 r (now (out .exit)) ⌝ }
+    ensures { λ r. ⌜ Laid (flatBytes (widthOf (now (store .entry))) (created (now (name .entry)) kind (bodiesOf (now (store .entry))))) (now (out .entry)) 0 r (now (out .exit)) ⌝ }
 {
-    let d = codec::get_u32(store, 12);
-    let p = codec::get_u32(store, 20);
-    let a = codec::get_u32(store, 28);
-    let r = codec::get_u32(store, 36);
-    let length = DEFINITION_SIZE * d as usize;
-    let rest = HEADER_SIZE + length;
-    let first = defining::put_header(store, d + 1, p, a, r, out);
-    let second = codec::put(layout::window(store, HEADER_SIZE, length), out, first);
-    let third = defining::put_definition(name, kind, out, second);
+    let d = layout::definition_count(store);
+    let p = layout::particle_count(store);
+    let a = layout::attribute_count(store);
+    let rest = layout::through_definitions(d);
+    let first = defining::put_header(store, d + 1, p, a, out);
+    let second = codec::put(layout::definitions_of(store), out, first);
+    let third = layout::put_definition(name, kind as u8, 0, out, second);
     codec::put(records::after(store, rest), out, third)
 }
 
@@ -111,13 +99,14 @@ fn destroy_condition(store: &[u8], i: u32) -> u32
     requires { ⌜ passes (now store) ≡ true ⌝ }
     ensures { λ r. ⌜ r ≡ first (conditions (destroyDefinition i) (storeIn (now (store .entry)))) ⌝ }
 {
-    if i >= codec::get_u32(store, 12) {
+    if i as usize >= layout::definition_count(store) {
         return 6;
     }
-    let particles = codec::get_u32(store, 20) as usize;
-    let rows = codec::get_u32(store, 36) as usize;
-    let in_model = renumbering::has_member(renumbering::particle_body(store), particles, i);
-    let in_root = renumbering::has_root(renumbering::row_body(store), rows, i);
+    let w = layout::width_in(store);
+    let particles = layout::particle_count(store);
+    let rows = layout::row_count(store);
+    let in_model = renumbering::has_member(layout::particles_of(store), particles, i);
+    let in_root = renumbering::has_root(w, layout::rows_of(store), rows, i);
     if in_model | in_root {
         return 10;
     }
@@ -127,14 +116,14 @@ fn destroy_condition(store: &[u8], i: u32) -> u32
 // 18 if the store without definition i is longer than the room, else 0.
 fn destroy_limit(store: &[u8], i: u32, room: usize) -> u32
     requires { ⌜ Defined (now store) i ⌝ }
-    ensures { λ r. ⌜ Limit room (destroyed i (bodiesOf (now (store .entry)))) r ⌝ }
+    ensures { λ r. ⌜ Limit (widthOf (now (store .entry))) room (destroyed i (bodiesOf (now (store .entry)))) r ⌝ }
 {
-    let definitions = codec::get_u32(store, 12) as usize;
-    let particles = renumbering::particles_left(store, i) as usize;
-    let attributes = renumbering::attributes_left(store, i) as usize;
-    let rows = codec::get_u32(store, 36) as usize;
-    let front = HEADER_SIZE + DEFINITION_SIZE * (definitions - 1) + PARTICLE_SIZE * particles;
-    if front + ATTRIBUTE_SIZE * attributes + ROW_SIZE * rows > room {
+    let w = layout::width_in(store);
+    let d = layout::definition_count(store);
+    let p = renumbering::particles_left(store, i);
+    let a = renumbering::attributes_left(store, i);
+    let r = layout::row_count(store);
+    if layout::through_rows(w, d - 1, p, a, r) > room {
         return 18;
     }
     0

@@ -21,8 +21,8 @@ use Rattle.rules.specs.Lines.{elementWith, findRow}
 use Rattle.rules.specs.Refusal.{first, conditions, rowsOf, noElement, isOther, unknownAttribute}
 use Rattle.rules.specs.Outcome.{Outcome, outcome, Answers}
 use Rattle.rules.proofs.DecodeLaws.{good-parts}
-use Rattle.history.proofs.Conditions.{not-false, not-past}
-use Rattle.records.specs.Records.{baseWidth}
+use Rattle.history.proofs.Conditions.{not-past}
+use Rattle.layout.specs.Bodies.{widthOf}
 use Rattle.lookup.specs.Bodies.{bodiesOf}
 use Rattle.editing.specs.Step.{Planned}
 use Rattle.filling.specs.declared.Filling.the-variants.{Attribute}
@@ -36,7 +36,7 @@ use Rattle.storing.specs.Writing.{Sized}
 use Rattle.storing.proofs.StoreLaws.{Holds, holds}
 use Rattle.validity.proofs.AttributeBlocks.{below-or}
 use Rattle.finding.specs.Finding.{AttributeRefused}
-use Rattle.finding.proofs.StoreFacts.{Whole, whole}
+use Rattle.finding.proofs.StoreFacts.{value-given, no-value, Whole, whole}
 use Rattle.finding.proofs.AttributeRefusals.{unowned}
 use Rattle.plans.specs.CallPlans.{fillingPlan, takingPlan, settingPlan, textSerial, childSerial, attributeSerial, addDocumentPlan, addElementPlan, destroyElementPlan, setAttributePlan, destroyAttributeRowPlan, setTextPlan}
 use Rattle.plans.proofs.CallsPlanned.{none-holds}
@@ -74,7 +74,7 @@ set-sized k a m l = by (eqb m 0)
     by false = record { moves = unmoved-small (settingPlan m) refl refl; filling = tt }
 
 abbrev Asks : Bytes → Bytes → Plan → Type 0
-Asks bs v p = (passes bs ≡ true) × (isValue baseWidth v ≡ true) × Sized p
+Asks bs v p = (passes bs ≡ true) × (isValue (widthOf bs) v ≡ true) × Sized p
 
 module _ (bs : Bytes) {b : Bool} {m : ℕ} (h : not b ≡ false) (e : b ≡ passes bs) where
   pub add-document-asks : (i : ℕ) (t : Bytes) {q : Plan} → m ≡ first (conditions (addDocument i t) (storeIn bs)) → m ≡ 0 → q ≡ addDocumentPlan i → Asks bs t q
@@ -83,7 +83,7 @@ module _ (bs : Bytes) {b : Bool} {m : ℕ} (h : not b ≡ false) (e : b ≡ pass
       let kept : Holds bs = holds bs (passed bs h e) in
       let (text, (index, end)) = none-holds (addDocument i t) (storeIn bs) (sym f ∙ z) in
       let i-few : i ≤ 256 = omega (arith, not-past i (storeIn bs .form) index, few-definitions (storeIn bs) (kept .good)) in
-      (passed bs h e, not-false (isValue baseWidth t) text, subst Sized (sym same) (record { moves = unmoved-small (addDocumentPlan i) refl refl; filling = i-few }))
+      (passed bs h e, value-given bs t text, subst Sized (sym same) (record { moves = unmoved-small (addDocumentPlan i) refl refl; filling = i-few }))
 
   pub add-element-asks : (k j i : ℕ) (t : Bytes) {q : Plan} → m ≡ first (conditions (addElement k j i t) (storeIn bs)) → m ≡ 0 → q ≡ addElementPlan k (childSerial k j (storeIn bs)) i → Asks bs t q
   unfolding conditions
@@ -91,13 +91,13 @@ module _ (bs : Bytes) {b : Bool} {m : ℕ} (h : not b ≡ false) (e : b ≡ pass
       let kept : Holds bs = holds bs (passed bs h e) in
       let (text, (index, more)) = none-holds (addElement k j i t) (storeIn bs) (sym f ∙ z) in
       let i-few : i ≤ 256 = omega (arith, not-past i (storeIn bs .form) index, few-definitions (storeIn bs) (kept .good)) in
-      (passed bs h e, not-false (isValue baseWidth t) text, subst Sized (sym same) (record { moves = unmoved-small (addElementPlan k (childSerial k j (storeIn bs)) i) refl refl; filling = i-few }))
+      (passed bs h e, value-given bs t text, subst Sized (sym same) (record { moves = unmoved-small (addElementPlan k (childSerial k j (storeIn bs)) i) refl refl; filling = i-few }))
 
   pub set-text-asks : (k : ℕ) (t : Bytes) {q : Plan} → m ≡ first (conditions (setText k t) (storeIn bs)) → m ≡ 0 → q ≡ setTextPlan (textSerial k (storeIn bs)) → Asks bs t q
   unfolding conditions
   set-text-asks k t {q} f z same =
       let (text, more) = none-holds (setText k t) (storeIn bs) (sym f ∙ z) in
-      (passed bs h e, not-false (isValue baseWidth t) text, subst Sized (sym same) (record { moves = unmoved-small (setTextPlan (textSerial k (storeIn bs))) refl refl; filling = tt }))
+      (passed bs h e, value-given bs t text, subst Sized (sym same) (record { moves = unmoved-small (setTextPlan (textSerial k (storeIn bs))) refl refl; filling = tt }))
 
   -- the element is there
   pub add-element-there : (k j i : ℕ) (t : Bytes) → m ≡ first (conditions (addElement k j i t) (storeIn bs)) → m ≡ 0 → (passes bs ≡ true) × (noElement k (storeIn bs) ≡ false)
@@ -123,11 +123,11 @@ module _ (bs : Bytes) {b : Bool} {m : ℕ} (h : not b ≡ false) (e : b ≡ pass
   set-attribute-asks k a v {q} f z same =
       let kept : Holds bs = holds bs (passed bs h e) in
       let (value, (known, more)) = none-holds (setAttribute k a v) (storeIn bs) (sym f ∙ z) in
-      (passed bs h e, not-false (isValue baseWidth v) value, subst Sized (sym same) (set-sized k a (attributeSerial k a (storeIn bs)) (attribute-few bs k a (passed bs h e) known)))
+      (passed bs h e, value-given bs v value, subst Sized (sym same) (set-sized k a (attributeSerial k a (storeIn bs)) (attribute-few bs k a (passed bs h e) known)))
 
   -- a call without a text: none is used
   pub takes-asks : (c : Call) (w : Which) (x : Which) {q : Plan} → m ≡ first (conditions c (storeIn bs)) → m ≡ 0 → q ≡ takingPlan w x → Asks bs [] q
-  takes-asks c w x f z same = (passed bs h e, refl, subst Sized (sym same) (record { moves = unmoved-small (takingPlan w x) refl refl; filling = tt }))
+  takes-asks c w x f z same = (passed bs h e, no-value bs, subst Sized (sym same) (record { moves = unmoved-small (takingPlan w x) refl refl; filling = tt }))
 
 -- ---- the plan of change 14
 pub set-plan-none : (k a m : ℕ) → m ≡ 0 → fillingPlan (Serial k) (Past a) (Attribute a) ≡ setAttributePlan k a m

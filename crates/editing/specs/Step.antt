@@ -8,14 +8,14 @@ use Rattle.rules.specs.Bytes.{Bytes}
 use Rattle.rules.specs.Preorder.{Deep}
 use Rattle.rules.specs.Layout.{FlatRow, rowSize}
 use Rattle.rules.specs.Decode.{readRow}
-use Rattle.rowpass.specs.Reading.{indexForm, attributeIn}
+use Rattle.rowpass.specs.Reading.{indexForm}
 use Rattle.layout.specs.Bodies.{Width}
 use Rattle.layout.specs.RowBytes.{valuedRow}
 use Rattle.rows.specs.declared.Cursor.{Cursor}
 use Rattle.rows.specs.Written.{Written, OldRow}
 use Rattle.filling.specs.declared.Filling.{Filling}
 use Rattle.filling.specs.Fillings.{fillingRows}
-use Rattle.filling.specs.Parts.{membersAt, Indexed}
+use Rattle.filling.specs.Parts.{valueIn, membersAt, Indexed}
 use Rattle.editing.specs.declared.Plan.{Plan}
 use Rattle.editing.specs.declared.Shift.{Shift}
 use Rattle.editing.specs.declared.Open.{Open}
@@ -52,11 +52,11 @@ pub record Came (w : ℕ) (xs : List (Deep FlatRow)) (o : Open) (c : Cursor) (ou
   pub opened : r .opened ≡ o
 
 -- a filling at a depth, from the bytes of the form; and that of a plan
-abbrev pub fillWith : ℕ → ℕ → Bytes → Bytes → ℕ → Bytes → Filling → Bytes → ℕ → List (Deep FlatRow)
-fillWith w n defs parts a attrs what text d = fillingRows (indexForm w n defs parts attrs a) (λ j. attributeIn w attrs j .value) (λ k e. membersAt parts k e) what text d
+abbrev pub fillWith : ℕ → ℕ → ℕ → Bytes → Bytes → ℕ → Bytes → Filling → Bytes → ℕ → List (Deep FlatRow)
+fillWith version w n defs parts a attrs what text d = fillingRows (indexForm version w n defs parts attrs a) (λ j. valueIn w attrs j) (λ k e. membersAt parts k e) what text d
 
-abbrev pub fillOf : ℕ → ℕ → Bytes → Bytes → ℕ → Bytes → Plan → Bytes → ℕ → List (Deep FlatRow)
-fillOf w n defs parts a attrs p text d = fillWith w n defs parts a attrs (p .filling) text d
+abbrev pub fillOf : ℕ → ℕ → ℕ → Bytes → Bytes → ℕ → Bytes → Plan → Bytes → ℕ → List (Deep FlatRow)
+fillOf version w n defs parts a attrs p text d = fillWith version w n defs parts a attrs (p .filling) text d
 
 -- ---- how large the numbers are that the walk meets
 -- indices of at most 1,000 move up by at most 1,000; those of a store that passes are at most 64

@@ -313,6 +313,7 @@ fn at_first(p: Plan) -> Open
 
 // The filling at a depth, if it is due.
 fn put_owed<'a>(
+    version: usize,
     w: usize,
     n: usize,
     defs: &'a [u8],
@@ -327,10 +328,23 @@ fn put_owed<'a>(
     out: &mut [u8],
 ) -> Cursor
     requires { ⌜ Indexed what × Asks w c (now text) a n depth ⌝ }
-    ensures { λ r. ⌜ Written w (owed due (fillWith w n (now (defs .entry)) (now (parts .entry)) a (now (attrs .entry)) what (now (text .entry)) depth)) c (now (out .entry)) r (now (out .exit)) ⌝ }
+    ensures { λ r. ⌜ Written w (owed due (fillWith version w n (now (defs .entry)) (now (parts .entry)) a (now (attrs .entry)) what (now (text .entry)) depth)) c (now (out .entry)) r (now (out .exit)) ⌝ }
 {
     if due {
-        return filling::put_filling(w, n, defs, parts, a, attrs, what, text, depth, c, out);
+        return filling::put_filling(
+            version,
+            w,
+            n,
+            defs,
+            parts,
+            a,
+            attrs,
+            what,
+            text,
+            depth,
+            c,
+            out,
+        );
     }
     c
 }
@@ -356,6 +370,7 @@ fn put_row(
 
 // What comes of a row that is not taken, where a filling may come right before it.
 fn come_due<'a>(
+    version: usize,
     w: usize,
     n: usize,
     defs: &'a [u8],
@@ -371,12 +386,13 @@ fn come_due<'a>(
     out: &mut [u8],
 ) -> Stepped
     requires { ⌜ Ready w n a (now text) p × Seen w h (now row) × Room w c × (isTaken p o (bare h) ≡ false) ⌝ }
-    ensures { λ r. ⌜ Came w (emitted p (now (text .entry)) (fillOf w n (now (defs .entry)) (now (parts .entry)) a (now (attrs .entry)) p (now (text .entry))) o (readRow (now (row .entry)))) (onward p (now (text .entry)) (fillOf w n (now (defs .entry)) (now (parts .entry)) a (now (attrs .entry)) p (now (text .entry))) o (readRow (now (row .entry)))) c (now (out .entry)) r (now (out .exit)) ⌝ }
+    ensures { λ r. ⌜ Came w (emitted p (now (text .entry)) (fillOf version w n (now (defs .entry)) (now (parts .entry)) a (now (attrs .entry)) p (now (text .entry))) o (readRow (now (row .entry)))) (onward p (now (text .entry)) (fillOf version w n (now (defs .entry)) (now (parts .entry)) a (now (attrs .entry)) p (now (text .entry))) o (readRow (now (row .entry)))) c (now (out .entry)) r (now (out .exit)) ⌝ }
 {
     let m = mark(p, h);
     let filled = is_filled(p, o, h, m);
     let what = p.filling;
     let at = put_owed(
+        version,
         w,
         n,
         defs,
@@ -401,6 +417,7 @@ fn come_due<'a>(
 
 // What comes of a row, where what it closes is closed.
 fn come<'a>(
+    version: usize,
     w: usize,
     n: usize,
     defs: &'a [u8],
@@ -416,7 +433,7 @@ fn come<'a>(
     out: &mut [u8],
 ) -> Stepped
     requires { ⌜ Ready w n a (now text) p × Seen w h (now row) × Room w c ⌝ }
-    ensures { λ r. ⌜ Came w (emitted p (now (text .entry)) (fillOf w n (now (defs .entry)) (now (parts .entry)) a (now (attrs .entry)) p (now (text .entry))) o (readRow (now (row .entry)))) (onward p (now (text .entry)) (fillOf w n (now (defs .entry)) (now (parts .entry)) a (now (attrs .entry)) p (now (text .entry))) o (readRow (now (row .entry)))) c (now (out .entry)) r (now (out .exit)) ⌝ }
+    ensures { λ r. ⌜ Came w (emitted p (now (text .entry)) (fillOf version w n (now (defs .entry)) (now (parts .entry)) a (now (attrs .entry)) p (now (text .entry))) o (readRow (now (row .entry)))) (onward p (now (text .entry)) (fillOf version w n (now (defs .entry)) (now (parts .entry)) a (now (attrs .entry)) p (now (text .entry))) o (readRow (now (row .entry)))) c (now (out .entry)) r (now (out .exit)) ⌝ }
 {
     if is_taken(p, o, h) {
         return Stepped {
@@ -425,7 +442,22 @@ fn come<'a>(
         };
     }
     if o.due & is_below(o, h) {
-        return come_due(w, n, defs, parts, a, attrs, p, text, h, row, o, c, out);
+        return come_due(
+            version,
+            w,
+            n,
+            defs,
+            parts,
+            a,
+            attrs,
+            p,
+            text,
+            h,
+            row,
+            o,
+            c,
+            out,
+        );
     }
     let index = moved_index(p, h);
     let next = put_row(w, index, h.serial == p.set, text, row, c, out);
@@ -437,6 +469,7 @@ fn come<'a>(
 
 // One row.
 fn step<'a>(
+    version: usize,
     w: usize,
     n: usize,
     defs: &'a [u8],
@@ -451,7 +484,7 @@ fn step<'a>(
     out: &mut [u8],
 ) -> Stepped
     requires { ⌜ Ready w n a (now text) p × WalkRow w (now row) × Near o × Room w c ⌝ }
-    ensures { λ r. ⌜ Came w (stepRows p (now (text .entry)) (fillOf w n (now (defs .entry)) (now (parts .entry)) a (now (attrs .entry)) p (now (text .entry))) o (readRow (now (row .entry)))) (stepOpen p (now (text .entry)) (fillOf w n (now (defs .entry)) (now (parts .entry)) a (now (attrs .entry)) p (now (text .entry))) o (readRow (now (row .entry)))) c (now (out .entry)) r (now (out .exit)) ⌝ }
+    ensures { λ r. ⌜ Came w (stepRows p (now (text .entry)) (fillOf version w n (now (defs .entry)) (now (parts .entry)) a (now (attrs .entry)) p (now (text .entry))) o (readRow (now (row .entry)))) (stepOpen p (now (text .entry)) (fillOf version w n (now (defs .entry)) (now (parts .entry)) a (now (attrs .entry)) p (now (text .entry))) o (readRow (now (row .entry)))) c (now (out .entry)) r (now (out .exit)) ⌝ }
 {
     let h = read_head(row);
     if gone(o, h) {
@@ -463,13 +496,43 @@ fn step<'a>(
     let due = closes(o, h) & o.due;
     let depth = minus(o.below, 1);
     let what = p.filling;
-    let at = put_owed(w, n, defs, parts, a, attrs, what, text, due, depth, c, out);
+    let at = put_owed(
+        version,
+        w,
+        n,
+        defs,
+        parts,
+        a,
+        attrs,
+        what,
+        text,
+        due,
+        depth,
+        c,
+        out,
+    );
     let q = closed(o, h);
-    come(w, n, defs, parts, a, attrs, p, text, h, row, q, at, out)
+    come(
+        version,
+        w,
+        n,
+        defs,
+        parts,
+        a,
+        attrs,
+        p,
+        text,
+        h,
+        row,
+        q,
+        at,
+        out,
+    )
 }
 
 /// The walk over `count` rows. It stops where no row may be written any more.
 pub fn walk<'a>(
+    version: usize,
     w: usize,
     n: usize,
     defs: &'a [u8],
@@ -484,7 +547,7 @@ pub fn walk<'a>(
     out: &mut [u8],
 ) -> Cursor
     requires { ⌜ Ready w n a (now text) plan × WalkRows w count (now rows) × (rowSize w * count ≤ length (now rows)) × Room w c ⌝ }
-    ensures { λ r. ⌜ Written w (walked plan (now (text .entry)) (fillOf w n (now (defs .entry)) (now (parts .entry)) a (now (attrs .entry)) plan (now (text .entry))) (atFirst plan) (readMany readRow (rowSize w) count (now (rows .entry)))) c (now (out .entry)) r (now (out .exit)) ⌝ }
+    ensures { λ r. ⌜ Written w (walked plan (now (text .entry)) (fillOf version w n (now (defs .entry)) (now (parts .entry)) a (now (attrs .entry)) plan (now (text .entry))) (atFirst plan) (readMany readRow (rowSize w) count (now (rows .entry)))) c (now (out .entry)) r (now (out .exit)) ⌝ }
 {
     let size = layout::row_size(w);
     let mut t = rows;
@@ -496,7 +559,21 @@ pub fn walk<'a>(
             return at;
         }
         let row = &t[..size];
-        let s = step(w, n, defs, parts, a, attrs, plan, text, row, o, at, out);
+        let s = step(
+            version,
+            w,
+            n,
+            defs,
+            parts,
+            a,
+            attrs,
+            plan,
+            text,
+            row,
+            o,
+            at,
+            out,
+        );
         at = s.cursor;
         o = s.opened;
         t = &t[size..];
@@ -505,7 +582,20 @@ pub fn walk<'a>(
     let depth = minus(o.below, 1);
     if o.due {
         let what = plan.filling;
-        return filling::put_filling(w, n, defs, parts, a, attrs, what, text, depth, at, out);
+        return filling::put_filling(
+            version,
+            w,
+            n,
+            defs,
+            parts,
+            a,
+            attrs,
+            what,
+            text,
+            depth,
+            at,
+            out,
+        );
     }
     at
 }

@@ -17,7 +17,9 @@ use Rattle.rules.specs.Automaton.{facts}
 use Rattle.rules.specs.Preorder.{Deep}
 use Rattle.rules.specs.Layout.{attributeSize, FlatRow}
 use Rattle.rules.specs.Decode.{readParticle, readAttribute, sortOf}
+use Rattle.rules.specs.Store.{AttributeSort}
 use Rattle.rules.specs.Conforming.{mustBePresent}
+use Rattle.rules.specs.Filling.{createdValue}
 use Rattle.codec.proofs.Writers.{tail-seen}
 use Rattle.model.specs.declared.What.{What}
 use Rattle.model.specs.declared.What.the-variants.{Element, Group}
@@ -41,12 +43,17 @@ use Rattle.filling.specs.Parts.{whatFilling, memberFilling, valueIn, req
 pub nothing-told : (k : GroupKind) (ms : Members ℕ) (x y : ℕ) (f : Facts) → f ≡ facts numbers k ms x y → f .nothing ≡ nothing k ms
 nothing-told k ms x y f e = ap (λ (z : Facts). z .nothing) e ∙ facts-nothing numbers k ms x y
 
--- b: the record of attribute j
-pub created-told : (w : ℕ) (attrs : Bytes) (j : ℕ) (b v : Bytes) → b ≡ recordAt (attributeSize w) j attrs → v ≡ readAttribute b .value → (v ≡ valueIn w attrs j) × (length v ≤ w)
-created-told w attrs j b v e t =
+-- a created value is no longer than the fill
+created-short : (sort : AttributeSort) (fill : Bytes) → length (createdValue sort fill) ≤ length fill
+created-short sort fill = omega arith
+
+-- b: the record of attribute j, k: its sort, u: its fill
+pub created-told : (w : ℕ) (attrs : Bytes) (j : ℕ) (b : Bytes) (k : ℕ) (u v : Bytes) → b ≡ recordAt (attributeSize w) j attrs → k ≡ readAttribute b .sort → u ≡ readAttribute b .value
+    → v ≡ createdValue (sortOf k) u → (v ≡ valueIn w attrs j) × (length v ≤ w)
+created-told w attrs j b k u v e s t x =
     let long : length b ≤ 20 + w = omega (arith, ap length e, length-take (20 + w) (drop ((20 + w) * j) attrs)) in (
-      t ∙ ap (λ (z : Bytes). readAttribute z .value) e,
-      omega (arith, ap length t, length-take (getD (drop 18 b) 1 0) (drop 2 (drop 18 b)), length-drop 2 (drop 18 b), length-drop 18 b),
+      x ∙ ap₂ (λ (y : ℕ) (z : Bytes). createdValue (sortOf y) z) (s ∙ ap (λ (z : Bytes). readAttribute z .sort) e) (t ∙ ap (λ (z : Bytes). readAttribute z .value) e),
+      omega (arith, ap length x, created-short (sortOf k) u, ap length t, length-take (getD (drop 18 b) 1 0) (drop 2 (drop 18 b)), length-drop 2 (drop 18 b), length-drop 18 b),
     )
 
 -- ---- attributes
@@ -300,7 +307,7 @@ module _ {version w : ℕ} {defs parts attrs : Bytes} {a : ℕ} {txt : Bytes} {h
     pub rest-deeper : e < own → Rest version w defs parts attrs a txt h d k e s c out (take (length t - 4) (drop 4 t)) r out′
     rest-deeper m =
         record {
-          rest = λ p. i .rest (same-written w defs parts attrs a txt h d (filling k (membersFrom e t)) (filling k (membersFrom e (take (length t - 4) (drop 4 t)))) (group-deeper e k t own l g m) p);
+          rest = λ p. i .rest (same-written version w defs parts attrs a txt h d (filling k (membersFrom e t)) (filling k (membersFrom e (take (length t - 4) (drop 4 t)))) (group-deeper e k t own l g m) p);
           room = i .room;
           short = next-short;
           long = i .long;
@@ -311,7 +318,7 @@ module _ {version w : ℕ} {defs parts attrs : Bytes} {a : ℕ} {txt : Bytes} {h
       pub rest-on : k ≡ Sequence → Rest version w defs parts attrs a txt h d k e s c out (take (length t - 4) (drop 4 t)) r′ out″
       rest-on q =
           record {
-            rest = λ x. i .rest (list-written w defs parts attrs a txt h d (filling k (membersFrom e t)) k (memberFilling e t) (filling k (membersFrom e (take (length t - 4) (drop 4 t)))) (group-here e k t own l g m n) q p x);
+            rest = λ x. i .rest (list-written version w defs parts attrs a txt h d (filling k (membersFrom e t)) k (memberFilling e t) (filling k (membersFrom e (take (length t - 4) (drop 4 t)))) (group-here e k t own l g m n) q p x);
             room = written-room p (i .room);
             short = next-short;
             long = written-long p ∙ i .long;
@@ -319,15 +326,15 @@ module _ {version w : ℕ} {defs parts attrs : Bytes} {a : ℕ} {txt : Bytes} {h
 
       -- it is the first member of a CHOICE
       pub rest-first : k ≡ Choice → Written w (memberRows version w defs parts attrs a txt h d (filling k (membersFrom e s))) c out r′ out″
-      rest-first q = i .rest (first-written w defs parts attrs a txt h d (filling k (membersFrom e t)) k (memberFilling e t) (filling k (membersFrom e (take (length t - 4) (drop 4 t)))) (group-here e k t own l g m n) q p)
+      rest-first q = i .rest (first-written version w defs parts attrs a txt h d (filling k (membersFrom e t)) k (memberFilling e t) (filling k (membersFrom e (take (length t - 4) (drop 4 t)))) (group-here e k t own l g m n) q p)
 
     -- it stands outside the group
     pub rest-over : own < e → Written w (memberRows version w defs parts attrs a txt h d (filling k (membersFrom e s))) c out r out′
-    rest-over m = i .rest (none-written w defs parts attrs a txt h d (filling k (membersFrom e t)) (group-stop e k t own l g m))
+    rest-over m = i .rest (none-written version w defs parts attrs a txt h d (filling k (membersFrom e t)) (group-stop e k t own l g m))
 
   -- there is no particle more
   pub rest-ends : {t : Bytes} {r : Cursor} {out′ : Bytes} → Rest version w defs parts attrs a txt h d k e s c out t r out′ → length t < 4 → Written w (memberRows version w defs parts attrs a txt h d (filling k (membersFrom e s))) c out r out′
-  rest-ends {t} i l = i .rest (none-written w defs parts attrs a txt h d (filling k (membersFrom e t)) (group-few e k t l))
+  rest-ends {t} i l = i .rest (none-written version w defs parts attrs a txt h d (filling k (membersFrom e t)) (group-few e k t l))
 
 -- ---- an index in a particle is a byte
 abbrev elementIn : What → ℕ
@@ -378,7 +385,7 @@ module _ (version w n : ℕ) (defs parts attrs : Bytes) (a : ℕ) (what : Fillin
   nothing-filled e = written-as (ap (λ (x : Filling). rowsFor x) e) written-none
 
   pub definition-filled : (i : ℕ) {c r : Cursor} {out out′ : Bytes} → what ≡ Definition i → Written w (definitionRows version w defs parts attrs a txt n d i) c out r out′ → Written w (rowsFor what) c out r out′
-  definition-filled i e p = written-as (ap (λ (x : Filling). rowsFor x) e) (definition-sized w defs parts attrs a txt n d i p)
+  definition-filled i e p = written-as (ap (λ (x : Filling). rowsFor x) e) (definition-sized version w defs parts attrs a txt n d i p)
 
   pub attribute-filled : (j : ℕ) {c r : Cursor} {out out′ : Bytes} → what ≡ Attribute j → Written w (newRow 2 d j txt ∷ []) c out r out′ → Written w (rowsFor what) c out r out′
   attribute-filled j e p = written-as (ap (λ (x : Filling). rowsFor x) e) p
@@ -388,7 +395,7 @@ module _ (version w n : ℕ) (defs parts attrs : Bytes) (a : ℕ) (what : Fillin
   particles-filled g k e q p =
       written-as
       (ap (λ (x : Filling). rowsFor x) q
-      ∙ form-fillings version w n 0 a defs parts attrs (valueIn w attrs) (λ i. fillIndex (indexForm version w n defs parts attrs a) (valueIn w attrs) n txt d i) (λ i. fillIndex (indexForm version w 0 defs parts attrs a) (valueIn w attrs) n txt d i) (λ i. sized w defs parts attrs a txt n n d i)
+      ∙ form-fillings version w n 0 a defs parts attrs (valueIn w attrs) (λ i. fillIndex (indexForm version w n defs parts attrs a) (valueIn w attrs) n txt d i) (λ i. fillIndex (indexForm version w 0 defs parts attrs a) (valueIn w attrs) n txt d i) (λ i. sized version w defs parts attrs a txt n n d i)
       (groupFilled g (membersAt parts k e)))
       p
 

@@ -8,7 +8,7 @@ use Rattle.rules.specs.declared.Quantifier.{Quantifier}
 use Rattle.rules.specs.Bytes.{Bytes}
 use Rattle.rules.specs.Model.{Members, skips, nothing, unless, filling}
 use Rattle.rules.specs.Preorder.{Deep}
-use Rattle.rules.specs.Layout.{FlatRow}
+use Rattle.rules.specs.Layout.{FlatAttribute, FlatRow}
 use Rattle.rules.specs.Decode.{readParticle, sortOf}
 use Rattle.rules.specs.Filling.{createdValue}
 use Rattle.model.specs.declared.What.{What}
@@ -39,9 +39,12 @@ unfoldable pub membersAt : Bytes → ℕ → ℕ → Members ℕ
 membersAt parts k e = membersFrom e (drop (4 * k) parts)
 
 -- ---- rows of depth d
--- the value of a created row of attribute j
+-- the value of a created row of an attribute, and of attribute j
+abbrev pub valueOf : FlatAttribute → Bytes
+valueOf c = createdValue (sortOf (c .sort)) (c .value)
+
 abbrev pub valueIn : ℕ → Bytes → ℕ → Bytes
-valueIn w attrs j = createdValue (sortOf (attributeIn w attrs j .sort)) (attributeIn w attrs j .value)
+valueIn w attrs j = valueOf (attributeIn w attrs j)
 
 -- of the attributes those that are REQUIRED of definition i: number j alone, and all below n
 unfoldable pub requiredAt : ℕ → ℕ → Bytes → ℕ → ℕ → ℕ → List (Deep FlatRow)

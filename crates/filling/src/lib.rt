@@ -44,7 +44,8 @@ fn created_value(w: usize, attrs: &[u8], j: usize) -> &[u8]
 
 // ---- The writers of a filling call each other as deep as definitions and groups are nested. So that their frames on the stack stay
 // small, the form is lent as one array of slices (definitions, particles, attributes), the text by one reference, the width of a
-// value and the number of attributes as one array of numbers, and the cursor as another (its place, what is left, its serial).
+// value, the number of attributes and the version as one array of numbers, and the cursor as another (its place, what is left, its
+// serial).
 
 // Writes one row.
 fn put_row(

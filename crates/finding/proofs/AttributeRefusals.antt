@@ -14,9 +14,9 @@ use Rattle.rules.specs.Bytes.{Bytes, same, same-eq, bytes, isNone}
 use Rattle.rules.specs.Model.{Distinct}
 use Rattle.rules.specs.Store.{Attribute, Definition, Form, RowSort, element, attribute, text, Row, Forest, heads}
 use Rattle.rules.specs.Layout.{FlatRow, valueWidth, rowCode, indexOf, attributeIndex, ownAttributes, allAttributes}
-use Rattle.rules.specs.Decode.{attributeCount}
+use Rattle.rules.specs.Decode.{numberAt, attributeCount, sortOf}
 use Rattle.rules.specs.WellFormed.{lookup, isThere, known, isValue, attributeName}
-use Rattle.rules.specs.Conforming.{nameOf, ElementRows, RowConforms, isAttribute, allows, conforming}
+use Rattle.rules.specs.Conforming.{nameOf, ElementRows, RowConforms, isAttribute, mustBePresent, allows, conforming}
 use Rattle.rules.specs.Lines.{elementWith, attributeNamed, findRow, childrenOf, serialAt}
 use Rattle.rules.specs.Change.{setAttribute, destroyAttributeRow, Owned, entryAt, attributeAt, definitionAt, after}
 use Rattle.rules.specs.Refusal.{Condition, _if_, first, conditions, rowsOf, noElement, unknownAttribute, isOther, isAbsent}
@@ -30,9 +30,8 @@ use Rattle.history.proofs.FormLaws.{attribute-owned, owner-found, owner-at, own
 use Rattle.history.proofs.Untouched.{keep-in}
 use Rattle.history.proofs.StandingLaws.{serialOf, standing-every, found-element, children-are, children-given}
 use Rattle.rowpass.specs.Indices.{IndexForm}
-use Rattle.records.specs.Records.{baseWidth}
+use Rattle.layout.specs.Bodies.{widthOf, WidthIn, attributesIn}
 use Rattle.rowpass.specs.Reading.{attributeIn}
-use Rattle.validity.specs.Check.{attributesIn}
 use Rattle.validity.proofs.IndexLaws.{known-index, index-once}
 use Rattle.validity.proofs.AttributeBlocks.{Entry, Block, offset, below-or}
 use Rattle.validity.proofs.AttributeRows.{rowWritten, index-written}
@@ -46,7 +45,7 @@ use Rattle.finding.proofs.TreeLaws.{ofSort}
 use Rattle.finding.proofs.StoreFacts.{formIn, docsIn, byIndex, Whole, Element, NoElement, defined, children-at, any-found}
 use Rattle.finding.proofs.ElementsAfter.{ok}
 use Rattle.finding.proofs.AttributesAfter.{drop-conforms, set-conforms}
-use Rattle.finding.proofs.RefusalLaws.{gives-hit, gives-next, gives-none}
+use Rattle.finding.proofs.RefusalLaws.{gives-hit, gives-next, gives-none, bad-text, fine-text}
 
 some-same : {A : Type 0} {x y : A} → some x ≡ some y → x ≡ y
 some-same e = cc
@@ -120,9 +119,18 @@ unfolding many
 many-all o [] = refl
 many-all o (d ∷ ds) = omega (arith, length-append (ownAttributes o (d .attributes)) (allAttributes (suc o) ds), length-own o (d .attributes), many-all (suc o) ds)
 
-block-entry : (F : IndexForm) (form : Form) (i j : ℕ) (table : List Attribute) → Block F form i j table → (a : Attribute) → List·Memᴰ a table → (k : ℕ) × Entry F form i k a
-block-entry F form i j [] b a m = absurd (List·Memᴰ·not-nil m)
-block-entry F form i j (c ∷ table) b a m = ⊎-elim (λ e. (j, subst (λ (z : Attribute). Entry F form i j z) (sym e) (b .0))) (λ n. block-entry F form i (suc j) table (b .1) a n) (List·Memᴰ·cases-cons m)
+block-entry : (version : ℕ) (F : IndexForm) (form : Form) (i j : ℕ) (table : List Attribute) → Block version F form i j table → (a : Attribute) → List·Memᴰ a table → (k : ℕ) × Entry version F form i k a
+block-entry version F form i j [] b a m = absurd (List·Memᴰ·not-nil m)
+block-entry version F form i j (c ∷ table) b a m = ⊎-elim (λ e. (j, subst (λ (z : Attribute). Entry version F form i j z) (sym e) (b .0))) (λ n. block-entry version F form i (suc j) table (b .1) a n) (List·Memᴰ·cases-cons m)
+
+-- what the readers of an attribute find, at the width and in the body that were read
+module _ (bs : Bytes) {n : ℕ} {attrs : Bytes} (v : n ≡ widthOf bs) (e : attrs ≡ attributesIn bs) (a : ℕ) where
+  pub allows-in : (t : Bytes) → allows (sortOf (attributeIn n attrs a .sort)) (attributeIn n attrs a .value) t ≡ byIndex bs .allows a t
+  allows-in t = λ i. allows (sortOf (attributeIn (v i) (e i) a .sort)) (attributeIn (v i) (e i) a .value) t
+
+  pub needs-in : {version : ℕ} → version ≡ numberAt 0 4 bs → (i : ℕ) → (eqb (attributeIn n attrs a .owner) i && mustBePresent version (sortOf (attributeIn n attrs a .sort)))
+      ≡ (eqb (attributeIn (widthOf bs) (attributesIn bs) a .owner) i && byIndex bs .needed a)
+  needs-in u i = λ j. eqb (attributeIn (v j) (e j) a .owner) i && mustBePresent (u j) (sortOf (attributeIn (v j) (e j) a .sort))
 
 module _ (bs : Bytes) (w : Whole bs) (a : ℕ) where
   count-is : attributeCount bs ≡ many (formIn bs)
@@ -144,12 +152,12 @@ module _ (bs : Bytes) (w : Whole bs) (a : ℕ) where
     is-known : known (formIn bs) (o .owner .name) ≡ true
     is-known = ap isThere (owner-found a (formIn bs) (w .good .form .names) o at)
 
-    entry : Entry (byIndex bs) (formIn bs) index a (o .attribute)
+    entry : Entry (storeIn bs .version) (byIndex bs) (formIn bs) index a (o .attribute)
     entry =
         let l : index < length (formIn bs) = owner-below a (formIn bs) (w .good .form .names) o at in
-        let (k, e) = block-entry (byIndex bs) (formIn bs) index (offset index (formIn bs)) (definitionAt index (formIn bs) .attributes) (block (valueWidth (storeIn bs .version)) (formIn bs) (ok (storeIn bs) (w .good)) (byIndex bs) (w .agrees) index l) (o .attribute)
+        let (k, e) = block-entry (storeIn bs .version) (byIndex bs) (formIn bs) index (offset index (formIn bs)) (definitionAt index (formIn bs) .attributes) (block (valueWidth (storeIn bs .version)) (formIn bs) (ok (storeIn bs) (w .good)) (byIndex bs) (w .agrees) index l) (o .attribute)
         (subst (λ (z : Definition). List·Memᴰ (o .attribute) (z .attributes)) (sym (owner-at a (formIn bs) (w .good .form .names) o at)) (attribute-owned a (formIn bs) o at .1)) in
-        subst (λ (z : ℕ). Entry (byIndex bs) (formIn bs) index z (o .attribute))
+        subst (λ (z : ℕ). Entry (storeIn bs .version) (byIndex bs) (formIn bs) index z (o .attribute))
         (sym (e .found) ∙ ap (λ (z : Bytes). attributeIndex z (o .attribute .name) (formIn bs)) (known-index (formIn bs) (o .owner .name) is-known .name) ∙ own-index a (formIn bs) o (w .good .form .names) apart at) e
 
     -- ---- of an element
@@ -157,10 +165,10 @@ module _ (bs : Bytes) (w : Whole bs) (a : ℕ) where
       row-known : known (formIn bs) (f .row .name) ≡ true
       row-known = ap isThere (defined bs w k i f .found)
 
-      pub mine : attributeIn baseWidth (attributesIn bs) a .owner ≡ rowIn bs i .row .index → o .owner .name ≡ f .row .name
+      pub mine : attributeIn (widthOf bs) (attributesIn bs) a .owner ≡ rowIn bs i .row .index → o .owner .name ≡ f .row .name
       mine e = index-once (formIn bs) (o .owner .name) (f .row .name) is-known row-known (sym (entry .owner) ∙ e ∙ defined bs w k i f .index)
 
-      pub not-mine : (attributeIn baseWidth (attributesIn bs) a .owner ≡ rowIn bs i .row .index → ⊥) → same (o .owner .name) (f .row .name) ≡ false
+      pub not-mine : (attributeIn (widthOf bs) (attributesIn bs) a .owner ≡ rowIn bs i .row .index → ⊥) → same (o .owner .name) (f .row .name) ≡ false
       not-mine h = differs bytes (o .owner .name) (f .row .name) (λ e. h (entry .owner ∙ ap (λ (z : Bytes). indexOf z (formIn bs)) e ∙ sym (defined bs w k i f .index)))
 
       unknown-is : unknownAttribute k a (storeIn bs) ≡ not (same (o .owner .name) (f .row .name))
@@ -241,10 +249,10 @@ module _ (bs : Bytes) (w : Whole bs) (a : ℕ) where
     pub refused-none : a < attributeCount bs → NoElement bs k → AttributeRefused k a (storeIn bs) 7
     refused-none l f = let (o, at) = owned l in refused (gives-next (ap₂ isOther at (f .found)) (gives-hit (f .there)))
 
-    pub refused-other : {i : ℕ} → a < attributeCount bs → Element bs k i → (attributeIn baseWidth (attributesIn bs) a .owner ≡ rowIn bs i .row .index → ⊥) → AttributeRefused k a (storeIn bs) 6
+    pub refused-other : {i : ℕ} → a < attributeCount bs → Element bs k i → (attributeIn (widthOf bs) (attributesIn bs) a .owner ≡ rowIn bs i .row .index → ⊥) → AttributeRefused k a (storeIn bs) 6
     refused-other l f h = let (o, at) = owned l in refused (gives-hit (unknown-is o at f ∙ ap not (not-mine o at f h)))
 
-    pub refused-not : {i : ℕ} → a < attributeCount bs → Element bs k i → attributeIn baseWidth (attributesIn bs) a .owner ≡ rowIn bs i .row .index → AttributeRefused k a (storeIn bs) 0
+    pub refused-not : {i : ℕ} → a < attributeCount bs → Element bs k i → attributeIn (widthOf bs) (attributesIn bs) a .owner ≡ rowIn bs i .row .index → AttributeRefused k a (storeIn bs) 0
     refused-not l f h = let (o, at) = owned l in refused (gives-next (unknown-is o at f ∙ ap not (bytes .same← (o .owner .name) (f .row .name) (mine o at f h))) (gives-next (f .there) gives-none))
 
     -- ---- none of them holds
@@ -264,31 +272,31 @@ module _ (bs : Bytes) (w : Whole bs) (a : ℕ) where
 
   -- ---- conforming after
   module _ {k : ℕ} (y : Known k) where
-    shape : (d : Definition) × (lookup (y .row .name) (formIn bs) ≡ some d) × ElementRows d (heads (y .below))
-    shape = conforms (y .row) (heads (y .below)) (y .sort) (standing-every (λ r below. RowConforms (formIn bs) r below) (docsIn bs) (w .good .docs .rows) (y .row) (y .below) (y .stands))
+    shape : (d : Definition) × (lookup (y .row .name) (formIn bs) ≡ some d) × ElementRows (storeIn bs .version) d (heads (y .below))
+    shape = conforms (y .row) (heads (y .below)) (y .sort) (standing-every (λ r below. RowConforms (storeIn bs .version) (formIn bs) r below) (docsIn bs) (w .good .docs .rows) (y .row) (y .below) (y .stands))
       where
-        conforms : (r : Row) (rows : List Row) → r .sort ≡ element → RowConforms (formIn bs) r rows → (d : Definition) × (lookup (r .name) (formIn bs) ≡ some d) × ElementRows d rows
+        conforms : (r : Row) (rows : List Row) → r .sort ≡ element → RowConforms (storeIn bs .version) (formIn bs) r rows → (d : Definition) × (lookup (r .name) (formIn bs) ≡ some d) × ElementRows (storeIn bs .version) d rows
         conforms r rows q x = rw q at x
 
     own : y .owned .owner ≡ shape .0
     own = some-same (sym (owner-found a (formIn bs) (w .good .form .names) (y .owned) (y .at)) ∙ ap (λ (z : Bytes). lookup z (formIn bs)) (y .mine) ∙ shape .1)
 
-    pub drop-is : conforming (formIn bs) (after (destroyAttributeRow k a) (storeIn bs) .docs) ≡ not (byIndex bs .needed a)
+    pub drop-is : conforming (storeIn bs .version) (formIn bs) (after (destroyAttributeRow k a) (storeIn bs) .docs) ≡ not (byIndex bs .needed a)
     drop-is =
-        ap (λ (z : ℕ). conforming (formIn bs) (after (destroyAttributeRow z a) (storeIn bs) .docs)) (sym (y .serial))
+        ap (λ (z : ℕ). conforming (storeIn bs .version) (formIn bs) (after (destroyAttributeRow z a) (storeIn bs) .docs)) (sym (y .serial))
         ∙ drop-conforms (storeIn bs) (w .good) (y .row) (y .below) (y .stands) (y .sort) (shape .0) (shape .1) (shape .2) a (y .owned) (y .at) own
         ∙ ap not (sym (entry (y .owned) (y .at) .needed))
 
-    pub set-is : (v : Bytes) → conforming (formIn bs) (after (setAttribute k a v) (storeIn bs) .docs) ≡ byIndex bs .allows a v
+    pub set-is : (v : Bytes) → conforming (storeIn bs .version) (formIn bs) (after (setAttribute k a v) (storeIn bs) .docs) ≡ byIndex bs .allows a v
     set-is v =
-        ap (λ (z : ℕ). conforming (formIn bs) (after (setAttribute z a v) (storeIn bs) .docs)) (sym (y .serial))
+        ap (λ (z : ℕ). conforming (storeIn bs .version) (formIn bs) (after (setAttribute z a v) (storeIn bs) .docs)) (sym (y .serial))
         ∙ set-conforms (storeIn bs) (w .good) (y .row) (y .below) (y .stands) (y .sort) (shape .0) (shape .1) (shape .2) a (y .owned) (y .at) own v
         ∙ sym (entry (y .owned) (y .at) .allowed v)
 
     pub same-row : {i : ℕ} (f : Element bs k i) → y .owned .owner .name ≡ f .row .name
     same-row f = y .mine ∙ ap nameOf (some-same (sym (y .found) ∙ f .found))
 
-    pub owner-is : {i : ℕ} (f : Element bs k i) → attributeIn baseWidth (attributesIn bs) a .owner ≡ rowIn bs i .row .index
+    pub owner-is : {i : ℕ} (f : Element bs k i) → attributeIn (widthOf bs) (attributesIn bs) a .owner ≡ rowIn bs i .row .index
     owner-is {i} f = entry (y .owned) (y .at) .owner ∙ ap (λ (z : Bytes). indexOf z (formIn bs)) (same-row f) ∙ sym (defined bs w k i f .index)
 
     pub inside : a < attributeCount bs
@@ -296,23 +304,23 @@ module _ (bs : Bytes) (w : Whole bs) (a : ℕ) where
 
   -- ---- 14
   module _ (k : ℕ) (v : Bytes) where
-    pub set-3 : {c : Bool} → c ≡ isValue 32 v → not c ≡ true → Gives 3 (conditions (setAttribute k a v) (storeIn bs))
+    pub set-3 : {m : ℕ} {c : Bool} → WidthIn bs m → c ≡ isValue m v → not c ≡ true → Gives 3 (conditions (setAttribute k a v) (storeIn bs))
     unfolding conditions
-    set-3 e h = gives-hit (ap not (sym e) ∙ h)
+    set-3 u e h = gives-hit (bad-text bs v u e h)
 
-    module _ {c : Bool} (e : c ≡ isValue 32 v) (h : not c ≡ false) {n : ℕ} (x : AttributeRefused k a (storeIn bs) n) where
+    module _ {m : ℕ} {c : Bool} (u : WidthIn bs m) (e : c ≡ isValue m v) (h : not c ≡ false) {n : ℕ} (x : AttributeRefused k a (storeIn bs) n) where
       pub set-early : (n ≡ 0 → ⊥) → Gives n (conditions (setAttribute k a v) (storeIn bs))
       unfolding conditions
-      set-early f = gives-next (ap not (sym e) ∙ h) (held (unknownAttribute k a (storeIn bs)) (noElement k (storeIn bs)) n _ (x .is) f)
+      set-early f = gives-next (fine-text bs v u e h) (held (unknownAttribute k a (storeIn bs)) (noElement k (storeIn bs)) n _ (x .is) f)
 
       module _ (z : n ≡ 0) {r : Bool} (q : r ≡ byIndex bs .allows a v) where
         pub set-15 : not r ≡ true → Gives 15 (conditions (setAttribute k a v) (storeIn bs))
         unfolding conditions
-        set-15 g = gives-next (ap not (sym e) ∙ h) (gives-next (both x z .0) (gives-next (both x z .1) (gives-hit (ap not (set-is (known-of x z) v ∙ sym q) ∙ g))))
+        set-15 g = gives-next (fine-text bs v u e h) (gives-next (both x z .0) (gives-next (both x z .1) (gives-hit (ap not (set-is (known-of x z) v ∙ sym q) ∙ g))))
 
         pub set-0 : not r ≡ false → Gives 0 (conditions (setAttribute k a v) (storeIn bs))
         unfolding conditions
-        set-0 g = gives-next (ap not (sym e) ∙ h) (gives-next (both x z .0) (gives-next (both x z .1) (gives-next (ap not (set-is (known-of x z) v ∙ sym q) ∙ g) gives-none)))
+        set-0 g = gives-next (fine-text bs v u e h) (gives-next (both x z .0) (gives-next (both x z .1) (gives-next (ap not (set-is (known-of x z) v ∙ sym q) ∙ g) gives-none)))
 
   -- ---- 15
   module _ (k : ℕ) {n : ℕ} (x : AttributeRefused k a (storeIn bs) n) where
@@ -328,14 +336,14 @@ module _ (bs : Bytes) (w : Whole bs) (a : ℕ) where
       unfolding conditions
       drop-7 e = gives-next (both x z .0) (gives-hit (ap₂ (λ (u v : Bool). u || v) (both x z .1) (missing ∙ eq-eqb r 0 e)))
 
-      module _ (e : r ≡ 0 → ⊥) {j : ℕ} (d : j ≡ rowIn bs i .row .index) {c : Bool} (m : c ≡ (eqb (attributeIn baseWidth (attributesIn bs) a .owner) j && byIndex bs .needed a)) where
+      module _ (e : r ≡ 0 → ⊥) {j : ℕ} (d : j ≡ rowIn bs i .row .index) {c : Bool} (m : c ≡ (eqb (attributeIn (widthOf bs) (attributesIn bs) a .owner) j && byIndex bs .needed a)) where
         there : (noElement k (storeIn bs) || isAbsent k (rowsOf (storeIn bs)) (attributeAt a (formIn bs))) ≡ false
         there = ap₂ (λ (u v : Bool). u || v) (both x z .1) (missing ∙ ne-eqb r 0 e)
 
         needed : c ≡ byIndex bs .needed a
-        needed = m ∙ ap (λ (u : Bool). u && byIndex bs .needed a) (eq-eqb (attributeIn baseWidth (attributesIn bs) a .owner) j (owner-is (known-of x z) f ∙ sym d))
+        needed = m ∙ ap (λ (u : Bool). u && byIndex bs .needed a) (eq-eqb (attributeIn (widthOf bs) (attributesIn bs) a .owner) j (owner-is (known-of x z) f ∙ sym d))
 
-        after-is : not (conforming (formIn bs) (after (destroyAttributeRow k a) (storeIn bs) .docs)) ≡ c
+        after-is : not (conforming (storeIn bs .version) (formIn bs) (after (destroyAttributeRow k a) (storeIn bs) .docs)) ≡ c
         after-is = ap not (drop-is (known-of x z)) ∙ Bool·not-not (byIndex bs .needed a) ∙ sym needed
 
         pub drop-15 : c ≡ true → Gives 15 (conditions (destroyAttributeRow k a) (storeIn bs))

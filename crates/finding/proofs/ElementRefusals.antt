@@ -69,11 +69,11 @@ module _ (bs : Bytes) (w : Whole bs) where
         let s : r .sort ≡ element = is-element (r .sort) (keep-is isElementRow (heads (e .below)) r m) in
         record {
           sort = s;
-          known = named r (heads c) s (standing-every (λ r below. RowConforms (formIn bs) r below) (docsIn bs) (w .good .docs .rows) r c j);
+          known = named r (heads c) s (standing-every (λ r below. RowConforms (storeIn bs .version) (formIn bs) r below) (docsIn bs) (w .good .docs .rows) r c j);
           given = no-zero (storeIn bs .next) (docsIn bs) (w .good .serials) r c j;
         }
       where
-        named : (r : Row) (rows : List Row) → r .sort ≡ element → RowConforms (formIn bs) r rows → known (formIn bs) (r .name) ≡ true
+        named : (r : Row) (rows : List Row) → r .sort ≡ element → RowConforms (storeIn bs .version) (formIn bs) r rows → known (formIn bs) (r .name) ≡ true
         named r rows q x =
             let y : (d : Definition) × (lookup (r .name) (formIn bs) ≡ some d) × ElementRows d rows = rw q at x in
             ap isThere (y .1)
@@ -132,7 +132,7 @@ module _ (bs : Bytes) (w : Whole bs) where
       above : Parent bs w k u
       above = parent-there bs w k u (f .begins) l
 
-      after-is : conforming (formIn bs) (after (destroyElement k) (storeIn bs) .docs) ≡ fitsAt bs u 0 0 k
+      after-is : conforming (storeIn bs .version) (formIn bs) (after (destroyElement k) (storeIn bs) .docs) ≡ fitsAt bs u 0 0 k
       after-is =
           let p : Element bs (above .serial) u = above .parent in
           let g = defined bs w (above .serial) u p in
@@ -195,11 +195,11 @@ module _ (bs : Bytes) (w : Whole bs) where
           few : j ≤ length (kids f)
           few = ⊎-elim (λ h. absurd (false≢true (sym within ∙ lt-ltb (length (childrenOf isElementRow k (rowsOf (storeIn bs)))) j h))) (λ h. omega (arith, ap (λ (z : List ℕ). length z) (kids-of f), length-map (kids f) serialOf)) (below-or (length (childrenOf isElementRow k (rowsOf (storeIn bs)))) j)
 
-          after-added : conforming (formIn bs) (after (addElement k j n t) (storeIn bs) .docs) ≡ (isComplex (d f .content) && fitsAt bs i (suc j) n 0)
+          after-added : conforming (storeIn bs .version) (formIn bs) (after (addElement k j n t) (storeIn bs) .docs) ≡ (isComplex (d f .content) && fitsAt bs i (suc j) n 0)
           after-added =
               let g = defined bs w k i f in
               let l : n < length (formIn bs) = not-past n (formIn bs) (early .1) in
-              ap (λ (z : ℕ). conforming (formIn bs) (after (addElement z j n t) (storeIn bs) .docs)) (sym (f .serial))
+              ap (λ (z : ℕ). conforming (storeIn bs .version) (formIn bs) (after (addElement z j n t) (storeIn bs) .docs)) (sym (f .serial))
               ∙ add-conforms (storeIn bs) (w .good) (f .row) (f .below) (f .stands) (f .sort) (g .definition) (g .found) (g .fits) j n t l few
               ∙ ap (λ (z : Bool). isComplex (d f .content) && z) (sym (more-fits f j n l few))
 

@@ -89,10 +89,10 @@ unfolding headAttribute
 elements-head [] s = refl
 elements-head (r ∷ rows) s = ap isAttribute (s r (List·Memᴰ·head refl))
 
-module _ (d : Definition) (apart : Distinct (map attributeName (d .attributes))) (rows : List Row) (x : ElementRows d rows) where
+module _ {version : ℕ} (d : Definition) (apart : Distinct (map attributeName (d .attributes))) (rows : List Row) (x : ElementRows version d rows) where
   -- other content behind the same attribute rows
-  pub refit : (rest : List Row) → headAttribute rest ≡ false → fitsDefinition (some d) (x .front ++ rest) ≡ fits (d .content) rest
-  refit rest h = ap (fitsStripped (d .content)) (strip-is (d .attributes) (x .front ++ rest) rest apart h .1 (record { front = x .front; split = refl; attributes = x .attributes }))
+  pub refit : (rest : List Row) → headAttribute rest ≡ false → fitsDefinition version (some d) (x .front ++ rest) ≡ fits (d .content) rest
+  refit rest h = ap (fitsStripped (d .content)) (strip-is version (d .attributes) (x .front ++ rest) rest apart h .1 (record { front = x .front; split = refl; attributes = x .attributes }))
 
   keep-elements : keep isElementRow rows ≡ keep isElementRow (x .back)
   keep-elements =
@@ -125,12 +125,12 @@ module _ (d : Definition) (apart : Distinct (map attributeName (d .attributes)))
     planted : plantRows p u true rows ≡ x .front ++ plantRows p u true (x .back)
     planted = ap (plantRows p u true) (sym (x .split)) ∙ plant-front p u n m one later (x .front) (x .back) front-off
 
-    pub added : fitsDefinition (some d) (plantRows p u true rows) ≡ (isComplex (d .content) && accepts bytes (members d) (putAt j (n .name) (map nameOf (keep isElementRow rows))))
+    pub added : fitsDefinition version (some d) (plantRows p u true rows) ≡ (isComplex (d .content) && accepts bytes (members d) (putAt j (n .name) (map nameOf (keep isElementRow rows))))
     unfolding headAttribute keep
     added = by (d .content) refl (x .content)
       where
         Goal : Content → Type 0
-        Goal c = fitsDefinition (some d) (plantRows p u true rows) ≡ (isComplex c && accepts bytes (members d) (putAt j (n .name) (map nameOf (keep isElementRow rows))))
+        Goal c = fitsDefinition version (some d) (plantRows p u true rows) ≡ (isComplex c && accepts bytes (members d) (putAt j (n .name) (map nameOf (keep isElementRow rows))))
 
         -- nothing but the new element, or a text before it
         last : (back : List Row) → x .back ≡ back → keep isElementRow back ≡ [] → plantRows p u true (x .back) ≡ back ++ n ∷ []
@@ -153,17 +153,17 @@ module _ (d : Definition) (apart : Distinct (map attributeName (d .attributes)))
 
         by : (c : Content) → d .content ≡ c → ContentRows c (x .back) → Goal c
         by empty q e =
-            ap (fitsDefinition (some d)) (planted ∙ ap (λ (z : List Row). x .front ++ z) (last [] e refl))
+            ap (fitsDefinition version (some d)) (planted ∙ ap (λ (z : List Row). x .front ++ z) (last [] e refl))
             ∙ refit (n ∷ []) head-plain ∙ ap (λ (c : Content). fits c (n ∷ [])) q
         by pcdata q (r, e, t) =
-            ap (fitsDefinition (some d)) (planted ∙ ap (λ (z : List Row). x .front ++ z) (last (r ∷ []) e (keep-none isElementRow (r ∷ []) (λ s i. ⊎-elim (λ g. ap (λ (z : Row). isElement (z .sort)) g ∙ ap isElement t) (λ k. absurd (List·Memᴰ·not-nil k)) (List·Memᴰ·cases-cons i)))))
+            ap (fitsDefinition version (some d)) (planted ∙ ap (λ (z : List Row). x .front ++ z) (last (r ∷ []) e (keep-none isElementRow (r ∷ []) (λ s i. ⊎-elim (λ g. ap (λ (z : Row). isElement (z .sort)) g ∙ ap isElement t) (λ k. absurd (List·Memᴰ·not-nil k)) (List·Memᴰ·cases-cons i)))))
             ∙ refit (r ∷ n ∷ []) (ap isAttribute t) ∙ ap (λ (c : Content). fits c (r ∷ n ∷ [])) q ∙ ap (λ (s : RowSort). isText s && false) t
         by (complex ms) q (s, e) =
             let elements : all (λ (r : Row). isElement (r .sort)) (x .back) ≡ true = sorted-is (x .back) .1 s in
             let kept : keep isElementRow rows ≡ x .back = keep-elements ∙ keep-all isElementRow (x .back) (λ r i. ap isElement (s r i)) in
             let put : plantRows p u true (x .back) ≡ putAt j n (x .back) =
             plant-put p u n m one later j (x .back) (distinct-right (map serialOf (x .front)) (map serialOf (x .back)) parted) (λ r i. given r (in-back r i)) (at ∙ ap (λ (z : List Row). serialAt j (map serialOf z)) kept) (subst (λ (z : List Row). j ≤ length z) kept within) in
-            ap (fitsDefinition (some d)) (planted ∙ ap (λ (z : List Row). x .front ++ z) put)
+            ap (fitsDefinition version (some d)) (planted ∙ ap (λ (z : List Row). x .front ++ z) put)
             ∙ refit (putAt j n (x .back)) (head-put j (x .back) (content-head (d .content) (x .back) (x .content)))
             ∙ ap (λ (c : Content). fits c (putAt j n (x .back))) q
             ∙ ap (λ (a : Bool). a && accepts bytes ms (map nameOf (putAt j n (x .back)))) (all-put (λ (r : Row). isElement (r .sort)) j n (x .back) (ap isElement is) elements)
@@ -173,7 +173,7 @@ module _ (d : Definition) (apart : Distinct (map attributeName (d .attributes)))
   -- ---- without an element
   -- k: the serial of an element among them
   module _ (k : ℕ) (stays : Row → Bool) (all-but : (r : Row) → stays r ≡ not (elementWith k r)) (r : Row) (i : List·Memᴰ r rows) (here : elementWith k r ≡ true) where
-    pub lessened : fitsDefinition (some d) (keep stays rows) ≡ accepts bytes (members d) (map nameOf (keep stays (keep isElementRow rows)))
+    pub lessened : fitsDefinition version (some d) (keep stays rows) ≡ accepts bytes (members d) (map nameOf (keep stays (keep isElementRow rows)))
     lessened = by (d .content) refl (x .content)
       where
         stays-other : (s : Row) → isElement (s .sort) ≡ false → stays s ≡ true
@@ -187,13 +187,13 @@ module _ (d : Definition) (apart : Distinct (map attributeName (d .attributes)))
         in-back : List·Memᴰ r (x .back)
         in-back = ⊎-elim (λ j. absurd (false≢true (sym (not-element (r .sort) (x .attributes .sorts r j)) ∙ and-split (isElement (r .sort)) (eqb (r .serial) k) here .0))) (λ j. j) (List·Memᴰ·append-cases (x .front) (subst (λ (z : List Row). List·Memᴰ r z) (sym (x .split)) i))
 
-        by : (c : Content) → d .content ≡ c → ContentRows c (x .back) → fitsDefinition (some d) (keep stays rows) ≡ accepts bytes (members d) (map nameOf (keep stays (keep isElementRow rows)))
+        by : (c : Content) → d .content ≡ c → ContentRows c (x .back) → fitsDefinition version (some d) (keep stays rows) ≡ accepts bytes (members d) (map nameOf (keep stays (keep isElementRow rows)))
         by empty q e = absurd (List·Memᴰ·not-nil (subst (λ (z : List Row). List·Memᴰ r z) e in-back))
         by pcdata q (s, e, t) = absurd (⊎-elim (λ g. false≢true (sym (ap (λ (z : Row). isElement (z .sort)) g ∙ ap isElement t) ∙ and-split (isElement (r .sort)) (eqb (r .serial) k) here .0)) (λ j. List·Memᴰ·not-nil j) (List·Memᴰ·cases-cons (subst (λ (z : List Row). List·Memᴰ r z) e in-back)))
         by (complex ms) q (s, e) =
             let kept : keep isElementRow rows ≡ x .back = keep-elements ∙ keep-all isElementRow (x .back) (λ t j. ap isElement (s t j)) in
             let sorted : Sorted element (keep stays (x .back)) = λ t j. s t (keep-in stays (x .back) t j) in
-            ap (fitsDefinition (some d)) cut
+            ap (fitsDefinition version (some d)) cut
             ∙ refit (keep stays (x .back)) (elements-head (keep stays (x .back)) sorted)
             ∙ ap (λ (c : Content). fits c (keep stays (x .back))) q
             ∙ ap (λ (a : Bool). a && accepts bytes ms (map nameOf (keep stays (x .back)))) (sorted-is (keep stays (x .back)) .1 sorted)

@@ -125,7 +125,7 @@ module _ (form : Form) (owner : Bytes) where
       (named-more form x y (word-more new n e l j rows (omega arith) (λ s i. p s (List·Memᴰ·tail i))))
 
 -- ---- in a model
-pub named-runs : (w : ℕ) (form : Form) → wellFormed w form ≡ true → (F : IndexForm) → Agrees F form → (i : ℕ) → i < length form → {v : List ℕ} {ns : List Bytes} → Named form v ns → runs (F .model i) 0 v ≡ accepts bytes (members (definitionAt i form)) ns
+pub named-runs : {version : ℕ} (w : ℕ) (form : Form) → wellFormed w form ≡ true → (F : IndexForm) → Agrees version F form → (i : ℕ) → i < length form → {v : List ℕ} {ns : List Bytes} → Named form v ns → runs (F .model i) 0 v ≡ accepts bytes (members (definitionAt i form)) ns
 named-runs w form ok F agrees i l {v} {ns} x =
     runs-accepts (F .model i) v
     ∙ sym (accepted w form ok F agrees i l v (x .below))

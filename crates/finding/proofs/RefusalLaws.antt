@@ -11,18 +11,17 @@ use lib.Dec.{ltb}
 use lib.ListN.{length}
 use Rattle.rules.specs.Bytes.{Bytes}
 use Rattle.rules.specs.Store.{Content, empty, pcdata, complex, Definition, Row}
-use Rattle.rules.specs.Layout.{kindCode, indexOf}
-use Rattle.rules.specs.Decode.{rowCount}
+use Rattle.rules.specs.Layout.{valueWidth, kindCode, indexOf}
+use Rattle.rules.specs.Decode.{definitionCount, rowCount}
 use Rattle.rules.specs.WellFormed.{isValue, lookup}
 use Rattle.rules.specs.Change.{addDocument, setText}
-use Rattle.rules.specs.Refusal.{Condition, _if_, conditions, isPcdata, pcdataElement}
-use Rattle.records.specs.Records.{NumberAt}
+use Rattle.rules.specs.Refusal.{Condition, _if_, conditions, badText, isPcdata, pcdataElement}
+use Rattle.layout.specs.Bodies.{widthOf, WidthIn, Number, definitionsIn, rowsIn}
 use Rattle.rowpass.specs.Reading.{definitionIn}
-use Rattle.validity.specs.Check.{definitionsIn, rowsIn}
 use Rattle.storing.specs.Stores.{storeIn}
 use Rattle.finding.specs.Finding.{ElementAt, ParentAt, RowOf, kindAt, Gives}
 use Rattle.finding.proofs.SuffixLaws.{rowAt}
-use Rattle.finding.proofs.StoreFacts.{formIn, Whole, Element, NoElement, element-there, element-absent, parent-there, defined}
+use Rattle.finding.proofs.StoreFacts.{formIn, width-of-store, Whole, Element, NoElement, element-there, element-absent, parent-there, defined}
 
 pub gives-hit : {n : ℕ} {b : Bool} {cs : List Condition} → b ≡ true → Gives n ((n if b) ∷ cs)
 gives-hit {n} {b} {cs} e = record { is = rw e }
@@ -33,17 +32,20 @@ gives-next {n} {x} {b} {cs} e h = record { is = rw e (h .is) }
 pub gives-none : Gives 0 []
 gives-none = record { is = refl }
 
+-- ---- a value that is given
+module _ (bs t : Bytes) {n : ℕ} {a : Bool} (v : WidthIn bs n) (e : a ≡ isValue n t) where
+  same-text : a ≡ isValue (valueWidth (storeIn bs .version)) t
+  same-text = e ∙ ap (λ (k : ℕ). isValue k t) (v .value ∙ width-of-store bs)
+
+  pub bad-text : not a ≡ true → badText (storeIn bs) t ≡ true
+  bad-text h = ap not (sym same-text) ∙ h
+
+  pub fine-text : not a ≡ false → badText (storeIn bs) t ≡ false
+  fine-text h = ap not (sym same-text) ∙ h
+
 module _ (bs : Bytes) (w : Whole bs) where
-  -- ---- a value that is given
-  module _ (t : Bytes) {a : Bool} (e : a ≡ isValue 32 t) where
-    pub bad-text : not a ≡ true → not (isValue 32 t) ≡ true
-    bad-text h = ap not (sym e) ∙ h
-
-    pub fine-text : not a ≡ false → not (isValue 32 t) ≡ false
-    fine-text h = ap not (sym e) ∙ h
-
   -- ---- an index of a definition
-  module _ {n : ℕ} (e : NumberAt 12 bs n) (i : ℕ) where
+  module _ {n : ℕ} (e : Number (definitionCount bs) n) (i : ℕ) where
     size : n ≡ length (formIn bs)
     size = e .value ∙ w .agrees .size
 
@@ -54,21 +56,21 @@ module _ (bs : Bytes) (w : Whole bs) where
     within-definitions l = ap not (lt-ltb i (length (formIn bs)) (omega (arith, size)))
 
   -- ---- 11
-  module _ {a : Bool} (t : Bytes) (i : ℕ) (e : a ≡ isValue 32 t) where
+  module _ {n : ℕ} {a : Bool} (t : Bytes) (i : ℕ) (v : WidthIn bs n) (e : a ≡ isValue n t) where
     pub document-3 : not a ≡ true → Gives 3 (conditions (addDocument i t) (storeIn bs))
     unfolding conditions
-    document-3 h = gives-hit (bad-text t e h)
+    document-3 h = gives-hit (bad-text bs t v e h)
 
-    pub document-6 : not a ≡ false → {n : ℕ} → NumberAt 12 bs n → n ≤ i → Gives 6 (conditions (addDocument i t) (storeIn bs))
+    pub document-6 : not a ≡ false → {m : ℕ} → Number (definitionCount bs) m → m ≤ i → Gives 6 (conditions (addDocument i t) (storeIn bs))
     unfolding conditions
-    document-6 h u l = gives-next (fine-text t e h) (gives-hit (past-definitions u i l))
+    document-6 h u l = gives-next (fine-text bs t v e h) (gives-hit (past-definitions u i l))
 
-    pub document-0 : not a ≡ false → {n : ℕ} → NumberAt 12 bs n → i < n → Gives 0 (conditions (addDocument i t) (storeIn bs))
+    pub document-0 : not a ≡ false → {m : ℕ} → Number (definitionCount bs) m → i < m → Gives 0 (conditions (addDocument i t) (storeIn bs))
     unfolding conditions
-    document-0 h u l = gives-next (fine-text t e h) (gives-next (within-definitions u i l) gives-none)
+    document-0 h u l = gives-next (fine-text bs t v e h) (gives-next (within-definitions u i l) gives-none)
 
   -- ---- the element
-  module _ {k i : ℕ} (f : ElementAt bs k i) {n : ℕ} (e : NumberAt 36 bs n) where
+  module _ {k i : ℕ} (f : ElementAt bs k i) {n : ℕ} (e : Number (rowCount bs) n) where
     pub seen : i < n → Element bs k i
     seen l = element-there bs w k i (f .begins) (omega (arith, e .value))
 
@@ -76,7 +78,7 @@ module _ (bs : Bytes) (w : Whole bs) where
     unseen l = element-absent bs w k i (f .begins) (omega (arith, e .value))
 
   -- its definition
-  pub kind-limit : {k i : ℕ} → Element bs k i → rowAt (rowsIn bs) i .row .index ≤ 64
+  pub kind-limit : {k i : ℕ} → Element bs k i → rowAt (widthOf bs) (rowsIn bs) i .row .index ≤ 64
   kind-limit {k} {i} e = let d = defined bs w k i e in omega (arith, d .index, d .below, w .agrees .size, w .fewDefinitions)
 
   pub row-of : {k i : ℕ} → ElementAt bs k i → i < rowCount bs → RowOf bs i
@@ -114,20 +116,21 @@ module _ (bs : Bytes) (w : Whole bs) where
       by (complex ms) q h = rw q
 
   -- ---- 16
-  module _ {a : Bool} (t : Bytes) (k : ℕ) (e : a ≡ isValue 32 t) where
+  module _ {n : ℕ} {a : Bool} (t : Bytes) (k : ℕ) (v : WidthIn bs n) (e : a ≡ isValue n t) where
     pub text-3 : not a ≡ true → Gives 3 (conditions (setText k t) (storeIn bs))
     unfolding conditions
-    text-3 h = gives-hit (bad-text t e h)
+    text-3 h = gives-hit (bad-text bs t v e h)
 
     pub text-7 : not a ≡ false → NoElement bs k → Gives 7 (conditions (setText k t) (storeIn bs))
     unfolding conditions
-    text-7 h f = gives-next (fine-text t e h) (gives-hit (f .there))
+    text-7 h f = gives-next (fine-text bs t v e h) (gives-hit (f .there))
 
     module _ (h : not a ≡ false) {i : ℕ} (x : Element bs k i) {c : ℕ} (kind : c ≡ kindAt bs i) where
       pub text-9 : (c ≡ 1 → ⊥) → Gives 9 (conditions (setText k t) (storeIn bs))
       unfolding conditions
-      text-9 f = gives-next (fine-text t e h) (gives-next (x .there) (gives-hit (ap not (pcdata-is x ∙ other-code (defined bs w k i x .definition) (λ z. f (kind ∙ kind-is x ∙ z))))))
+      text-9 f = gives-next (fine-text bs t v e h) (gives-next (x .there) (gives-hit (ap not (pcdata-is x ∙ other-code (defined bs w k i x .definition) (λ z. f (kind ∙ kind-is x ∙ z))))))
 
       pub text-0 : c ≡ 1 → Gives 0 (conditions (setText k t) (storeIn bs))
       unfolding conditions
-      text-0 f = gives-next (fine-text t e h) (gives-next (x .there) (gives-next (ap not (pcdata-is x ∙ pcdata-code (defined bs w k i x .definition) (sym (kind-is x) ∙ sym kind ∙ f))) gives-none))
+      text-0 f =
+          gives-next (fine-text bs t v e h) (gives-next (x .there) (gives-next (ap not (pcdata-is x ∙ pcdata-code (defined bs w k i x .definition) (sym (kind-is x) ∙ sym kind ∙ f))) gives-none))

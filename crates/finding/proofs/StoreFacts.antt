@@ -2,6 +2,7 @@
 -- Assumes nothing.
 use Prim.Native.Nat.{ℕ, suc, _+_, _<_, _≤_}
 use native.Mathlib.Omega.{arith}
+use borrow.Author.Tests.{le-leb, not-false}
 use mathlib.Core.Path.{_≡_, refl, sym, ap, ap₂, _∙_, subst}
 use mathlib.Core.Logic.{_⊎_, inl, inr, ⊎-elim}
 use mathlib.Core.Bool.{Bool, true, false, _&&_, _||_, not, false≢true}
@@ -12,14 +13,14 @@ use lib.ListN.{length}
 use Rattle.rules.specs.Bytes.{Bytes, any, eqb-eq, eqb-of}
 use Rattle.rules.specs.Store.{Definition, Form, RowSort, element, attribute, text, Row, Forest, heads}
 use Rattle.rules.specs.Preorder.{Deep, flatten}
-use Rattle.rules.specs.Layout.{FlatRow, FlatStore, rowCode, rowIndex, indexed, indexOf}
-use Rattle.rules.specs.Decode.{readRow, definitionCount, attributeCount, rowCount}
-use Rattle.rules.specs.WellFormed.{lookup, isThere}
+use Rattle.rules.specs.Layout.{valueWidth, rowSize, FlatRow, FlatStore, rowCode, rowIndex, indexed, indexOf}
+use Rattle.rules.specs.Decode.{numberAt, readRow, definitionCount, attributeCount, rowCount}
+use Rattle.rules.specs.WellFormed.{isValue, lookup, isThere}
 use Rattle.rules.specs.Conforming.{isElement, isText, ElementRows, RowConforms}
 use Rattle.rules.specs.Change.{definitionAt}
 use Rattle.rules.specs.Passing.{Good, passes}
 use Rattle.rules.specs.Lines.{Line, lines, elementWith, findRow, childrenOf}
-use Rattle.rules.specs.Refusal.{rowsOf, noElement}
+use Rattle.rules.specs.Refusal.{badText, rowsOf, noElement}
 use Rattle.rules.proofs.Words.{or-cases, and-both, and-split}
 use Rattle.rules.proofs.BooleanLaws.{any-in}
 use Rattle.rules.proofs.LayoutLaws.{Small}
@@ -32,13 +33,11 @@ use Rattle.history.proofs.Untouched.{keep-alike}
 use Rattle.history.proofs.StandingLaws as standing
 use Rattle.history.proofs.StandingLaws.{serialOf, standing-every, standing-line, found-stands, one-row}
 use Rattle.lookup.specs.Bodies.{bodiesOf}
-use Rattle.layout.specs.Bodies.{widthOf}
+use Rattle.layout.specs.Bodies.{widthOf, definitionsIn, particlesIn, attributesIn, rowsIn}
 use Rattle.lookup.proofs.Laws.{from-step, from-none, from-all}
 use Rattle.rowpass.specs.Indices.{IndexForm}
-use Rattle.records.specs.Records.{baseWidth}
 use Rattle.rowpass.specs.Reading.{indexForm}
 use Rattle.validity.specs.Reading.{Agrees}
-use Rattle.validity.specs.Check.{definitionsIn, particlesIn, attributesIn, rowsIn}
 use Rattle.validity.proofs.IndexLaws.{Indexed, known-index}
 use Rattle.validity.proofs.AttributeBlocks.{below-or}
 use Rattle.validity.proofs.AttributeRows.{rowWritten}
@@ -59,40 +58,61 @@ docsIn bs = storeIn bs .docs
 
 -- the form by index that the bytes say
 abbrev pub byIndex : Bytes → IndexForm
-byIndex bs = indexForm baseWidth (definitionCount bs) (definitionsIn bs) (particlesIn bs) (attributesIn bs) (attributeCount bs)
+byIndex bs = indexForm (numberAt 0 4 bs) (widthOf bs) (definitionCount bs) (definitionsIn bs) (particlesIn bs) (attributesIn bs) (attributeCount bs)
+
+-- the width that the string says is the one of its store's version
+pub width-of-store : (bs : Bytes) → widthOf bs ≡ valueWidth (storeIn bs .version)
+unfolding storeIn bodiesOf widthOf
+width-of-store bs = refl
+
+-- a text that the change does not refuse is a value of the string's width
+pub value-given : (bs t : Bytes) → badText (storeIn bs) t ≡ false → isValue (widthOf bs) t ≡ true
+value-given bs t e = ap (λ (n : ℕ). isValue n t) (width-of-store bs) ∙ not-false (isValue (valueWidth (storeIn bs .version)) t) e
+
+-- none is one
+pub no-value : (bs : Bytes) → isValue (widthOf bs) [] ≡ true
+no-value bs = and-both (le-leb 0 (widthOf bs) (omega arith)) refl
 
 pub record Whole (bs : Bytes) : Type 0 where
   pub holds : Holds bs
   pub good : Good (storeIn bs)
-  pub rows : rowsFrom (rowsIn bs) (rowCount bs) 0 ≡ flatten 0 (indexed (formIn bs) [] (docsIn bs))
+  pub rows : rowsFrom (widthOf bs) (rowsIn bs) (rowCount bs) 0 ≡ flatten 0 (indexed (formIn bs) [] (docsIn bs))
   pub few : rowCount bs ≤ 4096
   pub fewDefinitions : definitionCount bs ≤ 64
   pub fewAttributes : attributeCount bs ≤ 64
-  pub agrees : Agrees (byIndex bs) (formIn bs)
+  pub agrees : Agrees (storeIn bs .version) (byIndex bs) (formIn bs)
 
 pub whole : (bs : Bytes) → passes bs ≡ true → Whole bs
 unfolding storeIn bodiesOf widthOf
 whole bs q =
     let h : Holds bs = holds bs q in
     let d : Headed bs = record { small = subst Small (h .written) (encode-small (storeIn bs) (h .good)); header = passes-header bs q } in
-    let form = passes-in d (byIndex bs) (λ x. index-agrees (laid-in d) (x .passes)) .0 q .0 in
+    let form = passes-in d (byIndex bs) (λ x. index-agrees (laid-in d) (x .passes) (numberAt 0 4 bs)) .0 q .0 in
     record {
       holds = h;
       good = good-is (storeIn bs) .0 (h .good);
-      rows = from-all readRow 44 (rowsIn bs) (rowCount bs) 0 ∙ sym (same-rows d) ∙ ap (λ (f : FlatStore). f .rows) (h .bodies);
+      rows = from-all readRow (rowSize (widthOf bs)) (rowsIn bs) (rowCount bs) 0 ∙ sym (same-rows d) ∙ ap (λ (f : FlatStore). f .rows) (h .bodies);
       few = header d .fewRows;
       fewDefinitions = header d .fewDefinitions;
       fewAttributes = header d .fewAttributes;
-      agrees = subst (λ (z : Form). Agrees (byIndex bs) z) (sym (same-form d)) (index-agrees (laid-in d) (form .passes));
+      agrees = subst (λ (z : Form). Agrees (storeIn bs .version) (byIndex bs) z) (sym (same-form d)) (index-agrees (laid-in d) (form .passes) (numberAt 0 4 bs));
     }
 
-pub element-at-is : (bs : Bytes) → Whole bs → (k : ℕ) {rows : Bytes} {count r : ℕ} → rows ≡ rowsIn bs → count ≡ rowCount bs → Begins rows count r (seek (isThis k) (rowsFrom rows count 0)) → ElementAt bs k r
-element-at-is bs w k {rows} {count} {r} e g b =
-    record { begins = subst (λ (n : ℕ). Begins (rowsIn bs) n r (seek (isThis k) (rowsFrom (rowsIn bs) n 0))) g (subst (λ (z : Bytes). Begins z count r (seek (isThis k) (rowsFrom z count 0))) e b); few = w .few }
+-- rows that a reader cut out are those of the string
+begins-in : (bs : Bytes) (p : Test) {n : ℕ} {rows : Bytes} {count r : ℕ} → n ≡ widthOf bs → rows ≡ rowsIn bs → count ≡ rowCount bs → Begins n rows count r (seek p (rowsFrom n rows count 0))
+    → Begins (widthOf bs) (rowsIn bs) (rowCount bs) r (seek p (rowsFrom (widthOf bs) (rowsIn bs) (rowCount bs) 0))
+begins-in bs p {r = r} v e g b =
+    record { from = sym (λ i. rowsFrom (v i) (e i) (g i) r) ∙ b .from ∙ (λ i. seek p (rowsFrom (v i) (e i) (g i) 0)); within = omega (arith, b .within, g) }
 
-pub parent-at-is : (bs : Bytes) → Whole bs → (k : ℕ) {rows : Bytes} {count r : ℕ} → rows ≡ rowsIn bs → count ≡ rowCount bs → Begins rows count r (seek (isParent k) (rowsFrom rows count 0)) → ParentAt bs k r
-parent-at-is bs w k {rows} {count} {r} e g b =
-    record { begins = subst (λ (n : ℕ). Begins (rowsIn bs) n r (seek (isParent k) (rowsFrom (rowsIn bs) n 0))) g (subst (λ (z : Bytes). Begins z count r (seek (isParent k) (rowsFrom z count 0))) e b); few = w .few }
+pub element-at-is : (bs : Bytes) → Whole bs → (k : ℕ) {n : ℕ} {rows : Bytes} {count r : ℕ} → n ≡ widthOf bs → rows ≡ rowsIn bs → count ≡ rowCount bs
+    → Begins n rows count r (seek (isThis k) (rowsFrom n rows count 0)) → ElementAt bs k r
+element-at-is bs w k v e g b =
+    record { begins = begins-in bs (isThis k) v e g b; few = w .few }
+
+pub parent-at-is : (bs : Bytes) → Whole bs → (k : ℕ) {n : ℕ} {rows : Bytes} {count r : ℕ} → n ≡ widthOf bs → rows ≡ rowsIn bs → count ≡ rowCount bs
+    → Begins n rows count r (seek (isParent k) (rowsFrom n rows count 0)) → ParentAt bs k r
+parent-at-is bs w k v e g b =
+    record { begins = begins-in bs (isParent k) v e g b; few = w .few }
 
 -- ---- lines
 pub any-found : (test : Row → Bool) (ls : List Line) → any (λ (l : Line). test (l .row)) ls ≡ isThere (findRow test ls)
@@ -129,8 +149,8 @@ pub record Element (bs : Bytes) (k i : ℕ) : Type 0 where
   pub serial : row .serial ≡ k
   pub found : findRow (elementWith k) (rowsOf (storeIn bs)) ≡ some row
   pub there : noElement k (storeIn bs) ≡ false
-  pub here : rowAt (rowsIn bs) i ≡ record { depth = depth; row = rowWritten (formIn bs) owner row }
-  pub children-are : (s : ℕ) → children s (suc depth) (rowsFrom (rowsIn bs) (rowCount bs) (i + 1)) ≡ map (rowWritten (formIn bs) (row .name)) (keep (ofSort (formIn bs) s) (heads below))
+  pub here : rowAt (widthOf bs) (rowsIn bs) i ≡ record { depth = depth; row = rowWritten (formIn bs) owner row }
+  pub children-are : (s : ℕ) → children s (suc depth) (rowsFrom (widthOf bs) (rowsIn bs) (rowCount bs) (i + 1)) ≡ map (rowWritten (formIn bs) (row .name)) (keep (ofSort (formIn bs) s) (heads below))
 
 pub record NoElement (bs : Bytes) (k : ℕ) : Type 0 where
   pub found : findRow (elementWith k) (rowsOf (storeIn bs)) ≡ none
@@ -157,21 +177,23 @@ not-nil e = let z : false ≡ true = cc e in false≢true z
 
 module _ (bs : Bytes) (w : Whole bs) where
   -- rows that begin with a row that stands
-  module _ (i : ℕ) {xs : List (Deep FlatRow)} (b : Begins (rowsIn bs) (rowCount bs) i xs) (l : Located (formIn bs) (docsIn bs) xs) where
+  module _ (i : ℕ) {xs : List (Deep FlatRow)} (b : Begins (widthOf bs) (rowsIn bs) (rowCount bs) i xs) (l : Located (formIn bs) (docsIn bs) xs) where
     pub located-below : i < rowCount bs
     located-below = by (below-or i (rowCount bs))
       where
         by : (i < rowCount bs) ⊎ (rowCount bs ≤ i) → i < rowCount bs
         by (inl h) = h
-        by (inr h) = absurd (not-nil (sym (from-none readRow 44 (rowsIn bs) (rowCount bs) i h) ∙ b .from ∙ l .rows))
+        by (inr h) = absurd (not-nil (sym (from-none readRow (rowSize (widthOf bs)) (rowsIn bs) (rowCount bs) i h) ∙ b .from ∙ l .rows))
 
-    located-step : rowAt (rowsIn bs) i ∷ rowsFrom (rowsIn bs) (rowCount bs) (i + 1) ≡ record { depth = l .depth; row = rowWritten (formIn bs) (l .owner) (l .row) } ∷ (flatten (suc (l .depth)) (indexed (formIn bs) (l .row .name) (l .below)) ++ l .rest)
-    located-step = sym (from-step readRow 44 (rowsIn bs) (rowCount bs) i located-below) ∙ b .from ∙ l .rows
+    located-step : rowAt (widthOf bs) (rowsIn bs) i ∷ rowsFrom (widthOf bs) (rowsIn bs) (rowCount bs) (i + 1)
+        ≡ record { depth = l .depth; row = rowWritten (formIn bs) (l .owner) (l .row) } ∷ (flatten (suc (l .depth)) (indexed (formIn bs) (l .row .name) (l .below)) ++ l .rest)
+    located-step = sym (from-step readRow (rowSize (widthOf bs)) (rowsIn bs) (rowCount bs) i located-below) ∙ b .from ∙ l .rows
 
-    pub located-here : rowAt (rowsIn bs) i ≡ record { depth = l .depth; row = rowWritten (formIn bs) (l .owner) (l .row) }
+    pub located-here : rowAt (widthOf bs) (rowsIn bs) i ≡ record { depth = l .depth; row = rowWritten (formIn bs) (l .owner) (l .row) }
     located-here = first-same located-step
 
-    pub located-next : (s : ℕ) → children s (suc (l .depth)) (rowsFrom (rowsIn bs) (rowCount bs) (i + 1)) ≡ map (rowWritten (formIn bs) (l .row .name)) (keep (ofSort (formIn bs) s) (heads (l .below)))
+    pub located-next : (s : ℕ) → children s (suc (l .depth)) (rowsFrom (widthOf bs) (rowsIn bs) (rowCount bs) (i + 1))
+        ≡ map (rowWritten (formIn bs) (l .row .name)) (keep (ofSort (formIn bs) s) (heads (l .below)))
     located-next s = ap (children s (suc (l .depth))) (rest-same located-step) ∙ located-children (formIn bs) l s
 
     -- an element row is the one with its serial
@@ -200,28 +222,29 @@ module _ (bs : Bytes) (w : Whole bs) where
     abbrev Sought : List (Deep FlatRow) → Type 0
     Sought zs = ((l : Located (formIn bs) (docsIn bs) zs) × (q (l .row) (heads (l .below)) ≡ true)) ⊎ (((r : Row) (c : Forest Row) → Standing (docsIn bs) r c → q r (heads c) ≡ false) × (zs ≡ []))
 
-    sought : Sought (seek p (rowsFrom (rowsIn bs) (rowCount bs) 0))
+    sought : Sought (seek p (rowsFrom (widthOf bs) (rowsIn bs) (rowCount bs) 0))
     unfolding seek
     sought =
         subst (λ (zs : List (Deep FlatRow)). Sought (seek p zs)) (append-nil (flatten 0 (indexed (formIn bs) [] (docsIn bs))) ∙ sym (w .rows))
         (seek-tree (formIn bs) p q same 0 [] (docsIn bs) [] tt)
 
-    module _ (i : ℕ) (b : Begins (rowsIn bs) (rowCount bs) i (seek p (rowsFrom (rowsIn bs) (rowCount bs) 0))) where
-      sought-there : i < rowCount bs → (l : Located (formIn bs) (docsIn bs) (seek p (rowsFrom (rowsIn bs) (rowCount bs) 0))) × (q (l .row) (heads (l .below)) ≡ true)
+    module _ (i : ℕ) (b : Begins (widthOf bs) (rowsIn bs) (rowCount bs) i (seek p (rowsFrom (widthOf bs) (rowsIn bs) (rowCount bs) 0))) where
+      sought-there : i < rowCount bs → (l : Located (formIn bs) (docsIn bs) (seek p (rowsFrom (widthOf bs) (rowsIn bs) (rowCount bs) 0))) × (q (l .row) (heads (l .below)) ≡ true)
       sought-there h = by sought
         where
-          by : Sought (seek p (rowsFrom (rowsIn bs) (rowCount bs) 0)) → (l : Located (formIn bs) (docsIn bs) (seek p (rowsFrom (rowsIn bs) (rowCount bs) 0))) × (q (l .row) (heads (l .below)) ≡ true)
+          by : Sought (seek p (rowsFrom (widthOf bs) (rowsIn bs) (rowCount bs) 0))
+              → (l : Located (formIn bs) (docsIn bs) (seek p (rowsFrom (widthOf bs) (rowsIn bs) (rowCount bs) 0))) × (q (l .row) (heads (l .below)) ≡ true)
           by (inl x) = x
-          by (inr (f, e)) = absurd (not-nil (sym e ∙ sym (b .from) ∙ from-step readRow 44 (rowsIn bs) (rowCount bs) i h))
+          by (inr (f, e)) = absurd (not-nil (sym e ∙ sym (b .from) ∙ from-step readRow (rowSize (widthOf bs)) (rowsIn bs) (rowCount bs) i h))
 
       sought-none : rowCount bs ≤ i → (r : Row) (c : Forest Row) → Standing (docsIn bs) r c → q r (heads c) ≡ false
       sought-none h = by sought
         where
-          by : Sought (seek p (rowsFrom (rowsIn bs) (rowCount bs) 0)) → (r : Row) (c : Forest Row) → Standing (docsIn bs) r c → q r (heads c) ≡ false
+          by : Sought (seek p (rowsFrom (widthOf bs) (rowsIn bs) (rowCount bs) 0)) → (r : Row) (c : Forest Row) → Standing (docsIn bs) r c → q r (heads c) ≡ false
           by (inl (l, e)) = let z : i < rowCount bs = located-below i b l in absurd (omega arith)
           by (inr (f, e)) = f
 
-  module _ (k i : ℕ) (b : Begins (rowsIn bs) (rowCount bs) i (seek (isThis k) (rowsFrom (rowsIn bs) (rowCount bs) 0))) where
+  module _ (k i : ℕ) (b : Begins (widthOf bs) (rowsIn bs) (rowCount bs) i (seek (isThis k) (rowsFrom (widthOf bs) (rowsIn bs) (rowCount bs) 0))) where
     element-test : (owner : Bytes) (r : Row) (rows : List Row) → elementRow k (rowWritten (formIn bs) owner r) ≡ elementWith k r
     element-test owner r rows = ap (λ (z : Bool). z && eqb (r .serial) k) (code-element (r .sort))
 
@@ -240,7 +263,7 @@ module _ (bs : Bytes) (w : Whole bs) where
   module _ (k i : ℕ) (e : Element bs k i) where
     pub children-at : (s : ℕ) → childrenAt bs s i ≡ map (rowWritten (formIn bs) (e .row .name)) (keep (ofSort (formIn bs) s) (heads (e .below)))
     unfolding childrenAt
-    children-at s = ap (λ (z : Deep FlatRow). children s (suc (z .depth)) (rowsFrom (rowsIn bs) (rowCount bs) (i + 1))) (e .here) ∙ e .children-are s
+    children-at s = ap (λ (z : Deep FlatRow). children s (suc (z .depth)) (rowsFrom (widthOf bs) (rowsIn bs) (rowCount bs) (i + 1))) (e .here) ∙ e .children-are s
 
     pub elements-at : childrenAt bs 1 i ≡ map (rowWritten (formIn bs) (e .row .name)) (keep (λ r. isElement (r .sort)) (heads (e .below)))
     elements-at = children-at 1 ∙ ap (map (rowWritten (formIn bs) (e .row .name))) (keep-alike (ofSort (formIn bs) 1) (λ r. isElement (r .sort)) (λ r. code-element (r .sort)) (heads (e .below)))
@@ -269,7 +292,7 @@ module _ (bs : Bytes) (w : Whole bs) where
     pub among : List·Memᴰ child (heads (parent .below))
     pub here : elementWith k child ≡ true
 
-  module _ (k i : ℕ) (b : Begins (rowsIn bs) (rowCount bs) i (seek (isParent k) (rowsFrom (rowsIn bs) (rowCount bs) 0))) where
+  module _ (k i : ℕ) (b : Begins (widthOf bs) (rowsIn bs) (rowCount bs) i (seek (isParent k) (rowsFrom (widthOf bs) (rowsIn bs) (rowCount bs) 0))) where
     parent-test : (owner : Bytes) (r : Row) (rows : List Row) → any (elementRow k) (map (rowWritten (formIn bs) (r .name)) (keep (ofSort (formIn bs) 1) rows)) ≡ any (elementWith k) rows
     unfolding keep
     parent-test owner r [] = refl
@@ -299,9 +322,9 @@ module _ (bs : Bytes) (w : Whole bs) where
         record { serial = l .row .serial; parent = located-element i b l (holder (l .row) (l .below) (l .stands) y m); child = y; among = m; here = g }
       where
         holder : (r : Row) (c : Forest Row) → Standing (docsIn bs) r c → (y : Row) → List·Memᴰ y (heads c) → isElement (r .sort) ≡ true
-        holder r c j y m = by (r .sort) (standing-every (λ r below. RowConforms (formIn bs) r below) (docsIn bs) (w .good .docs .rows) r c j)
+        holder r c j y m = by (r .sort) (standing-every (λ r below. RowConforms (storeIn bs .version) (formIn bs) r below) (docsIn bs) (w .good .docs .rows) r c j)
           where
-            by : (s : RowSort) → elim s as (λ z. Type 0) [ element ↦ (d : Definition) × (lookup (r .name) (formIn bs) ≡ some d) × ElementRows d (heads c) | attribute ↦ heads c ≡ [] | text ↦ heads c ≡ [] ] → isElement s ≡ true
+            by : (s : RowSort) → elim s as (λ z. Type 0) [ element ↦ (d : Definition) × (lookup (r .name) (formIn bs) ≡ some d) × ElementRows (storeIn bs .version) d (heads c) | attribute ↦ heads c ≡ [] | text ↦ heads c ≡ [] ] → isElement s ≡ true
             by element x = refl
             by attribute x = absurd (List·Memᴰ·not-nil (subst (λ (z : List Row). List·Memᴰ y z) x m))
             by text x = absurd (List·Memᴰ·not-nil (subst (λ (z : List Row). List·Memᴰ y z) x m))
@@ -313,8 +336,8 @@ module _ (bs : Bytes) (w : Whole bs) where
   pub record Defined (k i : ℕ) (e : Element bs k i) : Type 0 where
     pub definition : Definition
     pub found : lookup (e .row .name) (formIn bs) ≡ some definition
-    pub fits : ElementRows definition (heads (e .below))
-    pub index : rowAt (rowsIn bs) i .row .index ≡ indexOf (e .row .name) (formIn bs)
+    pub fits : ElementRows (storeIn bs .version) definition (heads (e .below))
+    pub index : rowAt (widthOf bs) (rowsIn bs) i .row .index ≡ indexOf (e .row .name) (formIn bs)
     pub below : indexOf (e .row .name) (formIn bs) < length (formIn bs)
     pub at : definitionAt (indexOf (e .row .name) (formIn bs)) (formIn bs) ≡ definition
 
@@ -323,7 +346,7 @@ module _ (bs : Bytes) (w : Whole bs) where
 
   pub defined : (k i : ℕ) (e : Element bs k i) → Defined k i e
   defined k i e =
-      let (d, g, x) = conforms (e .row) (heads (e .below)) (e .sort) (standing-every (λ r below. RowConforms (formIn bs) r below) (docsIn bs) (w .good .docs .rows) (e .row) (e .below) (e .stands)) in
+      let (d, g, x) = conforms (e .row) (heads (e .below)) (e .sort) (standing-every (λ r below. RowConforms (storeIn bs .version) (formIn bs) r below) (docsIn bs) (w .good .docs .rows) (e .row) (e .below) (e .stands)) in
       let n : Indexed (formIn bs) (e .row .name) = known-index (formIn bs) (e .row .name) (ap isThere g) in
       record {
         definition = d;
@@ -334,7 +357,7 @@ module _ (bs : Bytes) (w : Whole bs) where
         at = some-same (sym (n .found) ∙ g);
       }
     where
-      conforms : (r : Row) (rows : List Row) → r .sort ≡ element → RowConforms (formIn bs) r rows → (d : Definition) × (lookup (r .name) (formIn bs) ≡ some d) × ElementRows d rows
+      conforms : (r : Row) (rows : List Row) → r .sort ≡ element → RowConforms (storeIn bs .version) (formIn bs) r rows → (d : Definition) × (lookup (r .name) (formIn bs) ≡ some d) × ElementRows (storeIn bs .version) d rows
       conforms r rows q x = rw q at x
 
       row-index : (r : Row) (owner : Bytes) → r .sort ≡ element → rowIndex (formIn bs) owner r ≡ indexOf (r .name) (formIn bs)

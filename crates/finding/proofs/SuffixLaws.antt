@@ -9,14 +9,14 @@ use mathlib.Core.List.{List, [], _∷_}
 use lib.Dec.{eqb, ltb}
 use Rattle.rules.specs.Bytes.{Bytes}
 use Rattle.rules.specs.Preorder.{Deep}
-use Rattle.rules.specs.Layout.{FlatRow}
+use Rattle.rules.specs.Layout.{rowSize, FlatRow}
 use Rattle.rules.specs.Decode.{readRow}
 use Rattle.layout.specs.Bodies.{recordAt}
 use Rattle.lookup.proofs.Laws.{from-step, from-none}
 use Rattle.finding.specs.Finding.{rowsFrom, Begins, next, children, Child, Test, seek}
 
-abbrev pub rowAt : Bytes → ℕ → Deep FlatRow
-rowAt rows i = readRow (recordAt 44 i rows)
+abbrev pub rowAt : ℕ → Bytes → ℕ → Deep FlatRow
+rowAt w rows i = readRow (recordAt (rowSize w) i rows)
 
 -- ---- the row that passes a test
 seek-this : (p : Test) (x : Deep FlatRow) (xs : List (Deep FlatRow)) → p (x .row) (children 1 (suc (x .depth)) xs) ≡ true → seek p (x ∷ xs) ≡ x ∷ xs
@@ -32,32 +32,32 @@ unfolding seek
 seek-nil p = refl
 
 -- what is left to look through gives the same rows
-pub record Seeking (p : Test) (rows : Bytes) (count i : ℕ) : Type 0 where
-  pub rest : seek p (rowsFrom rows count i) ≡ seek p (rowsFrom rows count 0)
+pub record Seeking (w : ℕ) (p : Test) (rows : Bytes) (count i : ℕ) : Type 0 where
+  pub rest : seek p (rowsFrom w rows count i) ≡ seek p (rowsFrom w rows count 0)
   pub within : i ≤ count
 
-pub seek-start : {p : Test} {rows : Bytes} {count : ℕ} → Seeking p rows count 0
+pub seek-start : {w : ℕ} {p : Test} {rows : Bytes} {count : ℕ} → Seeking w p rows count 0
 seek-start = record { rest = refl; within = omega arith }
 
-module _ (p : Test) (rows : Bytes) (count i : ℕ) (s : Seeking p rows count i) where
-  pub seek-past : i < count → p (rowAt rows i .row) (children 1 (suc (rowAt rows i .depth)) (rowsFrom rows count (i + 1))) ≡ false → Seeking p rows count (i + 1)
+module _ (w : ℕ) (p : Test) (rows : Bytes) (count i : ℕ) (s : Seeking w p rows count i) where
+  pub seek-past : i < count → p (rowAt w rows i .row) (children 1 (suc (rowAt w rows i .depth)) (rowsFrom w rows count (i + 1))) ≡ false → Seeking w p rows count (i + 1)
   seek-past h e =
-      record { rest = sym (seek-other p (rowAt rows i) (rowsFrom rows count (i + 1)) e) ∙ sym (ap (seek p) (from-step readRow 44 rows count i h)) ∙ s .rest; within = omega arith }
+      record { rest = sym (seek-other p (rowAt w rows i) (rowsFrom w rows count (i + 1)) e) ∙ sym (ap (seek p) (from-step readRow (rowSize w) rows count i h)) ∙ s .rest; within = omega arith }
 
-  pub seek-hit : i < count → p (rowAt rows i .row) (children 1 (suc (rowAt rows i .depth)) (rowsFrom rows count (i + 1))) ≡ true → Begins rows count i (seek p (rowsFrom rows count 0))
+  pub seek-hit : i < count → p (rowAt w rows i .row) (children 1 (suc (rowAt w rows i .depth)) (rowsFrom w rows count (i + 1))) ≡ true → Begins w rows count i (seek p (rowsFrom w rows count 0))
   seek-hit h e =
       record {
-        from = from-step readRow 44 rows count i h
-            ∙ sym (seek-this p (rowAt rows i) (rowsFrom rows count (i + 1)) e)
-            ∙ sym (ap (seek p) (from-step readRow 44 rows count i h))
+        from = from-step readRow (rowSize w) rows count i h
+            ∙ sym (seek-this p (rowAt w rows i) (rowsFrom w rows count (i + 1)) e)
+            ∙ sym (ap (seek p) (from-step readRow (rowSize w) rows count i h))
             ∙ s .rest;
         within = s .within;
       }
 
-  pub seek-none : count ≤ i → Begins rows count count (seek p (rowsFrom rows count 0))
+  pub seek-none : count ≤ i → Begins w rows count count (seek p (rowsFrom w rows count 0))
   seek-none h =
       record {
-        from = from-none readRow 44 rows count count (omega arith) ∙ sym (seek-nil p) ∙ sym (ap (seek p) (from-none readRow 44 rows count i h)) ∙ s .rest;
+        from = from-none readRow (rowSize w) rows count count (omega arith) ∙ sym (seek-nil p) ∙ sym (ap (seek p) (from-none readRow (rowSize w) rows count i h)) ∙ s .rest;
         within = omega arith;
       }
 
@@ -79,41 +79,45 @@ next-nil : (s d : ℕ) → next s d [] ≡ []
 unfolding next
 next-nil s d = refl
 
-pub record Stepping (s d : ℕ) (rows : Bytes) (count start i : ℕ) : Type 0 where
-  pub rest : next s d (rowsFrom rows count i) ≡ next s d (rowsFrom rows count start)
+pub record Stepping (w s d : ℕ) (rows : Bytes) (count start i : ℕ) : Type 0 where
+  pub rest : next s d (rowsFrom w rows count i) ≡ next s d (rowsFrom w rows count start)
   pub onward : start ≤ i
 
-pub step-start : {s d : ℕ} {rows : Bytes} {count start : ℕ} → Stepping s d rows count start start
+pub step-start : {w s d : ℕ} {rows : Bytes} {count start : ℕ} → Stepping w s d rows count start start
 step-start = record { rest = refl; onward = omega arith }
 
-module _ (s d : ℕ) (rows : Bytes) (count start i : ℕ) (t : Stepping s d rows count start i) where
-  pub step-past : i < count → d ≤ rowAt rows i .depth → (eqb (rowAt rows i .depth) d && eqb (rowAt rows i .row .sort) s) ≡ false → Stepping s d rows count start (i + 1)
-  step-past h l e = record { rest = sym (next-other s d (rowAt rows i) (rowsFrom rows count (i + 1)) l e) ∙ sym (ap (next s d) (from-step readRow 44 rows count i h)) ∙ t .rest; onward = omega (arith, t .onward) }
+module _ (w s d : ℕ) (rows : Bytes) (count start i : ℕ) (t : Stepping w s d rows count start i) where
+  pub step-past : i < count → d ≤ rowAt w rows i .depth → (eqb (rowAt w rows i .depth) d && eqb (rowAt w rows i .row .sort) s) ≡ false → Stepping w s d rows count start (i + 1)
+  step-past h l e =
+      record {
+        rest = sym (next-other s d (rowAt w rows i) (rowsFrom w rows count (i + 1)) l e) ∙ sym (ap (next s d) (from-step readRow (rowSize w) rows count i h)) ∙ t .rest;
+        onward = omega (arith, t .onward);
+      }
 
-  pub step-hit : i < count → d ≤ rowAt rows i .depth → (eqb (rowAt rows i .depth) d && eqb (rowAt rows i .row .sort) s) ≡ true → Begins rows count i (next s d (rowsFrom rows count start))
+  pub step-hit : i < count → d ≤ rowAt w rows i .depth → (eqb (rowAt w rows i .depth) d && eqb (rowAt w rows i .row .sort) s) ≡ true → Begins w rows count i (next s d (rowsFrom w rows count start))
   step-hit h l e =
       record {
-        from = from-step readRow 44 rows count i h
-            ∙ sym (next-this s d (rowAt rows i) (rowsFrom rows count (i + 1)) l e)
-            ∙ sym (ap (next s d) (from-step readRow 44 rows count i h))
+        from = from-step readRow (rowSize w) rows count i h
+            ∙ sym (next-this s d (rowAt w rows i) (rowsFrom w rows count (i + 1)) l e)
+            ∙ sym (ap (next s d) (from-step readRow (rowSize w) rows count i h))
             ∙ t .rest;
         within = omega arith;
       }
 
-  pub step-less : i < count → rowAt rows i .depth < d → Begins rows count count (next s d (rowsFrom rows count start))
+  pub step-less : i < count → rowAt w rows i .depth < d → Begins w rows count count (next s d (rowsFrom w rows count start))
   step-less h l =
       record {
-        from = from-none readRow 44 rows count count (omega arith)
-            ∙ sym (next-less s d (rowAt rows i) (rowsFrom rows count (i + 1)) l)
-            ∙ sym (ap (next s d) (from-step readRow 44 rows count i h))
+        from = from-none readRow (rowSize w) rows count count (omega arith)
+            ∙ sym (next-less s d (rowAt w rows i) (rowsFrom w rows count (i + 1)) l)
+            ∙ sym (ap (next s d) (from-step readRow (rowSize w) rows count i h))
             ∙ t .rest;
         within = omega arith;
       }
 
-  pub step-none : count ≤ i → Begins rows count count (next s d (rowsFrom rows count start))
+  pub step-none : count ≤ i → Begins w rows count count (next s d (rowsFrom w rows count start))
   step-none h =
       record {
-        from = from-none readRow 44 rows count count (omega arith) ∙ sym (next-nil s d) ∙ sym (ap (next s d) (from-none readRow 44 rows count i h)) ∙ t .rest;
+        from = from-none readRow (rowSize w) rows count count (omega arith) ∙ sym (next-nil s d) ∙ sym (ap (next s d) (from-none readRow (rowSize w) rows count i h)) ∙ t .rest;
         within = omega arith;
       }
 
@@ -147,29 +151,33 @@ module _ (s d : ℕ) where
           children-hit x xs (ap (λ (z : Deep FlatRow). ltb (z .depth) d) u ∙ p) (ap (λ (z : Deep FlatRow). eqb (z .depth) d && eqb (z .row .sort) s) u ∙ q)
       by false p false q h = let g : next s d ys ≡ x ∷ xs = rw (p, q, next) at e in h g
 
-pub child-of : {s d : ℕ} {rows : Bytes} {count start i : ℕ} → Begins rows count i (next s d (rowsFrom rows count start)) → count - i ≤ count - start → Child s d rows count start i
-child-of {s} {d} {rows} {count} {start} {i} b l =
+pub child-of : {w s d : ℕ} {rows : Bytes} {count start i : ℕ} → Begins w rows count i (next s d (rowsFrom w rows count start)) → count - i ≤ count - start → Child w s d rows count start i
+child-of {w} {s} {d} {rows} {count} {start} {i} b l =
     record {
-      same = ap (children s d) (b .from) ∙ children-next s d (rowsFrom rows count start);
-      head = λ h. ap (children s d) (from-step readRow 44 rows count i h) ∙ children-first s d (rowAt rows i) (rowsFrom rows count (i + 1)) (rowsFrom rows count start) (sym (b .from) ∙ from-step readRow 44 rows count i h);
+      same = ap (children s d) (b .from) ∙ children-next s d (rowsFrom w rows count start);
+      head = λ h.
+          ap (children s d) (from-step readRow (rowSize w) rows count i h)
+          ∙ children-first s d (rowAt w rows i) (rowsFrom w rows count (i + 1)) (rowsFrom w rows count start) (sym (b .from) ∙ from-step readRow (rowSize w) rows count i h);
       later = l;
     }
 
 -- what is left to do with the children gives the same; g: what is asked
-pub record Looking {X : Type 0} (s d : ℕ) (rows : Bytes) (count : ℕ) (φ : List FlatRow → X) (g : X) (i : ℕ) : Type 0 where
-  pub same : φ (children s d (rowsFrom rows count i)) ≡ g
-  pub head : i < count → children s d (rowsFrom rows count i) ≡ rowAt rows i .row ∷ children s d (rowsFrom rows count (i + 1))
+pub record Looking {X : Type 0} (w s d : ℕ) (rows : Bytes) (count : ℕ) (φ : List FlatRow → X) (g : X) (i : ℕ) : Type 0 where
+  pub same : φ (children s d (rowsFrom w rows count i)) ≡ g
+  pub head : i < count → children s d (rowsFrom w rows count i) ≡ rowAt w rows i .row ∷ children s d (rowsFrom w rows count (i + 1))
 
-pub look-start : {X : Type 0} {s d : ℕ} {rows : Bytes} {count start i : ℕ} {φ : List FlatRow → X} → Child s d rows count start i → Looking s d rows count φ (φ (children s d (rowsFrom rows count start))) i
+pub look-start : {X : Type 0} {w s d : ℕ} {rows : Bytes} {count start i : ℕ} {φ : List FlatRow → X} → Child w s d rows count start i
+    → Looking w s d rows count φ (φ (children s d (rowsFrom w rows count start))) i
 look-start {φ} c = record { same = ap φ (c .same); head = c .head }
 
-module _ {X : Type 0} (s d : ℕ) (rows : Bytes) (count : ℕ) (φ : List FlatRow → X) (g : X) (i : ℕ) (l : Looking s d rows count φ g i) where
-  pub look-here : i < count → φ (rowAt rows i .row ∷ children s d (rowsFrom rows count (i + 1))) ≡ g
+module _ {X : Type 0} (w s d : ℕ) (rows : Bytes) (count : ℕ) (φ : List FlatRow → X) (g : X) (i : ℕ) (l : Looking w s d rows count φ g i) where
+  pub look-here : i < count → φ (rowAt w rows i .row ∷ children s d (rowsFrom w rows count (i + 1))) ≡ g
   look-here h = sym (ap φ (l .head h)) ∙ l .same
 
-  pub look-past : (ψ : List FlatRow → X) → i < count → φ (rowAt rows i .row ∷ children s d (rowsFrom rows count (i + 1))) ≡ ψ (children s d (rowsFrom rows count (i + 1))) → {j : ℕ} → Child s d rows count (i + 1) j → Looking s d rows count ψ g j
+  pub look-past : (ψ : List FlatRow → X) → i < count → φ (rowAt w rows i .row ∷ children s d (rowsFrom w rows count (i + 1))) ≡ ψ (children s d (rowsFrom w rows count (i + 1)))
+      → {j : ℕ} → Child w s d rows count (i + 1) j → Looking w s d rows count ψ g j
   look-past ψ h e c = record { same = ap ψ (c .same) ∙ sym e ∙ look-here h; head = c .head }
 
   pub look-none : count ≤ i → φ [] ≡ g
   unfolding children
-  look-none h = ap (λ (z : List (Deep FlatRow)). φ (children s d z)) (sym (from-none readRow 44 rows count i h)) ∙ l .same
+  look-none h = ap (λ (z : List (Deep FlatRow)). φ (children s d z)) (sym (from-none readRow (rowSize w) rows count i h)) ∙ l .same

@@ -10,23 +10,22 @@ use Rattle.rules.specs.Model.{Members}
 use Rattle.rules.specs.Store.{Store}
 use Rattle.rules.specs.Refusal.{Condition, _if_, first, noElement, unknownAttribute}
 use Rattle.rules.specs.Preorder.{Deep}
-use Rattle.rules.specs.Layout.{FlatRow}
+use Rattle.rules.specs.Layout.{rowSize, FlatRow}
 use Rattle.rules.specs.Lines.{serialAt}
 use Rattle.rules.specs.Decode.{readRow, rowCount}
 use Rattle.lookup.specs.Bodies.{recordsFrom}
 use Rattle.model.specs.Members.{membersOf}
 use Rattle.model.specs.Steps.{runs}
-use Rattle.layout.specs.Bodies.{recordAt}
+use Rattle.layout.specs.Bodies.{widthOf, recordAt, definitionsIn, particlesIn, rowsIn}
 use Rattle.rowpass.specs.Reading.{definitionIn, modelPart}
-use Rattle.validity.specs.Check.{definitionsIn, particlesIn, rowsIn}
 
--- the rows of a body from number i on, `count` in all
-abbrev pub rowsFrom : Bytes → ℕ → ℕ → List (Deep FlatRow)
-rowsFrom rows count i = recordsFrom readRow 44 rows count i
+-- the rows of a body at a width, from number i on, `count` in all
+abbrev pub rowsFrom : ℕ → Bytes → ℕ → ℕ → List (Deep FlatRow)
+rowsFrom w rows count i = recordsFrom readRow (rowSize w) rows count i
 
 -- number r of the rows begins xs; past the last row: none
-pub record Begins (rows : Bytes) (count r : ℕ) (xs : List (Deep FlatRow)) : Type 0 where
-  pub from : rowsFrom rows count r ≡ xs
+pub record Begins (w : ℕ) (rows : Bytes) (count r : ℕ) (xs : List (Deep FlatRow)) : Type 0 where
+  pub from : rowsFrom w rows count r ≡ xs
   pub within : r ≤ count
 
 -- from the first row of depth d and of a sort on, before any that is less deep
@@ -61,14 +60,14 @@ seek p (x ∷ xs) = elim (p (x .row) (children 1 (suc (x .depth)) xs)) [ true �
 -- ---- in a store
 -- number r of its rows is the element row with serial k; past the last row: there is none
 pub record ElementAt (bs : Bytes) (k r : ℕ) : Type 0 where
-  pub begins : Begins (rowsIn bs) (rowCount bs) r (seek (isThis k) (rowsFrom (rowsIn bs) (rowCount bs) 0))
+  pub begins : Begins (widthOf bs) (rowsIn bs) (rowCount bs) r (seek (isThis k) (rowsFrom (widthOf bs) (rowsIn bs) (rowCount bs) 0))
   pub few : rowCount bs ≤ 4096
 
 -- ---- children, one after the other
 -- row number i is the next child from `start` on; past the last row: there is none
-pub record Child (s d : ℕ) (rows : Bytes) (count start i : ℕ) : Type 0 where
-  pub same : children s d (rowsFrom rows count i) ≡ children s d (rowsFrom rows count start)
-  pub head : i < count → children s d (rowsFrom rows count i) ≡ readRow (recordAt 44 i rows) .row ∷ children s d (rowsFrom rows count (i + 1))
+pub record Child (w s d : ℕ) (rows : Bytes) (count start i : ℕ) : Type 0 where
+  pub same : children s d (rowsFrom w rows count i) ≡ children s d (rowsFrom w rows count start)
+  pub head : i < count → children s d (rowsFrom w rows count i) ≡ readRow (recordAt (rowSize w) i rows) .row ∷ children s d (rowsFrom w rows count (i + 1))
   pub later : count - i ≤ count - start
 
 abbrev pub serialIn : FlatRow → ℕ
@@ -96,11 +95,11 @@ pub record Stepped (ms : Members ℕ) (last : ℕ) (v : List ℕ) (fits : Bool) 
 
 -- ---- a row of a store, by its number
 abbrev pub rowIn : Bytes → ℕ → Deep FlatRow
-rowIn bs i = readRow (recordAt 44 i (rowsIn bs))
+rowIn bs i = readRow (recordAt (rowSize (widthOf bs)) i (rowsIn bs))
 
 -- the rows of a sort right below it
 unfoldable pub childrenAt : Bytes → ℕ → ℕ → List FlatRow
-childrenAt bs s i = children s (suc (rowIn bs i .depth)) (rowsFrom (rowsIn bs) (rowCount bs) (i + 1))
+childrenAt bs s i = children s (suc (rowIn bs i .depth)) (rowsFrom (widthOf bs) (rowsIn bs) (rowCount bs) (i + 1))
 
 -- its definition's kind and model
 abbrev pub kindAt : Bytes → ℕ → ℕ
@@ -120,7 +119,7 @@ pub record RowOf (bs : Bytes) (i : ℕ) : Type 0 where
   pub index : rowIn bs i .row .index ≤ 64
 
 pub record ParentAt (bs : Bytes) (k r : ℕ) : Type 0 where
-  pub begins : Begins (rowsIn bs) (rowCount bs) r (seek (isParent k) (rowsFrom (rowsIn bs) (rowCount bs) 0))
+  pub begins : Begins (widthOf bs) (rowsIn bs) (rowCount bs) r (seek (isParent k) (rowsFrom (widthOf bs) (rowsIn bs) (rowCount bs) 0))
   pub few : rowCount bs ≤ 4096
 
 -- it has at least n element children

@@ -8,43 +8,31 @@ ghost use Rattle.rules.specs.Lines.{serialAt, childrenOf, isElementRow, isTextR
 ghost use Rattle.rules.specs.Passing.{passes};
 ghost use Rattle.rules.specs.Change.{addDocument, addElement, destroyElement, setAttribute, destroyAttributeRow, setText};
 ghost use Rattle.rules.specs.Refusal.{first, conditions, noElement, rowsOf};
+ghost use Rattle.rules.specs.Layout.{rowSize};
 ghost use Rattle.rules.specs.Decode.{readRow};
-ghost use Rattle.layout.specs.Bodies.{recordAt};
-ghost use Rattle.records.specs.Records.{baseWidth};
+ghost use Rattle.layout.specs.Bodies.{Width, widthOf, recordAt, attributesIn, rowsIn};
 ghost use Rattle.rowpass.specs.Reading.{attributeIn};
-ghost use Rattle.validity.specs.Check.{attributesIn, rowsIn};
 ghost use Rattle.storing.specs.Stores.{storeIn};
 ghost use Rattle.plans.specs.CallPlans.{attributeSerial};
 ghost use Rattle.model.specs.Members.{membersOf};
 ghost use Rattle.model.specs.Steps.{runs};
 ghost use Rattle.finding.specs.Finding.{rowsFrom, Begins, ElementAt, ParentAt, AttributeRefused, RowOf, childrenAt, kindAt, modelAt, fitsAt, hasPlace, Child, children, elementRow, isThis, isParent, seek, serialIn, serialOf, newName, keptName, word, Stepped};
 
-// The width of a value.
-const VALUE_WIDTH: usize = 32;
-
-// The bytes of row i.
-fn row(rows: &[u8], i: usize) -> &[u8]
-    requires { ⌜ i ≤ 4096 ⌝ }
-    ensures { λ r. ⌜ now r ≡ recordAt 44 i (now (rows .entry)) ⌝ }
-{
-    layout::window(rows, 44 * i, 44)
-}
-
 // Whether a row is the element row with a serial.
 fn is_element(row: &[u8], element: u32) -> bool
     ensures { λ r. ⌜ r ≡ elementRow element (readRow (now (row .entry)) .row) ⌝ }
 {
-    (codec::byte(row, 0) == 1) & (codec::get_u32(row, 4) == element)
+    (layout::row_sort(row) == 1) & (layout::row_serial(row) == element)
 }
 
 /// The number of the element row with a serial; `count` if there is none.
-pub fn element_at(rows: &[u8], count: usize, element: u32) -> usize
-    requires { ⌜ count ≤ 4096 ⌝ }
-    ensures { λ r. ⌜ Begins (now (rows .entry)) count r (seek (isThis element) (rowsFrom (now (rows .entry)) count 0)) ⌝ }
+pub fn element_at(w: usize, rows: &[u8], count: usize, element: u32) -> usize
+    requires { ⌜ Width w × (count ≤ 4096) ⌝ }
+    ensures { λ r. ⌜ Begins w (now (rows .entry)) count r (seek (isThis element) (rowsFrom w (now (rows .entry)) count 0)) ⌝ }
 {
     let mut i = 0;
     while i < count {
-        if is_element(row(rows, i), element) {
+        if is_element(layout::row_at(w, rows, i), element) {
             return i;
         }
         i += 1;
@@ -53,18 +41,25 @@ pub fn element_at(rows: &[u8], count: usize, element: u32) -> usize
 }
 
 /// The number of the first row from i on that has a depth and a sort, before any that is less deep; `count` if there is none.
-pub fn next_child(rows: &[u8], count: usize, start: usize, depth: usize, sort: u8) -> usize
-    requires { ⌜ count ≤ 4096 ⌝ }
-    ensures { λ r. ⌜ Child sort depth (now (rows .entry)) count start r ⌝ }
+pub fn next_child(
+    w: usize,
+    rows: &[u8],
+    count: usize,
+    start: usize,
+    depth: usize,
+    sort: u8,
+) -> usize
+    requires { ⌜ Width w × (count ≤ 4096) ⌝ }
+    ensures { λ r. ⌜ Child w sort depth (now (rows .entry)) count start r ⌝ }
 {
     let mut i = start;
     while i < count {
-        let this = row(rows, i);
-        let deep = codec::byte(this, 1) as usize;
+        let this = layout::row_at(w, rows, i);
+        let deep = layout::row_depth(this) as usize;
         if deep < depth {
             return count;
         }
-        if (deep == depth) & (codec::byte(this, 0) == sort) {
+        if (deep == depth) & (layout::row_sort(this) == sort) {
             return i;
         }
         i += 1;
@@ -73,71 +68,80 @@ pub fn next_child(rows: &[u8], count: usize, start: usize, depth: usize, sort: u
 }
 
 /// The serial of child number n of a sort; 0 if there is none.
-pub fn nth_serial(rows: &[u8], count: usize, start: usize, depth: usize, sort: u8, n: usize) -> u32
-    requires { ⌜ count ≤ 4096 ⌝ }
-    ensures { λ r. ⌜ r ≡ serialAt n (map serialIn (children sort depth (rowsFrom (now (rows .entry)) count start))) ⌝ }
+pub fn nth_serial(
+    w: usize,
+    rows: &[u8],
+    count: usize,
+    start: usize,
+    depth: usize,
+    sort: u8,
+    n: usize,
+) -> u32
+    requires { ⌜ Width w × (count ≤ 4096) ⌝ }
+    ensures { λ r. ⌜ r ≡ serialAt n (map serialIn (children sort depth (rowsFrom w (now (rows .entry)) count start))) ⌝ }
 {
-    let mut i = next_child(rows, count, start, depth, sort);
+    let mut i = next_child(w, rows, count, start, depth, sort);
     let mut left = n;
     while left > 0 {
         if i >= count {
             return 0;
         }
-        i = next_child(rows, count, i + 1, depth, sort);
+        i = next_child(w, rows, count, i + 1, depth, sort);
         left -= 1;
     }
     if i >= count {
         return 0;
     }
-    codec::get_u32(row(rows, i), 4)
+    layout::row_serial(layout::row_at(w, rows, i))
 }
 
 /// The serial of the attribute child with an index; 0 if there is none.
 pub fn indexed_serial(
+    w: usize,
     rows: &[u8],
     count: usize,
     start: usize,
     depth: usize,
     attribute: usize,
 ) -> u32
-    requires { ⌜ count ≤ 4096 ⌝ }
-    ensures { λ r. ⌜ r ≡ serialOf attribute (children 2 depth (rowsFrom (now (rows .entry)) count start)) ⌝ }
+    requires { ⌜ Width w × (count ≤ 4096) ⌝ }
+    ensures { λ r. ⌜ r ≡ serialOf attribute (children 2 depth (rowsFrom w (now (rows .entry)) count start)) ⌝ }
 {
-    let mut i = next_child(rows, count, start, depth, 2);
+    let mut i = next_child(w, rows, count, start, depth, 2);
     while i < count {
-        let this = row(rows, i);
-        if codec::get_u16(this, 2) as usize == attribute {
-            return codec::get_u32(this, 4);
+        let this = layout::row_at(w, rows, i);
+        if layout::row_index(this) as usize == attribute {
+            return layout::row_serial(this);
         }
-        i = next_child(rows, count, i + 1, depth, 2);
+        i = next_child(w, rows, count, i + 1, depth, 2);
     }
     0
 }
 
 // Whether an element with a serial is among the element children.
-fn has_child(rows: &[u8], count: usize, start: usize, depth: usize, element: u32) -> bool
-    requires { ⌜ count ≤ 4096 ⌝ }
-    ensures { λ r. ⌜ r ≡ any (elementRow element) (children 1 depth (rowsFrom (now (rows .entry)) count start)) ⌝ }
+fn has_child(w: usize, rows: &[u8], count: usize, start: usize, depth: usize, element: u32) -> bool
+    requires { ⌜ Width w × (count ≤ 4096) ⌝ }
+    ensures { λ r. ⌜ r ≡ any (elementRow element) (children 1 depth (rowsFrom w (now (rows .entry)) count start)) ⌝ }
 {
-    let mut i = next_child(rows, count, start, depth, 1);
+    let mut i = next_child(w, rows, count, start, depth, 1);
     while i < count {
-        if is_element(row(rows, i), element) {
+        if is_element(layout::row_at(w, rows, i), element) {
             return true;
         }
-        i = next_child(rows, count, i + 1, depth, 1);
+        i = next_child(w, rows, count, i + 1, depth, 1);
     }
     false
 }
 
 /// The number of the row right above the element row with a serial; `count` if there is none.
-pub fn parent_at(rows: &[u8], count: usize, element: u32) -> usize
-    requires { ⌜ count ≤ 4096 ⌝ }
-    ensures { λ r. ⌜ Begins (now (rows .entry)) count r (seek (isParent element) (rowsFrom (now (rows .entry)) count 0)) ⌝ }
+pub fn parent_at(w: usize, rows: &[u8], count: usize, element: u32) -> usize
+    requires { ⌜ Width w × (count ≤ 4096) ⌝ }
+    ensures { λ r. ⌜ Begins w (now (rows .entry)) count r (seek (isParent element) (rowsFrom w (now (rows .entry)) count 0)) ⌝ }
 {
     let mut i = 0;
     while i < count {
-        let depth = codec::byte(row(rows, i), 1) as usize + 1;
-        if has_child(rows, count, i + 1, depth, element) {
+        let depth = layout::row_depth(layout::row_at(w, rows, i)) as usize + 1;
+        if has_child(w, rows, count, i + 1, depth, element) {
             return i;
         }
         i += 1;
@@ -170,10 +174,10 @@ fn step_new(part: &[u8], last: usize, place: usize, new: usize) -> Ran
 fn step_child(part: &[u8], last: usize, row: &[u8], skip: u32) -> Ran
     ensures { λ r. ⌜ Stepped (membersOf (now (part .entry))) last (keptName skip (readRow (now (row .entry)) .row)) (r .fits) (r .last) ⌝ }
 {
-    if codec::get_u32(row, 4) == skip {
+    if layout::row_serial(row) == skip {
         return Ran { fits: true, last };
     }
-    let index = codec::get_u16(row, 2) as usize;
+    let index = layout::row_index(row) as usize;
     Ran {
         fits: model::automaton::steps(part, last, index),
         last: index + 1,
@@ -182,6 +186,7 @@ fn step_child(part: &[u8], last: usize, row: &[u8], skip: u32) -> Ran
 
 /// Whether a model takes the element children, with a new one at a place and without the one with serial `skip`.
 pub fn children_fit(
+    w: usize,
     part: &[u8],
     rows: &[u8],
     count: usize,
@@ -191,21 +196,21 @@ pub fn children_fit(
     new: usize,
     skip: u32,
 ) -> bool
-    requires { ⌜ (count ≤ 4096) × (new < 65536) ⌝ }
-    ensures { λ r. ⌜ r ≡ runs (membersOf (now (part .entry))) 0 (word place new skip (children 1 depth (rowsFrom (now (rows .entry)) count start))) ⌝ }
+    requires { ⌜ Width w × (count ≤ 4096) × (new < 65536) ⌝ }
+    ensures { λ r. ⌜ r ≡ runs (membersOf (now (part .entry))) 0 (word place new skip (children 1 depth (rowsFrom w (now (rows .entry)) count start))) ⌝ }
 {
     let mut last = 0;
     let mut left = place;
-    let mut i = next_child(rows, count, start, depth, 1);
+    let mut i = next_child(w, rows, count, start, depth, 1);
     while i < count {
         let fresh = step_new(part, last, left, new);
-        let old = step_child(part, fresh.last, row(rows, i), skip);
+        let old = step_child(part, fresh.last, layout::row_at(w, rows, i), skip);
         if !(fresh.fits & old.fits) {
             return false;
         }
         last = old.last;
         left = less(left);
-        i = next_child(rows, count, i + 1, depth, 1);
+        i = next_child(w, rows, count, i + 1, depth, 1);
     }
     let fresh = step_new(part, last, left, new);
     fresh.fits & model::automaton::finishes(part, fresh.last)
@@ -221,35 +226,32 @@ fn less(n: usize) -> usize
 }
 
 // ---- in a store
-// The rows of a store.
-fn rows_of(store: &[u8]) -> &[u8]
-    ensures { λ r. ⌜ now r ≡ rowsIn (now (store .entry)) ⌝ }
-{
-    validity::body(store, 32, 44)
-}
-
 // The number of an element row in a store; the number of rows if there is none.
 fn find_element(store: &[u8], element: u32) -> usize
     requires { ⌜ passes (now store) ≡ true ⌝ }
     ensures { λ r. ⌜ ElementAt (now (store .entry)) element r ⌝ }
 {
-    element_at(rows_of(store), records::number(store, 36), element)
+    let w = layout::width_in(store);
+    let rows = layout::rows_of(store);
+    element_at(w, rows, layout::row_count(store), element)
 }
 
 // The definition index of row i.
 fn definition_at(store: &[u8], i: usize) -> usize
     requires { ⌜ i ≤ 4096 ⌝ }
-    ensures { λ r. ⌜ r ≡ readRow (recordAt 44 i (rowsIn (now (store .entry)))) .row .index ⌝ }
+    ensures { λ r. ⌜ r ≡ readRow (recordAt (rowSize (widthOf (now (store .entry)))) i (rowsIn (now (store .entry)))) .row .index ⌝ }
 {
-    codec::get_u16(row(rows_of(store), i), 2) as usize
+    let w = layout::width_in(store);
+    let rows = layout::rows_of(store);
+    layout::row_index(layout::row_at(w, rows, i)) as usize
 }
 
 // The depth of the rows right below row i.
-fn depth_below(rows: &[u8], i: usize) -> usize
-    requires { ⌜ i ≤ 4096 ⌝ }
-    ensures { λ r. ⌜ r ≡ suc (readRow (recordAt 44 i (now (rows .entry))) .depth) ⌝ }
+fn depth_below(w: usize, rows: &[u8], i: usize) -> usize
+    requires { ⌜ Width w × (i ≤ 4096) ⌝ }
+    ensures { λ r. ⌜ r ≡ suc (readRow (recordAt (rowSize w) i (now (rows .entry))) .depth) ⌝ }
 {
-    codec::byte(row(rows, i), 1) as usize + 1
+    layout::row_depth(layout::row_at(w, rows, i)) as usize + 1
 }
 
 // The serial of child number n of a sort, right below row i; 0 if there is none.
@@ -257,12 +259,14 @@ fn nth_at(store: &[u8], i: usize, sort: u8, n: usize) -> u32
     requires { ⌜ RowOf (now store) i ⌝ }
     ensures { λ r. ⌜ r ≡ serialAt n (map serialIn (childrenAt (now (store .entry)) sort i)) ⌝ }
 {
-    let rows = rows_of(store);
+    let w = layout::width_in(store);
+    let rows = layout::rows_of(store);
     nth_serial(
+        w,
         rows,
-        records::number(store, 36),
+        layout::row_count(store),
         i + 1,
-        depth_below(rows, i),
+        depth_below(w, rows, i),
         sort,
         n,
     )
@@ -274,8 +278,8 @@ fn model_at(store: &[u8], i: usize) -> &[u8]
     ensures { λ r. ⌜ membersOf (now r) ≡ modelAt (now (store .entry)) i ⌝ }
 {
     rowpass::model_part(
-        validity::body(store, 8, 20),
-        validity::body(store, 16, 4),
+        layout::definitions_of(store),
+        layout::particles_of(store),
         definition_at(store, i),
     )
 }
@@ -285,13 +289,15 @@ fn fits_at(store: &[u8], i: usize, place: usize, new: usize, skip: u32) -> bool
     requires { ⌜ RowOf (now store) i × (new < 65536) ⌝ }
     ensures { λ r. ⌜ r ≡ fitsAt (now (store .entry)) i place new skip ⌝ }
 {
-    let rows = rows_of(store);
+    let w = layout::width_in(store);
+    let rows = layout::rows_of(store);
     children_fit(
+        w,
         model_at(store, i),
         rows,
-        records::number(store, 36),
+        layout::row_count(store),
         i + 1,
-        depth_below(rows, i),
+        depth_below(w, rows, i),
         place,
         new,
         skip,
@@ -303,7 +309,7 @@ fn kind_at(store: &[u8], i: usize) -> u8
     requires { ⌜ RowOf (now store) i ⌝ }
     ensures { λ r. ⌜ r ≡ kindAt (now (store .entry)) i ⌝ }
 {
-    rowpass::kind_of(validity::body(store, 8, 20), definition_at(store, i))
+    rowpass::kind_of(layout::definitions_of(store), definition_at(store, i))
 }
 
 /// Refusals 3 and 6 of the change that adds a document.
@@ -311,10 +317,11 @@ pub fn add_document_refusal(store: &[u8], definition: u32, text: &[u8]) -> u32
     requires { ⌜ passes (now store) ≡ true ⌝ }
     ensures { λ r. ⌜ r ≡ first (conditions (addDocument definition (now (text .entry))) (storeIn (now (store .entry)))) ⌝ }
 {
-    if !records::is_value(VALUE_WIDTH, text) {
+    let w = layout::width_in(store);
+    if !records::is_value(w, text) {
         return 3;
     }
-    if definition as usize >= records::number(store, 12) {
+    if definition as usize >= layout::definition_count(store) {
         return 6;
     }
     0
@@ -325,11 +332,12 @@ pub fn set_text_refusal(store: &[u8], element: u32, text: &[u8]) -> u32
     requires { ⌜ passes (now store) ≡ true ⌝ }
     ensures { λ r. ⌜ r ≡ first (conditions (setText element (now (text .entry))) (storeIn (now (store .entry)))) ⌝ }
 {
-    if !records::is_value(VALUE_WIDTH, text) {
+    let w = layout::width_in(store);
+    if !records::is_value(w, text) {
         return 3;
     }
     let i = find_element(store, element);
-    if i >= records::number(store, 36) {
+    if i >= layout::row_count(store) {
         return 7;
     }
     if kind_at(store, i) != 1 {
@@ -343,7 +351,9 @@ fn find_parent(store: &[u8], element: u32) -> usize
     requires { ⌜ passes (now store) ≡ true ⌝ }
     ensures { λ r. ⌜ ParentAt (now (store .entry)) element r ⌝ }
 {
-    parent_at(rows_of(store), records::number(store, 36), element)
+    let w = layout::width_in(store);
+    let rows = layout::rows_of(store);
+    parent_at(w, rows, layout::row_count(store), element)
 }
 
 /// Refusals 7 and 15 of the change that destroys an element.
@@ -351,7 +361,7 @@ pub fn destroy_element_refusal(store: &[u8], element: u32) -> u32
     requires { ⌜ passes (now store) ≡ true ⌝ }
     ensures { λ r. ⌜ r ≡ first (conditions (destroyElement element) (storeIn (now (store .entry)))) ⌝ }
 {
-    let count = records::number(store, 36);
+    let count = layout::row_count(store);
     if find_element(store, element) >= count {
         return 7;
     }
@@ -392,7 +402,7 @@ pub fn add_element_refusal(
         return refusal;
     }
     let i = find_element(store, parent);
-    if i >= records::number(store, 36) {
+    if i >= layout::row_count(store) {
         return 7;
     }
     if !has_place(store, i, child as usize) {
@@ -427,10 +437,11 @@ pub fn child_serial(store: &[u8], parent: u32, child: u32) -> u32
 // The definition index of an attribute's owner.
 fn owner_of(store: &[u8], attribute: usize) -> usize
     requires { ⌜ attribute ≤ 64 ⌝ }
-    ensures { λ r. ⌜ r ≡ attributeIn baseWidth (attributesIn (now (store .entry))) attribute .owner ⌝ }
+    ensures { λ r. ⌜ r ≡ attributeIn (widthOf (now (store .entry))) (attributesIn (now (store .entry))) attribute .owner ⌝ }
 {
-    let attrs = validity::body(store, 24, 52);
-    codec::byte(layout::window(attrs, 52 * attribute, 52), 0) as usize
+    let w = layout::width_in(store);
+    let attrs = layout::attributes_of(store);
+    layout::attribute_owner(layout::attribute_at(w, attrs, attribute))
 }
 
 // The serial of the row of an attribute right below row i; 0 if there is none.
@@ -438,12 +449,14 @@ fn attribute_at(store: &[u8], i: usize, attribute: usize) -> u32
     requires { ⌜ RowOf (now store) i ⌝ }
     ensures { λ r. ⌜ r ≡ serialOf attribute (childrenAt (now (store .entry)) 2 i) ⌝ }
 {
-    let rows = rows_of(store);
+    let w = layout::width_in(store);
+    let rows = layout::rows_of(store);
     indexed_serial(
+        w,
         rows,
-        records::number(store, 36),
+        layout::row_count(store),
         i + 1,
-        depth_below(rows, i),
+        depth_below(w, rows, i),
         attribute,
     )
 }
@@ -453,11 +466,11 @@ fn attribute_refusal(store: &[u8], element: u32, attribute: u32) -> u32
     requires { ⌜ passes (now store) ≡ true ⌝ }
     ensures { λ r. ⌜ AttributeRefused element attribute (storeIn (now (store .entry))) r ⌝ }
 {
-    if attribute as usize >= records::number(store, 28) {
+    if attribute as usize >= layout::attribute_count(store) {
         return 6;
     }
     let i = find_element(store, element);
-    if i >= records::number(store, 36) {
+    if i >= layout::row_count(store) {
         return 7;
     }
     if owner_of(store, attribute as usize) != definition_at(store, i) {
@@ -471,15 +484,16 @@ pub fn set_attribute_refusal(store: &[u8], element: u32, attribute: u32, value: 
     requires { ⌜ passes (now store) ≡ true ⌝ }
     ensures { λ r. ⌜ r ≡ first (conditions (setAttribute element attribute (now (value .entry))) (storeIn (now (store .entry)))) ⌝ }
 {
-    if !records::is_value(VALUE_WIDTH, value) {
+    let w = layout::width_in(store);
+    if !records::is_value(w, value) {
         return 3;
     }
     let refusal = attribute_refusal(store, element, attribute);
     if refusal != 0 {
         return refusal;
     }
-    let attrs = validity::body(store, 24, 52);
-    if !rowpass::value_may(VALUE_WIDTH, attrs, attribute as usize, value) {
+    let attrs = layout::attributes_of(store);
+    if !rowpass::value_may(w, attrs, attribute as usize, value) {
         return 15;
     }
     0
@@ -498,9 +512,12 @@ pub fn destroy_attribute_row_refusal(store: &[u8], element: u32, attribute: u32)
     if attribute_at(store, i, attribute as usize) == 0 {
         return 7;
     }
-    let attrs = validity::body(store, 24, 52);
+    let version = layout::version_in(store);
+    let w = layout::width_in(store);
+    let attrs = layout::attributes_of(store);
     if rowpass::needs(
-        VALUE_WIDTH,
+        version,
+        w,
         attrs,
         definition_at(store, i),
         attribute as usize,

@@ -14,14 +14,13 @@ use Rattle.rules.proofs.LayoutLaws.{Small}
 use Rattle.rules.proofs.SmallBytes.{encode-small}
 use Rattle.codec.proofs.Strings.{part-there}
 use Rattle.lookup.specs.Bodies.{bodiesOf}
-use Rattle.layout.specs.Bodies.{widthOf}
+use Rattle.layout.specs.Bodies.{widthOf, definitionsIn, particlesIn}
 use Rattle.forms.specs.Bodies.{recordAt}
 use Rattle.forms.proofs.Reading.{definition-size}
 use Rattle.circles.specs.Members.{countAt, startAt, membersIn}
 use Rattle.circles.specs.Members as circles
 use Rattle.circles.proofs.CircleLaws.{Indexed}
 use Rattle.rowpass.specs.Reading.{definitionIn, particlesBefore, modelPart}
-use Rattle.validity.specs.Check.{definitionsIn, particlesIn}
 use Rattle.validity.proofs.FormLaws.{members-indexed, part-room}
 use Rattle.validity.proofs.StringChecks.{Headed, laid-in, passes-header, passes-in, same-form}
 use Rattle.validity.proofs.IndexReads.{index-agrees}
@@ -56,7 +55,7 @@ unfolding storeIn bodiesOf widthOf
 reads bs q =
     let w : Whole bs = whole bs q in
     let d : Headed bs = record { small = subst Small (w .holds .written) (encode-small (storeIn bs) (w .holds .good)); header = passes-header bs q } in
-    let form = passes-in d (byIndex bs) (λ x. index-agrees (laid-in d) (x .passes)) .0 q .0 in
+    let form = passes-in d (byIndex bs) (λ x. index-agrees (laid-in d) (x .passes) _) .0 q .0 in
     record {
       whole = w;
       members = subst (λ (z : Form). Indexed (membersIn (definitionsIn bs) (particlesIn bs)) z) (sym (same-form d)) (members-indexed (laid-in d) (form .passes .definitions) (form .passes .attributes) (form .passes .bodies));

@@ -21,12 +21,12 @@ use Rattle.rules.specs.Change.{insertElement, definitionAt, nameAtIndex, formAf
 use Rattle.rules.specs.Refusal.{past, first, conditions}
 use Rattle.rules.specs.Outcome.{outcome, Answers}
 use Rattle.rules.proofs.Words.{or-split}
-use Rattle.history.proofs.Conditions.{not-past, not-false}
+use Rattle.history.proofs.Conditions.{not-past}
 use Rattle.model.specs.declared.place.Holder.{Holder}
 use Rattle.model.specs.declared.place.Found.{Found}
 use Rattle.model.specs.declared.place.Found.the-variants.{At}
 use Rattle.model.specs.Places.{placeOf}
-use Rattle.records.specs.Records.{baseWidth}
+use Rattle.layout.specs.Bodies.{widthOf}
 use Rattle.lookup.specs.Bodies.{bodiesOf}
 use Rattle.editing.specs.declared.Plan.{Plan}
 use Rattle.validity.proofs.IndexLaws.{name-index}
@@ -42,6 +42,7 @@ use Rattle.plans.specs.ModelCalls.{insertElementPlan}
 use Rattle.plans.proofs.CallsPlanned.{none-holds}
 use Rattle.plans.proofs.ModelCallsPlanned.{insert-element-planned}
 use Rattle.placing.specs.Placing.{indexIn, partIn, Placed}
+use Rattle.finding.proofs.StoreFacts.{value-given}
 use Rattle.placing.proofs.PlaceLaws.{present-at}
 use Rattle.marking.specs.Marking.{marksAt}
 use Rattle.marking.proofs.MarkLaws.{gap-marked}
@@ -54,7 +55,7 @@ use Rattle.inserting.proofs.ModelLaws.{size}
 -- no condition holds: definition i with quantifier k goes to the place p of definition o's model, its filling has the text t
 pub record Insertion (bs : Bytes) (o : ℕ) (p : List ℕ) (i k : ℕ) (t : Bytes) : Type 0 where
   pub fits : Fits bs o p (insert (quantifierOf k) (nameAtIndex i (storeIn bs .form)))
-  pub text : isValue baseWidth t ≡ true
+  pub text : isValue (widthOf bs) t ≡ true
   pub code : k ≤ 3
   pub known : i < length (storeIn bs .form)
   pub none : first (conditions (insertElement o p i k t) (storeIn bs)) ≡ 0
@@ -65,7 +66,7 @@ insertion bs q o p i k t e =
     let (text, (code, (index, more))) = none-holds (insertElement o p i k t) (storeIn bs) e in
     record {
       fits = insert-fits bs q o p i k t e;
-      text = not-false (isValue baseWidth t) text;
+      text = value-given bs t text;
       code = ltb-false 3 k code;
       known = not-past i (storeIn bs .form) (or-split (past o (storeIn bs .form)) (past i (storeIn bs .form)) index .1);
       none = e;

@@ -21,11 +21,10 @@ use Rattle.circles.specs.Deep.{marked, firstPasses}
 use Rattle.circles.specs.Avoiding.{Avoids}
 use Rattle.circles.proofs.CircleLaws.{members-named}
 use Rattle.rowpass.specs.Reading.{modelPart}
-use Rattle.validity.specs.Check.{definitionsIn, particlesIn}
 use Rattle.validity.proofs.IndexLaws.{namesOf, lookup-at, name-of}
 use Rattle.validity.proofs.ElementReads.{same-names}
 use Rattle.storing.specs.Stores.{storeIn}
-use Rattle.records.specs.Records.{NumberAt}
+use Rattle.layout.specs.Bodies.{Number, definitionsIn, particlesIn}
 use Rattle.finding.proofs.StoreFacts.{formIn, byIndex}
 use Rattle.inserting.specs.Inserting.{inModel, comesRound}
 use Rattle.inserting.proofs.FormFacts.{Reads}
@@ -84,7 +83,7 @@ module _ (bs : Bytes) (w : Reads bs) where
         ∙ ap₂ (λ (n : Bytes) (ns : List Bytes). member bytes n ns) (name-of (formIn bs) i this-in) model-names
 
     -- ---- 11
-    pub round-is : {n : ℕ} {defs parts r : Bytes} {b : ℕ} → NumberAt 12 bs n → defs ≡ definitionsIn bs → parts ≡ particlesIn bs → Avoids n (membersIn defs parts) o r → b ≡ getD r i 0 → eqb b 0 ≡ comesRound (formIn bs) o i
+    pub round-is : {n : ℕ} {defs parts r : Bytes} {b : ℕ} → Number (definitionCount bs) n → defs ≡ definitionsIn bs → parts ≡ particlesIn bs → Avoids n (membersIn defs parts) o r → b ≡ getD r i 0 → eqb b 0 ≡ comesRound (formIn bs) o i
     unfolding marked
     round-is {n} {defs} {parts} {r} {b} k d p a e =
         ap (λ (z : ℕ). eqb z 0) e

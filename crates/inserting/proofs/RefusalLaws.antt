@@ -16,25 +16,24 @@ use Rattle.rules.specs.Model.{skips}
 use Rattle.rules.specs.Place.{Found as Spot, kindAt, spine}
 use Rattle.rules.specs.Edit.{insert, sameKind, insertOff}
 use Rattle.rules.specs.Store.{Content, empty, pcdata, complex, Store}
-use Rattle.rules.specs.Layout.{kindCode}
+use Rattle.rules.specs.Layout.{rowSize, kindCode}
 use Rattle.rules.specs.Decode.{quantifierOf, readRow, readMany, definitionCount, rowCount}
 use Rattle.rules.specs.WellFormed.{isValue}
 use Rattle.rules.specs.Passing.{passes}
 use Rattle.rules.specs.Change.{insertElement, definitionAt, nameAtIndex}
 use Rattle.rules.specs.Refusal.{Condition, _if_, first, conditions, past, foundAt, atPlace, noPlace, isComplex, instanceExists}
-use Rattle.records.specs.Records.{NumberAt}
+use Rattle.layout.specs.Bodies.{widthOf, WidthIn, Number, definitionsIn, rowsIn}
 use Rattle.model.specs.declared.place.Holder.{Holder}
 use Rattle.model.specs.declared.place.Found.{Found}
 use Rattle.model.specs.declared.place.Found.the-variants.{At, Absent}
 use Rattle.model.specs.Places.{placeOf}
 use Rattle.rowpass.specs.Reading.{definitionIn}
-use Rattle.validity.specs.Check.{definitionsIn, rowsIn}
 use Rattle.storing.specs.Stores.{storeIn}
 use Rattle.finding.proofs.StoreFacts.{formIn}
 use Rattle.finding.specs.Finding.{Gives}
-use Rattle.finding.proofs.RefusalLaws.{gives-hit, gives-next, gives-none, past-definitions, within-definitions}
+use Rattle.finding.proofs.RefusalLaws.{gives-hit, gives-next, gives-none, bad-text, fine-text, past-definitions, within-definitions}
 use Rattle.placing.specs.Placing.{instanceRow, modelIn, partIn, foundBy, Placed}
-use Rattle.placing.proofs.TestLaws.{test-is, not-is}
+use Rattle.placing.proofs.TestLaws.{test-is}
 use Rattle.placing.proofs.InstanceLaws.{instance-is}
 use Rattle.placing.proofs.PlaceLaws.{found-insert, absent, present-at}
 use Rattle.inserting.specs.Inserting.{inModel, comesRound, modelConditions, offSpine, placeConditions}
@@ -84,7 +83,7 @@ module _ (bs : Bytes) (w : Reads bs) (o i : ℕ) (lo : o < definitionCount bs) (
           pub model-on : not (needed && off) ≡ true → Result 0
           model-on f = last (ap (λ (z : Bool). instanceExists (nameAtIndex o (formIn bs)) (storeIn bs) && z) (not-true (needed && off) f) ∙ and-false (instanceExists (nameAtIndex o (formIn bs)) (storeIn bs))) (gives-next refl gives-none)
 
-          module _ (off-is : not (needed && off) ≡ false) {d : Bool} (e13 : d ≡ any (instanceRow o) (readMany readRow 44 (rowCount bs) (rowsIn bs))) where
+          module _ (off-is : not (needed && off) ≡ false) {d : Bool} (e13 : d ≡ any (instanceRow o) (readMany readRow (rowSize (widthOf bs)) (rowCount bs) (rowsIn bs))) where
             there : (z : Bool) → d ≡ z → (instanceExists (nameAtIndex o (formIn bs)) (storeIn bs) && (needed && off)) ≡ (z && true)
             there z f = ap₂ (λ (u v : Bool). u && v) (sym (instance-is bs (w .whole) o (omega (arith, size bs w))) ∙ test-is e13 f) (not-false (needed && off) off-is)
 
@@ -149,36 +148,36 @@ insert-same bs o place i q t =
     ∙ ap (λ (f : Option (Spot Bytes)). first (laterConditions f (not (skips (quantifierOf q)) && isNone t) (atPlace (λ c x. insertOff c (quantifierOf q)) f) o i (storeIn bs)))
     (sym (found-insert (quantifierOf q) (nameAtIndex i (formIn bs)) o place bs))
 
-module _ (bs : Bytes) (w : Reads bs) (o : ℕ) (place : List ℕ) (i q : ℕ) (t : Bytes) {a : Bool} (e3 : a ≡ isValue 32 t) where
+module _ (bs : Bytes) (w : Reads bs) (o : ℕ) (place : List ℕ) (i q : ℕ) (t : Bytes) {n : ℕ} {a : Bool} (v : WidthIn bs n) (e3 : a ≡ isValue n t) where
   abbrev Given : ℕ → Type 0
-  Given n = Gives n (conditions (insertElement o place i q t) (storeIn bs))
+  Given r = Gives r (conditions (insertElement o place i q t) (storeIn bs))
 
   pub insert-3 : not a ≡ true → Given 3
   unfolding conditions
-  insert-3 f = gives-hit (not-is e3 f)
+  insert-3 f = gives-hit (bad-text bs t v e3 f)
 
   module _ (f3 : not a ≡ false) where
     pub insert-4 : 3 < q → Given 4
     unfolding conditions
-    insert-4 l = gives-next (not-is e3 f3) (gives-hit (lt-ltb 3 q l))
+    insert-4 l = gives-next (fine-text bs t v e3 f3) (gives-hit (lt-ltb 3 q l))
 
-    module _ (l : q ≤ 3) {n : ℕ} (e : NumberAt 12 bs n) where
+    module _ (l : q ≤ 3) {m : ℕ} (e : Number (definitionCount bs) m) where
       unknown : {a b c : Bool} → past o (formIn bs) ≡ a → past i (formIn bs) ≡ b → (a || b) ≡ c → (past o (formIn bs) || past i (formIn bs)) ≡ c
       unknown x y z = ap₂ (λ (u v : Bool). u || v) x y ∙ z
 
-      pub insert-6 : n ≤ o → Given 6
+      pub insert-6 : m ≤ o → Given 6
       unfolding conditions
-      insert-6 f = gives-next (not-is e3 f3) (gives-next (le-ltb 3 q l) (gives-hit (unknown (past-definitions bs (w .whole) e o f) refl refl)))
+      insert-6 f = gives-next (fine-text bs t v e3 f3) (gives-next (le-ltb 3 q l) (gives-hit (unknown (past-definitions bs (w .whole) e o f) refl refl)))
 
-      module _ (lo : o < n) where
-        pub insert-6-too : n ≤ i → Given 6
+      module _ (lo : o < m) where
+        pub insert-6-too : m ≤ i → Given 6
         unfolding conditions
-        insert-6-too f = gives-next (not-is e3 f3) (gives-next (le-ltb 3 q l) (gives-hit (unknown (within-definitions bs (w .whole) e o lo) (past-definitions bs (w .whole) e i f) refl)))
+        insert-6-too f = gives-next (fine-text bs t v e3 f3) (gives-next (le-ltb 3 q l) (gives-hit (unknown (within-definitions bs (w .whole) e o lo) (past-definitions bs (w .whole) e i f) refl)))
 
-        pub insert-on : i < n → {needed : Bool} → needed ≡ not (skips (quantifierOf q)) → {r : ℕ} → r ≡ first (placeConditions (foundBy true place (modelIn bs o)) o i needed (eqb (length t) 0) (storeIn bs)) → Given r
+        pub insert-on : i < m → {needed : Bool} → needed ≡ not (skips (quantifierOf q)) → {r : ℕ} → r ≡ first (placeConditions (foundBy true place (modelIn bs o)) o i needed (eqb (length t) 0) (storeIn bs)) → Given r
         unfolding conditions
         insert-on li d g =
-            gives-next (not-is e3 f3)
+            gives-next (fine-text bs t v e3 f3)
             (gives-next (le-ltb 3 q l)
             (gives-next (unknown (within-definitions bs (w .whole) e o lo) (within-definitions bs (w .whole) e i li) refl)
             (record { is = g ∙ ap (λ (b : Bool). first (placeConditions (foundBy true place (modelIn bs o)) o i b (eqb (length t) 0) (storeIn bs))) d ∙ insert-same bs o place i q t })))

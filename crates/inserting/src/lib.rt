@@ -26,9 +26,6 @@ ghost use Rattle.placing.specs.Placing.{modelIn, foundBy};
 ghost use Rattle.marking.specs.Marking.{marksAt};
 ghost use Rattle.inserting.specs.Inserting.{inModel, comesRound, modelConditions, placeConditions};
 
-// The width of a value.
-const VALUE_WIDTH: usize = 32;
-
 // ---- the model
 // Whether no element among the particles has the index i.
 fn lacks(part: &[u8], i: usize) -> bool
@@ -57,9 +54,9 @@ fn comes_round(store: &[u8], o: usize, i: usize) -> bool
     requires { ⌜ (passes (now store) ≡ true) × (o < definitionCount (now store)) × (i < definitionCount (now store)) ⌝ }
     ensures { λ r. ⌜ r ≡ comesRound (storeIn (now (store .entry)) .form) o i ⌝ }
 {
-    let n = records::number(store, 12);
-    let defs = validity::body(store, 8, 20);
-    let parts = validity::body(store, 16, 4);
+    let n = layout::definition_count(store);
+    let defs = layout::definitions_of(store);
+    let parts = layout::particles_of(store);
     let heights = circles::heights_avoiding(n, defs, parts, o);
     codec::byte(&heights, i) == 0
 }
@@ -70,7 +67,7 @@ fn model_refusal(store: &[u8], o: usize, i: usize, needed: bool, unfilled: bool,
     requires { ⌜ (passes (now store) ≡ true) × (o < definitionCount (now store)) × (i < definitionCount (now store)) ⌝ }
     ensures { λ r. ⌜ r ≡ first (modelConditions o i needed unfilled off (storeIn (now (store .entry)))) ⌝ }
 {
-    if rowpass::kind_of(validity::body(store, 8, 20), o) != 2 {
+    if rowpass::kind_of(layout::definitions_of(store), o) != 2 {
         return 9;
     }
     if in_model(store, o, i) {
@@ -142,13 +139,14 @@ pub fn insert_element_refusal(
     requires { ⌜ passes (now store) ≡ true ⌝ }
     ensures { λ r. ⌜ r ≡ first (conditions (insertElement owner (now (place .entry)) definition quantifier (now (text .entry))) (storeIn (now (store .entry)))) ⌝ }
 {
-    if !records::is_value(VALUE_WIDTH, text) {
+    let w = layout::width_in(store);
+    if !records::is_value(w, text) {
         return 3;
     }
     if quantifier > 3 {
         return 4;
     }
-    let n = records::number(store, 12);
+    let n = layout::definition_count(store);
     let o = owner as usize;
     let i = definition as usize;
     if o >= n {

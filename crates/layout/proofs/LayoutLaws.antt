@@ -12,7 +12,7 @@ use Rattle.rules.specs.Store.{Store}
 use Rattle.rules.specs.Layout.{valueWidth, headerSize, definitionSize, particleSize, attributeSize, rowSize, FlatAttribute, FlatRow, FlatStore, flat, encode}
 use Rattle.rules.specs.Passing.{good}
 use Rattle.rules.specs.Preorder.{Deep}
-use Rattle.rules.specs.Decode.{unle, numberAt, readAttribute, readRow, readMany, definitionCount, particleCount, attributeCount, rowCount, readFlat}
+use Rattle.rules.specs.Decode.{unle, numberAt, readDefinition, readParticle, readAttribute, readRow, readMany, definitionCount, particleCount, attributeCount, rowCount, readFlat}
 use Rattle.rules.proofs.LayoutLaws.{read-bytes}
 use Rattle.rules.proofs.DecodeLaws.{width-bound, width-most, good-flat}
 use Rattle.codec.proofs.Records.{many-at, many-within}
@@ -181,3 +181,12 @@ pub serial-placed : (w i p : ℕ) (s : Bytes) {r : ℕ} → Product (12 + w) i p
 serial-placed w i p s x e =
     let m : ℕ = rowSize w * i in
     e ∙ ap (λ (k : ℕ). numberAt (k + 4) 4 s) (x .value) ∙ sym (ap unle (part-within 4 4 (rowSize w) (drop m s) (omega arith)) ∙ number-after m 4 4 s)
+
+-- ---- the other two bodies
+pub definitions-read : (bs : Bytes) → readMany readDefinition definitionSize (definitionCount bs) (definitionBody (shapeOf bs) bs) ≡ readFlat (widthOf bs) bs .definitions
+unfolding definitionBody shapeOf
+definitions-read bs = many-within readDefinition definitionSize (definitionCount bs) (drop headerSize bs)
+
+pub particles-read : (bs : Bytes) → readMany readParticle particleSize (particleCount bs) (particleBody (shapeOf bs) bs) ≡ readFlat (widthOf bs) bs .particles
+unfolding particleBody shapeOf
+particles-read bs = many-within readParticle particleSize (particleCount bs) (drop (headerSize + definitionSize * definitionCount bs) bs) ∙ simp drop-drop

@@ -1,3 +1,4 @@
 pub mod LayoutLaws
 pub mod RowLaws
+pub mod RecordLaws
 pub mod HeaderLaws

@@ -1,3 +1,4 @@
 pub mod Bodies
 pub mod RowBytes
+pub mod RecordBytes
 pub mod Header

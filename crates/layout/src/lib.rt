@@ -1,12 +1,13 @@
 // The layout of a store, said once for every width of a value: its shape, its bodies, the records of a body, the fields of a record.
 ghost use mathlib.Core.Path.{_≡_};
-ghost use mathlib.Core.List.{_++_};
+ghost use mathlib.Core.List.{_∷_, _++_};
 ghost use Prim.Native.Nat.{min, _+_, _*_, _<_, _≤_, _^_};
 ghost use lib.ListN.{length, take, drop, replicate};
-ghost use Rattle.rules.specs.Layout.{valueWidth, headerSize, definitionSize, particleSize, attributeSize, rowSize, le, entry};
-ghost use Rattle.rules.specs.Decode.{numberAt, readDefinition, readAttribute, readRow, definitionCount, particleCount, attributeCount, rowCount};
+ghost use Rattle.rules.specs.Layout.{valueWidth, nameWidth, headerSize, definitionSize, particleSize, attributeSize, rowSize, le, entry, field, definitionBytes, attributeBytes};
+ghost use Rattle.rules.specs.Decode.{numberAt, readDefinition, readParticle, readAttribute, readRow, definitionCount, particleCount, attributeCount, rowCount};
 ghost use Rattle.codec.specs.Laid.{Laid};
 ghost use Rattle.layout.specs.RowBytes.{rowOf, rowStart, rowEnd, movedRow, valuedRow, WholeRow, RowLaid};
+ghost use Rattle.layout.specs.RecordBytes.{definitionOf, attributeOf, indexedBytes, ownedBytes};
 ghost use Rattle.layout.specs.Header.{contents, headed};
 ghost use Rattle.layout.specs.Bodies.{Width, windowOf, Product, recordAt, Number, WidthIn, Sized, ShapeOf, attributesStart, rowsStart, Place, definitionBody, particleBody, attributeBody, rowBody, definitionsIn, particlesIn, attributesIn, rowsIn, attributeIn};
 
@@ -613,4 +614,156 @@ pub fn put_header(
     let version = codec::put(window(store, 0, 4), out, 0);
     let serial = codec::put_u32(out, version, next as u32);
     put_contents(w, d, p, a, r, out, serial)
+}
+
+// ---- the fields of a particle, and the owner of an attribute as its byte
+
+/// Particle i.
+pub fn particle_at(parts: &[u8], i: usize) -> &[u8]
+    requires { ⌜ i < 4294967296 ⌝ }
+    ensures { λ r. ⌜ now r ≡ recordAt particleSize i (now (parts .entry)) ⌝ }
+{
+    record_at(parts, 4, i)
+}
+
+pub fn particle_sort(rec: &[u8]) -> u8
+    ensures { λ r. ⌜ r ≡ readParticle (now (rec .entry)) .row .sort ⌝ }
+{
+    codec::byte(rec, 0)
+}
+
+pub fn particle_index(rec: &[u8]) -> u8
+    ensures { λ r. ⌜ r ≡ readParticle (now (rec .entry)) .row .index ⌝ }
+{
+    codec::byte(rec, 2)
+}
+
+pub fn particle_depth(rec: &[u8]) -> u8
+    ensures { λ r. ⌜ r ≡ readParticle (now (rec .entry)) .depth ⌝ }
+{
+    codec::byte(rec, 3)
+}
+
+pub fn owner_byte(rec: &[u8]) -> u8
+    ensures { λ r. ⌜ r ≡ readAttribute (now (rec .entry)) .owner ⌝ }
+{
+    codec::byte(rec, 0)
+}
+
+// ---- the records of a form, written
+
+/// Writes a value, zero filled to a width.
+pub fn put_field(s: &[u8], width: usize, out: &mut [u8], at: usize) -> usize
+    requires { ⌜ Width width × (length (now s) ≤ width) × (at < 4611686018427387904) ⌝ }
+    ensures { λ r. ⌜ Laid (field width (now (s .entry))) (now (out .entry)) at r (now (out .exit)) ⌝ }
+{
+    let next = codec::put(s, out, at);
+    put_zeros(width - s.len(), out, next)
+}
+
+// The length of a value, and the value in its field.
+fn put_value(s: &[u8], width: usize, out: &mut [u8], at: usize) -> usize
+    requires { ⌜ Width width × (length (now s) ≤ width) × (at < 2305843009213693952) ⌝ }
+    ensures { λ r. ⌜ Laid (length (now (s .entry)) ∷ field width (now (s .entry))) (now (out .entry)) at r (now (out .exit)) ⌝ }
+{
+    let next = codec::put_u8(out, at, s.len() as u8);
+    put_field(s, width, out, next)
+}
+
+/// Writes a definition.
+pub fn put_definition(name: &[u8], kind: u8, particles: u32, out: &mut [u8], at: usize) -> usize
+    requires { ⌜ (length (now name) ≤ nameWidth) × (at < 1152921504606846976) ⌝ }
+    ensures { λ r. ⌜ Laid (definitionBytes (definitionOf (now (name .entry)) kind particles)) (now (out .entry)) at r (now (out .exit)) ⌝ }
+{
+    let a = put_value(name, 16, out, at);
+    let b = codec::put_u8(out, a, kind);
+    codec::put_u16(out, b, particles)
+}
+
+/// Writes an attribute.
+pub fn put_attribute(
+    w: usize,
+    owner: u8,
+    name: &[u8],
+    sort: u8,
+    value: &[u8],
+    out: &mut [u8],
+    at: usize,
+) -> usize
+    requires { ⌜ Width w × (length (now name) ≤ nameWidth) × (length (now value) ≤ w) × (at < 1152921504606846976) ⌝ }
+    ensures { λ r. ⌜ Laid (attributeBytes w (attributeOf owner (now (name .entry)) sort (now (value .entry)))) (now (out .entry)) at r (now (out .exit)) ⌝ }
+{
+    let a = codec::put_u8(out, at, owner);
+    let b = put_value(name, 16, out, a);
+    let c = codec::put_u8(out, b, sort);
+    put_value(value, w, out, c)
+}
+
+/// Writes a particle with another index.
+pub fn put_particle_moved(rec: &[u8], index: u8, out: &mut [u8], at: usize) -> usize
+    requires { ⌜ at < 4611686018427387904 ⌝ }
+    ensures { λ r. ⌜ Laid (indexedBytes index (now (rec .entry))) (now (out .entry)) at r (now (out .exit)) ⌝ }
+{
+    let depth = particle_depth(rec);
+    let a = codec::put(window(rec, 0, 2), out, at);
+    let b = codec::put_u8(out, a, index);
+    codec::put_u8(out, b, depth)
+}
+
+/// Writes an attribute with another owner.
+pub fn put_attribute_moved(w: usize, rec: &[u8], owner: u8, out: &mut [u8], at: usize) -> usize
+    requires { ⌜ Width w × (length (now rec) ≤ attributeSize w) × (at < 4611686018427387904) ⌝ }
+    ensures { λ r. ⌜ Laid (ownedBytes owner (now (rec .entry))) (now (out .entry)) at r (now (out .exit)) ⌝ }
+{
+    let next = codec::put_u8(out, at, owner);
+    codec::put(window(rec, 1, 20 + w), out, next)
+}
+
+// ---- parts of a body
+
+/// Bytes of a definition.
+pub fn definition_size() -> usize
+    ensures { λ r. ⌜ r ≡ definitionSize ⌝ }
+{
+    20
+}
+
+// All but the first i records of a body of records of `size` bytes.
+fn records_from(s: &[u8], size: usize, i: usize) -> &[u8]
+    requires { ⌜ (size < 65536) × (i < 4294967296) ⌝ }
+    ensures { λ r. ⌜ now r ≡ drop (size * i) (now (s .entry)) ⌝ }
+{
+    window(s, times(size, i), s.len())
+}
+
+/// The first i definitions.
+pub fn definitions_to(defs: &[u8], i: usize) -> &[u8]
+    requires { ⌜ i < 4294967296 ⌝ }
+    ensures { λ r. ⌜ now r ≡ take (definitionSize * i) (now (defs .entry)) ⌝ }
+{
+    window(defs, 0, 20 * i)
+}
+
+/// All but the first i definitions.
+pub fn definitions_from(defs: &[u8], i: usize) -> &[u8]
+    requires { ⌜ i < 4294967296 ⌝ }
+    ensures { λ r. ⌜ now r ≡ drop (definitionSize * i) (now (defs .entry)) ⌝ }
+{
+    records_from(defs, 20, i)
+}
+
+/// All but the first i particles.
+pub fn particles_from(parts: &[u8], i: usize) -> &[u8]
+    requires { ⌜ i < 4294967296 ⌝ }
+    ensures { λ r. ⌜ now r ≡ drop (particleSize * i) (now (parts .entry)) ⌝ }
+{
+    records_from(parts, 4, i)
+}
+
+/// All but the first i attributes.
+pub fn attributes_from(w: usize, attrs: &[u8], i: usize) -> &[u8]
+    requires { ⌜ Width w × (i < 4294967296) ⌝ }
+    ensures { λ r. ⌜ now r ≡ drop (attributeSize w * i) (now (attrs .entry)) ⌝ }
+{
+    records_from(attrs, 20 + w, i)
 }

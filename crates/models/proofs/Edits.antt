@@ -26,7 +26,7 @@ use Rattle.model.specs.declared.place.Holder.{Holder}
 use Rattle.model.specs.declared.place.Found.the-variants.{At}
 use Rattle.model.specs.Members.{particlesOf}
 use Rattle.model.specs.Places.{Particles, placeOf}
-use Rattle.validity.specs.Check.{particlesIn}
+use Rattle.layout.specs.Bodies.{particlesIn}
 use Rattle.lookup.specs.Bodies.{bodiesOf}
 use Rattle.splicing.specs.Spliced.{startOf, countOf, counted, splicedForm}
 use Rattle.splicing.specs.PartAfter.{suits, renameEdit, inserts, partAfter, lengthAfter}

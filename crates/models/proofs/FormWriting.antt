@@ -12,7 +12,7 @@ use borrow.Author.Tests.{le-leb, lt-leb, not-true, not-false}
 use Rattle.rules.specs.Bytes.{Bytes, all}
 use Rattle.rules.specs.Edit.{Edit, insert, remove, quantify, convert, flatten}
 use Rattle.rules.specs.Preorder.{Deep}
-use Rattle.rules.specs.Layout.{FlatParticle, FlatStore, definitionBytes, particleBytes, attributeBytes, each}
+use Rattle.rules.specs.Layout.{definitionSize, attributeSize, FlatParticle, FlatStore, definitionBytes, particleBytes, attributeBytes, each}
 use Rattle.rules.specs.Decode.{definitionCount, particleCount, attributeCount}
 use Rattle.rules.specs.WellFormed.{withinCeilings}
 use Rattle.rules.specs.Passing.{passes}
@@ -22,13 +22,14 @@ use Rattle.rules.proofs.LayoutLaws.{length-each, length-definition, length-part
 use Rattle.codec.specs.Laid.{Laid}
 use Rattle.codec.proofs.Writers.{laid-then, laid-as}
 use Rattle.codec.proofs.Strings.{part-there}
-use Rattle.records.specs.Records.{baseWidth, NumberAt}
 use Rattle.model.specs.declared.place.Holder.{Holder}
 use Rattle.model.specs.Members.{particlesOf}
 use Rattle.model.specs.Places.{Particles}
 use Rattle.model.proofs.ParticleLaws.{particles-part}
 use Rattle.rowpass.specs.Reading.{definitionIn, particlesBefore}
-use Rattle.validity.specs.Check.{definitionsIn, particlesIn}
+use Rattle.layout.specs.Bodies.{widthOf, Number, definitionsIn, particlesIn, attributesIn}
+use Rattle.layout.proofs.LayoutLaws.{width-within}
+use Rattle.layout.proofs.HeaderLaws.{attributes-short}
 use Rattle.lookup.specs.Bodies.{bodiesOf}
 use Rattle.editing.specs.declared.Plan.{Plan}
 use Rattle.splicing.specs.Spliced.{startOf, countOf, counted, spliced, splicedForm}
@@ -41,13 +42,14 @@ use Rattle.storing.specs.Stores.{limited}
 use Rattle.storing.specs.Planned.{plannedIn}
 use Rattle.storing.specs.Forms.{formBytes, formIn, Forms}
 use Rattle.storing.proofs.FormLaws.{bareForm, FormOf, forms-of, form-answers, form-ceiling}
-use Rattle.storing.proofs.FormBytesLaws.{Few, few-of, few-definitions, few-particles, few-attributes, length-form}
+use Rattle.storing.proofs.FormBytesLaws.{Few, few-of, few-particles}
+use Rattle.storing.proofs.FormBytesLaws as bytes
 use Rattle.storing.proofs.LimitLaws.{answers-as}
 use Rattle.plans.proofs.FormsAfter.{spliced-bytes, spliced-form, counted-length}
-use Rattle.defining.proofs.Encoded.{Encoded, encoded}
+use Rattle.defining.proofs.Encoded.{Encoded, encoded, definitions-at, attributes-at}
 use Rattle.placing.specs.Placing.{partIn}
 use Rattle.models.specs.Editing.{startIn, countIn, partEdited, formEdited, Edits}
-use Rattle.models.proofs.OwnParts.{start-is, count-is, own-is, parts-are, particles-are, defs-bytes, attrs-bytes}
+use Rattle.models.proofs.OwnParts.{start-is, count-is, own-is, parts-are, particles-are}
 
 -- ---- tests
 all-append : {A : Type 0} (t : A → Bool) (xs ys : List A) → all t xs ≡ true → all t (xs ++ ys) ≡ all t ys
@@ -187,8 +189,8 @@ module _ {bs : Bytes} {o : ℕ} {e : Edit ℕ} {h : Holder} {n : ℕ} (v : Edits
       ap (λ (z : Bytes). partAfter e h n (particlesOf z)) (own-is bs (v .good) o ∙ (λ i. writing.partIn (sym ef i) (sym em i) (sym ep i))) in
       laid-as (ap (each particleBytes) (particles-after ∙ (λ i. spliced (sym (ef ∙ start) i) (sym (em ∙ count) i) (part i) ((sym (ap particlesOf ep ∙ particles-are bs (v .good))) i)))) w
 
-  pub table-short : {d : ℕ} {table : Bytes} → d ≡ 20 * definitionCount bs → table ≡ take d (drop 40 bs) → length table ≤ 1280
-  table-short e t = omega (arith, ap (λ (z : Bytes). length z) (defs-bytes bs (v .good) e t), length-each definitionBytes 20 length-definition (f .definitions), enc .fewDefinitions)
+  pub table-short : {table : Bytes} → table ≡ definitionsIn bs → length table ≤ 1280
+  table-short t = omega (arith, ap (λ (z : Bytes). length z) (t ∙ definitions-at enc), length-each definitionBytes definitionSize length-definition (f .definitions), enc .fewDefinitions)
 
   -- what comes before the attributes, and they themselves
   module _ (w : withinCeilings (bareForm g) ≡ true) where
@@ -198,24 +200,22 @@ module _ {bs : Bytes} {o : ℕ} {e : Edit ℕ} {h : Holder} {n : ℕ} (v : Edits
     pub own-short : lengthAfter e (countIn bs o) ≤ 256
     own-short = omega (arith, all-length, few-particles (few-of (bareForm g) w))
 
-    pub form-short : length (formBytes g) ≤ 5632
-    form-short =
-        let x : Few (bareForm g) = few-of (bareForm g) w in
-        omega (arith, length-form g, few-definitions x, few-particles x, few-attributes x)
+    pub form-short : length (formBytes (widthOf bs) g) ≤ 9728
+    unfolding formEdited
+    form-short = bytes.form-short (forms-of (spliced-form o (partEdited bs o e h n) f (enc .good) w refl refl refl refl)) (width-within bs)
 
-  pub form-laid : {d p b count : ℕ} {table attrs out out₁ out₂ out₃ : Bytes} {at₁ at₂ at₃ : ℕ} → d ≡ 20 * definitionCount bs → p ≡ 4 * particleCount bs → b ≡ 52 * attributeCount bs → count ≡ lengthAfter e (countIn bs o)
-      → table ≡ take d (drop 40 bs) → attrs ≡ take b (drop (40 + d + p) bs) → Laid (countedBytes o count table) out 0 at₁ out₁ → Laid (each particleBytes (g .particles)) out₁ at₁ at₂ out₂ → Laid attrs out₂ at₂ at₃ out₃
-      → Laid (formBytes g) out 0 at₃ out₃
+  pub form-laid : {count : ℕ} {table attrs out out₁ out₂ out₃ : Bytes} {at₁ at₂ at₃ : ℕ} → count ≡ lengthAfter e (countIn bs o) → table ≡ definitionsIn bs → attrs ≡ attributesIn bs
+      → Laid (countedBytes o count table) out 0 at₁ out₁ → Laid (each particleBytes (g .particles)) out₁ at₁ at₂ out₂ → Laid attrs out₂ at₂ at₃ out₃ → Laid (formBytes (widthOf bs) g) out 0 at₃ out₃
   unfolding formEdited splicedForm
-  form-laid ed ep eb ec et ea x y z =
+  form-laid {count} ec et ea x y z =
       let l : o < length (f .definitions) = omega (arith, v .there, enc .definitions) in
-      let m : length (partEdited bs o e h n) ≡ _ = v .many ∙ sym ec in
+      let m : length (partEdited bs o e h n) ≡ count = v .many ∙ sym ec in
       laid-as
       (ap₂ (λ (s t : Bytes). s ++ (each particleBytes (g .particles) ++ t))
-      (counted-bytes o (length (partEdited bs o e h n)) (f .definitions) l ∙ ap₂ (λ (c : ℕ) (t : Bytes). countedBytes o c t) m (sym (defs-bytes bs (v .good) ed et))) (sym (attrs-bytes bs (v .good) ed ep eb ea)))
+      (counted-bytes o (length (partEdited bs o e h n)) (f .definitions) l ∙ ap₂ (λ (c : ℕ) (t : Bytes). countedBytes o c t) m (sym (et ∙ definitions-at enc))) (sym (ea ∙ attributes-at enc)))
       (laid-then x (laid-then y z))
 
-  pub body-in : withinCeilings (bareForm g) ≡ true → {first many from : ℕ} {parts : Bytes} → first ≡ startIn bs o → many ≡ countIn bs o → parts ≡ particlesIn bs → from ≤ 5632
+  pub body-in : withinCeilings (bareForm g) ≡ true → {first many from : ℕ} {parts : Bytes} → first ≡ startIn bs o → many ≡ countIn bs o → parts ≡ particlesIn bs → from ≤ 9728
       → Body e h n first many parts × (from + 4 * length parts < 2305843009213693952)
   body-in w {first} {many} {from} {parts} ef em ep l = (
     subst (λ (z : ℕ). Body e h n z many parts) (sym ef) (subst (λ (z : ℕ). Body e h n (startIn bs o) z parts) (sym em) (subst (λ (z : Bytes). Body e h n (startIn bs o) (countIn bs o) z) (sym ep) (v .body w))),
@@ -223,24 +223,30 @@ module _ {bs : Bytes} {o : ℕ} {e : Edit ℕ} {h : Holder} {n : ℕ} (v : Edits
   )
 
   -- what stands before the attributes
-  pub counted-short : {d count : ℕ} {table : Bytes} → d ≡ 20 * definitionCount bs → count ≡ lengthAfter e (countIn bs o) → table ≡ take d (drop 40 bs) → length (countedBytes o count table) ≤ 1280
-  counted-short {d} {count} {table} ed ec et =
+  pub counted-short : {count : ℕ} {table : Bytes} → count ≡ lengthAfter e (countIn bs o) → table ≡ definitionsIn bs → length (countedBytes o count table) ≤ 1280
+  counted-short {count} {table} ec et =
       let l : o < length (f .definitions) = omega (arith, v .there, enc .definitions) in
       omega (
         arith,
-        ap (λ (z : Bytes). length (countedBytes o count z)) (defs-bytes bs (v .good) ed et),
+        ap (λ (z : Bytes). length (countedBytes o count z)) (et ∙ definitions-at enc),
         ap (λ (z : Bytes). length z) (counted-bytes o count (f .definitions) l),
-        length-each definitionBytes 20 length-definition (counted o count (f .definitions)),
+        length-each definitionBytes definitionSize length-definition (counted o count (f .definitions)),
         counted-length o count (f .definitions),
         enc .fewDefinitions,
       )
 
-  pub attrs-short : {d p b : ℕ} {attrs : Bytes} → d ≡ 20 * definitionCount bs → p ≡ 4 * particleCount bs → b ≡ 52 * attributeCount bs → attrs ≡ take b (drop (40 + d + p) bs) → length attrs ≤ 3328
-  attrs-short ed ep eb ea = omega (arith, ap (λ (z : Bytes). length z) (attrs-bytes bs (v .good) ed ep eb ea), length-each (attributeBytes baseWidth) 52 (length-attribute baseWidth) (f .attributes), enc .fewAttributes)
+  pub attrs-short : {attrs : Bytes} → attrs ≡ attributesIn bs → length attrs ≤ 7424
+  attrs-short ea =
+      omega (
+        arith,
+        ap (λ (z : Bytes). length z) (ea ∙ attributes-at enc),
+        length-each (attributeBytes (widthOf bs)) (attributeSize (widthOf bs)) (length-attribute (widthOf bs)) (f .attributes),
+        attributes-short (widthOf bs) (length (f .attributes)) (width-within bs) (enc .fewAttributes),
+      )
 
   -- ---- the store
-  module _ (w : withinCeilings (bareForm g) ≡ true) {d p b : ℕ} (ed : NumberAt 12 bs d) (ep : p ≡ length (g .particles)) (eb : NumberAt 28 bs b) {form : Bytes} (ef : form ≡ formBytes g) where
-    pub form-of : FormOf g form d p b
+  module _ (w : withinCeilings (bareForm g) ≡ true) {d p b : ℕ} (ed : Number (definitionCount bs) d) (ep : p ≡ length (g .particles)) (eb : Number (attributeCount bs) b) {form : Bytes} (ef : form ≡ formBytes (widthOf bs) g) where
+    pub form-of : FormOf (widthOf bs) g form d p b
     unfolding formEdited
     form-of = spliced-form o (partEdited bs o e h n) f (enc .good) w ef (ed .value ∙ enc .definitions) ep (eb .value ∙ enc .attributes)
 

@@ -2,35 +2,32 @@
 -- Assumes nothing.
 use Prim.Native.Nat.{ℕ, zero, suc, _+_, _*_, _/_, _<_, _≤_}
 use native.Mathlib.Omega.{arith}
-use mathlib.Core.Path.{_≡_, refl, sym, ap, ap₂, _∙_, subst}
+use mathlib.Core.Path.{_≡_, refl, sym, ap, _∙_, subst}
 use mathlib.Core.Bool.{true}
-use mathlib.Core.List.{List, [], _∷_, _++_, map}
-use lib.ListN.{length, take, drop, getD, length-map, length-append, length-take}
-use lib.Seq.{take-at, drop-at, drop-drop}
+use mathlib.Core.List.{List, [], _∷_, map}
+use lib.ListN.{length, drop, getD, length-map, length-append, length-take}
 use Rattle.rules.specs.Bytes.{Bytes}
 use Rattle.rules.specs.Store.{Form}
-use Rattle.rules.specs.Layout.{FlatDefinition, FlatStore, definitionSize, flat, flatDefinition, allParticles, contentParticles, definitionBytes, particleBytes, attributeBytes, rowBytes, each}
-use Rattle.rules.specs.Decode.{readMany, readDefinition, readParticle, definitionCount, particleCount, attributeCount}
+use Rattle.rules.specs.Layout.{FlatDefinition, FlatStore, definitionSize, flat, flatDefinition, allParticles, contentParticles, particleBytes, each}
+use Rattle.rules.specs.Decode.{readMany, readDefinition, readParticle, definitionCount, particleCount}
 use Rattle.rules.specs.Passing.{passes}
-use Rattle.rules.proofs.LayoutLaws.{Small, length-each, length-particle, length-attribute}
+use Rattle.rules.proofs.LayoutLaws.{Small}
 use Rattle.rules.proofs.SmallBytes.{encode-small}
 use Rattle.codec.proofs.Records.{many-at}
-use Rattle.records.specs.Records.{baseWidth}
 use Rattle.model.specs.Members.{particlesOf}
 use Rattle.forms.specs.Bodies.{definitions, particles}
 use Rattle.rowpass.specs.Reading.{definitionIn, particlesBefore, modelPart}
 use Rattle.validity.specs.Reading.{noDefinition}
-use Rattle.validity.specs.Check.{definitionsIn, particlesIn}
+use Rattle.layout.specs.Bodies.{definitionsIn, particlesIn}
 use Rattle.validity.proofs.Parts.{before, before-is}
 use Rattle.validity.proofs.StringChecks.{Headed, laid-in, passes-header, same-definitions, same-particles}
 use Rattle.lookup.specs.Bodies.{bodiesOf}
-use Rattle.layout.specs.Bodies.{widthOf}
 use Rattle.splicing.specs.Spliced.{startOf, countOf}
 use Rattle.splicing.specs.Writing as writing
 use Rattle.splicing.proofs.WritingLaws.{whole}
 use Rattle.storing.specs.Stores.{storeIn}
 use Rattle.storing.proofs.StoreLaws.{Holds, holds}
-use Rattle.defining.proofs.Encoded.{Encoded, encoded, others, definitions-at, others-at}
+use Rattle.defining.proofs.Encoded.{Encoded, encoded}
 use Rattle.placing.specs.Placing.{partIn}
 use Rattle.models.specs.Editing.{startIn, countIn}
 
@@ -58,7 +55,7 @@ module _ (bs : Bytes) (q : passes bs ≡ true) where
   headed = let h : Holds bs = holds bs q in record { small = subst Small (h .written) (encode-small (storeIn bs) (h .good)); header = passes-header bs q }
 
   pub particles-are : particlesOf (particlesIn bs) ≡ bodiesOf bs .particles
-  unfolding particlesOf particles bodiesOf widthOf
+  unfolding particlesOf particles bodiesOf
   particles-are =
       let e : length (particlesIn bs) / 4 ≡ particleCount bs = omega (arith, laid-in headed .bodies .particleBody .whole) in
       ap (λ (k : ℕ). readMany readParticle 4 k (particlesIn bs)) e ∙ sym (same-particles headed)
@@ -67,7 +64,7 @@ module _ (bs : Bytes) (q : passes bs ≡ true) where
   parts-are = ap (each particleBytes) (sym particles-are) ∙ whole (particlesIn bs) (omega (arith, laid-in headed .bodies .particleBody .whole))
 
   definition-is : (i : ℕ) → i < definitionCount bs → countIn bs i ≡ getD (bodiesOf bs .definitions) i noDefinition .particles
-  unfolding definitions bodiesOf widthOf
+  unfolding definitions bodiesOf
   definition-is i l =
       ap (λ (d : FlatDefinition). d .particles) (sym (many-at readDefinition definitionSize i (definitionCount bs) (definitionsIn bs) noDefinition l))
       ∙ ap (λ (ds : List FlatDefinition). getD ds i noDefinition .particles) (sym (same-definitions headed))
@@ -96,16 +93,3 @@ module _ (bs : Bytes) (q : passes bs ≡ true) where
   own-inside o l =
       let f : bodiesOf bs ≡ flat (storeIn bs) = holds bs q .bodies in
       omega (arith, start-is o (omega arith), count-is o l, ap (λ (z : FlatStore). startOf o (z .definitions)) f, ap (λ (z : FlatStore). countOf o (z .definitions)) f, x .particles, ap (λ (z : FlatStore). length (z .particles)) f, within-all (storeIn bs .form) o (storeIn bs .form))
-
-  -- ---- as bytes
-  pub defs-bytes : {d : ℕ} {s : Bytes} → d ≡ 20 * definitionCount bs → s ≡ take d (drop 40 bs) → s ≡ each definitionBytes (bodiesOf bs .definitions)
-  defs-bytes e p = p ∙ ap (λ (k : ℕ). take k (drop 40 bs)) e ∙ definitions-at x
-
-  pub attrs-bytes : {d p a : ℕ} {s : Bytes} → d ≡ 20 * definitionCount bs → p ≡ 4 * particleCount bs → a ≡ 52 * attributeCount bs → s ≡ take a (drop (40 + d + p) bs) → s ≡ each (attributeBytes baseWidth) (bodiesOf bs .attributes)
-  attrs-bytes {d} {p} {a} {s} ed ep ea e =
-      let f : FlatStore = bodiesOf bs in
-      let n : length (each particleBytes (f .particles)) ≡ p = omega (arith, ep, x .particles, length-each particleBytes 4 length-particle (f .particles)) in
-      let m : length (each (attributeBytes baseWidth) (f .attributes)) ≡ a = omega (arith, ea, x .attributes, length-each (attributeBytes baseWidth) 52 (length-attribute baseWidth) (f .attributes)) in
-      e
-      ∙ ap (take a) (sym (drop-drop p (40 + d) bs) ∙ ap (drop p) (ap (λ (k : ℕ). drop (40 + k) bs) ed ∙ others-at x) ∙ drop-at (each particleBytes (f .particles)) (each (attributeBytes baseWidth) (f .attributes) ++ each (rowBytes baseWidth) (f .rows)) p n)
-      ∙ take-at (each (attributeBytes baseWidth) (f .attributes)) (each (rowBytes baseWidth) (f .rows)) a m

@@ -14,7 +14,7 @@ use Rattle.model.specs.declared.place.Holder.{Holder}
 use Rattle.model.specs.Members.{particlesOf}
 use Rattle.model.specs.Places.{Particles}
 use Rattle.rowpass.specs.Reading.{definitionIn, particlesBefore}
-use Rattle.validity.specs.Check.{definitionsIn, particlesIn}
+use Rattle.layout.specs.Bodies.{definitionsIn, particlesIn}
 use Rattle.lookup.specs.Bodies.{bodiesOf}
 use Rattle.splicing.specs.Spliced.{splicedForm}
 use Rattle.splicing.specs.PartAfter.{partAfter, lengthAfter}

@@ -15,8 +15,8 @@ ghost use Rattle.rules.specs.Decode.{particleCount};
 ghost use Rattle.rules.specs.Layout.{each, particleBytes};
 ghost use Rattle.rules.specs.WellFormed.{isValue, withinCeilings};
 ghost use Rattle.rules.specs.Outcome.{outcome, Answers};
-ghost use Rattle.records.specs.Records.{baseWidth};
 ghost use Rattle.codec.specs.Laid.{Laid};
+ghost use Rattle.layout.specs.Bodies.{widthOf};
 ghost use Rattle.lookup.specs.Bodies.{bodiesOf};
 ghost use Rattle.splicing.specs.PartAfter.{lengthAfter};
 ghost use Rattle.splicing.specs.Writing.{editOf};
@@ -28,10 +28,8 @@ ghost use Rattle.plans.specs.ModelCalls.{removeElementPlan};
 ghost use Rattle.storing.proofs.FormLaws.{bareForm};
 ghost use Rattle.models.specs.Editing.{formEdited, countIn, Edits};
 
-const HEADER_SIZE: usize = 40;
-
-/// The most bytes that a form has: 64 definitions, 256 particles, 64 attributes.
-const FORM_SIZE: usize = 5632;
+/// The most bytes that a form has, of the widest values: 64 definitions, 256 particles, 64 attributes of 116 bytes.
+const FORM_SIZE: usize = 9728;
 
 // ---- the edit of a model
 
@@ -54,7 +52,7 @@ fn own_after(store: &[u8], owner: usize, edit: Edit) -> usize
     requires { ⌜ owner ≤ 256 ⌝ }
     ensures { λ r. ⌜ r ≡ lengthAfter (editOf edit) (countIn (now (store .entry)) owner) ⌝ }
 {
-    let definitions = validity::body(store, 8, 20);
+    let definitions = layout::definitions_of(store);
     length_after(edit, rowpass::particles_of(definitions, owner))
 }
 
@@ -63,9 +61,9 @@ fn all_after(store: &[u8], owner: usize, edit: Edit) -> usize
     requires { ⌜ (owner ≤ 256) × (countIn (now store) owner ≤ particleCount (now store)) ⌝ }
     ensures { λ r. ⌜ r ≡ particleCount (now (store .entry)) - countIn (now (store .entry)) owner + lengthAfter (editOf edit) (countIn (now (store .entry)) owner) ⌝ }
 {
-    let definitions = validity::body(store, 8, 20);
+    let definitions = layout::definitions_of(store);
     let own = rowpass::particles_of(definitions, owner);
-    validity::number(store, 20) - own + length_after(edit, own)
+    layout::particle_count(store) - own + length_after(edit, own)
 }
 
 // Whether the form after an edit keeps within the ceilings, where it has p particles.
@@ -89,11 +87,11 @@ fn put_own(
     out: &mut [u8],
     from: usize,
 ) -> usize
-    requires { ⌜ Edits (now store) owner (editOf edit) holder at × (withinCeilings (bareForm (formEdited (now store) owner (editOf edit) holder at)) ≡ true) × (from ≤ 5632) ⌝ }
+    requires { ⌜ Edits (now store) owner (editOf edit) holder at × (withinCeilings (bareForm (formEdited (now store) owner (editOf edit) holder at)) ≡ true) × (from ≤ 9728) ⌝ }
     ensures { λ r. ⌜ Laid (each particleBytes (formEdited (now (store .entry)) owner (editOf edit) holder at .particles)) (now (out .entry)) from r (now (out .exit)) ⌝ }
 {
-    let definitions = validity::body(store, 8, 20);
-    let particles = validity::body(store, 16, 4);
+    let definitions = layout::definitions_of(store);
+    let particles = layout::particles_of(store);
     let first = rowpass::particles_before(definitions, owner);
     let k = rowpass::particles_of(definitions, owner);
     splicing::put_particles(particles, first, k, edit, holder, at, out, from)
@@ -109,16 +107,13 @@ fn put_edited(
     out: &mut [u8],
 ) -> usize
     requires { ⌜ Edits (now store) owner (editOf edit) holder at × (withinCeilings (bareForm (formEdited (now store) owner (editOf edit) holder at)) ≡ true) ⌝ }
-    ensures { λ r. ⌜ Laid (formBytes (formEdited (now (store .entry)) owner (editOf edit) holder at)) (now (out .entry)) 0 r (now (out .exit)) ⌝ }
+    ensures { λ r. ⌜ Laid (formBytes (widthOf (now (store .entry))) (formEdited (now (store .entry)) owner (editOf edit) holder at)) (now (out .entry)) 0 r (now (out .exit)) ⌝ }
 {
-    let d = 20 * validity::number(store, 12);
-    let p = 4 * validity::number(store, 20);
-    let a = 52 * validity::number(store, 28);
     let count = own_after(store, owner, edit);
-    let table = layout::window(store, HEADER_SIZE, d);
+    let table = layout::definitions_of(store);
     let next = splicing::put_counted(table, owner, count as u32, out, 0);
     let end = put_own(store, owner, edit, holder, at, out, next);
-    codec::put(layout::window(store, HEADER_SIZE + d + p, a), out, end)
+    codec::put(layout::attributes_of(store), out, end)
 }
 
 /// The store after a plan and an edit of the model of definition `owner` at particle `at` of the list `holder`.
@@ -132,15 +127,15 @@ pub fn edit_model(
     text: &[u8],
     out: &mut [u8],
 ) -> Answer
-    requires { ⌜ Edits (now store) owner (editOf edit) holder at × (isValue baseWidth (now text) ≡ true) × Sized plan ⌝ }
+    requires { ⌜ Edits (now store) owner (editOf edit) holder at × (isValue (widthOf (now store)) (now text) ≡ true) × Sized plan ⌝ }
     ensures { λ r. ⌜ Answers (limited (length (now (out .entry))) (plannedIn (formEdited (now (store .entry)) owner (editOf edit) holder at) plan (now (text .entry)) (bodiesOf (now (store .entry))))) (now (out .entry)) (r .number) (r .length) (now (out .exit)) ⌝ }
 {
     let p = all_after(store, owner, edit);
     if !keeps_within(store, owner, edit, holder, at, p) {
         return storing::refused(16);
     }
-    let d = validity::number(store, 12);
-    let a = validity::number(store, 28);
+    let d = layout::definition_count(store);
+    let a = layout::attribute_count(store);
     let mut form = [0; FORM_SIZE];
     let end = put_edited(store, owner, edit, holder, at, &mut form);
     storing::edit_form(store, &form[..end], d, p, a, plan, text, out)
@@ -153,7 +148,7 @@ fn removing_plan(part: &[u8], owner: usize, p: usize) -> Plan
     requires { ⌜ p ≤ 256 ⌝ }
     ensures { λ r. ⌜ r ≡ removeElementPlan owner (getD (now (part .entry)) (4 * p + 2) 0) ⌝ }
 {
-    let index = codec::byte(part, 4 * p + 2) as usize;
+    let index = layout::particle_index(layout::particles_from(part, p)) as usize;
     plans::taking_plan(Which::Elements(owner), Which::Elements(index))
 }
 

@@ -9,19 +9,18 @@ use mathlib.Core.Bool.{Bool, true, false, _&&_, _||_, not, false≢true, or-fals
 use mathlib.Core.Option.{Option, none, some}
 use mathlib.Core.List.{List, [], _∷_, _++_, map}
 use lib.Dec.{eqb, ltb}
-use lib.ListN.{length, take, drop, getD, length-append}
-use lib.Seq.{drop-drop}
+use lib.ListN.{length, length-append}
 use Rattle.rules.specs.Bytes.{Bytes, same, bytes, any, isNone}
 use Rattle.rules.specs.Model.{member}
 use Rattle.rules.specs.Store.{Attribute, Form}
-use Rattle.rules.specs.Layout.{FlatStore, ownAttributes, allAttributes}
-use Rattle.rules.specs.Decode.{readAttribute, readMany, definitionCount, particleCount}
-use Rattle.rules.specs.WellFormed.{attributeName, isThere, isValue, givenName}
+use Rattle.rules.specs.Layout.{attributeSize, FlatStore, ownAttributes, allAttributes}
+use Rattle.rules.specs.Decode.{readAttribute, readMany, attributeCount}
+use Rattle.rules.specs.WellFormed.{attributeName, isThere, givenName}
 use Rattle.rules.specs.Change.{addAttribute, destroyAttribute, Owned, entryAt, attributeAt, definitionAt}
-use Rattle.rules.specs.Refusal.{conditions, isOther, wrongDefault}
-use Rattle.records.specs.Records.{NumberAt}
+use Rattle.rules.specs.Refusal.{conditions, badText, isOther, wrongDefault}
 use Rattle.lookup.specs.Bodies.{bodiesOf}
-use Rattle.layout.specs.Bodies.{widthOf}
+use Rattle.layout.specs.Bodies.{WidthIn, Number, attributesIn}
+use Rattle.layout.proofs.LayoutLaws.{attributes-read}
 use Rattle.rules.proofs.BooleanLaws.{any-append}
 use Rattle.rules.proofs.DecodeLaws.{length-own}
 use Rattle.validity.proofs.AttributeBlocks.{below-or}
@@ -29,7 +28,7 @@ use Rattle.storing.specs.Stores.{storeIn}
 use Rattle.finding.proofs.StoreFacts.{formIn, Whole}
 use Rattle.finding.specs.Finding.{Gives}
 use Rattle.finding.proofs.RefusalLaws.{gives-hit, gives-next, gives-none}
-use Rattle.placing.specs.Placing.{attributeBody, ownNamed}
+use Rattle.placing.specs.Placing.{ownNamed}
 
 -- ---- attributes of a form
 entry-in : (i : ℕ) (table : List Attribute) → isThere (entryAt i table) ≡ true → i < length table
@@ -105,23 +104,16 @@ module _ (o : ℕ) (n : Bytes) where
       ∙ ap₂ (λ (x y : Bool). x || y) (other-any k (ne-eqb k o (λ z. omega arith)) (d .attributes)) (all-any ds (suc k) i (omega arith))
 
 -- ---- the loop over the attributes
-pub attributes-any : (bs n : Bytes) (o : ℕ) {count : ℕ} {r : Bool} → NumberAt 28 bs count → r ≡ any (ownNamed o n) (readMany readAttribute 52 count (attributeBody bs)) → r ≡ any (ownNamed o n) (bodiesOf bs .attributes)
-unfolding bodiesOf attributeBody widthOf
-attributes-any bs n o {count} e q = q ∙ ap (λ (k : ℕ). any (ownNamed o n) (readMany readAttribute 52 k (attributeBody bs))) (e .value)
-
-pub attribute-place : (bs : Bytes) (i : ℕ) {d p : ℕ} {rec : Bytes} → NumberAt 12 bs d → NumberAt 20 bs p → rec ≡ take 52 (drop (40 + 20 * d + 4 * p + 52 * i) bs) → rec ≡ take 52 (drop (52 * i) (attributeBody bs))
-unfolding attributeBody
-attribute-place bs i {d} {p} e f q =
-    let a : drop (4 * particleCount bs) (drop (20 * definitionCount bs) (drop 40 bs)) ≡ drop (40 + 20 * d + 4 * p) bs =
-    ap₂ (λ (x y : ℕ). drop (4 * y) (drop (20 * x) (drop 40 bs))) (sym (e .value)) (sym (f .value))
-    ∙ ap (λ (z : Bytes). drop (4 * p) z) (drop-drop (20 * d) 40 bs)
-    ∙ drop-drop (4 * p) (40 + 20 * d) bs in
-    q ∙ ap (λ (z : Bytes). take 52 z) (sym (drop-drop (52 * i) (40 + 20 * d + 4 * p) bs) ∙ ap (λ (z : Bytes). drop (52 * i) z) (sym a))
+pub attributes-any : (bs n : Bytes) (o : ℕ) {w count : ℕ} {attrs : Bytes} {r : Bool} → WidthIn bs w → attrs ≡ attributesIn bs → Number (attributeCount bs) count
+    → r ≡ any (ownNamed o n) (readMany readAttribute (attributeSize w) count attrs) → r ≡ any (ownNamed o n) (bodiesOf bs .attributes)
+unfolding bodiesOf
+attributes-any bs n o v f e q =
+    q ∙ (λ j. any (ownNamed o n) (readMany readAttribute (attributeSize (v .value j)) (e .value j) (f j))) ∙ ap (any (ownNamed o n)) (attributes-read bs)
 
 -- ---- the conditions
 module _ (bs : Bytes) (w : Whole bs) where
   -- 10
-  module _ {n : ℕ} (e : NumberAt 28 bs n) (i : ℕ) where
+  module _ {n : ℕ} (e : Number (attributeCount bs) n) (i : ℕ) where
     count-is : n ≡ length (allAttributes 0 (formIn bs))
     count-is = e .value ∙ w .agrees .attributes
 
@@ -144,11 +136,11 @@ module _ (bs : Bytes) (w : Whole bs) where
     add-2 h = gives-hit h
 
     module _ (h₂ : not (givenName n) ≡ false) where
-      pub add-3 : not (isValue 32 v) ≡ true → Gives 3 (conditions (addAttribute o n k v) (storeIn bs))
+      pub add-3 : badText (storeIn bs) v ≡ true → Gives 3 (conditions (addAttribute o n k v) (storeIn bs))
       unfolding conditions
       add-3 h = gives-next h₂ (gives-hit h)
 
-      module _ (h₃ : not (isValue 32 v) ≡ false) where
+      module _ (h₃ : badText (storeIn bs) v ≡ false) where
         pub add-4 : 2 < k → Gives 4 (conditions (addAttribute o n k v) (storeIn bs))
         unfolding conditions
         add-4 h = gives-next h₂ (gives-next h₃ (gives-hit (lt-ltb 2 k h)))
@@ -192,7 +184,6 @@ default-2 (suc (suc k)) v e f = refl
 pub own-at : (o : ℕ) (n : Bytes) {rec at : Bytes} {r : Bool} → r ≡ ownNamed o n (readAttribute rec) → rec ≡ at → r ≡ ownNamed o n (readAttribute at)
 own-at o n e q = e ∙ ap (λ (z : Bytes). ownNamed o n (readAttribute z)) q
 
-pub own-read : (o : ℕ) (n rec : Bytes) {name : Bytes} {owner used : ℕ} {same-is : Bool} → used ≡ getD rec 1 0 → name ≡ take used (drop 2 rec) → same-is ≡ same n name → owner ≡ getD rec 0 0
+pub own-read : (o : ℕ) (n rec : Bytes) {name : Bytes} {owner : ℕ} {same-is : Bool} → name ≡ readAttribute rec .name → same-is ≡ same n name → owner ≡ readAttribute rec .owner
     → (eqb owner o && same-is) ≡ ownNamed o n (readAttribute rec)
-own-read o n rec u t e w =
-    ap₂ (λ (x : ℕ) (b : Bool). eqb x o && b) w (e ∙ ap (same n) (t ∙ ap (λ (k : ℕ). take k (drop 2 rec)) u))
+own-read o n rec t e w = ap₂ (λ (x : ℕ) (b : Bool). eqb x o && b) w (e ∙ ap (same n) t)

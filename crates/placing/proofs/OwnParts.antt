@@ -17,7 +17,6 @@ use Rattle.rules.proofs.LayoutLaws.{Small}
 use Rattle.rules.proofs.SmallBytes.{encode-small}
 use Rattle.codec.proofs.Strings.{part-there}
 use Rattle.codec.proofs.Records.{many-at}
-use Rattle.records.specs.Records.{baseWidth}
 use Rattle.model.specs.Members.{particlesOf}
 use Rattle.model.specs.Places.{Particles}
 use Rattle.model.specs.Positions.{spread}
@@ -27,7 +26,7 @@ use Rattle.forms.specs.Bodies.{definitions, particles, formOf}
 use Rattle.forms.proofs.Reading.{definitions-length}
 use Rattle.rowpass.specs.Reading.{definitionIn, particlesBefore, modelPart}
 use Rattle.validity.specs.Reading.{FieldsFit, partAt, noDefinition}
-use Rattle.validity.specs.Check.{FormPasses, definitionsIn, particlesIn}
+use Rattle.validity.specs.Check.{FormPasses}
 use Rattle.validity.proofs.IndexLaws.{namesOf}
 use Rattle.validity.proofs.ModelReads.{ModelRead}
 use Rattle.validity.proofs.FormReads.{form-size, form-apart, model-at, members-at}
@@ -36,16 +35,16 @@ use Rattle.validity.proofs.FormLaws.{Laid, fields-fit, before-all}
 use Rattle.validity.proofs.IndexReads.{index-agrees}
 use Rattle.validity.proofs.StringChecks.{Headed, laid-in, passes-header, passes-in, same-form}
 use Rattle.lookup.specs.Bodies.{bodiesOf}
-use Rattle.layout.specs.Bodies.{widthOf}
+use Rattle.layout.specs.Bodies.{widthOf, definitionsIn, particlesIn}
 use Rattle.storing.specs.Stores.{storeIn}
 use Rattle.storing.proofs.StoreLaws.{Holds, holds}
 use Rattle.finding.proofs.StoreFacts.{formIn, byIndex}
 
-module _ {n : ℕ} {defs : Bytes} {p : ℕ} {parts : Bytes} {a : ℕ} {attrs : Bytes} (laid : Laid n defs p parts a attrs) (x : FormPasses n defs p parts a attrs) where
+module _ {w n : ℕ} {defs : Bytes} {p : ℕ} {parts : Bytes} {a : ℕ} {attrs : Bytes} (laid : Laid w n defs p parts a attrs) (x : FormPasses w n defs p parts a attrs) where
   abbrev f : FlatStore
-  f = formOf baseWidth n defs p parts a attrs
+  f = formOf w n defs p parts a attrs
 
-  fields : FieldsFit baseWidth f
+  fields : FieldsFit w f
   fields = fields-fit laid (x .definitions) (x .attributes)
 
   definition-in : (i : ℕ) → i < n → definitionIn defs i .particles ≡ getD (definitions n defs) i noDefinition .particles
@@ -80,11 +79,11 @@ module _ {n : ℕ} {defs : Bytes} {p : ℕ} {parts : Bytes} {a : ℕ} {attrs : B
   own-in : (i : ℕ) → i < n → particlesOf (modelPart defs parts i) ≡ spread 0 (rename (λ m. indexOf m (unflat f .form)) (members (definitionAt i (unflat f .form))))
   own-in i l =
       let h : i < length (unflat f .form) = omega (arith, form-size f, definitions-length n defs) in
-      let r : ModelRead (unflat f .form) (form-apart baseWidth f fields (x .bodies)) (partAt i (definitions n defs) (particles p parts)) = model-at baseWidth f fields (x .bodies) i h in
+      let r : ModelRead (unflat f .form) (form-apart w f fields (x .bodies)) (partAt i (definitions n defs) (particles p parts)) = model-at w f fields (x .bodies) i h in
       part-particles i l
       ∙ sym (r .back)
       ∙ spread-named (unflat f .form) 0 (readMembers (namesOf (unflat f .form)) (build (partAt i (definitions n defs) (particles p parts)) 0))
-      ∙ ap (λ (ms : Members Bytes). spread 0 (rename (λ m. indexOf m (unflat f .form)) ms)) (sym (members-at baseWidth f fields (x .bodies) i h))
+      ∙ ap (λ (ms : Members Bytes). spread 0 (rename (λ m. indexOf m (unflat f .form)) ms)) (sym (members-at w f fields (x .bodies) i h))
 
 -- THE OWNER'S PART: the particles of its model, each name as its index
 pub own-particles : (bs : Bytes) → passes bs ≡ true → (o : ℕ) → o < definitionCount bs
@@ -93,5 +92,5 @@ unfolding storeIn bodiesOf widthOf
 own-particles bs q o l =
     let h : Holds bs = holds bs q in
     let d : Headed bs = record { small = subst Small (h .written) (encode-small (storeIn bs) (h .good)); header = passes-header bs q } in
-    let form = passes-in d (byIndex bs) (λ x. index-agrees (laid-in d) (x .passes)) .0 q .0 in
+    let form = passes-in d (byIndex bs) (λ x. index-agrees (laid-in d) (x .passes) _) .0 q .0 in
     subst (λ (z : Form). particlesOf (modelPart (definitionsIn bs) (particlesIn bs) o) ≡ spread 0 (rename (λ m. indexOf m z) (members (definitionAt o z)))) (sym (same-form d)) (own-in (laid-in d) (form .passes) o l)

@@ -32,7 +32,7 @@ use Rattle.model.specs.Positions.{elementParticle, groupParticle, spread, leadi
 use Rattle.model.proofs.ParticleLaws.{length-particles, particle-at}
 use Rattle.model.proofs.PositionLaws.{spread-plug, length-leading, code-quantifier}
 use Rattle.rowpass.specs.Reading.{modelPart}
-use Rattle.validity.specs.Check.{definitionsIn, particlesIn}
+use Rattle.layout.specs.Bodies.{definitionsIn, particlesIn}
 use Rattle.placing.specs.declared.Picked.{Picked}
 use Rattle.placing.specs.declared.Picked.the-variants as pick
 use Rattle.placing.specs.Placing.{indexIn, modelIn, partIn, leads, foundBy, Placed, pickOf, ElementAt, GroupAt, Picks, Picking}

@@ -19,14 +19,14 @@ use Rattle.rules.specs.WellFormed.{isValue}
 use Rattle.rules.specs.Place.{Context, Found as Spot, spine}
 use Rattle.rules.specs.Edit.{quantify, quantifyOff, quantifyGroupOff}
 use Rattle.rules.specs.Change.{nameAtIndex}
-use Rattle.rules.specs.Refusal.{_if_, Condition, first, conditions, foundAt, noElementAt, noGroupAt, atPlace, onElement, onGroup, instanceExists}
+use Rattle.rules.specs.Refusal.{_if_, Condition, first, conditions, badText, foundAt, noElementAt, noGroupAt, atPlace, onElement, onGroup, instanceExists}
 use Rattle.rules.proofs.Words.{and-both}
 use Rattle.model.specs.declared.place.Holder.{Holder}
-use Rattle.records.specs.Records.{NumberAt}
+use Rattle.layout.specs.Bodies.{WidthIn, Number}
 use Rattle.storing.specs.Stores.{storeIn}
 use Rattle.finding.proofs.StoreFacts.{formIn, Whole}
 use Rattle.finding.specs.Finding.{Gives}
-use Rattle.finding.proofs.RefusalLaws.{gives-hit, gives-next, gives-none}
+use Rattle.finding.proofs.RefusalLaws.{gives-hit, gives-next, gives-none, bad-text, fine-text}
 use Rattle.placing.specs.Placing.{modelIn, foundBy, hasInstance, ElementAt, GroupAt, isOff, earlyTests, quantifierTests, requantify}
 use Rattle.placing.proofs.TestLaws.{and-off, and-first}
 use Rattle.placing.proofs.PlaceLaws.{found-quantify}
@@ -56,24 +56,24 @@ three-off false false false f h = record { value = refl; code = refl; index = re
 
 module _ (o q : ℕ) (t bs : Bytes) where
   -- the tests of the code
-  pub early-3 : {a : Bool} → a ≡ isValue 32 t → not a ≡ true → Gives 3 (earlyTests o q t bs)
-  early-3 e h = gives-hit (ap not (sym e) ∙ h)
+  pub early-3 : {n : ℕ} {a : Bool} → WidthIn bs n → a ≡ isValue n t → not a ≡ true → Gives 3 (earlyTests o q t bs)
+  early-3 v e h = gives-hit (bad-text bs t v e h)
 
-  module _ {a : Bool} (e : a ≡ isValue 32 t) (h : not a ≡ false) where
+  module _ {n : ℕ} {a : Bool} (v : WidthIn bs n) (e : a ≡ isValue n t) (h : not a ≡ false) where
     pub early-4 : 3 < q → Gives 4 (earlyTests o q t bs)
-    early-4 l = gives-next (ap not (sym e) ∙ h) (gives-hit (lt-ltb 3 q l))
+    early-4 l = gives-next (fine-text bs t v e h) (gives-hit (lt-ltb 3 q l))
 
-    module _ (l : q ≤ 3) {n : ℕ} (u : NumberAt 12 bs n) where
-      pub early-6 : n ≤ o → Gives 6 (earlyTests o q t bs)
-      early-6 k = gives-next (ap not (sym e) ∙ h) (gives-next (le-ltb 3 q l) (gives-hit (ap not (le-ltb o (definitionCount bs) (omega (arith, u .value))))))
+    module _ (l : q ≤ 3) {m : ℕ} (u : Number (definitionCount bs) m) where
+      pub early-6 : m ≤ o → Gives 6 (earlyTests o q t bs)
+      early-6 k = gives-next (fine-text bs t v e h) (gives-next (le-ltb 3 q l) (gives-hit (ap not (le-ltb o (definitionCount bs) (omega (arith, u .value))))))
 
-      pub early-0 : o < n → Gives 0 (earlyTests o q t bs)
-      early-0 k = gives-next (ap not (sym e) ∙ h) (gives-next (le-ltb 3 q l) (gives-next (ap not (lt-ltb o (definitionCount bs) (omega (arith, u .value)))) gives-none))
+      pub early-0 : o < m → Gives 0 (earlyTests o q t bs)
+      early-0 k = gives-next (fine-text bs t v e h) (gives-next (le-ltb 3 q l) (gives-next (ap not (lt-ltb o (definitionCount bs) (omega (arith, u .value)))) gives-none))
 
   -- none of them holds
   module _ {r : ℕ} (f : Gives r (earlyTests o q t bs)) (z : r ≡ 0) where
-    off : Off (not (isValue 32 t)) (ltb 3 q) (not (ltb o (definitionCount bs)))
-    off = three-off (not (isValue 32 t)) (ltb 3 q) (not (ltb o (definitionCount bs))) f z
+    off : Off (badText (storeIn bs) t) (ltb 3 q) (not (ltb o (definitionCount bs)))
+    off = three-off (badText (storeIn bs) t) (ltb 3 q) (not (ltb o (definitionCount bs))) f z
 
     pub early-code : q ≤ 3
     early-code = ltb-false 3 q (off .code)
@@ -118,8 +118,9 @@ module _ (bs : Bytes) (w : Whole bs) (o : ℕ) (p : List ℕ) (q : ℕ) (t : Byt
   past-same : not (ltb o (definitionCount bs)) ≡ not (ltb o (length (formIn bs)))
   past-same = ap (λ (z : ℕ). not (ltb o z)) (w .agrees .size)
 
-  held : (cs : List Condition) → (r ≡ 0 → ⊥) → Gives r (three (not (isValue 32 t)) (ltb 3 q) (not (ltb o (length (formIn bs)))) cs)
-  held cs h = three-held (not (isValue 32 t)) (ltb 3 q) (not (ltb o (length (formIn bs)))) cs (record { is = f .is ∙ ap (λ (z : Bool). first (three (not (isValue 32 t)) (ltb 3 q) z [])) past-same }) h
+  held : (cs : List Condition) → (r ≡ 0 → ⊥) → Gives r (three (badText (storeIn bs) t) (ltb 3 q) (not (ltb o (length (formIn bs)))) cs)
+  held cs h =
+      three-held (badText (storeIn bs) t) (ltb 3 q) (not (ltb o (length (formIn bs)))) cs (record { is = f .is ∙ ap (λ (z : Bool). first (three (badText (storeIn bs) t) (ltb 3 q) z [])) past-same }) h
 
   pub requantify-early : (g : Bool) → (r ≡ 0 → ⊥) → Gives r (conditions (requantify g o p q t) (storeIn bs))
   unfolding conditions
@@ -127,10 +128,10 @@ module _ (bs : Bytes) (w : Whole bs) (o : ℕ) (p : List ℕ) (q : ℕ) (t : Byt
   requantify-early true h = held _ h
 
   module _ (z : r ≡ 0) where
-    none-early : Off (not (isValue 32 t)) (ltb 3 q) (not (ltb o (definitionCount bs)))
-    none-early = three-off (not (isValue 32 t)) (ltb 3 q) (not (ltb o (definitionCount bs))) f z
+    none-early : Off (badText (storeIn bs) t) (ltb 3 q) (not (ltb o (definitionCount bs)))
+    none-early = three-off (badText (storeIn bs) t) (ltb 3 q) (not (ltb o (definitionCount bs))) f z
 
-    on-early : {s : ℕ} {cs : List Condition} → Gives s cs → Gives s (three (not (isValue 32 t)) (ltb 3 q) (not (ltb o (length (formIn bs)))) cs)
+    on-early : {s : ℕ} {cs : List Condition} → Gives s cs → Gives s (three (badText (storeIn bs) t) (ltb 3 q) (not (ltb o (length (formIn bs)))) cs)
     on-early g = gives-next (none-early .value) (gives-next (none-early .code) (gives-next (sym past-same ∙ none-early .index) g))
 
     within : o < length (formIn bs)

@@ -15,13 +15,12 @@ use Rattle.rules.specs.Model.{Members, el, group, rename, skips, nothing}
 use Rattle.rules.specs.Quantifiers.{relaxes, gains, cuts}
 use Rattle.rules.specs.Store.{members}
 use Rattle.rules.specs.Preorder.{Deep}
-use Rattle.rules.specs.Layout.{headerSize, definitionSize, particleSize, FlatAttribute, FlatRow, indexOf, howMany}
-use Rattle.rules.specs.Decode.{readParticle, readRow, readMany, definitionCount, particleCount, rowCount}
-use Rattle.rules.specs.WellFormed.{isValue}
+use Rattle.rules.specs.Layout.{rowSize, FlatAttribute, FlatRow, indexOf, howMany}
+use Rattle.rules.specs.Decode.{readParticle, readRow, readMany, definitionCount, rowCount}
 use Rattle.rules.specs.Place.{Found as Spot, gap, nth, find, plug, kindAt, spine, renameAround}
 use Rattle.rules.specs.Edit.{sameKind, lone, firstMembers, hasMembers}
 use Rattle.rules.specs.Change.{Call, changeQuantifier, changeGroupQuantifier, definitionAt}
-use Rattle.rules.specs.Refusal.{Condition, _if_}
+use Rattle.rules.specs.Refusal.{Condition, _if_, badText}
 use Rattle.model.specs.declared.What.{What}
 use Rattle.model.specs.declared.What.the-variants as what
 use Rattle.model.specs.declared.place.Holder.{Holder}
@@ -30,15 +29,12 @@ use Rattle.model.specs.Members.{particlesOf, membersFrom}
 use Rattle.model.specs.Places.{top}
 use Rattle.model.specs.Positions.{spread, offset, holder}
 use Rattle.rowpass.specs.Reading.{modelPart}
-use Rattle.validity.specs.Check.{definitionsIn, particlesIn, rowsIn}
+use Rattle.layout.specs.Bodies.{widthOf, definitionsIn, particlesIn, rowsIn}
 use Rattle.storing.specs.Stores.{storeIn}
 use Rattle.placing.specs.declared.Picked.{Picked}
 use Rattle.placing.specs.declared.Picked.the-variants as pick
 
 -- ---- attributes
-unfoldable pub attributeBody : Bytes → Bytes
-attributeBody bs = drop (particleSize * particleCount bs) (drop (definitionSize * definitionCount bs) (drop headerSize bs))
-
 -- one named n of definition o
 abbrev pub ownNamed : ℕ → Bytes → FlatAttribute → Bool
 ownNamed o n a = eqb (a .owner) o && same n (a .name)
@@ -49,7 +45,7 @@ abbrev pub instanceRow : ℕ → Deep FlatRow → Bool
 instanceRow o x = eqb (x .row .sort) 1 && eqb (x .row .index) o
 
 abbrev pub hasInstance : Bytes → ℕ → Bool
-hasInstance bs o = any (instanceRow o) (readMany readRow 44 (rowCount bs) (rowsIn bs))
+hasInstance bs o = any (instanceRow o) (readMany readRow (rowSize (widthOf bs)) (rowCount bs) (rowsIn bs))
 
 -- ---- places
 -- the index of a name
@@ -130,7 +126,7 @@ isOff spine old new isGroup = (not (relaxes old new) && not spine) || (isGroup &
 
 -- rows 3, 4 and 6 of changes 5 and 8, then rows 12 and 13
 abbrev pub earlyTests : ℕ → ℕ → Bytes → Bytes → List Condition
-earlyTests o q t bs = 3 if not (isValue 32 t) ∷ 4 if ltb 3 q ∷ 6 if not (ltb o (definitionCount bs)) ∷ []
+earlyTests o q t bs = 3 if badText (storeIn bs) t ∷ 4 if ltb 3 q ∷ 6 if not (ltb o (definitionCount bs)) ∷ []
 
 abbrev pub quantifierTests : Bool → Bool → Quantifier → Quantifier → Bytes → Bool → List Condition
 quantifierTests exists spine old new t isGroup = 12 if (gains old new && isNone t) ∷ 13 if (exists && isOff spine old new isGroup) ∷ []

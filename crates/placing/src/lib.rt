@@ -21,43 +21,30 @@ ghost use Rattle.rules.specs.Change.{removeElement, changeQuantifier, convertTo
 ghost use Rattle.rules.specs.Refusal.{_if_, first, conditions, wrongDefault};
 ghost use Rattle.model.specs.Members.{membersFrom};
 ghost use Rattle.model.specs.Particle.{particleOf};
-ghost use Rattle.layout.specs.Bodies.{recordAt};
 ghost use Rattle.lookup.specs.Bodies.{bodiesOf};
 ghost use Rattle.storing.specs.Stores.{storeIn};
 ghost use Rattle.finding.specs.Finding.{Gives};
-ghost use Rattle.placing.specs.Placing.{attributeBody, ownNamed, hasInstance, partIn, pickOf, Picking, oneIf, unlikeKind, convertTests, isOff, earlyTests, quantifierTests, requantify, choiceLeft, Removable, removeTests};
-
-// The width of a value.
-const VALUE_WIDTH: usize = 32;
+ghost use Rattle.placing.specs.Placing.{ownNamed, hasInstance, partIn, pickOf, Picking, oneIf, unlikeKind, convertTests, isOff, earlyTests, quantifierTests, requantify, choiceLeft, Removable, removeTests};
 
 // ---- attributes
-/// The record of attribute i.
-pub fn attribute(store: &[u8], i: usize) -> &[u8]
-    requires { ⌜ i < 4294967296 ⌝ }
-    ensures { λ r. ⌜ now r ≡ recordAt 52 i (attributeBody (now (store .entry))) ⌝ }
-{
-    let definitions = records::number(store, 12);
-    let particles = records::number(store, 20);
-    layout::window(store, 40 + 20 * definitions + 4 * particles + 52 * i, 52)
-}
-
 // Whether a record is that of an owner's attribute with a name.
 fn is_own(rec: &[u8], owner: u32, name: &[u8]) -> bool
     ensures { λ r. ⌜ r ≡ ownNamed owner (now (name .entry)) (readAttribute (now (rec .entry))) ⌝ }
 {
-    let used = codec::byte(rec, 1) as usize;
-    let same = codec::equal(name, layout::window(rec, 2, used));
-    (codec::byte(rec, 0) as u32 == owner) & same
+    let same = codec::equal(name, layout::attribute_name(rec));
+    (layout::attribute_owner(rec) == owner as usize) & same
 }
 
 // Whether an owner has an attribute with a name.
 fn has_attribute(store: &[u8], owner: u32, name: &[u8]) -> bool
     ensures { λ r. ⌜ r ≡ any (ownNamed owner (now (name .entry))) (bodiesOf (now (store .entry)) .attributes) ⌝ }
 {
-    let count = records::number(store, 28);
+    let w = layout::width_in(store);
+    let attrs = layout::attributes_of(store);
+    let count = layout::attribute_count(store);
     let mut i = 0;
     while i < count {
-        if is_own(attribute(store, i), owner, name) {
+        if is_own(layout::attribute_at(w, attrs, i), owner, name) {
             return true;
         }
         i += 1;
@@ -81,12 +68,13 @@ fn is_wrong_default(sort: u32, value: &[u8]) -> bool
 pub fn instance_exists(store: &[u8], definition: u32) -> bool
     ensures { λ r. ⌜ r ≡ hasInstance (now (store .entry)) definition ⌝ }
 {
-    let rows = validity::body(store, 32, 44);
-    let count = records::number(store, 36);
+    let w = layout::width_in(store);
+    let rows = layout::rows_of(store);
+    let count = layout::row_count(store);
     let mut i = 0;
     while i < count {
-        let row = layout::window(rows, 44 * i, 44);
-        if (codec::byte(row, 0) == 1) & (codec::get_u16(row, 2) == definition) {
+        let row = layout::row_at(w, rows, i);
+        if (layout::row_sort(row) == 1) & (layout::row_index(row) == definition) {
             return true;
         }
         i += 1;
@@ -108,8 +96,8 @@ pub fn own_part(store: &[u8], owner: usize) -> &[u8]
     requires { ⌜ owner ≤ 256 ⌝ }
     ensures { λ r. ⌜ now r ≡ partIn (now (store .entry)) owner ⌝ }
 {
-    let definitions = validity::body(store, 8, 20);
-    let particles = validity::body(store, 16, 4);
+    let definitions = layout::definitions_of(store);
+    let particles = layout::particles_of(store);
     rowpass::model_part(definitions, particles, owner)
 }
 
@@ -248,7 +236,7 @@ pub fn convert_to_group_refusal(
     if !((sort == 1) | (sort == 2)) {
         return 4;
     }
-    if owner as usize >= records::number(store, 12) {
+    if owner as usize >= layout::definition_count(store) {
         return 6;
     }
     let part = own_part(store, owner as usize);
@@ -265,7 +253,7 @@ pub fn flatten_group_refusal(store: &[u8], owner: u32, place: &[u32]) -> u32
     requires { ⌜ passes (now store) ≡ true ⌝ }
     ensures { λ r. ⌜ r ≡ first (conditions (flattenGroup owner (now (place .entry))) (storeIn (now (store .entry)))) ⌝ }
 {
-    if owner as usize >= records::number(store, 12) {
+    if owner as usize >= layout::definition_count(store) {
         return 6;
     }
     let x = pick(store, owner, place);
@@ -362,7 +350,7 @@ pub fn remove_element_refusal(store: &[u8], owner: u32, place: &[u32]) -> u32
     requires { ⌜ passes (now store) ≡ true ⌝ }
     ensures { λ r. ⌜ r ≡ first (conditions (removeElement owner (now (place .entry))) (storeIn (now (store .entry)))) ⌝ }
 {
-    if owner as usize >= records::number(store, 12) {
+    if owner as usize >= layout::definition_count(store) {
         return 6;
     }
     let part = own_part(store, owner as usize);
@@ -378,13 +366,14 @@ pub fn remove_element_refusal(store: &[u8], owner: u32, place: &[u32]) -> u32
 fn early_refusal(store: &[u8], owner: u32, quantifier: u32, text: &[u8]) -> u32
     ensures { λ r. ⌜ Gives r (earlyTests owner quantifier (now (text .entry)) (now (store .entry))) ⌝ }
 {
-    if !records::is_value(VALUE_WIDTH, text) {
+    let w = layout::width_in(store);
+    if !records::is_value(w, text) {
         return 3;
     }
     if quantifier > 3 {
         return 4;
     }
-    if owner as usize >= records::number(store, 12) {
+    if owner as usize >= layout::definition_count(store) {
         return 6;
     }
     0
@@ -485,7 +474,8 @@ pub fn add_attribute_refusal(store: &[u8], owner: u32, name: &[u8], sort: u32, v
     if !records::stored_name(name) {
         return 2;
     }
-    if !records::is_value(VALUE_WIDTH, value) {
+    let w = layout::width_in(store);
+    if !records::is_value(w, value) {
         return 3;
     }
     if sort > 2 {
@@ -494,7 +484,7 @@ pub fn add_attribute_refusal(store: &[u8], owner: u32, name: &[u8], sort: u32, v
     if has_attribute(store, owner, name) {
         return 5;
     }
-    if owner as usize >= records::number(store, 12) {
+    if owner as usize >= layout::definition_count(store) {
         return 6;
     }
     if is_wrong_default(sort, value) {
@@ -508,7 +498,7 @@ pub fn destroy_attribute_refusal(store: &[u8], attribute: u32) -> u32
     requires { ⌜ passes (now store) ≡ true ⌝ }
     ensures { λ r. ⌜ r ≡ first (conditions (destroyAttribute attribute) (storeIn (now (store .entry)))) ⌝ }
 {
-    if attribute as usize >= records::number(store, 28) {
+    if attribute as usize >= layout::attribute_count(store) {
         return 6;
     }
     0

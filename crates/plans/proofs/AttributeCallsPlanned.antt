@@ -56,11 +56,6 @@ use Rattle.plans.proofs.DocumentPlans.{given}
 use Rattle.plans.proofs.CallsPlanned.{none-holds, owned-there}
 use Rattle.plans.proofs.Instances.{element-test, apart-instances}
 
-required-code : (k : ℕ) → eqb k 1 ≡ mustBePresent (sortOf k)
-required-code zero = refl
-required-code (suc zero) = refl
-required-code (suc (suc k)) = ne-eqb (suc (suc k)) 1 (λ e. omega arith)
-
 pub and-swap : (a b : Bool) → (a && b) ≡ (b && a)
 and-swap true true = refl
 and-swap true false = refl
@@ -83,10 +78,10 @@ module _ (s : Store) (g : good s ≡ true) where
     name = nameAtIndex o (s .form)
 
     abbrev p : Plan
-    p = addAttributePlan o a k
+    p = addAttributePlan (s .version) o a k
 
     abbrev q : change.Plan
-    q = making (λ r. mustBePresent (sortOf k) && elementNamed name r) (λ u r. not (isAttribute (r .sort))) (tree (attributeRow (newAttribute n k v)) bare bare)
+    q = making (λ r. mustBePresent (s .version) (sortOf k) && elementNamed name r) (λ u r. not (isAttribute (r .sort))) (tree (attributeRow (newAttribute n k v)) bare bare)
 
     abbrev more : List Attribute → List Attribute
     more table = table ++ newAttribute n k v ∷ []
@@ -122,15 +117,15 @@ module _ (s : Store) (g : good s ≡ true) where
               index-moved (s .form) new p (u .name) r refl (index-kept more o (s .form) (r .name))
               (λ e. let (j, (d, f, m)) = own e in added-shift o (s .form) once l (u .name) d f (r .name) m (newAttribute n k v));
           value = value-same r v [] (given s g r b i);
-          fills = ap₂ (λ (c d : Bool). c && d) (element-test (s .form) once o l (u .name) r) (required-code k) ∙ and-swap (elementNamed name r) (mustBePresent (sortOf k));
+          fills = ap (λ (c : Bool). c && mustBePresent (s .version) (sortOf k)) (element-test (s .form) once o l (u .name) r) ∙ and-swap (elementNamed name r) (mustBePresent (s .version) (sortOf k));
           filling = λ e.
-              filled (r .name) (same-eq name (r .name) (and-split (isElement (r .sort)) (same name (r .name)) (and-split (mustBePresent (sortOf k)) (elementNamed name r) e .1) .1));
+              filled (r .name) (same-eq name (r .name) (and-split (isElement (r .sort)) (same name (r .name)) (and-split (mustBePresent (s .version) (sortOf k)) (elementNamed name r) e .1) .1));
         }
 
     add-attribute-does : documentsWalk p v fill (indexed (s .form) [] (s .docs)) ≡ flatten 0 (indexed (formAfter (addAttribute o n k v) (s .form)) [] (docsAfter (addAttribute o n k v) s))
     unfolding plan formAfter
     add-attribute-does =
-        documents-kept (s .form) new q p v fill record { keeps = refl; spares = refl } (s .docs) (sym (and-false (mustBePresent (sortOf k)))) (λ e. absurd (false≢true (sym (and-false (mustBePresent (sortOf k))) ∙ e)))
+        documents-kept (s .form) new q p v fill record { keeps = refl; spares = refl } (s .docs) (sym (and-false (mustBePresent (s .version) (sortOf k)))) (λ e. absurd (false≢true (sym (and-false (mustBePresent (s .version) (sortOf k))) ∙ e)))
         (kept-all (s .form) new q p v fill (s .docs) (λ sel u. sel ≡ elementNamed name u) (Owns (s .form)) (λ sel w u r b x own i. inr (step sel w u r b x own i, element-test (s .form) once o l (u .name) r)) refl
         (each-owned s g))
 
@@ -147,15 +142,15 @@ module _ (s : Store) (g : good s ≡ true) where
 
   pub add-attribute-planned : (o : ℕ) (n : Bytes) (k : ℕ) (v : Bytes) → first (conditions (addAttribute o n k v) s) ≡ 0
       → flat (after (addAttribute o n k v) s)
-      ≡ plannedIn (attributeAdded (attributesTo o (flat s .attributes)) (record { owner = o; name = n; sort = k; value = v }) (flat s)) (addAttributePlan o (attributesTo o (flat s .attributes)) k) v (flat s)
+      ≡ plannedIn (attributeAdded (attributesTo o (flat s .attributes)) (record { owner = o; name = n; sort = k; value = v }) (flat s)) (addAttributePlan (s .version) o (attributesTo o (flat s .attributes)) k) v (flat s)
   unfolding conditions
   add-attribute-planned o n k v e =
       let (name, (value, (code, (fresh, (index, more))))) = none-holds (addAttribute o n k v) s e in
       let l : o < length (s .form) = not-past o (s .form) index in
       let new : List·Memᴰ n (map attributeName (definitionAt o (s .form) .attributes)) → ⊥ = λ m. false≢true (sym fresh ∙ member-test bytes n (map attributeName (definitionAt o (s .form) .attributes)) .1 m) in
-      flat-planned-in (addAttribute o n k v) s (addAttributePlan o (offset (suc o) (s .form)) k) v (attributeAdded (offset (suc o) (s .form)) (record { owner = o; name = n; sort = k; value = v }) (flat s))
-      (add-attribute-holds o n k v l new (ltb-false 2 k code)) (clear-elements o (addAttributePlan o (offset (suc o) (s .form)) k) l refl) (add-attribute-does o n k v l new)
-      ∙ ap (λ (a : ℕ). plannedIn (attributeAdded a (record { owner = o; name = n; sort = k; value = v }) (flat s)) (addAttributePlan o a k) v (flat s)) (sym (attributes-to o (s .form)))
+      flat-planned-in (addAttribute o n k v) s (addAttributePlan (s .version) o (offset (suc o) (s .form)) k) v (attributeAdded (offset (suc o) (s .form)) (record { owner = o; name = n; sort = k; value = v }) (flat s))
+      (add-attribute-holds o n k v l new (ltb-false 2 k code)) (clear-elements o (addAttributePlan (s .version) o (offset (suc o) (s .form)) k) l refl) (add-attribute-does o n k v l new)
+      ∙ ap (λ (a : ℕ). plannedIn (attributeAdded a (record { owner = o; name = n; sort = k; value = v }) (flat s)) (addAttributePlan (s .version) o a k) v (flat s)) (sym (attributes-to o (s .form)))
 
   -- ---- 10
   module _ (a : ℕ) (o : Owned) (at : attributeAt a (s .form) ≡ some o) where

@@ -98,7 +98,7 @@ module _ (s : Store) (g : good s ≡ true) (k a : ℕ) (o : Owned) (at : attribu
       fill = fillOf (destroyAttributeRowPlan k a) v (flat s)
 
   -- ---- 14; ms: the serials of the attribute's rows below the element
-  set-plan : (v : Bytes) (ms : List ℕ) → childrenOf (attributeNamed (o .attribute .name)) k (lines 0 (s .docs)) ≡ ms → plan (setAttribute k a v) (s .form) (lines 0 (s .docs)) ≡ setAt k o v ms
+  set-plan : (v : Bytes) (ms : List ℕ) → childrenOf (attributeNamed (o .attribute .name)) k (lines 0 (s .docs)) ≡ ms → plan (setAttribute k a v) (s .version) (s .form) (lines 0 (s .docs)) ≡ setAt k o v ms
   unfolding plan
   set-plan v ms e = ap (setPlan (lines 0 (s .docs)) k v) at ∙ ap (setAt k o v) e
 

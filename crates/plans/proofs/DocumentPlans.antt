@@ -54,7 +54,7 @@ module _ (s : Store) (g : good s ≡ true) where
       }
     where
       q : change.Plan
-      q = making (λ r. eqb (r .serial) 0) neither (fillDefinition (s .form) t (nameAtIndex i (s .form)))
+      q = making (λ r. eqb (r .serial) 0) neither (fillDefinition (s .version) (s .form) t (nameAtIndex i (s .form)))
 
       fill : ℕ → List (Deep FlatRow)
       fill = fillOf (addDocumentPlan i) t (flat s)
@@ -84,7 +84,7 @@ module _ (s : Store) (g : good s ≡ true) where
       p = addElementPlan k m i
 
       q : change.Plan
-      q = making (elementWith k) (λ u r. eqb (r .serial) m) (fillDefinition (s .form) t (nameAtIndex i (s .form)))
+      q = making (elementWith k) (λ u r. eqb (r .serial) m) (fillDefinition (s .version) (s .form) t (nameAtIndex i (s .form)))
 
       fill : ℕ → List (Deep FlatRow)
       fill = fillOf p t (flat s)
@@ -109,7 +109,7 @@ module _ (s : Store) (g : good s ≡ true) where
       fill = fillOf (destroyElementPlan k) v (flat s)
 
   -- ---- 14 where the attribute's row is there, and 16: a value is set
-  pub set-value-does : (m : ℕ) (v : Bytes) (c : Call) → plan c (s .form) (lines 0 (s .docs)) ≡ setting m v → Does c s (settingPlan m) v
+  pub set-value-does : (m : ℕ) (v : Bytes) (c : Call) → plan c (s .version) (s .form) (lines 0 (s .docs)) ≡ setting m v → Does c s (settingPlan m) v
   set-value-does m v c e =
       documents-follow (s .form) (s .form) (setting m v) (settingPlan m) v fill record { keeps = refl; spares = refl } (s .docs)
       record {

@@ -19,7 +19,7 @@ use Rattle.rules.specs.WellFormed.{WellFormed}
 use Rattle.rules.specs.Conforming.{mustBePresent}
 use Rattle.rules.specs.Passing.{good}
 use Rattle.rules.specs.Change.{definitionAt, nameAtIndex}
-use Rattle.rules.specs.Filling.{attributeRow, fillAttributes, fillEach, fillContent, fillWithin, fillDefinition}
+use Rattle.rules.specs.Filling.{createdValue, attributeRow, fillAttributes, fillEach, fillContent, fillWithin, fillDefinition}
 use Rattle.rules.proofs.DecodeLaws.{unflat-flat, good-known, good-found}
 use Rattle.rules.proofs.PassingLaws.{good-is}
 use Rattle.rules.proofs.RenamingPlaces.{filling-rename}
@@ -32,6 +32,7 @@ use Rattle.validity.proofs.AttributeBlocks.{offset, Block, block-at}
 use Rattle.validity.proofs.FormGood.{form-agrees, good-bodies, good-fields}
 use Rattle.filling.specs.declared.Filling.the-variants.{Definition}
 use Rattle.filling.specs.Fillings.{newElement, newAttribute, requiredRows, fillingsOf, contentRows, fillIndex, fillingRows}
+use Rattle.filling.specs.Parts.{valueOf}
 use Rattle.storing.specs.Planned.{membersAt}
 
 -- ---- forests side by side
@@ -44,87 +45,87 @@ indexed-beside form owner bare g = refl
 indexed-beside form owner (tree r b t) g = rw (indexed-beside form owner t g)
 
 -- ---- the required attributes of definition i in a table of attributes from number j on, and those of its own table
-abbrev requiredOf : ℕ → ℕ → ℕ → List FlatAttribute → List (Deep FlatRow)
-requiredOf d i j [] = []
-requiredOf d i j (c ∷ cs) = elim (eqb (c .owner) i && mustBePresent (sortOf (c .sort))) [ true ↦ newAttribute d j (c .value) ∷ requiredOf d i (suc j) cs | false ↦ requiredOf d i (suc j) cs ]
+abbrev requiredOf : ℕ → ℕ → ℕ → ℕ → List FlatAttribute → List (Deep FlatRow)
+requiredOf version d i j [] = []
+requiredOf version d i j (c ∷ cs) = elim (eqb (c .owner) i && mustBePresent version (sortOf (c .sort))) [ true ↦ newAttribute d j (valueOf c) ∷ requiredOf version d i (suc j) cs | false ↦ requiredOf version d i (suc j) cs ]
 
-abbrev requiredIn : ℕ → ℕ → List Attribute → List (Deep FlatRow)
-requiredIn d j [] = []
-requiredIn d j (a ∷ table) = elim (mustBePresent (a .sort)) [ true ↦ newAttribute d j (a .value) ∷ requiredIn d (suc j) table | false ↦ requiredIn d (suc j) table ]
+abbrev requiredIn : ℕ → ℕ → ℕ → List Attribute → List (Deep FlatRow)
+requiredIn version d j [] = []
+requiredIn version d j (a ∷ table) = elim (mustBePresent version (a .sort)) [ true ↦ newAttribute d j (createdValue (a .sort) (a .value)) ∷ requiredIn version d (suc j) table | false ↦ requiredIn version d (suc j) table ]
 
-module _ (d i : ℕ) where
-  others : (o j : ℕ) (table : List Attribute) (rest : List FlatAttribute) → (o ≡ i → ⊥) → requiredOf d i j (ownAttributes o table ++ rest) ≡ requiredOf d i (j + length table) rest
-  others o j [] rest n = ap (λ (k : ℕ). requiredOf d i k rest) (let e : j ≡ j + 0 = omega arith in e)
+module _ (version d i : ℕ) where
+  others : (o j : ℕ) (table : List Attribute) (rest : List FlatAttribute) → (o ≡ i → ⊥) → requiredOf version d i j (ownAttributes o table ++ rest) ≡ requiredOf version d i (j + length table) rest
+  others o j [] rest n = ap (λ (k : ℕ). requiredOf version d i k rest) (let e : j ≡ j + 0 = omega arith in e)
   others o j (a ∷ table) rest n =
-      rw (ne-eqb o i n, requiredOf) (others o (suc j) table rest n ∙ ap (λ (k : ℕ). requiredOf d i k rest) (let e : suc j + length table ≡ j + suc (length table) = omega arith in e))
+      rw (ne-eqb o i n, requiredOf) (others o (suc j) table rest n ∙ ap (λ (k : ℕ). requiredOf version d i k rest) (let e : suc j + length table ≡ j + suc (length table) = omega arith in e))
 
-  own : (j : ℕ) (table : List Attribute) (rest : List FlatAttribute) → requiredOf d i j (ownAttributes i table ++ rest) ≡ requiredIn d j table ++ requiredOf d i (j + length table) rest
-  own j [] rest = ap (λ (k : ℕ). requiredOf d i k rest) (let e : j ≡ j + 0 = omega arith in e)
+  own : (j : ℕ) (table : List Attribute) (rest : List FlatAttribute) → requiredOf version d i j (ownAttributes i table ++ rest) ≡ requiredIn version d j table ++ requiredOf version d i (j + length table) rest
+  own j [] rest = ap (λ (k : ℕ). requiredOf version d i k rest) (let e : j ≡ j + 0 = omega arith in e)
   own j (a ∷ table) rest =
       rw (eq-eqb i i refl, sort-of (a .sort), requiredOf)
-      (by (mustBePresent (a .sort)) (own (suc j) table rest ∙ ap (λ (k : ℕ). requiredIn d (suc j) table ++ requiredOf d i k rest) (let e : suc j + length table ≡ j + suc (length table) = omega arith in e)))
+      (by (mustBePresent version (a .sort)) (own (suc j) table rest ∙ ap (λ (k : ℕ). requiredIn version d (suc j) table ++ requiredOf version d i k rest) (let e : suc j + length table ≡ j + suc (length table) = omega arith in e)))
     where
       L : List (Deep FlatRow)
-      L = requiredOf d i (suc j) (ownAttributes i table ++ rest)
+      L = requiredOf version d i (suc j) (ownAttributes i table ++ rest)
 
       R : List (Deep FlatRow)
-      R = requiredOf d i (j + suc (length table)) rest
+      R = requiredOf version d i (j + suc (length table)) rest
 
-      by : (b : Bool) → L ≡ requiredIn d (suc j) table ++ R
-          → elim b as (λ z. List (Deep FlatRow)) [ true ↦ newAttribute d j (a .value) ∷ L | false ↦ L ]
-          ≡ (elim b as (λ z. List (Deep FlatRow)) [ true ↦ newAttribute d j (a .value) ∷ requiredIn d (suc j) table | false ↦ requiredIn d (suc j) table ]) ++ R
-      by true e = ap (λ (z : List (Deep FlatRow)). newAttribute d j (a .value) ∷ z) e
+      by : (b : Bool) → L ≡ requiredIn version d (suc j) table ++ R
+          → elim b as (λ z. List (Deep FlatRow)) [ true ↦ newAttribute d j (createdValue (a .sort) (a .value)) ∷ L | false ↦ L ]
+          ≡ (elim b as (λ z. List (Deep FlatRow)) [ true ↦ newAttribute d j (createdValue (a .sort) (a .value)) ∷ requiredIn version d (suc j) table | false ↦ requiredIn version d (suc j) table ]) ++ R
+      by true e = ap (λ (z : List (Deep FlatRow)). newAttribute d j (createdValue (a .sort) (a .value)) ∷ z) e
       by false e = e
 
-  later : (o j : ℕ) (fs : Form) → i < o → requiredOf d i j (allAttributes o fs) ≡ []
+  later : (o j : ℕ) (fs : Form) → i < o → requiredOf version d i j (allAttributes o fs) ≡ []
   later o j [] l = refl
   later o j (f ∷ fs) l = others o j (f .attributes) (allAttributes (suc o) fs) (λ e. omega arith) ∙ later (suc o) (j + length (f .attributes)) fs (omega arith)
 
   -- of all attributes
-  whole : (o j k : ℕ) (fs : Form) → k < length fs → i ≡ o + k → requiredOf d i j (allAttributes o fs) ≡ requiredIn d (j + offset k fs) (definitionAt k fs .attributes)
+  whole : (o j k : ℕ) (fs : Form) → k < length fs → i ≡ o + k → requiredOf version d i j (allAttributes o fs) ≡ requiredIn version d (j + offset k fs) (definitionAt k fs .attributes)
   whole o j k [] l e = absurd (omega arith)
   whole o j zero (f ∷ fs) l e =
       let q : o ≡ i = omega arith in
-      ap (λ (z : ℕ). requiredOf d i j (ownAttributes z (f .attributes) ++ allAttributes (suc o) fs)) q
+      ap (λ (z : ℕ). requiredOf version d i j (ownAttributes z (f .attributes) ++ allAttributes (suc o) fs)) q
       ∙ own j (f .attributes) (allAttributes (suc o) fs)
-      ∙ ap (λ (z : List (Deep FlatRow)). requiredIn d j (f .attributes) ++ z) (later (suc o) (j + length (f .attributes)) fs (omega arith))
-      ∙ append-nil (requiredIn d j (f .attributes))
-      ∙ ap (λ (z : ℕ). requiredIn d z (f .attributes)) (let p : j ≡ j + 0 = omega arith in p)
+      ∙ ap (λ (z : List (Deep FlatRow)). requiredIn version d j (f .attributes) ++ z) (later (suc o) (j + length (f .attributes)) fs (omega arith))
+      ∙ append-nil (requiredIn version d j (f .attributes))
+      ∙ ap (λ (z : ℕ). requiredIn version d z (f .attributes)) (let p : j ≡ j + 0 = omega arith in p)
   whole o j (suc k) (f ∷ fs) l e =
       others o j (f .attributes) (allAttributes (suc o) fs) (λ q. omega arith)
       ∙ whole (suc o) (j + length (f .attributes)) k fs (omega arith) (omega arith)
-      ∙ ap (λ (z : ℕ). requiredIn d z (definitionAt k fs .attributes)) (let p : j + length (f .attributes) + offset k fs ≡ j + (length (f .attributes) + offset k fs) = omega arith in p)
+      ∙ ap (λ (z : ℕ). requiredIn version d z (definitionAt k fs .attributes)) (let p : j + length (f .attributes) + offset k fs ≡ j + (length (f .attributes) + offset k fs) = omega arith in p)
 
 -- ---- a form by indices and by names
-module _ (w : ℕ) (form : Form) (ok : WellFormed w form) (F : IndexForm) (agrees : Agrees F form) (value : ℕ → Bytes)
-    (values : (j : ℕ) → j < length (allAttributes 0 form) → value j ≡ entryOf j (allAttributes 0 form) .value) (txt : Bytes) where
+module _ (version w : ℕ) (form : Form) (ok : WellFormed w form) (F : IndexForm) (agrees : Agrees version F form) (value : ℕ → Bytes)
+    (values : (j : ℕ) → j < length (allAttributes 0 form) → value j ≡ valueOf (entryOf j (allAttributes 0 form))) (txt : Bytes) where
   -- the table read by indices
-  rows-read : (d i j : ℕ) (cs : List FlatAttribute) → ((k : ℕ) → k < length cs → (F .owner (j + k) ≡ entryOf k cs .owner) × (F .needed (j + k) ≡ mustBePresent (sortOf (entryOf k cs .sort))) × (value (j + k) ≡ entryOf k cs .value))
-      → requiredRows F value d i j (length cs) ≡ requiredOf d i j cs
+  rows-read : (d i j : ℕ) (cs : List FlatAttribute) → ((k : ℕ) → k < length cs → (F .owner (j + k) ≡ entryOf k cs .owner) × (F .needed (j + k) ≡ mustBePresent version (sortOf (entryOf k cs .sort))) × (value (j + k) ≡ valueOf (entryOf k cs)))
+      → requiredRows F value d i j (length cs) ≡ requiredOf version d i j cs
   unfolding requiredRows
   rows-read d i j [] t = refl
   rows-read d i j (c ∷ cs) t =
       let e : j + 0 ≡ j = omega arith in
       let (o, n, v) = t 0 (omega arith) in
       let o₁ : F .owner j ≡ c .owner = ap (F .owner) (sym e) ∙ o in
-      let n₁ : F .needed j ≡ mustBePresent (sortOf (c .sort)) = ap (F .needed) (sym e) ∙ n in
-      let v₁ : value j ≡ c .value = ap value (sym e) ∙ v in
-      let rest : requiredRows F value d i (suc j) (length cs) ≡ requiredOf d i (suc j) cs = rows-read d i (suc j) cs (λ k l. subst (λ (z : ℕ). (F .owner z ≡ entryOf k cs .owner) × (F .needed z ≡ mustBePresent (sortOf (entryOf k cs .sort))) × (value z ≡ entryOf k cs .value)) (let q : j + suc k ≡ suc j + k = omega arith in q) (t (suc k) (omega arith))) in
+      let n₁ : F .needed j ≡ mustBePresent version (sortOf (c .sort)) = ap (F .needed) (sym e) ∙ n in
+      let v₁ : value j ≡ valueOf c = ap value (sym e) ∙ v in
+      let rest : requiredRows F value d i (suc j) (length cs) ≡ requiredOf version d i (suc j) cs = rows-read d i (suc j) cs (λ k l. subst (λ (z : ℕ). (F .owner z ≡ entryOf k cs .owner) × (F .needed z ≡ mustBePresent version (sortOf (entryOf k cs .sort))) × (value z ≡ valueOf (entryOf k cs))) (let q : j + suc k ≡ suc j + k = omega arith in q) (t (suc k) (omega arith))) in
       λ z. elim (eqb (o₁ z) i && n₁ z) as (λ b. List (Deep FlatRow)) [ true ↦ newAttribute d j (v₁ z) ∷ rest z | false ↦ rest z ]
 
-  required-index : (d i : ℕ) → i < length form → requiredRows F value d i 0 (F .attributes) ≡ requiredIn d (offset i form) (definitionAt i form .attributes)
+  required-index : (d i : ℕ) → i < length form → requiredRows F value d i 0 (F .attributes) ≡ requiredIn version d (offset i form) (definitionAt i form .attributes)
   required-index d i l =
       ap (requiredRows F value d i 0) (agrees .attributes)
-      ∙ rows-read d i 0 (allAttributes 0 form) (λ k m. let q : k ≡ 0 + k = omega arith in subst (λ (z : ℕ). (F .owner z ≡ entryOf k (allAttributes 0 form) .owner) × (F .needed z ≡ mustBePresent (sortOf (entryOf k (allAttributes 0 form) .sort))) × (value z ≡ entryOf k (allAttributes 0 form) .value)) q (agrees .owner k m, agrees .needed k m, values k m))
-      ∙ whole d i 0 0 i form l (omega arith)
-      ∙ ap (λ (z : ℕ). requiredIn d z (definitionAt i form .attributes)) (let p : 0 + offset i form ≡ offset i form = omega arith in p)
+      ∙ rows-read d i 0 (allAttributes 0 form) (λ k m. let q : k ≡ 0 + k = omega arith in subst (λ (z : ℕ). (F .owner z ≡ entryOf k (allAttributes 0 form) .owner) × (F .needed z ≡ mustBePresent version (sortOf (entryOf k (allAttributes 0 form) .sort))) × (value z ≡ valueOf (entryOf k (allAttributes 0 form)))) q (agrees .owner k m, agrees .needed k m, values k m))
+      ∙ whole version d i 0 0 i form l (omega arith)
+      ∙ ap (λ (z : ℕ). requiredIn version d z (definitionAt i form .attributes)) (let p : 0 + offset i form ≡ offset i form = omega arith in p)
 
   -- the attributes' rows, then the content
-  attributes-index : (d i j : ℕ) (table : List Attribute) (content : Forest Row) → Block F form i j table
-      → flatten d (indexed form (nameAt i (namesOf form)) (fillAttributes table content)) ≡ requiredIn d j table ++ flatten d (indexed form (nameAt i (namesOf form)) content)
+  attributes-index : (d i j : ℕ) (table : List Attribute) (content : Forest Row) → Block version F form i j table
+      → flatten d (indexed form (nameAt i (namesOf form)) (fillAttributes version table content)) ≡ requiredIn version d j table ++ flatten d (indexed form (nameAt i (namesOf form)) content)
   unfolding fillAttributes
   attributes-index d i j [] content b = refl
-  attributes-index d i j (a ∷ table) content b = by (mustBePresent (a .sort)) (attributes-index d i (suc j) table content (b .1))
+  attributes-index d i j (a ∷ table) content b = by (mustBePresent version (a .sort)) (attributes-index d i (suc j) table content (b .1))
     where
       n : Bytes
       n = nameAt i (namesOf form)
@@ -132,10 +133,10 @@ module _ (w : ℕ) (form : Form) (ok : WellFormed w form) (F : IndexForm) (agree
       C : List (Deep FlatRow)
       C = flatten d (indexed form n content)
 
-      by : (c : Bool) → flatten d (indexed form n (fillAttributes table content)) ≡ requiredIn d (suc j) table ++ C
-          → flatten d (indexed form n (elim c as (λ z. Forest Row) [ true ↦ tree (attributeRow a) bare (fillAttributes table content) | false ↦ fillAttributes table content ]))
-          ≡ (elim c as (λ z. List (Deep FlatRow)) [ true ↦ newAttribute d j (a .value) ∷ requiredIn d (suc j) table | false ↦ requiredIn d (suc j) table ]) ++ C
-      by true e = ap₂ (λ (k : ℕ) (z : List (Deep FlatRow)). newAttribute d k (a .value) ∷ z) (b .0 .found) e
+      by : (c : Bool) → flatten d (indexed form n (fillAttributes version table content)) ≡ requiredIn version d (suc j) table ++ C
+          → flatten d (indexed form n (elim c as (λ z. Forest Row) [ true ↦ tree (attributeRow a) bare (fillAttributes version table content) | false ↦ fillAttributes version table content ]))
+          ≡ (elim c as (λ z. List (Deep FlatRow)) [ true ↦ newAttribute d j (createdValue (a .sort) (a .value)) ∷ requiredIn version d (suc j) table | false ↦ requiredIn version d (suc j) table ]) ++ C
+      by true e = ap₂ (λ (k : ℕ) (z : List (Deep FlatRow)). newAttribute d k (createdValue (a .sort) (a .value)) ∷ z) (b .0 .found) e
       by false e = e
 
   -- fillings one after the other, from those of each
@@ -164,27 +165,27 @@ module _ (w : ℕ) (form : Form) (ok : WellFormed w form) (F : IndexForm) (agree
             ∙ each-index d owner fill rows (filling Sequence (F .model i)) (λ k m. below k (agrees .inRange i l k (in-filling k Sequence (F .model i) m)))
 
   -- of at most height h, at depth d
-  named-index : (h d i : ℕ) (owner : Bytes) → i < length form → flatten d (indexed form owner (fillWithin h form txt (nameAt i (namesOf form)))) ≡ fillIndex F value h txt d i
+  named-index : (h d i : ℕ) (owner : Bytes) → i < length form → flatten d (indexed form owner (fillWithin version h form txt (nameAt i (namesOf form)))) ≡ fillIndex F value h txt d i
   unfolding fillWithin fillIndex
   named-index zero d i owner l = refl
   named-index (suc h) d i owner l =
-      ap (λ (z : Forest Row). flatten d (indexed form owner z)) (fill-known h form txt n (definitionAt i form) (lookup-at form (ok .names) i l))
+      ap (λ (z : Forest Row). flatten d (indexed form owner z)) (fill-known version h form txt n (definitionAt i form) (lookup-at form (ok .names) i l))
       ∙ ap₂ (λ (k : ℕ) (z : List (Deep FlatRow)). newElement d k ∷ z) (index-name form (ok .names) i l)
-      (append-nil (flatten (suc d) (indexed form n (fillBelow h form txt (definitionAt i form))))
-      ∙ attributes-index (suc d) i (offset i form) (definitionAt i form .attributes) (fillContent (λ m. fillWithin h form txt m) txt (definitionAt i form .content)) (block-at F form agrees (ok .names) i l (ok .definitions (definitionAt i form) (definition-in form i l) .attributeNames))
-      ∙ ap₂ (λ (u v : List (Deep FlatRow)). u ++ v) (sym (required-index (suc d) i l)) (content-index (suc d) i l n (λ m. fillWithin h form txt m) (λ k. fillIndex F value h txt (suc d) k) (λ k m. named-index h (suc d) k n m)))
+      (append-nil (flatten (suc d) (indexed form n (fillBelow version h form txt (definitionAt i form))))
+      ∙ attributes-index (suc d) i (offset i form) (definitionAt i form .attributes) (fillContent (λ m. fillWithin version h form txt m) txt (definitionAt i form .content)) (block-at version F form agrees (ok .names) i l (ok .definitions (definitionAt i form) (definition-in form i l) .attributeNames))
+      ∙ ap₂ (λ (u v : List (Deep FlatRow)). u ++ v) (sym (required-index (suc d) i l)) (content-index (suc d) i l n (λ m. fillWithin version h form txt m) (λ k. fillIndex F value h txt (suc d) k) (λ k m. named-index h (suc d) k n m)))
     where
       n : Bytes
       n = nameAt i (namesOf form)
 
-  pub fill-index : (h d i : ℕ) (owner : Bytes) → i < length form → flatten d (indexed form owner (fillWithin h form txt (nameAtIndex i form))) ≡ fillIndex F value h txt d i
-  fill-index h d i owner l = ap (λ (z : Bytes). flatten d (indexed form owner (fillWithin h form txt z))) (sym (name-of form i l)) ∙ named-index h d i owner l
+  pub fill-index : (h d i : ℕ) (owner : Bytes) → i < length form → flatten d (indexed form owner (fillWithin version h form txt (nameAtIndex i form))) ≡ fillIndex F value h txt d i
+  fill-index h d i owner l = ap (λ (z : Bytes). flatten d (indexed form owner (fillWithin version h form txt z))) (sym (name-of form i l)) ∙ named-index h d i owner l
 
 -- THE FILLING OF A DEFINITION of a store that passes is written as the rows of its filling by indices
 pub filling-index : (s : Store) → good s ≡ true → (txt : Bytes) (d i : ℕ) (owner : Bytes) → i < length (s .form)
-    → flatten d (indexed (s .form) owner (fillDefinition (s .form) txt (nameAtIndex i (s .form)))) ≡ fillingRows (indexForm (flat s)) (λ j. entryOf j (flat s .attributes) .value) (λ a b. membersAt (flat s) a b) (Definition i) txt d
+    → flatten d (indexed (s .form) owner (fillDefinition (s .version) (s .form) txt (nameAtIndex i (s .form)))) ≡ fillingRows (indexForm (flat s)) (λ j. valueOf (entryOf j (flat s .attributes))) (λ a b. membersAt (flat s) a b) (Definition i) txt d
 filling-index s g txt d i owner l =
     let back = unflat-flat s (good-known s g) (good-found s g) in
-    let agrees : Agrees (indexForm (flat s)) (s .form) = subst (λ (z : Store). Agrees (indexForm (flat s)) (z .form)) back (form-agrees (valueWidth (s .version)) (flat s) (good-fields s g) (good-bodies s g)) in
-    fill-index (valueWidth (s .version)) (s .form) (good-is s .0 g .form) (indexForm (flat s)) agrees (λ j. entryOf j (flat s .attributes) .value) (λ j m. refl) txt (length (s .form)) d i owner l
-    ∙ ap (λ (h : ℕ). fillIndex (indexForm (flat s)) (λ j. entryOf j (flat s .attributes) .value) h txt d i) (sym (agrees .size))
+    let agrees : Agrees (s .version) (indexForm (flat s)) (s .form) = subst (λ (z : Store). Agrees (s .version) (indexForm (flat s)) (z .form)) back (form-agrees (valueWidth (s .version)) (flat s) (good-fields s g) (good-bodies s g) (s .version)) in
+    fill-index (s .version) (valueWidth (s .version)) (s .form) (good-is s .0 g .form) (indexForm (flat s)) agrees (λ j. valueOf (entryOf j (flat s .attributes))) (λ j m. refl) txt (length (s .form)) d i owner l
+    ∙ ap (λ (h : ℕ). fillIndex (indexForm (flat s)) (λ j. valueOf (entryOf j (flat s .attributes))) h txt d i) (sym (agrees .size))

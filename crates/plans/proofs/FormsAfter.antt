@@ -14,7 +14,6 @@ use Rattle.rules.specs.WellFormed.{isName, isValue, withinCeilings}
 use Rattle.rules.proofs.BooleanLaws.{Every, every-append}
 use Rattle.rules.proofs.LayoutLaws.{GoodFlatDefinition, GoodFlatAttribute, GoodFlat}
 use Rattle.rules.proofs.DecodeLaws.{name-width, value-width}
-use Rattle.records.specs.Records.{baseWidth}
 use Rattle.model.specs.Places.{Particles}
 use Rattle.splicing.specs.Spliced.{startOf, countOf, counted, spliced, splicedForm}
 use Rattle.storing.specs.Forms.{formBytes}
@@ -46,10 +45,10 @@ counted-good zero n (d ∷ ds) h a = (record { name = a .0 .name; particles = h 
 counted-good (suc o) n (d ∷ ds) h a = (a .0, counted-good o n ds h (a .1))
 
 module _ (o : ℕ) (part : Particles) (f : FlatStore) where
-  pub spliced-bytes : formBytes (splicedForm o part f)
-      ≡ each definitionBytes (counted o (length part) (f .definitions)) ++ (each particleBytes (spliced (startOf o (f .definitions)) (countOf o (f .definitions)) part (f .particles)) ++ each (attributeBytes baseWidth) (f .attributes))
+  pub spliced-bytes : (w : ℕ) → formBytes w (splicedForm o part f)
+      ≡ each definitionBytes (counted o (length part) (f .definitions)) ++ (each particleBytes (spliced (startOf o (f .definitions)) (countOf o (f .definitions)) part (f .particles)) ++ each (attributeBytes w) (f .attributes))
   unfolding splicedForm
-  spliced-bytes = refl
+  spliced-bytes w = refl
 
   part-few : withinCeilings (bareForm (splicedForm o part f)) ≡ true → length part ≤ 256
   unfolding splicedForm
@@ -58,8 +57,8 @@ module _ (o : ℕ) (part : Particles) (f : FlatStore) where
       let rest : Particles = drop (at + countOf o (f .definitions)) (f .particles) in
       omega (arith, few-particles (few-of (bareForm (splicedForm o part f)) h), length-append (take at (f .particles)) (part ++ rest), length-append part rest)
 
-  pub spliced-form : GoodFlat baseWidth f → withinCeilings (bareForm (splicedForm o part f)) ≡ true → {form : Bytes} {d p a : ℕ} → form ≡ formBytes (splicedForm o part f) → d ≡ length (f .definitions) → p ≡ length (splicedForm o part f .particles) → a ≡ length (f .attributes)
-      → FormOf (splicedForm o part f) form d p a
+  pub spliced-form : {w : ℕ} → GoodFlat w f → withinCeilings (bareForm (splicedForm o part f)) ≡ true → {form : Bytes} {d p a : ℕ} → form ≡ formBytes w (splicedForm o part f) → d ≡ length (f .definitions) → p ≡ length (splicedForm o part f .particles) → a ≡ length (f .attributes)
+      → FormOf w (splicedForm o part f) form d p a
   unfolding splicedForm
   spliced-form g h e n m k =
       record {
@@ -73,23 +72,23 @@ module _ (o : ℕ) (part : Particles) (f : FlatStore) where
       }
 
 -- ---- 9 and 10: other attributes
-pub good-attribute : (o : ℕ) (n : Bytes) (k : ℕ) (v : Bytes) → isName n ≡ true → isValue baseWidth v ≡ true → GoodFlatAttribute baseWidth (record { owner = o; name = n; sort = k; value = v })
-good-attribute o n k v h e = record { name = name-width n h; value = value-width baseWidth v e }
+pub good-attribute : (w o : ℕ) (n : Bytes) (k : ℕ) (v : Bytes) → isName n ≡ true → isValue w v ≡ true → GoodFlatAttribute w (record { owner = o; name = n; sort = k; value = v })
+good-attribute w o n k v h e = record { name = name-width n h; value = value-width w v e }
 
 -- the ceiling of a form that has other attributes
 few-more : (f : FlatStore) (cs : List FlatAttribute) → withinCeilings f ≡ true → withinCeilings (bareForm (attributesReplaced cs f)) ≡ leb (length cs) 64
 few-more f cs h = let x : Few f = few-of f h in λ i. x .definitions i && (x .particles i && (x .depths i && and-true (leb (length cs) 64) i))
 
-module _ (i : ℕ) (f : FlatStore) (g : GoodFlat baseWidth f) (h : withinCeilings f ≡ true) where
+module _ {w : ℕ} (i : ℕ) (f : FlatStore) (g : GoodFlat w f) (h : withinCeilings f ≡ true) where
   added-length : (c : FlatAttribute) → length (attributeAdded i c f .attributes) ≡ suc (length (f .attributes))
   added-length c = omega (arith, length-append (take i (f .attributes)) (c ∷ drop i (f .attributes)), length-take i (f .attributes), length-drop i (f .attributes))
 
   pub added-ceiling : (c : FlatAttribute) → withinCeilings (bareForm (attributeAdded i c f)) ≡ leb (suc (length (f .attributes))) 64
   added-ceiling c = few-more f (attributeAdded i c f .attributes) h ∙ ap (λ (n : ℕ). leb n 64) (added-length c)
 
-  pub added-form : (c : FlatAttribute) → GoodFlatAttribute baseWidth c → length (f .attributes) < 64 → {form : Bytes} {d p a : ℕ} → form ≡ formBytes (attributeAdded i c f) → d ≡ length (f .definitions) → p ≡ length (f .particles) → a ≡ suc (length (f .attributes))
-      → FormOf (attributeAdded i c f) form d p a
-  added-form c w l e n m k =
+  pub added-form : (c : FlatAttribute) → GoodFlatAttribute w c → length (f .attributes) < 64 → {form : Bytes} {d p a : ℕ} → form ≡ formBytes w (attributeAdded i c f) → d ≡ length (f .definitions) → p ≡ length (f .particles) → a ≡ suc (length (f .attributes))
+      → FormOf w (attributeAdded i c f) form d p a
+  added-form c fine l e n m k =
       record {
         bytes = e;
         definitionCount = n;
@@ -97,15 +96,15 @@ module _ (i : ℕ) (f : FlatStore) (g : GoodFlat baseWidth f) (h : withinCeiling
         attributeCount = k ∙ sym (added-length c);
         definitions = g .definitions;
         attributes =
-            every-append (GoodFlatAttribute baseWidth) (take i (f .attributes)) (c ∷ drop i (f .attributes)) (every-take (GoodFlatAttribute baseWidth) i (f .attributes) (g .attributes))
-            (w, every-drop (GoodFlatAttribute baseWidth) i (f .attributes) (g .attributes));
+            every-append (GoodFlatAttribute w) (take i (f .attributes)) (c ∷ drop i (f .attributes)) (every-take (GoodFlatAttribute w) i (f .attributes) (g .attributes))
+            (fine, every-drop (GoodFlatAttribute w) i (f .attributes) (g .attributes));
         ceilings = added-ceiling c ∙ le-leb (suc (length (f .attributes))) 64 (omega arith);
       }
 
   dropped-length : i < length (f .attributes) → suc (length (attributeDropped i f .attributes)) ≡ length (f .attributes)
   dropped-length l = omega (arith, length-append (take i (f .attributes)) (drop (suc i) (f .attributes)), length-take i (f .attributes), length-drop (suc i) (f .attributes))
 
-  pub dropped-form : i < length (f .attributes) → {form : Bytes} {d p a : ℕ} → form ≡ formBytes (attributeDropped i f) → d ≡ length (f .definitions) → p ≡ length (f .particles) → suc a ≡ length (f .attributes) → FormOf (attributeDropped i f) form d p a
+  pub dropped-form : i < length (f .attributes) → {form : Bytes} {d p a : ℕ} → form ≡ formBytes w (attributeDropped i f) → d ≡ length (f .definitions) → p ≡ length (f .particles) → suc a ≡ length (f .attributes) → FormOf w (attributeDropped i f) form d p a
   dropped-form l e n m k =
       let many : length (attributeDropped i f .attributes) ≤ 64 = omega (arith, dropped-length l, few-attributes (few-of f h)) in
       record {
@@ -115,7 +114,7 @@ module _ (i : ℕ) (f : FlatStore) (g : GoodFlat baseWidth f) (h : withinCeiling
         attributeCount = omega (arith, dropped-length l);
         definitions = g .definitions;
         attributes =
-            every-append (GoodFlatAttribute baseWidth) (take i (f .attributes)) (drop (suc i) (f .attributes)) (every-take (GoodFlatAttribute baseWidth) i (f .attributes) (g .attributes))
-            (every-drop (GoodFlatAttribute baseWidth) (suc i) (f .attributes) (g .attributes));
+            every-append (GoodFlatAttribute w) (take i (f .attributes)) (drop (suc i) (f .attributes)) (every-take (GoodFlatAttribute w) i (f .attributes) (g .attributes))
+            (every-drop (GoodFlatAttribute w) (suc i) (f .attributes) (g .attributes));
         ceilings = few-more f (attributeDropped i f .attributes) h ∙ le-leb (length (attributeDropped i f .attributes)) 64 many;
       }

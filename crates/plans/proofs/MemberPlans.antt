@@ -87,7 +87,7 @@ module _ (s : Store) (g : good s ≡ true) (o : ℕ) (l : o < length (s .form)) 
     inserting = insertElementPlan o marks i needs
 
     abbrev maker : change.Plan
-    maker = making (λ r. needs && elementNamed owner r) (laterThan (before c)) (fillDefinition (s .form) t (nameAtIndex i (s .form)))
+    maker = making (λ r. needs && elementNamed owner r) (laterThan (before c)) (fillDefinition (s .version) (s .form) t (nameAtIndex i (s .form)))
 
     abbrev fill : ℕ → List (Deep FlatRow)
     fill = fillOf inserting t (flat s)
@@ -115,7 +115,7 @@ module _ (s : Store) (g : good s ≡ true) (o : ℕ) (l : o < length (s .form)) 
               (λ sel w u r b y j. (insert-row sel w u r b j, element-test (s .form) once o l (u .name) r)) refl;
         }
         ∙ sym (ap (flatten 0) (rows-still (editAt edit p) o (s .form) [] (changed maker (s .docs))))
-        ∙ ap (λ (z : Option (Found Bytes)). flatten 0 (indexed (update o (inModel (editAt edit p)) (s .form)) [] (changed (insertPlan (s .form) owner t (quantifierOf k) (nameAtIndex i (s .form)) z) (s .docs)))) (sym at)
+        ∙ ap (λ (z : Option (Found Bytes)). flatten 0 (indexed (update o (inModel (editAt edit p)) (s .form)) [] (changed (insertPlan (s .version) (s .form) owner t (quantifierOf k) (nameAtIndex i (s .form)) z) (s .docs)))) (sym at)
       where
         edit : Edit Bytes
         edit = insert (quantifierOf k) (nameAtIndex i (s .form))

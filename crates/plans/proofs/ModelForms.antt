@@ -67,9 +67,9 @@ every-standing Q (tree s c t) (x, y, z) r b (inr (inr i)) = every-standing Q t z
 
 -- an element is one of a definition
 pub known-element : (s : Store) → good s ≡ true → (r : Row) (b : Forest Row) → Standing (s .docs) r b → isElement (r .sort) ≡ true → known (s .form) (r .name) ≡ true
-known-element s g r b i e = by (every-standing (λ u rows. RowConforms (s .form) u rows) (s .docs) (good-is s .0 g .docs .rows) r b i)
+known-element s g r b i e = by (every-standing (λ u rows. RowConforms (s .version) (s .form) u rows) (s .docs) (good-is s .0 g .docs .rows) r b i)
   where
-    by : RowConforms (s .form) r (heads b) → known (s .form) (r .name) ≡ true
+    by : RowConforms (s .version) (s .form) r (heads b) → known (s .form) (r .name) ≡ true
     by x = let (d, q, y) = rw (is-element (r .sort) e) at x in ap isThere q
 
 -- a name in a model is one of a definition: the names around a place, and at it

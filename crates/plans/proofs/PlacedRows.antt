@@ -138,15 +138,15 @@ module _ (s : Store) (g : good s ≡ true) (o : ℕ) (l : o < length (s .form)) 
   pub instance-rows : (r : Row) (b : Forest Row) → Standing (s .docs) r b → elementNamed (nameAtIndex o (s .form)) r ≡ true → NoneAt (names one) (heads b) ⊎ FirstAt (before c) (names one) (heads b)
   instance-rows r b i n =
       let (is, called) = and-split (isElement (r .sort)) (same (d .name) (r .name)) n in
-      let (k, q, x) = rw (is-element (r .sort) is) at (every-standing (λ u rows. RowConforms (s .form) u rows) (s .docs) (good-is s .0 g .docs .rows) r b i) in
+      let (k, q, x) = rw (is-element (r .sort) is) at (every-standing (λ u rows. RowConforms (s .version) (s .form) u rows) (s .docs) (good-is s .0 g .docs .rows) r b i) in
       let found : lookup (r .name) (s .form) ≡ some d = ap (λ (z : Bytes). lookup z (s .form)) (sym (same-eq (d .name) (r .name) called)) ∙ definition-found o (s .form) (good-is s .0 g .form .names) l in
       let own : k ≡ d = cc (q, found) in
-      by (subst (λ (z : Definition). ElementRows z (heads b)) own x)
+      by (subst (λ (z : Definition). ElementRows (s .version) z (heads b)) own x)
     where
       once : Distinct (names (plug c (one ⊕ rest)))
       once = subst (λ (z : Members Bytes). Distinct (names z)) (sym right) (good-is s .0 g .form .definitions d (definition-in (s .form) o l) .once)
 
-      by : ElementRows d (heads b) → NoneAt (names one) (heads b) ⊎ FirstAt (before c) (names one) (heads b)
+      by : ElementRows (s .version) d (heads b) → NoneAt (names one) (heads b) ⊎ FirstAt (before c) (names one) (heads b)
       by x =
           let (sorted, word) = subst (λ (z : Content). ContentRows z (x .back)) content (x .content) in
           subst (λ (z : List Row). NoneAt (names one) z ⊎ FirstAt (before c) (names one) z) (x .split)

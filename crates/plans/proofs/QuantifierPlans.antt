@@ -33,6 +33,7 @@ use Rattle.filling.specs.declared.Filling.{Filling}
 use Rattle.filling.specs.declared.Filling.the-variants.{Definition, Particles}
 use Rattle.filling.specs.Fillings.{fillingRows}
 use Rattle.editing.specs.Walk.{owed}
+use Rattle.filling.specs.Parts.{valueOf}
 use Rattle.storing.specs.Planned.{membersAt}
 use Rattle.plans.specs.ModelCalls.{Marked, gainFilling, requantifyPlan, DoesIn}
 use Rattle.plans.proofs.Fillings.{filling-index}
@@ -73,7 +74,7 @@ module _ (s : Store) (g : good s ≡ true) (o : ℕ) (l : o < length (s .form)) 
   once = good-is s .0 g .form .names
 
   abbrev rowsOf : Filling → ℕ → List (Deep FlatRow)
-  rowsOf what d = fillingRows (indexForm (flat s)) (λ j. entryOf j (flat s .attributes) .value) (λ a b. membersAt (flat s) a b) what t d
+  rowsOf what d = fillingRows (indexForm (flat s)) (λ j. valueOf (entryOf j (flat s .attributes))) (λ a b. membersAt (flat s) a b) what t d
 
   -- the filling if there is a gain
   gained : (what : Filling) (rows : Forest Row) (b : Bool) (d : ℕ) (m : Bytes) → (b ≡ true → rowsOf what d ≡ flatten d (indexed (s .form) m rows)) → rowsOf (gainFilling b what) d ≡ owed b (flatten d (indexed (s .form) m rows))
@@ -93,10 +94,10 @@ module _ (s : Store) (g : good s ≡ true) (o : ℕ) (l : o < length (s .form)) 
     among : (r : Row) → elementNamed n r ≡ elementAmong (n ∷ []) r
     among r = ap (λ (z : Bool). isElement (r .sort) && z) (same-one n (r .name))
 
-    definition-rows : (d : ℕ) (m : Bytes) → rowsOf (Definition x) d ≡ flatten d (indexed (s .form) m (fillDefinition (s .form) t n))
+    definition-rows : (d : ℕ) (m : Bytes) → rowsOf (Definition x) d ≡ flatten d (indexed (s .form) m (fillDefinition (s .version) (s .form) t n))
     definition-rows d m =
         let (below, name) = index-of-name (s .form) once n there in
-        sym (filling-index s g t d x m below) ∙ ap (λ (z : Bytes). flatten d (indexed (s .form) m (fillDefinition (s .form) t z))) name
+        sym (filling-index s g t d x m below) ∙ ap (λ (z : Bytes). flatten d (indexed (s .form) m (fillDefinition (s .version) (s .form) t z))) name
 
     standing : (cut || gain) ≡ true → (r : Row) (b : Forest Row) → Standing (s .docs) r b → elementNamed owner r ≡ true → NoneAt (n ∷ []) (heads b) ⊎ FirstAt (before c) (n ∷ []) (heads b)
     unfolding names _⊕_
@@ -105,17 +106,17 @@ module _ (s : Store) (g : good s ≡ true) (o : ℕ) (l : o < length (s .form)) 
     pub change-quantifier-does : DoesIn (changeQuantifier o p k t) s (requantifyPlan o marks (spine c && cuts old (quantifierOf k)) (indexOf n (s .form)) (spine c && gains old (quantifierOf k)) (Definition (indexOf n (s .form)))) t
     unfolding plan formAfter
     change-quantifier-does =
-        requantify-does s g o l c (n ∷ []) marks cut gain x n (Definition x) t (fillDefinition (s .form) t n) (elementNamed n) marked standing among (λ e m r. named-test (s .form) once n there m r) (λ e. among)
-        (λ d m. gained (Definition x) (fillDefinition (s .form) t n) gain d m (λ e. definition-rows d m))
-        ∙ sym (ap (flatten 0) (rows-still (editAt (quantify new) p) o (s .form) [] (changed (quantifyPlan (s .form) (lines 0 (s .docs)) owner t new c (el old n rest)) (s .docs))))
-        ∙ ap (λ (z : Option (Found Bytes)). flatten 0 (indexed (update o (inModel (editAt (quantify new) p)) (s .form)) [] (changed (pickedPlan (quantifyPlan (s .form) (lines 0 (s .docs)) owner t new) z) (s .docs)))) (sym at)
+        requantify-does s g o l c (n ∷ []) marks cut gain x n (Definition x) t (fillDefinition (s .version) (s .form) t n) (elementNamed n) marked standing among (λ e m r. named-test (s .form) once n there m r) (λ e. among)
+        (λ d m. gained (Definition x) (fillDefinition (s .version) (s .form) t n) gain d m (λ e. definition-rows d m))
+        ∙ sym (ap (flatten 0) (rows-still (editAt (quantify new) p) o (s .form) [] (changed (quantifyPlan (s .version) (s .form) (lines 0 (s .docs)) owner t new c (el old n rest)) (s .docs))))
+        ∙ ap (λ (z : Option (Found Bytes)). flatten 0 (indexed (update o (inModel (editAt (quantify new) p)) (s .form)) [] (changed (pickedPlan (quantifyPlan (s .version) (s .form) (lines 0 (s .docs)) owner t new) z) (s .docs)))) (sym at)
 
   -- ---- 8: a group, whose members of depth e begin with particle number f
   module _ (j : GroupKind) (ms rest : Members Bytes) (at : placeOf (quantify (quantifierOf k)) p (members (definitionAt o (s .form))) ≡ some (record { context = c; picked = group old j ms rest }))
       (marked : (spine c && gains old (quantifierOf k)) ≡ true → Marked (s .form) (before c) (names ms) marks) (f e : ℕ)
       (begin : (spine c && gains old (quantifierOf k)) ≡ true → membersAt (flat s) f e ≡ rename (λ n. indexOf n (s .form)) ms) where
     abbrev rows : Forest Row
-    rows = fillEach (λ n. fillDefinition (s .form) t n) (groupFilling new j ms)
+    rows = fillEach (λ n. fillDefinition (s .version) (s .form) t n) (groupFilling new j ms)
 
     -- a gain needs a filling
     needed : gain ≡ true → groupFilling new j ms ≡ unless (nothing j ms) (filling j ms)
@@ -128,7 +129,7 @@ module _ (s : Store) (g : good s ≡ true) (o : ℕ) (l : o < length (s .form)) 
     known-member n m = picked-known s g o l (quantify new) p (record { context = c; picked = group old j ms rest }) at n (Memᴰ·append-left (names rest) m)
 
     group-rows : gain ≡ true → (d : ℕ) (m : Bytes) → rowsOf (Particles j f e) d ≡ flatten d (indexed (s .form) m rows)
-    group-rows h d m = filling-group s g t d m j ms f e known-member (begin h) ∙ ap (λ (ns : List Bytes). flatten d (indexed (s .form) m (fillEach (λ n. fillDefinition (s .form) t n) ns))) (sym (needed h))
+    group-rows h d m = filling-group s g t d m j ms f e known-member (begin h) ∙ ap (λ (ns : List Bytes). flatten d (indexed (s .form) m (fillEach (λ n. fillDefinition (s .version) (s .form) t n) ns))) (sym (needed h))
 
     standing-group : gain ≡ true → (r : Row) (b : Forest Row) → Standing (s .docs) r b → elementNamed owner r ≡ true → NoneAt (names ms) (heads b) ⊎ FirstAt (before c) (names ms) (heads b)
     unfolding names _⊕_
@@ -145,5 +146,5 @@ module _ (s : Store) (g : good s ≡ true) (o : ℕ) (l : o < length (s .form)) 
     change-group-quantifier-does =
         requantify-does s g o l c (names ms) marks false gain 0 [] (Particles j f e) t rows (elementAmong (names ms)) marked standing-group (λ r. refl) (λ e. absurd (false≢true e)) (λ e. absurd (false≢true e))
         (λ d m. gained (Particles j f e) rows gain d m (λ h. group-rows h d m))
-        ∙ sym (ap (flatten 0) (rows-still (editAt (quantify new) p) o (s .form) [] (changed (quantifyPlan (s .form) (lines 0 (s .docs)) owner t new c (group old j ms rest)) (s .docs))))
-        ∙ ap (λ (z : Option (Found Bytes)). flatten 0 (indexed (update o (inModel (editAt (quantify new) p)) (s .form)) [] (changed (pickedPlan (quantifyPlan (s .form) (lines 0 (s .docs)) owner t new) z) (s .docs)))) (sym at)
+        ∙ sym (ap (flatten 0) (rows-still (editAt (quantify new) p) o (s .form) [] (changed (quantifyPlan (s .version) (s .form) (lines 0 (s .docs)) owner t new c (group old j ms rest)) (s .docs))))
+        ∙ ap (λ (z : Option (Found Bytes)). flatten 0 (indexed (update o (inModel (editAt (quantify new) p)) (s .form)) [] (changed (pickedPlan (quantifyPlan (s .version) (s .form) (lines 0 (s .docs)) owner t new) z) (s .docs)))) (sym at)

@@ -3,9 +3,11 @@
 use Prim.Native.Nat.{ℕ, suc}
 use mathlib.Core.Bool.{true, false}
 use mathlib.Core.List.{List, [], _∷_, _++_}
-use lib.Dec.{eqb, leb}
+use lib.Dec.{leb}
 use lib.ListN.{take, drop}
 use Rattle.rules.specs.Layout.{FlatAttribute, FlatStore}
+use Rattle.rules.specs.Decode.{sortOf}
+use Rattle.rules.specs.Conforming.{mustBePresent}
 use Rattle.filling.specs.declared.Filling.the-variants.{Attribute}
 use Rattle.filling.specs.declared.Filling.the-variants as filling
 use Rattle.editing.specs.declared.Which.the-variants.{Nothing, Elements, Attributes}
@@ -24,13 +26,13 @@ abbrev pub ownerAt : ℕ → List FlatAttribute → ℕ
 ownerAt a cs = entryOf a cs .owner
 
 -- ---- the plans
--- 9: an attribute of definition o at a (`attributesTo`), of sort k; below each instance a row of it if it is REQUIRED
-abbrev pub addAttributePlan : ℕ → ℕ → ℕ → Plan
-addAttributePlan o a k =
+-- 9: an attribute of definition o at a (`attributesTo`), of sort k; below each instance a row of it if it must be present
+abbrev pub addAttributePlan : ℕ → ℕ → ℕ → ℕ → Plan
+addAttributePlan version o a k =
     record {
       above = Elements o;
       takes = Nothing;
-      fills = eqb k 1;
+      fills = mustBePresent version (sortOf k);
       later = Past a;
       filling = Attribute a;
       marks = unmarked;

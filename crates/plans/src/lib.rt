@@ -82,14 +82,14 @@ pub fn setting_plan(set: u32) -> Plan
 
 // ---- attributes
 
-/// 9: an attribute of definition `owner` at `at`, of a sort.
-pub fn add_attribute_plan(owner: usize, at: usize, sort: u32) -> Plan
-    ensures { λ r. ⌜ r ≡ addAttributePlan owner at sort ⌝ }
+/// 9: an attribute of definition `owner` at `at`, of a sort, in a store of a version.
+pub fn add_attribute_plan(version: usize, owner: usize, at: usize, sort: u8) -> Plan
+    ensures { λ r. ⌜ r ≡ addAttributePlan version owner at sort ⌝ }
 {
     Plan {
         above: Which::Elements(owner),
         takes: Which::Nothing,
-        fills: sort == 1,
+        fills: records::must_be_present(version, sort),
         later: Later::Past(at),
         filling: Filling::Attribute(at),
         marks: unmarked(),

@@ -2,7 +2,7 @@
 -- Assumes nothing.
 use Prim.Native.Nat.{ℕ, _≤_}
 use mathlib.Core.Path.{_≡_, refl, sym, ap, _∙_}
-use mathlib.Core.Bool.{true, false, not, false≢true}
+use mathlib.Core.Bool.{true, false, false≢true}
 use mathlib.Core.Option.{Option, none, some}
 use mathlib.Core.List.{List}
 use lib.Dec.{ltb}
@@ -17,13 +17,13 @@ use Rattle.rules.specs.Decode.{quantifierOf}
 use Rattle.rules.specs.WellFormed.{isValue}
 use Rattle.rules.specs.Passing.{passes}
 use Rattle.rules.specs.Change.{changeQuantifier, changeGroupQuantifier}
-use Rattle.rules.specs.Refusal.{past, foundAt, noGroupAt, onGroup, first, conditions}
-use Rattle.records.specs.Records.{baseWidth}
-use Rattle.history.proofs.Conditions.{not-false}
+use Rattle.rules.specs.Refusal.{badText, past, foundAt, noGroupAt, onGroup, first, conditions}
+use Rattle.layout.specs.Bodies.{widthOf}
 use Rattle.history.proofs.EditConditions.{group-some}
 use Rattle.splicing.specs.PartAfter.{suits}
 use Rattle.storing.specs.Stores.{storeIn}
 use Rattle.plans.proofs.CallsPlanned.{none-holds}
+use Rattle.finding.proofs.StoreFacts.{value-given}
 use Rattle.placing.specs.Placing.{modelIn}
 use Rattle.placing.proofs.PlaceLaws.{found-quantify}
 use Rattle.models.proofs.Calls.{Fits, inside, some-content}
@@ -46,21 +46,21 @@ group-suits r (el q x rest) h = refl
 group-suits r (group q k ms rest) h = refl
 
 -- the text is a value, and the number is that of a quantifier
-pub record Given (k : ℕ) (t : Bytes) : Type 0 where
-  pub value : isValue baseWidth t ≡ true
+pub record Given (bs : Bytes) (k : ℕ) (t : Bytes) : Type 0 where
+  pub value : isValue (widthOf bs) t ≡ true
   pub code : k ≤ 3
 
-given : (k : ℕ) (t : Bytes) → not (isValue baseWidth t) ≡ false → ltb 3 k ≡ false → Given k t
-given k t text code = record { value = not-false (isValue baseWidth t) text; code = ltb-false 3 k code }
+given : (bs : Bytes) (k : ℕ) (t : Bytes) → badText (storeIn bs) t ≡ false → ltb 3 k ≡ false → Given bs k t
+given bs k t text code = record { value = value-given bs t text; code = ltb-false 3 k code }
 
 module _ (bs : Bytes) (o : ℕ) (p : List ℕ) (k : ℕ) (t : Bytes) where
-  pub element-given : first (conditions (changeQuantifier o p k t) (storeIn bs)) ≡ 0 → Given k t
+  pub element-given : first (conditions (changeQuantifier o p k t) (storeIn bs)) ≡ 0 → Given bs k t
   unfolding conditions
-  element-given e = let (text, (code, more)) = none-holds (changeQuantifier o p k t) (storeIn bs) e in given k t text code
+  element-given e = let (text, (code, more)) = none-holds (changeQuantifier o p k t) (storeIn bs) e in given bs k t text code
 
-  pub group-given : first (conditions (changeGroupQuantifier o p k t) (storeIn bs)) ≡ 0 → Given k t
+  pub group-given : first (conditions (changeGroupQuantifier o p k t) (storeIn bs)) ≡ 0 → Given bs k t
   unfolding conditions
-  group-given e = let (text, (code, more)) = none-holds (changeGroupQuantifier o p k t) (storeIn bs) e in given k t text code
+  group-given e = let (text, (code, more)) = none-holds (changeGroupQuantifier o p k t) (storeIn bs) e in given bs k t text code
 
 module _ (bs : Bytes) (q : passes bs ≡ true) (o : ℕ) (p : List ℕ) (k : ℕ) (t : Bytes) where
   pub group-fits : first (conditions (changeGroupQuantifier o p k t) (storeIn bs)) ≡ 0 → Group bs o p (quantify (quantifierOf k))

@@ -16,7 +16,7 @@ use Rattle.model.specs.Particle.{kindIn}
 use Rattle.model.specs.Places.{spanOf}
 use Rattle.model.proofs.ParticleLaws.{length-particles, span-bounded}
 use Rattle.rowpass.specs.Reading.{particlesBefore}
-use Rattle.validity.specs.Check.{definitionsIn}
+use Rattle.layout.specs.Bodies.{definitionsIn}
 use Rattle.filling.specs.declared.Filling.the-variants.{Definition, Particles}
 use Rattle.editing.specs.declared.Plan.{Plan}
 use Rattle.plans.specs.ModelCalls.{requantifyPlan}

@@ -48,7 +48,7 @@ fn group_plan(store: &[u8], part: &[u8], owner: usize, h: Holder, p: usize, new:
     let old = x.quantifier;
     let what = x.what;
     let gain = h.spine & placing::gains(old, new);
-    let before = rowpass::particles_before(validity::body(store, 8, 20), owner);
+    let before = rowpass::particles_before(layout::definitions_of(store), owner);
     let marks = marking::marks(part, p, group_span(part, h, p));
     let filling = Filling::Particles(model::automaton::kind_in(what), before + p + 1, h.depth + 1);
     plans::requantify_plan(owner, marks, false, 0, gain, filling)

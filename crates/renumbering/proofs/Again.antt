@@ -6,15 +6,17 @@ use native.Mathlib.Nat.{mul-suc, mul-zero}
 use native.Mathlib.Numerals.{add-one}
 use mathlib.Core.Path.{_≡_, refl, sym, ap, ap₂, _∙_}
 use mathlib.Core.List.{List, [], _∷_, _++_, map, append-assoc}
-use lib.ListN.{length, take, drop, getD, length-append, length-take, length-drop, take-append-drop}
+use lib.ListN.{length, take, drop, length-append, length-take, length-drop, take-append-drop}
 use lib.Seq.{drop-drop, take-append-seam, drop-append-seam, length-take-le, length-sets}
 use Rattle.rules.specs.Bytes.{Bytes}
 use Rattle.rules.specs.Preorder.{Deep}
-use Rattle.rules.specs.Layout.{FlatParticle, FlatAttribute, particleBytes, attributeBytes, each}
+use Rattle.rules.specs.Layout.{FlatParticle, FlatAttribute, attributeSize, particleBytes, attributeBytes, each}
+use Rattle.rules.specs.Decode.{readParticle}
 use Rattle.rules.proofs.LayoutLaws.{length-each}
-use Rattle.records.specs.Records.{baseWidth}
 use Rattle.codec.specs.Laid.{Laid}
 use Rattle.codec.proofs.Writers.{laid-none, laid-then, laid-as}
+use Rattle.layout.specs.Bodies.{Width}
+use Rattle.layout.specs.RecordBytes.{indexedBytes, ownedBytes}
 use Rattle.defining.specs.Bodies.{memberMoved, movedParticle}
 use Rattle.renumbering.specs.Bodies.{eachRecord, particleRecord, attributeRecord, movedAttribute, cutOut}
 use Rattle.defining.proofs.Renumbered.{map-append}
@@ -24,7 +26,7 @@ use Rattle.defining.proofs.Encoded.{each-append}
 -- whoever writes what is left has written all
 pub record Going (g : Bytes → Bytes) (size : ℕ) (body : Bytes) (count : ℕ) (out₀ : Bytes) (at₀ : ℕ) (out : Bytes) (at i : ℕ) : Type 0 where
   pub goes : (r : ℕ) (out″ : Bytes) → Laid (eachRecord g size (count - i) (drop (size * i) body)) out at r out″ → Laid (eachRecord g size count body) out₀ at₀ r out″
-  pub small : at ≤ at₀ + 64 * i
+  pub small : at ≤ at₀ + 276 * i
   pub inside : i ≤ count
   pub long : length out ≡ length out₀
 
@@ -44,7 +46,7 @@ module _ (g : Bytes → Bytes) (size : ℕ) (body : Bytes) (count : ℕ) {out₀
   going-start = record { goes = λ r o l. laid-as (start-is g size body count) l; small = omega arith; inside = omega arith; long = refl }
 
   module _ {out : Bytes} {at i : ℕ} (s : Going g size body count out₀ at₀ out at i) where
-    pub going-on : (rec : Bytes) {at′ : ℕ} {out′ : Bytes} → i < count → rec ≡ take size (drop (size * i) body) → Laid (g rec) out at at′ out′ → length (g rec) ≤ 64 → Going g size body count out₀ at₀ out′ at′ (i + 1)
+    pub going-on : (rec : Bytes) {at′ : ℕ} {out′ : Bytes} → i < count → rec ≡ take size (drop (size * i) body) → Laid (g rec) out at at′ out′ → length (g rec) ≤ 276 → Going g size body count out₀ at₀ out′ at′ (i + 1)
     going-on rec h e l k =
         record {
           goes = λ r o m. s .goes r o (laid-as (record-left g size body count i h ∙ ap (λ (x : Bytes). g x ++ eachRecord g size (count - (i + 1)) (drop (size * (i + 1)) body)) (sym e)) (laid-then l m));
@@ -57,7 +59,7 @@ module _ (g : Bytes → Bytes) (size : ℕ) (body : Bytes) (count : ℕ) {out₀
     unfolding eachRecord
     going-end h = let e : count - i ≡ 0 = omega arith in s .goes at out (laid-as (ap (λ (k : ℕ). eachRecord g size k (drop (size * i) body)) e) laid-none)
 
-pub records-short : (g : Bytes → Bytes) (size : ℕ) → ((rec : Bytes) → length rec ≤ size → length (g rec) ≤ 64) → (count : ℕ) (body : Bytes) → length (eachRecord g size count body) ≤ 64 * count
+pub records-short : (g : Bytes → Bytes) (size : ℕ) → ((rec : Bytes) → length rec ≤ size → length (g rec) ≤ 276) → (count : ℕ) (body : Bytes) → length (eachRecord g size count body) ≤ 276 * count
 unfolding eachRecord
 records-short g size h zero body = omega arith
 records-short g size h (suc count) body =
@@ -113,17 +115,17 @@ module _ {A : Type 0} (f : A → Bytes) (size : ℕ) (sized : (x : A) → length
 -- ---- the two records
 module _ (g : ℕ → ℕ) where
   pub particle-again : (x : Deep FlatParticle) → particleRecord g (particleBytes x) ≡ particleBytes (movedParticle g x)
-  unfolding particleRecord movedParticle
+  unfolding particleRecord indexedBytes movedParticle
   particle-again x = refl
 
-  pub attribute-again : (x : FlatAttribute) → attributeRecord g (attributeBytes baseWidth x) ≡ attributeBytes baseWidth (movedAttribute g x)
-  unfolding attributeRecord movedAttribute
-  attribute-again x = refl
+  pub attribute-again : (w : ℕ) (x : FlatAttribute) → attributeRecord g (attributeBytes w x) ≡ attributeBytes w (movedAttribute g x)
+  unfolding attributeRecord ownedBytes movedAttribute
+  attribute-again w x = refl
 
-  pub particle-short : (rec : Bytes) → length (particleRecord g rec) ≤ 64
-  unfolding particleRecord
-  particle-short rec = omega (arith, length-append (take 2 rec) (memberMoved g (getD rec 0 0) (getD rec 2 0) ∷ getD rec 3 0 ∷ []), length-take 2 rec)
+  pub particle-short : (rec : Bytes) → length (particleRecord g rec) ≤ 276
+  unfolding particleRecord indexedBytes
+  particle-short rec = omega (arith, length-append (take 2 rec) (memberMoved g (readParticle rec .row .sort) (readParticle rec .row .index) ∷ readParticle rec .depth ∷ []), length-take 2 rec)
 
-  pub attribute-short : (rec : Bytes) → length rec ≤ 52 → length (attributeRecord g rec) ≤ 64
-  unfolding attributeRecord
-  attribute-short rec k = omega (arith, length-drop 1 rec)
+  pub attribute-short : (w : ℕ) (rec : Bytes) → Width w → length rec ≤ attributeSize w → length (attributeRecord g rec) ≤ 276
+  unfolding attributeRecord ownedBytes
+  attribute-short w rec h k = omega (arith, length-drop 1 rec)

@@ -85,8 +85,8 @@ module _ (i : ℕ) (s : Store) (g : good s ≡ true) (h : i < length (s .form)) 
         every-standing (OkRow form left down Ok elements (lowered b (b - a)) attributes) (s .docs)
         (λ r c j.
         record {
-          name = λ q e. nowhere (valueWidth (s .version)) form (x .form) (s .docs) (x .docs) n models roots r c j q (sym e);
-          nothing = others-bare form r (heads c) (standing-every (λ r below. fitsRow form r below ≡ true) (s .docs) (good-parts s g .rows) r c j);
+          name = λ q e. nowhere (s .version) (valueWidth (s .version)) form (x .form) (s .docs) (x .docs) n models roots r c j q (sym e);
+          nothing = others-bare (s .version) form r (heads c) (standing-every (λ r below. fitsRow (s .version) form r below ≡ true) (s .docs) (good-parts s g .rows) r c j);
         })
 
     rows-are : flat (record { version = s .version; next = s .next; form = left; docs = s .docs }) .rows ≡ map (movedRow down (lowered b (b - a))) (flat s .rows)

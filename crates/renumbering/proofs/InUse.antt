@@ -73,19 +73,19 @@ module _ (form : Form) (once : Distinct (map definitionName form)) (i : ℕ) (h 
       ∙ any-append (isRoot i) (flatten (suc (suc d)) (indexed form (r .name) b)) (flatten (suc d) (indexed form owner t))
       ∙ ap₂ (λ (x y : Bool). x || y) (deeper-not (suc d) (r .name) b) (deeper-not d owner t)
 
-  root-same : (owner : Bytes) (r : Row) (below : List Row) → fitsRow form r below ≡ true → (eqb (rowCode (r .sort)) 1 && eqb (rowIndex form owner r) i) ≡ elementNamed n r
-  root-same owner r below e = by (r .sort) refl
+  root-same : (version : ℕ) (owner : Bytes) (r : Row) (below : List Row) → fitsRow version form r below ≡ true → (eqb (rowCode (r .sort)) 1 && eqb (rowIndex form owner r) i) ≡ elementNamed n r
+  root-same version owner r below e = by (r .sort) refl
     where
       by : (s : RowSort) → r .sort ≡ s → (eqb (rowCode (r .sort)) 1 && eqb (rowIndex form owner r) i) ≡ elementNamed n r
-      by element q = rw (q, rowIndex) (index-same form once i h (r .name) (element-known form r below e q))
+      by element q = rw (q, rowIndex) (index-same form once i h (r .name) (element-known version form r below e q))
       by attribute q = rw q refl
       by text q = rw q refl
 
-  roots-have : (owner : Bytes) (f : Forest Row) → EveryRow (λ r below. fitsRow form r below ≡ true) f → any (isRoot i) (flatten 0 (indexed form owner f)) ≡ any (elementNamed n) (heads f)
-  roots-have owner bare e = refl
-  roots-have owner (tree r b t) (x, y, z) =
-      ap₂ (λ (u v : Bool). u || v) (root-same owner r (heads b) x)
-      (any-append (isRoot i) (flatten 1 (indexed form (r .name) b)) (flatten 0 (indexed form owner t)) ∙ ap₂ (λ (u v : Bool). u || v) (deeper-not 0 (r .name) b) (roots-have owner t z))
+  roots-have : (version : ℕ) (owner : Bytes) (f : Forest Row) → EveryRow (λ r below. fitsRow version form r below ≡ true) f → any (isRoot i) (flatten 0 (indexed form owner f)) ≡ any (elementNamed n) (heads f)
+  roots-have version owner bare e = refl
+  roots-have version owner (tree r b t) (x, y, z) =
+      ap₂ (λ (u v : Bool). u || v) (root-same version owner r (heads b) x)
+      (any-append (isRoot i) (flatten 1 (indexed form (r .name) b)) (flatten 0 (indexed form owner t)) ∙ ap₂ (λ (u v : Bool). u || v) (deeper-not 0 (r .name) b) (roots-have version owner t z))
 
 module _ (s : Store) (g : good s ≡ true) (i : ℕ) (h : i < length (s .form)) where
   once : Distinct (map definitionName (s .form))
@@ -95,4 +95,4 @@ module _ (s : Store) (g : good s ≡ true) (i : ℕ) (h : i < length (s .form)) 
   used-in-models = models-have (s .form) once i h (s .form) (good-known s g)
 
   pub used-as-root : any (isRoot i) (flat s .rows) ≡ any (elementNamed (nameAtIndex i (s .form))) (heads (s .docs))
-  used-as-root = roots-have (s .form) once i h [] (s .docs) (good-parts s g .rows)
+  used-as-root = roots-have (s .form) once i h (s .version) [] (s .docs) (good-parts s g .rows)

@@ -7,12 +7,12 @@ use mathlib.Core.Path.{_≡_, refl, sym, ap, ap₂, _∙_}
 use mathlib.Core.Bool.{Bool, true, false, _&&_, and-false}
 use mathlib.Core.List.{List, [], _∷_, _++_, map}
 use lib.Dec.{eqb, leb}
-use borrow.Author.Tests.{ne-eqb}
+use borrow.Author.Tests.{ne-eqb, le-leb}
 use Rattle.rules.specs.Bytes.{Bytes}
 use Rattle.rules.specs.Preorder.{Deep}
 use Rattle.rules.specs.Layout.{FlatRow, rowBytes, each}
+use Rattle.rules.specs.WellFormed.{isValue}
 use Rattle.rules.proofs.BooleanLaws.{Every}
-use Rattle.records.specs.Records.{baseWidth}
 use Rattle.rows.specs.Written.{isNew, numbered, rowsBytes}
 use Rattle.editing.specs.declared.Plan.{Plan}
 use Rattle.editing.specs.declared.Open.{Open}
@@ -33,9 +33,13 @@ numbered-old n (x ∷ xs) (a, e) =
     (ap (λ (b : Bool). elim b as (λ z. ℕ) [ true ↦ n | false ↦ x .row .serial ]) (ne-eqb (x .row .serial) 0 (λ q. omega arith)))
     (numbered-old (n + isNew x) xs e)
 
-pub bytes-old : (n : ℕ) (xs : List (Deep FlatRow)) → Every Old xs → each (rowBytes baseWidth) xs ≡ rowsBytes baseWidth n xs
+pub bytes-old : (w n : ℕ) (xs : List (Deep FlatRow)) → Every Old xs → each (rowBytes w) xs ≡ rowsBytes w n xs
 unfolding rowsBytes
-bytes-old n xs e = ap (each (rowBytes baseWidth)) (sym (numbered-old n xs e))
+bytes-old w n xs e = ap (each (rowBytes w)) (sym (numbered-old n xs e))
+
+-- the plan sets no value: any text will do
+pub no-text : (w : ℕ) → isValue w [] ≡ true
+no-text w = ap (λ (b : Bool). b && true) (le-leb 0 w (omega arith))
 
 module _ (definition from less : ℕ) where
   abbrev p : Plan

@@ -1,59 +1,52 @@
 -- What change 2 leaves of each body, and where it is read.
 -- Assumes nothing.
-use Prim.Native.Nat.{ℕ, zero, suc, _+_, _-_, _*_, _<_, _≤_}
+use Prim.Native.Nat.{ℕ, zero, suc, _+_, _-_, _<_, _≤_}
 use native.Mathlib.Omega.{arith}
 use native.Mathlib.Numerals.{add-one}
-use mathlib.Core.Path.{_≡_, refl, sym, ap, ap₂, _∙_}
+use mathlib.Core.Path.{_≡_, refl, sym, ap, _∙_}
 use mathlib.Core.Bool.{Bool, true, false}
-use mathlib.Core.List.{List, [], _∷_, _++_, map}
+use mathlib.Core.List.{List, [], _∷_, map}
 use lib.Dec.{ltb}
 use lib.ListN.{length, take, drop, getD, length-append, length-map, length-take, length-drop}
-use lib.Seq.{drop-drop, drop-append-seam, length-take-le}
+use lib.Seq.{length-take-le}
 use borrow.Author.Tests.{ltb-true, ltb-false}
 use Rattle.rules.specs.Bytes.{Bytes}
 use Rattle.rules.specs.Store.{Form}
-use Rattle.rules.specs.Layout.{FlatDefinition, FlatAttribute, FlatStore, particleBytes, attributeBytes, rowBytes, each, contentParticles, flatDefinition, allParticles}
-use Rattle.rules.specs.Decode.{readDefinition, readParticle, readAttribute, readRow, readMany, definitionCount, particleCount, attributeCount, rowCount}
+use Rattle.rules.specs.Layout.{definitionSize, particleSize, attributeSize, rowSize, FlatDefinition, FlatAttribute, FlatStore, contentParticles, flatDefinition, allParticles}
+use Rattle.rules.specs.Decode.{numberAt, readDefinition, readParticle, readAttribute, readRow, readMany, definitionCount, particleCount, attributeCount, rowCount}
 use Rattle.rules.specs.Passing.{passes}
-use Rattle.rules.proofs.LayoutLaws.{length-particle, length-each}
-use Rattle.records.specs.Records.{baseWidth}
 use Rattle.codec.specs.Laid.{Laid}
 use Rattle.codec.proofs.Writers.{laid-as}
 use Rattle.codec.proofs.Records.{many-at}
 use Rattle.rowpass.specs.Reading.{definitionIn, particlesBefore}
 use Rattle.validity.specs.Reading.{noDefinition}
-use Rattle.lookup.specs.Bodies.{bodiesOf, rowStart}
-use Rattle.layout.specs.Bodies.{widthOf}
+use Rattle.lookup.specs.Bodies.{bodiesOf}
+use Rattle.layout.specs.Bodies.{widthOf, WidthIn, Number, definitionsIn, particlesIn, attributesIn, rowsIn}
+use Rattle.layout.specs.Header.{headed}
+use Rattle.layout.proofs.LayoutLaws as layout
 use Rattle.storing.specs.Stores.{storeIn}
 use Rattle.storing.proofs.StoreLaws.{holds}
 use Rattle.defining.specs.Bodies.{movedParticle, movedRow}
-use Rattle.storing.specs.Writing.{contents}
 use Rattle.renumbering.specs.Bodies.{lowered, cutOut, particlesOf, isBelow, attributesOf, movedAttribute, Counted, destroyed, headerLeft}
-use Rattle.defining.proofs.Encoded.{Encoded, encoded, others-at}
+use Rattle.defining.proofs.Encoded.{Encoded, encoded}
 
--- ---- where the bodies stand
-module _ {bs : Bytes} {f : FlatStore} (x : Encoded bs f) where
-  pub attributes-at : drop (40 + 20 * definitionCount bs + 4 * particleCount bs) bs ≡ each (attributeBytes baseWidth) (f .attributes) ++ each (rowBytes baseWidth) (f .rows)
-  attributes-at =
-      sym (drop-drop (4 * particleCount bs) (40 + 20 * definitionCount bs) bs)
-      ∙ ap₂ (λ (k : ℕ) (l : Bytes). drop k l) (ap (λ (k : ℕ). 4 * k) (x .particles) ∙ sym (length-each particleBytes 4 length-particle (f .particles))) (others-at x)
-      ∙ drop-append-seam (each particleBytes (f .particles)) (each (attributeBytes baseWidth) (f .attributes) ++ each (rowBytes baseWidth) (f .rows))
-
+-- ---- the bodies, read
 module _ (bs : Bytes) where
-  pub particles-read : bodiesOf bs .particles ≡ readMany readParticle 4 (particleCount bs) (drop (40 + 20 * definitionCount bs) bs)
-  unfolding bodiesOf widthOf
-  particles-read = ap (readMany readParticle 4 (particleCount bs)) (drop-drop (20 * definitionCount bs) 40 bs)
+  own-definitions : bodiesOf bs .definitions ≡ readMany readDefinition definitionSize (definitionCount bs) (definitionsIn bs)
+  unfolding bodiesOf
+  own-definitions = sym (layout.definitions-read bs)
 
-  attribute-place : drop (4 * particleCount bs) (drop (20 * definitionCount bs) (drop 40 bs)) ≡ drop (40 + 20 * definitionCount bs + 4 * particleCount bs) bs
-  attribute-place = ap (drop (4 * particleCount bs)) (drop-drop (20 * definitionCount bs) 40 bs) ∙ drop-drop (4 * particleCount bs) (40 + 20 * definitionCount bs) bs
+  pub particles-read : bodiesOf bs .particles ≡ readMany readParticle particleSize (particleCount bs) (particlesIn bs)
+  unfolding bodiesOf
+  particles-read = sym (layout.particles-read bs)
 
-  pub attributes-read : bodiesOf bs .attributes ≡ readMany readAttribute 52 (attributeCount bs) (drop (40 + 20 * definitionCount bs + 4 * particleCount bs) bs)
-  unfolding bodiesOf widthOf
-  attributes-read = ap (readMany readAttribute 52 (attributeCount bs)) attribute-place
+  pub attributes-read : bodiesOf bs .attributes ≡ readMany readAttribute (attributeSize (widthOf bs)) (attributeCount bs) (attributesIn bs)
+  unfolding bodiesOf
+  attributes-read = sym (layout.attributes-read bs)
 
-  pub rows-read : bodiesOf bs .rows ≡ readMany readRow 44 (rowCount bs) (drop (rowStart bs) bs)
-  unfolding bodiesOf rowStart widthOf
-  rows-read = ap (readMany readRow 44 (rowCount bs)) (ap (drop (52 * attributeCount bs)) attribute-place ∙ drop-drop (52 * attributeCount bs) (40 + 20 * definitionCount bs + 4 * particleCount bs) bs)
+  pub rows-read : bodiesOf bs .rows ≡ readMany readRow (rowSize (widthOf bs)) (rowCount bs) (rowsIn bs)
+  unfolding bodiesOf
+  rows-read = sym (layout.rows-read bs)
 
 -- ---- how many particles and attributes the first definitions have
 particles-more : (i : ℕ) (ds : List FlatDefinition) → particlesOf (suc i) ds ≡ particlesOf i ds + getD ds i noDefinition .particles
@@ -66,12 +59,12 @@ particles-more (suc i) (d ∷ ds) = omega (arith, particles-more i ds)
 pub particles-step : (i : ℕ) (ds : List FlatDefinition) → particlesOf i ds ≤ particlesOf (suc i) ds
 particles-step i ds = omega (arith, particles-more i ds)
 
-particles-before : (bs : Bytes) (i : ℕ) → i ≤ definitionCount bs → particlesBefore (drop 40 bs) i ≡ particlesOf i (bodiesOf bs .definitions)
-unfolding particlesBefore particlesOf bodiesOf widthOf
-particles-before bs zero h = refl
-particles-before bs (suc i) h =
-    let e : getD (readMany readDefinition 20 (definitionCount bs) (drop 40 bs)) i noDefinition ≡ definitionIn (drop 40 bs) i = many-at readDefinition 20 i (definitionCount bs) (drop 40 bs) noDefinition (omega arith) in
-    omega (arith, particles-before bs i (omega arith), particles-more i (readMany readDefinition 20 (definitionCount bs) (drop 40 bs)), ap (λ (d : FlatDefinition). d .particles) e)
+particles-before : (count : ℕ) (defs : Bytes) (i : ℕ) → i ≤ count → particlesBefore defs i ≡ particlesOf i (readMany readDefinition definitionSize count defs)
+unfolding particlesBefore particlesOf
+particles-before count defs zero h = refl
+particles-before count defs (suc i) h =
+    let e : getD (readMany readDefinition definitionSize count defs) i noDefinition ≡ definitionIn defs i = many-at readDefinition definitionSize i count defs noDefinition (omega arith) in
+    omega (arith, particles-before count defs i (omega arith), particles-more i (readMany readDefinition definitionSize count defs), ap (λ (d : FlatDefinition). d .particles) e)
 
 particles-most : (F : Form) (i : ℕ) (ds : Form) → particlesOf i (map (flatDefinition F) ds) ≤ length (allParticles F ds)
 unfolding particlesOf
@@ -82,10 +75,11 @@ particles-most F (suc i) (d ∷ ds) = omega (arith, particles-most F i ds, lengt
 pub particles-within : (bs : Bytes) → passes bs ≡ true → (i : ℕ) → particlesOf i (bodiesOf bs .definitions) ≤ length (bodiesOf bs .particles)
 particles-within bs p i = rw (holds bs p .bodies) (particles-most (storeIn bs .form) i (storeIn bs .form))
 
-pub model-starts : (bs : Bytes) → passes bs ≡ true → (i : ℕ) → i ≤ definitionCount bs → {r : ℕ} → r ≡ particlesBefore (drop 40 bs) i → Counted (particlesOf i (bodiesOf bs .definitions)) (particleCount bs) r
-model-starts bs p i h e =
-    let z : particlesBefore (drop 40 bs) i ≡ particlesOf i (bodiesOf bs .definitions) = particles-before bs i h in
-    record { is = e ∙ z; most = omega (arith, e, z, particles-within bs p i, encoded bs p .particles) }
+pub model-starts : (bs : Bytes) → passes bs ≡ true → (i : ℕ) → i ≤ definitionCount bs → {r : ℕ} {defs : Bytes} → defs ≡ definitionsIn bs → r ≡ particlesBefore defs i → Counted (particlesOf i (bodiesOf bs .definitions)) (particleCount bs) r
+model-starts bs p i h {r} d e =
+    let z : particlesBefore (definitionsIn bs) i ≡ particlesOf i (bodiesOf bs .definitions) = particles-before (definitionCount bs) (definitionsIn bs) i h ∙ ap (particlesOf i) (sym (own-definitions bs)) in
+    let q : r ≡ particlesBefore (definitionsIn bs) i = e ∙ ap (λ (l : Bytes). particlesBefore l i) d in
+    record { is = q ∙ z; most = omega (arith, q, z, particles-within bs p i, encoded bs p .particles) }
 
 below-step : (i : ℕ) (a : FlatAttribute) → isBelow i a ≤ isBelow (suc i) a
 below-step i a = by (ltb (a .owner) i) refl (ltb (a .owner) (suc i)) refl
@@ -112,10 +106,13 @@ unfolding attributesOf
 attributes-most i [] = omega arith
 attributes-most i (a ∷ cs) = omega (arith, below-one i a, attributes-most i cs)
 
-pub attribute-starts : (bs : Bytes) (i count : ℕ) (body : Bytes) {r : ℕ} → count ≡ attributeCount bs → body ≡ drop (40 + 20 * definitionCount bs + 4 * particleCount bs) bs → Counted (attributesOf i (readMany readAttribute 52 count body)) count r
+pub attribute-starts : (bs : Bytes) (i : ℕ) {w count : ℕ} {body : Bytes} {r : ℕ} → WidthIn bs w → Number (attributeCount bs) count → body ≡ attributesIn bs → Counted (attributesOf i (readMany readAttribute (attributeSize w) count body)) count r
     → Counted (attributesOf i (bodiesOf bs .attributes)) (attributeCount bs) r
-attribute-starts bs i count body e q c =
-    record { is = c .is ∙ ap₂ (λ (k : ℕ) (l : Bytes). attributesOf i (readMany readAttribute 52 k l)) e q ∙ sym (ap (attributesOf i) (attributes-read bs)); most = omega (arith, c .most, e) }
+attribute-starts bs i w e q c =
+    record {
+      is = c .is ∙ (λ j. attributesOf i (readMany readAttribute (attributeSize (w .value j)) (e .value j) (q j))) ∙ sym (ap (attributesOf i) (attributes-read bs));
+      most = omega (arith, c .most, e .value);
+    }
 
 -- a count at the next number
 pub next-counted : (P : ℕ → ℕ) (i n : ℕ) {r : ℕ} → Counted (P (i + 1)) n r → Counted (P (suc i)) n r
@@ -143,23 +140,23 @@ module _ (bs : Bytes) (p : passes bs ≡ true) (i : ℕ) (h : i < definitionCoun
       let e : suc i - i ≡ 1 = omega arith in
       ap (λ (k : ℕ). length (cutOut i k (f .definitions))) (sym e) ∙ length-cut i (suc i) (f .definitions) (omega arith) (omega (arith, x .definitions)) ∙ omega (arith, x .definitions)
 
-  pub models-left : (n a b : ℕ) → n ≡ particleCount bs → Counted (particlesOf i (f .definitions)) (particleCount bs) a → Counted (particlesOf (suc i) (f .definitions)) (particleCount bs) b → Counted (length (destroyed i f .particles)) 256 (n - (b - a))
+  pub models-left : {n a b : ℕ} → Number (particleCount bs) n → Counted (particlesOf i (f .definitions)) (particleCount bs) a → Counted (particlesOf (suc i) (f .definitions)) (particleCount bs) b → Counted (length (destroyed i f .particles)) 256 (n - (b - a))
   unfolding destroyed
-  models-left n a b e ca cb =
+  models-left e ca cb =
       let z : length (destroyed i f .particles) ≡ length (f .particles) - (particlesOf (suc i) (f .definitions) - particlesOf i (f .definitions)) =
       length-map (cutOut (particlesOf i (f .definitions)) (particlesOf (suc i) (f .definitions) - particlesOf i (f .definitions)) (f .particles)) (movedParticle (lowered (suc i) 1))
       ∙ length-cut (particlesOf i (f .definitions)) (particlesOf (suc i) (f .definitions)) (f .particles) (particles-step i (f .definitions)) (particles-within bs p (suc i))
       in
-      record { is = omega (arith, z, e, ca .is, cb .is, x .particles); most = omega (arith, e, x .particles, x .fewParticles) }
+      record { is = omega (arith, z, e .value, ca .is, cb .is, x .particles); most = omega (arith, e .value, x .particles, x .fewParticles) }
 
-  pub attributes-left : (n a b : ℕ) → n ≡ attributeCount bs → Counted (attributesOf i (f .attributes)) (attributeCount bs) a → Counted (attributesOf (suc i) (f .attributes)) (attributeCount bs) b → Counted (length (destroyed i f .attributes)) 64 (n - (b - a))
+  pub attributes-left : {n a b : ℕ} → Number (attributeCount bs) n → Counted (attributesOf i (f .attributes)) (attributeCount bs) a → Counted (attributesOf (suc i) (f .attributes)) (attributeCount bs) b → Counted (length (destroyed i f .attributes)) 64 (n - (b - a))
   unfolding destroyed
-  attributes-left n a b e ca cb =
+  attributes-left e ca cb =
       let z : length (destroyed i f .attributes) ≡ length (f .attributes) - (attributesOf (suc i) (f .attributes) - attributesOf i (f .attributes)) =
       length-map (cutOut (attributesOf i (f .attributes)) (attributesOf (suc i) (f .attributes) - attributesOf i (f .attributes)) (f .attributes)) (movedAttribute (lowered (suc i) 1))
       ∙ length-cut (attributesOf i (f .attributes)) (attributesOf (suc i) (f .attributes)) (f .attributes) (attributes-step i (f .attributes)) (attributes-most (suc i) (f .attributes))
       in
-      record { is = omega (arith, z, e, ca .is, cb .is, x .attributes); most = omega (arith, e, x .attributes, x .fewAttributes) }
+      record { is = omega (arith, z, e .value, ca .is, cb .is, x .attributes); most = omega (arith, e .value, x .attributes, x .fewAttributes) }
 
   pub rows-left : length (destroyed i f .rows) ≡ rowCount bs
   unfolding destroyed
@@ -179,7 +176,7 @@ module _ (bs : Bytes) (p : passes bs ≡ true) (i : ℕ) (h : i < definitionCoun
       let n : ℕ = attributesOf (suc i) (f .attributes) - attributesOf i (f .attributes) in
       omega (arith, length-map (cutOut a n (f .attributes)) (movedAttribute (lowered (suc i) 1)), cut-most a n (f .attributes), x .fewAttributes)
 
-  pub header-left : (d m n r : ℕ) {out out₁ : Bytes} {at : ℕ} → d ≡ definitionCount bs → Counted (length (destroyed i f .particles)) 256 m → Counted (length (destroyed i f .attributes)) 64 n → r ≡ rowCount bs
-      → Laid (take 8 bs ++ contents (d - 1) m n r) out 0 at out₁ → Laid (headerLeft i bs) out 0 at out₁
-  header-left d m n r ed em en er l =
-      laid-as (λ j. take 8 bs ++ contents ((definitions-left ∙ ap (λ (k : ℕ). k - 1) (sym ed)) j) (sym (em .is) j) (sym (en .is) j) ((rows-left ∙ sym er) j)) l
+  pub header-left : {d m n : ℕ} {out out₁ : Bytes} {at : ℕ} → Number (definitionCount bs) d → Counted (length (destroyed i f .particles)) 256 m → Counted (length (destroyed i f .attributes)) 64 n
+      → Laid (headed (widthOf bs) (numberAt 4 4 bs) (d - 1) m n (rowCount bs) bs) out 0 at out₁ → Laid (headerLeft i bs) out 0 at out₁
+  header-left ed em en l =
+      laid-as (λ j. headed (widthOf bs) (numberAt 4 4 bs) ((definitions-left ∙ ap (λ (k : ℕ). k - 1) (sym (ed .value))) j) (sym (em .is) j) (sym (en .is) j) (rows-left j) bs) l

@@ -1,22 +1,24 @@
 -- The bytes of what change 2 leaves, as the code writes them.
 -- Assumes nothing.
-use Prim.Native.Nat.{ℕ, suc, _+_, _-_, _*_, _<_}
+use Prim.Native.Nat.{ℕ, suc, _+_, _-_, _*_, _<_, _≤_}
 use native.Mathlib.Omega.{arith}
 use native.Mathlib.Numerals.{add-one}
 use mathlib.Core.Path.{_≡_, sym, ap, ap₂, _∙_}
 use mathlib.Core.Bool.{true}
-use mathlib.Core.List.{_++_, map}
-use lib.ListN.{length, take, drop, length-drop}
-use lib.Seq.{drop-drop, take-append-seam}
+use mathlib.Core.List.{[], _++_, map, append-nil}
+use lib.ListN.{length, take, drop}
 use Rattle.rules.specs.Bytes.{Bytes}
-use Rattle.rules.specs.Layout.{FlatStore, flat, flatBytes, definitionBytes, particleBytes, attributeBytes, rowBytes, each}
+use Rattle.rules.specs.Layout.{definitionSize, particleSize, attributeSize, FlatStore, flat, flatBytes, definitionBytes, particleBytes, attributeBytes, rowBytes, each}
 use Rattle.rules.specs.Decode.{numberAt, definitionCount, particleCount, attributeCount}
 use Rattle.rules.specs.Passing.{passes}
 use Rattle.rules.proofs.BooleanLaws.{Every, every-map}
 use Rattle.rules.proofs.LayoutLaws.{length-definition, length-particle, length-attribute, length-each}
-use Rattle.records.specs.Records.{baseWidth}
 use Rattle.codec.specs.Laid.{Laid}
 use Rattle.codec.proofs.Writers.{laid-then, laid-as}
+use Rattle.layout.specs.Bodies.{widthOf, WidthIn, Number, definitionsIn, particlesIn, attributesIn}
+use Rattle.layout.specs.Header.{headed}
+use Rattle.layout.proofs.LayoutLaws.{width-small}
+use Rattle.layout.proofs.HeaderLaws.{attributes-few, headed-short}
 use Rattle.lookup.specs.Bodies.{bodiesOf}
 use Rattle.rows.specs.declared.Cursor.{Cursor}
 use Rattle.rows.specs.Written.{Written}
@@ -28,13 +30,12 @@ use Rattle.storing.specs.Writing.{walkFrom}
 use Rattle.storing.proofs.StoreLaws.{holds}
 use Rattle.storing.proofs.RowBounds.{Bounded, rows-bounded}
 use Rattle.defining.specs.Bodies.{movedParticle, movedRow}
-use Rattle.storing.specs.Writing.{contents}
-use Rattle.renumbering.specs.Bodies.{lowered, cutOut, particlesOf, attributesOf, eachRecord, particleRecord, attributeRecord, movedAttribute, Counted, destroyed}
-use Rattle.defining.proofs.Encoded.{Encoded, encoded, bytes-are, others, others-at, each-append}
+use Rattle.renumbering.specs.Bodies.{lowered, cutOut, particlesOf, attributesOf, eachRecord, particleRecord, attributeRecord, movedAttribute, Counted, destroyed, headerLeft}
+use Rattle.defining.proofs.Encoded.{Encoded, encoded, bytes-are, others, definitions-at, particles-at, attributes-at, each-append}
 use Rattle.renumbering.specs.Shifting.{shifting}
 use Rattle.renumbering.proofs.Again.{each-drop, each-take, cut-again, particle-again, attribute-again}
 use Rattle.renumbering.proofs.KeptRows.{Old, bytes-old, walked-shut, kept-rows, moved-old}
-use Rattle.renumbering.proofs.Left.{rows-left, attributes-at, particles-step, particles-within, attributes-step, attributes-most}
+use Rattle.renumbering.proofs.Left.{definitions-left, rows-left, few-particles, few-attributes, particles-step, particles-within, attributes-step, attributes-most}
 
 module _ (bs : Bytes) (p : passes bs ≡ true) (i : ℕ) (h : i < definitionCount bs) where
   abbrev f : FlatStore
@@ -47,59 +48,60 @@ module _ (bs : Bytes) (p : passes bs ≡ true) (i : ℕ) (h : i < definitionCoun
   g = lowered (suc i) 1
 
   -- ---- definitions
-  bodies-at : drop 40 bs ≡ each definitionBytes (f .definitions) ++ others f
-  bodies-at = ap (drop 40) (sym (x .written))
+  bodies-at : definitionsIn bs ≡ each definitionBytes (f .definitions) ++ []
+  bodies-at = definitions-at x ∙ sym (append-nil (each definitionBytes (f .definitions)))
 
-  front-at : take (20 * i) (drop 40 bs) ≡ each definitionBytes (take i (f .definitions))
-  front-at = ap (take (20 * i)) bodies-at ∙ each-take definitionBytes 20 length-definition i (f .definitions) (others f) (omega (arith, x .definitions))
-
-  back-at : take (20 * (definitionCount bs - i - 1)) (drop (60 + 20 * i) bs) ≡ each definitionBytes (drop (i + 1) (f .definitions))
-  back-at =
-      let e : 40 + 20 * (i + 1) ≡ 60 + 20 * i = omega arith in
-      let place : drop (60 + 20 * i) bs ≡ each definitionBytes (drop (i + 1) (f .definitions)) ++ others f =
-      ap (λ (k : ℕ). drop k bs) (sym e) ∙ sym (drop-drop (20 * (i + 1)) 40 bs) ∙ ap (drop (20 * (i + 1))) bodies-at ∙ each-drop definitionBytes 20 length-definition (i + 1) (f .definitions) (others f) (omega (arith, x .definitions))
-      in
-      let size : 20 * (definitionCount bs - i - 1) ≡ length (each definitionBytes (drop (i + 1) (f .definitions))) =
-      omega (arith, length-each definitionBytes 20 length-definition (drop (i + 1) (f .definitions)), length-drop (i + 1) (f .definitions), x .definitions)
-      in
-      ap₂ (λ (k : ℕ) (l : Bytes). take k l) size place ∙ take-append-seam (each definitionBytes (drop (i + 1) (f .definitions))) (others f)
-
-  pub definitions-laid : (d : ℕ) {u v out out₁ out₂ : Bytes} {at at₁ at₂ : ℕ} → d ≡ definitionCount bs → u ≡ take (20 * i) (drop 40 bs) → v ≡ take (20 * (d - i - 1)) (drop (60 + 20 * i) bs) → Laid u out at at₁ out₁ → Laid v out₁ at₁ at₂ out₂
+  -- d: the definitions as the code reads them
+  pub definitions-laid : {d u v out out₁ out₂ : Bytes} {at at₁ at₂ : ℕ} → d ≡ definitionsIn bs → u ≡ take (definitionSize * i) d → v ≡ drop (definitionSize * (i + 1)) d → Laid u out at at₁ out₁ → Laid v out₁ at₁ at₂ out₂
       → Laid (each definitionBytes (destroyed i f .definitions)) out at at₂ out₂
   unfolding destroyed cutOut
-  definitions-laid d e eu ev a b =
-      laid-as
-      (each-append definitionBytes (take i (f .definitions)) (drop (i + 1) (f .definitions))
-      ∙ ap₂ (λ (y z : Bytes). y ++ z) (sym (eu ∙ front-at)) (sym (ev ∙ ap (λ (k : ℕ). take (20 * (k - i - 1)) (drop (60 + 20 * i) bs)) e ∙ back-at)))
-      (laid-then a b)
+  definitions-laid {u = u} {v = v} e eu ev a b =
+      let front : u ≡ each definitionBytes (take i (f .definitions)) =
+      eu ∙ ap (take (definitionSize * i)) (e ∙ bodies-at) ∙ each-take definitionBytes definitionSize length-definition i (f .definitions) [] (omega (arith, x .definitions))
+      in
+      let back : v ≡ each definitionBytes (drop (i + 1) (f .definitions)) =
+      ev
+      ∙ ap (drop (definitionSize * (i + 1))) (e ∙ bodies-at)
+      ∙ each-drop definitionBytes definitionSize length-definition (i + 1) (f .definitions) [] (omega (arith, x .definitions))
+      ∙ append-nil (each definitionBytes (drop (i + 1) (f .definitions)))
+      in
+      laid-as (each-append definitionBytes (take i (f .definitions)) (drop (i + 1) (f .definitions)) ∙ ap₂ (λ (y z : Bytes). y ++ z) (sym front) (sym back)) (laid-then a b)
+
+  pub definitions-short : {d : Bytes} → d ≡ definitionsIn bs → length d ≤ 1280
+  definitions-short e = omega (arith, ap length (e ∙ definitions-at x), length-each definitionBytes definitionSize length-definition (f .definitions), x .fewDefinitions)
 
   -- ---- models and attributes
-  pub models-laid : (body : Bytes) (a b n : ℕ) {tail out out₁ out₂ : Bytes} {at at₁ at₂ : ℕ} → body ≡ drop (40 + 20 * definitionCount bs) bs → n ≡ particleCount bs
-      → Counted (particlesOf i (f .definitions)) (particleCount bs) a → Counted (particlesOf (suc i) (f .definitions)) (particleCount bs) b → tail ≡ drop (4 * b) body
-      → Laid (eachRecord (particleRecord g) 4 a body) out at at₁ out₁ → Laid (eachRecord (particleRecord g) 4 (n - b) tail) out₁ at₁ at₂ out₂ → Laid (each particleBytes (destroyed i f .particles)) out at at₂ out₂
+  pub models-laid : {body : Bytes} {a b n : ℕ} {tail out out₁ out₂ : Bytes} {at at₁ at₂ : ℕ} → body ≡ particlesIn bs → Number (particleCount bs) n
+      → Counted (particlesOf i (f .definitions)) (particleCount bs) a → Counted (particlesOf (suc i) (f .definitions)) (particleCount bs) b → tail ≡ drop (particleSize * b) body
+      → Laid (eachRecord (particleRecord g) particleSize a body) out at at₁ out₁ → Laid (eachRecord (particleRecord g) particleSize (n - b) tail) out₁ at₁ at₂ out₂ → Laid (each particleBytes (destroyed i f .particles)) out at at₂ out₂
   unfolding destroyed
-  models-laid body a b n eb en ca cb et u v =
-      let e : each particleBytes (f .particles) ++ (each (attributeBytes baseWidth) (f .attributes) ++ each (rowBytes baseWidth) (f .rows)) ≡ body = sym (eb ∙ others-at x) in
-      let k : length (f .particles) ≡ n = sym (en ∙ x .particles) in
+  models-laid {body} {a} {b} {n} eb en ca cb et u v =
+      let e : each particleBytes (f .particles) ++ [] ≡ body = append-nil (each particleBytes (f .particles)) ∙ sym (eb ∙ particles-at x) in
+      let k : length (f .particles) ≡ n = sym (en .value ∙ x .particles) in
       laid-as
-      (cut-again particleBytes 4 length-particle (particleRecord g) (movedParticle g) (particle-again g) (particlesOf i (f .definitions)) (particlesOf (suc i) (f .definitions)) (f .particles)
-      (each (attributeBytes baseWidth) (f .attributes) ++ each (rowBytes baseWidth) (f .rows)) (particles-step i (f .definitions)) (particles-within bs p (suc i))
-      ∙ (λ j. eachRecord (particleRecord g) 4 (sym (ca .is) j) (e j) ++ eachRecord (particleRecord g) 4 (k j - sym (cb .is) j) (drop (4 * sym (cb .is) j) (e j)))
-      ∙ ap (λ (l : Bytes). eachRecord (particleRecord g) 4 a body ++ eachRecord (particleRecord g) 4 (n - b) l) (sym et))
+      (cut-again particleBytes particleSize length-particle (particleRecord g) (movedParticle g) (particle-again g) (particlesOf i (f .definitions)) (particlesOf (suc i) (f .definitions)) (f .particles)
+      [] (particles-step i (f .definitions)) (particles-within bs p (suc i))
+      ∙ (λ j. eachRecord (particleRecord g) particleSize (sym (ca .is) j) (e j) ++ eachRecord (particleRecord g) particleSize (k j - sym (cb .is) j) (drop (particleSize * sym (cb .is) j) (e j)))
+      ∙ ap (λ (l : Bytes). eachRecord (particleRecord g) particleSize a body ++ eachRecord (particleRecord g) particleSize (n - b) l) (sym et))
       (laid-then u v)
 
-  pub attributes-laid : (body : Bytes) (a b n : ℕ) {tail out out₁ out₂ : Bytes} {at at₁ at₂ : ℕ} → body ≡ drop (40 + 20 * definitionCount bs + 4 * particleCount bs) bs → n ≡ attributeCount bs
-      → Counted (attributesOf i (f .attributes)) (attributeCount bs) a → Counted (attributesOf (suc i) (f .attributes)) (attributeCount bs) b → tail ≡ drop (52 * b) body
-      → Laid (eachRecord (attributeRecord g) 52 a body) out at at₁ out₁ → Laid (eachRecord (attributeRecord g) 52 (n - b) tail) out₁ at₁ at₂ out₂ → Laid (each (attributeBytes baseWidth) (destroyed i f .attributes)) out at at₂ out₂
+  -- w: the width as the code reads it
+  pub attributes-laid : {w : ℕ} {body : Bytes} {a b n : ℕ} {tail out out₁ out₂ : Bytes} {at at₁ at₂ : ℕ} → WidthIn bs w → body ≡ attributesIn bs → Number (attributeCount bs) n
+      → Counted (attributesOf i (f .attributes)) (attributeCount bs) a → Counted (attributesOf (suc i) (f .attributes)) (attributeCount bs) b → tail ≡ drop (attributeSize w * b) body
+      → Laid (eachRecord (attributeRecord g) (attributeSize w) a body) out at at₁ out₁ → Laid (eachRecord (attributeRecord g) (attributeSize w) (n - b) tail) out₁ at₁ at₂ out₂
+      → Laid (each (attributeBytes (widthOf bs)) (destroyed i f .attributes)) out at at₂ out₂
   unfolding destroyed
-  attributes-laid body a b n eb en ca cb et u v =
-      let e : each (attributeBytes baseWidth) (f .attributes) ++ each (rowBytes baseWidth) (f .rows) ≡ body = sym (eb ∙ attributes-at x) in
-      let k : length (f .attributes) ≡ n = sym (en ∙ x .attributes) in
+  attributes-laid {w} {body} {a} {b} {n} ew eb en ca cb et u v =
+      let e : each (attributeBytes w) (f .attributes) ++ [] ≡ body =
+      append-nil (each (attributeBytes w) (f .attributes)) ∙ ap (λ (z : ℕ). each (attributeBytes z) (f .attributes)) (ew .value) ∙ sym (eb ∙ attributes-at x)
+      in
+      let k : length (f .attributes) ≡ n = sym (en .value ∙ x .attributes) in
       laid-as
-      (cut-again (attributeBytes baseWidth) 52 (length-attribute baseWidth) (attributeRecord g) (movedAttribute g) (attribute-again g) (attributesOf i (f .attributes)) (attributesOf (suc i) (f .attributes)) (f .attributes)
-      (each (rowBytes baseWidth) (f .rows)) (attributes-step i (f .attributes)) (attributes-most (suc i) (f .attributes))
-      ∙ (λ j. eachRecord (attributeRecord g) 52 (sym (ca .is) j) (e j) ++ eachRecord (attributeRecord g) 52 (k j - sym (cb .is) j) (drop (52 * sym (cb .is) j) (e j)))
-      ∙ ap (λ (l : Bytes). eachRecord (attributeRecord g) 52 a body ++ eachRecord (attributeRecord g) 52 (n - b) l) (sym et))
+      (ap (λ (z : ℕ). each (attributeBytes z) (destroyed i f .attributes)) (sym (ew .value))
+      ∙ cut-again (attributeBytes w) (attributeSize w) (length-attribute w) (attributeRecord g) (movedAttribute g) (attribute-again g w) (attributesOf i (f .attributes)) (attributesOf (suc i) (f .attributes)) (f .attributes)
+      [] (attributes-step i (f .attributes)) (attributes-most (suc i) (f .attributes))
+      ∙ (λ j. eachRecord (attributeRecord g) (attributeSize w) (sym (ca .is) j) (e j) ++ eachRecord (attributeRecord g) (attributeSize w) (k j - sym (cb .is) j) (drop (attributeSize w * sym (cb .is) j) (e j)))
+      ∙ ap (λ (l : Bytes). eachRecord (attributeRecord g) (attributeSize w) a body ++ eachRecord (attributeRecord g) (attributeSize w) (n - b) l) (sym et))
       (laid-then u v)
 
   -- ---- rows
@@ -119,25 +121,52 @@ module _ (bs : Bytes) (p : passes bs ≡ true) (i : ℕ) (h : i < definitionCoun
       ∙ (λ j. map (movedRow (lowered (add-one i j) 1) (lowered (eb j) (eb j - ea j))) (f .rows)))
 
   -- q: the plan that the code makes
-  pub rows-laid : (a b : ℕ) (q : Plan) (v : Bytes) {out out₁ : Bytes} {at : ℕ} {r : Cursor} → Counted (attributesOf i (f .attributes)) (attributeCount bs) a → Counted (attributesOf (suc i) (f .attributes)) (attributeCount bs) b
-      → q ≡ shifting (i + 1) b (b - a) → Written baseWidth (rowsAfter q v f) (walkFrom at bs) out r out₁ → Laid (each (rowBytes baseWidth) (destroyed i f .rows)) out at (r .at) out₁
-  rows-laid a b q v ca cb e w =
-      laid-as (bytes-old (numberAt 4 4 bs) (destroyed i f .rows) rows-old)
+  pub rows-laid : {a b : ℕ} {q : Plan} (v : Bytes) {out out₁ : Bytes} {at : ℕ} {r : Cursor} → Counted (attributesOf i (f .attributes)) (attributeCount bs) a → Counted (attributesOf (suc i) (f .attributes)) (attributeCount bs) b
+      → q ≡ shifting (i + 1) b (b - a) → Written (widthOf bs) (rowsAfter q v f) (walkFrom at bs) out r out₁ → Laid (each (rowBytes (widthOf bs)) (destroyed i f .rows)) out at (r .at) out₁
+  rows-laid {a} {b} {q} v ca cb e w =
+      laid-as (bytes-old (widthOf bs) (numberAt 4 4 bs) (destroyed i f .rows) rows-old)
       (written-fitting (written-as (rows-are a b v (ca .is) (cb .is) ∙ ap (λ (s : Plan). rowsAfter s v f) (sym e)) w) (omega (arith, rows-left bs p i h, x .rows, x .fewRows)))
 
   -- ---- all
-  first-is : take 8 (flatBytes baseWidth (destroyed i f)) ≡ take 8 bs
-  unfolding destroyed
-  first-is = ap (take 8) (x .written)
+  header-is : flatBytes (widthOf bs) (destroyed i f) ≡ headerLeft i bs ++ (each definitionBytes (destroyed i f .definitions) ++ others (widthOf bs) (destroyed i f))
+  unfolding destroyed headed
+  header-is =
+      bytes-are (widthOf bs) (destroyed i f)
+      ∙ (λ j.
+      headed (widthOf bs) (sym (x .serial) j) (length (destroyed i f .definitions)) (length (destroyed i f .particles)) (length (destroyed i f .attributes)) (length (destroyed i f .rows)) (x .written j)
+      ++ (each definitionBytes (destroyed i f .definitions) ++ others (widthOf bs) (destroyed i f)))
 
-  pub destroyed-laid : {out out₁ out₂ out₃ out₄ out₅ : Bytes} {at₁ at₂ at₃ at₄ at₅ : ℕ}
-      → Laid (take 8 bs ++ contents (length (destroyed i f .definitions)) (length (destroyed i f .particles)) (length (destroyed i f .attributes)) (length (destroyed i f .rows))) out 0 at₁ out₁
+  pub destroyed-laid : {out out₁ out₂ out₃ out₄ out₅ : Bytes} {at₁ at₂ at₃ at₄ at₅ : ℕ} → Laid (headerLeft i bs) out 0 at₁ out₁
       → Laid (each definitionBytes (destroyed i f .definitions)) out₁ at₁ at₂ out₂ → Laid (each particleBytes (destroyed i f .particles)) out₂ at₂ at₃ out₃
-      → Laid (each (attributeBytes baseWidth) (destroyed i f .attributes)) out₃ at₃ at₄ out₄ → Laid (each (rowBytes baseWidth) (destroyed i f .rows)) out₄ at₄ at₅ out₅ → Laid (flatBytes baseWidth (destroyed i f)) out 0 at₅ out₅
-  destroyed-laid a b c d e =
-      laid-as
-      (bytes-are (destroyed i f)
-      ∙ ap
-      (λ (l : Bytes). (l ++ contents (length (destroyed i f .definitions)) (length (destroyed i f .particles)) (length (destroyed i f .attributes)) (length (destroyed i f .rows))) ++ (each definitionBytes (destroyed i f .definitions) ++ others (destroyed i f)))
-      first-is)
-      (laid-then a (laid-then b (laid-then c (laid-then d e))))
+      → Laid (each (attributeBytes (widthOf bs)) (destroyed i f .attributes)) out₃ at₃ at₄ out₄ → Laid (each (rowBytes (widthOf bs)) (destroyed i f .rows)) out₄ at₄ at₅ out₅
+      → Laid (flatBytes (widthOf bs) (destroyed i f)) out 0 at₅ out₅
+  destroyed-laid a b c d e = laid-as header-is (laid-then a (laid-then b (laid-then c (laid-then d e))))
+
+  -- ---- how far the writers have come
+  -- the places after the header, the definitions, the particles and the attributes
+  module _ {out out₁ : Bytes} {at₁ : ℕ} (l : Laid (headerLeft i bs) out 0 at₁ out₁) where
+    pub after-header : at₁ ≤ 40
+    after-header =
+        omega (
+          arith,
+          l .next,
+          headed-short (widthOf bs) (numberAt 4 4 bs) (length (destroyed i f .definitions)) (length (destroyed i f .particles)) (length (destroyed i f .attributes)) (length (destroyed i f .rows)) bs,
+        )
+
+    module _ {out₂ : Bytes} {at₂ : ℕ} (m : Laid (each definitionBytes (destroyed i f .definitions)) out₁ at₁ at₂ out₂) where
+      pub after-definitions : at₂ ≤ 1320
+      after-definitions = omega (arith, m .next, after-header, length-each definitionBytes definitionSize length-definition (destroyed i f .definitions), definitions-left bs p i h, x .definitions, x .fewDefinitions)
+
+      module _ {out₃ : Bytes} {at₃ : ℕ} (n : Laid (each particleBytes (destroyed i f .particles)) out₂ at₂ at₃ out₃) where
+        pub after-particles : at₃ ≤ 2344
+        after-particles = omega (arith, n .next, after-definitions, length-each particleBytes particleSize length-particle (destroyed i f .particles), few-particles bs p i h)
+
+        pub after-attributes : {out₄ : Bytes} {at₄ : ℕ} → Laid (each (attributeBytes (widthOf bs)) (destroyed i f .attributes)) out₃ at₃ at₄ out₄ → at₄ ≤ 20008
+        after-attributes q =
+            omega (
+              arith,
+              q .next,
+              after-particles,
+              length-each (attributeBytes (widthOf bs)) (attributeSize (widthOf bs)) (length-attribute (widthOf bs)) (destroyed i f .attributes),
+              attributes-few (widthOf bs) (length (destroyed i f .attributes)) (width-small bs) (few-attributes bs p i h),
+            )

@@ -1,18 +1,19 @@
 -- Single records with indices moved, and counts of attributes, as the code makes them.
 -- Assumes nothing.
-use Prim.Native.Nat.{ℕ, suc, _+_, _-_, _*_, _<_, _≤_}
+use Prim.Native.Nat.{ℕ, suc, _+_, _-_, _<_, _≤_}
 use native.Mathlib.Omega.{arith}
 use native.Mathlib.Numerals.{add-one}
 use mathlib.Core.Path.{_≡_, sym, ap, _∙_}
 use mathlib.Core.Bool.{Bool, true, false}
-use mathlib.Core.List.{[], _∷_, _++_}
 use lib.Dec.{ltb}
-use lib.ListN.{take, drop, getD}
 use borrow.Author.Tests.{lt-leb, eq-eqb, ne-eqb, lt-ltb, le-ltb}
 use Rattle.rules.specs.Bytes.{Bytes}
-use Rattle.rules.specs.Decode.{readAttribute, readMany}
+use Rattle.rules.specs.Layout.{attributeSize}
+use Rattle.rules.specs.Decode.{readParticle, readAttribute, readMany}
 use Rattle.codec.specs.Laid.{Laid}
-use Rattle.codec.proofs.Writers.{laid-then, laid-as}
+use Rattle.codec.proofs.Writers.{laid-as}
+use Rattle.layout.specs.Bodies.{recordAt}
+use Rattle.layout.specs.RecordBytes.{indexedBytes, ownedBytes}
 use Rattle.lookup.specs.Bodies.{recordsFrom}
 use Rattle.lookup.proofs.Laws.{from-step, from-none, from-all}
 use Rattle.defining.specs.Bodies.{memberMoved}
@@ -38,42 +39,39 @@ module _ (g : ℕ → ℕ) (sort x : ℕ) where
 
 -- ---- records
 module _ (g : ℕ → ℕ) (rec : Bytes) where
-  pub particle-laid : (s i x y : ℕ) {u out out₁ out₂ out₃ : Bytes} {at at₁ at₂ at₃ : ℕ} → s ≡ getD rec 0 0 → i ≡ getD rec 2 0 → x ≡ memberMoved g s i → y ≡ getD rec 3 0 → u ≡ take 2 rec
-      → Laid u out at at₁ out₁ → Laid (x ∷ []) out₁ at₁ at₂ out₂ → Laid (y ∷ []) out₂ at₂ at₃ out₃ → Laid (particleRecord g rec) out at at₃ out₃
+  pub particle-laid : {s i x : ℕ} {out out₁ : Bytes} {at at₁ : ℕ} → s ≡ readParticle rec .row .sort → i ≡ readParticle rec .row .index → x ≡ memberMoved g s i → Laid (indexedBytes x rec) out at at₁ out₁ → Laid (particleRecord g rec) out at at₁ out₁
   unfolding particleRecord
-  particle-laid s i x y es ei ex ey eu a b c =
-      let e : memberMoved g (getD rec 0 0) (getD rec 2 0) ≡ x = (λ j. memberMoved g (sym es j) (sym ei j)) ∙ sym ex in
-      laid-as (λ j. sym eu j ++ (e j ∷ sym ey j ∷ [])) (laid-then a (laid-then b c))
+  particle-laid es ei ex a = laid-as (ap (λ (z : ℕ). indexedBytes z rec) ((λ j. memberMoved g (sym es j) (sym ei j)) ∙ sym ex)) a
 
-  pub attribute-laid : (o x : ℕ) {u out out₁ out₂ : Bytes} {at at₁ at₂ : ℕ} → o ≡ getD rec 0 0 → x ≡ g o → u ≡ drop 1 rec → Laid (x ∷ []) out at at₁ out₁ → Laid u out₁ at₁ at₂ out₂ → Laid (attributeRecord g rec) out at at₂ out₂
+  pub attribute-laid : {o x : ℕ} {out out₁ : Bytes} {at at₁ : ℕ} → o ≡ readAttribute rec .owner → x ≡ g o → Laid (ownedBytes x rec) out at at₁ out₁ → Laid (attributeRecord g rec) out at at₁ out₁
   unfolding attributeRecord
-  attribute-laid o x eo ex eu a b = laid-as (λ j. (ap g (sym eo) ∙ sym ex) j ∷ sym eu j) (laid-then a b)
+  attribute-laid eo ex a = laid-as (ap (λ (z : ℕ). ownedBytes z rec) (ap g (sym eo) ∙ sym ex)) a
 
 -- ---- attributes of the first i definitions
-pub below-yes : (i : ℕ) (rec : Bytes) (o : ℕ) → o ≡ getD rec 0 0 → o < i → Counted (isBelow i (readAttribute rec)) 1 1
+pub below-yes : (i : ℕ) (rec : Bytes) (o : ℕ) → o ≡ readAttribute rec .owner → o < i → Counted (isBelow i (readAttribute rec)) 1 1
 below-yes i rec o e h = record { is = sym (ap (λ (b : Bool). elim b as (λ z. ℕ) [ true ↦ 1 | false ↦ 0 ]) (ap (λ (k : ℕ). ltb k i) (sym e) ∙ lt-ltb o i h)); most = omega arith }
 
-pub below-no : (i : ℕ) (rec : Bytes) (o : ℕ) → o ≡ getD rec 0 0 → i ≤ o → Counted (isBelow i (readAttribute rec)) 1 0
+pub below-no : (i : ℕ) (rec : Bytes) (o : ℕ) → o ≡ readAttribute rec .owner → i ≤ o → Counted (isBelow i (readAttribute rec)) 1 0
 below-no i rec o e h = record { is = sym (ap (λ (b : Bool). elim b as (λ z. ℕ) [ true ↦ 1 | false ↦ 0 ]) (ap (λ (k : ℕ). ltb k i) (sym e) ∙ le-ltb o i h)); most = omega arith }
 
 -- the loop: `sum` of the first j
-pub record Counting (i : ℕ) (body : Bytes) (count sum j : ℕ) : Type 0 where
-  pub rest : attributesOf i (readMany readAttribute 52 count body) ≡ sum + attributesOf i (recordsFrom readAttribute 52 body count j)
+pub record Counting (w i : ℕ) (body : Bytes) (count sum j : ℕ) : Type 0 where
+  pub rest : attributesOf i (readMany readAttribute (attributeSize w) count body) ≡ sum + attributesOf i (recordsFrom readAttribute (attributeSize w) body count j)
   pub small : sum ≤ j
   pub inside : j ≤ count
 
-module _ (i : ℕ) (body : Bytes) (count : ℕ) where
-  pub counting-start : Counting i body count 0 0
-  counting-start = record { rest = omega (arith, ap (attributesOf i) (from-all readAttribute 52 body count 0)); small = omega arith; inside = omega arith }
+module _ (w i : ℕ) (body : Bytes) (count : ℕ) where
+  pub counting-start : Counting w i body count 0 0
+  counting-start = record { rest = omega (arith, ap (attributesOf i) (from-all readAttribute (attributeSize w) body count 0)); small = omega arith; inside = omega arith }
 
-  module _ {sum j : ℕ} (c : Counting i body count sum j) where
-    pub counting-on : j < count → (rec : Bytes) (r : ℕ) → rec ≡ take 52 (drop (52 * j) body) → Counted (isBelow i (readAttribute rec)) 1 r → Counting i body count (sum + r) (j + 1)
+  module _ {sum j : ℕ} (c : Counting w i body count sum j) where
+    pub counting-on : j < count → (rec : Bytes) (r : ℕ) → rec ≡ recordAt (attributeSize w) j body → Counted (isBelow i (readAttribute rec)) 1 r → Counting w i body count (sum + r) (j + 1)
     unfolding attributesOf
     counting-on h rec r e k =
-        let z : isBelow i (readAttribute (take 52 (drop (52 * j) body))) ≡ r = ap (λ (x : Bytes). isBelow i (readAttribute x)) (sym e) ∙ sym (k .is) in
-        let y : attributesOf i (recordsFrom readAttribute 52 body count j) ≡ isBelow i (readAttribute (take 52 (drop (52 * j) body))) + attributesOf i (recordsFrom readAttribute 52 body count (j + 1)) = ap (attributesOf i) (from-step readAttribute 52 body count j h) in
+        let z : isBelow i (readAttribute (recordAt (attributeSize w) j body)) ≡ r = ap (λ (x : Bytes). isBelow i (readAttribute x)) (sym e) ∙ sym (k .is) in
+        let y : attributesOf i (recordsFrom readAttribute (attributeSize w) body count j) ≡ isBelow i (readAttribute (recordAt (attributeSize w) j body)) + attributesOf i (recordsFrom readAttribute (attributeSize w) body count (j + 1)) = ap (attributesOf i) (from-step readAttribute (attributeSize w) body count j h) in
         record { rest = omega (arith, c .rest, y, z); small = omega (arith, c .small, k .most); inside = omega arith }
 
-    pub counting-end : count ≤ j → Counted (attributesOf i (readMany readAttribute 52 count body)) count sum
+    pub counting-end : count ≤ j → Counted (attributesOf i (readMany readAttribute (attributeSize w) count body)) count sum
     unfolding attributesOf
-    counting-end h = record { is = omega (arith, c .rest, ap (attributesOf i) (from-none readAttribute 52 body count j h)); most = omega (arith, c .small, c .inside) }
+    counting-end h = record { is = omega (arith, c .rest, ap (attributesOf i) (from-none readAttribute (attributeSize w) body count j h)); most = omega (arith, c .small, c .inside) }

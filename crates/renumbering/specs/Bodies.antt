@@ -5,15 +5,17 @@ use mathlib.Core.Path.{_≡_}
 use mathlib.Core.Bool.{Bool, true, false, _&&_}
 use mathlib.Core.List.{List, [], _∷_, _++_, map}
 use lib.Dec.{eqb, leb, ltb}
-use lib.ListN.{length, take, drop, getD}
+use lib.ListN.{length, take, drop}
 use Rattle.rules.specs.Bytes.{Bytes}
 use Rattle.rules.specs.Preorder.{Deep}
 use Rattle.rules.specs.Layout.{FlatDefinition, FlatParticle, FlatAttribute, FlatRow, FlatStore}
-use Rattle.rules.specs.Decode.{definitionCount}
+use Rattle.rules.specs.Decode.{numberAt, readParticle, readAttribute, definitionCount}
 use Rattle.rules.specs.Passing.{passes}
+use Rattle.layout.specs.Bodies.{widthOf}
+use Rattle.layout.specs.RecordBytes.{indexedBytes, ownedBytes}
+use Rattle.layout.specs.Header.{headed}
 use Rattle.lookup.specs.Bodies.{bodiesOf}
 use Rattle.defining.specs.Bodies.{memberMoved, movedParticle, movedRow}
-use Rattle.storing.specs.Writing.{contents}
 
 -- ---- what is left
 -- `less` entries before number `from` go: the numbers from there on fall
@@ -71,10 +73,10 @@ eachRecord g size zero bs = []
 eachRecord g size (suc count) bs = g (take size bs) ++ eachRecord g size count (drop size bs)
 
 unfoldable pub particleRecord : (ℕ → ℕ) → Bytes → Bytes
-particleRecord g rec = take 2 rec ++ (memberMoved g (getD rec 0 0) (getD rec 2 0) ∷ getD rec 3 0 ∷ [])
+particleRecord g rec = indexedBytes (memberMoved g (readParticle rec .row .sort) (readParticle rec .row .index)) rec
 
 unfoldable pub attributeRecord : (ℕ → ℕ) → Bytes → Bytes
-attributeRecord g rec = g (getD rec 0 0) ∷ drop 1 rec
+attributeRecord g rec = ownedBytes (g (readAttribute rec .owner)) rec
 
 -- r is the number `count`, which is at most `all`
 pub record Counted (count all r : ℕ) : Type 0 where
@@ -90,4 +92,4 @@ pub record Defined (bs : Bytes) (i : ℕ) : Type 0 where
 abbrev pub headerLeft : ℕ → Bytes → Bytes
 headerLeft i bs =
     let f : FlatStore = destroyed i (bodiesOf bs) in
-    take 8 bs ++ contents (length (f .definitions)) (length (f .particles)) (length (f .attributes)) (length (f .rows))
+    headed (widthOf bs) (numberAt 4 4 bs) (length (f .definitions)) (length (f .particles)) (length (f .attributes)) (length (f .rows)) bs

@@ -11,7 +11,7 @@ use lib.Seq.{drop-drop}
 use borrow.Author.Tests.{ltb-true, ltb-false}
 use Rattle.rules.specs.Bytes.{Bytes}
 use Rattle.rules.specs.Preorder.{Deep, build}
-use Rattle.rules.specs.Layout.{FlatParticle}
+use Rattle.rules.specs.Layout.{particleSize, FlatParticle}
 use Rattle.rules.specs.Decode.{readMany, readParticle, particleCount}
 use Rattle.model.specs.Members.{indexMembers, particlesOf, membersFrom}
 use Rattle.model.proofs.MembersLaws.{particles-few, particles-more}
@@ -22,24 +22,24 @@ use Rattle.layout.specs.Bodies.{widthOf, particlesIn}
 use Rattle.filling.specs.Parts as bytes
 use Rattle.storing.specs.Planned.{membersAt}
 
-particles-from : (k : ℕ) (s : Bytes) → particlesOf (drop (4 * k) s) ≡ drop k (particlesOf s)
+particles-from : (k : ℕ) (s : Bytes) → particlesOf (drop (particleSize * k) s) ≡ drop k (particlesOf s)
 particles-from zero s = refl
-particles-from (suc k) s = by (ltb (length s) 4) refl (particles-from k (drop 4 s))
+particles-from (suc k) s = by (ltb (length s) particleSize) refl (particles-from k (drop particleSize s))
   where
-    by : (b : Bool) → ltb (length s) 4 ≡ b → particlesOf (drop (4 * k) (drop 4 s)) ≡ drop k (particlesOf (drop 4 s)) → particlesOf (drop (4 * suc k) s) ≡ drop (suc k) (particlesOf s)
+    by : (b : Bool) → ltb (length s) particleSize ≡ b → particlesOf (drop (particleSize * k) (drop particleSize s)) ≡ drop k (particlesOf (drop particleSize s)) → particlesOf (drop (particleSize * suc k) s) ≡ drop (suc k) (particlesOf s)
     by true e f =
-        let short : length s < 4 = ltb-true (length s) 4 e in
-        particles-few (drop (4 * suc k) s) (omega (arith, length-drop (4 * suc k) s)) ∙ sym (ap (λ (l : List (Deep FlatParticle)). drop (suc k) l) (particles-few s short))
+        let short : length s < particleSize = ltb-true (length s) particleSize e in
+        particles-few (drop (particleSize * suc k) s) (omega (arith, length-drop (particleSize * suc k) s)) ∙ sym (ap (λ (l : List (Deep FlatParticle)). drop (suc k) l) (particles-few s short))
     by false e f =
-        let long : 4 ≤ length s = ltb-false (length s) 4 e in
-        let n : 4 * suc k ≡ 4 + 4 * k = omega arith in
-        ap (λ (m : ℕ). particlesOf (drop m s)) n ∙ sym (ap particlesOf (drop-drop (4 * k) 4 s)) ∙ f ∙ sym (ap (λ (l : List (Deep FlatParticle)). drop (suc k) l) (particles-more s long))
+        let long : particleSize ≤ length s = ltb-false (length s) particleSize e in
+        let n : particleSize * suc k ≡ particleSize + particleSize * k = omega arith in
+        ap (λ (m : ℕ). particlesOf (drop m s)) n ∙ sym (ap particlesOf (drop-drop (particleSize * k) particleSize s)) ∙ f ∙ sym (ap (λ (l : List (Deep FlatParticle)). drop (suc k) l) (particles-more s long))
 
 all-particles : {bs : Bytes} → Headed bs → particlesOf (particlesIn bs) ≡ particles (particleCount bs) (particlesIn bs)
 unfolding particlesOf particles
 all-particles {bs} h =
-    let e : length (particlesIn bs) / 4 ≡ particleCount bs = omega (arith, laid-in h .bodies .particleBody .whole) in
-    ap (λ (k : ℕ). readMany readParticle 4 k (particlesIn bs)) e
+    let e : length (particlesIn bs) / particleSize ≡ particleCount bs = omega (arith, laid-in h .bodies .particleBody .whole) in
+    ap (λ (k : ℕ). readMany readParticle particleSize k (particlesIn bs)) e
 
 pub members-at : {bs : Bytes} → Headed bs → (k e : ℕ) → bytes.membersAt (particlesIn bs) k e ≡ membersAt (bodiesOf bs) k e
 unfolding bytes.membersAt membersAt membersFrom bodiesOf widthOf

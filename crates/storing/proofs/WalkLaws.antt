@@ -22,7 +22,7 @@ use Rattle.records.specs.Records.{rowFits, eachFits}
 use Rattle.records.proofs.RecordLaws.{small-take, small-drop, row-canonical}
 use Rattle.rowpass.specs.Reading as bytes
 use Rattle.validity.proofs.StringChecks.{Headed, passes-header, laid-in, rows-whole, rows-small}
-use Rattle.validity.proofs.BodiesRead.{rows-fit, read-form, read-value, read-rows}
+use Rattle.validity.proofs.BodiesRead.{rows-fit, read-form, read-attribute, read-rows}
 use Rattle.lookup.specs.Bodies.{bodiesOf}
 use Rattle.layout.specs.declared.Shape.{Shape}
 use Rattle.layout.specs.Bodies.{Width, widthOf, Number, shapeOf, ShapeOf, definitionBody, particleBody, attributeBody, rowBody, definitionsIn, particlesIn, attributesIn, rowsIn}
@@ -33,6 +33,7 @@ use Rattle.rows.proofs.WrittenLaws.{written-as}
 use Rattle.filling.specs.Fillings.{fillingRows}
 use Rattle.editing.specs.declared.Plan.{Plan}
 use Rattle.editing.specs.Walk.{walked, atFirst}
+use Rattle.filling.specs.Parts.{valueOf}
 use Rattle.editing.specs.Step.{fillOf, Ready, WalkRow, WalkRows}
 use Rattle.storing.specs.Stores.{storeIn}
 use Rattle.storing.specs.Planned.{rowsAfter}
@@ -54,8 +55,9 @@ walk-rows w (suc count) s a l e b =
     )
 
 -- ---- a byte string that passes
--- the width and the bodies that are read off it
-pub record Reads (bs : Bytes) (w n : ℕ) (defs parts : Bytes) (a : ℕ) (attrs rows : Bytes) (count : ℕ) : Type 0 where
+-- the version, the width and the bodies that are read off it
+pub record Reads (bs : Bytes) (version w n : ℕ) (defs parts : Bytes) (a : ℕ) (attrs rows : Bytes) (count : ℕ) : Type 0 where
+  pub version-is : version ≡ numberAt 0 4 bs
   pub w-is : w ≡ widthOf bs
   pub n-is : n ≡ definitionCount bs
   pub defs-is : defs ≡ definitionsIn bs
@@ -66,10 +68,11 @@ pub record Reads (bs : Bytes) (w n : ℕ) (defs parts : Bytes) (a : ℕ) (attrs 
   pub count-is : count ≡ rowCount bs
 
 pub reads-of : {bs : Bytes} {s : Shape} {defs parts attrs rows : Bytes} → ShapeOf bs s → defs ≡ definitionBody s bs → parts ≡ particleBody s bs → attrs ≡ attributeBody s bs → rows ≡ rowBody s bs
-    → Reads bs (s .width) (s .definitions) defs parts (s .attributes) attrs rows (s .rows)
+    → Reads bs (s .version) (s .width) (s .definitions) defs parts (s .attributes) attrs rows (s .rows)
 unfolding shapeOf
 reads-of {bs} x defs parts attrs rows =
     record {
+      version-is = ap (λ (z : Shape). z .version) (x .is);
       w-is = ap (λ (z : Shape). z .width) (x .is);
       n-is = ap (λ (z : Shape). z .definitions) (x .is);
       defs-is = by-shape definitionBody bs x defs;
@@ -83,7 +86,7 @@ reads-of {bs} x defs parts attrs rows =
 headed-of : {bs : Bytes} → passes bs ≡ true → Headed bs
 headed-of {bs} q = let h : Holds bs = holds bs q in record { small = subst Small (h .written) (encode-small (storeIn bs) (h .good)); header = passes-header bs q }
 
-module _ {bs : Bytes} (q : passes bs ≡ true) {w n : ℕ} {defs parts : Bytes} {a : ℕ} {attrs rows : Bytes} {count : ℕ} (x : Reads bs w n defs parts a attrs rows count) where
+module _ {bs : Bytes} (q : passes bs ≡ true) {version w n : ℕ} {defs parts : Bytes} {a : ℕ} {attrs rows : Bytes} {count : ℕ} (x : Reads bs version w n defs parts a attrs rows count) where
   h : Headed bs
   h = headed-of q
 
@@ -106,18 +109,18 @@ module _ {bs : Bytes} (q : passes bs ≡ true) {w n : ℕ} {defs parts : Bytes} 
       (walk-rows (widthOf bs) (rowCount bs) (rowsIn bs) (rows-small h) (omega (arith, rows-whole h)) (rows-fit h q) (subst (λ (ys : List (Deep FlatRow)). Every Bounded ys) (sym b) (rows-bounded (storeIn bs) (holds bs q .good))))))
 
   -- the rows that the walk leaves are those after the plan
-  rows-after : (p : Plan) (v : Bytes) → rowsAfter p v (bodiesOf bs) ≡ walked p v (fillOf w n defs parts a attrs p v) (atFirst p) (bytes.rowsIn w count rows)
+  rows-after : (p : Plan) (v : Bytes) → rowsAfter p v (bodiesOf bs) ≡ walked p v (fillOf version w n defs parts a attrs p v) (atFirst p) (bytes.rowsIn w count rows)
   unfolding rowsAfter bodiesOf widthOf
   rows-after p v =
       sym
-      ((λ i. walked p v (fillOf (x .w-is i) (x .n-is i) (x .defs-is i) (x .parts-is i) (x .a-is i) (x .attrs-is i) p v) (atFirst p) (bytes.rowsIn (x .w-is i) (x .count-is i) (x .rows-is i)))
-      ∙ (λ i. walked p v (λ d. fillingRows (read-form h q i) (λ j. read-value h q j i) (λ k e. members-at h k e i) (p .filling) v d) (atFirst p) (read-rows h i)))
+      ((λ i. walked p v (fillOf (x .version-is i) (x .w-is i) (x .n-is i) (x .defs-is i) (x .parts-is i) (x .a-is i) (x .attrs-is i) p v) (atFirst p) (bytes.rowsIn (x .w-is i) (x .count-is i) (x .rows-is i)))
+      ∙ (λ i. walked p v (λ d. fillingRows (read-form h q i) (λ j. valueOf (read-attribute h q j i)) (λ k e. members-at h k e i) (p .filling) v d) (atFirst p) (read-rows h i)))
 
   -- .. and written from the serials of the store on
-  pub walk-from : (p : Plan) (v : Bytes) {at next : ℕ} {out : Bytes} {r : Cursor} {out′ : Bytes} → Number (numberAt 4 4 bs) next → Written w (walked p v (fillOf w n defs parts a attrs p v) (atFirst p) (bytes.rowsIn w count rows)) (record { at = at; left = 4097; serial = next }) out r out′
+  pub walk-from : (p : Plan) (v : Bytes) {at next : ℕ} {out : Bytes} {r : Cursor} {out′ : Bytes} → Number (numberAt 4 4 bs) next → Written w (walked p v (fillOf version w n defs parts a attrs p v) (atFirst p) (bytes.rowsIn w count rows)) (record { at = at; left = 4097; serial = next }) out r out′
       → Written (widthOf bs) (rowsAfter p v (bodiesOf bs)) (walkFrom at bs) out r out′
   walk-from p v {at} {next} {out} {r} {out′} m d =
-      let xs : List (Deep FlatRow) = walked p v (fillOf w n defs parts a attrs p v) (atFirst p) (bytes.rowsIn w count rows) in
+      let xs : List (Deep FlatRow) = walked p v (fillOf version w n defs parts a attrs p v) (atFirst p) (bytes.rowsIn w count rows) in
       written-as (rows-after p v)
       (subst (λ (k : ℕ). Written k xs (walkFrom at bs) out r out′) (x .w-is)
       (subst (λ (k : ℕ). Written w xs (record { at = at; left = 4097; serial = k }) out r out′) (m .value) d))

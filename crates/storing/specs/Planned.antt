@@ -11,6 +11,7 @@ use Rattle.model.specs.Members.{indexMembers}
 use Rattle.validity.specs.Reading.{indexForm, entryOf}
 use Rattle.rows.specs.Written.{newIn, numbered}
 use Rattle.filling.specs.Fillings.{fillingRows}
+use Rattle.filling.specs.Parts.{valueOf}
 use Rattle.editing.specs.declared.Plan.{Plan}
 use Rattle.editing.specs.Walk.{walked, atFirst}
 
@@ -20,7 +21,7 @@ membersAt f k e = indexMembers (build (drop k (f .particles)) e)
 
 -- the rows of the filling of a plan, at a depth
 abbrev pub fillOf : Plan → Bytes → FlatStore → ℕ → List (Deep FlatRow)
-fillOf p v f d = fillingRows (indexForm f) (λ j. entryOf j (f .attributes) .value) (λ k e. membersAt f k e) (p .filling) v d
+fillOf p v f d = fillingRows (indexForm f) (λ j. valueOf (entryOf j (f .attributes))) (λ k e. membersAt f k e) (p .filling) v d
 
 -- the rows after a plan with the value v, the new ones without serials
 unfoldable pub rowsAfter : Plan → Bytes → FlatStore → List (Deep FlatRow)

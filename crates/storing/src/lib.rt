@@ -71,6 +71,7 @@ pub fn walk_rows(store: &[u8], plan: Plan, text: &[u8], at: usize, out: &mut [u8
         serial: layout::next_serial(store),
     };
     editing::walk(
+        s.version as usize,
         s.width,
         s.definitions,
         defs,

@@ -56,11 +56,11 @@ name-entry [] j l = absurd (omega arith)
 name-entry (c ∷ cs) zero l = refl
 name-entry (c ∷ cs) (suc j) l = name-entry cs j (omega arith)
 
-module _ (F : IndexForm) (form : Form) where
+module _ (version : ℕ) (F : IndexForm) (form : Form) where
   -- what the index form says at j is what the entry says
   record Told (j : ℕ) (c : FlatAttribute) : Type 0 where
     owner : F .owner j ≡ c .owner
-    needed : F .needed j ≡ mustBePresent (sortOf (c .sort))
+    needed : F .needed j ≡ mustBePresent version (sortOf (c .sort))
     allowed : (v : Bytes) → F .allows j v ≡ allows (sortOf (c .sort)) (c .value) v
     name : nameAt j (attributeNames form) ≡ c .name
 
@@ -91,7 +91,7 @@ module _ (F : IndexForm) (form : Form) where
   pub record Entry (i j : ℕ) (a : Attribute) : Type 0 where
     pub inside : j < F .attributes
     pub owner : F .owner j ≡ i
-    pub needed : F .needed j ≡ mustBePresent (a .sort)
+    pub needed : F .needed j ≡ mustBePresent version (a .sort)
     pub allowed : (v : Bytes) → F .allows j v ≡ allows (a .sort) (a .value) v
     pub name : nameAt j (attributeNames form) ≡ a .name
     pub found : attributeIndex (nameAt i (namesOf form)) (a .name) form ≡ j
@@ -110,7 +110,7 @@ module _ (F : IndexForm) (form : Form) where
     record {
       inside = omega arith;
       owner = t .0 .owner;
-      needed = t .0 .needed ∙ ap mustBePresent (sort-of (a .sort));
+      needed = t .0 .needed ∙ ap (mustBePresent version) (sort-of (a .sort));
       allowed = λ v. t .0 .allowed v ∙ ap (λ (s : AttributeSort). allows s (a .value) v) (sort-of (a .sort));
       name = t .0 .name;
       found = found 0 (omega arith) ∙ (let q : j + 0 ≡ j = omega arith in q);
@@ -142,7 +142,7 @@ module _ (F : IndexForm) (form : Form) where
           absurd (omega (arith, own-owners o (d .attributes) c x .0))
       by (inr g) f = omega (arith, f g)
 
-  module _ (agrees : Agrees F form) (apart : Distinct (namesOf form)) where
+  module _ (agrees : Agrees version F form) (apart : Distinct (namesOf form)) where
     tells : Tells 0 (allAttributes 0 form)
     tells =
         tells-of 0 (allAttributes 0 form)

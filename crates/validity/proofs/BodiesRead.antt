@@ -14,7 +14,7 @@ use Rattle.rules.specs.Bytes.{Bytes}
 use Rattle.rules.specs.Model.{Members, done}
 use Rattle.rules.specs.Preorder.{Deep, build}
 use Rattle.rules.specs.Layout.{definitionSize, particleSize, attributeSize, rowSize, FlatDefinition, FlatParticle, FlatAttribute, FlatRow, FlatStore}
-use Rattle.rules.specs.Decode.{readRow, readMany, readDefinition, readAttribute, sortOf, definitionCount, particleCount, attributeCount, rowCount}
+use Rattle.rules.specs.Decode.{numberAt, readRow, readMany, readDefinition, readAttribute, sortOf, definitionCount, particleCount, attributeCount, rowCount}
 use Rattle.rules.specs.Conforming.{mustBePresent, allows}
 use Rattle.rules.specs.Passing.{passes}
 use Rattle.model.specs.Members.{particlesOf, membersFrom, membersOf}
@@ -25,7 +25,7 @@ use Rattle.rowpass.specs.Indices.{IndexForm}
 use Rattle.layout.specs.Bodies.{recordAt, widthOf, definitionsIn, particlesIn, attributesIn, rowsIn}
 use Rattle.rowpass.specs.Reading.{definitionIn, attributeIn, modelPart}
 use Rattle.rowpass.specs.Reading as bytes
-use Rattle.validity.specs.Reading.{indexMembers, partAt, noDefinition, noAttribute, entryOf, indexForm}
+use Rattle.validity.specs.Reading.{indexMembers, partAt, noDefinition, noAttribute, entryOf, formAt, indexForm}
 use Rattle.validity.specs.Check.{FormPasses, FormIn, RowsPass, SerialsIn}
 use Rattle.validity.proofs.FormLaws.{Laid}
 use Rattle.validity.proofs.IndexReads.{definition-in, attribute-in, model-in, index-agrees}
@@ -72,22 +72,22 @@ module _ {w n : ℕ} {defs : Bytes} {p : ℕ} {parts : Bytes} {a : ℕ} {attrs :
   model-any : (i : ℕ) → membersOf (modelPart defs parts i) ≡ indexMembers (build (partAt i (definitions n defs) (particles p parts)) 0)
   model-any = by-range n (model-in laid x) model-past
 
-  index-is : bytes.indexForm w n defs parts attrs a ≡ indexForm (formOf w n defs p parts a attrs)
-  index-is = λ i.
+  index-is : (version : ℕ) → bytes.indexForm version w n defs parts attrs a ≡ formAt version (formOf w n defs p parts a attrs)
+  index-is version = λ i.
       record {
         size = sym (definitions-length n defs) i;
         kind = λ j. definition-any j i .kind;
         model = λ j. model-any j i;
         attributes = sym (attributes-length w a attrs) i;
         owner = λ j. attribute-any j i .owner;
-        needed = λ j. mustBePresent (sortOf (attribute-any j i .sort));
+        needed = λ j. mustBePresent version (sortOf (attribute-any j i .sort));
         allows = λ j v. allows (sortOf (attribute-any j i .sort)) (attribute-any j i .value) v;
       }
 
 -- ---- of a byte string that passes
 module _ {bs : Bytes} (h : Headed bs) where
-  told : passes bs ≡ true → FormIn bs × RowsPass (widthOf bs) (bytes.indexForm (widthOf bs) (definitionCount bs) (definitionsIn bs) (particlesIn bs) (attributesIn bs) (attributeCount bs)) (rowCount bs) (rowsIn bs) × SerialsIn bs
-  told = passes-in h (bytes.indexForm (widthOf bs) (definitionCount bs) (definitionsIn bs) (particlesIn bs) (attributesIn bs) (attributeCount bs)) (λ x. index-agrees (laid-in h) (x .passes)) .0
+  told : passes bs ≡ true → FormIn bs × RowsPass (widthOf bs) (bytes.indexForm (numberAt 0 4 bs) (widthOf bs) (definitionCount bs) (definitionsIn bs) (particlesIn bs) (attributesIn bs) (attributeCount bs)) (rowCount bs) (rowsIn bs) × SerialsIn bs
+  told = passes-in h (bytes.indexForm (numberAt 0 4 bs) (widthOf bs) (definitionCount bs) (definitionsIn bs) (particlesIn bs) (attributesIn bs) (attributeCount bs)) (λ x. index-agrees (laid-in h) (x .passes) (numberAt 0 4 bs)) .0
 
   pub form-in : passes bs ≡ true → FormIn bs
   form-in q = told q .0
@@ -96,13 +96,13 @@ module _ {bs : Bytes} (h : Headed bs) where
   pub rows-fit : passes bs ≡ true → eachFits (rowFits (widthOf bs)) (rowSize (widthOf bs)) (rowCount bs) (rowsIn bs) ≡ true
   rows-fit q = told q .1 .fields
 
-  pub read-form : passes bs ≡ true → bytes.indexForm (widthOf bs) (definitionCount bs) (definitionsIn bs) (particlesIn bs) (attributesIn bs) (attributeCount bs) ≡ indexForm (flatOf bs)
+  pub read-form : passes bs ≡ true → bytes.indexForm (numberAt 0 4 bs) (widthOf bs) (definitionCount bs) (definitionsIn bs) (particlesIn bs) (attributesIn bs) (attributeCount bs) ≡ indexForm (flatOf bs)
   read-form q =
-      index-is (laid-in h) (form-in q .passes)
-      ∙ (λ i. indexForm (record { version = 0; next = 0; definitions = sym (same-definitions h) i; particles = sym (same-particles h) i; attributes = sym (same-attributes h) i; rows = [] }))
+      index-is (laid-in h) (form-in q .passes) (numberAt 0 4 bs)
+      ∙ (λ i. formAt (numberAt 0 4 bs) (record { version = 0; next = 0; definitions = sym (same-definitions h) i; particles = sym (same-particles h) i; attributes = sym (same-attributes h) i; rows = [] }))
 
-  pub read-value : passes bs ≡ true → (j : ℕ) → attributeIn (widthOf bs) (attributesIn bs) j .value ≡ entryOf j (flatOf bs .attributes) .value
-  read-value q j = ap (λ (c : FlatAttribute). c .value) (attribute-any (laid-in h) (form-in q .passes) j ∙ ap (entryOf j) (sym (same-attributes h)))
+  pub read-attribute : passes bs ≡ true → (j : ℕ) → attributeIn (widthOf bs) (attributesIn bs) j ≡ entryOf j (flatOf bs .attributes)
+  read-attribute q j = attribute-any (laid-in h) (form-in q .passes) j ∙ ap (entryOf j) (sym (same-attributes h))
 
   pub read-rows : readMany readRow (rowSize (widthOf bs)) (rowCount bs) (rowsIn bs) ≡ flatOf bs .rows
   read-rows = sym (same-rows h)

@@ -53,8 +53,9 @@ pub form-by : {w n : ℕ} {defs : Bytes} {p : ℕ} {parts : Bytes} {a : ℕ} {at
     → bodiesFit (formOf w n defs p parts a attrs) ≡ true → Ranked n (membersIn defs parts) r → (r .fit ≡ true) ↔ FormPasses w n defs p parts a attrs
 form-by laid d c b k = (λ e. record { definitions = d; attributes = c; bodies = b; circle = circle-fit laid d c b k .0 e }, λ x. circle-fit laid d c b k .1 (x .circle))
 
--- the counts and bodies of a form
+-- the version, the counts and the bodies of a form
 pub record Cut : Type 0 where
+  pub version : ℕ
   pub w : ℕ
   pub n : ℕ
   pub defs : Bytes
@@ -64,26 +65,26 @@ pub record Cut : Type 0 where
   pub attrs : Bytes
 
 abbrev pub cutOf : Bytes → Cut
-cutOf bs = record { w = widthOf bs; n = definitionCount bs; defs = definitionsIn bs; p = particleCount bs; parts = particlesIn bs; a = attributeCount bs; attrs = attributesIn bs }
+cutOf bs = record { version = numberAt 0 4 bs; w = widthOf bs; n = definitionCount bs; defs = definitionsIn bs; p = particleCount bs; parts = particlesIn bs; a = attributeCount bs; attrs = attributesIn bs }
 
 -- rows for the form that is cut out
 abbrev RowsAt : Cut → ℕ → Bytes → Type 0
-RowsAt c m s = RowsPass (c .w) (indexForm (c .w) (c .n) (c .defs) (c .parts) (c .attrs) (c .a)) m s
+RowsAt c m s = RowsPass (c .w) (indexForm (c .version) (c .w) (c .n) (c .defs) (c .parts) (c .attrs) (c .a)) m s
 
-pub record CutOf (bs : Bytes) (w n : ℕ) (defs : Bytes) (p : ℕ) (parts : Bytes) (a : ℕ) (attrs : Bytes) : Type 0 where
-  pub same : cutOf bs ≡ record { w = w; n = n; defs = defs; p = p; parts = parts; a = a; attrs = attrs }
+pub record CutOf (bs : Bytes) (version w n : ℕ) (defs : Bytes) (p : ℕ) (parts : Bytes) (a : ℕ) (attrs : Bytes) : Type 0 where
+  pub same : cutOf bs ≡ record { version = version; w = w; n = n; defs = defs; p = p; parts = parts; a = a; attrs = attrs }
 
 -- the parts that a shape cuts out are those of the string
 module _ {bs : Bytes} {s : Shape} (x : ShapeOf bs s) where
   pub cut-of : {defs parts attrs : Bytes} → defs ≡ definitionBody s bs → parts ≡ particleBody s bs → attrs ≡ attributeBody s bs
-      → CutOf bs (s .width) (s .definitions) defs (s .particles) parts (s .attributes) attrs
+      → CutOf bs (s .version) (s .width) (s .definitions) defs (s .particles) parts (s .attributes) attrs
   unfolding shapeOf
   cut-of d p a =
       let z : shapeOf bs ≡ s = sym (x .is) in
       let d′ : definitionsIn bs ≡ _ = sym (by-shape definitionBody bs x d) in
       let p′ : particlesIn bs ≡ _ = sym (by-shape particleBody bs x p) in
       let a′ : attributesIn bs ≡ _ = sym (by-shape attributeBody bs x a) in
-      record { same = λ i. record { w = z i .width; n = z i .definitions; defs = d′ i; p = z i .particles; parts = p′ i; a = z i .attributes; attrs = a′ i } }
+      record { same = λ i. record { version = z i .version; w = z i .width; n = z i .definitions; defs = d′ i; p = z i .particles; parts = p′ i; a = z i .attributes; attrs = a′ i } }
 
   pub rows-counted : s .rows ≡ rowCount bs
   unfolding shapeOf
@@ -103,9 +104,9 @@ header-kept {bs} x h q = ap (λ (w : ℕ). headerFits w bs) (sym (width-is x)) �
 pub headed : (bs : Bytes) → headerFits (widthOf bs) bs ≡ true → ((i : ℕ) → Fits w8 (getD bs i 0)) → Headed bs
 headed bs h s = record { small = small-of bs (λ i. omega (arith, s i)); header = h }
 
-module _ {bs : Bytes} {w n : ℕ} {defs : Bytes} {p : ℕ} {parts : Bytes} {a : ℕ} {attrs : Bytes} (h : Headed bs) (k : CutOf bs w n defs p parts a attrs) where
+module _ {bs : Bytes} {version w n : ℕ} {defs : Bytes} {p : ℕ} {parts : Bytes} {a : ℕ} {attrs : Bytes} (h : Headed bs) (k : CutOf bs version w n defs p parts a attrs) where
   abbrev given : Cut
-  given = record { w = w; n = n; defs = defs; p = p; parts = parts; a = a; attrs = attrs }
+  given = record { version = version; w = w; n = n; defs = defs; p = p; parts = parts; a = a; attrs = attrs }
 
   pub cut-laid : Laid w n defs p parts a attrs
   cut-laid = subst (λ (c : Cut). Laid (c .w) (c .n) (c .defs) (c .p) (c .parts) (c .a) (c .attrs)) (k .same) (laid-in h)
@@ -118,17 +119,17 @@ module _ {bs : Bytes} {w n : ℕ} {defs : Bytes} {p : ℕ} {parts : Bytes} {a : 
 
   -- ---- the rows
   module _ {count : ℕ} {rows : Bytes} (u : count ≡ rowCount bs) (v : rows ≡ rowsIn bs) where
-    pub rows-asked : Width w → FormIn bs → Width w × (n ≤ 64) × (a ≤ 64) × (rowSize w * count ≤ length rows) × ((i : ℕ) → i < n → Distinct (names (indexForm w n defs parts attrs a .model i)))
+    pub rows-asked : Width w → FormIn bs → Width w × (n ≤ 64) × (a ≤ 64) × (rowSize w * count ≤ length rows) × ((i : ℕ) → i < n → Distinct (names (indexForm version w n defs parts attrs a .model i)))
     rows-asked narrow x =
         let z : cutOf bs ≡ given = k .same in
         let e : rowSize w * count ≡ rowSize (widthOf bs) * rowCount bs = λ i. rowSize (sym z i .w) * u i in
         let form : FormPasses w n defs p parts a attrs = subst (λ (c : Cut). FormPasses (c .w) (c .n) (c .defs) (c .p) (c .parts) (c .a) (c .attrs)) (k .same) (x .passes) in
-        (narrow, cut-laid .bodies .definitionBody .few, cut-laid .bodies .attributeBody .few, omega (arith, ap (λ (s : Bytes). length s) v, rows-whole h), index-once cut-laid form)
+        (narrow, cut-laid .bodies .definitionBody .few, cut-laid .bodies .attributeBody .few, omega (arith, ap (λ (s : Bytes). length s) v, rows-whole h), index-once cut-laid form version)
 
-    pub rows-in : {r : Bool} → (r ≡ true) ↔ ((eachFits (rowFits w) (rowSize w) count rows ≡ true) × Documents (indexForm w n defs parts attrs a) (readMany readRow (rowSize w) count rows)) → (r ≡ true) ↔ RowsIn bs
+    pub rows-in : {r : Bool} → (r ≡ true) ↔ ((eachFits (rowFits w) (rowSize w) count rows ≡ true) × Documents (indexForm version w n defs parts attrs a) (readMany readRow (rowSize w) count rows)) → (r ≡ true) ↔ RowsIn bs
     rows-in {r} (f, g) = (
       λ e. let (x, y) = f e in record { passes = back (record { fields = x; documents = y }) },
-      λ x. let y : RowsPass w (indexForm w n defs parts attrs a) count rows = there (x .passes) in g (y .fields, y .documents),
+      λ x. let y : RowsPass w (indexForm version w n defs parts attrs a) count rows = there (x .passes) in g (y .fields, y .documents),
     )
       where
         back : RowsAt given count rows → RowsAt (cutOf bs) (rowCount bs) (rowsIn bs)
@@ -156,8 +157,8 @@ headless {bs} x {b} h q = by (passes bs) refl
     by false e = refl
 
 module _ {bs : Bytes} (h : Headed bs) where
-  all-in : (passes bs ≡ true) ↔ (FormIn bs × RowsPass (widthOf bs) (indexForm (widthOf bs) (definitionCount bs) (definitionsIn bs) (particlesIn bs) (attributesIn bs) (attributeCount bs)) (rowCount bs) (rowsIn bs) × SerialsIn bs)
-  all-in = passes-in h (indexForm (widthOf bs) (definitionCount bs) (definitionsIn bs) (particlesIn bs) (attributesIn bs) (attributeCount bs)) (λ x. index-agrees (laid-in h) (x .passes))
+  all-in : (passes bs ≡ true) ↔ (FormIn bs × RowsPass (widthOf bs) (indexForm (numberAt 0 4 bs) (widthOf bs) (definitionCount bs) (definitionsIn bs) (particlesIn bs) (attributesIn bs) (attributeCount bs)) (rowCount bs) (rowsIn bs) × SerialsIn bs)
+  all-in = passes-in h (indexForm (numberAt 0 4 bs) (widthOf bs) (definitionCount bs) (definitionsIn bs) (particlesIn bs) (attributesIn bs) (attributeCount bs)) (λ x. index-agrees (laid-in h) (x .passes) (numberAt 0 4 bs))
 
   not-passed : (passes bs ≡ true → ⊥) → false ≡ passes bs
   not-passed f = by (passes bs) refl

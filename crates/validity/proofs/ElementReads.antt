@@ -52,7 +52,7 @@ names-back : (form : Form) (ns : List Bytes) → ((n : Bytes) → List·Memᴰ n
 names-back form [] k = refl
 names-back form (n ∷ ns) k = λ i. known-index form n (k n (List·Memᴰ·head refl)) .name i ∷ names-back form ns (λ m j. k m (List·Memᴰ·tail j)) i
 
-module _ (w : ℕ) (form : Form) (ok : wellFormed w form ≡ true) (F : IndexForm) (agrees : Agrees F form) where
+module _ {version : ℕ} (w : ℕ) (form : Form) (ok : wellFormed w form ≡ true) (F : IndexForm) (agrees : Agrees version F form) where
   pub apart : Distinct (namesOf form)
   apart = well-formed w form .0 ok .names
 
@@ -115,21 +115,21 @@ module _ (w : ℕ) (form : Form) (ok : wellFormed w form ≡ true) (F : IndexFor
         )
 
     -- ---- the attribute rows and the content
-    pub block : Block F form i (offset i form) (definitionAt i form .attributes)
-    block = block-at F form agrees apart i l (good-at i l .attributeNames)
+    pub block : Block version F form i (offset i form) (definitionAt i form .attributes)
+    block = block-at version F form agrees apart i l (good-at i l .attributeNames)
 
     from-block : (rs : List FlatRow) → Owned F i 0 rs → Owned F i (offset i form) rs
     from-block [] o = tt
-    from-block (r ∷ rs) (s, a, n, e, v, o) = (s, block-first F form agrees apart i l (r .index) n e, n, e, v, o)
+    from-block (r ∷ rs) (s, a, n, e, v, o) = (s, block-first version F form agrees apart i l (r .index) n e, n, e, v, o)
 
-    pub below-read : (rs : List FlatRow) → Below F i rs → ElementRows (definitionAt i form) (map (rowRead form) rs)
+    pub below-read : (rs : List FlatRow) → Below F i rs → ElementRows version (definitionAt i form) (map (rowRead form) rs)
     below-read rs x =
-        let taken : Taken (offset i form) (definitionAt i form .attributes) (x .front) = taken-of F form i (offset i form) (definitionAt i form .attributes) block (x .front) (from-block (x .front) (x .owned)) (λ k a. x .whole k) in
+        let taken : Taken version (offset i form) (definitionAt i form .attributes) (x .front) = taken-of version F form i (offset i form) (definitionAt i form .attributes) block (x .front) (from-block (x .front) (x .owned)) (λ k a. x .whole k) in
         let content : ContentRows (definitionAt i form .content) (map (rowRead form) (x .back)) =
         content-read (definitionAt i form .content) refl (x .back) (subst (λ (k : ℕ). ContentOf k (F .model i) (x .back)) (agrees .kind i l) (x .content)) in
-        let cut : Cut (definitionAt i form .attributes) (map (rowRead form) (x .front) ++ map (rowRead form) (x .back)) (map (rowRead form) (x .back)) =
-        strip-is (definitionAt i form .attributes) (map (rowRead form) (x .front) ++ map (rowRead form) (x .back)) (map (rowRead form) (x .back)) (good-at i l .attributeNames) (content-head (definitionAt i form .content) (map (rowRead form) (x .back)) content) .0
-        (strip-taken F form i (offset i form) (definitionAt i form .attributes) block (good-at i l .attributeNames) (x .front) taken (map (rowRead form) (x .back)) (content-head (definitionAt i form .content) (map (rowRead form) (x .back)) content)) in
+        let cut : Cut version (definitionAt i form .attributes) (map (rowRead form) (x .front) ++ map (rowRead form) (x .back)) (map (rowRead form) (x .back)) =
+        strip-is version (definitionAt i form .attributes) (map (rowRead form) (x .front) ++ map (rowRead form) (x .back)) (map (rowRead form) (x .back)) (good-at i l .attributeNames) (content-head (definitionAt i form .content) (map (rowRead form) (x .back)) content) .0
+        (strip-taken version F form i (offset i form) (definitionAt i form .attributes) block (good-at i l .attributeNames) (x .front) taken (map (rowRead form) (x .back)) (content-head (definitionAt i form .content) (map (rowRead form) (x .back)) content)) in
         record {
           front = cut .front;
           back = map (rowRead form) (x .back);
@@ -138,18 +138,18 @@ module _ (w : ℕ) (form : Form) (ok : wellFormed w form ≡ true) (F : IndexFor
           content = content;
         }
 
-    pub below-written : (rows : List Row) → ElementRows (definitionAt i form) rows → Below F i (map (rowWritten form (nameAt i (namesOf form))) rows)
+    pub below-written : (rows : List Row) → ElementRows version (definitionAt i form) rows → Below F i (map (rowWritten form (nameAt i (namesOf form))) rows)
     below-written rows x =
         let owner : Bytes = nameAt i (namesOf form) in
-        let (front, split, taken) = taken-strip F form i (offset i form) (definitionAt i form .attributes) block rows (x .back)
-        (strip-is (definitionAt i form .attributes) rows (x .back) (good-at i l .attributeNames) (content-head (definitionAt i form .content) (x .back) (x .content)) .1 record { front = x .front; split = x .split; attributes = x .attributes }) in
+        let (front, split, taken) = taken-strip version F form i (offset i form) (definitionAt i form .attributes) block rows (x .back)
+        (strip-is version (definitionAt i form .attributes) rows (x .back) (good-at i l .attributeNames) (content-head (definitionAt i form .content) (x .back) (x .content)) .1 record { front = x .front; split = x .split; attributes = x .attributes }) in
         record {
           known = omega (arith, agrees .size);
           front = map (rowWritten form owner) front;
           back = map (rowWritten form owner) (x .back);
           split = sym (map-append (rowWritten form owner) front (x .back)) ∙ ap (λ (z : List Row). map (rowWritten form owner) z) split;
-          owned = owned-of F form i (offset i form) (definitionAt i form .attributes) block (map (rowWritten form owner) front) taken 0 (omega arith);
-          whole = λ j m e n. whole-of F form i (offset i form) (definitionAt i form .attributes) block (map (rowWritten form owner) front) taken j (block-first F form agrees apart i l j m e) m e n;
+          owned = owned-of version F form i (offset i form) (definitionAt i form .attributes) block (map (rowWritten form owner) front) taken 0 (omega arith);
+          whole = λ j m e n. whole-of version F form i (offset i form) (definitionAt i form .attributes) block (map (rowWritten form owner) front) taken j (block-first version F form agrees apart i l j m e) m e n;
           content = subst (λ (k : ℕ). ContentOf k (F .model i) (map (rowWritten form owner) (x .back))) (sym (agrees .kind i l)) (content-written owner (definitionAt i form .content) refl (x .back) (x .content));
         }
 
@@ -160,7 +160,7 @@ module _ (w : ℕ) (form : Form) (ok : wellFormed w form ≡ true) (F : IndexFor
     owned-found : (a : ℕ) (rs : List FlatRow) → Owned F i a rs → Every Found rs
     owned-found a [] o = tt
     owned-found a (r ∷ rs) (s, b, n, e, v, o) =
-        (λ q. block-found F form i (offset i form) (definitionAt i form .attributes) block (r .index) (block-first F form agrees apart i l (r .index) n e) n e, owned-found (suc (r .index)) rs o)
+        (λ q. block-found version F form i (offset i form) (definitionAt i form .attributes) block (r .index) (block-first version F form agrees apart i l (r .index) n e) n e, owned-found (suc (r .index)) rs o)
 
     content-found : (k : ℕ) (ms : Members ℕ) (rs : List FlatRow) → ContentOf k ms rs → Every Found rs
     content-found zero ms rs e = rw e tt

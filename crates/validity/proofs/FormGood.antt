@@ -25,7 +25,7 @@ use Rattle.rules.proofs.TestLaws.{distinct-test}
 use Rattle.rules.proofs.WellFormedLaws.{well-formed, no-circle}
 use Rattle.rules.proofs.PassingLaws.{good-is}
 use Rattle.forms.specs.FormTests.{definitionsApart, modelFits, modelsFit, bodiesFit}
-use Rattle.validity.specs.Reading.{DefinitionFits, FieldsFit, indexMembers, partAt, noDefinition, entryOf, indexForm, Agrees}
+use Rattle.validity.specs.Reading.{DefinitionFits, FieldsFit, indexMembers, partAt, noDefinition, entryOf, formAt, Agrees}
 use Rattle.validity.proofs.IndexLaws.{namesOf}
 use Rattle.validity.proofs.ModelReads.{ModelRead}
 use Rattle.validity.proofs.AttributeReads.{own-apart, own-good, all-rise, all-apart, all-fit}
@@ -82,8 +82,8 @@ module _ (w : ℕ) (f : FlatStore) (fit : FieldsFit w f) (bodies : bodiesFit f �
   )
 
   -- the form says by name what the bodies say by index
-  pub form-agrees : Agrees (indexForm f) (formOf f)
-  form-agrees =
+  pub form-agrees : (version : ℕ) → Agrees version (formAt version f) (formOf f)
+  form-agrees version =
       let e : allAttributes 0 (formOf f) ≡ f .attributes = read-attributes w f fit bodies in
       record {
         size = sym (form-size f);
@@ -92,7 +92,7 @@ module _ (w : ℕ) (f : FlatStore) (fit : FieldsFit w f) (bodies : bodiesFit f �
         inRange = λ i l j m. every-at (λ j. j < length (formOf f)) j (names (indexMembers (build (partAt i (f .definitions) (f .particles)) 0))) (model-at w f fit bodies i l .below) m;
         attributes = sym (ap (λ (z : List FlatAttribute). length z) e);
         owner = λ j l. sym (ap (λ (z : List FlatAttribute). entryOf j z .owner) e);
-        needed = λ j l. sym (ap (λ (z : List FlatAttribute). mustBePresent (sortOf (entryOf j z .sort))) e);
+        needed = λ j l. sym (ap (λ (z : List FlatAttribute). mustBePresent version (sortOf (entryOf j z .sort))) e);
         allows = λ j l v. sym (ap (λ (z : List FlatAttribute). allows (sortOf (entryOf j z .sort)) (entryOf j z .value) v) e);
       }
 

@@ -20,7 +20,7 @@ use Rattle.forms.specs.Bodies.{definitions, particles, attributes, formOf}
 use Rattle.forms.proofs.Reading.{definitions-length, attributes-length, particles-part}
 use Rattle.rowpass.specs.Reading.{definitionIn, attributeIn, particlesBefore, modelPart}
 use Rattle.rowpass.specs.Reading as bytes
-use Rattle.validity.specs.Reading.{FieldsFit, indexMember, indexMembers, partAt, noDefinition, noAttribute, entryOf, indexForm, Agrees}
+use Rattle.validity.specs.Reading.{FieldsFit, indexMember, indexMembers, partAt, noDefinition, noAttribute, entryOf, formAt, Agrees}
 use Rattle.validity.specs.Check.{FormPasses}
 use Rattle.validity.proofs.IndexLaws.{namesOf, distinct-unmap}
 use Rattle.validity.proofs.ModelReads.{ModelRead, read-names}
@@ -58,8 +58,8 @@ module _ {w n : ℕ} {defs : Bytes} {p : ℕ} {parts : Bytes} {a : ℕ} {attrs :
   fields : FieldsFit w f
   fields = fields-fit laid (x .definitions) (x .attributes)
 
-  agrees : Agrees (indexForm f) (unflat f .form)
-  agrees = form-agrees w f fields (x .bodies)
+  agrees : (version : ℕ) → Agrees version (formAt version f) (unflat f .form)
+  agrees version = form-agrees w f fields (x .bodies) version
 
   pub definition-in : (i : ℕ) → i < n → definitionIn defs i ≡ getD (definitions n defs) i noDefinition
   unfolding definitions
@@ -91,21 +91,21 @@ module _ {w n : ℕ} {defs : Bytes} {p : ℕ} {parts : Bytes} {a : ℕ} {attrs :
   form-count : length (unflat f .form) ≡ n
   form-count = form-size f ∙ definitions-length n defs
 
-  pub index-agrees : Agrees (bytes.indexForm w n defs parts attrs a) (unflat f .form)
-  index-agrees =
+  pub index-agrees : (version : ℕ) → Agrees version (bytes.indexForm version w n defs parts attrs a) (unflat f .form)
+  index-agrees version =
       record {
         size = sym form-count;
-        kind = λ i l. ap (λ (d : FlatDefinition). d .kind) (definition-in i (omega (arith, form-count))) ∙ agrees .kind i l;
-        model = λ i l. agrees .model i l ∙ ap (λ (m : Members ℕ). rename (λ j. nameAt j (namesOf (unflat f .form))) m) (sym (model-in i (omega (arith, form-count))));
-        inRange = λ i l j m. agrees .inRange i l j (subst (λ (z : Members ℕ). List·Memᴰ j (names z)) (model-in i (omega (arith, form-count))) m);
-        attributes = sym (attributes-length w a attrs) ∙ agrees .attributes;
-        owner = λ j l. ap (λ (c : FlatAttribute). c .owner) (attribute-in j (short j l)) ∙ agrees .owner j l;
-        needed = λ j l. ap (λ (c : FlatAttribute). mustBePresent (sortOf (c .sort))) (attribute-in j (short j l)) ∙ agrees .needed j l;
-        allows = λ j l v. ap (λ (c : FlatAttribute). allows (sortOf (c .sort)) (c .value) v) (attribute-in j (short j l)) ∙ agrees .allows j l v;
+        kind = λ i l. ap (λ (d : FlatDefinition). d .kind) (definition-in i (omega (arith, form-count))) ∙ agrees version .kind i l;
+        model = λ i l. agrees version .model i l ∙ ap (λ (m : Members ℕ). rename (λ j. nameAt j (namesOf (unflat f .form))) m) (sym (model-in i (omega (arith, form-count))));
+        inRange = λ i l j m. agrees version .inRange i l j (subst (λ (z : Members ℕ). List·Memᴰ j (names z)) (model-in i (omega (arith, form-count))) m);
+        attributes = sym (attributes-length w a attrs) ∙ agrees version .attributes;
+        owner = λ j l. ap (λ (c : FlatAttribute). c .owner) (attribute-in j (short j l)) ∙ agrees version .owner j l;
+        needed = λ j l. ap (λ (c : FlatAttribute). mustBePresent version (sortOf (c .sort))) (attribute-in j (short j l)) ∙ agrees version .needed j l;
+        allows = λ j l v. ap (λ (c : FlatAttribute). allows (sortOf (c .sort)) (c .value) v) (attribute-in j (short j l)) ∙ agrees version .allows j l v;
       }
     where
       short : (j : ℕ) → j < length (allAttributes 0 (unflat f .form)) → j < a
-      short j l = omega (arith, agrees .attributes, attributes-length w a attrs)
+      short j l = omega (arith, agrees version .attributes, attributes-length w a attrs)
 
   -- ---- no model names an element twice
   once-in : (i : ℕ) → i < n → Distinct (names (indexMembers (build (partAt i (definitions n defs) (particles p parts)) 0)))
@@ -114,5 +114,5 @@ module _ {w n : ℕ} {defs : Bytes} {p : ℕ} {parts : Bytes} {a : ℕ} {attrs :
       distinct-unmap (λ j. nameAt j (namesOf (unflat f .form))) (names (indexMembers (build (partAt i (definitions n defs) (particles p parts)) 0)))
       (subst (λ (ns : List Bytes). Distinct ns) (read-names (namesOf (unflat f .form)) (build (partAt i (definitions n defs) (particles p parts)) 0)) (r .once))
 
-  pub index-once : (i : ℕ) → i < n → Distinct (names (bytes.indexForm w n defs parts attrs a .model i))
-  index-once i l = subst (λ (m : Members ℕ). Distinct (names m)) (sym (model-in i l)) (once-in i l)
+  pub index-once : (version i : ℕ) → i < n → Distinct (names (bytes.indexForm version w n defs parts attrs a .model i))
+  index-once version i l = subst (λ (m : Members ℕ). Distinct (names m)) (sym (model-in i l)) (once-in i l)

@@ -57,11 +57,11 @@ unnamed-read : (form : Form) (t : Forest FlatRow) → EveryRow (λ r below. r .s
 unnamed-read form bare = tt
 unnamed-read form (tree x b t) = (λ e. ap (λ (s : RowSort). rowName (namesOf form) (attributeNames form) s (x .index)) e, unnamed-read form b, unnamed-read form t)
 
-module _ (w : ℕ) (form : Form) (ok : wellFormed w form ≡ true) (F : IndexForm) (agrees : Agrees F form) where
+module _ {version : ℕ} (w : ℕ) (form : Form) (ok : wellFormed w form ≡ true) (F : IndexForm) (agrees : Agrees version F form) where
   -- ---- from indices to names
   row-read : (s i : ℕ) (rs : List FlatRow) → 1 ≤ s → s ≤ 3 → (s ≡ 1 → Below F i rs) → ((s ≡ 1 → ⊥) → rs ≡ [])
       → elim (rowSortOf s) as (λ z. Type 0) [
-        | element ↦ (d : Definition) × (lookup (rowName (namesOf form) (attributeNames form) (rowSortOf s) i) form ≡ some d) × ElementRows d (map (rowRead form) rs)
+        | element ↦ (d : Definition) × (lookup (rowName (namesOf form) (attributeNames form) (rowSortOf s) i) form ≡ some d) × ElementRows version d (map (rowRead form) rs)
         | attribute ↦ map (rowRead form) rs ≡ []
         | text ↦ map (rowRead form) rs ≡ []
       ]
@@ -73,11 +73,11 @@ module _ (w : ℕ) (form : Form) (ok : wellFormed w form ≡ true) (F : IndexFor
   row-read (suc (suc zero)) i rs l m f g = ap (λ (z : List FlatRow). map (rowRead form) z) (g (λ e. omega arith))
   row-read (suc (suc (suc s))) i rs l m f g = ap (λ (z : List FlatRow). map (rowRead form) z) (g (λ e. omega arith))
 
-  rows-read : (d : ℕ) (t : Forest FlatRow) → Everywhere F t → Every (λ x. PlainRow (x .row)) (flatten d t) → EveryRow (λ r below. RowConforms form r below) (docsRead form t)
+  rows-read : (d : ℕ) (t : Forest FlatRow) → Everywhere F t → Every (λ x. PlainRow (x .row)) (flatten d t) → EveryRow (λ r below. RowConforms version form r below) (docsRead form t)
   unfolding Everywhere
   rows-read d bare e p = tt
   rows-read d (tree x b t) (u, e, g) p = (
-    subst (λ (z : List Row). RowConforms form (rowRead form x) z) (sym (heads-read form b))
+    subst (λ (z : List Row). RowConforms version form (rowRead form x) z) (sym (heads-read form b))
         (row-read (x .sort) (x .index) (heads b) (p .0 .low) (p .0 .high) (λ q. under-element F x (heads b) q u) (λ q. under-other F x (heads b) q u)),
     rows-read (suc d) b e (every-left (λ x. PlainRow (x .row)) (flatten (suc d) b) (flatten d t) (p .1)),
     rows-read d t g (every-right (λ x. PlainRow (x .row)) (flatten (suc d) b) (flatten d t) (p .1)),
@@ -124,8 +124,8 @@ module _ (w : ℕ) (form : Form) (ok : wellFormed w form ≡ true) (F : IndexFor
   roots-placed rs s = every-in (Placed []) rs (λ x m q. absurd (omega (arith, s x m)))
 
   -- documents that conform by index are read as documents that conform, and these are written so
-  pub documents-read : (xs : List (Deep FlatRow)) → Every (λ x. PlainRow (x .row)) xs → Documents F xs → ReadsAs form xs (docsRead form (build xs 0))
-  documents-read xs p x = subst (λ (t : Forest FlatRow). ReadsAs form xs (docsRead form t)) (sym built) read
+  pub documents-read : (xs : List (Deep FlatRow)) → Every (λ x. PlainRow (x .row)) xs → Documents F xs → ReadsAs version form xs (docsRead form (build xs 0))
+  documents-read xs p x = subst (λ (t : Forest FlatRow). ReadsAs version form xs (docsRead form t)) (sym built) read
     where
       built : build xs 0 ≡ x .docs
       built = ap (λ (z : List (Deep FlatRow)). build z 0) (sym (x .rows)) ∙ build-flatten (x .docs)
@@ -133,7 +133,7 @@ module _ (w : ℕ) (form : Form) (ok : wellFormed w form ≡ true) (F : IndexFor
       plain : Every (λ x. PlainRow (x .row)) (flatten 0 (x .docs))
       plain = subst (λ (z : List (Deep FlatRow)). Every (λ x. PlainRow (x .row)) z) (sym (x .rows)) p
 
-      read : ReadsAs form xs (docsRead form (x .docs))
+      read : ReadsAs version form xs (docsRead form (x .docs))
       read =
           record {
             rows = ap (λ (t : Forest FlatRow). flatten 0 t) (rows-back 0 [] (x .docs) (x .everywhere) plain (roots-placed (heads (x .docs)) (x .roots))) ∙ x .rows;
@@ -147,20 +147,20 @@ module _ (w : ℕ) (form : Form) (ok : wellFormed w form ≡ true) (F : IndexFor
           }
 
   -- ---- from names to indices
-  element-written : (n : Bytes) (d : Definition) (rows : List Row) → lookup n form ≡ some d → ElementRows d rows → Below F (indexOf n form) (map (rowWritten form n) rows)
+  element-written : (n : Bytes) (d : Definition) (rows : List Row) → lookup n form ≡ some d → ElementRows version d rows → Below F (indexOf n form) (map (rowWritten form n) rows)
   element-written n d rows e x =
       let k : Indexed form n = known-index form n (ap isThere e) in
       let q : d ≡ definitionAt (indexOf n form) form = cc (e, k .found) in
-      subst (λ (z : Bytes). Below F (indexOf n form) (map (rowWritten form z) rows)) (k .name) (below-written w form ok F agrees (indexOf n form) (k .below) rows (subst (λ (z : Definition). ElementRows z rows) q x))
+      subst (λ (z : Bytes). Below F (indexOf n form) (map (rowWritten form z) rows)) (k .name) (below-written w form ok F agrees (indexOf n form) (k .below) rows (subst (λ (z : Definition). ElementRows version z rows) q x))
 
-  row-written : (owner : Bytes) (r : Row) (rows : List Row) (s : RowSort) → r .sort ≡ s → RowConforms form r rows → Under F (rowWritten form owner r) (map (rowWritten form (r .name)) rows)
+  row-written : (owner : Bytes) (r : Row) (rows : List Row) (s : RowSort) → r .sort ≡ s → RowConforms version form r rows → Under F (rowWritten form owner r) (map (rowWritten form (r .name)) rows)
   row-written owner r rows element q c =
       let (d, e, x) = rw (q, RowConforms) at c in
       rw q (element-written (r .name) d rows e x)
   row-written owner r rows attribute q c = rw q (ap (λ (z : List Row). map (rowWritten form (r .name)) z) (rw (q, RowConforms) at c))
   row-written owner r rows text q c = rw q (ap (λ (z : List Row). map (rowWritten form (r .name)) z) (rw (q, RowConforms) at c))
 
-  everywhere-written : (owner : Bytes) (docs : Forest Row) → EveryRow (λ r below. RowConforms form r below) docs → Everywhere F (indexed form owner docs)
+  everywhere-written : (owner : Bytes) (docs : Forest Row) → EveryRow (λ r below. RowConforms version form r below) docs → Everywhere F (indexed form owner docs)
   unfolding Everywhere
   everywhere-written owner bare e = tt
   everywhere-written owner (tree r b t) (c, e, g) = (
@@ -169,7 +169,7 @@ module _ (w : ℕ) (form : Form) (ok : wellFormed w form ≡ true) (F : IndexFor
     everywhere-written owner t g,
   )
 
-  pub documents-written : (xs : List (Deep FlatRow)) (docs : Forest Row) → flatten 0 (indexed form [] docs) ≡ xs → Conforming form docs → Documents F xs
+  pub documents-written : (xs : List (Deep FlatRow)) (docs : Forest Row) → flatten 0 (indexed form [] docs) ≡ xs → Conforming version form docs → Documents F xs
   documents-written xs docs e c =
       record {
         docs = indexed form [] docs;
@@ -180,5 +180,5 @@ module _ (w : ℕ) (form : Form) (ok : wellFormed w form ≡ true) (F : IndexFor
         everywhere = everywhere-written [] docs (c .rows);
       }
 
-  pub documents-are : (xs : List (Deep FlatRow)) → Every (λ x. PlainRow (x .row)) xs → Documents F xs ↔ ((docs : Forest Row) × ReadsAs form xs docs)
+  pub documents-are : (xs : List (Deep FlatRow)) → Every (λ x. PlainRow (x .row)) xs → Documents F xs ↔ ((docs : Forest Row) × ReadsAs version form xs docs)
   documents-are xs p = (λ x. (docsRead form (build xs 0), documents-read xs p x), λ (docs, x). documents-written xs docs (x .rows) (x .conforming))

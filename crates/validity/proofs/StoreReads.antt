@@ -87,7 +87,7 @@ unfolding serialsFit goodSerials
 serials-are next t = refl
 
 -- ---- the store that is read from a flat store
-module _ (f : FlatStore) (fit : FieldsFit (valueWidth (f .version)) f) (bodies : bodiesFit f ≡ true) (F : IndexForm) (agrees : Agrees F (unflat f .form)) where
+module _ (f : FlatStore) (fit : FieldsFit (valueWidth (f .version)) f) (bodies : bodiesFit f ≡ true) (F : IndexForm) (agrees : Agrees (f .version) F (unflat f .form)) where
   checks→ : good (unflat f) ≡ true → flat (unflat f) ≡ f → Checks F f
   checks→ g e =
       let s : Good (unflat f) = good-is (unflat f) .0 g in
@@ -109,9 +109,9 @@ module _ (f : FlatStore) (fit : FieldsFit (valueWidth (f .version)) f) (bodies :
     ok : wellFormed (valueWidth (f .version)) (formOf f) ≡ true
     ok = form-good (valueWidth (f .version)) f fit bodies .1 (c .circle)
 
-    reads : ReadsAs (formOf f) (f .rows) (unflat f .docs)
+    reads : ReadsAs (f .version) (formOf f) (f .rows) (unflat f .docs)
     reads =
-        subst (λ (t : Forest Row). ReadsAs (formOf f) (f .rows) t) (docs-read (valueWidth (f .version)) f fit bodies)
+        subst (λ (t : Forest Row). ReadsAs (f .version) (formOf f) (f .rows) t) (docs-read (valueWidth (f .version)) f fit bodies)
         (documents-read (valueWidth (f .version)) (formOf f) ok F agrees (f .rows) (every-map (λ x. RowFits (valueWidth (f .version)) (x .row)) (λ x. PlainRow (x .row)) (f .rows) (λ x h. h .plain) (c .rows)) (c .documents))
 
     written : flat (unflat f) ≡ f
@@ -157,7 +157,7 @@ pub flat-passes : (f : FlatStore) → ((s : Store) × (flat s ≡ f) × (good s 
 flat-passes f = (
   λ (s, e, g). subst FlatPasses e (to s g),
   λ p.
-      let (g, e) = checks-read f (p .fields) (p .bodies) (indexForm f) (form-agrees (valueWidth (f .version)) f (p .fields) (p .bodies)) .1 (p .checks) in
+      let (g, e) = checks-read f (p .fields) (p .bodies) (indexForm f) (form-agrees (valueWidth (f .version)) f (p .fields) (p .bodies) (f .version)) .1 (p .checks) in
       (unflat f, e, g),
 )
   where
@@ -169,7 +169,7 @@ flat-passes f = (
         record {
           fields = fit;
           bodies = bodies;
-          checks = checks-read (flat s) fit bodies (indexForm (flat s)) (form-agrees (valueWidth (s .version)) (flat s) fit bodies) .0 (ap good back ∙ g, ap flat back);
+          checks = checks-read (flat s) fit bodies (indexForm (flat s)) (form-agrees (valueWidth (s .version)) (flat s) fit bodies (s .version)) .0 (ap good back ∙ g, ap flat back);
         }
 
 -- a byte string passes just where it is written from bodies that do

@@ -176,16 +176,16 @@ module _ {bs : Bytes} (h : Headed bs) where
       ∙ each-fits-cut (rowFits (widthOf bs)) (rowSize (widthOf bs)) (rowCount bs) (rowSize (widthOf bs) * rowCount bs) (drop (atRows (widthOf bs) bs) bs) (omega arith)
 
   -- ---- the tests; F: the form by index
-  module _ (F : IndexForm) (agrees : FormIn bs → Agrees F (unflat formIn .form)) where
+  module _ (F : IndexForm) (agrees : FormIn bs → Agrees (numberAt 0 4 bs) F (unflat formIn .form)) where
     abbrev Tests : Type 0
     Tests = FormIn bs × RowsPass (widthOf bs) F (rowCount bs) (rowsIn bs) × SerialsIn bs
 
-    checks-as : (G H : IndexForm) → FieldsFit (widthOf bs) (flatOf bs) → bodiesFit (flatOf bs) ≡ true → Agrees G (unflat (flatOf bs) .form) → Agrees H (unflat (flatOf bs) .form) → Checks G (flatOf bs) → Checks H (flatOf bs)
+    checks-as : (G H : IndexForm) → FieldsFit (widthOf bs) (flatOf bs) → bodiesFit (flatOf bs) ≡ true → Agrees (numberAt 0 4 bs) G (unflat (flatOf bs) .form) → Agrees (numberAt 0 4 bs) H (unflat (flatOf bs) .form) → Checks G (flatOf bs) → Checks H (flatOf bs)
     unfolding widthOf
     checks-as G H fields bodies x y c = checks-read (flatOf bs) fields bodies H y .0 (checks-read (flatOf bs) fields bodies G x .1 c)
 
-    agrees-read : FormIn bs → Agrees F (unflat (flatOf bs) .form)
-    agrees-read x = subst (λ (z : Form). Agrees F z) (sym same-form) (agrees x)
+    agrees-read : FormIn bs → Agrees (numberAt 0 4 bs) F (unflat (flatOf bs) .form)
+    agrees-read x = subst (λ (z : Form). Agrees (numberAt 0 4 bs) F z) (sym same-form) (agrees x)
 
     passes→ : passes bs ≡ true → Tests
     unfolding widthOf
@@ -201,7 +201,7 @@ module _ {bs : Bytes} (h : Headed bs) where
             circle = subst (λ (z : Form). (x : Bytes) → Reaches z x x → ⊥) same-form (p .checks .circle);
           };
         } in
-        let c : Checks F (flatOf bs) = checks-as (indexForm (flatOf bs)) F (p .fields) (p .bodies) (form-agrees (widthOf bs) (flatOf bs) (p .fields) (p .bodies)) (agrees-read form) (p .checks) in (
+        let c : Checks F (flatOf bs) = checks-as (indexForm (flatOf bs)) F (p .fields) (p .bodies) (form-agrees (widthOf bs) (flatOf bs) (p .fields) (p .bodies) (numberAt 0 4 bs)) (agrees-read form) (p .checks) in (
           form,
           record { fields = rows-each ∙ each .rows; documents = subst (λ (xs : List (Deep FlatRow)). Documents F xs) same-rows (c .documents) },
           record { fits = ap (fitting (numberAt 4 4 bs)) (sym same-serials) ∙ serials-told (numberAt 4 4 bs) (serialsIn (flatOf bs .rows)) (header .next) (next-most each) .0 (c .serials) },
@@ -231,7 +231,7 @@ module _ {bs : Bytes} (h : Headed bs) where
           serials = serials-told (numberAt 4 4 bs) (serialsIn (flatOf bs .rows)) (header .next) (omega (arith, f .most)) .1 (ap (fitting (numberAt 4 4 bs)) same-serials ∙ serials .fits);
         } in
         passes-read bs .1
-        (string-canonical (widthOf bs) bs (h .small) (h .header) each, record { fields = fields; bodies = bodies; checks = checks-as F (indexForm (flatOf bs)) fields bodies (agrees-read form) (form-agrees (widthOf bs) (flatOf bs) fields bodies) c })
+        (string-canonical (widthOf bs) bs (h .small) (h .header) each, record { fields = fields; bodies = bodies; checks = checks-as F (indexForm (flatOf bs)) fields bodies (agrees-read form) (form-agrees (widthOf bs) (flatOf bs) fields bodies (numberAt 0 4 bs)) c })
 
     pub passes-in : (passes bs ≡ true) ↔ (FormIn bs × RowsPass (widthOf bs) F (rowCount bs) (rowsIn bs) × SerialsIn bs)
     passes-in = (passes→, passes←)

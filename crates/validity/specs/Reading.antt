@@ -64,27 +64,31 @@ noAttribute = record { owner = 0; name = []; sort = 0; value = [] }
 abbrev pub entryOf : ℕ → List FlatAttribute → FlatAttribute
 entryOf j cs = getD cs j noAttribute
 
-abbrev pub indexForm : FlatStore → IndexForm
-indexForm f =
+-- in a store of a version
+abbrev pub formAt : ℕ → FlatStore → IndexForm
+formAt version f =
     record {
       size = length (f .definitions);
       kind = λ i. getD (f .definitions) i noDefinition .kind;
       model = λ i. indexMembers (build (partAt i (f .definitions) (f .particles)) 0);
       attributes = length (f .attributes);
       owner = λ j. entryOf j (f .attributes) .owner;
-      needed = λ j. mustBePresent (sortOf (entryOf j (f .attributes) .sort));
+      needed = λ j. mustBePresent version (sortOf (entryOf j (f .attributes) .sort));
       allows = λ j v. allows (sortOf (entryOf j (f .attributes) .sort)) (entryOf j (f .attributes) .value) v;
     }
 
--- an index form says what a form says
-pub record Agrees (F : IndexForm) (form : Form) : Type 0 where
+abbrev pub indexForm : FlatStore → IndexForm
+indexForm f = formAt (f .version) f
+
+-- an index form says what a form says in a store of a version
+pub record Agrees (version : ℕ) (F : IndexForm) (form : Form) : Type 0 where
   pub size : F .size ≡ length form
   pub kind : (i : ℕ) → i < length form → F .kind i ≡ kindCode (definitionAt i form .content)
   pub model : (i : ℕ) → i < length form → members (definitionAt i form) ≡ rename (λ j. nameAt j (map definitionName form)) (F .model i)
   pub inRange : (i : ℕ) → i < length form → (j : ℕ) → List·Memᴰ j (names (F .model i)) → j < length form
   pub attributes : F .attributes ≡ length (allAttributes 0 form)
   pub owner : (j : ℕ) → j < length (allAttributes 0 form) → F .owner j ≡ entryOf j (allAttributes 0 form) .owner
-  pub needed : (j : ℕ) → j < length (allAttributes 0 form) → F .needed j ≡ mustBePresent (sortOf (entryOf j (allAttributes 0 form) .sort))
+  pub needed : (j : ℕ) → j < length (allAttributes 0 form) → F .needed j ≡ mustBePresent version (sortOf (entryOf j (allAttributes 0 form) .sort))
   pub allows : (j : ℕ) → j < length (allAttributes 0 form) → (v : Bytes) → F .allows j v ≡ allows (sortOf (entryOf j (allAttributes 0 form) .sort)) (entryOf j (allAttributes 0 form) .value) v
 
 -- ---- documents
@@ -100,10 +104,10 @@ pub record RowFits (w : ℕ) (x : FlatRow) : Type 0 where
   pub value : isValue w (x .value) ≡ true
   pub element : x .sort ≡ 1 → x .value ≡ []
 
--- documents that are written as the rows xs, and conform
-pub record ReadsAs (form : Form) (xs : List (Deep FlatRow)) (docs : Forest Row) : Type 0 where
+-- documents that are written as the rows xs, and conform in a store of a version
+pub record ReadsAs (version : ℕ) (form : Form) (xs : List (Deep FlatRow)) (docs : Forest Row) : Type 0 where
   pub rows : flatten 0 (indexed form [] docs) ≡ xs
-  pub conforming : Conforming form docs
+  pub conforming : Conforming version form docs
   pub unnamed : EveryRow (λ r below. r .sort ≡ text → r .name ≡ []) docs
 
 -- ---- the whole store

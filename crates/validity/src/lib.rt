@@ -67,6 +67,7 @@ fn documents_pass(store: &[u8], s: Shape) -> bool
     let attrs = layout::attribute_body(store, s);
     let rows = layout::row_body(store, s);
     rowpass::rows_pass(
+        s.version as usize,
         s.width,
         s.definitions,
         defs,

@@ -1,27 +1,31 @@
 -- `attributes::attributes_to` meets its contract.
--- Assumes nothing.
 use native.Mathlib.Omega.{arith}
 use Prim.Native.Nat.{_-_}
-use Rattle.placing.specs.Placing.{attributeBody}
 use Rattle.attributes.proofs.CountLaws.{Counting, counting-start, counting-on, counting-end}
 use borrow.Author.Needs.{needs}
 use Rattle.attributes.proofs.attributes_to.Statement.{statement}
 use Rattle.attributes.proofs.attributes_to.Tie as tie
 
 abbrev Inv-loop : tie.InvT-loop
-Inv-loop store owner count sum₀ i₀ sum i = Counting owner (attributeBody store) count sum i
+Inv-loop store owner w count attrs sum₀ i₀ sum i = Counting w owner attrs count sum i
 
 abbrev μ-loop : tie.MeasureT-loop
-μ-loop store owner count sum₀ i₀ sum i = count - i
+μ-loop store owner w count attrs sum₀ i₀ sum i = count - i
 
-number-requires : tie.Need-number-requires Inv-loop μ-loop
-number-requires c κs = search needs
+width-in-requires : tie.Need-width-in-requires Inv-loop μ-loop
+width-in-requires c κs = search needs
+
+attribute-count-requires : tie.Need-attribute-count-requires Inv-loop μ-loop
+attribute-count-requires c κs = search needs
+
+attributes-of-requires : tie.Need-attributes-of-requires Inv-loop μ-loop
+attributes-of-requires c κs = search needs
 
 loop-holds : tie.Need-loop-holds Inv-loop μ-loop
-loop-holds c = counting-start (c .before .before .args .owner) (c .before .before .args .store .now) (c .number .ensures)
+loop-holds c = counting-start _ (c .before .before .before .before .args .owner) _ (c .before .attribute-count .ensures .small)
 
-attribute-requires : tie.Need-attribute-requires Inv-loop μ-loop
-attribute-requires c κs = omega (arith, c .before .loop .inv .bound)
+attribute-at-requires : tie.Need-attribute-at-requires Inv-loop μ-loop
+attribute-at-requires c κs = (c .before .before .before .before .width-in .ensures .small, omega (arith, c .before .loop .inv .bound))
 
 is-up-to-requires : tie.Need-is-up-to-requires Inv-loop μ-loop
 is-up-to-requires c κs = search needs
@@ -36,10 +40,10 @@ loop-less : tie.Need-loop-less Inv-loop μ-loop
 loop-less c = search needs
 
 loop-again : tie.Need-loop-again Inv-loop μ-loop
-loop-again c = counting-on (c .before .before .before .before .before .before .args .owner) (c .before .before .before .before .before .before .args .store .now) (c .before .before .before .loop .inv) (omega arith) (c .before .attribute .ensures) (c .is-up-to .ensures)
+loop-again c = counting-on _ (c .before .before .before .before .before .before .before .before .args .owner) _ (c .before .before .before .loop .inv) (omega arith) (c .before .attribute-at .ensures) (c .is-up-to .ensures)
 
 returns : tie.Need-returns Inv-loop μ-loop
-returns c = counting-end (c .before .before .before .before .args .owner) (c .before .before .before .before .args .store .now) (c .before .loop .inv) (c .before .before .number .ensures) (omega arith)
+returns c = counting-end _ (c .before .before .before .before .before .before .args .owner) _ (c .before .loop .inv) (c .before .before .before .before .before .before .args .store .now) (c .before .before .before .before .width-in .ensures) (c .before .before .attributes-of .ensures) (c .before .before .before .attribute-count .ensures) (omega arith)
 
 pub attributes-to-spec : {M : Type 1} → statement M
 attributes-to-spec =
@@ -47,9 +51,11 @@ attributes-to-spec =
     (tie.spec
     Inv-loop
     μ-loop
-    number-requires
+    width-in-requires
+    attribute-count-requires
+    attributes-of-requires
     loop-holds
-    attribute-requires
+    attribute-at-requires
     is-up-to-requires
     add-sum
     add-i

@@ -6,23 +6,23 @@ use borrow.Author.Needs.{needs}
 use Rattle.attributes.proofs.is_up_to.Statement.{statement}
 use Rattle.attributes.proofs.is_up_to.Tie as tie
 
-byte-requires : tie.Need-byte-requires
-byte-requires c κs = search needs
+owner-byte-requires : tie.Need-owner-byte-requires
+owner-byte-requires c κs = search needs
 
 cast-of : tie.Need-cast-of
 cast-of c = search needs
 
 returns : tie.Need-returns
-returns c = up-to (c .before .before .before .args .owner) (c .before .before .before .args .rec .now) (c .before .byte .ensures) (omega arith)
+returns c = up-to (c .before .before .before .args .owner) (c .before .before .before .args .rec .now) (c .before .owner-byte .ensures) (omega arith)
 
 returns-2 : tie.Need-returns-2
-returns-2 c = past-it (c .before .before .before .args .owner) (c .before .before .before .args .rec .now) (c .before .byte .ensures) (omega arith)
+returns-2 c = past-it (c .before .before .before .args .owner) (c .before .before .before .args .rec .now) (c .before .owner-byte .ensures) (omega arith)
 
 pub is-up-to-spec : {M : Type 1} → statement M
 is-up-to-spec =
     tie.close
     (tie.spec
-    byte-requires
+    owner-byte-requires
     cast-of
     returns
     returns-2)

@@ -1,28 +1,31 @@
 -- `attributes::owner_of` meets its contract.
--- Assumes nothing.
 use native.Mathlib.Omega.{arith}
 use Rattle.attributes.proofs.CountLaws.{owner-is}
 use borrow.Author.Needs.{needs}
 use Rattle.attributes.proofs.owner_of.Statement.{statement}
 use Rattle.attributes.proofs.owner_of.Tie as tie
 
-attribute-requires : tie.Need-attribute-requires
-attribute-requires c κs = omega (arith, c .before .pre .small)
+width-in-requires : tie.Need-width-in-requires
+width-in-requires c κs = search needs
 
-byte-requires : tie.Need-byte-requires
-byte-requires c κs = search needs
+attributes-of-requires : tie.Need-attributes-of-requires
+attributes-of-requires c κs = search needs
 
-cast-result : tie.Need-cast-result
-cast-result c = search needs
+attribute-at-requires : tie.Need-attribute-at-requires
+attribute-at-requires c κs = (c .before .width-in .ensures .small, omega (arith, c .before .before .before .pre .small))
+
+attribute-owner-requires : tie.Need-attribute-owner-requires
+attribute-owner-requires c κs = search needs
 
 returns : tie.Need-returns
-returns c = owner-is (c .before .before .before .args .store .now) (c .before .before .before .args .attribute) (c .before .before .before .pre .inside) (c .before .attribute .ensures) (c .byte .ensures)
+returns c = owner-is (c .before .before .before .before .before .args .store .now) (c .before .before .before .width-in .ensures) (c .before .before .attributes-of .ensures) (c .before .before .before .before .before .args .attribute) (c .before .before .before .before .before .pre .inside) (c .before .attribute-at .ensures) (c .attribute-owner .ensures)
 
 pub owner-of-spec : {M : Type 1} → statement M
 owner-of-spec =
     tie.close
     (tie.spec
-    attribute-requires
-    byte-requires
-    cast-result
+    width-in-requires
+    attributes-of-requires
+    attribute-at-requires
+    attribute-owner-requires
     returns)

@@ -1,52 +1,41 @@
+-- `defining::is_taken` meets its contract.
+use Prim.Native.Nat.{_-_}
+use native.Mathlib.Omega.{arith}
+use Rattle.rules.specs.Layout.{definitionSize}
+use Rattle.rules.specs.Decode.{readDefinition}
 use Rattle.defining.proofs.Searching.{Searching, searching-start, searching-hit, searching-on, searching-end}
 use Rattle.defining.proofs.Naming.{hasName, definitions-named, record-named}
-use Rattle.rules.specs.Decode.{readDefinition}
-use lib.ListN.{drop}
-use lib.ListN.{drop}
-use Prim.Native.Nat.{_-_}
 use borrow.Author.Needs.{needs}
-use native.Mathlib.Omega.{arith}
 use Rattle.defining.proofs.is_taken.Statement.{statement}
 use Rattle.defining.proofs.is_taken.Tie as tie
 
+-- the definitions from number i on are left
 abbrev Inv-loop : tie.InvT-loop
-Inv-loop store name count i₀ i = Searching readDefinition 20 (hasName name) (drop 40 store) count i
+Inv-loop store name count defs i₀ i = Searching readDefinition definitionSize (hasName name) defs count i
 
 abbrev μ-loop : tie.MeasureT-loop
-μ-loop store name count i₀ i = count - i
+μ-loop store name count defs i₀ i = count - i
 
-get-u32-requires : tie.Need-get-u32-requires Inv-loop μ-loop
-get-u32-requires c κs = search needs
+definition-count-requires : tie.Need-definition-count-requires Inv-loop μ-loop
+definition-count-requires c κs = search needs
 
-cast-count : tie.Need-cast-count Inv-loop μ-loop
-cast-count c = search needs
+definitions-of-requires : tie.Need-definitions-of-requires Inv-loop μ-loop
+definitions-of-requires c κs = search needs
 
 loop-holds : tie.Need-loop-holds Inv-loop μ-loop
-loop-holds c = searching-start readDefinition 20 (hasName (c .before .before .before .args .name .now)) (drop 40 (c .before .before .before .args .store .now)) _
+loop-holds c = searching-start readDefinition definitionSize (hasName (c .before .before .before .before .args .name .now)) _ _
 
-mul-window : tie.Need-mul-window Inv-loop μ-loop
-mul-window c = search needs
+definition-at-requires : tie.Need-definition-at-requires Inv-loop μ-loop
+definition-at-requires c κs = omega (arith, c .before .before .before .definition-count .ensures .small)
 
-add-window : tie.Need-add-window Inv-loop μ-loop
-add-window c = search needs
-
-window-requires : tie.Need-window-requires Inv-loop μ-loop
-window-requires c κs = search needs
-
-byte-requires : tie.Need-byte-requires Inv-loop μ-loop
-byte-requires c κs = search needs
-
-cast-used : tie.Need-cast-used Inv-loop μ-loop
-cast-used c = search needs
-
-window-requires-2 : tie.Need-window-requires-2 Inv-loop μ-loop
-window-requires-2 c κs = search needs
+definition-name-requires : tie.Need-definition-name-requires Inv-loop μ-loop
+definition-name-requires c κs = search needs
 
 equal-requires : tie.Need-equal-requires Inv-loop μ-loop
 equal-requires c κs = search needs
 
 returns : tie.Need-returns Inv-loop μ-loop
-returns c = definitions-named (c .before .before .before .before .before .before .before .before .before .before .args .store .now) (c .before .before .before .before .before .before .before .before .before .before .args .name .now) _ (c .before .before .before .before .before .before .before .get-u32 .ensures) (searching-hit readDefinition 20 (hasName (c .before .before .before .before .before .before .before .before .before .before .args .name .now)) (drop 40 (c .before .before .before .before .before .before .before .before .before .before .args .store .now)) _ _ (c .before .before .before .before .before .before .loop .inv) (omega arith) (record-named (c .before .before .before .before .before .before .before .before .before .before .args .store .now) (c .before .before .before .before .before .before .before .before .before .before .args .name .now) (c .before .before .before .before .before .before .loop .i) _ _ _ (c .before .before .before .before .window .ensures) (c .before .before .before .byte .ensures) (c .before .before .window2 .ensures) (c .before .equal .ensures)) (c .if1 .taken))
+returns c = let n = c .before .before .before .before .before .before .before .before .before .before .args .name .now in let l = c .before .before .before .before .before .loop in definitions-named (c .before .before .before .before .before .before .before .before .before .before .args .store .now) n (c .before .before .before .before .before .before .before .definition-count .ensures) (c .before .before .before .before .before .before .definitions-of .ensures) (searching-hit readDefinition definitionSize (hasName n) _ _ (l .i) (l .inv) (omega arith) (record-named n (l .i) _ (c .before .before .before .definition-at .ensures) (c .before .before .definition-name .ensures) (c .before .equal .ensures)) (c .if1 .taken))
 
 add-i : tie.Need-add-i Inv-loop μ-loop
 add-i c = search needs
@@ -55,10 +44,10 @@ loop-less : tie.Need-loop-less Inv-loop μ-loop
 loop-less c = search needs
 
 loop-again : tie.Need-loop-again Inv-loop μ-loop
-loop-again c = searching-on readDefinition 20 (hasName (c .before .before .before .before .before .before .before .before .before .before .args .name .now)) (drop 40 (c .before .before .before .before .before .before .before .before .before .before .args .store .now)) _ _ (c .before .before .before .before .before .before .loop .inv) (omega arith) (record-named (c .before .before .before .before .before .before .before .before .before .before .args .store .now) (c .before .before .before .before .before .before .before .before .before .before .args .name .now) (c .before .before .before .before .before .before .loop .i) _ _ _ (c .before .before .before .before .window .ensures) (c .before .before .before .byte .ensures) (c .before .before .window2 .ensures) (c .before .equal .ensures)) (c .if1 .left)
+loop-again c = let n = c .before .before .before .before .before .before .before .before .before .before .args .name .now in let l = c .before .before .before .before .before .loop in searching-on readDefinition definitionSize (hasName n) _ _ (l .i) (l .inv) (omega arith) (record-named n (l .i) _ (c .before .before .before .definition-at .ensures) (c .before .before .definition-name .ensures) (c .before .equal .ensures)) (c .if1 .left)
 
 returns-2 : tie.Need-returns-2 Inv-loop μ-loop
-returns-2 c = definitions-named (c .before .before .before .before .before .args .store .now) (c .before .before .before .before .before .args .name .now) _ (c .before .before .get-u32 .ensures) (searching-end readDefinition 20 (hasName (c .before .before .before .before .before .args .name .now)) (drop 40 (c .before .before .before .before .before .args .store .now)) _ _ (c .before .loop .inv) (omega arith))
+returns-2 c = let n = c .before .before .before .before .before .before .args .name .now in let l = c .before .loop in definitions-named (c .before .before .before .before .before .before .args .store .now) n (c .before .before .before .definition-count .ensures) (c .before .before .definitions-of .ensures) (searching-end readDefinition definitionSize (hasName n) _ _ (l .i) (l .inv) (omega arith))
 
 pub is-taken-spec : {M : Type 1} → statement M
 is-taken-spec =
@@ -66,15 +55,11 @@ is-taken-spec =
     (tie.spec
     Inv-loop
     μ-loop
-    get-u32-requires
-    cast-count
+    definition-count-requires
+    definitions-of-requires
     loop-holds
-    mul-window
-    add-window
-    window-requires
-    byte-requires
-    cast-used
-    window-requires-2
+    definition-at-requires
+    definition-name-requires
     equal-requires
     returns
     add-i

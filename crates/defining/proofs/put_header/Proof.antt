@@ -1,29 +1,36 @@
-use lib.ListN.{length, length-take}
-use mathlib.Core.Path.{ap, sym}
-use Rattle.storing.specs.Writing.{contents}
-use mathlib.Core.List.{List, _++_}
-use Prim.Native.Nat.{ℕ}
-use native.Mathlib.Omega.{arith}
-use Rattle.codec.proofs.Writers.{laid-as, laid-then}
+-- `defining::put_header` meets its contract.
+use mathlib.Core.Path.{sym}
+use Rattle.codec.proofs.Writers.{laid-as}
+use Rattle.layout.specs.Header.{headed}
 use borrow.Author.Needs.{needs}
 use Rattle.defining.proofs.put_header.Statement.{statement}
 use Rattle.defining.proofs.put_header.Tie as tie
 
-first-requires : tie.Need-first-requires
-first-requires c κs = search needs
+width-in-requires : tie.Need-width-in-requires
+width-in-requires c κs = search needs
 
-put-requires : tie.Need-put-requires
-put-requires c κs = search needs
+next-serial-requires : tie.Need-next-serial-requires
+next-serial-requires c κs = search needs
 
-put-contents-requires : tie.Need-put-contents-requires
-put-contents-requires c κs = omega (arith, c .before .before .before .put .ensures .next, ap length (c .before .before .before .before .before .first .ensures), length-take 8 (c .before .before .before .before .before .before .before .before .args .store .now))
+row-count-requires : tie.Need-row-count-requires
+row-count-requires c κs = search needs
+
+put-header-requires : tie.Need-put-header-requires
+put-header-requires c κs = search needs
 
 same-length : tie.Need-same-length
 same-length c = search needs
 
 returns : tie.Need-returns
-returns c = laid-as (ap (λ (l : List ℕ). l ++ contents (c .before .before .before .before .before .before .before .before .before .before .before .args .d) (c .before .before .before .before .before .before .before .before .before .before .before .args .p) (c .before .before .before .before .before .before .before .before .before .before .before .args .a) (c .before .before .before .before .before .before .before .before .before .before .before .args .r)) (sym (c .before .before .before .before .before .before .before .before .first .ensures))) (laid-then (c .before .before .before .before .before .before .put .ensures) (c .before .before .put-contents .ensures))
+returns c = let a = c .before .before .before .before .before .before .before .before .before .args in laid-as (λ i. headed (sym (c .before .before .before .before .before .before .width-in .ensures .value) i) (sym (c .before .before .before .before .before .next-serial .ensures .value) i) (a .d) (a .p) (a .a) (sym (c .before .before .before .before .row-count .ensures .value) i) (a .store .now)) (c .before .before .put-header .ensures)
 
 pub put-header-spec : {M : Type 1} → statement M
 put-header-spec =
-    tie.close (tie.spec first-requires put-requires put-contents-requires same-length returns)
+    tie.close
+    (tie.spec
+    width-in-requires
+    next-serial-requires
+    row-count-requires
+    put-header-requires
+    same-length
+    returns)

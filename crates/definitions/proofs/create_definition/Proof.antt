@@ -29,7 +29,7 @@ create-limit-requires c κs = sym (c .before .before .before .passes .ensures) �
 returns-3 : tie.Need-returns-3
 returns-3 c = let p = sym (c .before .before .before .before .before .passes .ensures) ∙ not-false _ (c .before .before .before .before .if1 .left) in
     let z = sym (c .before .before .before .create-condition .ensures) ∙ c .before .before .if2 .left in
-    answers-limit (createDefinition (c .before .before .before .before .before .before .before .before .before .args .name .now) (c .before .before .before .before .before .before .before .before .before .args .kind)) (c .before .before .before .before .before .before .before .before .before .args .store .now) (c .before .before .before .before .before .before .before .before .before .args .out .now) p _ (c .before .before .before .create-condition .ensures) (c .before .before .if2 .left) (created (c .before .before .before .before .before .before .before .before .before .args .name .now) (c .before .before .before .before .before .before .before .before .before .args .kind) (bodiesOf (c .before .before .before .before .before .before .before .before .before .args .store .now))) (flat-after-create (c .before .before .before .before .before .before .before .before .before .args .store .now) (c .before .before .before .before .before .before .before .before .before .args .name .now) (c .before .before .before .before .before .before .before .before .before .args .kind) p (fresh (c .before .before .before .before .before .before .before .before .before .args .store .now) (c .before .before .before .before .before .before .before .before .before .args .name .now) (c .before .before .before .before .before .before .before .before .before .args .kind) p z .kind)) _ (c .before .create-limit .ensures) (c .if3 .taken)
+    answers-limit (createDefinition (c .before .before .before .before .before .before .before .before .before .args .name .now) (c .before .before .before .before .before .before .before .before .before .args .kind)) (c .before .before .before .before .before .before .before .before .before .args .store .now) (c .before .before .before .before .before .before .before .before .before .args .out .now) p _ (c .before .before .before .create-condition .ensures) (c .before .before .if2 .left) (created (c .before .before .before .before .before .before .before .before .before .args .name .now) (c .before .before .before .before .before .before .before .before .before .args .kind) (bodiesOf (c .before .before .before .before .before .before .before .before .before .args .store .now))) (flat-after-create (c .before .before .before .before .before .before .before .before .before .args .store .now) (c .before .before .before .before .before .before .before .before .before .args .name .now) (c .before .before .before .before .before .before .before .before .before .args .kind) p (fresh (c .before .before .before .before .before .before .before .before .before .args .store .now) (c .before .before .before .before .before .before .before .before .before .args .name .now) (c .before .before .before .before .before .before .before .before .before .args .kind) p z .kind)) _ _ (c .before .create-limit .ensures) (c .if3 .taken)
 
 put-created-requires : tie.Need-put-created-requires
 put-created-requires c κs = let p = sym (c .before .before .before .before .before .before .passes .ensures) ∙ not-false _ (c .before .before .before .before .before .if1 .left) in
@@ -42,7 +42,7 @@ same-length c = search needs
 returns-4 : tie.Need-returns-4
 returns-4 c = let p = sym (c .before .before .before .before .before .before .before .before .before .passes .ensures) ∙ not-false _ (c .before .before .before .before .before .before .before .before .if1 .left) in
     let z = sym (c .before .before .before .before .before .before .before .create-condition .ensures) ∙ c .before .before .before .before .before .before .if2 .left in
-    answers-all (createDefinition (c .before .before .before .before .before .before .before .before .before .before .before .before .before .args .name .now) (c .before .before .before .before .before .before .before .before .before .before .before .before .before .args .kind)) (c .before .before .before .before .before .before .before .before .before .before .before .before .before .args .store .now) (c .before .before .before .before .before .before .before .before .before .before .before .before .before .args .out .now) p _ (c .before .before .before .before .before .before .before .create-condition .ensures) (c .before .before .before .before .before .before .if2 .left) (created (c .before .before .before .before .before .before .before .before .before .before .before .before .before .args .name .now) (c .before .before .before .before .before .before .before .before .before .before .before .before .before .args .kind) (bodiesOf (c .before .before .before .before .before .before .before .before .before .before .before .before .before .args .store .now))) (flat-after-create (c .before .before .before .before .before .before .before .before .before .before .before .before .before .args .store .now) (c .before .before .before .before .before .before .before .before .before .before .before .before .before .args .name .now) (c .before .before .before .before .before .before .before .before .before .before .before .before .before .args .kind) p (fresh (c .before .before .before .before .before .before .before .before .before .before .before .before .before .args .store .now) (c .before .before .before .before .before .before .before .before .before .before .before .before .before .args .name .now) (c .before .before .before .before .before .before .before .before .before .before .before .before .before .args .kind) p z .kind)) _ (c .before .before .before .before .before .create-limit .ensures) (c .before .before .before .before .if3 .left) (c .before .before .put-created .ensures)
+    answers-all (createDefinition (c .before .before .before .before .before .before .before .before .before .before .before .before .before .args .name .now) (c .before .before .before .before .before .before .before .before .before .before .before .before .before .args .kind)) (c .before .before .before .before .before .before .before .before .before .before .before .before .before .args .store .now) (c .before .before .before .before .before .before .before .before .before .before .before .before .before .args .out .now) p _ (c .before .before .before .before .before .before .before .create-condition .ensures) (c .before .before .before .before .before .before .if2 .left) (created (c .before .before .before .before .before .before .before .before .before .before .before .before .before .args .name .now) (c .before .before .before .before .before .before .before .before .before .before .before .before .before .args .kind) (bodiesOf (c .before .before .before .before .before .before .before .before .before .before .before .before .before .args .store .now))) (flat-after-create (c .before .before .before .before .before .before .before .before .before .before .before .before .before .args .store .now) (c .before .before .before .before .before .before .before .before .before .before .before .before .before .args .name .now) (c .before .before .before .before .before .before .before .before .before .before .before .before .before .args .kind) p (fresh (c .before .before .before .before .before .before .before .before .before .before .before .before .before .args .store .now) (c .before .before .before .before .before .before .before .before .before .before .before .before .before .args .name .now) (c .before .before .before .before .before .before .before .before .before .before .before .before .before .args .kind) p z .kind)) _ _ (c .before .before .before .before .before .create-limit .ensures) (c .before .before .before .before .if3 .left) (c .before .before .put-created .ensures)
 
 pub create-definition-spec : {M : Type 1} → statement M
 create-definition-spec =

@@ -28,7 +28,7 @@ destroy-limit-requires c κs = stands (c .before .before .before .before .before
 
 returns-3 : tie.Need-returns-3
 returns-3 c = let p = sym (c .before .before .before .before .before .passes .ensures) ∙ not-false _ (c .before .before .before .before .if1 .left) in
-    answers-limit (destroyDefinition (c .before .before .before .before .before .before .before .before .args .definition)) (c .before .before .before .before .before .before .before .before .args .store .now) (c .before .before .before .before .before .before .before .before .args .out .now) p _ (c .before .before .before .destroy-condition .ensures) (c .before .before .if2 .left) (destroyed (c .before .before .before .before .before .before .before .before .args .definition) (bodiesOf (c .before .before .before .before .before .before .before .before .args .store .now))) (flat-after-destroy (c .before .before .before .before .before .before .before .before .args .store .now) (c .before .before .before .before .before .before .before .before .args .definition) p (sym (c .before .before .before .destroy-condition .ensures) ∙ c .before .before .if2 .left)) _ (c .before .destroy-limit .ensures) (c .if3 .taken)
+    answers-limit (destroyDefinition (c .before .before .before .before .before .before .before .before .args .definition)) (c .before .before .before .before .before .before .before .before .args .store .now) (c .before .before .before .before .before .before .before .before .args .out .now) p _ (c .before .before .before .destroy-condition .ensures) (c .before .before .if2 .left) (destroyed (c .before .before .before .before .before .before .before .before .args .definition) (bodiesOf (c .before .before .before .before .before .before .before .before .args .store .now))) (flat-after-destroy (c .before .before .before .before .before .before .before .before .args .store .now) (c .before .before .before .before .before .before .before .before .args .definition) p (sym (c .before .before .before .destroy-condition .ensures) ∙ c .before .before .if2 .left)) _ _ (c .before .destroy-limit .ensures) (c .if3 .taken)
 
 put-destroyed-requires : tie.Need-put-destroyed-requires
 put-destroyed-requires c κs = stands (c .before .before .before .before .before .before .before .before .before .args .store .now) (c .before .before .before .before .before .before .before .before .before .args .definition) (sym (c .before .before .before .before .before .before .passes .ensures) ∙ not-false _ (c .before .before .before .before .before .if1 .left)) (sym (c .before .before .before .before .destroy-condition .ensures) ∙ c .before .before .before .if2 .left)
@@ -38,7 +38,7 @@ same-length c = search needs
 
 returns-4 : tie.Need-returns-4
 returns-4 c = let p = sym (c .before .before .before .before .before .before .before .before .before .passes .ensures) ∙ not-false _ (c .before .before .before .before .before .before .before .before .if1 .left) in
-    answers-all (destroyDefinition (c .before .before .before .before .before .before .before .before .before .before .before .before .args .definition)) (c .before .before .before .before .before .before .before .before .before .before .before .before .args .store .now) (c .before .before .before .before .before .before .before .before .before .before .before .before .args .out .now) p _ (c .before .before .before .before .before .before .before .destroy-condition .ensures) (c .before .before .before .before .before .before .if2 .left) (destroyed (c .before .before .before .before .before .before .before .before .before .before .before .before .args .definition) (bodiesOf (c .before .before .before .before .before .before .before .before .before .before .before .before .args .store .now))) (flat-after-destroy (c .before .before .before .before .before .before .before .before .before .before .before .before .args .store .now) (c .before .before .before .before .before .before .before .before .before .before .before .before .args .definition) p (sym (c .before .before .before .before .before .before .before .destroy-condition .ensures) ∙ c .before .before .before .before .before .before .if2 .left)) _ (c .before .before .before .before .before .destroy-limit .ensures) (c .before .before .before .before .if3 .left) (c .before .before .put-destroyed .ensures)
+    answers-all (destroyDefinition (c .before .before .before .before .before .before .before .before .before .before .before .before .args .definition)) (c .before .before .before .before .before .before .before .before .before .before .before .before .args .store .now) (c .before .before .before .before .before .before .before .before .before .before .before .before .args .out .now) p _ (c .before .before .before .before .before .before .before .destroy-condition .ensures) (c .before .before .before .before .before .before .if2 .left) (destroyed (c .before .before .before .before .before .before .before .before .before .before .before .before .args .definition) (bodiesOf (c .before .before .before .before .before .before .before .before .before .before .before .before .args .store .now))) (flat-after-destroy (c .before .before .before .before .before .before .before .before .before .before .before .before .args .store .now) (c .before .before .before .before .before .before .before .before .before .before .before .before .args .definition) p (sym (c .before .before .before .before .before .before .before .destroy-condition .ensures) ∙ c .before .before .before .before .before .before .if2 .left)) _ _ (c .before .before .before .before .before .destroy-limit .ensures) (c .before .before .before .before .if3 .left) (c .before .before .put-destroyed .ensures)
 
 pub destroy-definition-spec : {M : Type 1} → statement M
 destroy-definition-spec =

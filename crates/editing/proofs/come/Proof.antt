@@ -18,7 +18,7 @@ returns : tie.Need-returns
 returns c =
     let s = c .before .before .before .before .before .before .before .before .before in
     let a = s .args in
-    came-taken (a .p) (a .text .now) (fillOf (a .w) (a .n) (a .defs .now) (a .parts .now) (a .a) (a .attrs .now) (a .p) (a .text .now)) (a .o) (a .h) (a .row .now) (s .pre .1) _
+    came-taken (a .p) (a .text .now) (fillOf (a .version) (a .w) (a .n) (a .defs .now) (a .parts .now) (a .a) (a .attrs .now) (a .p) (a .text .now)) (a .o) (a .h) (a .row .now) (s .pre .1) _
     (c .before .before .is-taken .ensures) (c .before .if1 .taken) _ (c .taken .ensures)
 
 is-below-requires : tie.Need-is-below-requires
@@ -52,7 +52,7 @@ returns-3 : tie.Need-returns-3
 returns-3 c =
     let s = c .before .before .before .before .before .before .before .before .before .before .before .before .before .before .before .before .before .before .before in
     let a = s .args in
-    came-still (a .p) (a .text .now) (fillOf (a .w) (a .n) (a .defs .now) (a .parts .now) (a .a) (a .attrs .now) (a .p) (a .text .now)) (a .o) (a .h) (a .row .now) (s .pre .1) _
+    came-still (a .p) (a .text .now) (fillOf (a .version) (a .w) (a .n) (a .defs .now) (a .parts .now) (a .a) (a .attrs .now) (a .p) (a .text .now)) (a .o) (a .h) (a .row .now) (s .pre .1) _
     (c .before .before .before .before .before .before .before .before .before .before .before .before .is-taken .ensures) (c .before .before .before .before .before .before .before .before .before .before .before .if1 .left)
     (ap (λ (z : Bool). a .o .due && z) (sym (c .before .before .before .before .before .before .before .before .before .before .is-below .ensures)) ∙ c .before .before .before .before .before .before .before .before .if2 .left)
     (row-kept (a .p) (a .text .now) (a .h) (a .row .now) (s .pre .1) _ (c .before .before .before .before .before .before .before .moved-index .ensures .0) (c .before .before .before .put-row .ensures)) _ (c .kept .ensures)

@@ -14,12 +14,12 @@ use Rattle.editing.proofs.walk.Tie as tie
 
 -- whoever writes what comes of the rows that are left has written all
 abbrev Inv-loop : tie.InvT-loop
-Inv-loop w n defs parts a attrs rows count plan text out₀ k t₀ m₀ at₀ o₀ out t m at o =
-    Going w plan text (fillOf w n defs parts a attrs plan text)
-    (walked plan text (fillOf w n defs parts a attrs plan text) (atFirst plan) (readMany readRow (rowSize w) count rows)) at₀ out₀ t m at o out
+Inv-loop version w n defs parts a attrs rows count plan text out₀ k t₀ m₀ at₀ o₀ out t m at o =
+    Going w plan text (fillOf version w n defs parts a attrs plan text)
+    (walked plan text (fillOf version w n defs parts a attrs plan text) (atFirst plan) (readMany readRow (rowSize w) count rows)) at₀ out₀ t m at o out
 
 abbrev μ-loop : tie.MeasureT-loop
-μ-loop w n defs parts a attrs rows count plan text out₀ k t₀ m₀ at₀ o₀ out t m at o = m
+μ-loop version w n defs parts a attrs rows count plan text out₀ k t₀ m₀ at₀ o₀ out t m at o = m
 
 row-size-requires : tie.Need-row-size-requires Inv-loop μ-loop
 row-size-requires c κs = c .before .before .before .before .before .before .pre .0 .width

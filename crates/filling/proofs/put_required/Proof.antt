@@ -10,13 +10,13 @@ use Rattle.filling.proofs.put_required.Tie as tie
 
 -- the attributes below j are written
 abbrev Inv-loop : tie.InvT-loop
-Inv-loop w i a attrs depth c₀ out₀ j₀ c out j = Putting w attrs depth i a (cursorIn c₀) out₀ (cursorIn c) out j
+Inv-loop version w i a attrs depth c₀ out₀ j₀ c out j = Putting version w attrs depth i a (cursorIn c₀) out₀ (cursorIn c) out j
 
 abbrev μ-loop : tie.MeasureT-loop
-μ-loop w i a attrs depth c₀ out₀ j₀ c out j = a - j
+μ-loop version w i a attrs depth c₀ out₀ j₀ c out j = a - j
 
 loop-holds : tie.Need-loop-holds Inv-loop μ-loop
-loop-holds c = let a = c .before .before .args in record { written = required-none (a .w) (a .attrs .now) (a .depth) (a .i); low = omega arith }
+loop-holds c = let a = c .before .before .args in record { written = required-none (a .version) (a .w) (a .attrs .now) (a .depth) (a .i); low = omega arith }
 
 put-attribute-requires : tie.Need-put-attribute-requires Inv-loop μ-loop
 put-attribute-requires c κs = let p = c .before .before .before .before .before .before .pre in (p .0, written-room (c .before .before .before .loop .inv .written) (p .1), omega arith, omega arith)
@@ -28,13 +28,13 @@ loop-less : tie.Need-loop-less Inv-loop μ-loop
 loop-less c = search needs
 
 loop-again : tie.Need-loop-again Inv-loop μ-loop
-loop-again c = let a = c .before .before .before .before .before .before .before .before .before .args in record { written = required-on (a .w) (a .attrs .now) (a .depth) (a .i) _ (c .before .before .before .before .before .before .loop .inv .written) (c .before .before .put-attribute .ensures); low = omega arith }
+loop-again c = let a = c .before .before .before .before .before .before .before .before .before .args in record { written = required-on (a .version) (a .w) (a .attrs .now) (a .depth) (a .i) _ (c .before .before .before .before .before .before .loop .inv .written) (c .before .before .put-attribute .ensures); low = omega arith }
 
 same-length : tie.Need-same-length Inv-loop μ-loop
 same-length c = written-long (c .before .loop .inv .written)
 
 returns : tie.Need-returns Inv-loop μ-loop
-returns c = let a = c .before .before .before .before .args in let e : a .a ≡ c .before .loop .j = omega (arith, c .before .loop .inv .low) in written-as (ap (λ (n : ℕ). requiredIn (a .w) (a .attrs .now) (a .depth) (a .i) n) e) (c .before .loop .inv .written)
+returns c = let a = c .before .before .before .before .args in let e : a .a ≡ c .before .loop .j = omega (arith, c .before .loop .inv .low) in written-as (ap (λ (n : ℕ). requiredIn (a .version) (a .w) (a .attrs .now) (a .depth) (a .i) n) e) (c .before .loop .inv .written)
 
 pub put-required-spec : {M : Type 1} → statement M
 put-required-spec =

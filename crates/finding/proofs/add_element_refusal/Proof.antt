@@ -20,26 +20,26 @@ returns c = let a = c .before .before .before .before .args in add-early (a .sto
 find-element-requires : tie.Need-find-element-requires
 find-element-requires c κs = search needs
 
-number-requires : tie.Need-number-requires
-number-requires c κs = search needs
+row-count-requires : tie.Need-row-count-requires
+row-count-requires c κs = search needs
 
 returns-2 : tie.Need-returns-2
 returns-2 c = let a = c .before .before .before .before .before .before .before .args in let w : Whole (a .store .now) = whole _ (c .before .before .before .before .before .before .before .pre) in
-    add-7 (a .store .now) w (a .parent) (a .child) (a .definition) (a .text .now) (c .before .before .before .before .add-document-refusal .ensures) (c .before .before .before .if1 .left) (unseen _ w (c .before .before .find-element .ensures) (c .before .number .ensures) (omega arith)) .is
+    add-7 (a .store .now) w (a .parent) (a .child) (a .definition) (a .text .now) (c .before .before .before .before .add-document-refusal .ensures) (c .before .before .before .if1 .left) (unseen _ w (c .before .before .find-element .ensures) (c .before .row-count .ensures) (omega arith)) .is
 
 has-place-requires : tie.Need-has-place-requires
-has-place-requires c κs = row-of (c .before .before .before .before .before .before .before .args .store .now) (whole _ (c .before .before .before .before .before .before .before .pre)) (c .before .before .find-element .ensures) (omega (arith, c .before .number .ensures .value))
+has-place-requires c κs = row-of (c .before .before .before .before .before .before .before .args .store .now) (whole _ (c .before .before .before .before .before .before .before .pre)) (c .before .before .find-element .ensures) (omega (arith, c .before .row-count .ensures .value))
 
 returns-3 : tie.Need-returns-3
 returns-3 c = let a = c .before .before .before .before .before .before .before .before .before .args in let w : Whole (a .store .now) = whole _ (c .before .before .before .before .before .before .before .before .before .pre) in
-    add-8 (a .store .now) w (a .parent) (a .child) (a .definition) (a .text .now) (c .before .before .before .before .before .before .add-document-refusal .ensures) (c .before .before .before .before .before .if1 .left) (seen _ w (c .before .before .before .before .find-element .ensures) (c .before .before .before .number .ensures) (omega arith)) (c .before .has-place .ensures) (c .if3 .taken) .is
+    add-8 (a .store .now) w (a .parent) (a .child) (a .definition) (a .text .now) (c .before .before .before .before .before .before .add-document-refusal .ensures) (c .before .before .before .before .before .if1 .left) (seen _ w (c .before .before .before .before .find-element .ensures) (c .before .before .before .row-count .ensures) (omega arith)) (c .before .has-place .ensures) (c .if3 .taken) .is
 
 kind-at-requires : tie.Need-kind-at-requires
-kind-at-requires c κs = row-of (c .before .before .before .before .before .before .before .before .before .args .store .now) (whole _ (c .before .before .before .before .before .before .before .before .before .pre)) (c .before .before .before .before .find-element .ensures) (omega (arith, c .before .before .before .number .ensures .value))
+kind-at-requires c κs = row-of (c .before .before .before .before .before .before .before .before .before .args .store .now) (whole _ (c .before .before .before .before .before .before .before .before .before .pre)) (c .before .before .before .before .find-element .ensures) (omega (arith, c .before .before .before .row-count .ensures .value))
 
 returns-4 : tie.Need-returns-4
 returns-4 c = let a = c .before .before .before .before .before .before .before .before .before .before .before .args in let w : Whole (a .store .now) = whole _ (c .before .before .before .before .before .before .before .before .before .before .before .pre) in
-    let e = seen _ w (c .before .before .before .before .before .before .find-element .ensures) (c .before .before .before .before .before .number .ensures) (omega arith) in
+    let e = seen _ w (c .before .before .before .before .before .before .find-element .ensures) (c .before .before .before .before .before .row-count .ensures) (omega arith) in
     add-15 (a .store .now) w (a .parent) (a .child) (a .definition) (a .text .now) (c .before .before .before .before .before .before .before .before .add-document-refusal .ensures) (c .before .before .before .before .before .before .before .if1 .left) e (c .before .before .before .has-place .ensures) (c .before .before .if3 .left)
     (other-kind _ w e (c .before .kind-at .ensures) (fitsAt (a .store .now) (c .before .before .before .before .before .before .find-element .result) (suc (a .child)) (a .definition) 0) (c .if4 .taken)) refl .is
 
@@ -48,18 +48,18 @@ add-fits-at c = search needs
 
 fits-at-requires : tie.Need-fits-at-requires
 fits-at-requires c κs = let a = c .before .before .before .before .before .before .before .before .before .before .before .args in let w : Whole (a .store .now) = whole _ (c .before .before .before .before .before .before .before .before .before .before .before .pre) in
-    (row-of _ w (c .before .before .before .before .before .before .find-element .ensures) (omega (arith, c .before .before .before .before .before .number .ensures .value)), definition-small (a .store .now) w (a .parent) (a .child) (a .definition) (a .text .now) (c .before .before .before .before .before .before .before .before .add-document-refusal .ensures) (c .before .before .before .before .before .before .before .if1 .left))
+    (row-of _ w (c .before .before .before .before .before .before .find-element .ensures) (omega (arith, c .before .before .before .before .before .row-count .ensures .value)), definition-small (a .store .now) w (a .parent) (a .child) (a .definition) (a .text .now) (c .before .before .before .before .before .before .before .before .add-document-refusal .ensures) (c .before .before .before .before .before .before .before .if1 .left))
 
 returns-5 : tie.Need-returns-5
 returns-5 c = let a = c .before .before .before .before .before .before .before .before .before .before .before .before .before .args in let w : Whole (a .store .now) = whole _ (c .before .before .before .before .before .before .before .before .before .before .before .before .before .pre) in
-    let e = seen _ w (c .before .before .before .before .before .before .before .before .find-element .ensures) (c .before .before .before .before .before .before .before .number .ensures) (omega arith) in
+    let e = seen _ w (c .before .before .before .before .before .before .before .before .find-element .ensures) (c .before .before .before .before .before .before .before .row-count .ensures) (omega arith) in
     add-15 (a .store .now) w (a .parent) (a .child) (a .definition) (a .text .now) (c .before .before .before .before .before .before .before .before .before .before .add-document-refusal .ensures) (c .before .before .before .before .before .before .before .before .before .if1 .left) e (c .before .before .before .before .before .has-place .ensures) (c .before .before .before .before .if3 .left)
     (complex-kind _ w e (c .before .before .before .kind-at .ensures) (fitsAt (a .store .now) (c .before .before .before .before .before .before .before .before .find-element .result) (suc (a .child)) (a .definition) 0) (c .before .before .if4 .left)
     (c .before .fits-at .ensures ∙ ap (λ (n : ℕ). fitsAt (a .store .now) (c .before .before .before .before .before .before .before .before .find-element .result) n (a .definition) 0) (add-one (a .child)))) (not-true _ (c .if5 .taken)) .is
 
 returns-6 : tie.Need-returns-6
 returns-6 c = let a = c .before .before .before .before .before .before .before .before .before .before .before .before .before .args in let w : Whole (a .store .now) = whole _ (c .before .before .before .before .before .before .before .before .before .before .before .before .before .pre) in
-    let e = seen _ w (c .before .before .before .before .before .before .before .before .find-element .ensures) (c .before .before .before .before .before .before .before .number .ensures) (omega arith) in
+    let e = seen _ w (c .before .before .before .before .before .before .before .before .find-element .ensures) (c .before .before .before .before .before .before .before .row-count .ensures) (omega arith) in
     add-0 (a .store .now) w (a .parent) (a .child) (a .definition) (a .text .now) (c .before .before .before .before .before .before .before .before .before .before .add-document-refusal .ensures) (c .before .before .before .before .before .before .before .before .before .if1 .left) e (c .before .before .before .before .before .has-place .ensures) (c .before .before .before .before .if3 .left)
     (complex-kind _ w e (c .before .before .before .kind-at .ensures) (fitsAt (a .store .now) (c .before .before .before .before .before .before .before .before .find-element .result) (suc (a .child)) (a .definition) 0) (c .before .before .if4 .left)
     (c .before .fits-at .ensures ∙ ap (λ (n : ℕ). fitsAt (a .store .now) (c .before .before .before .before .before .before .before .before .find-element .result) n (a .definition) 0) (add-one (a .child)))) (not-false _ (c .if5 .left)) .is
@@ -71,7 +71,7 @@ add-element-refusal-spec =
     add-document-refusal-requires
     returns
     find-element-requires
-    number-requires
+    row-count-requires
     returns-2
     has-place-requires
     returns-3

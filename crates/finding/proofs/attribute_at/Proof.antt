@@ -3,11 +3,14 @@ use borrow.Author.Needs.{needs}
 use Rattle.finding.proofs.attribute_at.Statement.{statement}
 use Rattle.finding.proofs.attribute_at.Tie as tie
 
+width-in-requires : tie.Need-width-in-requires
+width-in-requires c κs = search needs
+
 rows-of-requires : tie.Need-rows-of-requires
 rows-of-requires c κs = search needs
 
-number-requires : tie.Need-number-requires
-number-requires c κs = search needs
+row-count-requires : tie.Need-row-count-requires
+row-count-requires c κs = search needs
 
 add-indexed-serial : tie.Need-add-indexed-serial
 add-indexed-serial c = search needs
@@ -19,14 +22,15 @@ indexed-serial-requires : tie.Need-indexed-serial-requires
 indexed-serial-requires c κs = search needs
 
 returns : tie.Need-returns
-returns c = let a = c .before .before .before .before .before .args in indexed-read (a .store .now) (a .i) 2 (c .before .before .before .rows-of .ensures) (c .before .before .number .ensures .value) (c .before .depth-below .ensures) (a .attribute) (c .indexed-serial .ensures)
+returns c = let a = c .before .before .before .before .before .before .args in indexed-read (a .store .now) (a .i) 2 (c .before .before .before .before .width-in .ensures .value) (c .before .before .before .rows-of .ensures) (c .before .before .row-count .ensures .value) (c .before .depth-below .ensures) (a .attribute) (c .indexed-serial .ensures)
 
 pub attribute-at-spec : {M : Type 1} → statement M
 attribute-at-spec =
     tie.close
     (tie.spec
+    width-in-requires
     rows-of-requires
-    number-requires
+    row-count-requires
     add-indexed-serial
     depth-below-requires
     indexed-serial-requires

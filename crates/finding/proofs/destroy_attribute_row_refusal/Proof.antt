@@ -1,17 +1,9 @@
-use mathlib.Core.Path.{ap, _∙_}
-use mathlib.Core.Bool.{_&&_}
-use mathlib.Core.List.{List}
-use Prim.Native.Nat.{ℕ}
+use mathlib.Core.Path.{_∙_}
 use native.Mathlib.Omega.{arith}
-use lib.Dec.{eqb}
-use Rattle.rules.specs.Decode.{sortOf}
-use Rattle.rules.specs.Conforming.{mustBePresent}
-use Rattle.records.specs.Records.{baseWidth}
-use Rattle.rowpass.specs.Reading.{attributeIn}
 use Rattle.finding.proofs.StoreFacts.{Whole, whole, element-there}
 use Rattle.finding.proofs.RefusalLaws.{row-of}
 use Rattle.finding.proofs.ElementRefusals.{there}
-use Rattle.finding.proofs.AttributeRefusals.{drop-early, drop-7, drop-15, drop-0, both, known-of, inside}
+use Rattle.finding.proofs.AttributeRefusals.{needs-in, drop-early, drop-7, drop-15, drop-0, both, known-of, inside}
 use borrow.Author.Needs.{needs}
 use Rattle.finding.proofs.destroy_attribute_row_refusal.Statement.{statement}
 use Rattle.finding.proofs.destroy_attribute_row_refusal.Tie as tie
@@ -34,26 +26,33 @@ returns-2 c = let a = c .before .before .before .before .before .before .args in
     let z = both _ w (a .attribute) (c .before .before .before .before .attribute-refusal .ensures) (c .before .before .before .if1 .left) .1 in
     drop-7 (a .store .now) w (a .attribute) (a .element) (c .before .before .before .before .attribute-refusal .ensures) (c .before .before .before .if1 .left) (element-there _ w _ _ (c .before .before .find-element .ensures .begins) (there _ w (c .before .before .find-element .ensures) z)) (c .before .attribute-at .ensures) (c .if2 .taken) .is
 
-body-requires : tie.Need-body-requires
-body-requires c κs = search needs
+version-in-requires : tie.Need-version-in-requires
+version-in-requires c κs = search needs
+
+width-in-requires : tie.Need-width-in-requires
+width-in-requires c κs = search needs
+
+attributes-of-requires : tie.Need-attributes-of-requires
+attributes-of-requires c κs = search needs
 
 definition-at-requires : tie.Need-definition-at-requires
 definition-at-requires c κs = search needs
 
 needs-requires : tie.Need-needs-requires
-needs-requires c κs = let a = c .before .before .before .before .before .before .before .before .args in let w : Whole (a .store .now) = whole _ (c .before .before .before .before .before .before .before .before .pre) in omega (arith, w .fewAttributes, inside _ w (a .attribute) (known-of _ w (a .attribute) (c .before .before .before .before .before .before .attribute-refusal .ensures) (c .before .before .before .before .before .if1 .left)))
+needs-requires c κs = let a = c .before .before .before .before .before .before .before .before .before .before .args in let w : Whole (a .store .now) = whole _ (c .before .before .before .before .before .before .before .before .before .before .pre) in
+    (c .before .before .width-in .ensures .small, omega (arith, w .fewAttributes, inside _ w (a .attribute) (known-of _ w (a .attribute) (c .before .before .before .before .before .before .before .before .attribute-refusal .ensures) (c .before .before .before .before .before .before .before .if1 .left))))
 
 returns-3 : tie.Need-returns-3
-returns-3 c = let a = c .before .before .before .before .before .before .before .before .before .before .args in let w : Whole (a .store .now) = whole _ (c .before .before .before .before .before .before .before .before .before .before .pre) in
-    let z = both _ w (a .attribute) (c .before .before .before .before .before .before .before .before .attribute-refusal .ensures) (c .before .before .before .before .before .before .before .if1 .left) .1 in
-    drop-15 (a .store .now) w (a .attribute) (a .element) (c .before .before .before .before .before .before .before .before .attribute-refusal .ensures) (c .before .before .before .before .before .before .before .if1 .left) (element-there _ w _ _ (c .before .before .before .before .before .before .find-element .ensures .begins) (there _ w (c .before .before .before .before .before .before .find-element .ensures) z)) (c .before .before .before .before .before .attribute-at .ensures) (c .before .before .before .before .if2 .left) (c .before .before .definition-at .ensures)
-    (c .before .needs .ensures ∙ ap (λ (b : List ℕ). eqb (attributeIn baseWidth b (a .attribute) .owner) (c .before .before .definition-at .result) && mustBePresent (sortOf (attributeIn baseWidth b (a .attribute) .sort))) (c .before .before .before .body .ensures)) (c .if3 .taken) .is
+returns-3 c = let a = c .before .before .before .before .before .before .before .before .before .before .before .before .args in let w : Whole (a .store .now) = whole _ (c .before .before .before .before .before .before .before .before .before .before .before .before .pre) in
+    let z = both _ w (a .attribute) (c .before .before .before .before .before .before .before .before .before .before .attribute-refusal .ensures) (c .before .before .before .before .before .before .before .before .before .if1 .left) .1 in
+    drop-15 (a .store .now) w (a .attribute) (a .element) (c .before .before .before .before .before .before .before .before .before .before .attribute-refusal .ensures) (c .before .before .before .before .before .before .before .before .before .if1 .left) (element-there _ w _ _ (c .before .before .before .before .before .before .before .before .find-element .ensures .begins) (there _ w (c .before .before .before .before .before .before .before .before .find-element .ensures) z)) (c .before .before .before .before .before .before .before .attribute-at .ensures) (c .before .before .before .before .before .before .if2 .left) (c .before .before .definition-at .ensures)
+    (c .before .needs .ensures ∙ needs-in (a .store .now) (c .before .before .before .before .width-in .ensures .value) (c .before .before .before .attributes-of .ensures) (a .attribute) (c .before .before .before .before .before .version-in .ensures .value) (c .before .before .definition-at .result)) (c .if3 .taken) .is
 
 returns-4 : tie.Need-returns-4
-returns-4 c = let a = c .before .before .before .before .before .before .before .before .before .before .args in let w : Whole (a .store .now) = whole _ (c .before .before .before .before .before .before .before .before .before .before .pre) in
-    let z = both _ w (a .attribute) (c .before .before .before .before .before .before .before .before .attribute-refusal .ensures) (c .before .before .before .before .before .before .before .if1 .left) .1 in
-    drop-0 (a .store .now) w (a .attribute) (a .element) (c .before .before .before .before .before .before .before .before .attribute-refusal .ensures) (c .before .before .before .before .before .before .before .if1 .left) (element-there _ w _ _ (c .before .before .before .before .before .before .find-element .ensures .begins) (there _ w (c .before .before .before .before .before .before .find-element .ensures) z)) (c .before .before .before .before .before .attribute-at .ensures) (c .before .before .before .before .if2 .left) (c .before .before .definition-at .ensures)
-    (c .before .needs .ensures ∙ ap (λ (b : List ℕ). eqb (attributeIn baseWidth b (a .attribute) .owner) (c .before .before .definition-at .result) && mustBePresent (sortOf (attributeIn baseWidth b (a .attribute) .sort))) (c .before .before .before .body .ensures)) (c .if3 .left) .is
+returns-4 c = let a = c .before .before .before .before .before .before .before .before .before .before .before .before .args in let w : Whole (a .store .now) = whole _ (c .before .before .before .before .before .before .before .before .before .before .before .before .pre) in
+    let z = both _ w (a .attribute) (c .before .before .before .before .before .before .before .before .before .before .attribute-refusal .ensures) (c .before .before .before .before .before .before .before .before .before .if1 .left) .1 in
+    drop-0 (a .store .now) w (a .attribute) (a .element) (c .before .before .before .before .before .before .before .before .before .before .attribute-refusal .ensures) (c .before .before .before .before .before .before .before .before .before .if1 .left) (element-there _ w _ _ (c .before .before .before .before .before .before .before .before .find-element .ensures .begins) (there _ w (c .before .before .before .before .before .before .before .before .find-element .ensures) z)) (c .before .before .before .before .before .before .before .attribute-at .ensures) (c .before .before .before .before .before .before .if2 .left) (c .before .before .definition-at .ensures)
+    (c .before .needs .ensures ∙ needs-in (a .store .now) (c .before .before .before .before .width-in .ensures .value) (c .before .before .before .attributes-of .ensures) (a .attribute) (c .before .before .before .before .before .version-in .ensures .value) (c .before .before .definition-at .result)) (c .if3 .left) .is
 
 pub destroy-attribute-row-refusal-spec : {M : Type 1} → statement M
 destroy-attribute-row-refusal-spec =
@@ -64,7 +63,9 @@ destroy-attribute-row-refusal-spec =
     find-element-requires
     attribute-at-requires
     returns-2
-    body-requires
+    version-in-requires
+    width-in-requires
+    attributes-of-requires
     definition-at-requires
     needs-requires
     returns-3

@@ -10,24 +10,24 @@ use Rattle.finding.proofs.element_at.Statement.{statement}
 use Rattle.finding.proofs.element_at.Tie as tie
 
 abbrev Inv-loop : tie.InvT-loop
-Inv-loop rows count element i₀ i = Seeking (isThis element) rows count i
+Inv-loop w rows count element i₀ i = Seeking w (isThis element) rows count i
 
 abbrev μ-loop : tie.MeasureT-loop
-μ-loop rows count element i₀ i = count - i
+μ-loop w rows count element i₀ i = count - i
 
 loop-holds : tie.Need-loop-holds Inv-loop μ-loop
 loop-holds c = seek-start
 
-row-requires : tie.Need-row-requires Inv-loop μ-loop
-row-requires c κs = search needs
+row-at-requires : tie.Need-row-at-requires Inv-loop μ-loop
+row-at-requires c κs = search needs
 
 is-element-requires : tie.Need-is-element-requires Inv-loop μ-loop
 is-element-requires c κs = search needs
 
 returns : tie.Need-returns Inv-loop μ-loop
 returns c = let l = c .before .before .before .before in let a = l .before .before .args in
-    seek-hit (isThis (a .element)) (a .rows .now) (a .count) (l .loop .i) (l .loop .inv) (omega arith)
-    (sym (c .before .is-element .ensures ∙ ap (λ (b : List ℕ). elementRow (a .element) (readRow b .row)) (c .before .before .row .ensures)) ∙ c .if1 .taken)
+    seek-hit (a .w) (isThis (a .element)) (a .rows .now) (a .count) (l .loop .i) (l .loop .inv) (omega arith)
+    (sym (c .before .is-element .ensures ∙ ap (λ (b : List ℕ). elementRow (a .element) (readRow b .row)) (c .before .before .row-at .ensures)) ∙ c .if1 .taken)
 
 add-i : tie.Need-add-i Inv-loop μ-loop
 add-i c = search needs
@@ -37,11 +37,11 @@ loop-less c = search needs
 
 loop-again : tie.Need-loop-again Inv-loop μ-loop
 loop-again c = let l = c .before .before .before .before in let a = l .before .before .args in
-    seek-past (isThis (a .element)) (a .rows .now) (a .count) (l .loop .i) (l .loop .inv) (omega arith)
-    (sym (c .before .is-element .ensures ∙ ap (λ (b : List ℕ). elementRow (a .element) (readRow b .row)) (c .before .before .row .ensures)) ∙ c .if1 .left)
+    seek-past (a .w) (isThis (a .element)) (a .rows .now) (a .count) (l .loop .i) (l .loop .inv) (omega arith)
+    (sym (c .before .is-element .ensures ∙ ap (λ (b : List ℕ). elementRow (a .element) (readRow b .row)) (c .before .before .row-at .ensures)) ∙ c .if1 .left)
 
 returns-2 : tie.Need-returns-2 Inv-loop μ-loop
-returns-2 c = seek-none _ _ _ _ (c .before .loop .inv) (omega arith)
+returns-2 c = seek-none _ _ _ _ _ (c .before .loop .inv) (omega arith)
 
 pub element-at-spec : {M : Type 1} → statement M
 element-at-spec =
@@ -50,7 +50,7 @@ element-at-spec =
     Inv-loop
     μ-loop
     loop-holds
-    row-requires
+    row-at-requires
     is-element-requires
     returns
     add-i

@@ -6,14 +6,14 @@ use borrow.Author.Needs.{needs}
 use Rattle.finding.proofs.is_element.Statement.{statement}
 use Rattle.finding.proofs.is_element.Tie as tie
 
-byte-requires : tie.Need-byte-requires
-byte-requires c κs = search needs
+row-sort-requires : tie.Need-row-sort-requires
+row-sort-requires c κs = search needs
 
-get-u32-requires : tie.Need-get-u32-requires
-get-u32-requires c κs = search needs
+row-serial-requires : tie.Need-row-serial-requires
+row-serial-requires c κs = search needs
 
 returns : tie.Need-returns
-returns c = ap₂ (λ (a b : ℕ). eqb a 1 && eqb b (c .before .before .before .args .element)) (c .before .byte .ensures) (c .get-u32 .ensures)
+returns c = ap₂ (λ (a b : ℕ). eqb a 1 && eqb b (c .before .before .before .args .element)) (c .before .row-sort .ensures) (c .row-serial .ensures)
 
 pub is-element-spec : {M : Type 1} → statement M
-is-element-spec = tie.close (tie.spec byte-requires get-u32-requires returns)
+is-element-spec = tie.close (tie.spec row-sort-requires row-serial-requires returns)

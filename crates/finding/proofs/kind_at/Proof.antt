@@ -6,8 +6,8 @@ use borrow.Author.Needs.{needs}
 use Rattle.finding.proofs.kind_at.Statement.{statement}
 use Rattle.finding.proofs.kind_at.Tie as tie
 
-body-requires : tie.Need-body-requires
-body-requires c κs = search needs
+definitions-of-requires : tie.Need-definitions-of-requires
+definitions-of-requires c κs = search needs
 
 definition-at-requires : tie.Need-definition-at-requires
 definition-at-requires c κs = search needs
@@ -16,7 +16,7 @@ kind-of-requires : tie.Need-kind-of-requires
 kind-of-requires c κs = search needs
 
 returns : tie.Need-returns
-returns c = c .kind-of .ensures ∙ ap₂ (λ (b : List ℕ) (n : ℕ). definitionIn b n .kind) (c .before .before .body .ensures) (c .before .definition-at .ensures)
+returns c = c .kind-of .ensures ∙ ap₂ (λ (b : List ℕ) (n : ℕ). definitionIn b n .kind) (c .before .before .definitions-of .ensures) (c .before .definition-at .ensures)
 
 pub kind-at-spec : {M : Type 1} → statement M
-kind-at-spec = tie.close (tie.spec body-requires definition-at-requires kind-of-requires returns)
+kind-at-spec = tie.close (tie.spec definitions-of-requires definition-at-requires kind-of-requires returns)

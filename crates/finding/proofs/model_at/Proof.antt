@@ -5,11 +5,11 @@ use borrow.Author.Needs.{needs}
 use Rattle.finding.proofs.model_at.Statement.{statement}
 use Rattle.finding.proofs.model_at.Tie as tie
 
-body-requires : tie.Need-body-requires
-body-requires c κs = search needs
+definitions-of-requires : tie.Need-definitions-of-requires
+definitions-of-requires c κs = search needs
 
-body-requires-2 : tie.Need-body-requires-2
-body-requires-2 c κs = search needs
+particles-of-requires : tie.Need-particles-of-requires
+particles-of-requires c κs = search needs
 
 definition-at-requires : tie.Need-definition-at-requires
 definition-at-requires c κs = search needs
@@ -18,9 +18,9 @@ model-part-requires : tie.Need-model-part-requires
 model-part-requires c κs = search needs
 
 returns : tie.Need-returns
-returns c = ap membersOf (c .model-part .ensures ∙ (λ i. modelPart (c .before .before .before .body .ensures i) (c .before .before .body2 .ensures i) (c .before .definition-at .ensures i)))
+returns c = ap membersOf (c .model-part .ensures ∙ (λ i. modelPart (c .before .before .before .definitions-of .ensures i) (c .before .before .particles-of .ensures i) (c .before .definition-at .ensures i)))
 
 pub model-at-spec : {M : Type 1} → statement M
 model-at-spec =
     tie.close
-    (tie.spec body-requires body-requires-2 definition-at-requires model-part-requires returns)
+    (tie.spec definitions-of-requires particles-of-requires definition-at-requires model-part-requires returns)

@@ -3,7 +3,7 @@ use mathlib.Core.Path.{sym, ap, _∙_}
 use mathlib.Core.List.{List}
 use Prim.Native.Nat.{ℕ, _+_, _-_}
 use native.Mathlib.Omega.{arith}
-use Rattle.rules.specs.Decode.{numberAt}
+use Rattle.rules.specs.Decode.{readRow}
 use Rattle.finding.specs.Finding.{rowsFrom, children}
 use Rattle.finding.proofs.SuffixLaws.{rowAt, Looking, look-start, look-here, look-past, look-none}
 use Rattle.finding.proofs.SerialLaws.{nth, nth-nil, nth-next, nth-this}
@@ -11,10 +11,10 @@ use Rattle.finding.proofs.nth_serial.Statement.{statement}
 use Rattle.finding.proofs.nth_serial.Tie as tie
 
 abbrev Inv-loop : tie.InvT-loop
-Inv-loop rows count start depth sort n i₀ left₀ i left = Looking sort depth rows count (nth left) (nth n (children sort depth (rowsFrom rows count start))) i
+Inv-loop w rows count start depth sort n i₀ left₀ i left = Looking w sort depth rows count (nth left) (nth n (children sort depth (rowsFrom w rows count start))) i
 
 abbrev μ-loop : tie.MeasureT-loop
-μ-loop rows count start depth sort n i₀ left₀ i left = left
+μ-loop w rows count start depth sort n i₀ left₀ i left = left
 
 next-child-requires : tie.Need-next-child-requires Inv-loop μ-loop
 next-child-requires c κs = search needs
@@ -24,7 +24,7 @@ loop-holds c = look-start (c .next-child .ensures)
 
 returns : tie.Need-returns Inv-loop μ-loop
 returns c = let l = c .before .before in let a = l .before .before .before .args in
-    sym (nth-nil (l .loop .left)) ∙ look-none (a .sort) (a .depth) (a .rows .now) (a .count) (nth (l .loop .left)) _ (l .loop .i) (l .loop .inv) (omega arith)
+    sym (nth-nil (l .loop .left)) ∙ look-none (a .w) (a .sort) (a .depth) (a .rows .now) (a .count) (nth (l .loop .left)) _ (l .loop .i) (l .loop .inv) (omega arith)
 
 add-next-child : tie.Need-add-next-child Inv-loop μ-loop
 add-next-child c = search needs
@@ -40,22 +40,22 @@ loop-less c = search needs
 
 loop-again : tie.Need-loop-again Inv-loop μ-loop
 loop-again c = let l = c .before .before .before in let a = l .before .before .before .args in
-    look-past (a .sort) (a .depth) (a .rows .now) (a .count) (nth (l .loop .left)) _ (l .loop .i) (l .loop .inv) (nth (l .loop .left - 1)) (omega arith) (nth-next (l .loop .left) (rowAt (a .rows .now) (l .loop .i) .row) (children (a .sort) (a .depth) (rowsFrom (a .rows .now) (a .count) (l .loop .i + 1))) (omega arith)) (c .next-child2 .ensures)
+    look-past (a .w) (a .sort) (a .depth) (a .rows .now) (a .count) (nth (l .loop .left)) _ (l .loop .i) (l .loop .inv) (nth (l .loop .left - 1)) (omega arith) (nth-next (l .loop .left) (rowAt (a .w) (a .rows .now) (l .loop .i) .row) (children (a .sort) (a .depth) (rowsFrom (a .w) (a .rows .now) (a .count) (l .loop .i + 1))) (omega arith)) (c .next-child2 .ensures)
 
 returns-2 : tie.Need-returns-2 Inv-loop μ-loop
 returns-2 c = let l = c .before .before in let a = l .before .before .before .args in
-    sym (nth-nil (l .loop .left)) ∙ look-none (a .sort) (a .depth) (a .rows .now) (a .count) (nth (l .loop .left)) _ (l .loop .i) (l .loop .inv) (omega arith)
+    sym (nth-nil (l .loop .left)) ∙ look-none (a .w) (a .sort) (a .depth) (a .rows .now) (a .count) (nth (l .loop .left)) _ (l .loop .i) (l .loop .inv) (omega arith)
 
-row-requires : tie.Need-row-requires Inv-loop μ-loop
-row-requires c κs = search needs
+row-at-requires : tie.Need-row-at-requires Inv-loop μ-loop
+row-at-requires c κs = search needs
 
-get-u32-requires : tie.Need-get-u32-requires Inv-loop μ-loop
-get-u32-requires c κs = search needs
+row-serial-requires : tie.Need-row-serial-requires Inv-loop μ-loop
+row-serial-requires c κs = search needs
 
 returns-3 : tie.Need-returns-3 Inv-loop μ-loop
 returns-3 c = let l = c .before .before .before .before in let a = l .before .before .before .args in
-    c .get-u32 .ensures ∙ ap (λ (b : List ℕ). numberAt 4 4 b) (c .before .row .ensures) ∙ sym (nth-this (l .loop .left) (rowAt (a .rows .now) (l .loop .i) .row) (children (a .sort) (a .depth) (rowsFrom (a .rows .now) (a .count) (l .loop .i + 1))) (omega arith))
-    ∙ look-here (a .sort) (a .depth) (a .rows .now) (a .count) (nth (l .loop .left)) _ (l .loop .i) (l .loop .inv) (omega arith)
+    c .row-serial .ensures ∙ ap (λ (b : List ℕ). readRow b .row .serial) (c .before .row-at .ensures) ∙ sym (nth-this (l .loop .left) (rowAt (a .w) (a .rows .now) (l .loop .i) .row) (children (a .sort) (a .depth) (rowsFrom (a .w) (a .rows .now) (a .count) (l .loop .i + 1))) (omega arith))
+    ∙ look-here (a .w) (a .sort) (a .depth) (a .rows .now) (a .count) (nth (l .loop .left)) _ (l .loop .i) (l .loop .inv) (omega arith)
 
 pub nth-serial-spec : {M : Type 1} → statement M
 nth-serial-spec =
@@ -72,6 +72,6 @@ nth-serial-spec =
     loop-less
     loop-again
     returns-2
-    row-requires
-    get-u32-requires
+    row-at-requires
+    row-serial-requires
     returns-3)

@@ -1,6 +1,7 @@
 -- `models::convert_to_group` meets its contract.
 -- Assumes nothing.
-use mathlib.Core.Path.{refl, sym, ap, _∙_}
+use Rattle.finding.proofs.StoreFacts.{no-value}
+use mathlib.Core.Path.{sym, ap, _∙_}
 use Prim.Native.Nat.{ℕ}
 use lib.ListN.{length}
 use borrow.Author.Tests.{not-true, not-false}
@@ -68,7 +69,7 @@ slice-aggregate-edit-model : tie.Need-slice-aggregate-edit-model
 slice-aggregate-edit-model c = search needs
 
 edit-model-requires : tie.Need-edit-model-requires
-edit-model-requires c κs = (asks (convert-fits (c .before .before .before .before .before .before .before .before .before .before .before .before .before .before .before .before .args .store .now) (sym (c .before .before .before .before .before .before .before .before .before .before .before .before .passes .ensures) ∙ not-false _ (c .before .before .before .before .before .before .before .before .before .before .before .if1 .left)) (c .before .before .before .before .before .before .before .before .before .before .before .before .before .before .before .before .args .owner) (c .before .before .before .before .before .before .before .before .before .before .before .before .before .before .before .before .args .place .now) (c .before .before .before .before .before .before .before .before .before .before .before .before .before .before .before .before .args .count) (c .before .before .before .before .before .before .before .before .before .before .before .before .before .before .before .before .args .sort) (sym (c .before .before .before .before .before .before .before .before .before .before .convert-to-group-refusal .ensures) ∙ c .before .before .before .before .before .before .before .before .before .if2 .left)) (Convert (c .before .before .before .before .before .before .before .before .group-kind .result) (c .before .before .before .before .before .before .before .before .before .before .before .before .before .before .before .before .args .count)) (ap (λ (z : GroupKind). convert z (c .before .before .before .before .before .before .before .before .before .before .before .before .before .before .before .before .args .count)) (c .before .before .before .before .before .before .before .before .group-kind .ensures)) (c .before .before .before .before .before .before .before .own-part .ensures) (c .before .before .before .before .before .before .find .ensures) _ _ (c .before .before .before .found .given .1), refl, keeping-sized (c .before .before .before .before .before .setting-plan .ensures))
+edit-model-requires c κs = (asks (convert-fits (c .before .before .before .before .before .before .before .before .before .before .before .before .before .before .before .before .args .store .now) (sym (c .before .before .before .before .before .before .before .before .before .before .before .before .passes .ensures) ∙ not-false _ (c .before .before .before .before .before .before .before .before .before .before .before .if1 .left)) (c .before .before .before .before .before .before .before .before .before .before .before .before .before .before .before .before .args .owner) (c .before .before .before .before .before .before .before .before .before .before .before .before .before .before .before .before .args .place .now) (c .before .before .before .before .before .before .before .before .before .before .before .before .before .before .before .before .args .count) (c .before .before .before .before .before .before .before .before .before .before .before .before .before .before .before .before .args .sort) (sym (c .before .before .before .before .before .before .before .before .before .before .convert-to-group-refusal .ensures) ∙ c .before .before .before .before .before .before .before .before .before .if2 .left)) (Convert (c .before .before .before .before .before .before .before .before .group-kind .result) (c .before .before .before .before .before .before .before .before .before .before .before .before .before .before .before .before .args .count)) (ap (λ (z : GroupKind). convert z (c .before .before .before .before .before .before .before .before .before .before .before .before .before .before .before .before .args .count)) (c .before .before .before .before .before .before .before .before .group-kind .ensures)) (c .before .before .before .before .before .before .before .own-part .ensures) (c .before .before .before .before .before .before .find .ensures) _ _ (c .before .before .before .found .given .1), no-value (c .before .before .before .before .before .before .before .before .before .before .before .before .before .before .before .before .args .store .now), keeping-sized (c .before .before .before .before .before .setting-plan .ensures))
 
 returns-3 : tie.Need-returns-3
 returns-3 c = absurd (not-absent (convert-fits (c .before .before .before .before .before .before .before .before .before .before .before .before .before .before .args .store .now) (sym (c .before .before .before .before .before .before .before .before .before .before .passes .ensures) ∙ not-false _ (c .before .before .before .before .before .before .before .before .before .if1 .left)) (c .before .before .before .before .before .before .before .before .before .before .before .before .before .before .args .owner) (c .before .before .before .before .before .before .before .before .before .before .before .before .before .before .args .place .now) (c .before .before .before .before .before .before .before .before .before .before .before .before .before .before .args .count) (c .before .before .before .before .before .before .before .before .before .before .before .before .before .before .args .sort) (sym (c .before .before .before .before .before .before .before .before .convert-to-group-refusal .ensures) ∙ c .before .before .before .before .before .before .before .if2 .left)) (Convert (c .before .before .before .before .before .before .group-kind .result) (c .before .before .before .before .before .before .before .before .before .before .before .before .before .before .args .count)) (ap (λ (z : GroupKind). convert z (c .before .before .before .before .before .before .before .before .before .before .before .before .before .before .args .count)) (c .before .before .before .before .before .before .group-kind .ensures)) (c .before .before .before .before .before .own-part .ensures) (c .before .before .before .before .find .ensures) (c .before .enum-told .given .1))

@@ -11,12 +11,6 @@ use Rattle.models.proofs.FormWriting.{owner-low, own-low, as-many, form
 use borrow.Author.Needs.{needs}
 use Rattle.models.proofs.edit_model.Statement.{statement}
 use Rattle.models.proofs.edit_model.Tie as tie
-use Rattle.models.proofs.all_after.Reads as all-after-reads
-use Rattle.models.proofs.keeps_within.Reads as keeps-within-reads
-use Rattle.models.proofs.put_edited.Reads as put-edited-reads
-use Rattle.storing.proofs.refused.Reads as refused-reads
-use Rattle.storing.proofs.edit_form.Reads as edit-form-reads
-use Rattle.validity.proofs.number.Reads as number-reads
 
 all-after-requires : tie.Need-all-after-requires
 all-after-requires c κs = (owner-low (c .before .before .before .pre .0), own-low (c .before .before .before .pre .0))
@@ -30,11 +24,11 @@ refused-requires c κs = search needs
 returns : tie.Need-returns
 returns c = answers-as (c .refused .ensures .0) (c .refused .ensures .1) (form-ceiling _ (sym (c .before .before .keeps-within .ensures) ∙ not-true _ (c .before .if1 .taken)) (c .before .before .before .before .before .before .before .args .plan) (c .before .before .before .before .before .before .before .args .text .now) (bodiesOf (c .before .before .before .before .before .before .before .args .store .now)) (length (c .before .before .before .before .before .before .before .args .out .now)))
 
-number-requires : tie.Need-number-requires
-number-requires c κs = search needs
+definition-count-requires : tie.Need-definition-count-requires
+definition-count-requires c κs = search needs
 
-number-requires-2 : tie.Need-number-requires-2
-number-requires-2 c κs = search needs
+attribute-count-requires : tie.Need-attribute-count-requires
+attribute-count-requires c κs = search needs
 
 slice-aggregate-put-edited : tie.Need-slice-aggregate-put-edited
 slice-aggregate-put-edited c = search needs
@@ -43,19 +37,19 @@ put-edited-requires : tie.Need-put-edited-requires
 put-edited-requires c κs = (c .before .before .before .before .before .before .before .before .before .pre .0, sym (c .before .before .before .before .keeps-within .ensures) ∙ not-false _ (c .before .before .before .if1 .left))
 
 array-share-prefix-form : tie.Need-array-share-prefix-form
-array-share-prefix-form c = (stored (c .before .put-edited .ensures) (length-replicate {A = ℕ} 5632 0) (form-short (c .before .before .before .before .before .before .before .before .before .before .before .pre .0) (sym (c .before .before .before .before .before .before .keeps-within .ensures) ∙ not-false _ (c .before .before .before .before .before .if1 .left)))) .inside
+array-share-prefix-form c = (stored (c .before .put-edited .ensures) (length-replicate {A = ℕ} 9728 0) (form-short (c .before .before .before .before .before .before .before .before .before .before .before .pre .0) (sym (c .before .before .before .before .before .before .keeps-within .ensures) ∙ not-false _ (c .before .before .before .before .before .if1 .left)))) .inside
 
 slice-aggregate-edit-form : tie.Need-slice-aggregate-edit-form
-slice-aggregate-edit-form c = (stored (c .before .before .put-edited .ensures) (length-replicate {A = ℕ} 5632 0) (form-short (c .before .before .before .before .before .before .before .before .before .before .before .before .pre .0) (sym (c .before .before .before .before .before .before .before .keeps-within .ensures) ∙ not-false _ (c .before .before .before .before .before .before .if1 .left)))) .count
+slice-aggregate-edit-form c = (stored (c .before .before .put-edited .ensures) (length-replicate {A = ℕ} 9728 0) (form-short (c .before .before .before .before .before .before .before .before .before .before .before .before .pre .0) (sym (c .before .before .before .before .before .before .before .keeps-within .ensures) ∙ not-false _ (c .before .before .before .before .before .before .if1 .left)))) .count
 
 edit-form-requires : tie.Need-edit-form-requires
-edit-form-requires c κs = (c .before .before .before .before .before .before .before .before .before .before .before .before .before .pre .0 .good, c .before .before .before .before .before .before .before .before .before .before .before .before .before .pre .1, c .before .before .before .before .before .before .before .before .before .before .before .before .before .pre .2, forms-of (form-of (c .before .before .before .before .before .before .before .before .before .before .before .before .before .pre .0) (sym (c .before .before .before .before .before .before .before .before .keeps-within .ensures) ∙ not-false _ (c .before .before .before .before .before .before .before .if1 .left)) (c .before .before .before .before .before .before .number .ensures) (as-many (c .before .before .before .before .before .before .before .before .before .before .before .before .before .pre .0) (c .before .before .before .before .before .before .before .before .before .all-after .ensures)) (c .before .before .before .before .before .number2 .ensures) ((stored (c .before .before .before .put-edited .ensures) (length-replicate {A = ℕ} 5632 0) (form-short (c .before .before .before .before .before .before .before .before .before .before .before .before .before .pre .0) (sym (c .before .before .before .before .before .before .before .before .keeps-within .ensures) ∙ not-false _ (c .before .before .before .before .before .before .before .if1 .left)))) .is)))
+edit-form-requires c κs = (c .before .before .before .before .before .before .before .before .before .before .before .before .before .pre .0 .good, c .before .before .before .before .before .before .before .before .before .before .before .before .before .pre .1, c .before .before .before .before .before .before .before .before .before .before .before .before .before .pre .2, forms-of (form-of (c .before .before .before .before .before .before .before .before .before .before .before .before .before .pre .0) (sym (c .before .before .before .before .before .before .before .before .keeps-within .ensures) ∙ not-false _ (c .before .before .before .before .before .before .before .if1 .left)) (c .before .before .before .before .before .before .definition-count .ensures) (as-many (c .before .before .before .before .before .before .before .before .before .before .before .before .before .pre .0) (c .before .before .before .before .before .before .before .before .before .all-after .ensures)) (c .before .before .before .before .before .attribute-count .ensures) ((stored (c .before .before .before .put-edited .ensures) (length-replicate {A = ℕ} 9728 0) (form-short (c .before .before .before .before .before .before .before .before .before .before .before .before .before .pre .0) (sym (c .before .before .before .before .before .before .before .before .keeps-within .ensures) ∙ not-false _ (c .before .before .before .before .before .before .before .if1 .left)))) .is)))
 
 same-length : tie.Need-same-length
 same-length c = search needs
 
 returns-2 : tie.Need-returns-2
-returns-2 c = form-answers (form-of (c .before .before .before .before .before .before .before .before .before .before .before .before .before .before .before .before .pre .0) (sym (c .before .before .before .before .before .before .before .before .before .before .before .keeps-within .ensures) ∙ not-false _ (c .before .before .before .before .before .before .before .before .before .before .if1 .left)) (c .before .before .before .before .before .before .before .before .before .number .ensures) (as-many (c .before .before .before .before .before .before .before .before .before .before .before .before .before .before .before .before .pre .0) (c .before .before .before .before .before .before .before .before .before .before .before .before .all-after .ensures)) (c .before .before .before .before .before .before .before .before .number2 .ensures) ((stored (c .before .before .before .before .before .before .put-edited .ensures) (length-replicate {A = ℕ} 5632 0) (form-short (c .before .before .before .before .before .before .before .before .before .before .before .before .before .before .before .before .pre .0) (sym (c .before .before .before .before .before .before .before .before .before .before .before .keeps-within .ensures) ∙ not-false _ (c .before .before .before .before .before .before .before .before .before .before .if1 .left)))) .is)) (c .before .before .before .before .before .before .before .before .before .before .before .before .before .before .before .before .args .plan) (c .before .before .before .before .before .before .before .before .before .before .before .before .before .before .before .before .args .text .now) (bodiesOf (c .before .before .before .before .before .before .before .before .before .before .before .before .before .before .before .before .args .store .now)) (length (c .before .before .before .before .before .before .before .before .before .before .before .before .before .before .before .before .args .out .now)) (c .before .before .edit-form .ensures)
+returns-2 c = form-answers (form-of (c .before .before .before .before .before .before .before .before .before .before .before .before .before .before .before .before .pre .0) (sym (c .before .before .before .before .before .before .before .before .before .before .before .keeps-within .ensures) ∙ not-false _ (c .before .before .before .before .before .before .before .before .before .before .if1 .left)) (c .before .before .before .before .before .before .before .before .before .definition-count .ensures) (as-many (c .before .before .before .before .before .before .before .before .before .before .before .before .before .before .before .before .pre .0) (c .before .before .before .before .before .before .before .before .before .before .before .before .all-after .ensures)) (c .before .before .before .before .before .before .before .before .attribute-count .ensures) ((stored (c .before .before .before .before .before .before .put-edited .ensures) (length-replicate {A = ℕ} 9728 0) (form-short (c .before .before .before .before .before .before .before .before .before .before .before .before .before .before .before .before .pre .0) (sym (c .before .before .before .before .before .before .before .before .before .before .before .keeps-within .ensures) ∙ not-false _ (c .before .before .before .before .before .before .before .before .before .before .if1 .left)))) .is)) (c .before .before .before .before .before .before .before .before .before .before .before .before .before .before .before .before .args .plan) (c .before .before .before .before .before .before .before .before .before .before .before .before .before .before .before .before .args .text .now) (bodiesOf (c .before .before .before .before .before .before .before .before .before .before .before .before .before .before .before .before .args .store .now)) (length (c .before .before .before .before .before .before .before .before .before .before .before .before .before .before .before .before .args .out .now)) (c .before .before .edit-form .ensures)
 
 pub edit-model-spec : {M : Type 1} → statement M
 edit-model-spec =
@@ -65,8 +59,8 @@ edit-model-spec =
     keeps-within-requires
     refused-requires
     returns
-    number-requires
-    number-requires-2
+    definition-count-requires
+    attribute-count-requires
     slice-aggregate-put-edited
     put-edited-requires
     array-share-prefix-form

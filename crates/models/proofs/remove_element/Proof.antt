@@ -1,5 +1,6 @@
 -- `models::remove_element` meets its contract.
 -- Assumes nothing.
+use Rattle.finding.proofs.StoreFacts.{no-value}
 use mathlib.Core.Path.{refl, sym, _∙_}
 use lib.ListN.{length}
 use borrow.Author.Tests.{not-true, not-false}
@@ -60,7 +61,7 @@ slice-aggregate-edit-model : tie.Need-slice-aggregate-edit-model
 slice-aggregate-edit-model c = search needs
 
 edit-model-requires : tie.Need-edit-model-requires
-edit-model-requires c κs = (asks ((remove-fits (c .before .before .before .before .before .before .before .before .before .before .before .before .before .before .before .args .store .now) (sym (c .before .before .before .before .before .before .before .before .before .before .before .passes .ensures) ∙ not-false _ (c .before .before .before .before .before .before .before .before .before .before .if1 .left)) (c .before .before .before .before .before .before .before .before .before .before .before .before .before .before .before .args .owner) (c .before .before .before .before .before .before .before .before .before .before .before .before .before .before .before .args .place .now) (sym (c .before .before .before .before .before .before .before .before .before .remove-element-refusal .ensures) ∙ c .before .before .before .before .before .before .before .before .if2 .left)) .fits) Remove refl (c .before .before .before .before .before .before .before .own-part .ensures) (c .before .before .before .before .before .before .find .ensures) _ _ (c .before .before .before .before .found .given .1), refl, removing-sized _ _ (c .before .before .removing-plan .ensures))
+edit-model-requires c κs = (asks ((remove-fits (c .before .before .before .before .before .before .before .before .before .before .before .before .before .before .before .args .store .now) (sym (c .before .before .before .before .before .before .before .before .before .before .before .passes .ensures) ∙ not-false _ (c .before .before .before .before .before .before .before .before .before .before .if1 .left)) (c .before .before .before .before .before .before .before .before .before .before .before .before .before .before .before .args .owner) (c .before .before .before .before .before .before .before .before .before .before .before .before .before .before .before .args .place .now) (sym (c .before .before .before .before .before .before .before .before .before .remove-element-refusal .ensures) ∙ c .before .before .before .before .before .before .before .before .if2 .left)) .fits) Remove refl (c .before .before .before .before .before .before .before .own-part .ensures) (c .before .before .before .before .before .before .find .ensures) _ _ (c .before .before .before .before .found .given .1), no-value (c .before .before .before .before .before .before .before .before .before .before .before .before .before .before .before .args .store .now), removing-sized _ _ (c .before .before .removing-plan .ensures))
 
 returns-3 : tie.Need-returns-3
 returns-3 c = absurd (not-absent ((remove-fits (c .before .before .before .before .before .before .before .before .before .before .before .before .args .store .now) (sym (c .before .before .before .before .before .before .before .before .passes .ensures) ∙ not-false _ (c .before .before .before .before .before .before .before .if1 .left)) (c .before .before .before .before .before .before .before .before .before .before .before .before .args .owner) (c .before .before .before .before .before .before .before .before .before .before .before .before .args .place .now) (sym (c .before .before .before .before .before .before .remove-element-refusal .ensures) ∙ c .before .before .before .before .before .if2 .left)) .fits) Remove refl (c .before .before .before .before .own-part .ensures) (c .before .before .before .find .ensures) (c .before .enum-told .given .1))

@@ -1,17 +1,19 @@
 -- `models::removing_plan` meets its contract.
--- Assumes nothing.
+use mathlib.Core.Path.{ap, _∙_}
+use mathlib.Core.List.{List}
+use lib.ListN.{getD}
+use Prim.Native.Nat.{ℕ, _*_}
+use Rattle.layout.proofs.LayoutLaws.{get-after}
+use Rattle.plans.specs.ModelCalls.{removeElementPlan}
 use borrow.Author.Needs.{needs}
 use Rattle.models.proofs.removing_plan.Statement.{statement}
 use Rattle.models.proofs.removing_plan.Tie as tie
 
-mul-byte : tie.Need-mul-byte
-mul-byte c = search needs
+particles-from-requires : tie.Need-particles-from-requires
+particles-from-requires c κs = search needs
 
-add-byte : tie.Need-add-byte
-add-byte c = search needs
-
-byte-requires : tie.Need-byte-requires
-byte-requires c κs = search needs
+particle-index-requires : tie.Need-particle-index-requires
+particle-index-requires c κs = search needs
 
 cast-index : tie.Need-cast-index
 cast-index c = search needs
@@ -20,8 +22,14 @@ taking-plan-requires : tie.Need-taking-plan-requires
 taking-plan-requires c κs = search needs
 
 returns : tie.Need-returns
-returns c = rw (c .taking-plan .ensures, c .before .byte .ensures)
+returns c = let a = c .before .before .before .before .args in c .taking-plan .ensures ∙ ap (λ (i : ℕ). removeElementPlan (a .owner) i) (c .before .particle-index .ensures ∙ ap (λ (s : List ℕ). getD s 2 0) (c .before .before .particles-from .ensures) ∙ get-after (4 * a .p) 2 (a .part .now))
 
 pub removing-plan-spec : {M : Type 1} → statement M
 removing-plan-spec =
-    tie.close (tie.spec mul-byte add-byte byte-requires cast-index taking-plan-requires returns)
+    tie.close
+    (tie.spec
+    particles-from-requires
+    particle-index-requires
+    cast-index
+    taking-plan-requires
+    returns)

@@ -9,14 +9,14 @@ use Rattle.placing.proofs.convert_to_group_refusal.Tie as tie
 returns : tie.Need-returns
 returns c = let a = c .before .before .before .args in convert-4 (a .store .now) (c .before .before .before .pre) (a .owner) (a .place .now) (a .count) (a .sort) (c .if1 .taken) .is
 
-number-requires : tie.Need-number-requires
-number-requires c κs = search needs
+definition-count-requires : tie.Need-definition-count-requires
+definition-count-requires c κs = search needs
 
 returns-2 : tie.Need-returns-2
-returns-2 c = let a = c .before .before .before .before .before .args in convert-6 (a .store .now) (c .before .before .before .before .before .pre) (a .owner) (a .place .now) (a .count) (a .sort) (c .before .before .if1 .left) (past-definitions _ (whole _ (c .before .before .before .before .before .pre)) (c .before .number .ensures) (a .owner) (omega arith)) .is
+returns-2 c = let a = c .before .before .before .before .before .args in convert-6 (a .store .now) (c .before .before .before .before .before .pre) (a .owner) (a .place .now) (a .count) (a .sort) (c .before .before .if1 .left) (past-definitions _ (whole _ (c .before .before .before .before .before .pre)) (c .before .definition-count .ensures) (a .owner) (omega arith)) .is
 
 own-part-requires : tie.Need-own-part-requires
-own-part-requires c κs = let a = c .before .before .before .before .before .args in omega (arith, whole (a .store .now) (c .before .before .before .before .before .pre) .fewDefinitions, c .before .number .ensures .value)
+own-part-requires c κs = let a = c .before .before .before .before .before .args in omega (arith, whole (a .store .now) (c .before .before .before .before .before .pre) .fewDefinitions, c .before .definition-count .ensures .value)
 
 group-kind-requires : tie.Need-group-kind-requires
 group-kind-requires c κs = search needs
@@ -31,20 +31,20 @@ enum-known-found : tie.Need-enum-known-found
 enum-known-found c = search needs
 
 convert-at-requires : tie.Need-convert-at-requires
-convert-at-requires c κs = let a = c .before .before .before .before .before .before .before .before .before .before .before .args in convert-inside (a .store .now) (c .before .before .before .before .before .before .before .before .before .before .before .pre) (a .owner) (a .place .now) (a .count) (a .sort) (c .before .before .before .before .before .before .before .before .if1 .left) (within-definitions _ (whole _ (c .before .before .before .before .before .before .before .before .before .before .before .pre)) (c .before .before .before .before .before .before .before .number .ensures) (a .owner) (omega arith)) (omega (arith, c .before .before .before .before .before .before .before .number .ensures .value)) (c .before .before .before .before .before .own-part .ensures) (c .before .before .before .find .ensures) _ _ (c .before .found .given .1)
+convert-at-requires c κs = let a = c .before .before .before .before .before .before .before .before .before .before .before .args in convert-inside (a .store .now) (c .before .before .before .before .before .before .before .before .before .before .before .pre) (a .owner) (a .place .now) (a .count) (a .sort) (c .before .before .before .before .before .before .before .before .if1 .left) (within-definitions _ (whole _ (c .before .before .before .before .before .before .before .before .before .before .before .pre)) (c .before .before .before .before .before .before .before .definition-count .ensures) (a .owner) (omega arith)) (omega (arith, c .before .before .before .before .before .before .before .definition-count .ensures .value)) (c .before .before .before .before .before .own-part .ensures) (c .before .before .before .find .ensures) _ _ (c .before .found .given .1)
 
 returns-3 : tie.Need-returns-3
-returns-3 c = let a = c .before .before .before .before .before .before .before .before .before .before .args in convert-none (a .store .now) (c .before .before .before .before .before .before .before .before .before .before .pre) (a .owner) (a .place .now) (a .count) (a .sort) (c .before .before .before .before .before .before .before .if1 .left) (within-definitions _ (whole _ (c .before .before .before .before .before .before .before .before .before .before .pre)) (c .before .before .before .before .before .before .number .ensures) (a .owner) (omega arith)) (omega (arith, c .before .before .before .before .before .before .number .ensures .value)) (c .before .before .before .before .own-part .ensures) (c .before .before .find .ensures) (c .enum-told .given .1) .is
+returns-3 c = let a = c .before .before .before .before .before .before .before .before .before .before .args in convert-none (a .store .now) (c .before .before .before .before .before .before .before .before .before .before .pre) (a .owner) (a .place .now) (a .count) (a .sort) (c .before .before .before .before .before .before .before .if1 .left) (within-definitions _ (whole _ (c .before .before .before .before .before .before .before .before .before .before .pre)) (c .before .before .before .before .before .before .definition-count .ensures) (a .owner) (omega arith)) (omega (arith, c .before .before .before .before .before .before .definition-count .ensures .value)) (c .before .before .before .before .own-part .ensures) (c .before .before .find .ensures) (c .enum-told .given .1) .is
 
 returns-4 : tie.Need-returns-4
-returns-4 c = let a = c .before .before .before .before .before .before .before .before .before .before .before .before .args in convert-there (a .store .now) (c .before .before .before .before .before .before .before .before .before .before .before .before .pre) (a .owner) (a .place .now) (a .count) (a .sort) (c .before .before .before .before .before .before .before .before .before .if1 .left) (within-definitions _ (whole _ (c .before .before .before .before .before .before .before .before .before .before .before .before .pre)) (c .before .before .before .before .before .before .before .before .number .ensures) (a .owner) (omega arith)) (omega (arith, c .before .before .before .before .before .before .before .before .number .ensures .value)) (c .before .before .before .before .before .before .own-part .ensures) (c .before .before .before .before .find .ensures) _ _ (c .before .before .found .given .1) (c .before .before .before .before .before .group-kind .ensures) (c .convert-at .ensures) .is
+returns-4 c = let a = c .before .before .before .before .before .before .before .before .before .before .before .before .args in convert-there (a .store .now) (c .before .before .before .before .before .before .before .before .before .before .before .before .pre) (a .owner) (a .place .now) (a .count) (a .sort) (c .before .before .before .before .before .before .before .before .before .if1 .left) (within-definitions _ (whole _ (c .before .before .before .before .before .before .before .before .before .before .before .before .pre)) (c .before .before .before .before .before .before .before .before .definition-count .ensures) (a .owner) (omega arith)) (omega (arith, c .before .before .before .before .before .before .before .before .definition-count .ensures .value)) (c .before .before .before .before .before .before .own-part .ensures) (c .before .before .before .before .find .ensures) _ _ (c .before .before .found .given .1) (c .before .before .before .before .before .group-kind .ensures) (c .convert-at .ensures) .is
 
 pub convert-to-group-refusal-spec : {M : Type 1} → statement M
 convert-to-group-refusal-spec =
     tie.close
     (tie.spec
     returns
-    number-requires
+    definition-count-requires
     returns-2
     own-part-requires
     group-kind-requires

@@ -5,14 +5,14 @@ use borrow.Author.Needs.{needs}
 use Rattle.placing.proofs.destroy_attribute_refusal.Statement.{statement}
 use Rattle.placing.proofs.destroy_attribute_refusal.Tie as tie
 
-number-requires : tie.Need-number-requires
-number-requires c κs = search needs
+attribute-count-requires : tie.Need-attribute-count-requires
+attribute-count-requires c κs = search needs
 
 returns : tie.Need-returns
-returns c = destroy-6 _ (whole _ (c .before .before .before .pre)) (c .before .number .ensures) (c .before .before .before .args .attribute) (omega arith) .is
+returns c = destroy-6 _ (whole _ (c .before .before .before .pre)) (c .before .attribute-count .ensures) (c .before .before .before .args .attribute) (omega arith) .is
 
 returns-2 : tie.Need-returns-2
-returns-2 c = destroy-0 _ (whole _ (c .before .before .before .pre)) (c .before .number .ensures) (c .before .before .before .args .attribute) (omega arith) .is
+returns-2 c = destroy-0 _ (whole _ (c .before .before .before .pre)) (c .before .attribute-count .ensures) (c .before .before .before .args .attribute) (omega arith) .is
 
 pub destroy-attribute-refusal-spec : {M : Type 1} → statement M
-destroy-attribute-refusal-spec = tie.close (tie.spec number-requires returns returns-2)
+destroy-attribute-refusal-spec = tie.close (tie.spec attribute-count-requires returns returns-2)

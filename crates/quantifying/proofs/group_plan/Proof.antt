@@ -11,7 +11,7 @@ use Rattle.plans.proofs.requantify_plan.Reads as requantify-plan-reads
 use Rattle.quantifying.proofs.group_span.Reads as group-span-reads
 use Rattle.model.proofs.automaton.kind_in.Reads as kind-in-reads
 use Rattle.rowpass.proofs.particles_before.Reads as particles-before-reads
-use Rattle.validity.proofs.body.Reads as body-reads
+use Rattle.layout.proofs.definitions_of.Reads as definitions-of-reads
 
 mul-read-particle : tie.Need-mul-read-particle
 mul-read-particle c = search needs
@@ -22,8 +22,8 @@ read-particle-requires c κs = search needs
 gains-requires : tie.Need-gains-requires
 gains-requires c κs = search needs
 
-body-requires : tie.Need-body-requires
-body-requires c κs = search needs
+definitions-of-requires : tie.Need-definitions-of-requires
+definitions-of-requires c κs = search needs
 
 particles-before-requires : tie.Need-particles-before-requires
 particles-before-requires c κs = search needs
@@ -50,7 +50,7 @@ requantify-plan-requires : tie.Need-requantify-plan-requires
 requantify-plan-requires c κs = search needs
 
 returns : tie.Need-returns
-returns c = group-planned (c .before .before .before .before .before .before .before .before .before .before .before .before .args .store .now) (c .before .before .before .before .before .before .before .before .before .before .before .before .args .part .now) (c .before .before .before .before .before .before .before .before .before .before .before .before .args .owner) (c .before .before .before .before .before .before .before .before .before .before .before .before .args .h) (c .before .before .before .before .before .before .before .before .before .before .before .before .args .p) (c .before .before .before .before .before .before .before .before .before .before .before .before .args .new) (c .before .before .before .before .before .before .before .before .before .read-particle .ensures) (c .before .before .before .before .before .before .before .before .gains .ensures) (c .before .before .before .before .before .before .body .ensures) (c .before .before .before .before .before .particles-before .ensures .0) (c .before .before .before .before .group-span .ensures .0) (c .before .before .before .marks .ensures) (c .before .before .kind-in .ensures) (c .requantify-plan .ensures)
+returns c = group-planned (c .before .before .before .before .before .before .before .before .before .before .before .before .args .store .now) (c .before .before .before .before .before .before .before .before .before .before .before .before .args .part .now) (c .before .before .before .before .before .before .before .before .before .before .before .before .args .owner) (c .before .before .before .before .before .before .before .before .before .before .before .before .args .h) (c .before .before .before .before .before .before .before .before .before .before .before .before .args .p) (c .before .before .before .before .before .before .before .before .before .before .before .before .args .new) (c .before .before .before .before .before .before .before .before .before .read-particle .ensures) (c .before .before .before .before .before .before .before .before .gains .ensures) (c .before .before .before .before .before .before .definitions-of .ensures) (c .before .before .before .before .before .particles-before .ensures .0) (c .before .before .before .before .group-span .ensures .0) (c .before .before .before .marks .ensures) (c .before .before .kind-in .ensures) (c .requantify-plan .ensures)
 
 pub group-plan-spec : {M : Type 1} → statement M
 group-plan-spec =
@@ -59,7 +59,7 @@ group-plan-spec =
     mul-read-particle
     read-particle-requires
     gains-requires
-    body-requires
+    definitions-of-requires
     particles-before-requires
     group-span-requires
     marks-requires

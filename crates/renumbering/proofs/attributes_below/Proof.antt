@@ -1,3 +1,4 @@
+-- `renumbering::attributes_below` meets its contract.
 use Rattle.renumbering.proofs.Moving.{Counting, counting-start, counting-on, counting-end}
 use borrow.Author.Needs.{needs}
 use native.Mathlib.Omega.{arith}
@@ -6,19 +7,16 @@ use Rattle.renumbering.proofs.attributes_below.Statement.{statement}
 use Rattle.renumbering.proofs.attributes_below.Tie as tie
 
 abbrev Inv-loop : tie.InvT-loop
-Inv-loop body count i sum₀ j₀ sum j = Counting i body count sum j
+Inv-loop w body count i sum₀ j₀ sum j = Counting w i body count sum j
 
 abbrev μ-loop : tie.MeasureT-loop
-μ-loop body count i sum₀ j₀ sum j = count - j
+μ-loop w body count i sum₀ j₀ sum j = count - j
 
 loop-holds : tie.Need-loop-holds Inv-loop μ-loop
-loop-holds c = counting-start (c .before .args .i) (c .before .args .body .now) (c .before .args .count)
+loop-holds c = counting-start (c .before .args .w) (c .before .args .i) (c .before .args .body .now) (c .before .args .count)
 
-mul-window : tie.Need-mul-window Inv-loop μ-loop
-mul-window c = search needs
-
-window-requires : tie.Need-window-requires Inv-loop μ-loop
-window-requires c κs = search needs
+attribute-at-requires : tie.Need-attribute-at-requires Inv-loop μ-loop
+attribute-at-requires c κs = search needs
 
 is-below-requires : tie.Need-is-below-requires Inv-loop μ-loop
 is-below-requires c κs = search needs
@@ -33,10 +31,10 @@ loop-less : tie.Need-loop-less Inv-loop μ-loop
 loop-less c = search needs
 
 loop-again : tie.Need-loop-again Inv-loop μ-loop
-loop-again c = counting-on (c .before .before .before .before .before .args .i) (c .before .before .before .before .before .args .body .now) (c .before .before .before .before .before .args .count) (c .before .before .before .loop .inv) (omega arith) _ _ (c .before .window .ensures) (c .is-below .ensures)
+loop-again c = counting-on (c .before .before .before .before .before .args .w) (c .before .before .before .before .before .args .i) (c .before .before .before .before .before .args .body .now) (c .before .before .before .before .before .args .count) (c .before .before .before .loop .inv) (omega arith) _ _ (c .before .attribute-at .ensures) (c .is-below .ensures)
 
 returns : tie.Need-returns Inv-loop μ-loop
-returns c = counting-end (c .before .before .before .args .i) (c .before .before .before .args .body .now) (c .before .before .before .args .count) (c .before .loop .inv) (omega arith)
+returns c = counting-end (c .before .before .before .args .w) (c .before .before .before .args .i) (c .before .before .before .args .body .now) (c .before .before .before .args .count) (c .before .loop .inv) (omega arith)
 
 pub attributes-below-spec : {M : Type 1} → statement M
 attributes-below-spec =
@@ -45,8 +43,7 @@ attributes-below-spec =
     Inv-loop
     μ-loop
     loop-holds
-    mul-window
-    window-requires
+    attribute-at-requires
     is-below-requires
     add-sum
     add-j

@@ -1,3 +1,4 @@
+-- `renumbering::attributes_left` meets its contract.
 use Rattle.renumbering.proofs.Left.{next-counted, attributes-step, attributes-left}
 use Rattle.defining.proofs.Encoded.{encoded}
 use Rattle.renumbering.specs.Bodies.{attributesOf}
@@ -18,17 +19,17 @@ add-attribute-start c = let x = encoded (c .before .before .args .store .now) (c
 attribute-start-requires-2 : tie.Need-attribute-start-requires-2
 attribute-start-requires-2 c κs = search needs
 
-get-u32-requires : tie.Need-get-u32-requires
-get-u32-requires c κs = search needs
+attribute-count-requires : tie.Need-attribute-count-requires
+attribute-count-requires c κs = search needs
 
 sub-result : tie.Need-sub-result
-sub-result c = omega (arith, c .before .before .attribute-start .ensures .is, (next-counted (λ (k : ℕ). attributesOf k (bodiesOf (c .before .before .before .before .args .store .now) .attributes)) (c .before .before .before .before .args .i) (attributeCount (c .before .before .before .before .args .store .now)) (c .before .attribute-start2 .ensures)) .is, attributes-step (c .before .before .before .before .args .i) (bodiesOf (c .before .before .before .before .args .store .now) .attributes))
+sub-result c = let a = c .before .before .before .before .args in let cs = bodiesOf (a .store .now) .attributes in let end = next-counted (λ (k : ℕ). attributesOf k cs) (a .i) (attributeCount (a .store .now)) (c .before .attribute-start2 .ensures) in omega (arith, c .before .before .attribute-start .ensures .is, end .is, attributes-step (a .i) cs)
 
 sub-result-2 : tie.Need-sub-result-2
-sub-result-2 c = search needs
+sub-result-2 c = let a = c .before .before .before .before .args in omega (arith, c .before .attribute-start2 .ensures .most, c .attribute-count .ensures .value)
 
 returns : tie.Need-returns
-returns c = attributes-left (c .before .before .before .before .args .store .now) (c .before .before .before .before .pre .good) (c .before .before .before .before .args .i) (c .before .before .before .before .pre .there) _ _ _ (c .get-u32 .ensures) (c .before .before .attribute-start .ensures) (next-counted (λ (k : ℕ). attributesOf k (bodiesOf (c .before .before .before .before .args .store .now) .attributes)) (c .before .before .before .before .args .i) (attributeCount (c .before .before .before .before .args .store .now)) (c .before .attribute-start2 .ensures))
+returns c = let a = c .before .before .before .before .args in attributes-left (a .store .now) (c .before .before .before .before .pre .good) (a .i) (c .before .before .before .before .pre .there) (c .attribute-count .ensures) (c .before .before .attribute-start .ensures) (next-counted (λ (k : ℕ). attributesOf k (bodiesOf (a .store .now) .attributes)) (a .i) (attributeCount (a .store .now)) (c .before .attribute-start2 .ensures))
 
 pub attributes-left-spec : {M : Type 1} → statement M
 attributes-left-spec =
@@ -37,7 +38,7 @@ attributes-left-spec =
     attribute-start-requires
     add-attribute-start
     attribute-start-requires-2
-    get-u32-requires
+    attribute-count-requires
     sub-result
     sub-result-2
     returns)

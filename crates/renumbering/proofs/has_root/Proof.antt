@@ -1,5 +1,7 @@
+-- `renumbering::has_root` meets its contract.
 use Rattle.defining.proofs.Searching.{Searching, searching-start, searching-hit, searching-on, searching-end}
 use Rattle.renumbering.specs.Bodies.{isRoot}
+use Rattle.rules.specs.Layout.{rowSize}
 use Rattle.rules.specs.Decode.{readRow}
 use borrow.Author.Needs.{needs}
 use mathlib.Core.List.{List}
@@ -10,25 +12,22 @@ use Rattle.renumbering.proofs.has_root.Statement.{statement}
 use Rattle.renumbering.proofs.has_root.Tie as tie
 
 abbrev Inv-loop : tie.InvT-loop
-Inv-loop body count definition i₀ i = Searching readRow 44 (isRoot definition) body count i
+Inv-loop w body count definition i₀ i = Searching readRow (rowSize w) (isRoot definition) body count i
 
 abbrev μ-loop : tie.MeasureT-loop
-μ-loop body count definition i₀ i = count - i
+μ-loop w body count definition i₀ i = count - i
 
 loop-holds : tie.Need-loop-holds Inv-loop μ-loop
-loop-holds c = searching-start readRow 44 (isRoot (c .before .args .definition)) (c .before .args .body .now) (c .before .args .count)
+loop-holds c = searching-start readRow (rowSize (c .before .args .w)) (isRoot (c .before .args .definition)) (c .before .args .body .now) (c .before .args .count)
 
-mul-window : tie.Need-mul-window Inv-loop μ-loop
-mul-window c = search needs
-
-window-requires : tie.Need-window-requires Inv-loop μ-loop
-window-requires c κs = search needs
+row-at-requires : tie.Need-row-at-requires Inv-loop μ-loop
+row-at-requires c κs = search needs
 
 is-root-requires : tie.Need-is-root-requires Inv-loop μ-loop
 is-root-requires c κs = search needs
 
 returns : tie.Need-returns Inv-loop μ-loop
-returns c = searching-hit readRow 44 (isRoot (c .before .before .before .before .before .before .args .definition)) (c .before .before .before .before .before .before .args .body .now) (c .before .before .before .before .before .before .args .count) (c .before .before .before .before .loop .i) (c .before .before .before .before .loop .inv) (omega arith) (c .before .is-root .ensures ∙ ap (λ (x : List ℕ). isRoot (c .before .before .before .before .before .before .args .definition) (readRow x)) (c .before .before .window .ensures)) (c .if1 .taken)
+returns c = let a = c .before .before .before .before .before .before .args in let l = c .before .before .before .before .loop in searching-hit readRow (rowSize (a .w)) (isRoot (a .definition)) (a .body .now) (a .count) (l .i) (l .inv) (omega arith) (c .before .is-root .ensures ∙ ap (λ (x : List ℕ). isRoot (a .definition) (readRow x)) (c .before .before .row-at .ensures)) (c .if1 .taken)
 
 add-i : tie.Need-add-i Inv-loop μ-loop
 add-i c = search needs
@@ -37,10 +36,10 @@ loop-less : tie.Need-loop-less Inv-loop μ-loop
 loop-less c = search needs
 
 loop-again : tie.Need-loop-again Inv-loop μ-loop
-loop-again c = searching-on readRow 44 (isRoot (c .before .before .before .before .before .before .args .definition)) (c .before .before .before .before .before .before .args .body .now) (c .before .before .before .before .before .before .args .count) (c .before .before .before .before .loop .i) (c .before .before .before .before .loop .inv) (omega arith) (c .before .is-root .ensures ∙ ap (λ (x : List ℕ). isRoot (c .before .before .before .before .before .before .args .definition) (readRow x)) (c .before .before .window .ensures)) (c .if1 .left)
+loop-again c = let a = c .before .before .before .before .before .before .args in let l = c .before .before .before .before .loop in searching-on readRow (rowSize (a .w)) (isRoot (a .definition)) (a .body .now) (a .count) (l .i) (l .inv) (omega arith) (c .before .is-root .ensures ∙ ap (λ (x : List ℕ). isRoot (a .definition) (readRow x)) (c .before .before .row-at .ensures)) (c .if1 .left)
 
 returns-2 : tie.Need-returns-2 Inv-loop μ-loop
-returns-2 c = searching-end readRow 44 (isRoot (c .before .before .before .args .definition)) (c .before .before .before .args .body .now) (c .before .before .before .args .count) (c .before .loop .i) (c .before .loop .inv) (omega arith)
+returns-2 c = let a = c .before .before .before .args in searching-end readRow (rowSize (a .w)) (isRoot (a .definition)) (a .body .now) (a .count) (c .before .loop .i) (c .before .loop .inv) (omega arith)
 
 pub has-root-spec : {M : Type 1} → statement M
 has-root-spec =
@@ -49,8 +48,7 @@ has-root-spec =
     Inv-loop
     μ-loop
     loop-holds
-    mul-window
-    window-requires
+    row-at-requires
     is-root-requires
     returns
     add-i

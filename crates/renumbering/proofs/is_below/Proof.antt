@@ -1,20 +1,21 @@
+-- `renumbering::is_below` meets its contract.
 use Rattle.renumbering.proofs.Moving.{below-yes, below-no}
 use native.Mathlib.Omega.{arith}
 use borrow.Author.Needs.{needs}
 use Rattle.renumbering.proofs.is_below.Statement.{statement}
 use Rattle.renumbering.proofs.is_below.Tie as tie
 
-byte-requires : tie.Need-byte-requires
-byte-requires c κs = search needs
+owner-byte-requires : tie.Need-owner-byte-requires
+owner-byte-requires c κs = search needs
 
 cast-owner : tie.Need-cast-owner
 cast-owner c = search needs
 
 returns : tie.Need-returns
-returns c = below-yes (c .before .before .before .args .i) (c .before .before .before .args .rec .now) _ (c .before .byte .ensures) (omega arith)
+returns c = below-yes (c .before .before .before .args .i) (c .before .before .before .args .rec .now) _ (c .before .owner-byte .ensures) (omega arith)
 
 returns-2 : tie.Need-returns-2
-returns-2 c = below-no (c .before .before .before .args .i) (c .before .before .before .args .rec .now) _ (c .before .byte .ensures) (omega arith)
+returns-2 c = below-no (c .before .before .before .args .i) (c .before .before .before .args .rec .now) _ (c .before .owner-byte .ensures) (omega arith)
 
 pub is-below-spec : {M : Type 1} → statement M
-is-below-spec = tie.close (tie.spec byte-requires cast-owner returns returns-2)
+is-below-spec = tie.close (tie.spec owner-byte-requires cast-owner returns returns-2)

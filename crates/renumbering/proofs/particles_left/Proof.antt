@@ -1,3 +1,4 @@
+-- `renumbering::particles_left` meets its contract.
 use Rattle.renumbering.proofs.Left.{next-counted, particles-step, models-left}
 use Rattle.defining.proofs.Encoded.{encoded}
 use Rattle.renumbering.specs.Bodies.{particlesOf}
@@ -18,17 +19,17 @@ add-model-start c = let x = encoded (c .before .before .args .store .now) (c .be
 model-start-requires-2 : tie.Need-model-start-requires-2
 model-start-requires-2 c κs = search needs
 
-get-u32-requires : tie.Need-get-u32-requires
-get-u32-requires c κs = search needs
+particle-count-requires : tie.Need-particle-count-requires
+particle-count-requires c κs = search needs
 
 sub-result : tie.Need-sub-result
-sub-result c = omega (arith, c .before .before .model-start .ensures .is, (next-counted (λ (k : ℕ). particlesOf k (bodiesOf (c .before .before .before .before .args .store .now) .definitions)) (c .before .before .before .before .args .i) (particleCount (c .before .before .before .before .args .store .now)) (c .before .model-start2 .ensures)) .is, particles-step (c .before .before .before .before .args .i) (bodiesOf (c .before .before .before .before .args .store .now) .definitions))
+sub-result c = let a = c .before .before .before .before .args in let ds = bodiesOf (a .store .now) .definitions in let end = next-counted (λ (k : ℕ). particlesOf k ds) (a .i) (particleCount (a .store .now)) (c .before .model-start2 .ensures) in omega (arith, c .before .before .model-start .ensures .is, end .is, particles-step (a .i) ds)
 
 sub-result-2 : tie.Need-sub-result-2
-sub-result-2 c = search needs
+sub-result-2 c = let a = c .before .before .before .before .args in omega (arith, c .before .model-start2 .ensures .most, c .particle-count .ensures .value)
 
 returns : tie.Need-returns
-returns c = models-left (c .before .before .before .before .args .store .now) (c .before .before .before .before .pre .good) (c .before .before .before .before .args .i) (c .before .before .before .before .pre .there) _ _ _ (c .get-u32 .ensures) (c .before .before .model-start .ensures) (next-counted (λ (k : ℕ). particlesOf k (bodiesOf (c .before .before .before .before .args .store .now) .definitions)) (c .before .before .before .before .args .i) (particleCount (c .before .before .before .before .args .store .now)) (c .before .model-start2 .ensures))
+returns c = let a = c .before .before .before .before .args in models-left (a .store .now) (c .before .before .before .before .pre .good) (a .i) (c .before .before .before .before .pre .there) (c .particle-count .ensures) (c .before .before .model-start .ensures) (next-counted (λ (k : ℕ). particlesOf k (bodiesOf (a .store .now) .definitions)) (a .i) (particleCount (a .store .now)) (c .before .model-start2 .ensures))
 
 pub particles-left-spec : {M : Type 1} → statement M
 particles-left-spec =
@@ -37,7 +38,7 @@ particles-left-spec =
     model-start-requires
     add-model-start
     model-start-requires-2
-    get-u32-requires
+    particle-count-requires
     sub-result
     sub-result-2
     returns)

@@ -1,7 +1,9 @@
+-- `renumbering::put_attributes` meets its contract.
 use Rattle.renumbering.proofs.Again.{Going, going-start, going-on, going-end, attribute-short}
 use Rattle.renumbering.specs.Bodies.{lowered, attributeRecord}
-use lib.ListN.{length, drop, length-take}
+use Rattle.rules.specs.Layout.{attributeSize}
 use borrow.Author.Needs.{needs}
+use lib.ListN.{length, drop, length-take}
 use mathlib.Core.Path.{ap}
 use native.Mathlib.Omega.{arith}
 use Prim.Native.Nat.{suc, _-_, _*_}
@@ -9,22 +11,19 @@ use Rattle.renumbering.proofs.put_attributes.Statement.{statement}
 use Rattle.renumbering.proofs.put_attributes.Tie as tie
 
 abbrev Inv-loop : tie.InvT-loop
-Inv-loop body count definition out₀ start at₀ i₀ out at i = Going (attributeRecord (lowered (suc definition) 1)) 52 body count out₀ start out at i
+Inv-loop w body count definition out₀ start at₀ i₀ out at i = Going (attributeRecord (lowered (suc definition) 1)) (attributeSize w) body count out₀ start out at i
 
 abbrev μ-loop : tie.MeasureT-loop
-μ-loop body count definition out₀ start at₀ i₀ out at i = count - i
+μ-loop w body count definition out₀ start at₀ i₀ out at i = count - i
 
 loop-holds : tie.Need-loop-holds Inv-loop μ-loop
-loop-holds c = going-start (attributeRecord (lowered (suc (c .before .before .args .definition)) 1)) 52 (c .before .before .args .body .now) (c .before .before .args .count)
+loop-holds c = going-start (attributeRecord (lowered (suc (c .before .before .args .definition)) 1)) (attributeSize (c .before .before .args .w)) (c .before .before .args .body .now) (c .before .before .args .count)
 
-mul-window : tie.Need-mul-window Inv-loop μ-loop
-mul-window c = search needs
-
-window-requires : tie.Need-window-requires Inv-loop μ-loop
-window-requires c κs = search needs
+attribute-at-requires : tie.Need-attribute-at-requires Inv-loop μ-loop
+attribute-at-requires c κs = search needs
 
 put-attribute-requires : tie.Need-put-attribute-requires Inv-loop μ-loop
-put-attribute-requires c κs = omega (arith, c .before .before .before .loop .inv .small, c .before .before .before .before .before .before .pre, ap length (c .before .window .ensures), length-take 52 (drop (52 * c .before .before .before .loop .i) (c .before .before .before .before .before .before .args .body .now)))
+put-attribute-requires c κs = let a = c .before .before .before .before .before .before .args in (c .before .before .before .before .before .before .pre .0, c .before .before .before .before .before .before .pre .1, omega (arith, ap length (c .before .attribute-at .ensures), length-take (attributeSize (a .w)) (drop (attributeSize (a .w) * c .before .before .before .loop .i) (a .body .now))), omega (arith, c .before .before .before .loop .inv .small, c .before .before .before .before .before .before .pre))
 
 add-i : tie.Need-add-i Inv-loop μ-loop
 add-i c = search needs
@@ -33,13 +32,13 @@ loop-less : tie.Need-loop-less Inv-loop μ-loop
 loop-less c = search needs
 
 loop-again : tie.Need-loop-again Inv-loop μ-loop
-loop-again c = going-on (attributeRecord (lowered (suc (c .before .before .before .before .before .before .before .before .before .args .definition)) 1)) 52 (c .before .before .before .before .before .before .before .before .before .args .body .now) (c .before .before .before .before .before .before .before .before .before .args .count) (c .before .before .before .before .before .before .loop .inv) _ (omega arith) (c .before .before .before .before .window .ensures) (c .before .before .put-attribute .ensures) (attribute-short (lowered (suc (c .before .before .before .before .before .before .before .before .before .args .definition)) 1) _ (omega (arith, ap length (c .before .before .before .before .window .ensures), length-take 52 (drop (52 * c .before .before .before .before .before .before .loop .i) (c .before .before .before .before .before .before .before .before .before .args .body .now)))))
+loop-again c = let a = c .before .before .before .before .before .before .before .before .before .args in going-on (attributeRecord (lowered (suc (a .definition)) 1)) (attributeSize (a .w)) (a .body .now) (a .count) (c .before .before .before .before .before .before .loop .inv) _ (omega arith) (c .before .before .before .before .attribute-at .ensures) (c .before .before .put-attribute .ensures) (attribute-short (lowered (suc (a .definition)) 1) (a .w) _ (c .before .before .before .before .before .before .before .before .before .pre .0) (omega (arith, ap length (c .before .before .before .before .attribute-at .ensures), length-take (attributeSize (a .w)) (drop (attributeSize (a .w) * c .before .before .before .before .before .before .loop .i) (a .body .now)))))
 
 same-length : tie.Need-same-length Inv-loop μ-loop
 same-length c = c .before .loop .inv .long
 
 returns : tie.Need-returns Inv-loop μ-loop
-returns c = going-end (attributeRecord (lowered (suc (c .before .before .before .before .args .definition)) 1)) 52 (c .before .before .before .before .args .body .now) (c .before .before .before .before .args .count) (c .before .loop .inv) (omega arith)
+returns c = let a = c .before .before .before .before .args in going-end (attributeRecord (lowered (suc (a .definition)) 1)) (attributeSize (a .w)) (a .body .now) (a .count) (c .before .loop .inv) (omega arith)
 
 pub put-attributes-spec : {M : Type 1} → statement M
 put-attributes-spec =
@@ -48,8 +47,7 @@ put-attributes-spec =
     Inv-loop
     μ-loop
     loop-holds
-    mul-window
-    window-requires
+    attribute-at-requires
     put-attribute-requires
     add-i
     loop-less

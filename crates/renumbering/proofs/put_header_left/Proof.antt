@@ -1,3 +1,4 @@
+-- `renumbering::put_header_left` meets its contract.
 use Rattle.renumbering.proofs.Left.{header-left}
 use Rattle.defining.proofs.Encoded.{encoded}
 use native.Mathlib.Omega.{arith}
@@ -5,8 +6,8 @@ use borrow.Author.Needs.{needs}
 use Rattle.renumbering.proofs.put_header_left.Statement.{statement}
 use Rattle.renumbering.proofs.put_header_left.Tie as tie
 
-get-u32-requires : tie.Need-get-u32-requires
-get-u32-requires c κs = search needs
+definition-count-requires : tie.Need-definition-count-requires
+definition-count-requires c κs = search needs
 
 particles-left-requires : tie.Need-particles-left-requires
 particles-left-requires c κs = search needs
@@ -14,29 +15,25 @@ particles-left-requires c κs = search needs
 attributes-left-requires : tie.Need-attributes-left-requires
 attributes-left-requires c κs = search needs
 
-get-u32-requires-2 : tie.Need-get-u32-requires-2
-get-u32-requires-2 c κs = search needs
-
 sub-put-header : tie.Need-sub-put-header
 sub-put-header c = search needs
 
 put-header-requires : tie.Need-put-header-requires
-put-header-requires c κs = let x = encoded (c .before .before .before .before .before .before .before .args .store .now) (c .before .before .before .before .before .before .before .pre .good) in omega (arith, c .before .before .before .particles-left .ensures .most, c .before .before .attributes-left .ensures .most, c .before .before .before .before .get-u32 .ensures, x .definitions, x .fewDefinitions)
+put-header-requires c κs = let x = encoded (c .before .before .before .before .before .before .args .store .now) (c .before .before .before .before .before .before .pre .good) in omega (arith, c .before .before .particles-left .ensures .most, c .before .attributes-left .ensures .most, c .before .before .before .definition-count .ensures .value, x .definitions, x .fewDefinitions)
 
 same-length : tie.Need-same-length
 same-length c = search needs
 
 returns : tie.Need-returns
-returns c = header-left (c .before .before .before .before .before .before .before .before .before .before .args .store .now) (c .before .before .before .before .before .before .before .before .before .before .pre .good) (c .before .before .before .before .before .before .before .before .before .before .args .i) (c .before .before .before .before .before .before .before .before .before .before .pre .there) _ _ _ _ (c .before .before .before .before .before .before .before .get-u32 .ensures) (c .before .before .before .before .before .before .particles-left .ensures) (c .before .before .before .before .before .attributes-left .ensures) (c .before .before .before .before .get-u322 .ensures) (c .before .before .put-header .ensures)
+returns c = header-left (c .before .before .before .before .before .before .before .before .before .args .store .now) (c .before .before .before .before .before .before .before .before .before .pre .good) (c .before .before .before .before .before .before .before .before .before .args .i) (c .before .before .before .before .before .before .before .before .before .pre .there) (c .before .before .before .before .before .before .definition-count .ensures) (c .before .before .before .before .before .particles-left .ensures) (c .before .before .before .before .attributes-left .ensures) (c .before .before .put-header .ensures)
 
 pub put-header-left-spec : {M : Type 1} → statement M
 put-header-left-spec =
     tie.close
     (tie.spec
-    get-u32-requires
+    definition-count-requires
     particles-left-requires
     attributes-left-requires
-    get-u32-requires-2
     sub-put-header
     put-header-requires
     same-length

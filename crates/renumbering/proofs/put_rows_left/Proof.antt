@@ -1,11 +1,11 @@
 -- `renumbering::put_rows_left` meets its contract.
--- Assumes nothing.
+use Rattle.layout.specs.Bodies.{widthOf}
+use Rattle.renumbering.proofs.KeptRows.{no-text, sized}
 use native.Mathlib.Omega.{arith}
 use Prim.Native.Nat.{ℕ}
-use mathlib.Core.Path.{sym, ap, subst}
+use mathlib.Core.Path.{sym, subst}
+use mathlib.Core.List.{[]}
 use Rattle.rules.specs.Decode.{attributeCount}
-use Rattle.rules.specs.WellFormed.{isValue}
-use Rattle.records.specs.Records.{baseWidth}
 use Rattle.lookup.specs.Bodies.{bodiesOf}
 use Rattle.editing.specs.declared.Plan.{Plan}
 use Rattle.storing.specs.Writing.{Sized}
@@ -21,52 +21,44 @@ use Rattle.renumbering.proofs.put_rows_left.Tie as tie
 attribute-start-requires : tie.Need-attribute-start-requires
 attribute-start-requires c κs = search needs
 
-cast-start : tie.Need-cast-start
-cast-start c = search needs
-
 add-attribute-start : tie.Need-add-attribute-start
 add-attribute-start c = let x = encoded (c .before .before .before .args .store .now) (c .before .before .before .pre .0 .good) in omega (arith, c .before .before .before .pre .0 .there, x .definitions, x .fewDefinitions)
 
 attribute-start-requires-2 : tie.Need-attribute-start-requires-2
 attribute-start-requires-2 c κs = search needs
 
-cast-end : tie.Need-cast-end
-cast-end c = search needs
-
 add-shifting : tie.Need-add-shifting
 add-shifting c = search needs
 
 sub-shifting : tie.Need-sub-shifting
-sub-shifting c = omega (arith, c .before .attribute-start .ensures .is, (next-counted (λ (k : ℕ). attributesOf k (bodiesOf (c .before .before .before .before .args .store .now) .attributes)) (c .before .before .before .before .args .i) (attributeCount (c .before .before .before .before .args .store .now)) (c .attribute-start2 .ensures)) .is, attributes-step (c .before .before .before .before .args .i) (bodiesOf (c .before .before .before .before .args .store .now) .attributes))
+sub-shifting c = let a = c .before .before .before .before .args in let cs = bodiesOf (a .store .now) .attributes in let end = next-counted (λ (k : ℕ). attributesOf k cs) (a .i) (attributeCount (a .store .now)) (c .attribute-start2 .ensures) in omega (arith, c .before .attribute-start .ensures .is, end .is, attributes-step (a .i) cs)
 
 shifting-requires : tie.Need-shifting-requires
 shifting-requires c κs = search needs
 
-first-requires : tie.Need-first-requires
-first-requires c κs = search needs
+slice-aggregate-walk-rows : tie.Need-slice-aggregate-walk-rows
+slice-aggregate-walk-rows c = search needs
 
 walk-rows-requires : tie.Need-walk-rows-requires
-walk-rows-requires c κs = (c .before .before .before .before .before .before .before .pre .0 .good, ap (isValue baseWidth) (c .before .first .ensures), subst (λ (q : Plan). Sized q) (sym (c .before .before .shifting .ensures)) (sized _ _ _), omega (arith, c .before .before .before .before .before .before .before .pre .1))
+walk-rows-requires c κs = (c .before .before .before .before .before .before .before .pre .0 .good, no-text (widthOf (c .before .before .before .before .before .before .before .args .store .now)), subst (λ (q : Plan). Sized q) (sym (c .before .before .shifting .ensures)) (sized _ _ _), omega (arith, c .before .before .before .before .before .before .before .pre .1))
 
 same-length : tie.Need-same-length
 same-length c = search needs
 
 returns : tie.Need-returns
-returns c = rows-laid (c .before .before .before .before .before .before .before .before .before .before .args .store .now) (c .before .before .before .before .before .before .before .before .before .before .pre .0 .good) (c .before .before .before .before .before .before .before .before .before .before .args .i) (c .before .before .before .before .before .before .before .before .before .before .pre .0 .there) _ _ _ _ (c .before .before .before .before .before .before .before .attribute-start .ensures) (next-counted (λ (k : ℕ). attributesOf k (bodiesOf (c .before .before .before .before .before .before .before .before .before .before .args .store .now) .attributes)) (c .before .before .before .before .before .before .before .before .before .before .args .i) (attributeCount (c .before .before .before .before .before .before .before .before .before .before .args .store .now)) (c .before .before .before .before .before .before .attribute-start2 .ensures)) (c .before .before .before .before .before .shifting .ensures) (c .before .before .walk-rows .ensures)
+returns c = let a = c .before .before .before .before .before .before .before .before .before .before .args in rows-laid (a .store .now) (c .before .before .before .before .before .before .before .before .before .before .pre .0 .good) (a .i) (c .before .before .before .before .before .before .before .before .before .before .pre .0 .there) [] (c .before .before .before .before .before .before .before .attribute-start .ensures) (next-counted (λ (k : ℕ). attributesOf k (bodiesOf (a .store .now) .attributes)) (a .i) (attributeCount (a .store .now)) (c .before .before .before .before .before .before .attribute-start2 .ensures)) (c .before .before .before .before .before .shifting .ensures) (c .before .before .walk-rows .ensures)
 
 pub put-rows-left-spec : {M : Type 1} → statement M
 put-rows-left-spec =
     tie.close
     (tie.spec
     attribute-start-requires
-    cast-start
     add-attribute-start
     attribute-start-requires-2
-    cast-end
     add-shifting
     sub-shifting
     shifting-requires
-    first-requires
+    slice-aggregate-walk-rows
     walk-rows-requires
     same-length
     returns)

@@ -22,19 +22,22 @@ row-body-requires c κs = search needs
 next-serial-requires : tie.Need-next-serial-requires
 next-serial-requires c κs = search needs
 
+cast-walk : tie.Need-cast-walk
+cast-walk c = search needs
+
 walk-requires : tie.Need-walk-requires
-walk-requires c κs = let start = c .before .before .before .before .before .before .before .before .before .before in
+walk-requires c κs = let start = c .before .before .before .before .before .before .before .before .before .before .before in
     let q = start .pre .0 in
-    let x = reads-of (c .before .before .before .before .before .before .shape-of .ensures) (c .before .before .before .before .before .definition-body .ensures) (c .before .before .before .before .particle-body .ensures) (c .before .before .before .attribute-body .ensures) (c .before .before .row-body .ensures) in
-    (walk-ready q x (start .pre .1) (start .pre .2), walk-asked q x, walk-whole q x, walk-room (c .before .before .before .before .before .before .shape-of .ensures .sized .width) (start .pre .3) (c .before .next-serial .ensures))
+    let x = reads-of (c .before .before .before .before .before .before .before .shape-of .ensures) (c .before .before .before .before .before .before .definition-body .ensures) (c .before .before .before .before .before .particle-body .ensures) (c .before .before .before .before .attribute-body .ensures) (c .before .before .before .row-body .ensures) in
+    (walk-ready q x (start .pre .1) (start .pre .2), walk-asked q x, walk-whole q x, walk-room (c .before .before .before .before .before .before .before .shape-of .ensures .sized .width) (start .pre .3) (c .before .before .next-serial .ensures))
 
 same-length : tie.Need-same-length
 same-length c = search needs
 
 returns : tie.Need-returns
-returns c = let start = c .before .before .before .before .before .before .before .before .before .before .before .before .before in
-    let x = reads-of (c .before .before .before .before .before .before .before .before .before .shape-of .ensures) (c .before .before .before .before .before .before .before .before .definition-body .ensures) (c .before .before .before .before .before .before .before .particle-body .ensures) (c .before .before .before .before .before .before .attribute-body .ensures) (c .before .before .before .before .before .row-body .ensures) in
-    walk-from (start .pre .0) x (start .args .plan) (start .args .text .now) (c .before .before .before .before .next-serial .ensures) (c .before .before .walk .ensures)
+returns c = let start = c .before .before .before .before .before .before .before .before .before .before .before .before .before .before in
+    let x = reads-of (c .before .before .before .before .before .before .before .before .before .before .shape-of .ensures) (c .before .before .before .before .before .before .before .before .before .definition-body .ensures) (c .before .before .before .before .before .before .before .before .particle-body .ensures) (c .before .before .before .before .before .before .before .attribute-body .ensures) (c .before .before .before .before .before .before .row-body .ensures) in
+    walk-from (start .pre .0) x (start .args .plan) (start .args .text .now) (c .before .before .before .before .before .next-serial .ensures) (c .before .before .walk .ensures)
 
 pub walk-rows-spec : {M : Type 1} → statement M
 walk-rows-spec =
@@ -46,6 +49,7 @@ walk-rows-spec =
     attribute-body-requires
     row-body-requires
     next-serial-requires
+    cast-walk
     walk-requires
     same-length
     returns)

@@ -16,19 +16,22 @@ attribute-body-requires c κs = search needs
 row-body-requires : tie.Need-row-body-requires
 row-body-requires c κs = search needs
 
+cast-rows-pass : tie.Need-cast-rows-pass
+cast-rows-pass c = search needs
+
 rows-pass-requires : tie.Need-rows-pass-requires
 rows-pass-requires c κs =
-    let pre = c .before .before .before .before .before .pre in
-    let header = headed _ (pre .0) (c .before .before .before .before .shared-slice-known .given) in
-    let cut = cut-of (pre .1) (c .before .before .before .definition-body .ensures) (c .before .before .particle-body .ensures) (c .before .attribute-body .ensures) in
-    rows-asked header cut (rows-counted (pre .1)) (rows-of (pre .1) (c .row-body .ensures)) (pre .1 .sized .width) (pre .2)
-
-returns : tie.Need-returns
-returns c =
     let pre = c .before .before .before .before .before .before .pre in
     let header = headed _ (pre .0) (c .before .before .before .before .before .shared-slice-known .given) in
     let cut = cut-of (pre .1) (c .before .before .before .before .definition-body .ensures) (c .before .before .before .particle-body .ensures) (c .before .before .attribute-body .ensures) in
-    rows-in header cut (rows-counted (pre .1)) (rows-of (pre .1) (c .before .row-body .ensures)) (c .rows-pass .ensures)
+    rows-asked header cut (rows-counted (pre .1)) (rows-of (pre .1) (c .before .row-body .ensures)) (pre .1 .sized .width) (pre .2)
+
+returns : tie.Need-returns
+returns c =
+    let pre = c .before .before .before .before .before .before .before .pre in
+    let header = headed _ (pre .0) (c .before .before .before .before .before .before .shared-slice-known .given) in
+    let cut = cut-of (pre .1) (c .before .before .before .before .before .definition-body .ensures) (c .before .before .before .before .particle-body .ensures) (c .before .before .before .attribute-body .ensures) in
+    rows-in header cut (rows-counted (pre .1)) (rows-of (pre .1) (c .before .before .row-body .ensures)) (c .rows-pass .ensures)
 
 pub documents-pass-spec : {M : Type 1} → statement M
 documents-pass-spec =
@@ -38,5 +41,6 @@ documents-pass-spec =
     particle-body-requires
     attribute-body-requires
     row-body-requires
+    cast-rows-pass
     rows-pass-requires
     returns)

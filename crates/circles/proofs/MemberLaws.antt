@@ -10,6 +10,7 @@ use lib.Dec.{eqb}
 use lib.ListN.{length, getD, take, drop}
 use borrow.Author.Tests.{eq-eqb, ne-eqb}
 use Rattle.rules.specs.Bytes.{Bytes, all}
+use Rattle.rules.specs.Layout.{particleSize}
 use Rattle.codec.proofs.Writers.{tail-seen}
 use Rattle.codec.specs.Part.{partOf}
 use Rattle.circles.specs.Members.{countAt, startAt, modelPart, elementsOf, membersIn}
@@ -39,15 +40,16 @@ all-more p t h = ap (λ (l : List ℕ). all p l) (elements-more t h) ∙ by (eqb
     by false = refl
 
 -- ---- the loop over the particles: t is left
-module _ (p : ℕ → Bool) (goal : Bool) (t : Bytes) (e : goal ≡ all p (elementsOf t)) where
-  pub settle-on : 4 ≤ length t → (b : Bool) → b ≡ firstPasses p t → b ≡ true → goal ≡ all p (elementsOf (take (length t - 4) (drop 4 t)))
-  settle-on h b q f = rw (tail-seen t 4) (e ∙ all-more p t h ∙ ap (λ (x : Bool). x && all p (elementsOf (drop 4 t))) (sym q ∙ f))
+module _ (p : ℕ → Bool) (goal : Bool) (t : Bytes) (size : ℕ) (z : size ≡ particleSize) (e : goal ≡ all p (elementsOf t)) where
+  pub settle-on : size ≤ length t → (b : Bool) → b ≡ firstPasses p t → b ≡ true → goal ≡ all p (elementsOf (take (length t - size) (drop size t)))
+  settle-on h b q f =
+      rw (tail-seen t size, z) (e ∙ all-more p t (omega arith) ∙ ap (λ (x : Bool). x && all p (elementsOf (drop particleSize t))) (sym q ∙ f))
 
-  pub settle-no : 4 ≤ length t → (b : Bool) → b ≡ firstPasses p t → b ≡ false → false ≡ goal
-  settle-no h b q f = sym (e ∙ all-more p t h ∙ ap (λ (x : Bool). x && all p (elementsOf (drop 4 t))) (sym q ∙ f))
+  pub settle-no : size ≤ length t → (b : Bool) → b ≡ firstPasses p t → b ≡ false → false ≡ goal
+  settle-no h b q f = sym (e ∙ all-more p t (omega arith) ∙ ap (λ (x : Bool). x && all p (elementsOf (drop particleSize t))) (sym q ∙ f))
 
-  pub settle-ends : length t < 4 → true ≡ goal
-  settle-ends h = sym (e ∙ ap (λ (l : List ℕ). all p l) (elements-few t h))
+  pub settle-ends : length t < size → true ≡ goal
+  settle-ends h = sym (e ∙ ap (λ (l : List ℕ). all p l) (elements-few t (omega arith)))
 
 -- ---- one particle
 module _ (old : Bytes) (s a : ℕ) (e : s ≡ a) where
@@ -71,6 +73,6 @@ pub starts-more : {defs : Bytes} {start i : ℕ} (c : ℕ) → Starts defs start
 unfolding startAt
 starts-more {defs} {start} {i} c s e h = record { is = rw (add-one i) (rw (s .is, e)); small = omega (arith, s .small) }
 
-pub model-members : (defs parts : Bytes) (i start c : ℕ) (model : Bytes) → Starts defs start i → c ≡ countAt defs i → model ≡ partOf (4 * start) (4 * c) parts → elementsOf model ≡ membersIn defs parts i
+pub model-members : (defs parts : Bytes) (i start c : ℕ) (model : Bytes) → Starts defs start i → c ≡ countAt defs i → model ≡ partOf (particleSize * start) (particleSize * c) parts → elementsOf model ≡ membersIn defs parts i
 unfolding modelPart membersIn
 model-members defs parts i start c model s e m = rw (m, s .is, e)

@@ -16,12 +16,13 @@ use Rattle.rules.specs.Model.{names, Distinct}
 use Rattle.rules.specs.Store.{Attribute, Form, Forest, bare, tree, modelOf, members}
 use Rattle.rules.specs.Preorder.{Deep, flatten, build}
 use Rattle.rules.specs.Layout.{definitionSize, particleSize, FlatDefinition, FlatParticle, FlatAttribute}
-use Rattle.rules.specs.Decode.{unle, nameAt, readDefinition, readParticle, readMany, contentOf, memberOf, readMembers, ofOwner, readForm, flatName}
+use Rattle.rules.specs.Decode.{nameAt, readDefinition, readParticle, readMany, contentOf, memberOf, readMembers, ofOwner, readForm, flatName}
 use Rattle.rules.specs.WellFormed.{definitionName, Reaches}
 use Rattle.rules.proofs.PreorderLaws.{rising, flatten-build}
 use Rattle.forms.specs.FormTests.{elementsIn}
 use Rattle.codec.specs.Part.{partOf}
 use Rattle.codec.proofs.Strings.{part-there}
+use Rattle.layout.proofs.LayoutLaws.{record-first, record-after, drop-take}
 use Rattle.circles.specs.Members.{countAt, startAt, modelPart, elementsOf, membersIn}
 use Rattle.circles.specs.declared.Heights.{Heights}
 use Rattle.circles.specs.Deep.{deepIndex, Ranked}
@@ -116,11 +117,6 @@ module _ (ns : List Bytes) where
   length-read o (d ∷ ds) ps cs = ap suc (length-read (suc o) ds (drop (d .particles) ps) cs)
 
 -- ---- records in bytes
-drop-take : {A : Type 0} (m n : ℕ) (l : List A) → drop m (take (m + n) l) ≡ take n (drop m l)
-drop-take zero n l = rw zero-add
-drop-take (suc m) n [] = rw suc-add (sym (take-nil n))
-drop-take (suc m) n (x ∷ l) = rw suc-add (drop-take m n l)
-
 module _ {A : Type 0} (f : Bytes → A) (size : ℕ) where
   length-many : (n : ℕ) (l : Bytes) → length (readMany f size n l) ≡ n
   length-many zero l = refl
@@ -162,12 +158,10 @@ elements-read (suc k) (a ∷ b ∷ c ∷ d ∷ t) e = by (eqb a 0) (elements-rea
     by false q = q
 
 count-first : (defs : Bytes) → readDefinition (take 20 defs) .particles ≡ countAt defs 0
-count-first defs = ap unle (ap (take 2) (drop-drop 1 17 (take 20 defs) ∙ drop-take 18 2 defs) ∙ take-take 2 2 (drop 18 defs) (omega arith))
+count-first defs = ap (λ (l : Bytes). readDefinition l .particles) (record-first definitionSize defs)
 
 count-after : (defs : Bytes) (i : ℕ) → countAt (drop 20 defs) i ≡ countAt defs (suc i)
-count-after defs i =
-    let e : 20 + (20 * i + 18) ≡ 20 * suc i + 18 = omega arith in
-    ap (λ (l : Bytes). unle (take 2 l)) (drop-drop (20 * i + 18) 20 defs ∙ ap (λ (k : ℕ). drop k defs) e)
+count-after defs i = ap (λ (l : Bytes). readDefinition l .particles) (record-after definitionSize i defs)
 
 start-after : (defs : Bytes) (i : ℕ) → countAt defs 0 + startAt (drop 20 defs) i ≡ startAt defs (suc i)
 unfolding startAt

@@ -6,13 +6,13 @@ use Prim.Native.Nat.{ℕ, zero, suc, _+_, _-_, _*_, _<_, _≤_}
 use native.Mathlib.Omega.{arith}
 use native.Mathlib.Nat.{mul-le-mul, mul-suc, mul-zero}
 use lib.ListN.{length, take, drop, getD, length-drop, drop-of-length-le}
-use lib.Seq.{take-nil, take-all, drop-drop}
+use lib.Seq.{getD-take, getD-drop, take-nil, take-all, take-take, drop-drop}
 use Rattle.rules.specs.Bytes.{Bytes}
 use Rattle.rules.specs.Store.{Store}
 use Rattle.rules.specs.Layout.{valueWidth, headerSize, definitionSize, particleSize, attributeSize, rowSize, FlatAttribute, FlatRow, FlatStore, flat, encode}
 use Rattle.rules.specs.Passing.{good}
 use Rattle.rules.specs.Preorder.{Deep}
-use Rattle.rules.specs.Decode.{numberAt, readAttribute, readRow, readMany, definitionCount, particleCount, attributeCount, rowCount, readFlat}
+use Rattle.rules.specs.Decode.{numberAt, unle, readDefinition, readAttribute, readRow, readMany, definitionCount, particleCount, attributeCount, rowCount, readFlat}
 use Rattle.rules.proofs.LayoutLaws.{read-bytes}
 use Rattle.rules.proofs.DecodeLaws.{width-bound, width-most, good-flat}
 use Rattle.codec.proofs.Records.{many-at, many-within}
@@ -168,3 +168,26 @@ unfolding attributeIn
 attribute-window {bs} i r width definitions particles product e =
     e
     ∙ (λ j. windowOf (40 + 20 * definitions .value j + 4 * particles .value j + (product .value ∙ ap (λ (v : ℕ). (20 + v) * i) (width .value)) j) (20 + width .value j) bs)
+
+-- ---- fields of record i, where they stand in the body
+pub field-at : (size i k : ℕ) (s : Bytes) → k < size → getD (recordAt size i s) k 0 ≡ getD s (size * i + k) 0
+field-at size i k s h = getD-take size (drop (size * i) s) k 0 h ∙ getD-drop (size * i) s k 0
+
+-- the byte that a callee read there
+pub field-by : (size i k : ℕ) (s : Bytes) {r b : ℕ} → k < size → b ≡ getD s (size * i + k) 0 → r ≡ b → r ≡ getD (recordAt size i s) k 0
+field-by size i k s h e g = g ∙ e ∙ sym (field-at size i k s h)
+
+pub drop-take : {A : Type 0} (k m : ℕ) (l : List A) → drop k (take (k + m) l) ≡ take m (drop k l)
+drop-take zero m l = let e : 0 + m ≡ m = omega arith in rw e
+drop-take (suc k) m [] = rw (take-nil (suc k + m), take-nil m)
+drop-take (suc k) m (x ∷ l) = let e : suc k + m ≡ suc (k + m) = omega arith in rw e (drop-take k m l)
+
+pub particles-at : (i : ℕ) (s : Bytes) → numberAt (definitionSize * i + 18) 2 s ≡ readDefinition (recordAt definitionSize i s) .particles
+particles-at i s =
+    ap unle
+    (sym
+    (ap (λ (t : Bytes). take 2 t) (drop-drop 1 17 (recordAt definitionSize i s) ∙ drop-take 18 2 (drop (definitionSize * i) s) ∙ ap (λ (t : Bytes). take 2 t) (drop-drop 18 (definitionSize * i) s))
+    ∙ take-take 2 2 (drop (definitionSize * i + 18) s) (omega arith)))
+
+pub first-field-by : (size i : ℕ) (s : Bytes) {r b : ℕ} → 0 < size → b ≡ getD s (size * i) 0 → r ≡ b → r ≡ getD (recordAt size i s) 0 0
+first-field-by size i s h e g = let z : size * i ≡ size * i + 0 = omega arith in field-by size i 0 s h (e ∙ ap (λ (k : ℕ). getD s k 0) z) g

@@ -11,12 +11,13 @@ use lib.ListN.{length, getD, take, drop}
 use borrow.Author.Tests.{eq-eqb, ne-eqb}
 use Rattle.rules.specs.Bytes.{Bytes, all}
 use Rattle.rules.specs.Layout.{particleSize}
+use Rattle.rules.specs.Decode.{readParticle}
 use Rattle.codec.proofs.Writers.{tail-seen}
 use Rattle.codec.specs.Part.{partOf}
 use Rattle.circles.specs.Members.{countAt, startAt, modelPart, elementsOf, membersIn}
 use Rattle.circles.specs.Deep.{marked, firstPasses}
 
-pub elements-more : (t : Bytes) → 4 ≤ length t → elementsOf t ≡ elim (eqb (getD t 0 0) 0) [ true ↦ getD t 2 0 ∷ elementsOf (drop 4 t) | false ↦ elementsOf (drop 4 t) ]
+pub elements-more : (t : Bytes) → particleSize ≤ length t → elementsOf t ≡ elim (eqb (readParticle t .row .sort) 0) [ true ↦ readParticle t .row .index ∷ elementsOf (drop particleSize t) | false ↦ elementsOf (drop particleSize t) ]
 unfolding elementsOf
 elements-more [] h = absurd (omega arith)
 elements-more (a ∷ []) h = absurd (omega arith)
@@ -24,7 +25,7 @@ elements-more (a ∷ b ∷ []) h = absurd (omega arith)
 elements-more (a ∷ b ∷ c ∷ []) h = absurd (omega arith)
 elements-more (a ∷ b ∷ c ∷ e ∷ t) h = refl
 
-pub elements-few : (t : Bytes) → length t < 4 → elementsOf t ≡ []
+pub elements-few : (t : Bytes) → length t < particleSize → elementsOf t ≡ []
 unfolding elementsOf
 elements-few [] h = refl
 elements-few (a ∷ []) h = refl
@@ -32,10 +33,10 @@ elements-few (a ∷ b ∷ []) h = refl
 elements-few (a ∷ b ∷ c ∷ []) h = refl
 elements-few (a ∷ b ∷ c ∷ e ∷ t) h = absurd (omega arith)
 
-all-more : (p : ℕ → Bool) (t : Bytes) → 4 ≤ length t → all p (elementsOf t) ≡ (firstPasses p t && all p (elementsOf (drop 4 t)))
-all-more p t h = ap (λ (l : List ℕ). all p l) (elements-more t h) ∙ by (eqb (getD t 0 0) 0)
+all-more : (p : ℕ → Bool) (t : Bytes) → particleSize ≤ length t → all p (elementsOf t) ≡ (firstPasses p t && all p (elementsOf (drop particleSize t)))
+all-more p t h = ap (λ (l : List ℕ). all p l) (elements-more t h) ∙ by (eqb (readParticle t .row .sort) 0)
   where
-    by : (b : Bool) → all p (elim b [ true ↦ getD t 2 0 ∷ elementsOf (drop 4 t) | false ↦ elementsOf (drop 4 t) ]) ≡ (elim b [ true ↦ p (getD t 2 0) | false ↦ true ] && all p (elementsOf (drop 4 t)))
+    by : (b : Bool) → all p (elim b [ true ↦ readParticle t .row .index ∷ elementsOf (drop particleSize t) | false ↦ elementsOf (drop particleSize t) ]) ≡ (elim b [ true ↦ p (readParticle t .row .index) | false ↦ true ] && all p (elementsOf (drop particleSize t)))
     by true = refl
     by false = refl
 

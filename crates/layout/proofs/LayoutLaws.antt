@@ -5,7 +5,7 @@ use mathlib.Core.List.{List, [], _∷_}
 use Prim.Native.Nat.{ℕ, zero, suc, _+_, _-_, _*_, _<_, _≤_}
 use native.Mathlib.Omega.{arith}
 use native.Mathlib.Nat.{mul-le-mul, mul-suc, mul-zero}
-use lib.ListN.{length, take, drop, getD, length-drop, drop-of-length-le}
+use lib.ListN.{length, take, drop, getD, length-take, length-drop, drop-of-length-le}
 use lib.Seq.{getD-take, getD-drop, take-nil, take-all, take-take, drop-drop}
 use Rattle.rules.specs.Bytes.{Bytes}
 use Rattle.rules.specs.Store.{Store}
@@ -191,3 +191,17 @@ particles-at i s =
 
 pub first-field-by : (size i : ℕ) (s : Bytes) {r b : ℕ} → 0 < size → b ≡ getD s (size * i) 0 → r ≡ b → r ≡ getD (recordAt size i s) 0 0
 first-field-by size i s h e g = let z : size * i ≡ size * i + 0 = omega arith in field-by size i 0 s h (e ∙ ap (λ (k : ℕ). getD s k 0) z) g
+
+-- ---- a text is no longer than its record, an attribute's value no longer than its field
+module _ (s : Bytes) where
+  pub definition-name-short : length (readDefinition s .name) ≤ length s
+  definition-name-short = omega (arith, length-take (getD s 0 0) (drop 1 s), length-drop 1 s)
+
+  pub attribute-name-short : length (readAttribute s .name) ≤ length s
+  attribute-name-short = omega (arith, length-take (getD s 1 0) (drop 2 s), length-drop 2 s)
+
+  pub attribute-value-short : (w : ℕ) → length s ≤ attributeSize w → length (readAttribute s .value) ≤ w
+  attribute-value-short w h = omega (arith, length-take (getD (drop 18 s) 1 0) (drop 2 (drop 18 s)), length-drop 2 (drop 18 s), length-drop 18 s)
+
+  pub row-value-short : length (readRow s .row .value) ≤ length s
+  row-value-short = omega (arith, length-take (getD s 8 0) (drop 10 s), length-drop 10 s)

@@ -10,12 +10,14 @@ use lib.Dec.{eqb}
 use lib.ListN.{length, getD, take, drop}
 use borrow.Author.Tests.{eq-eqb, ne-eqb}
 use Rattle.rules.specs.Bytes.{Bytes, all}
+use Rattle.rules.specs.Layout.{particleSize}
+use Rattle.rules.specs.Decode.{readParticle}
 use Rattle.codec.proofs.Writers.{tail-seen}
 use Rattle.codec.specs.Part.{partOf}
 use Rattle.circles.specs.Members.{countAt, startAt, modelPart, elementsOf, membersIn}
 use Rattle.circles.specs.Deep.{marked, firstPasses}
 
-pub elements-more : (t : Bytes) → 4 ≤ length t → elementsOf t ≡ elim (eqb (getD t 0 0) 0) [ true ↦ getD t 2 0 ∷ elementsOf (drop 4 t) | false ↦ elementsOf (drop 4 t) ]
+pub elements-more : (t : Bytes) → particleSize ≤ length t → elementsOf t ≡ elim (eqb (readParticle t .row .sort) 0) [ true ↦ readParticle t .row .index ∷ elementsOf (drop particleSize t) | false ↦ elementsOf (drop particleSize t) ]
 unfolding elementsOf
 elements-more [] h = absurd (omega arith)
 elements-more (a ∷ []) h = absurd (omega arith)
@@ -23,7 +25,7 @@ elements-more (a ∷ b ∷ []) h = absurd (omega arith)
 elements-more (a ∷ b ∷ c ∷ []) h = absurd (omega arith)
 elements-more (a ∷ b ∷ c ∷ e ∷ t) h = refl
 
-pub elements-few : (t : Bytes) → length t < 4 → elementsOf t ≡ []
+pub elements-few : (t : Bytes) → length t < particleSize → elementsOf t ≡ []
 unfolding elementsOf
 elements-few [] h = refl
 elements-few (a ∷ []) h = refl
@@ -31,23 +33,24 @@ elements-few (a ∷ b ∷ []) h = refl
 elements-few (a ∷ b ∷ c ∷ []) h = refl
 elements-few (a ∷ b ∷ c ∷ e ∷ t) h = absurd (omega arith)
 
-all-more : (p : ℕ → Bool) (t : Bytes) → 4 ≤ length t → all p (elementsOf t) ≡ (firstPasses p t && all p (elementsOf (drop 4 t)))
-all-more p t h = ap (λ (l : List ℕ). all p l) (elements-more t h) ∙ by (eqb (getD t 0 0) 0)
+all-more : (p : ℕ → Bool) (t : Bytes) → particleSize ≤ length t → all p (elementsOf t) ≡ (firstPasses p t && all p (elementsOf (drop particleSize t)))
+all-more p t h = ap (λ (l : List ℕ). all p l) (elements-more t h) ∙ by (eqb (readParticle t .row .sort) 0)
   where
-    by : (b : Bool) → all p (elim b [ true ↦ getD t 2 0 ∷ elementsOf (drop 4 t) | false ↦ elementsOf (drop 4 t) ]) ≡ (elim b [ true ↦ p (getD t 2 0) | false ↦ true ] && all p (elementsOf (drop 4 t)))
+    by : (b : Bool) → all p (elim b [ true ↦ readParticle t .row .index ∷ elementsOf (drop particleSize t) | false ↦ elementsOf (drop particleSize t) ]) ≡ (elim b [ true ↦ p (readParticle t .row .index) | false ↦ true ] && all p (elementsOf (drop particleSize t)))
     by true = refl
     by false = refl
 
 -- ---- the loop over the particles: t is left
-module _ (p : ℕ → Bool) (goal : Bool) (t : Bytes) (e : goal ≡ all p (elementsOf t)) where
-  pub settle-on : 4 ≤ length t → (b : Bool) → b ≡ firstPasses p t → b ≡ true → goal ≡ all p (elementsOf (take (length t - 4) (drop 4 t)))
-  settle-on h b q f = rw (tail-seen t 4) (e ∙ all-more p t h ∙ ap (λ (x : Bool). x && all p (elementsOf (drop 4 t))) (sym q ∙ f))
+module _ (p : ℕ → Bool) (goal : Bool) (t : Bytes) (size : ℕ) (z : size ≡ particleSize) (e : goal ≡ all p (elementsOf t)) where
+  pub settle-on : size ≤ length t → (b : Bool) → b ≡ firstPasses p t → b ≡ true → goal ≡ all p (elementsOf (take (length t - size) (drop size t)))
+  settle-on h b q f =
+      rw (tail-seen t size, z) (e ∙ all-more p t (omega arith) ∙ ap (λ (x : Bool). x && all p (elementsOf (drop particleSize t))) (sym q ∙ f))
 
-  pub settle-no : 4 ≤ length t → (b : Bool) → b ≡ firstPasses p t → b ≡ false → false ≡ goal
-  settle-no h b q f = sym (e ∙ all-more p t h ∙ ap (λ (x : Bool). x && all p (elementsOf (drop 4 t))) (sym q ∙ f))
+  pub settle-no : size ≤ length t → (b : Bool) → b ≡ firstPasses p t → b ≡ false → false ≡ goal
+  settle-no h b q f = sym (e ∙ all-more p t (omega arith) ∙ ap (λ (x : Bool). x && all p (elementsOf (drop particleSize t))) (sym q ∙ f))
 
-  pub settle-ends : length t < 4 → true ≡ goal
-  settle-ends h = sym (e ∙ ap (λ (l : List ℕ). all p l) (elements-few t h))
+  pub settle-ends : length t < size → true ≡ goal
+  settle-ends h = sym (e ∙ ap (λ (l : List ℕ). all p l) (elements-few t (omega arith)))
 
 -- ---- one particle
 module _ (old : Bytes) (s a : ℕ) (e : s ≡ a) where
@@ -71,6 +74,6 @@ pub starts-more : {defs : Bytes} {start i : ℕ} (c : ℕ) → Starts defs start
 unfolding startAt
 starts-more {defs} {start} {i} c s e h = record { is = rw (add-one i) (rw (s .is, e)); small = omega (arith, s .small) }
 
-pub model-members : (defs parts : Bytes) (i start c : ℕ) (model : Bytes) → Starts defs start i → c ≡ countAt defs i → model ≡ partOf (4 * start) (4 * c) parts → elementsOf model ≡ membersIn defs parts i
+pub model-members : (defs parts : Bytes) (i start c : ℕ) (model : Bytes) → Starts defs start i → c ≡ countAt defs i → model ≡ partOf (particleSize * start) (particleSize * c) parts → elementsOf model ≡ membersIn defs parts i
 unfolding modelPart membersIn
 model-members defs parts i start c model s e m = rw (m, s .is, e)

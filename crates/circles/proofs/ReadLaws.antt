@@ -16,12 +16,13 @@ use Rattle.rules.specs.Model.{names, Distinct}
 use Rattle.rules.specs.Store.{Attribute, Form, Forest, bare, tree, modelOf, members}
 use Rattle.rules.specs.Preorder.{Deep, flatten, build}
 use Rattle.rules.specs.Layout.{definitionSize, particleSize, FlatDefinition, FlatParticle, FlatAttribute}
-use Rattle.rules.specs.Decode.{unle, nameAt, readDefinition, readParticle, readMany, contentOf, memberOf, readMembers, ofOwner, readForm, flatName}
+use Rattle.rules.specs.Decode.{nameAt, readDefinition, readParticle, readMany, contentOf, memberOf, readMembers, ofOwner, readForm, flatName}
 use Rattle.rules.specs.WellFormed.{definitionName, Reaches}
 use Rattle.rules.proofs.PreorderLaws.{rising, flatten-build}
 use Rattle.forms.specs.FormTests.{elementsIn}
 use Rattle.codec.specs.Part.{partOf}
 use Rattle.codec.proofs.Strings.{part-there}
+use Rattle.layout.proofs.LayoutLaws.{record-first, record-after, drop-take}
 use Rattle.circles.specs.Members.{countAt, startAt, modelPart, elementsOf, membersIn}
 use Rattle.circles.specs.declared.Heights.{Heights}
 use Rattle.circles.specs.Deep.{deepIndex, Ranked}
@@ -116,11 +117,6 @@ module _ (ns : List Bytes) where
   length-read o (d ∷ ds) ps cs = ap suc (length-read (suc o) ds (drop (d .particles) ps) cs)
 
 -- ---- records in bytes
-drop-take : {A : Type 0} (m n : ℕ) (l : List A) → drop m (take (m + n) l) ≡ take n (drop m l)
-drop-take zero n l = rw zero-add
-drop-take (suc m) n [] = rw suc-add (sym (take-nil n))
-drop-take (suc m) n (x ∷ l) = rw suc-add (drop-take m n l)
-
 module _ {A : Type 0} (f : Bytes → A) (size : ℕ) where
   length-many : (n : ℕ) (l : Bytes) → length (readMany f size n l) ≡ n
   length-many zero l = refl
@@ -146,7 +142,7 @@ module _ {A : Type 0} (f : Bytes → A) (size : ℕ) where
       (ap (readMany f size c) (drop-take size (size * c) l) ∙ many-front c (drop size l)))
 
 -- ---- the members in bytes
-elements-read : (k : ℕ) (t : Bytes) → length t ≡ 4 * k → elementsOf t ≡ elementsIn (readMany readParticle 4 k t)
+elements-read : (k : ℕ) (t : Bytes) → length t ≡ particleSize * k → elementsOf t ≡ elementsIn (readMany readParticle particleSize k t)
 unfolding elementsOf elementsIn
 elements-read zero [] e = refl
 elements-read zero (a ∷ t) e = absurd (omega arith)
@@ -156,20 +152,18 @@ elements-read (suc k) (a ∷ b ∷ []) e = absurd (omega arith)
 elements-read (suc k) (a ∷ b ∷ c ∷ []) e = absurd (omega arith)
 elements-read (suc k) (a ∷ b ∷ c ∷ d ∷ t) e = by (eqb a 0) (elements-read k t (omega arith))
   where
-    by : (x : Bool) → elementsOf t ≡ elementsIn (readMany readParticle 4 k t)
-        → _≡_ {A = List ℕ} (elim x [ true ↦ c ∷ elementsOf t | false ↦ elementsOf t ]) (elim x [ true ↦ c ∷ elementsIn (readMany readParticle 4 k t) | false ↦ elementsIn (readMany readParticle 4 k t) ])
+    by : (x : Bool) → elementsOf t ≡ elementsIn (readMany readParticle particleSize k t)
+        → _≡_ {A = List ℕ} (elim x [ true ↦ c ∷ elementsOf t | false ↦ elementsOf t ]) (elim x [ true ↦ c ∷ elementsIn (readMany readParticle particleSize k t) | false ↦ elementsIn (readMany readParticle particleSize k t) ])
     by true q = ap (λ (l : List ℕ). c ∷ l) q
     by false q = q
 
-count-first : (defs : Bytes) → readDefinition (take 20 defs) .particles ≡ countAt defs 0
-count-first defs = ap unle (ap (take 2) (drop-drop 1 17 (take 20 defs) ∙ drop-take 18 2 defs) ∙ take-take 2 2 (drop 18 defs) (omega arith))
+count-first : (defs : Bytes) → readDefinition (take definitionSize defs) .particles ≡ countAt defs 0
+count-first defs = ap (λ (l : Bytes). readDefinition l .particles) (record-first definitionSize defs)
 
-count-after : (defs : Bytes) (i : ℕ) → countAt (drop 20 defs) i ≡ countAt defs (suc i)
-count-after defs i =
-    let e : 20 + (20 * i + 18) ≡ 20 * suc i + 18 = omega arith in
-    ap (λ (l : Bytes). unle (take 2 l)) (drop-drop (20 * i + 18) 20 defs ∙ ap (λ (k : ℕ). drop k defs) e)
+count-after : (defs : Bytes) (i : ℕ) → countAt (drop definitionSize defs) i ≡ countAt defs (suc i)
+count-after defs i = ap (λ (l : Bytes). readDefinition l .particles) (record-after definitionSize i defs)
 
-start-after : (defs : Bytes) (i : ℕ) → countAt defs 0 + startAt (drop 20 defs) i ≡ startAt defs (suc i)
+start-after : (defs : Bytes) (i : ℕ) → countAt defs 0 + startAt (drop definitionSize defs) i ≡ startAt defs (suc i)
 unfolding startAt
 start-after defs zero = omega arith
 start-after defs (suc i) = omega (arith, start-after defs i, count-after defs i)
@@ -179,39 +173,39 @@ unfolding startAt
 start-less defs i zero = let e : i + 0 ≡ i = omega arith in rw e (omega arith)
 start-less defs i (suc k) = let e : i + suc k ≡ suc (i + k) = omega arith in rw e (omega (arith, start-less defs i k))
 
-model-read : (n i : ℕ) (defs : Bytes) (ps : List (Deep FlatParticle)) → i < n → modelAt i (readMany readDefinition 20 n defs) ps ≡ take (countAt defs i) (drop (startAt defs i) ps)
+model-read : (n i : ℕ) (defs : Bytes) (ps : List (Deep FlatParticle)) → i < n → modelAt i (readMany readDefinition definitionSize n defs) ps ≡ take (countAt defs i) (drop (startAt defs i) ps)
 unfolding modelAt startAt
 model-read zero i defs ps l = absurd (not-suc-le-zero l)
 model-read (suc n) zero defs ps l = ap (λ (c : ℕ). take c ps) (count-first defs)
 model-read (suc n) (suc i) defs ps l =
-    ap (λ (c : ℕ). modelAt i (readMany readDefinition 20 n (drop 20 defs)) (drop c ps)) (count-first defs)
-    ∙ model-read n i (drop 20 defs) (drop (countAt defs 0) ps) (le-of-suc-le-suc l)
-    ∙ ap₂ (λ (c : ℕ) (l : List (Deep FlatParticle)). take c l) (count-after defs i) (drop-drop (startAt (drop 20 defs) i) (countAt defs 0) ps ∙ ap (λ (k : ℕ). drop k ps) (start-after defs i))
+    ap (λ (c : ℕ). modelAt i (readMany readDefinition definitionSize n (drop definitionSize defs)) (drop c ps)) (count-first defs)
+    ∙ model-read n i (drop definitionSize defs) (drop (countAt defs 0) ps) (le-of-suc-le-suc l)
+    ∙ ap₂ (λ (c : ℕ) (l : List (Deep FlatParticle)). take c l) (count-after defs i) (drop-drop (startAt (drop definitionSize defs) i) (countAt defs 0) ps ∙ ap (λ (k : ℕ). drop k ps) (start-after defs i))
 
 -- the bytes of c particles, s after the first, of p that are there
-part-elements : (parts : Bytes) (p s c : ℕ) → 4 * p ≤ length parts → s + c ≤ p → elementsOf (partOf (4 * s) (4 * c) parts) ≡ elementsIn (take c (drop s (readMany readParticle 4 p parts)))
+part-elements : (parts : Bytes) (p s c : ℕ) → particleSize * p ≤ length parts → s + c ≤ p → elementsOf (partOf (particleSize * s) (particleSize * c) parts) ≡ elementsIn (take c (drop s (readMany readParticle particleSize p parts)))
 part-elements parts p s c long room =
-    ap elementsOf (part-there (4 * s) (4 * c) parts (omega arith))
-    ∙ elements-read c (take (4 * c) (drop (4 * s) parts)) (omega (arith, length-take (4 * c) (drop (4 * s) parts), length-drop (4 * s) parts))
-    ∙ ap elementsIn (many-front readParticle 4 c (drop (4 * s) parts) ∙ sym (cut (p - (s + c)) (omega arith)))
+    ap elementsOf (part-there (particleSize * s) (particleSize * c) parts (omega arith))
+    ∙ elements-read c (take (particleSize * c) (drop (particleSize * s) parts)) (omega (arith, length-take (particleSize * c) (drop (particleSize * s) parts), length-drop (particleSize * s) parts))
+    ∙ ap elementsIn (many-front readParticle particleSize c (drop (particleSize * s) parts) ∙ sym (cut (p - (s + c)) (omega arith)))
   where
-    cut : (q : ℕ) → p ≡ s + (c + q) → take c (drop s (readMany readParticle 4 p parts)) ≡ readMany readParticle 4 c (drop (4 * s) parts)
+    cut : (q : ℕ) → p ≡ s + (c + q) → take c (drop s (readMany readParticle particleSize p parts)) ≡ readMany readParticle particleSize c (drop (particleSize * s) parts)
     cut q e =
-        ap (λ (k : ℕ). take c (drop s (readMany readParticle 4 k parts))) e
-        ∙ ap (λ (l : List (Deep FlatParticle)). take c l) (many-drop readParticle 4 s (c + q) parts)
-        ∙ many-take readParticle 4 c q (drop (4 * s) parts)
+        ap (λ (k : ℕ). take c (drop s (readMany readParticle particleSize k parts))) e
+        ∙ ap (λ (l : List (Deep FlatParticle)). take c l) (many-drop readParticle particleSize s (c + q) parts)
+        ∙ many-take readParticle particleSize c q (drop (particleSize * s) parts)
 
 pub start-room : (defs : Bytes) (n i : ℕ) → i < n → startAt defs i + countAt defs i ≤ startAt defs n
 unfolding startAt
 start-room defs n i l = let z : suc i + (n - suc i) ≡ n = omega arith in rw z at (start-less defs (suc i) (n - suc i))
 
 -- n definitions, whose counts give no more than the p particles that are there
-module _ (defs parts : Bytes) (n p : ℕ) (few : startAt defs n ≤ p) (long : 4 * p ≤ length parts) where
-  pub members-read : (i : ℕ) → i < n → membersIn defs parts i ≡ elementsIn (modelAt i (readMany readDefinition 20 n defs) (readMany readParticle 4 p parts))
+module _ (defs parts : Bytes) (n p : ℕ) (few : startAt defs n ≤ p) (long : particleSize * p ≤ length parts) where
+  pub members-read : (i : ℕ) → i < n → membersIn defs parts i ≡ elementsIn (modelAt i (readMany readDefinition definitionSize n defs) (readMany readParticle particleSize p parts))
   unfolding membersIn modelPart
   members-read i l =
       part-elements parts p (startAt defs i) (countAt defs i) long (omega (arith, start-room defs n i l))
-      ∙ ap elementsIn (sym (model-read n i defs (readMany readParticle 4 p parts) l))
+      ∙ ap elementsIn (sym (model-read n i defs (readMany readParticle particleSize p parts) l))
 
 -- the definitions and particles that are read, and the form of them
 abbrev pub definitionsRead : Bytes → ℕ → List FlatDefinition

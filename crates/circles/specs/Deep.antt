@@ -8,6 +8,7 @@ use mathlib.Core.List.{List}
 use lib.Dec.{ltb, eqb}
 use lib.ListN.{getD}
 use Rattle.rules.specs.Bytes.{Bytes, all, between}
+use Rattle.rules.specs.Decode.{readParticle}
 use Rattle.circles.specs.declared.Heights.{Heights}
 
 -- definition i is one of n, and every chain of members from it ends within h definitions
@@ -23,7 +24,7 @@ marked heights i = not (eqb (getD heights i 0) 0)
 
 -- the first of some particles is a group, or an element that passes
 abbrev pub firstPasses : (ℕ → Bool) → Bytes → Bool
-firstPasses p t = elim (eqb (getD t 0 0) 0) [ true ↦ p (getD t 2 0) | false ↦ true ]
+firstPasses p t = elim (eqb (readParticle t .row .sort) 0) [ true ↦ p (readParticle t .row .index) | false ↦ true ]
 
 -- a height after round h: as it was, or h if all members have one
 abbrev pub raisedTo : ℕ → ℕ → Bool → ℕ

@@ -6,12 +6,13 @@ use mathlib.Core.List.{List, [], _∷_}
 use lib.Dec.{eqb}
 use Rattle.rules.specs.Bytes.{Bytes}
 use Rattle.rules.specs.Layout.{definitionSize, particleSize}
-use Rattle.rules.specs.Decode.{numberAt}
+use Rattle.rules.specs.Decode.{readDefinition}
 use Rattle.codec.specs.Part.{partOf}
+use Rattle.layout.specs.Bodies.{recordAt}
 
 -- how many particles definition i has, and how many stand before them
 abbrev pub countAt : Bytes → ℕ → ℕ
-countAt defs i = numberAt (definitionSize * i + 18) 2 defs
+countAt defs i = readDefinition (recordAt definitionSize i defs) .particles
 
 unfoldable pub startAt : Bytes → ℕ → ℕ
 startAt defs zero = 0

@@ -10,10 +10,6 @@ ghost use Rattle.circles.specs.Avoiding.{Avoids};
 
 const MAX_DEFINITIONS: usize = 64;
 
-const DEFINITION_SIZE: usize = 20;
-
-const PARTICLE_SIZE: usize = 4;
-
 /// Whether every chain of members ends, and the height of each definition, which is more than that of each member; 0 for one from
 /// which a chain does not end.
 pub struct Heights {
@@ -25,10 +21,10 @@ pub struct Heights {
 fn first_passes(t: &[u8], old: &[u8; MAX_DEFINITIONS]) -> bool
     ensures { λ r. ⌜ r ≡ firstPasses (marked (now (old .entry))) (now (t .entry)) ⌝ }
 {
-    if codec::byte(t, 0) != 0 {
+    if layout::particle_sort(t) != 0 {
         return true;
     }
-    let j = codec::byte(t, 2) as usize;
+    let j = layout::particle_index(t) as usize;
     codec::byte(old, j) != 0
 }
 
@@ -36,12 +32,13 @@ fn first_passes(t: &[u8], old: &[u8; MAX_DEFINITIONS]) -> bool
 fn settled(model: &[u8], old: &[u8; MAX_DEFINITIONS]) -> bool
     ensures { λ r. ⌜ r ≡ all (marked (now (old .entry))) (elementsOf (now (model .entry))) ⌝ }
 {
+    let size = layout::particle_size();
     let mut t = model;
-    while t.len() >= PARTICLE_SIZE {
+    while t.len() >= size {
         if !first_passes(t, old) {
             return false;
         }
-        t = &t[PARTICLE_SIZE..];
+        t = &t[size..];
     }
     true
 }
@@ -56,8 +53,8 @@ fn raised(model: &[u8], old: &[u8; MAX_DEFINITIONS], was: u8, h: u8) -> u8
     if settled(model, old) { h } else { 0 }
 }
 
-// Round h: height h for the definitions without one whose members all have one. A definition has its number of particles at 18, and
-// its particles stand after those of the definitions before it.
+// Round h: height h for the definitions without one whose members all have one. The particles of a definition stand after those of
+// the definitions before it.
 fn round(
     n: usize,
     defs: &[u8],
@@ -72,8 +69,8 @@ fn round(
     let mut start: usize = 0;
     let mut i = 0;
     while i < n {
-        let count = codec::get_u16(defs, DEFINITION_SIZE * i + 18) as usize;
-        let model = codec::part(parts, PARTICLE_SIZE * start, PARTICLE_SIZE * count);
+        let count = layout::definition_particles_at(defs, i) as usize;
+        let model = layout::particles_part(parts, start, count);
         new[i] = raised(model, old, old[i], h);
         start += count;
         i += 1;

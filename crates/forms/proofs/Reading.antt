@@ -5,21 +5,16 @@ use Prim.Native.Nat.{ℕ, zero, suc, _+_, _*_, _-_, _≤_, _<_}
 use native.Mathlib.Omega.{arith}
 use native.Mathlib.Numerals.{add-one}
 use native.Mathlib.Nat.{le-of-suc-le-suc, not-suc-le-zero, mul-zero, mul-suc}
-use lib.ListN.{length, take, drop, getD, length-take, drop-of-length-le}
-use lib.Seq.{getD-take, getD-drop, take-nil, take-take, take-all, drop-drop}
+use lib.ListN.{length, take, drop, drop-of-length-le}
+use lib.Seq.{take-take, take-all, drop-drop}
 use Rattle.rules.specs.Bytes.{Bytes}
 use Rattle.rules.specs.Layout.{definitionSize, particleSize, attributeSize}
-use Rattle.rules.specs.Decode.{numberAt, unle, readDefinition, readParticle, readAttribute, readMany}
+use Rattle.rules.specs.Decode.{readDefinition, readParticle, readAttribute, readMany}
 use Rattle.codec.specs.Part.{partOf}
 use Rattle.codec.proofs.Strings.{part-there}
-use Rattle.layout.specs.Bodies.{windowOf}
-use Rattle.forms.specs.Bodies.{recordAt, definitionAt, particleAt, attributeAt, definitions, particles, attributes}
-
--- ---- parts of a list
-drop-take : {A : Type 0} (k m : ℕ) (l : List A) → drop k (take (k + m) l) ≡ take m (drop k l)
-drop-take zero m l = let e : 0 + m ≡ m = omega arith in rw e
-drop-take (suc k) m [] = rw (take-nil (suc k + m), take-nil m)
-drop-take (suc k) m (x ∷ l) = let e : suc k + m ≡ suc (k + m) = omega arith in rw e (drop-take k m l)
+use Rattle.layout.specs.Bodies.{recordAt}
+use Rattle.layout.proofs.LayoutLaws.{drop-take}
+use Rattle.forms.specs.Bodies.{definitionAt, particleAt, attributeAt, definitions, particles, attributes}
 
 -- ---- readMany
 module _ {A : Type 0} (f : Bytes → A) (size : ℕ) where
@@ -81,15 +76,15 @@ unfolding attributes
 attributes-length w n s = many-length readAttribute (attributeSize w) n s
 
 pub definitions-from : (i n : ℕ) (s : Bytes) → i < n → drop i (definitions n s) ≡ definitionAt i s ∷ drop (i + 1) (definitions n s)
-unfolding definitions recordAt
+unfolding definitions
 definitions-from i n s h = rw add-one (many-from readDefinition definitionSize i n s h)
 
 pub particles-from : (i n : ℕ) (s : Bytes) → i < n → drop i (particles n s) ≡ particleAt i s ∷ drop (i + 1) (particles n s)
-unfolding particles recordAt
+unfolding particles
 particles-from i n s h = rw add-one (many-from readParticle particleSize i n s h)
 
 pub attributes-from : (w i n : ℕ) (s : Bytes) → i < n → drop i (attributes w n s) ≡ attributeAt w i s ∷ drop (i + 1) (attributes w n s)
-unfolding attributes recordAt
+unfolding attributes
 attributes-from w i n s h = rw add-one (many-from readAttribute (attributeSize w) i n s h)
 
 pub definitions-end : (i n : ℕ) (s : Bytes) → n ≤ i → drop i (definitions n s) ≡ []
@@ -107,45 +102,14 @@ unfolding particles
 particles-part at c n s h e =
     rw (part-there (particleSize * at) (particleSize * c) s (omega arith)) (sym (many-part readParticle particleSize at c n s h))
 
--- ---- fields
-pub field-at : (size i k : ℕ) (s : Bytes) → k < size → getD (recordAt size i s) k 0 ≡ getD s (size * i + k) 0
-unfolding recordAt
-field-at size i k s h = getD-take size (drop (size * i) s) k 0 h ∙ getD-drop (size * i) s k 0
-
--- the rest of a record, from its byte k on
-rest-at : (k m i : ℕ) (s : Bytes) → drop k (recordAt (k + m) i s) ≡ take m (drop ((k + m) * i + k) s)
-unfolding recordAt
-rest-at k m i s = drop-take k m (drop ((k + m) * i) s) ∙ ap (λ (t : Bytes). take m t) (drop-drop k ((k + m) * i) s)
-
--- a text's bytes, where its length byte ends it and where the record does
-pub text-short : (at : ℕ) (s : Bytes) {n most : ℕ} {r : Bytes} → r ≡ partOf (at + 1) n s → n ≡ getD s at 0 → n < most → at + 1 + most ≤ length s → r ≡ take (getD s at 0) (take most (drop (at + 1) s))
-text-short at s {n} {most} e g h k =
-    e ∙ part-there (at + 1) n s (omega arith) ∙ sym (take-take n most (drop (at + 1) s) (omega arith)) ∙ ap (λ (z : ℕ). take z (take most (drop (at + 1) s))) g
-
-pub text-long : (at : ℕ) (s : Bytes) {n most : ℕ} {r : Bytes} → r ≡ partOf (at + 1) most s → n ≡ getD s at 0 → most ≤ n → at + 1 + most ≤ length s → r ≡ take (getD s at 0) (take most (drop (at + 1) s))
-text-long at s {n} {most} e g h k =
-    e ∙ part-there (at + 1) most s (omega arith)
-    ∙ sym (take-all n (take most (drop (at + 1) s)) (omega (arith, length-take most (drop (at + 1) s))))
-    ∙ ap (λ (z : ℕ). take z (take most (drop (at + 1) s))) g
-
-pub definition-name : (i : ℕ) (s : Bytes) → take (getD s (definitionSize * i) 0) (take 19 (drop (definitionSize * i + 1) s)) ≡ definitionAt i s .name
-definition-name i s =
-    let e : definitionSize * i + 0 ≡ definitionSize * i = omega arith in
-    ap₂ (λ (k : ℕ) (t : Bytes). take k t) (ap (λ (k : ℕ). getD s k 0) (sym e) ∙ sym (field-at definitionSize i 0 s (omega arith))) (sym (rest-at 1 19 i s))
-
--- the fields of an attribute's record
-module _ (w i : ℕ) (s : Bytes) {rec : Bytes} (e : rec ≡ windowOf (attributeSize w * i) (attributeSize w) s) where
+-- ---- the fields of an attribute's record
+module _ (w i : ℕ) (s : Bytes) {rec : Bytes} (e : rec ≡ recordAt (attributeSize w) i s) where
   pub attribute-name : {r : Bytes} → r ≡ readAttribute rec .name → r ≡ attributeAt w i s .name
-  unfolding recordAt
   attribute-name h = h ∙ ap (λ (t : Bytes). readAttribute t .name) e
 
   pub attribute-owner : {r : ℕ} → r ≡ readAttribute rec .owner → r ≡ attributeAt w i s .owner
-  unfolding recordAt
   attribute-owner h = h ∙ ap (λ (t : Bytes). readAttribute t .owner) e
 
-pub definition-size : (i : ℕ) (s : Bytes) → numberAt (definitionSize * i + 18) 2 s ≡ definitionAt i s .particles
-definition-size i s =
-    ap unle
-    (sym
-    (ap (λ (t : Bytes). take 2 t) (drop-drop 1 17 (recordAt definitionSize i s) ∙ rest-at 18 2 i s)
-    ∙ take-take 2 2 (drop (definitionSize * i + 18) s) (omega arith)))
+-- .. and the name of a definition's
+pub definition-name : (i : ℕ) (s : Bytes) {rec r : Bytes} → rec ≡ recordAt definitionSize i s → r ≡ readDefinition rec .name → r ≡ definitionAt i s .name
+definition-name i s e h = h ∙ ap (λ (t : Bytes). readDefinition t .name) e

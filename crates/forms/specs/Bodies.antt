@@ -4,12 +4,13 @@ use mathlib.Core.Path.{_≡_}
 use mathlib.Core.Bool.{Bool, true, false, _&&_, not}
 use mathlib.Core.List.{List, [], _∷_}
 use lib.Dec.{eqb, leb, ltb}
-use lib.ListN.{length, take, drop}
+use lib.ListN.{length}
 use Rattle.rules.specs.Bytes.{Bytes, same, any}
 use Rattle.rules.specs.Store.{heads}
 use Rattle.rules.specs.Preorder.{Deep, build}
-use Rattle.rules.specs.Layout.{baseVersion, definitionSize, particleSize, attributeSize, FlatDefinition, FlatParticle, FlatAttribute, FlatStore}
+use Rattle.rules.specs.Layout.{definitionSize, particleSize, attributeSize, FlatDefinition, FlatParticle, FlatAttribute, FlatStore}
 use Rattle.rules.specs.Decode.{readDefinition, readParticle, readAttribute, readMany}
+use Rattle.layout.specs.Bodies.{recordAt}
 
 -- ---- bodies
 -- a body of n records of one size, at most `most` of them
@@ -17,10 +18,7 @@ pub record Body (most size n : ℕ) (s : Bytes) : Type 0 where
   pub few : n ≤ most
   pub whole : size * n ≡ length s
 
--- the bytes of record i
-unfoldable pub recordAt : ℕ → ℕ → Bytes → Bytes
-recordAt size i s = take size (drop (size * i) s)
-
+-- record i
 abbrev pub definitionAt : ℕ → Bytes → FlatDefinition
 definitionAt i s = readDefinition (recordAt definitionSize i s)
 
@@ -45,11 +43,11 @@ pub record Bodies (w n : ℕ) (defs : Bytes) (p : ℕ) (parts : Bytes) (a : ℕ)
   pub particleBody : Body 256 particleSize p parts
   pub attributeBody : Body 64 (attributeSize w) a attrs
 
--- a store of this version that has these bodies, and no rows
+-- a store that has these bodies, and no rows; a form by itself has no version: 0 stands in the field
 abbrev pub formOf : ℕ → ℕ → Bytes → ℕ → Bytes → ℕ → Bytes → FlatStore
 formOf w n defs p parts a attrs =
     record {
-      version = baseVersion;
+      version = 0;
       next = 0;
       definitions = definitions n defs;
       particles = particles p parts;

@@ -1,60 +1,25 @@
 // The tests of a form's bodies that look at more than one record. Every loop is bounded by a count of records.
 ghost use mathlib.Core.Path.{_≡_};
-ghost use Prim.Native.Nat.{_+_, _*_, _<_, _≤_};
-ghost use lib.ListN.{length, take, drop, getD};
-ghost use Rattle.rules.specs.Bytes.{any};
+ghost use Prim.Native.Nat.{_+_, _<_, _≤_};
+ghost use lib.ListN.{drop};
+ghost use Rattle.rules.specs.Bytes.{same, any};
 ghost use Rattle.rules.specs.Layout.{definitionSize, particleSize, attributeSize};
 ghost use Rattle.layout.specs.Bodies.{Width};
 ghost use Rattle.forms.specs.FormTests.{clashes, definitionsApart, modelFits, modelsFit, ownersRise, attributesApart, bodiesFit};
-ghost use Rattle.forms.specs.Bodies.{Body, recordAt, definitionAt, particleAt, attributeAt, definitions, particles, attributes, Bodies, formOf, sameName, sameElement, countFits, membersFrom, stands};
-
-// the sizes of a definition and of a particle
-const DEFINITION: usize = 20;
-
-const PARTICLE: usize = 4;
-
-// the fields of a particle, a byte each
-const SORT: usize = 0;
-
-const QUANTIFIER: usize = 1;
-
-const INDEX: usize = 2;
-
-const DEPTH: usize = 3;
+ghost use Rattle.forms.specs.Bodies.{Body, definitionAt, particleAt, attributeAt, definitions, particles, attributes, Bodies, formOf, sameName, sameElement, countFits, membersFrom, stands};
 
 // the sort of a particle that is an element; the others are groups
 const ELEMENT: usize = 0;
 
-fn wide(x: u8) -> usize
-    ensures { λ r. ⌜ r ≡ x ⌝ }
+// Whether definition j has this name.
+fn same_name(name: &[u8], defs: &[u8], j: usize) -> bool
+    requires { ⌜ j < 64 ⌝ }
+    ensures { λ r. ⌜ r ≡ same (now (name .entry)) (definitionAt j (now (defs .entry)) .name) ⌝ }
 {
-    x as usize
-}
-
-// The text whose length stands at `at`, its bytes after that. A length of more than `most`, which runs past the record, is cut there.
-fn text(s: &[u8], at: usize, most: usize) -> &[u8]
-    requires { ⌜ at + 1 + most ≤ length (now s) ⌝ }
-    ensures { λ r. ⌜ now r ≡ take (getD (now (s .entry)) at 0) (take most (drop (at + 1) (now (s .entry)))) ⌝ }
-{
-    let n = wide(codec::byte(s, at));
-    if n < most {
-        return codec::part(s, at + 1, n);
-    }
-    codec::part(s, at + 1, most)
-}
-
-fn definition_name(defs: &[u8], i: usize) -> &[u8]
-    requires { ⌜ definitionSize * (i + 1) ≤ length (now defs) ⌝ }
-    ensures { λ r. ⌜ now r ≡ definitionAt i (now (defs .entry)) .name ⌝ }
-{
-    text(defs, DEFINITION * i, DEFINITION - 1)
-}
-
-fn same_name(defs: &[u8], i: usize, j: usize) -> bool
-    requires { ⌜ (definitionSize * (i + 1) ≤ length (now defs)) × (definitionSize * (j + 1) ≤ length (now defs)) ⌝ }
-    ensures { λ r. ⌜ r ≡ sameName (definitionAt i (now (defs .entry))) (definitionAt j (now (defs .entry))) ⌝ }
-{
-    codec::equal(definition_name(defs, i), definition_name(defs, j))
+    codec::equal(
+        name,
+        layout::definition_name(layout::definition_at(defs, j)),
+    )
 }
 
 // Whether a later definition has the name of definition i.
@@ -62,10 +27,11 @@ fn name_again(n: usize, defs: &[u8], i: usize) -> bool
     requires { ⌜ Body 64 definitionSize n (now defs) × (i < n) ⌝ }
     ensures { λ r. ⌜ r ≡ any (sameName (definitionAt i (now (defs .entry)))) (drop (i + 1) (definitions n (now (defs .entry)))) ⌝ }
 {
+    let name = layout::definition_name(layout::definition_at(defs, i));
     let mut j = i;
     while j + 1 < n {
         j += 1;
-        if same_name(defs, i, j) {
+        if same_name(name, defs, j) {
             return true;
         }
     }
@@ -158,14 +124,6 @@ pub fn owners_rise(w: usize, a: usize, attrs: &[u8]) -> bool
     true
 }
 
-// Field k of particle i.
-fn particle_byte(parts: &[u8], i: usize, k: usize) -> usize
-    requires { ⌜ (i < 256) × (k < particleSize) ⌝ }
-    ensures { λ r. ⌜ r ≡ getD (recordAt particleSize i (now (parts .entry))) k 0 ⌝ }
-{
-    wide(codec::byte(parts, PARTICLE * i + k))
-}
-
 // How many particles stand beside one another at depth k, from particle `from` on: the scan ends at a depth below k.
 fn members(m: usize, parts: &[u8], from: usize, k: usize) -> usize
     requires { ⌜ m ≤ 256 ⌝ }
@@ -174,7 +132,7 @@ fn members(m: usize, parts: &[u8], from: usize, k: usize) -> usize
     let mut count: usize = 0;
     let mut j = from;
     while j < m {
-        let depth = particle_byte(parts, j, DEPTH);
+        let depth = layout::particle_depth_at(parts, j);
         if depth < k {
             return count;
         }
@@ -191,9 +149,9 @@ fn count_fits(n: usize, parts: &[u8], i: usize, below: usize) -> bool
     requires { ⌜ i < 256 ⌝ }
     ensures { λ r. ⌜ r ≡ countFits n (particleAt i (now (parts .entry)) .row) below ⌝ }
 {
-    let sort = particle_byte(parts, i, SORT);
-    let marked = particle_byte(parts, i, QUANTIFIER) <= 3;
-    let index = particle_byte(parts, i, INDEX);
+    let sort = layout::particle_sort_at(parts, i);
+    let marked = layout::particle_quantifier_at(parts, i) <= 3;
+    let index = layout::particle_index_at(parts, i);
     if sort == ELEMENT {
         return marked & ((index < n) & (below == 0));
     }
@@ -205,9 +163,9 @@ fn same_element(parts: &[u8], i: usize, j: usize) -> bool
     requires { ⌜ (i < 256) × (j < 256) ⌝ }
     ensures { λ r. ⌜ r ≡ sameElement (particleAt i (now (parts .entry))) (particleAt j (now (parts .entry))) ⌝ }
 {
-    let first = particle_byte(parts, i, SORT) == ELEMENT;
-    let second = particle_byte(parts, j, SORT) == ELEMENT;
-    first & (second & (particle_byte(parts, i, INDEX) == particle_byte(parts, j, INDEX)))
+    let first = layout::particle_sort_at(parts, i) == ELEMENT;
+    let second = layout::particle_sort_at(parts, j) == ELEMENT;
+    first & (second & (layout::particle_index_at(parts, i) == layout::particle_index_at(parts, j)))
 }
 
 // Whether a later particle is the element of particle i again.
@@ -230,7 +188,7 @@ fn particle_stands(n: usize, m: usize, parts: &[u8], i: usize, d: usize) -> bool
     requires { ⌜ (m ≤ 256) × (i < m) ⌝ }
     ensures { λ r. ⌜ r ≡ stands n d (particleAt i (now (parts .entry))) (drop (i + 1) (particles m (now (parts .entry)))) ⌝ }
 {
-    let depth = particle_byte(parts, i, DEPTH);
+    let depth = layout::particle_depth_at(parts, i);
     if 4 < depth {
         return false;
     }
@@ -254,18 +212,10 @@ pub fn model_fits(n: usize, m: usize, parts: &[u8]) -> bool
         if !particle_stands(n, m, parts, i, d) {
             return false;
         }
-        d = particle_byte(parts, i, DEPTH) + 1;
+        d = layout::particle_depth_at(parts, i) + 1;
         i += 1;
     }
     true
-}
-
-// How many particles definition i has.
-fn model_size(defs: &[u8], i: usize) -> usize
-    requires { ⌜ i < 64 ⌝ }
-    ensures { λ r. ⌜ r ≡ definitionAt i (now (defs .entry)) .particles ⌝ }
-{
-    codec::get_u16(defs, DEFINITION * i + 18) as usize
 }
 
 /// Whether the particles are the models of the definitions, one after the other: each particle is in one model at most.
@@ -276,11 +226,11 @@ pub fn models_fit(n: usize, defs: &[u8], p: usize, parts: &[u8]) -> bool
     let mut at: usize = 0;
     let mut i = 0;
     while i < n {
-        let size = model_size(defs, i);
+        let size = layout::definition_particles_at(defs, i) as usize;
         if p - at < size {
             return false;
         }
-        if !model_fits(n, size, codec::part(parts, PARTICLE * at, PARTICLE * size)) {
+        if !model_fits(n, size, layout::particles_part(parts, at, size)) {
             return false;
         }
         at += size;

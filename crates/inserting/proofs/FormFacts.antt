@@ -15,8 +15,6 @@ use Rattle.rules.proofs.SmallBytes.{encode-small}
 use Rattle.codec.proofs.Strings.{part-there}
 use Rattle.lookup.specs.Bodies.{bodiesOf}
 use Rattle.layout.specs.Bodies.{widthOf, definitionsIn, particlesIn}
-use Rattle.forms.specs.Bodies.{recordAt}
-use Rattle.forms.proofs.Reading.{definition-size}
 use Rattle.circles.specs.Members.{countAt, startAt, membersIn}
 use Rattle.circles.specs.Members as circles
 use Rattle.circles.proofs.CircleLaws.{Indexed}
@@ -30,8 +28,7 @@ use Rattle.finding.proofs.StoreFacts.{formIn, byIndex, Whole, whole}
 -- ---- one part of the particles, read in two ways
 module _ (defs : Bytes) where
   count-same : (i : ℕ) → countAt defs i ≡ definitionIn defs i .particles
-  unfolding recordAt
-  count-same i = definition-size i defs
+  count-same i = refl
 
   start-same : (i : ℕ) → startAt defs i ≡ particlesBefore defs i
   unfolding startAt particlesBefore

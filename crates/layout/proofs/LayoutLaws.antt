@@ -5,8 +5,8 @@ use mathlib.Core.List.{List, [], _∷_}
 use Prim.Native.Nat.{ℕ, zero, suc, _+_, _-_, _*_, _<_, _≤_}
 use native.Mathlib.Omega.{arith}
 use native.Mathlib.Nat.{mul-le-mul, mul-suc, mul-zero}
-use lib.ListN.{length, take, drop, getD, length-drop, drop-of-length-le}
-use lib.Seq.{take-nil, take-all, take-take, drop-drop}
+use lib.ListN.{length, take, drop, getD, length-take, length-drop, drop-of-length-le}
+use lib.Seq.{getD-take, getD-drop, take-nil, take-all, take-take, drop-drop}
 use Rattle.rules.specs.Bytes.{Bytes}
 use Rattle.rules.specs.Store.{Store}
 use Rattle.rules.specs.Layout.{valueWidth, headerSize, definitionSize, particleSize, attributeSize, rowSize, FlatAttribute, FlatRow, FlatStore, flat, encode}
@@ -190,3 +190,40 @@ definitions-read bs = many-within readDefinition definitionSize (definitionCount
 pub particles-read : (bs : Bytes) → readMany readParticle particleSize (particleCount bs) (particleBody (shapeOf bs) bs) ≡ readFlat (widthOf bs) bs .particles
 unfolding particleBody shapeOf
 particles-read bs = many-within readParticle particleSize (particleCount bs) (drop (headerSize + definitionSize * definitionCount bs) bs) ∙ simp drop-drop
+
+-- ---- fields of record i, where they stand in the body
+pub field-at : (size i k : ℕ) (s : Bytes) → k < size → getD (recordAt size i s) k 0 ≡ getD s (size * i + k) 0
+field-at size i k s h = getD-take size (drop (size * i) s) k 0 h ∙ getD-drop (size * i) s k 0
+
+-- the byte that a callee read there
+pub field-by : (size i k : ℕ) (s : Bytes) {r b : ℕ} → k < size → b ≡ getD s (size * i + k) 0 → r ≡ b → r ≡ getD (recordAt size i s) k 0
+field-by size i k s h e g = g ∙ e ∙ sym (field-at size i k s h)
+
+pub drop-take : {A : Type 0} (k m : ℕ) (l : List A) → drop k (take (k + m) l) ≡ take m (drop k l)
+drop-take zero m l = let e : 0 + m ≡ m = omega arith in rw e
+drop-take (suc k) m [] = rw (take-nil (suc k + m), take-nil m)
+drop-take (suc k) m (x ∷ l) = let e : suc k + m ≡ suc (k + m) = omega arith in rw e (drop-take k m l)
+
+pub particles-at : (i : ℕ) (s : Bytes) → numberAt (definitionSize * i + 18) 2 s ≡ readDefinition (recordAt definitionSize i s) .particles
+particles-at i s =
+    ap unle
+    (sym
+    (ap (λ (t : Bytes). take 2 t) (drop-drop 1 17 (recordAt definitionSize i s) ∙ drop-take 18 2 (drop (definitionSize * i) s) ∙ ap (λ (t : Bytes). take 2 t) (drop-drop 18 (definitionSize * i) s))
+    ∙ take-take 2 2 (drop (definitionSize * i + 18) s) (omega arith)))
+
+pub first-field-by : (size i : ℕ) (s : Bytes) {r b : ℕ} → 0 < size → b ≡ getD s (size * i) 0 → r ≡ b → r ≡ getD (recordAt size i s) 0 0
+first-field-by size i s h e g = let z : size * i ≡ size * i + 0 = omega arith in field-by size i 0 s h (e ∙ ap (λ (k : ℕ). getD s k 0) z) g
+
+-- ---- a text is no longer than its record, an attribute's value no longer than its field
+module _ (s : Bytes) where
+  pub definition-name-short : length (readDefinition s .name) ≤ length s
+  definition-name-short = omega (arith, length-take (getD s 0 0) (drop 1 s), length-drop 1 s)
+
+  pub attribute-name-short : length (readAttribute s .name) ≤ length s
+  attribute-name-short = omega (arith, length-take (getD s 1 0) (drop 2 s), length-drop 2 s)
+
+  pub attribute-value-short : (w : ℕ) → length s ≤ attributeSize w → length (readAttribute s .value) ≤ w
+  attribute-value-short w h = omega (arith, length-take (getD (drop 18 s) 1 0) (drop 2 (drop 18 s)), length-drop 2 (drop 18 s), length-drop 18 s)
+
+  pub row-value-short : length (readRow s .row .value) ≤ length s
+  row-value-short = omega (arith, length-take (getD s 8 0) (drop 10 s), length-drop 10 s)

@@ -108,3 +108,11 @@ attributeIn bs i =
     (headerSize + definitionSize * definitionCount bs + particleSize * particleCount bs + attributeSize (widthOf bs) * i)
     (attributeSize (widthOf bs))
     bs
+
+-- how far a row's value stands from the row's beginning
+abbrev pub valueOffset : ℕ
+valueOffset = 10
+
+-- r is where the value stands of a row that begins at `start`
+pub record ValueAt (start r : ℕ) : Type 0 where
+  pub value : r ≡ start + valueOffset

@@ -6,10 +6,11 @@ ghost use lib.ListN.{length, take, drop, replicate};
 ghost use Rattle.rules.specs.Layout.{valueWidth, nameWidth, headerSize, definitionSize, particleSize, attributeSize, rowSize, le, entry, field, definitionBytes, attributeBytes};
 ghost use Rattle.rules.specs.Decode.{numberAt, readDefinition, readParticle, readAttribute, readRow, definitionCount, particleCount, attributeCount, rowCount};
 ghost use Rattle.codec.specs.Laid.{Laid};
+ghost use Rattle.codec.specs.Part.{partOf};
 ghost use Rattle.layout.specs.RowBytes.{rowOf, rowStart, rowEnd, movedRow, valuedRow, WholeRow, RowLaid};
 ghost use Rattle.layout.specs.RecordBytes.{definitionOf, attributeOf, indexedBytes, ownedBytes};
 ghost use Rattle.layout.specs.Header.{contents, headed};
-ghost use Rattle.layout.specs.Bodies.{Width, windowOf, Product, recordAt, Number, WidthIn, Sized, ShapeOf, attributesStart, rowsStart, Place, definitionBody, particleBody, attributeBody, rowBody, definitionsIn, particlesIn, attributesIn, rowsIn, attributeIn};
+ghost use Rattle.layout.specs.Bodies.{Width, windowOf, Product, recordAt, Number, WidthIn, Sized, ShapeOf, attributesStart, rowsStart, Place, definitionBody, particleBody, attributeBody, rowBody, definitionsIn, particlesIn, attributesIn, rowsIn, attributeIn, ValueAt};
 
 /// The n bytes from `at` on, fewer where s ends before.
 pub fn window(s: &[u8], at: usize, n: usize) -> &[u8]
@@ -618,6 +619,13 @@ pub fn put_header(
 
 // ---- the fields of a particle, and the owner of an attribute as its byte
 
+/// Bytes of a particle.
+pub fn particle_size() -> usize
+    ensures { λ r. ⌜ r ≡ particleSize ⌝ }
+{
+    4
+}
+
 /// Particle i.
 pub fn particle_at(parts: &[u8], i: usize) -> &[u8]
     requires { ⌜ i < 4294967296 ⌝ }
@@ -630,6 +638,12 @@ pub fn particle_sort(rec: &[u8]) -> u8
     ensures { λ r. ⌜ r ≡ readParticle (now (rec .entry)) .row .sort ⌝ }
 {
     codec::byte(rec, 0)
+}
+
+pub fn particle_quantifier(rec: &[u8]) -> u8
+    ensures { λ r. ⌜ r ≡ readParticle (now (rec .entry)) .row .quantifier ⌝ }
+{
+    codec::byte(rec, 1)
 }
 
 pub fn particle_index(rec: &[u8]) -> u8
@@ -766,4 +780,57 @@ pub fn attributes_from(w: usize, attrs: &[u8], i: usize) -> &[u8]
     ensures { λ r. ⌜ now r ≡ drop (attributeSize w * i) (now (attrs .entry)) ⌝ }
 {
     records_from(attrs, 20 + w, i)
+}
+
+/// n particles from number `at` on; none where the body ends before.
+pub fn particles_part(parts: &[u8], at: usize, n: usize) -> &[u8]
+    requires { ⌜ (at < 1099511627776) × (n < 4294967296) ⌝ }
+    ensures { λ r. ⌜ now r ≡ partOf (particleSize * at) (particleSize * n) (now (parts .entry)) ⌝ }
+{
+    codec::part(parts, 4 * at, 4 * n)
+}
+
+// ---- fields of record i, read where they stand in the body: loops over all particles take them so, for one test each
+
+pub fn particle_sort_at(parts: &[u8], i: usize) -> usize
+    requires { ⌜ i < 4294967296 ⌝ }
+    ensures { λ r. ⌜ r ≡ readParticle (recordAt particleSize i (now (parts .entry))) .row .sort ⌝ }
+{
+    wide(codec::byte(parts, 4 * i))
+}
+
+pub fn particle_quantifier_at(parts: &[u8], i: usize) -> usize
+    requires { ⌜ i < 4294967296 ⌝ }
+    ensures { λ r. ⌜ r ≡ readParticle (recordAt particleSize i (now (parts .entry))) .row .quantifier ⌝ }
+{
+    wide(codec::byte(parts, 4 * i + 1))
+}
+
+pub fn particle_index_at(parts: &[u8], i: usize) -> usize
+    requires { ⌜ i < 4294967296 ⌝ }
+    ensures { λ r. ⌜ r ≡ readParticle (recordAt particleSize i (now (parts .entry))) .row .index ⌝ }
+{
+    wide(codec::byte(parts, 4 * i + 2))
+}
+
+pub fn particle_depth_at(parts: &[u8], i: usize) -> usize
+    requires { ⌜ i < 4294967296 ⌝ }
+    ensures { λ r. ⌜ r ≡ readParticle (recordAt particleSize i (now (parts .entry))) .depth ⌝ }
+{
+    wide(codec::byte(parts, 4 * i + 3))
+}
+
+pub fn definition_particles_at(defs: &[u8], i: usize) -> u32
+    requires { ⌜ i < 4294967296 ⌝ }
+    ensures { λ r. ⌜ r ≡ readDefinition (recordAt definitionSize i (now (defs .entry))) .particles ⌝ }
+{
+    codec::get_u16(defs, 20 * i + 18)
+}
+
+/// Where the value stands of a row that begins at `start`.
+pub fn value_place(start: usize) -> usize
+    requires { ⌜ start < 9223372036854775808 ⌝ }
+    ensures { λ r. ⌜ ValueAt start r ⌝ }
+{
+    start + 10
 }

@@ -13,15 +13,15 @@ use lib.ListN.{length, take, drop, getD, length-drop}
 use lib.Seq.{take-nil, take-all, drop-drop}
 use Rattle.rules.specs.Bytes.{Bytes}
 use Rattle.rules.specs.Preorder.{Deep}
-use Rattle.rules.specs.Layout.{valueWidth, attributeSize, rowSize, FlatRow, FlatStore, flat, encode}
-use Rattle.rules.specs.Decode.{numberAt, readDefinition, readParticle, readAttribute, readRow, readMany, definitionCount, particleCount, attributeCount, rowCount, readFlat}
+use Rattle.rules.specs.Layout.{valueWidth, headerSize, definitionSize, particleSize, attributeSize, rowSize, FlatRow, FlatStore, flat, encode}
+use Rattle.rules.specs.Decode.{readDefinition, readParticle, readAttribute, readRow, readMany, definitionCount, particleCount, attributeCount, rowCount, readFlat}
 use Rattle.rules.specs.Store.{Store}
 use Rattle.rules.specs.Passing.{good, readStore}
 use Rattle.rules.specs.LookUp.{Found, Numbered, rowWith, foundRow, valueStart, partOf, notFound, foundIn, lookUp}
 use Rattle.rules.proofs.LayoutLaws.{read-bytes}
 use Rattle.rules.proofs.DecodeLaws.{good-flat, read-good}
 use Rattle.layout.specs.declared.Shape.{Shape}
-use Rattle.layout.specs.Bodies.{widthOf, windowOf, recordAt, shapeOf, ShapeOf, Place, rowsStart, attributesStart, WidthIn, Product}
+use Rattle.layout.specs.Bodies.{widthOf, windowOf, recordAt, shapeOf, ShapeOf, Place, rowsStart, attributesStart, WidthIn, Product, valueOffset}
 use Rattle.layout.proofs.LayoutLaws.{version-read}
 use Rattle.lookup.specs.Bodies.{Begins, RowPlace, RowsOf, recordsFrom, bodiesOf, rowStart, rowBody, rowPart}
 use Rattle.lookup.specs.Finding.{Looks, foundOn, foundAt}
@@ -56,11 +56,12 @@ pub begins : (bs : Bytes) (s : Shape) (r : ℕ) → ShapeOf bs s → Place (rows
 unfolding rowStart rowsStart attributesStart shapeOf
 begins bs s r x p = record { start = p .value ∙ ap rowsStart (x .is); small = p .small }
 
-pub row-placed : (bs : Bytes) (i w p x : ℕ) → WidthIn bs w → Product (12 + w) i p → Begins bs x → RowPlace bs i (x + p)
-row-placed bs i w p x a b c = record { value = ap₂ (λ (m n : ℕ). m + n) (c .start) (b .value ∙ ap (λ (v : ℕ). rowSize v * i) (a .value)); small = omega (arith, c .small, b .small) }
+pub row-placed : (bs : Bytes) (i w size p x : ℕ) → WidthIn bs w → size ≡ rowSize w → Product size i p → Begins bs x → RowPlace bs i (x + p)
+row-placed bs i w size p x a e b c =
+    record { value = ap₂ (λ (m n : ℕ). m + n) (c .start) (b .value ∙ ap (λ (z : ℕ). z * i) (e ∙ ap rowSize (a .value))); small = omega (arith, c .small, b .small) }
 
-pub row-window : (bs : Bytes) (i w x : ℕ) (r : Bytes) → WidthIn bs w → RowPlace bs i x → r ≡ take (12 + w) (drop x bs) → r ≡ rowPart bs i
-row-window bs i w x r a p e = e ∙ ap₂ (λ (n k : ℕ). take (rowSize n) (drop k bs)) (a .value) (p .value) ∙ row-place bs i
+pub row-window : (bs : Bytes) (i w size x : ℕ) (r : Bytes) → WidthIn bs w → size ≡ rowSize w → RowPlace bs i x → r ≡ windowOf x size bs → r ≡ rowPart bs i
+row-window bs i w size x r a g p e = e ∙ ap₂ (λ (n k : ℕ). windowOf k n bs) (g ∙ ap rowSize (a .value)) (p .value) ∙ row-place bs i
 
 -- what is cut to the string's own length is all of it
 pub rows-from : (bs : Bytes) (x : ℕ) (r : Bytes) → Begins bs x → r ≡ windowOf x (length bs) bs → r ≡ rowBody bs
@@ -112,10 +113,10 @@ module _ (bs : Bytes) (k count i : ℕ) (s : Seeking bs k count i) where
   unfolding rowPart
   step h = ap (rowWith k i) (from-step readRow (rowSize (widthOf bs)) (rowBody bs) count i h)
 
-  pub seek-past : i < count → (numberAt 4 4 (rowPart bs i) ≡ k → ⊥) → Seeking bs k count (i + 1)
+  pub seek-past : i < count → (readRow (rowPart bs i) .row .serial ≡ k → ⊥) → Seeking bs k count (i + 1)
   seek-past h e = record { counts = s .counts; rest = sym (row-other k i (readRow (rowPart bs i)) (recordsFrom readRow (rowSize (widthOf bs)) (rowBody bs) count (i + 1)) e) ∙ sym (step h) ∙ s .rest }
 
-  pub seek-hit : i < count → numberAt 4 4 (rowPart bs i) ≡ k → foundAt bs i ≡ foundOn bs k
+  pub seek-hit : i < count → readRow (rowPart bs i) .row .serial ≡ k → foundAt bs i ≡ foundOn bs k
   unfolding foundAt foundOn
   seek-hit h e =
       ap (foundRow (widthOf bs) (bodiesOf bs)) (sym (row-this k i (readRow (rowPart bs i)) (recordsFrom readRow (rowSize (widthOf bs)) (rowBody bs) count (i + 1)) e) ∙ sym (step h) ∙ s .rest)
@@ -131,24 +132,24 @@ module _ (bs : Bytes) (i : ℕ) where
   found-row : Numbered
   found-row = record { at = i; row = readRow (rowPart bs i) .row }
 
-  value-start : valueStart (widthOf bs) (bodiesOf bs) i ≡ rowStart bs + (rowSize (widthOf bs)) * i + 10
+  value-start : valueStart (widthOf bs) (bodiesOf bs) i ≡ rowStart bs + rowSize (widthOf bs) * i + valueOffset
   unfolding rowStart bodiesOf
   value-start =
       simp (
-        length-many readDefinition 20 (definitionCount bs) (drop 40 bs),
-        length-many readParticle 4 (particleCount bs) (drop (20 * definitionCount bs) (drop 40 bs)),
-        length-many readAttribute (attributeSize (widthOf bs)) (attributeCount bs) (drop (4 * particleCount bs) (drop (20 * definitionCount bs) (drop 40 bs))),
+        length-many readDefinition definitionSize (definitionCount bs) (drop headerSize bs),
+        length-many readParticle particleSize (particleCount bs) (drop (definitionSize * definitionCount bs) (drop headerSize bs)),
+        length-many readAttribute (attributeSize (widthOf bs)) (attributeCount bs) (drop (particleSize * particleCount bs) (drop (definitionSize * definitionCount bs) (drop headerSize bs))),
       )
 
-  pub found-element : getD (rowPart bs i) 0 0 ≡ 1 → Looks (foundAt bs i) 7 0 0
+  pub found-element : readRow (rowPart bs i) .row .sort ≡ 1 → Looks (foundAt bs i) 7 0 0
   unfolding foundAt found-row
   found-element e =
       subst (λ (f : Found). Looks f 7 0 0) (sym (sort-element (widthOf bs) (bodiesOf bs) found-row e)) (record { number-is = refl; start-is = refl; length-is = refl })
 
-  pub found-value : (getD (rowPart bs i) 0 0 ≡ 1 → ⊥) → Looks (foundAt bs i) 0 (rowStart bs + (rowSize (widthOf bs)) * i + 10) (length (take (getD (rowPart bs i) 8 0) (drop 10 (rowPart bs i))))
+  pub found-value : (readRow (rowPart bs i) .row .sort ≡ 1 → ⊥) → Looks (foundAt bs i) 0 (rowStart bs + rowSize (widthOf bs) * i + valueOffset) (length (readRow (rowPart bs i) .row .value))
   unfolding foundAt found-row
   found-value e =
-      subst (λ (f : Found). Looks f 0 (rowStart bs + (rowSize (widthOf bs)) * i + 10) (length (take (getD (rowPart bs i) 8 0) (drop 10 (rowPart bs i)))))
+      subst (λ (f : Found). Looks f 0 (rowStart bs + rowSize (widthOf bs) * i + valueOffset) (length (readRow (rowPart bs i) .row .value)))
       (sym (sort-other (widthOf bs) (bodiesOf bs) found-row e)) (record { number-is = refl; start-is = sym value-start; length-is = refl })
 
 -- ---- the part is the row's value
@@ -200,12 +201,13 @@ row-found bs k n h =
     let (j, p, q) = found-where (widthOf bs) k 0 (rowCount bs) (rowBody bs) n h in
     q ∙ ap (λ (x : ℕ). readRow (take (rowSize (widthOf bs)) (drop ((rowSize (widthOf bs)) * x) (rowBody bs))) .row) (sym (p ∙ zero-add j))
 
-value-there : (bs : Bytes) (i : ℕ) (v : Bytes) → v ≡ take (getD (rowPart bs i) 8 0) (drop 10 (rowPart bs i)) → take (length v) (drop (valueStart (widthOf bs) (bodiesOf bs) i) bs) ≡ v
+value-there : (bs : Bytes) (i : ℕ) (v : Bytes) → v ≡ readRow (rowPart bs i) .row .value → take (length v) (drop (valueStart (widthOf bs) (bodiesOf bs) i) bs) ≡ v
 value-there bs i v e =
-    let x : Bytes = drop (rowStart bs + (rowSize (widthOf bs)) * i) bs in
-    let q : v ≡ take (getD (rowPart bs i) 8 0) (drop 10 (take (rowSize (widthOf bs)) x)) = e ∙ ap (λ (l : Bytes). take (getD (rowPart bs i) 8 0) (drop 10 l)) (sym (row-place bs i)) in
-    let p : drop (valueStart (widthOf bs) (bodiesOf bs) i) bs ≡ drop 10 x = ap (λ (n : ℕ). drop n bs) (value-start bs i) ∙ sym (drop-drop 10 (rowStart bs + (rowSize (widthOf bs)) * i) bs) in
-    ap₂ (λ (l m : Bytes). take (length l) m) q p ∙ take-inside 10 (getD (rowPart bs i) 8 0) (rowSize (widthOf bs)) x ∙ sym q
+    let n : ℕ = getD (rowPart bs i) 8 0 in
+    let x : Bytes = drop (rowStart bs + rowSize (widthOf bs) * i) bs in
+    let q : v ≡ take n (drop valueOffset (take (rowSize (widthOf bs)) x)) = e ∙ ap (λ (l : Bytes). take n (drop valueOffset l)) (sym (row-place bs i)) in
+    let p : drop (valueStart (widthOf bs) (bodiesOf bs) i) bs ≡ drop valueOffset x = ap (λ (k : ℕ). drop k bs) (value-start bs i) ∙ sym (drop-drop valueOffset (rowStart bs + rowSize (widthOf bs) * i) bs) in
+    ap₂ (λ (l m : Bytes). take (length l) m) q p ∙ take-inside valueOffset n (rowSize (widthOf bs)) x ∙ sym q
 
 -- the part that is handed back is the value of the row with the serial
 pub part-value : (bs : Bytes) (k : ℕ) (n : Numbered) → rowWith k 0 (bodiesOf bs .rows) ≡ some n → (n .row .sort ≡ 1 → ⊥) → partOf bs (foundOn bs k) ≡ n .row .value

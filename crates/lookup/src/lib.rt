@@ -26,7 +26,7 @@ fn row_place(store: &[u8], i: usize) -> usize
     ensures { λ r. ⌜ RowPlace (now (store .entry)) i r ⌝ }
 {
     let w = layout::width_in(store);
-    let before = layout::times(12 + w, i);
+    let before = layout::times(layout::row_size(w), i);
     row_start(store) + before
 }
 
@@ -37,7 +37,7 @@ fn row(store: &[u8], i: usize) -> &[u8]
 {
     let w = layout::width_in(store);
     let start = row_place(store, i);
-    layout::window(store, start, 12 + w)
+    layout::window(store, start, layout::row_size(w))
 }
 
 /// A look-up's answer: 0 and the place of the value, or 7.
@@ -61,7 +61,7 @@ fn found_at(store: &[u8], i: usize) -> Found
         };
     }
     let value = layout::row_value(bytes);
-    let start = row_place(store, i) + 10;
+    let start = layout::value_place(row_place(store, i));
     Found {
         number: 0,
         start,

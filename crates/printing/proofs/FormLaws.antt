@@ -6,10 +6,10 @@ use Prim.Native.Nat.{ℕ, zero, suc, _+_, _-_, _*_, _<_, _≤_}
 use native.Mathlib.Omega.{arith}
 use native.Mathlib.Numerals.{add-one}
 use borrow.Author.Tests.{eq-eqb, ne-eqb}
-use lib.ListN.{length, take, drop, getD}
+use lib.ListN.{length, take, drop}
 use native.Mathlib.Nat.{mul-suc, mul-zero, mul-add, suc-add}
 use mathlib.Core.Option.{some}
-use lib.Seq.{drop-drop, getD-drop, take-all}
+use lib.Seq.{drop-drop, take-all}
 use Rattle.rules.specs.declared.GroupKind.the-variants.{Sequence}
 use Rattle.rules.specs.Bytes.{Bytes, ascii, concat}
 use Rattle.rules.specs.Model.{Members}
@@ -17,8 +17,8 @@ use Rattle.rules.specs.Store.{AttributeSort, implied, required, fixed, Attribut
 use Rattle.rules.specs.Preorder.{Deep, build}
 use Rattle.layout.specs.Bodies.{widthOf}
 use Rattle.layout.proofs.LayoutLaws.{width-small}
-use Rattle.rules.specs.Layout.{attributeSize, rowSize, FlatParticle, FlatAttribute, FlatDefinition, FlatRow, FlatStore}
-use Rattle.rules.specs.Decode.{numberAt, nameAt, groupOf, sortOf, contentOf, memberOf, readMembers, ofOwner, readAttribute, readDefinition, readParticle, readRow, readRows, readForm, readMany, unle, unflat, attributeCount, definitionCount, particleCount, rowCount}
+use Rattle.rules.specs.Layout.{definitionSize, particleSize, attributeSize, rowSize, FlatParticle, FlatAttribute, FlatDefinition, FlatRow, FlatStore}
+use Rattle.rules.specs.Decode.{nameAt, groupOf, sortOf, contentOf, memberOf, readMembers, ofOwner, readAttribute, readDefinition, readParticle, readRow, readRows, readForm, readMany, unflat, attributeCount, definitionCount, particleCount, rowCount}
 use Rattle.rules.specs.Print.{escape, defaultTokens, memberTokens, modelTokens, contentTokens, attributeLines, formLines, documentLines, printed}
 use Rattle.codec.specs.Laid.{Laid}
 use Rattle.codec.proofs.Writers.{laid-none, laid-then, laid-as}
@@ -31,7 +31,7 @@ use Rattle.printing.specs.Parts.{Named, Within, definitionPart, attribut
 use Rattle.printing.specs.Texts.{LaidWithin, attributeOf, defaultText, attributeLineText, attributesText, isTree, membersText, contentText, definitionText, declarationsText, formText, documentsText, textOf}
 use Rattle.printing.proofs.TextLaws.{concat-append}
 use Rattle.printing.proofs.SignLaws.{escape-length}
-use Rattle.printing.proofs.PartLaws.{inside, attribute-step, attribute-name, definition-name, definition-step}
+use Rattle.printing.proofs.PartLaws.{attribute-step, attribute-name, definition-name, definition-step, value-short}
 use Rattle.printing.proofs.WalkLaws.{laid-long}
 
 -- ---- the default of an attribute
@@ -50,12 +50,12 @@ sort-fixed zero a b = absurd (a refl)
 sort-fixed (suc zero) a b = absurd (b refl)
 sort-fixed (suc (suc s)) a b = refl
 
-module _ (bs : Bytes) (i : ℕ) (p : Bytes) (at-i : p ≡ attributePart bs i) (sort : ℕ) (sort-is : sort ≡ getD p 18 0) where
+module _ (bs : Bytes) (i : ℕ) (p : Bytes) (at-i : p ≡ attributePart bs i) (sort : ℕ) (sort-is : sort ≡ readAttribute p .sort) where
   abbrev here : FlatAttribute
   here = readAttribute (attributePart bs i)
 
   sort-here : sort ≡ here .sort
-  sort-here = sort-is ∙ ap (λ (l : Bytes). getD l 18 0) at-i ∙ sym (getD-drop 18 (attributePart bs i) 0 0)
+  sort-here = sort-is ∙ ap (λ (l : Bytes). readAttribute l .sort) at-i
 
   default-is : (s : AttributeSort) → sortOf sort ≡ s → defaultText here ≡ defaultBy s (here .value)
   unfolding defaultText
@@ -67,24 +67,18 @@ module _ (bs : Bytes) (i : ℕ) (p : Bytes) (at-i : p ≡ attributePart bs i) (s
   pub default-required : {out o : Bytes} {at r : ℕ} → sort ≡ 1 → Laid (ascii "#REQUIRED") out at r o → LaidWithin 2000 (defaultText here) out at r o
   default-required e l = record { laid = laid-as (default-is required (ap sortOf e)) (laid-then l laid-none); small = omega (arith, l .next) }
 
-  value-here : (n : ℕ) → n ≡ getD p 19 0 → take n (drop 20 p) ≡ here .value
-  value-here n e =
-      ap₂ (λ (k : ℕ) (l : Bytes). take k (drop 20 l)) (e ∙ ap (λ (l : Bytes). getD l 19 0) at-i ∙ sym (getD-drop 18 (attributePart bs i) 1 0)) at-i
-      ∙ ap (λ (l : Bytes). take (getD (drop 18 (attributePart bs i)) 1 0) l) (sym (drop-drop 2 18 (attributePart bs i)))
+  value-here : (v : Bytes) → v ≡ readAttribute p .value → v ≡ here .value
+  value-here v e = e ∙ ap (λ (l : Bytes). readAttribute l .value) at-i
 
-  value-length : (n : ℕ) → length (take n (drop 20 p)) ≤ 255
-  unfolding attributePart
-  value-length n = subst (λ (l : Bytes). length (take n (drop 20 l)) ≤ 255) (sym at-i) (omega (arith, inside n 20 (attributeSize (widthOf bs)) (drop (attributeSize (widthOf bs) * i) (attributeBody bs)), width-small bs))
+  pub default-short : (v : Bytes) → v ≡ readAttribute p .value → length v ≤ 255
+  default-short v e = subst (λ (l : Bytes). length l ≤ 255) (sym (value-here v e)) (value-short bs i)
 
-  pub default-short : (n : ℕ) (v : Bytes) → v ≡ take n (drop 20 p) → length v ≤ 255
-  default-short n v e = subst (λ (l : Bytes). length l ≤ 255) (sym e) (value-length n)
-
-  pub default-fixed : (n : ℕ) (v : Bytes) {out o₁ o₂ o : Bytes} {at a₁ a₂ r : ℕ} → (sort ≡ 0 → ⊥) → (sort ≡ 1 → ⊥) → n ≡ getD p 19 0 → v ≡ take n (drop 20 p)
+  pub default-fixed : (v : Bytes) {out o₁ o₂ o : Bytes} {at a₁ a₂ r : ℕ} → (sort ≡ 0 → ⊥) → (sort ≡ 1 → ⊥) → v ≡ readAttribute p .value
       → Laid (ascii "#FIXED \"") out at a₁ o₁ → Laid (escape v) o₁ a₁ a₂ o₂ → Laid (ascii "\"") o₂ a₂ r o → LaidWithin 2000 (defaultText here) out at r o
-  default-fixed n v x y e w l m g =
+  default-fixed v x y w l m g =
       record {
-        laid = laid-as (default-is fixed (sort-fixed sort x y) ∙ ap (λ (z : Bytes). ascii "#FIXED \"" ++ (escape z ++ (ascii "\"" ++ []))) (sym (w ∙ value-here n e))) (laid-then l (laid-then m (laid-then g laid-none)));
-        small = omega (arith, l .next, m .next, g .next, escape-length v, default-short n v w);
+        laid = laid-as (default-is fixed (sort-fixed sort x y) ∙ ap (λ (z : Bytes). ascii "#FIXED \"" ++ (escape z ++ (ascii "\"" ++ []))) (sym (value-here v w))) (laid-then l (laid-then m (laid-then g laid-none)));
+        small = omega (arith, l .next, m .next, g .next, escape-length v, default-short v w);
       }
 
 -- ---- the line of an attribute
@@ -200,7 +194,7 @@ content-some-laid bs kind end from b h x y e g l m n =
     }
 
 -- ---- the line of a definition
-pub definition-laid : (bs : Bytes) (o end from : ℕ) (d : Bytes) → d ≡ definitionPart bs o → o < definitionCount bs → (kind : ℕ) → kind ≡ getD d 17 0
+pub definition-laid : (bs : Bytes) (o end from : ℕ) (d : Bytes) → d ≡ definitionPart bs o → o < definitionCount bs → (kind : ℕ) → kind ≡ readDefinition d .kind
     → {w out o₁ o₂ o₃ o₄ o₅ : Bytes} {at a₁ a₂ a₃ a₄ r : ℕ} → Laid (ascii "<!ELEMENT ") out at a₁ o₁ → Named (nameAt o (namesOf bs)) w → Laid w o₁ a₁ a₂ o₂ → Laid (ascii " ") o₂ a₂ a₃ o₃
     → LaidWithin 640100 (contentText (namesOf bs) kind (build (particlesFrom bs end from) 0)) o₃ a₃ a₄ o₄ → Laid (ascii ">\n") o₄ a₄ r o₅
     → LaidWithin 641000 (definitionText (namesOf bs) (readDefinition (definitionPart bs o)) (particlesFrom bs end from)) out at r o₅
@@ -211,8 +205,8 @@ definition-laid bs o end from d at-o h kind kind-is {w} a n b c e g =
       small = omega (arith, a .next, b .next, c .next, e .small, g .next, n .short);
     }
   where
-    kind-here : getD (drop 17 (definitionPart bs o)) 0 0 ≡ kind
-    kind-here = getD-drop 17 (definitionPart bs o) 0 0 ∙ sym (kind-is ∙ ap (λ (l : Bytes). getD l 17 0) at-o)
+    kind-here : readDefinition (definitionPart bs o) .kind ≡ kind
+    kind-here = sym (kind-is ∙ ap (λ (l : Bytes). readDefinition l .kind) at-o)
 
     same : ascii "<!ELEMENT " ++ (readDefinition (definitionPart bs o) .name ++ (ascii " " ++ (contentText (namesOf bs) (readDefinition (definitionPart bs o) .kind) (build (particlesFrom bs end from) 0) ++ (ascii ">\n" ++ []))))
         ≡ ascii "<!ELEMENT " ++ (w ++ (ascii " " ++ (contentText (namesOf bs) kind (build (particlesFrom bs end from) 0) ++ (ascii ">\n" ++ []))))
@@ -275,7 +269,7 @@ unfolding formText
 form-none ns o ps cs = refl
 
 -- the declarations of one definition, written
-pub declarations-laid : (bs : Bytes) (o from : ℕ) (p : Bytes) → p ≡ definitionPart bs o → o < definitionCount bs → (n end : ℕ) → n ≡ numberAt 18 2 p → take n (particlesFrom bs (particleCount bs) from) ≡ particlesFrom bs end from
+pub declarations-laid : (bs : Bytes) (o from : ℕ) (p : Bytes) → p ≡ definitionPart bs o → o < definitionCount bs → (n end : ℕ) → n ≡ readDefinition p .particles → take n (particlesFrom bs (particleCount bs) from) ≡ particlesFrom bs end from
     → {w out o₁ o₂ : Bytes} {at a₁ r : ℕ} → LaidWithin 641000 (definitionText (namesOf bs) (readDefinition (definitionPart bs o)) (particlesFrom bs end from)) out at a₁ o₁ → Named (nameAt o (namesOf bs)) w
     → LaidWithin 192000 (attributesText w (ofOwner o (attributesFrom bs (attributeCount bs) 0))) o₁ a₁ r o₂
     → LaidWithin 840000 (declarationsText (namesOf bs) o (readDefinition (definitionPart bs o)) (particlesFrom bs (particleCount bs) from) (attributesFrom bs (attributeCount bs) 0)) out at r o₂
@@ -290,8 +284,8 @@ declarations-laid bs o from p at-o h n end n-is e {w} d m a =
       small = omega (arith, d .small, a .small);
     }
   where
-    particles-here : (bs : Bytes) (o : ℕ) (p : Bytes) → p ≡ definitionPart bs o → (n : ℕ) → n ≡ numberAt 18 2 p → readDefinition (definitionPart bs o) .particles ≡ n
-    particles-here bs o p at-o n n-is = ap (λ (l : Bytes). unle (take 2 l)) (drop-drop 1 17 (definitionPart bs o)) ∙ sym (n-is ∙ ap (λ (l : Bytes). numberAt 18 2 l) at-o)
+    particles-here : (bs : Bytes) (o : ℕ) (p : Bytes) → p ≡ definitionPart bs o → (n : ℕ) → n ≡ readDefinition p .particles → readDefinition (definitionPart bs o) .particles ≡ n
+    particles-here bs o p at-o n n-is = sym (n-is ∙ ap (λ (l : Bytes). readDefinition l .particles) at-o)
 
 -- the loop over the definitions: whoever writes the rest of the form has written all
 pub record Declaring (bs : Bytes) (count : ℕ) (goal out₀ : Bytes) (at₀ : ℕ) (out : Bytes) (at o from : ℕ) : Type 0 where
@@ -314,7 +308,7 @@ declaring-start bs count at out e =
     }
 
 pub declaring-on : (bs : Bytes) (count : ℕ) {goal out₀ : Bytes} {at₀ : ℕ} {out : Bytes} {at o from at′ : ℕ} {out′ : Bytes} → Declaring bs count goal out₀ at₀ out at o from → o < count
-    → (p : Bytes) → p ≡ definitionPart bs o → (n : ℕ) → n ≡ numberAt 18 2 p → n < 4294967296
+    → (p : Bytes) → p ≡ definitionPart bs o → (n : ℕ) → n ≡ readDefinition p .particles → n < 4294967296
     → LaidWithin 840000 (declarationsText (namesOf bs) o (readDefinition (definitionPart bs o)) (particlesFrom bs (particleCount bs) from) (attributesFrom bs (attributeCount bs) 0)) out at at′ out′
     → Declaring bs count goal out₀ at₀ out′ at′ (o + 1) (from + n)
 declaring-on bs count {o = o} {from = from} w h p at-o n n-is small l =
@@ -328,7 +322,7 @@ declaring-on bs count {o = o} {from = from} w h p at-o n n-is small l =
           (ap (λ (ds : List FlatDefinition). formText (namesOf bs) o ds ps cs) (definition-step bs count o h)
           ∙ form-step (namesOf bs) o d (definitionsFrom bs count (o + 1)) ps cs
           ∙ ap (λ (xs : List (Deep FlatParticle)). declarationsText (namesOf bs) o d ps cs ++ formText (namesOf bs) (o + 1) (definitionsFrom bs count (o + 1)) xs cs)
-          (ap (λ (k : ℕ). drop k ps) particles ∙ from-drop readParticle 4 (particleBody bs) (particleCount bs) from n))
+          (ap (λ (k : ℕ). drop k ps) particles ∙ from-drop readParticle particleSize (particleBody bs) (particleCount bs) from n))
           (laid-then (l .laid) m));
       small = omega (arith, w .small, l .small);
       few = omega (arith, w .few);
@@ -345,7 +339,7 @@ declaring-on bs count {o = o} {from = from} w h p at-o n n-is small l =
     cs = attributesFrom bs (attributeCount bs) 0
 
     particles : readDefinition (definitionPart bs o) .particles ≡ n
-    particles = ap (λ (l : Bytes). unle (take 2 l)) (drop-drop 1 17 (definitionPart bs o)) ∙ sym (n-is ∙ ap (λ (l : Bytes). numberAt 18 2 l) at-o)
+    particles = sym (n-is ∙ ap (λ (l : Bytes). readDefinition l .particles) at-o)
 
 pub declaring-done : (bs : Bytes) (count : ℕ) {goal out₀ : Bytes} {at₀ : ℕ} {out : Bytes} {at o from : ℕ} → Declaring bs count goal out₀ at₀ out at o from → count ≤ o → definitionCount bs ≤ 64 → LaidWithin 53760000 goal out₀ at₀ at out
 declaring-done bs count {at = at} {o = o} {from = from} w h k =
@@ -353,7 +347,7 @@ declaring-done bs count {at = at} {o = o} {from = from} w h k =
       laid =
           w .goes at _
           (laid-as
-          (ap (λ (ds : List FlatDefinition). formText (namesOf bs) o ds (particlesFrom bs (particleCount bs) from) (attributesFrom bs (attributeCount bs) 0)) (from-none readDefinition 20 (definitionBody bs) count o h)
+          (ap (λ (ds : List FlatDefinition). formText (namesOf bs) o ds (particlesFrom bs (particleCount bs) from) (attributesFrom bs (attributeCount bs) 0)) (from-none readDefinition definitionSize (definitionBody bs) count o h)
           ∙ form-none (namesOf bs) o (particlesFrom bs (particleCount bs) from) (attributesFrom bs (attributeCount bs) 0))
           laid-none);
       small = omega (arith, w .small, w .upto, w .counts);
@@ -367,7 +361,7 @@ text-parts {bs} {rows} {w} {f} h e =
     lines-append (formLines (unflat (bodiesOf bs) .form)) (documentLines (unflat (bodiesOf bs) .docs))
     ∙ sym
     (ap₂ _++_
-    (λ i. concat (map concat (formLines (readForm (namesOf bs) 0 (from-all readDefinition 20 (definitionBody bs) (definitionCount bs) 0 i) (from-all readParticle 4 (particleBody bs) (particleCount bs) 0 i) (from-all readAttribute (attributeSize (widthOf bs)) (attributeBody bs) (attributeCount bs) 0 i)))))
+    (λ i. concat (map concat (formLines (readForm (namesOf bs) 0 (from-all readDefinition definitionSize (definitionBody bs) (definitionCount bs) 0 i) (from-all readParticle particleSize (particleBody bs) (particleCount bs) 0 i) (from-all readAttribute (attributeSize (widthOf bs)) (attributeBody bs) (attributeCount bs) 0 i)))))
     (ap (λ (xs : List (Deep FlatRow)). concat (map concat (documentLines (readRows (namesOf bs) (attributeNamesOf bs) (build xs 0))))) (from-all readRow (rowSize w) rows f 0 ∙ (λ i. readMany readRow (rowSize (h .width .value i)) (e i) (h .body i)))))
 
 -- on a store that passes
@@ -385,8 +379,8 @@ passing-within bs s h =
     let p : GoodParts s = good-parts s g in
     let q = sym (bodies-flat bs s h) in
     record {
-      definitions = subst (λ (n : ℕ). n ≤ 64) (ap (λ (f : FlatStore). length (f .definitions)) q ∙ length-many readDefinition 20 (definitionCount bs) _) (p .definitionCount);
-      particles = subst (λ (n : ℕ). n ≤ 256) (ap (λ (f : FlatStore). length (f .particles)) q ∙ length-many readParticle 4 (particleCount bs) _) (p .particleCount);
+      definitions = subst (λ (n : ℕ). n ≤ 64) (ap (λ (f : FlatStore). length (f .definitions)) q ∙ length-many readDefinition definitionSize (definitionCount bs) _) (p .definitionCount);
+      particles = subst (λ (n : ℕ). n ≤ 256) (ap (λ (f : FlatStore). length (f .particles)) q ∙ length-many readParticle particleSize (particleCount bs) _) (p .particleCount);
       attributes = subst (λ (n : ℕ). n ≤ 64) (ap (λ (f : FlatStore). length (f .attributes)) q ∙ length-many readAttribute (attributeSize (widthOf bs)) (attributeCount bs) _) (p .attributeCount);
       rows = subst (λ (n : ℕ). n ≤ 4096) (ap (λ (f : FlatStore). length (f .rows)) q ∙ length-many readRow (rowSize (widthOf bs)) (rowCount bs) _) (p .rowCount);
     }

@@ -4,23 +4,23 @@ use mathlib.Core.List.{[], _∷_, map}
 use Prim.Native.Nat.{ℕ, zero, suc, _+_, _-_, _*_, _<_, _≤_}
 use native.Mathlib.Omega.{arith}
 use native.Mathlib.Nat.{mul-suc, mul-zero}
-use lib.ListN.{length, take, drop, getD, length-take, length-drop}
+use lib.ListN.{length, take, drop, length-take}
 use lib.Seq.{drop-drop}
 use Rattle.rules.specs.Bytes.{Bytes}
 use Rattle.rules.specs.Decode.{readDefinition, readParticle, readAttribute, readRow, readMany, definitionCount, particleCount, attributeCount, nameAt, flatName, flatAttributeName}
 use Rattle.lookup.specs.Bodies.{bodiesOf}
 use Rattle.layout.specs.Bodies.{recordAt, widthOf, attributeIn}
-use Rattle.layout.proofs.LayoutLaws.{width-small}
-use Rattle.rules.specs.Layout.{attributeSize, rowSize}
+use Rattle.layout.proofs.LayoutLaws.{width-small, definition-name-short, attribute-name-short, attribute-value-short}
+use Rattle.rules.specs.Layout.{headerSize, definitionSize, particleSize, attributeSize, rowSize}
 use Rattle.lookup.proofs.Laws.{from-step}
 use Rattle.printing.specs.Parts.{definitionBody, particleBody, attributeBody, definitionPart, particlePart, attributePart, namesOf, attributeNamesOf, definitionsFrom, particlesFrom, attributesFrom, rowsFrom}
 
 -- ---- their places
-pub definition-place : (bs : Bytes) (i : ℕ) → take 20 (drop (40 + 20 * i) bs) ≡ definitionPart bs i
+pub definition-place : (bs : Bytes) (i : ℕ) → take definitionSize (drop (headerSize + definitionSize * i) bs) ≡ definitionPart bs i
 unfolding definitionBody definitionPart
 definition-place bs i = simp drop-drop
 
-pub particle-place : (bs : Bytes) (i : ℕ) → take 4 (drop (40 + 20 * definitionCount bs + 4 * i) bs) ≡ particlePart bs i
+pub particle-place : (bs : Bytes) (i : ℕ) → take particleSize (drop (headerSize + definitionSize * definitionCount bs + particleSize * i) bs) ≡ particlePart bs i
 unfolding particleBody particlePart
 particle-place bs i = simp drop-drop
 
@@ -31,7 +31,7 @@ attribute-place bs i = simp drop-drop
 -- ---- one after the other
 pub particle-step : (bs : Bytes) (end i : ℕ) → i < end → particlesFrom bs end i ≡ readParticle (particlePart bs i) ∷ particlesFrom bs end (i + 1)
 unfolding particlePart
-particle-step bs end i h = from-step readParticle 4 (particleBody bs) end i h
+particle-step bs end i h = from-step readParticle particleSize (particleBody bs) end i h
 
 pub row-step : (w : ℕ) (rows : Bytes) (end i : ℕ) → i < end → rowsFrom w rows end i ≡ readRow (recordAt (rowSize w) i rows) ∷ rowsFrom w rows end (i + 1)
 row-step w rows end i h = from-step readRow (rowSize w) rows end i h
@@ -42,7 +42,7 @@ attribute-step bs end i h = from-step readAttribute (attributeSize (widthOf bs))
 
 pub definition-step : (bs : Bytes) (end i : ℕ) → i < end → definitionsFrom bs end i ≡ readDefinition (definitionPart bs i) ∷ definitionsFrom bs end (i + 1)
 unfolding definitionPart
-definition-step bs end i h = from-step readDefinition 20 (definitionBody bs) end i h
+definition-step bs end i h = from-step readDefinition definitionSize (definitionBody bs) end i h
 
 -- ---- names out of a table
 module _ {A : Type 0} (name : A → Bytes) (f : Bytes → A) (size : ℕ) where
@@ -59,30 +59,34 @@ module _ {A : Type 0} (name : A → Bytes) (f : Bytes → A) (size : ℕ) where
   name-past (suc n) zero bs h = absurd (omega arith)
   name-past (suc n) (suc i) bs h = name-past n i (drop size bs) (omega arith)
 
-pub inside : (a o k : ℕ) (x : Bytes) → length (take a (drop o (take k x))) ≤ k - o
-inside a o k x = omega (arith, length-take a (drop o (take k x)), length-drop o (take k x), length-take k x)
-
 module _ (bs : Bytes) (i : ℕ) where
-  pub definition-name : i < definitionCount bs → nameAt i (namesOf bs) ≡ take (getD (definitionPart bs i) 0 0) (drop 1 (definitionPart bs i))
+  pub definition-name : i < definitionCount bs → nameAt i (namesOf bs) ≡ readDefinition (definitionPart bs i) .name
   unfolding namesOf bodiesOf definitionPart definitionBody
-  definition-name h = name-there flatName readDefinition 20 (definitionCount bs) i (drop 40 bs) h
+  definition-name h = name-there flatName readDefinition definitionSize (definitionCount bs) i (drop headerSize bs) h
 
-  pub definition-short : (n : ℕ) → length (take n (drop 1 (definitionPart bs i))) ≤ 300
+  -- a name is no longer than its record
+  pub definition-short : length (readDefinition (definitionPart bs i) .name) ≤ 300
   unfolding definitionPart
-  definition-short n = omega (arith, inside n 1 20 (drop (20 * i) (definitionBody bs)))
+  definition-short = omega (arith, definition-name-short (definitionPart bs i), length-take definitionSize (drop (definitionSize * i) (definitionBody bs)))
 
   pub definition-none : definitionCount bs ≤ i → nameAt i (namesOf bs) ≡ []
   unfolding namesOf bodiesOf
-  definition-none h = name-past flatName readDefinition 20 (definitionCount bs) i (drop 40 bs) h
+  definition-none h = name-past flatName readDefinition definitionSize (definitionCount bs) i (drop headerSize bs) h
 
-  pub attribute-name : i < attributeCount bs → nameAt i (attributeNamesOf bs) ≡ take (getD (attributePart bs i) 1 0) (drop 2 (attributePart bs i))
+  pub attribute-name : i < attributeCount bs → nameAt i (attributeNamesOf bs) ≡ readAttribute (attributePart bs i) .name
   unfolding attributeNamesOf bodiesOf attributePart attributeBody
-  attribute-name h = name-there flatAttributeName readAttribute (attributeSize (widthOf bs)) (attributeCount bs) i (drop (4 * particleCount bs) (drop (20 * definitionCount bs) (drop 40 bs))) h
+  attribute-name h = name-there flatAttributeName readAttribute (attributeSize (widthOf bs)) (attributeCount bs) i (drop (particleSize * particleCount bs) (drop (definitionSize * definitionCount bs) (drop headerSize bs))) h
 
-  pub attribute-short : (n : ℕ) → length (take n (drop 2 (attributePart bs i))) ≤ 300
+  attribute-long : length (attributePart bs i) ≤ attributeSize (widthOf bs)
   unfolding attributePart
-  attribute-short n = omega (arith, inside n 2 (attributeSize (widthOf bs)) (drop (attributeSize (widthOf bs) * i) (attributeBody bs)), width-small bs)
+  attribute-long = omega (arith, length-take (attributeSize (widthOf bs)) (drop (attributeSize (widthOf bs) * i) (attributeBody bs)))
+
+  pub attribute-short : length (readAttribute (attributePart bs i) .name) ≤ 300
+  attribute-short = omega (arith, attribute-name-short (attributePart bs i), attribute-long, width-small bs)
 
   pub attribute-none : attributeCount bs ≤ i → nameAt i (attributeNamesOf bs) ≡ []
   unfolding attributeNamesOf bodiesOf
-  attribute-none h = name-past flatAttributeName readAttribute (attributeSize (widthOf bs)) (attributeCount bs) i (drop (4 * particleCount bs) (drop (20 * definitionCount bs) (drop 40 bs))) h
+  attribute-none h = name-past flatAttributeName readAttribute (attributeSize (widthOf bs)) (attributeCount bs) i (drop (particleSize * particleCount bs) (drop (definitionSize * definitionCount bs) (drop headerSize bs))) h
+
+  pub value-short : length (readAttribute (attributePart bs i) .value) ≤ 255
+  value-short = omega (arith, attribute-value-short (attributePart bs i) (widthOf bs) attribute-long, width-small bs)

@@ -5,12 +5,12 @@ use mathlib.Core.List.{[], _++_}
 use Prim.Native.Nat.{ℕ, zero, suc, _+_, _-_, _*_, _<_, _≤_}
 use native.Mathlib.Omega.{arith}
 use native.Mathlib.Numerals.{add-one}
-use lib.ListN.{length-take, length-drop, length, take, drop, getD, length-append}
+use lib.ListN.{length-take, length, drop, length-append}
 use Rattle.rules.specs.Bytes.{Bytes, ascii}
 use Rattle.rules.specs.Store.{RowSort, element, attribute, text, Forest, tree}
 use Rattle.rules.specs.Preorder.{build}
 use Rattle.rules.specs.Layout.{rowSize, FlatRow}
-use Rattle.rules.specs.Decode.{numberAt, nameAt, rowSortOf, rowName, readRow}
+use Rattle.rules.specs.Decode.{nameAt, rowSortOf, rowName, readRow}
 use Rattle.rules.specs.Print.{escape}
 use Rattle.layout.specs.Bodies.{Width, recordAt}
 use Rattle.codec.specs.Laid.{Laid}
@@ -20,7 +20,6 @@ use Rattle.printing.specs.Parts.{Named, rowsFrom, namesOf, attributeName
 use Rattle.printing.specs.Texts.{endText, rowsText, elementText, attributeText, rowBodyText, rowText, stays, documentText, documentsText}
 use Rattle.printing.proofs.TextLaws.{documents-tree}
 use Rattle.printing.proofs.SignLaws.{escape-length}
-use Rattle.printing.proofs.PartLaws.{inside}
 
 pub sort-text : (s : ℕ) → (s ≡ 1 → ⊥) → (s ≡ 2 → ⊥) → rowSortOf s ≡ text
 sort-text zero a b = refl
@@ -46,9 +45,6 @@ attribute-long w v h k =
 pub row-short : (rows r : Bytes) (width i : ℕ) → Width width → r ≡ recordAt (rowSize width) i rows → length r ≤ 300
 row-short rows r width i h e = omega (arith, ap length e, length-take (rowSize width) (drop (rowSize width * i) rows))
 
-pub value-short : (row : Bytes) (n : ℕ) → length row ≤ 300 → length (take n (drop 10 row)) ≤ 300
-value-short row n h = omega (arith, length-take n (drop 10 row), length-drop 10 row)
-
 -- ---- an element with what is below it
 pub element-enclosed : (bs rows : Bytes) (width count i depth : ℕ) (w : Bytes) {at a₁ a₂ a₃ a₄ a₅ a₆ next : ℕ} {out o₁ o₂ o₃ o₄ o₅ o₆ : Bytes} → length w ≤ 300
     → Laid (ascii "<") out at a₁ o₁ → Laid w o₁ a₁ a₂ o₂ → Passed (rowsFrom width rows count) (rowsText (namesOf bs) (attributeNamesOf bs) true) count (i + 1) (depth + 1) a₂ o₂ next a₃ o₃
@@ -67,7 +63,7 @@ element-enclosed bs rows width count i depth w short l n b e m g =
 
 -- ---- a row by its sort
 module _ (bs rows : Bytes) (width count i depth : ℕ) (opened : Bool) (p : Bytes) (at-i : p ≡ recordAt (rowSize width) i rows) (h : i < count)
-    {sort index : ℕ} (sort-is : sort ≡ getD p 0 0) (index-is : index ≡ numberAt 2 2 p) where
+    {sort index : ℕ} (sort-is : sort ≡ readRow p .row .sort) (index-is : index ≡ readRow p .row .index) where
   abbrev here : FlatRow
   here = readRow (recordAt (rowSize width) i rows) .row
 
@@ -75,10 +71,10 @@ module _ (bs rows : Bytes) (width count i depth : ℕ) (opened : Bool) (p : Byte
   below = build (rowsFrom width rows count (i + 1)) (suc depth)
 
   sort-here : sort ≡ here .sort
-  sort-here = sort-is ∙ ap (λ (l : Bytes). getD l 0 0) at-i
+  sort-here = sort-is ∙ ap (λ (l : Bytes). readRow l .row .sort) at-i
 
   index-here : index ≡ here .index
-  index-here = index-is ∙ ap (λ (l : Bytes). numberAt 2 2 l) at-i
+  index-here = index-is ∙ ap (λ (l : Bytes). readRow l .row .index) at-i
 
   value-here : readRow p .row .value ≡ here .value
   value-here = ap (λ (l : Bytes). readRow l .row .value) at-i
@@ -123,7 +119,7 @@ pub documents-step : (bs : Bytes) (x : FlatRow) (b t : Forest FlatRow) → docum
 unfolding documentText
 documents-step bs x b t = documents-tree (namesOf bs) (attributeNamesOf bs) x b t
 
-pub document-stepped : (bs rows : Bytes) (width count i : ℕ) (p : Bytes) → p ≡ recordAt (rowSize width) i rows → i < count → {sort index : ℕ} → sort ≡ getD p 0 0 → index ≡ numberAt 2 2 p
+pub document-stepped : (bs rows : Bytes) (width count i : ℕ) (p : Bytes) → p ≡ recordAt (rowSize width) i rows → i < count → {sort index : ℕ} → sort ≡ readRow p .row .sort → index ≡ readRow p .row .index
     → {w out : Bytes} {at a₁ r next : ℕ} {o₁ o : Bytes} → Named (rowName (namesOf bs) (attributeNamesOf bs) (rowSortOf sort) index) w
     → Enclosed (rowsFrom width rows count) (elementText (namesOf bs) (attributeNamesOf bs) w (build (rowsFrom width rows count (i + 1)) 1)) count i 0 at out next a₁ o₁ → Laid (ascii "\n") o₁ a₁ r o
     → Stepped (rowsFrom width rows count) (documentText bs (readRow (recordAt (rowSize width) i rows) .row) (build (rowsFrom width rows count (i + 1)) 1)) count i 0 at out next r o
@@ -136,7 +132,7 @@ document-stepped bs rows width count i p at-i h {sort} {index} sort-is index-is 
       small = omega (arith, e .small, l .next);
     }
   where
-    name : rowName (namesOf bs) (attributeNamesOf bs) (rowSortOf (getD (recordAt (rowSize width) i rows) 0 0)) (numberAt 2 2 (recordAt (rowSize width) i rows)) ≡ w
+    name : rowName (namesOf bs) (attributeNamesOf bs) (rowSortOf (readRow (recordAt (rowSize width) i rows) .row .sort)) (readRow (recordAt (rowSize width) i rows) .row .index) ≡ w
     name =
-        ap₂ (λ (s k : ℕ). rowName (namesOf bs) (attributeNamesOf bs) (rowSortOf s) k) (sym (sort-is ∙ ap (λ (l : Bytes). getD l 0 0) at-i)) (sym (index-is ∙ ap (λ (l : Bytes). numberAt 2 2 l) at-i))
+        ap₂ (λ (s k : ℕ). rowName (namesOf bs) (attributeNamesOf bs) (rowSortOf s) k) (sym (sort-is ∙ ap (λ (l : Bytes). readRow l .row .sort) at-i)) (sym (index-is ∙ ap (λ (l : Bytes). readRow l .row .index) at-i))
         ∙ sym (n .name-is)

@@ -44,26 +44,20 @@ fn attribute(store: &[u8], i: usize) -> &[u8]
 fn name_of(store: &[u8], i: usize) -> &[u8]
     ensures { λ r. ⌜ Named (nameAt i (namesOf (now (store .entry)))) (now r) ⌝ }
 {
-    let count = codec::get_u32(store, 12) as usize;
-    if count <= i {
+    if layout::definition_count(store) <= i {
         return &store[..0];
     }
-    let bytes = definition(store, i);
-    let n = codec::byte(bytes, 0) as usize;
-    layout::window(bytes, 1, n)
+    layout::definition_name(definition(store, i))
 }
 
 /// The name of attribute i, or none.
 fn attribute_name_of(store: &[u8], i: usize) -> &[u8]
     ensures { λ r. ⌜ Named (nameAt i (attributeNamesOf (now (store .entry)))) (now r) ⌝ }
 {
-    let count = codec::get_u32(store, 28) as usize;
-    if count <= i {
+    if layout::attribute_count(store) <= i {
         return &store[..0];
     }
-    let bytes = attribute(store, i);
-    let n = codec::byte(bytes, 1) as usize;
-    layout::window(bytes, 2, n)
+    layout::attribute_name(attribute(store, i))
 }
 
 // ---- escapes, marks, separators
@@ -156,11 +150,11 @@ fn put_member(
     ensures { λ r. ⌜ Stepped (particlesFrom (now (store .entry)) end) (memberText (namesOf (now (store .entry))) (groupOf kind) first (readParticle (particlePart (now (store .entry)) i) .row) (build (particlesFrom (now (store .entry)) end (i + 1)) (suc depth))) end i depth at (now (out .entry)) (r .next) (r .at) (now (out .exit)) ⌝ }
 {
     let bytes = particle(store, i);
-    let sort = codec::byte(bytes, 0);
-    let quantifier = codec::byte(bytes, 1);
+    let sort = layout::particle_sort(bytes);
+    let quantifier = layout::particle_quantifier(bytes);
     let signed = put_sign(kind, first, out, at);
     if sort == 0 {
-        let index = codec::byte(bytes, 2) as usize;
+        let index = layout::particle_index(bytes) as usize;
         let named = codec::put(name_of(store, index), out, signed);
         return Walked {
             at: put_mark(quantifier, out, named),
@@ -193,7 +187,7 @@ fn put_members(
     let mut i = from;
     let mut first = true;
     while i < end {
-        let d = codec::byte(particle(store, i), 3) as usize;
+        let d = layout::particle_depth(particle(store, i)) as usize;
         if d < depth {
             return Walked { at, next: i };
         }
@@ -431,15 +425,14 @@ fn put_default(store: &[u8], i: usize, out: &mut [u8], at: usize) -> usize
     ensures { λ r. ⌜ LaidWithin 2000 (defaultText (readAttribute (attributePart (now (store .entry)) i))) (now (out .entry)) at r (now (out .exit)) ⌝ }
 {
     let bytes = attribute(store, i);
-    let sort = codec::byte(bytes, 18);
+    let sort = layout::attribute_sort(bytes);
     if sort == 0 {
         return codec::put(b"#IMPLIED", out, at);
     }
     if sort == 1 {
         return codec::put(b"#REQUIRED", out, at);
     }
-    let n = codec::byte(bytes, 19) as usize;
-    let value = layout::window(bytes, 20, n);
+    let value = layout::attribute_value(bytes);
     let quoted = codec::put(b"#FIXED \"", out, at);
     let valued = put_escaped(value, out, quoted);
     codec::put_u8(out, valued, b'"')
@@ -464,11 +457,11 @@ fn put_attributes(store: &[u8], o: usize, owner: &[u8], out: &mut [u8], start: u
     requires { ⌜ (attributeCount (now store) ≤ 64) × (start < 1152921504606846976) × (length (now owner) ≤ 300) ⌝ }
     ensures { λ r. ⌜ LaidWithin 192000 (attributesText (now (owner .entry)) (ofOwner o (attributesFrom (now (store .entry)) (attributeCount (now (store .entry))) 0))) (now (out .entry)) start r (now (out .exit)) ⌝ }
 {
-    let count = codec::get_u32(store, 28) as usize;
+    let count = layout::attribute_count(store);
     let mut at = start;
     let mut i = 0;
     while i < count {
-        if codec::byte(attribute(store, i), 0) as usize == o {
+        if layout::attribute_owner(attribute(store, i)) == o {
             at = put_attribute_line(store, i, owner, out, at);
             i += 1;
         } else {
@@ -485,7 +478,7 @@ fn has_member(store: &[u8], from: usize, end: usize) -> bool
 {
     let mut i = from;
     while i < end {
-        if codec::byte(particle(store, i), 3) == 0 {
+        if layout::particle_depth(particle(store, i)) == 0 {
             return true;
         }
         i += 1;
@@ -524,7 +517,7 @@ fn put_definition(
     requires { ⌜ (o < definitionCount (now store)) × (end ≤ 256) × (at < 1152921504606846976) × (definitionCount (now store) ≤ 64) ⌝ }
     ensures { λ r. ⌜ LaidWithin 641000 (definitionText (namesOf (now (store .entry))) (readDefinition (definitionPart (now (store .entry)) o)) (particlesFrom (now (store .entry)) end from)) (now (out .entry)) at r (now (out .exit)) ⌝ }
 {
-    let kind = codec::byte(definition(store, o), 17);
+    let kind = layout::definition_kind(definition(store, o));
     let signed = codec::put(b"<!ELEMENT ", out, at);
     let named = codec::put(name_of(store, o), out, signed);
     let spaced = codec::put_u8(out, named, b' ');
@@ -537,7 +530,7 @@ fn model_end(store: &[u8], from: usize, n: usize) -> usize
     requires { ⌜ (from < 1099511627776) × (n < 4294967296) ⌝ }
     ensures { λ r. ⌜ Ends (now (store .entry)) from n r ⌝ }
 {
-    let count = codec::get_u32(store, 20) as usize;
+    let count = layout::particle_count(store);
     let end = from + n;
     if end < count { end } else { count }
 }
@@ -547,7 +540,7 @@ fn put_declarations(store: &[u8], o: usize, from: usize, out: &mut [u8], at: usi
     requires { ⌜ Within (now store) × (o < definitionCount (now store)) × (from < 1099511627776) × (at < 576460752303423488) ⌝ }
     ensures { λ r. ⌜ LaidWithin 840000 (declarationsText (namesOf (now (store .entry))) o (readDefinition (definitionPart (now (store .entry)) o)) (particlesFrom (now (store .entry)) (particleCount (now (store .entry))) from) (attributesFrom (now (store .entry)) (attributeCount (now (store .entry))) 0)) (now (out .entry)) at r (now (out .exit)) ⌝ }
 {
-    let n = codec::get_u16(definition(store, o), 18) as usize;
+    let n = layout::definition_particles(definition(store, o)) as usize;
     let end = model_end(store, from, n);
     let defined = put_definition(store, o, from, end, out, at);
     put_attributes(store, o, name_of(store, o), out, defined)
@@ -558,13 +551,13 @@ fn put_form(store: &[u8], out: &mut [u8], start: usize) -> usize
     requires { ⌜ Within (now store) × (start < 288230376151711744) ⌝ }
     ensures { λ r. ⌜ LaidWithin 53760000 (formText (namesOf (now (store .entry))) 0 (definitionsFrom (now (store .entry)) (definitionCount (now (store .entry))) 0) (particlesFrom (now (store .entry)) (particleCount (now (store .entry))) 0) (attributesFrom (now (store .entry)) (attributeCount (now (store .entry))) 0)) (now (out .entry)) start r (now (out .exit)) ⌝ }
 {
-    let count = codec::get_u32(store, 12) as usize;
+    let count = layout::definition_count(store);
     let mut at = start;
     let mut from = 0;
     let mut o = 0;
     while o < count {
         at = put_declarations(store, o, from, out, at);
-        from += codec::get_u16(definition(store, o), 18) as usize;
+        from += layout::definition_particles(definition(store, o)) as usize;
         o += 1;
     }
     at

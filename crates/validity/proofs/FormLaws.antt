@@ -25,8 +25,8 @@ use Rattle.codec.proofs.Records.{many-at}
 use Rattle.records.specs.Records.{definitionFits, attributeFits, eachFits}
 use Rattle.records.proofs.RecordLaws.{FittingDefinition, definition-fields, FittingAttribute, attribute-fields, body-fields}
 use Rattle.forms.specs.FormTests.{elementsIn, shaped, modelFits, modelsFit, bodiesFit}
-use Rattle.forms.specs.Bodies.{Bodies, recordAt, definitions, particles, attributes, formOf}
-use Rattle.forms.proofs.Reading.{definitions-length, particles-length, definition-size}
+use Rattle.forms.specs.Bodies.{Bodies, definitions, particles, attributes, formOf}
+use Rattle.forms.proofs.Reading.{definitions-length, particles-length}
 use Rattle.circles.specs.declared.Heights.{Heights}
 use Rattle.circles.specs.Members.{countAt, startAt, membersIn}
 use Rattle.circles.specs.Deep.{Ranked}
@@ -87,8 +87,8 @@ model-is-part zero (d ∷ ds) ps = refl
 model-is-part (suc i) (d ∷ ds) ps = model-is-part i ds (drop (d .particles) ps)
 
 count-at : (n : ℕ) (defs : Bytes) (i : ℕ) → i < n → countAt defs i ≡ getD (definitions n defs) i noDefinition .particles
-unfolding definitions recordAt
-count-at n defs i l = definition-size i defs ∙ ap (λ (d : FlatDefinition). d .particles) (sym (many-at readDefinition definitionSize i n defs noDefinition l))
+unfolding definitions
+count-at n defs i l = ap (λ (d : FlatDefinition). d .particles) (sym (many-at readDefinition definitionSize i n defs noDefinition l))
 
 -- ---- the bodies of a form
 -- bodies of bytes

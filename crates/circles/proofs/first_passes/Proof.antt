@@ -4,24 +4,24 @@ use borrow.Author.Needs.{needs}
 use Rattle.circles.proofs.first_passes.Statement.{statement}
 use Rattle.circles.proofs.first_passes.Tie as tie
 
-byte-requires : tie.Need-byte-requires
-byte-requires c κs = search needs
+particle-sort-requires : tie.Need-particle-sort-requires
+particle-sort-requires c κs = search needs
 
 returns : tie.Need-returns
-returns c = first-group (c .before .before .before .args .old .now) _ _ (c .before .byte .ensures) _ (c .if1 .taken)
+returns c = first-group (c .before .before .before .args .old .now) _ _ (c .before .particle-sort .ensures) _ (c .if1 .taken)
 
-byte-requires-2 : tie.Need-byte-requires-2
-byte-requires-2 c κs = search needs
+particle-index-requires : tie.Need-particle-index-requires
+particle-index-requires c κs = search needs
 
 cast-j : tie.Need-cast-j
 cast-j c = search needs
 
-byte-requires-3 : tie.Need-byte-requires-3
-byte-requires-3 c κs = search needs
+byte-requires : tie.Need-byte-requires
+byte-requires c κs = search needs
 
 returns-2 : tie.Need-returns-2
-returns-2 c = first-element (c .before .before .before .before .before .before .args .old .now) _ _ (c .before .before .before .before .byte .ensures) _ _ _ (c .before .before .before .if1 .left) (c .before .before .byte2 .ensures) (c .byte3 .ensures)
+returns-2 c = first-element (c .before .before .before .before .before .before .args .old .now) _ _ (c .before .before .before .before .particle-sort .ensures) _ _ _ (c .before .before .before .if1 .left) (c .before .before .particle-index .ensures) (c .byte .ensures)
 
 pub first-passes-spec : {M : Type 1} → statement M
 first-passes-spec =
-    tie.close (tie.spec byte-requires returns byte-requires-2 cast-j byte-requires-3 returns-2)
+    tie.close (tie.spec particle-sort-requires returns particle-index-requires cast-j byte-requires returns-2)

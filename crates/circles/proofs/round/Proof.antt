@@ -15,26 +15,14 @@ abbrev μ-loop : tie.MeasureT-loop
 loop-holds : tie.Need-loop-holds Inv-loop μ-loop
 loop-holds c = rounding-starts _ _ _ _ _
 
-mul-get-u16 : tie.Need-mul-get-u16 Inv-loop μ-loop
-mul-get-u16 c = search needs
-
-add-get-u16 : tie.Need-add-get-u16 Inv-loop μ-loop
-add-get-u16 c = search needs
-
-get-u16-requires : tie.Need-get-u16-requires Inv-loop μ-loop
-get-u16-requires c κs = search needs
+definition-particles-at-requires : tie.Need-definition-particles-at-requires Inv-loop μ-loop
+definition-particles-at-requires c κs = search needs
 
 cast-count : tie.Need-cast-count Inv-loop μ-loop
 cast-count c = search needs
 
-mul-part : tie.Need-mul-part Inv-loop μ-loop
-mul-part c = search needs
-
-mul-part-2 : tie.Need-mul-part-2 Inv-loop μ-loop
-mul-part-2 c = search needs
-
-part-requires : tie.Need-part-requires Inv-loop μ-loop
-part-requires c κs = search needs
+particles-part-requires : tie.Need-particles-part-requires Inv-loop μ-loop
+particles-part-requires c κs = search needs
 
 element-copy-out-raised : tie.Need-element-copy-out-raised Inv-loop μ-loop
 element-copy-out-raised c = search needs
@@ -55,7 +43,7 @@ loop-less : tie.Need-loop-less Inv-loop μ-loop
 loop-less c = search needs
 
 loop-again : tie.Need-loop-again Inv-loop μ-loop
-loop-again c = rounding-on (c .before .before .before .before .before .loop .inv) _ _ _ (omega arith) (omega arith) (c .before .before .before .get-u16 .ensures) (omega arith) (c .before .before .part .ensures) (c .raised .ensures)
+loop-again c = rounding-on (c .before .before .before .before .before .loop .inv) _ _ _ (omega arith) (omega arith) (c .before .before .before .definition-particles-at .ensures) (omega arith) (c .before .before .particles-part .ensures) (c .raised .ensures)
 
 returns : tie.Need-returns Inv-loop μ-loop
 returns c = rounding-ends (c .before .loop .inv) (omega arith)
@@ -67,13 +55,9 @@ round-spec =
     Inv-loop
     μ-loop
     loop-holds
-    mul-get-u16
-    add-get-u16
-    get-u16-requires
+    definition-particles-at-requires
     cast-count
-    mul-part
-    mul-part-2
-    part-requires
+    particles-part-requires
     element-copy-out-raised
     raised-requires
     array-write-new

@@ -6,29 +6,29 @@ use borrow.Author.Needs.{needs}
 use Rattle.forms.proofs.count_fits.Statement.{statement}
 use Rattle.forms.proofs.count_fits.Tie as tie
 
-particle-byte-requires : tie.Need-particle-byte-requires
-particle-byte-requires c κs = search needs
+particle-sort-at-requires : tie.Need-particle-sort-at-requires
+particle-sort-at-requires c κs = search needs
 
-particle-byte-requires-2 : tie.Need-particle-byte-requires-2
-particle-byte-requires-2 c κs = search needs
+particle-quantifier-at-requires : tie.Need-particle-quantifier-at-requires
+particle-quantifier-at-requires c κs = search needs
 
-particle-byte-requires-3 : tie.Need-particle-byte-requires-3
-particle-byte-requires-3 c κs = search needs
+particle-index-at-requires : tie.Need-particle-index-at-requires
+particle-index-at-requires c κs = search needs
 
 returns : tie.Need-returns
 returns c = let a = c .before .before .before .before .before .args in
-    count-element (a .n) (particleAt (a .i) (a .parts .now) .row) (a .below) (c .before .before .before .particle-byte .ensures) (c .before .before .particle-byte2 .ensures) (c .before .particle-byte3 .ensures) (c .if1 .taken)
+    count-element (a .n) (particleAt (a .i) (a .parts .now) .row) (a .below) (c .before .before .before .particle-sort-at .ensures) (c .before .before .particle-quantifier-at .ensures) (c .before .particle-index-at .ensures) (c .if1 .taken)
 
 returns-2 : tie.Need-returns-2
 returns-2 c = let a = c .before .before .before .before .before .args in
-    count-group (a .n) (particleAt (a .i) (a .parts .now) .row) (a .below) (c .before .before .before .particle-byte .ensures) (c .before .before .particle-byte2 .ensures) (c .before .particle-byte3 .ensures) (c .if1 .left)
+    count-group (a .n) (particleAt (a .i) (a .parts .now) .row) (a .below) (c .before .before .before .particle-sort-at .ensures) (c .before .before .particle-quantifier-at .ensures) (c .before .particle-index-at .ensures) (c .if1 .left)
 
 pub count-fits-spec : {M : Type 1} → statement M
 count-fits-spec =
     tie.close
     (tie.spec
-    particle-byte-requires
-    particle-byte-requires-2
-    particle-byte-requires-3
+    particle-sort-at-requires
+    particle-quantifier-at-requires
+    particle-index-at-requires
     returns
     returns-2)

@@ -22,8 +22,8 @@ abbrev μ-loop : tie.MeasureT-loop
 loop-holds : tie.Need-loop-holds Inv-loop μ-loop
 loop-holds c = (omega arith, omega arith)
 
-particle-byte-requires : tie.Need-particle-byte-requires Inv-loop μ-loop
-particle-byte-requires c κs = search needs
+particle-depth-at-requires : tie.Need-particle-depth-at-requires Inv-loop μ-loop
+particle-depth-at-requires c κs = search needs
 
 returns : tie.Need-returns Inv-loop μ-loop
 returns c = let a = c .before .before .before .before .before .args in
@@ -64,7 +64,7 @@ members-spec =
     Inv-loop
     μ-loop
     loop-holds
-    particle-byte-requires
+    particle-depth-at-requires
     returns
     add-count
     add-j

@@ -21,8 +21,11 @@ abbrev μ-loop : tie.MeasureT-loop
 loop-holds : tie.Need-loop-holds Inv-loop μ-loop
 loop-holds c = (omega arith, refl)
 
-model-size-requires : tie.Need-model-size-requires Inv-loop μ-loop
-model-size-requires c κs = omega arith
+definition-particles-at-requires : tie.Need-definition-particles-at-requires Inv-loop μ-loop
+definition-particles-at-requires c κs = omega arith
+
+cast-size : tie.Need-cast-size Inv-loop μ-loop
+cast-size c = search needs
 
 sub-if1 : tie.Need-sub-if1 Inv-loop μ-loop
 sub-if1 c = omega arith
@@ -31,16 +34,10 @@ returns : tie.Need-returns Inv-loop μ-loop
 returns c = let a = c .before .before .before .before .before .before .args in
     let l = c .before .before .before .loop in
     let ps = particles (a .p) (a .parts .now) in
-    sym (models-short (a .n) (a .p) (l .at) ps (particles-length (a .p) (a .parts .now)) (definitions-from (l .i) (a .n) (a .defs .now) (omega arith)) (c .before .model-size .ensures) (c .if1 .taken)) ∙ l .inv .1
+    sym (models-short (a .n) (a .p) (l .at) ps (particles-length (a .p) (a .parts .now)) (definitions-from (l .i) (a .n) (a .defs .now) (omega arith)) (c .before .definition-particles-at .ensures) (c .if1 .taken)) ∙ l .inv .1
 
-mul-part : tie.Need-mul-part Inv-loop μ-loop
-mul-part c = omega arith
-
-mul-part-2 : tie.Need-mul-part-2 Inv-loop μ-loop
-mul-part-2 c = omega arith
-
-part-requires : tie.Need-part-requires Inv-loop μ-loop
-part-requires c κs = search needs
+particles-part-requires : tie.Need-particles-part-requires Inv-loop μ-loop
+particles-part-requires c κs = (omega arith, omega arith)
 
 model-fits-requires : tie.Need-model-fits-requires Inv-loop μ-loop
 model-fits-requires c κs = omega arith
@@ -48,10 +45,10 @@ model-fits-requires c κs = omega arith
 returns-2 : tie.Need-returns-2 Inv-loop μ-loop
 returns-2 c = let a = c .before .before .before .before .before .before .before .before .before .args in
     let l = c .before .before .before .before .before .before .loop in
-    let k = c .before .before .before .before .model-size .result in
+    let k = c .before .before .before .before .definition-particles-at .result in
     let ps = particles (a .p) (a .parts .now) in
-    let fits = part-fits (a .n) (l .at) k (a .p) (a .parts .now) (c .before .before .part .ensures) (c .before .model-fits .ensures) (omega arith) (c .before .before .before .before .before .before .before .before .before .pre .1 .whole) in
-    sym (models-off (a .n) (a .p) (l .at) ps (particles-length (a .p) (a .parts .now)) (definitions-from (l .i) (a .n) (a .defs .now) (omega arith)) (c .before .before .before .before .model-size .ensures) (c .before .before .before .if1 .left) fits (c .if2 .taken)) ∙ l .inv .1
+    let fits = part-fits (a .n) (l .at) k (a .p) (a .parts .now) (c .before .before .particles-part .ensures) (c .before .model-fits .ensures) (omega arith) (c .before .before .before .before .before .before .before .before .before .pre .1 .whole) in
+    sym (models-off (a .n) (a .p) (l .at) ps (particles-length (a .p) (a .parts .now)) (definitions-from (l .i) (a .n) (a .defs .now) (omega arith)) (c .before .before .before .before .definition-particles-at .ensures) (c .before .before .before .if1 .left) fits (c .if2 .taken)) ∙ l .inv .1
 
 add-at : tie.Need-add-at Inv-loop μ-loop
 add-at c = omega arith
@@ -65,10 +62,10 @@ loop-less c = omega arith
 loop-again : tie.Need-loop-again Inv-loop μ-loop
 loop-again c = let a = c .before .before .before .before .before .before .before .before .before .args in
     let l = c .before .before .before .before .before .before .loop in
-    let k = c .before .before .before .before .model-size .result in
+    let k = c .before .before .before .before .definition-particles-at .result in
     let ps = particles (a .p) (a .parts .now) in
-    let fits = part-fits (a .n) (l .at) k (a .p) (a .parts .now) (c .before .before .part .ensures) (c .before .model-fits .ensures) (omega arith) (c .before .before .before .before .before .before .before .before .before .pre .1 .whole) in
-    (omega arith, models-on (a .n) (a .p) (l .at) ps (particles-length (a .p) (a .parts .now)) (definitions-from (l .i) (a .n) (a .defs .now) (omega arith)) (c .before .before .before .before .model-size .ensures) (c .before .before .before .if1 .left) fits (c .if2 .left) ∙ l .inv .1)
+    let fits = part-fits (a .n) (l .at) k (a .p) (a .parts .now) (c .before .before .particles-part .ensures) (c .before .model-fits .ensures) (omega arith) (c .before .before .before .before .before .before .before .before .before .pre .1 .whole) in
+    (omega arith, models-on (a .n) (a .p) (l .at) ps (particles-length (a .p) (a .parts .now)) (definitions-from (l .i) (a .n) (a .defs .now) (omega arith)) (c .before .before .before .before .definition-particles-at .ensures) (c .before .before .before .if1 .left) fits (c .if2 .left) ∙ l .inv .1)
 
 returns-3 : tie.Need-returns-3 Inv-loop μ-loop
 returns-3 c = let a = c .before .before .before .before .args in
@@ -82,12 +79,11 @@ models-fit-spec =
     Inv-loop
     μ-loop
     loop-holds
-    model-size-requires
+    definition-particles-at-requires
+    cast-size
     sub-if1
     returns
-    mul-part
-    mul-part-2
-    part-requires
+    particles-part-requires
     model-fits-requires
     returns-2
     add-at

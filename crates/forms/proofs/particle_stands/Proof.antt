@@ -9,16 +9,16 @@ use borrow.Author.Needs.{needs}
 use Rattle.forms.proofs.particle_stands.Statement.{statement}
 use Rattle.forms.proofs.particle_stands.Tie as tie
 
-particle-byte-requires : tie.Need-particle-byte-requires
-particle-byte-requires c κs = search needs
+particle-depth-at-requires : tie.Need-particle-depth-at-requires
+particle-depth-at-requires c κs = search needs
 
 returns : tie.Need-returns
 returns c = let a = c .before .before .before .args in
-    sym (stands-low (a .n) (a .d) (particleAt (a .i) (a .parts .now)) (drop (a .i + 1) (particles (a .m) (a .parts .now))) (c .before .particle-byte .ensures) (c .if1 .taken))
+    sym (stands-low (a .n) (a .d) (particleAt (a .i) (a .parts .now)) (drop (a .i + 1) (particles (a .m) (a .parts .now))) (c .before .particle-depth-at .ensures) (c .if1 .taken))
 
 returns-2 : tie.Need-returns-2
 returns-2 c = let a = c .before .before .before .before .args in
-    sym (stands-far (a .n) (a .d) (particleAt (a .i) (a .parts .now)) (drop (a .i + 1) (particles (a .m) (a .parts .now))) (c .before .before .particle-byte .ensures) (c .before .if1 .left) (c .if2 .taken))
+    sym (stands-far (a .n) (a .d) (particleAt (a .i) (a .parts .now)) (drop (a .i + 1) (particles (a .m) (a .parts .now))) (c .before .before .particle-depth-at .ensures) (c .before .if1 .left) (c .if2 .taken))
 
 add-members : tie.Need-add-members
 add-members c = search needs
@@ -37,13 +37,13 @@ element-again-requires c κs = search needs
 
 returns-3 : tie.Need-returns-3
 returns-3 c = let a = c .before .before .before .before .before .before .before .args in
-    stands-by (a .n) (a .d) (particleAt (a .i) (a .parts .now)) (drop (a .i + 1) (particles (a .m) (a .parts .now))) (c .before .before .before .before .before .particle-byte .ensures) (c .before .before .before .before .if1 .left) (c .before .before .before .if2 .left) (c .before .before .members .ensures) (c .before .count-fits .ensures) (c .element-again .ensures)
+    stands-by (a .n) (a .d) (particleAt (a .i) (a .parts .now)) (drop (a .i + 1) (particles (a .m) (a .parts .now))) (c .before .before .before .before .before .particle-depth-at .ensures) (c .before .before .before .before .if1 .left) (c .before .before .before .if2 .left) (c .before .before .members .ensures) (c .before .count-fits .ensures) (c .element-again .ensures)
 
 pub particle-stands-spec : {M : Type 1} → statement M
 particle-stands-spec =
     tie.close
     (tie.spec
-    particle-byte-requires
+    particle-depth-at-requires
     returns
     returns-2
     add-members

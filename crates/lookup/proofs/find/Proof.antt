@@ -3,7 +3,7 @@ use mathlib.Core.Path.{_≡_, sym, ap, _∙_, subst}
 use mathlib.Core.List.{List}
 use Prim.Native.Nat.{ℕ, _-_, _<_}
 use native.Mathlib.Omega.{arith}
-use Rattle.rules.specs.Decode.{numberAt}
+use Rattle.rules.specs.Decode.{readRow}
 use Rattle.rules.specs.LookUp.{Found}
 use Rattle.lookup.specs.Bodies.{RowsOf}
 use Rattle.lookup.specs.Finding.{Looks}
@@ -51,7 +51,7 @@ returns : tie.Need-returns Inv-loop μ-loop
 returns c = let at-loop = c .before .before .before .before .before in
     let a = at-loop .before .before .before .before .before .args in
     let row = row-of (at-loop .loop .i) (at-loop .loop .inv .1) (c .before .before .before .row-at .ensures) in
-    let e = c .before .before .row-serial .ensures ∙ ap (λ (b : List ℕ). numberAt 4 4 b) row in
+    let e = c .before .before .row-serial .ensures ∙ ap (λ (b : List ℕ). readRow b .row .serial) row in
     subst (λ (f : Found). Looks f (c .found-at .result .number) (c .found-at .result .start) (c .found-at .result .length))
     (seek-hit (a .store .now) (a .serial) _ (at-loop .loop .i) (at-loop .loop .inv .0) (omega arith) (sym e ∙ c .before .if1 .taken))
     (c .found-at .ensures)
@@ -66,7 +66,7 @@ loop-again : tie.Need-loop-again Inv-loop μ-loop
 loop-again c = let at-loop = c .before .before .before .before in
     let a = at-loop .before .before .before .before .before .args in
     let row = row-of (at-loop .loop .i) (at-loop .loop .inv .1) (c .before .before .row-at .ensures) in
-    let e = c .before .row-serial .ensures ∙ ap (λ (b : List ℕ). numberAt 4 4 b) row in
+    let e = c .before .row-serial .ensures ∙ ap (λ (b : List ℕ). readRow b .row .serial) row in
     (seek-past (a .store .now) (a .serial) _ (at-loop .loop .i) (at-loop .loop .inv .0) (omega arith) (λ g. c .if1 .left (e ∙ g)), at-loop .loop .inv .1, at-loop .loop .inv .2)
 
 returns-2 : tie.Need-returns-2 Inv-loop μ-loop

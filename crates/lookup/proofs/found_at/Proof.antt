@@ -1,7 +1,10 @@
 use mathlib.Core.Path.{_≡_, sym, ap, _∙_}
 use mathlib.Core.List.{List}
 use Prim.Native.Nat.{ℕ, _+_}
-use lib.ListN.{length, take, drop, getD}
+use native.Mathlib.Omega.{arith}
+use lib.ListN.{length}
+use Rattle.rules.specs.Decode.{readRow}
+use Rattle.layout.specs.Bodies.{valueOffset}
 use Rattle.lookup.specs.Bodies.{rowPart}
 use Rattle.lookup.proofs.Laws.{looks-as, found-element, found-value}
 use borrow.Author.Needs.{needs}
@@ -23,7 +26,7 @@ row-sort-requires c κs = search needs
 returns : tie.Need-returns
 returns c = let a = c .before .before .before .before .args in
     let at-row = c .before .before in
-    let sort : c .before .row-sort .result ≡ getD (rowPart (a .store .now) (a .i)) 0 0 = c .before .row-sort .ensures ∙ ap (λ (l : List ℕ). getD l 0 0) (at-row .row .ensures) in
+    let sort : c .before .row-sort .result ≡ readRow (rowPart (a .store .now) (a .i)) .row .sort = c .before .row-sort .ensures ∙ ap (λ (l : List ℕ). readRow l .row .sort) (at-row .row .ensures) in
     found-element (a .store .now) (a .i) (sym sort ∙ c .if1 .taken)
 
 row-value-requires : tie.Need-row-value-requires
@@ -32,18 +35,18 @@ row-value-requires c κs = search needs
 row-place-requires : tie.Need-row-place-requires
 row-place-requires c κs = search needs
 
-add-start : tie.Need-add-start
-add-start c = search needs
+value-place-requires : tie.Need-value-place-requires
+value-place-requires c κs = omega (arith, c .row-place .ensures .small)
 
 returns-2 : tie.Need-returns-2
-returns-2 c = let at-sort = c .before .before .before in
+returns-2 c = let at-sort = c .before .before .before .before in
     let a = at-sort .before .before .before .args in
     let part = at-sort .before .row .ensures in
-    let sort : at-sort .row-sort .result ≡ getD (rowPart (a .store .now) (a .i)) 0 0 = at-sort .row-sort .ensures ∙ ap (λ (l : List ℕ). getD l 0 0) part in
+    let sort : at-sort .row-sort .result ≡ readRow (rowPart (a .store .now) (a .i)) .row .sort = at-sort .row-sort .ensures ∙ ap (λ (l : List ℕ). readRow l .row .sort) part in
     looks-as
-    (ap (λ (k : ℕ). k + 10) (c .row-place .ensures .value))
-    (ap length (c .before .row-value .ensures ∙ ap (λ (l : List ℕ). take (getD l 8 0) (drop 10 l)) part))
-    (found-value (a .store .now) (a .i) (λ g. c .before .before .if1 .left (sort ∙ g)))
+    (c .value-place .ensures .value ∙ ap (λ (k : ℕ). k + valueOffset) (c .before .row-place .ensures .value))
+    (ap length (c .before .before .row-value .ensures ∙ ap (λ (l : List ℕ). readRow l .row .value) part))
+    (found-value (a .store .now) (a .i) (λ g. c .before .before .before .if1 .left (sort ∙ g)))
 
 pub found-at-spec : {M : Type 1} → statement M
 found-at-spec =
@@ -54,5 +57,5 @@ found-at-spec =
     returns
     row-value-requires
     row-place-requires
-    add-start
+    value-place-requires
     returns-2)

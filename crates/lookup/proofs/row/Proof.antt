@@ -17,8 +17,8 @@ row-place-requires : tie.Need-row-place-requires
 row-place-requires c κs = search needs
 
 -- src/lib.rt:46:26
-add-window : tie.Need-add-window
-add-window c = search needs
+row-size-requires : tie.Need-row-size-requires
+row-size-requires c κs = search needs
 
 -- src/lib.rt:46:5
 window-requires : tie.Need-window-requires
@@ -26,8 +26,8 @@ window-requires c κs = search needs
 
 -- src/lib.rt:40:1
 returns : tie.Need-returns
-returns c = row-window _ _ _ _ _ (c .before .before .width-in .ensures) (c .before .row-place .ensures) (c .window .ensures)
+returns c = row-window _ _ _ _ _ _ (c .before .before .before .width-in .ensures) (c .before .row-size .ensures) (c .before .before .row-place .ensures) (c .window .ensures)
 
 pub row-spec : {M : Type 1} → statement M
 row-spec =
-    tie.close (tie.spec width-in-requires row-place-requires add-window window-requires returns)
+    tie.close (tie.spec width-in-requires row-place-requires row-size-requires window-requires returns)

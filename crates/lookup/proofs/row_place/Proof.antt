@@ -13,8 +13,8 @@ width-in-requires : tie.Need-width-in-requires
 width-in-requires c κs = search needs
 
 -- src/lib.rt:35:32
-add-times : tie.Need-add-times
-add-times c = search needs
+row-size-requires : tie.Need-row-size-requires
+row-size-requires c κs = search needs
 
 -- src/lib.rt:35:9
 times-requires : tie.Need-times-requires
@@ -30,9 +30,9 @@ add-result c = search needs
 
 -- src/lib.rt:30:1
 returns : tie.Need-returns
-returns c = row-placed _ _ _ _ _ (c .before .before .width-in .ensures) (c .before .times .ensures) (c .row-start .ensures)
+returns c = row-placed _ _ _ _ _ _ (c .before .before .before .width-in .ensures) (c .before .before .row-size .ensures) (c .before .times .ensures) (c .row-start .ensures)
 
 pub row-place-spec : {M : Type 1} → statement M
 row-place-spec =
     tie.close
-    (tie.spec width-in-requires add-times times-requires row-start-requires add-result returns)
+    (tie.spec width-in-requires row-size-requires times-requires row-start-requires add-result returns)

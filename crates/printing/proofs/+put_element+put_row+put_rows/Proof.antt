@@ -3,7 +3,6 @@ use mathlib.Core.Path.{_≡_, ap, _∙_}
 use mathlib.Core.List.{List}
 use Prim.Native.Nat.{suc, _+_, _*_, _-_}
 use native.Mathlib.Omega.{arith}
-use lib.ListN.{getD}
 use Rattle.rules.specs.Preorder.{build}
 use Rattle.rules.specs.Decode.{readRow, rowSortOf}
 use Rattle.rules.specs.Layout.{rowSize}
@@ -205,7 +204,7 @@ put-rows-same-length t c = laid-long (c .before .before .put-end .ensures) ∙ c
 
 put-rows-returns : (t : ℕ) → put-rows-lts.Need-returns (put-rows-calls t) (put-rows-at t) put-rows.Post put-rows-Inv-loop put-rows-μ-loop
 put-rows-returns t c = let l = c .before .before .before .before .before .before .before .before in let a = l .before .before .before .before .args in
-    let d : c .before .before .before .before .before .row-depth .result ≡ getD (recordAt (rowSize (a .w)) (l .loop .i) (a .rows .now)) 1 0 = c .before .before .before .before .before .row-depth .ensures ∙ ap (λ (b : List ℕ). getD b 1 0) (c .before .before .before .before .before .before .row-at .ensures) in
+    let d : c .before .before .before .before .before .row-depth .result ≡ readRow (recordAt (rowSize (a .w)) (l .loop .i) (a .rows .now)) .depth = c .before .before .before .before .before .row-depth .ensures ∙ ap (λ (b : List ℕ). readRow b .depth) (c .before .before .before .before .before .before .row-at .ensures) in
     walk-stops (l .loop .inv) (readRow (recordAt (rowSize (a .w)) (l .loop .i) (a .rows .now))) _ (row-step (a .w) (a .rows .now) (a .count) (l .loop .i) (omega arith)) (omega arith) (rows-bare (namesOf (a .store .now)) (attributeNamesOf (a .store .now)) (l .loop .opened)) (end-short (l .loop .opened)) (c .before .before .put-end .ensures)
 
 put-rows-put-row-requires : (t : ℕ) → put-rows-lts.Need-put-row-requires (put-rows-calls t) (put-rows-at t) put-rows.Post put-rows-Inv-loop put-rows-μ-loop
@@ -222,8 +221,8 @@ put-rows-loop-less t c = omega (arith, c .before .before .before .before .put-ro
 
 put-rows-loop-again : (t : ℕ) → put-rows-lts.Need-loop-again (put-rows-calls t) (put-rows-at t) put-rows.Post put-rows-Inv-loop put-rows-μ-loop
 put-rows-loop-again t c = let l = c .before .before .before .before .before .before .before .before .before .before .before in let a = l .before .before .before .before .args in
-    let d : c .before .before .before .before .before .before .before .before .row-depth .result ≡ getD (recordAt (rowSize (a .w)) (l .loop .i) (a .rows .now)) 1 0 = c .before .before .before .before .before .before .before .before .row-depth .ensures ∙ ap (λ (b : List ℕ). getD b 1 0) (c .before .before .before .before .before .before .before .before .before .row-at .ensures) in
-    let q = c .stays-open .ensures ∙ ap (λ (s : ℕ). stays (rowSortOf s) (l .loop .opened)) (c .before .row-sort .ensures ∙ ap (λ (b : List ℕ). getD b 0 0) (c .before .before .before .before .before .before .before .before .before .row-at .ensures)) in
+    let d : c .before .before .before .before .before .before .before .before .row-depth .result ≡ readRow (recordAt (rowSize (a .w)) (l .loop .i) (a .rows .now)) .depth = c .before .before .before .before .before .before .before .before .row-depth .ensures ∙ ap (λ (b : List ℕ). readRow b .depth) (c .before .before .before .before .before .before .before .before .before .row-at .ensures) in
+    let q = c .stays-open .ensures ∙ ap (λ (s : ℕ). stays (rowSortOf s) (l .loop .opened)) (c .before .row-sort .ensures ∙ ap (λ (b : List ℕ). readRow b .row .sort) (c .before .before .before .before .before .before .before .before .before .row-at .ensures)) in
     walk-as q
     (walk-here (l .loop .inv) (readRow (recordAt (rowSize (a .w)) (l .loop .i) (a .rows .now))) (stays (rowSortOf ((readRow (recordAt (rowSize (a .w)) (l .loop .i) (a .rows .now))) .row .sort)) (l .loop .opened)) _ (row-step (a .w) (a .rows .now) (a .count) (l .loop .i) (omega arith)) (omega arith) (omega arith) (λ t. rows-tree (namesOf (a .store .now)) (attributeNamesOf (a .store .now)) (l .loop .opened) ((readRow (recordAt (rowSize (a .w)) (l .loop .i) (a .rows .now))) .row) (build (rowsFrom (a .w) (a .rows .now) (a .count) (l .loop .i + 1)) (suc (a .depth))) t) (c .before .before .before .before .put-row .ensures))
 
@@ -235,7 +234,7 @@ put-rows-loop-less-2 t c = search needs
 
 put-rows-loop-again-2 : (t : ℕ) → put-rows-lts.Need-loop-again-2 (put-rows-calls t) (put-rows-at t) put-rows.Post put-rows-Inv-loop put-rows-μ-loop
 put-rows-loop-again-2 t c = let l = c .before .before .before .before .before in let a = l .before .before .before .before .args in
-    let d : c .before .before .row-depth .result ≡ getD (recordAt (rowSize (a .w)) (l .loop .i) (a .rows .now)) 1 0 = c .before .before .row-depth .ensures ∙ ap (λ (b : List ℕ). getD b 1 0) (c .before .before .before .row-at .ensures) in
+    let d : c .before .before .row-depth .result ≡ readRow (recordAt (rowSize (a .w)) (l .loop .i) (a .rows .now)) .depth = c .before .before .row-depth .ensures ∙ ap (λ (b : List ℕ). readRow b .depth) (c .before .before .before .row-at .ensures) in
     walk-deeper (l .loop .inv) (readRow (recordAt (rowSize (a .w)) (l .loop .i) (a .rows .now))) (row-step (a .w) (a .rows .now) (a .count) (l .loop .i) (omega arith)) (omega arith)
 
 put-rows-put-end-requires-2 : (t : ℕ) → put-rows-lts.Need-put-end-requires-2 (put-rows-calls t) (put-rows-at t) put-rows.Post put-rows-Inv-loop put-rows-μ-loop

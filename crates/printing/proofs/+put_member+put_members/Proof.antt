@@ -4,7 +4,7 @@ use mathlib.Core.Bool.{true, false}
 use mathlib.Core.List.{List, []}
 use Prim.Native.Nat.{suc, _+_, _*_, _-_}
 use native.Mathlib.Omega.{arith}
-use lib.ListN.{getD}
+use Rattle.rules.specs.Layout.{particleSize}
 use Rattle.rules.specs.Preorder.{build}
 use Rattle.rules.specs.Decode.{groupOf, readParticle}
 use Rattle.codec.proofs.Writers.{laid-none}
@@ -24,7 +24,10 @@ use Rattle.printing.proofs.+put_member+put_members.Lts-put_member as pu
 use Rattle.printing.proofs.put_members.Reads as put-members
 use Rattle.printing.proofs.put_members.Kinds as put-members-kinds
 use Rattle.printing.proofs.+put_member+put_members.Lts-put_members as put-members-lts
-use Rattle.codec.proofs.byte.Reads as byte-reads
+use Rattle.layout.proofs.particle_sort.Reads as particle-sort-reads
+use Rattle.layout.proofs.particle_quantifier.Reads as particle-quantifier-reads
+use Rattle.layout.proofs.particle_index.Reads as particle-index-reads
+use Rattle.layout.proofs.particle_depth.Reads as particle-depth-reads
 use Rattle.codec.proofs.put.Reads as put-reads
 use Rattle.codec.proofs.put_u8.Reads as put-u8-reads
 use Rattle.printing.proofs.name_of.Reads as name-of-reads
@@ -57,25 +60,25 @@ put-members-below t =
     and 2 put-members-kinds.ps (falls 2 put-members-kinds.ps _<_ μ-put-members t) put-members.Pre
 
 abbrev put-member-calls : ℕ → put-member-lts.Claims
-put-member-calls t = (particle-reads.Asked, particle-reads.Learnt, byte-reads.Asked, byte-reads.Learnt, put-sign-reads.Asked, put-sign-reads.Learnt, name-of-reads.Asked, name-of-reads.Learnt, put-reads.Asked, put-reads.Learnt, put-mark-reads.Asked, put-mark-reads.Learnt, put-u8-reads.Asked, put-u8-reads.Learnt, put-members-below t, put-members.Post)
+put-member-calls t = (particle-reads.Asked, particle-reads.Learnt, particle-sort-reads.Asked, particle-sort-reads.Learnt, particle-quantifier-reads.Asked, particle-quantifier-reads.Learnt, put-sign-reads.Asked, put-sign-reads.Learnt, particle-index-reads.Asked, particle-index-reads.Learnt, name-of-reads.Asked, name-of-reads.Learnt, put-reads.Asked, put-reads.Learnt, put-mark-reads.Asked, put-mark-reads.Learnt, put-u8-reads.Asked, put-u8-reads.Learnt, put-members-below t, put-members.Post)
 
 abbrev put-members-calls : ℕ → put-members-lts.Claims
-put-members-calls t = (particle-reads.Asked, particle-reads.Learnt, byte-reads.Asked, byte-reads.Learnt, put-member-below t, put-member.Post)
+put-members-calls t = (particle-reads.Asked, particle-reads.Learnt, particle-depth-reads.Asked, particle-depth-reads.Learnt, put-member-below t, put-member.Post)
 
 put-member-particle-requires : (t : ℕ) → put-member-lts.Need-particle-requires (put-member-calls t) (put-member-at t) put-member.Post
 put-member-particle-requires t c κs = search needs
 
-put-member-byte-requires : (t : ℕ) → put-member-lts.Need-byte-requires (put-member-calls t) (put-member-at t) put-member.Post
-put-member-byte-requires t c κs = search needs
+put-member-particle-sort-requires : (t : ℕ) → put-member-lts.Need-particle-sort-requires (put-member-calls t) (put-member-at t) put-member.Post
+put-member-particle-sort-requires t c κs = search needs
 
-put-member-byte-requires-2 : (t : ℕ) → put-member-lts.Need-byte-requires-2 (put-member-calls t) (put-member-at t) put-member.Post
-put-member-byte-requires-2 t c κs = search needs
+put-member-particle-quantifier-requires : (t : ℕ) → put-member-lts.Need-particle-quantifier-requires (put-member-calls t) (put-member-at t) put-member.Post
+put-member-particle-quantifier-requires t c κs = search needs
 
 put-member-put-sign-requires : (t : ℕ) → put-member-lts.Need-put-sign-requires (put-member-calls t) (put-member-at t) put-member.Post
 put-member-put-sign-requires t c κs = search needs
 
-put-member-byte-requires-3 : (t : ℕ) → put-member-lts.Need-byte-requires-3 (put-member-calls t) (put-member-at t) put-member.Post
-put-member-byte-requires-3 t c κs = search needs
+put-member-particle-index-requires : (t : ℕ) → put-member-lts.Need-particle-index-requires (put-member-calls t) (put-member-at t) put-member.Post
+put-member-particle-index-requires t c κs = search needs
 
 put-member-cast-index : (t : ℕ) → put-member-lts.Need-cast-index (put-member-calls t) (put-member-at t) put-member.Post
 put-member-cast-index t c = search needs
@@ -97,7 +100,7 @@ put-member-same-length t c = search needs
 
 put-member-returns : (t : ℕ) → put-member-lts.Need-returns (put-member-calls t) (put-member-at t) put-member.Post
 put-member-returns t c = let a = c .before .before .before .before .before .before .before .before .before .before .before .before .before .before .before .before .before .before .before .before .args in
-    element-stepped (a .store .now) (a .end) (a .i) (a .depth) (a .kind) (a .first) _ (c .before .before .before .before .before .before .before .before .before .before .before .before .before .before .before .before .before .particle .ensures) (omega arith) (c .before .before .before .before .before .before .before .before .before .before .before .before .before .before .before .before .byte .ensures) (c .before .before .before .before .before .before .before .before .before .before .before .before .before .before .before .byte2 .ensures) (c .before .before .before .before .before .before .before .before .before .before .before .before .before .put-sign .ensures) _ (c .before .before .before .before .before .before .before .before .before .before .if1 .taken) (c .before .before .before .before .before .before .before .before .before .byte3 .ensures) (c .before .before .before .before .before .before .before .before .name-of .ensures) (c .before .before .before .before .before .before .put .ensures) (c .before .before .put-mark .ensures)
+    element-stepped (a .store .now) (a .end) (a .i) (a .depth) (a .kind) (a .first) _ (c .before .before .before .before .before .before .before .before .before .before .before .before .before .before .before .before .before .particle .ensures) (omega arith) (c .before .before .before .before .before .before .before .before .before .before .before .before .before .before .before .before .particle-sort .ensures) (c .before .before .before .before .before .before .before .before .before .before .before .before .before .before .before .particle-quantifier .ensures) (c .before .before .before .before .before .before .before .before .before .before .before .before .before .put-sign .ensures) _ (c .before .before .before .before .before .before .before .before .before .before .if1 .taken) (c .before .before .before .before .before .before .before .before .before .particle-index .ensures) (c .before .before .before .before .before .before .before .before .name-of .ensures) (c .before .before .before .before .before .before .put .ensures) (c .before .before .put-mark .ensures)
 
 put-member-put-u8-requires : (t : ℕ) → put-member-lts.Need-put-u8-requires (put-member-calls t) (put-member-at t) put-member.Post
 put-member-put-u8-requires t c κs = omega (arith, sign-short (groupOf (c .before .before .before .before .before .before .before .before .before .before .before .args .kind)) (c .before .before .before .before .before .before .before .before .before .before .before .args .first))
@@ -122,7 +125,7 @@ put-member-same-length-2 t c = search needs
 
 put-member-returns-2 : (t : ℕ) → put-member-lts.Need-returns-2 (put-member-calls t) (put-member-at t) put-member.Post
 put-member-returns-2 t c = let a = c .before .before .before .before .before .before .before .before .before .before .before .before .before .before .before .before .before .before .before .before .before .before .before .before .before .before .args in
-    group-stepped (a .store .now) (a .end) (a .i) (a .depth) (a .kind) (a .first) _ (c .before .before .before .before .before .before .before .before .before .before .before .before .before .before .before .before .before .before .before .before .before .before .before .particle .ensures) (c .before .before .before .before .before .before .before .before .before .before .before .before .before .before .before .before .before .before .before .before .before .before .before .before .before .before .pre .1 .1) (c .before .before .before .before .before .before .before .before .before .before .before .before .before .before .before .before .before .before .before .before .before .before .byte .ensures) (c .before .before .before .before .before .before .before .before .before .before .before .before .before .before .before .before .before .before .before .before .before .byte2 .ensures) (c .before .before .before .before .before .before .before .before .before .before .before .before .before .before .before .before .before .before .before .put-sign .ensures) (c .before .before .before .before .before .before .before .before .before .before .before .before .before .before .before .before .if1 .left) (c .before .before .before .before .before .before .before .before .before .before .before .before .before .before .put-u8 .ensures) (c .before .before .before .before .before .before .before .before .before .before .put-members .ensures) (c .before .before .before .before .before .before .put-u82 .ensures) (c .before .before .put-mark2 .ensures)
+    group-stepped (a .store .now) (a .end) (a .i) (a .depth) (a .kind) (a .first) _ (c .before .before .before .before .before .before .before .before .before .before .before .before .before .before .before .before .before .before .before .before .before .before .before .particle .ensures) (c .before .before .before .before .before .before .before .before .before .before .before .before .before .before .before .before .before .before .before .before .before .before .before .before .before .before .pre .1 .1) (c .before .before .before .before .before .before .before .before .before .before .before .before .before .before .before .before .before .before .before .before .before .before .particle-sort .ensures) (c .before .before .before .before .before .before .before .before .before .before .before .before .before .before .before .before .before .before .before .before .before .particle-quantifier .ensures) (c .before .before .before .before .before .before .before .before .before .before .before .before .before .before .before .before .before .before .before .put-sign .ensures) (c .before .before .before .before .before .before .before .before .before .before .before .before .before .before .before .before .if1 .left) (c .before .before .before .before .before .before .before .before .before .before .before .before .before .before .put-u8 .ensures) (c .before .before .before .before .before .before .before .before .before .before .put-members .ensures) (c .before .before .before .before .before .before .put-u82 .ensures) (c .before .before .put-mark2 .ensures)
 
 abbrev put-members-Inv-loop : put-members-lts.InvT-loop
 put-members-Inv-loop store end from depth kind out₀ start at₀ i₀ first₀ out at i first = Walk (particlesFrom store end) (membersText (namesOf store) (groupOf kind)) (membersText (namesOf store) (groupOf kind) true (build (particlesFrom store end from) depth)) end from depth start out₀ i at first out
@@ -136,8 +139,8 @@ put-members-loop-holds t c = walk-start _ _ _ _ _ _
 put-members-particle-requires : (t : ℕ) → put-members-lts.Need-particle-requires (put-members-calls t) (put-members-at t) put-members.Post put-members-Inv-loop put-members-μ-loop
 put-members-particle-requires t c κs = search needs
 
-put-members-byte-requires : (t : ℕ) → put-members-lts.Need-byte-requires (put-members-calls t) (put-members-at t) put-members.Post put-members-Inv-loop put-members-μ-loop
-put-members-byte-requires t c κs = search needs
+put-members-particle-depth-requires : (t : ℕ) → put-members-lts.Need-particle-depth-requires (put-members-calls t) (put-members-at t) put-members.Post put-members-Inv-loop put-members-μ-loop
+put-members-particle-depth-requires t c κs = search needs
 
 put-members-cast-d : (t : ℕ) → put-members-lts.Need-cast-d (put-members-calls t) (put-members-at t) put-members.Post put-members-Inv-loop put-members-μ-loop
 put-members-cast-d t c = search needs
@@ -147,7 +150,7 @@ put-members-same-length t c = c .before .before .before .before .loop .inv .long
 
 put-members-returns : (t : ℕ) → put-members-lts.Need-returns (put-members-calls t) (put-members-at t) put-members.Post put-members-Inv-loop put-members-μ-loop
 put-members-returns t c = let l = c .before .before .before .before in let a = l .before .before .before .args in
-    let d : c .before .byte .result ≡ getD (particlePart (a .store .now) (l .loop .i)) 3 0 = c .before .byte .ensures ∙ ap (λ (b : List ℕ). getD b 3 0) (c .before .before .particle .ensures) in
+    let d : c .before .particle-depth .result ≡ readParticle (particlePart (a .store .now) (l .loop .i)) .depth = c .before .particle-depth .ensures ∙ ap (λ (b : List ℕ). readParticle b .depth) (c .before .before .particle .ensures) in
     walk-stops (l .loop .inv) (readParticle (particlePart (a .store .now) (l .loop .i))) [] (particle-step (a .store .now) (a .end) (l .loop .i) (omega arith)) (omega arith) (members-bare (namesOf (a .store .now)) (groupOf (a .kind)) (l .loop .first)) (omega arith) laid-none
 
 put-members-put-member-requires : (t : ℕ) → put-members-lts.Need-put-member-requires (put-members-calls t) (put-members-at t) put-members.Post put-members-Inv-loop put-members-μ-loop
@@ -158,7 +161,7 @@ put-members-loop-less t c = omega (arith, c .before .before .put-member .ensures
 
 put-members-loop-again : (t : ℕ) → put-members-lts.Need-loop-again (put-members-calls t) (put-members-at t) put-members.Post put-members-Inv-loop put-members-μ-loop
 put-members-loop-again t c = let l = c .before .before .before .before .before .before .before .before .before in let a = l .before .before .before .args in
-    let d : c .before .before .before .before .before .before .byte .result ≡ getD (particlePart (a .store .now) (l .loop .i)) 3 0 = c .before .before .before .before .before .before .byte .ensures ∙ ap (λ (b : List ℕ). getD b 3 0) (c .before .before .before .before .before .before .before .particle .ensures) in
+    let d : c .before .before .before .before .before .before .particle-depth .result ≡ readParticle (particlePart (a .store .now) (l .loop .i)) .depth = c .before .before .before .before .before .before .particle-depth .ensures ∙ ap (λ (b : List ℕ). readParticle b .depth) (c .before .before .before .before .before .before .before .particle .ensures) in
     walk-here (l .loop .inv) (readParticle (particlePart (a .store .now) (l .loop .i))) false _ (particle-step (a .store .now) (a .end) (l .loop .i) (omega arith)) (omega arith) (omega arith) (λ t. members-tree (namesOf (a .store .now)) (groupOf (a .kind)) (l .loop .first) ((readParticle (particlePart (a .store .now) (l .loop .i))) .row) (build (particlesFrom (a .store .now) (a .end) (l .loop .i + 1)) (suc (a .depth))) t) (c .before .before .put-member .ensures)
 
 put-members-add-i : (t : ℕ) → put-members-lts.Need-add-i (put-members-calls t) (put-members-at t) put-members.Post put-members-Inv-loop put-members-μ-loop
@@ -169,7 +172,7 @@ put-members-loop-less-2 t c = search needs
 
 put-members-loop-again-2 : (t : ℕ) → put-members-lts.Need-loop-again-2 (put-members-calls t) (put-members-at t) put-members.Post put-members-Inv-loop put-members-μ-loop
 put-members-loop-again-2 t c = let l = c .before .before .before .before .before in let a = l .before .before .before .args in
-    let d : c .before .before .byte .result ≡ getD (particlePart (a .store .now) (l .loop .i)) 3 0 = c .before .before .byte .ensures ∙ ap (λ (b : List ℕ). getD b 3 0) (c .before .before .before .particle .ensures) in
+    let d : c .before .before .particle-depth .result ≡ readParticle (particlePart (a .store .now) (l .loop .i)) .depth = c .before .before .particle-depth .ensures ∙ ap (λ (b : List ℕ). readParticle b .depth) (c .before .before .before .particle .ensures) in
     walk-deeper (l .loop .inv) (readParticle (particlePart (a .store .now) (l .loop .i))) (particle-step (a .store .now) (a .end) (l .loop .i) (omega arith)) (omega arith)
 
 put-members-same-length-2 : (t : ℕ) → put-members-lts.Need-same-length-2 (put-members-calls t) (put-members-at t) put-members.Post put-members-Inv-loop put-members-μ-loop
@@ -177,17 +180,17 @@ put-members-same-length-2 t c = c .before .loop .inv .long
 
 put-members-returns-2 : (t : ℕ) → put-members-lts.Need-returns-2 (put-members-calls t) (put-members-at t) put-members.Post put-members-Inv-loop put-members-μ-loop
 put-members-returns-2 t c = let l = c .before in let a = l .before .before .before .args in
-    walk-ends (l .loop .inv) [] (from-none readParticle 4 _ (a .end) (l .loop .i) (omega arith)) (members-bare (namesOf (a .store .now)) (groupOf (a .kind)) (l .loop .first)) (omega arith) laid-none
+    walk-ends (l .loop .inv) [] (from-none readParticle particleSize _ (a .end) (l .loop .i) (omega arith)) (members-bare (namesOf (a .store .now)) (groupOf (a .kind)) (l .loop .first)) (omega arith) laid-none
 
 pub +put-member+put-members-spec : {M : Type 1} → statement M
 +put-member+put-members-spec = close μ-put-member μ-put-members (λ t. put-member-lts.spec (put-member-calls t)
     (put-member-at t)
     put-member.Post
     (put-member-particle-requires t)
-    (put-member-byte-requires t)
-    (put-member-byte-requires-2 t)
+    (put-member-particle-sort-requires t)
+    (put-member-particle-quantifier-requires t)
     (put-member-put-sign-requires t)
-    (put-member-byte-requires-3 t)
+    (put-member-particle-index-requires t)
     (put-member-cast-index t)
     (put-member-name-of-requires t)
     (put-member-put-requires t)
@@ -210,7 +213,7 @@ pub +put-member+put-members-spec : {M : Type 1} → statement M
     put-members-μ-loop
     (put-members-loop-holds t)
     (put-members-particle-requires t)
-    (put-members-byte-requires t)
+    (put-members-particle-depth-requires t)
     (put-members-cast-d t)
     (put-members-same-length t)
     (put-members-returns t)

@@ -1,57 +1,45 @@
-use mathlib.Core.Path.{_≡_, sym, ap, ap₂, _∙_, subst}
+use mathlib.Core.Path.{sym, ap, _∙_, subst}
 use mathlib.Core.List.{List}
 use Prim.Native.Nat.{ℕ, _≤_}
 use native.Mathlib.Omega.{arith}
-use lib.ListN.{length, take, drop, getD}
-use Rattle.printing.specs.Parts.{attributePart}
+use lib.ListN.{length}
+use Rattle.rules.specs.Decode.{readAttribute}
 use Rattle.printing.proofs.PartLaws.{attribute-name, attribute-short, attribute-none}
 use borrow.Author.Needs.{needs}
 use Rattle.printing.proofs.attribute_name_of.Statement.{statement}
 use Rattle.printing.proofs.attribute_name_of.Tie as tie
 
-get-u32-requires : tie.Need-get-u32-requires
-get-u32-requires c κs = search needs
-
-cast-count : tie.Need-cast-count
-cast-count c = search needs
+attribute-count-requires : tie.Need-attribute-count-requires
+attribute-count-requires c κs = search needs
 
 slice-aggregate-result : tie.Need-slice-aggregate-result
 slice-aggregate-result c = search needs
 
 returns : tie.Need-returns
 returns c = let a = c .before .before .before .before .args in
-    record { name-is = sym (attribute-none (a .store .now) (a .i) (omega arith)); short = omega arith }
+    record { name-is = sym (attribute-none (a .store .now) (a .i) (omega (arith, c .before .before .attribute-count .ensures .value))); short = omega arith }
 
 attribute-requires : tie.Need-attribute-requires
 attribute-requires c κs = search needs
 
-byte-requires : tie.Need-byte-requires
-byte-requires c κs = search needs
-
-cast-n : tie.Need-cast-n
-cast-n c = search needs
-
-window-requires : tie.Need-window-requires
-window-requires c κs = search needs
+attribute-name-requires : tie.Need-attribute-name-requires
+attribute-name-requires c κs = search needs
 
 returns-2 : tie.Need-returns-2
-returns-2 c = let a = c .before .before .before .before .before .before .args in
-    let p = c .before .before .attribute .ensures in
-    let d = attributePart (a .store .now) (a .i) in
-    let n : c .before .byte .result ≡ getD d 1 0 = c .before .byte .ensures ∙ ap (λ (l : List ℕ). getD l 1 0) p in
-    let w = c .window .ensures ∙ ap₂ (λ (k : ℕ) (l : List ℕ). take k (drop 2 l)) n p in
-    record { name-is = w ∙ sym (attribute-name (a .store .now) (a .i) (omega arith)); short = subst (λ (l : List ℕ). length l ≤ 300) (sym w) (attribute-short (a .store .now) (a .i) (getD d 1 0)) }
+returns-2 c = let a = c .before .before .before .before .before .args in
+    let e = c .attribute-name .ensures ∙ ap (λ (l : List ℕ). readAttribute l .name) (c .before .attribute .ensures) in
+    record {
+      name-is = e ∙ sym (attribute-name (a .store .now) (a .i) (omega (arith, c .before .before .before .attribute-count .ensures .value)));
+      short = subst (λ (l : List ℕ). length l ≤ 300) (sym e) (attribute-short (a .store .now) (a .i));
+    }
 
 pub attribute-name-of-spec : {M : Type 1} → statement M
 attribute-name-of-spec =
     tie.close
     (tie.spec
-    get-u32-requires
-    cast-count
+    attribute-count-requires
     slice-aggregate-result
     returns
     attribute-requires
-    byte-requires
-    cast-n
-    window-requires
+    attribute-name-requires
     returns-2)

@@ -3,9 +3,8 @@ use mathlib.Core.Path.{_≡_, refl, sym, ap, _∙_}
 use mathlib.Core.List.{List}
 use Prim.Native.Nat.{ℕ, _-_, _+_}
 use native.Mathlib.Omega.{arith}
-use lib.ListN.{getD}
 use Rattle.rules.specs.Preorder.{Deep, build}
-use Rattle.rules.specs.Layout.{FlatParticle}
+use Rattle.rules.specs.Layout.{particleSize, FlatParticle}
 use Rattle.rules.specs.Decode.{readParticle}
 use Rattle.lookup.proofs.Laws.{from-none}
 use Rattle.printing.specs.Parts.{particlesFrom, particlePart}
@@ -27,12 +26,12 @@ loop-holds c = refl
 particle-requires : tie.Need-particle-requires Inv-loop μ-loop
 particle-requires c κs = search needs
 
-byte-requires : tie.Need-byte-requires Inv-loop μ-loop
-byte-requires c κs = search needs
+particle-depth-requires : tie.Need-particle-depth-requires Inv-loop μ-loop
+particle-depth-requires c κs = search needs
 
 returns : tie.Need-returns Inv-loop μ-loop
 returns c = let l = c .before .before .before .before in let a = l .before .before .args in
-    let d : c .before .byte .result ≡ getD (particlePart (a .store .now) (l .loop .i)) 3 0 = c .before .byte .ensures ∙ ap (λ (b : List ℕ). getD b 3 0) (c .before .before .particle .ensures) in
+    let d : c .before .particle-depth .result ≡ readParticle (particlePart (a .store .now) (l .loop .i)) .depth = c .before .particle-depth .ensures ∙ ap (λ (b : List ℕ). readParticle b .depth) (c .before .before .particle .ensures) in
     let e = ap (λ (xs : List (Deep FlatParticle)). build xs 0) (particle-step (a .store .now) (a .end) (l .loop .i) (omega arith)) in
     sym (ap isTree (e ∙ build-here (readParticle (particlePart (a .store .now) (l .loop .i))) (particlesFrom (a .store .now) (a .end) (l .loop .i + 1)) 0 (sym d ∙ c .if1 .taken))) ∙ l .loop .inv
 
@@ -44,13 +43,13 @@ loop-less c = search needs
 
 loop-again : tie.Need-loop-again Inv-loop μ-loop
 loop-again c = let l = c .before .before .before .before in let a = l .before .before .args in
-    let d : c .before .byte .result ≡ getD (particlePart (a .store .now) (l .loop .i)) 3 0 = c .before .byte .ensures ∙ ap (λ (b : List ℕ). getD b 3 0) (c .before .before .particle .ensures) in
+    let d : c .before .particle-depth .result ≡ readParticle (particlePart (a .store .now) (l .loop .i)) .depth = c .before .particle-depth .ensures ∙ ap (λ (b : List ℕ). readParticle b .depth) (c .before .before .particle .ensures) in
     let e = ap (λ (xs : List (Deep FlatParticle)). build xs 0) (particle-step (a .store .now) (a .end) (l .loop .i) (omega arith)) in
     sym (ap isTree (e ∙ build-deeper (readParticle (particlePart (a .store .now) (l .loop .i))) (particlesFrom (a .store .now) (a .end) (l .loop .i + 1)) 0 (omega (arith, c .if1 .left)))) ∙ l .loop .inv
 
 returns-2 : tie.Need-returns-2 Inv-loop μ-loop
 returns-2 c = let l = c .before in let a = l .before .before .args in
-    sym (ap (λ (xs : List (Deep FlatParticle)). isTree (build xs 0)) (from-none readParticle 4 _ (a .end) (l .loop .i) (omega arith))) ∙ l .loop .inv
+    sym (ap (λ (xs : List (Deep FlatParticle)). isTree (build xs 0)) (from-none readParticle particleSize _ (a .end) (l .loop .i) (omega arith))) ∙ l .loop .inv
 
 pub has-member-spec : {M : Type 1} → statement M
 has-member-spec =
@@ -60,7 +59,7 @@ has-member-spec =
     μ-loop
     loop-holds
     particle-requires
-    byte-requires
+    particle-depth-requires
     returns
     add-i
     loop-less

@@ -1,6 +1,7 @@
 use mathlib.Core.Path.{_≡_, sym, ap, _∙_}
 use Prim.Native.Nat.{ℕ}
 use native.Mathlib.Omega.{arith}
+use Rattle.rules.specs.Layout.{particleSize}
 use Rattle.rules.specs.Decode.{readParticle, particleCount}
 use Rattle.printing.specs.Parts.{particleBody, particlesFrom}
 use Rattle.printing.proofs.FormLaws.{from-take, from-take-all}
@@ -8,22 +9,19 @@ use borrow.Author.Needs.{needs}
 use Rattle.printing.proofs.model_end.Statement.{statement}
 use Rattle.printing.proofs.model_end.Tie as tie
 
-get-u32-requires : tie.Need-get-u32-requires
-get-u32-requires c κs = search needs
-
-cast-count : tie.Need-cast-count
-cast-count c = search needs
+particle-count-requires : tie.Need-particle-count-requires
+particle-count-requires c κs = search needs
 
 add-end : tie.Need-add-end
 add-end c = search needs
 
 returns : tie.Need-returns
-returns c = let a = c .before .before .before .args in let e : c .before .get-u32 .result ≡ particleCount (a .store .now) = c .before .get-u32 .ensures in
-    record { taken = from-take readParticle 4 (particleBody (a .store .now)) (particleCount (a .store .now)) (a .from) (a .n) (omega arith); upto = omega arith }
+returns c = let a = c .before .before .before .args in let e : c .before .particle-count .result ≡ particleCount (a .store .now) = c .before .particle-count .ensures .value in
+    record { taken = from-take readParticle particleSize (particleBody (a .store .now)) (particleCount (a .store .now)) (a .from) (a .n) (omega arith); upto = omega arith }
 
 returns-2 : tie.Need-returns-2
-returns-2 c = let a = c .before .before .before .args in let e : c .before .get-u32 .result ≡ particleCount (a .store .now) = c .before .get-u32 .ensures in
-    record { taken = from-take-all readParticle 4 (particleBody (a .store .now)) (particleCount (a .store .now)) (a .from) (a .n) (omega arith) ∙ ap (λ (k : ℕ). particlesFrom (a .store .now) k (a .from)) (sym e); upto = omega arith }
+returns-2 c = let a = c .before .before .before .args in let e : c .before .particle-count .result ≡ particleCount (a .store .now) = c .before .particle-count .ensures .value in
+    record { taken = from-take-all readParticle particleSize (particleBody (a .store .now)) (particleCount (a .store .now)) (a .from) (a .n) (omega arith) ∙ ap (λ (k : ℕ). particlesFrom (a .store .now) k (a .from)) (sym e); upto = omega arith }
 
 pub model-end-spec : {M : Type 1} → statement M
-model-end-spec = tie.close (tie.spec get-u32-requires cast-count add-end returns returns-2)
+model-end-spec = tie.close (tie.spec particle-count-requires add-end returns returns-2)

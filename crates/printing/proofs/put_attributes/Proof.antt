@@ -3,8 +3,7 @@ use mathlib.Core.Path.{_≡_, sym, ap, _∙_}
 use mathlib.Core.List.{List}
 use Prim.Native.Nat.{ℕ, _-_}
 use native.Mathlib.Omega.{arith}
-use lib.ListN.{getD}
-use Rattle.rules.specs.Decode.{ofOwner, attributeCount}
+use Rattle.rules.specs.Decode.{ofOwner, readAttribute, attributeCount}
 use Rattle.printing.specs.Parts.{attributesFrom, attributePart}
 use Rattle.printing.specs.Texts.{attributesText}
 use Rattle.printing.proofs.FormLaws.{Listing, listing-start, listing-this, listing-other, listing-done}
@@ -17,23 +16,17 @@ Inv-loop store o owner out₀ start count at₀ i₀ out at i = Listing store ow
 abbrev μ-loop : tie.MeasureT-loop
 μ-loop store o owner out₀ start count at₀ i₀ out at i = count - i
 
-get-u32-requires : tie.Need-get-u32-requires Inv-loop μ-loop
-get-u32-requires c κs = search needs
-
-cast-count : tie.Need-cast-count Inv-loop μ-loop
-cast-count c = search needs
+attribute-count-requires : tie.Need-attribute-count-requires Inv-loop μ-loop
+attribute-count-requires c κs = search needs
 
 loop-holds : tie.Need-loop-holds Inv-loop μ-loop
-loop-holds c = listing-start _ _ _ _ _ _ (c .get-u32 .ensures)
+loop-holds c = listing-start _ _ _ _ _ _ (c .attribute-count .ensures .value)
 
 attribute-requires : tie.Need-attribute-requires Inv-loop μ-loop
 attribute-requires c κs = omega (arith, c .before .before .before .before .before .before .pre .0, c .before .before .before .before .before .before .pre .1, c .before .before .before .before .before .before .pre .2, c .before .loop .inv .counts, c .before .loop .inv .small, c .before .loop .inv .upto)
 
-byte-requires : tie.Need-byte-requires Inv-loop μ-loop
-byte-requires c κs = search needs
-
-cast-if1 : tie.Need-cast-if1 Inv-loop μ-loop
-cast-if1 c = search needs
+attribute-owner-requires : tie.Need-attribute-owner-requires Inv-loop μ-loop
+attribute-owner-requires c κs = search needs
 
 put-attribute-line-requires : tie.Need-put-attribute-line-requires Inv-loop μ-loop
 put-attribute-line-requires c κs = (omega (arith, c .before .before .before .before .before .before .before .before .before .before .pre .0, c .before .before .before .before .before .before .before .before .before .before .pre .1, c .before .before .before .before .before .before .before .before .before .before .pre .2, c .before .before .before .before .before .loop .inv .counts, c .before .before .before .before .before .loop .inv .small, c .before .before .before .before .before .loop .inv .upto), omega (arith, c .before .before .before .before .before .before .before .before .before .before .pre .0, c .before .before .before .before .before .before .before .before .before .before .pre .1, c .before .before .before .before .before .before .before .before .before .before .pre .2, c .before .before .before .before .before .loop .inv .counts, c .before .before .before .before .before .loop .inv .small, c .before .before .before .before .before .loop .inv .upto), c .before .before .before .before .before .before .before .before .before .before .pre .2, c .before .before .before .before .before .before .before .before .before .before .pre .0)
@@ -46,7 +39,7 @@ loop-less c = search needs
 
 loop-again : tie.Need-loop-again Inv-loop μ-loop
 loop-again c = let l = c .before .before .before .before .before .before .before .before in let a = l .before .before .before .before .before .args in
-    let d : c .before .before .before .before .before .byte .result ≡ getD (attributePart (a .store .now) (l .loop .i)) 0 0 = c .before .before .before .before .before .byte .ensures ∙ ap (λ (b : List ℕ). getD b 0 0) (c .before .before .before .before .before .before .attribute .ensures) in
+    let d : c .before .before .before .before .before .attribute-owner .result ≡ readAttribute (attributePart (a .store .now) (l .loop .i)) .owner = c .before .before .before .before .before .attribute-owner .ensures ∙ ap (λ (b : List ℕ). readAttribute b .owner) (c .before .before .before .before .before .before .attribute .ensures) in
     listing-this (a .store .now) (a .owner .now) (a .o) _ (l .loop .inv) (omega arith) (sym d ∙ c .before .before .before .before .if1 .taken) (c .before .before .put-attribute-line .ensures)
 
 add-i-2 : tie.Need-add-i-2 Inv-loop μ-loop
@@ -57,7 +50,7 @@ loop-less-2 c = search needs
 
 loop-again-2 : tie.Need-loop-again-2 Inv-loop μ-loop
 loop-again-2 c = let l = c .before .before .before .before in let a = l .before .before .before .before .before .args in
-    let d : c .before .byte .result ≡ getD (attributePart (a .store .now) (l .loop .i)) 0 0 = c .before .byte .ensures ∙ ap (λ (b : List ℕ). getD b 0 0) (c .before .before .attribute .ensures) in
+    let d : c .before .attribute-owner .result ≡ readAttribute (attributePart (a .store .now) (l .loop .i)) .owner = c .before .attribute-owner .ensures ∙ ap (λ (b : List ℕ). readAttribute b .owner) (c .before .before .attribute .ensures) in
     listing-other (a .store .now) (a .owner .now) (a .o) _ (l .loop .inv) (omega arith) (λ e. c .if1 .left (d ∙ e))
 
 same-length : tie.Need-same-length Inv-loop μ-loop
@@ -73,12 +66,10 @@ put-attributes-spec =
     (tie.spec
     Inv-loop
     μ-loop
-    get-u32-requires
-    cast-count
+    attribute-count-requires
     loop-holds
     attribute-requires
-    byte-requires
-    cast-if1
+    attribute-owner-requires
     put-attribute-line-requires
     add-i
     loop-less

@@ -6,8 +6,8 @@ use Rattle.printing.proofs.put_declarations.Tie as tie
 definition-requires : tie.Need-definition-requires
 definition-requires c κs = search needs
 
-get-u16-requires : tie.Need-get-u16-requires
-get-u16-requires c κs = search needs
+definition-particles-requires : tie.Need-definition-particles-requires
+definition-particles-requires c κs = search needs
 
 cast-n : tie.Need-cast-n
 cast-n c = search needs
@@ -29,14 +29,14 @@ same-length c = search needs
 
 returns : tie.Need-returns
 returns c = let a = c .before .before .before .before .before .before .before .before .before .before .before .before .before .before .args in
-    declarations-laid (a .store .now) (a .o) (a .from) _ (c .before .before .before .before .before .before .before .before .before .before .before .definition .ensures) (c .before .before .before .before .before .before .before .before .before .before .before .before .before .before .pre .1) _ _ (c .before .before .before .before .before .before .before .before .before .before .get-u16 .ensures) (c .before .before .before .before .before .before .before .before .before .model-end .ensures .taken) (c .before .before .before .before .before .before .before .put-definition .ensures) (c .before .before .before .before .name-of .ensures) (c .before .before .put-attributes .ensures)
+    declarations-laid (a .store .now) (a .o) (a .from) _ (c .before .before .before .before .before .before .before .before .before .before .before .definition .ensures) (c .before .before .before .before .before .before .before .before .before .before .before .before .before .before .pre .1) _ _ (c .before .before .before .before .before .before .before .before .before .before .definition-particles .ensures) (c .before .before .before .before .before .before .before .before .before .model-end .ensures .taken) (c .before .before .before .before .before .before .before .put-definition .ensures) (c .before .before .before .before .name-of .ensures) (c .before .before .put-attributes .ensures)
 
 pub put-declarations-spec : {M : Type 1} → statement M
 put-declarations-spec =
     tie.close
     (tie.spec
     definition-requires
-    get-u16-requires
+    definition-particles-requires
     cast-n
     model-end-requires
     put-definition-requires

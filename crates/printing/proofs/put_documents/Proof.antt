@@ -4,7 +4,6 @@ use mathlib.Core.Bool.{Bool, true}
 use mathlib.Core.List.{List}
 use Prim.Native.Nat.{ℕ, _+_, _-_}
 use native.Mathlib.Omega.{arith}
-use lib.ListN.{getD}
 use Rattle.rules.specs.Store.{Forest}
 use Rattle.rules.specs.Preorder.{build}
 use Rattle.rules.specs.Layout.{FlatRow, rowSize}
@@ -43,7 +42,7 @@ loop-less c = omega (arith, c .before .before .put-document .ensures .onward)
 
 loop-again : tie.Need-loop-again Inv-loop μ-loop
 loop-again c = let l = c .before .before .before .before .before .before .before .before in let a = l .before .before .before .before .args in
-    let d : c .before .before .before .before .before .row-depth .result ≡ getD (recordAt (rowSize (a .w)) (l .loop .i) (a .rows .now)) 1 0 = c .before .before .before .before .before .row-depth .ensures ∙ ap (λ (b : List ℕ). getD b 1 0) (c .before .before .before .before .before .before .row-at .ensures) in
+    let d : c .before .before .before .before .before .row-depth .result ≡ readRow (recordAt (rowSize (a .w)) (l .loop .i) (a .rows .now)) .depth = c .before .before .before .before .before .row-depth .ensures ∙ ap (λ (b : List ℕ). readRow b .depth) (c .before .before .before .before .before .before .row-at .ensures) in
     walk-here (l .loop .inv) (readRow (recordAt (rowSize (a .w)) (l .loop .i) (a .rows .now))) true _ (row-step (a .w) (a .rows .now) (a .count) (l .loop .i) (omega arith)) (sym d ∙ c .before .before .before .before .if1 .taken) (omega arith) (λ t. documents-step (a .store .now) ((readRow (recordAt (rowSize (a .w)) (l .loop .i) (a .rows .now))) .row) (build (rowsFrom (a .w) (a .rows .now) (a .count) (l .loop .i + 1)) 1) t) (c .before .before .put-document .ensures)
 
 add-i : tie.Need-add-i Inv-loop μ-loop
@@ -54,7 +53,7 @@ loop-less-2 c = search needs
 
 loop-again-2 : tie.Need-loop-again-2 Inv-loop μ-loop
 loop-again-2 c = let l = c .before .before .before .before in let a = l .before .before .before .before .args in
-    let d : c .before .row-depth .result ≡ getD (recordAt (rowSize (a .w)) (l .loop .i) (a .rows .now)) 1 0 = c .before .row-depth .ensures ∙ ap (λ (b : List ℕ). getD b 1 0) (c .before .before .row-at .ensures) in
+    let d : c .before .row-depth .result ≡ readRow (recordAt (rowSize (a .w)) (l .loop .i) (a .rows .now)) .depth = c .before .row-depth .ensures ∙ ap (λ (b : List ℕ). readRow b .depth) (c .before .before .row-at .ensures) in
     walk-deeper (l .loop .inv) (readRow (recordAt (rowSize (a .w)) (l .loop .i) (a .rows .now))) (row-step (a .w) (a .rows .now) (a .count) (l .loop .i) (omega arith)) (omega (arith, c .if1 .left))
 
 same-length : tie.Need-same-length Inv-loop μ-loop

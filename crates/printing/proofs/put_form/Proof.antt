@@ -14,14 +14,11 @@ Inv-loop store out₀ start count at₀ from₀ o₀ out at from o = Declaring s
 abbrev μ-loop : tie.MeasureT-loop
 μ-loop store out₀ start count at₀ from₀ o₀ out at from o = count - o
 
-get-u32-requires : tie.Need-get-u32-requires Inv-loop μ-loop
-get-u32-requires c κs = search needs
-
-cast-count : tie.Need-cast-count Inv-loop μ-loop
-cast-count c = search needs
+definition-count-requires : tie.Need-definition-count-requires Inv-loop μ-loop
+definition-count-requires c κs = search needs
 
 loop-holds : tie.Need-loop-holds Inv-loop μ-loop
-loop-holds c = declaring-start _ _ _ _ (c .get-u32 .ensures)
+loop-holds c = declaring-start _ _ _ _ (c .definition-count .ensures .value)
 
 put-declarations-requires : tie.Need-put-declarations-requires Inv-loop μ-loop
 put-declarations-requires c κs = (c .before .before .before .before .before .before .pre .0, omega (arith, c .before .before .before .before .before .before .pre .0 .definitions, c .before .before .before .before .before .before .pre .1, c .before .before .loop .inv .counts, c .before .before .loop .inv .upto, c .before .before .loop .inv .small, c .before .before .loop .inv .few), omega (arith, c .before .before .before .before .before .before .pre .0 .definitions, c .before .before .before .before .before .before .pre .1, c .before .before .loop .inv .counts, c .before .before .loop .inv .upto, c .before .before .loop .inv .small, c .before .before .loop .inv .few), omega (arith, c .before .before .before .before .before .before .pre .0 .definitions, c .before .before .before .before .before .before .pre .1, c .before .before .loop .inv .counts, c .before .before .loop .inv .upto, c .before .before .loop .inv .small, c .before .before .loop .inv .few))
@@ -29,8 +26,8 @@ put-declarations-requires c κs = (c .before .before .before .before .before .be
 definition-requires : tie.Need-definition-requires Inv-loop μ-loop
 definition-requires c κs = omega (arith, c .before .before .before .before .before .before .before .before .before .pre .0 .definitions, c .before .before .before .before .before .before .before .before .before .pre .1, c .before .before .before .before .before .loop .inv .counts, c .before .before .before .before .before .loop .inv .upto, c .before .before .before .before .before .loop .inv .small, c .before .before .before .before .before .loop .inv .few)
 
-get-u16-requires : tie.Need-get-u16-requires Inv-loop μ-loop
-get-u16-requires c κs = search needs
+definition-particles-requires : tie.Need-definition-particles-requires Inv-loop μ-loop
+definition-particles-requires c κs = search needs
 
 cast-from : tie.Need-cast-from Inv-loop μ-loop
 cast-from c = search needs
@@ -46,7 +43,7 @@ loop-less c = search needs
 
 loop-again : tie.Need-loop-again Inv-loop μ-loop
 loop-again c = let l = c .before .before .before .before .before .before .before in let a = l .before .before .before .before .args in
-    declaring-on (a .store .now) _ (l .loop .inv) (omega arith) _ (c .before .definition .ensures) _ (c .get-u16 .ensures) (omega arith) (c .before .before .before .before .put-declarations .ensures)
+    declaring-on (a .store .now) _ (l .loop .inv) (omega arith) _ (c .before .definition .ensures) _ (c .definition-particles .ensures) (omega arith) (c .before .before .before .before .put-declarations .ensures)
 
 same-length : tie.Need-same-length Inv-loop μ-loop
 same-length c = c .before .loop .inv .long
@@ -60,12 +57,11 @@ put-form-spec =
     (tie.spec
     Inv-loop
     μ-loop
-    get-u32-requires
-    cast-count
+    definition-count-requires
     loop-holds
     put-declarations-requires
     definition-requires
-    get-u16-requires
+    definition-particles-requires
     cast-from
     add-from
     add-o

@@ -1,8 +1,9 @@
 use mathlib.Core.Path.{sym, subst}
 use mathlib.Core.List.{List}
 use Prim.Native.Nat.{ℕ, _≤_}
-use lib.ListN.{length, getD}
-use Rattle.printing.proofs.RowLaws.{value-short}
+use native.Mathlib.Omega.{arith}
+use lib.ListN.{length}
+use Rattle.layout.proofs.LayoutLaws.{row-value-short}
 use borrow.Author.Needs.{needs}
 use Rattle.printing.proofs.value_of.Statement.{statement}
 use Rattle.printing.proofs.value_of.Tie as tie
@@ -12,7 +13,7 @@ row-value-requires c κs = search needs
 
 returns : tie.Need-returns
 returns c = let start = c .before .before in
-    record { name-is = c .row-value .ensures; short = subst (λ (l : List ℕ). length l ≤ 300) (sym (c .row-value .ensures)) (value-short (start .args .row .now) (getD (start .args .row .now) 8 0) (start .pre)) }
+    record { name-is = c .row-value .ensures; short = subst (λ (l : List ℕ). length l ≤ 300) (sym (c .row-value .ensures)) (omega (arith, row-value-short (start .args .row .now), start .pre)) }
 
 pub value-of-spec : {M : Type 1} → statement M
 value-of-spec = tie.close (tie.spec row-value-requires returns)

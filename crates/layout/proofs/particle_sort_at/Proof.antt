@@ -1,0 +1,25 @@
+use native.Mathlib.Omega.{arith}
+use Rattle.rules.specs.Layout.{particleSize}
+use Rattle.layout.proofs.LayoutLaws.{first-field-by}
+use borrow.Author.Needs.{needs}
+use Rattle.layout.proofs.particle_sort_at.Statement.{statement}
+use Rattle.layout.proofs.particle_sort_at.Tie as tie
+use Rattle.layout.proofs.particle_sort_at.Reads as reads
+use Rattle.layout.proofs.particle_sort_at.Lts as lts
+use Rattle.codec.proofs.byte.Reads as byte-reads
+use Rattle.layout.proofs.wide.Reads as wide-reads
+
+mul-byte : tie.Need-mul-byte
+mul-byte c = search needs
+
+byte-requires : tie.Need-byte-requires
+byte-requires c κs = search needs
+
+wide-requires : tie.Need-wide-requires
+wide-requires c κs = search needs
+
+returns : tie.Need-returns
+returns c = let a = c .before .before .before .args in first-field-by particleSize (a .i) (a .parts .now) (omega arith) (c .before .byte .ensures) (c .wide .ensures)
+
+pub particle-sort-at-spec : {M : Type 1} → statement M
+particle-sort-at-spec = tie.close (tie.spec mul-byte byte-requires wide-requires returns)

@@ -1,7 +1,7 @@
 -- Escapes, marks and separators.
 -- Assumes nothing.
-use mathlib.Core.Path.{_≡_, refl, sym, ap, _∙_}
-use mathlib.Core.Bool.{Bool, true, false}
+use mathlib.Core.Path.{_≡_, refl, sym, ap, ap₂, _∙_}
+use mathlib.Core.Bool.{Bool, true, false, _||_, false≢true}
 use mathlib.Core.List.{[], _∷_, _++_}
 use Prim.Native.Nat.{ℕ, zero, suc, _+_, _*_, _<_, _≤_}
 use native.Mathlib.Omega.{arith}
@@ -56,6 +56,27 @@ pub group-choice : (k : ℕ) → 2 ≤ k → groupOf k ≡ Choice
 group-choice zero h = absurd (omega arith)
 group-choice (suc zero) h = absurd (omega arith)
 group-choice (suc (suc k)) h = refl
+
+-- a byte that is not escaped
+escape-plain : (x : ℕ) → (((eqb x 38 || eqb x 60) || eqb x 62) || eqb x 34) ≡ false → escapeByte x ≡ x ∷ []
+escape-plain x e = by (eqb x 38) (eqb x 60) (eqb x 62) (eqb x 34) e
+  where
+    by : (a b c d : Bool) → (((a || b) || c) || d) ≡ false → escapeBy x a b c d ≡ x ∷ []
+    by true b c d e = absurd (false≢true (sym e))
+    by false true c d e = absurd (false≢true (sym e))
+    by false false true d e = absurd (false≢true (sym e))
+    by false false false true e = absurd (false≢true (sym e))
+    by false false false false e = refl
+
+-- the loop that looks for a byte that is escaped: if the rest has none, the whole has none
+pub plain-on : (v : Bytes) (i : ℕ) → i < length v → (((eqb (getD v i 0) 38 || eqb (getD v i 0) 60) || eqb (getD v i 0) 62) || eqb (getD v i 0) 34) ≡ false
+    → (escape (drop i v) ≡ drop i v → escape v ≡ v) → escape (drop (i + 1) v) ≡ drop (i + 1) v → escape v ≡ v
+plain-on v i h e inv p =
+    let one : drop i v ≡ getD v i 0 ∷ drop (i + 1) v = drop-cons v i 0 h ∙ ap (λ (k : ℕ). getD v i 0 ∷ drop k v) (sym (add-one i)) in
+    inv (ap escape one ∙ ap₂ (λ (a b : Bytes). a ++ b) (escape-plain (getD v i 0) e) p ∙ sym one)
+
+pub plain-end : (v : Bytes) (i : ℕ) → length v ≤ i → (escape (drop i v) ≡ drop i v → escape v ≡ v) → escape v ≡ v
+plain-end v i h inv = inv (ap escape (drop-of-length-le v {i = i} h) ∙ sym (drop-of-length-le v {i = i} h))
 
 -- the loop over a value's bytes: whoever writes what is left has written all
 pub record Escaping (v out₀ : Bytes) (at₀ : ℕ) (out : Bytes) (at i : ℕ) : Type 0 where

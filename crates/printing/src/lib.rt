@@ -75,11 +75,29 @@ fn put_escaped_byte(x: u8, out: &mut [u8], at: usize) -> usize
     }
 }
 
-/// Writes a value, escaped.
+// Whether no byte is escaped.
+fn is_plain(value: &[u8]) -> bool
+    ensures { λ r. ⌜ (r ≡ true → escape (now (value .entry)) ≡ now (value .entry)) ⌝ }
+{
+    let mut i = 0;
+    while i < value.len() {
+        let x = value[i];
+        if (x == 38) | (x == 60) | (x == 62) | (x == 34) {
+            return false;
+        }
+        i += 1;
+    }
+    true
+}
+
+/// Writes a value, escaped; one with nothing to escape is written whole.
 fn put_escaped(value: &[u8], out: &mut [u8], start: usize) -> usize
     requires { ⌜ start + 6 * length (now value) < 9223372036854775808 ⌝ }
     ensures { λ r. ⌜ Laid (escape (now (value .entry))) (now (out .entry)) start r (now (out .exit)) ⌝ }
 {
+    if is_plain(value) {
+        return codec::put(value, out, start);
+    }
     let mut at = start;
     let mut i = 0;
     while i < value.len() {

@@ -3,6 +3,8 @@ use Prim.Native.Nat.{_-_}
 use native.Mathlib.Omega.{arith}
 use borrow.Author.Needs.{needs}
 use lib.ListN.{length}
+use Rattle.codec.proofs.Writers.{laid-as}
+use Rattle.printing.proofs.WalkLaws.{laid-long}
 use Rattle.printing.proofs.SignLaws.{Escaping, escaping-on, escaping-done}
 use Rattle.printing.proofs.put_escaped.Statement.{statement}
 use Rattle.printing.proofs.put_escaped.Tie as tie
@@ -12,6 +14,18 @@ Inv-loop value out₀ start at₀ i₀ out at i = Escaping value out₀ start ou
 
 abbrev μ-loop : tie.MeasureT-loop
 μ-loop value out₀ start at₀ i₀ out at i = length value - i
+
+is-plain-requires : tie.Need-is-plain-requires Inv-loop μ-loop
+is-plain-requires c κs = search needs
+
+put-requires : tie.Need-put-requires Inv-loop μ-loop
+put-requires c κs = omega arith
+
+same-length : tie.Need-same-length Inv-loop μ-loop
+same-length c = laid-long (c .before .before .put .ensures)
+
+returns : tie.Need-returns Inv-loop μ-loop
+returns c = laid-as (c .before .before .before .before .before .is-plain .ensures (c .before .before .before .before .if1 .taken)) (c .before .before .put .ensures)
 
 loop-holds : tie.Need-loop-holds Inv-loop μ-loop
 loop-holds c = record { goes = λ r o l. l; small = omega arith; inside = omega arith; long = refl }
@@ -30,13 +44,13 @@ loop-less c = search needs
 
 loop-again : tie.Need-loop-again Inv-loop μ-loop
 loop-again c = let l = c .before .before .before .before .before .before in
-    escaping-on (l .before .before .before .args .value .now) _ (l .loop .inv) (omega arith) (c .before .before .before .before .byte .ensures) (c .before .before .put-escaped-byte .ensures)
+    escaping-on (l .before .before .before .before .before .args .value .now) _ (l .loop .inv) (omega arith) (c .before .before .before .before .byte .ensures) (c .before .before .put-escaped-byte .ensures)
 
-same-length : tie.Need-same-length Inv-loop μ-loop
-same-length c = c .before .loop .inv .long
+same-length-2 : tie.Need-same-length-2 Inv-loop μ-loop
+same-length-2 c = c .before .loop .inv .long
 
-returns : tie.Need-returns Inv-loop μ-loop
-returns c = escaping-done _ (c .before .loop .inv) (omega arith)
+returns-2 : tie.Need-returns-2 Inv-loop μ-loop
+returns-2 c = escaping-done _ (c .before .loop .inv) (omega arith)
 
 pub put-escaped-spec : {M : Type 1} → statement M
 put-escaped-spec =
@@ -44,11 +58,15 @@ put-escaped-spec =
     (tie.spec
     Inv-loop
     μ-loop
+    is-plain-requires
+    put-requires
+    same-length
+    returns
     loop-holds
     byte-requires
     put-escaped-byte-requires
     add-i
     loop-less
     loop-again
-    same-length
-    returns)
+    same-length-2
+    returns-2)

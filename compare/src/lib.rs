@@ -9,11 +9,11 @@ pub mod marks;
 pub mod reading;
 pub mod stack;
 pub mod threads;
-pub mod words;
 pub mod worst;
 
 use formstore::raw;
 pub use formstore::raw::{Answer, Found};
+pub use second::testing::vectors as words;
 use second::Call;
 
 const GUARD: usize = 64;

@@ -1,16 +1,15 @@
 //! Stores and arguments at the limits: ceilings, the last serials, fillings too large to make, lengths and bytes of names and values, places, rounds of a
 //! group. Every call is also compared with the second implementation, byte by byte.
 
-#[path = "../../../second/tests/common/mod.rs"]
-mod common;
 mod documents;
 mod forms;
 
-use common::{notation, LONGEST};
 use compare::agreed;
 use compare::worst::{add_required, group, member, nested_form};
 use second::layout::encode;
+use second::random::history::LONGEST;
 use second::store::*;
+use second::testing::notation;
 use second::Call;
 use std::time::{Duration, Instant};
 

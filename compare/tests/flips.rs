@@ -1,5 +1,5 @@
-//! Every single bit of the store that clubform leaves, flipped: the library judges as the second implementation does. Some of them give another store that
-//! passes, which only a checksum beside the store can tell.
+//! Every single bit of the store that clubform leaves, flipped: the library judges as the second implementation does.
+//! Some of them give another store that passes, which only a checksum beside the store can tell.
 
 use second::testing::play::clubform;
 

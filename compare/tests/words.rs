@@ -1,5 +1,6 @@
-//! Stores with a document for every word of up to four children that a model accepts: every call of the changes 3 to 8 at every place, and at places that
-//! are absent, with every quantifier, sort and count. The library answers as the second implementation does, and what it leaves passes and is the book's.
+//! Stores with a document for every word of up to four children that a model accepts: every call of the changes 3 to 8
+//! at every place, and at places that are absent, with every quantifier, sort and count. The library answers as the
+//! second implementation does, and what it leaves passes and is the book's.
 
 use compare::threads::in_threads;
 use compare::{agreed, check};

@@ -23,7 +23,8 @@ fn lines(store: &Store, start: &str) -> String {
 
 type Change = fn(&mut Store) -> Result<(), Refusal>;
 
-/// Each change with the model and the lists after it. Definition 0 is the relay, 1 to 3 its parts, 4 is the one that goes.
+/// Each change with the model and the lists after it. Definition 0 is the relay, 1 to 3 its parts, 4 is the one that
+/// goes.
 const STORY: [(Change, &str); 18] = [
     (
         |s| s.insert_element(0, &[0], 1, Quantifier::None, b"a"),

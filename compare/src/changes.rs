@@ -2,6 +2,7 @@
 
 use crate::hostile::Argument;
 use formstore::raw::{self, Answer};
+/// By the name that `bench/` knows.
 pub use second::testing::vectors::read_call as read;
 use second::Call;
 

@@ -1,4 +1,5 @@
-//! Links the archive that `rt staticlib formstore` writes: from the folder that FORMSTORE_LIB_DIR names, else from the repository that this crate stands in.
+//! Links the archive that `rt staticlib formstore` writes: from the folder that FORMSTORE_LIB_DIR names, else from the
+//! repository that this crate stands in.
 
 use std::path::{Path, PathBuf};
 

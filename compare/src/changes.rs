@@ -1,8 +1,9 @@
 //! The sixteen changes, each through its exported function. The table at the end is all that knows them.
 
 use crate::hostile::Argument;
-use crate::words::Words;
 use formstore::raw::{self, Answer};
+/// By the name that `bench/` knows.
+pub use second::testing::vectors::read_call as read;
 use second::Call;
 
 /// An argument of a call as the library takes it.
@@ -30,14 +31,6 @@ macro_rules! changes {
         pub fn name(call: &Call) -> &'static str {
             match call {
                 $(Call::$case { .. } => stringify!($name),)*
-            }
-        }
-
-        /// Reads the arguments of the call with this name, if there is one.
-        pub fn read(name: &str, words: &mut Words) -> Option<Call> {
-            match name {
-                $(stringify!($name) => Some(Call::$case { $($argument: words.$passed()),* }),)*
-                _ => None,
             }
         }
 

@@ -1,5 +1,5 @@
-//! Random histories: every call runs on the library and on the second implementation, with good and hostile arguments, into buffers of all lengths, on
-//! sound and damaged stores; what an accepted one leaves is held to the book.
+//! Random histories: every call runs on the library and on the second implementation, with good and hostile arguments,
+//! into buffers of all lengths, on sound and damaged stores; what an accepted one leaves is held to the book.
 
 use crate::{agreed, check, hostile};
 use second::layout::u32_at;
@@ -59,7 +59,8 @@ impl Comparison {
         moment.each_serial_made_once();
     }
 
-    /// From a store that none needs to reach: rounds of groups, serials in no order, a next serial near the last, bodies near their ceilings.
+    /// From a store that none needs to reach: rounds of groups, serials in no order, a next serial near the last,
+    /// bodies near their ceilings.
     fn built(&mut self) {
         let rng = &mut self.rng;
         let store = match rng.below(20) {
@@ -75,8 +76,8 @@ impl Comparison {
         }
     }
 
-    /// Single calls on a store without room for more rows or without serials for them, at most for one; those of the models are the ones that make rows
-    /// where there are both.
+    /// Single calls on a store without room for more rows or without serials for them, at most for one; those of the
+    /// models are the ones that make rows where there are both.
     fn full(&mut self) {
         let rng = &mut self.rng;
         let mut store = words::random_store(rng);
@@ -134,8 +135,8 @@ impl Comparison {
         self.compare(&call, &worse);
     }
 
-    /// Compares the call with a buffer that is long enough and one that is not or just so; where it is refused, with one of any length. Hands back the
-    /// store that it leaves.
+    /// Compares the call with a buffer that is long enough and one that is not or just so; where it is refused, with
+    /// one of any length. Hands back the store that it leaves.
     fn compare(&mut self, call: &Call, store: &[u8]) -> Option<Vec<u8>> {
         let answer = apply(call, store, &mut self.scratch);
         let any = self.rng.below(store.len() + 100);

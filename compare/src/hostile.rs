@@ -83,7 +83,8 @@ fn bad_serial(rng: &mut Rng, store: &Store) -> u32 {
     }
 }
 
-/// Of a length at a limit or one that a byte cuts to a good one, with a byte that may be bad, or close to a name that is taken.
+/// Of a length at a limit or one that a byte cuts to a good one, with a byte that may be bad, or close to a name that
+/// is taken.
 fn bad_name(rng: &mut Rng, store: &Store) -> Vec<u8> {
     let length = [0, 1, 2, 15, 16, 17, 256, 260, 272][rng.below(9)];
     let letters = b"Letters-of_a.name".iter().copied().cycle();
@@ -118,7 +119,8 @@ fn bad_value(rng: &mut Rng) -> Vec<u8> {
     value
 }
 
-/// One number of it past its list or one that is cut to the same, more or fewer numbers than it has, or all of them any.
+/// One number of it past its list or one that is cut to the same, more or fewer numbers than it has, or all of them
+/// any.
 fn spoil_place(rng: &mut Rng, place: &mut Vec<u32>) {
     match (rng.below(5), place.len()) {
         (0 | 1, length) if length > 0 => {

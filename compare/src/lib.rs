@@ -1,5 +1,5 @@
-//! The proved library's exported functions, as the crate `formstore` calls them. Every call runs on a copy of its input with guard bytes around it, and
-//! panics where a guard byte or the input has changed.
+//! The proved library's exported functions, as the crate `formstore` calls them. Every call runs on a copy of its input
+//! with guard bytes around it, and panics where a guard byte or the input has changed.
 
 pub mod changes;
 pub mod header;
@@ -9,11 +9,12 @@ pub mod marks;
 pub mod reading;
 pub mod stack;
 pub mod threads;
-pub mod words;
 pub mod worst;
 
 use formstore::raw;
 pub use formstore::raw::{Answer, Found};
+/// The reader of the vectors, by the name that `bench/` knows.
+pub use second::testing::vectors as words;
 use second::Call;
 
 const GUARD: usize = 64;
@@ -103,8 +104,8 @@ pub fn apply(call: &Call, store: &[u8], out: &mut [u8]) -> Answer {
     answer
 }
 
-/// Runs a change on the library and on the second implementation, each with a buffer of this content, panics where number, length or a byte of the
-/// buffer differ, and hands back the answer and the buffer.
+/// Runs a change on the library and on the second implementation, each with a buffer of this content, panics where
+/// number, length or a byte of the buffer differ, and hands back the answer and the buffer.
 pub fn agreed(call: &Call, store: &[u8], buffer: &[u8]) -> (Answer, Vec<u8>) {
     let (mut out, mut other) = (buffer.to_vec(), buffer.to_vec());
     let answer = apply(call, store, &mut out);

@@ -1,4 +1,5 @@
-//! Check, look-up and printing of random stores, damaged stores and random bytes, the library against the second implementation.
+//! Check, look-up and printing of random stores, damaged stores and random bytes, the library against the second
+//! implementation.
 
 use second::layout::encode;
 use second::random::damage::damaged;

@@ -1,4 +1,5 @@
-//! How much stack a call needs: it runs in a thread on a stack that was painted before, and the deepest byte without paint tells how far down it went.
+//! How much stack a call needs: it runs in a thread on a stack that was painted before, and the deepest byte without
+//! paint tells how far down it went.
 
 use std::ffi::{c_int, c_ulong, c_void};
 use std::ptr::null_mut;

@@ -1,13 +1,11 @@
-//! Every single bit of the store that clubform leaves, flipped: the library judges as the second implementation does. Some of them give another store that
-//! passes, which only a checksum beside the store can tell.
+//! Every single bit of the store that clubform leaves, flipped: the library judges as the second implementation does.
+//! Some of them give another store that passes, which only a checksum beside the store can tell.
 
-#[path = "../../rust/examples/clubform.rs"]
-mod clubform;
+use second::testing::play::clubform;
 
 #[test]
 fn single_bits() {
-    let store = clubform::clubform().expect("no change is refused");
-    let mut bytes = store.into_bytes();
+    let mut bytes = clubform().bytes;
     let bits = 8 * bytes.len();
     let mut passing = 0;
     for bit in 0..bits {

@@ -79,7 +79,8 @@ fn calls() {
     assert_eq!(calls.len(), 19, "{calls:?}");
 }
 
-/// The store at all ceilings is as long as a store gets, and its text nearly as long as the bound, which counts each record as if it were of the longest sort.
+/// The store at all ceilings is as long as a store gets, and its text nearly as long as the bound, which counts each
+/// record as if it were of the longest sort.
 #[test]
 fn longest_store_and_text() {
     let bytes = encode(&longest());

@@ -64,7 +64,8 @@ fn accepted(cases: &[(Vec<Call>, Vec<u8>)], out: &mut [u8]) -> usize {
     accepted
 }
 
-/// As a box makes its tasks: that much stack, and some for its own frames. A signal would end the test at the guard page.
+/// As a box makes its tasks: that much stack, and some for its own frames. A signal would end the test at the guard
+/// page.
 #[test]
 fn a_thread_with_so_much_stack_makes_all_calls() {
     const OWN: usize = 16 * 1024;

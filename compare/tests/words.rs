@@ -1,17 +1,15 @@
-//! Stores with a document for every word of up to four children that a model accepts: every call of the changes 3 to 8 at every place, and at places that
-//! are absent, with every quantifier, sort and count. The library answers as the second implementation does, and what it leaves passes and is the book's.
+//! Stores with a document for every word of up to four children that a model accepts: every call of the changes 3 to 8
+//! at every place, and at places that are absent, with every quantifier, sort and count. The library answers as the
+//! second implementation does, and what it leaves passes and is the book's.
 
-#[path = "../../second/tests/common/mod.rs"]
-mod common;
-
-use common::notation;
-use common::{seed, Counts, Moment, Named, LONGEST};
 use compare::threads::in_threads;
 use compare::{agreed, check};
 use second::model::depth_of;
+use second::random::history::{seed, Counts, Moment, Named, LONGEST};
 use second::random::words;
 use second::rng::Rng;
 use second::store::{Store, MAX_MODEL_DEPTH};
+use second::testing::notation;
 use second::{Answer, Call};
 use std::sync::atomic::{AtomicU64, Ordering::Relaxed};
 

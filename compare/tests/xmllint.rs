@@ -1,13 +1,10 @@
 //! The library prints the stores of random histories, and xmllint finds every document valid.
 
-#[path = "../../second/tests/common/mod.rs"]
-mod common;
-
-use common::xmllint::{are_valid, scratch_folder, wrapped};
-use common::{seed, Moment};
 use compare::agreed;
 use second::random::documents;
+use second::random::history::{seed, Moment};
 use second::rng::Rng;
+use second::testing::xmllint::{are_valid, scratch_folder, wrapped};
 use std::path::{Path, PathBuf};
 
 const DOCUMENTS: usize = 10_000;

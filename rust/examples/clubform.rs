@@ -8,7 +8,7 @@ const BIB: u32 = 2;
 const TIME: u32 = 3;
 const CLUB: u32 = 4;
 
-pub fn clubform() -> Result<Store, Refusal> {
+fn clubform() -> Result<Store, Refusal> {
     let mut store = Store::fresh();
     store.create_definition(b"race", Kind::Complex)?;
     store.create_definition(b"finisher", Kind::Complex)?;
@@ -30,9 +30,34 @@ pub fn clubform() -> Result<Store, Refusal> {
     Ok(store)
 }
 
-#[allow(dead_code)] // the tests tell the story too
 fn main() -> Result<(), Box<dyn std::error::Error>> {
     let text = clubform()?.print()?;
     std::io::Write::write_all(&mut std::io::stdout(), &text)?;
     Ok(())
+}
+
+#[cfg(test)]
+mod tests {
+    use super::*;
+
+    const TEXT: &str = "<!ELEMENT race (finisher*)>
+<!ELEMENT finisher (bib,club,time?)>
+<!ELEMENT bib (#PCDATA)>
+<!ELEMENT time (#PCDATA)>
+<!ELEMENT club (#PCDATA)>
+<race><finisher><bib>7</bib><club>none</club><time>19:04</time></finisher></race>
+";
+
+    #[test]
+    fn leaves_its_store_and_text() {
+        let store = clubform().expect("no change is refused");
+        assert_eq!(store.as_bytes().len(), 508);
+        assert_eq!(store.reader().next_serial(), 9);
+        let text = store.print().expect("it passes");
+        assert_eq!(String::from_utf8_lossy(&text), TEXT);
+        assert_eq!(store.look_up(6), Ok(&b"19:04"[..]));
+        assert_eq!(store.look_up(5), Err(Refusal::NoRow));
+        let again = Store::from_bytes(store.as_bytes().to_vec());
+        assert_eq!(again, Ok(store));
+    }
 }

@@ -1,24 +1,29 @@
-//! The form store of a timing box: one byte string that holds a DTD and the finish lists under it, with a check, sixteen changes, a look-up and printing.
-//! This crate calls the proved library, the archive `libformstore.a`, and adds no rule of its own.
+//! The form store of a timing box: one byte string that holds a DTD and the finish lists under it, with a check,
+//! sixteen changes, a look-up and printing. This crate calls the proved library, the archive `libformstore.a`, and adds
+//! no rule of its own.
 //!
 //! There are three ways to a call, each over the one before:
 //! - [`raw`]: the exported functions, with slices for pointers; they answer a number and a length;
-//! - the functions of this crate ([`check`], [`look_up`], [`print()`] and one for each change), which answer a [`Result`] with a [`Refusal`];
+//! - the functions of this crate ([`check`], [`look_up`], [`print()`] and one for each change), which answer a
+//!   [`Result`] with a [`Refusal`];
 //! - [`Store`], which owns its bytes and takes kinds, sorts and quantifiers as enums (feature `std`, on by default).
 //!
-//! [`Reader`] reads what a store holds: definitions with their models and attributes, and the rows of the documents. Without the feature `std` the crate
-//! is `no_std` and allocates nothing.
+//! [`Reader`] reads what a store holds: definitions with their models and attributes, and the rows of the documents.
+//! Without the feature `std` the crate is `no_std` and allocates nothing.
 //!
 //! # Stack
-//! No call needs more than [`STACK`] bytes of stack, as far as the deepest stores that could be made show; give a thread that makes calls as much, and
-//! what its own frames need. The archive is for x86-64 (ELF, the System V calls of Linux).
+//! No call needs more than [`STACK`] bytes of stack, as far as the deepest stores that could be made show; give a
+//! thread that makes calls as much, and what its own frames need. The archive is for x86-64 (ELF, the System V calls of
+//! Linux).
 //!
-//! No call panics, and none changes a byte of its output buffer when it refuses. A change writes the new store into `out` and answers its length; bytes
-//! past it keep their content. Besides the refusals that each names, every one refuses with [`Refusal::BadStore`] and [`Refusal::Buffer`].
+//! No call panics, and none changes a byte of its output buffer when it refuses. A change writes the new store into
+//! `out` and answers its length; bytes past it keep their content. Besides the refusals that each names, every one
+//! refuses with [`Refusal::BadStore`] and [`Refusal::Buffer`].
 //!
 //! # Words
-//! Definitions and attributes are passed by their index, from 0; elements by their serial; particles by the definition that owns the model and a
-//! *place*: one to five numbers of which all but the last pick a group, members counting from 1, and the last picks a member, or where to insert.
+//! Definitions and attributes are passed by their index, from 0; elements by their serial; particles by the definition
+//! that owns the model and a *place*: one to five numbers of which all but the last pick a group, members counting from
+//! 1, and the last picks a member, or where to insert.
 //!
 //! # Example
 //! ```
@@ -107,9 +112,10 @@ pub const FRESH: [u8; 40] = [
 pub const LONGEST: usize =
     40 + MAX_DEFINITIONS * 20 + MAX_PARTICLES * 4 + MAX_ATTRIBUTES * 52 + MAX_ROWS * 44;
 
-/// No printed text is longer: each record adds at most as much as here. A definition has 38 bytes around its model, or with `(#PCDATA)`; a particle 18, a name
-/// with its mark and a comma; an attribute 253, two names and a value of 32 bytes that are all written as `&quot;`; of the rows one of an attribute has most, a
-/// name, such a value and four more.
+/// No printed text is longer: each record adds at most as much as here. A definition has 38 bytes around its model, or
+/// with `(#PCDATA)`; a particle 18, a name with its mark and a comma; an attribute 253, two names and a value of 32
+/// bytes that are all written as `&quot;`; of the rows one of an attribute has most, a name, such a value and four
+/// more.
 pub const LONGEST_TEXT: usize =
     MAX_DEFINITIONS * 38 + MAX_PARTICLES * 18 + MAX_ATTRIBUTES * 253 + MAX_ROWS * 212;
 

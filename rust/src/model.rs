@@ -7,7 +7,8 @@ use core::fmt;
 pub(crate) const PARTICLE: usize = 4;
 const DEPTH: usize = 3;
 
-/// What the elements of a definition hold. It shows itself as the DTD has it: `(bib,club,time?)`, `(#PCDATA)` or `EMPTY`.
+/// What the elements of a definition hold. It shows itself as the DTD has it: `(bib,club,time?)`, `(#PCDATA)` or
+/// `EMPTY`.
 ///
 /// ```
 /// use formstore::{Kind, Quantifier, Refusal, Store, Term};

@@ -5,8 +5,9 @@ use core::fmt;
 use core::ops::Deref;
 use core::str::FromStr;
 
-/// Where a particle of a model stands: one to five numbers, of which all but the last pick a group, members counting from 1, and the last picks a member.
-/// It is written with `-` between the numbers, and goes where a call wants a `&[u32]`.
+/// Where a particle of a model stands: one to five numbers, of which all but the last pick a group, members counting
+/// from 1, and the last picks a member. It is written with `-` between the numbers, and goes where a call wants a
+/// `&[u32]`.
 ///
 /// ```
 /// use formstore::{Place, UnknownPlace};

@@ -1,4 +1,5 @@
-//! The exported functions of the library as they answer: a number and a length. All `unsafe` code of the crate stands here; its functions are safe.
+//! The exported functions of the library as they answer: a number and a length. All `unsafe` code of the crate stands
+//! here; its functions are safe.
 #![allow(unsafe_code)]
 
 use crate::Refusal;
@@ -42,7 +43,8 @@ impl Found {
     }
 }
 
-/// The refusal with this number; none for 0. The library gives no number past 18, since it answers what the rules say, and those name no other.
+/// The refusal with this number; none for 0. The library gives no number past 18, since it answers what the rules say,
+/// and those name no other.
 pub(crate) fn refusal(number: u32) -> Option<Refusal> {
     match number {
         0 => None,
@@ -85,7 +87,8 @@ macro_rules! call {
         extern "C" {
             fn $exported(store: *const u8, store_length: usize, $($parameter)* out: *mut u8, out_length: usize) -> Answer;
         }
-        // SAFETY: each pointer is a slice's, so it is not null, and stands with its length; the call writes to `out` alone, and a `&mut` overlaps nothing.
+        // SAFETY: each pointer is a slice's, so it is not null, and stands with its length; the call writes to `out`
+        // alone, and a `&mut` overlaps nothing.
         unsafe { $exported($store.as_ptr(), $store.len(), $($given)* $out.as_mut_ptr(), $out.len()) }
     }};
     ($exported:ident $buffers:tt [$($parameter:tt)*] [$($given:tt)*] $argument:ident: bytes, $($rest:tt)*) => {

@@ -8,7 +8,8 @@ use std::vec::Vec;
 /// Enough room for what most changes add.
 const ROOM: usize = 2048;
 
-/// A store that passes the check. A change replaces its bytes when it is accepted; a refused one leaves them as they are.
+/// A store that passes the check. A change replaces its bytes when it is accepted; a refused one leaves them as they
+/// are.
 ///
 /// ```
 /// use formstore::{Kind, Refusal, Store};
@@ -100,7 +101,8 @@ impl Store {
         self.written(ROOM, LONGEST_TEXT, crate::print)
     }
 
-    /// What a call writes, at first into a buffer with this much more room than the store has, then into one of the greatest length.
+    /// What a call writes, at first into a buffer with this much more room than the store has, then into one of the
+    /// greatest length.
     fn written(
         &self,
         room: usize,

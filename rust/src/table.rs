@@ -1,7 +1,7 @@
 //! The table of the sixteen changes. It is all that knows them: what is made for each change is made from it.
 
-/// Hands the table to a macro. A line of it is the exported function, the name of the change and its arguments between `store` and `out`, each with how
-/// it is passed: `bytes`, `place` and `number`, or the enum whose code it is.
+/// Hands the table to a macro. A line of it is the exported function, the name of the change and its arguments between
+/// `store` and `out`, each with how it is passed: `bytes`, `place` and `number`, or the enum whose code it is.
 macro_rules! for_each_change {
     ($then:ident) => {
         $then! {
@@ -15,10 +15,12 @@ macro_rules! for_each_change {
             /// Refuses with `Unknown` and `InUse`.
             formstore_destroy_definition destroy_definition(definition: number);
 
-            /// 3. Inserts an element into the model of `owner`: after the member that the place picks, or before the first where its last number is 0.
-            /// A required member of a spine list gives each instance a filling with the text.
+            /// 3. Inserts an element into the model of `owner`: after the member that the place picks, or before the
+            ///    first where its last number is 0. A required member of a spine list gives each instance a filling
+            ///    with the text.
             ///
-            /// Refuses with `BadValue`, `BadCode`, `Unknown`, `NoPlace`, `WrongKind`, `InUse`, `Round`, `Default`, `OffSpine`, `Ceiling` and `Serials`.
+            /// Refuses with `BadValue`, `BadCode`, `Unknown`, `NoPlace`, `WrongKind`, `InUse`, `Round`, `Default`,
+            /// `OffSpine`, `Ceiling` and `Serials`.
             formstore_insert_element insert_element(owner: number, place: place, definition: number, quantifier: Quantifier, text: bytes);
 
             /// 4. Removes an element from the model of `owner`, with the children of instances that it stands for.
@@ -26,10 +28,11 @@ macro_rules! for_each_change {
             /// Refuses with `Unknown`, `NoPlace`, `Grouping` and `NoMatch`.
             formstore_remove_element remove_element(owner: number, place: place);
 
-            /// 5. Changes the quantifier of an element. In a spine list a cut keeps each instance's first, and a gain puts a filling with the text where
-            /// none stands.
+            /// 5. Changes the quantifier of an element. In a spine list a cut keeps each instance's first, and a gain
+            ///    puts a filling with the text where none stands.
             ///
-            /// Refuses with `BadValue`, `BadCode`, `Unknown`, `NoPlace`, `Default`, `OffSpine`, `Ceiling` and `Serials`.
+            /// Refuses with `BadValue`, `BadCode`, `Unknown`, `NoPlace`, `Default`, `OffSpine`, `Ceiling` and
+            /// `Serials`.
             formstore_change_quantifier change_quantifier(owner: number, place: place, quantifier: Quantifier, text: bytes);
 
             /// 6. Converts `count` members from the place on into a group without quantifier. Rows stay.
@@ -42,9 +45,11 @@ macro_rules! for_each_change {
             /// Refuses with `Unknown`, `NoPlace` and `Grouping`.
             formstore_flatten_group flatten_group(owner: number, place: place);
 
-            /// 8. Changes the quantifier of a group. A gain in a spine list gives an instance without a child of the group the group's filling.
+            /// 8. Changes the quantifier of a group. A gain in a spine list gives an instance without a child of the
+            ///    group the group's filling.
             ///
-            /// Refuses with `BadValue`, `BadCode`, `Unknown`, `NoPlace`, `Default`, `OffSpine`, `Ceiling` and `Serials`.
+            /// Refuses with `BadValue`, `BadCode`, `Unknown`, `NoPlace`, `Default`, `OffSpine`, `Ceiling` and
+            /// `Serials`.
             formstore_change_group_quantifier change_group_quantifier(owner: number, place: place, quantifier: Quantifier, text: bytes);
 
             /// 9. Adds an attribute; a REQUIRED one adds a row with the value to each instance.
@@ -62,7 +67,8 @@ macro_rules! for_each_change {
             /// Refuses with `BadValue`, `Unknown`, `Ceiling` and `Serials`.
             formstore_add_document add_document(definition: number, text: bytes);
 
-            /// 12. Adds an element as child number `child` (from 0, element children only) of the element `parent`, filled with the text.
+            /// 12. Adds an element as child number `child` (from 0, element children only) of the element `parent`,
+            ///     filled with the text.
             ///
             /// Refuses with `BadValue`, `Unknown`, `NoRow`, `NoPlace`, `NoMatch`, `Ceiling` and `Serials`.
             formstore_add_element add_element(parent: number, child: number, definition: number, text: bytes);

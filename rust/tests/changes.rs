@@ -1,32 +1,9 @@
-//! The story of clubform, and one of all sixteen changes with the text after each.
-
-#[path = "../examples/clubform.rs"]
-mod clubform;
+//! A story of all sixteen changes with the text after each.
 
 use formstore::{AttributeSort, GroupSort, Kind, Quantifier, Refusal, Store};
 
-const CLUBFORM: &str = "<!ELEMENT race (finisher*)>
-<!ELEMENT finisher (bib,club,time?)>
-<!ELEMENT bib (#PCDATA)>
-<!ELEMENT time (#PCDATA)>
-<!ELEMENT club (#PCDATA)>
-<race><finisher><bib>7</bib><club>none</club><time>19:04</time></finisher></race>
-";
-
 fn text(store: &Store) -> String {
     String::from_utf8(store.print().expect("it passes")).expect("the text is ASCII")
-}
-
-#[test]
-fn clubform_leaves_its_store_and_text() {
-    let store = clubform::clubform().expect("no change is refused");
-    assert_eq!(store.as_bytes().len(), 508);
-    assert_eq!(store.reader().next_serial(), 9);
-    assert_eq!(text(&store), CLUBFORM);
-    assert_eq!(store.look_up(6), Ok(&b"19:04"[..]));
-    assert_eq!(store.look_up(5), Err(Refusal::NoRow));
-    let again = Store::from_bytes(store.as_bytes().to_vec());
-    assert_eq!(again, Ok(store));
 }
 
 #[test]
@@ -46,7 +23,8 @@ fn lines(store: &Store, start: &str) -> String {
 
 type Change = fn(&mut Store) -> Result<(), Refusal>;
 
-/// Each change with the model and the lists after it. Definition 0 is the relay, 1 to 3 its parts, 4 is the one that goes.
+/// Each change with the model and the lists after it. Definition 0 is the relay, 1 to 3 its parts, 4 is the one that
+/// goes.
 const STORY: [(Change, &str); 18] = [
     (
         |s| s.insert_element(0, &[0], 1, Quantifier::None, b"a"),

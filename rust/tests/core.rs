@@ -1,4 +1,5 @@
-//! What needs no allocation, as a box without `std` would use it: two buffers in turn, the functions and the reader. It is run with and without `std`.
+//! What needs no allocation, as a box without `std` would use it: two buffers in turn, the functions and the reader. It
+//! is run with and without `std`.
 
 use formstore::*;
 

@@ -1,17 +1,13 @@
 //! Reading a store by names, and texts and numbers that become places, kinds, sorts, quantifiers, refusals and stores.
 
-#[path = "../examples/clubform.rs"]
-mod clubform;
+mod common;
 
+use common::finish_list;
 use formstore::*;
-
-fn story() -> Store {
-    clubform::clubform().expect("no change is refused")
-}
 
 #[test]
 fn definitions_by_name() {
-    let store = story();
+    let store = finish_list();
     let reader = store.reader();
     let finisher = reader.definition_named("finisher").expect("a finisher");
     assert_eq!((finisher.index, finisher.kind), (1, Kind::Complex));
@@ -32,7 +28,7 @@ fn definitions_by_name() {
 
 #[test]
 fn attributes_by_name() {
-    let mut store = story();
+    let mut store = finish_list();
     assert_eq!(
         store.add_attribute(1, b"sex", AttributeSort::Required, b"f"),
         Ok(())
@@ -58,7 +54,7 @@ fn attributes_by_name() {
 
 #[test]
 fn groups_and_places() {
-    let mut store = story();
+    let mut store = finish_list();
     assert_eq!(store.convert_to_group(1, &[2], 2, GroupSort::List), Ok(()));
     assert_eq!(
         store.convert_to_group(1, &[2, 2], 1, GroupSort::Choice),
@@ -154,7 +150,7 @@ fn refusals_by_number() {
 
 #[test]
 fn stores_from_bytes() {
-    let store = story();
+    let store = finish_list();
     let bytes: Vec<u8> = store.clone().into();
     assert_eq!(store.as_ref(), bytes);
     assert_eq!(Store::try_from(&bytes[..]), Ok(store.clone()));

@@ -1,13 +1,13 @@
 //! Each refusal, met through the functions of the crate: it has its number, and the output buffer keeps its bytes.
 
-#[path = "../examples/clubform.rs"]
-mod clubform;
+mod common;
 
+use common::finish_list;
 use formstore::*;
 
 type Call = fn(&[u8], &mut [u8]) -> Result<usize, Refusal>;
 
-/// On the store that clubform leaves.
+/// On the finish list.
 const REFUSED: [(Call, Refusal); 15] = [
     (|_, out| destroy_definition(b"", 0, out), Refusal::BadStore),
     (
@@ -65,10 +65,6 @@ const REFUSED: [(Call, Refusal); 15] = [
     ),
 ];
 
-fn story() -> Store {
-    clubform::clubform().expect("no change is refused")
-}
-
 /// Runs the call and sees that its buffer is as it was.
 fn refused(store: &[u8], call: Call) -> Result<usize, Refusal> {
     let mut out = vec![0xEE; LONGEST];
@@ -82,7 +78,7 @@ fn refused(store: &[u8], call: Call) -> Result<usize, Refusal> {
 
 #[test]
 fn each_has_its_number_and_leaves_the_buffer() {
-    let store = story();
+    let store = finish_list();
     for (call, wanted) in REFUSED {
         assert_eq!(refused(store.as_bytes(), call), Err(wanted));
     }
@@ -91,7 +87,7 @@ fn each_has_its_number_and_leaves_the_buffer() {
 /// In a CHOICE of one member the place is off the spine.
 #[test]
 fn off_the_spine() {
-    let mut store = story();
+    let mut store = finish_list();
     assert_eq!(
         store.convert_to_group(1, &[3], 1, GroupSort::Choice),
         Ok(())
@@ -115,7 +111,7 @@ fn ceiling() {
 
 #[test]
 fn serials() {
-    let mut bytes = story().into_bytes();
+    let mut bytes = finish_list().into_bytes();
     bytes[4..8].copy_from_slice(&u32::MAX.to_le_bytes());
     let call: Call = |store, out| add_document(store, 0, b"", out);
     assert_eq!(refused(&bytes, call), Err(Refusal::Serials));
@@ -123,7 +119,7 @@ fn serials() {
 
 #[test]
 fn reading_out() {
-    let store = story();
+    let store = finish_list();
     let mut out = [0xEE; 100];
     assert_eq!(print(store.as_bytes(), &mut out), Err(Refusal::Buffer));
     assert_eq!(print(&[], &mut out), Err(Refusal::BadStore));

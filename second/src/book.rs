@@ -65,14 +65,6 @@ impl Book {
         if !accepted {
             return;
         }
-        match call.number() {
-            1 | 2 | 9 | 10 => self.note_form(call),
-            3..=8 => self.note_model(call),
-            _ => self.note_documents(call),
-        }
-    }
-
-    fn note_form(&mut self, call: &Call) {
         match call {
             Call::CreateDefinition { name, kind } => {
                 edit::create_definition(&mut self.form, name, code(*kind));
@@ -80,19 +72,6 @@ impl Book {
             Call::DestroyDefinition { definition } => {
                 edit::destroy_definition(&mut self.form, *definition as usize);
             }
-            Call::AddAttribute {
-                owner,
-                name,
-                sort,
-                value,
-            } => self.add_attribute(*owner as usize, name, code(*sort), value),
-            Call::DestroyAttribute { attribute } => self.destroy_attribute(*attribute as usize),
-            _ => unreachable!("no change of definitions or attributes"),
-        }
-    }
-
-    fn note_model(&mut self, call: &Call) {
-        match call {
             Call::InsertElement {
                 owner,
                 place,
@@ -128,12 +107,13 @@ impl Book {
             Call::FlattenGroup { owner, place } => {
                 edit::flatten_group(&mut self.form, *owner as usize, place);
             }
-            _ => unreachable!("no change of a model"),
-        }
-    }
-
-    fn note_documents(&mut self, call: &Call) {
-        match call {
+            Call::AddAttribute {
+                owner,
+                name,
+                sort,
+                value,
+            } => self.add_attribute(*owner as usize, name, code(*sort), value),
+            Call::DestroyAttribute { attribute } => self.destroy_attribute(*attribute as usize),
             Call::AddDocument { definition, text } => {
                 let at = self.lines.len();
                 self.insert_filling(at, 0, *definition as usize, text);
@@ -156,7 +136,6 @@ impl Book {
                 self.take(row.expect("an accepted call names a row"));
             }
             Call::SetText { element, text } => self.set_text(*element, text),
-            _ => unreachable!("no change of a document"),
         }
     }
 }

@@ -114,25 +114,6 @@ pub fn apply(call: &Call, store: &[u8], out: &mut [u8]) -> Answer {
     match call {
         Call::CreateDefinition { name, kind } => form::create_definition(store, name, *kind, out),
         Call::DestroyDefinition { definition } => form::destroy_definition(store, *definition, out),
-        Call::AddAttribute {
-            owner,
-            name,
-            sort,
-            value,
-        } => form::add_attribute(store, *owner, name, *sort, value, out),
-        Call::DestroyAttribute { attribute } => form::destroy_attribute(store, *attribute, out),
-        Call::InsertElement { .. }
-        | Call::RemoveElement { .. }
-        | Call::ChangeQuantifier { .. }
-        | Call::ConvertToGroup { .. }
-        | Call::FlattenGroup { .. }
-        | Call::ChangeGroupQuantifier { .. } => apply_to_model(call, store, out),
-        _ => apply_to_documents(call, store, out),
-    }
-}
-
-fn apply_to_model(call: &Call, store: &[u8], out: &mut [u8]) -> Answer {
-    match call {
         Call::InsertElement {
             owner,
             place,
@@ -160,12 +141,13 @@ fn apply_to_model(call: &Call, store: &[u8], out: &mut [u8]) -> Answer {
             quantifier,
             text,
         } => models::change_group_quantifier(store, *owner, place, *quantifier, text, out),
-        _ => unreachable!("no change of a model"),
-    }
-}
-
-fn apply_to_documents(call: &Call, store: &[u8], out: &mut [u8]) -> Answer {
-    match call {
+        Call::AddAttribute {
+            owner,
+            name,
+            sort,
+            value,
+        } => form::add_attribute(store, *owner, name, *sort, value, out),
+        Call::DestroyAttribute { attribute } => form::destroy_attribute(store, *attribute, out),
         Call::AddDocument { definition, text } => {
             documents::add_document(store, *definition, text, out)
         }
@@ -185,6 +167,5 @@ fn apply_to_documents(call: &Call, store: &[u8], out: &mut [u8]) -> Answer {
             documents::destroy_attribute_row(store, *element, *attribute, out)
         }
         Call::SetText { element, text } => documents::set_text(store, *element, text, out),
-        _ => unreachable!("no change of a document"),
     }
 }

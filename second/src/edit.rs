@@ -45,8 +45,8 @@ fn renumber(members: &mut [Particle], gone: usize) {
 
 /// The list of a place in the owner's model, and its last number.
 fn list_at<'a>(form: &'a mut Form, owner: usize, place: &[u32]) -> (&'a mut Vec<Particle>, usize) {
-    let members = list_mut(&mut form.definitions[owner].model, place);
-    (members, place[place.len() - 1] as usize)
+    let list = list_mut(&mut form.definitions[owner].model, place);
+    list.expect("an accepted call has a place")
 }
 
 /// Change 3. Insert element.

@@ -4,9 +4,7 @@
 //!
 //! The names and the order of arguments are those of INTERFACE.md.
 //!
-//! The tests take the vectors from the folder FORM_VECTORS, or from
-//! `shared/vectors` beside the repository, and the seed of what is random from
-//! FORM_SEED, or from the clock; they print it.
+//! [`testing`] is what tests share and no part of the implementation.
 
 pub mod book;
 pub mod call;
@@ -18,11 +16,9 @@ pub mod layout;
 pub mod model;
 pub mod outcome;
 pub mod print;
-pub mod random;
-pub mod rng;
 pub mod rows;
 pub mod store;
-pub mod vectors;
+pub mod testing;
 
 pub use book::{Book, Line};
 pub use call::{apply, Call};
@@ -38,6 +34,7 @@ pub use check::{check, read};
 pub use outcome::{Answer, Refusal};
 pub use print::{look_up, print};
 pub use rows::{rows, Row, RowSort};
+pub use testing::{random, rng};
 
 /// The fresh store: 40 bytes, next serial 1, counts 0.
 pub fn fresh() -> Vec<u8> {

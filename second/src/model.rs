@@ -268,17 +268,22 @@ impl Spot<'_> {
     }
 }
 
-/// The list in which a place's last number counts, to be changed. The place
-/// has been found before.
-pub fn list_mut<'a>(model: &'a mut Vec<Particle>, place: &[u32]) -> &'a mut Vec<Particle> {
+/// The list in which a place's last number counts, to be changed, and that
+/// number.
+pub fn list_mut<'a>(
+    model: &'a mut Vec<Particle>,
+    place: &[u32],
+) -> Option<(&'a mut Vec<Particle>, usize)> {
+    let (&last, path) = place.split_last()?;
     let mut members = model;
-    for &number in &place[..place.len() - 1] {
-        match &mut members[number as usize - 1].term {
+    for &number in path {
+        let at = (number as usize).checked_sub(1)?;
+        match &mut members.get_mut(at)?.term {
             Term::Group(_, inner) => members = inner,
-            Term::Element(_) => unreachable!("the place was found through groups"),
+            Term::Element(_) => return None,
         }
     }
-    members
+    Some((members, last as usize))
 }
 
 /// The most groups around a particle of the list.

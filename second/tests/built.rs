@@ -1,12 +1,10 @@
 //! Stores that are built and not grown: no history makes two rounds of (a,b)*,
 //! a next serial near the highest, or serials out of order.
 
-mod common;
-
-use common::{seed, Counts, Moment, Named, LONGEST};
 use second::layout::encode;
 use second::random::calls::call;
 use second::random::damage::damaged;
+use second::random::history::{seed, Counts, Moment, Named, LONGEST};
 use second::random::{documents, words};
 use second::rng::Rng;
 use second::{apply, check};

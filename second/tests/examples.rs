@@ -1,15 +1,13 @@
 //! Paper 01's examples: P1 to P12, the program clubform, the list to run, the
 //! list of what is plausible and false, and the source's own examples.
 
-mod common;
-
-use common::notation::{model, store};
-use common::play::Play;
 use second::layout::encode;
 use second::model::Language;
 use second::store::{
     Attribute, AttributeSort, Definition, Kind, Particle, Quantifier, Store, Term,
 };
+use second::testing::notation::{model, store};
+use second::testing::play::{self, Play};
 use second::*;
 
 const A: usize = 1;
@@ -105,19 +103,7 @@ fn p10_p11_p12_places() {
 
 #[test]
 fn clubform() {
-    let mut play = fresh_play();
-    for (name, kind) in [("race", 2), ("finisher", 2), ("bib", 1), ("time", 1)] {
-        play.accept(|s, o| create_definition(s, name.as_bytes(), kind, o));
-    }
-    play.accept(|s, o| insert_element(s, 0, &[0], 1, STAR, b"", o));
-    play.accept(|s, o| insert_element(s, 1, &[0], 2, NONE, b"0", o));
-    play.accept(|s, o| insert_element(s, 1, &[1], 3, NONE, b"-", o));
-    play.accept(|s, o| add_document(s, 0, b"", o));
-    play.accept(|s, o| add_element(s, 1, 0, 1, b"7", o));
-    play.accept(|s, o| set_text(s, 5, b"19:04", o));
-    play.accept(|s, o| create_definition(s, b"club", 1, o));
-    play.accept(|s, o| insert_element(s, 1, &[1], 4, NONE, b"none", o));
-    play.accept(|s, o| change_quantifier(s, 1, &[3], QMARK, b"", o));
+    let play = play::clubform();
     assert_eq!(play.bytes.len(), 508);
     assert_eq!(second::layout::u32_at(&play.bytes, 4), 9);
     let text = "<!ELEMENT race (finisher*)>

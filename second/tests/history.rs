@@ -1,8 +1,6 @@
 //! Random histories from the fresh store, the book compared after every call.
 
-mod common;
-
-use common::{seed, Counts, Moment, Named};
+use second::random::history::{seed, Counts, Moment, Named};
 use second::rng::Rng;
 use second::Call;
 use std::time::{Duration, Instant};

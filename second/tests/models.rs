@@ -1,13 +1,11 @@
 //! The language of models, against a slow matcher that follows the words of
 //! the paper; fillings conform.
 
-mod common;
-
-use common::seed;
 use second::check::Judge;
 use second::filling::Maker;
 use second::model::{elements_of, Language};
 use second::random::forms;
+use second::random::history::seed;
 use second::rng::Rng;
 use second::store::*;
 use std::collections::BTreeSet;

@@ -1,12 +1,10 @@
 //! Look-up and printing on random stores.
 
-mod common;
-
-use common::seed;
 use second::layout::encode;
 use second::print::text_of;
 use second::random::damage::damaged;
 use second::random::documents;
+use second::random::history::seed;
 use second::rng::Rng;
 use second::{check, look_up, print, rows};
 

@@ -1,9 +1,7 @@
 //! The examples of the source (Article.dtd and its sample document, `id` as
 //! CDATA REQUIRED), with the outcomes that paper 01 gives them.
 
-mod common;
-
-use common::play::Play;
+use second::testing::play::Play;
 use second::*;
 
 const NONE: u32 = 0;

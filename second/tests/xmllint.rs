@@ -4,15 +4,13 @@
 //! attribute rows, serials, layout), blank texts in element content, which XML
 //! allows and the paper does not, and attributes called `xmlns`.
 
-mod common;
-
-use common::seed;
-use common::xmllint::{are_valid, scratch_folder, wrapped};
 use second::layout::encode;
 use second::print::{declarations, text_of};
+use second::random::history::seed;
 use second::random::{documents, forms};
 use second::rng::Rng;
 use second::store::*;
+use second::testing::xmllint::{are_valid, scratch_folder, wrapped};
 use std::time::{Duration, Instant};
 
 const DOCUMENTS: usize = 400;

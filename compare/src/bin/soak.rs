@@ -1,5 +1,6 @@
-//! `soak SECONDS SEED`: random histories of all sixteen changes, and readings of random stores, the library against the second implementation and its book,
-//! one seed after the other until the time is over. It stops at the first difference.
+//! `soak SECONDS SEED`: random histories of all sixteen changes, and readings of random stores, the library against the
+//! second implementation and its book, one seed after the other until the time is over. It stops at the first
+//! difference.
 
 use compare::histories::Comparison;
 use compare::reading::Readings;

@@ -1,5 +1,5 @@
-//! `stack [SEED [STORES]]`: the most stack that each call needs, on the worst stores and on so many random ones. It fails where that is over the bound that
-//! the header names.
+//! `stack [SEED [STORES]]`: the most stack that each call needs, on the worst stores and on so many random ones. It
+//! fails where that is over the bound that the header names.
 
 use compare::header;
 use compare::marks::Marks;

@@ -1,8 +1,8 @@
 //! Changes 1, 2 and 11 to 16 at the limits.
 
-use crate::common::notation::NAMES;
 use crate::forms::{add_attribute, CODES};
 use crate::*;
+use second::testing::notation::NAMES;
 
 fn create_definition(name: &[u8], kind: u32) -> Call {
     let name = name.to_vec();

@@ -1,21 +1,21 @@
-//! Stores and arguments at the limits: ceilings, the last serials, fillings too large to make, lengths and bytes of names and values, places, rounds of a
-//! group. Every call is also compared with the second implementation, byte by byte.
+//! Stores and arguments at the limits: ceilings, the last serials, fillings too large to make, lengths and bytes of
+//! names and values, places, rounds of a group. Every call is also compared with the second implementation, byte by
+//! byte.
 
-#[path = "../../../second/tests/common/mod.rs"]
-mod common;
 mod documents;
 mod forms;
 
-use common::{notation, LONGEST};
 use compare::agreed;
 use compare::worst::{add_required, group, member, nested_form};
 use second::layout::encode;
+use second::random::history::LONGEST;
 use second::store::*;
+use second::testing::notation;
 use second::Call;
 use std::time::{Duration, Instant};
 
-/// The number that both answer with the longest buffer, and the new store. An accepted call is also compared in buffers that are just long enough,
-/// one byte short and empty.
+/// The number that both answer with the longest buffer, and the new store. An accepted call is also compared in buffers
+/// that are just long enough, one byte short and empty.
 fn change(call: &Call, store: &[u8]) -> (u32, Vec<u8>) {
     let (answer, mut out) = agreed(call, store, &[0xEE; LONGEST]);
     if answer.number == 0 {
@@ -50,7 +50,8 @@ fn childless(model: &str, documents: usize, next_serial: u32) -> Vec<u8> {
     encode(&store)
 }
 
-/// Calls with a value of all bytes, and of all lengths up to one more than a byte counts: all are accepted where it is good, else they give 3.
+/// Calls with a value of all bytes, and of all lengths up to one more than a byte counts: all are accepted where it is
+/// good, else they give 3.
 fn judge_values(store: &[u8], calls: impl Fn(&[u8]) -> Vec<Call>) {
     let judge = |value: &[u8], good: bool| {
         for call in calls(value) {

@@ -1,5 +1,6 @@
 //! `vectors FILE..` runs files of vectors and prints each difference.
 
+use second::testing::vectors::{run, run_text};
 use std::process::ExitCode;
 
 fn main() -> ExitCode {
@@ -18,7 +19,7 @@ fn main() -> ExitCode {
                 continue;
             }
         };
-        let report = second::vectors::run_text(&text);
+        let report = run_text(&text, run);
         for (line, difference) in &report.differences {
             println!("{file}:{line}: {difference}");
         }

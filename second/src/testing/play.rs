@@ -1,10 +1,32 @@
 //! Calls in a row, each on the store that the last accepted one wrote.
 
-use super::LONGEST;
-use second::{print, Answer};
+use super::random::history::LONGEST;
+use crate::*;
 
 pub struct Play {
     pub bytes: Vec<u8>,
+}
+
+/// The program clubform of the paper: a club shapes its form while a finish
+/// list stands in the box.
+pub fn clubform() -> Play {
+    const NONE: u32 = 0;
+    const QMARK: u32 = 1;
+    const STAR: u32 = 2;
+    let mut play = Play { bytes: fresh() };
+    for (name, kind) in [("race", 2), ("finisher", 2), ("bib", 1), ("time", 1)] {
+        play.accept(|s, o| create_definition(s, name.as_bytes(), kind, o));
+    }
+    play.accept(|s, o| insert_element(s, 0, &[0], 1, STAR, b"", o));
+    play.accept(|s, o| insert_element(s, 1, &[0], 2, NONE, b"0", o));
+    play.accept(|s, o| insert_element(s, 1, &[1], 3, NONE, b"-", o));
+    play.accept(|s, o| add_document(s, 0, b"", o));
+    play.accept(|s, o| add_element(s, 1, 0, 1, b"7", o));
+    play.accept(|s, o| set_text(s, 5, b"19:04", o));
+    play.accept(|s, o| create_definition(s, b"club", 1, o));
+    play.accept(|s, o| insert_element(s, 1, &[1], 4, NONE, b"none", o));
+    play.accept(|s, o| change_quantifier(s, 1, &[3], QMARK, b"", o));
+    play
 }
 
 impl Play {

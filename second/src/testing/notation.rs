@@ -1,6 +1,6 @@
 //! Models as paper 01 writes them, `(a?,(b|c)*)`, read into trees.
 
-use second::store::*;
+use crate::store::*;
 
 /// The names that stand for definitions 1 to 4; definition 0 is the owner.
 pub const NAMES: [&str; 5] = ["m", "a", "b", "c", "x"];

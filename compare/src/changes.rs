@@ -6,6 +6,15 @@ use formstore::raw::{self, Answer};
 pub use second::testing::vectors::read_call as read;
 use second::Call;
 
+/// The call of a line as the vectors write it, without its buffers.
+pub fn of_line(line: &str) -> Call {
+    let mut words = Words::of(line);
+    let name = words.word();
+    let call = read(name, &mut words);
+    words.end();
+    call.unwrap_or_else(|| panic!("no call {name}"))
+}
+
 /// An argument of a call as the library takes it.
 macro_rules! passed {
     (number $argument:ident) => {

@@ -1,6 +1,7 @@
 //! The proved library's exported functions, as the crate `formstore` calls them. Every call runs on a copy of its input
 //! with guard bytes around it, and panics where a guard byte or the input has changed.
 
+pub mod asked;
 pub mod changes;
 pub mod header;
 pub mod histories;

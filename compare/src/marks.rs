@@ -1,44 +1,15 @@
 //! The most stack that each call of the library needed, on the worst stores and on random ones.
 
+use crate::asked::{value_serial, Asked};
 use crate::stack::Stack;
-use crate::{changes, header, worst};
-use formstore::{raw, LONGEST, LONGEST_TEXT};
+use crate::{header, worst};
+use formstore::{LONGEST, LONGEST_TEXT};
 use second::layout::encode;
 use second::random::damage::damaged;
 use second::random::{calls, documents};
 use second::rng::Rng;
-use second::store::{Node, Store};
-use second::Call;
+use second::store::Store;
 use std::collections::BTreeMap;
-
-/// A public call with its arguments.
-enum Asked {
-    Check,
-    LookUp(u32),
-    Print,
-    Change(Call),
-}
-
-impl Asked {
-    fn name(&self) -> &'static str {
-        match self {
-            Asked::Check => "check",
-            Asked::LookUp(_) => "look_up",
-            Asked::Print => "print",
-            Asked::Change(call) => changes::name(call),
-        }
-    }
-
-    /// The number that the library answers.
-    fn run(&self, store: &[u8], out: &mut [u8]) -> u32 {
-        match self {
-            Asked::Check => raw::check(store),
-            Asked::LookUp(serial) => raw::look_up(store, *serial).number,
-            Asked::Print => raw::print(store, out).number,
-            Asked::Change(call) => changes::apply(call, store, out).number,
-        }
-    }
-}
 
 /// The most stack that a call needed.
 #[derive(Clone, Default)]
@@ -118,8 +89,9 @@ impl Marks {
         }
     }
 
-    /// A line for each call.
+    /// A line for each call; one that needs more than the header says is marked.
     pub fn print(&self) {
+        let bound = header::number("FORMSTORE_STACK") as usize;
         println!(
             "{:24}{:>8}{:>8}{:>10}  deepest on",
             "call", "bytes", "calls", "accepted"
@@ -131,7 +103,8 @@ impl Marks {
                 calls,
                 accepted,
             } = self.marks.get(name).cloned().unwrap_or_default();
-            println!("{name:24}{bytes:>8}{calls:>8}{accepted:>10}  {store}");
+            let over = if bytes > bound { '!' } else { ' ' };
+            println!("{name:24}{bytes:>8}{over}{calls:>7}{accepted:>10}  {store}");
         }
     }
 
@@ -147,18 +120,4 @@ impl Marks {
         let marks = self.marks.values().map(|mark| mark.bytes);
         marks.max().unwrap_or(0)
     }
-}
-
-/// The serial of the last attribute or text, or the next one where there is none.
-fn value_serial(store: &Store) -> u32 {
-    let mut serial = store.next_serial;
-    store.for_each_element(&mut |element| {
-        let attributes = element.attributes.iter().map(|row| row.serial);
-        let texts = element.content.iter().filter_map(|node| match node {
-            Node::Text(text) => Some(text.serial),
-            Node::Element(_) => None,
-        });
-        serial = attributes.chain(texts).last().unwrap_or(serial);
-    });
-    serial
 }

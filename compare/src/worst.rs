@@ -52,6 +52,12 @@ pub fn member(index: usize) -> Particle {
     }
 }
 
+/// The particle, QMARK.
+pub fn optional(mut particle: Particle) -> Particle {
+    particle.quantifier = Quantifier::Qmark;
+    particle
+}
+
 /// Alone in a LIST.
 pub fn group(particle: Particle) -> Particle {
     Particle {
@@ -86,9 +92,24 @@ pub fn add_required(store: &mut Store, owner: usize, count: usize) {
     }
 }
 
+/// How many rows the filling of each definition of a nested form has.
+pub fn filling_rows(form: &Form) -> Vec<u128> {
+    let mut rows = vec![0; form.definitions.len()];
+    for index in (0..rows.len()).rev() {
+        let own = form.attributes.iter().filter(|own| own.owner == index);
+        rows[index] = 1 + own.count() as u128;
+        for particle in &form.definitions[index].model {
+            if let Term::Element(member) = particle.term {
+                rows[index] += rows[member];
+            }
+        }
+    }
+    rows
+}
+
 /// What fills up models without rows in a filling.
 #[derive(Clone, Copy, Debug)]
-enum Padding {
+pub enum Padding {
     /// Groups around the members, up to four.
     Lists,
     Choices,
@@ -116,7 +137,7 @@ fn pad(form: &mut Form, padding: Padding, particles: usize) {
 }
 
 /// Puts up to four groups around each member, the last first, and so many at most in all.
-fn add_groups(model: &mut [Particle], kind: GroupKind, most: usize) {
+pub fn add_groups(model: &mut [Particle], kind: GroupKind, most: usize) {
     let mut left = most;
     for particle in model.iter_mut().rev() {
         for _ in 0..MAX_MODEL_DEPTH.min(left) {
@@ -133,42 +154,36 @@ fn add_groups(model: &mut [Particle], kind: GroupKind, most: usize) {
 fn add_siblings(model: &mut Vec<Particle>, first: usize, most: usize) {
     let last = MAX_DEFINITIONS.min(first + 4.min(most));
     for index in first..last {
-        let mut sibling = member(index);
-        sibling.quantifier = Quantifier::Qmark;
-        model.insert(0, sibling);
+        model.insert(0, optional(member(index)));
     }
 }
 
-/// Adds a document, filled, if there is room for it.
-fn add_document(store: &mut Store, definition: usize) -> bool {
-    let rows = store.row_count();
+/// The filling of a definition, if it has at most so many rows.
+fn filling(store: &mut Store, definition: usize, room: usize) -> Option<Element> {
     let mut maker = Maker::new(&store.form, store.next_serial, b"19:04");
-    match maker.element(definition) {
-        Ok(document) if rows + maker.made <= MAX_ROWS => {
-            store.next_serial += maker.made as u32;
-            store.documents.push(document);
-            true
-        }
-        _ => false,
-    }
+    let filling = maker.element(definition).ok();
+    let made = maker.made;
+    let filling = filling.filter(|_| made <= room)?;
+    store.next_serial += made as u32;
+    Some(filling)
 }
 
-/// Adds documents until there are 4,096 rows: as many of the first definition as there is room for, then of those behind it.
-fn fill(mut store: Store) -> Store {
+/// Adds documents until there are so many rows: as many of the first definition as there is room for, then of those behind it.
+pub fn fill(mut store: Store, rows: usize) -> Store {
+    let mut left = rows;
     for definition in 0..store.form.definitions.len() {
-        while add_document(&mut store, definition) {}
+        while let Some(document) = filling(&mut store, definition, left) {
+            left -= document.row_count();
+            store.documents.push(document);
+        }
     }
-    assert_eq!(
-        store.row_count(),
-        MAX_ROWS,
-        "the last definition has one row"
-    );
+    assert_eq!(left, 0, "the last definition has one row");
     store
 }
 
 /// All 64 definitions in each other, a REQUIRED attribute for each but the last, which is of this kind, and as many particles as there can be; one less where
 /// the first model is empty, so that there is room for a member.
-fn deepest_form(first: Vec<Particle>, padding: Padding, last: Kind) -> Store {
+pub fn deepest_form(first: Vec<Particle>, padding: Padding, last: Kind) -> Store {
     let mut store = nested_form(MAX_DEFINITIONS, 1);
     store.form.definitions[0].model = first;
     store.form.definitions[MAX_DEFINITIONS - 1].kind = last;
@@ -182,10 +197,6 @@ fn deepest_form(first: Vec<Particle>, padding: Padding, last: Kind) -> Store {
 
 /// So, with 30 documents. By what stands in the first model, changes 3, 5, 8, 11 and 12 can make the deepest filling.
 fn deepest(padding: Padding) -> Vec<Worst> {
-    let optional = |mut particle: Particle| {
-        particle.quantifier = Quantifier::Qmark;
-        particle
-    };
     let in_groups = |particle| (0..MAX_MODEL_DEPTH).fold(particle, |inner, _| group(inner));
     let firsts = [
         ("in the first", vec![member(1)]),
@@ -205,16 +216,31 @@ fn deepest(padding: Padding) -> Vec<Worst> {
         .into()
 }
 
+/// With a document of a definition.
+pub fn with_document(mut store: Store, definition: usize) -> Store {
+    let document = filling(&mut store, definition, MAX_ROWS).expect("there is room for it");
+    store.documents.push(document);
+    store
+}
+
 /// With so many documents of the first definition.
-fn with_documents(mut store: Store, count: usize) -> Store {
-    for _ in 0..count {
-        assert!(add_document(&mut store, 0), "there is room for it");
+pub fn with_documents(store: Store, count: usize) -> Store {
+    (0..count).fold(store, |store, _| with_document(store, 0))
+}
+
+/// With children of these definitions, filled, below the root of the last document.
+pub fn with_children(mut store: Store, children: impl Iterator<Item = usize>) -> Store {
+    let mut root = store.documents.pop().expect("a document");
+    for definition in children {
+        let child = filling(&mut store, definition, MAX_ROWS).expect("there is room for it");
+        root.content.push(Node::Element(child));
     }
+    store.documents.push(root);
     store
 }
 
 /// One definition has all attributes, REQUIRED.
-fn many_attributes(count: usize) -> Store {
+pub fn many_attributes(count: usize) -> Store {
     let mut store = nested_form(2, 1);
     add_required(&mut store, 0, count);
     store
@@ -230,18 +256,18 @@ fn longest_model(spare: usize, particles: usize) -> Store {
     store
 }
 
+/// A form in which the first definition has any number of the second.
+pub fn list_form(definitions: usize) -> Store {
+    let mut store = nested_form(definitions, 0);
+    let mut child = member(1);
+    child.quantifier = Quantifier::Star;
+    store.form.definitions[0].model.push(child);
+    store
+}
+
 /// All of one document's rows are children of its root.
 fn widest() -> Store {
-    let mut store = nested_form(2, 1);
-    store.form.definitions[0].model[0].quantifier = Quantifier::Star;
-    let mut store = with_documents(store, 1);
-    for _ in 1..MAX_ROWS {
-        let mut maker = Maker::new(&store.form, store.next_serial, b"");
-        let child = maker.element(1).expect("there is room for it");
-        store.documents[0].content.push(Node::Element(child));
-        store.next_serial += 1;
-    }
-    store
+    with_children(with_document(list_form(2), 0), (1..MAX_ROWS).map(|_| 1))
 }
 
 /// A name of 16 bytes.
@@ -249,10 +275,10 @@ fn long_name(letter: char, number: usize) -> Vec<u8> {
     format!("{letter}{number:015}").into_bytes()
 }
 
-/// All ceilings at once, and no known store prints more: all names have 16 bytes, all values 32 that are escaped. The 256 particles are elements in as few
-/// models as they go, since `(#PCDATA)` is longer than a pair of brackets; all attributes are FIXED and of one definition, so that no element row is
-/// needed but for each 64 attribute rows, and one that is left over.
-pub fn longest() -> Store {
+/// Of 4,096 rows: all ceilings at once, and no known store prints more. All names have 16 bytes, all values 32 that are escaped. The 256 particles are
+/// elements in as few models as they go, since `(#PCDATA)` is longer than a pair of brackets; all attributes are FIXED and of one definition, so that no
+/// element row is needed but for each 64 attribute rows, and one that is left over.
+pub fn longest(rows: usize) -> Store {
     let mut store = nested_form(MAX_DEFINITIONS, MAX_DEFINITIONS);
     let mut left = MAX_PARTICLES;
     for (index, definition) in store.form.definitions.iter_mut().enumerate() {
@@ -275,17 +301,15 @@ pub fn longest() -> Store {
             value: value.clone(),
         })
         .collect();
-    for _ in 0..MAX_ROWS / (MAX_ATTRIBUTES + 1) {
-        add_with_attributes(&mut store, MAX_ATTRIBUTES);
+    for left in (1..=rows).rev().step_by(MAX_ATTRIBUTES + 1) {
+        add_with_attributes(&mut store, MAX_ATTRIBUTES.min(left - 1));
     }
-    add_with_attributes(&mut store, 0);
     store
 }
 
 /// A document of the first definition with rows for the first so many attributes.
 fn add_with_attributes(store: &mut Store, count: usize) {
-    assert!(add_document(store, 0), "there is room for it");
-    let document = store.documents.last_mut().expect("the new one");
+    let mut document = filling(store, 0, MAX_ROWS).expect("there is room for it");
     for (attribute, declared) in store.form.attributes.iter().enumerate().take(count) {
         document.attributes.push(AttributeRow {
             attribute,
@@ -294,19 +318,23 @@ fn add_with_attributes(store: &mut Store, count: usize) {
         });
         store.next_serial += 1;
     }
+    store.documents.push(document);
 }
 
 /// All of them.
 pub fn all() -> Vec<Worst> {
     let nested = |last| deepest_form(vec![member(1)], Padding::Lists, last);
     let others = [
-        ("nested definitions, full", fill(nested(Kind::Empty))),
+        (
+            "nested definitions, full",
+            fill(nested(Kind::Empty), MAX_ROWS),
+        ),
         (
             "nested definitions with a text",
             with_documents(nested(Kind::Pcdata), 30),
         ),
         ("63 attributes", with_documents(many_attributes(63), 62)),
-        ("64 attributes, full", fill(many_attributes(64))),
+        ("64 attributes, full", fill(many_attributes(64), MAX_ROWS)),
         // A row's check takes the square of its model's length, so these have few.
         (
             "254 particles in a model",
@@ -317,7 +345,7 @@ pub fn all() -> Vec<Worst> {
             with_documents(longest_model(0, 256), 3),
         ),
         ("4,095 children", widest()),
-        ("all ceilings", longest()),
+        ("all ceilings", longest(MAX_ROWS)),
     ];
     let others = others.map(|(name, store)| Worst::new(name, store));
     let paddings = [Padding::Lists, Padding::Choices, Padding::Siblings];

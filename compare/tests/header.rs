@@ -4,6 +4,7 @@ use compare::header;
 use compare::worst::longest;
 use formstore::{AttributeSort, Code, GroupSort, Kind, Quantifier, Refusal};
 use second::layout::encode;
+use second::store::MAX_ROWS;
 
 fn named(name: &str) -> usize {
     header::number(&format!("FORMSTORE_{name}")) as usize
@@ -83,7 +84,7 @@ fn calls() {
 /// record as if it were of the longest sort.
 #[test]
 fn longest_store_and_text() {
-    let bytes = encode(&longest());
+    let bytes = encode(&longest(MAX_ROWS));
     assert_eq!(compare::check(&bytes), 0);
     assert_eq!(bytes.len(), formstore::LONGEST);
     let mut text = vec![0; formstore::LONGEST_TEXT];

@@ -114,7 +114,7 @@ fn next_serials_at_the_end() {
 #[test]
 fn filling_of_all_rows_and_one_more() {
     let mut store = nested_form(13, 12);
-    assert_eq!(filling_rows(&store.form), 4096);
+    assert_eq!(filling_rows(&store.form)[0], 4096);
     let (answer, full) = change(&add_document(0, b""), &encode(&store));
     assert_eq!(answer, 0);
     assert_eq!(number(&add_document(12, b""), &full), 16);
@@ -144,7 +144,7 @@ fn fillings_too_large_to_make() {
     for (attributes, bits) in [(1, 60), (64, 64)] {
         let mut store = nested_form(64, 4);
         add_required(&mut store, 63, attributes);
-        assert!(filling_rows(&store.form) >> bits > 0);
+        assert!(filling_rows(&store.form)[0] >> bits > 0);
         refused_at_once(&add_document(0, b""), &encode(&store));
         store.form.definitions[0].model.truncate(1);
         store.form.definitions[0].model[0].quantifier = Quantifier::Star;

@@ -236,7 +236,7 @@ fn cut_and_gain_of_a_full_store() {
 #[test]
 fn fillings_too_large_to_make() {
     let mut store = nested_form(64, 4);
-    assert!(filling_rows(&store.form) >> 56 > 0);
+    assert!(filling_rows(&store.form)[0] >> 56 > 0);
     let models = [vec![], vec![member(1)], vec![group(member(1))]];
     for (at, model) in models.into_iter().enumerate() {
         let place = [model.len() as u32];

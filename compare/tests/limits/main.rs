@@ -6,7 +6,7 @@ mod documents;
 mod forms;
 
 use compare::agreed;
-use compare::worst::{add_required, group, member, nested_form};
+use compare::worst::{add_required, filling_rows, group, member, nested_form};
 use second::layout::encode;
 use second::random::history::LONGEST;
 use second::store::*;
@@ -65,21 +65,6 @@ fn judge_values(store: &[u8], calls: impl Fn(&[u8]) -> Vec<Call>) {
     for length in 0..=257 {
         judge(&vec![b'v'; length], length <= 32);
     }
-}
-
-/// How many rows the filling of the first definition of a nested form has.
-fn filling_rows(form: &Form) -> u128 {
-    let mut rows = vec![0; form.definitions.len()];
-    for index in (0..rows.len()).rev() {
-        let own = form.attributes.iter().filter(|own| own.owner == index);
-        rows[index] = 1 + own.count() as u128;
-        for particle in &form.definitions[index].model {
-            if let Term::Element(member) = particle.term {
-                rows[index] += rows[member];
-            }
-        }
-    }
-    rows[0]
 }
 
 /// The library alone answers 16 within a second, and both agree.

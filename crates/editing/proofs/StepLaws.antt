@@ -139,7 +139,8 @@ module _ {w : ℕ} (p : Plan) (v : Bytes) (fill : ℕ → List (Deep FlatRow)) (
         }
 
     -- nothing is due right below
-    pub came-still : {c r : Cursor} {out out′ : Bytes} → b ≡ false → (o .due && isBelow o (bare h)) ≡ false → Written w (keptRow p v (readRow row) ∷ []) c out r out′ → (k : Open) → k ≡ kept p o (bare h)
+    pub came-still : {c r : Cursor} {out out′ : Bytes} → b ≡ false → (o .due && isBelow o (bare h)) ≡ false
+        → Written w (keptRow p v (readRow row) ∷ []) c out r out′ → (k : Open) → k ≡ kept p o (bare h)
         → Came w (emitted p v fill o (readRow row)) (onward p v fill o (readRow row)) c out (record { cursor = r; opened = k }) out′
     came-still q n x k g =
         let none : false ≡ isFilled p o (bare h) = sym (ap (λ (z : Bool). z && (isLater (p .marks) (p .later) (bare h .row) && not (spared p (bare h .row)))) n) in

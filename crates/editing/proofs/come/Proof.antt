@@ -25,7 +25,9 @@ is-below-requires : tie.Need-is-below-requires
 is-below-requires c κs = search needs
 
 come-due-requires : tie.Need-come-due-requires
-come-due-requires c κs = let s = c .before .before .before .before .before .before .before .before .before .before .before .before in (s .pre .0, s .pre .1, s .pre .2, sym (c .before .before .before .before .before .is-taken .ensures) ∙ c .before .before .before .before .if1 .left)
+come-due-requires c κs =
+    let s = c .before .before .before .before .before .before .before .before .before .before .before .before in
+    (s .pre .0, s .pre .1, s .pre .2, sym (c .before .before .before .before .before .is-taken .ensures) ∙ c .before .before .before .before .if1 .left)
 
 same-length : tie.Need-same-length
 same-length c = search needs
@@ -37,7 +39,9 @@ moved-index-requires : tie.Need-moved-index-requires
 moved-index-requires c κs = let s = c .before .before .before .before .before .before .before .before .before .before .before in (s .pre .0 .plan, s .pre .1 .fair)
 
 put-row-requires : tie.Need-put-row-requires
-put-row-requires c κs = let s = c .before .before .before .before .before .before .before .before .before .before .before .before .before .before .before in (s .pre .0 .width, c .before .before .before .moved-index .ensures .1, s .pre .0 .text, s .pre .1 .old, s .pre .2)
+put-row-requires c κs =
+    let s = c .before .before .before .before .before .before .before .before .before .before .before .before .before .before .before in
+    (s .pre .0 .width, c .before .before .before .moved-index .ensures .1, s .pre .0 .text, s .pre .1 .old, s .pre .2)
 
 kept-requires : tie.Need-kept-requires
 kept-requires c κs =
@@ -53,7 +57,8 @@ returns-3 c =
     let s = c .before .before .before .before .before .before .before .before .before .before .before .before .before .before .before .before .before .before .before in
     let a = s .args in
     came-still (a .p) (a .text .now) (fillOf (a .version) (a .w) (a .n) (a .defs .now) (a .parts .now) (a .a) (a .attrs .now) (a .p) (a .text .now)) (a .o) (a .h) (a .row .now) (s .pre .1) _
-    (c .before .before .before .before .before .before .before .before .before .before .before .before .is-taken .ensures) (c .before .before .before .before .before .before .before .before .before .before .before .if1 .left)
+    (c .before .before .before .before .before .before .before .before .before .before .before .before .is-taken .ensures)
+    (c .before .before .before .before .before .before .before .before .before .before .before .if1 .left)
     (ap (λ (z : Bool). a .o .due && z) (sym (c .before .before .before .before .before .before .before .before .before .before .is-below .ensures)) ∙ c .before .before .before .before .before .before .before .before .if2 .left)
     (row-kept (a .p) (a .text .now) (a .h) (a .row .now) (s .pre .1) _ (c .before .before .before .before .before .before .before .moved-index .ensures .0) (c .before .before .before .put-row .ensures)) _ (c .kept .ensures)
 

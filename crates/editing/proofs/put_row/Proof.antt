@@ -11,7 +11,9 @@ same-length : tie.Need-same-length
 same-length c = search needs
 
 returns : tie.Need-returns
-returns c = let a = c .before .before .before .before .before .before .before .before .args in with-value (a .index) (a .text .now) (a .row .now) (c .before .before .before .before .if1 .taken) (c .before .before .put-valued .ensures)
+returns c =
+    let a = c .before .before .before .before .before .before .before .before .args in
+    with-value (a .index) (a .text .now) (a .row .now) (c .before .before .before .before .if1 .taken) (c .before .before .put-valued .ensures)
 
 put-kept-requires : tie.Need-put-kept-requires
 put-kept-requires c κs = search needs
@@ -20,7 +22,9 @@ same-length-2 : tie.Need-same-length-2
 same-length-2 c = search needs
 
 returns-2 : tie.Need-returns-2
-returns-2 c = let a = c .before .before .before .before .before .before .before .before .args in with-own (a .index) (a .text .now) (a .row .now) (c .before .before .before .before .if1 .left) (c .before .before .put-kept .ensures)
+returns-2 c =
+    let a = c .before .before .before .before .before .before .before .before .args in
+    with-own (a .index) (a .text .now) (a .row .now) (c .before .before .before .before .if1 .left) (c .before .before .put-kept .ensures)
 
 pub put-row-spec : {M : Type 1} → statement M
 put-row-spec =

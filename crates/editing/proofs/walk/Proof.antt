@@ -95,7 +95,9 @@ same-length-2 : tie.Need-same-length-2 Inv-loop μ-loop
 same-length-2 c = c .before .before .put-filling .ensures .long ∙ c .before .before .before .before .before .before .before .loop .inv .long
 
 returns-2 : tie.Need-returns-2 Inv-loop μ-loop
-returns-2 c = going-end (c .before .before .before .before .before .before .before .loop .inv) (omega arith) _ (c .before .before .before .before .before .minus .ensures) (owed-put (c .before .before .before .before .if2 .taken) (c .before .before .put-filling .ensures))
+returns-2 c =
+    going-end (c .before .before .before .before .before .before .before .loop .inv) (omega arith) _ (c .before .before .before .before .before .minus .ensures)
+    (owed-put (c .before .before .before .before .if2 .taken) (c .before .before .put-filling .ensures))
 
 same-length-3 : tie.Need-same-length-3 Inv-loop μ-loop
 same-length-3 c = c .before .before .before .loop .inv .long

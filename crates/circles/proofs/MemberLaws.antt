@@ -17,7 +17,8 @@ use Rattle.codec.specs.Part.{partOf}
 use Rattle.circles.specs.Members.{countAt, startAt, modelPart, elementsOf, membersIn}
 use Rattle.circles.specs.Deep.{marked, firstPasses}
 
-pub elements-more : (t : Bytes) → particleSize ≤ length t → elementsOf t ≡ elim (eqb (readParticle t .row .sort) 0) [ true ↦ readParticle t .row .index ∷ elementsOf (drop particleSize t) | false ↦ elementsOf (drop particleSize t) ]
+pub elements-more : (t : Bytes) → particleSize ≤ length t
+    → elementsOf t ≡ elim (eqb (readParticle t .row .sort) 0) [ true ↦ readParticle t .row .index ∷ elementsOf (drop particleSize t) | false ↦ elementsOf (drop particleSize t) ]
 unfolding elementsOf
 elements-more [] h = absurd (omega arith)
 elements-more (a ∷ []) h = absurd (omega arith)
@@ -36,7 +37,8 @@ elements-few (a ∷ b ∷ c ∷ e ∷ t) h = absurd (omega arith)
 all-more : (p : ℕ → Bool) (t : Bytes) → particleSize ≤ length t → all p (elementsOf t) ≡ (firstPasses p t && all p (elementsOf (drop particleSize t)))
 all-more p t h = ap (λ (l : List ℕ). all p l) (elements-more t h) ∙ by (eqb (readParticle t .row .sort) 0)
   where
-    by : (b : Bool) → all p (elim b [ true ↦ readParticle t .row .index ∷ elementsOf (drop particleSize t) | false ↦ elementsOf (drop particleSize t) ]) ≡ (elim b [ true ↦ p (readParticle t .row .index) | false ↦ true ] && all p (elementsOf (drop particleSize t)))
+    by : (b : Bool) → all p (elim b [ true ↦ readParticle t .row .index ∷ elementsOf (drop particleSize t) | false ↦ elementsOf (drop particleSize t) ])
+        ≡ (elim b [ true ↦ p (readParticle t .row .index) | false ↦ true ] && all p (elementsOf (drop particleSize t)))
     by true = refl
     by false = refl
 
@@ -74,6 +76,7 @@ pub starts-more : {defs : Bytes} {start i : ℕ} (c : ℕ) → Starts defs start
 unfolding startAt
 starts-more {defs} {start} {i} c s e h = record { is = rw (add-one i) (rw (s .is, e)); small = omega (arith, s .small) }
 
-pub model-members : (defs parts : Bytes) (i start c : ℕ) (model : Bytes) → Starts defs start i → c ≡ countAt defs i → model ≡ partOf (particleSize * start) (particleSize * c) parts → elementsOf model ≡ membersIn defs parts i
+pub model-members : (defs parts : Bytes) (i start c : ℕ) (model : Bytes) → Starts defs start i → c ≡ countAt defs i → model ≡ partOf (particleSize * start) (particleSize * c) parts
+    → elementsOf model ≡ membersIn defs parts i
 unfolding modelPart membersIn
 model-members defs parts i start c model s e m = rw (m, s .is, e)

@@ -153,7 +153,8 @@ elements-read (suc k) (a ∷ b ∷ c ∷ []) e = absurd (omega arith)
 elements-read (suc k) (a ∷ b ∷ c ∷ d ∷ t) e = by (eqb a 0) (elements-read k t (omega arith))
   where
     by : (x : Bool) → elementsOf t ≡ elementsIn (readMany readParticle particleSize k t)
-        → _≡_ {A = List ℕ} (elim x [ true ↦ c ∷ elementsOf t | false ↦ elementsOf t ]) (elim x [ true ↦ c ∷ elementsIn (readMany readParticle particleSize k t) | false ↦ elementsIn (readMany readParticle particleSize k t) ])
+        → _≡_ {A = List ℕ} (elim x [ true ↦ c ∷ elementsOf t | false ↦ elementsOf t ])
+        (elim x [ true ↦ c ∷ elementsIn (readMany readParticle particleSize k t) | false ↦ elementsIn (readMany readParticle particleSize k t) ])
     by true q = ap (λ (l : List ℕ). c ∷ l) q
     by false q = q
 
@@ -180,10 +181,12 @@ model-read (suc n) zero defs ps l = ap (λ (c : ℕ). take c ps) (count-first de
 model-read (suc n) (suc i) defs ps l =
     ap (λ (c : ℕ). modelAt i (readMany readDefinition definitionSize n (drop definitionSize defs)) (drop c ps)) (count-first defs)
     ∙ model-read n i (drop definitionSize defs) (drop (countAt defs 0) ps) (le-of-suc-le-suc l)
-    ∙ ap₂ (λ (c : ℕ) (l : List (Deep FlatParticle)). take c l) (count-after defs i) (drop-drop (startAt (drop definitionSize defs) i) (countAt defs 0) ps ∙ ap (λ (k : ℕ). drop k ps) (start-after defs i))
+    ∙ ap₂ (λ (c : ℕ) (l : List (Deep FlatParticle)). take c l) (count-after defs i)
+    (drop-drop (startAt (drop definitionSize defs) i) (countAt defs 0) ps ∙ ap (λ (k : ℕ). drop k ps) (start-after defs i))
 
 -- the bytes of c particles, s after the first, of p that are there
-part-elements : (parts : Bytes) (p s c : ℕ) → particleSize * p ≤ length parts → s + c ≤ p → elementsOf (partOf (particleSize * s) (particleSize * c) parts) ≡ elementsIn (take c (drop s (readMany readParticle particleSize p parts)))
+part-elements : (parts : Bytes) (p s c : ℕ) → particleSize * p ≤ length parts → s + c ≤ p → elementsOf (partOf (particleSize * s) (particleSize * c) parts)
+    ≡ elementsIn (take c (drop s (readMany readParticle particleSize p parts)))
 part-elements parts p s c long room =
     ap elementsOf (part-there (particleSize * s) (particleSize * c) parts (omega arith))
     ∙ elements-read c (take (particleSize * c) (drop (particleSize * s) parts)) (omega (arith, length-take (particleSize * c) (drop (particleSize * s) parts), length-drop (particleSize * s) parts))

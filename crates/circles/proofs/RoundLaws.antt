@@ -49,7 +49,8 @@ pub rounding-starts : (n : ℕ) (defs parts : Bytes) (h : ℕ) (old : Bytes) →
 rounding-starts n defs parts h old = record { done = λ k l. absurd (not-suc-le-zero l); rest = λ k l. zeros 64 k; long = length-replicate {A = ℕ} 64 0; starts = starts-none defs; low = omega arith }
 
 module _ {n : ℕ} {defs parts : Bytes} {h : ℕ} {old new : Bytes} {start i : ℕ} (r : Rounding n defs parts h old new start i) where
-  pub rounding-on : (c v : ℕ) (model : Bytes) → i < n → n ≤ 64 → c ≡ countAt defs i → c ≤ 4294967295 → model ≡ partOf (particleSize * start) (particleSize * c) parts → v ≡ raisedTo h (getD old i 0) (all (marked old) (elementsOf model)) → Rounding n defs parts h old (set new i v) (start + c) (i + 1)
+  pub rounding-on : (c v : ℕ) (model : Bytes) → i < n → n ≤ 64 → c ≡ countAt defs i → c ≤ 4294967295 → model ≡ partOf (particleSize * start) (particleSize * c) parts
+      → v ≡ raisedTo h (getD old i 0) (all (marked old) (elementsOf model)) → Rounding n defs parts h old (set new i v) (start + c) (i + 1)
   rounding-on c v model l m ec small em ev =
       record {
         done = λ k q. done k (omega arith);

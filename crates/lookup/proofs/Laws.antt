@@ -206,7 +206,8 @@ value-there bs i v e =
     let n : ℕ = getD (rowPart bs i) 8 0 in
     let x : Bytes = drop (rowStart bs + rowSize (widthOf bs) * i) bs in
     let q : v ≡ take n (drop valueOffset (take (rowSize (widthOf bs)) x)) = e ∙ ap (λ (l : Bytes). take n (drop valueOffset l)) (sym (row-place bs i)) in
-    let p : drop (valueStart (widthOf bs) (bodiesOf bs) i) bs ≡ drop valueOffset x = ap (λ (k : ℕ). drop k bs) (value-start bs i) ∙ sym (drop-drop valueOffset (rowStart bs + rowSize (widthOf bs) * i) bs) in
+    let p : drop (valueStart (widthOf bs) (bodiesOf bs) i) bs ≡ drop valueOffset x = ap (λ (k : ℕ). drop k bs) (value-start bs i) ∙ sym
+    (drop-drop valueOffset (rowStart bs + rowSize (widthOf bs) * i) bs) in
     ap₂ (λ (l m : Bytes). take (length l) m) q p ∙ take-inside valueOffset n (rowSize (widthOf bs)) x ∙ sym q
 
 -- the part that is handed back is the value of the row with the serial

@@ -77,7 +77,8 @@ module _ (bs : Bytes) (i : ℕ) (p : Bytes) (at-i : p ≡ attributePart bs i) (s
       → Laid (ascii "#FIXED \"") out at a₁ o₁ → Laid (escape v) o₁ a₁ a₂ o₂ → Laid (ascii "\"") o₂ a₂ r o → LaidWithin 2000 (defaultText here) out at r o
   default-fixed v x y w l m g =
       record {
-        laid = laid-as (default-is fixed (sort-fixed sort x y) ∙ ap (λ (z : Bytes). ascii "#FIXED \"" ++ (escape z ++ (ascii "\"" ++ []))) (sym (value-here v w))) (laid-then l (laid-then m (laid-then g laid-none)));
+        laid = laid-as (default-is fixed (sort-fixed sort x y) ∙ ap (λ (z : Bytes). ascii "#FIXED \"" ++ (escape z ++ (ascii "\"" ++ []))) (sym (value-here v w)))
+            (laid-then l (laid-then m (laid-then g laid-none)));
         small = omega (arith, l .next, m .next, g .next, escape-length v, default-short v w);
       }
 

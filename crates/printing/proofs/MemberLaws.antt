@@ -69,7 +69,9 @@ module _ (bs : Bytes) (end i depth kind : ℕ) (first : Bool) (p : Bytes) (at-i 
       }
     where
       same : nameAt (here .index) (namesOf bs) ++ (markOf (quantifierOf (here .quantifier)) ++ []) ≡ w ++ (markOf (quantifierOf q) ++ [])
-      same = ap₂ (λ (a : Bytes) (k : ℕ). a ++ (markOf (quantifierOf k) ++ [])) (sym (n .name-is ∙ ap (λ (k : ℕ). nameAt k (namesOf bs)) (e ∙ ap (λ (l : Bytes). readParticle l .row .index) at-i))) (sym (mark-here))
+      same =
+          ap₂ (λ (a : Bytes) (k : ℕ). a ++ (markOf (quantifierOf k) ++ []))
+          (sym (n .name-is ∙ ap (λ (k : ℕ). nameAt k (namesOf bs)) (e ∙ ap (λ (l : Bytes). readParticle l .row .index) at-i))) (sym mark-here)
 
   pub group-stepped : {a₂ a₃ a₄ a₅ next : ℕ} {o₂ o₃ o₄ o₅ : Bytes} → (sort ≡ 0 → ⊥) → Laid (ascii "(") o₁ a₁ a₂ o₂ → Passed (particlesFrom bs end) (membersText (namesOf bs) (groupOf sort) true) end (i + 1) (depth + 1) a₂ o₂ next a₃ o₃
       → Laid (ascii ")") o₃ a₃ a₄ o₄ → Laid (markOf (quantifierOf q)) o₄ a₄ a₅ o₅
@@ -86,4 +88,4 @@ module _ (bs : Bytes) (end i depth kind : ℕ) (first : Bool) (p : Bytes) (at-i 
       same : ascii "(" ++ (membersText (namesOf bs) (groupOf (here .sort)) true below ++ (ascii ")" ++ (markOf (quantifierOf (here .quantifier)) ++ [])))
           ≡ ascii "(" ++ (membersText (namesOf bs) (groupOf sort) true (build (particlesFrom bs end (i + 1)) (depth + 1)) ++ (ascii ")" ++ (markOf (quantifierOf q) ++ [])))
       same =
-          λ k. ascii "(" ++ (membersText (namesOf bs) (groupOf (sym sort-here k)) true (build (particlesFrom bs end (i + 1)) (sym (add-one depth) k)) ++ (ascii ")" ++ (markOf (quantifierOf (sym (mark-here) k)) ++ [])))
+          λ k. ascii "(" ++ (membersText (namesOf bs) (groupOf (sym sort-here k)) true (build (particlesFrom bs end (i + 1)) (sym (add-one depth) k)) ++ (ascii ")" ++ (markOf (quantifierOf (sym mark-here k)) ++ [])))

@@ -20,7 +20,8 @@ byte-requires : tie.Need-byte-requires
 byte-requires c κs = search needs
 
 returns-2 : tie.Need-returns-2
-returns-2 c = first-element (c .before .before .before .before .before .before .args .old .now) _ _ (c .before .before .before .before .particle-sort .ensures) _ _ _ (c .before .before .before .if1 .left) (c .before .before .particle-index .ensures) (c .byte .ensures)
+returns-2 c = first-element (c .before .before .before .before .before .before .args .old .now) _ _ (c .before .before .before .before .particle-sort .ensures) _ _ _
+    (c .before .before .before .if1 .left) (c .before .before .particle-index .ensures) (c .byte .ensures)
 
 pub first-passes-spec : {M : Type 1} → statement M
 first-passes-spec =

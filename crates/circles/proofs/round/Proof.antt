@@ -43,7 +43,8 @@ loop-less : tie.Need-loop-less Inv-loop μ-loop
 loop-less c = search needs
 
 loop-again : tie.Need-loop-again Inv-loop μ-loop
-loop-again c = rounding-on (c .before .before .before .before .before .loop .inv) _ _ _ (omega arith) (omega arith) (c .before .before .before .definition-particles-at .ensures) (omega arith) (c .before .before .particles-part .ensures) (c .raised .ensures)
+loop-again c = rounding-on (c .before .before .before .before .before .loop .inv) _ _ _ (omega arith) (omega arith) (c .before .before .before .definition-particles-at .ensures) (omega arith)
+    (c .before .before .particles-part .ensures) (c .raised .ensures)
 
 returns : tie.Need-returns Inv-loop μ-loop
 returns c = rounding-ends (c .before .loop .inv) (omega arith)

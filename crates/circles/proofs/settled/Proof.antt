@@ -49,7 +49,8 @@ loop-less c = let l = c .before .before .before .before in
 loop-again : tie.Need-loop-again Inv-loop μ-loop
 loop-again c = let l = c .before .before .before .before in
     let a = l .before .before .before .args in
-    settle-on (marked (a .old .now)) _ (l .loop .t .now) _ (l .before .particle-size .ensures) (l .loop .inv) (omega arith) _ (c .before .before .first-passes .ensures) (not-false _ (c .before .if1 .left))
+    settle-on (marked (a .old .now)) _ (l .loop .t .now) _ (l .before .particle-size .ensures) (l .loop .inv) (omega arith) _ (c .before .before .first-passes .ensures)
+    (not-false _ (c .before .if1 .left))
 
 returns-2 : tie.Need-returns-2 Inv-loop μ-loop
 returns-2 c = let l = c .before in

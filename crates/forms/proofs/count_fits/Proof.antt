@@ -17,11 +17,13 @@ particle-index-at-requires c κs = search needs
 
 returns : tie.Need-returns
 returns c = let a = c .before .before .before .before .before .args in
-    count-element (a .n) (particleAt (a .i) (a .parts .now) .row) (a .below) (c .before .before .before .particle-sort-at .ensures) (c .before .before .particle-quantifier-at .ensures) (c .before .particle-index-at .ensures) (c .if1 .taken)
+    count-element (a .n) (particleAt (a .i) (a .parts .now) .row) (a .below) (c .before .before .before .particle-sort-at .ensures) (c .before .before .particle-quantifier-at .ensures)
+    (c .before .particle-index-at .ensures) (c .if1 .taken)
 
 returns-2 : tie.Need-returns-2
 returns-2 c = let a = c .before .before .before .before .before .args in
-    count-group (a .n) (particleAt (a .i) (a .parts .now) .row) (a .below) (c .before .before .before .particle-sort-at .ensures) (c .before .before .particle-quantifier-at .ensures) (c .before .particle-index-at .ensures) (c .if1 .left)
+    count-group (a .n) (particleAt (a .i) (a .parts .now) .row) (a .below) (c .before .before .before .particle-sort-at .ensures) (c .before .before .particle-quantifier-at .ensures)
+    (c .before .particle-index-at .ensures) (c .if1 .left)
 
 pub count-fits-spec : {M : Type 1} → statement M
 count-fits-spec =

@@ -34,7 +34,12 @@ particle-depth-at-requires c κs = search needs
 
 add-d : tie.Need-add-d Inv-loop μ-loop
 add-d c = let a = c .before .before .before .before .before .before .args in
-    omega (arith, c .particle-depth-at .ensures, stands-depth (a .n) (c .before .before .before .before .loop .d) (particleAt (c .before .before .before .before .loop .i) (a .parts .now)) (drop (c .before .before .before .before .loop .i + 1) (particles (a .m) (a .parts .now))) (c .before .before .particle-stands .ensures) (c .before .if1 .left))
+    omega (
+      arith,
+      c .particle-depth-at .ensures,
+      stands-depth (a .n) (c .before .before .before .before .loop .d) (particleAt (c .before .before .before .before .loop .i) (a .parts .now))
+          (drop (c .before .before .before .before .loop .i + 1) (particles (a .m) (a .parts .now))) (c .before .before .particle-stands .ensures) (c .before .if1 .left),
+    )
 
 add-i : tie.Need-add-i Inv-loop μ-loop
 add-i c = omega arith
@@ -44,7 +49,8 @@ loop-less c = omega arith
 
 loop-again : tie.Need-loop-again Inv-loop μ-loop
 loop-again c = let a = c .before .before .before .before .before .before .args in
-    walks-on (a .n) (c .before .before .before .before .loop .d) (particles-from (c .before .before .before .before .loop .i) (a .m) (a .parts .now) (omega arith)) (c .before .before .particle-stands .ensures) (c .before .if1 .left) (c .particle-depth-at .ensures) ∙ c .before .before .before .before .loop .inv
+    walks-on (a .n) (c .before .before .before .before .loop .d) (particles-from (c .before .before .before .before .loop .i) (a .m) (a .parts .now) (omega arith))
+    (c .before .before .particle-stands .ensures) (c .before .if1 .left) (c .particle-depth-at .ensures) ∙ c .before .before .before .before .loop .inv
 
 returns-2 : tie.Need-returns-2 Inv-loop μ-loop
 returns-2 c = let a = c .before .before .before .args in

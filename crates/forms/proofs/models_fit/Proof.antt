@@ -34,7 +34,8 @@ returns : tie.Need-returns Inv-loop μ-loop
 returns c = let a = c .before .before .before .before .before .before .args in
     let l = c .before .before .before .loop in
     let ps = particles (a .p) (a .parts .now) in
-    sym (models-short (a .n) (a .p) (l .at) ps (particles-length (a .p) (a .parts .now)) (definitions-from (l .i) (a .n) (a .defs .now) (omega arith)) (c .before .definition-particles-at .ensures) (c .if1 .taken)) ∙ l .inv .1
+    sym (models-short (a .n) (a .p) (l .at) ps (particles-length (a .p) (a .parts .now)) (definitions-from (l .i) (a .n) (a .defs .now) (omega arith))
+    (c .before .definition-particles-at .ensures) (c .if1 .taken)) ∙ l .inv .1
 
 particles-part-requires : tie.Need-particles-part-requires Inv-loop μ-loop
 particles-part-requires c κs = (omega arith, omega arith)
@@ -47,8 +48,10 @@ returns-2 c = let a = c .before .before .before .before .before .before .before 
     let l = c .before .before .before .before .before .before .loop in
     let k = c .before .before .before .before .definition-particles-at .result in
     let ps = particles (a .p) (a .parts .now) in
-    let fits = part-fits (a .n) (l .at) k (a .p) (a .parts .now) (c .before .before .particles-part .ensures) (c .before .model-fits .ensures) (omega arith) (c .before .before .before .before .before .before .before .before .before .pre .1 .whole) in
-    sym (models-off (a .n) (a .p) (l .at) ps (particles-length (a .p) (a .parts .now)) (definitions-from (l .i) (a .n) (a .defs .now) (omega arith)) (c .before .before .before .before .definition-particles-at .ensures) (c .before .before .before .if1 .left) fits (c .if2 .taken)) ∙ l .inv .1
+    let fits = part-fits (a .n) (l .at) k (a .p) (a .parts .now) (c .before .before .particles-part .ensures) (c .before .model-fits .ensures) (omega arith)
+    (c .before .before .before .before .before .before .before .before .before .pre .1 .whole) in
+    sym (models-off (a .n) (a .p) (l .at) ps (particles-length (a .p) (a .parts .now)) (definitions-from (l .i) (a .n) (a .defs .now) (omega arith))
+    (c .before .before .before .before .definition-particles-at .ensures) (c .before .before .before .if1 .left) fits (c .if2 .taken)) ∙ l .inv .1
 
 add-at : tie.Need-add-at Inv-loop μ-loop
 add-at c = omega arith
@@ -64,8 +67,12 @@ loop-again c = let a = c .before .before .before .before .before .before .before
     let l = c .before .before .before .before .before .before .loop in
     let k = c .before .before .before .before .definition-particles-at .result in
     let ps = particles (a .p) (a .parts .now) in
-    let fits = part-fits (a .n) (l .at) k (a .p) (a .parts .now) (c .before .before .particles-part .ensures) (c .before .model-fits .ensures) (omega arith) (c .before .before .before .before .before .before .before .before .before .pre .1 .whole) in
-    (omega arith, models-on (a .n) (a .p) (l .at) ps (particles-length (a .p) (a .parts .now)) (definitions-from (l .i) (a .n) (a .defs .now) (omega arith)) (c .before .before .before .before .definition-particles-at .ensures) (c .before .before .before .if1 .left) fits (c .if2 .left) ∙ l .inv .1)
+    let fits = part-fits (a .n) (l .at) k (a .p) (a .parts .now) (c .before .before .particles-part .ensures) (c .before .model-fits .ensures) (omega arith)
+    (c .before .before .before .before .before .before .before .before .before .pre .1 .whole) in (
+      omega arith,
+      models-on (a .n) (a .p) (l .at) ps (particles-length (a .p) (a .parts .now)) (definitions-from (l .i) (a .n) (a .defs .now) (omega arith))
+          (c .before .before .before .before .definition-particles-at .ensures) (c .before .before .before .if1 .left) fits (c .if2 .left) ∙ l .inv .1,
+    )
 
 returns-3 : tie.Need-returns-3 Inv-loop μ-loop
 returns-3 c = let a = c .before .before .before .before .args in

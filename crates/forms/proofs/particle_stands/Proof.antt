@@ -18,7 +18,8 @@ returns c = let a = c .before .before .before .args in
 
 returns-2 : tie.Need-returns-2
 returns-2 c = let a = c .before .before .before .before .args in
-    sym (stands-far (a .n) (a .d) (particleAt (a .i) (a .parts .now)) (drop (a .i + 1) (particles (a .m) (a .parts .now))) (c .before .before .particle-depth-at .ensures) (c .before .if1 .left) (c .if2 .taken))
+    sym (stands-far (a .n) (a .d) (particleAt (a .i) (a .parts .now)) (drop (a .i + 1) (particles (a .m) (a .parts .now))) (c .before .before .particle-depth-at .ensures) (c .before .if1 .left)
+    (c .if2 .taken))
 
 add-members : tie.Need-add-members
 add-members c = search needs
@@ -37,7 +38,8 @@ element-again-requires c κs = search needs
 
 returns-3 : tie.Need-returns-3
 returns-3 c = let a = c .before .before .before .before .before .before .before .args in
-    stands-by (a .n) (a .d) (particleAt (a .i) (a .parts .now)) (drop (a .i + 1) (particles (a .m) (a .parts .now))) (c .before .before .before .before .before .particle-depth-at .ensures) (c .before .before .before .before .if1 .left) (c .before .before .before .if2 .left) (c .before .before .members .ensures) (c .before .count-fits .ensures) (c .element-again .ensures)
+    stands-by (a .n) (a .d) (particleAt (a .i) (a .parts .now)) (drop (a .i + 1) (particles (a .m) (a .parts .now))) (c .before .before .before .before .before .particle-depth-at .ensures)
+    (c .before .before .before .before .if1 .left) (c .before .before .before .if2 .left) (c .before .before .members .ensures) (c .before .count-fits .ensures) (c .element-again .ensures)
 
 pub particle-stands-spec : {M : Type 1} → statement M
 particle-stands-spec =

@@ -31,7 +31,8 @@ particle-depth-requires c κs = search needs
 
 returns : tie.Need-returns Inv-loop μ-loop
 returns c = let l = c .before .before .before .before in let a = l .before .before .args in
-    let d : c .before .particle-depth .result ≡ readParticle (particlePart (a .store .now) (l .loop .i)) .depth = c .before .particle-depth .ensures ∙ ap (λ (b : List ℕ). readParticle b .depth) (c .before .before .particle .ensures) in
+    let d : c .before .particle-depth .result ≡ readParticle (particlePart (a .store .now) (l .loop .i)) .depth =
+    c .before .particle-depth .ensures ∙ ap (λ (b : List ℕ). readParticle b .depth) (c .before .before .particle .ensures) in
     let e = ap (λ (xs : List (Deep FlatParticle)). build xs 0) (particle-step (a .store .now) (a .end) (l .loop .i) (omega arith)) in
     sym (ap isTree (e ∙ build-here (readParticle (particlePart (a .store .now) (l .loop .i))) (particlesFrom (a .store .now) (a .end) (l .loop .i + 1)) 0 (sym d ∙ c .if1 .taken))) ∙ l .loop .inv
 
@@ -43,7 +44,8 @@ loop-less c = search needs
 
 loop-again : tie.Need-loop-again Inv-loop μ-loop
 loop-again c = let l = c .before .before .before .before in let a = l .before .before .args in
-    let d : c .before .particle-depth .result ≡ readParticle (particlePart (a .store .now) (l .loop .i)) .depth = c .before .particle-depth .ensures ∙ ap (λ (b : List ℕ). readParticle b .depth) (c .before .before .particle .ensures) in
+    let d : c .before .particle-depth .result ≡ readParticle (particlePart (a .store .now) (l .loop .i)) .depth =
+    c .before .particle-depth .ensures ∙ ap (λ (b : List ℕ). readParticle b .depth) (c .before .before .particle .ensures) in
     let e = ap (λ (xs : List (Deep FlatParticle)). build xs 0) (particle-step (a .store .now) (a .end) (l .loop .i) (omega arith)) in
     sym (ap isTree (e ∙ build-deeper (readParticle (particlePart (a .store .now) (l .loop .i))) (particlesFrom (a .store .now) (a .end) (l .loop .i + 1)) 0 (omega (arith, c .if1 .left)))) ∙ l .loop .inv
 

@@ -48,13 +48,25 @@ put-escaped-requires : tie.Need-put-escaped-requires
 put-escaped-requires c κs = let at-value = c .before .before .before .before .before .before in
     let at-sort = at-value .before .before .before in
     let start = at-sort .before .before .before .before in
-    omega (arith, default-short (start .args .store .now) (start .args .i) _ (at-sort .before .attribute .ensures) _ (at-sort .attribute-sort .ensures) _ (at-value .attribute-value .ensures), c .before .before .before .put3 .ensures .next, start .pre .1)
+    omega (
+      arith,
+      default-short (start .args .store .now) (start .args .i) _ (at-sort .before .attribute .ensures) _ (at-sort .attribute-sort .ensures) _ (at-value .attribute-value .ensures),
+      c .before .before .before .put3 .ensures .next,
+      start .pre .1,
+    )
 
 put-u8-requires : tie.Need-put-u8-requires
 put-u8-requires c κs = let at-value = c .before .before .before .before .before .before .before .before .before .before in
     let at-sort = at-value .before .before .before in
     let start = at-sort .before .before .before .before in
-    omega (arith, default-short (start .args .store .now) (start .args .i) _ (at-sort .before .attribute .ensures) _ (at-sort .attribute-sort .ensures) _ (at-value .attribute-value .ensures), escape-length (at-value .attribute-value .result .now), c .before .before .before .put-escaped .ensures .next, c .before .before .before .before .before .before .before .put3 .ensures .next, start .pre .1)
+    omega (
+      arith,
+      default-short (start .args .store .now) (start .args .i) _ (at-sort .before .attribute .ensures) _ (at-sort .attribute-sort .ensures) _ (at-value .attribute-value .ensures),
+      escape-length (at-value .attribute-value .result .now),
+      c .before .before .before .put-escaped .ensures .next,
+      c .before .before .before .before .before .before .before .put3 .ensures .next,
+      start .pre .1,
+    )
 
 same-length-3 : tie.Need-same-length-3
 same-length-3 c = search needs
@@ -64,7 +76,9 @@ returns-3 c = let at-escaped = c .before .before .before .before .before .before
     let at-value = at-escaped .before .before .before .before .before .before .before in
     let at-sort = at-value .before .before .before in
     let start = at-sort .before .before .before .before in
-    default-fixed (start .args .store .now) (start .args .i) _ (at-sort .before .attribute .ensures) _ (at-sort .attribute-sort .ensures) _ (at-value .before .before .if1 .left) (at-value .before .if2 .left) (at-value .attribute-value .ensures) (at-escaped .before .before .before .before .put3 .ensures) (at-escaped .put-escaped .ensures) (c .before .before .put-u8 .ensures)
+    default-fixed (start .args .store .now) (start .args .i) _ (at-sort .before .attribute .ensures) _ (at-sort .attribute-sort .ensures) _
+    (at-value .before .before .if1 .left) (at-value .before .if2 .left) (at-value .attribute-value .ensures) (at-escaped .before .before .before .before .put3 .ensures)
+    (at-escaped .put-escaped .ensures) (c .before .before .put-u8 .ensures)
 
 pub put-default-spec : {M : Type 1} → statement M
 put-default-spec =

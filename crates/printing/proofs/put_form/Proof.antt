@@ -43,7 +43,8 @@ loop-less c = search needs
 
 loop-again : tie.Need-loop-again Inv-loop μ-loop
 loop-again c = let l = c .before .before .before .before .before .before .before in let a = l .before .before .before .before .args in
-    declaring-on (a .store .now) _ (l .loop .inv) (omega arith) _ (c .before .definition .ensures) _ (c .definition-particles .ensures) (omega arith) (c .before .before .before .before .put-declarations .ensures)
+    declaring-on (a .store .now) _ (l .loop .inv) (omega arith) _ (c .before .definition .ensures) _ (c .definition-particles .ensures) (omega arith)
+    (c .before .before .before .before .put-declarations .ensures)
 
 same-length : tie.Need-same-length Inv-loop μ-loop
 same-length c = c .before .loop .inv .long

@@ -28,7 +28,8 @@ use Rattle.plans.specs.AttributeCalls.{attributesReplaced, attributeAdded, attr
 use Rattle.attributes.specs.Attributes.{Stands}
 
 -- ---- the form of a store that passes
-pub form-at : {bs : Bytes} → passes bs ≡ true → {start end : ℕ} → start ≡ headerSize → Begins bs end → {form : Bytes} → form ≡ take (end - start) (drop start bs) → form ≡ formBytes (widthOf bs) (bodiesOf bs)
+pub form-at : {bs : Bytes} → passes bs ≡ true → {start end : ℕ} → start ≡ headerSize → Begins bs end → {form : Bytes} → form ≡ take (end - start) (drop start bs)
+    → form ≡ formBytes (widthOf bs) (bodiesOf bs)
 form-at {bs} q h b e =
     let y : Holds bs = holds bs q in
     let x : Few (bodiesOf bs) = few-of (bodiesOf bs) (within y) in
@@ -56,7 +57,8 @@ module _ (bs : Bytes) {form : Bytes} (q : passes bs ≡ true) (e : form ≡ form
   rest-small at w = omega (arith, ap length w, length-drop at form, form-small)
 
 -- an attribute at the width that the code reads
-pub wide-attribute : {bs : Bytes} {w : ℕ} {out : Bytes} {at r : ℕ} {out′ : Bytes} → WidthIn bs w → (c : FlatAttribute) → Laid (attributeBytes w c) out at r out′ → Laid (attributeBytes (widthOf bs) c) out at r out′
+pub wide-attribute : {bs : Bytes} {w : ℕ} {out : Bytes} {at r : ℕ} {out′ : Bytes} → WidthIn bs w → (c : FlatAttribute) → Laid (attributeBytes w c) out at r out′
+    → Laid (attributeBytes (widthOf bs) c) out at r out′
 wide-attribute x c l = laid-as (ap (λ (k : ℕ). attributeBytes k c) (sym (x .value))) l
 
 -- ---- the form, cut before attribute i
@@ -97,7 +99,8 @@ module _ (w : ℕ) (f : FlatStore) (i : ℕ) where
     form-from : drop at (formBytes w f) ≡ each (attributeBytes w) (drop i (f .attributes))
     form-from = ap (drop at) form-cut ∙ drop-at front (each (attributeBytes w) (drop i (f .attributes))) at front-long
 
-module _ {w : ℕ} (f : FlatStore) (i : ℕ) {form : Bytes} {at : ℕ} (same : form ≡ formBytes w f) (s : Stands w f i at) {u out out₁ : Bytes} {r₁ : ℕ} (u-is : u ≡ take at form) (x : Laid u out 0 r₁ out₁) where
+module _ {w : ℕ} (f : FlatStore) (i : ℕ) {form : Bytes} {at : ℕ} (same : form ≡ formBytes w f) (s : Stands w f i at) {u out out₁ : Bytes} {r₁ : ℕ} (u-is : u ≡ take at form)
+    (x : Laid u out 0 r₁ out₁) where
   before-is : i ≤ length (f .attributes) → u ≡ front w f i
   before-is h = u-is ∙ ap (take at) same ∙ form-before w f i at (s .place) h
 
@@ -108,10 +111,12 @@ module _ {w : ℕ} (f : FlatStore) (i : ℕ) {form : Bytes} {at : ℕ} (same : f
       laid-as (front-then w f i (c ∷ drop i (f .attributes)) ∙ (λ j. sym (before-is h) j ++ (attributeBytes w c ++ sym e j))) (laid-then x (laid-then y z))
 
   -- past: where the next attribute stands
-  pub dropped-laid : i < length (f .attributes) → {past r₂ : ℕ} {v out₂ : Bytes} → Stands w f (i + 1) past → v ≡ drop past form → Laid v out₁ r₁ r₂ out₂ → Laid (formBytes w (attributeDropped i f)) out 0 r₂ out₂
+  pub dropped-laid : i < length (f .attributes) → {past r₂ : ℕ} {v out₂ : Bytes} → Stands w f (i + 1) past → v ≡ drop past form → Laid v out₁ r₁ r₂ out₂
+      → Laid (formBytes w (attributeDropped i f)) out 0 r₂ out₂
   dropped-laid h {past} {v = v} q v-is y =
       let e : v ≡ each (attributeBytes w) (drop (suc i) (f .attributes)) =
-      v-is ∙ ap (drop past) same ∙ form-from w f (suc i) past (q .place ∙ ap (λ (k : ℕ). definitionSize * length (f .definitions) + (particleSize * length (f .particles) + attributeSize w * k)) (add-one i)) (omega arith)
+      v-is ∙ ap (drop past) same ∙ form-from w f (suc i) past
+      (q .place ∙ ap (λ (k : ℕ). definitionSize * length (f .definitions) + (particleSize * length (f .particles) + attributeSize w * k)) (add-one i)) (omega arith)
       in
       laid-as (front-then w f i (drop (suc i) (f .attributes)) ∙ (λ j. sym (before-is (omega arith)) j ++ sym e j)) (laid-then x y)
 

@@ -5,7 +5,7 @@ use native.Mathlib.Omega.{arith}
 use native.Mathlib.Numerals.{add-one}
 use mathlib.Core.Bool.{true}
 use mathlib.Core.Path.{_≡_, refl, sym, ap, _∙_}
-use mathlib.Core.List.{List, _∷_, _++_, append-assoc}
+use mathlib.Core.List.{List, [], _∷_, _++_, append-assoc}
 use lib.ListN.{length, take, drop, length-append, length-take, length-drop, take-append-drop}
 use lib.Seq.{sets-eq, take-at, drop-at, length-take-le}
 use Rattle.rules.specs.Bytes.{Bytes}
@@ -17,12 +17,11 @@ use Rattle.codec.specs.Laid.{Laid}
 use Rattle.codec.proofs.Writers.{laid-then, laid-as}
 use Rattle.layout.specs.Bodies.{widthOf, WidthIn}
 use Rattle.layout.proofs.LayoutLaws.{width-within}
-use Rattle.layout.proofs.HeaderLaws.{attributes-short}
 use Rattle.lookup.specs.Bodies.{bodiesOf, Begins}
 use Rattle.storing.specs.Forms.{formBytes}
 use Rattle.storing.proofs.StoreLaws.{Holds, holds}
-use Rattle.storing.proofs.FormBytesLaws.{Few, few-of, few-definitions, few-particles, few-attributes, length-form}
-use Rattle.storing.proofs.FormLaws.{own-form, within, counted-definitions, counted-particles, counted-attributes}
+use Rattle.storing.proofs.FormBytesLaws.{Few, few-of, few-definitions, few-particles, few-attributes, ceilings-rows, form-short}
+use Rattle.storing.proofs.FormLaws.{bareForm, FormOf, forms-of, own-form, within, good-bodies, counted-definitions, counted-particles, counted-attributes}
 use Rattle.defining.proofs.Encoded.{each-append}
 use Rattle.plans.specs.AttributeCalls.{attributesReplaced, attributeAdded, attributeDropped}
 use Rattle.attributes.specs.Attributes.{Stands}
@@ -40,15 +39,19 @@ form-at {bs} q h b e =
 module _ (bs : Bytes) {form : Bytes} (q : passes bs ≡ true) (e : form ≡ formBytes (widthOf bs) (bodiesOf bs)) where
   form-small : length form ≤ 9728
   form-small =
-      let x : Few (bodiesOf bs) = few-of (bodiesOf bs) (within (holds bs q)) in
-      omega (
-        arith,
-        ap length e,
-        length-form (widthOf bs) (bodiesOf bs),
-        few-definitions x,
-        few-particles x,
-        attributes-short (widthOf bs) (length (bodiesOf bs .attributes)) (width-within bs) (few-attributes x),
-      )
+      let f : FlatStore = bodiesOf bs in
+      let h : Holds bs = holds bs q in
+      let x : FormOf (widthOf bs) f form (length (f .definitions)) (length (f .particles)) (length (f .attributes)) =
+      record {
+        bytes = e;
+        definitionCount = refl;
+        particleCount = refl;
+        attributeCount = refl;
+        definitions = good-bodies h .definitions;
+        attributes = good-bodies h .attributes;
+        ceilings = ceilings-rows (bareForm f) f 0 [] (within h);
+      } in
+      form-short (forms-of x) (width-within bs)
 
   pub before-small : (at : ℕ) {u : Bytes} → u ≡ take at form → length u ≤ 9728
   before-small at w = omega (arith, ap length w, length-take at form, form-small)

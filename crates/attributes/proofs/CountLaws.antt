@@ -37,14 +37,17 @@ module _ (bs : Bytes) {w : ℕ} {attrs : Bytes} (wide : WidthIn bs w) (body : at
   unfolding bodiesOf
   own-attributes = sym (attributes-read bs) ∙ (λ i. readMany readAttribute (attributeSize (sym (wide .value) i)) (attributeCount bs) (sym body i))
 
-  pub owner-is : (a : ℕ) {rec : Bytes} {x : ℕ} → a < length (bodiesOf bs .attributes) → rec ≡ recordAt (attributeSize w) a attrs → x ≡ readAttribute rec .owner → x ≡ ownerAt a (bodiesOf bs .attributes)
+  pub owner-is : (a : ℕ) {rec : Bytes} {x : ℕ} → a < length (bodiesOf bs .attributes) → rec ≡ recordAt (attributeSize w) a attrs → x ≡ readAttribute rec .owner
+      → x ≡ ownerAt a (bodiesOf bs .attributes)
   owner-is a {rec} h e q =
       q ∙ ap (λ (l : Bytes). readAttribute l .owner) e
       ∙ sym
       (ap (λ (c : FlatAttribute). c .owner)
-      (ap (λ (cs : List FlatAttribute). getD cs a noAttribute) own-attributes ∙ record-read readAttribute (attributeSize w) (attributeCount bs) a attrs noAttribute (omega (arith, counted-attributes bs))))
+      (ap (λ (cs : List FlatAttribute). getD cs a noAttribute) own-attributes
+      ∙ record-read readAttribute (attributeSize w) (attributeCount bs) a attrs noAttribute (omega (arith, counted-attributes bs))))
 
-pub stands : (bs : Bytes) (i : ℕ) {w d p r h : ℕ} → WidthIn bs w → Number (definitionCount bs) d → Number (particleCount bs) p → Place (headerSize + definitionSize * d + particleSize * p + attributeSize w * i) r → h ≡ headerSize
+pub stands : (bs : Bytes) (i : ℕ) {w d p r h : ℕ} → WidthIn bs w → Number (definitionCount bs) d → Number (particleCount bs) p
+    → Place (headerSize + definitionSize * d + particleSize * p + attributeSize w * i) r → h ≡ headerSize
     → Stands (widthOf bs) (bodiesOf bs) i (r - h)
 stands bs i {w} x e q r h =
     let z : attributeSize w * i ≡ attributeSize (widthOf bs) * i = ap (λ (k : ℕ). attributeSize k * i) (x .value) in

@@ -5,7 +5,7 @@ use native.Mathlib.Omega.{arith}
 use native.Mathlib.Numerals.{add-one}
 use mathlib.Core.Bool.{true}
 use mathlib.Core.Path.{_≡_, refl, sym, ap, _∙_}
-use mathlib.Core.List.{List, _∷_, _++_, append-assoc}
+use mathlib.Core.List.{List, [], _∷_, _++_, append-assoc}
 use lib.ListN.{length, take, drop, length-append, length-take, length-drop, take-append-drop}
 use lib.Seq.{sets-eq, take-at, drop-at, length-take-le}
 use Rattle.rules.specs.Bytes.{Bytes}
@@ -17,18 +17,18 @@ use Rattle.codec.specs.Laid.{Laid}
 use Rattle.codec.proofs.Writers.{laid-then, laid-as}
 use Rattle.layout.specs.Bodies.{widthOf, WidthIn}
 use Rattle.layout.proofs.LayoutLaws.{width-within}
-use Rattle.layout.proofs.HeaderLaws.{attributes-short}
 use Rattle.lookup.specs.Bodies.{bodiesOf, Begins}
 use Rattle.storing.specs.Forms.{formBytes}
 use Rattle.storing.proofs.StoreLaws.{Holds, holds}
-use Rattle.storing.proofs.FormBytesLaws.{Few, few-of, few-definitions, few-particles, few-attributes, length-form}
-use Rattle.storing.proofs.FormLaws.{own-form, within, counted-definitions, counted-particles, counted-attributes}
+use Rattle.storing.proofs.FormBytesLaws.{Few, few-of, few-definitions, few-particles, few-attributes, ceilings-rows, form-short}
+use Rattle.storing.proofs.FormLaws.{bareForm, FormOf, forms-of, own-form, within, good-bodies, counted-definitions, counted-particles, counted-attributes}
 use Rattle.defining.proofs.Encoded.{each-append}
 use Rattle.plans.specs.AttributeCalls.{attributesReplaced, attributeAdded, attributeDropped}
 use Rattle.attributes.specs.Attributes.{Stands}
 
 -- ---- the form of a store that passes
-pub form-at : {bs : Bytes} → passes bs ≡ true → {start end : ℕ} → start ≡ headerSize → Begins bs end → {form : Bytes} → form ≡ take (end - start) (drop start bs) → form ≡ formBytes (widthOf bs) (bodiesOf bs)
+pub form-at : {bs : Bytes} → passes bs ≡ true → {start end : ℕ} → start ≡ headerSize → Begins bs end → {form : Bytes} → form ≡ take (end - start) (drop start bs)
+    → form ≡ formBytes (widthOf bs) (bodiesOf bs)
 form-at {bs} q h b e =
     let y : Holds bs = holds bs q in
     let x : Few (bodiesOf bs) = few-of (bodiesOf bs) (within y) in
@@ -39,15 +39,19 @@ form-at {bs} q h b e =
 module _ (bs : Bytes) {form : Bytes} (q : passes bs ≡ true) (e : form ≡ formBytes (widthOf bs) (bodiesOf bs)) where
   form-small : length form ≤ 9728
   form-small =
-      let x : Few (bodiesOf bs) = few-of (bodiesOf bs) (within (holds bs q)) in
-      omega (
-        arith,
-        ap length e,
-        length-form (widthOf bs) (bodiesOf bs),
-        few-definitions x,
-        few-particles x,
-        attributes-short (widthOf bs) (length (bodiesOf bs .attributes)) (width-within bs) (few-attributes x),
-      )
+      let f : FlatStore = bodiesOf bs in
+      let h : Holds bs = holds bs q in
+      let x : FormOf (widthOf bs) f form (length (f .definitions)) (length (f .particles)) (length (f .attributes)) =
+      record {
+        bytes = e;
+        definitionCount = refl;
+        particleCount = refl;
+        attributeCount = refl;
+        definitions = good-bodies h .definitions;
+        attributes = good-bodies h .attributes;
+        ceilings = ceilings-rows (bareForm f) f 0 [] (within h);
+      } in
+      form-short (forms-of x) (width-within bs)
 
   pub before-small : (at : ℕ) {u : Bytes} → u ≡ take at form → length u ≤ 9728
   before-small at w = omega (arith, ap length w, length-take at form, form-small)
@@ -56,7 +60,8 @@ module _ (bs : Bytes) {form : Bytes} (q : passes bs ≡ true) (e : form ≡ form
   rest-small at w = omega (arith, ap length w, length-drop at form, form-small)
 
 -- an attribute at the width that the code reads
-pub wide-attribute : {bs : Bytes} {w : ℕ} {out : Bytes} {at r : ℕ} {out′ : Bytes} → WidthIn bs w → (c : FlatAttribute) → Laid (attributeBytes w c) out at r out′ → Laid (attributeBytes (widthOf bs) c) out at r out′
+pub wide-attribute : {bs : Bytes} {w : ℕ} {out : Bytes} {at r : ℕ} {out′ : Bytes} → WidthIn bs w → (c : FlatAttribute) → Laid (attributeBytes w c) out at r out′
+    → Laid (attributeBytes (widthOf bs) c) out at r out′
 wide-attribute x c l = laid-as (ap (λ (k : ℕ). attributeBytes k c) (sym (x .value))) l
 
 -- ---- the form, cut before attribute i
@@ -97,7 +102,8 @@ module _ (w : ℕ) (f : FlatStore) (i : ℕ) where
     form-from : drop at (formBytes w f) ≡ each (attributeBytes w) (drop i (f .attributes))
     form-from = ap (drop at) form-cut ∙ drop-at front (each (attributeBytes w) (drop i (f .attributes))) at front-long
 
-module _ {w : ℕ} (f : FlatStore) (i : ℕ) {form : Bytes} {at : ℕ} (same : form ≡ formBytes w f) (s : Stands w f i at) {u out out₁ : Bytes} {r₁ : ℕ} (u-is : u ≡ take at form) (x : Laid u out 0 r₁ out₁) where
+module _ {w : ℕ} (f : FlatStore) (i : ℕ) {form : Bytes} {at : ℕ} (same : form ≡ formBytes w f) (s : Stands w f i at) {u out out₁ : Bytes} {r₁ : ℕ} (u-is : u ≡ take at form)
+    (x : Laid u out 0 r₁ out₁) where
   before-is : i ≤ length (f .attributes) → u ≡ front w f i
   before-is h = u-is ∙ ap (take at) same ∙ form-before w f i at (s .place) h
 
@@ -108,10 +114,12 @@ module _ {w : ℕ} (f : FlatStore) (i : ℕ) {form : Bytes} {at : ℕ} (same : f
       laid-as (front-then w f i (c ∷ drop i (f .attributes)) ∙ (λ j. sym (before-is h) j ++ (attributeBytes w c ++ sym e j))) (laid-then x (laid-then y z))
 
   -- past: where the next attribute stands
-  pub dropped-laid : i < length (f .attributes) → {past r₂ : ℕ} {v out₂ : Bytes} → Stands w f (i + 1) past → v ≡ drop past form → Laid v out₁ r₁ r₂ out₂ → Laid (formBytes w (attributeDropped i f)) out 0 r₂ out₂
+  pub dropped-laid : i < length (f .attributes) → {past r₂ : ℕ} {v out₂ : Bytes} → Stands w f (i + 1) past → v ≡ drop past form → Laid v out₁ r₁ r₂ out₂
+      → Laid (formBytes w (attributeDropped i f)) out 0 r₂ out₂
   dropped-laid h {past} {v = v} q v-is y =
       let e : v ≡ each (attributeBytes w) (drop (suc i) (f .attributes)) =
-      v-is ∙ ap (drop past) same ∙ form-from w f (suc i) past (q .place ∙ ap (λ (k : ℕ). definitionSize * length (f .definitions) + (particleSize * length (f .particles) + attributeSize w * k)) (add-one i)) (omega arith)
+      v-is ∙ ap (drop past) same ∙ form-from w f (suc i) past
+      (q .place ∙ ap (λ (k : ℕ). definitionSize * length (f .definitions) + (particleSize * length (f .particles) + attributeSize w * k)) (add-one i)) (omega arith)
       in
       laid-as (front-then w f i (drop (suc i) (f .attributes)) ∙ (λ j. sym (before-is (omega arith)) j ++ sym e j)) (laid-then x y)
 

@@ -75,7 +75,8 @@ module _ (bs : Bytes) {b : Bool} {m : ℕ} (h : not b ≡ false) (e : b ≡ pass
   made c room f q z does a = answers-written c bs room (passed bs h e) m q z f (does (passed bs h e) (sym q ∙ z)) a
 
 module _ (bs : Bytes) (q : passes bs ≡ true) where
-  pub add-leaves : (o : ℕ) (n : Bytes) (k : ℕ) (v : Bytes) → first (conditions (addAttribute o n k v) (storeIn bs)) ≡ 0 → flat (after (addAttribute o n k v) (storeIn bs)) ≡ added o n k v (bodiesOf bs)
+  pub add-leaves : (o : ℕ) (n : Bytes) (k : ℕ) (v : Bytes) → first (conditions (addAttribute o n k v) (storeIn bs)) ≡ 0
+      → flat (after (addAttribute o n k v) (storeIn bs)) ≡ added o n k v (bodiesOf bs)
   unfolding added
   add-leaves o n k v e = let kept : Holds bs = holds bs q in add-attribute-planned (storeIn bs) (kept .good) o n k v e ∙ sym (ap (added o n k v) (kept .bodies))
 
@@ -99,7 +100,8 @@ module _ (bs : Bytes) (o : ℕ) (n : Bytes) (k : ℕ) (v : Bytes) (x : Addable b
   kept : Holds bs
   kept = holds bs (x .passes)
 
-  pub added-full : (room : ℕ) {a number len : ℕ} {out : Bytes} → Number (attributeCount bs) a → 64 ≤ a → (number ≡ 16) × (len ≡ 0) → Answers (limited room (added o n k v (bodiesOf bs))) out number len out
+  pub added-full : (room : ℕ) {a number len : ℕ} {out : Bytes} → Number (attributeCount bs) a → 64 ≤ a → (number ≡ 16) × (len ≡ 0)
+      → Answers (limited room (added o n k v (bodiesOf bs))) out number len out
   unfolding added
   added-full room {out = out} e l (n-is, l-is) =
       let f : FlatStore = bodiesOf bs in
@@ -112,7 +114,8 @@ module _ (bs : Bytes) (o : ℕ) (n : Bytes) (k : ℕ) (v : Bytes) (x : Addable b
   module _ {d p a i version r : ℕ} {q : Plan} {buffer left : Bytes} (cd : Number (definitionCount bs) d) (cp : Number (particleCount bs) p) (ca : Number (attributeCount bs) a) (few : a < 64) (to : To o (bodiesOf bs .attributes) i)
       (at : Number (numberAt 0 4 bs) version) (same : q ≡ addAttributePlan version o i k)
       (long : length buffer ≡ 9728) (y : Laid (formBytes (widthOf bs) (attributeAdded i (newEntry o n k v) (bodiesOf bs))) buffer 0 r left) where
-    of-bytes : {form : Bytes} → form ≡ formBytes (widthOf bs) (attributeAdded i (newEntry o n k v) (bodiesOf bs)) → FormOf (widthOf bs) (attributeAdded i (newEntry o n k v) (bodiesOf bs)) form d p (a + 1)
+    of-bytes : {form : Bytes} → form ≡ formBytes (widthOf bs) (attributeAdded i (newEntry o n k v) (bodiesOf bs))
+        → FormOf (widthOf bs) (attributeAdded i (newEntry o n k v) (bodiesOf bs)) form d p (a + 1)
     of-bytes e =
         added-form i (bodiesOf bs) (good-bodies kept) (within kept) (newEntry o n k v) (good-attribute (widthOf bs) o n k v (x .name) (x .value)) (omega (arith, count-attributes bs ca)) e (count-definitions bs cd)
         (count-particles bs cp) (omega (arith, count-attributes bs ca))
@@ -137,7 +140,8 @@ module _ (bs : Bytes) (o : ℕ) (n : Bytes) (k : ℕ) (v : Bytes) (x : Addable b
       forms-of of,
     )
 
-    pub added-answers : (room : ℕ) {out : Bytes} {number len : ℕ} {end : Bytes} → Answers (limited room (plannedIn (formIn (widthOf bs) (take r left) d p (a + 1)) q v (bodiesOf bs))) out number len end
+    pub added-answers : (room : ℕ) {out : Bytes} {number len : ℕ} {end : Bytes}
+        → Answers (limited room (plannedIn (formIn (widthOf bs) (take r left) d p (a + 1)) q v (bodiesOf bs))) out number len end
         → Answers (limited room (added o n k v (bodiesOf bs))) out number len end
     unfolding added
     added-answers room z =
@@ -181,7 +185,8 @@ module _ (bs : Bytes) (a : ℕ) (x : Droppable bs a) where
       forms-of without,
     )
 
-    pub dropped-answers : (room : ℕ) {out : Bytes} {number len : ℕ} {end : Bytes} → Answers (limited room (plannedIn (formIn (widthOf bs) (take r left) d p (count - 1)) q [] (bodiesOf bs))) out number len end
+    pub dropped-answers : (room : ℕ) {out : Bytes} {number len : ℕ} {end : Bytes}
+        → Answers (limited room (plannedIn (formIn (widthOf bs) (take r left) d p (count - 1)) q [] (bodiesOf bs))) out number len end
         → Answers (limited room (dropped a [] (bodiesOf bs))) out number len end
     unfolding dropped
     dropped-answers room z =

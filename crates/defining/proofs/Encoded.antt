@@ -82,7 +82,8 @@ module _ {bs : Bytes} {f : FlatStore} (x : Encoded bs f) where
   abbrev w : ℕ
   w = widthOf bs
 
-  pub length-is : length bs ≡ headerSize + (definitionSize * definitionCount bs + (particleSize * particleCount bs + (attributeSize (widthOf bs) * attributeCount bs + rowSize (widthOf bs) * rowCount bs)))
+  pub length-is : length bs
+      ≡ headerSize + (definitionSize * definitionCount bs + (particleSize * particleCount bs + (attributeSize (widthOf bs) * attributeCount bs + rowSize (widthOf bs) * rowCount bs)))
   length-is =
       ap length (sym (x .written)) ∙ length-flatBytes w f
       ∙ sym (λ i. headerSize + (definitionSize * x .definitions i + (particleSize * x .particles i + (attributeSize w * x .attributes i + rowSize w * x .rows i))))
@@ -105,7 +106,8 @@ module _ {bs : Bytes} {f : FlatStore} (x : Encoded bs f) where
 
   pub particles-at : particlesIn bs ≡ each particleBytes (f .particles)
   unfolding particleBody shapeOf
-  particles-at = ap₂ (λ (k : ℕ) (l : Bytes). take k l) particles-long others-at ∙ take-append-seam (each particleBytes (f .particles)) (each (attributeBytes w) (f .attributes) ++ each (rowBytes w) (f .rows))
+  particles-at = ap₂ (λ (k : ℕ) (l : Bytes). take k l) particles-long others-at
+      ∙ take-append-seam (each particleBytes (f .particles)) (each (attributeBytes w) (f .attributes) ++ each (rowBytes w) (f .rows))
 
   rest-at : drop (headerSize + definitionSize * definitionCount bs + particleSize * particleCount bs) bs ≡ each (attributeBytes w) (f .attributes) ++ each (rowBytes w) (f .rows)
   rest-at =

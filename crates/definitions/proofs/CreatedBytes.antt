@@ -24,15 +24,18 @@ module _ {bs : Bytes} {f : FlatStore} (n : Bytes) (k : ℕ) (x : Encoded bs f) w
   new-bytes : each definitionBytes (newDefinition n k ∷ []) ≡ definitionBytes (newDefinition n k)
   new-bytes = append-nil (definitionBytes (newDefinition n k))
 
-  header-is : headed (widthOf bs) (created n k f .next) (length (created n k f .definitions)) (length (f .particles)) (length (f .attributes)) (length (f .rows)) (flatBytes (widthOf bs) (created n k f))
+  header-is : headed (widthOf bs) (created n k f .next) (length (created n k f .definitions)) (length (f .particles)) (length (f .attributes)) (length (f .rows))
+      (flatBytes (widthOf bs) (created n k f))
       ≡ headed (widthOf bs) (numberAt 4 4 bs) (definitionCount bs + 1) (particleCount bs) (attributeCount bs) (rowCount bs) bs
   unfolding created headed
   header-is =
       λ i.
-      headed (widthOf bs) (sym (x .serial) i) ((length-append (f .definitions) (newDefinition n k ∷ []) ∙ ap (λ (m : ℕ). m + 1) (sym (x .definitions))) i) (sym (x .particles) i) (sym (x .attributes) i) (sym (x .rows) i) (x .written i)
+      headed (widthOf bs) (sym (x .serial) i) ((length-append (f .definitions) (newDefinition n k ∷ []) ∙ ap (λ (m : ℕ). m + 1) (sym (x .definitions))) i) (sym (x .particles) i)
+      (sym (x .attributes) i) (sym (x .rows) i) (x .written i)
 
   created-bytes : flatBytes (widthOf bs) (created n k f)
-      ≡ headed (widthOf bs) (numberAt 4 4 bs) (definitionCount bs + 1) (particleCount bs) (attributeCount bs) (rowCount bs) bs ++ (definitionsIn bs ++ (definitionBytes (newDefinition n k) ++ drop (headerSize + definitionSize * definitionCount bs) bs))
+      ≡ headed (widthOf bs) (numberAt 4 4 bs) (definitionCount bs + 1) (particleCount bs) (attributeCount bs)
+      (rowCount bs) bs ++ (definitionsIn bs ++ (definitionBytes (newDefinition n k) ++ drop (headerSize + definitionSize * definitionCount bs) bs))
   unfolding created
   created-bytes =
       bytes-are (widthOf bs) (created n k f)
@@ -44,7 +47,8 @@ module _ {bs : Bytes} {f : FlatStore} (n : Bytes) (k : ℕ) (x : Encoded bs f) w
   -- what the writers wrote; the counts are the ones that they read
   pub created-laid : {d p a rest : ℕ} {u v out out₁ out₂ out₃ out₄ : Bytes} {at₁ at₂ at₃ at₄ : ℕ} → Number (definitionCount bs) d → Number (particleCount bs) p → Number (attributeCount bs) a
       → Place (headerSize + definitionSize * d) rest → u ≡ definitionsIn bs → v ≡ drop rest bs
-      → Laid (headed (widthOf bs) (numberAt 4 4 bs) (d + 1) p a (rowCount bs) bs) out 0 at₁ out₁ → Laid u out₁ at₁ at₂ out₂ → Laid (definitionBytes (newDefinition n k)) out₂ at₂ at₃ out₃ → Laid v out₃ at₃ at₄ out₄
+      → Laid (headed (widthOf bs) (numberAt 4 4 bs) (d + 1) p a (rowCount bs) bs) out 0 at₁ out₁ → Laid u out₁ at₁ at₂ out₂ → Laid (definitionBytes (newDefinition n k)) out₂ at₂ at₃ out₃
+      → Laid v out₃ at₃ at₄ out₄
       → Laid (flatBytes (widthOf bs) (created n k f)) out 0 at₄ out₄
   created-laid {u = u} {v = v} dd pp aa place eu ev header front new back =
       let e : drop (headerSize + definitionSize * definitionCount bs) bs ≡ v = sym (ev ∙ ap (λ (j : ℕ). drop j bs) (place .value ∙ ap (λ (j : ℕ). headerSize + definitionSize * j) (dd .value))) in

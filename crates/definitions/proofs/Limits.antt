@@ -31,7 +31,8 @@ module _ {w : ℕ} (room : ℕ) (f : FlatStore) (wide : valueWidth (f .version) 
     limit-none k = record { outcome = limited-none room f e h (rw wide k) ∙ ap (λ (v : ℕ). wrote (flatBytes v f)) wide; fits = λ z. k }
 
 -- n: the first condition, 0; f: the bodies of the store that the call leaves; r: the first of the limits, or 0
-module _ (c : Call) (bs out : Bytes) (p : passes bs ≡ true) (n : ℕ) (e : n ≡ first (conditions c (storeIn bs))) (z : n ≡ 0) (f : FlatStore) (g : flat (after c (storeIn bs)) ≡ f) (w r : ℕ) (l : Limit w (length out) f r) where
+module _ (c : Call) (bs out : Bytes) (p : passes bs ≡ true) (n : ℕ) (e : n ≡ first (conditions c (storeIn bs))) (z : n ≡ 0) (f : FlatStore) (g : flat (after c (storeIn bs)) ≡ f) (w r : ℕ)
+    (l : Limit w (length out) f r) where
   pub answers-limit : (r ≡ 0 → ⊥) → Answers (outcome c bs (length out)) out r 0 out
   answers-limit h = answers-written c bs (length out) p n e z f g (by r (l .outcome) h)
     where

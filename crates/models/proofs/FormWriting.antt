@@ -182,7 +182,8 @@ module _ {bs : Bytes} {o : ℕ} {e : Edit ℕ} {h : Holder} {n : ℕ} (v : Edits
 
   -- ---- the bytes
   pub own-laid : {first many : ℕ} {parts out : Bytes} {at r : ℕ} {out′ : Bytes} → first ≡ startIn bs o → many ≡ countIn bs o → parts ≡ particlesIn bs
-      → Laid (each particleBytes (spliced first many (partAfter e h n (particlesOf (writing.partIn first many parts))) (particlesOf parts))) out at r out′ → Laid (each particleBytes (g .particles)) out at r out′
+      → Laid (each particleBytes (spliced first many (partAfter e h n (particlesOf (writing.partIn first many parts))) (particlesOf parts))) out at r out′
+      → Laid (each particleBytes (g .particles)) out at r out′
   unfolding partEdited
   own-laid {first} {many} {parts} ef em ep w =
       let part : partEdited bs o e h n ≡ partAfter e h n (particlesOf (writing.partIn first many parts)) =
@@ -245,7 +246,8 @@ module _ {bs : Bytes} {o : ℕ} {e : Edit ℕ} {h : Holder} {n : ℕ} (v : Edits
       )
 
   -- ---- the store
-  module _ (w : withinCeilings (bareForm g) ≡ true) {d p b : ℕ} (ed : Number (definitionCount bs) d) (ep : p ≡ length (g .particles)) (eb : Number (attributeCount bs) b) {form : Bytes} (ef : form ≡ formBytes (widthOf bs) g) where
+  module _ (w : withinCeilings (bareForm g) ≡ true) {d p b : ℕ} (ed : Number (definitionCount bs) d) (ep : p ≡ length (g .particles)) (eb : Number (attributeCount bs) b) {form : Bytes}
+      (ef : form ≡ formBytes (widthOf bs) g) where
     pub form-of : FormOf (widthOf bs) g form d p b
     unfolding formEdited
     form-of = spliced-form o (partEdited bs o e h n) f (enc .good) w ef (ed .value ∙ enc .definitions) ep (eb .value ∙ enc .attributes)

@@ -46,7 +46,8 @@ module _ (g : Bytes → Bytes) (size : ℕ) (body : Bytes) (count : ℕ) {out₀
   going-start = record { goes = λ r o l. laid-as (start-is g size body count) l; small = omega arith; inside = omega arith; long = refl }
 
   module _ {out : Bytes} {at i : ℕ} (s : Going g size body count out₀ at₀ out at i) where
-    pub going-on : (rec : Bytes) {at′ : ℕ} {out′ : Bytes} → i < count → rec ≡ take size (drop (size * i) body) → Laid (g rec) out at at′ out′ → length (g rec) ≤ 276 → Going g size body count out₀ at₀ out′ at′ (i + 1)
+    pub going-on : (rec : Bytes) {at′ : ℕ} {out′ : Bytes} → i < count → rec ≡ take size (drop (size * i) body) → Laid (g rec) out at at′ out′ → length (g rec) ≤ 276
+        → Going g size body count out₀ at₀ out′ at′ (i + 1)
     going-on rec h e l k =
         record {
           goes = λ r o m. s .goes r o (laid-as (record-left g size body count i h ∙ ap (λ (x : Bytes). g x ++ eachRecord g size (count - (i + 1)) (drop (size * (i + 1)) body)) (sym e)) (laid-then l m));

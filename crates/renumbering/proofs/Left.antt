@@ -75,9 +75,11 @@ particles-most F (suc i) (d ∷ ds) = omega (arith, particles-most F i ds, lengt
 pub particles-within : (bs : Bytes) → passes bs ≡ true → (i : ℕ) → particlesOf i (bodiesOf bs .definitions) ≤ length (bodiesOf bs .particles)
 particles-within bs p i = rw (holds bs p .bodies) (particles-most (storeIn bs .form) i (storeIn bs .form))
 
-pub model-starts : (bs : Bytes) → passes bs ≡ true → (i : ℕ) → i ≤ definitionCount bs → {r : ℕ} {defs : Bytes} → defs ≡ definitionsIn bs → r ≡ particlesBefore defs i → Counted (particlesOf i (bodiesOf bs .definitions)) (particleCount bs) r
+pub model-starts : (bs : Bytes) → passes bs ≡ true → (i : ℕ) → i ≤ definitionCount bs → {r : ℕ} {defs : Bytes} → defs ≡ definitionsIn bs → r ≡ particlesBefore defs i
+    → Counted (particlesOf i (bodiesOf bs .definitions)) (particleCount bs) r
 model-starts bs p i h {r} d e =
-    let z : particlesBefore (definitionsIn bs) i ≡ particlesOf i (bodiesOf bs .definitions) = particles-before (definitionCount bs) (definitionsIn bs) i h ∙ ap (particlesOf i) (sym (own-definitions bs)) in
+    let z : particlesBefore (definitionsIn bs) i ≡ particlesOf i (bodiesOf bs .definitions) = particles-before (definitionCount bs) (definitionsIn bs) i h
+    ∙ ap (particlesOf i) (sym (own-definitions bs)) in
     let q : r ≡ particlesBefore (definitionsIn bs) i = e ∙ ap (λ (l : Bytes). particlesBefore l i) d in
     record { is = q ∙ z; most = omega (arith, q, z, particles-within bs p i, encoded bs p .particles) }
 
@@ -106,7 +108,8 @@ unfolding attributesOf
 attributes-most i [] = omega arith
 attributes-most i (a ∷ cs) = omega (arith, below-one i a, attributes-most i cs)
 
-pub attribute-starts : (bs : Bytes) (i : ℕ) {w count : ℕ} {body : Bytes} {r : ℕ} → WidthIn bs w → Number (attributeCount bs) count → body ≡ attributesIn bs → Counted (attributesOf i (readMany readAttribute (attributeSize w) count body)) count r
+pub attribute-starts : (bs : Bytes) (i : ℕ) {w count : ℕ} {body : Bytes} {r : ℕ} → WidthIn bs w → Number (attributeCount bs) count → body ≡ attributesIn bs
+    → Counted (attributesOf i (readMany readAttribute (attributeSize w) count body)) count r
     → Counted (attributesOf i (bodiesOf bs .attributes)) (attributeCount bs) r
 attribute-starts bs i w e q c =
     record {
@@ -140,7 +143,8 @@ module _ (bs : Bytes) (p : passes bs ≡ true) (i : ℕ) (h : i < definitionCoun
       let e : suc i - i ≡ 1 = omega arith in
       ap (λ (k : ℕ). length (cutOut i k (f .definitions))) (sym e) ∙ length-cut i (suc i) (f .definitions) (omega arith) (omega (arith, x .definitions)) ∙ omega (arith, x .definitions)
 
-  pub models-left : {n a b : ℕ} → Number (particleCount bs) n → Counted (particlesOf i (f .definitions)) (particleCount bs) a → Counted (particlesOf (suc i) (f .definitions)) (particleCount bs) b → Counted (length (destroyed i f .particles)) 256 (n - (b - a))
+  pub models-left : {n a b : ℕ} → Number (particleCount bs) n → Counted (particlesOf i (f .definitions)) (particleCount bs) a
+      → Counted (particlesOf (suc i) (f .definitions)) (particleCount bs) b → Counted (length (destroyed i f .particles)) 256 (n - (b - a))
   unfolding destroyed
   models-left e ca cb =
       let z : length (destroyed i f .particles) ≡ length (f .particles) - (particlesOf (suc i) (f .definitions) - particlesOf i (f .definitions)) =
@@ -149,7 +153,8 @@ module _ (bs : Bytes) (p : passes bs ≡ true) (i : ℕ) (h : i < definitionCoun
       in
       record { is = omega (arith, z, e .value, ca .is, cb .is, x .particles); most = omega (arith, e .value, x .particles, x .fewParticles) }
 
-  pub attributes-left : {n a b : ℕ} → Number (attributeCount bs) n → Counted (attributesOf i (f .attributes)) (attributeCount bs) a → Counted (attributesOf (suc i) (f .attributes)) (attributeCount bs) b → Counted (length (destroyed i f .attributes)) 64 (n - (b - a))
+  pub attributes-left : {n a b : ℕ} → Number (attributeCount bs) n → Counted (attributesOf i (f .attributes)) (attributeCount bs) a
+      → Counted (attributesOf (suc i) (f .attributes)) (attributeCount bs) b → Counted (length (destroyed i f .attributes)) 64 (n - (b - a))
   unfolding destroyed
   attributes-left e ca cb =
       let z : length (destroyed i f .attributes) ≡ length (f .attributes) - (attributesOf (suc i) (f .attributes) - attributesOf i (f .attributes)) =
@@ -160,7 +165,8 @@ module _ (bs : Bytes) (p : passes bs ≡ true) (i : ℕ) (h : i < definitionCoun
 
   pub rows-left : length (destroyed i f .rows) ≡ rowCount bs
   unfolding destroyed
-  rows-left = length-map (f .rows) (movedRow (lowered (suc i) 1) (lowered (attributesOf (suc i) (f .attributes)) (attributesOf (suc i) (f .attributes) - attributesOf i (f .attributes)))) ∙ sym (x .rows)
+  rows-left = length-map (f .rows) (movedRow (lowered (suc i) 1) (lowered (attributesOf (suc i) (f .attributes)) (attributesOf (suc i) (f .attributes) - attributesOf i (f .attributes))))
+      ∙ sym (x .rows)
 
   pub few-particles : length (destroyed i f .particles) ≤ 256
   unfolding destroyed

@@ -52,7 +52,8 @@ module _ (bs : Bytes) (p : passes bs ≡ true) (i : ℕ) (h : i < definitionCoun
   bodies-at = definitions-at x ∙ sym (append-nil (each definitionBytes (f .definitions)))
 
   -- d: the definitions as the code reads them
-  pub definitions-laid : {d u v out out₁ out₂ : Bytes} {at at₁ at₂ : ℕ} → d ≡ definitionsIn bs → u ≡ take (definitionSize * i) d → v ≡ drop (definitionSize * (i + 1)) d → Laid u out at at₁ out₁ → Laid v out₁ at₁ at₂ out₂
+  pub definitions-laid : {d u v out out₁ out₂ : Bytes} {at at₁ at₂ : ℕ} → d ≡ definitionsIn bs → u ≡ take (definitionSize * i) d → v ≡ drop (definitionSize * (i + 1)) d
+      → Laid u out at at₁ out₁ → Laid v out₁ at₁ at₂ out₂
       → Laid (each definitionBytes (destroyed i f .definitions)) out at at₂ out₂
   unfolding destroyed cutOut
   definitions-laid {u = u} {v = v} e eu ev a b =
@@ -73,13 +74,15 @@ module _ (bs : Bytes) (p : passes bs ≡ true) (i : ℕ) (h : i < definitionCoun
   -- ---- models and attributes
   pub models-laid : {body : Bytes} {a b n : ℕ} {tail out out₁ out₂ : Bytes} {at at₁ at₂ : ℕ} → body ≡ particlesIn bs → Number (particleCount bs) n
       → Counted (particlesOf i (f .definitions)) (particleCount bs) a → Counted (particlesOf (suc i) (f .definitions)) (particleCount bs) b → tail ≡ drop (particleSize * b) body
-      → Laid (eachRecord (particleRecord g) particleSize a body) out at at₁ out₁ → Laid (eachRecord (particleRecord g) particleSize (n - b) tail) out₁ at₁ at₂ out₂ → Laid (each particleBytes (destroyed i f .particles)) out at at₂ out₂
+      → Laid (eachRecord (particleRecord g) particleSize a body) out at at₁ out₁ → Laid (eachRecord (particleRecord g) particleSize (n - b) tail) out₁ at₁ at₂ out₂
+      → Laid (each particleBytes (destroyed i f .particles)) out at at₂ out₂
   unfolding destroyed
   models-laid {body} {a} {b} {n} eb en ca cb et u v =
       let e : each particleBytes (f .particles) ++ [] ≡ body = append-nil (each particleBytes (f .particles)) ∙ sym (eb ∙ particles-at x) in
       let k : length (f .particles) ≡ n = sym (en .value ∙ x .particles) in
       laid-as
-      (cut-again particleBytes particleSize length-particle (particleRecord g) (movedParticle g) (particle-again g) (particlesOf i (f .definitions)) (particlesOf (suc i) (f .definitions)) (f .particles)
+      (cut-again particleBytes particleSize length-particle (particleRecord g) (movedParticle g) (particle-again g) (particlesOf i (f .definitions)) (particlesOf (suc i) (f .definitions))
+      (f .particles)
       [] (particles-step i (f .definitions)) (particles-within bs p (suc i))
       ∙ (λ j. eachRecord (particleRecord g) particleSize (sym (ca .is) j) (e j) ++ eachRecord (particleRecord g) particleSize (k j - sym (cb .is) j) (drop (particleSize * sym (cb .is) j) (e j)))
       ∙ ap (λ (l : Bytes). eachRecord (particleRecord g) particleSize a body ++ eachRecord (particleRecord g) particleSize (n - b) l) (sym et))
@@ -98,9 +101,11 @@ module _ (bs : Bytes) (p : passes bs ≡ true) (i : ℕ) (h : i < definitionCoun
       let k : length (f .attributes) ≡ n = sym (en .value ∙ x .attributes) in
       laid-as
       (ap (λ (z : ℕ). each (attributeBytes z) (destroyed i f .attributes)) (sym (ew .value))
-      ∙ cut-again (attributeBytes w) (attributeSize w) (length-attribute w) (attributeRecord g) (movedAttribute g) (attribute-again g w) (attributesOf i (f .attributes)) (attributesOf (suc i) (f .attributes)) (f .attributes)
+      ∙ cut-again (attributeBytes w) (attributeSize w) (length-attribute w) (attributeRecord g) (movedAttribute g) (attribute-again g w) (attributesOf i (f .attributes))
+      (attributesOf (suc i) (f .attributes)) (f .attributes)
       [] (attributes-step i (f .attributes)) (attributes-most (suc i) (f .attributes))
-      ∙ (λ j. eachRecord (attributeRecord g) (attributeSize w) (sym (ca .is) j) (e j) ++ eachRecord (attributeRecord g) (attributeSize w) (k j - sym (cb .is) j) (drop (attributeSize w * sym (cb .is) j) (e j)))
+      ∙ (λ j. eachRecord (attributeRecord g) (attributeSize w) (sym (ca .is) j) (e j) ++ eachRecord (attributeRecord g) (attributeSize w) (k j - sym (cb .is) j)
+      (drop (attributeSize w * sym (cb .is) j) (e j)))
       ∙ ap (λ (l : Bytes). eachRecord (attributeRecord g) (attributeSize w) a body ++ eachRecord (attributeRecord g) (attributeSize w) (n - b) l) (sym et))
       (laid-then u v)
 
@@ -121,7 +126,8 @@ module _ (bs : Bytes) (p : passes bs ≡ true) (i : ℕ) (h : i < definitionCoun
       ∙ (λ j. map (movedRow (lowered (add-one i j) 1) (lowered (eb j) (eb j - ea j))) (f .rows)))
 
   -- q: the plan that the code makes
-  pub rows-laid : {a b : ℕ} {q : Plan} (v : Bytes) {out out₁ : Bytes} {at : ℕ} {r : Cursor} → Counted (attributesOf i (f .attributes)) (attributeCount bs) a → Counted (attributesOf (suc i) (f .attributes)) (attributeCount bs) b
+  pub rows-laid : {a b : ℕ} {q : Plan} (v : Bytes) {out out₁ : Bytes} {at : ℕ} {r : Cursor} → Counted (attributesOf i (f .attributes)) (attributeCount bs) a
+      → Counted (attributesOf (suc i) (f .attributes)) (attributeCount bs) b
       → q ≡ shifting (i + 1) b (b - a) → Written (widthOf bs) (rowsAfter q v f) (walkFrom at bs) out r out₁ → Laid (each (rowBytes (widthOf bs)) (destroyed i f .rows)) out at (r .at) out₁
   rows-laid {a} {b} {q} v ca cb e w =
       laid-as (bytes-old (widthOf bs) (numberAt 4 4 bs) (destroyed i f .rows) rows-old)
@@ -133,7 +139,8 @@ module _ (bs : Bytes) (p : passes bs ≡ true) (i : ℕ) (h : i < definitionCoun
   header-is =
       bytes-are (widthOf bs) (destroyed i f)
       ∙ (λ j.
-      headed (widthOf bs) (sym (x .serial) j) (length (destroyed i f .definitions)) (length (destroyed i f .particles)) (length (destroyed i f .attributes)) (length (destroyed i f .rows)) (x .written j)
+      headed (widthOf bs) (sym (x .serial) j) (length (destroyed i f .definitions)) (length (destroyed i f .particles)) (length (destroyed i f .attributes)) (length (destroyed i f .rows))
+      (x .written j)
       ++ (each definitionBytes (destroyed i f .definitions) ++ others (widthOf bs) (destroyed i f)))
 
   pub destroyed-laid : {out out₁ out₂ out₃ out₄ out₅ : Bytes} {at₁ at₂ at₃ at₄ at₅ : ℕ} → Laid (headerLeft i bs) out 0 at₁ out₁
@@ -155,7 +162,16 @@ module _ (bs : Bytes) (p : passes bs ≡ true) (i : ℕ) (h : i < definitionCoun
 
     module _ {out₂ : Bytes} {at₂ : ℕ} (m : Laid (each definitionBytes (destroyed i f .definitions)) out₁ at₁ at₂ out₂) where
       pub after-definitions : at₂ ≤ 1320
-      after-definitions = omega (arith, m .next, after-header, length-each definitionBytes definitionSize length-definition (destroyed i f .definitions), definitions-left bs p i h, x .definitions, x .fewDefinitions)
+      after-definitions = omega (
+        arith,
+        m .next,
+        after-header,
+        length-each definitionBytes definitionSize length-definition
+            (destroyed i f .definitions),
+        definitions-left bs p i h,
+        x .definitions,
+        x .fewDefinitions,
+      )
 
       module _ {out₃ : Bytes} {at₃ : ℕ} (n : Laid (each particleBytes (destroyed i f .particles)) out₂ at₂ at₃ out₃) where
         pub after-particles : at₃ ≤ 2344

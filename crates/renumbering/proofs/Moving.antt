@@ -39,7 +39,8 @@ module _ (g : ℕ → ℕ) (sort x : ℕ) where
 
 -- ---- records
 module _ (g : ℕ → ℕ) (rec : Bytes) where
-  pub particle-laid : {s i x : ℕ} {out out₁ : Bytes} {at at₁ : ℕ} → s ≡ readParticle rec .row .sort → i ≡ readParticle rec .row .index → x ≡ memberMoved g s i → Laid (indexedBytes x rec) out at at₁ out₁ → Laid (particleRecord g rec) out at at₁ out₁
+  pub particle-laid : {s i x : ℕ} {out out₁ : Bytes} {at at₁ : ℕ} → s ≡ readParticle rec .row .sort → i ≡ readParticle rec .row .index → x ≡ memberMoved g s i
+      → Laid (indexedBytes x rec) out at at₁ out₁ → Laid (particleRecord g rec) out at at₁ out₁
   unfolding particleRecord
   particle-laid es ei ex a = laid-as (ap (λ (z : ℕ). indexedBytes z rec) ((λ j. memberMoved g (sym es j) (sym ei j)) ∙ sym ex)) a
 
@@ -69,7 +70,8 @@ module _ (w i : ℕ) (body : Bytes) (count : ℕ) where
     unfolding attributesOf
     counting-on h rec r e k =
         let z : isBelow i (readAttribute (recordAt (attributeSize w) j body)) ≡ r = ap (λ (x : Bytes). isBelow i (readAttribute x)) (sym e) ∙ sym (k .is) in
-        let y : attributesOf i (recordsFrom readAttribute (attributeSize w) body count j) ≡ isBelow i (readAttribute (recordAt (attributeSize w) j body)) + attributesOf i (recordsFrom readAttribute (attributeSize w) body count (j + 1)) = ap (attributesOf i) (from-step readAttribute (attributeSize w) body count j h) in
+        let y : attributesOf i (recordsFrom readAttribute (attributeSize w) body count j) ≡ isBelow i (readAttribute (recordAt (attributeSize w) j body)) + attributesOf i
+        (recordsFrom readAttribute (attributeSize w) body count (j + 1)) = ap (attributesOf i) (from-step readAttribute (attributeSize w) body count j h) in
         record { rest = omega (arith, c .rest, y, z); small = omega (arith, c .small, k .most); inside = omega arith }
 
     pub counting-end : count ≤ j → Counted (attributesOf i (readMany readAttribute (attributeSize w) count body)) count sum

@@ -40,10 +40,21 @@ loop-less : tie.Need-loop-less Inv-loop μ-loop
 loop-less c = search needs
 
 loop-again : tie.Need-loop-again Inv-loop μ-loop
-loop-again c = counting-on _ (c .before .before .before .before .before .before .before .before .args .owner) _ (c .before .before .before .loop .inv) (omega arith) (c .before .attribute-at .ensures) (c .is-up-to .ensures)
+loop-again c =
+    let at-attribute-at = c .before in
+    let at-loop = at-attribute-at .before .before in
+    let start = at-loop .before .before .before .before .before in
+    counting-on _ (start .args .owner) _ (at-loop .loop .inv) (omega arith) (at-attribute-at .attribute-at .ensures) (c .is-up-to .ensures)
 
 returns : tie.Need-returns Inv-loop μ-loop
-returns c = counting-end _ (c .before .before .before .before .before .before .args .owner) _ (c .before .loop .inv) (c .before .before .before .before .before .before .args .store .now) (c .before .before .before .before .width-in .ensures) (c .before .before .attributes-of .ensures) (c .before .before .before .attribute-count .ensures) (omega arith)
+returns c =
+    let at-loop = c .before in
+    let at-attributes-of = at-loop .before in
+    let at-attribute-count = at-attributes-of .before in
+    let at-width-in = at-attribute-count .before in
+    let start = at-width-in .before .before in
+    counting-end _ (start .args .owner) _ (at-loop .loop .inv) (start .args .store .now) (at-width-in .width-in .ensures) (at-attributes-of .attributes-of .ensures)
+    (at-attribute-count .attribute-count .ensures) (omega arith)
 
 pub attributes-to-spec : {M : Type 1} → statement M
 attributes-to-spec =

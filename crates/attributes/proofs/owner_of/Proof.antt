@@ -18,7 +18,13 @@ attribute-owner-requires : tie.Need-attribute-owner-requires
 attribute-owner-requires c κs = search needs
 
 returns : tie.Need-returns
-returns c = owner-is (c .before .before .before .before .before .args .store .now) (c .before .before .before .width-in .ensures) (c .before .before .attributes-of .ensures) (c .before .before .before .before .before .args .attribute) (c .before .before .before .before .before .pre .inside) (c .before .attribute-at .ensures) (c .attribute-owner .ensures)
+returns c =
+    let at-attribute-at = c .before in
+    let at-attributes-of = at-attribute-at .before in
+    let at-width-in = at-attributes-of .before in
+    let start = at-width-in .before .before in
+    owner-is (start .args .store .now) (at-width-in .width-in .ensures) (at-attributes-of .attributes-of .ensures) (start .args .attribute) (start .pre .inside)
+    (at-attribute-at .attribute-at .ensures) (c .attribute-owner .ensures)
 
 pub owner-of-spec : {M : Type 1} → statement M
 owner-of-spec =

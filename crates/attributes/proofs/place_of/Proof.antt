@@ -24,7 +24,14 @@ sub-result : tie.Need-sub-result
 sub-result c = omega (arith, c .before .through-attributes .ensures .value, c .header-size .ensures)
 
 returns : tie.Need-returns
-returns c = stands (c .before .before .before .before .before .before .args .store .now) (c .before .before .before .before .before .before .args .i) (c .before .before .before .before .width-in .ensures) (c .before .before .before .definition-count .ensures) (c .before .before .particle-count .ensures) (c .before .through-attributes .ensures) (c .header-size .ensures)
+returns c =
+    let at-through-attributes = c .before in
+    let at-particle-count = at-through-attributes .before in
+    let at-definition-count = at-particle-count .before in
+    let at-width-in = at-definition-count .before in
+    let start = at-width-in .before .before in
+    stands (start .args .store .now) (start .args .i) (at-width-in .width-in .ensures) (at-definition-count .definition-count .ensures) (at-particle-count .particle-count .ensures)
+    (at-through-attributes .through-attributes .ensures) (c .header-size .ensures)
 
 pub place-of-spec : {M : Type 1} → statement M
 place-of-spec =

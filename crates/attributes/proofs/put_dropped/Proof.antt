@@ -28,13 +28,37 @@ after-requires : tie.Need-after-requires
 after-requires c κs = search needs
 
 put-requires-2 : tie.Need-put-requires-2
-put-requires-2 c κs = let a = c .before .before .before .before .before .before .before .before .before .before .before .before .args in omega (arith, c .before .before .before .before .put .ensures .next, before-small (a .store .now) (c .before .before .before .before .before .before .before .before .before .before .before .before .pre .passes) (c .before .before .before .before .before .before .before .before .before .form-of .ensures) (c .before .before .before .before .before .before .before .before .place-of .result) (c .before .before .before .before .before .before .first .ensures), rest-small (a .store .now) (c .before .before .before .before .before .before .before .before .before .before .before .before .pre .passes) (c .before .before .before .before .before .before .before .before .before .form-of .ensures) (c .before .before .before .before .before .before .before .place-of2 .result) (c .before .after .ensures))
+put-requires-2 c κs =
+    let at-after = c .before in
+    let at-put = at-after .before .before .before in
+    let at-first = at-put .before .before in
+    let at-place-of2 = at-first .before in
+    let at-place-of = at-place-of2 .before in
+    let at-form-of = at-place-of .before in
+    let start = at-form-of .before .before .before in
+    let a = start .args in
+    omega (
+      arith,
+      at-put .put .ensures .next,
+      before-small (a .store .now) (start .pre .passes) (at-form-of .form-of .ensures) (at-place-of .place-of .result) (at-first .first .ensures),
+      rest-small (a .store .now) (start .pre .passes) (at-form-of .form-of .ensures) (at-place-of2 .place-of2 .result) (at-after .after .ensures),
+    )
 
 same-length : tie.Need-same-length
 same-length c = search needs
 
 returns : tie.Need-returns
-returns c = dropped-laid (bodiesOf (c .before .before .before .before .before .before .before .before .before .before .before .before .before .before .before .args .store .now)) (c .before .before .before .before .before .before .before .before .before .before .before .before .before .before .before .args .i) (c .before .before .before .before .before .before .before .before .before .before .before .before .form-of .ensures) (c .before .before .before .before .before .before .before .before .before .before .before .place-of .ensures) (c .before .before .before .before .before .before .before .before .before .first .ensures) (c .before .before .before .before .before .before .before .put .ensures) (c .before .before .before .before .before .before .before .before .before .before .before .before .before .before .before .pre .inside) (c .before .before .before .before .before .before .before .before .before .before .place-of2 .ensures) (c .before .before .before .before .after .ensures) (c .before .before .put2 .ensures)
+returns c =
+    let at-put2 = c .before .before in
+    let at-after = at-put2 .before .before in
+    let at-put = at-after .before .before .before in
+    let at-first = at-put .before .before in
+    let at-place-of2 = at-first .before in
+    let at-place-of = at-place-of2 .before in
+    let at-form-of = at-place-of .before in
+    let start = at-form-of .before .before .before in
+    dropped-laid (bodiesOf (start .args .store .now)) (start .args .i) (at-form-of .form-of .ensures) (at-place-of .place-of .ensures) (at-first .first .ensures)
+    (at-put .put .ensures) (start .pre .inside) (at-place-of2 .place-of2 .ensures) (at-after .after .ensures) (at-put2 .put2 .ensures)
 
 pub put-dropped-spec : {M : Type 1} → statement M
 put-dropped-spec =

@@ -21,7 +21,11 @@ refused-requires : tie.Need-refused-requires
 refused-requires c κs = search needs
 
 returns : tie.Need-returns
-returns c = added-full (c .before .before .before .before .before .before .before .before .before .args .store .now) (c .before .before .before .before .before .before .before .before .before .args .owner) (c .before .before .before .before .before .before .before .before .before .args .name .now) (c .before .before .before .before .before .before .before .before .before .args .sort) (c .before .before .before .before .before .before .before .before .before .args .value .now) (c .before .before .before .before .before .before .before .before .before .pre) (length (c .before .before .before .before .before .before .before .before .before .args .out .now)) (c .before .before .attribute-count .ensures) (omega arith) (c .refused .ensures)
+returns c =
+    let at-attribute-count = c .before .before in
+    let start = at-attribute-count .before .before .before .before .before .before .before in
+    added-full (start .args .store .now) (start .args .owner) (start .args .name .now) (start .args .sort) (start .args .value .now) (start .pre) (length (start .args .out .now))
+    (at-attribute-count .attribute-count .ensures) (omega arith) (c .refused .ensures)
 
 attributes-to-requires : tie.Need-attributes-to-requires
 attributes-to-requires c κs = search needs
@@ -30,7 +34,9 @@ version-in-requires : tie.Need-version-in-requires
 version-in-requires c κs = search needs
 
 cast-add-attribute-plan : tie.Need-cast-add-attribute-plan
-cast-add-attribute-plan c = omega (arith, c .before .before .before .before .before .before .before .before .before .before .pre .sort)
+cast-add-attribute-plan c =
+    let start = c .before .before .before .before .before .before .before .before .before .before .before in
+    omega (arith, start .pre .sort)
 
 add-attribute-plan-requires : tie.Need-add-attribute-plan-requires
 add-attribute-plan-requires c κs = search needs
@@ -39,25 +45,78 @@ slice-aggregate-put-added : tie.Need-slice-aggregate-put-added
 slice-aggregate-put-added c = search needs
 
 put-added-requires : tie.Need-put-added-requires
-put-added-requires c κs = ((c .before .before .before .before .before .before .before .before .before .before .before .before .pre), c .before .before .before .attributes-to .ensures .most, omega (arith, c .before .before .before .attributes-to .ensures .most, count-attributes (c .before .before .before .before .before .before .before .before .before .before .before .before .args .store .now) (c .before .before .before .before .before .attribute-count .ensures)))
+put-added-requires c κs =
+    let at-attributes-to = c .before .before .before in
+    let at-attribute-count = at-attributes-to .before .before in
+    let start = at-attribute-count .before .before .before .before .before .before .before in (
+      (start .pre),
+      at-attributes-to .attributes-to .ensures .most,
+      omega (arith, at-attributes-to .attributes-to .ensures .most, count-attributes (start .args .store .now) (at-attribute-count .attribute-count .ensures)),
+    )
 
 array-share-prefix-form : tie.Need-array-share-prefix-form
-array-share-prefix-form c = added-fits (c .before .before .before .before .before .before .before .before .before .before .before .before .before .before .args .store .now) (c .before .before .before .before .before .before .before .before .before .before .before .before .before .before .args .owner) (c .before .before .before .before .before .before .before .before .before .before .before .before .before .before .args .name .now) (c .before .before .before .before .before .before .before .before .before .before .before .before .before .before .args .sort) (c .before .before .before .before .before .before .before .before .before .before .before .before .before .before .args .value .now) (c .before .before .before .before .before .before .before .before .before .before .before .before .before .before .pre) (c .before .before .before .before .before .before .before .before .before .definition-count .ensures) (c .before .before .before .before .before .before .before .before .particle-count .ensures) (c .before .before .before .before .before .before .before .attribute-count .ensures) (omega arith) (c .before .before .before .before .before .attributes-to .ensures) (c .before .before .before .before .version-in .ensures) (c .before .before .before .add-attribute-plan .ensures) zeros-long (c .before .put-added .ensures)
+array-share-prefix-form c =
+    let at-put-added = c .before in
+    let at-add-attribute-plan = at-put-added .before .before in
+    let at-version-in = at-add-attribute-plan .before in
+    let at-attributes-to = at-version-in .before in
+    let at-attribute-count = at-attributes-to .before .before in
+    let at-particle-count = at-attribute-count .before in
+    let at-definition-count = at-particle-count .before in
+    let start = at-definition-count .before .before .before .before .before in
+    added-fits (start .args .store .now) (start .args .owner) (start .args .name .now) (start .args .sort) (start .args .value .now) (start .pre)
+    (at-definition-count .definition-count .ensures) (at-particle-count .particle-count .ensures) (at-attribute-count .attribute-count .ensures) (omega arith)
+    (at-attributes-to .attributes-to .ensures) (at-version-in .version-in .ensures) (at-add-attribute-plan .add-attribute-plan .ensures) zeros-long (at-put-added .put-added .ensures)
 
 slice-aggregate-edit-form : tie.Need-slice-aggregate-edit-form
-slice-aggregate-edit-form c = added-long (c .before .before .before .before .before .before .before .before .before .before .before .before .before .before .before .args .store .now) (c .before .before .before .before .before .before .before .before .before .before .before .before .before .before .before .args .owner) (c .before .before .before .before .before .before .before .before .before .before .before .before .before .before .before .args .name .now) (c .before .before .before .before .before .before .before .before .before .before .before .before .before .before .before .args .sort) (c .before .before .before .before .before .before .before .before .before .before .before .before .before .before .before .args .value .now) (c .before .before .before .before .before .before .before .before .before .before .before .before .before .before .before .pre) (c .before .before .before .before .before .before .before .before .before .before .definition-count .ensures) (c .before .before .before .before .before .before .before .before .before .particle-count .ensures) (c .before .before .before .before .before .before .before .before .attribute-count .ensures) (omega arith) (c .before .before .before .before .before .before .attributes-to .ensures) (c .before .before .before .before .before .version-in .ensures) (c .before .before .before .before .add-attribute-plan .ensures) zeros-long (c .before .before .put-added .ensures)
+slice-aggregate-edit-form c =
+    let at-put-added = c .before .before in
+    let at-add-attribute-plan = at-put-added .before .before in
+    let at-version-in = at-add-attribute-plan .before in
+    let at-attributes-to = at-version-in .before in
+    let at-attribute-count = at-attributes-to .before .before in
+    let at-particle-count = at-attribute-count .before in
+    let at-definition-count = at-particle-count .before in
+    let start = at-definition-count .before .before .before .before .before in
+    added-long (start .args .store .now) (start .args .owner) (start .args .name .now) (start .args .sort) (start .args .value .now) (start .pre)
+    (at-definition-count .definition-count .ensures) (at-particle-count .particle-count .ensures) (at-attribute-count .attribute-count .ensures) (omega arith)
+    (at-attributes-to .attributes-to .ensures) (at-version-in .version-in .ensures) (at-add-attribute-plan .add-attribute-plan .ensures) zeros-long (at-put-added .put-added .ensures)
 
 add-edit-form : tie.Need-add-edit-form
 add-edit-form c = search needs
 
 edit-form-requires : tie.Need-edit-form-requires
-edit-form-requires c κs = added-asks (c .before .before .before .before .before .before .before .before .before .before .before .before .before .before .before .before .args .store .now) (c .before .before .before .before .before .before .before .before .before .before .before .before .before .before .before .before .args .owner) (c .before .before .before .before .before .before .before .before .before .before .before .before .before .before .before .before .args .name .now) (c .before .before .before .before .before .before .before .before .before .before .before .before .before .before .before .before .args .sort) (c .before .before .before .before .before .before .before .before .before .before .before .before .before .before .before .before .args .value .now) (c .before .before .before .before .before .before .before .before .before .before .before .before .before .before .before .before .pre) (c .before .before .before .before .before .before .before .before .before .before .before .definition-count .ensures) (c .before .before .before .before .before .before .before .before .before .before .particle-count .ensures) (c .before .before .before .before .before .before .before .before .before .attribute-count .ensures) (omega arith) (c .before .before .before .before .before .before .before .attributes-to .ensures) (c .before .before .before .before .before .before .version-in .ensures) (c .before .before .before .before .before .add-attribute-plan .ensures) zeros-long (c .before .before .before .put-added .ensures)
+edit-form-requires c κs =
+    let at-put-added = c .before .before .before in
+    let at-add-attribute-plan = at-put-added .before .before in
+    let at-version-in = at-add-attribute-plan .before in
+    let at-attributes-to = at-version-in .before in
+    let at-attribute-count = at-attributes-to .before .before in
+    let at-particle-count = at-attribute-count .before in
+    let at-definition-count = at-particle-count .before in
+    let start = at-definition-count .before .before .before .before .before in
+    added-asks (start .args .store .now) (start .args .owner) (start .args .name .now) (start .args .sort) (start .args .value .now) (start .pre)
+    (at-definition-count .definition-count .ensures) (at-particle-count .particle-count .ensures) (at-attribute-count .attribute-count .ensures) (omega arith)
+    (at-attributes-to .attributes-to .ensures) (at-version-in .version-in .ensures) (at-add-attribute-plan .add-attribute-plan .ensures) zeros-long (at-put-added .put-added .ensures)
 
 same-length : tie.Need-same-length
 same-length c = search needs
 
 returns-2 : tie.Need-returns-2
-returns-2 c = added-answers (c .before .before .before .before .before .before .before .before .before .before .before .before .before .before .before .before .before .before .before .args .store .now) (c .before .before .before .before .before .before .before .before .before .before .before .before .before .before .before .before .before .before .before .args .owner) (c .before .before .before .before .before .before .before .before .before .before .before .before .before .before .before .before .before .before .before .args .name .now) (c .before .before .before .before .before .before .before .before .before .before .before .before .before .before .before .before .before .before .before .args .sort) (c .before .before .before .before .before .before .before .before .before .before .before .before .before .before .before .before .before .before .before .args .value .now) (c .before .before .before .before .before .before .before .before .before .before .before .before .before .before .before .before .before .before .before .pre) (c .before .before .before .before .before .before .before .before .before .before .before .before .before .before .definition-count .ensures) (c .before .before .before .before .before .before .before .before .before .before .before .before .before .particle-count .ensures) (c .before .before .before .before .before .before .before .before .before .before .before .before .attribute-count .ensures) (omega arith) (c .before .before .before .before .before .before .before .before .before .before .attributes-to .ensures) (c .before .before .before .before .before .before .before .before .before .version-in .ensures) (c .before .before .before .before .before .before .before .before .add-attribute-plan .ensures) zeros-long (c .before .before .before .before .before .before .put-added .ensures) (length (c .before .before .before .before .before .before .before .before .before .before .before .before .before .before .before .before .before .before .before .args .out .now)) (c .before .before .edit-form .ensures)
+returns-2 c =
+    let at-edit-form = c .before .before in
+    let at-put-added = at-edit-form .before .before .before .before in
+    let at-add-attribute-plan = at-put-added .before .before in
+    let at-version-in = at-add-attribute-plan .before in
+    let at-attributes-to = at-version-in .before in
+    let at-attribute-count = at-attributes-to .before .before in
+    let at-particle-count = at-attribute-count .before in
+    let at-definition-count = at-particle-count .before in
+    let start = at-definition-count .before .before .before .before .before in
+    added-answers (start .args .store .now) (start .args .owner) (start .args .name .now) (start .args .sort) (start .args .value .now) (start .pre)
+    (at-definition-count .definition-count .ensures) (at-particle-count .particle-count .ensures) (at-attribute-count .attribute-count .ensures) (omega arith)
+    (at-attributes-to .attributes-to .ensures) (at-version-in .version-in .ensures) (at-add-attribute-plan .add-attribute-plan .ensures) zeros-long (at-put-added .put-added .ensures) (length (start .args .out .now))
+    (at-edit-form .edit-form .ensures)
 
 pub write-added-spec : {M : Type 1} → statement M
 write-added-spec =

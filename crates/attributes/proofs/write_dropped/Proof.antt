@@ -30,25 +30,69 @@ put-dropped-requires : tie.Need-put-dropped-requires
 put-dropped-requires c κs = search needs
 
 array-share-prefix-form : tie.Need-array-share-prefix-form
-array-share-prefix-form c = dropped-fits (c .before .before .before .before .before .before .before .before .before .before .args .store .now) (c .before .before .before .before .before .before .before .before .before .before .args .attribute) (c .before .before .before .before .before .before .before .before .before .before .pre) (c .before .before .before .before .before .before .before .definition-count .ensures) (c .before .before .before .before .before .before .particle-count .ensures) (c .before .before .before .before .before .attribute-count .ensures) (c .before .before .before .before .owner-of .ensures) (c .before .before .before .destroy-attribute-plan .ensures) zeros-long (c .before .put-dropped .ensures)
+array-share-prefix-form c =
+    let at-put-dropped = c .before in
+    let at-destroy-attribute-plan = at-put-dropped .before .before in
+    let at-owner-of = at-destroy-attribute-plan .before in
+    let at-attribute-count = at-owner-of .before in
+    let at-particle-count = at-attribute-count .before in
+    let at-definition-count = at-particle-count .before in
+    let start = at-definition-count .before .before .before in
+    dropped-fits (start .args .store .now) (start .args .attribute) (start .pre) (at-definition-count .definition-count .ensures) (at-particle-count .particle-count .ensures)
+    (at-attribute-count .attribute-count .ensures) (at-owner-of .owner-of .ensures) (at-destroy-attribute-plan .destroy-attribute-plan .ensures) zeros-long
+    (at-put-dropped .put-dropped .ensures)
 
 slice-aggregate-edit-form : tie.Need-slice-aggregate-edit-form
-slice-aggregate-edit-form c = dropped-long (c .before .before .before .before .before .before .before .before .before .before .before .args .store .now) (c .before .before .before .before .before .before .before .before .before .before .before .args .attribute) (c .before .before .before .before .before .before .before .before .before .before .before .pre) (c .before .before .before .before .before .before .before .before .definition-count .ensures) (c .before .before .before .before .before .before .before .particle-count .ensures) (c .before .before .before .before .before .before .attribute-count .ensures) (c .before .before .before .before .before .owner-of .ensures) (c .before .before .before .before .destroy-attribute-plan .ensures) zeros-long (c .before .before .put-dropped .ensures)
+slice-aggregate-edit-form c =
+    let at-put-dropped = c .before .before in
+    let at-destroy-attribute-plan = at-put-dropped .before .before in
+    let at-owner-of = at-destroy-attribute-plan .before in
+    let at-attribute-count = at-owner-of .before in
+    let at-particle-count = at-attribute-count .before in
+    let at-definition-count = at-particle-count .before in
+    let start = at-definition-count .before .before .before in
+    dropped-long (start .args .store .now) (start .args .attribute) (start .pre) (at-definition-count .definition-count .ensures) (at-particle-count .particle-count .ensures)
+    (at-attribute-count .attribute-count .ensures) (at-owner-of .owner-of .ensures) (at-destroy-attribute-plan .destroy-attribute-plan .ensures) zeros-long
+    (at-put-dropped .put-dropped .ensures)
 
 sub-edit-form : tie.Need-sub-edit-form
-sub-edit-form c = omega (arith, c .before .before .before .before .before .before .before .before .before .before .before .pre .inside, count-attributes (c .before .before .before .before .before .before .before .before .before .before .before .args .store .now) (c .before .before .before .before .before .before .attribute-count .ensures))
+sub-edit-form c =
+    let at-attribute-count = c .before .before .before .before .before .before in
+    let start = at-attribute-count .before .before .before .before .before in
+    omega (arith, start .pre .inside, count-attributes (start .args .store .now) (at-attribute-count .attribute-count .ensures))
 
 slice-aggregate-edit-form-2 : tie.Need-slice-aggregate-edit-form-2
 slice-aggregate-edit-form-2 c = search needs
 
 edit-form-requires : tie.Need-edit-form-requires
-edit-form-requires c κs = dropped-asks (c .before .before .before .before .before .before .before .before .before .before .before .before .before .args .store .now) (c .before .before .before .before .before .before .before .before .before .before .before .before .before .args .attribute) (c .before .before .before .before .before .before .before .before .before .before .before .before .before .pre) (c .before .before .before .before .before .before .before .before .before .before .definition-count .ensures) (c .before .before .before .before .before .before .before .before .before .particle-count .ensures) (c .before .before .before .before .before .before .before .before .attribute-count .ensures) (c .before .before .before .before .before .before .before .owner-of .ensures) (c .before .before .before .before .before .before .destroy-attribute-plan .ensures) zeros-long (c .before .before .before .before .put-dropped .ensures)
+edit-form-requires c κs =
+    let at-put-dropped = c .before .before .before .before in
+    let at-destroy-attribute-plan = at-put-dropped .before .before in
+    let at-owner-of = at-destroy-attribute-plan .before in
+    let at-attribute-count = at-owner-of .before in
+    let at-particle-count = at-attribute-count .before in
+    let at-definition-count = at-particle-count .before in
+    let start = at-definition-count .before .before .before in
+    dropped-asks (start .args .store .now) (start .args .attribute) (start .pre) (at-definition-count .definition-count .ensures) (at-particle-count .particle-count .ensures)
+    (at-attribute-count .attribute-count .ensures) (at-owner-of .owner-of .ensures) (at-destroy-attribute-plan .destroy-attribute-plan .ensures) zeros-long
+    (at-put-dropped .put-dropped .ensures)
 
 same-length : tie.Need-same-length
 same-length c = search needs
 
 returns : tie.Need-returns
-returns c = dropped-answers (c .before .before .before .before .before .before .before .before .before .before .before .before .before .before .before .before .args .store .now) (c .before .before .before .before .before .before .before .before .before .before .before .before .before .before .before .before .args .attribute) (c .before .before .before .before .before .before .before .before .before .before .before .before .before .before .before .before .pre) (c .before .before .before .before .before .before .before .before .before .before .before .before .before .definition-count .ensures) (c .before .before .before .before .before .before .before .before .before .before .before .before .particle-count .ensures) (c .before .before .before .before .before .before .before .before .before .before .before .attribute-count .ensures) (c .before .before .before .before .before .before .before .before .before .before .owner-of .ensures) (c .before .before .before .before .before .before .before .before .before .destroy-attribute-plan .ensures) zeros-long (c .before .before .before .before .before .before .before .put-dropped .ensures) (length (c .before .before .before .before .before .before .before .before .before .before .before .before .before .before .before .before .args .out .now)) (c .before .before .edit-form .ensures)
+returns c =
+    let at-edit-form = c .before .before in
+    let at-put-dropped = at-edit-form .before .before .before .before .before in
+    let at-destroy-attribute-plan = at-put-dropped .before .before in
+    let at-owner-of = at-destroy-attribute-plan .before in
+    let at-attribute-count = at-owner-of .before in
+    let at-particle-count = at-attribute-count .before in
+    let at-definition-count = at-particle-count .before in
+    let start = at-definition-count .before .before .before in
+    dropped-answers (start .args .store .now) (start .args .attribute) (start .pre) (at-definition-count .definition-count .ensures) (at-particle-count .particle-count .ensures)
+    (at-attribute-count .attribute-count .ensures) (at-owner-of .owner-of .ensures) (at-destroy-attribute-plan .destroy-attribute-plan .ensures) zeros-long
+    (at-put-dropped .put-dropped .ensures) (length (start .args .out .now)) (at-edit-form .edit-form .ensures)
 
 pub write-dropped-spec : {M : Type 1} → statement M
 write-dropped-spec =

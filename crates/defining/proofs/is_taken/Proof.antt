@@ -35,7 +35,19 @@ equal-requires : tie.Need-equal-requires Inv-loop μ-loop
 equal-requires c κs = search needs
 
 returns : tie.Need-returns Inv-loop μ-loop
-returns c = let n = c .before .before .before .before .before .before .before .before .before .before .args .name .now in let l = c .before .before .before .before .before .loop in definitions-named (c .before .before .before .before .before .before .before .before .before .before .args .store .now) n (c .before .before .before .before .before .before .before .definition-count .ensures) (c .before .before .before .before .before .before .definitions-of .ensures) (searching-hit readDefinition definitionSize (hasName n) _ _ (l .i) (l .inv) (omega arith) (record-named n (l .i) _ (c .before .before .before .definition-at .ensures) (c .before .before .definition-name .ensures) (c .before .equal .ensures)) (c .if1 .taken))
+returns c =
+    let at-equal = c .before in
+    let at-definition-name = at-equal .before in
+    let at-definition-at = at-definition-name .before in
+    let at-loop = at-definition-at .before .before in
+    let at-definitions-of = at-loop .before in
+    let at-definition-count = at-definitions-of .before in
+    let start = at-definition-count .before .before .before in
+    let n = start .args .name .now in
+    let l = at-loop .loop in
+    definitions-named (start .args .store .now) n (at-definition-count .definition-count .ensures) (at-definitions-of .definitions-of .ensures)
+    (searching-hit readDefinition definitionSize (hasName n) _ _ (l .i) (l .inv) (omega arith)
+    (record-named n (l .i) _ (at-definition-at .definition-at .ensures) (at-definition-name .definition-name .ensures) (at-equal .equal .ensures)) (c .if1 .taken))
 
 add-i : tie.Need-add-i Inv-loop μ-loop
 add-i c = search needs
@@ -44,10 +56,27 @@ loop-less : tie.Need-loop-less Inv-loop μ-loop
 loop-less c = search needs
 
 loop-again : tie.Need-loop-again Inv-loop μ-loop
-loop-again c = let n = c .before .before .before .before .before .before .before .before .before .before .args .name .now in let l = c .before .before .before .before .before .loop in searching-on readDefinition definitionSize (hasName n) _ _ (l .i) (l .inv) (omega arith) (record-named n (l .i) _ (c .before .before .before .definition-at .ensures) (c .before .before .definition-name .ensures) (c .before .equal .ensures)) (c .if1 .left)
+loop-again c =
+    let at-equal = c .before in
+    let at-definition-name = at-equal .before in
+    let at-definition-at = at-definition-name .before in
+    let at-loop = at-definition-at .before .before in
+    let start = at-loop .before .before .before .before .before in
+    let n = start .args .name .now in
+    let l = at-loop .loop in
+    searching-on readDefinition definitionSize (hasName n) _ _ (l .i) (l .inv) (omega arith)
+    (record-named n (l .i) _ (at-definition-at .definition-at .ensures) (at-definition-name .definition-name .ensures) (at-equal .equal .ensures)) (c .if1 .left)
 
 returns-2 : tie.Need-returns-2 Inv-loop μ-loop
-returns-2 c = let n = c .before .before .before .before .before .before .args .name .now in let l = c .before .loop in definitions-named (c .before .before .before .before .before .before .args .store .now) n (c .before .before .before .definition-count .ensures) (c .before .before .definitions-of .ensures) (searching-end readDefinition definitionSize (hasName n) _ _ (l .i) (l .inv) (omega arith))
+returns-2 c =
+    let at-loop = c .before in
+    let at-definitions-of = at-loop .before in
+    let at-definition-count = at-definitions-of .before in
+    let start = at-definition-count .before .before .before in
+    let n = start .args .name .now in
+    let l = at-loop .loop in
+    definitions-named (start .args .store .now) n (at-definition-count .definition-count .ensures) (at-definitions-of .definitions-of .ensures)
+    (searching-end readDefinition definitionSize (hasName n) _ _ (l .i) (l .inv) (omega arith))
 
 pub is-taken-spec : {M : Type 1} → statement M
 is-taken-spec =

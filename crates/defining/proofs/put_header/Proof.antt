@@ -22,7 +22,17 @@ same-length : tie.Need-same-length
 same-length c = search needs
 
 returns : tie.Need-returns
-returns c = let a = c .before .before .before .before .before .before .before .before .before .args in laid-as (λ i. headed (sym (c .before .before .before .before .before .before .width-in .ensures .value) i) (sym (c .before .before .before .before .before .next-serial .ensures .value) i) (a .d) (a .p) (a .a) (sym (c .before .before .before .before .row-count .ensures .value) i) (a .store .now)) (c .before .before .put-header .ensures)
+returns c =
+    let at-put-header = c .before .before in
+    let at-row-count = at-put-header .before .before in
+    let at-next-serial = at-row-count .before in
+    let at-width-in = at-next-serial .before in
+    let start = at-width-in .before .before .before in
+    let a = start .args in
+    laid-as
+    (λ i. headed (sym (at-width-in .width-in .ensures .value) i) (sym (at-next-serial .next-serial .ensures .value) i) (a .d) (a .p) (a .a)
+    (sym (at-row-count .row-count .ensures .value) i) (a .store .now))
+    (at-put-header .put-header .ensures)
 
 pub put-header-spec : {M : Type 1} → statement M
 put-header-spec =

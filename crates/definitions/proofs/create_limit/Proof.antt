@@ -9,7 +9,11 @@ definition-count-requires : tie.Need-definition-count-requires
 definition-count-requires c κs = search needs
 
 returns : tie.Need-returns
-returns c = at-ceiling (c .before .before .before .before .args .name .now) (c .before .before .before .before .args .kind) (c .before .before .before .before .args .store .now) (c .before .before .before .before .pre) (c .before .before .before .before .args .room) (omega (arith, c .before .definition-count .ensures .value))
+returns c =
+    let at-definition-count = c .before in
+    let start = at-definition-count .before .before .before in
+    at-ceiling (start .args .name .now) (start .args .kind) (start .args .store .now) (start .pre) (start .args .room)
+    (omega (arith, at-definition-count .definition-count .ensures .value))
 
 definition-size-requires : tie.Need-definition-size-requires
 definition-size-requires c κs = search needs
@@ -18,10 +22,20 @@ add-if2 : tie.Need-add-if2
 add-if2 c = search needs
 
 returns-2 : tie.Need-returns-2
-returns-2 c = no-room (c .before .before .before .before .before .before .args .name .now) (c .before .before .before .before .before .before .args .kind) (c .before .before .before .before .before .before .args .store .now) (c .before .before .before .before .before .before .pre) (c .before .before .before .before .before .before .args .room) (omega (arith, c .before .before .before .definition-count .ensures .value)) (omega (arith, c .before .definition-size .ensures))
+returns-2 c =
+    let at-definition-size = c .before in
+    let at-definition-count = at-definition-size .before .before in
+    let start = at-definition-count .before .before .before in
+    no-room (start .args .name .now) (start .args .kind) (start .args .store .now) (start .pre) (start .args .room)
+    (omega (arith, at-definition-count .definition-count .ensures .value)) (omega (arith, at-definition-size .definition-size .ensures))
 
 returns-3 : tie.Need-returns-3
-returns-3 c = no-limit (c .before .before .before .before .before .before .args .name .now) (c .before .before .before .before .before .before .args .kind) (c .before .before .before .before .before .before .args .store .now) (c .before .before .before .before .before .before .pre) (c .before .before .before .before .before .before .args .room) (omega (arith, c .before .before .before .definition-count .ensures .value)) (omega (arith, c .before .definition-size .ensures))
+returns-3 c =
+    let at-definition-size = c .before in
+    let at-definition-count = at-definition-size .before .before in
+    let start = at-definition-count .before .before .before in
+    no-limit (start .args .name .now) (start .args .kind) (start .args .store .now) (start .pre) (start .args .room)
+    (omega (arith, at-definition-count .definition-count .ensures .value)) (omega (arith, at-definition-size .definition-size .ensures))
 
 pub create-limit-spec : {M : Type 1} → statement M
 create-limit-spec =

@@ -33,10 +33,34 @@ has-root-requires : tie.Need-has-root-requires
 has-root-requires c κs = search needs
 
 returns-2 : tie.Need-returns-2
-returns-2 c = used (c .before .before .before .before .before .before .before .before .before .before .before .args .store .now) (c .before .before .before .before .before .before .before .before .before .before .before .args .i) (c .before .before .before .before .before .before .before .before .before .before .before .pre) (omega (arith, c .before .before .before .before .before .before .before .before .before .definition-count .ensures .value)) (c .before .before .before .before .before .before .before .width-in .ensures) (c .before .before .before .before .particles-of .ensures) (c .before .before .rows-of .ensures) (c .before .before .before .before .before .before .particle-count .ensures) (c .before .before .before .before .before .row-count .ensures) (c .before .before .before .has-member .ensures) (c .before .has-root .ensures) (c .if2 .taken)
+returns-2 c =
+    let at-has-root = c .before in
+    let at-rows-of = at-has-root .before in
+    let at-has-member = at-rows-of .before in
+    let at-particles-of = at-has-member .before in
+    let at-row-count = at-particles-of .before in
+    let at-particle-count = at-row-count .before in
+    let at-width-in = at-particle-count .before in
+    let at-definition-count = at-width-in .before .before in
+    let start = at-definition-count .before .before in
+    used (start .args .store .now) (start .args .i) (start .pre) (omega (arith, at-definition-count .definition-count .ensures .value)) (at-width-in .width-in .ensures)
+    (at-particles-of .particles-of .ensures) (at-rows-of .rows-of .ensures) (at-particle-count .particle-count .ensures) (at-row-count .row-count .ensures)
+    (at-has-member .has-member .ensures) (at-has-root .has-root .ensures) (c .if2 .taken)
 
 returns-3 : tie.Need-returns-3
-returns-3 c = unused (c .before .before .before .before .before .before .before .before .before .before .before .args .store .now) (c .before .before .before .before .before .before .before .before .before .before .before .args .i) (c .before .before .before .before .before .before .before .before .before .before .before .pre) (omega (arith, c .before .before .before .before .before .before .before .before .before .definition-count .ensures .value)) (c .before .before .before .before .before .before .before .width-in .ensures) (c .before .before .before .before .particles-of .ensures) (c .before .before .rows-of .ensures) (c .before .before .before .before .before .before .particle-count .ensures) (c .before .before .before .before .before .row-count .ensures) (c .before .before .before .has-member .ensures) (c .before .has-root .ensures) (c .if2 .left)
+returns-3 c =
+    let at-has-root = c .before in
+    let at-rows-of = at-has-root .before in
+    let at-has-member = at-rows-of .before in
+    let at-particles-of = at-has-member .before in
+    let at-row-count = at-particles-of .before in
+    let at-particle-count = at-row-count .before in
+    let at-width-in = at-particle-count .before in
+    let at-definition-count = at-width-in .before .before in
+    let start = at-definition-count .before .before in
+    unused (start .args .store .now) (start .args .i) (start .pre) (omega (arith, at-definition-count .definition-count .ensures .value)) (at-width-in .width-in .ensures)
+    (at-particles-of .particles-of .ensures) (at-rows-of .rows-of .ensures) (at-particle-count .particle-count .ensures) (at-row-count .row-count .ensures)
+    (at-has-member .has-member .ensures) (at-has-root .has-root .ensures) (c .if2 .left)
 
 pub destroy-condition-spec : {M : Type 1} → statement M
 destroy-condition-spec =

@@ -27,10 +27,30 @@ through-rows-requires : tie.Need-through-rows-requires
 through-rows-requires c κs = search needs
 
 returns : tie.Need-returns
-returns c = short-room (c .before .before .before .before .before .before .before .before .args .store .now) (c .before .before .before .before .before .before .before .before .pre .good) (c .before .before .before .before .before .before .before .before .args .i) (c .before .before .before .before .before .before .before .before .pre .there) _ _ (c .before .before .before .before .particles-left .ensures) (c .before .before .before .attributes-left .ensures) (c .before .before .before .before .before .before .before .before .args .room) (c .before .before .before .before .before .before .width-in .ensures) (c .before .before .before .before .before .definition-count .ensures) (c .before .before .row-count .ensures) (c .before .through-rows .ensures) (omega arith)
+returns c =
+    let at-through-rows = c .before in
+    let at-row-count = at-through-rows .before in
+    let at-attributes-left = at-row-count .before in
+    let at-particles-left = at-attributes-left .before in
+    let at-definition-count = at-particles-left .before in
+    let at-width-in = at-definition-count .before in
+    let start = at-width-in .before .before in
+    short-room (start .args .store .now) (start .pre .good) (start .args .i) (start .pre .there) _ _ (at-particles-left .particles-left .ensures)
+    (at-attributes-left .attributes-left .ensures) (start .args .room) (at-width-in .width-in .ensures) (at-definition-count .definition-count .ensures)
+    (at-row-count .row-count .ensures) (at-through-rows .through-rows .ensures) (omega arith)
 
 returns-2 : tie.Need-returns-2
-returns-2 c = enough-room (c .before .before .before .before .before .before .before .before .args .store .now) (c .before .before .before .before .before .before .before .before .pre .good) (c .before .before .before .before .before .before .before .before .args .i) (c .before .before .before .before .before .before .before .before .pre .there) _ _ (c .before .before .before .before .particles-left .ensures) (c .before .before .before .attributes-left .ensures) (c .before .before .before .before .before .before .before .before .args .room) (c .before .before .before .before .before .before .width-in .ensures) (c .before .before .before .before .before .definition-count .ensures) (c .before .before .row-count .ensures) (c .before .through-rows .ensures) (omega arith)
+returns-2 c =
+    let at-through-rows = c .before in
+    let at-row-count = at-through-rows .before in
+    let at-attributes-left = at-row-count .before in
+    let at-particles-left = at-attributes-left .before in
+    let at-definition-count = at-particles-left .before in
+    let at-width-in = at-definition-count .before in
+    let start = at-width-in .before .before in
+    enough-room (start .args .store .now) (start .pre .good) (start .args .i) (start .pre .there) _ _ (at-particles-left .particles-left .ensures)
+    (at-attributes-left .attributes-left .ensures) (start .args .room) (at-width-in .width-in .ensures) (at-definition-count .definition-count .ensures)
+    (at-row-count .row-count .ensures) (at-through-rows .through-rows .ensures) (omega arith)
 
 pub destroy-limit-spec : {M : Type 1} → statement M
 destroy-limit-spec =

@@ -18,16 +18,38 @@ particle-count-requires : tie.Need-particle-count-requires
 particle-count-requires c κs = search needs
 
 sub-result : tie.Need-sub-result
-sub-result c = omega (arith, many-in (c .before .before .before .before .args .store .now) (c .before .before .before .before .args .owner) (c .before .before .definitions-of .ensures) (c .before .particles-of .ensures .0), c .particle-count .ensures .value, c .before .before .before .before .pre .1)
+sub-result c =
+    let at-particles-of = c .before in
+    let at-definitions-of = at-particles-of .before in
+    let start = at-definitions-of .before .before in
+    omega (
+      arith,
+      many-in (start .args .store .now) (start .args .owner) (at-definitions-of .definitions-of .ensures) (at-particles-of .particles-of .ensures .0),
+      c .particle-count .ensures .value,
+      start .pre .1,
+    )
 
 length-after-requires : tie.Need-length-after-requires
 length-after-requires c κs = search needs
 
 add-result : tie.Need-add-result
-add-result c = omega (arith, c .before .before .particles-of .ensures .1, c .before .particle-count .ensures .small, few-more (c .before .before .before .before .before .args .edit) _ (c .length-after .ensures))
+add-result c =
+    let at-particle-count = c .before in
+    let at-particles-of = at-particle-count .before in
+    let start = at-particles-of .before .before .before in
+    omega (arith, at-particles-of .particles-of .ensures .1, at-particle-count .particle-count .ensures .small, few-more (start .args .edit) _ (c .length-after .ensures))
 
 returns : tie.Need-returns
-returns c = ap₂ (λ (u v : ℕ). u + v) (ap₂ (λ (u v : ℕ). u - v) (c .before .particle-count .ensures .value) (many-in (c .before .before .before .before .before .args .store .now) (c .before .before .before .before .before .args .owner) (c .before .before .before .definitions-of .ensures) (c .before .before .particles-of .ensures .0))) (after-in (c .before .before .before .before .before .args .store .now) (c .before .before .before .before .before .args .owner) (c .before .before .before .definitions-of .ensures) (c .before .before .before .before .before .args .edit) (c .before .before .particles-of .ensures .0) (c .length-after .ensures))
+returns c =
+    let at-particle-count = c .before in
+    let at-particles-of = at-particle-count .before in
+    let at-definitions-of = at-particles-of .before in
+    let start = at-definitions-of .before .before in
+    ap₂ (λ (u v : ℕ). u + v)
+    (ap₂ (λ (u v : ℕ). u - v) (at-particle-count .particle-count .ensures .value)
+    (many-in (start .args .store .now) (start .args .owner) (at-definitions-of .definitions-of .ensures) (at-particles-of .particles-of .ensures .0)))
+    (after-in (start .args .store .now) (start .args .owner) (at-definitions-of .definitions-of .ensures) (start .args .edit) (at-particles-of .particles-of .ensures .0)
+    (c .length-after .ensures))
 
 pub all-after-spec : {M : Type 1} → statement M
 all-after-spec =

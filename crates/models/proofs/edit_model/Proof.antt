@@ -22,7 +22,13 @@ refused-requires : tie.Need-refused-requires
 refused-requires c κs = search needs
 
 returns : tie.Need-returns
-returns c = answers-as (c .refused .ensures .0) (c .refused .ensures .1) (form-ceiling _ (sym (c .before .before .keeps-within .ensures) ∙ not-true _ (c .before .if1 .taken)) (c .before .before .before .before .before .before .before .args .plan) (c .before .before .before .before .before .before .before .args .text .now) (bodiesOf (c .before .before .before .before .before .before .before .args .store .now)) (length (c .before .before .before .before .before .before .before .args .out .now)))
+returns c =
+    let at-if1 = c .before in
+    let at-keeps-within = at-if1 .before in
+    let start = at-keeps-within .before .before .before .before .before in
+    answers-as (c .refused .ensures .0) (c .refused .ensures .1)
+    (form-ceiling _ (sym (at-keeps-within .keeps-within .ensures) ∙ not-true _ (at-if1 .if1 .taken)) (start .args .plan) (start .args .text .now)
+    (bodiesOf (start .args .store .now)) (length (start .args .out .now)))
 
 definition-count-requires : tie.Need-definition-count-requires
 definition-count-requires c κs = search needs
@@ -34,22 +40,72 @@ slice-aggregate-put-edited : tie.Need-slice-aggregate-put-edited
 slice-aggregate-put-edited c = search needs
 
 put-edited-requires : tie.Need-put-edited-requires
-put-edited-requires c κs = (c .before .before .before .before .before .before .before .before .before .pre .0, sym (c .before .before .before .before .keeps-within .ensures) ∙ not-false _ (c .before .before .before .if1 .left))
+put-edited-requires c κs =
+    let at-if1 = c .before .before .before in
+    let at-keeps-within = at-if1 .before in
+    let start = at-keeps-within .before .before .before .before .before in
+    (start .pre .0, sym (at-keeps-within .keeps-within .ensures) ∙ not-false _ (at-if1 .if1 .left))
 
 array-share-prefix-form : tie.Need-array-share-prefix-form
-array-share-prefix-form c = (stored (c .before .put-edited .ensures) (length-replicate {A = ℕ} 9728 0) (form-short (c .before .before .before .before .before .before .before .before .before .before .before .pre .0) (sym (c .before .before .before .before .before .before .keeps-within .ensures) ∙ not-false _ (c .before .before .before .before .before .if1 .left)))) .inside
+array-share-prefix-form c =
+    let at-put-edited = c .before in
+    let at-if1 = at-put-edited .before .before .before .before in
+    let at-keeps-within = at-if1 .before in
+    let start = at-keeps-within .before .before .before .before .before in
+    (stored (at-put-edited .put-edited .ensures) (length-replicate {A = ℕ} 9728 0)
+    (form-short (start .pre .0) (sym (at-keeps-within .keeps-within .ensures) ∙ not-false _ (at-if1 .if1 .left))))
+    .inside
 
 slice-aggregate-edit-form : tie.Need-slice-aggregate-edit-form
-slice-aggregate-edit-form c = (stored (c .before .before .put-edited .ensures) (length-replicate {A = ℕ} 9728 0) (form-short (c .before .before .before .before .before .before .before .before .before .before .before .before .pre .0) (sym (c .before .before .before .before .before .before .before .keeps-within .ensures) ∙ not-false _ (c .before .before .before .before .before .before .if1 .left)))) .count
+slice-aggregate-edit-form c =
+    let at-put-edited = c .before .before in
+    let at-if1 = at-put-edited .before .before .before .before in
+    let at-keeps-within = at-if1 .before in
+    let start = at-keeps-within .before .before .before .before .before in
+    (stored (at-put-edited .put-edited .ensures) (length-replicate {A = ℕ} 9728 0)
+    (form-short (start .pre .0) (sym (at-keeps-within .keeps-within .ensures) ∙ not-false _ (at-if1 .if1 .left))))
+    .count
 
 edit-form-requires : tie.Need-edit-form-requires
-edit-form-requires c κs = (c .before .before .before .before .before .before .before .before .before .before .before .before .before .pre .0 .good, c .before .before .before .before .before .before .before .before .before .before .before .before .before .pre .1, c .before .before .before .before .before .before .before .before .before .before .before .before .before .pre .2, forms-of (form-of (c .before .before .before .before .before .before .before .before .before .before .before .before .before .pre .0) (sym (c .before .before .before .before .before .before .before .before .keeps-within .ensures) ∙ not-false _ (c .before .before .before .before .before .before .before .if1 .left)) (c .before .before .before .before .before .before .definition-count .ensures) (as-many (c .before .before .before .before .before .before .before .before .before .before .before .before .before .pre .0) (c .before .before .before .before .before .before .before .before .before .all-after .ensures)) (c .before .before .before .before .before .attribute-count .ensures) ((stored (c .before .before .before .put-edited .ensures) (length-replicate {A = ℕ} 9728 0) (form-short (c .before .before .before .before .before .before .before .before .before .before .before .before .before .pre .0) (sym (c .before .before .before .before .before .before .before .before .keeps-within .ensures) ∙ not-false _ (c .before .before .before .before .before .before .before .if1 .left)))) .is)))
+edit-form-requires c κs =
+    let at-put-edited = c .before .before .before in
+    let at-attribute-count = at-put-edited .before .before in
+    let at-definition-count = at-attribute-count .before in
+    let at-if1 = at-definition-count .before in
+    let at-keeps-within = at-if1 .before in
+    let at-all-after = at-keeps-within .before in
+    let start = at-all-after .before .before .before .before in (
+      start .pre .0 .good,
+      start .pre .1,
+      start .pre .2,
+      forms-of
+          (form-of (start .pre .0) (sym (at-keeps-within .keeps-within .ensures) ∙ not-false _ (at-if1 .if1 .left)) (at-definition-count .definition-count .ensures)
+          (as-many (start .pre .0) (at-all-after .all-after .ensures)) (at-attribute-count .attribute-count .ensures)
+          ((stored (at-put-edited .put-edited .ensures) (length-replicate {A = ℕ} 9728 0)
+          (form-short (start .pre .0) (sym (at-keeps-within .keeps-within .ensures) ∙ not-false _ (at-if1 .if1 .left))))
+          .is)),
+    )
 
 same-length : tie.Need-same-length
 same-length c = search needs
 
 returns-2 : tie.Need-returns-2
-returns-2 c = form-answers (form-of (c .before .before .before .before .before .before .before .before .before .before .before .before .before .before .before .before .pre .0) (sym (c .before .before .before .before .before .before .before .before .before .before .before .keeps-within .ensures) ∙ not-false _ (c .before .before .before .before .before .before .before .before .before .before .if1 .left)) (c .before .before .before .before .before .before .before .before .before .definition-count .ensures) (as-many (c .before .before .before .before .before .before .before .before .before .before .before .before .before .before .before .before .pre .0) (c .before .before .before .before .before .before .before .before .before .before .before .before .all-after .ensures)) (c .before .before .before .before .before .before .before .before .attribute-count .ensures) ((stored (c .before .before .before .before .before .before .put-edited .ensures) (length-replicate {A = ℕ} 9728 0) (form-short (c .before .before .before .before .before .before .before .before .before .before .before .before .before .before .before .before .pre .0) (sym (c .before .before .before .before .before .before .before .before .before .before .before .keeps-within .ensures) ∙ not-false _ (c .before .before .before .before .before .before .before .before .before .before .if1 .left)))) .is)) (c .before .before .before .before .before .before .before .before .before .before .before .before .before .before .before .before .args .plan) (c .before .before .before .before .before .before .before .before .before .before .before .before .before .before .before .before .args .text .now) (bodiesOf (c .before .before .before .before .before .before .before .before .before .before .before .before .before .before .before .before .args .store .now)) (length (c .before .before .before .before .before .before .before .before .before .before .before .before .before .before .before .before .args .out .now)) (c .before .before .edit-form .ensures)
+returns-2 c =
+    let at-edit-form = c .before .before in
+    let at-put-edited = at-edit-form .before .before .before .before in
+    let at-attribute-count = at-put-edited .before .before in
+    let at-definition-count = at-attribute-count .before in
+    let at-if1 = at-definition-count .before in
+    let at-keeps-within = at-if1 .before in
+    let at-all-after = at-keeps-within .before in
+    let start = at-all-after .before .before .before .before in
+    form-answers
+    (form-of (start .pre .0) (sym (at-keeps-within .keeps-within .ensures) ∙ not-false _ (at-if1 .if1 .left)) (at-definition-count .definition-count .ensures)
+    (as-many (start .pre .0) (at-all-after .all-after .ensures)) (at-attribute-count .attribute-count .ensures)
+    ((stored (at-put-edited .put-edited .ensures) (length-replicate {A = ℕ} 9728 0)
+    (form-short (start .pre .0) (sym (at-keeps-within .keeps-within .ensures) ∙ not-false _ (at-if1 .if1 .left))))
+    .is))
+    (start .args .plan) (start .args .text .now) (bodiesOf (start .args .store .now)) (length (start .args .out .now)) (at-edit-form .edit-form .ensures)
 
 pub edit-model-spec : {M : Type 1} → statement M
 edit-model-spec =

@@ -30,7 +30,13 @@ refused-requires : tie.Need-refused-requires
 refused-requires c κs = search needs
 
 returns : tie.Need-returns
-returns c = answers-as (c .refused .ensures .0) (c .refused .ensures .1) (answers-bad (flattenGroup (c .before .before .before .before .before .before .args .owner) (c .before .before .before .before .before .before .args .place .now)) (c .before .before .before .before .before .before .args .store .now) (length (c .before .before .before .before .before .before .args .out .now)) (sym (c .before .before .passes .ensures) ∙ not-true _ (c .before .if1 .taken)))
+returns c =
+    let at-if1 = c .before in
+    let at-passes = at-if1 .before in
+    let start = at-passes .before .before .before .before in
+    answers-as (c .refused .ensures .0) (c .refused .ensures .1)
+    (answers-bad (flattenGroup (start .args .owner) (start .args .place .now)) (start .args .store .now) (length (start .args .out .now))
+    (sym (at-passes .passes .ensures) ∙ not-true _ (at-if1 .if1 .taken)))
 
 flatten-group-refusal-requires : tie.Need-flatten-group-refusal-requires
 flatten-group-refusal-requires c κs = (sym (c .before .passes .ensures) ∙ not-false _ (c .if1 .left))
@@ -39,10 +45,25 @@ refused-requires-2 : tie.Need-refused-requires-2
 refused-requires-2 c κs = search needs
 
 returns-2 : tie.Need-returns-2
-returns-2 c = answers-as (c .refused2 .ensures .0) (c .refused2 .ensures .1) (answers-refused (flattenGroup (c .before .before .before .before .before .before .before .before .args .owner) (c .before .before .before .before .before .before .before .before .args .place .now)) (c .before .before .before .before .before .before .before .before .args .store .now) (length (c .before .before .before .before .before .before .before .before .args .out .now)) (sym (c .before .before .before .before .passes .ensures) ∙ not-false _ (c .before .before .before .if1 .left)) _ (c .before .before .flatten-group-refusal .ensures) (c .before .if2 .taken))
+returns-2 c =
+    let at-if2 = c .before in
+    let at-flatten-group-refusal = at-if2 .before in
+    let at-if1 = at-flatten-group-refusal .before in
+    let at-passes = at-if1 .before in
+    let start = at-passes .before .before .before .before in
+    answers-as (c .refused2 .ensures .0) (c .refused2 .ensures .1)
+    (answers-refused (flattenGroup (start .args .owner) (start .args .place .now)) (start .args .store .now) (length (start .args .out .now))
+    (sym (at-passes .passes .ensures) ∙ not-false _ (at-if1 .if1 .left)) _ (at-flatten-group-refusal .flatten-group-refusal .ensures) (at-if2 .if2 .taken))
 
 own-part-requires : tie.Need-own-part-requires
-own-part-requires c κs = owner-fits (flatten-fits (c .before .before .before .before .before .before .before .args .store .now) (sym (c .before .before .before .passes .ensures) ∙ not-false _ (c .before .before .if1 .left)) (c .before .before .before .before .before .before .before .args .owner) (c .before .before .before .before .before .before .before .args .place .now) (sym (c .before .flatten-group-refusal .ensures) ∙ c .if2 .left))
+own-part-requires c κs =
+    let at-flatten-group-refusal = c .before in
+    let at-if1 = at-flatten-group-refusal .before in
+    let at-passes = at-if1 .before in
+    let start = at-passes .before .before .before .before in
+    owner-fits
+    (flatten-fits (start .args .store .now) (sym (at-passes .passes .ensures) ∙ not-false _ (at-if1 .if1 .left)) (start .args .owner) (start .args .place .now)
+    (sym (at-flatten-group-refusal .flatten-group-refusal .ensures) ∙ c .if2 .left))
 
 find-requires : tie.Need-find-requires
 find-requires c κs = search needs
@@ -63,16 +84,63 @@ slice-aggregate-edit-model : tie.Need-slice-aggregate-edit-model
 slice-aggregate-edit-model c = search needs
 
 edit-model-requires : tie.Need-edit-model-requires
-edit-model-requires c κs = (asks (flatten-fits (c .before .before .before .before .before .before .before .before .before .before .before .before .before .before .before .args .store .now) (sym (c .before .before .before .before .before .before .before .before .before .before .before .passes .ensures) ∙ not-false _ (c .before .before .before .before .before .before .before .before .before .before .if1 .left)) (c .before .before .before .before .before .before .before .before .before .before .before .before .before .before .before .args .owner) (c .before .before .before .before .before .before .before .before .before .before .before .before .before .before .before .args .place .now) (sym (c .before .before .before .before .before .before .before .before .before .flatten-group-refusal .ensures) ∙ c .before .before .before .before .before .before .before .before .if2 .left)) Flatten refl (c .before .before .before .before .before .before .before .own-part .ensures) (c .before .before .before .before .before .before .find .ensures) _ _ (c .before .before .before .found .given .1), no-value (c .before .before .before .before .before .before .before .before .before .before .before .before .before .before .before .args .store .now), keeping-sized (c .before .before .before .before .before .setting-plan .ensures))
+edit-model-requires c κs =
+    let at-found = c .before .before .before in
+    let at-setting-plan = at-found .before .before in
+    let at-find = at-setting-plan .before in
+    let at-own-part = at-find .before in
+    let at-if2 = at-own-part .before in
+    let at-flatten-group-refusal = at-if2 .before in
+    let at-if1 = at-flatten-group-refusal .before in
+    let at-passes = at-if1 .before in
+    let start = at-passes .before .before .before .before in (
+      asks
+          (flatten-fits (start .args .store .now) (sym (at-passes .passes .ensures) ∙ not-false _ (at-if1 .if1 .left)) (start .args .owner) (start .args .place .now)
+          (sym (at-flatten-group-refusal .flatten-group-refusal .ensures) ∙ at-if2 .if2 .left))
+          Flatten refl (at-own-part .own-part .ensures) (at-find .find .ensures) _ _ (at-found .found .given .1),
+      no-value (start .args .store .now),
+      keeping-sized (at-setting-plan .setting-plan .ensures),
+    )
 
 returns-3 : tie.Need-returns-3
-returns-3 c = absurd (not-absent (flatten-fits (c .before .before .before .before .before .before .before .before .before .before .before .before .before .args .store .now) (sym (c .before .before .before .before .before .before .before .before .before .passes .ensures) ∙ not-false _ (c .before .before .before .before .before .before .before .before .if1 .left)) (c .before .before .before .before .before .before .before .before .before .before .before .before .before .args .owner) (c .before .before .before .before .before .before .before .before .before .before .before .before .before .args .place .now) (sym (c .before .before .before .before .before .before .before .flatten-group-refusal .ensures) ∙ c .before .before .before .before .before .before .if2 .left)) Flatten refl (c .before .before .before .before .before .own-part .ensures) (c .before .before .before .before .find .ensures) (c .before .enum-told .given .1))
+returns-3 c =
+    let at-enum-told = c .before in
+    let at-find = at-enum-told .before .before .before in
+    let at-own-part = at-find .before in
+    let at-if2 = at-own-part .before in
+    let at-flatten-group-refusal = at-if2 .before in
+    let at-if1 = at-flatten-group-refusal .before in
+    let at-passes = at-if1 .before in
+    let start = at-passes .before .before .before .before in
+    absurd
+    (not-absent
+    (flatten-fits (start .args .store .now) (sym (at-passes .passes .ensures) ∙ not-false _ (at-if1 .if1 .left)) (start .args .owner) (start .args .place .now)
+    (sym (at-flatten-group-refusal .flatten-group-refusal .ensures) ∙ at-if2 .if2 .left))
+    Flatten refl (at-own-part .own-part .ensures) (at-find .find .ensures) (at-enum-told .enum-told .given .1))
 
 same-length : tie.Need-same-length
 same-length c = search needs
 
 returns-4 : tie.Need-returns-4
-returns-4 c = kept-answers (flatten-fits (c .before .before .before .before .before .before .before .before .before .before .before .before .before .before .before .before .before .before .args .store .now) (sym (c .before .before .before .before .before .before .before .before .before .before .before .before .before .before .passes .ensures) ∙ not-false _ (c .before .before .before .before .before .before .before .before .before .before .before .before .before .if1 .left)) (c .before .before .before .before .before .before .before .before .before .before .before .before .before .before .before .before .before .before .args .owner) (c .before .before .before .before .before .before .before .before .before .before .before .before .before .before .before .before .before .before .args .place .now) (sym (c .before .before .before .before .before .before .before .before .before .before .before .before .flatten-group-refusal .ensures) ∙ c .before .before .before .before .before .before .before .before .before .before .before .if2 .left)) Flatten refl (c .before .before .before .before .before .before .before .before .before .before .own-part .ensures) (c .before .before .before .before .before .before .before .before .before .find .ensures) _ _ (c .before .before .before .before .before .before .found .given .1) (flattenGroup (c .before .before .before .before .before .before .before .before .before .before .before .before .before .before .before .before .before .before .args .owner) (c .before .before .before .before .before .before .before .before .before .before .before .before .before .before .before .before .before .before .args .place .now)) (length (c .before .before .before .before .before .before .before .before .before .before .before .before .before .before .before .before .before .before .args .out .now)) _ (c .before .before .before .before .before .before .before .before .setting-plan .ensures) (c .before .before .before .before .before .before .before .before .before .before .before .before .flatten-group-refusal .ensures) (c .before .before .before .before .before .before .before .before .before .before .before .if2 .left) (flatten-form (c .before .before .before .before .before .before .before .before .before .before .before .before .before .before .before .before .before .before .args .owner) (c .before .before .before .before .before .before .before .before .before .before .before .before .before .before .before .before .before .before .args .place .now) (storeIn (c .before .before .before .before .before .before .before .before .before .before .before .before .before .before .before .before .before .before .args .store .now) .form)) (flatten-plan (c .before .before .before .before .before .before .before .before .before .before .before .before .before .before .before .before .before .before .args .owner) (c .before .before .before .before .before .before .before .before .before .before .before .before .before .before .before .before .before .before .args .place .now) (storeIn (c .before .before .before .before .before .before .before .before .before .before .before .before .before .before .before .before .before .before .args .store .now) .version) (storeIn (c .before .before .before .before .before .before .before .before .before .before .before .before .before .before .before .before .before .before .args .store .now) .form) (lines 0 (storeIn (c .before .before .before .before .before .before .before .before .before .before .before .before .before .before .before .before .before .before .args .store .now) .docs))) (c .before .before .edit-model .ensures)
+returns-4 c =
+    let at-edit-model = c .before .before in
+    let at-found = at-edit-model .before .before .before .before in
+    let at-setting-plan = at-found .before .before in
+    let at-find = at-setting-plan .before in
+    let at-own-part = at-find .before in
+    let at-if2 = at-own-part .before in
+    let at-flatten-group-refusal = at-if2 .before in
+    let at-if1 = at-flatten-group-refusal .before in
+    let at-passes = at-if1 .before in
+    let start = at-passes .before .before .before .before in
+    kept-answers
+    (flatten-fits (start .args .store .now) (sym (at-passes .passes .ensures) ∙ not-false _ (at-if1 .if1 .left)) (start .args .owner) (start .args .place .now)
+    (sym (at-flatten-group-refusal .flatten-group-refusal .ensures) ∙ at-if2 .if2 .left))
+    Flatten refl (at-own-part .own-part .ensures) (at-find .find .ensures) _ _ (at-found .found .given .1) (flattenGroup (start .args .owner) (start .args .place .now))
+    (length (start .args .out .now)) _ (at-setting-plan .setting-plan .ensures) (at-flatten-group-refusal .flatten-group-refusal .ensures) (at-if2 .if2 .left)
+    (flatten-form (start .args .owner) (start .args .place .now) (storeIn (start .args .store .now) .form))
+    (flatten-plan (start .args .owner) (start .args .place .now) (storeIn (start .args .store .now) .version) (storeIn (start .args .store .now) .form) (lines 0 (storeIn (start .args .store .now) .docs)))
+    (at-edit-model .edit-model .ensures)
 
 pub flatten-group-spec : {M : Type 1} → statement M
 flatten-group-spec =

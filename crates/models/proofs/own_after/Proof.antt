@@ -15,7 +15,12 @@ length-after-requires : tie.Need-length-after-requires
 length-after-requires c κs = search needs
 
 returns : tie.Need-returns
-returns c = after-in (c .before .before .before .before .args .store .now) (c .before .before .before .before .args .owner) (c .before .before .definitions-of .ensures) (c .before .before .before .before .args .edit) (c .before .particles-of .ensures .0) (c .length-after .ensures)
+returns c =
+    let at-particles-of = c .before in
+    let at-definitions-of = at-particles-of .before in
+    let start = at-definitions-of .before .before in
+    after-in (start .args .store .now) (start .args .owner) (at-definitions-of .definitions-of .ensures) (start .args .edit) (at-particles-of .particles-of .ensures .0)
+    (c .length-after .ensures)
 
 pub own-after-spec : {M : Type 1} → statement M
 own-after-spec =

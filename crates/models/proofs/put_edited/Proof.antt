@@ -15,22 +15,56 @@ cast-put-counted : tie.Need-cast-put-counted
 cast-put-counted c = omega (arith, c .before .own-after .ensures, own-short (c .before .before .before .before .pre .0) (c .before .before .before .before .pre .1))
 
 put-counted-requires : tie.Need-put-counted-requires
-put-counted-requires c κs = (omega (arith, owner-low (c .before .before .before .before .before .pre .0)), omega (arith, table-short (c .before .before .before .before .before .pre .0) (c .before .definitions-of .ensures)))
+put-counted-requires c κs =
+    let at-definitions-of = c .before in
+    let start = at-definitions-of .before .before .before .before in
+    (omega (arith, owner-low (start .pre .0)), omega (arith, table-short (start .pre .0) (at-definitions-of .definitions-of .ensures)))
 
 put-own-requires : tie.Need-put-own-requires
-put-own-requires c κs = (c .before .before .before .before .before .before .before .before .before .pre .0, c .before .before .before .before .before .before .before .before .before .pre .1, omega (arith, c .before .before .before .put-counted .ensures .next, counted-short (c .before .before .before .before .before .before .before .before .before .pre .0) (c .before .before .before .before .before .before .own-after .ensures) (c .before .before .before .before .before .definitions-of .ensures)))
+put-own-requires c κs =
+    let at-put-counted = c .before .before .before in
+    let at-definitions-of = at-put-counted .before .before in
+    let at-own-after = at-definitions-of .before in
+    let start = at-own-after .before .before .before in (
+      start .pre .0,
+      start .pre .1,
+      omega (arith, at-put-counted .put-counted .ensures .next, counted-short (start .pre .0) (at-own-after .own-after .ensures) (at-definitions-of .definitions-of .ensures)),
+    )
 
 attributes-of-requires : tie.Need-attributes-of-requires
 attributes-of-requires c κs = search needs
 
 put-requires : tie.Need-put-requires
-put-requires c κs = omega (arith, c .before .before .before .before .before .before .before .before .put-counted .ensures .next, c .before .before .before .before .put-own .ensures .next, counted-short (c .before .before .before .before .before .before .before .before .before .before .before .before .before .before .pre .0) (c .before .before .before .before .before .before .before .before .before .before .before .own-after .ensures) (c .before .before .before .before .before .before .before .before .before .before .definitions-of .ensures), particles-short (c .before .before .before .before .before .before .before .before .before .before .before .before .before .before .pre .0) (c .before .before .before .before .before .before .before .before .before .before .before .before .before .before .pre .1), attrs-short (c .before .before .before .before .before .before .before .before .before .before .before .before .before .before .pre .0) (c .before .attributes-of .ensures))
+put-requires c κs =
+    let at-attributes-of = c .before in
+    let at-put-own = at-attributes-of .before .before .before in
+    let at-put-counted = at-put-own .before .before .before .before in
+    let at-definitions-of = at-put-counted .before .before in
+    let at-own-after = at-definitions-of .before in
+    let start = at-own-after .before .before .before in
+    omega (
+      arith,
+      at-put-counted .put-counted .ensures .next,
+      at-put-own .put-own .ensures .next,
+      counted-short (start .pre .0) (at-own-after .own-after .ensures) (at-definitions-of .definitions-of .ensures),
+      particles-short (start .pre .0) (start .pre .1),
+      attrs-short (start .pre .0) (at-attributes-of .attributes-of .ensures),
+    )
 
 same-length : tie.Need-same-length
 same-length c = search needs
 
 returns : tie.Need-returns
-returns c = form-laid (c .before .before .before .before .before .before .before .before .before .before .before .before .before .before .before .before .before .pre .0) (c .before .before .before .before .before .before .before .before .before .before .before .before .before .before .own-after .ensures) (c .before .before .before .before .before .before .before .before .before .before .before .before .before .definitions-of .ensures) (c .before .before .before .before .attributes-of .ensures) (c .before .before .before .before .before .before .before .before .before .before .before .put-counted .ensures) (c .before .before .before .before .before .before .before .put-own .ensures) (c .before .before .put .ensures)
+returns c =
+    let at-put = c .before .before in
+    let at-attributes-of = at-put .before .before in
+    let at-put-own = at-attributes-of .before .before .before in
+    let at-put-counted = at-put-own .before .before .before .before in
+    let at-definitions-of = at-put-counted .before .before in
+    let at-own-after = at-definitions-of .before in
+    let start = at-own-after .before .before .before in
+    form-laid (start .pre .0) (at-own-after .own-after .ensures) (at-definitions-of .definitions-of .ensures) (at-attributes-of .attributes-of .ensures)
+    (at-put-counted .put-counted .ensures) (at-put-own .put-own .ensures) (at-put .put .ensures)
 
 pub put-edited-spec : {M : Type 1} → statement M
 put-edited-spec =

@@ -19,13 +19,32 @@ particles-of-requires-2 : tie.Need-particles-of-requires-2
 particles-of-requires-2 c κs = owner-low (c .before .before .before .before .before .pre .0)
 
 put-particles-requires : tie.Need-put-particles-requires
-put-particles-requires c κs = body-in (c .before .before .before .before .before .before .before .pre .0) (c .before .before .before .before .before .before .before .pre .1) (first-in (c .before .before .before .before .before .before .before .args .store .now) (c .before .before .before .before .before .before .before .args .owner) (c .before .before .before .before .definitions-of .ensures) (c .before .before .particles-before .ensures .0)) (many-in (c .before .before .before .before .before .before .before .args .store .now) (c .before .before .before .before .before .before .before .args .owner) (c .before .before .before .before .definitions-of .ensures) (c .before .particles-of2 .ensures .0)) (c .before .before .before .particles-of .ensures) (c .before .before .before .before .before .before .before .pre .2)
+put-particles-requires c κs =
+    let at-particles-of2 = c .before in
+    let at-particles-before = at-particles-of2 .before in
+    let at-particles-of = at-particles-before .before in
+    let at-definitions-of = at-particles-of .before in
+    let start = at-definitions-of .before .before .before in
+    body-in (start .pre .0) (start .pre .1)
+    (first-in (start .args .store .now) (start .args .owner) (at-definitions-of .definitions-of .ensures) (at-particles-before .particles-before .ensures .0))
+    (many-in (start .args .store .now) (start .args .owner) (at-definitions-of .definitions-of .ensures) (at-particles-of2 .particles-of2 .ensures .0))
+    (at-particles-of .particles-of .ensures) (start .pre .2)
 
 same-length : tie.Need-same-length
 same-length c = search needs
 
 returns : tie.Need-returns
-returns c = own-laid (c .before .before .before .before .before .before .before .before .before .before .pre .0) (first-in (c .before .before .before .before .before .before .before .before .before .before .args .store .now) (c .before .before .before .before .before .before .before .before .before .before .args .owner) (c .before .before .before .before .before .before .before .definitions-of .ensures) (c .before .before .before .before .before .particles-before .ensures .0)) (many-in (c .before .before .before .before .before .before .before .before .before .before .args .store .now) (c .before .before .before .before .before .before .before .before .before .before .args .owner) (c .before .before .before .before .before .before .before .definitions-of .ensures) (c .before .before .before .before .particles-of2 .ensures .0)) (c .before .before .before .before .before .before .particles-of .ensures) (c .before .before .put-particles .ensures)
+returns c =
+    let at-put-particles = c .before .before in
+    let at-particles-of2 = at-put-particles .before .before in
+    let at-particles-before = at-particles-of2 .before in
+    let at-particles-of = at-particles-before .before in
+    let at-definitions-of = at-particles-of .before in
+    let start = at-definitions-of .before .before .before in
+    own-laid (start .pre .0)
+    (first-in (start .args .store .now) (start .args .owner) (at-definitions-of .definitions-of .ensures) (at-particles-before .particles-before .ensures .0))
+    (many-in (start .args .store .now) (start .args .owner) (at-definitions-of .definitions-of .ensures) (at-particles-of2 .particles-of2 .ensures .0))
+    (at-particles-of .particles-of .ensures) (at-put-particles .put-particles .ensures)
 
 pub put-own-spec : {M : Type 1} → statement M
 put-own-spec =

@@ -28,7 +28,13 @@ refused-requires : tie.Need-refused-requires
 refused-requires c κs = search needs
 
 returns : tie.Need-returns
-returns c = answers-as (c .refused .ensures .0) (c .refused .ensures .1) (answers-bad (removeElement (c .before .before .before .before .before .before .args .owner) (c .before .before .before .before .before .before .args .place .now)) (c .before .before .before .before .before .before .args .store .now) (length (c .before .before .before .before .before .before .args .out .now)) (sym (c .before .before .passes .ensures) ∙ not-true _ (c .before .if1 .taken)))
+returns c =
+    let at-if1 = c .before in
+    let at-passes = at-if1 .before in
+    let start = at-passes .before .before .before .before in
+    answers-as (c .refused .ensures .0) (c .refused .ensures .1)
+    (answers-bad (removeElement (start .args .owner) (start .args .place .now)) (start .args .store .now) (length (start .args .out .now))
+    (sym (at-passes .passes .ensures) ∙ not-true _ (at-if1 .if1 .taken)))
 
 remove-element-refusal-requires : tie.Need-remove-element-refusal-requires
 remove-element-refusal-requires c κs = (sym (c .before .passes .ensures) ∙ not-false _ (c .if1 .left))
@@ -37,10 +43,26 @@ refused-requires-2 : tie.Need-refused-requires-2
 refused-requires-2 c κs = search needs
 
 returns-2 : tie.Need-returns-2
-returns-2 c = answers-as (c .refused2 .ensures .0) (c .refused2 .ensures .1) (answers-refused (removeElement (c .before .before .before .before .before .before .before .before .args .owner) (c .before .before .before .before .before .before .before .before .args .place .now)) (c .before .before .before .before .before .before .before .before .args .store .now) (length (c .before .before .before .before .before .before .before .before .args .out .now)) (sym (c .before .before .before .before .passes .ensures) ∙ not-false _ (c .before .before .before .if1 .left)) _ (c .before .before .remove-element-refusal .ensures) (c .before .if2 .taken))
+returns-2 c =
+    let at-if2 = c .before in
+    let at-remove-element-refusal = at-if2 .before in
+    let at-if1 = at-remove-element-refusal .before in
+    let at-passes = at-if1 .before in
+    let start = at-passes .before .before .before .before in
+    answers-as (c .refused2 .ensures .0) (c .refused2 .ensures .1)
+    (answers-refused (removeElement (start .args .owner) (start .args .place .now)) (start .args .store .now) (length (start .args .out .now))
+    (sym (at-passes .passes .ensures) ∙ not-false _ (at-if1 .if1 .left)) _ (at-remove-element-refusal .remove-element-refusal .ensures) (at-if2 .if2 .taken))
 
 own-part-requires : tie.Need-own-part-requires
-own-part-requires c κs = owner-fits ((remove-fits (c .before .before .before .before .before .before .before .args .store .now) (sym (c .before .before .before .passes .ensures) ∙ not-false _ (c .before .before .if1 .left)) (c .before .before .before .before .before .before .before .args .owner) (c .before .before .before .before .before .before .before .args .place .now) (sym (c .before .remove-element-refusal .ensures) ∙ c .if2 .left)) .fits)
+own-part-requires c κs =
+    let at-remove-element-refusal = c .before in
+    let at-if1 = at-remove-element-refusal .before in
+    let at-passes = at-if1 .before in
+    let start = at-passes .before .before .before .before in
+    owner-fits
+    ((remove-fits (start .args .store .now) (sym (at-passes .passes .ensures) ∙ not-false _ (at-if1 .if1 .left)) (start .args .owner) (start .args .place .now)
+    (sym (at-remove-element-refusal .remove-element-refusal .ensures) ∙ c .if2 .left))
+    .fits)
 
 find-requires : tie.Need-find-requires
 find-requires c κs = search needs
@@ -55,22 +77,82 @@ enum-known-found : tie.Need-enum-known-found
 enum-known-found c = search needs
 
 removing-plan-requires : tie.Need-removing-plan-requires
-removing-plan-requires c κs = place-low (asks ((remove-fits (c .before .before .before .before .before .before .before .before .before .before .before .before .args .store .now) (sym (c .before .before .before .before .before .before .before .before .passes .ensures) ∙ not-false _ (c .before .before .before .before .before .before .before .if1 .left)) (c .before .before .before .before .before .before .before .before .before .before .before .before .args .owner) (c .before .before .before .before .before .before .before .before .before .before .before .before .args .place .now) (sym (c .before .before .before .before .before .before .remove-element-refusal .ensures) ∙ c .before .before .before .before .before .if2 .left)) .fits) Remove refl (c .before .before .before .before .own-part .ensures) (c .before .before .before .find .ensures) _ _ (c .before .found .given .1))
+removing-plan-requires c κs =
+    let at-found = c .before in
+    let at-find = at-found .before .before in
+    let at-own-part = at-find .before in
+    let at-if2 = at-own-part .before in
+    let at-remove-element-refusal = at-if2 .before in
+    let at-if1 = at-remove-element-refusal .before in
+    let at-passes = at-if1 .before in
+    let start = at-passes .before .before .before .before in
+    place-low
+    (asks
+    ((remove-fits (start .args .store .now) (sym (at-passes .passes .ensures) ∙ not-false _ (at-if1 .if1 .left)) (start .args .owner) (start .args .place .now)
+    (sym (at-remove-element-refusal .remove-element-refusal .ensures) ∙ at-if2 .if2 .left))
+    .fits)
+    Remove refl (at-own-part .own-part .ensures) (at-find .find .ensures) _ _ (at-found .found .given .1))
 
 slice-aggregate-edit-model : tie.Need-slice-aggregate-edit-model
 slice-aggregate-edit-model c = search needs
 
 edit-model-requires : tie.Need-edit-model-requires
-edit-model-requires c κs = (asks ((remove-fits (c .before .before .before .before .before .before .before .before .before .before .before .before .before .before .before .args .store .now) (sym (c .before .before .before .before .before .before .before .before .before .before .before .passes .ensures) ∙ not-false _ (c .before .before .before .before .before .before .before .before .before .before .if1 .left)) (c .before .before .before .before .before .before .before .before .before .before .before .before .before .before .before .args .owner) (c .before .before .before .before .before .before .before .before .before .before .before .before .before .before .before .args .place .now) (sym (c .before .before .before .before .before .before .before .before .before .remove-element-refusal .ensures) ∙ c .before .before .before .before .before .before .before .before .if2 .left)) .fits) Remove refl (c .before .before .before .before .before .before .before .own-part .ensures) (c .before .before .before .before .before .before .find .ensures) _ _ (c .before .before .before .before .found .given .1), no-value (c .before .before .before .before .before .before .before .before .before .before .before .before .before .before .before .args .store .now), removing-sized _ _ (c .before .before .removing-plan .ensures))
+edit-model-requires c κs =
+    let at-removing-plan = c .before .before in
+    let at-found = at-removing-plan .before .before in
+    let at-find = at-found .before .before in
+    let at-own-part = at-find .before in
+    let at-if2 = at-own-part .before in
+    let at-remove-element-refusal = at-if2 .before in
+    let at-if1 = at-remove-element-refusal .before in
+    let at-passes = at-if1 .before in
+    let start = at-passes .before .before .before .before in (
+      asks
+          ((remove-fits (start .args .store .now) (sym (at-passes .passes .ensures) ∙ not-false _ (at-if1 .if1 .left)) (start .args .owner) (start .args .place .now)
+          (sym (at-remove-element-refusal .remove-element-refusal .ensures) ∙ at-if2 .if2 .left))
+          .fits)
+          Remove refl (at-own-part .own-part .ensures) (at-find .find .ensures) _ _ (at-found .found .given .1),
+      no-value (start .args .store .now),
+      removing-sized _ _ (at-removing-plan .removing-plan .ensures),
+    )
 
 returns-3 : tie.Need-returns-3
-returns-3 c = absurd (not-absent ((remove-fits (c .before .before .before .before .before .before .before .before .before .before .before .before .args .store .now) (sym (c .before .before .before .before .before .before .before .before .passes .ensures) ∙ not-false _ (c .before .before .before .before .before .before .before .if1 .left)) (c .before .before .before .before .before .before .before .before .before .before .before .before .args .owner) (c .before .before .before .before .before .before .before .before .before .before .before .before .args .place .now) (sym (c .before .before .before .before .before .before .remove-element-refusal .ensures) ∙ c .before .before .before .before .before .if2 .left)) .fits) Remove refl (c .before .before .before .before .own-part .ensures) (c .before .before .before .find .ensures) (c .before .enum-told .given .1))
+returns-3 c =
+    let at-enum-told = c .before in
+    let at-find = at-enum-told .before .before in
+    let at-own-part = at-find .before in
+    let at-if2 = at-own-part .before in
+    let at-remove-element-refusal = at-if2 .before in
+    let at-if1 = at-remove-element-refusal .before in
+    let at-passes = at-if1 .before in
+    let start = at-passes .before .before .before .before in
+    absurd
+    (not-absent
+    ((remove-fits (start .args .store .now) (sym (at-passes .passes .ensures) ∙ not-false _ (at-if1 .if1 .left)) (start .args .owner) (start .args .place .now)
+    (sym (at-remove-element-refusal .remove-element-refusal .ensures) ∙ at-if2 .if2 .left))
+    .fits)
+    Remove refl (at-own-part .own-part .ensures) (at-find .find .ensures) (at-enum-told .enum-told .given .1))
 
 same-length : tie.Need-same-length
 same-length c = search needs
 
 returns-4 : tie.Need-returns-4
-returns-4 c = removed-answers (remove-fits (c .before .before .before .before .before .before .before .before .before .before .before .before .before .before .before .before .before .before .args .store .now) (sym (c .before .before .before .before .before .before .before .before .before .before .before .before .before .before .passes .ensures) ∙ not-false _ (c .before .before .before .before .before .before .before .before .before .before .before .before .before .if1 .left)) (c .before .before .before .before .before .before .before .before .before .before .before .before .before .before .before .before .before .before .args .owner) (c .before .before .before .before .before .before .before .before .before .before .before .before .before .before .before .before .before .before .args .place .now) (sym (c .before .before .before .before .before .before .before .before .before .before .before .before .remove-element-refusal .ensures) ∙ c .before .before .before .before .before .before .before .before .before .before .before .if2 .left)) (c .before .before .before .before .before .before .before .before .before .before .own-part .ensures) (c .before .before .before .before .before .before .before .before .before .find .ensures) _ _ (c .before .before .before .before .before .before .before .found .given .1) (length (c .before .before .before .before .before .before .before .before .before .before .before .before .before .before .before .before .before .before .args .out .now)) _ (c .before .before .before .before .before .removing-plan .ensures) (c .before .before .before .before .before .before .before .before .before .before .before .before .remove-element-refusal .ensures) (c .before .before .before .before .before .before .before .before .before .before .before .if2 .left) (c .before .before .edit-model .ensures)
+returns-4 c =
+    let at-edit-model = c .before .before in
+    let at-removing-plan = at-edit-model .before .before .before in
+    let at-found = at-removing-plan .before .before in
+    let at-find = at-found .before .before in
+    let at-own-part = at-find .before in
+    let at-if2 = at-own-part .before in
+    let at-remove-element-refusal = at-if2 .before in
+    let at-if1 = at-remove-element-refusal .before in
+    let at-passes = at-if1 .before in
+    let start = at-passes .before .before .before .before in
+    removed-answers
+    (remove-fits (start .args .store .now) (sym (at-passes .passes .ensures) ∙ not-false _ (at-if1 .if1 .left)) (start .args .owner) (start .args .place .now)
+    (sym (at-remove-element-refusal .remove-element-refusal .ensures) ∙ at-if2 .if2 .left))
+    (at-own-part .own-part .ensures) (at-find .find .ensures) _ _ (at-found .found .given .1) (length (start .args .out .now)) _ (at-removing-plan .removing-plan .ensures)
+    (at-remove-element-refusal .remove-element-refusal .ensures) (at-if2 .if2 .left) (at-edit-model .edit-model .ensures)
 
 pub remove-element-spec : {M : Type 1} → statement M
 remove-element-spec =

@@ -22,7 +22,13 @@ taking-plan-requires : tie.Need-taking-plan-requires
 taking-plan-requires c κs = search needs
 
 returns : tie.Need-returns
-returns c = let a = c .before .before .before .before .args in c .taking-plan .ensures ∙ ap (λ (i : ℕ). removeElementPlan (a .owner) i) (c .before .particle-index .ensures ∙ ap (λ (s : List ℕ). getD s 2 0) (c .before .before .particles-from .ensures) ∙ get-after (4 * a .p) 2 (a .part .now))
+returns c =
+    let at-particle-index = c .before in
+    let at-particles-from = at-particle-index .before in
+    let start = at-particles-from .before .before in
+    let a = start .args in
+    c .taking-plan .ensures ∙ ap (λ (i : ℕ). removeElementPlan (a .owner) i)
+    (at-particle-index .particle-index .ensures ∙ ap (λ (s : List ℕ). getD s 2 0) (at-particles-from .particles-from .ensures) ∙ get-after (4 * a .p) 2 (a .part .now))
 
 pub removing-plan-spec : {M : Type 1} → statement M
 removing-plan-spec =

@@ -17,7 +17,13 @@ attributes-below-requires : tie.Need-attributes-below-requires
 attributes-below-requires c κs = search needs
 
 returns : tie.Need-returns
-returns c = attribute-starts (c .before .before .before .before .before .args .store .now) (c .before .before .before .before .before .args .i) (c .before .before .before .width-in .ensures) (c .before .before .attribute-count .ensures) (c .before .attributes-of .ensures) (c .attributes-below .ensures)
+returns c =
+    let at-attributes-of = c .before in
+    let at-attribute-count = at-attributes-of .before in
+    let at-width-in = at-attribute-count .before in
+    let start = at-width-in .before .before in
+    attribute-starts (start .args .store .now) (start .args .i) (at-width-in .width-in .ensures) (at-attribute-count .attribute-count .ensures)
+    (at-attributes-of .attributes-of .ensures) (c .attributes-below .ensures)
 
 pub attribute-start-spec : {M : Type 1} → statement M
 attribute-start-spec =

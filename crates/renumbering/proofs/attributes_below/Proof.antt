@@ -31,10 +31,18 @@ loop-less : tie.Need-loop-less Inv-loop μ-loop
 loop-less c = search needs
 
 loop-again : tie.Need-loop-again Inv-loop μ-loop
-loop-again c = counting-on (c .before .before .before .before .before .args .w) (c .before .before .before .before .before .args .i) (c .before .before .before .before .before .args .body .now) (c .before .before .before .before .before .args .count) (c .before .before .before .loop .inv) (omega arith) _ _ (c .before .attribute-at .ensures) (c .is-below .ensures)
+loop-again c =
+    let at-attribute-at = c .before in
+    let at-loop = at-attribute-at .before .before in
+    let start = at-loop .before .before in
+    counting-on (start .args .w) (start .args .i) (start .args .body .now) (start .args .count) (at-loop .loop .inv) (omega arith) _ _ (at-attribute-at .attribute-at .ensures)
+    (c .is-below .ensures)
 
 returns : tie.Need-returns Inv-loop μ-loop
-returns c = counting-end (c .before .before .before .args .w) (c .before .before .before .args .i) (c .before .before .before .args .body .now) (c .before .before .before .args .count) (c .before .loop .inv) (omega arith)
+returns c =
+    let at-loop = c .before in
+    let start = at-loop .before .before in
+    counting-end (start .args .w) (start .args .i) (start .args .body .now) (start .args .count) (at-loop .loop .inv) (omega arith)
 
 pub attributes-below-spec : {M : Type 1} → statement M
 attributes-below-spec =

@@ -23,13 +23,26 @@ attribute-count-requires : tie.Need-attribute-count-requires
 attribute-count-requires c κs = search needs
 
 sub-result : tie.Need-sub-result
-sub-result c = let a = c .before .before .before .before .args in let cs = bodiesOf (a .store .now) .attributes in let end = next-counted (λ (k : ℕ). attributesOf k cs) (a .i) (attributeCount (a .store .now)) (c .before .attribute-start2 .ensures) in omega (arith, c .before .before .attribute-start .ensures .is, end .is, attributes-step (a .i) cs)
+sub-result c =
+    let at-attribute-start2 = c .before in
+    let at-attribute-start = at-attribute-start2 .before in
+    let start = at-attribute-start .before .before in
+    let a = start .args in
+    let cs = bodiesOf (a .store .now) .attributes in
+    let end = next-counted (λ (k : ℕ). attributesOf k cs) (a .i) (attributeCount (a .store .now)) (at-attribute-start2 .attribute-start2 .ensures) in
+    omega (arith, at-attribute-start .attribute-start .ensures .is, end .is, attributes-step (a .i) cs)
 
 sub-result-2 : tie.Need-sub-result-2
 sub-result-2 c = let a = c .before .before .before .before .args in omega (arith, c .before .attribute-start2 .ensures .most, c .attribute-count .ensures .value)
 
 returns : tie.Need-returns
-returns c = let a = c .before .before .before .before .args in attributes-left (a .store .now) (c .before .before .before .before .pre .good) (a .i) (c .before .before .before .before .pre .there) (c .attribute-count .ensures) (c .before .before .attribute-start .ensures) (next-counted (λ (k : ℕ). attributesOf k (bodiesOf (a .store .now) .attributes)) (a .i) (attributeCount (a .store .now)) (c .before .attribute-start2 .ensures))
+returns c =
+    let at-attribute-start2 = c .before in
+    let at-attribute-start = at-attribute-start2 .before in
+    let start = at-attribute-start .before .before in
+    let a = start .args in
+    attributes-left (a .store .now) (start .pre .good) (a .i) (start .pre .there) (c .attribute-count .ensures) (at-attribute-start .attribute-start .ensures)
+    (next-counted (λ (k : ℕ). attributesOf k (bodiesOf (a .store .now) .attributes)) (a .i) (attributeCount (a .store .now)) (at-attribute-start2 .attribute-start2 .ensures))
 
 pub attributes-left-spec : {M : Type 1} → statement M
 attributes-left-spec =

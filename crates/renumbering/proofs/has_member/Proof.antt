@@ -27,7 +27,15 @@ is-member-requires : tie.Need-is-member-requires Inv-loop μ-loop
 is-member-requires c κs = search needs
 
 returns : tie.Need-returns Inv-loop μ-loop
-returns c = let a = c .before .before .before .before .before .before .args in let l = c .before .before .before .before .loop in searching-hit readParticle particleSize (isMember (a .definition)) (a .body .now) (a .count) (l .i) (l .inv) (omega arith) (c .before .is-member .ensures ∙ ap (λ (x : List ℕ). isMember (a .definition) (readParticle x)) (c .before .before .particle-at .ensures)) (c .if1 .taken)
+returns c =
+    let at-is-member = c .before in
+    let at-particle-at = at-is-member .before in
+    let at-loop = at-particle-at .before .before in
+    let start = at-loop .before .before in
+    let a = start .args in
+    let l = at-loop .loop in
+    searching-hit readParticle particleSize (isMember (a .definition)) (a .body .now) (a .count) (l .i) (l .inv) (omega arith)
+    (at-is-member .is-member .ensures ∙ ap (λ (x : List ℕ). isMember (a .definition) (readParticle x)) (at-particle-at .particle-at .ensures)) (c .if1 .taken)
 
 add-i : tie.Need-add-i Inv-loop μ-loop
 add-i c = search needs
@@ -36,10 +44,21 @@ loop-less : tie.Need-loop-less Inv-loop μ-loop
 loop-less c = search needs
 
 loop-again : tie.Need-loop-again Inv-loop μ-loop
-loop-again c = let a = c .before .before .before .before .before .before .args in let l = c .before .before .before .before .loop in searching-on readParticle particleSize (isMember (a .definition)) (a .body .now) (a .count) (l .i) (l .inv) (omega arith) (c .before .is-member .ensures ∙ ap (λ (x : List ℕ). isMember (a .definition) (readParticle x)) (c .before .before .particle-at .ensures)) (c .if1 .left)
+loop-again c =
+    let at-is-member = c .before in
+    let at-particle-at = at-is-member .before in
+    let at-loop = at-particle-at .before .before in
+    let start = at-loop .before .before in
+    let a = start .args in
+    let l = at-loop .loop in
+    searching-on readParticle particleSize (isMember (a .definition)) (a .body .now) (a .count) (l .i) (l .inv) (omega arith)
+    (at-is-member .is-member .ensures ∙ ap (λ (x : List ℕ). isMember (a .definition) (readParticle x)) (at-particle-at .particle-at .ensures)) (c .if1 .left)
 
 returns-2 : tie.Need-returns-2 Inv-loop μ-loop
-returns-2 c = let a = c .before .before .before .args in searching-end readParticle particleSize (isMember (a .definition)) (a .body .now) (a .count) (c .before .loop .i) (c .before .loop .inv) (omega arith)
+returns-2 c =
+    let at-loop = c .before in
+    let start = at-loop .before .before in
+    let a = start .args in searching-end readParticle particleSize (isMember (a .definition)) (a .body .now) (a .count) (at-loop .loop .i) (at-loop .loop .inv) (omega arith)
 
 pub has-member-spec : {M : Type 1} → statement M
 has-member-spec =

@@ -27,7 +27,15 @@ is-root-requires : tie.Need-is-root-requires Inv-loop μ-loop
 is-root-requires c κs = search needs
 
 returns : tie.Need-returns Inv-loop μ-loop
-returns c = let a = c .before .before .before .before .before .before .args in let l = c .before .before .before .before .loop in searching-hit readRow (rowSize (a .w)) (isRoot (a .definition)) (a .body .now) (a .count) (l .i) (l .inv) (omega arith) (c .before .is-root .ensures ∙ ap (λ (x : List ℕ). isRoot (a .definition) (readRow x)) (c .before .before .row-at .ensures)) (c .if1 .taken)
+returns c =
+    let at-is-root = c .before in
+    let at-row-at = at-is-root .before in
+    let at-loop = at-row-at .before .before in
+    let start = at-loop .before .before in
+    let a = start .args in
+    let l = at-loop .loop in
+    searching-hit readRow (rowSize (a .w)) (isRoot (a .definition)) (a .body .now) (a .count) (l .i) (l .inv) (omega arith)
+    (at-is-root .is-root .ensures ∙ ap (λ (x : List ℕ). isRoot (a .definition) (readRow x)) (at-row-at .row-at .ensures)) (c .if1 .taken)
 
 add-i : tie.Need-add-i Inv-loop μ-loop
 add-i c = search needs
@@ -36,10 +44,21 @@ loop-less : tie.Need-loop-less Inv-loop μ-loop
 loop-less c = search needs
 
 loop-again : tie.Need-loop-again Inv-loop μ-loop
-loop-again c = let a = c .before .before .before .before .before .before .args in let l = c .before .before .before .before .loop in searching-on readRow (rowSize (a .w)) (isRoot (a .definition)) (a .body .now) (a .count) (l .i) (l .inv) (omega arith) (c .before .is-root .ensures ∙ ap (λ (x : List ℕ). isRoot (a .definition) (readRow x)) (c .before .before .row-at .ensures)) (c .if1 .left)
+loop-again c =
+    let at-is-root = c .before in
+    let at-row-at = at-is-root .before in
+    let at-loop = at-row-at .before .before in
+    let start = at-loop .before .before in
+    let a = start .args in
+    let l = at-loop .loop in
+    searching-on readRow (rowSize (a .w)) (isRoot (a .definition)) (a .body .now) (a .count) (l .i) (l .inv) (omega arith)
+    (at-is-root .is-root .ensures ∙ ap (λ (x : List ℕ). isRoot (a .definition) (readRow x)) (at-row-at .row-at .ensures)) (c .if1 .left)
 
 returns-2 : tie.Need-returns-2 Inv-loop μ-loop
-returns-2 c = let a = c .before .before .before .args in searching-end readRow (rowSize (a .w)) (isRoot (a .definition)) (a .body .now) (a .count) (c .before .loop .i) (c .before .loop .inv) (omega arith)
+returns-2 c =
+    let at-loop = c .before in
+    let start = at-loop .before .before in
+    let a = start .args in searching-end readRow (rowSize (a .w)) (isRoot (a .definition)) (a .body .now) (a .count) (at-loop .loop .i) (at-loop .loop .inv) (omega arith)
 
 pub has-root-spec : {M : Type 1} → statement M
 has-root-spec =

@@ -13,7 +13,10 @@ particles-before-requires : tie.Need-particles-before-requires
 particles-before-requires c κs = let x = encoded (c .before .before .args .store .now) (c .before .before .pre .0) in omega (arith, c .before .before .pre .1, x .definitions, x .fewDefinitions)
 
 returns : tie.Need-returns
-returns c = model-starts (c .before .before .before .args .store .now) (c .before .before .before .pre .0) (c .before .before .before .args .i) (c .before .before .before .pre .1) (c .before .definitions-of .ensures) (c .particles-before .ensures .0)
+returns c =
+    let at-definitions-of = c .before in
+    let start = at-definitions-of .before .before in
+    model-starts (start .args .store .now) (start .pre .0) (start .args .i) (start .pre .1) (at-definitions-of .definitions-of .ensures) (c .particles-before .ensures .0)
 
 pub model-start-spec : {M : Type 1} → statement M
 model-start-spec = tie.close (tie.spec definitions-of-requires particles-before-requires returns)

@@ -23,13 +23,26 @@ particle-count-requires : tie.Need-particle-count-requires
 particle-count-requires c κs = search needs
 
 sub-result : tie.Need-sub-result
-sub-result c = let a = c .before .before .before .before .args in let ds = bodiesOf (a .store .now) .definitions in let end = next-counted (λ (k : ℕ). particlesOf k ds) (a .i) (particleCount (a .store .now)) (c .before .model-start2 .ensures) in omega (arith, c .before .before .model-start .ensures .is, end .is, particles-step (a .i) ds)
+sub-result c =
+    let at-model-start2 = c .before in
+    let at-model-start = at-model-start2 .before in
+    let start = at-model-start .before .before in
+    let a = start .args in
+    let ds = bodiesOf (a .store .now) .definitions in
+    let end = next-counted (λ (k : ℕ). particlesOf k ds) (a .i) (particleCount (a .store .now)) (at-model-start2 .model-start2 .ensures) in
+    omega (arith, at-model-start .model-start .ensures .is, end .is, particles-step (a .i) ds)
 
 sub-result-2 : tie.Need-sub-result-2
 sub-result-2 c = let a = c .before .before .before .before .args in omega (arith, c .before .model-start2 .ensures .most, c .particle-count .ensures .value)
 
 returns : tie.Need-returns
-returns c = let a = c .before .before .before .before .args in models-left (a .store .now) (c .before .before .before .before .pre .good) (a .i) (c .before .before .before .before .pre .there) (c .particle-count .ensures) (c .before .before .model-start .ensures) (next-counted (λ (k : ℕ). particlesOf k (bodiesOf (a .store .now) .definitions)) (a .i) (particleCount (a .store .now)) (c .before .model-start2 .ensures))
+returns c =
+    let at-model-start2 = c .before in
+    let at-model-start = at-model-start2 .before in
+    let start = at-model-start .before .before in
+    let a = start .args in
+    models-left (a .store .now) (start .pre .good) (a .i) (start .pre .there) (c .particle-count .ensures) (at-model-start .model-start .ensures)
+    (next-counted (λ (k : ℕ). particlesOf k (bodiesOf (a .store .now) .definitions)) (a .i) (particleCount (a .store .now)) (at-model-start2 .model-start2 .ensures))
 
 pub particles-left-spec : {M : Type 1} → statement M
 particles-left-spec =

@@ -19,7 +19,13 @@ same-length : tie.Need-same-length
 same-length c = search needs
 
 returns : tie.Need-returns
-returns c = attribute-laid (lowered (suc (c .before .before .before .before .before .before .before .before .args .definition)) 1) (c .before .before .before .before .before .before .before .before .args .rec .now) (c .before .before .before .before .before .owner-byte .ensures) (c .before .before .before .before .lower-byte .ensures) (c .before .before .put-attribute-moved .ensures)
+returns c =
+    let at-put-attribute-moved = c .before .before in
+    let at-lower-byte = at-put-attribute-moved .before .before in
+    let at-owner-byte = at-lower-byte .before in
+    let start = at-owner-byte .before .before .before in
+    attribute-laid (lowered (suc (start .args .definition)) 1) (start .args .rec .now) (at-owner-byte .owner-byte .ensures) (at-lower-byte .lower-byte .ensures)
+    (at-put-attribute-moved .put-attribute-moved .ensures)
 
 pub put-attribute-spec : {M : Type 1} → statement M
 put-attribute-spec =

@@ -17,13 +17,24 @@ abbrev μ-loop : tie.MeasureT-loop
 μ-loop w body count definition out₀ start at₀ i₀ out at i = count - i
 
 loop-holds : tie.Need-loop-holds Inv-loop μ-loop
-loop-holds c = going-start (attributeRecord (lowered (suc (c .before .before .args .definition)) 1)) (attributeSize (c .before .before .args .w)) (c .before .before .args .body .now) (c .before .before .args .count)
+loop-holds c =
+    let start = c .before .before in
+    going-start (attributeRecord (lowered (suc (start .args .definition)) 1)) (attributeSize (start .args .w)) (start .args .body .now) (start .args .count)
 
 attribute-at-requires : tie.Need-attribute-at-requires Inv-loop μ-loop
 attribute-at-requires c κs = search needs
 
 put-attribute-requires : tie.Need-put-attribute-requires Inv-loop μ-loop
-put-attribute-requires c κs = let a = c .before .before .before .before .before .before .args in (c .before .before .before .before .before .before .pre .0, c .before .before .before .before .before .before .pre .1, omega (arith, ap length (c .before .attribute-at .ensures), length-take (attributeSize (a .w)) (drop (attributeSize (a .w) * c .before .before .before .loop .i) (a .body .now))), omega (arith, c .before .before .before .loop .inv .small, c .before .before .before .before .before .before .pre))
+put-attribute-requires c κs =
+    let at-attribute-at = c .before in
+    let at-loop = at-attribute-at .before .before in
+    let start = at-loop .before .before .before in
+    let a = start .args in (
+      start .pre .0,
+      start .pre .1,
+      omega (arith, ap length (at-attribute-at .attribute-at .ensures), length-take (attributeSize (a .w)) (drop (attributeSize (a .w) * at-loop .loop .i) (a .body .now))),
+      omega (arith, at-loop .loop .inv .small, start .pre),
+    )
 
 add-i : tie.Need-add-i Inv-loop μ-loop
 add-i c = search needs
@@ -32,13 +43,25 @@ loop-less : tie.Need-loop-less Inv-loop μ-loop
 loop-less c = search needs
 
 loop-again : tie.Need-loop-again Inv-loop μ-loop
-loop-again c = let a = c .before .before .before .before .before .before .before .before .before .args in going-on (attributeRecord (lowered (suc (a .definition)) 1)) (attributeSize (a .w)) (a .body .now) (a .count) (c .before .before .before .before .before .before .loop .inv) _ (omega arith) (c .before .before .before .before .attribute-at .ensures) (c .before .before .put-attribute .ensures) (attribute-short (lowered (suc (a .definition)) 1) (a .w) _ (c .before .before .before .before .before .before .before .before .before .pre .0) (omega (arith, ap length (c .before .before .before .before .attribute-at .ensures), length-take (attributeSize (a .w)) (drop (attributeSize (a .w) * c .before .before .before .before .before .before .loop .i) (a .body .now)))))
+loop-again c =
+    let at-put-attribute = c .before .before in
+    let at-attribute-at = at-put-attribute .before .before in
+    let at-loop = at-attribute-at .before .before in
+    let start = at-loop .before .before .before in
+    let a = start .args in
+    going-on (attributeRecord (lowered (suc (a .definition)) 1)) (attributeSize (a .w)) (a .body .now) (a .count) (at-loop .loop .inv) _ (omega arith)
+    (at-attribute-at .attribute-at .ensures) (at-put-attribute .put-attribute .ensures)
+    (attribute-short (lowered (suc (a .definition)) 1) (a .w) _ (start .pre .0)
+    (omega (arith, ap length (at-attribute-at .attribute-at .ensures), length-take (attributeSize (a .w)) (drop (attributeSize (a .w) * at-loop .loop .i) (a .body .now)))))
 
 same-length : tie.Need-same-length Inv-loop μ-loop
 same-length c = c .before .loop .inv .long
 
 returns : tie.Need-returns Inv-loop μ-loop
-returns c = let a = c .before .before .before .before .args in going-end (attributeRecord (lowered (suc (a .definition)) 1)) (attributeSize (a .w)) (a .body .now) (a .count) (c .before .loop .inv) (omega arith)
+returns c =
+    let at-loop = c .before in
+    let start = at-loop .before .before .before in
+    let a = start .args in going-end (attributeRecord (lowered (suc (a .definition)) 1)) (attributeSize (a .w)) (a .body .now) (a .count) (at-loop .loop .inv) (omega arith)
 
 pub put-attributes-spec : {M : Type 1} → statement M
 put-attributes-spec =

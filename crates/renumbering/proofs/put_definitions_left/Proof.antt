@@ -22,16 +22,42 @@ add-definitions-from : tie.Need-add-definitions-from
 add-definitions-from c = search needs
 
 definitions-from-requires : tie.Need-definitions-from-requires
-definitions-from-requires c κs = let x = encoded (c .before .before .before .before .before .before .before .before .args .store .now) (c .before .before .before .before .before .before .before .before .pre .0 .good) in omega (arith, c .before .before .before .before .before .before .before .before .pre .0 .there, x .definitions, x .fewDefinitions)
+definitions-from-requires c κs =
+    let start = c .before .before .before .before .before .before .before .before in
+    let x = encoded (start .args .store .now) (start .pre .0 .good) in omega (arith, start .pre .0 .there, x .definitions, x .fewDefinitions)
 
 put-requires-2 : tie.Need-put-requires-2
-put-requires-2 c κs = let a = c .before .before .before .before .before .before .before .before .before .before .args in omega (arith, c .before .before .before .before .before .before .before .before .before .before .pre .1, c .before .before .before .before .put .ensures .next, ap length (c .before .before .before .before .before .before .definitions-to .ensures), length-take (20 * a .i) (c .before .before .before .before .before .before .before .definitions-of .result .now), ap length (c .before .definitions-from .ensures), length-drop (20 * (a .i + 1)) (c .before .before .before .before .before .before .before .definitions-of .result .now), definitions-short (a .store .now) (c .before .before .before .before .before .before .before .before .before .before .pre .0 .good) (a .i) (c .before .before .before .before .before .before .before .before .before .before .pre .0 .there) (c .before .before .before .before .before .before .before .definitions-of .ensures))
+put-requires-2 c κs =
+    let at-definitions-from = c .before in
+    let at-put = at-definitions-from .before .before .before in
+    let at-definitions-to = at-put .before .before in
+    let at-definitions-of = at-definitions-to .before in
+    let start = at-definitions-of .before .before .before in
+    let a = start .args in
+    omega (
+      arith,
+      start .pre .1,
+      at-put .put .ensures .next,
+      ap length (at-definitions-to .definitions-to .ensures),
+      length-take (20 * a .i) (at-definitions-of .definitions-of .result .now),
+      ap length (at-definitions-from .definitions-from .ensures),
+      length-drop (20 * (a .i + 1)) (at-definitions-of .definitions-of .result .now),
+      definitions-short (a .store .now) (start .pre .0 .good) (a .i) (start .pre .0 .there) (at-definitions-of .definitions-of .ensures),
+    )
 
 same-length : tie.Need-same-length
 same-length c = search needs
 
 returns : tie.Need-returns
-returns c = definitions-laid (c .before .before .before .before .before .before .before .before .before .before .before .before .before .args .store .now) (c .before .before .before .before .before .before .before .before .before .before .before .before .before .pre .0 .good) (c .before .before .before .before .before .before .before .before .before .before .before .before .before .args .i) (c .before .before .before .before .before .before .before .before .before .before .before .before .before .pre .0 .there) (c .before .before .before .before .before .before .before .before .before .before .definitions-of .ensures) (c .before .before .before .before .before .before .before .before .before .definitions-to .ensures) (c .before .before .before .before .definitions-from .ensures) (c .before .before .before .before .before .before .before .put .ensures) (c .before .before .put2 .ensures)
+returns c =
+    let at-put2 = c .before .before in
+    let at-definitions-from = at-put2 .before .before in
+    let at-put = at-definitions-from .before .before .before in
+    let at-definitions-to = at-put .before .before in
+    let at-definitions-of = at-definitions-to .before in
+    let start = at-definitions-of .before .before .before in
+    definitions-laid (start .args .store .now) (start .pre .0 .good) (start .args .i) (start .pre .0 .there) (at-definitions-of .definitions-of .ensures)
+    (at-definitions-to .definitions-to .ensures) (at-definitions-from .definitions-from .ensures) (at-put .put .ensures) (at-put2 .put2 .ensures)
 
 pub put-definitions-left-spec : {M : Type 1} → statement M
 put-definitions-left-spec =

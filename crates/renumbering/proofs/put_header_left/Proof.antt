@@ -19,13 +19,33 @@ sub-put-header : tie.Need-sub-put-header
 sub-put-header c = search needs
 
 put-header-requires : tie.Need-put-header-requires
-put-header-requires c κs = let x = encoded (c .before .before .before .before .before .before .args .store .now) (c .before .before .before .before .before .before .pre .good) in omega (arith, c .before .before .particles-left .ensures .most, c .before .attributes-left .ensures .most, c .before .before .before .definition-count .ensures .value, x .definitions, x .fewDefinitions)
+put-header-requires c κs =
+    let at-attributes-left = c .before in
+    let at-particles-left = at-attributes-left .before in
+    let at-definition-count = at-particles-left .before in
+    let start = at-definition-count .before .before .before in
+    let x = encoded (start .args .store .now) (start .pre .good) in
+    omega (
+      arith,
+      at-particles-left .particles-left .ensures .most,
+      at-attributes-left .attributes-left .ensures .most,
+      at-definition-count .definition-count .ensures .value,
+      x .definitions,
+      x .fewDefinitions,
+    )
 
 same-length : tie.Need-same-length
 same-length c = search needs
 
 returns : tie.Need-returns
-returns c = header-left (c .before .before .before .before .before .before .before .before .before .args .store .now) (c .before .before .before .before .before .before .before .before .before .pre .good) (c .before .before .before .before .before .before .before .before .before .args .i) (c .before .before .before .before .before .before .before .before .before .pre .there) (c .before .before .before .before .before .before .definition-count .ensures) (c .before .before .before .before .before .particles-left .ensures) (c .before .before .before .before .attributes-left .ensures) (c .before .before .put-header .ensures)
+returns c =
+    let at-put-header = c .before .before in
+    let at-attributes-left = at-put-header .before .before in
+    let at-particles-left = at-attributes-left .before in
+    let at-definition-count = at-particles-left .before in
+    let start = at-definition-count .before .before .before in
+    header-left (start .args .store .now) (start .pre .good) (start .args .i) (start .pre .there) (at-definition-count .definition-count .ensures)
+    (at-particles-left .particles-left .ensures) (at-attributes-left .attributes-left .ensures) (at-put-header .put-header .ensures)
 
 pub put-header-left-spec : {M : Type 1} → statement M
 put-header-left-spec =

@@ -22,7 +22,14 @@ same-length : tie.Need-same-length
 same-length c = search needs
 
 returns : tie.Need-returns
-returns c = particle-laid (lowered (suc (c .before .before .before .before .before .before .before .before .before .args .definition)) 1) (c .before .before .before .before .before .before .before .before .before .args .rec .now) (c .before .before .before .before .before .before .particle-sort .ensures) (c .before .before .before .before .before .particle-index .ensures) (c .before .before .before .before .moved-member .ensures) (c .before .before .put-particle-moved .ensures)
+returns c =
+    let at-put-particle-moved = c .before .before in
+    let at-moved-member = at-put-particle-moved .before .before in
+    let at-particle-index = at-moved-member .before in
+    let at-particle-sort = at-particle-index .before in
+    let start = at-particle-sort .before .before .before in
+    particle-laid (lowered (suc (start .args .definition)) 1) (start .args .rec .now) (at-particle-sort .particle-sort .ensures) (at-particle-index .particle-index .ensures)
+    (at-moved-member .moved-member .ensures) (at-put-particle-moved .put-particle-moved .ensures)
 
 pub put-particle-spec : {M : Type 1} → statement M
 put-particle-spec =

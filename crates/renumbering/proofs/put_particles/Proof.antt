@@ -30,7 +30,14 @@ loop-less : tie.Need-loop-less Inv-loop μ-loop
 loop-less c = search needs
 
 loop-again : tie.Need-loop-again Inv-loop μ-loop
-loop-again c = let a = c .before .before .before .before .before .before .before .before .before .args in going-on (particleRecord (lowered (suc (a .definition)) 1)) particleSize (a .body .now) (a .count) (c .before .before .before .before .before .before .loop .inv) _ (omega arith) (c .before .before .before .before .particle-at .ensures) (c .before .before .put-particle .ensures) (particle-short (lowered (suc (a .definition)) 1) _)
+loop-again c =
+    let at-put-particle = c .before .before in
+    let at-particle-at = at-put-particle .before .before in
+    let at-loop = at-particle-at .before .before in
+    let start = at-loop .before .before .before in
+    let a = start .args in
+    going-on (particleRecord (lowered (suc (a .definition)) 1)) particleSize (a .body .now) (a .count) (at-loop .loop .inv) _ (omega arith) (at-particle-at .particle-at .ensures)
+    (at-put-particle .put-particle .ensures) (particle-short (lowered (suc (a .definition)) 1) _)
 
 same-length : tie.Need-same-length Inv-loop μ-loop
 same-length c = c .before .loop .inv .long

@@ -12,7 +12,7 @@ use lib.ListN.{length, take, replicate, length-replicate}
 use lib.Seq.{length-sets}
 use Rattle.rules.specs.Bytes.{Bytes}
 use Rattle.rules.specs.Layout.{FlatAttribute, FlatStore, flat}
-use Rattle.rules.specs.Decode.{definitionCount, particleCount, attributeCount}
+use Rattle.rules.specs.Decode.{numberAt, definitionCount, particleCount, attributeCount}
 use Rattle.rules.specs.WellFormed.{isName, isValue, withinCeilings}
 use Rattle.rules.specs.Passing.{passes}
 use Rattle.rules.specs.Change.{Call, addAttribute, destroyAttribute, Owned, after}
@@ -91,6 +91,10 @@ zeros-long = length-replicate {A = ℕ} 9728 0
 fits : {w buffer left : Bytes} {r : ℕ} → length buffer ≡ 9728 → length w ≤ 9728 → Laid w buffer 0 r left → r ≤ length left
 fits {w} {buffer} long few y = omega (arith, y .next, long, few, ap length (y .stored), length-sets buffer 0 w)
 
+version-of : (bs : Bytes) → numberAt 0 4 bs ≡ bodiesOf bs .version
+unfolding bodiesOf
+version-of bs = refl
+
 -- ---- 9
 module _ (bs : Bytes) (o : ℕ) (n : Bytes) (k : ℕ) (v : Bytes) (x : Addable bs o n k v) where
   kept : Holds bs
@@ -104,10 +108,11 @@ module _ (bs : Bytes) (o : ℕ) (n : Bytes) (k : ℕ) (v : Bytes) (x : Addable b
       let i : ℕ = attributesTo o (f .attributes) in
       let c : FlatAttribute = newEntry o n k v in
       let over : withinCeilings (bareForm (attributeAdded i c f)) ≡ false = added-ceiling i f (good-bodies kept) (within kept) c ∙ lt-leb (suc (length (f .attributes))) 64 (omega (arith, count-attributes bs e)) in
-      let a : Answers (limited room (added o n k v f)) out 16 0 out = form-ceiling (attributeAdded i c f) over (addAttributePlan o i k) v f room in
+      let a : Answers (limited room (added o n k v f)) out 16 0 out = form-ceiling (attributeAdded i c f) over (addAttributePlan (f .version) o i k) v f room in
       record { number-is = n-is ∙ a .number-is; length-is = l-is ∙ a .length-is; buffer-is = a .buffer-is }
 
-  module _ {d p a i r : ℕ} {q : Plan} {buffer left : Bytes} (cd : Number (definitionCount bs) d) (cp : Number (particleCount bs) p) (ca : Number (attributeCount bs) a) (few : a < 64) (to : To o (bodiesOf bs .attributes) i) (same : q ≡ addAttributePlan o i k)
+  module _ {d p a i version r : ℕ} {q : Plan} {buffer left : Bytes} (cd : Number (definitionCount bs) d) (cp : Number (particleCount bs) p) (ca : Number (attributeCount bs) a) (few : a < 64) (to : To o (bodiesOf bs .attributes) i)
+      (at : Number (numberAt 0 4 bs) version) (same : q ≡ addAttributePlan version o i k)
       (long : length buffer ≡ 9728) (y : Laid (formBytes (widthOf bs) (attributeAdded i (newEntry o n k v) (bodiesOf bs))) buffer 0 r left) where
     of-bytes : {form : Bytes} → form ≡ formBytes (widthOf bs) (attributeAdded i (newEntry o n k v) (bodiesOf bs))
         → FormOf (widthOf bs) (attributeAdded i (newEntry o n k v) (bodiesOf bs)) form d p (a + 1)
@@ -141,9 +146,10 @@ module _ (bs : Bytes) (o : ℕ) (n : Bytes) (k : ℕ) (v : Bytes) (x : Addable b
     unfolding added
     added-answers room z =
         let f : FlatStore = bodiesOf bs in
+        let e : version ≡ f .version = at .value ∙ version-of bs in
         answers-as
         (ap (limited room)
-        ((λ j. plannedIn (attributeAdded (sym (to .is) j) (newEntry o n k v) f) (addAttributePlan o (sym (to .is) j) k) v f)
+        ((λ j. plannedIn (attributeAdded (sym (to .is) j) (newEntry o n k v) f) (addAttributePlan (sym e j) o (sym (to .is) j) k) v f)
         ∙ ap (λ (s : Plan). plannedIn (attributeAdded i (newEntry o n k v) f) s v f) (sym same)))
         (form-answers of q v f room z)
 

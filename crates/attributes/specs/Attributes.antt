@@ -37,7 +37,7 @@ pub record Droppable (bs : Bytes) (a : ℕ) : Type 0 where
 -- the bodies that change 9 leaves
 unfoldable pub added : ℕ → Bytes → ℕ → Bytes → FlatStore → FlatStore
 added o n k v f =
-    plannedIn (attributeAdded (attributesTo o (f .attributes)) (newEntry o n k v) f) (addAttributePlan o (attributesTo o (f .attributes)) k) v f
+    plannedIn (attributeAdded (attributesTo o (f .attributes)) (newEntry o n k v) f) (addAttributePlan (f .version) o (attributesTo o (f .attributes)) k) v f
 
 -- .. and change 10; any text, for none is used
 unfoldable pub dropped : ℕ → Bytes → FlatStore → FlatStore

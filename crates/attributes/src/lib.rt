@@ -135,7 +135,8 @@ fn write_added(
         return storing::refused(16);
     }
     let i = attributes_to(store, owner);
-    let plan = plans::add_attribute_plan(owner as usize, i, sort);
+    let version = layout::version_in(store);
+    let plan = plans::add_attribute_plan(version, owner as usize, i, sort as u8);
     let mut form = [0; MOST_FORM];
     let length = put_added(store, i, owner, name, sort, value, &mut form);
     storing::edit_form(store, &form[..length], d, p, a + 1, plan, value, out)

@@ -75,7 +75,7 @@ module _ (bs : Bytes) (w : Whole bs) where
       where
         named : (r : Row) (rows : List Row) → r .sort ≡ element → RowConforms (storeIn bs .version) (formIn bs) r rows → known (formIn bs) (r .name) ≡ true
         named r rows q x =
-            let y : (d : Definition) × (lookup (r .name) (formIn bs) ≡ some d) × ElementRows d rows = rw q at x in
+            let y : (d : Definition) × (lookup (r .name) (formIn bs) ≡ some d) × ElementRows (storeIn bs .version) d rows = rw q at x in
             ap isThere (y .1)
 
     abbrev d : Definition

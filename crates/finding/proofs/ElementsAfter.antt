@@ -92,13 +92,13 @@ module _ (s : Store) (g : Good s) where
       add-conforms =
           unnumbered (addElement (r .serial) j n t)
           ∙ conforming-local (s .version) (s .form) (s .next) (s .docs) (g .serials) fine p refl
-          (filling-fits (s .form) (λ m e q. definition-good (valueWidth (s .version)) (s .form) ok m e q .once) (λ m e q. definition-good (valueWidth (s .version)) (s .form) ok m e q .attributeNames) (λ m e q. definition-good (valueWidth (s .version)) (s .form) ok m e q .groups) t (length (s .form)) (nameAtIndex n (s .form)) height)
+          (filling-fits (s .version) (s .form) (λ m e q. definition-good (valueWidth (s .version)) (s .form) ok m e q .once) (λ m e q. definition-good (valueWidth (s .version)) (s .form) ok m e q .attributeNames) (λ m e q. definition-good (valueWidth (s .version)) (s .form) ok m e q .groups) t (length (s .form)) (nameAtIndex n (s .form)) height)
           r b i (λ v u c k y. refl)
           (λ u c k f h. ap₂ (λ (z : Row) (rows : List Row). fitsRow (s .version) (s .form) z rows) (same-row (s .next) (s .docs) (g .serials) p refl u c k) (children-kept (s .next) (s .docs) (g .serials) p refl u c k (λ y o. refl) (fills-not u f)) ∙ h)
           ∙ ap₂ (λ (z : Row) (rows : List Row). fitsRow (s .version) (s .form) z rows) (same-row (s .next) (s .docs) (g .serials) p refl r b i) after-here
           ∙ row-fits (plantRows p r true (heads b))
           ∙ added d apart (heads b) x p r (elementRow (nameAtIndex n (s .form))) (serialAt j (childrenOf isElementRow (r .serial) (lines 0 (s .docs))))
-          (filling-heads (length (s .form)) (s .form) t (nameAtIndex n (s .form)) height) (λ y. refl) refl
+          (filling-heads (s .version) (length (s .form)) (s .form) t (nameAtIndex n (s .form)) height) (λ y. refl) refl
           (children-once (s .next) (s .docs) (g .serials) r b i) (children-given (s .next) (s .docs) (g .serials) r b i) j
           (ap (serialAt j) (children-are (s .next) (s .docs) (g .serials) isElementRow r b i)) m
 

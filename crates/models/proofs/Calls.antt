@@ -90,7 +90,7 @@ module _ {bs : Bytes} {o : ℕ} {p : List ℕ} {e : Edit Bytes} (x : Fits bs o p
         (answers-as (ap (λ (y : FlatStore). limited room (plannedIn (formEdited bs o (editOf E) h n) q v y)) (sym (holds bs (x .good) .bodies))) a)
 
     -- ---- a call that keeps all rows
-    pub kept-planned : (c : Call) → formAfter c (storeIn bs .form) ≡ editModel o p e (storeIn bs .form) → plan c (storeIn bs .form) (lines 0 (storeIn bs .docs)) ≡ keeping
+    pub kept-planned : (c : Call) → formAfter c (storeIn bs .form) ≡ editModel o p e (storeIn bs .form) → plan c (storeIn bs .version) (storeIn bs .form) (lines 0 (storeIn bs .docs)) ≡ keeping
         → flat (after c (storeIn bs)) ≡ plannedIn (formEdited bs o (editOf E) h n) (settingPlan 0) [] (flat (storeIn bs))
     kept-planned c w k =
         flat-planned-in c (storeIn bs) (settingPlan 0) [] (formEdited bs o (editOf E) h n) (bodies-hold c w) (apart (none-apart _ (indexed (storeIn bs .form) [] (storeIn bs .docs)) (none-of _ (λ r. refl) (indexed (storeIn bs .form) [] (storeIn bs .docs)))))
@@ -98,7 +98,7 @@ module _ {bs : Bytes} {o : ℕ} {p : List ℕ} {e : Edit Bytes} (x : Fits bs o p
         ∙ sym (ap (λ z. flatten 0 (indexed z [] (docsAfter c (storeIn bs)))) w ∙ ap (flatten 0) (rows-still (editAt e p) o (storeIn bs .form) [] (docsAfter c (storeIn bs)))))
 
     pub kept-answers : (c : Call) (room : ℕ) {q : Plan} (m : ℕ) → q ≡ settingPlan 0 → m ≡ first (conditions c (storeIn bs)) → m ≡ 0 → formAfter c (storeIn bs .form) ≡ editModel o p e (storeIn bs .form)
-        → plan c (storeIn bs .form) (lines 0 (storeIn bs .docs)) ≡ keeping → {out : Bytes} {number len : ℕ} {left : Bytes} → Answers (limited room (plannedIn (formEdited bs o (editOf E) h n) q [] (bodiesOf bs))) out number len left
+        → plan c (storeIn bs .version) (storeIn bs .form) (lines 0 (storeIn bs .docs)) ≡ keeping → {out : Bytes} {number len : ℕ} {left : Bytes} → Answers (limited room (plannedIn (formEdited bs o (editOf E) h n) q [] (bodiesOf bs))) out number len left
         → Answers (outcome c bs room) out number len left
     kept-answers c room m s w z g k a =
         edited-answers c room (settingPlan 0) [] m w z (kept-planned c g k) (answers-as (ap (λ (y : Plan). limited room (plannedIn (formEdited bs o (editOf E) h n) y [] (bodiesOf bs))) (sym s)) a)
@@ -113,17 +113,17 @@ pub convert-form : (o : ℕ) (p : List ℕ) (n k : ℕ) (form : Form) → formAf
 unfolding formAfter
 convert-form o p n k form = refl
 
-pub convert-plan : (o : ℕ) (p : List ℕ) (n k : ℕ) (form : Form) (ls : List Line) → plan (convertToGroup o p n k) form ls ≡ keeping
+pub convert-plan : (o : ℕ) (p : List ℕ) (n k version : ℕ) (form : Form) (ls : List Line) → plan (convertToGroup o p n k) version form ls ≡ keeping
 unfolding plan
-convert-plan o p n k form ls = refl
+convert-plan o p n k version form ls = refl
 
 pub flatten-form : (o : ℕ) (p : List ℕ) (form : Form) → formAfter (flattenGroup o p) form ≡ editModel o p ungroup form
 unfolding formAfter
 flatten-form o p form = refl
 
-pub flatten-plan : (o : ℕ) (p : List ℕ) (form : Form) (ls : List Line) → plan (flattenGroup o p) form ls ≡ keeping
+pub flatten-plan : (o : ℕ) (p : List ℕ) (version : ℕ) (form : Form) (ls : List Line) → plan (flattenGroup o p) version form ls ≡ keeping
 unfolding plan
-flatten-plan o p form ls = refl
+flatten-plan o p version form ls = refl
 
 -- ---- where no condition holds
 suits-group : (t : Members Bytes) → onGroup true (λ q. false) t ≡ false → suits {A = Bytes} ungroup t ≡ true

@@ -30,6 +30,14 @@ returns c =
 attributes-to-requires : tie.Need-attributes-to-requires
 attributes-to-requires c κs = search needs
 
+version-in-requires : tie.Need-version-in-requires
+version-in-requires c κs = search needs
+
+cast-add-attribute-plan : tie.Need-cast-add-attribute-plan
+cast-add-attribute-plan c =
+    let start = c .before .before .before .before .before .before .before .before .before .before .before in
+    omega (arith, start .pre .sort)
+
 add-attribute-plan-requires : tie.Need-add-attribute-plan-requires
 add-attribute-plan-requires c κs = search needs
 
@@ -38,7 +46,7 @@ slice-aggregate-put-added c = search needs
 
 put-added-requires : tie.Need-put-added-requires
 put-added-requires c κs =
-    let at-attributes-to = c .before .before in
+    let at-attributes-to = c .before .before .before in
     let at-attribute-count = at-attributes-to .before .before in
     let start = at-attribute-count .before .before .before .before .before .before .before in (
       (start .pre),
@@ -50,27 +58,29 @@ array-share-prefix-form : tie.Need-array-share-prefix-form
 array-share-prefix-form c =
     let at-put-added = c .before in
     let at-add-attribute-plan = at-put-added .before .before in
-    let at-attributes-to = at-add-attribute-plan .before in
+    let at-version-in = at-add-attribute-plan .before in
+    let at-attributes-to = at-version-in .before in
     let at-attribute-count = at-attributes-to .before .before in
     let at-particle-count = at-attribute-count .before in
     let at-definition-count = at-particle-count .before in
     let start = at-definition-count .before .before .before .before .before in
     added-fits (start .args .store .now) (start .args .owner) (start .args .name .now) (start .args .sort) (start .args .value .now) (start .pre)
     (at-definition-count .definition-count .ensures) (at-particle-count .particle-count .ensures) (at-attribute-count .attribute-count .ensures) (omega arith)
-    (at-attributes-to .attributes-to .ensures) (at-add-attribute-plan .add-attribute-plan .ensures) zeros-long (at-put-added .put-added .ensures)
+    (at-attributes-to .attributes-to .ensures) (at-version-in .version-in .ensures) (at-add-attribute-plan .add-attribute-plan .ensures) zeros-long (at-put-added .put-added .ensures)
 
 slice-aggregate-edit-form : tie.Need-slice-aggregate-edit-form
 slice-aggregate-edit-form c =
     let at-put-added = c .before .before in
     let at-add-attribute-plan = at-put-added .before .before in
-    let at-attributes-to = at-add-attribute-plan .before in
+    let at-version-in = at-add-attribute-plan .before in
+    let at-attributes-to = at-version-in .before in
     let at-attribute-count = at-attributes-to .before .before in
     let at-particle-count = at-attribute-count .before in
     let at-definition-count = at-particle-count .before in
     let start = at-definition-count .before .before .before .before .before in
     added-long (start .args .store .now) (start .args .owner) (start .args .name .now) (start .args .sort) (start .args .value .now) (start .pre)
     (at-definition-count .definition-count .ensures) (at-particle-count .particle-count .ensures) (at-attribute-count .attribute-count .ensures) (omega arith)
-    (at-attributes-to .attributes-to .ensures) (at-add-attribute-plan .add-attribute-plan .ensures) zeros-long (at-put-added .put-added .ensures)
+    (at-attributes-to .attributes-to .ensures) (at-version-in .version-in .ensures) (at-add-attribute-plan .add-attribute-plan .ensures) zeros-long (at-put-added .put-added .ensures)
 
 add-edit-form : tie.Need-add-edit-form
 add-edit-form c = search needs
@@ -79,14 +89,15 @@ edit-form-requires : tie.Need-edit-form-requires
 edit-form-requires c κs =
     let at-put-added = c .before .before .before in
     let at-add-attribute-plan = at-put-added .before .before in
-    let at-attributes-to = at-add-attribute-plan .before in
+    let at-version-in = at-add-attribute-plan .before in
+    let at-attributes-to = at-version-in .before in
     let at-attribute-count = at-attributes-to .before .before in
     let at-particle-count = at-attribute-count .before in
     let at-definition-count = at-particle-count .before in
     let start = at-definition-count .before .before .before .before .before in
     added-asks (start .args .store .now) (start .args .owner) (start .args .name .now) (start .args .sort) (start .args .value .now) (start .pre)
     (at-definition-count .definition-count .ensures) (at-particle-count .particle-count .ensures) (at-attribute-count .attribute-count .ensures) (omega arith)
-    (at-attributes-to .attributes-to .ensures) (at-add-attribute-plan .add-attribute-plan .ensures) zeros-long (at-put-added .put-added .ensures)
+    (at-attributes-to .attributes-to .ensures) (at-version-in .version-in .ensures) (at-add-attribute-plan .add-attribute-plan .ensures) zeros-long (at-put-added .put-added .ensures)
 
 same-length : tie.Need-same-length
 same-length c = search needs
@@ -96,14 +107,15 @@ returns-2 c =
     let at-edit-form = c .before .before in
     let at-put-added = at-edit-form .before .before .before .before in
     let at-add-attribute-plan = at-put-added .before .before in
-    let at-attributes-to = at-add-attribute-plan .before in
+    let at-version-in = at-add-attribute-plan .before in
+    let at-attributes-to = at-version-in .before in
     let at-attribute-count = at-attributes-to .before .before in
     let at-particle-count = at-attribute-count .before in
     let at-definition-count = at-particle-count .before in
     let start = at-definition-count .before .before .before .before .before in
     added-answers (start .args .store .now) (start .args .owner) (start .args .name .now) (start .args .sort) (start .args .value .now) (start .pre)
     (at-definition-count .definition-count .ensures) (at-particle-count .particle-count .ensures) (at-attribute-count .attribute-count .ensures) (omega arith)
-    (at-attributes-to .attributes-to .ensures) (at-add-attribute-plan .add-attribute-plan .ensures) zeros-long (at-put-added .put-added .ensures) (length (start .args .out .now))
+    (at-attributes-to .attributes-to .ensures) (at-version-in .version-in .ensures) (at-add-attribute-plan .add-attribute-plan .ensures) zeros-long (at-put-added .put-added .ensures) (length (start .args .out .now))
     (at-edit-form .edit-form .ensures)
 
 pub write-added-spec : {M : Type 1} → statement M
@@ -116,6 +128,8 @@ write-added-spec =
     refused-requires
     returns
     attributes-to-requires
+    version-in-requires
+    cast-add-attribute-plan
     add-attribute-plan-requires
     slice-aggregate-put-added
     put-added-requires

@@ -154,7 +154,7 @@ returns-4 c =
     (convertToGroup (start .args .owner) (start .args .place .now) (start .args .count) (start .args .sort)) (length (start .args .out .now)) _
     (at-setting-plan .setting-plan .ensures) (at-convert-to-group-refusal .convert-to-group-refusal .ensures) (at-if2 .if2 .left)
     (convert-form (start .args .owner) (start .args .place .now) (start .args .count) (start .args .sort) (storeIn (start .args .store .now) .form))
-    (convert-plan (start .args .owner) (start .args .place .now) (start .args .count) (start .args .sort) (storeIn (start .args .store .now) .form)
+    (convert-plan (start .args .owner) (start .args .place .now) (start .args .count) (start .args .sort) (storeIn (start .args .store .now) .version) (storeIn (start .args .store .now) .form)
     (lines 0 (storeIn (start .args .store .now) .docs)))
     (at-edit-model .edit-model .ensures)
 

@@ -139,7 +139,7 @@ returns-4 c =
     Flatten refl (at-own-part .own-part .ensures) (at-find .find .ensures) _ _ (at-found .found .given .1) (flattenGroup (start .args .owner) (start .args .place .now))
     (length (start .args .out .now)) _ (at-setting-plan .setting-plan .ensures) (at-flatten-group-refusal .flatten-group-refusal .ensures) (at-if2 .if2 .left)
     (flatten-form (start .args .owner) (start .args .place .now) (storeIn (start .args .store .now) .form))
-    (flatten-plan (start .args .owner) (start .args .place .now) (storeIn (start .args .store .now) .form) (lines 0 (storeIn (start .args .store .now) .docs)))
+    (flatten-plan (start .args .owner) (start .args .place .now) (storeIn (start .args .store .now) .version) (storeIn (start .args .store .now) .form) (lines 0 (storeIn (start .args .store .now) .docs)))
     (at-edit-model .edit-model .ensures)
 
 pub flatten-group-spec : {M : Type 1} → statement M

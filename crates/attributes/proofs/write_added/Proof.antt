@@ -35,7 +35,7 @@ version-in-requires c κs = search needs
 
 cast-add-attribute-plan : tie.Need-cast-add-attribute-plan
 cast-add-attribute-plan c =
-    let start = c .before .before .before .before .before .before .before .before .before .before .before in
+    let start = c .before .before .before .before .before .before .before .before .before .before in
     omega (arith, start .pre .sort)
 
 add-attribute-plan-requires : tie.Need-add-attribute-plan-requires

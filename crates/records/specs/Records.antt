@@ -6,19 +6,10 @@ use mathlib.Core.Bool.{Bool, true, _&&_, _||_, not}
 use lib.Dec.{eqb, leb, ltb}
 use lib.ListN.{length, take, drop, getD}
 use Rattle.rules.specs.Bytes.{Bytes, all}
-use Rattle.rules.specs.Layout.{baseVersion, valueWidth, nameWidth, headerSize, definitionSize, particleSize, attributeSize, rowSize}
+use Rattle.rules.specs.Layout.{nameWidth, headerSize, definitionSize, particleSize, attributeSize, rowSize}
 use Rattle.rules.specs.Decode.{numberAt, definitionCount, particleCount, attributeCount, rowCount, sized, sortOf}
 use Rattle.rules.specs.WellFormed.{storedName, isValue, isFill}
 use Rattle.rules.specs.Passing.{knownVersion}
-
--- the width of a value in a store of the base version
-abbrev pub baseWidth : ℕ
-baseWidth = valueWidth baseVersion
-
--- a number of four bytes was read
-pub record NumberAt (at : ℕ) (bs : Bytes) (r : ℕ) : Type 0 where
-  pub value : r ≡ numberAt at 4 bs
-  pub small : r < 4294967296
 
 abbrev pub zeros : Bytes → Bool
 zeros bs = all (λ x. eqb x 0) bs

@@ -12,7 +12,7 @@ ghost use Rattle.rules.specs.WellFormed.{startsName, inName, storedName, isValu
 ghost use Rattle.rules.specs.Conforming.{mustBePresent, allows};
 ghost use Rattle.rules.specs.Filling.{createdValue};
 ghost use Rattle.layout.specs.Bodies.{Width};
-ghost use Rattle.records.specs.Records.{NumberAt, zeros, filled, nameFits, valueFits, definitionFits, attributeFits, unusedFit, rowFits, eachFits, countsFit, offsetsFit, headerFits};
+ghost use Rattle.records.specs.Records.{zeros, filled, nameFits, valueFits, definitionFits, attributeFits, unusedFit, rowFits, eachFits, countsFit, offsetsFit, headerFits};
 
 const BASE_VERSION: usize = 1;
 
@@ -329,13 +329,6 @@ pub fn attributes_fit(w: usize, body: &[u8], count: usize, n: usize) -> bool
 }
 
 // ---- the header
-
-/// The number of four bytes at `at`.
-pub fn number(store: &[u8], at: usize) -> usize
-    ensures { λ r. ⌜ NumberAt at (now (store .entry)) r ⌝ }
-{
-    get_u32(store, at) as usize
-}
 
 // Whether the counts are within the ceilings.
 fn counts_fit(store: &[u8]) -> bool

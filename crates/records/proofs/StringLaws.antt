@@ -14,7 +14,7 @@ use borrow.Author.Tests.{leb-true, eqb-true, le-leb, eq-eqb}
 use Rattle.rules.specs.Bytes.{Bytes, isNone}
 use Rattle.rules.specs.Preorder.{Deep, flatten}
 use Rattle.rules.specs.Store.{Content, empty, pcdata, complex, Attribute, AttributeSort, implied, required, fixed, Form, RowSort, element, attribute, text, Row, Forest, bare, tree, Store}
-use Rattle.rules.specs.Layout.{baseVersion, valueWidth, le, FlatRow, FlatStore, headerSize, definitionSize, particleSize, attributeSize, rowSize, definitionBytes, particleBytes, attributeBytes, rowBytes, each, entry, flatBytes, kindCode, sortCode, rowCode, contentParticles, flatDefinition, ownAttributes, allAttributes, rowIndex, indexed, flat, encode}
+use Rattle.rules.specs.Layout.{valueWidth, le, FlatRow, FlatStore, headerSize, definitionSize, particleSize, attributeSize, rowSize, definitionBytes, particleBytes, attributeBytes, rowBytes, each, entry, flatBytes, kindCode, sortCode, rowCode, contentParticles, flatDefinition, ownAttributes, allAttributes, rowIndex, indexed, flat, encode}
 use Rattle.rules.specs.Decode.{numberAt, readDefinition, readParticle, readAttribute, readRow, definitionCount, particleCount, attributeCount, rowCount, readFlat, sized, sortOf}
 use Rattle.rules.specs.WellFormed.{storedName, isValue, isFill, isAttributeOf}
 use Rattle.rules.specs.Conforming.{EveryRow}
@@ -22,7 +22,7 @@ use Rattle.rules.specs.Passing.{knownVersion, laidRow, good}
 use Rattle.rules.proofs.Words.{and-both, and-split}
 use Rattle.rules.proofs.BooleanLaws.{Every, every-map, every-append, every-zip, none-nil}
 use Rattle.rules.proofs.LayoutLaws.{Small, unle-le, GoodFlatDefinition, GoodFlatAttribute, GoodFlatRow, GoodFlat, length-definition, length-particle, length-attribute, length-row, length-each, length-flatBytes, sized-bytes}
-use Rattle.rules.proofs.DecodeLaws.{width-bound, GoodParts, good-parts, DefinitionParts, every-definition, good-flat}
+use Rattle.rules.proofs.DecodeLaws.{version-bound, width-bound, GoodParts, good-parts, DefinitionParts, every-definition, good-flat}
 use Rattle.records.specs.Records.{definitionFits, attributeFits, rowFits, eachFits, atParticles, atAttributes, atRows, bodiesFit, countsFit, offsetsFit, headerFits}
 use Rattle.records.proofs.RecordLaws.{small-drop, number-then, number-bound, name-length, value-length, FittingDefinition, definition-canonical, definition-fields, definition-fits, particle-canonical, FittingAttribute, attribute-canonical, attribute-fields, attribute-fits, FittingRow, row-canonical, row-fields, row-fits, length-many, body-then, body-canonical, body-fields, body-fits, body-fits-whole}
 
@@ -221,7 +221,7 @@ string-fields w bs a h b = all-fields w bs a (header-fields w bs h) (body-parts 
 pub fitting-good : (w : ℕ) (f : FlatStore) → FittingFlat w f → GoodFlat w f
 fitting-good w f x =
     record {
-      version = omega (arith, eqb-true (f .version) baseVersion (x .version));
+      version = version-bound (f .version) (x .version);
       next = x .most;
       definitionCount = omega arith;
       particleCount = omega arith;

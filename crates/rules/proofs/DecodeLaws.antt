@@ -275,7 +275,7 @@ module _ (version w : ℕ) (form : Form) where
       (row-found owner r (heads b) (h .0) (l .0) (o .0), found-below (r .name) b (h .1) (l .1) (below-owned version form r (heads b) (h .0)), found-below owner t (h .2) (l .2) (o .1))
 
 -- ---- all that the laws use of the versions: the number fits its field, and the length of a value fits a byte
-version-bound : (v : ℕ) → knownVersion v ≡ true → v < 4294967296
+pub version-bound : (v : ℕ) → knownVersion v ≡ true → v < 4294967296
 version-bound v h = omega (arith, eqb-true v baseVersion h)
 
 pub width-bound : (v : ℕ) → valueWidth v < 256

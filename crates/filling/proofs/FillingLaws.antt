@@ -2,21 +2,23 @@
 use Prim.Native.Nat.{ℕ, zero, suc, _+_, _-_, _*_, _<_, _≤_}
 use native.Mathlib.Omega.{arith}
 use native.Mathlib.Numerals.{add-one}
+use borrow.Author.Tests.{ltb-true, ltb-false}
 use mathlib.Core.Path.{_≡_, refl, sym, ap, ap₂, subst, _∙_}
-use mathlib.Core.Bool.{Bool, true, false, _&&_, not}
+use mathlib.Core.Bool.{Bool, true, false, _&&_, _||_, not, false≢true}
 use mathlib.Core.List.{List, [], _∷_, _++_, append-assoc, append-nil}
-use lib.Dec.{eqb}
+use lib.Dec.{eqb, ltb}
 use lib.ListN.{length, take, drop, getD, length-take, length-drop}
 use lib.Seq.{take-all}
 use Rattle.rules.specs.declared.Facts.{Facts}
 use Rattle.rules.specs.declared.GroupKind.{GroupKind}
 use Rattle.rules.specs.declared.GroupKind.the-variants.{Sequence, Choice}
+use Rattle.rules.specs.declared.Quantifier.{Quantifier}
 use Rattle.rules.specs.Bytes.{Bytes, numbers}
 use Rattle.rules.specs.Model.{Members, skips, nothing, unless, beside, filling}
 use Rattle.rules.specs.Automaton.{facts}
 use Rattle.rules.specs.Preorder.{Deep}
 use Rattle.rules.specs.Layout.{attributeSize, FlatRow}
-use Rattle.rules.specs.Decode.{readParticle, readAttribute, sortOf}
+use Rattle.rules.specs.Decode.{quantifierOf, readParticle, readAttribute, sortOf}
 use Rattle.rules.specs.Store.{AttributeSort}
 use Rattle.rules.specs.Conforming.{mustBePresent}
 use Rattle.rules.specs.Filling.{createdValue}
@@ -37,7 +39,7 @@ use Rattle.rows.proofs.WrittenLaws.{written-none, written-then, written-as, wri
 use Rattle.filling.specs.declared.Filling.{Filling}
 use Rattle.filling.specs.declared.Filling.the-variants.{Nothing, Definition, Attribute, Particles}
 use Rattle.filling.specs.Fillings.{newElement, newAttribute, requiredRows, fillingsOf, contentRows, fillIndex, groupFilled, fillingRows}
-use Rattle.filling.specs.Parts.{whatFilling, memberFilling, valueIn, requiredAt, requiredIn, formIn, definitionRows, memberRows, belowRows, membersAt, Indexed}
+use Rattle.filling.specs.Parts.{leftOut, passed, whatFilling, memberFilling, valueIn, requiredAt, requiredIn, formIn, definitionRows, memberRows, belowRows, membersAt, Indexed}
 
 -- ---- readers
 pub nothing-told : (k : GroupKind) (ms : Members ℕ) (x y : ℕ) (f : Facts) → f ≡ facts numbers k ms x y → f .nothing ≡ nothing k ms
@@ -55,6 +57,23 @@ created-told w attrs j b k u v e s t x =
       x ∙ ap₂ (λ (y : ℕ) (z : Bytes). createdValue (sortOf y) z) (s ∙ ap (λ (z : Bytes). readAttribute z .sort) e) (t ∙ ap (λ (z : Bytes). readAttribute z .value) e),
       omega (arith, ap length x, created-short (sortOf k) u, ap length t, length-take (getD (drop 18 b) 1 0) (drop 2 (drop 18 b)), length-drop 2 (drop 18 b), length-drop 18 b),
     )
+
+-- ---- the code of a quantifier, b, read of n
+module _ (b n : ℕ) (e : b ≡ n) where
+  pub optional-code : b ≡ 1 → true ≡ skips (quantifierOf n)
+  optional-code q = let z : n ≡ 1 = sym e ∙ q in rw z
+
+  pub optional-code-2 : b ≡ 2 → true ≡ skips (quantifierOf n)
+  optional-code-2 q = let z : n ≡ 2 = sym e ∙ q in rw z
+
+  pub needed-code : (b ≡ 1 → ⊥) → (b ≡ 2 → ⊥) → false ≡ skips (quantifierOf n)
+  needed-code x y = by n (λ q. x (e ∙ q)) (λ q. y (e ∙ q))
+    where
+      by : (k : ℕ) → (k ≡ 1 → ⊥) → (k ≡ 2 → ⊥) → false ≡ skips (quantifierOf k)
+      by zero x y = refl
+      by (suc zero) x y = absurd (x refl)
+      by (suc (suc zero)) x y = absurd (y refl)
+      by (suc (suc (suc k))) x y = refl
 
 -- ---- attributes
 module _ (F : IndexForm) (value : ℕ → Bytes) (d i : ℕ) where
@@ -137,6 +156,33 @@ module _ (d : ℕ) (k : GroupKind) (s : Bytes) where
             ≡ beside k (whatFilling (particleOf (readParticle s) .quantifier) (whatOf sort (getD s 2 0)) (membersFrom (suc d) (drop 4 s))) (filling k (membersFrom d (drop 4 s)))
         by zero = refl
         by (suc n) = refl
+
+    left-out : own ≤ d → d ≤ own → leftOut k (quantifierOf (getD s 1 0)) ≡ true → filling k (membersFrom d s) ≡ filling k (membersFrom d (take (length s - 4) (drop 4 s)))
+    unfolding memberFilling particleOf
+    left-out l m z = group-here l m ∙ by k (whatOf (getD s 0 0) (getD s 2 0)) z
+      where
+        rest : List ℕ
+        rest = filling k (membersFrom d (take (length s - 4) (drop 4 s)))
+
+        by : (j : GroupKind) (x : What) → leftOut j (quantifierOf (getD s 1 0)) ≡ true → beside j (whatFilling (quantifierOf (getD s 1 0)) x (membersFrom (suc d) (drop 4 s))) rest ≡ rest
+        by Sequence (Element i) z = rw z
+        by Sequence (Group g n) z = rw z
+        by Choice x z = absurd (false≢true z)
+
+    -- the particle that s begins with is one that the group goes past
+    pub group-past : d ≤ own → passed d k own (quantifierOf (getD s 1 0)) ≡ true → filling k (membersFrom d s) ≡ filling k (membersFrom d (take (length s - 4) (drop 4 s)))
+    group-past m z = by (ltb d own) refl z
+      where
+        by : (b : Bool) → ltb d own ≡ b → (b || leftOut k (quantifierOf (getD s 1 0))) ≡ true → filling k (membersFrom d s) ≡ filling k (membersFrom d (take (length s - 4) (drop 4 s)))
+        by true q z = group-deeper (ltb-true d own q)
+        by false q z = left-out (ltb-false d own q) m z
+
+not-passed : (d : ℕ) (k : GroupKind) (own : ℕ) (q : Quantifier) → passed d k own q ≡ false → own ≤ d
+not-passed d k own q z = by (ltb d own) refl z
+  where
+    by : (b : Bool) → ltb d own ≡ b → (b || leftOut k q) ≡ false → own ≤ d
+    by true e z = absurd (false≢true (sym z))
+    by false e z = ltb-false d own e
 
 -- ---- one particle, p, and its members
 module _ (d : ℕ) (s : Bytes) (p : Particle) (e : p ≡ particleOf (readParticle s)) where
@@ -303,15 +349,19 @@ module _ {version w : ℕ} {defs parts attrs : Bytes} {a : ℕ} {txt : Bytes} {h
     next-short : length (take (length t - 4) (drop 4 t)) ≤ length s
     next-short = omega (arith, i .short, length-take (length t - 4) (drop 4 t), length-drop 4 t)
 
-    -- it is deeper, so it belongs to another member
-    pub rest-deeper : e < own → Rest version w defs parts attrs a txt h d k e s c out (take (length t - 4) (drop 4 t)) r out′
-    rest-deeper m =
-        record {
-          rest = λ p. i .rest (same-written version w defs parts attrs a txt h d (filling k (membersFrom e t)) (filling k (membersFrom e (take (length t - 4) (drop 4 t)))) (group-deeper e k t own l g m) p);
-          room = i .room;
-          short = next-short;
-          long = i .long;
-        }
+    -- it is deeper, so it belongs to another member, or it is a member of a LIST that may be left out
+    module _ (b : Bool) (o : b ≡ passed e k own (quantifierOf (getD t 1 0))) where
+      pub rest-past : e ≤ own → b ≡ true → Rest version w defs parts attrs a txt h d k e s c out (take (length t - 4) (drop 4 t)) r out′
+      rest-past m y =
+          record {
+            rest = λ p. i .rest (same-written version w defs parts attrs a txt h d (filling k (membersFrom e t)) (filling k (membersFrom e (take (length t - 4) (drop 4 t)))) (group-past e k t own l g m (sym o ∙ y)) p);
+            room = i .room;
+            short = next-short;
+            long = i .long;
+          }
+
+      pub rest-here : b ≡ false → own ≤ e
+      rest-here z = not-passed e k own (quantifierOf (getD t 1 0)) (sym o ∙ z)
 
     module _ (m : own ≤ e) (n : e ≤ own) {r′ : Cursor} {out″ : Bytes} (p : Written w (memberRows version w defs parts attrs a txt h d (memberFilling e t)) r out′ r′ out″) where
       -- it is a member of a LIST, and was written

@@ -1,9 +1,12 @@
 -- The filling of what the bytes of a form hold at the width `w` of a value: of particles, of definitions, of what a change fills with.
 use Prim.Native.Nat.{ℕ, suc, _+_, _*_, _<_, _≤_}
-use mathlib.Core.Bool.{_||_}
+use mathlib.Core.Bool.{Bool, false, _||_}
 use mathlib.Core.List.{List, [], _∷_}
+use lib.Dec.{ltb}
 use lib.ListN.{length, drop, getD}
 use denote.Ref.{RefT}
+use Rattle.rules.specs.declared.GroupKind.{GroupKind}
+use Rattle.rules.specs.declared.GroupKind.the-variants.{Sequence, Choice}
 use Rattle.rules.specs.declared.Quantifier.{Quantifier}
 use Rattle.rules.specs.Bytes.{Bytes}
 use Rattle.rules.specs.Model.{Members, skips, nothing, unless, filling}
@@ -33,6 +36,15 @@ whatFilling q (Group k n) below = unless (skips q || nothing k below) (filling k
 -- the particle of depth d that s begins with
 unfoldable pub memberFilling : ℕ → Bytes → List ℕ
 memberFilling d s = whatFilling (particleOf (readParticle s) .quantifier) (particleOf (readParticle s) .what) (membersFrom (suc d) (drop 4 s))
+
+-- a member of a LIST whose quantifier lets it be absent fills with nothing; a CHOICE takes its first member as it is
+abbrev pub leftOut : GroupKind → Quantifier → Bool
+leftOut Sequence q = skips q
+leftOut Choice q = false
+
+-- a particle of depth own that a group of kind k with members of depth d goes past: it is deeper, or is left out
+abbrev pub passed : ℕ → GroupKind → ℕ → Quantifier → Bool
+passed d k own q = ltb d own || leftOut k q
 
 -- the members of depth e from particle k on
 unfoldable pub membersAt : Bytes → ℕ → ℕ → Members ℕ

@@ -5,14 +5,15 @@ use rules::GroupKind;
 ghost use mathlib.Core.Path.{_≡_};
 ghost use Prim.Native.Nat.{ℕ, _+_, _<_, _≤_};
 ghost use mathlib.Core.List.{[], _∷_};
-ghost use lib.ListN.{length};
-ghost use Rattle.rules.specs.Model.{nothing, filling};
+ghost use lib.ListN.{length, getD};
+ghost use Rattle.rules.specs.Decode.{quantifierOf};
+ghost use Rattle.rules.specs.Model.{skips, nothing, filling};
 ghost use Rattle.model.specs.Members.{membersFrom};
 ghost use Rattle.rowpass.specs.Reading.{attributeIn, indexForm};
 ghost use Rattle.layout.specs.Bodies.{Width};
 ghost use Rattle.rows.specs.Written.{Room, Written, newRow};
 ghost use Rattle.filling.specs.Fillings.{groupFilled, fillingRows};
-ghost use Rattle.filling.specs.Parts.{memberFilling, valueIn, requiredAt, requiredIn, membersAt, partsIn, widthIn, countIn, definitionFilled, membersFilled, belowFilled, changeFilled, cursorIn, Asks, Indexed};
+ghost use Rattle.filling.specs.Parts.{leftOut, passed, memberFilling, valueIn, requiredAt, requiredIn, membersAt, partsIn, widthIn, countIn, definitionFilled, membersFilled, belowFilled, changeFilled, cursorIn, Asks, Indexed};
 
 /// What a change fills with: nothing, a definition by its index, one row of an attribute by its index, or a group of a kind by the number
 /// of its first member in the particle body and the depth of its members.
@@ -21,6 +22,17 @@ pub enum Filling {
     Definition(usize),
     Attribute(usize),
     Particles(GroupKind, usize, usize),
+}
+
+// Whether the quantifier of the particle that t begins with lets it be absent.
+fn is_optional(t: &[u8]) -> bool
+    ensures { λ r. ⌜ r ≡ skips (quantifierOf (getD (now (t .entry)) 1 0)) ⌝ }
+{
+    match codec::byte(t, 1) {
+        1 => true,
+        2 => true,
+        _ => false,
+    }
 }
 
 // Whether a group of the members of depth d that s begins with accepts nothing.
@@ -109,6 +121,24 @@ fn put_required(
     }
 }
 
+// Whether the particle that t begins with may be left out of a group of a kind with no look at the members after it.
+fn is_left_out(t: &[u8], kind: GroupKind) -> bool
+    ensures { λ r. ⌜ r ≡ leftOut kind (quantifierOf (getD (now (t .entry)) 1 0)) ⌝ }
+{
+    match kind {
+        GroupKind::Sequence => is_optional(t),
+        GroupKind::Choice => false,
+    }
+}
+
+// Whether a group of a kind with members of depth d goes past the particle of depth `own` that t begins with.
+fn is_passed(t: &[u8], own: usize, d: usize, kind: GroupKind) -> bool
+    ensures { λ r. ⌜ r ≡ passed d kind own (quantifierOf (getD (now (t .entry)) 1 0)) ⌝ }
+{
+    let deeper = d < own;
+    deeper | is_left_out(t, kind)
+}
+
 // Writes the filling of the members of depth d that s begins with, in a group of a kind. Their rows have the depth `depth`, and no
 // definition is higher than h. It stops where no row may be written any more, so that the work is bounded by the rows.
 fn put_group(
@@ -135,7 +165,7 @@ fn put_group(
         if own < d {
             return;
         }
-        if d < own {
+        if is_passed(t, own, d, kind) {
             t = &t[4..];
         } else {
             put_member(t, d, form, text, sizes, h, depth, c, out);

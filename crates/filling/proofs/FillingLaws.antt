@@ -2,21 +2,21 @@
 use Prim.Native.Nat.{ℕ, zero, suc, _+_, _-_, _*_, _<_, _≤_}
 use native.Mathlib.Omega.{arith}
 use native.Mathlib.Numerals.{add-one}
+use borrow.Author.Tests.{ltb-true, ltb-false}
 use mathlib.Core.Path.{_≡_, refl, sym, ap, ap₂, subst, _∙_}
-use mathlib.Core.Bool.{Bool, true, false, _&&_, not}
+use mathlib.Core.Bool.{Bool, true, false, _&&_, _||_, not, false≢true}
 use mathlib.Core.List.{List, [], _∷_, _++_, append-assoc, append-nil}
-use lib.Dec.{eqb}
+use lib.Dec.{eqb, ltb}
 use lib.ListN.{length, take, drop, getD, length-take, length-drop}
 use lib.Seq.{take-all}
-use Rattle.rules.specs.declared.Facts.{Facts}
 use Rattle.rules.specs.declared.GroupKind.{GroupKind}
 use Rattle.rules.specs.declared.GroupKind.the-variants.{Sequence, Choice}
-use Rattle.rules.specs.Bytes.{Bytes, numbers}
-use Rattle.rules.specs.Model.{Members, skips, nothing, unless, beside, filling}
-use Rattle.rules.specs.Automaton.{facts}
+use Rattle.rules.specs.declared.Quantifier.{Quantifier}
+use Rattle.rules.specs.Bytes.{Bytes}
+use Rattle.rules.specs.Model.{Members, skips, both, neutral, nothing, unless, beside, filling}
 use Rattle.rules.specs.Preorder.{Deep}
 use Rattle.rules.specs.Layout.{attributeSize, FlatRow}
-use Rattle.rules.specs.Decode.{readParticle, readAttribute, sortOf}
+use Rattle.rules.specs.Decode.{quantifierOf, readParticle, readAttribute, sortOf}
 use Rattle.rules.specs.Store.{AttributeSort}
 use Rattle.rules.specs.Conforming.{mustBePresent}
 use Rattle.rules.specs.Filling.{createdValue}
@@ -26,7 +26,6 @@ use Rattle.model.specs.declared.What.the-variants.{Element, Group}
 use Rattle.model.specs.declared.Particle.{Particle}
 use Rattle.model.specs.Particle.{whatOf, particleOf}
 use Rattle.model.specs.Members.{indexMember, membersFrom, membersOf}
-use Rattle.model.proofs.FactsLaws.{facts-nothing}
 use Rattle.model.proofs.MembersLaws.{members-few, members-deeper, members-stop, members-here}
 use Rattle.rowpass.specs.Indices.{IndexForm}
 use Rattle.layout.specs.Bodies.{recordAt}
@@ -37,12 +36,9 @@ use Rattle.rows.proofs.WrittenLaws.{written-none, written-then, written-as, wri
 use Rattle.filling.specs.declared.Filling.{Filling}
 use Rattle.filling.specs.declared.Filling.the-variants.{Nothing, Definition, Attribute, Particles}
 use Rattle.filling.specs.Fillings.{newElement, newAttribute, requiredRows, fillingsOf, contentRows, fillIndex, groupFilled, fillingRows}
-use Rattle.filling.specs.Parts.{whatFilling, memberFilling, valueIn, requiredAt, requiredIn, formIn, definitionRows, memberRows, belowRows, membersAt, Indexed}
+use Rattle.filling.specs.Parts.{leftOut, passed, settled, sortNothing, memberNothing, whatFilling, memberFilling, valueIn, requiredAt, requiredIn, formIn, definitionRows, memberRows, belowRows, membersAt, Indexed}
 
 -- ---- readers
-pub nothing-told : (k : GroupKind) (ms : Members ℕ) (x y : ℕ) (f : Facts) → f ≡ facts numbers k ms x y → f .nothing ≡ nothing k ms
-nothing-told k ms x y f e = ap (λ (z : Facts). z .nothing) e ∙ facts-nothing numbers k ms x y
-
 -- a created value is no longer than the fill
 created-short : (sort : AttributeSort) (fill : Bytes) → length (createdValue sort fill) ≤ length fill
 created-short sort fill = omega arith
@@ -55,6 +51,23 @@ created-told w attrs j b k u v e s t x =
       x ∙ ap₂ (λ (y : ℕ) (z : Bytes). createdValue (sortOf y) z) (s ∙ ap (λ (z : Bytes). readAttribute z .sort) e) (t ∙ ap (λ (z : Bytes). readAttribute z .value) e),
       omega (arith, ap length x, created-short (sortOf k) u, ap length t, length-take (getD (drop 18 b) 1 0) (drop 2 (drop 18 b)), length-drop 2 (drop 18 b), length-drop 18 b),
     )
+
+-- ---- the code of a quantifier, b, read of n
+module _ (b n : ℕ) (e : b ≡ n) where
+  pub optional-code : b ≡ 1 → true ≡ skips (quantifierOf n)
+  optional-code q = let z : n ≡ 1 = sym e ∙ q in rw z
+
+  pub optional-code-2 : b ≡ 2 → true ≡ skips (quantifierOf n)
+  optional-code-2 q = let z : n ≡ 2 = sym e ∙ q in rw z
+
+  pub needed-code : (b ≡ 1 → ⊥) → (b ≡ 2 → ⊥) → false ≡ skips (quantifierOf n)
+  needed-code x y = by n (λ q. x (e ∙ q)) (λ q. y (e ∙ q))
+    where
+      by : (k : ℕ) → (k ≡ 1 → ⊥) → (k ≡ 2 → ⊥) → false ≡ skips (quantifierOf k)
+      by zero x y = refl
+      by (suc zero) x y = absurd (x refl)
+      by (suc (suc zero)) x y = absurd (y refl)
+      by (suc (suc (suc k))) x y = refl
 
 -- ---- attributes
 module _ (F : IndexForm) (value : ℕ → Bytes) (d i : ℕ) where
@@ -137,6 +150,155 @@ module _ (d : ℕ) (k : GroupKind) (s : Bytes) where
             ≡ beside k (whatFilling (particleOf (readParticle s) .quantifier) (whatOf sort (getD s 2 0)) (membersFrom (suc d) (drop 4 s))) (filling k (membersFrom d (drop 4 s)))
         by zero = refl
         by (suc n) = refl
+
+    left-out : own ≤ d → d ≤ own → leftOut k (quantifierOf (getD s 1 0)) ≡ true → filling k (membersFrom d s) ≡ filling k (membersFrom d (take (length s - 4) (drop 4 s)))
+    unfolding memberFilling particleOf
+    left-out l m z = group-here l m ∙ by k (whatOf (getD s 0 0) (getD s 2 0)) z
+      where
+        rest : List ℕ
+        rest = filling k (membersFrom d (take (length s - 4) (drop 4 s)))
+
+        by : (j : GroupKind) (x : What) → leftOut j (quantifierOf (getD s 1 0)) ≡ true → beside j (whatFilling (quantifierOf (getD s 1 0)) x (membersFrom (suc d) (drop 4 s))) rest ≡ rest
+        by Sequence (Element i) z = rw z
+        by Sequence (Group g n) z = rw z
+        by Choice x z = absurd (false≢true z)
+
+    -- the particle that s begins with is one that the group goes past
+    pub group-past : d ≤ own → passed d k own (quantifierOf (getD s 1 0)) ≡ true → filling k (membersFrom d s) ≡ filling k (membersFrom d (take (length s - 4) (drop 4 s)))
+    group-past m z = by (ltb d own) refl z
+      where
+        by : (b : Bool) → ltb d own ≡ b → (b || leftOut k (quantifierOf (getD s 1 0))) ≡ true → filling k (membersFrom d s) ≡ filling k (membersFrom d (take (length s - 4) (drop 4 s)))
+        by true q z = group-deeper (ltb-true d own q)
+        by false q z = left-out (ltb-false d own q) m z
+
+not-passed : (d : ℕ) (k : GroupKind) (own : ℕ) (q : Quantifier) → passed d k own q ≡ false → own ≤ d
+not-passed d k own q z = by (ltb d own) refl z
+  where
+    by : (b : Bool) → ltb d own ≡ b → (b || leftOut k q) ≡ false → own ≤ d
+    by true e z = absurd (false≢true (sym z))
+    by false e z = ltb-false d own e
+
+-- ---- whether they accept nothing
+-- a member that settles it, and one that does not
+settled-by : (k : GroupKind) (b x : Bool) → settled k b ≡ true → b ≡ both k b x
+settled-by Sequence true x z = absurd (false≢true z)
+settled-by Sequence false x z = refl
+settled-by Choice true x z = refl
+settled-by Choice false x z = absurd (false≢true z)
+
+settled-later : (k : GroupKind) (b x : Bool) → settled k b ≡ false → both k b x ≡ x
+settled-later Sequence true x z = refl
+settled-later Sequence false x z = absurd (false≢true (sym z))
+settled-later Choice true x z = absurd (false≢true (sym z))
+settled-later Choice false x z = refl
+
+module _ (d : ℕ) (k : GroupKind) (s : Bytes) (own : ℕ) (h : 4 ≤ length s) (g : own ≡ getD s 3 0) where
+  nothing-here : own ≤ d → d ≤ own → nothing k (membersFrom d s) ≡ both k (memberNothing d s) (nothing k (membersFrom d (take (length s - 4) (drop 4 s))))
+  unfolding nothing memberNothing
+  nothing-here l m = rw (tail-seen s 4, members-here d s h (omega arith)) (by (getD s 0 0))
+    where
+      by : (sort : ℕ)
+          → nothing k (indexMember (readParticle s .row) sort (membersFrom (suc d) (drop 4 s)) (membersFrom d (drop 4 s)))
+          ≡ both k (sortNothing (quantifierOf (getD s 1 0)) sort (membersFrom (suc d) (drop 4 s))) (nothing k (membersFrom d (drop 4 s)))
+      by zero = refl
+      by (suc n) = refl
+
+  nothing-left-out : own ≤ d → d ≤ own → leftOut k (quantifierOf (getD s 1 0)) ≡ true → nothing k (membersFrom d s) ≡ nothing k (membersFrom d (take (length s - 4) (drop 4 s)))
+  unfolding memberNothing
+  nothing-left-out l m z = nothing-here l m ∙ by k (getD s 0 0) z
+    where
+      rest : Bool
+      rest = nothing k (membersFrom d (take (length s - 4) (drop 4 s)))
+
+      by : (j : GroupKind) (sort : ℕ) → leftOut j (quantifierOf (getD s 1 0)) ≡ true → both j (sortNothing (quantifierOf (getD s 1 0)) sort (membersFrom (suc d) (drop 4 s))) rest ≡ rest
+      by Sequence zero z = rw z
+      by Sequence (suc n) z = rw z
+      by Choice sort z = absurd (false≢true z)
+
+  nothing-past : d ≤ own → passed d k own (quantifierOf (getD s 1 0)) ≡ true → nothing k (membersFrom d s) ≡ nothing k (membersFrom d (take (length s - 4) (drop 4 s)))
+  nothing-past m z = by (ltb d own) refl z
+    where
+      deeper : d < own → nothing k (membersFrom d s) ≡ nothing k (membersFrom d (take (length s - 4) (drop 4 s)))
+      deeper l = rw (tail-seen s 4, members-deeper d s h (omega arith))
+
+      by : (b : Bool) → ltb d own ≡ b → (b || leftOut k (quantifierOf (getD s 1 0))) ≡ true → nothing k (membersFrom d s) ≡ nothing k (membersFrom d (take (length s - 4) (drop 4 s)))
+      by true q z = deeper (ltb-true d own q)
+      by false q z = nothing-left-out (ltb-false d own q) m z
+
+-- the members from t on accept nothing if and only if those from s on do
+pub record Unsettled (k : GroupKind) (d : ℕ) (s t : Bytes) : Type 0 where
+  pub same : nothing k (membersFrom d s) ≡ nothing k (membersFrom d t)
+  pub short : length t ≤ length s
+
+pub unsettled-starts : (k : GroupKind) (d : ℕ) (s : Bytes) → Unsettled k d s s
+unsettled-starts k d s = record { same = refl; short = omega arith }
+
+module _ {k : GroupKind} {d : ℕ} {s t : Bytes} (i : Unsettled k d s t) where
+  -- there is no particle more
+  pub unsettled-ends : {b : Bool} → length t < 4 → b ≡ neutral k → b ≡ nothing k (membersFrom d s)
+  unfolding nothing
+  unsettled-ends l e = e ∙ sym (ap (λ (ms : Members ℕ). nothing k ms) (members-few d t l)) ∙ sym (i .same)
+
+  module _ (l : 4 ≤ length t) (own : ℕ) (g : own ≡ getD t 3 0) where
+    unsettled-next : length (take (length t - 4) (drop 4 t)) ≤ length s
+    unsettled-next = omega (arith, i .short, length-take (length t - 4) (drop 4 t), length-drop 4 t)
+
+    -- the particle that t begins with stands outside the group
+    pub unsettled-over : {b : Bool} → own < d → b ≡ neutral k → b ≡ nothing k (membersFrom d s)
+    unfolding nothing
+    unsettled-over m e = e ∙ sym (ap (λ (ms : Members ℕ). nothing k ms) (members-stop d t l (omega arith))) ∙ sym (i .same)
+
+    -- u: the group goes past it
+    module _ (m : d ≤ own) (u : Bool) (o : u ≡ passed d k own (quantifierOf (getD t 1 0))) where
+      pub unsettled-past : u ≡ true → Unsettled k d s (take (length t - 4) (drop 4 t))
+      unsettled-past y = record { same = i .same ∙ nothing-past d k t own l g m (sym o ∙ y); short = unsettled-next }
+
+      pub unsettled-here : u ≡ false → own ≤ d
+      unsettled-here n = not-passed d k own (quantifierOf (getD t 1 0)) (sym o ∙ n)
+
+      -- b: it is a member, and accepts nothing; z: it settles the group
+      module _ (n : u ≡ false) (b : Bool) (e : b ≡ memberNothing d t) (z : Bool) (f : z ≡ settled k b) where
+        told-here : nothing k (membersFrom d t) ≡ both k b (nothing k (membersFrom d (take (length t - 4) (drop 4 t))))
+        told-here = nothing-here d k t own l g (unsettled-here n) m ∙ ap (λ (y : Bool). both k y (nothing k (membersFrom d (take (length t - 4) (drop 4 t))))) (sym e)
+
+        pub unsettled-by : z ≡ true → b ≡ nothing k (membersFrom d s)
+        unsettled-by q = settled-by k b (nothing k (membersFrom d (take (length t - 4) (drop 4 t)))) (sym f ∙ q) ∙ sym told-here ∙ sym (i .same)
+
+        pub unsettled-on : z ≡ false → Unsettled k d s (take (length t - 4) (drop 4 t))
+        unsettled-on q = record { same = i .same ∙ told-here ∙ settled-later k b (nothing k (membersFrom d (take (length t - 4) (drop 4 t)))) (sym f ∙ q); short = unsettled-next }
+
+-- the particle of depth d that s begins with; b: its quantifier lets it be absent, sort: its sort
+module _ (d : ℕ) (s : Bytes) (b : Bool) (e : b ≡ skips (quantifierOf (getD s 1 0))) where
+  pub absent-skips : b ≡ true → true ≡ memberNothing d s
+  unfolding memberNothing
+  absent-skips q = let z : skips (quantifierOf (getD s 1 0)) ≡ true = sym e ∙ q in by (getD s 0 0) z
+    where
+      by : (sort : ℕ) → skips (quantifierOf (getD s 1 0)) ≡ true → true ≡ sortNothing (quantifierOf (getD s 1 0)) sort (membersFrom (suc d) (drop 4 s))
+      by zero z = sym z
+      by (suc n) z = rw z
+
+  module _ (q : b ≡ false) (sort : ℕ) (t : sort ≡ getD s 0 0) where
+    by-sort : memberNothing d s ≡ sortNothing (quantifierOf (getD s 1 0)) sort (membersFrom (suc d) (drop 4 s))
+    unfolding memberNothing
+    by-sort = ap (λ (n : ℕ). sortNothing (quantifierOf (getD s 1 0)) n (membersFrom (suc d) (drop 4 s))) (sym t)
+
+    pub absent-element : sort ≡ 0 → false ≡ memberNothing d s
+    absent-element x = let z : skips (quantifierOf (getD s 1 0)) ≡ false = sym e ∙ q in sym (by-sort ∙ rw x z)
+
+    module _ (u : Bool) where
+      inside-told : (k : GroupKind) → u ≡ nothing k (membersFrom (d + 1) (take (length s - 4) (drop 4 s))) → u ≡ (skips (quantifierOf (getD s 1 0)) || nothing k (membersFrom (suc d) (drop 4 s)))
+      inside-told k x = let z : skips (quantifierOf (getD s 1 0)) ≡ false = sym e ∙ q in rw z (x ∙ ap₂ (λ (n : ℕ) (y : Bytes). nothing k (membersFrom n y)) (add-one d) (tail-seen s 4))
+
+      pub absent-list : sort ≡ 1 → u ≡ nothing Sequence (membersFrom (d + 1) (take (length s - 4) (drop 4 s))) → u ≡ memberNothing d s
+      absent-list x y = inside-told Sequence y ∙ sym (by-sort ∙ rw x)
+
+      pub absent-choice : (sort ≡ 0 → ⊥) → (sort ≡ 1 → ⊥) → u ≡ nothing Choice (membersFrom (d + 1) (take (length s - 4) (drop 4 s))) → u ≡ memberNothing d s
+      absent-choice x y p = by sort x y by-sort
+        where
+          by : (n : ℕ) → (n ≡ 0 → ⊥) → (n ≡ 1 → ⊥) → memberNothing d s ≡ sortNothing (quantifierOf (getD s 1 0)) n (membersFrom (suc d) (drop 4 s)) → u ≡ memberNothing d s
+          by zero x y r = absurd (x refl)
+          by (suc zero) x y r = absurd (y refl)
+          by (suc (suc n)) x y r = inside-told Choice p ∙ sym r
 
 -- ---- one particle, p, and its members
 module _ (d : ℕ) (s : Bytes) (p : Particle) (e : p ≡ particleOf (readParticle s)) where
@@ -303,15 +465,19 @@ module _ {version w : ℕ} {defs parts attrs : Bytes} {a : ℕ} {txt : Bytes} {h
     next-short : length (take (length t - 4) (drop 4 t)) ≤ length s
     next-short = omega (arith, i .short, length-take (length t - 4) (drop 4 t), length-drop 4 t)
 
-    -- it is deeper, so it belongs to another member
-    pub rest-deeper : e < own → Rest version w defs parts attrs a txt h d k e s c out (take (length t - 4) (drop 4 t)) r out′
-    rest-deeper m =
-        record {
-          rest = λ p. i .rest (same-written version w defs parts attrs a txt h d (filling k (membersFrom e t)) (filling k (membersFrom e (take (length t - 4) (drop 4 t)))) (group-deeper e k t own l g m) p);
-          room = i .room;
-          short = next-short;
-          long = i .long;
-        }
+    -- it is deeper, so it belongs to another member, or it is a member of a LIST that may be left out
+    module _ (b : Bool) (o : b ≡ passed e k own (quantifierOf (getD t 1 0))) where
+      pub rest-past : e ≤ own → b ≡ true → Rest version w defs parts attrs a txt h d k e s c out (take (length t - 4) (drop 4 t)) r out′
+      rest-past m y =
+          record {
+            rest = λ p. i .rest (same-written version w defs parts attrs a txt h d (filling k (membersFrom e t)) (filling k (membersFrom e (take (length t - 4) (drop 4 t)))) (group-past e k t own l g m (sym o ∙ y)) p);
+            room = i .room;
+            short = next-short;
+            long = i .long;
+          }
+
+      pub rest-here : b ≡ false → own ≤ e
+      rest-here z = not-passed e k own (quantifierOf (getD t 1 0)) (sym o ∙ z)
 
     module _ (m : own ≤ e) (n : e ≤ own) {r′ : Cursor} {out″ : Bytes} (p : Written w (memberRows version w defs parts attrs a txt h d (memberFilling e t)) r out′ r′ out″) where
       -- it is a member of a LIST, and was written

@@ -1,15 +1,18 @@
 -- The filling of what the bytes of a form hold at the width `w` of a value: of particles, of definitions, of what a change fills with.
-use Prim.Native.Nat.{ℕ, suc, _+_, _*_, _<_, _≤_}
-use mathlib.Core.Bool.{_||_}
+use Prim.Native.Nat.{ℕ, zero, suc, _+_, _*_, _<_, _≤_}
+use mathlib.Core.Bool.{Bool, false, not, _||_}
 use mathlib.Core.List.{List, [], _∷_}
+use lib.Dec.{ltb}
 use lib.ListN.{length, drop, getD}
 use denote.Ref.{RefT}
+use Rattle.rules.specs.declared.GroupKind.{GroupKind}
+use Rattle.rules.specs.declared.GroupKind.the-variants.{Sequence, Choice}
 use Rattle.rules.specs.declared.Quantifier.{Quantifier}
 use Rattle.rules.specs.Bytes.{Bytes}
 use Rattle.rules.specs.Model.{Members, skips, nothing, unless, filling}
 use Rattle.rules.specs.Preorder.{Deep}
 use Rattle.rules.specs.Layout.{FlatAttribute, FlatRow}
-use Rattle.rules.specs.Decode.{readParticle, sortOf}
+use Rattle.rules.specs.Decode.{quantifierOf, groupOf, readParticle, sortOf}
 use Rattle.rules.specs.Filling.{createdValue}
 use Rattle.model.specs.declared.What.{What}
 use Rattle.model.specs.declared.What.the-variants.{Element, Group}
@@ -33,6 +36,30 @@ whatFilling q (Group k n) below = unless (skips q || nothing k below) (filling k
 -- the particle of depth d that s begins with
 unfoldable pub memberFilling : ℕ → Bytes → List ℕ
 memberFilling d s = whatFilling (particleOf (readParticle s) .quantifier) (particleOf (readParticle s) .what) (membersFrom (suc d) (drop 4 s))
+
+-- a member of a LIST whose quantifier lets it be absent fills with nothing; a CHOICE takes its first member as it is
+abbrev pub leftOut : GroupKind → Quantifier → Bool
+leftOut Sequence q = skips q
+leftOut Choice q = false
+
+-- a particle of depth own that a group of kind k with members of depth d goes past: it is deeper, or is left out
+abbrev pub passed : ℕ → GroupKind → ℕ → Quantifier → Bool
+passed d k own q = ltb d own || leftOut k q
+
+-- ---- 'accepts nothing'
+-- whether a first member that accepts nothing (true), or does not, settles it for a group of kind k
+abbrev pub settled : GroupKind → Bool → Bool
+settled Sequence b = not b
+settled Choice b = b
+
+-- a particle by its sort; `below` are its members
+abbrev pub sortNothing : Quantifier → ℕ → Members ℕ → Bool
+sortNothing q zero below = skips q
+sortNothing q (suc k) below = skips q || nothing (groupOf (suc k)) below
+
+-- the particle of depth d that s begins with
+unfoldable pub memberNothing : ℕ → Bytes → Bool
+memberNothing d s = sortNothing (quantifierOf (getD s 1 0)) (getD s 0 0) (membersFrom (suc d) (drop 4 s))
 
 -- the members of depth e from particle k on
 unfoldable pub membersAt : Bytes → ℕ → ℕ → Members ℕ

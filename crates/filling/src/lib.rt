@@ -5,14 +5,15 @@ use rules::GroupKind;
 ghost use mathlib.Core.Path.{_≡_};
 ghost use Prim.Native.Nat.{ℕ, _+_, _<_, _≤_};
 ghost use mathlib.Core.List.{[], _∷_};
-ghost use lib.ListN.{length};
-ghost use Rattle.rules.specs.Model.{nothing, filling};
+ghost use lib.ListN.{length, getD};
+ghost use Rattle.rules.specs.Decode.{quantifierOf};
+ghost use Rattle.rules.specs.Model.{skips, neutral, nothing, filling};
 ghost use Rattle.model.specs.Members.{membersFrom};
 ghost use Rattle.rowpass.specs.Reading.{attributeIn, indexForm};
 ghost use Rattle.layout.specs.Bodies.{Width};
 ghost use Rattle.rows.specs.Written.{Room, Written, newRow};
 ghost use Rattle.filling.specs.Fillings.{groupFilled, fillingRows};
-ghost use Rattle.filling.specs.Parts.{memberFilling, valueIn, requiredAt, requiredIn, membersAt, partsIn, widthIn, countIn, definitionFilled, membersFilled, belowFilled, changeFilled, cursorIn, Asks, Indexed};
+ghost use Rattle.filling.specs.Parts.{leftOut, passed, settled, memberNothing, memberFilling, valueIn, requiredAt, requiredIn, membersAt, partsIn, widthIn, countIn, definitionFilled, membersFilled, belowFilled, changeFilled, cursorIn, Asks, Indexed};
 
 /// What a change fills with: nothing, a definition by its index, one row of an attribute by its index, or a group of a kind by the number
 /// of its first member in the particle body and the depth of its members.
@@ -23,13 +24,92 @@ pub enum Filling {
     Particles(GroupKind, usize, usize),
 }
 
-// Whether a group of the members of depth d that s begins with accepts nothing.
+// Whether the quantifier of the particle that t begins with lets it be absent.
+fn is_optional(t: &[u8]) -> bool
+    ensures { λ r. ⌜ r ≡ skips (quantifierOf (getD (now (t .entry)) 1 0)) ⌝ }
+{
+    match codec::byte(t, 1) {
+        1 => true,
+        2 => true,
+        _ => false,
+    }
+}
+
+// Whether the particle that t begins with may be left out of a group of a kind with no look at the members after it.
+fn is_left_out(t: &[u8], kind: GroupKind) -> bool
+    ensures { λ r. ⌜ r ≡ leftOut kind (quantifierOf (getD (now (t .entry)) 1 0)) ⌝ }
+{
+    match kind {
+        GroupKind::Sequence => is_optional(t),
+        GroupKind::Choice => false,
+    }
+}
+
+// Whether a group of a kind with members of depth d goes past the particle of depth `own` that t begins with.
+fn is_passed(t: &[u8], own: usize, d: usize, kind: GroupKind) -> bool
+    ensures { λ r. ⌜ r ≡ passed d kind own (quantifierOf (getD (now (t .entry)) 1 0)) ⌝ }
+{
+    let deeper = d < own;
+    deeper | is_left_out(t, kind)
+}
+
+// Whether a group of no members accepts nothing.
+fn nothing_of_none(kind: GroupKind) -> bool
+    ensures { λ r. ⌜ r ≡ neutral kind ⌝ }
+{
+    match kind {
+        GroupKind::Sequence => true,
+        GroupKind::Choice => false,
+    }
+}
+
+// Whether a member that accepts nothing, or does not, settles it for its group.
+fn is_settled(kind: GroupKind, member: bool) -> bool
+    ensures { λ r. ⌜ r ≡ settled kind member ⌝ }
+{
+    match kind {
+        GroupKind::Sequence => !member,
+        GroupKind::Choice => member,
+    }
+}
+
+// Whether the particle of depth d that t begins with accepts nothing.
+fn member_accepts_nothing(t: &[u8], d: usize) -> bool
+    requires { ⌜ (d < 256) × (4 ≤ length (now t)) ⌝ }
+    ensures { λ r. ⌜ r ≡ memberNothing d (now (t .entry)) ⌝ }
+{
+    if is_optional(t) {
+        return true;
+    }
+    match codec::byte(t, 0) {
+        0 => false,
+        1 => accepts_nothing(&t[4..], d + 1, GroupKind::Sequence),
+        _ => accepts_nothing(&t[4..], d + 1, GroupKind::Choice),
+    }
+}
+
+// Whether a group of the members of depth d that s begins with accepts nothing. It looks no further than the member that settles it.
 fn accepts_nothing(s: &[u8], d: usize, kind: GroupKind) -> bool
     requires { ⌜ d ≤ 256 ⌝ }
     ensures { λ r. ⌜ r ≡ nothing kind (membersFrom d (now (s .entry))) ⌝ }
 {
-    let f = model::automaton::facts_from(s, d, kind, 0, 0);
-    f.nothing
+    let mut t = s;
+    while t.len() >= 4 {
+        let own = codec::byte(t, 3) as usize;
+        if own < d {
+            return nothing_of_none(kind);
+        }
+        if is_passed(t, own, d, kind) {
+            t = &t[4..];
+        } else {
+            let member = member_accepts_nothing(t, d);
+            if is_settled(kind, member) {
+                return member;
+            }
+            t = &t[4..];
+        }
+    }
+    nothing_of_none(kind)
 }
 
 // The value that attribute j has in a created row, where it is one that must be present.
@@ -135,7 +215,7 @@ fn put_group(
         if own < d {
             return;
         }
-        if d < own {
+        if is_passed(t, own, d, kind) {
             t = &t[4..];
         } else {
             put_member(t, d, form, text, sizes, h, depth, c, out);

@@ -1,6 +1,7 @@
 -- Steps over the children of a row, one more and one less, in a model.
 -- Assumes nothing.
-use Prim.Native.Nat.{ℕ, _+_, _-_}
+use Prim.Native.Nat.{ℕ, suc, _+_, _-_, _<_, _≤_}
+use native.Mathlib.Omega.{arith}
 use native.Mathlib.Numerals.{add-one}
 use borrow.Author.Tests.{eq-eqb, ne-eqb}
 use mathlib.Core.Path.{_≡_, refl, sym, ap, ap₂, _∙_, subst}
@@ -8,11 +9,26 @@ use Rattle.rules.specs.Bytes.{Bytes}
 use Rattle.rules.specs.Decode.{readRow}
 use mathlib.Core.Bool.{Bool, true, false, _&&_, not, false≢true}
 use mathlib.Core.List.{List, [], _∷_, _++_, append-assoc, append-nil}
+use lib.ListN.{getD}
 use Rattle.rules.specs.Model.{Members}
 use Rattle.rules.specs.Layout.{FlatRow}
+use Rattle.sets.specs.Sets.{has}
 use Rattle.model.specs.Steps.{steps, finishes, runs}
+use Rattle.nexts.specs.Line.{Line}
 use Rattle.finding.specs.Finding.{newName, keptName, word, Stepped}
 
+-- ---- looked up in the model's line
+module _ (ms : Members ℕ) (t : List ℕ) (l : Line 64 ms 0 t) (last : ℕ) (b : Bool) where
+  pub follow-found : (y : ℕ) → last ≤ 64 → y < 64 → b ≡ has (getD t last 0) y → b ≡ steps ms last y
+  follow-found y h k e = let u : last ≡ 0 + last = omega arith in e ∙ ap (λ (i : ℕ). has (getD t i 0) y) u ∙ l .next-is last y h k
+
+  pub end-none : last ≡ 0 → b ≡ has (getD t 66 0) 0 → b ≡ finishes ms last
+  end-none z e = rw z (e ∙ l .nothing-is)
+
+  pub end-child : (last ≡ 0 → ⊥) → last ≤ 64 → b ≡ has (getD t 65 0) (last - 1) → b ≡ finishes ms last
+  end-child z h e = let u : suc (last - 1) ≡ last = omega (arith, z) in e ∙ l .ends-is (last - 1) (omega (arith, z)) ∙ ap (finishes ms) u
+
+-- ---- a name stepped over, or none
 module _ (ms : Members ℕ) (last : ℕ) where
   stepped-nil : Stepped ms last [] true last
   stepped-nil = record { on = λ w. refl }

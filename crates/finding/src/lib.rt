@@ -2,6 +2,7 @@
 ghost use mathlib.Core.Path.{_≡_};
 ghost use mathlib.Core.Bool.{true, false};
 ghost use mathlib.Core.List.{map};
+ghost use lib.ListN.{length};
 ghost use Prim.Native.Nat.{suc, _+_, _-_, _<_, _≤_};
 ghost use Rattle.rules.specs.Bytes.{any};
 ghost use Rattle.rules.specs.Lines.{serialAt, childrenOf, isElementRow, isTextRow};
@@ -15,7 +16,8 @@ ghost use Rattle.rowpass.specs.Reading.{attributeIn};
 ghost use Rattle.storing.specs.Stores.{storeIn};
 ghost use Rattle.plans.specs.CallPlans.{attributeSerial};
 ghost use Rattle.model.specs.Members.{membersOf};
-ghost use Rattle.model.specs.Steps.{runs};
+ghost use Rattle.model.specs.Steps.{steps, finishes, runs};
+ghost use Rattle.nexts.specs.Line.{Line};
 ghost use Rattle.finding.specs.Finding.{rowsFrom, Begins, ElementAt, ParentAt, AttributeRefused, RowOf, childrenAt, kindAt, modelAt, fitsAt, hasPlace, Child, children, elementRow, isThis, isParent, seek, serialIn, serialOf, newName, keptName, word, Stepped};
 
 // Whether a row is the element row with a serial.
@@ -150,20 +152,48 @@ pub fn parent_at(w: usize, rows: &[u8], count: usize, element: u32) -> usize
 }
 
 // ---- children in a model
+// A model's line, as nexts::fill writes it.
+const LINE: usize = 67;
+
 // Whether names were stepped over, and 1 and the last of them.
 struct Ran {
     fits: bool,
     last: usize,
 }
 
+// Whether the child y may come after `last`; what the model's line does not have is looked up in the model.
+fn follows(part: &[u8], line: &[u64], last: usize, y: usize) -> bool
+    requires { ⌜ (67 ≤ length (now line)) × Line 64 (membersOf (now part)) 0 (now line) ⌝ }
+    ensures { λ r. ⌜ r ≡ steps (membersOf (now (part .entry))) last y ⌝ }
+{
+    if (last <= 64) & (y < 64) {
+        return sets::contains(line[last], y);
+    }
+    model::automaton::steps(part, last, y)
+}
+
+// Whether no child is owed after `last`.
+fn ends(part: &[u8], line: &[u64], last: usize) -> bool
+    requires { ⌜ (67 ≤ length (now line)) × Line 64 (membersOf (now part)) 0 (now line) ⌝ }
+    ensures { λ r. ⌜ r ≡ finishes (membersOf (now (part .entry))) last ⌝ }
+{
+    if last == 0 {
+        return sets::contains(line[66], 0);
+    }
+    if last <= 64 {
+        return sets::contains(line[65], last - 1);
+    }
+    model::automaton::finishes(part, last)
+}
+
 // The new child, if its place has come.
-fn step_new(part: &[u8], last: usize, place: usize, new: usize) -> Ran
-    requires { ⌜ new < 65536 ⌝ }
+fn step_new(part: &[u8], line: &[u64], last: usize, place: usize, new: usize) -> Ran
+    requires { ⌜ (new < 65536) × (67 ≤ length (now line)) × Line 64 (membersOf (now part)) 0 (now line) ⌝ }
     ensures { λ r. ⌜ Stepped (membersOf (now (part .entry))) last (newName place new) (r .fits) (r .last) ⌝ }
 {
     if place == 1 {
         return Ran {
-            fits: model::automaton::steps(part, last, new),
+            fits: follows(part, line, last, new),
             last: new + 1,
         };
     }
@@ -171,7 +201,8 @@ fn step_new(part: &[u8], last: usize, place: usize, new: usize) -> Ran
 }
 
 // A child, unless it is left out.
-fn step_child(part: &[u8], last: usize, row: &[u8], skip: u32) -> Ran
+fn step_child(part: &[u8], line: &[u64], last: usize, row: &[u8], skip: u32) -> Ran
+    requires { ⌜ (67 ≤ length (now line)) × Line 64 (membersOf (now part)) 0 (now line) ⌝ }
     ensures { λ r. ⌜ Stepped (membersOf (now (part .entry))) last (keptName skip (readRow (now (row .entry)) .row)) (r .fits) (r .last) ⌝ }
 {
     if layout::row_serial(row) == skip {
@@ -179,9 +210,42 @@ fn step_child(part: &[u8], last: usize, row: &[u8], skip: u32) -> Ran
     }
     let index = layout::row_index(row) as usize;
     Ran {
-        fits: model::automaton::steps(part, last, index),
+        fits: follows(part, line, last, index),
         last: index + 1,
     }
+}
+
+// As `children_fit`, by the model's line.
+fn line_fits(
+    w: usize,
+    part: &[u8],
+    line: &[u64],
+    rows: &[u8],
+    count: usize,
+    start: usize,
+    depth: usize,
+    place: usize,
+    new: usize,
+    skip: u32,
+) -> bool
+    requires { ⌜ Width w × (count ≤ 4096) × (new < 65536) × (67 ≤ length (now line)) × Line 64 (membersOf (now part)) 0 (now line) ⌝ }
+    ensures { λ r. ⌜ r ≡ runs (membersOf (now (part .entry))) 0 (word place new skip (children 1 depth (rowsFrom w (now (rows .entry)) count start))) ⌝ }
+{
+    let mut last = 0;
+    let mut left = place;
+    let mut i = next_child(w, rows, count, start, depth, 1);
+    while i < count {
+        let fresh = step_new(part, line, last, left, new);
+        let old = step_child(part, line, fresh.last, layout::row_at(w, rows, i), skip);
+        if !(fresh.fits & old.fits) {
+            return false;
+        }
+        last = old.last;
+        left = less(left);
+        i = next_child(w, rows, count, i + 1, depth, 1);
+    }
+    let fresh = step_new(part, line, last, left, new);
+    fresh.fits & ends(part, line, fresh.last)
 }
 
 /// Whether a model takes the element children, with a new one at a place and without the one with serial `skip`.
@@ -199,21 +263,9 @@ pub fn children_fit(
     requires { ⌜ Width w × (count ≤ 4096) × (new < 65536) ⌝ }
     ensures { λ r. ⌜ r ≡ runs (membersOf (now (part .entry))) 0 (word place new skip (children 1 depth (rowsFrom w (now (rows .entry)) count start))) ⌝ }
 {
-    let mut last = 0;
-    let mut left = place;
-    let mut i = next_child(w, rows, count, start, depth, 1);
-    while i < count {
-        let fresh = step_new(part, last, left, new);
-        let old = step_child(part, fresh.last, layout::row_at(w, rows, i), skip);
-        if !(fresh.fits & old.fits) {
-            return false;
-        }
-        last = old.last;
-        left = less(left);
-        i = next_child(w, rows, count, i + 1, depth, 1);
-    }
-    let fresh = step_new(part, last, left, new);
-    fresh.fits & model::automaton::finishes(part, fresh.last)
+    let mut line: [u64; LINE] = [0; LINE];
+    nexts::fill(part, 64, 0, &mut line);
+    line_fits(w, part, &line, rows, count, start, depth, place, new, skip)
 }
 
 fn less(n: usize) -> usize

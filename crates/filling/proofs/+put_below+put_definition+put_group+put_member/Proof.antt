@@ -4,7 +4,7 @@ use Rattle.rules.specs.Model.{filling}
 use Rattle.model.specs.Members.{membersFrom}
 use Rattle.rows.proofs.WrittenLaws.{written-stop, written-room, written-long}
 use Rattle.filling.specs.Parts.{defsIn, partsIn, attrsIn, widthIn, countIn, versionIn, cursorIn}
-use Rattle.filling.proofs.FillingLaws.{Rest, rest-starts, rest-deeper, rest-on, rest-first, rest-over, rest-ends, member-skips, member-element, member-nothing, member-group, definition-low, definition-written, below-none, below-text, below-group, none-written, one-written, same-written, index-small, top, rank, rank-particles, rank-part, rank-height, part-short}
+use Rattle.filling.proofs.FillingLaws.{Rest, rest-starts, rest-past, rest-here, rest-on, rest-first, rest-over, rest-ends, member-skips, member-element, member-nothing, member-group, definition-low, definition-written, below-none, below-text, below-group, none-written, one-written, same-written, index-small, top, rank, rank-particles, rank-part, rank-height, part-short}
 use borrow.Author.Needs.{needs}
 use native.Mathlib.Omega.{arith}
 use Prim.Native.Nat.{ℕ, _<_, _+_, _-_, _*_}
@@ -24,6 +24,7 @@ use Rattle.filling.proofs.put_member.Kinds as put-member-kinds
 use Rattle.filling.proofs.+put_below+put_definition+put_group+put_member.Lts-put_member as put-member-lts
 use Rattle.codec.proofs.byte.Reads as byte-reads
 use Rattle.filling.proofs.accepts_nothing.Reads as accepts-nothing-reads
+use Rattle.filling.proofs.is_passed.Reads as is-passed-reads
 use Rattle.filling.proofs.put_required.Reads as put-required-reads
 use Rattle.filling.proofs.put_row.Reads as put-row-reads
 use Rattle.model.proofs.read_particle.Reads as read-particle-reads
@@ -90,7 +91,7 @@ abbrev put-definition-calls : ℕ → put-definition-lts.Claims
 put-definition-calls t = (put-row-reads.Asked, put-row-reads.Learnt, put-required-reads.Asked, put-required-reads.Learnt, put-below-below t, put-below.Post)
 
 abbrev put-group-calls : ℕ → put-group-lts.Claims
-put-group-calls t = (byte-reads.Asked, byte-reads.Learnt, put-member-below t, put-member.Post)
+put-group-calls t = (byte-reads.Asked, byte-reads.Learnt, is-passed-reads.Asked, is-passed-reads.Learnt, put-member-below t, put-member.Post)
 
 abbrev put-member-calls : ℕ → put-member-lts.Claims
 put-member-calls t = (read-particle-reads.Asked, read-particle-reads.Learnt, skips-reads.Asked, skips-reads.Learnt, put-definition-below t, put-definition.Post, accepts-nothing-reads.Asked, accepts-nothing-reads.Learnt, put-group-below t, put-group.Post)
@@ -212,6 +213,9 @@ put-group-same-length-2 t c = c .before .before .before .before .before .loop .i
 put-group-returns-2 : (t : ℕ) → put-group-lts.Need-returns-2 (put-group-calls t) (put-group-at t) put-group.Post put-group-Inv-loop put-group-μ-loop
 put-group-returns-2 t c = rest-over (c .before .before .before .before .before .loop .inv) (omega arith) _ (c .before .before .before .byte .ensures) (omega arith)
 
+put-group-is-passed-requires : (t : ℕ) → put-group-lts.Need-is-passed-requires (put-group-calls t) (put-group-at t) put-group.Post put-group-Inv-loop put-group-μ-loop
+put-group-is-passed-requires t c κs = search needs
+
 put-group-sub-t : (t : ℕ) → put-group-lts.Need-sub-t (put-group-calls t) (put-group-at t) put-group.Post put-group-Inv-loop put-group-μ-loop
 put-group-sub-t t c = search needs
 
@@ -225,10 +229,10 @@ put-group-loop-less : (t : ℕ) → put-group-lts.Need-loop-less (put-group-call
 put-group-loop-less t c = search needs
 
 put-group-loop-again : (t : ℕ) → put-group-lts.Need-loop-again (put-group-calls t) (put-group-at t) put-group.Post put-group-Inv-loop put-group-μ-loop
-put-group-loop-again t c = rest-deeper (c .before .before .before .before .before .before .before .loop .inv) (omega arith) _ (c .before .before .before .before .before .byte .ensures) (omega arith)
+put-group-loop-again t c = rest-past (c .before .before .before .before .before .before .before .before .loop .inv) (omega arith) _ (c .before .before .before .before .before .before .byte .ensures) _ (c .before .before .is-passed .ensures) (omega arith) (c .before .if3 .taken)
 
 put-group-put-member-requires : (t : ℕ) → put-group-lts.Need-put-member-requires (put-group-calls t) (put-group-at t) put-group.Post put-group-Inv-loop put-group-μ-loop
-put-group-put-member-requires t c κs = let a = c .before .before .before .before .before .before .before .before .before .before .before .args in let q = c .before .before .before .before .before .before .before .before .before .before .before .pre .1 .1 in let i = c .before .before .before .before .before .before .before .before .loop .inv in (omega (arith, rank-particles (a .h) (4 * length (c .before .before .before .before .before .before .before .before .loop .t .now)) (4 * length (a .s .now) + 1) (omega (arith, i .short))), (omega arith, omega arith, record { width = q .width; room = i .room; text = q .text; attributes = q .attributes; deep = q .deep }))
+put-group-put-member-requires t c κs = let a = c .before .before .before .before .before .before .before .before .before .before .before .before .args in let q = c .before .before .before .before .before .before .before .before .before .before .before .before .pre .1 .1 in let i = c .before .before .before .before .before .before .before .before .before .loop .inv in let here = rest-here i (omega arith) _ (c .before .before .before .before .before .before .before .byte .ensures) _ (c .before .before .before .is-passed .ensures) (c .before .before .if3 .left) in (omega (arith, rank-particles (a .h) (4 * length (c .before .before .before .before .before .before .before .before .before .loop .t .now)) (4 * length (a .s .now) + 1) (omega (arith, i .short))), (omega (arith, here), omega arith, record { width = q .width; room = i .room; text = q .text; attributes = q .attributes; deep = q .deep }))
 
 put-group-enum-told : (t : ℕ) → put-group-lts.Need-enum-told (put-group-calls t) (put-group-at t) put-group.Post put-group-Inv-loop put-group-μ-loop
 put-group-enum-told t c = search needs
@@ -246,16 +250,16 @@ put-group-loop-less-2 : (t : ℕ) → put-group-lts.Need-loop-less-2 (put-group-
 put-group-loop-less-2 t c = search needs
 
 put-group-loop-again-2 : (t : ℕ) → put-group-lts.Need-loop-again-2 (put-group-calls t) (put-group-at t) put-group.Post put-group-Inv-loop put-group-μ-loop
-put-group-loop-again-2 t c = rest-on (c .before .before .before .before .before .before .before .before .before .before .before .before .before .before .loop .inv) (omega arith) _ (c .before .before .before .before .before .before .before .before .before .before .before .before .byte .ensures) (omega arith) (omega arith) (c .before .before .before .before .before .put-member .ensures) (c .before .enum-told .given .1)
+put-group-loop-again-2 t c = let i = c .before .before .before .before .before .before .before .before .before .before .before .before .before .before .before .loop .inv in let here = rest-here i (omega arith) _ (c .before .before .before .before .before .before .before .before .before .before .before .before .before .byte .ensures) _ (c .before .before .before .before .before .before .before .before .before .is-passed .ensures) (c .before .before .before .before .before .before .before .before .if3 .left) in rest-on i (omega arith) _ (c .before .before .before .before .before .before .before .before .before .before .before .before .before .byte .ensures) here (omega arith) (c .before .before .before .before .before .put-member .ensures) (c .before .enum-told .given .1)
 
 put-group-enum-told-2 : (t : ℕ) → put-group-lts.Need-enum-told-2 (put-group-calls t) (put-group-at t) put-group.Post put-group-Inv-loop put-group-μ-loop
 put-group-enum-told-2 t c = search needs
 
 put-group-same-length-3 : (t : ℕ) → put-group-lts.Need-same-length-3 (put-group-calls t) (put-group-at t) put-group.Post put-group-Inv-loop put-group-μ-loop
-put-group-same-length-3 t c = let l = written-long (c .before .before .before .before .put-member .ensures) in omega (arith, c .before .before .before .before .before .before .before .before .before .before .before .before .before .loop .inv .long, l)
+put-group-same-length-3 t c = let l = written-long (c .before .before .before .before .put-member .ensures) in omega (arith, c .before .before .before .before .before .before .before .before .before .before .before .before .before .before .loop .inv .long, l)
 
 put-group-returns-3 : (t : ℕ) → put-group-lts.Need-returns-3 (put-group-calls t) (put-group-at t) put-group.Post put-group-Inv-loop put-group-μ-loop
-put-group-returns-3 t c = rest-first (c .before .before .before .before .before .before .before .before .before .before .before .before .before .loop .inv) (omega arith) _ (c .before .before .before .before .before .before .before .before .before .before .before .byte .ensures) (omega arith) (omega arith) (c .before .before .before .before .put-member .ensures) (c .enum-told2 .given .1)
+put-group-returns-3 t c = let i = c .before .before .before .before .before .before .before .before .before .before .before .before .before .before .loop .inv in let here = rest-here i (omega arith) _ (c .before .before .before .before .before .before .before .before .before .before .before .before .byte .ensures) _ (c .before .before .before .before .before .before .before .before .is-passed .ensures) (c .before .before .before .before .before .before .before .if3 .left) in rest-first i (omega arith) _ (c .before .before .before .before .before .before .before .before .before .before .before .before .byte .ensures) here (omega arith) (c .before .before .before .before .put-member .ensures) (c .enum-told2 .given .1)
 
 put-group-same-length-4 : (t : ℕ) → put-group-lts.Need-same-length-4 (put-group-calls t) (put-group-at t) put-group.Post put-group-Inv-loop put-group-μ-loop
 put-group-same-length-4 t c = c .before .loop .inv .long
@@ -365,6 +369,7 @@ pub +put-below+put-definition+put-group+put-member-spec : {M : Type 1} → state
     (put-group-returns t)
     (put-group-same-length-2 t)
     (put-group-returns-2 t)
+    (put-group-is-passed-requires t)
     (put-group-sub-t t)
     (put-group-part-t-start t)
     (put-group-part-t-end t)

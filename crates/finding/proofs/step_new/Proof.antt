@@ -3,17 +3,17 @@ use borrow.Author.Needs.{needs}
 use Rattle.finding.proofs.step_new.Statement.{statement}
 use Rattle.finding.proofs.step_new.Tie as tie
 
-steps-requires : tie.Need-steps-requires
-steps-requires c κs = search needs
+follows-requires : tie.Need-follows-requires
+follows-requires c κs = search needs
 
-add-t7 : tie.Need-add-t7
-add-t7 c = search needs
+add-t8 : tie.Need-add-t8
+add-t8 c = search needs
 
 returns : tie.Need-returns
-returns c = new-step _ _ _ _ (c .before .if1 .taken) (c .steps .ensures)
+returns c = new-step _ _ _ _ (c .before .if1 .taken) (c .follows .ensures)
 
 returns-2 : tie.Need-returns-2
 returns-2 c = new-none _ _ _ _ (c .if1 .left)
 
 pub step-new-spec : {M : Type 1} → statement M
-step-new-spec = tie.close (tie.spec steps-requires add-t7 returns returns-2)
+step-new-spec = tie.close (tie.spec follows-requires add-t8 returns returns-2)

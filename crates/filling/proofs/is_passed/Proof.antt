@@ -1,0 +1,15 @@
+use mathlib.Core.Path.{ap}
+use mathlib.Core.Bool.{Bool, _||_}
+use lib.Dec.{ltb}
+use borrow.Author.Needs.{needs}
+use Rattle.filling.proofs.is_passed.Statement.{statement}
+use Rattle.filling.proofs.is_passed.Tie as tie
+
+is-left-out-requires : tie.Need-is-left-out-requires
+is-left-out-requires c κs = search needs
+
+returns : tie.Need-returns
+returns c = let a = c .before .before .args in ap (λ (z : Bool). ltb (a .d) (a .own) || z) (c .is-left-out .ensures)
+
+pub is-passed-spec : {M : Type 1} → statement M
+is-passed-spec = tie.close (tie.spec is-left-out-requires returns)

@@ -7,12 +7,14 @@ use Prim.Native.Nat.{_-_}
 use lib.Dec.{eqb}
 use lib.ListN.{length, drop, length-take, length-drop}
 use Rattle.rules.specs.Bytes.{all}
+use Rattle.rules.specs.Layout.{particleSize}
 use Rattle.circles.specs.Members.{elementsOf}
 use Rattle.circles.proofs.MemberLaws.{settle-on, settle-no, settle-ends}
 use Rattle.inserting.proofs.ModelLaws.{other-first}
 use Rattle.inserting.proofs.lacks.Statement.{statement}
 use Rattle.inserting.proofs.lacks.Tie as tie
 
+-- whether the model lacks i is whether the particles that are left do
 abbrev Inv-loop : tie.InvT-loop
 Inv-loop part i t₀ t = all (λ j. not (eqb i j)) (elementsOf part) ≡ all (λ j. not (eqb i j)) (elementsOf t)
 
@@ -32,7 +34,11 @@ cast-if1 : tie.Need-cast-if1 Inv-loop μ-loop
 cast-if1 c = search needs
 
 returns : tie.Need-returns Inv-loop μ-loop
-returns c = settle-no (λ j. not (eqb (c .before .before .before .before .before .before .args .i) j)) _ (c .before .before .before .before .loop .t .now) (c .before .before .before .before .loop .inv) (omega arith) _ (other-first (c .before .before .before .before .loop .t .now) (c .before .before .before .before .before .before .args .i) (c .before .before .byte .ensures) (c .before .byte2 .ensures)) (ap not (c .if1 .taken))
+returns c =
+    let at-loop = c .before .before .before .before in
+    let i = at-loop .before .before .args .i in
+    settle-no (λ j. not (eqb i j)) _ (at-loop .loop .t .now) particleSize refl (at-loop .loop .inv) (omega arith) _
+    (other-first (at-loop .loop .t .now) i (c .before .before .byte .ensures) (c .before .byte2 .ensures)) (ap not (c .if1 .taken))
 
 sub-t : tie.Need-sub-t Inv-loop μ-loop
 sub-t c = search needs
@@ -47,10 +53,14 @@ loop-less : tie.Need-loop-less Inv-loop μ-loop
 loop-less c = omega (arith, length-take (length (c .before .before .before .before .before .loop .t .now) - 4) (drop 4 (c .before .before .before .before .before .loop .t .now)), length-drop 4 (c .before .before .before .before .before .loop .t .now))
 
 loop-again : tie.Need-loop-again Inv-loop μ-loop
-loop-again c = settle-on (λ j. not (eqb (c .before .before .before .before .before .before .before .args .i) j)) _ (c .before .before .before .before .before .loop .t .now) (c .before .before .before .before .before .loop .inv) (omega arith) _ (other-first (c .before .before .before .before .before .loop .t .now) (c .before .before .before .before .before .before .before .args .i) (c .before .before .before .byte .ensures) (c .before .before .byte2 .ensures)) (ap not (c .before .if1 .left))
+loop-again c =
+    let at-loop = c .before .before .before .before .before in
+    let i = at-loop .before .before .args .i in
+    settle-on (λ j. not (eqb i j)) _ (at-loop .loop .t .now) particleSize refl (at-loop .loop .inv) (omega arith) _
+    (other-first (at-loop .loop .t .now) i (c .before .before .before .byte .ensures) (c .before .before .byte2 .ensures)) (ap not (c .before .if1 .left))
 
 returns-2 : tie.Need-returns-2 Inv-loop μ-loop
-returns-2 c = settle-ends (λ j. not (eqb (c .before .before .before .args .i) j)) _ (c .before .loop .t .now) (c .before .loop .inv) (omega arith)
+returns-2 c = settle-ends (λ j. not (eqb (c .before .before .before .args .i) j)) _ (c .before .loop .t .now) particleSize refl (c .before .loop .inv) (omega arith)
 
 pub lacks-spec : {M : Type 1} → statement M
 lacks-spec =

@@ -1,6 +1,7 @@
 -- `clubform::fresh` meets its contract.
 -- Assumes nothing.
 use borrow.Author.Needs.{needs}
+use Rattle.rules.specs.Layout.{valueWidth}
 use mathlib.Core.Path.{refl}
 use Rattle.rules.specs.Run.{run}
 use Rattle.clubform.specs.History.{history, stage}
@@ -26,7 +27,7 @@ array-write-store-6 : tie.Need-array-write-store-6
 array-write-store-6 c = search needs
 
 returns : tie.Need-returns
-unfolding run history stage
+unfolding valueWidth run history stage
 returns c = refl
 
 pub fresh-spec : {M : Type 1} → statement M

@@ -36,7 +36,8 @@ use Rattle.rows.proofs.WrittenLaws.{written-none, written-then, written-as, wri
 use Rattle.filling.specs.declared.Filling.{Filling}
 use Rattle.filling.specs.declared.Filling.the-variants.{Nothing, Definition, Attribute, Particles}
 use Rattle.filling.specs.Fillings.{newElement, newAttribute, requiredRows, fillingsOf, contentRows, fillIndex, groupFilled, fillingRows}
-use Rattle.filling.specs.Parts.{leftOut, passed, settled, sortNothing, memberNothing, whatFilling, memberFilling, valueIn, requiredAt, requiredIn, formIn, definitionRows, memberRows, belowRows, membersAt, Indexed}
+use Rattle.filling.specs.Parts.{leftOut, passed, settled, sortNothing, memberNothing}
+use Rattle.filling.specs.Parts.{whatFilling, memberFilling, valueIn, requiredAt, requiredIn, formIn, definitionRows, memberRows, belowRows, membersAt, Indexed}
 
 -- ---- readers
 -- a created value is no longer than the fill
@@ -470,7 +471,7 @@ module _ {version w : ℕ} {defs parts attrs : Bytes} {a : ℕ} {txt : Bytes} {h
       pub rest-past : e ≤ own → b ≡ true → Rest version w defs parts attrs a txt h d k e s c out (take (length t - 4) (drop 4 t)) r out′
       rest-past m y =
           record {
-            rest = λ p. i .rest (same-written version w defs parts attrs a txt h d (filling k (membersFrom e t)) (filling k (membersFrom e (take (length t - 4) (drop 4 t)))) (group-past e k t own l g m (sym o ∙ y)) p);
+            rest = λ p. i .rest (same-written version w defs parts attrs a txt h d (filling k (membersFrom e t)) _ (group-past e k t own l g m (sym o ∙ y)) p);
             room = i .room;
             short = next-short;
             long = i .long;

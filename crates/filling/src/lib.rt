@@ -13,7 +13,8 @@ ghost use Rattle.rowpass.specs.Reading.{attributeIn, indexForm};
 ghost use Rattle.layout.specs.Bodies.{Width};
 ghost use Rattle.rows.specs.Written.{Room, Written, newRow};
 ghost use Rattle.filling.specs.Fillings.{groupFilled, fillingRows};
-ghost use Rattle.filling.specs.Parts.{leftOut, passed, settled, memberNothing, memberFilling, valueIn, requiredAt, requiredIn, membersAt, partsIn, widthIn, countIn, definitionFilled, membersFilled, belowFilled, changeFilled, cursorIn, Asks, Indexed};
+ghost use Rattle.filling.specs.Parts.{leftOut, passed, settled, memberNothing};
+ghost use Rattle.filling.specs.Parts.{memberFilling, valueIn, requiredAt, requiredIn, membersAt, partsIn, widthIn, countIn, definitionFilled, membersFilled, belowFilled, changeFilled, cursorIn, Asks, Indexed};
 
 /// What a change fills with: nothing, a definition by its index, one row of an attribute by its index, or a group of a kind by the number
 /// of its first member in the particle body and the depth of its members.

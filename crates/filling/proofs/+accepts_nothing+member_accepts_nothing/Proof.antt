@@ -3,7 +3,8 @@
 use native.Mathlib.Omega.{arith}
 use borrow.Author.Needs.{needs}
 use lib.ListN.{length, drop, length-take, length-drop}
-use Rattle.filling.proofs.FillingLaws.{Unsettled, unsettled-starts, unsettled-ends, unsettled-over, unsettled-past, unsettled-here, unsettled-by, unsettled-on, absent-skips, absent-element, absent-list, absent-choice}
+use Rattle.filling.proofs.FillingLaws.{Unsettled, unsettled-starts, unsettled-ends, unsettled-over, unsettled-past, unsettled-here, unsettled-by, unsettled-on}
+use Rattle.filling.proofs.FillingLaws.{absent-skips, absent-element, absent-list, absent-choice}
 use Prim.Native.Nat.{ℕ, _<_, _+_, _-_, _*_}
 use borrow.Fn.Kinds.{In}
 use borrow.Fn.PlainCycle.{Measures, is, falls, and}
@@ -67,7 +68,18 @@ abbrev accepts-nothing-μ-loop : accepts-nothing-lts.MeasureT-loop
 accepts-nothing-μ-loop s d kind t₀ t = length t
 
 abbrev accepts-nothing-calls : ℕ → accepts-nothing-lts.Claims
-accepts-nothing-calls t = (byte-reads.Asked, byte-reads.Learnt, nothing-of-none-reads.Asked, nothing-of-none-reads.Learnt, is-passed-reads.Asked, is-passed-reads.Learnt, member-accepts-nothing-below t, member-accepts-nothing.Post, is-settled-reads.Asked, is-settled-reads.Learnt)
+accepts-nothing-calls t = (
+  byte-reads.Asked,
+  byte-reads.Learnt,
+  nothing-of-none-reads.Asked,
+  nothing-of-none-reads.Learnt,
+  is-passed-reads.Asked,
+  is-passed-reads.Learnt,
+  member-accepts-nothing-below t,
+  member-accepts-nothing.Post,
+  is-settled-reads.Asked,
+  is-settled-reads.Learnt,
+)
 
 abbrev member-accepts-nothing-calls : ℕ → member-accepts-nothing-lts.Claims
 member-accepts-nothing-calls t = (is-optional-reads.Asked, is-optional-reads.Learnt, byte-reads.Asked, byte-reads.Learnt, accepts-nothing-below t, accepts-nothing.Post)
@@ -88,7 +100,8 @@ accepts-nothing-nothing-of-none-requires t c κs = search needs
 accepts-nothing-returns : (t : ℕ) → accepts-nothing-lts.Need-returns (accepts-nothing-calls t) (accepts-nothing-at t) accepts-nothing.Post accepts-nothing-Inv-loop accepts-nothing-μ-loop
 accepts-nothing-returns t c = unsettled-over (c .before .before .before .before .loop .inv) (omega arith) _ (c .before .before .byte .ensures) (omega arith) (c .nothing-of-none .ensures)
 
-accepts-nothing-is-passed-requires : (t : ℕ) → accepts-nothing-lts.Need-is-passed-requires (accepts-nothing-calls t) (accepts-nothing-at t) accepts-nothing.Post accepts-nothing-Inv-loop accepts-nothing-μ-loop
+accepts-nothing-is-passed-requires :
+    (t : ℕ) → accepts-nothing-lts.Need-is-passed-requires (accepts-nothing-calls t) (accepts-nothing-at t) accepts-nothing.Post accepts-nothing-Inv-loop accepts-nothing-μ-loop
 accepts-nothing-is-passed-requires t c κs = search needs
 
 accepts-nothing-sub-t : (t : ℕ) → accepts-nothing-lts.Need-sub-t (accepts-nothing-calls t) (accepts-nothing-at t) accepts-nothing.Post accepts-nothing-Inv-loop accepts-nothing-μ-loop
@@ -104,32 +117,59 @@ accepts-nothing-loop-less : (t : ℕ) → accepts-nothing-lts.Need-loop-less (ac
 accepts-nothing-loop-less t c = let t = c .before .before .before .before .before .before .loop .t .now in omega (arith, length-take (length t - 4) (drop 4 t), length-drop 4 t)
 
 accepts-nothing-loop-again : (t : ℕ) → accepts-nothing-lts.Need-loop-again (accepts-nothing-calls t) (accepts-nothing-at t) accepts-nothing.Post accepts-nothing-Inv-loop accepts-nothing-μ-loop
-accepts-nothing-loop-again t c = unsettled-past (c .before .before .before .before .before .before .loop .inv) (omega arith) _ (c .before .before .before .before .byte .ensures) (omega arith) _ (c .before .before .is-passed .ensures) (c .before .if2 .taken)
+accepts-nothing-loop-again t c =
+    let at-loop = c .before .before .before .before .before .before in
+    let at-byte = c .before .before .before .before in
+    unsettled-past (at-loop .loop .inv) (omega arith) _ (at-byte .byte .ensures) (omega arith) _ (c .before .before .is-passed .ensures) (c .before .if2 .taken)
 
 accepts-nothing-member-accepts-nothing-requires :
     (t : ℕ) → accepts-nothing-lts.Need-member-accepts-nothing-requires (accepts-nothing-calls t) (accepts-nothing-at t) accepts-nothing.Post accepts-nothing-Inv-loop accepts-nothing-μ-loop
-accepts-nothing-member-accepts-nothing-requires t c κs = let i = c .before .before .before .before .before .loop .inv in let here = unsettled-here i (omega arith) _ (c .before .before .before .byte .ensures) (omega arith) _ (c .before .is-passed .ensures) (c .if2 .left) in (omega (arith, i .short), (omega (arith, here), omega arith))
+accepts-nothing-member-accepts-nothing-requires t c κs =
+    let at-loop = c .before .before .before .before .before in
+    let at-byte = c .before .before .before in
+    let here = unsettled-here (at-loop .loop .inv) (omega arith) _ (at-byte .byte .ensures) (omega arith) _ (c .before .is-passed .ensures) (c .if2 .left) in
+    (omega (arith, at-loop .loop .inv .short), (omega (arith, here), omega arith))
 
-accepts-nothing-is-settled-requires : (t : ℕ) → accepts-nothing-lts.Need-is-settled-requires (accepts-nothing-calls t) (accepts-nothing-at t) accepts-nothing.Post accepts-nothing-Inv-loop accepts-nothing-μ-loop
+accepts-nothing-is-settled-requires :
+    (t : ℕ) → accepts-nothing-lts.Need-is-settled-requires (accepts-nothing-calls t) (accepts-nothing-at t) accepts-nothing.Post accepts-nothing-Inv-loop accepts-nothing-μ-loop
 accepts-nothing-is-settled-requires t c κs = search needs
 
 accepts-nothing-returns-2 : (t : ℕ) → accepts-nothing-lts.Need-returns-2 (accepts-nothing-calls t) (accepts-nothing-at t) accepts-nothing.Post accepts-nothing-Inv-loop accepts-nothing-μ-loop
-accepts-nothing-returns-2 t c = unsettled-by (c .before .before .before .before .before .before .before .before .loop .inv) (omega arith) _ (c .before .before .before .before .before .before .byte .ensures) (omega arith) _ (c .before .before .before .before .is-passed .ensures) (c .before .before .before .if2 .left) _ (c .before .before .member-accepts-nothing .ensures) _ (c .before .is-settled .ensures) (c .if3 .taken)
+accepts-nothing-returns-2 t c =
+    let at-loop = c .before .before .before .before .before .before .before .before in
+    let at-byte = c .before .before .before .before .before .before in
+    let at-passed = c .before .before .before .before in
+    let at-else = c .before .before .before in
+    let at-member = c .before .before in
+    let at-settled = c .before in
+    unsettled-by (at-loop .loop .inv) (omega arith) _ (at-byte .byte .ensures) (omega arith) _ (at-passed .is-passed .ensures) (at-else .if2 .left)
+    _ (at-member .member-accepts-nothing .ensures) _ (at-settled .is-settled .ensures) (c .if3 .taken)
 
 accepts-nothing-sub-t-2 : (t : ℕ) → accepts-nothing-lts.Need-sub-t-2 (accepts-nothing-calls t) (accepts-nothing-at t) accepts-nothing.Post accepts-nothing-Inv-loop accepts-nothing-μ-loop
 accepts-nothing-sub-t-2 t c = search needs
 
-accepts-nothing-part-t-start-2 : (t : ℕ) → accepts-nothing-lts.Need-part-t-start-2 (accepts-nothing-calls t) (accepts-nothing-at t) accepts-nothing.Post accepts-nothing-Inv-loop accepts-nothing-μ-loop
+accepts-nothing-part-t-start-2 :
+    (t : ℕ) → accepts-nothing-lts.Need-part-t-start-2 (accepts-nothing-calls t) (accepts-nothing-at t) accepts-nothing.Post accepts-nothing-Inv-loop accepts-nothing-μ-loop
 accepts-nothing-part-t-start-2 t c = search needs
 
 accepts-nothing-part-t-end-2 : (t : ℕ) → accepts-nothing-lts.Need-part-t-end-2 (accepts-nothing-calls t) (accepts-nothing-at t) accepts-nothing.Post accepts-nothing-Inv-loop accepts-nothing-μ-loop
 accepts-nothing-part-t-end-2 t c = search needs
 
 accepts-nothing-loop-less-2 : (t : ℕ) → accepts-nothing-lts.Need-loop-less-2 (accepts-nothing-calls t) (accepts-nothing-at t) accepts-nothing.Post accepts-nothing-Inv-loop accepts-nothing-μ-loop
-accepts-nothing-loop-less-2 t c = let t = c .before .before .before .before .before .before .before .before .before .loop .t .now in omega (arith, length-take (length t - 4) (drop 4 t), length-drop 4 t)
+accepts-nothing-loop-less-2 t c =
+    let t = c .before .before .before .before .before .before .before .before .before .loop .t .now in
+    omega (arith, length-take (length t - 4) (drop 4 t), length-drop 4 t)
 
 accepts-nothing-loop-again-2 : (t : ℕ) → accepts-nothing-lts.Need-loop-again-2 (accepts-nothing-calls t) (accepts-nothing-at t) accepts-nothing.Post accepts-nothing-Inv-loop accepts-nothing-μ-loop
-accepts-nothing-loop-again-2 t c = unsettled-on (c .before .before .before .before .before .before .before .before .before .loop .inv) (omega arith) _ (c .before .before .before .before .before .before .before .byte .ensures) (omega arith) _ (c .before .before .before .before .before .is-passed .ensures) (c .before .before .before .before .if2 .left) _ (c .before .before .before .member-accepts-nothing .ensures) _ (c .before .before .is-settled .ensures) (c .before .if3 .left)
+accepts-nothing-loop-again-2 t c =
+    let at-loop = c .before .before .before .before .before .before .before .before .before in
+    let at-byte = c .before .before .before .before .before .before .before in
+    let at-passed = c .before .before .before .before .before in
+    let at-else = c .before .before .before .before in
+    let at-member = c .before .before .before in
+    let at-settled = c .before .before in
+    unsettled-on (at-loop .loop .inv) (omega arith) _ (at-byte .byte .ensures) (omega arith) _ (at-passed .is-passed .ensures) (at-else .if2 .left)
+    _ (at-member .member-accepts-nothing .ensures) _ (at-settled .is-settled .ensures) (c .before .if3 .left)
 
 accepts-nothing-nothing-of-none-requires-2 :
     (t : ℕ) → accepts-nothing-lts.Need-nothing-of-none-requires-2 (accepts-nothing-calls t) (accepts-nothing-at t) accepts-nothing.Post accepts-nothing-Inv-loop accepts-nothing-μ-loop
@@ -166,7 +206,9 @@ member-accepts-nothing-add-accepts-nothing t c = search needs
 
 member-accepts-nothing-accepts-nothing-requires :
     (t : ℕ) → member-accepts-nothing-lts.Need-accepts-nothing-requires (member-accepts-nothing-calls t) (member-accepts-nothing-at t) member-accepts-nothing.Post
-member-accepts-nothing-accepts-nothing-requires t c κs = let s = c .before .before .before .before .before .before .args .t .now in (omega (arith, length-take (length s - 4) (drop 4 s), length-drop 4 s), omega arith)
+member-accepts-nothing-accepts-nothing-requires t c κs =
+    let s = c .before .before .before .before .before .before .args .t .now in
+    (omega (arith, length-take (length s - 4) (drop 4 s), length-drop 4 s), omega arith)
 
 member-accepts-nothing-sub-accepts-nothing-2 :
     (t : ℕ) → member-accepts-nothing-lts.Need-sub-accepts-nothing-2 (member-accepts-nothing-calls t) (member-accepts-nothing-at t) member-accepts-nothing.Post
@@ -186,16 +228,29 @@ member-accepts-nothing-add-accepts-nothing-2 t c = search needs
 
 member-accepts-nothing-accepts-nothing-requires-2 :
     (t : ℕ) → member-accepts-nothing-lts.Need-accepts-nothing-requires-2 (member-accepts-nothing-calls t) (member-accepts-nothing-at t) member-accepts-nothing.Post
-member-accepts-nothing-accepts-nothing-requires-2 t c κs = let s = c .before .before .before .before .before .before .args .t .now in (omega (arith, length-take (length s - 4) (drop 4 s), length-drop 4 s), omega arith)
+member-accepts-nothing-accepts-nothing-requires-2 t c κs =
+    let s = c .before .before .before .before .before .before .args .t .now in
+    (omega (arith, length-take (length s - 4) (drop 4 s), length-drop 4 s), omega arith)
 
 member-accepts-nothing-returns-2 : (t : ℕ) → member-accepts-nothing-lts.Need-returns-2 (member-accepts-nothing-calls t) (member-accepts-nothing-at t) member-accepts-nothing.Post
-member-accepts-nothing-returns-2 t c = let a = c .before .before .before .before .before .args in absent-element (a .d) (a .t .now) _ (c .before .before .before .is-optional .ensures) (c .before .before .if1 .left) _ (c .before .byte .ensures) (c .match .keys1)
+member-accepts-nothing-returns-2 t c =
+    let a = c .before .before .before .before .before .args in
+    let at-optional = c .before .before .before in
+    absent-element (a .d) (a .t .now) _ (at-optional .is-optional .ensures) (c .before .before .if1 .left) _ (c .before .byte .ensures) (c .match .keys1)
 
 member-accepts-nothing-returns-3 : (t : ℕ) → member-accepts-nothing-lts.Need-returns-3 (member-accepts-nothing-calls t) (member-accepts-nothing-at t) member-accepts-nothing.Post
-member-accepts-nothing-returns-3 t c = let a = c .before .before .before .before .before .before .before .args in absent-list (a .d) (a .t .now) _ (c .before .before .before .before .before .is-optional .ensures) (c .before .before .before .before .if1 .left) _ (c .before .before .before .byte .ensures) _ (c .before .before .match .keys2) (c .accepts-nothing .ensures)
+member-accepts-nothing-returns-3 t c =
+    let a = c .before .before .before .before .before .before .before .args in
+    let at-optional = c .before .before .before .before .before in
+    absent-list (a .d) (a .t .now) _ (at-optional .is-optional .ensures) (c .before .before .before .before .if1 .left)
+    _ (c .before .before .before .byte .ensures) _ (c .before .before .match .keys2) (c .accepts-nothing .ensures)
 
 member-accepts-nothing-returns-4 : (t : ℕ) → member-accepts-nothing-lts.Need-returns-4 (member-accepts-nothing-calls t) (member-accepts-nothing-at t) member-accepts-nothing.Post
-member-accepts-nothing-returns-4 t c = let a = c .before .before .before .before .before .before .before .args in absent-choice (a .d) (a .t .now) _ (c .before .before .before .before .before .is-optional .ensures) (c .before .before .before .before .if1 .left) _ (c .before .before .before .byte .ensures) _ (c .before .before .match .rest .0 .1) (c .before .before .match .rest .1) (c .accepts-nothing2 .ensures)
+member-accepts-nothing-returns-4 t c =
+    let a = c .before .before .before .before .before .before .before .args in
+    let at-optional = c .before .before .before .before .before in
+    absent-choice (a .d) (a .t .now) _ (at-optional .is-optional .ensures) (c .before .before .before .before .if1 .left) _ (c .before .before .before .byte .ensures) _
+    (c .before .before .match .rest .0 .1) (c .before .before .match .rest .1) (c .accepts-nothing2 .ensures)
 
 pub +accepts-nothing+member-accepts-nothing-spec : {M : Type 1} → statement M
 +accepts-nothing+member-accepts-nothing-spec =

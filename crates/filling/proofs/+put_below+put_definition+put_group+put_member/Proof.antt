@@ -4,7 +4,10 @@ use Rattle.rules.specs.Model.{filling}
 use Rattle.model.specs.Members.{membersFrom}
 use Rattle.rows.proofs.WrittenLaws.{written-stop, written-room, written-long}
 use Rattle.filling.specs.Parts.{defsIn, partsIn, attrsIn, widthIn, countIn, versionIn, cursorIn}
-use Rattle.filling.proofs.FillingLaws.{Rest, rest-starts, rest-past, rest-here, rest-on, rest-first, rest-over, rest-ends, member-skips, member-element, member-nothing, member-group, definition-low, definition-written, below-none, below-text, below-group, none-written, one-written, same-written, index-small, top, rank, rank-particles, rank-part, rank-height, part-short}
+use Rattle.filling.proofs.FillingLaws.{Rest, rest-starts, rest-past, rest-here, rest-on, rest-first, rest-over, rest-ends}
+use Rattle.filling.proofs.FillingLaws.{member-skips, member-element, member-nothing, member-group}
+use Rattle.filling.proofs.FillingLaws.{definition-low, definition-written, below-none, below-text, below-group, none-written, one-written, same-written}
+use Rattle.filling.proofs.FillingLaws.{index-small, top, rank, rank-particles, rank-part, rank-height, part-short}
 use borrow.Author.Needs.{needs}
 use native.Mathlib.Omega.{arith}
 use Prim.Native.Nat.{ℕ, _<_, _+_, _-_, _*_}
@@ -229,10 +232,25 @@ put-group-loop-less : (t : ℕ) → put-group-lts.Need-loop-less (put-group-call
 put-group-loop-less t c = search needs
 
 put-group-loop-again : (t : ℕ) → put-group-lts.Need-loop-again (put-group-calls t) (put-group-at t) put-group.Post put-group-Inv-loop put-group-μ-loop
-put-group-loop-again t c = rest-past (c .before .before .before .before .before .before .before .before .loop .inv) (omega arith) _ (c .before .before .before .before .before .before .byte .ensures) _ (c .before .before .is-passed .ensures) (omega arith) (c .before .if3 .taken)
+put-group-loop-again t c =
+    let at-loop = c .before .before .before .before .before .before .before .before in
+    let at-byte = c .before .before .before .before .before .before in
+    let at-passed = c .before .before in
+    rest-past (at-loop .loop .inv) (omega arith) _ (at-byte .byte .ensures) _ (at-passed .is-passed .ensures) (omega arith) (c .before .if3 .taken)
 
 put-group-put-member-requires : (t : ℕ) → put-group-lts.Need-put-member-requires (put-group-calls t) (put-group-at t) put-group.Post put-group-Inv-loop put-group-μ-loop
-put-group-put-member-requires t c κs = let a = c .before .before .before .before .before .before .before .before .before .before .before .before .args in let q = c .before .before .before .before .before .before .before .before .before .before .before .before .pre .1 .1 in let i = c .before .before .before .before .before .before .before .before .before .loop .inv in let here = rest-here i (omega arith) _ (c .before .before .before .before .before .before .before .byte .ensures) _ (c .before .before .before .is-passed .ensures) (c .before .before .if3 .left) in (omega (arith, rank-particles (a .h) (4 * length (c .before .before .before .before .before .before .before .before .before .loop .t .now)) (4 * length (a .s .now) + 1) (omega (arith, i .short))), (omega (arith, here), omega arith, record { width = q .width; room = i .room; text = q .text; attributes = q .attributes; deep = q .deep }))
+put-group-put-member-requires t c κs =
+    let a = c .before .before .before .before .before .before .before .before .before .before .before .before .args in
+    let q = c .before .before .before .before .before .before .before .before .before .before .before .before .pre .1 .1 in
+    let at-loop = c .before .before .before .before .before .before .before .before .before in
+    let at-byte = c .before .before .before .before .before .before .before in
+    let at-passed = c .before .before .before in
+    let i = at-loop .loop .inv in
+    let here = rest-here (at-loop .loop .inv) (omega arith) _ (at-byte .byte .ensures) _ (at-passed .is-passed .ensures) (c .before .before .if3 .left) in
+    let fewer : 4 * length (at-loop .loop .t .now) < 4 * length (a .s .now) + 1 = omega (arith, i .short) in (
+      omega (arith, rank-particles (a .h) (4 * length (at-loop .loop .t .now)) (4 * length (a .s .now) + 1) fewer),
+      (omega (arith, here), omega arith, record { width = q .width; room = i .room; text = q .text; attributes = q .attributes; deep = q .deep }),
+    )
 
 put-group-enum-told : (t : ℕ) → put-group-lts.Need-enum-told (put-group-calls t) (put-group-at t) put-group.Post put-group-Inv-loop put-group-μ-loop
 put-group-enum-told t c = search needs
@@ -250,16 +268,31 @@ put-group-loop-less-2 : (t : ℕ) → put-group-lts.Need-loop-less-2 (put-group-
 put-group-loop-less-2 t c = search needs
 
 put-group-loop-again-2 : (t : ℕ) → put-group-lts.Need-loop-again-2 (put-group-calls t) (put-group-at t) put-group.Post put-group-Inv-loop put-group-μ-loop
-put-group-loop-again-2 t c = let i = c .before .before .before .before .before .before .before .before .before .before .before .before .before .before .before .loop .inv in let here = rest-here i (omega arith) _ (c .before .before .before .before .before .before .before .before .before .before .before .before .before .byte .ensures) _ (c .before .before .before .before .before .before .before .before .before .is-passed .ensures) (c .before .before .before .before .before .before .before .before .if3 .left) in rest-on i (omega arith) _ (c .before .before .before .before .before .before .before .before .before .before .before .before .before .byte .ensures) here (omega arith) (c .before .before .before .before .before .put-member .ensures) (c .before .enum-told .given .1)
+put-group-loop-again-2 t c =
+    let at-loop = c .before .before .before .before .before .before .before .before .before .before .before .before .before .before .before in
+    let at-byte = c .before .before .before .before .before .before .before .before .before .before .before .before .before in
+    let at-passed = c .before .before .before .before .before .before .before .before .before in
+    let at-else = c .before .before .before .before .before .before .before .before in
+    let here = rest-here (at-loop .loop .inv) (omega arith) _ (at-byte .byte .ensures) _ (at-passed .is-passed .ensures) (at-else .if3 .left) in
+    rest-on (at-loop .loop .inv) (omega arith) _ (at-byte .byte .ensures) here (omega arith) (c .before .before .before .before .before .put-member .ensures) (c .before .enum-told .given .1)
 
 put-group-enum-told-2 : (t : ℕ) → put-group-lts.Need-enum-told-2 (put-group-calls t) (put-group-at t) put-group.Post put-group-Inv-loop put-group-μ-loop
 put-group-enum-told-2 t c = search needs
 
 put-group-same-length-3 : (t : ℕ) → put-group-lts.Need-same-length-3 (put-group-calls t) (put-group-at t) put-group.Post put-group-Inv-loop put-group-μ-loop
-put-group-same-length-3 t c = let l = written-long (c .before .before .before .before .put-member .ensures) in omega (arith, c .before .before .before .before .before .before .before .before .before .before .before .before .before .before .loop .inv .long, l)
+put-group-same-length-3 t c =
+    let at-loop = c .before .before .before .before .before .before .before .before .before .before .before .before .before .before in
+    let l = written-long (c .before .before .before .before .put-member .ensures) in
+    omega (arith, at-loop .loop .inv .long, l)
 
 put-group-returns-3 : (t : ℕ) → put-group-lts.Need-returns-3 (put-group-calls t) (put-group-at t) put-group.Post put-group-Inv-loop put-group-μ-loop
-put-group-returns-3 t c = let i = c .before .before .before .before .before .before .before .before .before .before .before .before .before .before .loop .inv in let here = rest-here i (omega arith) _ (c .before .before .before .before .before .before .before .before .before .before .before .before .byte .ensures) _ (c .before .before .before .before .before .before .before .before .is-passed .ensures) (c .before .before .before .before .before .before .before .if3 .left) in rest-first i (omega arith) _ (c .before .before .before .before .before .before .before .before .before .before .before .before .byte .ensures) here (omega arith) (c .before .before .before .before .put-member .ensures) (c .enum-told2 .given .1)
+put-group-returns-3 t c =
+    let at-loop = c .before .before .before .before .before .before .before .before .before .before .before .before .before .before in
+    let at-byte = c .before .before .before .before .before .before .before .before .before .before .before .before in
+    let at-passed = c .before .before .before .before .before .before .before .before in
+    let at-else = c .before .before .before .before .before .before .before in
+    let here = rest-here (at-loop .loop .inv) (omega arith) _ (at-byte .byte .ensures) _ (at-passed .is-passed .ensures) (at-else .if3 .left) in
+    rest-first (at-loop .loop .inv) (omega arith) _ (at-byte .byte .ensures) here (omega arith) (c .before .before .before .before .put-member .ensures) (c .enum-told2 .given .1)
 
 put-group-same-length-4 : (t : ℕ) → put-group-lts.Need-same-length-4 (put-group-calls t) (put-group-at t) put-group.Post put-group-Inv-loop put-group-μ-loop
 put-group-same-length-4 t c = c .before .loop .inv .long

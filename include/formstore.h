@@ -67,7 +67,7 @@ extern "C" {
 #endif
 
 /* The stack in bytes that is enough for any call. */
-#define FORMSTORE_STACK 65536
+#define FORMSTORE_STACK 69632
 
 /* The ceilings of a store. Depth: the groups around a particle. */
 #define FORMSTORE_MAX_DEFINITIONS 64

@@ -2,17 +2,15 @@
 
 use crate::hostile::Argument;
 use formstore::raw::{self, Answer};
-/// By the name that `bench/` knows.
-pub use second::testing::vectors::read_call as read;
+use second::testing::vectors::{read_call, Words};
 use second::Call;
 
 /// The call of a line as the vectors write it, without its buffers.
 pub fn of_line(line: &str) -> Call {
     let mut words = Words::of(line);
     let name = words.word();
-    let call = read(name, &mut words);
-    words.end();
-    call.unwrap_or_else(|| panic!("no call {name}"))
+    let call = read_call(name, &mut words);
+    call.unwrap_or_else(|why| panic!("no call {line}: {why}"))
 }
 
 /// An argument of a call as the library takes it.

@@ -14,8 +14,6 @@ pub mod worst;
 
 use formstore::raw;
 pub use formstore::raw::{Answer, Found};
-/// The reader of the vectors, by the name that `bench/` knows.
-pub use second::testing::vectors as words;
 use second::Call;
 
 const GUARD: usize = 64;

@@ -97,7 +97,7 @@ pub const MAX_NAME: usize = 16;
 pub const MAX_VALUE: usize = 32;
 
 /// The stack in bytes that is enough for any call, as measured on stores made to need the most.
-pub const STACK: usize = 65_536;
+pub const STACK: usize = 69_632;
 
 /// A store without definitions and documents: version 1, next serial 1, and four empty bodies that start at 40.
 pub const FRESH: [u8; 40] = [

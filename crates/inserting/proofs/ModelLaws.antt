@@ -11,7 +11,7 @@ use Rattle.rules.specs.Bytes.{Bytes, same, bytes, all}
 use Rattle.rules.specs.Model.{names, member}
 use Rattle.rules.specs.Store.{members}
 use Rattle.rules.specs.Layout.{valueWidth}
-use Rattle.rules.specs.Decode.{nameAt, definitionCount}
+use Rattle.rules.specs.Decode.{nameAt, readParticle, definitionCount}
 use Rattle.rules.specs.WellFormed.{namesIn, Reaches, reachesIn}
 use Rattle.rules.specs.Change.{definitionAt}
 use Rattle.rules.proofs.WellFormedLaws.{well-formed}
@@ -31,10 +31,11 @@ use Rattle.inserting.proofs.FormFacts.{Reads}
 use Rattle.inserting.proofs.ReachLaws.{avoided}
 
 -- ---- one particle
-pub other-first : (t : Bytes) {a b : ℕ} (i : ℕ) → a ≡ getD t 0 0 → b ≡ getD t 2 0 → not (eqb a 0 && eqb i b) ≡ firstPasses (λ j. not (eqb i j)) t
-other-first t {a} {b} i x y = ap₂ (λ (u v : ℕ). not (eqb u 0 && eqb i v)) x y ∙ by (eqb (getD t 0 0) 0)
+pub other-first : (t : Bytes) {a b : ℕ} (i : ℕ) → a ≡ readParticle t .row .sort → b ≡ readParticle t .row .index
+    → not (eqb a 0 && eqb i b) ≡ firstPasses (λ j. not (eqb i j)) t
+other-first t {a} {b} i x y = ap₂ (λ (u v : ℕ). not (eqb u 0 && eqb i v)) x y ∙ by (eqb (readParticle t .row .sort) 0)
   where
-    by : (c : Bool) → not (c && eqb i (getD t 2 0)) ≡ elim c [ true ↦ not (eqb i (getD t 2 0)) | false ↦ true ]
+    by : (c : Bool) → not (c && eqb i (readParticle t .row .index)) ≡ elim c [ true ↦ not (eqb i (readParticle t .row .index)) | false ↦ true ]
     by true = refl
     by false = refl
 

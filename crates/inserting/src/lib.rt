@@ -31,12 +31,13 @@ ghost use Rattle.inserting.specs.Inserting.{inModel, comesRound, modelCo
 fn lacks(part: &[u8], i: usize) -> bool
     ensures { λ r. ⌜ r ≡ all (λ j. not (eqb i j)) (elementsOf (now (part .entry))) ⌝ }
 {
+    let size = layout::particle_size();
     let mut t = part;
-    while t.len() >= 4 {
-        if (codec::byte(t, 0) == 0) & (i == codec::byte(t, 2) as usize) {
+    while t.len() >= size {
+        if (layout::particle_sort(t) == 0) & (i == layout::particle_index(t) as usize) {
             return false;
         }
-        t = &t[4..];
+        t = &t[size..];
     }
     true
 }

@@ -15,7 +15,7 @@ use Rattle.rules.specs.Bytes.{Bytes, same, bytes}
 use Rattle.rules.specs.Model.{Members, done, el, group, names, member, rename, Distinct}
 use Rattle.rules.specs.Store.{Form, members}
 use Rattle.rules.specs.Preorder.{Deep}
-use Rattle.rules.specs.Layout.{FlatParticle, indexOf, howMany}
+use Rattle.rules.specs.Layout.{particleSize, FlatParticle, indexOf, howMany}
 use Rattle.rules.specs.Decode.{definitionCount}
 use Rattle.rules.specs.WellFormed.{known}
 use Rattle.rules.specs.Place.{Context, Found as Spot, plug, before, after}
@@ -67,11 +67,11 @@ module _ {bs : Bytes} {o : ℕ} {i : Bool} {place : List ℕ} {h : Holder} {p : 
   model-names : names (modelIn bs o) ≡ ns ++ (names (x .found .picked) ++ after (x .found .context))
   model-names = sym (ap names (found-right i place (modelIn bs o) (x .found) (x .there))) ∙ names-plug (x .found .context) (x .found .picked)
 
-  before-elements : elementsOf (take (4 * p) (partIn bs o)) ≡ map (indexIn bs) ns
+  before-elements : elementsOf (take (particleSize * p) (partIn bs o)) ≡ map (indexIn bs) ns
   before-elements =
       let c : Context ℕ = around x in
       let t : Members ℕ = rename (indexIn bs) (x .found .picked) in
-      elements-read (take (4 * p) (partIn bs o))
+      elements-read (take (particleSize * p) (partIn bs o))
       ∙ ap elementsIn
       (particles-take p (partIn bs o) (x .inside)
       ∙ ap (λ (l : Particles). take p l) (x .particles ∙ spread-plug 0 c t)
@@ -81,12 +81,14 @@ module _ {bs : Bytes} {o : ℕ} {i : Bool} {place : List ℕ} {h : Holder} {p : 
 
   -- the members `one` come next, of depth d
   module _ (d : ℕ) (one : Members ℕ) (ys : Particles) (next : drop p (particlesOf (partIn bs o)) ≡ spread d one ++ ys) where
-    at-elements : elementsOf (take (4 * count one) (drop (4 * p) (partIn bs o))) ≡ names one
+    at-elements : elementsOf (take (particleSize * count one) (drop (particleSize * p) (partIn bs o))) ≡ names one
     at-elements =
-        let e : particlesOf (drop (4 * p) (partIn bs o)) ≡ spread d one ++ ys = particles-drop p (partIn bs o) (x .inside) ∙ next in
-        let room : 4 * count one ≤ length (drop (4 * p) (partIn bs o)) = omega (arith, ap length e, length-particles (drop (4 * p) (partIn bs o)), length-append (spread d one) ys, length-spread d one) in
-        elements-read (take (4 * count one) (drop (4 * p) (partIn bs o)))
-        ∙ ap elementsIn (particles-take (count one) (drop (4 * p) (partIn bs o)) room ∙ ap (λ (l : Particles). take (count one) l) e ∙ take-at (spread d one) ys (count one) (length-spread d one))
+        let e : particlesOf (drop (particleSize * p) (partIn bs o)) ≡ spread d one ++ ys = particles-drop p (partIn bs o) (x .inside) ∙ next in
+        let room : particleSize * count one ≤ length (drop (particleSize * p) (partIn bs o)) =
+        omega (arith, ap length e, length-particles (drop (particleSize * p) (partIn bs o)), length-append (spread d one) ys, length-spread d one) in
+        elements-read (take (particleSize * count one) (drop (particleSize * p) (partIn bs o)))
+        ∙ ap elementsIn (particles-take (count one) (drop (particleSize * p) (partIn bs o)) room
+        ∙ ap (λ (l : Particles). take (count one) l) e ∙ take-at (spread d one) ys (count one) (length-spread d one))
         ∙ elements-spread d one
 
   -- ---- the names of the model: those of definitions, none twice
@@ -114,10 +116,10 @@ module _ {bs : Bytes} {o : ℕ} {i : Bool} {place : List ℕ} {h : Holder} {p : 
       }
     where
       early : ℕ → Bool
-      early i = among i (elementsOf (take (4 * p) (partIn bs o)))
+      early i = among i (elementsOf (take (particleSize * p) (partIn bs o)))
 
       late : ℕ → Bool
-      late i = among i (elementsOf (take (4 * n) (drop (4 * p) (partIn bs o))))
+      late i = among i (elementsOf (take (particleSize * n) (drop (particleSize * p) (partIn bs o))))
 
       read : (i : ℕ) → i < length (formIn bs) → getD (marksAt n p (partIn bs o)) i 0 ≡ markBy (early i) (late i)
       read i l = marks-read n p (partIn bs o) i (omega (arith, held .agrees .size, held .fewDefinitions))
@@ -130,7 +132,7 @@ module _ {bs : Bytes} {o : ℕ} {i : Bool} {place : List ℕ} {h : Holder} {p : 
 
       late-is : (i : ℕ) → i < length (formIn bs) → late i ≡ member bytes (nameAtIndex i (formIn bs)) at
       late-is i l =
-          ap (λ (k : ℕ). among i (elementsOf (take (4 * k) (drop (4 * p) (partIn bs o))))) size
+          ap (λ (k : ℕ). among i (elementsOf (take (particleSize * k) (drop (particleSize * p) (partIn bs o))))) size
           ∙ ap (among i) (at-elements d (rename (indexIn bs) one) ys next ∙ names-rename (indexIn bs) one ∙ ap (map (indexIn bs)) (sym are))
           ∙ among-member (formIn bs) (held .good .form .names) i l at (λ m j. name-known m (Memᴰ·append-right ns (Memᴰ·append-left (after (x .found .context)) (inside m j))))
 
@@ -168,18 +170,17 @@ module _ {bs : Bytes} {o : ℕ} {i : Bool} {place : List ℕ} {h : Holder} {p : 
     unfolding rename
     group-next = next-there (group q k ms rest) e ∙ ap (λ (l : Particles). front ∷ l) (append-assoc inner (spread lev (rename (indexIn bs) rest)) (trailing 0 (around x)))
 
-    group-span : spanOf (h .depth) (particlesOf (drop (4 * p + 4) (partIn bs o))) ≡ count (rename (indexIn bs) ms)
+    group-span : spanOf (h .depth) (particlesOf (drop (particleSize * (p + 1)) (partIn bs o))) ≡ count (rename (indexIn bs) ms)
     group-span =
         let depth : h .depth ≡ lev = ap (λ (g : Holder). g .depth) (sym (x .held)) ∙ depth-holder top 0 (around x) in
-        let n : 4 * p + 4 ≡ 4 * (p + 1) = omega arith in
-        let room : 4 * (p + 1) ≤ length (partIn bs o) = omega (arith, one-there x front (inner ++ others) group-next) in
-        let after-front : particlesOf (drop (4 * p + 4) (partIn bs o)) ≡ inner ++ others =
-        ap (λ (z : ℕ). particlesOf (drop z (partIn bs o))) n ∙ particles-drop (p + 1) (partIn bs o) room ∙ sym (drop-drop 1 p (particlesOf (partIn bs o))) ∙ ap (λ (l : Particles). drop 1 l) group-next in
+        let room : particleSize * (p + 1) ≤ length (partIn bs o) = omega (arith, one-there x front (inner ++ others) group-next) in
+        let after-front : particlesOf (drop (particleSize * (p + 1)) (partIn bs o)) ≡ inner ++ others =
+        particles-drop (p + 1) (partIn bs o) room ∙ sym (drop-drop 1 p (particlesOf (partIn bs o))) ∙ ap (λ (l : Particles). drop 1 l) group-next in
         ap₂ (λ (d : ℕ) (l : Particles). spanOf d l) depth after-front ∙ span-group (around x) (rename (indexIn bs) ms) (rename (indexIn bs) rest)
 
-    pub group-marked : Marked (storeIn bs .form) (before (x .found .context)) (names ms) (marksAt (1 + spanOf (h .depth) (particlesOf (drop (4 * p + 4) (partIn bs o)))) p (partIn bs o))
+    pub group-marked : Marked (storeIn bs .form) (before (x .found .context)) (names ms) (marksAt (1 + spanOf (h .depth) (particlesOf (drop (particleSize * (p + 1)) (partIn bs o)))) p (partIn bs o))
     unfolding rename names
     group-marked =
-        let size : 1 + spanOf (h .depth) (particlesOf (drop (4 * p + 4) (partIn bs o))) ≡ suc (count (rename (indexIn bs) ms) + 0) = omega (arith, group-span) in
+        let size : 1 + spanOf (h .depth) (particlesOf (drop (particleSize * (p + 1)) (partIn bs o))) ≡ suc (count (rename (indexIn bs) ms) + 0) = omega (arith, group-span) in
         one-marked (group q k ms done) (names rest) lev others size (sym (append-nil (names ms))) (ap names e ∙ ap (λ (l : List Bytes). l ++ names rest) (sym (append-nil (names ms))))
         (group-next ∙ ap (λ (l : Particles). front ∷ (l ++ others)) (sym (append-nil inner)))

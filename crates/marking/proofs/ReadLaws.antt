@@ -9,6 +9,7 @@ use lib.Dec.{eqb}
 use lib.ListN.{length, getD, set, take, drop, replicate, length-set, length-replicate, getD-replicate}
 use lib.Seq.{getD-set-same, getD-set-other}
 use Rattle.rules.specs.Bytes.{Bytes, any, eqb-eq, eqb-of}
+use Rattle.rules.specs.Layout.{particleSize}
 use Rattle.circles.specs.Members.{elementsOf}
 use Rattle.plans.specs.CallPlans.{unmarked}
 use Rattle.marking.specs.Marking.{marked, marksAt}
@@ -50,14 +51,16 @@ marked-length v (j ∷ is) m = marked-length v is (set m j v) ∙ length-set m j
 abbrev pub markBy : Bool → Bool → ℕ
 markBy b a = valueBy a 2 (valueBy b 1 0)
 
-pub marks-read : (n p : ℕ) (part : Bytes) (i : ℕ) → i < 64 → getD (marksAt n p part) i 0 ≡ markBy (among i (elementsOf (take (4 * p) part))) (among i (elementsOf (take (4 * n) (drop (4 * p) part))))
+pub marks-read : (n p : ℕ) (part : Bytes) (i : ℕ) → i < 64
+    → getD (marksAt n p part) i 0 ≡ markBy (among i (elementsOf (take (particleSize * p) part))) (among i (elementsOf (take (particleSize * n) (drop (particleSize * p) part))))
 unfolding marksAt unmarked
 marks-read n p part i h =
-    let l : length (marked 1 (elementsOf (take (4 * p) part)) (replicate 64 0)) ≡ 64 = marked-length 1 (elementsOf (take (4 * p) part)) (replicate 64 0) ∙ length-replicate {A = ℕ} 64 0 in
-    marked-read 2 (elementsOf (take (4 * n) (drop (4 * p) part))) (marked 1 (elementsOf (take (4 * p) part)) (replicate 64 0)) i (omega arith)
-    ∙ ap (λ (x : ℕ). valueBy (among i (elementsOf (take (4 * n) (drop (4 * p) part)))) 2 x)
-    (marked-read 1 (elementsOf (take (4 * p) part)) (replicate 64 0) i (omega (arith, length-replicate {A = ℕ} 64 0))
-    ∙ ap (λ (x : ℕ). valueBy (among i (elementsOf (take (4 * p) part))) 1 x) (getD-replicate {A = ℕ} 64 i 0 0 h))
+    let l : length (marked 1 (elementsOf (take (particleSize * p) part)) (replicate 64 0)) ≡ 64 =
+    marked-length 1 (elementsOf (take (particleSize * p) part)) (replicate 64 0) ∙ length-replicate {A = ℕ} 64 0 in
+    marked-read 2 (elementsOf (take (particleSize * n) (drop (particleSize * p) part))) (marked 1 (elementsOf (take (particleSize * p) part)) (replicate 64 0)) i (omega arith)
+    ∙ ap (λ (x : ℕ). valueBy (among i (elementsOf (take (particleSize * n) (drop (particleSize * p) part)))) 2 x)
+    (marked-read 1 (elementsOf (take (particleSize * p) part)) (replicate 64 0) i (omega (arith, length-replicate {A = ℕ} 64 0))
+    ∙ ap (λ (x : ℕ). valueBy (among i (elementsOf (take (particleSize * p) part))) 1 x) (getD-replicate {A = ℕ} 64 i 0 0 h))
 
 pub mark-two : (b a : Bool) → eqb (markBy b a) 2 ≡ a
 mark-two true true = refl

@@ -7,8 +7,11 @@ use mathlib.Core.Path.{_≡_, refl, sym, ap, ap₂, _∙_}
 use mathlib.Core.Bool.{Bool, true, false}
 use mathlib.Core.List.{List, [], _∷_}
 use lib.Dec.{eqb}
-use lib.ListN.{length, getD, set, take, drop, replicate}
+use lib.ListN.{length, set, take, drop, replicate}
 use Rattle.rules.specs.Bytes.{Bytes}
+use Rattle.rules.specs.Layout.{particleSize}
+use Rattle.rules.specs.Decode.{readParticle}
+use Rattle.layout.specs.Bodies.{windowOf, Product}
 use Rattle.codec.proofs.Writers.{tail-seen}
 use Rattle.circles.specs.Members.{elementsOf}
 use Rattle.circles.proofs.MemberLaws.{elements-more, elements-few}
@@ -16,18 +19,19 @@ use Rattle.plans.specs.CallPlans.{unmarked}
 use Rattle.marking.specs.Marking.{marked, markedFirst, marksAt}
 
 -- ---- the first particle
-module _ (v : ℕ) (t m : Bytes) {sort : ℕ} (s : sort ≡ getD t 0 0) where
-  pub first-element : {out : Bytes} {index i : ℕ} → sort ≡ 0 → index ≡ getD t 2 0 → i ≡ index → out ≡ set m i v → out ≡ markedFirst v t m
-  first-element {out} {index} {i} z e f w = w ∙ ap (λ (j : ℕ). set m j v) (f ∙ e) ∙ sym (rw (eq-eqb (getD t 0 0) 0 (sym s ∙ z), markedFirst))
+module _ (v : ℕ) (t m : Bytes) {sort : ℕ} (s : sort ≡ readParticle t .row .sort) where
+  pub first-element : {out : Bytes} {index i : ℕ} → sort ≡ 0 → index ≡ readParticle t .row .index → i ≡ index → out ≡ set m i v → out ≡ markedFirst v t m
+  first-element {out} {index} {i} z e f w = w ∙ ap (λ (j : ℕ). set m j v) (f ∙ e) ∙ sym (rw (eq-eqb (readParticle t .row .sort) 0 (sym s ∙ z), markedFirst))
 
   pub first-group : (sort ≡ 0 → ⊥) → m ≡ markedFirst v t m
-  first-group n = sym (rw (ne-eqb (getD t 0 0) 0 (λ z. n (s ∙ z)), markedFirst))
+  first-group n = sym (rw (ne-eqb (readParticle t .row .sort) 0 (λ z. n (s ∙ z)), markedFirst))
 
 -- ---- the rest
-marked-more : (v : ℕ) (t m : Bytes) → 4 ≤ length t → marked v (elementsOf t) m ≡ marked v (elementsOf (drop 4 t)) (markedFirst v t m)
-marked-more v t m h = ap (λ (l : List ℕ). marked v l m) (elements-more t h) ∙ by (eqb (getD t 0 0) 0)
+marked-more : (v : ℕ) (t m : Bytes) → particleSize ≤ length t → marked v (elementsOf t) m ≡ marked v (elementsOf (drop particleSize t)) (markedFirst v t m)
+marked-more v t m h = ap (λ (l : List ℕ). marked v l m) (elements-more t h) ∙ by (eqb (readParticle t .row .sort) 0)
   where
-    by : (b : Bool) → marked v (elim b [ true ↦ getD t 2 0 ∷ elementsOf (drop 4 t) | false ↦ elementsOf (drop 4 t) ]) m ≡ marked v (elementsOf (drop 4 t)) (elim b [ true ↦ set m (getD t 2 0) v | false ↦ m ])
+    by : (b : Bool) → marked v (elim b [ true ↦ readParticle t .row .index ∷ elementsOf (drop particleSize t) | false ↦ elementsOf (drop particleSize t) ]) m
+        ≡ marked v (elementsOf (drop particleSize t)) (elim b [ true ↦ set m (readParticle t .row .index) v | false ↦ m ])
     by true = refl
     by false = refl
 
@@ -39,17 +43,28 @@ pub record Marking (v : ℕ) (particles marks t m : Bytes) : Type 0 where
 pub marking-starts : {v : ℕ} {particles marks : Bytes} → Marking v particles marks particles marks
 marking-starts = record { left = refl; size = refl }
 
-pub marking-on : {v : ℕ} {particles marks t m out : Bytes} → Marking v particles marks t m → 4 ≤ length t → out ≡ markedFirst v t m → length out ≡ length m → Marking v particles marks (take (length t - 4) (drop 4 t)) out
-marking-on {v} {particles} {marks} {t} {m} {out} x h e l =
+pub marking-on : {v : ℕ} {particles marks t m out : Bytes} {size : ℕ} → Marking v particles marks t m → size ≡ particleSize → particleSize ≤ length t
+    → out ≡ markedFirst v t m → length out ≡ length m → Marking v particles marks (take (length t - size) (drop size t)) out
+marking-on {v} {particles} {marks} {t} {m} {out} {size} x z h e l =
     record {
-      left = ap₂ (λ (s w : Bytes). marked v (elementsOf s) w) (tail-seen t 4) e ∙ sym (marked-more v t m h) ∙ x .left;
+      left = ap₂ (λ (s w : Bytes). marked v (elementsOf s) w) (tail-seen t size ∙ ap (λ (k : ℕ). drop k t) z) e ∙ sym (marked-more v t m h) ∙ x .left;
       size = l ∙ x .size;
     }
 
-pub marking-ends : {v : ℕ} {particles marks t m : Bytes} → Marking v particles marks t m → length t < 4 → m ≡ marked v (elementsOf particles) marks
+pub marking-ends : {v : ℕ} {particles marks t m : Bytes} → Marking v particles marks t m → length t < particleSize → m ≡ marked v (elementsOf particles) marks
 marking-ends {v} {particles} {marks} {t} {m} x h = sym (ap (λ (l : List ℕ). marked v l m) (elements-few t h)) ∙ x .left
 
 -- ---- the whole
-pub marks-laid : (n p : ℕ) (part : Bytes) {s t m out : Bytes} → s ≡ take (4 * p) (drop 0 part) → m ≡ marked 1 (elementsOf s) (replicate 64 0) → t ≡ take (4 * n) (drop (4 * p) part) → out ≡ marked 2 (elementsOf t) m → out ≡ marksAt n p part
-unfolding marksAt unmarked
-marks-laid n p part e f g h = h ∙ ap₂ (λ (t m : Bytes). marked 2 (elementsOf t) m) g (f ∙ ap (λ (s : Bytes). marked 1 (elementsOf s) (replicate 64 0)) e)
+module _ (n p : ℕ) (part : Bytes) {size start long : ℕ} (z : size ≡ particleSize) (x : Product size p start) (y : Product size n long) where
+  start-is : start ≡ particleSize * p
+  start-is = x .value ∙ ap (λ (k : ℕ). k * p) z
+
+  long-is : long ≡ particleSize * n
+  long-is = y .value ∙ ap (λ (k : ℕ). k * n) z
+
+  pub marks-laid : {s t m out : Bytes} → s ≡ windowOf 0 start part → m ≡ marked 1 (elementsOf s) (replicate 64 0) → t ≡ windowOf start long part
+      → out ≡ marked 2 (elementsOf t) m → out ≡ marksAt n p part
+  unfolding marksAt unmarked
+  marks-laid e f g h =
+      h ∙ ap₂ (λ (t m : Bytes). marked 2 (elementsOf t) m) (g ∙ ap₂ (λ (i k : ℕ). windowOf i k part) start-is long-is)
+      (f ∙ ap (λ (s : Bytes). marked 1 (elementsOf s) (replicate 64 0)) (e ∙ ap (λ (k : ℕ). windowOf 0 k part) start-is))

@@ -4,8 +4,10 @@ use Prim.Native.Nat.{ℕ, _*_}
 use mathlib.Core.Bool.{true, false}
 use mathlib.Core.List.{List, [], _∷_}
 use lib.Dec.{eqb}
-use lib.ListN.{getD, set, take, drop}
+use lib.ListN.{set, take, drop}
 use Rattle.rules.specs.Bytes.{Bytes}
+use Rattle.rules.specs.Layout.{particleSize}
+use Rattle.rules.specs.Decode.{readParticle}
 use Rattle.circles.specs.Members.{elementsOf}
 use Rattle.plans.specs.CallPlans.{unmarked}
 
@@ -16,8 +18,8 @@ marked v (i ∷ is) marks = marked v is (set marks i v)
 
 -- v at the index of the first of some particles, if that is an element
 abbrev pub markedFirst : ℕ → Bytes → Bytes → Bytes
-markedFirst v particles marks = elim (eqb (getD particles 0 0) 0) [ true ↦ set marks (getD particles 2 0) v | false ↦ marks ]
+markedFirst v particles marks = elim (eqb (readParticle particles .row .sort) 0) [ true ↦ set marks (readParticle particles .row .index) v | false ↦ marks ]
 
 -- 1 for the definitions of the elements among the first p particles of a part, 2 for those among the next n
 unfoldable pub marksAt : ℕ → ℕ → Bytes → Bytes
-marksAt n p part = marked 2 (elementsOf (take (4 * n) (drop (4 * p) part))) (marked 1 (elementsOf (take (4 * p) part)) unmarked)
+marksAt n p part = marked 2 (elementsOf (take (particleSize * n) (drop (particleSize * p) part))) (marked 1 (elementsOf (take (particleSize * p) part)) unmarked)

@@ -6,14 +6,12 @@ ghost use Rattle.marking.specs.Marking.{markedFirst, marked, marksAt};
 
 const MAX_DEFINITIONS: usize = 64;
 
-const PARTICLE_SIZE: usize = 4;
-
 // The value for the definition of the first particle, if that is an element (sort 0).
 fn mark_first(particles: &[u8], value: u8, marks: &mut [u8])
     ensures { λ _. ⌜ now (marks .exit) ≡ markedFirst value (now (particles .entry)) (now (marks .entry)) ⌝ }
 {
-    if codec::byte(particles, 0) == 0 {
-        let i = codec::byte(particles, 2) as usize;
+    if layout::particle_sort(particles) == 0 {
+        let i = layout::particle_index(particles) as usize;
         codec::store(marks, i, value);
     }
 }
@@ -22,10 +20,11 @@ fn mark_first(particles: &[u8], value: u8, marks: &mut [u8])
 fn mark(particles: &[u8], value: u8, marks: &mut [u8])
     ensures { λ _. ⌜ now (marks .exit) ≡ marked value (elementsOf (now (particles .entry))) (now (marks .entry)) ⌝ }
 {
+    let size = layout::particle_size();
     let mut t = particles;
-    while t.len() >= PARTICLE_SIZE {
+    while t.len() >= size {
         mark_first(t, value, marks);
-        t = &t[PARTICLE_SIZE..];
+        t = &t[size..];
     }
 }
 
@@ -34,12 +33,11 @@ pub fn marks(part: &[u8], p: usize, n: usize) -> [u8; MAX_DEFINITIONS]
     requires { ⌜ (p ≤ 256) × (n ≤ 257) ⌝ }
     ensures { λ r. ⌜ r ≡ marksAt n p (now (part .entry)) ⌝ }
 {
+    let size = layout::particle_size();
+    let start = layout::times(size, p);
+    let long = layout::times(size, n);
     let mut of = [0; MAX_DEFINITIONS];
-    mark(layout::window(part, 0, PARTICLE_SIZE * p), 1, &mut of);
-    mark(
-        layout::window(part, PARTICLE_SIZE * p, PARTICLE_SIZE * n),
-        2,
-        &mut of,
-    );
+    mark(layout::window(part, 0, start), 1, &mut of);
+    mark(layout::window(part, start, long), 2, &mut of);
     of
 }

@@ -6,15 +6,15 @@ use mathlib.Core.Path.{_≡_, refl, sym, ap, _∙_, subst}
 use mathlib.Core.Bool.{Bool, true, false, not, false≢true}
 use mathlib.Core.Option.{Option, none, some}
 use mathlib.Core.List.{List, [], _∷_, _++_}
-use lib.ListN.{length, drop, getD}
-use lib.Seq.{getD-drop}
+use lib.ListN.{length, drop}
 use Rattle.rules.specs.declared.Quantifier.{Quantifier}
 use Rattle.rules.specs.Bytes.{Bytes}
 use Rattle.rules.specs.Model.{Members, done, el, group, isDone, rename}
 use Rattle.rules.specs.Place.{Found as Spot}
 use Rattle.rules.specs.Edit.{Edit, remove, placeOf as placed}
 use Rattle.rules.specs.Preorder.{Deep}
-use Rattle.rules.specs.Layout.{FlatParticle, FlatStore}
+use Rattle.rules.specs.Layout.{particleSize, FlatParticle, FlatStore}
+use Rattle.rules.specs.Decode.{readParticle}
 use Rattle.rules.specs.Passing.{passes}
 use Rattle.rules.specs.Change.{removeElement, formAfter}
 use Rattle.rules.specs.Refusal.{past, foundAt, noElementAt, onElement, first, conditions}
@@ -58,7 +58,7 @@ module _ {bs : Bytes} {o : ℕ} {p : List ℕ} {e : Edit Bytes} (x : Element bs 
   picked-at = x .fits .at ∙ ap (λ (t : Members Bytes). some (record { context = x .fits .found .context; picked = t })) (x .is)
 
   -- the index that stands in the particle
-  pub index-there : {h : Holder} {n : ℕ} → placeOf (inserts e) p (partIn bs o) ≡ At h n → getD (partIn bs o) (4 * n + 2) 0 ≡ indexIn bs (x .name)
+  pub index-there : {h : Holder} {n : ℕ} → placeOf (inserts e) p (partIn bs o) ≡ At h n → readParticle (drop (particleSize * n) (partIn bs o)) .row .index ≡ indexIn bs (x .name)
   unfolding rename
   index-there {h} {n} z =
       let y : Placed bs o (inserts e) p h n = present-at bs (x .fits .good) o (x .fits .there) (inserts e) p h n z in
@@ -67,7 +67,7 @@ module _ {bs : Bytes} {o : ℕ} {p : List ℕ} {e : Edit Bytes} (x : Element bs 
       let d : ℕ = level 0 (around y) in
       let f : drop n (particlesOf (partIn bs o)) ≡ elementParticle d (x .quantifier) (indexIn bs (x .name)) ∷ (spread d (rename (indexIn bs) (x .rest)) ++ trailing 0 (around y)) =
       from-there y ∙ ap (λ (t : Members Bytes). spread d (rename (indexIn bs) t) ++ trailing 0 (around y)) (ap (λ (w : Spot Bytes). w .picked) one ∙ x .is) in
-      sym (getD-drop (4 * n) (partIn bs o) 2 0) ∙ ap (λ (w : Deep FlatParticle). w .row .index) (read-there y _ _ f)
+      ap (λ (w : Deep FlatParticle). w .row .index) (read-there y _ _ f)
 
 element-suits : (t : Members Bytes) → onElement true (λ q. false) t ≡ false → suits {A = Bytes} remove t ≡ true
 element-suits done h = absurd (false≢true (sym h))
@@ -92,12 +92,13 @@ module _ (bs : Bytes) (q : passes bs ≡ true) (o : ℕ) (p : List ℕ) where
           there (group k j ms rest) e = absurd (false≢true (sym h ∙ ap (onElement true (λ z. false)) e))
 
 pub removed-answers : {bs : Bytes} {o : ℕ} {p : List ℕ} (x : Element bs o p remove) {part : Bytes} (own : part ≡ partIn bs o) {f : Found} (is : f ≡ placeOf false p part) (h : Holder) (n : ℕ) (z : f ≡ At h n) (room : ℕ) {q : Plan} (m : ℕ)
-    → q ≡ removeElementPlan o (getD part (4 * n + 2) 0) → m ≡ first (conditions (removeElement o p) (storeIn bs)) → m ≡ 0 → {out : Bytes} {number len : ℕ} {left : Bytes}
+    → q ≡ removeElementPlan o (readParticle (drop (particleSize * n) part) .row .index) → m ≡ first (conditions (removeElement o p) (storeIn bs)) → m ≡ 0 → {out : Bytes} {number len : ℕ} {left : Bytes}
     → Answers (limited room (plannedIn (formEdited bs o remove h n) q [] (bodiesOf bs))) out number len left → Answers (outcome (removeElement o p) bs room) out number len left
 unfolding formAfter
 removed-answers {bs} {o} {p} x {part} own is h n z room m w f e a =
     let i : ℕ = indexIn bs (x .name) in
-    let there : getD part (4 * n + 2) 0 ≡ i = ap (λ (s : Bytes). getD s (4 * n + 2) 0) own ∙ index-there x (sym (is ∙ ap (placeOf false p) own) ∙ z) in
+    let there : readParticle (drop (particleSize * n) part) .row .index ≡ i =
+    ap (λ (s : Bytes). readParticle (drop (particleSize * n) s) .row .index) own ∙ index-there x (sym (is ∙ ap (placeOf false p) own) ∙ z) in
     edited-answers (x .fits) Remove refl own is h n z (removeElement o p) room (removeElementPlan o i) [] m f e
     (remove-element-planned (storeIn bs) (holds bs (x .fits .good) .good) o p (x .fits .found .context) (formEdited bs o remove h n) (x .quantifier) (x .name) (x .rest) [] (sym f ∙ e) (picked-at x) (bodies-hold (x .fits) Remove refl own is h n z (removeElement o p) refl))
     (answers-as (ap (λ (y : Plan). limited room (plannedIn (formEdited bs o remove h n) y [] (bodiesOf bs))) (sym (w ∙ ap (removeElementPlan o) there))) a)

@@ -9,10 +9,10 @@ use storing::Answer;
 ghost use mathlib.Core.Path.{_≡_};
 ghost use mathlib.Core.Bool.{true, not};
 ghost use Prim.Native.Nat.{_+_, _-_, _*_, _<_, _≤_};
-ghost use lib.ListN.{length, getD};
+ghost use lib.ListN.{length, drop};
 ghost use Rattle.rules.specs.Change.{removeElement, convertToGroup, flattenGroup};
-ghost use Rattle.rules.specs.Decode.{particleCount};
-ghost use Rattle.rules.specs.Layout.{each, particleBytes};
+ghost use Rattle.rules.specs.Decode.{readParticle, particleCount};
+ghost use Rattle.rules.specs.Layout.{particleSize, each, particleBytes};
 ghost use Rattle.rules.specs.WellFormed.{isValue, withinCeilings};
 ghost use Rattle.rules.specs.Outcome.{outcome, Answers};
 ghost use Rattle.codec.specs.Laid.{Laid};
@@ -146,7 +146,7 @@ pub fn edit_model(
 // The plan of change 4 for the element at particle p of the owner's part.
 fn removing_plan(part: &[u8], owner: usize, p: usize) -> Plan
     requires { ⌜ p ≤ 256 ⌝ }
-    ensures { λ r. ⌜ r ≡ removeElementPlan owner (getD (now (part .entry)) (4 * p + 2) 0) ⌝ }
+    ensures { λ r. ⌜ r ≡ removeElementPlan owner (readParticle (drop (particleSize * p) (now (part .entry))) .row .index) ⌝ }
 {
     let index = layout::particle_index(layout::particles_from(part, p)) as usize;
     plans::taking_plan(Which::Elements(owner), Which::Elements(index))

@@ -32,6 +32,7 @@ use Rattle.finding.proofs.StoreFacts.{formIn}
 use Rattle.finding.specs.Finding.{Gives}
 use Rattle.finding.proofs.RefusalLaws.{gives-hit, gives-next, gives-none}
 use Rattle.placing.specs.Placing.{indexIn, partIn, Placed, unlikeKind, convertTests}
+use Rattle.placing.proofs.PickLaws.{part-few}
 use Rattle.placing.proofs.PlaceLaws.{found-convert, absent, present-at}
 
 -- ---- n members
@@ -145,8 +146,8 @@ module _ (bs : Bytes) (pass : passes bs ≡ true) (o : ℕ) (p : List ℕ) (n k 
         there : Placed bs o false p h i
         there = present-at bs pass o l false p h i (found-in ∙ w)
 
-        pub convert-inside : 4 * i ≤ length part
-        convert-inside = omega (arith, there .inside, ap length own)
+        pub convert-inside : i ≤ 256
+        convert-inside = omega (arith, there .inside, part-few bs pass o)
 
         pub convert-there : {r : ℕ} {kind : GroupKind} → kind ≡ groupOf k → Gives r (convertTests (h .kind) kind n (membersFrom (h .depth) (drop (4 * i) part))) → Gives r (conditions (convertToGroup o p n k) (storeIn bs))
         unfolding conditions

@@ -5,11 +5,11 @@ use native.Mathlib.Omega.{arith}
 use mathlib.Core.Path.{_≡_, refl, sym, ap, _∙_}
 use mathlib.Core.Bool.{Bool, true, false}
 use lib.Dec.{eqb}
-use lib.ListN.{length, take, drop, getD, length-drop}
+use lib.ListN.{length, take, drop, length-drop}
 use borrow.Author.Tests.{eqb-true, eqb-false}
 use Rattle.rules.specs.Bytes.{Bytes}
 use Rattle.rules.specs.Model.{Members}
-use Rattle.rules.specs.Layout.{FlatParticle, howMany}
+use Rattle.rules.specs.Layout.{particleSize, FlatParticle, howMany}
 use Rattle.rules.specs.Decode.{readParticle}
 use Rattle.codec.proofs.Writers.{tail-seen}
 use Rattle.model.specs.Members.{indexMember, membersFrom}
@@ -18,7 +18,7 @@ use Rattle.placing.specs.Placing.{oneIf}
 
 pub record Counting (goal bound d : ℕ) (t : Bytes) (n : ℕ) : Type 0 where
   pub gives : n + howMany (membersFrom d t) ≡ goal
-  pub sum : 4 * n + length t ≤ bound
+  pub sum : particleSize * n + length t ≤ bound
 
 pub counting-all : (d : ℕ) (s : Bytes) → Counting (howMany (membersFrom d s)) (length s) d s 0
 counting-all d s = record { gives = omega arith; sum = omega arith }
@@ -28,15 +28,15 @@ one-more x zero below rest = refl
 one-more x (suc k) below rest = refl
 
 module _ (goal bound d : ℕ) (t : Bytes) (n : ℕ) (l : Counting goal bound d t n) where
-  pub counting-few : length t < 4 → n ≡ goal
+  pub counting-few : length t < particleSize → n ≡ goal
   counting-few h = omega (arith, l .gives, ap (λ (ms : Members ℕ). howMany ms) (members-few d t h))
 
-  module _ (e : ℕ) (h : 4 ≤ length t) (g : e ≡ getD t 3 0) where
+  module _ (e : ℕ) (h : particleSize ≤ length t) (g : e ≡ readParticle t .depth) where
     pub counting-stop : e < d → n ≡ goal
     counting-stop k = omega (arith, l .gives, ap (λ (ms : Members ℕ). howMany ms) (members-stop d t h (omega arith)))
 
-    counted : (b : Bool) → eqb e d ≡ b → d ≤ e → n + oneIf b + howMany (membersFrom d (drop 4 t)) ≡ goal
-    counted true q k = omega (arith, l .gives, ap (λ (ms : Members ℕ). howMany ms) (members-here d t h (sym g ∙ eqb-true e d q)), one-more (readParticle t .row) (getD t 0 0) (membersFrom (suc d) (drop 4 t)) (membersFrom d (drop 4 t)))
+    counted : (b : Bool) → eqb e d ≡ b → d ≤ e → n + oneIf b + howMany (membersFrom d (drop particleSize t)) ≡ goal
+    counted true q k = omega (arith, l .gives, ap (λ (ms : Members ℕ). howMany ms) (members-here d t h (sym g ∙ eqb-true e d q)), one-more (readParticle t .row) (readParticle t .row .sort) (membersFrom (suc d) (drop particleSize t)) (membersFrom d (drop particleSize t)))
     counted false q k =
         let f : e ≡ d → ⊥ = eqb-false e d q in
         omega (arith, l .gives, ap (λ (ms : Members ℕ). howMany ms) (members-deeper d t h (omega arith)))
@@ -45,10 +45,10 @@ module _ (goal bound d : ℕ) (t : Bytes) (n : ℕ) (l : Counting goal bound d t
     one-most true = omega arith
     one-most false = omega arith
 
-    pub counting-on : d ≤ e → {m : ℕ} → m ≡ oneIf (eqb e d) → Counting goal bound d (take (length t - 4) (drop 4 t)) (n + m)
-    counting-on k {m} q =
-        rw (tail-seen t 4, q)
-        (record { gives = counted (eqb e d) refl k; sum = omega (arith, l .sum, length-drop 4 t, one-most (eqb e d)) })
+    pub counting-on : d ≤ e → {m size : ℕ} → m ≡ oneIf (eqb e d) → size ≡ particleSize → Counting goal bound d (take (length t - size) (drop size t)) (n + m)
+    counting-on k {m} {size} q z =
+        rw (tail-seen t size, z, q)
+        (record { gives = counted (eqb e d) refl k; sum = omega (arith, l .sum, length-drop particleSize t, one-most (eqb e d)) })
 
-    pub counting-small : {m : ℕ} → m ≡ oneIf (eqb e d) → 4 * (n + m) ≤ bound
+    pub counting-small : {m : ℕ} → m ≡ oneIf (eqb e d) → particleSize * (n + m) ≤ bound
     counting-small q = omega (arith, q, l .sum, one-most (eqb e d))

@@ -7,7 +7,7 @@ use mathlib.Core.Bool.{Bool, true, false, false≢true}
 use mathlib.Core.Option.{Option, none, some}
 use mathlib.Core.List.{List, [], _∷_, _++_}
 use lib.Dec.{leb}
-use lib.ListN.{length, drop, getD, length-drop}
+use lib.ListN.{length, take, drop, getD, length-take, length-drop}
 use lib.Seq.{drop-append-add, getD-drop}
 use Rattle.rules.specs.declared.Quantifier.{Quantifier}
 use Rattle.rules.specs.declared.GroupKind.{GroupKind}
@@ -15,8 +15,8 @@ use Rattle.rules.specs.declared.GroupKind.the-variants.{Sequence, Choice}
 use Rattle.rules.specs.Bytes.{Bytes}
 use Rattle.rules.specs.Model.{Members, done, el, group, rename, isDone}
 use Rattle.rules.specs.Preorder.{Deep}
-use Rattle.rules.specs.Layout.{FlatParticle, howMany, groupCode}
-use Rattle.rules.specs.Decode.{readParticle, definitionCount}
+use Rattle.rules.specs.Layout.{headerSize, definitionSize, particleSize, FlatParticle, howMany, groupCode}
+use Rattle.rules.specs.Decode.{readParticle, definitionCount, particleCount}
 use Rattle.rules.specs.Passing.{passes}
 use Rattle.rules.specs.Place.{Context, Found as Spot, nth, find, renameAround, within, afterMembers, inGroup, present}
 use Rattle.model.specs.declared.What.{What}
@@ -31,8 +31,9 @@ use Rattle.model.specs.Places.{Particles, noParticle, placeOf}
 use Rattle.model.specs.Positions.{elementParticle, groupParticle, spread, leading, trailing, level}
 use Rattle.model.proofs.ParticleLaws.{length-particles, particle-at}
 use Rattle.model.proofs.PositionLaws.{spread-plug, length-leading, code-quantifier}
-use Rattle.rowpass.specs.Reading.{modelPart}
-use Rattle.layout.specs.Bodies.{definitionsIn, particlesIn}
+use Rattle.rowpass.specs.Reading.{definitionIn, particlesBefore, modelPart}
+use Rattle.layout.specs.Bodies.{shapeOf, particleBody, definitionsIn, particlesIn}
+use Rattle.defining.proofs.Encoded.{encoded}
 use Rattle.placing.specs.declared.Picked.{Picked}
 use Rattle.placing.specs.declared.Picked.the-variants as pick
 use Rattle.placing.specs.Placing.{indexIn, modelIn, partIn, leads, foundBy, Placed, pickOf, ElementAt, GroupAt, Picks, Picking}
@@ -103,7 +104,7 @@ module _ {bs : Bytes} {o : ℕ} {i : Bool} {place : List ℕ} {h : Holder} {p : 
     pub one-there : 4 * p + 4 ≤ length (partIn bs o)
     one-there = omega (arith, ap length e, length-drop p (particlesOf (partIn bs o)), length-particles (partIn bs o))
 
-    pub read-there : readParticle (drop (4 * p) (partIn bs o)) ≡ y
+    pub read-there : readParticle (drop (particleSize * p) (partIn bs o)) ≡ y
     read-there =
         let z : p + 0 ≡ p = omega arith in
         sym (particle-at p (partIn bs o) one-there)
@@ -121,7 +122,7 @@ many-named f (el q i rest) = ap suc (many-named f rest)
 many-named f (group q k ms rest) = ap suc (many-named f rest)
 
 abbrev pub pickIn : Bytes → ℕ → Holder → ℕ → Picked
-pickIn bs o h p = pickOf h p (particleOf (readParticle (drop (4 * p) (partIn bs o))) .quantifier) (particleOf (readParticle (drop (4 * p) (partIn bs o))) .what)
+pickIn bs o h p = pickOf h p (particleOf (readParticle (drop (particleSize * p) (partIn bs o))) .quantifier) (particleOf (readParticle (drop (particleSize * p) (partIn bs o))) .what)
 
 abbrev pickRead : Holder → ℕ → Deep FlatParticle → Picked
 pickRead h p y = pickOf h p (particleOf y .quantifier) (particleOf y .what)
@@ -147,14 +148,31 @@ picks-there {bs} {o} {place} {h} {p} x = by (x .found .picked) refl
         subst (λ (z : Picked). Picks bs o place z) (sym r) (record { placed = x; inner = ms; rest = rest; is = e; many = many-named (indexIn bs) ms })
 
 -- ---- the code
-module _ (h : Holder) (p : ℕ) (s : Bytes) {x : Particle} (e : x ≡ particleOf (readParticle (drop (4 * p) s))) where
-  pub pick-element : (i : ℕ) → x .what ≡ what.Element i
-      → pick.Element h p (x .quantifier) ≡ pickOf h p (particleOf (readParticle (drop (4 * p) s)) .quantifier) (particleOf (readParticle (drop (4 * p) s)) .what)
-  pick-element i w = ap (pickOf h p (x .quantifier)) (sym w) ∙ ap (λ (y : Particle). pickOf h p (y .quantifier) (y .what)) e
+module _ (h : Holder) (p : ℕ) (s : Bytes) {r : Bytes} {x : Particle} (u : r ≡ drop (particleSize * p) s) (y : x ≡ particleOf (readParticle r)) where
+  abbrev there : Particle
+  there = particleOf (readParticle (drop (particleSize * p) s))
 
-  pub pick-group : (k : GroupKind) (n : ℕ) → x .what ≡ what.Group k n
-      → pick.Group h p (x .quantifier) k n ≡ pickOf h p (particleOf (readParticle (drop (4 * p) s)) .quantifier) (particleOf (readParticle (drop (4 * p) s)) .what)
-  pick-group k n w = ap (pickOf h p (x .quantifier)) (sym w) ∙ ap (λ (y : Particle). pickOf h p (y .quantifier) (y .what)) e
+  read-is : x ≡ there
+  read-is = y ∙ ap (λ (z : Bytes). particleOf (readParticle z)) u
+
+  pub pick-element : (i : ℕ) → x .what ≡ what.Element i → pick.Element h p (x .quantifier) ≡ pickOf h p (there .quantifier) (there .what)
+  pick-element i w = ap (pickOf h p (x .quantifier)) (sym w) ∙ ap (λ (y : Particle). pickOf h p (y .quantifier) (y .what)) read-is
+
+  pub pick-group : (k : GroupKind) (n : ℕ) → x .what ≡ what.Group k n → pick.Group h p (x .quantifier) k n ≡ pickOf h p (there .quantifier) (there .what)
+  pick-group k n w = ap (pickOf h p (x .quantifier)) (sym w) ∙ ap (λ (y : Particle). pickOf h p (y .quantifier) (y .what)) read-is
+
+-- ---- how many particles a store that passes has
+body-few : (bs : Bytes) → passes bs ≡ true → length (particlesIn bs) ≤ particleSize * 256
+unfolding particleBody shapeOf
+body-few bs q =
+    let is : length (particlesIn bs) ≡ length (take (particleSize * particleCount bs) (drop (headerSize + definitionSize * definitionCount bs) bs)) = refl in
+    omega (arith, is, length-take (particleSize * particleCount bs) (drop (headerSize + definitionSize * definitionCount bs) bs), encoded bs q .particles, encoded bs q .fewParticles)
+
+pub part-few : (bs : Bytes) → passes bs ≡ true → (o : ℕ) → length (partIn bs o) ≤ particleSize * 256
+unfolding modelPart
+part-few bs q o =
+    let from : ℕ = particleSize * particlesBefore (definitionsIn bs) o in
+    omega (arith, length-take (particleSize * definitionIn (definitionsIn bs) o .particles) (drop from (particlesIn bs)), length-drop from (particlesIn bs), body-few bs q)
 
 pub own-model : (bs : Bytes) {defs parts r : Bytes} (o : ℕ) → defs ≡ definitionsIn bs → parts ≡ particlesIn bs → r ≡ modelPart defs parts o → r ≡ partIn bs o
 own-model bs o d p e = e ∙ ap₂ (λ (a b : Bytes). modelPart a b o) d p
@@ -167,12 +185,12 @@ module _ (bs : Bytes) (pass : passes bs ≡ true) (o : ℕ) (l : o < definitionC
   picked-none w = record { is = absent bs pass o l false place (found-in ∙ w) }
 
   module _ (h : Holder) (p : ℕ) (w : f ≡ At h p) where
-    pub picked-inside : 4 * p ≤ length part
-    picked-inside = omega (arith, present-at bs pass o l false place h p (found-in ∙ w) .inside, ap length own)
+    pub picked-inside : p ≤ 256
+    picked-inside = omega (arith, present-at bs pass o l false place h p (found-in ∙ w) .inside, part-few bs pass o)
 
-    pub picked-there : {r : Picked} → r ≡ pickOf h p (particleOf (readParticle (drop (4 * p) part)) .quantifier) (particleOf (readParticle (drop (4 * p) part)) .what) → Picking bs o place r
+    pub picked-there : {r : Picked} → r ≡ pickOf h p (particleOf (readParticle (drop (particleSize * p) part)) .quantifier) (particleOf (readParticle (drop (particleSize * p) part)) .what) → Picking bs o place r
     picked-there {r} q =
-        let z : r ≡ pickIn bs o h p = q ∙ ap (λ (s : Bytes). pickOf h p (particleOf (readParticle (drop (4 * p) s)) .quantifier) (particleOf (readParticle (drop (4 * p) s)) .what)) own in
+        let z : r ≡ pickIn bs o h p = q ∙ ap (λ (s : Bytes). pickOf h p (particleOf (readParticle (drop (particleSize * p) s)) .quantifier) (particleOf (readParticle (drop (particleSize * p) s)) .what)) own in
         record { is = subst (λ (y : Picked). Picks bs o place y) (sym z) (picks-there (present-at bs pass o l false place h p (found-in ∙ w))) }
 
 module _ {bs : Bytes} {o : ℕ} {place : List ℕ} {r : Picked} (x : Picking bs o place r) where

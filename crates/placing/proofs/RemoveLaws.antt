@@ -17,7 +17,9 @@ use Rattle.rules.specs.declared.GroupKind.the-variants.{Sequence, Choice}
 use Rattle.rules.specs.Bytes.{Bytes, numbers}
 use Rattle.rules.specs.Model.{Members, done, el, group, rename, isDone, skips, nothing}
 use Rattle.rules.specs.Preorder.{Deep, build}
-use Rattle.rules.specs.Layout.{FlatParticle, howMany}
+use Rattle.rules.specs.Layout.{particleSize, FlatParticle, howMany}
+use Rattle.rules.specs.Passing.{passes}
+use Rattle.layout.specs.Bodies.{windowOf, Product}
 use Rattle.rules.specs.Decode.{readParticle}
 use Rattle.rules.specs.Automaton.{facts}
 use Rattle.rules.specs.Place.{Context, here, past, over, into, renameAround}
@@ -45,7 +47,7 @@ use Rattle.finding.proofs.RefusalLaws.{gives-hit, gives-next, gives-none}
 use Rattle.placing.specs.Placing.{indexIn, modelIn, partIn, foundBy, hasInstance, ElementAt, GroupAt, choiceLeft, Removable, removeTests}
 use Rattle.placing.proofs.TestLaws.{and-off, and-first}
 use Rattle.placing.proofs.PlaceLaws.{found-remove}
-use Rattle.placing.proofs.PickLaws.{around, from-there, one-there, read-there}
+use Rattle.placing.proofs.PickLaws.{around, from-there, one-there, read-there, part-few}
 use Rattle.placing.proofs.InstanceLaws.{instance-is}
 use Rattle.placing.proofs.GroupLaws.{done-many}
 use Rattle.placing.proofs.ContextViews.{Lead, Inner, View, outer, inner, view}
@@ -117,27 +119,26 @@ module _ {bs : Bytes} {o : ℕ} {place : List ℕ} {h : Holder} {p : ℕ} {q : Q
   pub room-here : 4 * p + 4 ≤ length part
   room-here = one-there (x .placed) here-is (spread d left ++ trailing 0 c) from-here
 
-  depth-read : getD (drop (4 * p) part) 3 0 ≡ d
+  depth-read : readParticle (drop (particleSize * p) part) .depth ≡ d
   depth-read = ap (λ (y : Deep FlatParticle). y .depth) (read-there (x .placed) here-is (spread d left ++ trailing 0 c) from-here)
-
-  depth-is : getD part (4 * p + 3) 0 ≡ d
-  depth-is = sym (getD-drop (4 * p) part 3 0) ∙ depth-read
 
   -- the depth of the list that holds it
   held-depth : h .depth ≡ d
   held-depth = ap (λ (g : Holder). g .depth) (sym (x .placed .held)) ∙ depth-holder top 0 c
 
-  members-is : membersFrom d (drop (4 * p) part) ≡ el q (indexIn bs (x .name)) left
-  members-is = ap (λ (z : ℕ). membersFrom z (drop (4 * p) part)) (sym held-depth) ∙ x .placed .picked ∙ chosen-is
+  members-is : membersFrom d (drop (particleSize * p) part) ≡ el q (indexIn bs (x .name)) left
+  members-is = ap (λ (z : ℕ). membersFrom z (drop (particleSize * p) part)) (sym held-depth) ∙ x .placed .picked ∙ chosen-is
 
-  rest-is : membersFrom d (drop (4 * p + 4) part) ≡ left
+  rest-is : membersFrom d (drop (particleSize * (p + 1)) part) ≡ left
   unfolding restOf
   rest-is =
-      ap (membersFrom d) (sym (drop-drop 4 (4 * p) part))
-      ∙ sym (rest-index (readParticle (drop (4 * p) part) .row) (getD (drop (4 * p) part) 0 0) (membersFrom (suc d) (drop 4 (drop (4 * p) part))) (membersFrom d (drop 4 (drop (4 * p) part))))
-      ∙ ap restOf (sym (members-here d (drop (4 * p) part) (omega (arith, room-here, length-drop (4 * p) part)) depth-read) ∙ members-is)
+      let next : particleSize * (p + 1) ≡ particleSize * p + particleSize = omega arith in
+      ap (λ (k : ℕ). membersFrom d (drop k part)) next
+      ∙ ap (membersFrom d) (sym (drop-drop 4 (4 * p) part))
+      ∙ sym (rest-index (readParticle (drop (particleSize * p) part) .row) (readParticle (drop (particleSize * p) part) .row .sort) (membersFrom (suc d) (drop 4 (drop (particleSize * p) part))) (membersFrom d (drop 4 (drop (particleSize * p) part))))
+      ∙ ap restOf (sym (members-here d (drop (particleSize * p) part) (omega (arith, room-here, length-drop (particleSize * p) part)) depth-read) ∙ members-is)
 
-  alone-is : eqb (howMany (membersFrom d (drop (4 * p) part))) 1 ≡ isDone (x .rest)
+  alone-is : eqb (howMany (membersFrom d (drop (particleSize * p) part))) 1 ≡ isDone (x .rest)
   alone-is = ap (λ (t : Members ℕ). eqb (howMany t) 1) members-is ∙ sym (done-many left) ∙ done-rename (indexIn bs) (x .rest)
 
   -- in an inner group
@@ -243,10 +244,10 @@ module _ {bs : Bytes} {o : ℕ} {place : List ℕ} {h : Holder} {p : ℕ} {q : Q
       by (outer f v) = omega (arith, ap (λ (g : Holder). g .start) (sym (x .placed .held) ∙ v .holder top 0))
       by (inner r k f n v) = omega (arith, start-is v, stands-is v)
 
-  pub removable : {s : Bytes} → s ≡ partIn bs o → Removable s h p
-  removable {s} e = subst (λ (z : Bytes). Removable z h p) (sym e) (record { deep = start-inner; later = start-before; there = room-here })
+  pub removable : passes bs ≡ true → {s : Bytes} → s ≡ partIn bs o → Removable s h p
+  removable q {s} e = subst (λ (z : Bytes). Removable z h p) (sym e) (record { deep = start-inner; later = start-before; few = omega (arith, room-here, part-few bs q o) })
 
-  last-test : ((ltb 0 d && eqb p (h .start)) && eqb (howMany (membersFrom d (drop (4 * p) part))) 1) ≡ removeLast (x .placed .found .context) (x .rest)
+  last-test : ((ltb 0 d && eqb p (h .start)) && eqb (howMany (membersFrom d (drop (particleSize * p) part))) 1) ≡ removeLast (x .placed .found .context) (x .rest)
   last-test = ap₂ (λ (a b : Bool). a && b) (opens-is ∙ opens-rename (indexIn bs) false (x .placed .found .context)) alone-is ∙ sym (last-is (x .rest) (x .placed .found .context))
 
   left-test : not (sameKind (h .kind) Sequence || choiceLeft part (h .start) p d) ≡ removeUnmatched (x .placed .found .context) (x .rest)
@@ -276,8 +277,8 @@ module _ (bs : Bytes) (w : Whole bs) (o : ℕ) (place : List ℕ) where
         let e : foundAt remove o place (storeIn bs) ≡ some (x .placed .found) = found-remove o place bs ∙ x .placed .there in
         let tests : first (removeTests (hasInstance bs o) s h p) ≡ first (removeTests (hasInstance bs o) (partIn bs o) h p) = ap (λ (z : Bytes). first (removeTests (hasInstance bs o) z h p)) own in
         let deep : first (removeTests (hasInstance bs o) (partIn bs o) h p)
-        ≡ first (14 if ((ltb 0 (d x) && eqb p (h .start)) && eqb (howMany (membersFrom (d x) (drop (4 * p) (partIn bs o)))) 1) ∷ 15 if (hasInstance bs o && not (sameKind (h .kind) Sequence || choiceLeft (partIn bs o) (h .start) p (d x))) ∷ []) =
-        ap (λ (z : ℕ). first (14 if ((ltb 0 z && eqb p (h .start)) && eqb (howMany (membersFrom z (drop (4 * p) (partIn bs o)))) 1) ∷ 15 if (hasInstance bs o && not (sameKind (h .kind) Sequence || choiceLeft (partIn bs o) (h .start) p z)) ∷ [])) (depth-is x) in
+        ≡ first (14 if ((ltb 0 (d x) && eqb p (h .start)) && eqb (howMany (membersFrom (d x) (drop (particleSize * p) (partIn bs o)))) 1) ∷ 15 if (hasInstance bs o && not (sameKind (h .kind) Sequence || choiceLeft (partIn bs o) (h .start) p (d x))) ∷ []) =
+        ap (λ (z : ℕ). first (14 if ((ltb 0 z && eqb p (h .start)) && eqb (howMany (membersFrom z (drop (particleSize * p) (partIn bs o)))) 1) ∷ 15 if (hasInstance bs o && not (sameKind (h .kind) Sequence || choiceLeft (partIn bs o) (h .start) p z)) ∷ [])) (depth-read x) in
         let last : atPlace (λ c y. removeLast c (tailOf y)) (foundAt remove o place (storeIn bs)) ≡ removeLast (x .placed .found .context) (x .rest) =
         ap (atPlace (λ c y. removeLast c (tailOf y))) e ∙ ap (λ (y : Members Bytes). removeLast (x .placed .found .context) (tailOf y)) (x .is) in
         let unmatched : atPlace (λ c y. removeUnmatched c (tailOf y)) (foundAt remove o place (storeIn bs)) ≡ removeUnmatched (x .placed .found .context) (x .rest) =
@@ -289,24 +290,31 @@ module _ (bs : Bytes) (w : Whole bs) (o : ℕ) (place : List ℕ) where
 pub nothing-read : (d : ℕ) (s : Bytes) {f : Facts} → f ≡ facts numbers Choice (membersFrom d s) 0 0 → f .nothing ≡ nothing Choice (membersFrom d s)
 nothing-read d s e = ap (λ (z : Facts). z .nothing) e ∙ facts-nothing numbers Choice (membersFrom d s) 0 0
 
-pub left-read : (s : Bytes) (start p d : ℕ) {y : Particle} {u v : Bytes} {a b c : Bool} → y ≡ particleOf (readParticle (drop (4 * (start - 1)) s)) → a ≡ skips (y .quantifier) → u ≡ take (4 * (p - start)) (drop (4 * start) s)
-    → b ≡ nothing Choice (membersFrom d u) → v ≡ drop (4 * p + 4) s → c ≡ nothing Choice (membersFrom d v) → ((a || b) || c) ≡ choiceLeft s start p d
-left-read s start p d y e u f v g =
-    λ i.
-    ((e ∙ ap (λ (z : Particle). skips (z .quantifier)) y) i || (f ∙ ap (λ (z : Bytes). nothing Choice (membersFrom d z)) u) i) || (g ∙ ap (λ (z : Bytes). nothing Choice (membersFrom d z)) v) i
+module _ (s : Bytes) (start p d : ℕ) {x : Particle} {i k : Bytes} {a b c : Bool} {w : Bytes} {size long : ℕ} where
+  pub left-read : i ≡ drop (particleSize * (start - 1)) s → x ≡ particleOf (readParticle i) → a ≡ skips (x .quantifier) → size ≡ particleSize → Product size (p - start) long
+      → w ≡ drop (particleSize * start) s → k ≡ windowOf 0 long w → b ≡ nothing Choice (membersFrom d k)
+      → {v : Bytes} → v ≡ drop (particleSize * (p + 1)) s → c ≡ nothing Choice (membersFrom d v) → ((a || b) || c) ≡ choiceLeft s start p d
+  left-read f y e z x l u g v h =
+      let first = e ∙ ap (λ (t : Particle). skips (t .quantifier)) (y ∙ ap (λ (t : Bytes). particleOf (readParticle t)) f) in
+      let span : long ≡ particleSize * (p - start) = x .value ∙ ap (λ (m : ℕ). m * (p - start)) z in
+      let between = g ∙ ap (λ (t : Bytes). nothing Choice (membersFrom d t)) (u ∙ ap₂ (λ (m : ℕ) (t : Bytes). take m t) span l) in
+      λ j. (first j || between j) || (h ∙ ap (λ (t : Bytes). nothing Choice (membersFrom d t)) v) j
 
 or-none : (a b : Bool) → a ≡ false → b ≡ false → (a || b) ≡ false
 or-none true b e f = e
 or-none false b e f = f
 
-module _ (exists : Bool) (s : Bytes) (h : Holder) (p : ℕ) {d : ℕ} {r : Bytes} {n : ℕ} (e : d ≡ getD s (4 * p + 3) 0) (u : r ≡ drop (4 * p) s) (m : n ≡ howMany (membersFrom d r)) where
+module _ (exists : Bool) (s : Bytes) (h : Holder) (p : ℕ) {r : Bytes} {d n : ℕ} (u : r ≡ drop (particleSize * p) s) (at : d ≡ readParticle r .depth) (m : n ≡ howMany (membersFrom d r)) where
   abbrev depth : ℕ
-  depth = getD s (4 * p + 3) 0
+  depth = readParticle (drop (particleSize * p) s) .depth
 
-  many-read : n ≡ howMany (membersFrom depth (drop (4 * p) s))
+  e : d ≡ depth
+  e = at ∙ ap (λ (z : Bytes). readParticle z .depth) u
+
+  many-read : n ≡ howMany (membersFrom depth (drop (particleSize * p) s))
   many-read = m ∙ ap₂ (λ (i : ℕ) (z : Bytes). howMany (membersFrom i z)) e u
 
-  last-read : {v : Bool} → ((ltb 0 d && eqb p (h .start)) && eqb n 1) ≡ v → ((ltb 0 depth && eqb p (h .start)) && eqb (howMany (membersFrom depth (drop (4 * p) s))) 1) ≡ v
+  last-read : {v : Bool} → ((ltb 0 d && eqb p (h .start)) && eqb n 1) ≡ v → ((ltb 0 depth && eqb p (h .start)) && eqb (howMany (membersFrom depth (drop (particleSize * p) s))) 1) ≡ v
   last-read k = ap₂ (λ (i j : ℕ). (ltb 0 i && eqb p (h .start)) && eqb j 1) (sym e) (sym many-read) ∙ k
 
   pub at-14 : ((ltb 0 d && eqb p (h .start)) && eqb n 1) ≡ true → Gives 14 (removeTests exists s h p)

@@ -6,7 +6,7 @@ use mathlib.Core.Bool.{Bool, true, false, _&&_, _||_, not}
 use mathlib.Core.Option.{Option, none, some}
 use mathlib.Core.List.{List, [], _∷_}
 use lib.Dec.{eqb, leb, ltb}
-use lib.ListN.{length, take, drop, getD}
+use lib.ListN.{length, take, drop}
 use Rattle.rules.specs.declared.Quantifier.{Quantifier}
 use Rattle.rules.specs.declared.GroupKind.{GroupKind}
 use Rattle.rules.specs.declared.GroupKind.the-variants.{Sequence, Choice}
@@ -15,7 +15,7 @@ use Rattle.rules.specs.Model.{Members, el, group, rename, skips, nothing}
 use Rattle.rules.specs.Quantifiers.{relaxes, gains, cuts}
 use Rattle.rules.specs.Store.{members}
 use Rattle.rules.specs.Preorder.{Deep}
-use Rattle.rules.specs.Layout.{rowSize, FlatAttribute, FlatRow, indexOf, howMany}
+use Rattle.rules.specs.Layout.{particleSize, rowSize, FlatAttribute, FlatRow, indexOf, howMany}
 use Rattle.rules.specs.Decode.{readParticle, readRow, readMany, definitionCount, rowCount}
 use Rattle.rules.specs.Place.{Found as Spot, gap, nth, find, plug, kindAt, spine, renameAround}
 use Rattle.rules.specs.Edit.{sameKind, lone, firstMembers, hasMembers}
@@ -74,10 +74,10 @@ pub record Placed (bs : Bytes) (o : ℕ) (insert : Bool) (place : List ℕ) (h :
   pub particles : particlesOf (partIn bs o) ≡ spread 0 (plug (renameAround (indexIn bs) (found .context)) (rename (indexIn bs) (found .picked)))
   pub held : holder top 0 (renameAround (indexIn bs) (found .context)) ≡ h
   pub stands : offset (renameAround (indexIn bs) (found .context)) ≡ p
-  pub inside : 4 * p ≤ length (partIn bs o)
+  pub inside : particleSize * p ≤ length (partIn bs o)
   pub kind : h .kind ≡ kindAt Sequence (found .context)
   pub spine : h .spine ≡ spine (found .context)
-  pub picked : membersFrom (h .depth) (drop (4 * p) (partIn bs o)) ≡ rename (indexIn bs) (found .picked)
+  pub picked : membersFrom (h .depth) (drop (particleSize * p) (partIn bs o)) ≡ rename (indexIn bs) (found .picked)
 
 -- ---- what stands there
 abbrev pub pickOf : Holder → ℕ → Quantifier → What → Picked
@@ -140,18 +140,18 @@ requantify true o p q t = changeGroupQuantifier o p q t
 -- an inner CHOICE whose members start at a particle, without the element at particle p of depth d, accepts nothing
 abbrev pub choiceLeft : Bytes → ℕ → ℕ → ℕ → Bool
 choiceLeft part start p d =
-    (skips (particleOf (readParticle (drop (4 * (start - 1)) part)) .quantifier) || nothing Choice (membersFrom d (take (4 * (p - start)) (drop (4 * start) part))))
-    || nothing Choice (membersFrom d (drop (4 * p + 4) part))
+    (skips (particleOf (readParticle (drop (particleSize * (start - 1)) part)) .quantifier) || nothing Choice (membersFrom d (take (particleSize * (p - start)) (drop (particleSize * start) part))))
+    || nothing Choice (membersFrom d (drop (particleSize * (p + 1)) part))
 
 pub record Removable (part : Bytes) (h : Holder) (p : ℕ) : Type 0 where
   pub deep : sameKind (h .kind) Sequence ≡ false → 1 ≤ h .start
   pub later : h .start ≤ p
-  pub there : 4 * p + 4 ≤ length part
+  pub few : p ≤ 256
 
 -- rows 14 and 15 of change 4
 abbrev pub removeTests : Bool → Bytes → Holder → ℕ → List Condition
 removeTests exists part h p =
-    let d : ℕ = getD part (4 * p + 3) 0 in
-    14 if ((ltb 0 d && eqb p (h .start)) && eqb (howMany (membersFrom d (drop (4 * p) part))) 1)
+    let d : ℕ = readParticle (drop (particleSize * p) part) .depth in
+    14 if ((ltb 0 d && eqb p (h .start)) && eqb (howMany (membersFrom d (drop (particleSize * p) part))) 1)
     ∷ 15 if (exists && not (sameKind (h .kind) Sequence || choiceLeft part (h .start) p d))
     ∷ []

@@ -13,7 +13,7 @@ ghost use Rattle.rules.specs.declared.GroupKind.the-variants.{Choice};
 ghost use Rattle.rules.specs.Bytes.{any};
 ghost use Rattle.rules.specs.Model.{nothing};
 ghost use Rattle.rules.specs.Quantifiers.{many, gains, cuts};
-ghost use Rattle.rules.specs.Layout.{howMany};
+ghost use Rattle.rules.specs.Layout.{particleSize, howMany};
 ghost use Rattle.rules.specs.Edit.{sameKind, isOne};
 ghost use Rattle.rules.specs.Decode.{groupOf, readParticle, readAttribute, definitionCount};
 ghost use Rattle.rules.specs.Passing.{passes};
@@ -103,10 +103,10 @@ pub fn own_part(store: &[u8], owner: usize) -> &[u8]
 
 // What stands at particle p of the list h.
 fn pick_at(part: &[u8], h: Holder, p: usize) -> Picked
-    requires { ⌜ 4 * p ≤ length (now part) ⌝ }
-    ensures { λ r. ⌜ r ≡ pickOf h p (particleOf (readParticle (drop (4 * p) (now (part .entry)))) .quantifier) (particleOf (readParticle (drop (4 * p) (now (part .entry)))) .what) ⌝ }
+    requires { ⌜ p ≤ 256 ⌝ }
+    ensures { λ r. ⌜ r ≡ pickOf h p (particleOf (readParticle (drop (particleSize * p) (now (part .entry)))) .quantifier) (particleOf (readParticle (drop (particleSize * p) (now (part .entry)))) .what) ⌝ }
 {
-    let x = model::read_particle(part, 4 * p);
+    let x = model::read_particle(layout::particles_from(part, p), 0);
     let what = x.what;
     let q = x.quantifier;
     match what {
@@ -138,15 +138,16 @@ fn one_if(b: bool) -> usize
 fn count_members(s: &[u8], d: usize) -> usize
     ensures { λ r. ⌜ r ≡ howMany (membersFrom d (now (s .entry))) ⌝ }
 {
+    let size = layout::particle_size();
     let mut t = s;
     let mut n = 0;
-    while t.len() >= 4 {
-        let depth = codec::byte(t, 3) as usize;
+    while t.len() >= size {
+        let depth = layout::particle_depth(t) as usize;
         if depth < d {
             return n;
         }
         n += one_if(depth == d);
-        t = &t[4..];
+        t = &t[size..];
     }
     n
 }
@@ -208,10 +209,10 @@ pub fn group_kind(sort: u32) -> GroupKind
 
 // Refusals 8 and 14 of members from particle p of the list h on that become a group.
 fn convert_at(part: &[u8], h: Holder, p: usize, count: u32, kind: GroupKind) -> u32
-    requires { ⌜ 4 * p ≤ length (now part) ⌝ }
-    ensures { λ r. ⌜ Gives r (convertTests (h .kind) kind count (membersFrom (h .depth) (drop (4 * p) (now (part .entry))))) ⌝ }
+    requires { ⌜ p ≤ 256 ⌝ }
+    ensures { λ r. ⌜ Gives r (convertTests (h .kind) kind count (membersFrom (h .depth) (drop (particleSize * p) (now (part .entry))))) ⌝ }
 {
-    let n = count_members(records::after(part, 4 * p), h.depth);
+    let n = count_members(layout::particles_from(part, p), h.depth);
     let list = h.kind;
     if (count == 0) | (count as usize > n) {
         return 8;
@@ -312,13 +313,17 @@ fn accepts_nothing(s: &[u8], d: usize) -> bool
 
 // Whether the inner CHOICE whose members start at a particle accepts nothing without the element at particle p, of depth d.
 fn choice_left(part: &[u8], start: usize, p: usize, d: usize) -> bool
-    requires { ⌜ (1 ≤ start) × (start ≤ p) × (4 * p + 4 ≤ length (now part)) × (d ≤ 256) ⌝ }
+    requires { ⌜ (1 ≤ start) × (start ≤ p) × (p ≤ 256) × (d ≤ 256) ⌝ }
     ensures { λ r. ⌜ r ≡ choiceLeft (now (part .entry)) start p d ⌝ }
 {
-    let x = model::read_particle(part, 4 * (start - 1));
+    let x = model::read_particle(layout::particles_from(part, start - 1), 0);
     let q = x.quantifier;
-    let before = accepts_nothing(layout::window(part, 4 * start, 4 * (p - start)), d);
-    let after = accepts_nothing(records::after(part, 4 * p + 4), d);
+    let long = layout::times(layout::particle_size(), p - start);
+    let before = accepts_nothing(
+        layout::window(layout::particles_from(part, start), 0, long),
+        d,
+    );
+    let after = accepts_nothing(layout::particles_from(part, p + 1), d);
     (model::skips(q) | before) | after
 }
 
@@ -327,8 +332,9 @@ fn remove_at(store: &[u8], owner: u32, part: &[u8], h: Holder, p: usize) -> u32
     requires { ⌜ Removable (now part) h p ⌝ }
     ensures { λ r. ⌜ Gives r (removeTests (hasInstance (now (store .entry)) owner) (now (part .entry)) h p) ⌝ }
 {
-    let d = codec::byte(part, 4 * p + 3) as usize;
-    let n = count_members(records::after(part, 4 * p), d);
+    let from = layout::particles_from(part, p);
+    let d = layout::particle_depth(from) as usize;
+    let n = count_members(from, d);
     if (d > 0) & (p == h.start) & (n == 1) {
         return 14;
     }

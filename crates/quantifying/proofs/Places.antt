@@ -65,7 +65,7 @@ module _ {bs : Bytes} {o : ℕ} {p : List ℕ} {e : Edit Bytes} (x : Fits bs o p
     stands : Stands (partIn bs o) h n
     stands =
         let deep : level 0 (around placed-there) ≤ offset (around placed-there) = omega (arith, level-before 0 (around placed-there)) in
-        record { inside = one-there placed-there y ys from; short = omega (arith, own-length bs o, own-inside bs (x .good) o (x .there), encoded bs (x .good) .particles, encoded bs (x .good) .fewParticles); deep = omega (arith, level-there, placed-there .stands) }
+        record { inside = omega (arith, one-there placed-there y ys from); short = omega (arith, own-length bs o, own-inside bs (x .good) o (x .there), encoded bs (x .good) .particles, encoded bs (x .good) .fewParticles); deep = omega (arith, level-there, placed-there .stands) }
 
     -- its number among all particles
     number-low : startIn bs o + n + 1 ≤ 256

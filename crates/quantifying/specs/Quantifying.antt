@@ -2,10 +2,11 @@
 -- Assumes nothing.
 use Prim.Native.Nat.{ℕ, _+_, _*_, _≤_}
 use mathlib.Core.Bool.{false, _&&_}
-use lib.ListN.{length, drop, getD}
+use lib.ListN.{length, drop}
 use Rattle.rules.specs.declared.Quantifier.{Quantifier}
 use Rattle.rules.specs.Bytes.{Bytes}
 use Rattle.rules.specs.Quantifiers.{gains, cuts}
+use Rattle.rules.specs.Layout.{particleSize}
 use Rattle.rules.specs.Decode.{readParticle}
 use Rattle.model.specs.declared.Particle.{Particle}
 use Rattle.model.specs.declared.place.Holder.{Holder}
@@ -19,22 +20,26 @@ use Rattle.marking.specs.Marking.{marksAt}
 
 -- particle p of a part
 abbrev pub particleAt : Bytes → ℕ → Particle
-particleAt part p = particleOf (readParticle (drop (4 * p) part))
+particleAt part p = particleOf (readParticle (drop (particleSize * p) part))
+
+-- the index that stands in it
+abbrev pub indexAt : Bytes → ℕ → ℕ
+indexAt part p = readParticle (drop (particleSize * p) part) .row .index
 
 -- it is there, in the list h
 pub record Stands (part : Bytes) (h : Holder) (p : ℕ) : Type 0 where
-  pub inside : 4 * p + 4 ≤ length part
+  pub inside : particleSize * (p + 1) ≤ length part
   pub short : length part ≤ 1024
   pub deep : h .depth ≤ p
 
 -- how many particles a group at particle p has, with its own
 abbrev pub groupSpan : Bytes → Holder → ℕ → ℕ
-groupSpan part h p = 1 + spanOf (h .depth) (particlesOf (drop (4 * p + 4) part))
+groupSpan part h p = 1 + spanOf (h .depth) (particlesOf (drop (particleSize * (p + 1)) part))
 
 -- 5: the element at particle p gets the quantifier `new`
 unfoldable pub elementPlan : ℕ → Bytes → Holder → ℕ → Quantifier → Plan
 elementPlan o part h p new =
-    requantifyPlan o (marksAt 1 p part) (h .spine && cuts (particleAt part p .quantifier) new) (getD part (4 * p + 2) 0) (h .spine && gains (particleAt part p .quantifier) new) (Definition (getD part (4 * p + 2) 0))
+    requantifyPlan o (marksAt 1 p part) (h .spine && cuts (particleAt part p .quantifier) new) (indexAt part p) (h .spine && gains (particleAt part p .quantifier) new) (Definition (indexAt part p))
 
 -- 8: the group there; `before` particles stand before the part
 unfoldable pub groupPlan : ℕ → ℕ → Bytes → Holder → ℕ → Quantifier → Plan

@@ -22,9 +22,10 @@ fn element_plan(part: &[u8], owner: usize, h: Holder, p: usize, new: Quantifier)
     requires { ⌜ Stands (now part) h p ⌝ }
     ensures { λ r. ⌜ r ≡ elementPlan owner (now (part .entry)) h p new ⌝ }
 {
-    let x = model::read_particle(part, 4 * p);
+    let from = layout::particles_from(part, p);
+    let x = model::read_particle(from, 0);
     let old = x.quantifier;
-    let index = codec::byte(part, 4 * p + 2) as usize;
+    let index = layout::particle_index(from) as usize;
     let cut = h.spine & placing::cuts(old, new);
     let gain = h.spine & placing::gains(old, new);
     let marks = marking::marks(part, p, 1);
@@ -36,7 +37,7 @@ fn group_span(part: &[u8], h: Holder, p: usize) -> usize
     requires { ⌜ Stands (now part) h p ⌝ }
     ensures { λ r. ⌜ (r ≡ groupSpan (now (part .entry)) h p) × (r ≤ 257) ⌝ }
 {
-    1 + model::place::span(records::after(part, 4 * p + 4), h.depth)
+    1 + model::place::span(layout::particles_from(part, p + 1), h.depth)
 }
 
 // The plan of change 8 for the group at particle p of the list h in the owner's part.
@@ -44,7 +45,7 @@ fn group_plan(store: &[u8], part: &[u8], owner: usize, h: Holder, p: usize, new:
     requires { ⌜ Stands (now part) h p × (owner ≤ 256) ⌝ }
     ensures { λ r. ⌜ r ≡ groupPlan (startIn (now (store .entry)) owner) owner (now (part .entry)) h p new ⌝ }
 {
-    let x = model::read_particle(part, 4 * p);
+    let x = model::read_particle(layout::particles_from(part, p), 0);
     let old = x.quantifier;
     let what = x.what;
     let gain = h.spine & placing::gains(old, new);

@@ -19,13 +19,13 @@ use Rattle.lookup.specs.Bodies.{bodiesOf}
 use Rattle.layout.specs.Bodies.{widthOf, WidthIn}
 use Rattle.layout.specs.Header.{headed}
 use Rattle.rows.specs.declared.Cursor.{Cursor}
-use Rattle.rows.specs.Written.{newIn, numbered, rowsBytes, Fitted, Written}
-use Rattle.rows.proofs.WrittenLaws.{written-all, written-full, written-fitting, length-numbered}
+use Rattle.rows.specs.Written.{newIn, numbered, rowsBytes, Written}
+use Rattle.rows.proofs.WrittenLaws.{written-fitting, length-numbered}
 use Rattle.editing.specs.declared.Plan.{Plan}
 use Rattle.storing.specs.Stores.{limited}
 use Rattle.storing.specs.Planned.{rowsAfter, plannedIn}
 use Rattle.storing.specs.Forms.{formIn, Forms}
-use Rattle.storing.specs.Writing.{walkFrom}
+use Rattle.storing.specs.Writing.{walkFrom, Counted}
 use Rattle.storing.proofs.StoreLaws.{Holds, width-of-bodies}
 use Rattle.storing.proofs.LimitLaws.{answers-refused, answers-wrote, limited-ceiling, limited-serials, limited-buffer, limited-none}
 use Rattle.storing.proofs.FormBytesLaws.{reformed, whole, ceilings-rows, reformed-length, reformed-bytes}
@@ -79,23 +79,23 @@ module _ {bs : Bytes} (h : Holds bs) {form : Bytes} {d p a : ℕ} (x : Forms (wi
       ∙ reformed-bytes x f next (numbered (f .next) xs) (whole h)
       ∙ ap (λ (n : ℕ). (headed (widthOf bs) next d p a n bs ++ form) ++ each (rowBytes (widthOf bs)) (numbered (f .next) xs)) (length-numbered (f .next) xs)
 
-  -- ---- the walk was counted, to r
-  module _ {at : ℕ} {r : Cursor} {small small′ : Bytes} (out : Bytes) (w : Written (widthOf bs) xs (walkFrom at bs) small r small′) where
+  -- ---- the rows were counted, to r
+  module _ {r : Cursor} (out : Bytes) (w : Counted xs (numberAt 4 4 bs) r) where
     pub edit-ceiling : r .left ≡ 0 → Answers (limited (length out) after) out 16 0 out
-    edit-ceiling e = answers-refused 16 (limited-ceiling (length out) after (ceilings ∙ lt-leb (length xs) 4096 (written-full w e)))
+    edit-ceiling e = answers-refused 16 (limited-ceiling (length out) after (ceilings ∙ lt-leb (length xs) 4096 (omega (arith, w .left))))
 
     module _ (more : r .left ≡ 0 → ⊥) where
-      all : (4097 ≡ r .left + length xs) × Fitted (widthOf bs) xs (walkFrom at bs) small r small′
-      all = written-all w more
+      all : 4097 ≡ r .left + length xs
+      all = omega (arith, w .left)
 
       few : withinCeilings after ≡ true
-      few = ceilings ∙ le-leb (length xs) 4096 (omega (arith, all .0))
+      few = ceilings ∙ le-leb (length xs) 4096 (omega (arith, all))
 
       next-is : r .serial ≡ next
-      next-is = all .1 .serial ∙ ap (λ (n : ℕ). n + newIn xs) (sym (next-of bs))
+      next-is = w .serial (omega (arith, all)) ∙ ap (λ (n : ℕ). n + newIn xs) (sym (next-of bs))
 
       count-is : 4097 - r .left ≡ length xs
-      count-is = omega (arith, all .0)
+      count-is = omega (arith, all)
 
       pub edit-serials : highestNumber < r .serial → Answers (limited (length out) after) out 17 0 out
       edit-serials e = answers-refused 17 (limited-serials (length out) after few (omega (arith, next-after, next-is)))
@@ -112,5 +112,5 @@ module _ {bs : Bytes} (h : Holds bs) {form : Bytes} {d p a : ℕ} (x : Forms (wi
             → Written (widthOf bs) xs (walkFrom at′ bs) out₁ r′ out′ → Answers (limited (length out) after) out 0 (r′ .at) out′
         edit-written e v laid w′ =
             answers-wrote (limited-none (length out) after few (omega (arith, next-after, next-is)) (omega (arith, size, rows-are)))
-            (laid-as (bytes ∙ (λ i. (headed (sym (v .value) i) (sym next-is i) d p a (sym count-is i) bs ++ form) ++ rowsBytes (widthOf bs) (next-of bs i) xs)) (laid-then laid (written-fitting w′ (omega (arith, all .0)))))
+            (laid-as (bytes ∙ (λ i. (headed (sym (v .value) i) (sym next-is i) d p a (sym count-is i) bs ++ form) ++ rowsBytes (widthOf bs) (next-of bs i) xs)) (laid-then laid (written-fitting w′ (omega (arith, all)))))
             (omega (arith, size, rows-are))

@@ -6,4 +6,5 @@ pub mod FormLaws
 pub mod RowBounds
 pub mod PartLaws
 pub mod WalkLaws
+pub mod StillLaws
 pub mod EditLaws

@@ -1,11 +1,19 @@
 -- What is written of a store: how large its header's numbers are, and from where the walk writes.
 -- Assumes nothing.
-use Prim.Native.Nat.{ℕ, _<_, _≤_}
+use Prim.Native.Nat.{ℕ, _+_, _-_, _<_, _≤_}
+use mathlib.Core.Path.{_≡_}
+use mathlib.Core.Bool.{Bool, true, false}
+use mathlib.Core.List.{List}
 use lib.ListN.{length}
 use Rattle.rules.specs.Bytes.{Bytes}
+use Rattle.rules.specs.Preorder.{Deep}
+use Rattle.rules.specs.Layout.{FlatRow}
 use Rattle.rules.specs.Decode.{numberAt}
 use Rattle.rows.specs.declared.Cursor.{Cursor}
+use Rattle.rows.specs.Written.{newIn}
 use Rattle.filling.specs.Parts.{Indexed}
+use Rattle.editing.specs.declared.Which.{Which}
+use Rattle.editing.specs.declared.Which.the-variants.{Nothing, Everything, Ground, Elements, Attributes, Serial}
 use Rattle.editing.specs.declared.Plan.{Plan}
 use Rattle.editing.specs.Step.{Planned}
 
@@ -27,3 +35,17 @@ walkFrom at bs = record { at = at; left = 4097; serial = numberAt 4 4 bs }
 pub record Sized (p : Plan) : Type 0 where
   pub moves : Planned p
   pub filling : Indexed (p .filling)
+
+-- the rows xs were counted, the new ones with serials from `next` on: as a walk counts, which says nothing of serials past its last row
+pub record Counted (xs : List (Deep FlatRow)) (next : ℕ) (r : Cursor) : Type 0 where
+  pub left : r .left ≡ 4097 - length xs
+  pub serial : length xs ≤ 4097 → r .serial ≡ next + newIn xs
+
+-- the rows that a plan takes are none
+abbrev pub isNothing : Which → Bool
+isNothing Nothing = true
+isNothing Everything = false
+isNothing Ground = false
+isNothing (Elements i) = false
+isNothing (Attributes j) = false
+isNothing (Serial k) = false

@@ -1,11 +1,13 @@
 // The store that a change leaves, written whole: the ceilings, the serials and the room first, then header, bodies and rows.
 use editing::Plan;
+use editing::Which;
 use rows::Cursor;
 ghost use mathlib.Core.Path.{_≡_};
 ghost use mathlib.Core.Bool.{true};
 ghost use mathlib.Core.List.{_++_};
 ghost use Prim.Native.Nat.{_<_};
 ghost use lib.ListN.{length};
+ghost use Rattle.rules.specs.Decode.{numberAt};
 ghost use Rattle.rules.specs.Passing.{passes};
 ghost use Rattle.rules.specs.WellFormed.{isValue};
 ghost use Rattle.rules.specs.Outcome.{Answers};
@@ -17,7 +19,7 @@ ghost use Rattle.rows.specs.Written.{Written, Room};
 ghost use Rattle.storing.specs.Stores.{limited};
 ghost use Rattle.storing.specs.Planned.{rowsAfter, planned, plannedIn};
 ghost use Rattle.storing.specs.Forms.{formIn, Forms};
-ghost use Rattle.storing.specs.Writing.{Heads, walkFrom, Sized};
+ghost use Rattle.storing.specs.Writing.{Heads, walkFrom, Sized, isNothing, Counted};
 
 /// 0 and the length of what was written, or the number of a refusal and 0.
 #[repr(C)]
@@ -87,8 +89,41 @@ pub fn walk_rows(store: &[u8], plan: Plan, text: &[u8], at: usize, out: &mut [u8
     )
 }
 
-/// The store after a plan and with another form: `form` holds the bytes of its d definitions, p particles and a attributes. A
-/// first walk into a buffer of one byte counts the rows.
+// Whether no row is one of them.
+fn is_nothing(w: Which) -> bool
+    ensures { λ r. ⌜ r ≡ isNothing w ⌝ }
+{
+    match w {
+        Which::Nothing => true,
+        Which::Everything => false,
+        Which::Ground => false,
+        Which::Elements(_) => false,
+        Which::Attributes(_) => false,
+        Which::Serial(_) => false,
+    }
+}
+
+// How many rows may still come after those of a plan, and the serial after theirs. A plan that takes no row and fills none in leaves
+// the numbers of the header; else a first walk into a buffer of one byte counts.
+fn count_after(store: &[u8], plan: Plan, text: &[u8]) -> Cursor
+    requires { ⌜ (passes (now store) ≡ true) × (isValue (widthOf (now store)) (now text) ≡ true) × Sized plan ⌝ }
+    ensures { λ r. ⌜ Counted (rowsAfter plan (now (text .entry)) (bodiesOf (now (store .entry)))) (numberAt 4 4 (now (store .entry))) r ⌝ }
+{
+    let takes = plan.takes;
+    if is_nothing(takes) & !plan.fills {
+        let count = layout::row_count(store);
+        return Cursor {
+            at: 0,
+            left: MOST_ROWS - count,
+            serial: layout::next_serial(store),
+        };
+    }
+    let mut clipped = [0; 1];
+    walk_rows(store, plan, text, 0, &mut clipped)
+}
+
+/// The store after a plan and with another form: `form` holds the bytes of its d definitions, p particles and a attributes. The rows
+/// are counted before any is written.
 pub fn edit_form(
     store: &[u8],
     form: &[u8],
@@ -102,8 +137,7 @@ pub fn edit_form(
     requires { ⌜ (passes (now store) ≡ true) × (isValue (widthOf (now store)) (now text) ≡ true) × Sized plan × Forms (widthOf (now store)) (now form) d p a ⌝ }
     ensures { λ r. ⌜ Answers (limited (length (now (out .entry))) (plannedIn (formIn (widthOf (now (store .entry))) (now (form .entry)) d p a) plan (now (text .entry)) (bodiesOf (now (store .entry))))) (now (out .entry)) (r .number) (r .length) (now (out .exit)) ⌝ }
 {
-    let mut clipped = [0; 1];
-    let counted = walk_rows(store, plan, text, 0, &mut clipped);
+    let counted = count_after(store, plan, text);
     if counted.left == 0 {
         return refused(16);
     }

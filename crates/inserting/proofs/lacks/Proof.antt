@@ -7,7 +7,6 @@ use Prim.Native.Nat.{_-_}
 use lib.Dec.{eqb}
 use lib.ListN.{length, drop, length-take, length-drop}
 use Rattle.rules.specs.Bytes.{all}
-use Rattle.rules.specs.Layout.{particleSize}
 use Rattle.circles.specs.Members.{elementsOf}
 use Rattle.circles.proofs.MemberLaws.{settle-on, settle-no, settle-ends}
 use Rattle.inserting.proofs.ModelLaws.{other-first}
@@ -16,29 +15,32 @@ use Rattle.inserting.proofs.lacks.Tie as tie
 
 -- whether the model lacks i is whether the particles that are left do
 abbrev Inv-loop : tie.InvT-loop
-Inv-loop part i t₀ t = all (λ j. not (eqb i j)) (elementsOf part) ≡ all (λ j. not (eqb i j)) (elementsOf t)
+Inv-loop part i size t₀ t = all (λ j. not (eqb i j)) (elementsOf part) ≡ all (λ j. not (eqb i j)) (elementsOf t)
 
 abbrev μ-loop : tie.MeasureT-loop
-μ-loop part i t₀ t = length t
+μ-loop part i size t₀ t = length t
+
+particle-size-requires : tie.Need-particle-size-requires Inv-loop μ-loop
+particle-size-requires c κs = search needs
 
 loop-holds : tie.Need-loop-holds Inv-loop μ-loop
 loop-holds c = refl
 
-byte-requires : tie.Need-byte-requires Inv-loop μ-loop
-byte-requires c κs = search needs
+particle-sort-requires : tie.Need-particle-sort-requires Inv-loop μ-loop
+particle-sort-requires c κs = search needs
 
-byte-requires-2 : tie.Need-byte-requires-2 Inv-loop μ-loop
-byte-requires-2 c κs = search needs
+particle-index-requires : tie.Need-particle-index-requires Inv-loop μ-loop
+particle-index-requires c κs = search needs
 
 cast-if1 : tie.Need-cast-if1 Inv-loop μ-loop
 cast-if1 c = search needs
 
 returns : tie.Need-returns Inv-loop μ-loop
 returns c =
-    let at-loop = c .before .before .before .before in
-    let i = at-loop .before .before .args .i in
-    settle-no (λ j. not (eqb i j)) _ (at-loop .loop .t .now) particleSize refl (at-loop .loop .inv) (omega arith) _
-    (other-first (at-loop .loop .t .now) i (c .before .before .byte .ensures) (c .before .byte2 .ensures)) (ap not (c .if1 .taken))
+    let l = c .before .before .before .before in
+    let i = l .before .before .before .args .i in
+    settle-no (λ j. not (eqb i j)) _ (l .loop .t .now) _ (l .before .particle-size .ensures) (l .loop .inv) (omega arith) _
+    (other-first (l .loop .t .now) i (c .before .before .particle-sort .ensures) (c .before .particle-index .ensures)) (ap not (c .if1 .taken))
 
 sub-t : tie.Need-sub-t Inv-loop μ-loop
 sub-t c = search needs
@@ -50,17 +52,22 @@ part-t-end : tie.Need-part-t-end Inv-loop μ-loop
 part-t-end c = search needs
 
 loop-less : tie.Need-loop-less Inv-loop μ-loop
-loop-less c = omega (arith, length-take (length (c .before .before .before .before .before .loop .t .now) - 4) (drop 4 (c .before .before .before .before .before .loop .t .now)), length-drop 4 (c .before .before .before .before .before .loop .t .now))
+loop-less c =
+    let l = c .before .before .before .before .before in
+    let size = l .before .particle-size .result in
+    omega (arith, l .before .particle-size .ensures, length-take (length (l .loop .t .now) - size) (drop size (l .loop .t .now)), length-drop size (l .loop .t .now))
 
 loop-again : tie.Need-loop-again Inv-loop μ-loop
 loop-again c =
-    let at-loop = c .before .before .before .before .before in
-    let i = at-loop .before .before .args .i in
-    settle-on (λ j. not (eqb i j)) _ (at-loop .loop .t .now) particleSize refl (at-loop .loop .inv) (omega arith) _
-    (other-first (at-loop .loop .t .now) i (c .before .before .before .byte .ensures) (c .before .before .byte2 .ensures)) (ap not (c .before .if1 .left))
+    let l = c .before .before .before .before .before in
+    let i = l .before .before .before .args .i in
+    settle-on (λ j. not (eqb i j)) _ (l .loop .t .now) _ (l .before .particle-size .ensures) (l .loop .inv) (omega arith) _
+    (other-first (l .loop .t .now) i (c .before .before .before .particle-sort .ensures) (c .before .before .particle-index .ensures)) (ap not (c .before .if1 .left))
 
 returns-2 : tie.Need-returns-2 Inv-loop μ-loop
-returns-2 c = settle-ends (λ j. not (eqb (c .before .before .before .args .i) j)) _ (c .before .loop .t .now) particleSize refl (c .before .loop .inv) (omega arith)
+returns-2 c =
+    let l = c .before in
+    settle-ends (λ j. not (eqb (l .before .before .before .args .i) j)) _ (l .loop .t .now) _ (l .before .particle-size .ensures) (l .loop .inv) (omega arith)
 
 pub lacks-spec : {M : Type 1} → statement M
 lacks-spec =
@@ -68,9 +75,10 @@ lacks-spec =
     (tie.spec
     Inv-loop
     μ-loop
+    particle-size-requires
     loop-holds
-    byte-requires
-    byte-requires-2
+    particle-sort-requires
+    particle-index-requires
     cast-if1
     returns
     sub-t

@@ -5,11 +5,11 @@ use mathlib.Core.Path.{refl}
 use Rattle.marking.proofs.mark_first.Statement.{statement}
 use Rattle.marking.proofs.mark_first.Tie as tie
 
-byte-requires : tie.Need-byte-requires
-byte-requires c κs = search needs
+particle-sort-requires : tie.Need-particle-sort-requires
+particle-sort-requires c κs = search needs
 
-byte-requires-2 : tie.Need-byte-requires-2
-byte-requires-2 c κs = search needs
+particle-index-requires : tie.Need-particle-index-requires
+particle-index-requires c κs = search needs
 
 cast-i : tie.Need-cast-i
 cast-i c = search needs
@@ -23,14 +23,14 @@ same-length c = search needs
 returns : tie.Need-returns
 returns c =
     let a = c .before .before .before .before .before .before .before .before .before .args in
-    first-element (a .value) (a .particles .now) (a .marks .now) (c .before .before .before .before .before .before .byte .ensures) (c .before .before .before .before .before .if1 .taken) (c .before .before .before .before .byte2 .ensures) refl (c .before .before .store .ensures)
+    first-element (a .value) (a .particles .now) (a .marks .now) (c .before .before .before .before .before .before .particle-sort .ensures) (c .before .before .before .before .before .if1 .taken) (c .before .before .before .before .particle-index .ensures) refl (c .before .before .store .ensures)
 
 returns-2 : tie.Need-returns-2
 returns-2 c =
     let a = c .before .before .before .before .args in
-    first-group (a .value) (a .particles .now) (a .marks .now) (c .before .byte .ensures) (c .if1 .left)
+    first-group (a .value) (a .particles .now) (a .marks .now) (c .before .particle-sort .ensures) (c .if1 .left)
 
 pub mark-first-spec : {M : Type 1} → statement M
 mark-first-spec =
     tie.close
-    (tie.spec byte-requires byte-requires-2 cast-i store-requires same-length returns returns-2)
+    (tie.spec particle-sort-requires particle-index-requires cast-i store-requires same-length returns returns-2)

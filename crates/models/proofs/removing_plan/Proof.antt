@@ -1,9 +1,8 @@
 -- `models::removing_plan` meets its contract.
 use mathlib.Core.Path.{ap, _∙_}
-use mathlib.Core.List.{List}
-use lib.ListN.{getD}
-use Prim.Native.Nat.{ℕ, _*_}
-use Rattle.layout.proofs.LayoutLaws.{get-after}
+use Prim.Native.Nat.{ℕ}
+use Rattle.rules.specs.Bytes.{Bytes}
+use Rattle.rules.specs.Decode.{readParticle}
 use Rattle.plans.specs.ModelCalls.{removeElementPlan}
 use borrow.Author.Needs.{needs}
 use Rattle.models.proofs.removing_plan.Statement.{statement}
@@ -28,7 +27,7 @@ returns c =
     let start = at-particles-from .before .before in
     let a = start .args in
     c .taking-plan .ensures ∙ ap (λ (i : ℕ). removeElementPlan (a .owner) i)
-    (at-particle-index .particle-index .ensures ∙ ap (λ (s : List ℕ). getD s 2 0) (at-particles-from .particles-from .ensures) ∙ get-after (4 * a .p) 2 (a .part .now))
+    (at-particle-index .particle-index .ensures ∙ ap (λ (s : Bytes). readParticle s .row .index) (at-particles-from .particles-from .ensures))
 
 pub removing-plan-spec : {M : Type 1} → statement M
 removing-plan-spec =

@@ -9,28 +9,36 @@ use Rattle.placing.proofs.count_members.Statement.{statement}
 use Rattle.placing.proofs.count_members.Tie as tie
 
 abbrev Inv-loop : tie.InvT-loop
-Inv-loop s d t₀ n₀ t n = Counting (howMany (membersFrom d s)) (length s) d t n
+Inv-loop s d size t₀ n₀ t n = Counting (howMany (membersFrom d s)) (length s) d t n
 
 abbrev μ-loop : tie.MeasureT-loop
-μ-loop s d t₀ n₀ t n = length t
+μ-loop s d size t₀ n₀ t n = length t
+
+particle-size-requires : tie.Need-particle-size-requires Inv-loop μ-loop
+particle-size-requires c κs = search needs
 
 loop-holds : tie.Need-loop-holds Inv-loop μ-loop
 loop-holds c = counting-all _ _
 
-byte-requires : tie.Need-byte-requires Inv-loop μ-loop
-byte-requires c κs = search needs
+particle-depth-requires : tie.Need-particle-depth-requires Inv-loop μ-loop
+particle-depth-requires c κs = search needs
 
 cast-depth : tie.Need-cast-depth Inv-loop μ-loop
 cast-depth c = search needs
 
 returns : tie.Need-returns Inv-loop μ-loop
-returns c = let l = c .before .before .before .loop in counting-stop _ _ _ (l .t .now) _ (l .inv) (c .before .byte .result) (omega arith) (c .before .byte .ensures) (omega arith)
+returns c =
+    let l = c .before .before .before in
+    counting-stop _ _ _ (l .loop .t .now) _ (l .loop .inv) (c .before .particle-depth .result) (omega (arith, l .before .particle-size .ensures)) (c .before .particle-depth .ensures) (omega arith)
 
 one-if-requires : tie.Need-one-if-requires Inv-loop μ-loop
 one-if-requires c κs = search needs
 
 add-n : tie.Need-add-n Inv-loop μ-loop
-add-n c = let l = c .before .before .before .before .loop in omega (arith, counting-small _ _ _ (l .t .now) _ (l .inv) (c .before .before .byte .result) (omega arith) (c .before .before .byte .ensures) (c .one-if .ensures))
+add-n c =
+    let l = c .before .before .before .before in
+    let read = c .before .before .particle-depth in
+    omega (arith, counting-small _ _ _ (l .loop .t .now) _ (l .loop .inv) (read .result) (omega (arith, l .before .particle-size .ensures)) (read .ensures) (c .one-if .ensures))
 
 sub-t : tie.Need-sub-t Inv-loop μ-loop
 sub-t c = search needs
@@ -42,13 +50,20 @@ part-t-end : tie.Need-part-t-end Inv-loop μ-loop
 part-t-end c = search needs
 
 loop-less : tie.Need-loop-less Inv-loop μ-loop
-loop-less c = let t = c .before .before .before .before .before .loop .t .now in omega (arith, length-take (length t - 4) (drop 4 t), length-drop 4 t)
+loop-less c =
+    let l = c .before .before .before .before .before in
+    let size = l .before .particle-size .result in
+    omega (arith, l .before .particle-size .ensures, length-take (length (l .loop .t .now) - size) (drop size (l .loop .t .now)), length-drop size (l .loop .t .now))
 
 loop-again : tie.Need-loop-again Inv-loop μ-loop
-loop-again c = let l = c .before .before .before .before .before .loop in counting-on _ _ _ (l .t .now) _ (l .inv) (c .before .before .before .byte .result) (omega arith) (c .before .before .before .byte .ensures) (omega arith) (c .before .one-if .ensures)
+loop-again c =
+    let l = c .before .before .before .before .before in
+    let read = c .before .before .before .particle-depth in
+    let z = l .before .particle-size .ensures in
+    counting-on _ _ _ (l .loop .t .now) _ (l .loop .inv) (read .result) (omega (arith, z)) (read .ensures) (omega arith) (c .before .one-if .ensures) z
 
 returns-2 : tie.Need-returns-2 Inv-loop μ-loop
-returns-2 c = let l = c .before .loop in counting-few _ _ _ (l .t .now) _ (l .inv) (omega arith)
+returns-2 c = let l = c .before in counting-few _ _ _ (l .loop .t .now) _ (l .loop .inv) (omega (arith, l .before .particle-size .ensures))
 
 pub count-members-spec : {M : Type 1} → statement M
 count-members-spec =
@@ -56,8 +71,9 @@ count-members-spec =
     (tie.spec
     Inv-loop
     μ-loop
+    particle-size-requires
     loop-holds
-    byte-requires
+    particle-depth-requires
     cast-depth
     returns
     one-if-requires

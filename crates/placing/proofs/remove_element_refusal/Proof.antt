@@ -23,7 +23,7 @@ enum-known-x : tie.Need-enum-known-x
 enum-known-x c = search needs
 
 remove-at-requires : tie.Need-remove-at-requires
-remove-at-requires c κs = removable (as-element (c .before .before .before .pick .ensures) (c .before .x .given .1)) (c .before .before .before .before .own-part .ensures)
+remove-at-requires c κs = removable (as-element (c .before .before .before .pick .ensures) (c .before .x .given .1)) (c .before .before .before .before .before .before .before .before .before .pre) (c .before .before .before .before .own-part .ensures)
 
 enum-told : tie.Need-enum-told
 enum-told c = search needs

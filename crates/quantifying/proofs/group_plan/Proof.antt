@@ -5,6 +5,7 @@ use borrow.Author.Needs.{needs}
 use Rattle.quantifying.proofs.group_plan.Statement.{statement}
 use Rattle.quantifying.proofs.group_plan.Tie as tie
 use Rattle.marking.proofs.marks.Reads as marks-reads
+use Rattle.layout.proofs.particles_from.Reads as particles-from-reads
 use Rattle.model.proofs.read_particle.Reads as read-particle-reads
 use Rattle.placing.proofs.gains.Reads as gains-reads
 use Rattle.plans.proofs.requantify_plan.Reads as requantify-plan-reads
@@ -13,8 +14,8 @@ use Rattle.model.proofs.automaton.kind_in.Reads as kind-in-reads
 use Rattle.rowpass.proofs.particles_before.Reads as particles-before-reads
 use Rattle.layout.proofs.definitions_of.Reads as definitions-of-reads
 
-mul-read-particle : tie.Need-mul-read-particle
-mul-read-particle c = search needs
+particles-from-requires : tie.Need-particles-from-requires
+particles-from-requires c κs = search needs
 
 read-particle-requires : tie.Need-read-particle-requires
 read-particle-requires c κs = search needs
@@ -37,26 +38,33 @@ marks-requires c κs = search needs
 kind-in-requires : tie.Need-kind-in-requires
 kind-in-requires c κs = search needs
 
-add-t14 : tie.Need-add-t14
-add-t14 c = search needs
-
-add-t18 : tie.Need-add-t18
-add-t18 c = search needs
+add-t17 : tie.Need-add-t17
+add-t17 c = search needs
 
 add-t19 : tie.Need-add-t19
 add-t19 c = search needs
+
+add-t20 : tie.Need-add-t20
+add-t20 c = search needs
 
 requantify-plan-requires : tie.Need-requantify-plan-requires
 requantify-plan-requires c κs = search needs
 
 returns : tie.Need-returns
-returns c = group-planned (c .before .before .before .before .before .before .before .before .before .before .before .before .args .store .now) (c .before .before .before .before .before .before .before .before .before .before .before .before .args .part .now) (c .before .before .before .before .before .before .before .before .before .before .before .before .args .owner) (c .before .before .before .before .before .before .before .before .before .before .before .before .args .h) (c .before .before .before .before .before .before .before .before .before .before .before .before .args .p) (c .before .before .before .before .before .before .before .before .before .before .before .before .args .new) (c .before .before .before .before .before .before .before .before .before .read-particle .ensures) (c .before .before .before .before .before .before .before .before .gains .ensures) (c .before .before .before .before .before .before .definitions-of .ensures) (c .before .before .before .before .before .particles-before .ensures .0) (c .before .before .before .before .group-span .ensures .0) (c .before .before .before .marks .ensures) (c .before .before .kind-in .ensures) (c .requantify-plan .ensures)
+returns c =
+    let at-particle = c .before .before .before .before .before .before .before .before .before in
+    let at-from = at-particle .before in
+    let a = at-from .before .before .before .args in
+    group-planned (a .store .now) (a .part .now) (a .owner) (a .h) (a .p) (a .new) (at-from .particles-from .ensures) (at-particle .read-particle .ensures)
+    (c .before .before .before .before .before .before .before .before .gains .ensures) (c .before .before .before .before .before .before .definitions-of .ensures)
+    (c .before .before .before .before .before .particles-before .ensures .0) (c .before .before .before .before .group-span .ensures .0) (c .before .before .before .marks .ensures)
+    (c .before .before .kind-in .ensures) (c .requantify-plan .ensures)
 
 pub group-plan-spec : {M : Type 1} → statement M
 group-plan-spec =
     tie.close
     (tie.spec
-    mul-read-particle
+    particles-from-requires
     read-particle-requires
     gains-requires
     definitions-of-requires
@@ -64,8 +72,8 @@ group-plan-spec =
     group-span-requires
     marks-requires
     kind-in-requires
-    add-t14
-    add-t18
+    add-t17
     add-t19
+    add-t20
     requantify-plan-requires
     returns)

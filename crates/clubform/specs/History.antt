@@ -1,5 +1,4 @@
 -- The thirteen calls of the program, and the bytes that the first of them leave.
--- Assumes nothing.
 use Prim.Native.Nat.{ℕ, _≤_}
 use mathlib.Core.Path.{_≡_}
 use mathlib.Core.List.{List}

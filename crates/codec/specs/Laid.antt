@@ -1,5 +1,4 @@
 -- What a writer leaves: it was handed a buffer and a place, and hands back the next place.
--- Assumes nothing.
 use Prim.Native.Nat.{ℕ, _+_}
 use mathlib.Core.Path.{_≡_}
 use lib.ListN.{length}

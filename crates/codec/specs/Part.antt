@@ -1,5 +1,4 @@
 -- A part of a byte string.
--- Assumes nothing.
 use Prim.Native.Nat.{ℕ, _+_}
 use mathlib.Core.Bool.{true, false}
 use mathlib.Core.List.{[]}

@@ -27,12 +27,12 @@ use Rattle.model.specs.declared.Particle.{Particle}
 use Rattle.model.specs.Particle.{whatOf, particleOf}
 use Rattle.model.specs.Members.{indexMember, membersFrom, membersOf}
 use Rattle.model.proofs.MembersLaws.{members-few, members-deeper, members-stop, members-here}
-use Rattle.rowpass.specs.Indices.{IndexForm}
+use Rattle.row_check.specs.Indices.{IndexForm}
 use Rattle.layout.specs.Bodies.{recordAt}
-use Rattle.rowpass.specs.Reading.{definitionIn, attributeIn, particlesBefore, modelPart, attributesOf, indexForm}
-use Rattle.rows.specs.declared.Cursor.{Cursor}
-use Rattle.rows.specs.Written.{Written, Room, newRow}
-use Rattle.rows.proofs.WrittenLaws.{written-none, written-then, written-as, written-room, written-long}
+use Rattle.row_check.specs.Reading.{definitionIn, attributeIn, particlesBefore, modelPart, attributesOf, indexForm}
+use Rattle.row_writer.specs.declared.Cursor.{Cursor}
+use Rattle.row_writer.specs.Written.{Written, Room, newRow}
+use Rattle.row_writer.proofs.WrittenLaws.{written-none, written-then, written-as, written-room, written-long}
 use Rattle.filling.specs.declared.Filling.{Filling}
 use Rattle.filling.specs.declared.Filling.the-variants.{Nothing, Definition, Attribute, Particles}
 use Rattle.filling.specs.Fillings.{newElement, newAttribute, requiredRows, fillingsOf, contentRows, fillIndex, groupFilled, fillingRows}

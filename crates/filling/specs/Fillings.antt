@@ -1,5 +1,4 @@
 -- 'Filling' by indices: the rows, with their depths and without serials, that the form of the rules' `fillWithin` has names for.
--- Assumes nothing.
 use Prim.Native.Nat.{ℕ, zero, suc}
 use mathlib.Core.Bool.{Bool, true, false, _&&_}
 use mathlib.Core.List.{List, [], _∷_, _++_}
@@ -10,7 +9,7 @@ use Rattle.rules.specs.Bytes.{Bytes}
 use Rattle.rules.specs.Model.{Members, nothing, unless, filling}
 use Rattle.rules.specs.Preorder.{Deep}
 use Rattle.rules.specs.Layout.{FlatRow}
-use Rattle.rowpass.specs.Indices.{IndexForm}
+use Rattle.row_check.specs.Indices.{IndexForm}
 use Rattle.filling.specs.declared.Filling.{Filling}
 use Rattle.filling.specs.declared.Filling.the-variants.{Nothing, Definition, Attribute, Particles}
 

@@ -19,10 +19,10 @@ use Rattle.model.specs.declared.What.the-variants.{Element, Group}
 use Rattle.model.specs.Particle.{particleOf}
 use Rattle.model.specs.Members.{membersFrom, membersOf}
 use Rattle.layout.specs.Bodies.{Width}
-use Rattle.rowpass.specs.Indices.{IndexForm}
-use Rattle.rowpass.specs.Reading.{definitionIn, attributeIn, modelPart, attributesOf, indexForm}
-use Rattle.rows.specs.declared.Cursor.{Cursor}
-use Rattle.rows.specs.Written.{Room}
+use Rattle.row_check.specs.Indices.{IndexForm}
+use Rattle.row_check.specs.Reading.{definitionIn, attributeIn, modelPart, attributesOf, indexForm}
+use Rattle.row_writer.specs.declared.Cursor.{Cursor}
+use Rattle.row_writer.specs.Written.{Room}
 use Rattle.filling.specs.declared.Filling.{Filling}
 use Rattle.filling.specs.declared.Filling.the-variants.{Nothing, Definition, Attribute, Particles}
 use Rattle.filling.specs.Fillings.{requiredRows, fillingsOf, contentRows, fillIndex, fillingRows}

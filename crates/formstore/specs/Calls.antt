@@ -1,5 +1,4 @@
 -- What the public calls that write no buffer answer.
--- Assumes nothing.
 use Prim.Native.Nat.{ℕ}
 use mathlib.Core.Bool.{Bool, true, false}
 

@@ -1,5 +1,5 @@
 //! The public calls. Each stands beside an exported function of the same promise; include/formstore.h declares those.
-pub use storing::Answer;
+pub use store_writer::Answer;
 ghost use mathlib.Core.Path.{_≡_};
 ghost use Rattle.rules.specs.Passing.{passes};
 ghost use Rattle.rules.specs.LookUp.{lookUp};
@@ -14,7 +14,7 @@ ghost use Rattle.formstore.specs.Calls.{checkAnswer};
 pub fn check(store: &[u8]) -> u32
     ensures { λ r. ⌜ r ≡ checkAnswer (passes (now (store .entry))) ⌝ }
 {
-    if validity::passes(store) { 0 } else { 1 }
+    if store_check::passes(store) { 0 } else { 1 }
 }
 
 #[no_mangle]
@@ -28,7 +28,7 @@ pub extern "C" fn formstore_check(store: &[u8]) -> u32
 pub fn look_up<'a>(store: &'a [u8], serial: u32, number: &mut u32) -> &'a [u8]
     ensures { λ r. ⌜ Hands (lookUp (now (store .entry)) serial) (now (store .entry)) (now r) (now (number .exit)) ⌝ }
 {
-    if !validity::passes(store) {
+    if !store_check::passes(store) {
         *number = 1;
         return &store[..0];
     }
@@ -47,7 +47,7 @@ pub struct Found {
 pub extern "C" fn formstore_look_up(store: &[u8], serial: u32) -> Found
     ensures { λ r. ⌜ Looks (lookUp (now (store .entry)) serial) (r .number) (r .start) (r .length) ⌝ }
 {
-    if !validity::passes(store) {
+    if !store_check::passes(store) {
         return Found {
             number: 1,
             start: 0,
@@ -66,7 +66,7 @@ pub extern "C" fn formstore_look_up(store: &[u8], serial: u32) -> Found
 pub fn print(store: &[u8], out: &mut [u8]) -> Answer
     ensures { λ r. ⌜ Answers (printOutcome (now (store .entry)) (length (now (out .entry)))) (now (out .entry)) (r .number) (r .length) (now (out .exit)) ⌝ }
 {
-    if !validity::passes(store) {
+    if !store_check::passes(store) {
         return Answer {
             number: 1,
             length: 0,
@@ -97,7 +97,7 @@ pub extern "C" fn formstore_print(store: &[u8], out: &mut [u8]) -> Answer
 pub fn create_definition(store: &[u8], name: &[u8], kind: u32, out: &mut [u8]) -> Answer
     ensures { λ r. ⌜ Promise (createDefinition (now (name .entry)) kind) (now (store .entry)) (now (out .entry)) (r .number) (r .length) (now (out .exit)) ⌝ }
 {
-    definitions::create_definition(store, name, kind, out)
+    definition_calls::create_definition(store, name, kind, out)
 }
 
 #[no_mangle]
@@ -109,14 +109,14 @@ pub extern "C" fn formstore_create_definition(
 ) -> Answer
     ensures { λ r. ⌜ Promise (createDefinition (now (name .entry)) kind) (now (store .entry)) (now (out .entry)) (r .number) (r .length) (now (out .exit)) ⌝ }
 {
-    definitions::create_definition(store, name, kind, out)
+    definition_calls::create_definition(store, name, kind, out)
 }
 
 /// 2: destroys a definition, with its model and attributes.
 pub fn destroy_definition(store: &[u8], definition: u32, out: &mut [u8]) -> Answer
     ensures { λ r. ⌜ Promise (destroyDefinition definition) (now (store .entry)) (now (out .entry)) (r .number) (r .length) (now (out .exit)) ⌝ }
 {
-    definitions::destroy_definition(store, definition, out)
+    definition_calls::destroy_definition(store, definition, out)
 }
 
 #[no_mangle]
@@ -127,7 +127,7 @@ pub extern "C" fn formstore_destroy_definition(
 ) -> Answer
     ensures { λ r. ⌜ Promise (destroyDefinition definition) (now (store .entry)) (now (out .entry)) (r .number) (r .length) (now (out .exit)) ⌝ }
 {
-    definitions::destroy_definition(store, definition, out)
+    definition_calls::destroy_definition(store, definition, out)
 }
 
 /// 3: inserts an element into a model; on the spine each instance gets a filling if the quantifier needs one.
@@ -142,7 +142,7 @@ pub fn insert_element(
 ) -> Answer
     ensures { λ r. ⌜ Promise (insertElement owner (now (place .entry)) definition quantifier (now (text .entry))) (now (store .entry)) (now (out .entry)) (r .number) (r .length) (now (out .exit)) ⌝ }
 {
-    inserting::insert_element(store, owner, place, definition, quantifier, text, out)
+    insert_call::insert_element(store, owner, place, definition, quantifier, text, out)
 }
 
 #[no_mangle]
@@ -157,14 +157,14 @@ pub extern "C" fn formstore_insert_element(
 ) -> Answer
     ensures { λ r. ⌜ Promise (insertElement owner (now (place .entry)) definition quantifier (now (text .entry))) (now (store .entry)) (now (out .entry)) (r .number) (r .length) (now (out .exit)) ⌝ }
 {
-    inserting::insert_element(store, owner, place, definition, quantifier, text, out)
+    insert_call::insert_element(store, owner, place, definition, quantifier, text, out)
 }
 
 /// 4: removes an element from a model, with the children of instances that it stands for.
 pub fn remove_element(store: &[u8], owner: u32, place: &[u32], out: &mut [u8]) -> Answer
     ensures { λ r. ⌜ Promise (removeElement owner (now (place .entry))) (now (store .entry)) (now (out .entry)) (r .number) (r .length) (now (out .exit)) ⌝ }
 {
-    models::remove_element(store, owner, place, out)
+    group_calls::remove_element(store, owner, place, out)
 }
 
 #[no_mangle]
@@ -176,7 +176,7 @@ pub extern "C" fn formstore_remove_element(
 ) -> Answer
     ensures { λ r. ⌜ Promise (removeElement owner (now (place .entry))) (now (store .entry)) (now (out .entry)) (r .number) (r .length) (now (out .exit)) ⌝ }
 {
-    models::remove_element(store, owner, place, out)
+    group_calls::remove_element(store, owner, place, out)
 }
 
 /// 5: changes an element's quantifier.
@@ -190,7 +190,7 @@ pub fn change_quantifier(
 ) -> Answer
     ensures { λ r. ⌜ Promise (changeQuantifier owner (now (place .entry)) quantifier (now (text .entry))) (now (store .entry)) (now (out .entry)) (r .number) (r .length) (now (out .exit)) ⌝ }
 {
-    quantifying::change_quantifier(store, owner, place, quantifier, text, out)
+    quantifier_calls::change_quantifier(store, owner, place, quantifier, text, out)
 }
 
 #[no_mangle]
@@ -204,7 +204,7 @@ pub extern "C" fn formstore_change_quantifier(
 ) -> Answer
     ensures { λ r. ⌜ Promise (changeQuantifier owner (now (place .entry)) quantifier (now (text .entry))) (now (store .entry)) (now (out .entry)) (r .number) (r .length) (now (out .exit)) ⌝ }
 {
-    quantifying::change_quantifier(store, owner, place, quantifier, text, out)
+    quantifier_calls::change_quantifier(store, owner, place, quantifier, text, out)
 }
 
 /// 6: converts `count` members from a place on into a group.
@@ -218,7 +218,7 @@ pub fn convert_to_group(
 ) -> Answer
     ensures { λ r. ⌜ Promise (convertToGroup owner (now (place .entry)) count sort) (now (store .entry)) (now (out .entry)) (r .number) (r .length) (now (out .exit)) ⌝ }
 {
-    models::convert_to_group(store, owner, place, count, sort, out)
+    group_calls::convert_to_group(store, owner, place, count, sort, out)
 }
 
 #[no_mangle]
@@ -232,14 +232,14 @@ pub extern "C" fn formstore_convert_to_group(
 ) -> Answer
     ensures { λ r. ⌜ Promise (convertToGroup owner (now (place .entry)) count sort) (now (store .entry)) (now (out .entry)) (r .number) (r .length) (now (out .exit)) ⌝ }
 {
-    models::convert_to_group(store, owner, place, count, sort, out)
+    group_calls::convert_to_group(store, owner, place, count, sort, out)
 }
 
 /// 7: flattens a group into its list.
 pub fn flatten_group(store: &[u8], owner: u32, place: &[u32], out: &mut [u8]) -> Answer
     ensures { λ r. ⌜ Promise (flattenGroup owner (now (place .entry))) (now (store .entry)) (now (out .entry)) (r .number) (r .length) (now (out .exit)) ⌝ }
 {
-    models::flatten_group(store, owner, place, out)
+    group_calls::flatten_group(store, owner, place, out)
 }
 
 #[no_mangle]
@@ -251,7 +251,7 @@ pub extern "C" fn formstore_flatten_group(
 ) -> Answer
     ensures { λ r. ⌜ Promise (flattenGroup owner (now (place .entry))) (now (store .entry)) (now (out .entry)) (r .number) (r .length) (now (out .exit)) ⌝ }
 {
-    models::flatten_group(store, owner, place, out)
+    group_calls::flatten_group(store, owner, place, out)
 }
 
 /// 8: changes a group's quantifier.
@@ -265,7 +265,7 @@ pub fn change_group_quantifier(
 ) -> Answer
     ensures { λ r. ⌜ Promise (changeGroupQuantifier owner (now (place .entry)) quantifier (now (text .entry))) (now (store .entry)) (now (out .entry)) (r .number) (r .length) (now (out .exit)) ⌝ }
 {
-    quantifying::change_group_quantifier(store, owner, place, quantifier, text, out)
+    quantifier_calls::change_group_quantifier(store, owner, place, quantifier, text, out)
 }
 
 #[no_mangle]
@@ -279,7 +279,7 @@ pub extern "C" fn formstore_change_group_quantifier(
 ) -> Answer
     ensures { λ r. ⌜ Promise (changeGroupQuantifier owner (now (place .entry)) quantifier (now (text .entry))) (now (store .entry)) (now (out .entry)) (r .number) (r .length) (now (out .exit)) ⌝ }
 {
-    quantifying::change_group_quantifier(store, owner, place, quantifier, text, out)
+    quantifier_calls::change_group_quantifier(store, owner, place, quantifier, text, out)
 }
 
 /// 9: adds an attribute; a REQUIRED one adds a row to each instance.
@@ -293,7 +293,7 @@ pub fn add_attribute(
 ) -> Answer
     ensures { λ r. ⌜ Promise (addAttribute owner (now (name .entry)) sort (now (value .entry))) (now (store .entry)) (now (out .entry)) (r .number) (r .length) (now (out .exit)) ⌝ }
 {
-    attributes::add_attribute(store, owner, name, sort, value, out)
+    attribute_calls::add_attribute(store, owner, name, sort, value, out)
 }
 
 #[no_mangle]
@@ -307,14 +307,14 @@ pub extern "C" fn formstore_add_attribute(
 ) -> Answer
     ensures { λ r. ⌜ Promise (addAttribute owner (now (name .entry)) sort (now (value .entry))) (now (store .entry)) (now (out .entry)) (r .number) (r .length) (now (out .exit)) ⌝ }
 {
-    attributes::add_attribute(store, owner, name, sort, value, out)
+    attribute_calls::add_attribute(store, owner, name, sort, value, out)
 }
 
 /// 10: destroys an attribute, with its rows.
 pub fn destroy_attribute(store: &[u8], attribute: u32, out: &mut [u8]) -> Answer
     ensures { λ r. ⌜ Promise (destroyAttribute attribute) (now (store .entry)) (now (out .entry)) (r .number) (r .length) (now (out .exit)) ⌝ }
 {
-    attributes::destroy_attribute(store, attribute, out)
+    attribute_calls::destroy_attribute(store, attribute, out)
 }
 
 #[no_mangle]
@@ -325,14 +325,14 @@ pub extern "C" fn formstore_destroy_attribute(
 ) -> Answer
     ensures { λ r. ⌜ Promise (destroyAttribute attribute) (now (store .entry)) (now (out .entry)) (r .number) (r .length) (now (out .exit)) ⌝ }
 {
-    attributes::destroy_attribute(store, attribute, out)
+    attribute_calls::destroy_attribute(store, attribute, out)
 }
 
 /// 11: a new last document, the filling of a definition.
 pub fn add_document(store: &[u8], definition: u32, text: &[u8], out: &mut [u8]) -> Answer
     ensures { λ r. ⌜ Promise (addDocument definition (now (text .entry))) (now (store .entry)) (now (out .entry)) (r .number) (r .length) (now (out .exit)) ⌝ }
 {
-    documents::add_document(store, definition, text, out)
+    document_calls::add_document(store, definition, text, out)
 }
 
 #[no_mangle]
@@ -344,7 +344,7 @@ pub extern "C" fn formstore_add_document(
 ) -> Answer
     ensures { λ r. ⌜ Promise (addDocument definition (now (text .entry))) (now (store .entry)) (now (out .entry)) (r .number) (r .length) (now (out .exit)) ⌝ }
 {
-    documents::add_document(store, definition, text, out)
+    document_calls::add_document(store, definition, text, out)
 }
 
 /// 12: adds the filling of a definition as child number `child` of an element.
@@ -358,7 +358,7 @@ pub fn add_element(
 ) -> Answer
     ensures { λ r. ⌜ Promise (addElement parent child definition (now (text .entry))) (now (store .entry)) (now (out .entry)) (r .number) (r .length) (now (out .exit)) ⌝ }
 {
-    documents::add_element(store, parent, child, definition, text, out)
+    document_calls::add_element(store, parent, child, definition, text, out)
 }
 
 #[no_mangle]
@@ -372,21 +372,21 @@ pub extern "C" fn formstore_add_element(
 ) -> Answer
     ensures { λ r. ⌜ Promise (addElement parent child definition (now (text .entry))) (now (store .entry)) (now (out .entry)) (r .number) (r .length) (now (out .exit)) ⌝ }
 {
-    documents::add_element(store, parent, child, definition, text, out)
+    document_calls::add_element(store, parent, child, definition, text, out)
 }
 
 /// 13: destroys an element with all below it, or a whole document.
 pub fn destroy_element(store: &[u8], element: u32, out: &mut [u8]) -> Answer
     ensures { λ r. ⌜ Promise (destroyElement element) (now (store .entry)) (now (out .entry)) (r .number) (r .length) (now (out .exit)) ⌝ }
 {
-    documents::destroy_element(store, element, out)
+    document_calls::destroy_element(store, element, out)
 }
 
 #[no_mangle]
 pub extern "C" fn formstore_destroy_element(store: &[u8], element: u32, out: &mut [u8]) -> Answer
     ensures { λ r. ⌜ Promise (destroyElement element) (now (store .entry)) (now (out .entry)) (r .number) (r .length) (now (out .exit)) ⌝ }
 {
-    documents::destroy_element(store, element, out)
+    document_calls::destroy_element(store, element, out)
 }
 
 /// 14: sets an attribute of an element; a row that is there keeps its serial.
@@ -399,7 +399,7 @@ pub fn set_attribute(
 ) -> Answer
     ensures { λ r. ⌜ Promise (setAttribute element attribute (now (value .entry))) (now (store .entry)) (now (out .entry)) (r .number) (r .length) (now (out .exit)) ⌝ }
 {
-    documents::set_attribute(store, element, attribute, value, out)
+    document_calls::set_attribute(store, element, attribute, value, out)
 }
 
 #[no_mangle]
@@ -412,14 +412,14 @@ pub extern "C" fn formstore_set_attribute(
 ) -> Answer
     ensures { λ r. ⌜ Promise (setAttribute element attribute (now (value .entry))) (now (store .entry)) (now (out .entry)) (r .number) (r .length) (now (out .exit)) ⌝ }
 {
-    documents::set_attribute(store, element, attribute, value, out)
+    document_calls::set_attribute(store, element, attribute, value, out)
 }
 
 /// 15: destroys the row of an attribute of an element.
 pub fn destroy_attribute_row(store: &[u8], element: u32, attribute: u32, out: &mut [u8]) -> Answer
     ensures { λ r. ⌜ Promise (destroyAttributeRow element attribute) (now (store .entry)) (now (out .entry)) (r .number) (r .length) (now (out .exit)) ⌝ }
 {
-    documents::destroy_attribute_row(store, element, attribute, out)
+    document_calls::destroy_attribute_row(store, element, attribute, out)
 }
 
 #[no_mangle]
@@ -431,14 +431,14 @@ pub extern "C" fn formstore_destroy_attribute_row(
 ) -> Answer
     ensures { λ r. ⌜ Promise (destroyAttributeRow element attribute) (now (store .entry)) (now (out .entry)) (r .number) (r .length) (now (out .exit)) ⌝ }
 {
-    documents::destroy_attribute_row(store, element, attribute, out)
+    document_calls::destroy_attribute_row(store, element, attribute, out)
 }
 
 /// 16: sets the text of a PCDATA element.
 pub fn set_text(store: &[u8], element: u32, text: &[u8], out: &mut [u8]) -> Answer
     ensures { λ r. ⌜ Promise (setText element (now (text .entry))) (now (store .entry)) (now (out .entry)) (r .number) (r .length) (now (out .exit)) ⌝ }
 {
-    documents::set_text(store, element, text, out)
+    document_calls::set_text(store, element, text, out)
 }
 
 #[no_mangle]
@@ -450,5 +450,5 @@ pub extern "C" fn formstore_set_text(
 ) -> Answer
     ensures { λ r. ⌜ Promise (setText element (now (text .entry))) (now (store .entry)) (now (out .entry)) (r .number) (r .length) (now (out .exit)) ⌝ }
 {
-    documents::set_text(store, element, text, out)
+    document_calls::set_text(store, element, text, out)
 }

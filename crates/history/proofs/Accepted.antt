@@ -1,5 +1,4 @@
 -- AN ACCEPTED CHANGE LEAVES A STORE THAT PASSES, and so Demand 3.
--- Assumes nothing.
 use Prim.Native.Nat.{ℕ}
 use mathlib.Core.Path.{_≡_, refl, _∙_, subst}
 use mathlib.Core.Bool.{Bool, true, false}

@@ -1,5 +1,4 @@
 -- A call of changes 3 to 8 that is not refused is an edit of the owner's model at a place where it fits.
--- Assumes nothing.
 use Prim.Native.Nat.{ℕ}
 use mathlib.Core.Path.{_≡_, refl, sym, ap, _∙_}
 use mathlib.Core.Bool.{Bool, true, false, _&&_, not, _||_, false≢true}

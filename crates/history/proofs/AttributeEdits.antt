@@ -1,5 +1,4 @@
 -- The rows right below one element when an attribute is added to its table or taken out of it.
--- Assumes nothing.
 use Prim.Native.Nat.{ℕ}
 use mathlib.Core.Path.{_≡_, refl, sym, ap, _∙_}
 use mathlib.Core.Logic.{⊎-elim}

@@ -1,5 +1,4 @@
 -- Documents that conform to a form conform to another after a plan, if each row does with the rows that it then has below it.
--- Assumes nothing.
 use Prim.Native.Nat.{ℕ, _<_}
 use mathlib.Core.Path.{_≡_, refl, sym, ap, ap₂, _∙_}
 use mathlib.Core.Bool.{Bool, true, false, not, false≢true}

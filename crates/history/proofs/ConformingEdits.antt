@@ -1,5 +1,4 @@
 -- Changes 3 to 8: an accepted call leaves documents that conform.
--- Assumes nothing.
 use Prim.Native.Nat.{ℕ}
 use mathlib.Core.Path.{_≡_, refl, sym, ap, _∙_}
 use mathlib.Core.Bool.{Bool, true, false, _&&_, not, and-false, false≢true}

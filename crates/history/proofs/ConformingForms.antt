@@ -1,5 +1,4 @@
 -- Conforming after the changes 1, 2, 6, 7, 9 and 10 of the form, from what their conditions say.
--- Assumes nothing.
 use Prim.Native.Nat.{ℕ}
 use mathlib.Core.Path.{_≡_, refl, sym, ap, ap₂, _∙_}
 use mathlib.Core.Logic.{_⊎_, inl, inr, ⊎-elim}

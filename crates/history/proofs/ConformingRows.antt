@@ -1,5 +1,4 @@
 -- Conforming after the changes 11 to 16 of the rows, from what their conditions say.
--- Assumes nothing.
 use Prim.Native.Nat.{ℕ}
 use mathlib.Core.Path.{_≡_, refl, sym, ap, ap₂, _∙_}
 use mathlib.Core.Bool.{Bool, true, false, not, false≢true}

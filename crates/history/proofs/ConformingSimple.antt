@@ -1,5 +1,4 @@
 -- An accepted call leaves rows that can be laid, and, if it is none of 3 to 8, documents that conform.
--- Assumes nothing.
 use Prim.Native.Nat.{ℕ}
 use mathlib.Core.Path.{_≡_, refl, sym, ap, subst}
 use mathlib.Core.Bool.{Bool, true, false, false≢true}

@@ -1,5 +1,4 @@
 -- The rows right below one element fit its definition when the model accepts more, and when an attribute is added or taken out.
--- Assumes nothing.
 use Prim.Native.Nat.{ℕ}
 use mathlib.Core.Path.{_≡_, refl, ap, _∙_}
 use mathlib.Core.Bool.{true, false, not, false≢true}

@@ -1,5 +1,4 @@
 -- Changes 3 to 8: conditions of the refusal table that do not hold, as the tests `misplaced` and `unfit`; an owner with a member is COMPLEX.
--- Assumes nothing.
 use Prim.Native.Nat.{ℕ, zero, suc}
 use mathlib.Core.Path.{_≡_, refl, sym, ap, _∙_}
 use mathlib.Core.Bool.{Bool, true, false, _&&_, not, _||_, false≢true}

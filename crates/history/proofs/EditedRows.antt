@@ -1,5 +1,4 @@
 -- Changes 3 to 8: each row fits the form that the call leaves, with the rows that are right below it then.
--- Assumes nothing.
 use Prim.Native.Nat.{ℕ}
 use mathlib.Core.Path.{_≡_, refl, sym, ap, _∙_}
 use mathlib.Core.Bool.{Bool, true, false, false≢true}

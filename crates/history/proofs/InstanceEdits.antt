@@ -1,5 +1,4 @@
 -- Changes 3 to 8 on the rows right below an instance of the owner: the attribute rows stay, the element rows are edited as `childRows` says.
--- Assumes nothing.
 use Prim.Native.Nat.{ℕ}
 use mathlib.Core.Path.{_≡_, refl, sym, ap, ap₂, _∙_}
 use mathlib.Core.Bool.{Bool, true, false, _&&_, not, false≢true}

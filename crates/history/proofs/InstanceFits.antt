@@ -1,5 +1,4 @@
 -- Changes 3 to 8: the rows right below an instance of the owner fit the owner's new model.
--- Assumes nothing.
 use Prim.Native.Nat.{ℕ}
 use mathlib.Core.Path.{_≡_, refl, sym, ap, _∙_}
 use mathlib.Core.Logic.{_⊎_, inl, inr, ⊎-elim}

@@ -1,5 +1,4 @@
 -- A plan on the rows right below one row: rows taken by name, rows that come before the first later one, attribute rows that stay in front.
--- Assumes nothing.
 use Prim.Native.Nat.{ℕ}
 use mathlib.Core.Path.{_≡_, refl, sym, ap, ap₂, _∙_}
 use mathlib.Core.Logic.{⊎-elim}

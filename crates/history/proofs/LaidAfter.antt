@@ -1,5 +1,4 @@
 -- Every row can be laid after an accepted call: values are values, elements have none, texts have no name.
--- Assumes nothing.
 use Prim.Native.Nat.{ℕ}
 use mathlib.Core.Path.{_≡_, refl, sym, ap, _∙_}
 use mathlib.Core.Bool.{Bool, true, false, _&&_, false≢true}

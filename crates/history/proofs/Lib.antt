@@ -41,3 +41,4 @@ pub mod AcceptedEdits
 pub mod EditedRows
 pub mod ConformingEdits
 pub mod Accepted
+pub mod CallLaws

@@ -1,5 +1,4 @@
 -- The making rule, for any plan: the lines that the book writes in are the lines of the rows that the store plants and numbers.
--- Assumes nothing.
 use Prim.Native.Nat.{ℕ, suc, _+_, _*_, _≤_}
 use native.Mathlib.Nat.{mul-add, mul-suc, mul-zero}
 use native.Mathlib.Omega.{arith}

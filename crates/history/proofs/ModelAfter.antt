@@ -1,5 +1,4 @@
 -- Changes 3 to 8, accepted: the place is there, and the edit fits. The names of the model after the edit.
--- Assumes nothing.
 use Prim.Native.Nat.{ℕ, zero, suc}
 use mathlib.Core.Path.{_≡_, refl, sym, ap, _∙_}
 use mathlib.Core.Logic.{_⊎_, inl, inr, ⊎-elim}

@@ -1,5 +1,4 @@
 -- Equality of numbers as a test, how often a number stands in a list, and the numbers from one on.
--- Assumes nothing.
 use Prim.Native.Nat.{ℕ, zero, suc, _+_, _≤_, _<_}
 use native.Mathlib.Omega.{arith}
 use mathlib.Core.Path.{_≡_, refl, sym, ap, _∙_}

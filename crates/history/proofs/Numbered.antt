@@ -1,5 +1,4 @@
 -- Conforming looks at no serial, and at the values of attribute rows alone; so giving serials keeps it.
--- Assumes nothing.
 use Prim.Native.Nat.{ℕ, _+_}
 use mathlib.Core.Path.{_≡_, refl, sym, ap, ap₂, _∙_}
 use mathlib.Core.Bool.{Bool, true, false, _&&_}

@@ -1,5 +1,4 @@
 -- New rows have no serial, and get the next serials in document order; serials that stand once each, from 1 and below the next one.
--- Assumes nothing.
 use Prim.Native.Nat.{ℕ, _+_, _≤_, _<_}
 use native.Mathlib.Omega.{arith}
 use native.Mathlib.Decide.{decLe}

@@ -1,5 +1,4 @@
 -- A well-formed form stays so when a definition is replaced, added or removed, under the conditions of the changes.
--- Assumes nothing.
 use Prim.Native.Nat.{ℕ, zero, suc, _<_}
 use mathlib.Core.Path.{_≡_, refl, sym, ap, _∙_}
 use mathlib.Core.Logic.{_⊎_, inl, inr, ⊎-elim}

@@ -1,5 +1,4 @@
 -- What a plan does to the documents, row by row: the rows right below each row, and a test on every row.
--- Assumes nothing.
 use mathlib.Core.Path.{_≡_, refl, sym, ap, _∙_}
 use mathlib.Core.Logic.{_⊎_, inl, inr}
 use mathlib.Core.Bool.{Bool, true, false, _&&_, not, false≢true}

@@ -1,5 +1,4 @@
 -- Rows that stand in a forest: their serials, and what the lines say of them.
--- Assumes nothing.
 use Prim.Native.Nat.{ℕ}
 use native.Mathlib.Omega.{arith}
 use mathlib.Core.Path.{_≡_, refl, sym, ap, ap₂, _∙_}

@@ -1,5 +1,4 @@
 -- The taking rule, for any rule `takes`: what the book marks as taken and what the store prunes leave the same lines.
--- Assumes nothing.
 use Prim.Native.Nat.{ℕ, zero, suc, _+_, _≤_}
 use native.Mathlib.Omega.{arith}
 use mathlib.Core.Path.{_≡_, refl, ap, ap₂, _∙_}

@@ -1,5 +1,4 @@
 -- What a plan leaves alone: the rows right below a row where it takes nothing, fills nothing or sets nothing.
--- Assumes nothing.
 use Prim.Native.Nat.{ℕ}
 use mathlib.Core.Path.{_≡_, refl, ap, ap₂, _∙_}
 use mathlib.Core.Logic.{⊎-elim}

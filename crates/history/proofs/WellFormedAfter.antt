@@ -1,5 +1,4 @@
 -- AN ACCEPTED CALL KEEPS THE FORM WELL-FORMED.
--- Assumes nothing.
 use Prim.Native.Nat.{ℕ, zero, suc, _<_}
 use mathlib.Core.Path.{_≡_, refl, sym, ap, _∙_}
 use mathlib.Core.Logic.{⊎-elim}

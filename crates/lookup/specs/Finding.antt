@@ -1,5 +1,4 @@
 -- The look-up on a byte string, whether it passes or not.
--- Assumes nothing.
 use Prim.Native.Nat.{ℕ}
 use mathlib.Core.Path.{_≡_}
 use mathlib.Core.Option.{some}

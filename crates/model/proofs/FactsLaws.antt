@@ -1,5 +1,4 @@
 -- The facts of a part of the particle body, one particle on; and what the automaton's steps come to.
--- Assumes nothing.
 use mathlib.Core.Path.{_≡_, refl, sym, ap, ap₂, _∙_}
 use mathlib.Core.Bool.{Bool, true, false, _&&_, _||_}
 use mathlib.Core.List.{List, [], _∷_}

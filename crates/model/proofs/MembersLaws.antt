@@ -1,5 +1,4 @@
 -- The members that a part of the particle body holds, one particle on; and under names.
--- Assumes nothing.
 use mathlib.Core.Path.{_≡_, refl, ap, _∙_}
 use mathlib.Core.Bool.{Bool, true, false}
 use mathlib.Core.List.{List, [], _∷_}

@@ -1,5 +1,4 @@
 -- The particles of a byte string: how many, which stands where, and those of a part. Bounds on what is passed and measured.
--- Assumes nothing.
 use mathlib.Core.Path.{_≡_, refl, sym, ap, _∙_}
 use mathlib.Core.Bool.{Bool, true, false}
 use mathlib.Core.List.{List, [], _∷_}

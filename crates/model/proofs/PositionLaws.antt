@@ -1,5 +1,4 @@
 -- In the particles of a model a place stands where its context says, and a change there leaves the particles around it.
--- Assumes nothing.
 use mathlib.Core.Path.{_≡_, refl, sym, ap, ap₂, _∙_}
 use mathlib.Core.Bool.{Bool, true, false, _&&_}
 use mathlib.Core.Option.{Option, none, some}

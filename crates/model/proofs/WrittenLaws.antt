@@ -1,5 +1,4 @@
 -- A model as the layout writes it, read back: its particles, its members, and where a place stands.
--- Assumes nothing.
 use mathlib.Core.Path.{_≡_, refl, sym, ap, ap₂, _∙_}
 use mathlib.Core.Bool.{Bool, true, false}
 use mathlib.Core.List.{List, [], _∷_, _++_}

@@ -1,5 +1,4 @@
 -- The content model that a part of the particle body holds, over definition indices.
--- Assumes nothing.
 use Prim.Native.Nat.{ℕ, zero, suc, _/_}
 use mathlib.Core.List.{List}
 use lib.ListN.{length}

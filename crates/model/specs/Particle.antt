@@ -1,5 +1,4 @@
 -- A particle as the code has it, of what its four bytes hold.
--- Assumes nothing.
 use Prim.Native.Nat.{ℕ, zero, suc}
 use lib.ListN.{drop}
 use Rattle.rules.specs.declared.Facts.{Facts}

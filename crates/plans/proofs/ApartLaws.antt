@@ -1,5 +1,4 @@
 -- No element with one serial stands below another, where serials stand once.
--- Assumes nothing.
 use Prim.Native.Nat.{ℕ}
 use mathlib.Core.Path.{_≡_, sym, ap, _∙_}
 use mathlib.Core.Bool.{and-false, Bool, _&&_}
@@ -13,8 +12,8 @@ use Rattle.rules.specs.Passing.{serials}
 use Rattle.rules.proofs.Words.{and-split}
 use Rattle.rules.proofs.Apart.{differs}
 use Rattle.rules.proofs.Correct.{distinct-left, distinct-right}
-use Rattle.editing.specs.declared.Which.the-variants.{Serial}
-use Rattle.editing.specs.Walk.{matches}
+use Rattle.row_walk.specs.declared.Which.the-variants.{Serial}
+use Rattle.row_walk.specs.Walk.{matches}
 use Rattle.plans.specs.Trees.{NoneOf, Apart}
 
 module _ (form : Form) (k : ℕ) where

@@ -1,5 +1,4 @@
 -- The bodies of a form after the attributes of one definition have changed.
--- Assumes nothing.
 use Prim.Native.Nat.{ℕ, zero, suc, _+_, _≤_, _<_}
 use native.Mathlib.Omega.{arith}
 use mathlib.Core.Path.{_≡_, refl, sym, ap, ap₂, _∙_}
@@ -17,8 +16,8 @@ use Rattle.rules.specs.Layout.{FlatDefinition, FlatParticle, FlatAttribute, ind
 use Rattle.rules.specs.WellFormed.{attributeName}
 use Rattle.rules.specs.Change.{definitionAt, update, withAttributes, lacking}
 use Rattle.rules.proofs.DecodeLaws.{length-own}
-use Rattle.validity.specs.Reading.{noAttribute}
-use Rattle.validity.proofs.AttributeBlocks.{offset}
+use Rattle.store_check.specs.Reading.{noAttribute}
+use Rattle.store_check.proofs.AttributeBlocks.{offset}
 use Rattle.plans.specs.AttributeCalls.{attributesTo, ownerAt}
 use Rattle.plans.proofs.AttributeIndices.{index-here, index-there}
 use Rattle.plans.proofs.AttributeShifts.{index-kept, offset-first, offset-next}

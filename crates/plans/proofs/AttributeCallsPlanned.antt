@@ -1,5 +1,4 @@
 -- THE STORE AFTER CHANGES 9 AND 10, where no condition of the refusal table holds: the bodies after the plan by indices.
--- Assumes nothing.
 use Prim.Native.Nat.{ℕ, zero, suc, _+_, _<_, _≤_}
 use native.Mathlib.Omega.{arith}
 use mathlib.Core.Path.{_≡_, refl, sym, ap, ap₂, _∙_, subst}
@@ -30,15 +29,15 @@ use Rattle.rules.proofs.PassingLaws.{good-is}
 use Rattle.history.proofs.Conditions.{not-past}
 use Rattle.history.proofs.Rowwise.{Standing}
 use Rattle.history.proofs.FormLaws.{attribute-owned, owner-at, owner-below}
-use Rattle.validity.proofs.AttributeReads.{sort-back}
-use Rattle.validity.proofs.AttributeRows.{rowWritten}
-use Rattle.validity.proofs.AttributeBlocks.{offset}
+use Rattle.store_check.proofs.AttributeReads.{sort-back}
+use Rattle.store_check.proofs.AttributeRows.{rowWritten}
+use Rattle.store_check.proofs.AttributeBlocks.{offset}
 use Rattle.filling.specs.Fillings as filling
-use Rattle.editing.specs.declared.Which.the-variants.{Elements, Attributes}
-use Rattle.editing.specs.declared.Later.the-variants.{Past}
-use Rattle.editing.specs.declared.Plan.{Plan}
-use Rattle.editing.specs.Walk.{matches, isLater}
-use Rattle.storing.specs.Planned.{fillOf, plannedIn}
+use Rattle.row_walk.specs.declared.Which.the-variants.{Elements, Attributes}
+use Rattle.row_walk.specs.declared.Later.the-variants.{Past}
+use Rattle.row_walk.specs.declared.Plan.{Plan}
+use Rattle.row_walk.specs.Walk.{matches, isLater}
+use Rattle.store_writer.specs.Planned.{fillOf, plannedIn}
 use Rattle.plans.specs.Trees.{documentsWalk}
 use Rattle.plans.specs.Bodies.{Holds}
 use Rattle.plans.specs.Following.{RowFollows}

@@ -1,5 +1,4 @@
 -- Attributes of one owner by name and by index: the same ones, in the same order.
--- Assumes nothing.
 use Prim.Native.Nat.{ℕ, zero, suc, _+_, _-_, _≤_, _<_}
 use native.Mathlib.Omega.{arith}
 use mathlib.Core.Path.{_≡_, refl, sym, ap, ap₂, _∙_}
@@ -20,10 +19,10 @@ use Rattle.rules.specs.Lines.{attributeNamed}
 use Rattle.rules.specs.Change.{Owned, entryAt, attributeAt, namesBefore}
 use Rattle.rules.proofs.Apart.{differs}
 use Rattle.history.proofs.FormLaws.{entry-in, attribute-owned, owner-found}
-use Rattle.validity.proofs.AttributeRows.{rowWritten}
-use Rattle.editing.specs.declared.Which.the-variants.{Attributes}
-use Rattle.editing.specs.declared.Later.the-variants.{Past}
-use Rattle.editing.specs.Walk.{matches, isLater}
+use Rattle.store_check.proofs.AttributeRows.{rowWritten}
+use Rattle.row_walk.specs.declared.Which.the-variants.{Attributes}
+use Rattle.row_walk.specs.declared.Later.the-variants.{Past}
+use Rattle.row_walk.specs.Walk.{matches, isLater}
 
 -- ---- numbers moved by the same
 less-alike : (a b i j : ℕ) → (i < j → a < b) → (j ≤ i → b ≤ a) → ltb a b ≡ ltb i j

@@ -1,5 +1,4 @@
 -- Changes 14 and 15 on the documents of a store that passes: the plan by indices does what the plan of the rules does.
--- Assumes nothing.
 use Prim.Native.Nat.{ℕ}
 use mathlib.Core.Path.{_≡_, refl, sym, ap, ap₂, _∙_, subst}
 use mathlib.Core.Bool.{Bool, true, false, _&&_, false≢true}
@@ -24,14 +23,14 @@ use Rattle.rules.proofs.PassingLaws.{good-is}
 use Rattle.history.proofs.Conditions.{not-false}
 use Rattle.history.proofs.Rowwise.{Standing}
 use Rattle.history.proofs.StandingLaws.{standing-line, child-stands, found-element, one-row}
-use Rattle.validity.proofs.AttributeRows.{rowWritten}
+use Rattle.store_check.proofs.AttributeRows.{rowWritten}
 use Rattle.filling.specs.Fillings.{newAttribute}
 use Rattle.filling.specs.declared.Filling.the-variants.{Attribute}
-use Rattle.editing.specs.declared.Which.the-variants.{Serial, Attributes}
-use Rattle.editing.specs.declared.Later.the-variants.{Past}
-use Rattle.editing.specs.declared.Plan.{Plan}
-use Rattle.editing.specs.Walk.{matches, isLater}
-use Rattle.storing.specs.Planned.{fillOf}
+use Rattle.row_walk.specs.declared.Which.the-variants.{Serial, Attributes}
+use Rattle.row_walk.specs.declared.Later.the-variants.{Past}
+use Rattle.row_walk.specs.declared.Plan.{Plan}
+use Rattle.row_walk.specs.Walk.{matches, isLater}
+use Rattle.store_writer.specs.Planned.{fillOf}
 use Rattle.plans.specs.Following.{Does}
 use Rattle.plans.specs.CallPlans.{unmarked, settingPlan, setAttributePlan, destroyAttributeRowPlan}
 use Rattle.plans.proofs.TreePlans.{documents-follow}

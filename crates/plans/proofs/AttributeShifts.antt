@@ -1,5 +1,4 @@
 -- Indices of attributes after the attributes of one definition have changed.
--- Assumes nothing.
 use Prim.Native.Nat.{ℕ, zero, suc, _+_, _-_, _≤_, _<_}
 use native.Mathlib.Omega.{arith}
 use mathlib.Core.Path.{_≡_, refl, sym, ap, _∙_, subst}
@@ -17,10 +16,10 @@ use Rattle.rules.specs.WellFormed.{definitionName, attributeName, lookup}
 use Rattle.rules.specs.Change.{definitionAt, nameAtIndex, update, withAttributes, lacking}
 use Rattle.rules.proofs.Apart.{differs}
 use Rattle.history.proofs.FormLaws.{definition-at, definition-found}
-use Rattle.validity.proofs.IndexLaws.{name-of}
-use Rattle.validity.proofs.AttributeBlocks.{offset, owner-index}
-use Rattle.editing.specs.declared.Shift.{Shift}
-use Rattle.editing.specs.Walk.{shifted}
+use Rattle.store_check.proofs.IndexLaws.{name-of}
+use Rattle.store_check.proofs.AttributeBlocks.{offset, owner-index}
+use Rattle.row_walk.specs.declared.Shift.{Shift}
+use Rattle.row_walk.specs.Walk.{shifted}
 use Rattle.plans.proofs.AttributeIndices.{index-here, index-there}
 
 -- ---- in one table

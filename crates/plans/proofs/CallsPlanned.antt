@@ -1,5 +1,4 @@
 -- THE STORE AFTER CHANGES 11 TO 16, where no condition of the refusal table holds: the bodies after the plan by indices.
--- Assumes nothing.
 use Prim.Native.Nat.{ℕ}
 use mathlib.Core.Path.{_≡_, refl, sym, ap, _∙_, subst}
 use mathlib.Core.Bool.{Bool, true, false, false≢true}
@@ -16,11 +15,11 @@ use Rattle.rules.specs.Change.{Call, addDocument, addElement, destroyElement, s
 use Rattle.rules.proofs.PassingLaws.{good-is}
 use Rattle.history.proofs.Conditions.{not-past, Unmet, first-append, conditions-numbered}
 use Rattle.filling.specs.declared.Filling.the-variants.{Attribute}
-use Rattle.editing.specs.declared.Which.the-variants.{Serial}
-use Rattle.editing.specs.declared.Later.the-variants.{Past}
-use Rattle.editing.specs.declared.Plan.{Plan}
-use Rattle.editing.specs.Walk.{matches}
-use Rattle.storing.specs.Planned.{planned}
+use Rattle.row_walk.specs.declared.Which.the-variants.{Serial}
+use Rattle.row_walk.specs.declared.Later.the-variants.{Past}
+use Rattle.row_walk.specs.declared.Plan.{Plan}
+use Rattle.row_walk.specs.Walk.{matches}
+use Rattle.store_writer.specs.Planned.{planned}
 use Rattle.plans.specs.Following.{Does}
 use Rattle.plans.specs.CallPlans.{childSerial, attributeSerial, textSerial, fillingPlan, settingPlan, addDocumentPlan, addElementPlan, destroyElementPlan, setAttributePlan, destroyAttributeRowPlan, setTextPlan}
 use Rattle.plans.proofs.TreeWalk.{Clear, apart, everywhere, none-of, none-apart}

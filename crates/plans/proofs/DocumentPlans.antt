@@ -1,5 +1,4 @@
 -- Changes 11, 12, 13 and 16 on the documents of a store that passes: the plan by indices does what the plan of the rules does.
--- Assumes nothing.
 use Prim.Native.Nat.{ℕ, _<_}
 use mathlib.Core.Path.{_≡_, refl, sym, ap, _∙_}
 use mathlib.Core.Bool.{true, false, false≢true}
@@ -20,10 +19,10 @@ use Rattle.rules.proofs.PassingLaws.{good-is}
 use Rattle.history.proofs.Rowwise.{Standing}
 use Rattle.history.proofs.StandingLaws.{no-zero}
 use Rattle.filling.specs.declared.Filling.the-variants.{Definition}
-use Rattle.editing.specs.declared.Which.the-variants.{Everything, Ground, Serial}
-use Rattle.editing.specs.declared.Later.the-variants as later
-use Rattle.editing.specs.declared.Plan.{Plan}
-use Rattle.storing.specs.Planned.{fillOf}
+use Rattle.row_walk.specs.declared.Which.the-variants.{Everything, Ground, Serial}
+use Rattle.row_walk.specs.declared.Later.the-variants as later
+use Rattle.row_walk.specs.declared.Plan.{Plan}
+use Rattle.store_writer.specs.Planned.{fillOf}
 use Rattle.plans.specs.Following.{Does}
 use Rattle.plans.specs.CallPlans.{settingPlan, childSerial, textSerial, addDocumentPlan, addElementPlan, destroyElementPlan, setTextPlan}
 use Rattle.plans.proofs.Fillings.{filling-index}

@@ -1,5 +1,4 @@
 -- The filling by indices is the filling of the rules, written.
--- Assumes nothing.
 use Prim.Native.Nat.{ℕ, zero, suc, _+_, _<_}
 use native.Mathlib.Omega.{arith}
 use borrow.Author.Tests.{eq-eqb, ne-eqb}
@@ -24,16 +23,16 @@ use Rattle.rules.proofs.DecodeLaws.{unflat-flat, good-known, good-found}
 use Rattle.rules.proofs.PassingLaws.{good-is}
 use Rattle.rules.proofs.RenamingPlaces.{filling-rename}
 use Rattle.rules.proofs.FillingLaws.{fillBelow, fill-known, in-filling}
-use Rattle.rowpass.specs.Indices.{IndexForm}
-use Rattle.validity.specs.Reading.{entryOf, indexForm, Agrees}
-use Rattle.validity.proofs.IndexLaws.{namesOf, index-name, lookup-at, name-of, definition-in}
-use Rattle.validity.proofs.AttributeReads.{sort-of}
-use Rattle.validity.proofs.AttributeBlocks.{offset, Block, block-at}
-use Rattle.validity.proofs.FormGood.{form-agrees, good-bodies, good-fields}
+use Rattle.row_check.specs.Indices.{IndexForm}
+use Rattle.store_check.specs.Reading.{entryOf, indexForm, Agrees}
+use Rattle.store_check.proofs.IndexLaws.{namesOf, index-name, lookup-at, name-of, definition-in}
+use Rattle.store_check.proofs.AttributeReads.{sort-of}
+use Rattle.store_check.proofs.AttributeBlocks.{offset, Block, block-at}
+use Rattle.store_check.proofs.FormGood.{form-agrees, good-bodies, good-fields}
 use Rattle.filling.specs.declared.Filling.the-variants.{Definition}
 use Rattle.filling.specs.Fillings.{newElement, newAttribute, requiredRows, fillingsOf, contentRows, fillIndex, fillingRows}
 use Rattle.filling.specs.Parts.{valueOf}
-use Rattle.storing.specs.Planned.{membersAt}
+use Rattle.store_writer.specs.Planned.{membersAt}
 
 -- ---- forests side by side
 pub flatten-beside : {A : Type 0} (d : ℕ) (f g : Forest A) → flatten d (f ⧺ g) ≡ flatten d f ++ flatten d g

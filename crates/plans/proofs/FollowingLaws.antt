@@ -1,5 +1,4 @@
 -- A plan that does one thing follows a plan of the rules that does it: what is to be shown at each row.
--- Assumes nothing.
 use Prim.Native.Nat.{ℕ, _+_, _-_}
 use native.Mathlib.Omega.{arith}
 use mathlib.Core.Path.{_≡_, refl, sym, ap, _∙_}
@@ -19,14 +18,14 @@ use Rattle.rules.proofs.Words.{either}
 use Rattle.rules.proofs.Apart.{differs}
 use Rattle.history.proofs.RowEdits.{revalued}
 use Rattle.history.proofs.Rowwise.{Standing}
-use Rattle.validity.proofs.AttributeRows.{rowWritten}
+use Rattle.store_check.proofs.AttributeRows.{rowWritten}
 use Rattle.filling.specs.declared.Filling.{Filling}
-use Rattle.editing.specs.declared.Which.{Which}
-use Rattle.editing.specs.declared.Which.the-variants.{Serial}
-use Rattle.editing.specs.declared.Later.{Later}
-use Rattle.editing.specs.declared.Shift.{Shift}
-use Rattle.editing.specs.declared.Plan.{Plan}
-use Rattle.editing.specs.Walk.{matches, isEverything, isGround, isLater, shifted, movedIndex}
+use Rattle.row_walk.specs.declared.Which.{Which}
+use Rattle.row_walk.specs.declared.Which.the-variants.{Serial}
+use Rattle.row_walk.specs.declared.Later.{Later}
+use Rattle.row_walk.specs.declared.Shift.{Shift}
+use Rattle.row_walk.specs.declared.Plan.{Plan}
+use Rattle.row_walk.specs.Walk.{matches, isEverything, isGround, isLater, shifted, movedIndex}
 use Rattle.plans.specs.Following.{Fills, RowFollows, Follows}
 use Rattle.plans.specs.Kept.{EachBelow, BothTake, FollowsKept}
 use Rattle.plans.specs.CallPlans.{unmoved, unmarked, fillingPlan, takingPlan, settingPlan}

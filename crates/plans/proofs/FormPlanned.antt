@@ -1,5 +1,4 @@
 -- The store that a call leaves is the one after a plan that does on the documents what the call does, with the bodies of the form after it.
--- Assumes nothing.
 use Prim.Native.Nat.{ℕ, _+_}
 use mathlib.Core.Path.{_≡_, sym, ap, ap₂, _∙_}
 use mathlib.Core.List.{List, []}
@@ -8,9 +7,9 @@ use Rattle.rules.specs.Store.{Forest, Store}
 use Rattle.rules.specs.Preorder.{Deep, flatten}
 use Rattle.rules.specs.Layout.{FlatRow, FlatStore, indexed, flat}
 use Rattle.rules.specs.Change.{Call, formAfter, docsAfter, after}
-use Rattle.rows.specs.Written.{newIn, numbered}
-use Rattle.editing.specs.declared.Plan.{Plan}
-use Rattle.storing.specs.Planned.{fillOf, rowsAfter, plannedIn}
+use Rattle.row_writer.specs.Written.{newIn, numbered}
+use Rattle.row_walk.specs.declared.Plan.{Plan}
+use Rattle.store_writer.specs.Planned.{fillOf, rowsAfter, plannedIn}
 use Rattle.plans.specs.Trees.{documentsWalk}
 use Rattle.plans.specs.Bodies.{Holds}
 use Rattle.plans.proofs.Numbered.{new-flat, number-flat}

@@ -1,5 +1,4 @@
 -- The form after a change: its bytes are read back as it.
--- Assumes nothing.
 use Prim.Native.Nat.{ℕ, zero, suc, _+_, _≤_, _<_}
 use native.Mathlib.Omega.{arith}
 use mathlib.Core.Path.{_≡_, refl, ap, sym, _∙_}
@@ -15,10 +14,10 @@ use Rattle.rules.proofs.BooleanLaws.{Every, every-append}
 use Rattle.rules.proofs.LayoutLaws.{GoodFlatDefinition, GoodFlatAttribute, GoodFlat}
 use Rattle.rules.proofs.DecodeLaws.{name-width, value-width}
 use Rattle.model.specs.Places.{Particles}
-use Rattle.splicing.specs.Spliced.{startOf, countOf, counted, spliced, splicedForm}
-use Rattle.storing.specs.Forms.{formBytes}
-use Rattle.storing.proofs.FormBytesLaws.{Few, few-of, few-particles, few-attributes}
-use Rattle.storing.proofs.FormLaws.{bareForm, FormOf}
+use Rattle.model_writer.specs.Spliced.{startOf, countOf, counted, spliced, splicedForm}
+use Rattle.store_writer.specs.Forms.{formBytes}
+use Rattle.store_writer.proofs.FormBytesLaws.{Few, few-of, few-particles, few-attributes}
+use Rattle.store_writer.proofs.FormLaws.{bareForm, FormOf}
 use Rattle.plans.specs.AttributeCalls.{attributesReplaced, attributeAdded, attributeDropped}
 
 -- ---- lists

@@ -1,5 +1,4 @@
 -- The filling of a group by indices is the filling of the rules, written.
--- Assumes nothing.
 use Prim.Native.Nat.{ℕ}
 use mathlib.Core.Path.{_≡_, refl, sym, ap, ap₂, _∙_}
 use mathlib.Core.Bool.{Bool, true, false}
@@ -16,11 +15,11 @@ use Rattle.rules.specs.Filling.{fillEach, fillDefinition}
 use Rattle.rules.proofs.PassingLaws.{good-is}
 use Rattle.rules.proofs.RenamingPlaces.{nothing-rename, filling-rename}
 use Rattle.rules.proofs.FillingLaws.{in-filling}
-use Rattle.validity.specs.Reading.{entryOf, indexForm}
+use Rattle.store_check.specs.Reading.{entryOf, indexForm}
 use Rattle.filling.specs.declared.Filling.the-variants.{Particles}
 use Rattle.filling.specs.Fillings.{fillingsOf, fillIndex, groupFilled, fillingRows}
 use Rattle.filling.specs.Parts.{valueOf}
-use Rattle.storing.specs.Planned.{membersAt}
+use Rattle.store_writer.specs.Planned.{membersAt}
 use Rattle.plans.proofs.Fillings.{flatten-beside, indexed-beside, filling-index}
 use Rattle.plans.proofs.ModelForms.{index-of-name}
 

@@ -1,5 +1,4 @@
 -- Where the members of a group begin among the particles, and that they are read from there.
--- Assumes nothing.
 use Prim.Native.Nat.{ℕ, zero, suc, _+_, _≤_, _<_}
 use native.Mathlib.Omega.{arith}
 use mathlib.Core.Path.{_≡_, refl, sym, ap, ap₂, _∙_}
@@ -26,8 +25,8 @@ use Rattle.model.specs.Members.{indexMember, indexMembers}
 use Rattle.model.specs.Places.{Particles}
 use Rattle.model.specs.Positions.{elementParticle, groupParticle, spread, offset, leading, trailing, level}
 use Rattle.model.proofs.PositionLaws.{code-quantifier, spread-named, spread-plug, length-leading}
-use Rattle.splicing.specs.Spliced.{startOf}
-use Rattle.storing.specs.Planned.{membersAt}
+use Rattle.model_writer.specs.Spliced.{startOf}
+use Rattle.store_writer.specs.Planned.{membersAt}
 
 -- ---- a particle of depth d, a deeper one, one less deep
 build-same : (x : Deep FlatParticle) (xs : Particles) (d : ℕ) → d ≡ x .depth → build (x ∷ xs) d ≡ tree (x .row) (build xs (suc d)) (build xs d)

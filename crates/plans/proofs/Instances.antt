@@ -1,5 +1,4 @@
 -- Instances never nest: below an element stand only elements of definitions that its own reaches, and none reaches itself.
--- Assumes nothing.
 use Prim.Native.Nat.{ℕ, suc, _<_}
 use native.Mathlib.Omega.{arith}
 use mathlib.Core.Path.{_≡_, refl, sym, ap, _∙_, subst}
@@ -24,10 +23,10 @@ use Rattle.rules.proofs.WellFormedLaws.{well-formed, no-circle}
 use Rattle.rules.proofs.PassingLaws.{good-is}
 use Rattle.history.proofs.ConformingAfter.{is-element}
 use Rattle.history.proofs.ConformingForms.{element-named}
-use Rattle.validity.proofs.IndexLaws.{index-name, name-of}
-use Rattle.validity.proofs.AttributeRows.{rowWritten}
-use Rattle.editing.specs.declared.Which.the-variants.{Elements}
-use Rattle.editing.specs.Walk.{matches}
+use Rattle.store_check.proofs.IndexLaws.{index-name, name-of}
+use Rattle.store_check.proofs.AttributeRows.{rowWritten}
+use Rattle.row_walk.specs.declared.Which.the-variants.{Elements}
+use Rattle.row_walk.specs.Walk.{matches}
 use Rattle.plans.specs.Trees.{NoneOf, Apart}
 
 -- ---- definitions by name and by index

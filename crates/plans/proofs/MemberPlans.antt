@@ -1,5 +1,4 @@
 -- Changes 3 and 4 on the documents of a store that passes: the plan by indices does what the plan of the rules does.
--- Assumes nothing.
 use Prim.Native.Nat.{ℕ, _<_}
 use mathlib.Core.Path.{_≡_, refl, sym, ap, ap₂, _∙_}
 use mathlib.Core.Bool.{Bool, true, false, _&&_, not, and-false, false≢true}
@@ -23,10 +22,10 @@ use Rattle.rules.specs.Change.{insertElement, removeElement, definitionAt, name
 use Rattle.rules.specs.Change as change
 use Rattle.rules.proofs.PassingLaws.{good-is}
 use Rattle.history.proofs.Rowwise.{Standing}
-use Rattle.validity.proofs.AttributeRows.{rowWritten}
-use Rattle.editing.specs.declared.Which.the-variants.{Elements}
-use Rattle.editing.specs.declared.Plan.{Plan}
-use Rattle.storing.specs.Planned.{fillOf}
+use Rattle.store_check.proofs.AttributeRows.{rowWritten}
+use Rattle.row_walk.specs.declared.Which.the-variants.{Elements}
+use Rattle.row_walk.specs.declared.Plan.{Plan}
+use Rattle.store_writer.specs.Planned.{fillOf}
 use Rattle.plans.specs.Following.{RowFollows}
 use Rattle.plans.specs.ModelCalls.{Marked, removeElementPlan, insertElementPlan, DoesIn}
 use Rattle.plans.proofs.Fillings.{filling-index}

@@ -1,5 +1,4 @@
 -- THE STORE AFTER CHANGES 3, 4, 5 AND 8, where no condition of the refusal table holds: the bodies after the plan by indices.
--- Assumes nothing.
 use Prim.Native.Nat.{ℕ}
 use mathlib.Core.Path.{_≡_, refl}
 use mathlib.Core.Bool.{true, false, _&&_, _||_, not}
@@ -21,7 +20,7 @@ use Rattle.rules.specs.Change.{insertElement, removeElement, changeQuantifier, 
 use Rattle.rules.proofs.Words.{or-split}
 use Rattle.history.proofs.Conditions.{not-past}
 use Rattle.filling.specs.declared.Filling.the-variants.{Definition, Particles}
-use Rattle.storing.specs.Planned.{membersAt, plannedIn}
+use Rattle.store_writer.specs.Planned.{membersAt, plannedIn}
 use Rattle.plans.specs.Bodies.{Holds}
 use Rattle.plans.specs.ModelCalls.{Marked, insertElementPlan, removeElementPlan, requantifyPlan}
 use Rattle.plans.proofs.FormPlanned.{flat-planned-in}

@@ -1,5 +1,4 @@
 -- An edit of one model: no index moves. Elements and their marks, by index and by name.
--- Assumes nothing.
 use Prim.Native.Nat.{ℕ, zero, suc, _+_, _<_}
 use mathlib.Core.Path.{_≡_, refl, sym, ap, _∙_, subst}
 use mathlib.Core.Logic.{inl, inr}
@@ -24,11 +23,11 @@ use Rattle.rules.proofs.PassingLaws.{good-is}
 use Rattle.history.proofs.Rowwise.{Standing}
 use Rattle.history.proofs.ConformingAfter.{is-element}
 use Rattle.history.proofs.ModelAfter.{place-right}
-use Rattle.validity.proofs.IndexLaws.{Indexed, known-index, name-of, definition-in}
-use Rattle.validity.proofs.AttributeRows.{rowWritten}
-use Rattle.editing.specs.declared.Which.the-variants.{Elements}
-use Rattle.editing.specs.declared.Later.the-variants.{Unmarked}
-use Rattle.editing.specs.Walk.{matches, markOf, isLater}
+use Rattle.store_check.proofs.IndexLaws.{Indexed, known-index, name-of, definition-in}
+use Rattle.store_check.proofs.AttributeRows.{rowWritten}
+use Rattle.row_walk.specs.declared.Which.the-variants.{Elements}
+use Rattle.row_walk.specs.declared.Later.the-variants.{Unmarked}
+use Rattle.row_walk.specs.Walk.{matches, markOf, isLater}
 use Rattle.plans.specs.ModelCalls.{Marked}
 use Rattle.plans.proofs.Instances.{element-test}
 

@@ -1,5 +1,4 @@
 -- Giving serials to the rows of a forest gives them to its rows in a list.
--- Assumes nothing.
 use Prim.Native.Nat.{ℕ, suc, _+_}
 use native.Mathlib.Omega.{arith}
 use mathlib.Core.Path.{_≡_, refl, sym, ap, ap₂, _∙_}
@@ -12,8 +11,8 @@ use Rattle.rules.specs.Preorder.{Deep, flatten}
 use Rattle.rules.specs.Layout.{FlatRow, rowCode, rowIndex, indexed}
 use Rattle.rules.specs.Change
 use Rattle.rules.specs.Change.{newRows, given, number}
-use Rattle.rows.specs.Written.{isNew, newIn, withSerial, numbered}
-use Rattle.rows.proofs.WrittenLaws.{new-append, numbered-append}
+use Rattle.row_writer.specs.Written.{isNew, newIn, withSerial, numbered}
+use Rattle.row_writer.proofs.WrittenLaws.{new-append, numbered-append}
 
 module _ (form : Form) where
   -- a row as it is stored

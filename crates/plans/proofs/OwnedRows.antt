@@ -1,5 +1,4 @@
 -- An attribute row of documents that conform stands right below an element whose definition has the attribute.
--- Assumes nothing.
 use Prim.Native.Nat.{ℕ}
 use mathlib.Core.Path.{_≡_, refl, sym, ap, _∙_}
 use mathlib.Core.Bool.{Bool, true, false, false≢true}

@@ -1,6 +1,5 @@
 -- The rows right below an instance at a place on the spine of its model: those of names before the place, those of the member at it, the
 -- others. So if one of the member at the place stands, the first row that is later than the place is one.
--- Assumes nothing.
 use Prim.Native.Nat.{ℕ, _<_}
 use mathlib.Core.Path.{_≡_, refl, sym, ap, ap₂, _∙_, subst}
 use mathlib.Core.Logic.{_⊎_, inl, inr, ⊎-elim}
@@ -32,7 +31,7 @@ use Rattle.history.proofs.FormLaws.{definition-found}
 use Rattle.history.proofs.ModelAfter.{place-right}
 use Rattle.history.proofs.EditConditions.{complex-content, picked-complex}
 use Rattle.history.proofs.ConformingAfter.{is-element}
-use Rattle.validity.proofs.IndexLaws.{definition-in}
+use Rattle.store_check.proofs.IndexLaws.{definition-in}
 use Rattle.plans.proofs.ModelForms.{every-standing}
 
 -- ---- words

@@ -1,5 +1,4 @@
 -- The store that a call leaves is the one after a plan that does on the documents what the call does, where the form stays as it is.
--- Assumes nothing.
 use mathlib.Core.Path.{_≡_, refl, sym, ap, _∙_, subst}
 use mathlib.Core.List.{[]}
 use Rattle.rules.specs.Bytes.{Bytes}
@@ -7,8 +6,8 @@ use Rattle.rules.specs.Store.{Form, Store}
 use Rattle.rules.specs.Preorder.{flatten}
 use Rattle.rules.specs.Layout.{FlatStore, indexed, flat}
 use Rattle.rules.specs.Change.{Call, formAfter, docsAfter, after}
-use Rattle.editing.specs.declared.Plan.{Plan}
-use Rattle.storing.specs.Planned.{fillOf, planned, plannedIn}
+use Rattle.row_walk.specs.declared.Plan.{Plan}
+use Rattle.store_writer.specs.Planned.{fillOf, planned, plannedIn}
 use Rattle.plans.specs.Trees.{documentsWalk}
 use Rattle.plans.specs.Bodies.{Holds}
 use Rattle.plans.proofs.TreeWalk.{Clear}

@@ -1,5 +1,4 @@
 -- Changes 5 and 8 on the documents: the quantifier of an element, and of a group.
--- Assumes nothing.
 use Prim.Native.Nat.{ℕ, _<_}
 use mathlib.Core.Path.{_≡_, refl, sym, ap, _∙_, subst}
 use mathlib.Core.Logic.{_⊎_}
@@ -28,13 +27,13 @@ use Rattle.rules.proofs.Words.{and-split}
 use Rattle.rules.proofs.Letters.{member-in, member-out}
 use Rattle.rules.proofs.PassingLaws.{good-is}
 use Rattle.history.proofs.Rowwise.{Standing}
-use Rattle.validity.specs.Reading.{indexForm, entryOf}
+use Rattle.store_check.specs.Reading.{indexForm, entryOf}
 use Rattle.filling.specs.declared.Filling.{Filling}
 use Rattle.filling.specs.declared.Filling.the-variants.{Definition, Particles}
 use Rattle.filling.specs.Fillings.{fillingRows}
-use Rattle.editing.specs.Walk.{owed}
+use Rattle.row_walk.specs.Walk.{owed}
 use Rattle.filling.specs.Parts.{valueOf}
-use Rattle.storing.specs.Planned.{membersAt}
+use Rattle.store_writer.specs.Planned.{membersAt}
 use Rattle.plans.specs.ModelCalls.{Marked, gainFilling, requantifyPlan, DoesIn}
 use Rattle.plans.proofs.Fillings.{filling-index}
 use Rattle.plans.proofs.GroupFillings.{filling-group}

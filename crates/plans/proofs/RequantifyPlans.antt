@@ -1,5 +1,4 @@
 -- Changes 5 and 8 on the documents of a store that passes: the plan by indices does what the plan of the rules does.
--- Assumes nothing.
 use Prim.Native.Nat.{ℕ, _<_}
 use mathlib.Core.Path.{_≡_, refl, sym, ap, ap₂, _∙_, subst}
 use mathlib.Core.Logic.{_⊎_, inl, inr}
@@ -25,13 +24,13 @@ use Rattle.history.proofs.RowEdits.{keep, revalued}
 use Rattle.history.proofs.Rowwise.{Standing}
 use Rattle.history.proofs.StandingLaws.{children-are, children-once}
 use Rattle.history.proofs.InstanceRows.{rowSerial, keep-all, keep-none, keep-beside}
-use Rattle.validity.proofs.AttributeRows.{rowWritten}
+use Rattle.store_check.proofs.AttributeRows.{rowWritten}
 use Rattle.filling.specs.declared.Filling.{Filling}
-use Rattle.editing.specs.declared.Which.the-variants.{Elements}
-use Rattle.editing.specs.declared.Later.the-variants.{Unmarked}
-use Rattle.editing.specs.declared.Plan.{Plan}
-use Rattle.editing.specs.Walk.{matches, isLater, spared, owed}
-use Rattle.storing.specs.Planned.{fillOf}
+use Rattle.row_walk.specs.declared.Which.the-variants.{Elements}
+use Rattle.row_walk.specs.declared.Later.the-variants.{Unmarked}
+use Rattle.row_walk.specs.declared.Plan.{Plan}
+use Rattle.row_walk.specs.Walk.{matches, isLater, spared, owed}
+use Rattle.store_writer.specs.Planned.{fillOf}
 use Rattle.plans.specs.Trees.{takenAt, filledAt, documentsWalk}
 use Rattle.plans.specs.Simulation.{planted, Going, Staying}
 use Rattle.plans.specs.ModelCalls.{Marked, cutTakes, requantifyPlan}

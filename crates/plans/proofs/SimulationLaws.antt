@@ -1,5 +1,4 @@
 -- A plan by indices beside a plan of the rules: the walk over the documents, written by indices, does what that plan does on them.
--- Assumes nothing.
 use Prim.Native.Nat.{ℕ, suc}
 use mathlib.Core.Path.{_≡_, refl, sym, ap, ap₂, _∙_}
 use mathlib.Core.Logic.{_⊎_, inl, inr}
@@ -14,9 +13,9 @@ use Rattle.rules.specs.Change.{plant, prune, eachRow, changed}
 use Rattle.rules.specs.Change as change
 use Rattle.history.proofs.RowEdits.{revalued}
 use Rattle.history.proofs.Rowwise.{below, under, below-taken, below-here, below-past}
-use Rattle.validity.proofs.AttributeRows.{rowWritten}
-use Rattle.editing.specs.declared.Plan.{Plan}
-use Rattle.editing.specs.Walk.{matches, isGround, isLater, keptRow, owed}
+use Rattle.store_check.proofs.AttributeRows.{rowWritten}
+use Rattle.row_walk.specs.declared.Plan.{Plan}
+use Rattle.row_walk.specs.Walk.{matches, isGround, isLater, keptRow, owed}
 use Rattle.plans.specs.Trees.{takenAt, filledAt, treeWalk, documentsWalk}
 use Rattle.plans.specs.Simulation.{planted, Going, Staying, Simulates}
 use Rattle.plans.proofs.Fillings.{flatten-beside, indexed-beside}

@@ -1,5 +1,4 @@
 -- A plan by indices that follows a plan of the rules does on the documents, written by indices, what that plan does on them.
--- Assumes nothing.
 use Prim.Native.Nat.{ℕ}
 use mathlib.Core.Path.{_≡_, refl, sym, ap, ap₂, _∙_}
 use mathlib.Core.Logic.{_⊎_, inl, inr}
@@ -15,9 +14,9 @@ use Rattle.rules.specs.Change.{changed}
 use Rattle.rules.specs.Change as change
 use Rattle.rules.proofs.Words.{and-split}
 use Rattle.history.proofs.RowEdits.{revalued}
-use Rattle.validity.proofs.AttributeRows.{rowWritten}
-use Rattle.editing.specs.declared.Plan.{Plan}
-use Rattle.editing.specs.Walk.{matches, isEverything, isGround, markOf, isLater, owed}
+use Rattle.store_check.proofs.AttributeRows.{rowWritten}
+use Rattle.row_walk.specs.declared.Plan.{Plan}
+use Rattle.row_walk.specs.Walk.{matches, isEverything, isGround, markOf, isLater, owed}
 use Rattle.plans.specs.Trees.{takenAt, filledAt, documentsWalk}
 use Rattle.plans.specs.Following.{Fills, RowFollows, Follows, DocumentsFollow, Plain}
 use Rattle.plans.specs.Kept.{BothTake, FollowsKept}

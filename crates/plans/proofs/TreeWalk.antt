@@ -1,5 +1,4 @@
 -- The walk over the rows of a forest in a list is the walk over the forest.
--- Assumes nothing.
 use Prim.Native.Nat.{ℕ, suc, _≤_, _<_}
 use native.Mathlib.Omega.{arith}
 use mathlib.Core.Path.{_≡_, refl, sym, ap, ap₂, _∙_}
@@ -11,11 +10,11 @@ use Rattle.rules.specs.Bytes.{Bytes}
 use Rattle.rules.specs.Store.{Forest, bare, tree}
 use Rattle.rules.specs.Preorder.{Deep, flatten}
 use Rattle.rules.specs.Layout.{FlatRow}
-use Rattle.editing.specs.declared.Which.{Which}
-use Rattle.editing.specs.declared.Which.the-variants.{Nothing, Everything, Ground, Elements, Attributes, Serial}
-use Rattle.editing.specs.declared.Plan.{Plan}
-use Rattle.editing.specs.declared.Open.{Open}
-use Rattle.editing.specs.Walk.{matches, isEverything, isGround, isLater, keptRow, gone, closes, closed, isTaken, isFilled, taken, kept, owed, rowDepth, emitted, onward, walked, atFirst}
+use Rattle.row_walk.specs.declared.Which.{Which}
+use Rattle.row_walk.specs.declared.Which.the-variants.{Nothing, Everything, Ground, Elements, Attributes, Serial}
+use Rattle.row_walk.specs.declared.Plan.{Plan}
+use Rattle.row_walk.specs.declared.Open.{Open}
+use Rattle.row_walk.specs.Walk.{matches, isEverything, isGround, isLater, keptRow, gone, closes, closed, isTaken, isFilled, taken, kept, owed, rowDepth, emitted, onward, walked, atFirst}
 use Rattle.plans.specs.Trees.{takenAt, filledAt, treeWalk, documentsWalk, NoneOf, Apart}
 
 -- what the walk over the rows in a list needs of a plan and the documents

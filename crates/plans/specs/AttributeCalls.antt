@@ -1,5 +1,4 @@
 -- The plans by indices of changes 9 and 10, and the bodies of the form after them.
--- Assumes nothing.
 use Prim.Native.Nat.{ℕ, suc}
 use mathlib.Core.Bool.{true, false}
 use mathlib.Core.List.{List, [], _∷_, _++_}
@@ -10,10 +9,10 @@ use Rattle.rules.specs.Decode.{sortOf}
 use Rattle.rules.specs.Conforming.{mustBePresent}
 use Rattle.filling.specs.declared.Filling.the-variants.{Attribute}
 use Rattle.filling.specs.declared.Filling.the-variants as filling
-use Rattle.editing.specs.declared.Which.the-variants.{Nothing, Elements, Attributes}
-use Rattle.editing.specs.declared.Later.the-variants.{Never, Past}
-use Rattle.editing.specs.declared.Plan.{Plan}
-use Rattle.validity.specs.Reading.{entryOf}
+use Rattle.row_walk.specs.declared.Which.the-variants.{Nothing, Elements, Attributes}
+use Rattle.row_walk.specs.declared.Later.the-variants.{Never, Past}
+use Rattle.row_walk.specs.declared.Plan.{Plan}
+use Rattle.store_check.specs.Reading.{entryOf}
 use Rattle.plans.specs.CallPlans.{unmoved, unmarked}
 
 -- how many attributes the definitions up to o have, and o: where a new attribute of o comes

@@ -1,5 +1,4 @@
 -- The bodies of a form among those of a store.
--- Assumes nothing.
 use mathlib.Core.Path.{_≡_}
 use mathlib.Core.List.{map}
 use Rattle.rules.specs.Store.{Form}

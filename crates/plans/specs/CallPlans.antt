@@ -1,5 +1,4 @@
 -- The plans by indices of changes 11 to 16.
--- Assumes nothing.
 use Prim.Native.Nat.{ℕ}
 use mathlib.Core.Bool.{true, false}
 use mathlib.Core.Option.{none, some}
@@ -12,12 +11,12 @@ use Rattle.rules.specs.Change.{attributeAt}
 use Rattle.filling.specs.declared.Filling.{Filling}
 use Rattle.filling.specs.declared.Filling.the-variants.{Definition, Attribute}
 use Rattle.filling.specs.declared.Filling.the-variants as filling
-use Rattle.editing.specs.declared.Which.{Which}
-use Rattle.editing.specs.declared.Which.the-variants.{Nothing, Everything, Ground, Attributes, Serial}
-use Rattle.editing.specs.declared.Later.{Later}
-use Rattle.editing.specs.declared.Later.the-variants.{Never, Row, Past}
-use Rattle.editing.specs.declared.Shift.{Shift}
-use Rattle.editing.specs.declared.Plan.{Plan}
+use Rattle.row_walk.specs.declared.Which.{Which}
+use Rattle.row_walk.specs.declared.Which.the-variants.{Nothing, Everything, Ground, Attributes, Serial}
+use Rattle.row_walk.specs.declared.Later.{Later}
+use Rattle.row_walk.specs.declared.Later.the-variants.{Never, Row, Past}
+use Rattle.row_walk.specs.declared.Shift.{Shift}
+use Rattle.row_walk.specs.declared.Plan.{Plan}
 
 -- ---- plans that do one thing
 abbrev pub unmoved : Shift

@@ -1,5 +1,4 @@
 -- A plan by indices follows a plan of the rules: row by row, both take, fill, set and renumber the same.
--- Assumes nothing.
 use Prim.Native.Nat.{ℕ}
 use mathlib.Core.Path.{_≡_}
 use mathlib.Core.Bool.{Bool, true, false, _&&_, _||_}
@@ -11,10 +10,10 @@ use Rattle.rules.specs.Layout.{FlatRow, rowIndex, indexed, flat}
 use Rattle.rules.specs.Lines.{ground}
 use Rattle.rules.specs.Change as change
 use Rattle.history.proofs.RowEdits.{revalued}
-use Rattle.validity.proofs.AttributeRows.{rowWritten}
-use Rattle.editing.specs.declared.Plan.{Plan}
-use Rattle.editing.specs.Walk.{matches, isEverything, isGround, isLater, movedIndex, valueAfter}
-use Rattle.storing.specs.Planned.{fillOf}
+use Rattle.store_check.proofs.AttributeRows.{rowWritten}
+use Rattle.row_walk.specs.declared.Plan.{Plan}
+use Rattle.row_walk.specs.Walk.{matches, isEverything, isGround, isLater, movedIndex, valueAfter}
+use Rattle.store_writer.specs.Planned.{fillOf}
 use Rattle.plans.specs.Trees.{documentsWalk}
 
 -- no row is kept or spared

@@ -1,5 +1,4 @@
 -- A plan by indices follows a plan of the rules on the rows that are kept: of a row that both take nothing more is asked.
--- Assumes nothing.
 use Prim.Native.Nat.{ℕ}
 use mathlib.Core.Path.{_≡_}
 use mathlib.Core.Logic.{_⊎_}
@@ -11,9 +10,9 @@ use Rattle.rules.specs.Preorder.{Deep}
 use Rattle.rules.specs.Layout.{FlatRow}
 use Rattle.rules.specs.Change as change
 use Rattle.history.proofs.RowEdits.{revalued}
-use Rattle.validity.proofs.AttributeRows.{rowWritten}
-use Rattle.editing.specs.declared.Plan.{Plan}
-use Rattle.editing.specs.Walk.{matches, isEverything}
+use Rattle.store_check.proofs.AttributeRows.{rowWritten}
+use Rattle.row_walk.specs.declared.Plan.{Plan}
+use Rattle.row_walk.specs.Walk.{matches, isEverything}
 use Rattle.plans.specs.Following.{RowFollows}
 
 -- every row of a forest below u, with the row right above it

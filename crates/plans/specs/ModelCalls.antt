@@ -1,5 +1,4 @@
 -- The plans by indices of changes 3, 4, 5 and 8, which edit the model of definition o at a place.
--- Assumes nothing.
 use Prim.Native.Nat.{ℕ, _<_}
 use mathlib.Core.Path.{_≡_}
 use mathlib.Core.Bool.{Bool, true, false, _||_}
@@ -15,11 +14,11 @@ use Rattle.rules.specs.Change.{Call, nameAtIndex, formAfter, docsAfter}
 use Rattle.filling.specs.declared.Filling.{Filling}
 use Rattle.filling.specs.declared.Filling.the-variants.{Definition}
 use Rattle.filling.specs.declared.Filling.the-variants as filling
-use Rattle.editing.specs.declared.Which.{Which}
-use Rattle.editing.specs.declared.Which.the-variants.{Nothing, Elements}
-use Rattle.editing.specs.declared.Later.the-variants.{Unmarked}
-use Rattle.editing.specs.declared.Plan.{Plan}
-use Rattle.storing.specs.Planned.{fillOf}
+use Rattle.row_walk.specs.declared.Which.{Which}
+use Rattle.row_walk.specs.declared.Which.the-variants.{Nothing, Elements}
+use Rattle.row_walk.specs.declared.Later.the-variants.{Unmarked}
+use Rattle.row_walk.specs.declared.Plan.{Plan}
+use Rattle.store_writer.specs.Planned.{fillOf}
 use Rattle.plans.specs.Trees.{documentsWalk}
 use Rattle.plans.specs.CallPlans.{unmoved, takingPlan}
 

@@ -1,5 +1,4 @@
 -- A plan by indices beside a plan of the rules, row by row: what is due may differ, as long as the rows that come are the same.
--- Assumes nothing.
 use Prim.Native.Nat.{ℕ}
 use mathlib.Core.Path.{_≡_}
 use mathlib.Core.Logic.{_⊎_}
@@ -11,9 +10,9 @@ use Rattle.rules.specs.Preorder.{Deep, flatten}
 use Rattle.rules.specs.Layout.{FlatRow, rowIndex, indexed}
 use Rattle.rules.specs.Change as change
 use Rattle.history.proofs.RowEdits.{revalued}
-use Rattle.validity.proofs.AttributeRows.{rowWritten}
-use Rattle.editing.specs.declared.Plan.{Plan}
-use Rattle.editing.specs.Walk.{matches, isLater, movedIndex, valueAfter, owed}
+use Rattle.store_check.proofs.AttributeRows.{rowWritten}
+use Rattle.row_walk.specs.declared.Plan.{Plan}
+use Rattle.row_walk.specs.Walk.{matches, isLater, movedIndex, valueAfter, owed}
 use Rattle.plans.specs.Trees.{takenAt, filledAt}
 
 -- form, new: the form before and after; q: of the rules; p with the value v and the rows `fill d` of its filling: by indices

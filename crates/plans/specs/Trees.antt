@@ -1,5 +1,4 @@
 -- The walk over the rows, on trees: below each row, what is taken and where the filling comes.
--- Assumes nothing.
 use Prim.Native.Nat.{ℕ, suc}
 use mathlib.Core.Path.{_≡_}
 use mathlib.Core.Bool.{Bool, true, false, _&&_, _||_, not}
@@ -8,8 +7,8 @@ use Rattle.rules.specs.Bytes.{Bytes}
 use Rattle.rules.specs.Store.{Forest, bare, tree}
 use Rattle.rules.specs.Preorder.{Deep}
 use Rattle.rules.specs.Layout.{FlatRow}
-use Rattle.editing.specs.declared.Plan.{Plan}
-use Rattle.editing.specs.Walk.{matches, isEverything, isGround, isLater, spared, keptRow, owed}
+use Rattle.row_walk.specs.declared.Plan.{Plan}
+use Rattle.row_walk.specs.Walk.{matches, isEverything, isGround, isLater, spared, keptRow, owed}
 
 module _ (p : Plan) where
   -- a row is taken, and a filling comes right before it, below a row that is one of `above` or not, where a filling is due or not

@@ -1,10 +1,10 @@
 //! The plans by indices of the changes, and that the walk over the rows with a plan does what the change of the rules does to the
 //! documents.
-use editing::Later;
-use editing::Plan;
-use editing::Shift;
-use editing::Which;
 use filling::Filling;
+use row_walk::Later;
+use row_walk::Plan;
+use row_walk::Shift;
+use row_walk::Which;
 ghost use mathlib.Core.Path.{_≡_};
 ghost use mathlib.Core.Bool.{_||_};
 ghost use Rattle.plans.specs.CallPlans.{unmarked, fillingPlan, takingPlan, settingPlan};

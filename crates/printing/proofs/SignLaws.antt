@@ -1,5 +1,4 @@
 -- Escapes, marks and separators.
--- Assumes nothing.
 use mathlib.Core.Path.{_≡_, refl, sym, ap, ap₂, _∙_}
 use mathlib.Core.Bool.{Bool, true, false, _||_, false≢true}
 use mathlib.Core.List.{[], _∷_, _++_}

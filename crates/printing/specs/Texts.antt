@@ -1,5 +1,4 @@
 -- The text of a store in terms of the records of its bodies.
--- Assumes nothing.
 use Prim.Native.Nat.{ℕ, zero, suc, _+_, _≤_}
 use lib.ListN.{take}
 use mathlib.Core.Bool.{Bool, true, false}

@@ -1,5 +1,4 @@
 -- What a writer leaves that follows the depths of records: those of one depth that stand beside one another, each with the deeper ones after it.
--- Assumes nothing.
 use Prim.Native.Nat.{ℕ, suc, _+_, _-_, _*_, _<_, _≤_}
 use mathlib.Core.Path.{_≡_}
 use mathlib.Core.List.{List}

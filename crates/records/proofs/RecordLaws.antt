@@ -1,5 +1,4 @@
 -- A record that fits is what its reading is written as, and what is written of good fields fits, whatever the width of a value.
--- Assumes nothing.
 use Prim.Native.Nat.{ℕ, zero, suc, _+_, _*_, _-_, _/_, _%_, _^_, _≤_, _<_}
 use native.Mathlib.Nat.{pow-suc, sub-add-cancel, le-of-suc-le-suc, mul-suc, mul-zero}
 use native.Mathlib.Omega.{arith}

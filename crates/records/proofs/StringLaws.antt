@@ -1,5 +1,4 @@
 -- A byte string whose header and records fit is what its reading is written as, and a store that passes is written so that they fit.
--- Assumes nothing.
 use Prim.Native.Nat.{ℕ, zero, suc, _+_, _*_, _≤_, _<_}
 use native.Mathlib.Nat.{mul-le-mul}
 use native.Mathlib.Omega.{arith}

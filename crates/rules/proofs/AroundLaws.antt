@@ -1,5 +1,4 @@
 -- The group directly around a place by recursion on its context: the tests of change 4 as proofs use them.
--- Assumes nothing.
 use mathlib.Core.Path.{_≡_, refl, sym, ap, _∙_}
 use mathlib.Core.Bool.{Bool, true, false, not, _&&_, _||_}
 use mathlib.Core.Option.{Option, none, some}

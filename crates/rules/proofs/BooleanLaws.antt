@@ -1,5 +1,4 @@
 -- Facts on tests over lists: entry by entry, by membership, and of a value behind a test.
--- Assumes nothing.
 use Prim.Native.Nat.{ℕ}
 use native.Mathlib.Omega.{arith}
 use mathlib.Core.Path.{_≡_, refl, ap, sym, _∙_}

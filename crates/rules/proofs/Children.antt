@@ -1,5 +1,4 @@
 -- What changes 3 to 8 do to the names of one instance's children.
--- Assumes nothing.
 use Prim.Native.Nat.{ℕ, zero, suc}
 use mathlib.Core.Path.{_≡_}
 use mathlib.Core.Logic.{_⊎_}

@@ -1,5 +1,4 @@
 -- The clubform history of paper 01, computed through the byte strings, with its book.
--- Assumes nothing.
 use Prim.Native.Nat.{ℕ}
 use mathlib.Core.Path.{_≡_, refl}
 use mathlib.Core.Bool.{Bool, true, false, _&&_, false≢true}

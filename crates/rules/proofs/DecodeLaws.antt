@@ -1,6 +1,5 @@
 -- Decoding undoes encoding on stores that pass, and encoding undoes decoding: a byte string passes if and only if it is the
 -- encoding of a store that does. Such a store's rows are no deeper than it has definitions, and its bytes are below 256.
--- Assumes nothing.
 use Prim.Native.Nat.{ℕ, suc, _+_, _*_, _≤_, _<_}
 use native.Mathlib.Nat.{zero-add, suc-add}
 use native.Mathlib.Omega.{arith}

@@ -1,5 +1,4 @@
 -- The examples of paper 01 as one table, its 'plausible and false' list, each shown false, and a few more.
--- Assumes nothing.
 use Prim.Native.Nat.{ℕ, zero, suc, _+_}
 use Prim.Native.String.{String}
 use mathlib.Core.Path.{_≡_, refl}

@@ -1,5 +1,4 @@
 -- Fillings: the rows they are made of, that they conform, and that a larger height changes nothing.
--- Assumes nothing.
 use Prim.Native.Nat.{ℕ, zero, suc, _≤_}
 use native.Mathlib.Omega.{arith}
 use mathlib.Core.Path.{_≡_, refl, sym, ap, ap₂, _∙_}

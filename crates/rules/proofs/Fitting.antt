@@ -1,5 +1,4 @@
 -- Changes 3, 5 and 8 on the spine: the children after the change are a word of the new model.
--- Assumes nothing.
 use Prim.Native.Nat.{ℕ, zero, suc, _≤_}
 use native.Mathlib.Omega.{arith}
 use mathlib.Core.Path.{_≡_, refl, sym, ap, _∙_}

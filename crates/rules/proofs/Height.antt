@@ -1,5 +1,4 @@
 -- Heights of definitions: no definition reaches itself just where each has a height of at most the number of definitions; the test for reaching decides.
--- Assumes nothing.
 use Prim.Native.Nat.{ℕ, zero, suc, _+_, _≤_}
 use native.Mathlib.Omega.{arith}
 use mathlib.Core.Path.{_≡_, refl, sym, ap, _∙_}

@@ -1,5 +1,4 @@
 -- A history that makes, takes, revalues and is refused, computed through the byte strings, with its book; and how new lines find their places.
--- Assumes nothing.
 use Prim.Native.Nat.{ℕ}
 use mathlib.Core.Path.{_≡_, refl}
 use mathlib.Core.Bool.{Bool, true, false}

@@ -1,5 +1,4 @@
 -- THE LOWEST NUMBER THAT APPLIES IS GIVEN: the conditions of every call are asked in the order of the table.
--- Assumes nothing.
 use Prim.Native.Nat.{ℕ, _≤_}
 use native.Mathlib.Omega.{arith}
 use mathlib.Core.Path.{_≡_, refl, sym, ap, _∙_}

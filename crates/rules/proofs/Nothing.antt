@@ -1,5 +1,4 @@
 -- Members accept nothing just where the empty word is in their language.
--- Assumes nothing.
 use Prim.Native.Nat.{ℕ, zero, suc, _≤_}
 use native.Mathlib.Omega.{arith}
 use mathlib.Core.Path.{_≡_, refl}

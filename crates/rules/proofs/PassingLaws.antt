@@ -1,5 +1,4 @@
 -- The tests of the check decide what passes: `good` is `Good`, and `passes` is `Passes`.
--- Assumes nothing.
 use Prim.Native.Nat.{ℕ}
 use mathlib.Core.Path.{_≡_, refl}
 use mathlib.Core.Logic.{_↔_}

@@ -1,5 +1,4 @@
 -- The tests on every row of a forest and on serials: each is true just where what it tests holds.
--- Assumes nothing.
 use Prim.Native.Nat.{ℕ, _<_, _≤_}
 use mathlib.Core.Path.{_≡_, refl, sym, _∙_}
 use mathlib.Core.Logic.{⊎-elim, _↔_, Iff·rfl}

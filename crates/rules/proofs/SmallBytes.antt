@@ -1,5 +1,4 @@
 -- Every byte of a store that passes is below 256, and its rows are no deeper than it has definitions.
--- Assumes nothing.
 use Prim.Native.Nat.{ℕ, suc, _+_, _≤_, _<_, zero}
 use native.Mathlib.Omega.{arith}
 use mathlib.Core.Path.{_≡_, refl, ap}

@@ -1,5 +1,4 @@
 -- Each particle of the spine is passed exactly once: a word is the names before the place, those there, and those after.
--- Assumes nothing.
 use mathlib.Core.Path.{_≡_, refl, sym, ap, _∙_}
 use mathlib.Core.Logic.{_⊎_, inl, inr, ⊎-elim}
 use mathlib.Core.Bool.{Bool, true, false, _&&_, false≢true}

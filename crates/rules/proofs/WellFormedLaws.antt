@@ -1,5 +1,4 @@
 -- The test for well-formed decides it; what a well-formed form gives at a name.
--- Assumes nothing.
 use Prim.Native.Nat.{ℕ}
 use mathlib.Core.Path.{_≡_, refl, sym, ap}
 use mathlib.Core.Logic.{_⊎_, inl, inr, _↔_}

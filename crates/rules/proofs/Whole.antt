@@ -1,5 +1,4 @@
 -- CHANGES 3 TO 8: a sound model stays sound, and each instance's children become a word of the model after.
--- Assumes nothing.
 use Prim.Native.Nat.{ℕ, zero, suc}
 use mathlib.Core.Path.{_≡_, refl, sym, ap, _∙_}
 use mathlib.Core.Option.{Option, none, some}

@@ -1,5 +1,4 @@
 -- The one-pass test of a word against a model: the state is the name read last.
--- Assumes nothing.
 use mathlib.Core.Bool.{Bool, true, false, _&&_, _||_}
 use mathlib.Core.List.{List, [], _∷_}
 use Rattle.rules.specs.declared.Facts.{Facts}

@@ -1,5 +1,4 @@
 -- 'The book': it is fed each call and whether it was accepted, and reads no store.
--- Assumes nothing.
 use Prim.Native.Nat.{ℕ, zero, suc, _+_, _*_}
 use mathlib.Core.Bool.{Bool, true, false, _&&_, _||_, not}
 use mathlib.Core.Option.{Option, none, some}

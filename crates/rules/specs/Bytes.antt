@@ -1,5 +1,4 @@
 -- Byte strings, as lists of numbers, and words on lists.
--- Assumes nothing.
 use Prim.Native.Nat.{ℕ, zero, suc, _+_, _*_}
 use Prim.Native.String.{String}
 use Prim.Native.Char.{code}

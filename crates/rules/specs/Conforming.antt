@@ -1,5 +1,4 @@
 -- 'Conforming', in the paper's words, and as a test in one pass over the rows right below each element.
--- Assumes nothing.
 use Prim.Native.Nat.{ℕ, zero, suc, _<_, _≤_}
 use mathlib.Core.Path.{_≡_}
 use mathlib.Core.Logic.{_⊎_}

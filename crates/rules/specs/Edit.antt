@@ -1,5 +1,4 @@
 -- The changes 3 to 8 of a model at a place.
--- Assumes nothing.
 use Prim.Native.Nat.{ℕ, zero, suc}
 use mathlib.Core.Path.{_≡_}
 use mathlib.Core.Logic.{_⊎_}

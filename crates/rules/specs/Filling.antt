@@ -1,5 +1,4 @@
 -- 'Filling': the rows that a change makes for a definition, without serials.
--- Assumes nothing.
 use Prim.Native.Nat.{ℕ, zero, suc}
 use mathlib.Core.Bool.{Bool, true, false}
 use mathlib.Core.Option.{Option, none, some}

@@ -1,5 +1,4 @@
 -- 'The look-up hands back the part of the store that is the value of the attribute or text row with a given serial.'
--- Assumes nothing.
 use Prim.Native.Nat.{ℕ, zero, suc, _+_, _*_}
 use mathlib.Core.Bool.{Bool, true, false, _&&_, _||_, not}
 use mathlib.Core.Option.{Option, none, some}

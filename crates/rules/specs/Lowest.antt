@@ -1,5 +1,4 @@
 -- 'The lowest number that applies is given, never another': said of `refusal` over one list of the table's numbers. No promise cites this.
--- Assumes nothing.
 use Prim.Native.Nat.{ℕ, zero, suc, _≤_}
 use mathlib.Core.Path.{_≡_}
 use mathlib.Core.Bool.{Bool, true, false}

@@ -1,5 +1,4 @@
 -- Content models: members with their quantifiers, over any type of names.
--- Assumes nothing.
 use Prim.Native.Nat.{ℕ}
 use mathlib.Core.Path.{_≡_}
 use mathlib.Core.Bool.{Bool, true, false, not, _&&_, _||_}

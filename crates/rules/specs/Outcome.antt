@@ -1,5 +1,4 @@
 -- What a public call answers: refused with a number, or the bytes written.
--- Assumes nothing.
 use Prim.Native.Nat.{ℕ, zero, suc}
 use mathlib.Core.Path.{_≡_}
 use mathlib.Core.Bool.{Bool, true, false}
@@ -52,6 +51,6 @@ pub record Answers (o : Outcome) (out : Bytes) (number len : ℕ) (left : Bytes)
   pub buffer-is : left ≡ bufferOf o out
 
 -- The promise of each of the sixteen changes, of the store `bs` that the call reads and the buffer `out` that it is given. The public calls
--- of crates/formstore state it, and the history of a box is made of calls that keep it (crates/histories).
+-- of crates/formstore state it, and the history of a box is made of calls that keep it (crates/history).
 abbrev pub Promise : Call → Bytes → Bytes → ℕ → ℕ → Bytes → Type 0
 Promise c bs out number len left = Answers (outcome c bs (length out)) out number len left

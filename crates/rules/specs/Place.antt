@@ -1,5 +1,4 @@
 -- Where a place leads: the model around it, and the members from the picked one on.
--- Assumes nothing.
 use mathlib.Core.Path.{_≡_}
 use Prim.Native.Nat.{ℕ, zero, suc}
 use mathlib.Core.Bool.{Bool, true, false, _&&_, _||_}

@@ -1,5 +1,4 @@
 -- Preorder with depths, and back: models and documents are stored so.
--- Assumes nothing.
 use Prim.Native.Nat.{ℕ, zero, suc}
 use mathlib.Core.Bool.{Bool, true, false}
 use mathlib.Core.List.{List, [], _∷_, _++_}

@@ -1,5 +1,4 @@
 -- 'Printing': a text is a list of lines, a line a list of tokens.
--- Assumes nothing.
 use Prim.Native.Nat.{ℕ, zero, suc}
 use mathlib.Core.Bool.{Bool, true, false}
 use mathlib.Core.Option.{Option, none, some}

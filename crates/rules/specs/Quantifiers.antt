@@ -1,5 +1,4 @@
 -- The sixteen pairs of old and new quantifier.
--- Assumes nothing.
 use Prim.Native.Nat.{ℕ, zero, suc}
 use mathlib.Core.Path.{_≡_}
 use mathlib.Core.Logic.{_⊎_}

@@ -1,6 +1,5 @@
 -- The refusal table: of each change the conditions that apply, in the order of their numbers. The first that holds is given.
 -- Each may rely on the earlier ones not holding. That every call asks them in this order is proved, as Lowest.antt says it.
--- Assumes nothing.
 use Prim.Native.Nat.{ℕ, zero, suc}
 use mathlib.Core.Bool.{Bool, true, false, _&&_, _||_, not}
 use mathlib.Core.Option.{Option, none, some}

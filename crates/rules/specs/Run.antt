@@ -1,5 +1,4 @@
 -- 'History': calls in any order, each reading the store that the last accepted one wrote; and its book.
--- Assumes nothing.
 use Prim.Native.Nat.{ℕ}
 use mathlib.Core.Bool.{Bool, true, false}
 use mathlib.Core.List.{List, [], _∷_}

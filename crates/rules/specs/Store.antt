@@ -1,5 +1,4 @@
 -- 'The store': what it holds. Members and rows carry names where the bytes have indices; Layout turns names into indices.
--- Assumes nothing.
 use Prim.Native.Nat.{ℕ}
 use mathlib.Core.List.{List, [], _∷_}
 use Rattle.rules.specs.Bytes.{Bytes}

@@ -1,5 +1,4 @@
 -- 'Well-formed', with the names, values and ceilings it speaks of: in the paper's words, and as a test.
--- Assumes nothing.
 use Prim.Native.Nat.{ℕ, zero, suc}
 use mathlib.Core.Path.{_≡_}
 use mathlib.Core.Bool.{Bool, true, false, _&&_, _||_, not}

@@ -1,5 +1,5 @@
 // A store that is carried through the sixteen changes, each of which prints its number.
-use storing::Answer;
+use store_writer::Answer;
 
 /// The first `length` bytes are the store.
 pub struct Play {

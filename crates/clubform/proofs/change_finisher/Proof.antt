@@ -1,5 +1,4 @@
 -- `clubform::change_finisher` meets its contract.
--- Assumes nothing.
 use borrow.Author.Needs.{needs}
 use Rattle.clubform.proofs.Laws.{front}
 use Rattle.clubform.proofs.change_finisher.Statement.{statement}

@@ -1,5 +1,4 @@
 -- `clubform::create_definitions` meets its contract.
--- Assumes nothing.
 use borrow.Author.Needs.{needs}
 use Rattle.clubform.proofs.Laws.{front}
 use Rattle.clubform.proofs.create_definitions.Statement.{statement}

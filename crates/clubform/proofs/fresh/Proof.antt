@@ -1,5 +1,4 @@
 -- `clubform::fresh` meets its contract.
--- Assumes nothing.
 use borrow.Author.Needs.{needs}
 use Rattle.rules.specs.Layout.{valueWidth}
 use mathlib.Core.Path.{refl}

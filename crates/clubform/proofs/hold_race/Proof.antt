@@ -1,5 +1,4 @@
 -- `clubform::hold_race` meets its contract.
--- Assumes nothing.
 use borrow.Author.Needs.{needs}
 use Rattle.clubform.proofs.Laws.{front}
 use Rattle.clubform.proofs.hold_race.Statement.{statement}

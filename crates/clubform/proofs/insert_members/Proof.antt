@@ -1,5 +1,4 @@
 -- `clubform::insert_members` meets its contract.
--- Assumes nothing.
 use borrow.Author.Needs.{needs}
 use Rattle.clubform.proofs.Laws.{front}
 use Rattle.clubform.proofs.insert_members.Statement.{statement}

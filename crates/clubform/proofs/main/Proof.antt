@@ -1,5 +1,4 @@
 -- `clubform::main` meets its contract.
--- Assumes nothing.
 use borrow.Author.Needs.{needs}
 use Rattle.clubform.proofs.Laws.{front, whole, last-length, last-next}
 use Rattle.clubform.proofs.main.Statement.{statement}

@@ -1,5 +1,4 @@
 -- `codec::get_u32` meets its contract.
--- Assumes nothing.
 use mathlib.Core.Path.{sym}
 use native.Mathlib.Omega.{arith}
 use Rattle.codec.proofs.Numbers.{number-four, number-past}

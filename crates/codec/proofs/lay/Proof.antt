@@ -1,5 +1,4 @@
 -- `codec::lay` meets its contract.
--- Assumes nothing.
 use Rattle.codec.proofs.Writers.{lay-step}
 use borrow.Author.Needs.{needs}
 use mathlib.Core.Path.{_≡_, _∙_}

@@ -1,5 +1,4 @@
 -- `codec::put` meets its contract.
--- Assumes nothing.
 use mathlib.Core.Path.{refl, sym}
 use Rattle.codec.proofs.Writers.{tail-copied, tail-sets, sets-past}
 use native.Mathlib.Omega.{arith}

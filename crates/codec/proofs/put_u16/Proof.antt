@@ -1,5 +1,4 @@
 -- `codec::put_u16` meets its contract.
--- Assumes nothing.
 use Rattle.codec.proofs.Writers.{laid-then}
 use borrow.Author.Needs.{needs}
 use Rattle.codec.proofs.put_u16.Statement.{statement}

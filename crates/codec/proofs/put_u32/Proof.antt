@@ -1,5 +1,4 @@
 -- `codec::put_u32` meets its contract.
--- Assumes nothing.
 use Rattle.codec.proofs.Numbers.{le-four}
 use Rattle.codec.proofs.Writers.{laid-as, laid-then}
 use borrow.Author.Needs.{needs}

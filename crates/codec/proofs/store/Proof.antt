@@ -1,5 +1,4 @@
 -- `codec::store` meets its contract.
--- Assumes nothing.
 use mathlib.Core.Path.{sym}
 use lib.Seq.{set-out}
 use borrow.Author.Needs.{needs}

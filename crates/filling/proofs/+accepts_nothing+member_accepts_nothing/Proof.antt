@@ -1,5 +1,4 @@
 -- `filling::accepts_nothing` and `filling::member_accepts_nothing` meet their contracts.
--- Assumes nothing.
 use native.Mathlib.Omega.{arith}
 use borrow.Author.Needs.{needs}
 use lib.ListN.{length, drop, length-take, length-drop}

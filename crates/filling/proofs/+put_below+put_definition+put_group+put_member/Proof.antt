@@ -2,7 +2,7 @@ use mathlib.Core.Path.{refl}
 use lib.ListN.{take, drop, length-take, length-drop, length}
 use Rattle.rules.specs.Model.{filling}
 use Rattle.model.specs.Members.{membersFrom}
-use Rattle.rows.proofs.WrittenLaws.{written-stop, written-room, written-long}
+use Rattle.row_writer.proofs.WrittenLaws.{written-stop, written-room, written-long}
 use Rattle.filling.specs.Parts.{defsIn, partsIn, attrsIn, widthIn, countIn, versionIn, cursorIn}
 use Rattle.filling.proofs.FillingLaws.{Rest, rest-starts, rest-past, rest-here, rest-on, rest-first, rest-over, rest-ends}
 use Rattle.filling.proofs.FillingLaws.{member-skips, member-element, member-nothing, member-group}
@@ -32,8 +32,8 @@ use Rattle.filling.proofs.put_required.Reads as put-required-reads
 use Rattle.filling.proofs.put_row.Reads as put-row-reads
 use Rattle.model.proofs.read_particle.Reads as read-particle-reads
 use Rattle.model.proofs.skips.Reads as skips-reads
-use Rattle.rowpass.proofs.kind_of.Reads as kind-of-reads
-use Rattle.rowpass.proofs.model_part.Reads as model-part-reads
+use Rattle.row_check.proofs.kind_of.Reads as kind-of-reads
+use Rattle.row_check.proofs.model_part.Reads as model-part-reads
 use Rattle.filling.proofs.+put_below+put_definition+put_group+put_member.{statement}
 use Rattle.filling.proofs.+put_below+put_definition+put_group+put_member.Tie.{close}
 

@@ -3,7 +3,7 @@ use native.Mathlib.Omega.{arith}
 use mathlib.Core.Path.{_≡_, ap}
 use borrow.Author.Needs.{needs}
 use Rattle.filling.specs.Parts.{requiredIn, cursorIn}
-use Rattle.rows.proofs.WrittenLaws.{written-room, written-long, written-as}
+use Rattle.row_writer.proofs.WrittenLaws.{written-room, written-long, written-as}
 use Rattle.filling.proofs.FillingLaws.{Putting, required-none, required-on}
 use Rattle.filling.proofs.put_required.Statement.{statement}
 use Rattle.filling.proofs.put_required.Tie as tie

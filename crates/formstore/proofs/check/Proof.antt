@@ -1,5 +1,4 @@
 -- `formstore::check` meets its contract.
--- Assumes nothing.
 use borrow.Author.Needs.{needs}
 use Rattle.formstore.proofs.check.Statement.{statement}
 use Rattle.formstore.proofs.check.Tie as tie

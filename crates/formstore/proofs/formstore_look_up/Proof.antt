@@ -1,5 +1,4 @@
 -- `formstore::formstore_look_up` meets its contract.
--- Assumes nothing.
 use borrow.Author.Needs.{needs}
 use Rattle.formstore.proofs.formstore_look_up.Statement.{statement}
 use Rattle.formstore.proofs.formstore_look_up.Tie as tie

@@ -1,5 +1,4 @@
 -- `formstore::look_up` meets its contract.
--- Assumes nothing.
 use borrow.Author.Needs.{needs}
 use Rattle.formstore.proofs.look_up.Statement.{statement}
 use Rattle.formstore.proofs.look_up.Tie as tie

@@ -1,5 +1,4 @@
 -- `formstore::print` meets its contract.
--- Assumes nothing.
 use native.Mathlib.Omega.{arith}
 use borrow.Author.Needs.{needs}
 use Rattle.formstore.proofs.print.Statement.{statement}

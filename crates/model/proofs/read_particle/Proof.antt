@@ -1,5 +1,4 @@
 -- `model::read_particle` meets its contract.
--- Assumes nothing.
 use Rattle.model.proofs.Codes.{particle-read}
 use borrow.Author.Needs.{needs}
 use Rattle.model.proofs.read_particle.Statement.{statement}

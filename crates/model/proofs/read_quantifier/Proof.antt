@@ -1,5 +1,4 @@
 -- `model::read_quantifier` meets its contract.
--- Assumes nothing.
 use Rattle.model.proofs.Codes.{plus-of}
 use borrow.Author.Needs.{needs}
 use Rattle.model.proofs.read_quantifier.Statement.{statement}

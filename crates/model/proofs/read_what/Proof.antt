@@ -1,5 +1,4 @@
 -- `model::read_what` meets its contract.
--- Assumes nothing.
 use Rattle.model.proofs.Codes.{choice-of}
 use Rattle.model.proofs.read_what.Statement.{statement}
 use Rattle.model.proofs.read_what.Tie as tie

@@ -1,5 +1,4 @@
 -- `plans::cut_takes` meets its contract.
--- Assumes nothing.
 use borrow.Author.Needs.{needs}
 use Rattle.plans.proofs.cut_takes.Statement.{statement}
 use Rattle.plans.proofs.cut_takes.Tie as tie

@@ -1,5 +1,4 @@
 -- `plans::filling_plan` meets its contract.
--- Assumes nothing.
 use borrow.Author.Needs.{needs}
 use Rattle.plans.proofs.filling_plan.Statement.{statement}
 use Rattle.plans.proofs.filling_plan.Tie as tie

@@ -1,5 +1,4 @@
 -- `plans::requantify_plan` meets its contract.
--- Assumes nothing.
 use borrow.Author.Needs.{needs}
 use Rattle.plans.proofs.requantify_plan.Statement.{statement}
 use Rattle.plans.proofs.requantify_plan.Tie as tie

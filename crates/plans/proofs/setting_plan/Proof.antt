@@ -1,5 +1,4 @@
 -- `plans::setting_plan` meets its contract.
--- Assumes nothing.
 use borrow.Author.Needs.{needs}
 use Rattle.plans.proofs.setting_plan.Statement.{statement}
 use Rattle.plans.proofs.setting_plan.Tie as tie

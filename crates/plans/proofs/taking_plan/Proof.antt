@@ -1,5 +1,4 @@
 -- `plans::taking_plan` meets its contract.
--- Assumes nothing.
 use borrow.Author.Needs.{needs}
 use Rattle.plans.proofs.taking_plan.Statement.{statement}
 use Rattle.plans.proofs.taking_plan.Tie as tie

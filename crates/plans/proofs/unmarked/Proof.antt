@@ -1,5 +1,4 @@
 -- `plans::unmarked` meets its contract.
--- Assumes nothing.
 use mathlib.Core.Path.{refl}
 use Rattle.plans.specs.CallPlans.{unmarked}
 use Rattle.plans.proofs.unmarked.Statement.{statement}

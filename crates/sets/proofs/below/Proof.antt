@@ -1,5 +1,4 @@
 -- `sets::below` meets its contract.
--- Assumes nothing.
 use mathlib.Core.Path.{ap, _∙_}
 use Prim.Native.Nat.{ℕ, _%_}
 use Rattle.sets.proofs.Laws.{bit-is, bit-pos, below-all}

@@ -1,5 +1,4 @@
 -- `sets::none_between` meets its contract.
--- Assumes nothing.
 use Rattle.sets.proofs.Laws.{none-between, none-past}
 use native.Mathlib.Omega.{arith}
 use borrow.Author.Needs.{needs}

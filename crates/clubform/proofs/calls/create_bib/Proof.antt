@@ -1,5 +1,4 @@
 -- `clubform::calls::create_bib` meets its contract.
--- Assumes nothing.
 use borrow.Author.Needs.{needs}
 use Rattle.clubform.proofs.Stages.{accepted}
 use Rattle.clubform.proofs.Laws.{answered}

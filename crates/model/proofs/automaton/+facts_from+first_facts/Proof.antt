@@ -1,5 +1,4 @@
 -- `model::automaton::facts_from` and `model::automaton::first_facts` meet their contracts.
--- Assumes nothing.
 use Prim.Native.Nat.{_+_, _-_, _*_}
 use native.Mathlib.Omega.{arith}
 use borrow.Author.Needs.{needs}

@@ -1,5 +1,4 @@
 -- `model::automaton::finishes` meets its contract.
--- Assumes nothing.
 use Rattle.model.proofs.FactsLaws.{finish-none, finish-last}
 use borrow.Author.Needs.{needs}
 use Rattle.model.proofs.automaton.finishes.Statement.{statement}

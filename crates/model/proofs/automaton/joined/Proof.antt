@@ -1,5 +1,4 @@
 -- `model::automaton::joined` meets its contract.
--- Assumes nothing.
 use borrow.Author.Needs.{needs}
 use Rattle.model.proofs.automaton.joined.Statement.{statement}
 use Rattle.model.proofs.automaton.joined.Tie as tie

@@ -1,5 +1,4 @@
 -- `model::automaton::no_members` meets its contract.
--- Assumes nothing.
 use borrow.Author.Needs.{needs}
 use Rattle.model.proofs.automaton.no_members.Statement.{statement}
 use Rattle.model.proofs.automaton.no_members.Tie as tie

@@ -1,5 +1,4 @@
 -- `model::automaton::quantified` meets its contract.
--- Assumes nothing.
 use borrow.Author.Needs.{needs}
 use Rattle.model.proofs.automaton.quantified.Statement.{statement}
 use Rattle.model.proofs.automaton.quantified.Tie as tie

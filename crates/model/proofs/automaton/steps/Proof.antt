@@ -1,5 +1,4 @@
 -- `model::automaton::steps` meets its contract.
--- Assumes nothing.
 use Rattle.model.proofs.FactsLaws.{step-first, step-follow}
 use borrow.Author.Needs.{needs}
 use Rattle.model.proofs.automaton.steps.Statement.{statement}

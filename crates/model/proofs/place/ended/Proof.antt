@@ -1,5 +1,4 @@
 -- `model::place::ended` meets its contract.
--- Assumes nothing.
 use Rattle.model.proofs.PlacesLaws.{ended-all, ended-few}
 use Rattle.model.proofs.place.ended.Statement.{statement}
 use Rattle.model.proofs.place.ended.Tie as tie

@@ -1,5 +1,4 @@
 -- `model::place::enter` meets its contract.
--- Assumes nothing.
 use Rattle.model.specs.Members.{particlesOf}
 use Rattle.model.proofs.ParticleLaws.{member-bounded}
 use Rattle.model.proofs.EnteringLaws.{enter-some}

@@ -1,5 +1,4 @@
 -- `model::place::enter_at` meets its contract.
--- Assumes nothing.
 use native.Mathlib.Omega.{arith}
 use Rattle.model.proofs.EnteringLaws.{enter-element, enter-group}
 use borrow.Author.Needs.{needs}

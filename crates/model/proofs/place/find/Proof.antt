@@ -1,5 +1,4 @@
 -- `model::place::find` meets its contract.
--- Assumes nothing.
 use native.Mathlib.Omega.{arith}
 use Rattle.model.proofs.EnteringLaws.{place-long, place-short}
 use borrow.Author.Needs.{needs}

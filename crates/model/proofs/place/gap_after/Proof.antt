@@ -1,5 +1,4 @@
 -- `model::place::gap_after` meets its contract.
--- Assumes nothing.
 use native.Mathlib.Omega.{arith}
 use Rattle.model.proofs.ParticleLaws.{member-bounded, end-bounded}
 use Rattle.model.proofs.EnteringLaws.{gap-member, gap-end, gap-few}

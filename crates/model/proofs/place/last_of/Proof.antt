@@ -1,5 +1,4 @@
 -- `model::place::last_of` meets its contract.
--- Assumes nothing.
 use Rattle.model.proofs.EnteringLaws.{last-member}
 use borrow.Author.Needs.{needs}
 use Rattle.model.proofs.place.last_of.Statement.{statement}

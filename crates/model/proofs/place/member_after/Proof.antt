@@ -1,5 +1,4 @@
 -- `model::place::member_after` meets its contract.
--- Assumes nothing.
 use native.Mathlib.Omega.{arith}
 use Rattle.model.proofs.ParticleLaws.{member-bounded}
 use Rattle.model.proofs.EnteringLaws.{member-member, member-end, member-few}

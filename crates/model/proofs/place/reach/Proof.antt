@@ -1,5 +1,4 @@
 -- `model::place::reach` meets its contract.
--- Assumes nothing.
 use mathlib.Core.Path.{_∙_}
 use mathlib.Core.Logic.{⊎-elim}
 use Prim.Native.Nat.{_-_}

@@ -1,0 +1,28 @@
+-- `circle_check::first_passes` meets its contract.
+use Rattle.circle_check.proofs.MemberLaws.{first-group, first-element}
+use borrow.Author.Needs.{needs}
+use Rattle.circle_check.proofs.first_passes.Statement.{statement}
+use Rattle.circle_check.proofs.first_passes.Tie as tie
+
+particle-sort-requires : tie.Need-particle-sort-requires
+particle-sort-requires c κs = search needs
+
+returns : tie.Need-returns
+returns c = first-group (c .before .before .before .args .old .now) _ _ (c .before .particle-sort .ensures) _ (c .if1 .taken)
+
+particle-index-requires : tie.Need-particle-index-requires
+particle-index-requires c κs = search needs
+
+cast-j : tie.Need-cast-j
+cast-j c = search needs
+
+byte-requires : tie.Need-byte-requires
+byte-requires c κs = search needs
+
+returns-2 : tie.Need-returns-2
+returns-2 c = first-element (c .before .before .before .before .before .before .args .old .now) _ _ (c .before .before .before .before .particle-sort .ensures) _ _ _
+    (c .before .before .before .if1 .left) (c .before .before .particle-index .ensures) (c .byte .ensures)
+
+pub first-passes-spec : {M : Type 1} → statement M
+first-passes-spec =
+    tie.close (tie.spec particle-sort-requires returns particle-index-requires cast-j byte-requires returns-2)

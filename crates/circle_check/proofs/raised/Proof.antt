@@ -1,0 +1,25 @@
+-- `circle_check::raised` meets its contract.
+use Rattle.rules.specs.Bytes.{all}
+use Rattle.circle_check.specs.Members.{elementsOf}
+use Rattle.circle_check.specs.Deep.{marked}
+use Rattle.circle_check.proofs.RoundLaws.{raised-was, raised-new, raised-none}
+use borrow.Author.Needs.{needs}
+use Rattle.circle_check.proofs.raised.Statement.{statement}
+use Rattle.circle_check.proofs.raised.Tie as tie
+
+returns : tie.Need-returns
+returns c =
+    let a = c .before .before .args in
+    raised-was (a .h) (a .was) (all (marked (a .old .now)) (elementsOf (a .model .now))) (c .if1 .taken)
+
+settled-requires : tie.Need-settled-requires
+settled-requires c κs = search needs
+
+returns-2 : tie.Need-returns-2
+returns-2 c = raised-new _ _ _ _ (c .before .before .if1 .left) (c .before .settled .ensures) (c .if2 .taken)
+
+returns-3 : tie.Need-returns-3
+returns-3 c = raised-none _ _ _ _ (c .before .before .if1 .left) (c .before .settled .ensures) (c .if2 .left)
+
+pub raised-spec : {M : Type 1} → statement M
+raised-spec = tie.close (tie.spec returns settled-requires returns-2 returns-3)

@@ -1,0 +1,75 @@
+-- `circle_check::settled` meets its contract.
+use borrow.Author.Needs.{needs}
+use borrow.Author.Tests.{not-true, not-false}
+use mathlib.Core.Path.{_≡_, refl}
+use native.Mathlib.Omega.{arith}
+use Prim.Native.Nat.{_-_}
+use lib.ListN.{length, drop, length-take, length-drop}
+use Rattle.circle_check.specs.Deep.{marked}
+use Rattle.circle_check.specs.Members.{elementsOf}
+use Rattle.rules.specs.Bytes.{all}
+use Rattle.circle_check.proofs.MemberLaws.{settle-on, settle-no, settle-ends}
+use Rattle.circle_check.proofs.settled.Statement.{statement}
+use Rattle.circle_check.proofs.settled.Tie as tie
+
+abbrev Inv-loop : tie.InvT-loop
+Inv-loop model old size t₀ t = all (marked old) (elementsOf model) ≡ all (marked old) (elementsOf t)
+
+abbrev μ-loop : tie.MeasureT-loop
+μ-loop model old size t₀ t = length t
+
+particle-size-requires : tie.Need-particle-size-requires Inv-loop μ-loop
+particle-size-requires c κs = search needs
+
+loop-holds : tie.Need-loop-holds Inv-loop μ-loop
+loop-holds c = refl
+
+first-passes-requires : tie.Need-first-passes-requires Inv-loop μ-loop
+first-passes-requires c κs = search needs
+
+returns : tie.Need-returns Inv-loop μ-loop
+returns c = let l = c .before .before .before in
+    let a = l .before .before .before .args in
+    settle-no (marked (a .old .now)) _ (l .loop .t .now) _ (l .before .particle-size .ensures) (l .loop .inv) (omega arith) _ (c .before .first-passes .ensures) (not-true _ (c .if1 .taken))
+
+sub-t : tie.Need-sub-t Inv-loop μ-loop
+sub-t c = search needs
+
+part-t-start : tie.Need-part-t-start Inv-loop μ-loop
+part-t-start c = search needs
+
+part-t-end : tie.Need-part-t-end Inv-loop μ-loop
+part-t-end c = search needs
+
+loop-less : tie.Need-loop-less Inv-loop μ-loop
+loop-less c = let l = c .before .before .before .before in
+    let size = l .before .particle-size .result in
+    omega (arith, l .before .particle-size .ensures, length-take (length (l .loop .t .now) - size) (drop size (l .loop .t .now)), length-drop size (l .loop .t .now))
+
+loop-again : tie.Need-loop-again Inv-loop μ-loop
+loop-again c = let l = c .before .before .before .before in
+    let a = l .before .before .before .args in
+    settle-on (marked (a .old .now)) _ (l .loop .t .now) _ (l .before .particle-size .ensures) (l .loop .inv) (omega arith) _ (c .before .before .first-passes .ensures)
+    (not-false _ (c .before .if1 .left))
+
+returns-2 : tie.Need-returns-2 Inv-loop μ-loop
+returns-2 c = let l = c .before in
+    let a = l .before .before .before .args in
+    settle-ends (marked (a .old .now)) _ (l .loop .t .now) _ (l .before .particle-size .ensures) (l .loop .inv) (omega arith)
+
+pub settled-spec : {M : Type 1} → statement M
+settled-spec =
+    tie.close
+    (tie.spec
+    Inv-loop
+    μ-loop
+    particle-size-requires
+    loop-holds
+    first-passes-requires
+    returns
+    sub-t
+    part-t-start
+    part-t-end
+    loop-less
+    loop-again
+    returns-2)

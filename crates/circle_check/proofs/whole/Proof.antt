@@ -1,0 +1,48 @@
+-- `circle_check::whole` meets its contract.
+use borrow.Author.Needs.{needs}
+use native.Mathlib.Omega.{arith}
+use Prim.Native.Nat.{_-_}
+use Rattle.circle_check.proofs.RoundLaws.{Passed, passed-starts, passed-on, passed-no, passed-ends}
+use Rattle.circle_check.proofs.whole.Statement.{statement}
+use Rattle.circle_check.proofs.whole.Tie as tie
+
+abbrev Inv-loop : tie.InvT-loop
+Inv-loop n heights i₀ i = Passed heights n i
+
+abbrev μ-loop : tie.MeasureT-loop
+μ-loop n heights i₀ i = n - i
+
+loop-holds : tie.Need-loop-holds Inv-loop μ-loop
+loop-holds c = passed-starts _ _
+
+element-copy-out-if1 : tie.Need-element-copy-out-if1 Inv-loop μ-loop
+element-copy-out-if1 c = search needs
+
+returns : tie.Need-returns Inv-loop μ-loop
+returns c = passed-no (c .before .before .before .before .args .heights .now) (omega arith) (c .if1 .taken)
+
+add-i : tie.Need-add-i Inv-loop μ-loop
+add-i c = search needs
+
+loop-less : tie.Need-loop-less Inv-loop μ-loop
+loop-less c = search needs
+
+loop-again : tie.Need-loop-again Inv-loop μ-loop
+loop-again c = passed-on (c .before .before .before .loop .inv) (omega arith) (c .if1 .left)
+
+returns-2 : tie.Need-returns-2 Inv-loop μ-loop
+returns-2 c = passed-ends (c .before .loop .inv) (omega arith)
+
+pub whole-spec : {M : Type 1} → statement M
+whole-spec =
+    tie.close
+    (tie.spec
+    Inv-loop
+    μ-loop
+    loop-holds
+    element-copy-out-if1
+    returns
+    add-i
+    loop-less
+    loop-again
+    returns-2)

@@ -1,0 +1,187 @@
+-- What change 2 leaves of each body, and where it is read.
+use Prim.Native.Nat.{ℕ, zero, suc, _+_, _-_, _<_, _≤_}
+use native.Mathlib.Omega.{arith}
+use native.Mathlib.Numerals.{add-one}
+use mathlib.Core.Path.{_≡_, refl, sym, ap, _∙_}
+use mathlib.Core.Bool.{Bool, true, false}
+use mathlib.Core.List.{List, [], _∷_, map}
+use lib.Dec.{ltb}
+use lib.ListN.{length, take, drop, getD, length-append, length-map, length-take, length-drop}
+use lib.Seq.{length-take-le}
+use borrow.Author.Tests.{ltb-true, ltb-false}
+use Rattle.rules.specs.Bytes.{Bytes}
+use Rattle.rules.specs.Store.{Form}
+use Rattle.rules.specs.Layout.{definitionSize, particleSize, attributeSize, rowSize, FlatDefinition, FlatAttribute, FlatStore, contentParticles, flatDefinition, allParticles}
+use Rattle.rules.specs.Decode.{numberAt, readDefinition, readParticle, readAttribute, readRow, readMany, definitionCount, particleCount, attributeCount, rowCount}
+use Rattle.rules.specs.Passing.{passes}
+use Rattle.codec.specs.Laid.{Laid}
+use Rattle.codec.proofs.Writers.{laid-as}
+use Rattle.codec.proofs.Records.{many-at}
+use Rattle.row_check.specs.Reading.{definitionIn, particlesBefore}
+use Rattle.store_check.specs.Reading.{noDefinition}
+use Rattle.lookup.specs.Bodies.{bodiesOf}
+use Rattle.layout.specs.Bodies.{widthOf, WidthIn, Number, definitionsIn, particlesIn, attributesIn, rowsIn}
+use Rattle.layout.specs.Header.{headed}
+use Rattle.layout.proofs.LayoutLaws as layout
+use Rattle.store_writer.specs.Stores.{storeIn}
+use Rattle.store_writer.proofs.StoreLaws.{holds}
+use Rattle.definition_writer.specs.Bodies.{movedParticle, movedRow}
+use Rattle.definition_removal.specs.Bodies.{lowered, cutOut, particlesOf, isBelow, attributesOf, movedAttribute, Counted, destroyed, headerLeft}
+use Rattle.definition_writer.proofs.Encoded.{Encoded, encoded}
+
+-- ---- the bodies, read
+module _ (bs : Bytes) where
+  own-definitions : bodiesOf bs .definitions ≡ readMany readDefinition definitionSize (definitionCount bs) (definitionsIn bs)
+  unfolding bodiesOf
+  own-definitions = sym (layout.definitions-read bs)
+
+  pub particles-read : bodiesOf bs .particles ≡ readMany readParticle particleSize (particleCount bs) (particlesIn bs)
+  unfolding bodiesOf
+  particles-read = sym (layout.particles-read bs)
+
+  pub attributes-read : bodiesOf bs .attributes ≡ readMany readAttribute (attributeSize (widthOf bs)) (attributeCount bs) (attributesIn bs)
+  unfolding bodiesOf
+  attributes-read = sym (layout.attributes-read bs)
+
+  pub rows-read : bodiesOf bs .rows ≡ readMany readRow (rowSize (widthOf bs)) (rowCount bs) (rowsIn bs)
+  unfolding bodiesOf
+  rows-read = sym (layout.rows-read bs)
+
+-- ---- how many particles and attributes the first definitions have
+particles-more : (i : ℕ) (ds : List FlatDefinition) → particlesOf (suc i) ds ≡ particlesOf i ds + getD ds i noDefinition .particles
+unfolding particlesOf
+particles-more zero [] = refl
+particles-more zero (d ∷ ds) = omega arith
+particles-more (suc i) [] = refl
+particles-more (suc i) (d ∷ ds) = omega (arith, particles-more i ds)
+
+pub particles-step : (i : ℕ) (ds : List FlatDefinition) → particlesOf i ds ≤ particlesOf (suc i) ds
+particles-step i ds = omega (arith, particles-more i ds)
+
+particles-before : (count : ℕ) (defs : Bytes) (i : ℕ) → i ≤ count → particlesBefore defs i ≡ particlesOf i (readMany readDefinition definitionSize count defs)
+unfolding particlesBefore particlesOf
+particles-before count defs zero h = refl
+particles-before count defs (suc i) h =
+    let e : getD (readMany readDefinition definitionSize count defs) i noDefinition ≡ definitionIn defs i = many-at readDefinition definitionSize i count defs noDefinition (omega arith) in
+    omega (arith, particles-before count defs i (omega arith), particles-more i (readMany readDefinition definitionSize count defs), ap (λ (d : FlatDefinition). d .particles) e)
+
+particles-most : (F : Form) (i : ℕ) (ds : Form) → particlesOf i (map (flatDefinition F) ds) ≤ length (allParticles F ds)
+unfolding particlesOf
+particles-most F zero ds = omega arith
+particles-most F (suc i) [] = omega arith
+particles-most F (suc i) (d ∷ ds) = omega (arith, particles-most F i ds, length-append (contentParticles F (d .content)) (allParticles F ds))
+
+pub particles-within : (bs : Bytes) → passes bs ≡ true → (i : ℕ) → particlesOf i (bodiesOf bs .definitions) ≤ length (bodiesOf bs .particles)
+particles-within bs p i = rw (holds bs p .bodies) (particles-most (storeIn bs .form) i (storeIn bs .form))
+
+pub model-starts : (bs : Bytes) → passes bs ≡ true → (i : ℕ) → i ≤ definitionCount bs → {r : ℕ} {defs : Bytes} → defs ≡ definitionsIn bs → r ≡ particlesBefore defs i
+    → Counted (particlesOf i (bodiesOf bs .definitions)) (particleCount bs) r
+model-starts bs p i h {r} d e =
+    let z : particlesBefore (definitionsIn bs) i ≡ particlesOf i (bodiesOf bs .definitions) = particles-before (definitionCount bs) (definitionsIn bs) i h
+    ∙ ap (particlesOf i) (sym (own-definitions bs)) in
+    let q : r ≡ particlesBefore (definitionsIn bs) i = e ∙ ap (λ (l : Bytes). particlesBefore l i) d in
+    record { is = q ∙ z; most = omega (arith, q, z, particles-within bs p i, encoded bs p .particles) }
+
+below-step : (i : ℕ) (a : FlatAttribute) → isBelow i a ≤ isBelow (suc i) a
+below-step i a = by (ltb (a .owner) i) refl (ltb (a .owner) (suc i)) refl
+  where
+    by : (b : Bool) → ltb (a .owner) i ≡ b → (c : Bool) → ltb (a .owner) (suc i) ≡ c → elim b as (λ z. ℕ) [ true ↦ 1 | false ↦ 0 ] ≤ elim c as (λ z. ℕ) [ true ↦ 1 | false ↦ 0 ]
+    by true e true q = omega arith
+    by true e false q = absurd (omega (arith, ltb-true (a .owner) i e, ltb-false (a .owner) (suc i) q))
+    by false e c q = omega arith
+
+pub attributes-step : (i : ℕ) (cs : List FlatAttribute) → attributesOf i cs ≤ attributesOf (suc i) cs
+unfolding attributesOf
+attributes-step i [] = omega arith
+attributes-step i (a ∷ cs) = omega (arith, below-step i a, attributes-step i cs)
+
+below-one : (i : ℕ) (a : FlatAttribute) → isBelow i a ≤ 1
+below-one i a = by (ltb (a .owner) i)
+  where
+    by : (b : Bool) → elim b as (λ z. ℕ) [ true ↦ 1 | false ↦ 0 ] ≤ 1
+    by true = omega arith
+    by false = omega arith
+
+pub attributes-most : (i : ℕ) (cs : List FlatAttribute) → attributesOf i cs ≤ length cs
+unfolding attributesOf
+attributes-most i [] = omega arith
+attributes-most i (a ∷ cs) = omega (arith, below-one i a, attributes-most i cs)
+
+pub attribute-starts : (bs : Bytes) (i : ℕ) {w count : ℕ} {body : Bytes} {r : ℕ} → WidthIn bs w → Number (attributeCount bs) count → body ≡ attributesIn bs
+    → Counted (attributesOf i (readMany readAttribute (attributeSize w) count body)) count r
+    → Counted (attributesOf i (bodiesOf bs .attributes)) (attributeCount bs) r
+attribute-starts bs i w e q c =
+    record {
+      is = c .is ∙ (λ j. attributesOf i (readMany readAttribute (attributeSize (w .value j)) (e .value j) (q j))) ∙ sym (ap (attributesOf i) (attributes-read bs));
+      most = omega (arith, c .most, e .value);
+    }
+
+-- a count at the next number
+pub next-counted : (P : ℕ → ℕ) (i n : ℕ) {r : ℕ} → Counted (P (i + 1)) n r → Counted (P (suc i)) n r
+next-counted P i n c = record { is = c .is ∙ ap P (add-one i); most = c .most }
+
+-- ---- lengths
+cut-most : {A : Type 0} (a n : ℕ) (xs : List A) → length (cutOut a n xs) ≤ length xs
+unfolding cutOut
+cut-most a n xs = omega (arith, length-append (take a xs) (drop (a + n) xs), length-take a xs, length-drop (a + n) xs)
+
+length-cut : {A : Type 0} (a b : ℕ) (xs : List A) → a ≤ b → b ≤ length xs → length (cutOut a (b - a) xs) ≡ length xs - (b - a)
+unfolding cutOut
+length-cut a b xs h k = omega (arith, length-append (take a xs) (drop (a + (b - a)) xs), length-take-le a xs (omega arith), length-drop (a + (b - a)) xs)
+
+module _ (bs : Bytes) (p : passes bs ≡ true) (i : ℕ) (h : i < definitionCount bs) where
+  abbrev f : FlatStore
+  f = bodiesOf bs
+
+  abbrev x : Encoded bs (bodiesOf bs)
+  x = encoded bs p
+
+  pub definitions-left : length (destroyed i f .definitions) ≡ definitionCount bs - 1
+  unfolding destroyed
+  definitions-left =
+      let e : suc i - i ≡ 1 = omega arith in
+      ap (λ (k : ℕ). length (cutOut i k (f .definitions))) (sym e) ∙ length-cut i (suc i) (f .definitions) (omega arith) (omega (arith, x .definitions)) ∙ omega (arith, x .definitions)
+
+  pub models-left : {n a b : ℕ} → Number (particleCount bs) n → Counted (particlesOf i (f .definitions)) (particleCount bs) a
+      → Counted (particlesOf (suc i) (f .definitions)) (particleCount bs) b → Counted (length (destroyed i f .particles)) 256 (n - (b - a))
+  unfolding destroyed
+  models-left e ca cb =
+      let z : length (destroyed i f .particles) ≡ length (f .particles) - (particlesOf (suc i) (f .definitions) - particlesOf i (f .definitions)) =
+      length-map (cutOut (particlesOf i (f .definitions)) (particlesOf (suc i) (f .definitions) - particlesOf i (f .definitions)) (f .particles)) (movedParticle (lowered (suc i) 1))
+      ∙ length-cut (particlesOf i (f .definitions)) (particlesOf (suc i) (f .definitions)) (f .particles) (particles-step i (f .definitions)) (particles-within bs p (suc i))
+      in
+      record { is = omega (arith, z, e .value, ca .is, cb .is, x .particles); most = omega (arith, e .value, x .particles, x .fewParticles) }
+
+  pub attributes-left : {n a b : ℕ} → Number (attributeCount bs) n → Counted (attributesOf i (f .attributes)) (attributeCount bs) a
+      → Counted (attributesOf (suc i) (f .attributes)) (attributeCount bs) b → Counted (length (destroyed i f .attributes)) 64 (n - (b - a))
+  unfolding destroyed
+  attributes-left e ca cb =
+      let z : length (destroyed i f .attributes) ≡ length (f .attributes) - (attributesOf (suc i) (f .attributes) - attributesOf i (f .attributes)) =
+      length-map (cutOut (attributesOf i (f .attributes)) (attributesOf (suc i) (f .attributes) - attributesOf i (f .attributes)) (f .attributes)) (movedAttribute (lowered (suc i) 1))
+      ∙ length-cut (attributesOf i (f .attributes)) (attributesOf (suc i) (f .attributes)) (f .attributes) (attributes-step i (f .attributes)) (attributes-most (suc i) (f .attributes))
+      in
+      record { is = omega (arith, z, e .value, ca .is, cb .is, x .attributes); most = omega (arith, e .value, x .attributes, x .fewAttributes) }
+
+  pub rows-left : length (destroyed i f .rows) ≡ rowCount bs
+  unfolding destroyed
+  rows-left = length-map (f .rows) (movedRow (lowered (suc i) 1) (lowered (attributesOf (suc i) (f .attributes)) (attributesOf (suc i) (f .attributes) - attributesOf i (f .attributes))))
+      ∙ sym (x .rows)
+
+  pub few-particles : length (destroyed i f .particles) ≤ 256
+  unfolding destroyed
+  few-particles =
+      let a : ℕ = particlesOf i (f .definitions) in
+      let n : ℕ = particlesOf (suc i) (f .definitions) - particlesOf i (f .definitions) in
+      omega (arith, length-map (cutOut a n (f .particles)) (movedParticle (lowered (suc i) 1)), cut-most a n (f .particles), x .fewParticles)
+
+  pub few-attributes : length (destroyed i f .attributes) ≤ 64
+  unfolding destroyed
+  few-attributes =
+      let a : ℕ = attributesOf i (f .attributes) in
+      let n : ℕ = attributesOf (suc i) (f .attributes) - attributesOf i (f .attributes) in
+      omega (arith, length-map (cutOut a n (f .attributes)) (movedAttribute (lowered (suc i) 1)), cut-most a n (f .attributes), x .fewAttributes)
+
+  pub header-left : {d m n : ℕ} {out out₁ : Bytes} {at : ℕ} → Number (definitionCount bs) d → Counted (length (destroyed i f .particles)) 256 m → Counted (length (destroyed i f .attributes)) 64 n
+      → Laid (headed (widthOf bs) (numberAt 4 4 bs) (d - 1) m n (rowCount bs) bs) out 0 at out₁ → Laid (headerLeft i bs) out 0 at out₁
+  header-left ed em en l =
+      laid-as (λ j. headed (widthOf bs) (numberAt 4 4 bs) ((definitions-left ∙ ap (λ (k : ℕ). k - 1) (sym (ed .value))) j) (sym (em .is) j) (sym (en .is) j) (rows-left j) bs) l

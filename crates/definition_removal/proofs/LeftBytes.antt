@@ -1,0 +1,187 @@
+-- The bytes of what change 2 leaves, as the code writes them.
+use Prim.Native.Nat.{ℕ, suc, _+_, _-_, _*_, _<_, _≤_}
+use native.Mathlib.Omega.{arith}
+use native.Mathlib.Numerals.{add-one}
+use mathlib.Core.Path.{_≡_, sym, ap, ap₂, _∙_}
+use mathlib.Core.Bool.{true}
+use mathlib.Core.List.{[], _++_, map, append-nil}
+use lib.ListN.{length, take, drop}
+use Rattle.rules.specs.Bytes.{Bytes}
+use Rattle.rules.specs.Layout.{definitionSize, particleSize, attributeSize, FlatStore, flat, flatBytes, definitionBytes, particleBytes, attributeBytes, rowBytes, each}
+use Rattle.rules.specs.Decode.{numberAt, definitionCount, particleCount, attributeCount}
+use Rattle.rules.specs.Passing.{passes}
+use Rattle.rules.proofs.BooleanLaws.{Every, every-map}
+use Rattle.rules.proofs.LayoutLaws.{length-definition, length-particle, length-attribute, length-each}
+use Rattle.codec.specs.Laid.{Laid}
+use Rattle.codec.proofs.Writers.{laid-then, laid-as}
+use Rattle.layout.specs.Bodies.{widthOf, WidthIn, Number, definitionsIn, particlesIn, attributesIn}
+use Rattle.layout.specs.Header.{headed}
+use Rattle.layout.proofs.LayoutLaws.{width-small}
+use Rattle.layout.proofs.HeaderLaws.{attributes-few, headed-short}
+use Rattle.lookup.specs.Bodies.{bodiesOf}
+use Rattle.row_writer.specs.declared.Cursor.{Cursor}
+use Rattle.row_writer.specs.Written.{Written}
+use Rattle.row_writer.proofs.WrittenLaws.{written-as, written-fitting}
+use Rattle.row_walk.specs.declared.Plan.{Plan}
+use Rattle.store_writer.specs.Stores.{storeIn}
+use Rattle.store_writer.specs.Planned.{fillOf, rowsAfter}
+use Rattle.store_writer.specs.Writing.{walkFrom}
+use Rattle.store_writer.proofs.StoreLaws.{holds}
+use Rattle.store_writer.proofs.RowBounds.{Bounded, rows-bounded}
+use Rattle.definition_writer.specs.Bodies.{movedParticle, movedRow}
+use Rattle.definition_removal.specs.Bodies.{lowered, cutOut, particlesOf, attributesOf, eachRecord, particleRecord, attributeRecord, movedAttribute, Counted, destroyed, headerLeft}
+use Rattle.definition_writer.proofs.Encoded.{Encoded, encoded, bytes-are, others, definitions-at, particles-at, attributes-at, each-append}
+use Rattle.definition_removal.specs.Shifting.{shifting}
+use Rattle.definition_removal.proofs.Again.{each-drop, each-take, cut-again, particle-again, attribute-again}
+use Rattle.definition_removal.proofs.KeptRows.{Old, bytes-old, walked-shut, kept-rows, moved-old}
+use Rattle.definition_removal.proofs.Left.{definitions-left, rows-left, few-particles, few-attributes, particles-step, particles-within, attributes-step, attributes-most}
+
+module _ (bs : Bytes) (p : passes bs ≡ true) (i : ℕ) (h : i < definitionCount bs) where
+  abbrev f : FlatStore
+  f = bodiesOf bs
+
+  abbrev x : Encoded bs (bodiesOf bs)
+  x = encoded bs p
+
+  abbrev g : ℕ → ℕ
+  g = lowered (suc i) 1
+
+  -- ---- definitions
+  bodies-at : definitionsIn bs ≡ each definitionBytes (f .definitions) ++ []
+  bodies-at = definitions-at x ∙ sym (append-nil (each definitionBytes (f .definitions)))
+
+  -- d: the definitions as the code reads them
+  pub definitions-laid : {d u v out out₁ out₂ : Bytes} {at at₁ at₂ : ℕ} → d ≡ definitionsIn bs → u ≡ take (definitionSize * i) d → v ≡ drop (definitionSize * (i + 1)) d
+      → Laid u out at at₁ out₁ → Laid v out₁ at₁ at₂ out₂
+      → Laid (each definitionBytes (destroyed i f .definitions)) out at at₂ out₂
+  unfolding destroyed cutOut
+  definitions-laid {u = u} {v = v} e eu ev a b =
+      let front : u ≡ each definitionBytes (take i (f .definitions)) =
+      eu ∙ ap (take (definitionSize * i)) (e ∙ bodies-at) ∙ each-take definitionBytes definitionSize length-definition i (f .definitions) [] (omega (arith, x .definitions))
+      in
+      let back : v ≡ each definitionBytes (drop (i + 1) (f .definitions)) =
+      ev
+      ∙ ap (drop (definitionSize * (i + 1))) (e ∙ bodies-at)
+      ∙ each-drop definitionBytes definitionSize length-definition (i + 1) (f .definitions) [] (omega (arith, x .definitions))
+      ∙ append-nil (each definitionBytes (drop (i + 1) (f .definitions)))
+      in
+      laid-as (each-append definitionBytes (take i (f .definitions)) (drop (i + 1) (f .definitions)) ∙ ap₂ (λ (y z : Bytes). y ++ z) (sym front) (sym back)) (laid-then a b)
+
+  pub definitions-short : {d : Bytes} → d ≡ definitionsIn bs → length d ≤ 1280
+  definitions-short e = omega (arith, ap length (e ∙ definitions-at x), length-each definitionBytes definitionSize length-definition (f .definitions), x .fewDefinitions)
+
+  -- ---- models and attributes
+  pub models-laid : {body : Bytes} {a b n : ℕ} {tail out out₁ out₂ : Bytes} {at at₁ at₂ : ℕ} → body ≡ particlesIn bs → Number (particleCount bs) n
+      → Counted (particlesOf i (f .definitions)) (particleCount bs) a → Counted (particlesOf (suc i) (f .definitions)) (particleCount bs) b → tail ≡ drop (particleSize * b) body
+      → Laid (eachRecord (particleRecord g) particleSize a body) out at at₁ out₁ → Laid (eachRecord (particleRecord g) particleSize (n - b) tail) out₁ at₁ at₂ out₂
+      → Laid (each particleBytes (destroyed i f .particles)) out at at₂ out₂
+  unfolding destroyed
+  models-laid {body} {a} {b} {n} eb en ca cb et u v =
+      let e : each particleBytes (f .particles) ++ [] ≡ body = append-nil (each particleBytes (f .particles)) ∙ sym (eb ∙ particles-at x) in
+      let k : length (f .particles) ≡ n = sym (en .value ∙ x .particles) in
+      laid-as
+      (cut-again particleBytes particleSize length-particle (particleRecord g) (movedParticle g) (particle-again g) (particlesOf i (f .definitions)) (particlesOf (suc i) (f .definitions))
+      (f .particles)
+      [] (particles-step i (f .definitions)) (particles-within bs p (suc i))
+      ∙ (λ j. eachRecord (particleRecord g) particleSize (sym (ca .is) j) (e j) ++ eachRecord (particleRecord g) particleSize (k j - sym (cb .is) j) (drop (particleSize * sym (cb .is) j) (e j)))
+      ∙ ap (λ (l : Bytes). eachRecord (particleRecord g) particleSize a body ++ eachRecord (particleRecord g) particleSize (n - b) l) (sym et))
+      (laid-then u v)
+
+  -- w: the width as the code reads it
+  pub attributes-laid : {w : ℕ} {body : Bytes} {a b n : ℕ} {tail out out₁ out₂ : Bytes} {at at₁ at₂ : ℕ} → WidthIn bs w → body ≡ attributesIn bs → Number (attributeCount bs) n
+      → Counted (attributesOf i (f .attributes)) (attributeCount bs) a → Counted (attributesOf (suc i) (f .attributes)) (attributeCount bs) b → tail ≡ drop (attributeSize w * b) body
+      → Laid (eachRecord (attributeRecord g) (attributeSize w) a body) out at at₁ out₁ → Laid (eachRecord (attributeRecord g) (attributeSize w) (n - b) tail) out₁ at₁ at₂ out₂
+      → Laid (each (attributeBytes (widthOf bs)) (destroyed i f .attributes)) out at at₂ out₂
+  unfolding destroyed
+  attributes-laid {w} {body} {a} {b} {n} ew eb en ca cb et u v =
+      let e : each (attributeBytes w) (f .attributes) ++ [] ≡ body =
+      append-nil (each (attributeBytes w) (f .attributes)) ∙ ap (λ (z : ℕ). each (attributeBytes z) (f .attributes)) (ew .value) ∙ sym (eb ∙ attributes-at x)
+      in
+      let k : length (f .attributes) ≡ n = sym (en .value ∙ x .attributes) in
+      laid-as
+      (ap (λ (z : ℕ). each (attributeBytes z) (destroyed i f .attributes)) (sym (ew .value))
+      ∙ cut-again (attributeBytes w) (attributeSize w) (length-attribute w) (attributeRecord g) (movedAttribute g) (attribute-again g w) (attributesOf i (f .attributes))
+      (attributesOf (suc i) (f .attributes)) (f .attributes)
+      [] (attributes-step i (f .attributes)) (attributes-most (suc i) (f .attributes))
+      ∙ (λ j. eachRecord (attributeRecord g) (attributeSize w) (sym (ca .is) j) (e j) ++ eachRecord (attributeRecord g) (attributeSize w) (k j - sym (cb .is) j)
+      (drop (attributeSize w * sym (cb .is) j) (e j)))
+      ∙ ap (λ (l : Bytes). eachRecord (attributeRecord g) (attributeSize w) a body ++ eachRecord (attributeRecord g) (attributeSize w) (n - b) l) (sym et))
+      (laid-then u v)
+
+  -- ---- rows
+  old : Every Old (f .rows)
+  old = rw (holds bs p .bodies) (every-map Bounded Old (flat (storeIn bs) .rows) (λ y b. b .serial) (rows-bounded (storeIn bs) (holds bs p .good)))
+
+  rows-old : Every Old (destroyed i f .rows)
+  unfolding destroyed
+  rows-old = moved-old g (lowered (attributesOf (suc i) (f .attributes)) (attributesOf (suc i) (f .attributes) - attributesOf i (f .attributes))) (f .rows) old
+
+  rows-are : (a b : ℕ) (v : Bytes) → a ≡ attributesOf i (f .attributes) → b ≡ attributesOf (suc i) (f .attributes) → destroyed i f .rows ≡ rowsAfter (shifting (i + 1) b (b - a)) v f
+  unfolding destroyed rowsAfter
+  rows-are a b v ea eb =
+      sym
+      (walked-shut (i + 1) b (b - a) v (fillOf (shifting (i + 1) b (b - a)) v f) (f .rows)
+      ∙ kept-rows (i + 1) b (b - a) v (f .rows) old
+      ∙ (λ j. map (movedRow (lowered (add-one i j) 1) (lowered (eb j) (eb j - ea j))) (f .rows)))
+
+  -- q: the plan that the code makes
+  pub rows-laid : {a b : ℕ} {q : Plan} (v : Bytes) {out out₁ : Bytes} {at : ℕ} {r : Cursor} → Counted (attributesOf i (f .attributes)) (attributeCount bs) a
+      → Counted (attributesOf (suc i) (f .attributes)) (attributeCount bs) b
+      → q ≡ shifting (i + 1) b (b - a) → Written (widthOf bs) (rowsAfter q v f) (walkFrom at bs) out r out₁ → Laid (each (rowBytes (widthOf bs)) (destroyed i f .rows)) out at (r .at) out₁
+  rows-laid {a} {b} {q} v ca cb e w =
+      laid-as (bytes-old (widthOf bs) (numberAt 4 4 bs) (destroyed i f .rows) rows-old)
+      (written-fitting (written-as (rows-are a b v (ca .is) (cb .is) ∙ ap (λ (s : Plan). rowsAfter s v f) (sym e)) w) (omega (arith, rows-left bs p i h, x .rows, x .fewRows)))
+
+  -- ---- all
+  header-is : flatBytes (widthOf bs) (destroyed i f) ≡ headerLeft i bs ++ (each definitionBytes (destroyed i f .definitions) ++ others (widthOf bs) (destroyed i f))
+  unfolding destroyed headed
+  header-is =
+      bytes-are (widthOf bs) (destroyed i f)
+      ∙ (λ j.
+      headed (widthOf bs) (sym (x .serial) j) (length (destroyed i f .definitions)) (length (destroyed i f .particles)) (length (destroyed i f .attributes)) (length (destroyed i f .rows))
+      (x .written j)
+      ++ (each definitionBytes (destroyed i f .definitions) ++ others (widthOf bs) (destroyed i f)))
+
+  pub destroyed-laid : {out out₁ out₂ out₃ out₄ out₅ : Bytes} {at₁ at₂ at₃ at₄ at₅ : ℕ} → Laid (headerLeft i bs) out 0 at₁ out₁
+      → Laid (each definitionBytes (destroyed i f .definitions)) out₁ at₁ at₂ out₂ → Laid (each particleBytes (destroyed i f .particles)) out₂ at₂ at₃ out₃
+      → Laid (each (attributeBytes (widthOf bs)) (destroyed i f .attributes)) out₃ at₃ at₄ out₄ → Laid (each (rowBytes (widthOf bs)) (destroyed i f .rows)) out₄ at₄ at₅ out₅
+      → Laid (flatBytes (widthOf bs) (destroyed i f)) out 0 at₅ out₅
+  destroyed-laid a b c d e = laid-as header-is (laid-then a (laid-then b (laid-then c (laid-then d e))))
+
+  -- ---- how far the writers have come
+  -- the places after the header, the definitions, the particles and the attributes
+  module _ {out out₁ : Bytes} {at₁ : ℕ} (l : Laid (headerLeft i bs) out 0 at₁ out₁) where
+    pub after-header : at₁ ≤ 40
+    after-header =
+        omega (
+          arith,
+          l .next,
+          headed-short (widthOf bs) (numberAt 4 4 bs) (length (destroyed i f .definitions)) (length (destroyed i f .particles)) (length (destroyed i f .attributes)) (length (destroyed i f .rows)) bs,
+        )
+
+    module _ {out₂ : Bytes} {at₂ : ℕ} (m : Laid (each definitionBytes (destroyed i f .definitions)) out₁ at₁ at₂ out₂) where
+      pub after-definitions : at₂ ≤ 1320
+      after-definitions = omega (
+        arith,
+        m .next,
+        after-header,
+        length-each definitionBytes definitionSize length-definition
+            (destroyed i f .definitions),
+        definitions-left bs p i h,
+        x .definitions,
+        x .fewDefinitions,
+      )
+
+      module _ {out₃ : Bytes} {at₃ : ℕ} (n : Laid (each particleBytes (destroyed i f .particles)) out₂ at₂ at₃ out₃) where
+        pub after-particles : at₃ ≤ 2344
+        after-particles = omega (arith, n .next, after-definitions, length-each particleBytes particleSize length-particle (destroyed i f .particles), few-particles bs p i h)
+
+        pub after-attributes : {out₄ : Bytes} {at₄ : ℕ} → Laid (each (attributeBytes (widthOf bs)) (destroyed i f .attributes)) out₃ at₃ at₄ out₄ → at₄ ≤ 20008
+        after-attributes q =
+            omega (
+              arith,
+              q .next,
+              after-particles,
+              length-each (attributeBytes (widthOf bs)) (attributeSize (widthOf bs)) (length-attribute (widthOf bs)) (destroyed i f .attributes),
+              attributes-few (widthOf bs) (length (destroyed i f .attributes)) (width-small bs) (few-attributes bs p i h),
+            )

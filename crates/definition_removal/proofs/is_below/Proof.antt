@@ -1,0 +1,21 @@
+-- `definition_removal::is_below` meets its contract.
+use Rattle.definition_removal.proofs.Moving.{below-yes, below-no}
+use native.Mathlib.Omega.{arith}
+use borrow.Author.Needs.{needs}
+use Rattle.definition_removal.proofs.is_below.Statement.{statement}
+use Rattle.definition_removal.proofs.is_below.Tie as tie
+
+owner-byte-requires : tie.Need-owner-byte-requires
+owner-byte-requires c κs = search needs
+
+cast-owner : tie.Need-cast-owner
+cast-owner c = search needs
+
+returns : tie.Need-returns
+returns c = below-yes (c .before .before .before .args .i) (c .before .before .before .args .rec .now) _ (c .before .owner-byte .ensures) (omega arith)
+
+returns-2 : tie.Need-returns-2
+returns-2 c = below-no (c .before .before .before .args .i) (c .before .before .before .args .rec .now) _ (c .before .owner-byte .ensures) (omega arith)
+
+pub is-below-spec : {M : Type 1} → statement M
+is-below-spec = tie.close (tie.spec owner-byte-requires cast-owner returns returns-2)

@@ -1,0 +1,57 @@
+-- `definition_removal::particles_left` meets its contract.
+use Rattle.definition_removal.proofs.Left.{next-counted, particles-step, models-left}
+use Rattle.definition_writer.proofs.Encoded.{encoded}
+use Rattle.definition_removal.specs.Bodies.{particlesOf}
+use Rattle.lookup.specs.Bodies.{bodiesOf}
+use Rattle.rules.specs.Decode.{particleCount}
+use native.Mathlib.Omega.{arith}
+use Prim.Native.Nat.{ℕ}
+use borrow.Author.Needs.{needs}
+use Rattle.definition_removal.proofs.particles_left.Statement.{statement}
+use Rattle.definition_removal.proofs.particles_left.Tie as tie
+
+model-start-requires : tie.Need-model-start-requires
+model-start-requires c κs = search needs
+
+add-model-start : tie.Need-add-model-start
+add-model-start c = let x = encoded (c .before .before .args .store .now) (c .before .before .pre .good) in omega (arith, c .before .before .pre .there, x .definitions, x .fewDefinitions)
+
+model-start-requires-2 : tie.Need-model-start-requires-2
+model-start-requires-2 c κs = search needs
+
+particle-count-requires : tie.Need-particle-count-requires
+particle-count-requires c κs = search needs
+
+sub-result : tie.Need-sub-result
+sub-result c =
+    let at-model-start2 = c .before in
+    let at-model-start = at-model-start2 .before in
+    let start = at-model-start .before .before in
+    let a = start .args in
+    let ds = bodiesOf (a .store .now) .definitions in
+    let end = next-counted (λ (k : ℕ). particlesOf k ds) (a .i) (particleCount (a .store .now)) (at-model-start2 .model-start2 .ensures) in
+    omega (arith, at-model-start .model-start .ensures .is, end .is, particles-step (a .i) ds)
+
+sub-result-2 : tie.Need-sub-result-2
+sub-result-2 c = let a = c .before .before .before .before .args in omega (arith, c .before .model-start2 .ensures .most, c .particle-count .ensures .value)
+
+returns : tie.Need-returns
+returns c =
+    let at-model-start2 = c .before in
+    let at-model-start = at-model-start2 .before in
+    let start = at-model-start .before .before in
+    let a = start .args in
+    models-left (a .store .now) (start .pre .good) (a .i) (start .pre .there) (c .particle-count .ensures) (at-model-start .model-start .ensures)
+    (next-counted (λ (k : ℕ). particlesOf k (bodiesOf (a .store .now) .definitions)) (a .i) (particleCount (a .store .now)) (at-model-start2 .model-start2 .ensures))
+
+pub particles-left-spec : {M : Type 1} → statement M
+particles-left-spec =
+    tie.close
+    (tie.spec
+    model-start-requires
+    add-model-start
+    model-start-requires-2
+    particle-count-requires
+    sub-result
+    sub-result-2
+    returns)

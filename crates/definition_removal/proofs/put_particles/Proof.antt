@@ -1,0 +1,61 @@
+-- `definition_removal::put_particles` meets its contract.
+use Rattle.definition_removal.proofs.Again.{Going, going-start, going-on, going-end, particle-short}
+use Rattle.definition_removal.specs.Bodies.{lowered, particleRecord}
+use Rattle.rules.specs.Layout.{particleSize}
+use borrow.Author.Needs.{needs}
+use native.Mathlib.Omega.{arith}
+use Prim.Native.Nat.{suc, _-_}
+use Rattle.definition_removal.proofs.put_particles.Statement.{statement}
+use Rattle.definition_removal.proofs.put_particles.Tie as tie
+
+abbrev Inv-loop : tie.InvT-loop
+Inv-loop body count definition out₀ start at₀ i₀ out at i = Going (particleRecord (lowered (suc definition) 1)) particleSize body count out₀ start out at i
+
+abbrev μ-loop : tie.MeasureT-loop
+μ-loop body count definition out₀ start at₀ i₀ out at i = count - i
+
+loop-holds : tie.Need-loop-holds Inv-loop μ-loop
+loop-holds c = going-start (particleRecord (lowered (suc (c .before .before .args .definition)) 1)) particleSize (c .before .before .args .body .now) (c .before .before .args .count)
+
+particle-at-requires : tie.Need-particle-at-requires Inv-loop μ-loop
+particle-at-requires c κs = search needs
+
+put-particle-requires : tie.Need-put-particle-requires Inv-loop μ-loop
+put-particle-requires c κs = omega (arith, c .before .before .before .loop .inv .small, c .before .before .before .before .before .before .pre)
+
+add-i : tie.Need-add-i Inv-loop μ-loop
+add-i c = search needs
+
+loop-less : tie.Need-loop-less Inv-loop μ-loop
+loop-less c = search needs
+
+loop-again : tie.Need-loop-again Inv-loop μ-loop
+loop-again c =
+    let at-put-particle = c .before .before in
+    let at-particle-at = at-put-particle .before .before in
+    let at-loop = at-particle-at .before .before in
+    let start = at-loop .before .before .before in
+    let a = start .args in
+    going-on (particleRecord (lowered (suc (a .definition)) 1)) particleSize (a .body .now) (a .count) (at-loop .loop .inv) _ (omega arith) (at-particle-at .particle-at .ensures)
+    (at-put-particle .put-particle .ensures) (particle-short (lowered (suc (a .definition)) 1) _)
+
+same-length : tie.Need-same-length Inv-loop μ-loop
+same-length c = c .before .loop .inv .long
+
+returns : tie.Need-returns Inv-loop μ-loop
+returns c = let a = c .before .before .before .before .args in going-end (particleRecord (lowered (suc (a .definition)) 1)) particleSize (a .body .now) (a .count) (c .before .loop .inv) (omega arith)
+
+pub put-particles-spec : {M : Type 1} → statement M
+put-particles-spec =
+    tie.close
+    (tie.spec
+    Inv-loop
+    μ-loop
+    loop-holds
+    particle-at-requires
+    put-particle-requires
+    add-i
+    loop-less
+    loop-again
+    same-length
+    returns)

@@ -1,0 +1,28 @@
+use native.Mathlib.Omega.{arith}
+use Rattle.document_refusals.proofs.StoreFacts.{whole}
+use Rattle.document_refusals.proofs.RefusalLaws.{document-3, document-6, document-0}
+use borrow.Author.Needs.{needs}
+use Rattle.document_refusals.proofs.add_document_refusal.Statement.{statement}
+use Rattle.document_refusals.proofs.add_document_refusal.Tie as tie
+
+width-in-requires : tie.Need-width-in-requires
+width-in-requires c κs = search needs
+
+is-value-requires : tie.Need-is-value-requires
+is-value-requires c κs = search needs
+
+returns : tie.Need-returns
+returns c = document-3 _ (whole _ (c .before .before .before .before .before .pre)) _ _ (c .before .before .width-in .ensures) (c .before .is-value .ensures) (c .if1 .taken) .is
+
+definition-count-requires : tie.Need-definition-count-requires
+definition-count-requires c κs = search needs
+
+returns-2 : tie.Need-returns-2
+returns-2 c = document-6 (c .before .before .before .before .before .before .before .args .store .now) (whole _ (c .before .before .before .before .before .before .before .pre)) _ (c .before .before .before .before .before .before .before .args .definition) (c .before .before .before .before .width-in .ensures) (c .before .before .before .is-value .ensures) (c .before .before .if1 .left) (c .before .definition-count .ensures) (omega arith) .is
+
+returns-3 : tie.Need-returns-3
+returns-3 c = document-0 (c .before .before .before .before .before .before .before .args .store .now) (whole _ (c .before .before .before .before .before .before .before .pre)) _ (c .before .before .before .before .before .before .before .args .definition) (c .before .before .before .before .width-in .ensures) (c .before .before .before .is-value .ensures) (c .before .before .if1 .left) (c .before .definition-count .ensures) (omega arith) .is
+
+pub add-document-refusal-spec : {M : Type 1} → statement M
+add-document-refusal-spec =
+    tie.close (tie.spec width-in-requires is-value-requires returns definition-count-requires returns-2 returns-3)

@@ -1,0 +1,31 @@
+use borrow.Author.Needs.{needs}
+use Rattle.document_refusals.proofs.children_fit.Statement.{statement}
+use Rattle.document_refusals.proofs.children_fit.Tie as tie
+
+slice-aggregate-fill : tie.Need-slice-aggregate-fill
+slice-aggregate-fill c = search needs
+
+fill-requires : tie.Need-fill-requires
+fill-requires c κs = search needs
+
+slice-aggregate-line-fits : tie.Need-slice-aggregate-line-fits
+slice-aggregate-line-fits c = search needs
+
+line-fits-requires : tie.Need-line-fits-requires
+line-fits-requires c κs =
+    let filled = c .before .before .fill in
+    let start = c .before .before .before .before .before .before in
+    (start .pre .0, start .pre .1, start .pre .2, search needs, filled .ensures .line)
+
+returns : tie.Need-returns
+returns c = c .line-fits .ensures
+
+pub children-fit-spec : {M : Type 1} → statement M
+children-fit-spec =
+    tie.close
+    (tie.spec
+    slice-aggregate-fill
+    fill-requires
+    slice-aggregate-line-fits
+    line-fits-requires
+    returns)

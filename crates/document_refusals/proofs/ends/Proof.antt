@@ -1,0 +1,53 @@
+use native.Mathlib.Omega.{arith}
+use Rattle.model.specs.Members.{membersOf}
+use Rattle.document_refusals.proofs.StepLaws.{end-none, end-child}
+use borrow.Author.Needs.{needs}
+use Rattle.document_refusals.proofs.ends.Statement.{statement}
+use Rattle.document_refusals.proofs.ends.Tie as tie
+
+shared-slice-read-contains : tie.Need-shared-slice-read-contains
+shared-slice-read-contains c = search needs
+
+contains-requires : tie.Need-contains-requires
+contains-requires c κs = search needs
+
+returns : tie.Need-returns
+returns c =
+    let start = c .before .before .before .before .before in
+    let a = start .args in
+    end-none (membersOf (a .part .now)) (a .line .now) (start .pre .1) (a .last) _ (c .before .before .if1 .taken) (c .contains .ensures)
+
+shared-slice-read-contains-2 : tie.Need-shared-slice-read-contains-2
+shared-slice-read-contains-2 c = search needs
+
+sub-contains : tie.Need-sub-contains
+sub-contains c = search needs
+
+contains-requires-2 : tie.Need-contains-requires-2
+contains-requires-2 c κs = search needs
+
+returns-2 : tie.Need-returns-2
+returns-2 c =
+    let start = c .before .before .before .before .before .before in
+    let a = start .args in
+    end-child (membersOf (a .part .now)) (a .line .now) (start .pre .1) (a .last) _ (c .before .before .before .if1 .left) (omega arith) (c .contains2 .ensures)
+
+finishes-requires : tie.Need-finishes-requires
+finishes-requires c κs = search needs
+
+returns-3 : tie.Need-returns-3
+returns-3 c = search needs
+
+pub ends-spec : {M : Type 1} → statement M
+ends-spec =
+    tie.close
+    (tie.spec
+    shared-slice-read-contains
+    contains-requires
+    returns
+    shared-slice-read-contains-2
+    sub-contains
+    contains-requires-2
+    returns-2
+    finishes-requires
+    returns-3)

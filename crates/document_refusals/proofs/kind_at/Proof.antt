@@ -1,0 +1,22 @@
+use mathlib.Core.Path.{ap₂, _∙_}
+use mathlib.Core.List.{List}
+use Prim.Native.Nat.{ℕ}
+use Rattle.row_check.specs.Reading.{definitionIn}
+use borrow.Author.Needs.{needs}
+use Rattle.document_refusals.proofs.kind_at.Statement.{statement}
+use Rattle.document_refusals.proofs.kind_at.Tie as tie
+
+definitions-of-requires : tie.Need-definitions-of-requires
+definitions-of-requires c κs = search needs
+
+definition-at-requires : tie.Need-definition-at-requires
+definition-at-requires c κs = search needs
+
+kind-of-requires : tie.Need-kind-of-requires
+kind-of-requires c κs = search needs
+
+returns : tie.Need-returns
+returns c = c .kind-of .ensures ∙ ap₂ (λ (b : List ℕ) (n : ℕ). definitionIn b n .kind) (c .before .before .definitions-of .ensures) (c .before .definition-at .ensures)
+
+pub kind-at-spec : {M : Type 1} → statement M
+kind-at-spec = tie.close (tie.spec definitions-of-requires definition-at-requires kind-of-requires returns)

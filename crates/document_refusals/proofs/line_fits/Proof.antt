@@ -1,0 +1,87 @@
+use borrow.Author.Needs.{needs}
+use mathlib.Core.Path.{_∙_}
+use Prim.Native.Nat.{_+_, _-_}
+use native.Mathlib.Omega.{arith}
+use Rattle.model.specs.Members.{membersOf}
+use Rattle.document_refusals.specs.Finding.{rowsFrom, children}
+use Rattle.document_refusals.proofs.SuffixLaws.{rowAt, Looking, look-start, look-here, look-past, look-none}
+use Rattle.document_refusals.proofs.StepLaws.{accepted, step-at, word-fails, word-past, word-ends, less-as}
+use Rattle.document_refusals.proofs.line_fits.Statement.{statement}
+use Rattle.document_refusals.proofs.line_fits.Tie as tie
+
+abbrev Inv-loop : tie.InvT-loop
+Inv-loop w part line rows count start depth place new skip last₀ left₀ i₀ last left i = Looking w 1 depth rows count (accepted (membersOf part) new skip last left) (accepted (membersOf part) new skip 0 place (children 1 depth (rowsFrom w rows count start))) i
+
+abbrev μ-loop : tie.MeasureT-loop
+μ-loop w part line rows count start depth place new skip last₀ left₀ i₀ last left i = count - i
+
+next-child-requires : tie.Need-next-child-requires Inv-loop μ-loop
+next-child-requires c κs = search needs
+
+loop-holds : tie.Need-loop-holds Inv-loop μ-loop
+loop-holds c = look-start (c .next-child .ensures)
+
+step-new-requires : tie.Need-step-new-requires Inv-loop μ-loop
+step-new-requires c κs = search needs
+
+row-at-requires : tie.Need-row-at-requires Inv-loop μ-loop
+row-at-requires c κs = search needs
+
+step-child-requires : tie.Need-step-child-requires Inv-loop μ-loop
+step-child-requires c κs = search needs
+
+returns : tie.Need-returns Inv-loop μ-loop
+returns c = let l = c .before .before .before .before .before .before .before in let a = l .before .before .before .before .before .args in
+    word-fails (membersOf (a .part .now)) (a .new) (a .skip) (l .loop .last) (l .loop .left) (rowAt (a .w) (a .rows .now) (l .loop .i) .row) (children 1 (a .depth) (rowsFrom (a .w) (a .rows .now) (a .count) (l .loop .i + 1))) (c .before .before .before .before .before .step-new .ensures) (step-at (a .skip) (c .before .before .before .before .row-at .ensures) (c .before .before .before .step-child .ensures)) (c .if1 .taken)
+    ∙ look-here (a .w) 1 (a .depth) (a .rows .now) (a .count) (accepted (membersOf (a .part .now)) (a .new) (a .skip) (l .loop .last) (l .loop .left)) _ (l .loop .i) (l .loop .inv) (omega arith)
+
+less-requires : tie.Need-less-requires Inv-loop μ-loop
+less-requires c κs = search needs
+
+add-next-child : tie.Need-add-next-child Inv-loop μ-loop
+add-next-child c = search needs
+
+next-child-requires-2 : tie.Need-next-child-requires-2 Inv-loop μ-loop
+next-child-requires-2 c κs = search needs
+
+loop-less : tie.Need-loop-less Inv-loop μ-loop
+loop-less c = omega (arith, c .next-child2 .ensures .later)
+
+loop-again : tie.Need-loop-again Inv-loop μ-loop
+loop-again c = let l = c .before .before .before .before .before .before .before .before .before in let a = l .before .before .before .before .before .args in
+    look-past (a .w) 1 (a .depth) (a .rows .now) (a .count) (accepted (membersOf (a .part .now)) (a .new) (a .skip) (l .loop .last) (l .loop .left)) _ (l .loop .i) (l .loop .inv)
+    (accepted (membersOf (a .part .now)) (a .new) (a .skip) (c .before .before .before .before .before .step-child .result .last) (c .before .less .result)) (omega arith)
+    (word-past (membersOf (a .part .now)) (a .new) (a .skip) (l .loop .last) (l .loop .left) (rowAt (a .w) (a .rows .now) (l .loop .i) .row) (children 1 (a .depth) (rowsFrom (a .w) (a .rows .now) (a .count) (l .loop .i + 1))) (c .before .before .before .before .before .before .before .step-new .ensures) (step-at (a .skip) (c .before .before .before .before .before .before .row-at .ensures) (c .before .before .before .before .before .step-child .ensures)) (c .before .before .if1 .left)
+    ∙ less-as (membersOf (a .part .now)) (a .new) (a .skip) (c .before .before .before .before .before .step-child .result .last) (children 1 (a .depth) (rowsFrom (a .w) (a .rows .now) (a .count) (l .loop .i + 1))) (c .before .less .ensures)) (c .next-child2 .ensures)
+
+step-new-requires-2 : tie.Need-step-new-requires-2 Inv-loop μ-loop
+step-new-requires-2 c κs = search needs
+
+ends-requires : tie.Need-ends-requires Inv-loop μ-loop
+ends-requires c κs = search needs
+
+returns-2 : tie.Need-returns-2 Inv-loop μ-loop
+returns-2 c = let l = c .before .before .before .before in let a = l .before .before .before .before .before .args in
+    word-ends (membersOf (a .part .now)) (a .new) (a .skip) (l .loop .last) (l .loop .left) (c .before .before .step-new2 .ensures) (c .before .ends .ensures)
+    ∙ look-none (a .w) 1 (a .depth) (a .rows .now) (a .count) (accepted (membersOf (a .part .now)) (a .new) (a .skip) (l .loop .last) (l .loop .left)) _ (l .loop .i) (l .loop .inv) (omega arith)
+
+pub line-fits-spec : {M : Type 1} → statement M
+line-fits-spec =
+    tie.close
+    (tie.spec
+    Inv-loop
+    μ-loop
+    next-child-requires
+    loop-holds
+    step-new-requires
+    row-at-requires
+    step-child-requires
+    returns
+    less-requires
+    add-next-child
+    next-child-requires-2
+    loop-less
+    loop-again
+    step-new-requires-2
+    ends-requires
+    returns-2)

@@ -1,0 +1,26 @@
+use mathlib.Core.Path.{ap, _∙_}
+use Rattle.model.specs.Members.{membersOf}
+use Rattle.row_check.specs.Reading.{modelPart}
+use borrow.Author.Needs.{needs}
+use Rattle.document_refusals.proofs.model_at.Statement.{statement}
+use Rattle.document_refusals.proofs.model_at.Tie as tie
+
+definitions-of-requires : tie.Need-definitions-of-requires
+definitions-of-requires c κs = search needs
+
+particles-of-requires : tie.Need-particles-of-requires
+particles-of-requires c κs = search needs
+
+definition-at-requires : tie.Need-definition-at-requires
+definition-at-requires c κs = search needs
+
+model-part-requires : tie.Need-model-part-requires
+model-part-requires c κs = search needs
+
+returns : tie.Need-returns
+returns c = ap membersOf (c .model-part .ensures ∙ (λ i. modelPart (c .before .before .before .definitions-of .ensures i) (c .before .before .particles-of .ensures i) (c .before .definition-at .ensures i)))
+
+pub model-at-spec : {M : Type 1} → statement M
+model-at-spec =
+    tie.close
+    (tie.spec definitions-of-requires particles-of-requires definition-at-requires model-part-requires returns)

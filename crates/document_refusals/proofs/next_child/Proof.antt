@@ -1,0 +1,77 @@
+use borrow.Author.Needs.{needs}
+use mathlib.Core.Path.{_≡_, sym, ap, ap₂, _∙_}
+use mathlib.Core.Bool.{_&&_}
+use mathlib.Core.List.{List}
+use Prim.Native.Nat.{ℕ, _-_}
+use native.Mathlib.Omega.{arith}
+use lib.Dec.{eqb}
+use Rattle.rules.specs.Layout.{rowSize}
+use Rattle.rules.specs.Decode.{readRow}
+use Rattle.layout.specs.Bodies.{recordAt}
+use Rattle.document_refusals.proofs.SuffixLaws.{child-of, Stepping, step-start, step-past, step-hit, step-less, step-none}
+use Rattle.document_refusals.proofs.next_child.Statement.{statement}
+use Rattle.document_refusals.proofs.next_child.Tie as tie
+
+abbrev Inv-loop : tie.InvT-loop
+Inv-loop w rows count start depth sort i₀ i = Stepping w sort depth rows count start i
+
+abbrev μ-loop : tie.MeasureT-loop
+μ-loop w rows count start depth sort i₀ i = count - i
+
+loop-holds : tie.Need-loop-holds Inv-loop μ-loop
+loop-holds c = step-start
+
+row-at-requires : tie.Need-row-at-requires Inv-loop μ-loop
+row-at-requires c κs = search needs
+
+row-depth-requires : tie.Need-row-depth-requires Inv-loop μ-loop
+row-depth-requires c κs = search needs
+
+cast-deep : tie.Need-cast-deep Inv-loop μ-loop
+cast-deep c = search needs
+
+returns : tie.Need-returns Inv-loop μ-loop
+returns c = let l = c .before .before .before .before in let a = l .before .before .args in
+    child-of (step-less (a .w) (a .sort) (a .depth) (a .rows .now) (a .count) (a .start) (l .loop .i) (l .loop .inv) (omega arith) (omega (arith, c .before .row-depth .ensures ∙ ap (λ (b : List ℕ). readRow b .depth) (c .before .before .row-at .ensures)))) (omega arith)
+
+row-sort-requires : tie.Need-row-sort-requires Inv-loop μ-loop
+row-sort-requires c κs = search needs
+
+returns-2 : tie.Need-returns-2 Inv-loop μ-loop
+returns-2 c = let l = c .before .before .before .before .before .before in let a = l .before .before .args in
+    let x : c .before .before .before .row-depth .result ≡ readRow (recordAt (rowSize (a .w)) (l .loop .i) (a .rows .now)) .depth = c .before .before .before .row-depth .ensures ∙ ap (λ (b : List ℕ). readRow b .depth) (c .before .before .before .before .row-at .ensures) in
+    let y : c .before .row-sort .result ≡ readRow (recordAt (rowSize (a .w)) (l .loop .i) (a .rows .now)) .row .sort = c .before .row-sort .ensures ∙ ap (λ (b : List ℕ). readRow b .row .sort) (c .before .before .before .before .row-at .ensures) in
+    child-of (step-hit (a .w) (a .sort) (a .depth) (a .rows .now) (a .count) (a .start) (l .loop .i) (l .loop .inv) (omega arith) (omega arith) (sym (ap₂ (λ (u v : ℕ). eqb u (a .depth) && eqb v (a .sort)) x y) ∙ c .if2 .taken)) (omega (arith, l .loop .inv .onward))
+
+add-i : tie.Need-add-i Inv-loop μ-loop
+add-i c = search needs
+
+loop-less : tie.Need-loop-less Inv-loop μ-loop
+loop-less c = search needs
+
+loop-again : tie.Need-loop-again Inv-loop μ-loop
+loop-again c = let l = c .before .before .before .before .before .before in let a = l .before .before .args in
+    let x : c .before .before .before .row-depth .result ≡ readRow (recordAt (rowSize (a .w)) (l .loop .i) (a .rows .now)) .depth = c .before .before .before .row-depth .ensures ∙ ap (λ (b : List ℕ). readRow b .depth) (c .before .before .before .before .row-at .ensures) in
+    let y : c .before .row-sort .result ≡ readRow (recordAt (rowSize (a .w)) (l .loop .i) (a .rows .now)) .row .sort = c .before .row-sort .ensures ∙ ap (λ (b : List ℕ). readRow b .row .sort) (c .before .before .before .before .row-at .ensures) in
+    step-past (a .w) (a .sort) (a .depth) (a .rows .now) (a .count) (a .start) (l .loop .i) (l .loop .inv) (omega arith) (omega arith) (sym (ap₂ (λ (u v : ℕ). eqb u (a .depth) && eqb v (a .sort)) x y) ∙ c .if2 .left)
+
+returns-3 : tie.Need-returns-3 Inv-loop μ-loop
+returns-3 c = child-of (step-none _ _ _ _ _ _ _ (c .before .loop .inv) (omega arith)) (omega arith)
+
+pub next-child-spec : {M : Type 1} → statement M
+next-child-spec =
+    tie.close
+    (tie.spec
+    Inv-loop
+    μ-loop
+    loop-holds
+    row-at-requires
+    row-depth-requires
+    cast-deep
+    returns
+    row-sort-requires
+    returns-2
+    add-i
+    loop-less
+    loop-again
+    returns-3)

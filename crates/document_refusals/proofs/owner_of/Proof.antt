@@ -1,0 +1,38 @@
+use mathlib.Core.Path.{_∙_}
+use Rattle.rules.specs.Layout.{attributeSize}
+use Rattle.rules.specs.Decode.{readAttribute}
+use Rattle.layout.specs.Bodies.{recordAt}
+use borrow.Author.Needs.{needs}
+use Rattle.document_refusals.proofs.owner_of.Statement.{statement}
+use Rattle.document_refusals.proofs.owner_of.Tie as tie
+
+width-in-requires : tie.Need-width-in-requires
+width-in-requires c κs = search needs
+
+attributes-of-requires : tie.Need-attributes-of-requires
+attributes-of-requires c κs = search needs
+
+attribute-at-requires : tie.Need-attribute-at-requires
+attribute-at-requires c κs = search needs
+
+attribute-owner-requires : tie.Need-attribute-owner-requires
+attribute-owner-requires c κs = search needs
+
+returns : tie.Need-returns
+returns c =
+    let record-of = c .before in
+    let attrs = record-of .before in
+    let width = attrs .before in
+    let a = width .before .before .args in
+    c .attribute-owner .ensures
+    ∙ (λ j. readAttribute ((record-of .attribute-at .ensures ∙ (λ k. recordAt (attributeSize (width .width-in .ensures .value k)) (a .attribute) (attrs .attributes-of .ensures k))) j) .owner)
+
+pub owner-of-spec : {M : Type 1} → statement M
+owner-of-spec =
+    tie.close
+    (tie.spec
+    width-in-requires
+    attributes-of-requires
+    attribute-at-requires
+    attribute-owner-requires
+    returns)

@@ -1,0 +1,19 @@
+use Rattle.document_refusals.proofs.StepLaws.{new-step, new-none}
+use borrow.Author.Needs.{needs}
+use Rattle.document_refusals.proofs.step_new.Statement.{statement}
+use Rattle.document_refusals.proofs.step_new.Tie as tie
+
+follows-requires : tie.Need-follows-requires
+follows-requires c κs = search needs
+
+add-t8 : tie.Need-add-t8
+add-t8 c = search needs
+
+returns : tie.Need-returns
+returns c = new-step _ _ _ _ (c .before .if1 .taken) (c .follows .ensures)
+
+returns-2 : tie.Need-returns-2
+returns-2 c = new-none _ _ _ _ (c .if1 .left)
+
+pub step-new-spec : {M : Type 1} → statement M
+step-new-spec = tie.close (tie.spec follows-requires add-t8 returns returns-2)

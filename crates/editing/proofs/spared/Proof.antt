@@ -1,9 +1,0 @@
-use borrow.Author.Needs.{needs}
-use Rattle.editing.proofs.spared.Statement.{statement}
-use Rattle.editing.proofs.spared.Tie as tie
-
-returns : tie.Need-returns
-returns c = rw (c .before .before .pre)
-
-pub spared-spec : {M : Type 1} → statement M
-spared-spec = tie.close (tie.spec returns)

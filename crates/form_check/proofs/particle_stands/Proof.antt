@@ -1,0 +1,55 @@
+-- `form_check::particle_stands` meets its contract. Depth, members and elements, each test at its return.
+use mathlib.Core.Path.{sym}
+use Prim.Native.Nat.{_+_}
+use lib.ListN.{drop}
+use Rattle.form_check.specs.Bodies.{particleAt, particles}
+use Rattle.form_check.proofs.ModelLaws.{stands-low, stands-far, stands-by}
+use borrow.Author.Needs.{needs}
+use Rattle.form_check.proofs.particle_stands.Statement.{statement}
+use Rattle.form_check.proofs.particle_stands.Tie as tie
+
+particle-depth-at-requires : tie.Need-particle-depth-at-requires
+particle-depth-at-requires c κs = search needs
+
+returns : tie.Need-returns
+returns c = let a = c .before .before .before .args in
+    sym (stands-low (a .n) (a .d) (particleAt (a .i) (a .parts .now)) (drop (a .i + 1) (particles (a .m) (a .parts .now))) (c .before .particle-depth-at .ensures) (c .if1 .taken))
+
+returns-2 : tie.Need-returns-2
+returns-2 c = let a = c .before .before .before .before .args in
+    sym (stands-far (a .n) (a .d) (particleAt (a .i) (a .parts .now)) (drop (a .i + 1) (particles (a .m) (a .parts .now))) (c .before .before .particle-depth-at .ensures) (c .before .if1 .left)
+    (c .if2 .taken))
+
+add-members : tie.Need-add-members
+add-members c = search needs
+
+add-members-2 : tie.Need-add-members-2
+add-members-2 c = search needs
+
+members-requires : tie.Need-members-requires
+members-requires c κs = search needs
+
+count-fits-requires : tie.Need-count-fits-requires
+count-fits-requires c κs = search needs
+
+element-again-requires : tie.Need-element-again-requires
+element-again-requires c κs = search needs
+
+returns-3 : tie.Need-returns-3
+returns-3 c = let a = c .before .before .before .before .before .before .before .args in
+    stands-by (a .n) (a .d) (particleAt (a .i) (a .parts .now)) (drop (a .i + 1) (particles (a .m) (a .parts .now))) (c .before .before .before .before .before .particle-depth-at .ensures)
+    (c .before .before .before .before .if1 .left) (c .before .before .before .if2 .left) (c .before .before .members .ensures) (c .before .count-fits .ensures) (c .element-again .ensures)
+
+pub particle-stands-spec : {M : Type 1} → statement M
+particle-stands-spec =
+    tie.close
+    (tie.spec
+    particle-depth-at-requires
+    returns
+    returns-2
+    add-members
+    add-members-2
+    members-requires
+    count-fits-requires
+    element-again-requires
+    returns-3)

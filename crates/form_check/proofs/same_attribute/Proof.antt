@@ -1,0 +1,38 @@
+-- `form_check::same_attribute` meets its contract. Owner and name, compared.
+use mathlib.Core.Path.{_∙_, ap₂}
+use mathlib.Core.Bool.{Bool, _&&_}
+use Prim.Native.Nat.{ℕ}
+use lib.Dec.{eqb}
+use Rattle.rules.specs.Bytes.{Bytes, same}
+use borrow.Author.Needs.{needs}
+use Rattle.form_check.proofs.same_attribute.Statement.{statement}
+use Rattle.form_check.proofs.same_attribute.Tie as tie
+
+attribute-name-requires : tie.Need-attribute-name-requires
+attribute-name-requires c κs = search needs
+
+attribute-name-requires-2 : tie.Need-attribute-name-requires-2
+attribute-name-requires-2 c κs = search needs
+
+equal-requires : tie.Need-equal-requires
+equal-requires c κs = search needs
+
+owner-requires : tie.Need-owner-requires
+owner-requires c κs = search needs
+
+owner-requires-2 : tie.Need-owner-requires-2
+owner-requires-2 c κs = search needs
+
+returns : tie.Need-returns
+returns c = ap₂ (λ (a b : Bool). a && b) (ap₂ (λ (a b : ℕ). eqb a b) (c .before .owner .ensures) (c .owner2 .ensures)) (c .before .before .equal .ensures ∙ ap₂ (λ (a b : Bytes). same a b) (c .before .before .before .before .attribute-name .ensures) (c .before .before .before .attribute-name2 .ensures))
+
+pub same-attribute-spec : {M : Type 1} → statement M
+same-attribute-spec =
+    tie.close
+    (tie.spec
+    attribute-name-requires
+    attribute-name-requires-2
+    equal-requires
+    owner-requires
+    owner-requires-2
+    returns)

@@ -1,0 +1,260 @@
+// The tests of a form's bodies that look at more than one record. Every loop is bounded by a count of records.
+ghost use mathlib.Core.Path.{_≡_};
+ghost use Prim.Native.Nat.{_+_, _<_, _≤_};
+ghost use lib.ListN.{drop};
+ghost use Rattle.rules.specs.Bytes.{same, any};
+ghost use Rattle.rules.specs.Layout.{definitionSize, particleSize, attributeSize};
+ghost use Rattle.layout.specs.Bodies.{Width};
+ghost use Rattle.form_check.specs.FormTests.{clashes, definitionsApart, modelFits, modelsFit, ownersRise, attributesApart, bodiesFit};
+ghost use Rattle.form_check.specs.Bodies.{Body, definitionAt, particleAt, attributeAt, definitions, particles, attributes, Bodies, formOf, sameName, sameElement, countFits, membersFrom, stands};
+
+// the sort of a particle that is an element; the others are groups
+const ELEMENT: usize = 0;
+
+// Whether definition j has this name.
+fn same_name(name: &[u8], defs: &[u8], j: usize) -> bool
+    requires { ⌜ j < 64 ⌝ }
+    ensures { λ r. ⌜ r ≡ same (now (name .entry)) (definitionAt j (now (defs .entry)) .name) ⌝ }
+{
+    codec::equal(
+        name,
+        layout::definition_name(layout::definition_at(defs, j)),
+    )
+}
+
+// Whether a later definition has the name of definition i.
+fn name_again(n: usize, defs: &[u8], i: usize) -> bool
+    requires { ⌜ Body 64 definitionSize n (now defs) × (i < n) ⌝ }
+    ensures { λ r. ⌜ r ≡ any (sameName (definitionAt i (now (defs .entry)))) (drop (i + 1) (definitions n (now (defs .entry)))) ⌝ }
+{
+    let name = layout::definition_name(layout::definition_at(defs, i));
+    let mut j = i;
+    while j + 1 < n {
+        j += 1;
+        if same_name(name, defs, j) {
+            return true;
+        }
+    }
+    false
+}
+
+/// Whether no two definitions have one name: at most 64 * 63 / 2 comparisons.
+pub fn definitions_apart(n: usize, defs: &[u8]) -> bool
+    requires { ⌜ Body 64 definitionSize n (now defs) ⌝ }
+    ensures { λ r. ⌜ r ≡ definitionsApart (definitions n (now (defs .entry))) ⌝ }
+{
+    let mut i = 0;
+    while i < n {
+        if name_again(n, defs, i) {
+            return false;
+        }
+        i += 1;
+    }
+    true
+}
+
+fn owner(w: usize, attrs: &[u8], i: usize) -> usize
+    requires { ⌜ Width w × (i < 64) ⌝ }
+    ensures { λ r. ⌜ r ≡ attributeAt w i (now (attrs .entry)) .owner ⌝ }
+{
+    layout::attribute_owner(layout::attribute_at(w, attrs, i))
+}
+
+fn attribute_name(w: usize, attrs: &[u8], i: usize) -> &[u8]
+    requires { ⌜ Width w × (i < 64) ⌝ }
+    ensures { λ r. ⌜ now r ≡ attributeAt w i (now (attrs .entry)) .name ⌝ }
+{
+    layout::attribute_name(layout::attribute_at(w, attrs, i))
+}
+
+// Whether attributes i and j have one owner and one name.
+fn same_attribute(w: usize, attrs: &[u8], i: usize, j: usize) -> bool
+    requires { ⌜ Width w × (i < 64) × (j < 64) ⌝ }
+    ensures { λ r. ⌜ r ≡ clashes (attributeAt w i (now (attrs .entry))) (attributeAt w j (now (attrs .entry))) ⌝ }
+{
+    let named = codec::equal(attribute_name(w, attrs, i), attribute_name(w, attrs, j));
+    (owner(w, attrs, i) == owner(w, attrs, j)) & named
+}
+
+// Whether a later attribute has the owner and the name of attribute i.
+fn attribute_again(w: usize, a: usize, attrs: &[u8], i: usize) -> bool
+    requires { ⌜ Width w × Body 64 (attributeSize w) a (now attrs) × (i < a) ⌝ }
+    ensures { λ r. ⌜ r ≡ any (clashes (attributeAt w i (now (attrs .entry)))) (drop (i + 1) (attributes w a (now (attrs .entry)))) ⌝ }
+{
+    let mut j = i;
+    while j + 1 < a {
+        j += 1;
+        if same_attribute(w, attrs, i, j) {
+            return true;
+        }
+    }
+    false
+}
+
+/// Whether no two attributes have one owner and one name: at most 64 * 63 / 2 comparisons.
+pub fn attributes_apart(w: usize, a: usize, attrs: &[u8]) -> bool
+    requires { ⌜ Width w × Body 64 (attributeSize w) a (now attrs) ⌝ }
+    ensures { λ r. ⌜ r ≡ attributesApart (attributes w a (now (attrs .entry))) ⌝ }
+{
+    let mut i = 0;
+    while i < a {
+        if attribute_again(w, a, attrs, i) {
+            return false;
+        }
+        i += 1;
+    }
+    true
+}
+
+/// Whether the attributes stand in the order of their owners.
+pub fn owners_rise(w: usize, a: usize, attrs: &[u8]) -> bool
+    requires { ⌜ Width w × Body 64 (attributeSize w) a (now attrs) ⌝ }
+    ensures { λ r. ⌜ r ≡ ownersRise 0 (attributes w a (now (attrs .entry))) ⌝ }
+{
+    let mut least: usize = 0;
+    let mut i = 0;
+    while i < a {
+        let o = owner(w, attrs, i);
+        if o < least {
+            return false;
+        }
+        least = o;
+        i += 1;
+    }
+    true
+}
+
+// How many particles stand beside one another at depth k, from particle `from` on: the scan ends at a depth below k.
+fn members(m: usize, parts: &[u8], from: usize, k: usize) -> usize
+    requires { ⌜ m ≤ 256 ⌝ }
+    ensures { λ r. ⌜ r ≡ membersFrom k (drop from (particles m (now (parts .entry)))) ⌝ }
+{
+    let mut count: usize = 0;
+    let mut j = from;
+    while j < m {
+        let depth = layout::particle_depth_at(parts, j);
+        if depth < k {
+            return count;
+        }
+        if depth == k {
+            count += 1;
+        }
+        j += 1;
+    }
+    count
+}
+
+// Whether the codes and the index of particle i fit, with `below` particles directly in it.
+fn count_fits(n: usize, parts: &[u8], i: usize, below: usize) -> bool
+    requires { ⌜ i < 256 ⌝ }
+    ensures { λ r. ⌜ r ≡ countFits n (particleAt i (now (parts .entry)) .row) below ⌝ }
+{
+    let sort = layout::particle_sort_at(parts, i);
+    let marked = layout::particle_quantifier_at(parts, i) <= 3;
+    let index = layout::particle_index_at(parts, i);
+    if sort == ELEMENT {
+        return marked & ((index < n) & (below == 0));
+    }
+    marked & ((sort <= 2) & ((index == below) & (below != 0)))
+}
+
+// Whether particles i and j are one element.
+fn same_element(parts: &[u8], i: usize, j: usize) -> bool
+    requires { ⌜ (i < 256) × (j < 256) ⌝ }
+    ensures { λ r. ⌜ r ≡ sameElement (particleAt i (now (parts .entry))) (particleAt j (now (parts .entry))) ⌝ }
+{
+    let first = layout::particle_sort_at(parts, i) == ELEMENT;
+    let second = layout::particle_sort_at(parts, j) == ELEMENT;
+    first & (second & (layout::particle_index_at(parts, i) == layout::particle_index_at(parts, j)))
+}
+
+// Whether a later particle is the element of particle i again.
+fn element_again(m: usize, parts: &[u8], i: usize) -> bool
+    requires { ⌜ (m ≤ 256) × (i < m) ⌝ }
+    ensures { λ r. ⌜ r ≡ any (sameElement (particleAt i (now (parts .entry)))) (drop (i + 1) (particles m (now (parts .entry)))) ⌝ }
+{
+    let mut j = i;
+    while j + 1 < m {
+        j += 1;
+        if same_element(parts, i, j) {
+            return true;
+        }
+    }
+    false
+}
+
+// Whether particle i of a model can stand where depth d is allowed.
+fn particle_stands(n: usize, m: usize, parts: &[u8], i: usize, d: usize) -> bool
+    requires { ⌜ (m ≤ 256) × (i < m) ⌝ }
+    ensures { λ r. ⌜ r ≡ stands n d (particleAt i (now (parts .entry))) (drop (i + 1) (particles m (now (parts .entry)))) ⌝ }
+{
+    let depth = layout::particle_depth_at(parts, i);
+    if 4 < depth {
+        return false;
+    }
+    if d < depth {
+        return false;
+    }
+    let below = members(m, parts, i + 1, depth + 1);
+    let fits = count_fits(n, parts, i, below);
+    fits & !element_again(m, parts, i)
+}
+
+/// Whether m particles are the preorder of a model in a form of n definitions. For each particle those after it are looked at
+/// twice: at most 256 * 255 in all.
+pub fn model_fits(n: usize, m: usize, parts: &[u8]) -> bool
+    requires { ⌜ m ≤ 256 ⌝ }
+    ensures { λ r. ⌜ r ≡ modelFits n (particles m (now (parts .entry))) ⌝ }
+{
+    let mut d: usize = 0;
+    let mut i = 0;
+    while i < m {
+        if !particle_stands(n, m, parts, i, d) {
+            return false;
+        }
+        d = layout::particle_depth_at(parts, i) + 1;
+        i += 1;
+    }
+    true
+}
+
+/// Whether the particles are the models of the definitions, one after the other: each particle is in one model at most.
+pub fn models_fit(n: usize, defs: &[u8], p: usize, parts: &[u8]) -> bool
+    requires { ⌜ Body 64 definitionSize n (now defs) × Body 256 particleSize p (now parts) ⌝ }
+    ensures { λ r. ⌜ r ≡ modelsFit n (definitions n (now (defs .entry))) (particles p (now (parts .entry))) ⌝ }
+{
+    let mut at: usize = 0;
+    let mut i = 0;
+    while i < n {
+        let size = layout::definition_particles_at(defs, i) as usize;
+        if p - at < size {
+            return false;
+        }
+        if !model_fits(n, size, layout::particles_part(parts, at, size)) {
+            return false;
+        }
+        at += size;
+        i += 1;
+    }
+    at == p
+}
+
+/// Whether the three bodies of a form fit together. At the ceilings: 64 * 63 / 2 pairs of definitions and as many of attributes,
+/// and 256 * 255 particles looked at.
+pub fn bodies_fit(
+    w: usize,
+    n: usize,
+    defs: &[u8],
+    p: usize,
+    parts: &[u8],
+    a: usize,
+    attrs: &[u8],
+) -> bool
+    requires { ⌜ Width w × Bodies w n (now defs) p (now parts) a (now attrs) ⌝ }
+    ensures { λ r. ⌜ r ≡ bodiesFit (formOf w n (now (defs .entry)) p (now (parts .entry)) a (now (attrs .entry))) ⌝ }
+{
+    let apart = definitions_apart(n, defs);
+    let models = models_fit(n, defs, p, parts);
+    let ordered = owners_rise(w, a, attrs);
+    apart & (models & (ordered & attributes_apart(w, a, attrs)))
+}

@@ -1,0 +1,16 @@
+use Rattle.form_refusals.proofs.QuantifierLaws.{cuts-read}
+use borrow.Author.Needs.{needs}
+use Rattle.form_refusals.proofs.cuts.Statement.{statement}
+use Rattle.form_refusals.proofs.cuts.Tie as tie
+
+many-requires : tie.Need-many-requires
+many-requires c κs = search needs
+
+many-requires-2 : tie.Need-many-requires-2
+many-requires-2 c κs = search needs
+
+returns : tie.Need-returns
+returns c = cuts-read (c .before .before .args .old) (c .before .before .args .new) (c .before .many .ensures) (c .many2 .ensures)
+
+pub cuts-spec : {M : Type 1} → statement M
+cuts-spec = tie.close (tie.spec many-requires many-requires-2 returns)

@@ -1,0 +1,18 @@
+use native.Mathlib.Omega.{arith}
+use Rattle.document_refusals.proofs.StoreFacts.{whole}
+use Rattle.form_refusals.proofs.AttributeLaws.{destroy-6, destroy-0}
+use borrow.Author.Needs.{needs}
+use Rattle.form_refusals.proofs.destroy_attribute_refusal.Statement.{statement}
+use Rattle.form_refusals.proofs.destroy_attribute_refusal.Tie as tie
+
+attribute-count-requires : tie.Need-attribute-count-requires
+attribute-count-requires c κs = search needs
+
+returns : tie.Need-returns
+returns c = destroy-6 _ (whole _ (c .before .before .before .pre)) (c .before .attribute-count .ensures) (c .before .before .before .args .attribute) (omega arith) .is
+
+returns-2 : tie.Need-returns-2
+returns-2 c = destroy-0 _ (whole _ (c .before .before .before .pre)) (c .before .attribute-count .ensures) (c .before .before .before .args .attribute) (omega arith) .is
+
+pub destroy-attribute-refusal-spec : {M : Type 1} → statement M
+destroy-attribute-refusal-spec = tie.close (tie.spec attribute-count-requires returns returns-2)

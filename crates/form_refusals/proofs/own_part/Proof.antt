@@ -1,0 +1,19 @@
+use Rattle.form_refusals.proofs.PickLaws.{own-model}
+use borrow.Author.Needs.{needs}
+use Rattle.form_refusals.proofs.own_part.Statement.{statement}
+use Rattle.form_refusals.proofs.own_part.Tie as tie
+
+definitions-of-requires : tie.Need-definitions-of-requires
+definitions-of-requires c κs = search needs
+
+particles-of-requires : tie.Need-particles-of-requires
+particles-of-requires c κs = search needs
+
+model-part-requires : tie.Need-model-part-requires
+model-part-requires c κs = search needs
+
+returns : tie.Need-returns
+returns c = own-model _ _ (c .before .before .definitions-of .ensures) (c .before .particles-of .ensures) (c .model-part .ensures)
+
+pub own-part-spec : {M : Type 1} → statement M
+own-part-spec = tie.close (tie.spec definitions-of-requires particles-of-requires model-part-requires returns)

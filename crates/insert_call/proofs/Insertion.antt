@@ -1,0 +1,104 @@
+-- What change 3 answers.
+use Prim.Native.Nat.{ℕ, _<_, _≤_}
+use native.Mathlib.Omega.{arith}
+use mathlib.Core.Path.{_≡_, refl, sym, ap, ap₂, _∙_, subst}
+use mathlib.Core.Bool.{Bool, true, not, _&&_}
+use mathlib.Core.Option.{some}
+use mathlib.Core.List.{List}
+use lib.ListN.{length}
+use borrow.Author.Tests.{ltb-false}
+use Rattle.rules.specs.declared.Quantifier.{Quantifier}
+use Rattle.rules.specs.Bytes.{Bytes}
+use Rattle.rules.specs.Model.{skips}
+use Rattle.rules.specs.Place.{spine}
+use Rattle.rules.specs.Edit.{Edit, insert, placeOf as placed}
+use Rattle.rules.specs.Store.{Form, members}
+use Rattle.rules.specs.Decode.{quantifierOf}
+use Rattle.rules.specs.WellFormed.{isValue}
+use Rattle.rules.specs.Passing.{passes}
+use Rattle.rules.specs.Change.{insertElement, definitionAt, nameAtIndex, formAfter}
+use Rattle.rules.specs.Refusal.{past, first, conditions}
+use Rattle.rules.specs.Outcome.{outcome, Answers}
+use Rattle.rules.proofs.Words.{or-split}
+use Rattle.history.proofs.Conditions.{not-past}
+use Rattle.model.specs.declared.place.Holder.{Holder}
+use Rattle.model.specs.declared.place.Found.{Found}
+use Rattle.model.specs.declared.place.Found.the-variants.{At}
+use Rattle.model.specs.Places.{placeOf}
+use Rattle.layout.specs.Bodies.{widthOf}
+use Rattle.lookup.specs.Bodies.{bodiesOf}
+use Rattle.row_walk.specs.declared.Plan.{Plan}
+use Rattle.store_check.proofs.IndexLaws.{name-index}
+use Rattle.model_writer.specs.PartAfter.{renameEdit}
+use Rattle.model_writer.specs.declared.Edit.the-variants.{Insert}
+use Rattle.model_writer.specs.Writing.{editOf}
+use Rattle.store_writer.specs.Stores.{storeIn, limited}
+use Rattle.store_writer.specs.Planned.{plannedIn}
+use Rattle.store_writer.specs.Writing.{Sized}
+use Rattle.store_writer.proofs.StoreLaws.{holds}
+use Rattle.store_writer.proofs.CallLaws.{answers-as}
+use Rattle.plans.specs.ModelCalls.{insertElementPlan}
+use Rattle.plans.proofs.CallsPlanned.{none-holds}
+use Rattle.plans.proofs.ModelCallsPlanned.{insert-element-planned}
+use Rattle.form_refusals.specs.Placing.{indexIn, partIn, Placed}
+use Rattle.document_refusals.proofs.StoreFacts.{value-given}
+use Rattle.form_refusals.proofs.PlaceLaws.{present-at}
+use Rattle.place_marks.specs.Marking.{marksAt}
+use Rattle.place_marks.proofs.MarkLaws.{gap-marked}
+use Rattle.group_calls.specs.Editing.{formEdited}
+use Rattle.group_calls.proofs.Calls.{Fits, edited-answers, bodies-hold}
+use Rattle.group_calls.proofs.Fitting.{insert-fits}
+use Rattle.insert_call.proofs.FormFacts.{reads}
+use Rattle.insert_call.proofs.ModelLaws.{size}
+
+-- no condition holds: definition i with quantifier k goes to the place p of definition o's model, its filling has the text t
+pub record Insertion (bs : Bytes) (o : ℕ) (p : List ℕ) (i k : ℕ) (t : Bytes) : Type 0 where
+  pub fits : Fits bs o p (insert (quantifierOf k) (nameAtIndex i (storeIn bs .form)))
+  pub text : isValue (widthOf bs) t ≡ true
+  pub code : k ≤ 3
+  pub known : i < length (storeIn bs .form)
+  pub none : first (conditions (insertElement o p i k t) (storeIn bs)) ≡ 0
+
+pub insertion : (bs : Bytes) → passes bs ≡ true → (o : ℕ) (p : List ℕ) (i k : ℕ) (t : Bytes) → first (conditions (insertElement o p i k t) (storeIn bs)) ≡ 0 → Insertion bs o p i k t
+unfolding conditions
+insertion bs q o p i k t e =
+    let (text, (code, (index, more))) = none-holds (insertElement o p i k t) (storeIn bs) e in
+    record {
+      fits = insert-fits bs q o p i k t e;
+      text = value-given bs t text;
+      code = ltb-false 3 k code;
+      known = not-past i (storeIn bs .form) (or-split (past o (storeIn bs .form)) (past i (storeIn bs .form)) index .1);
+      none = e;
+    }
+
+module _ {bs : Bytes} {o : ℕ} {p : List ℕ} {i k : ℕ} {t : Bytes} (x : Insertion bs o p i k t) where
+  abbrev form : Form
+  form = storeIn bs .form
+
+  abbrev edit : Edit Bytes
+  edit = insert (quantifierOf k) (nameAtIndex i form)
+
+  pub known-low : i ≤ 256
+  known-low = omega (arith, x .known, size bs (reads bs (x .fits .good)), reads bs (x .fits .good) .whole .fewDefinitions)
+
+  -- the edit of the code is that of the rules, by indices
+  pub edit-same : {r : Quantifier} → r ≡ quantifierOf k → editOf (Insert r i) ≡ renameEdit (indexIn bs) edit
+  edit-same e = ap₂ (λ (q : Quantifier) (j : ℕ). insert q j) e (sym (name-index form (reads bs (x .fits .good) .members .once) i (x .known)))
+
+  pub inserting-sized : {q : Plan} (marks : Bytes) (needs : Bool) → q ≡ insertElementPlan o marks i needs → Sized q
+  inserting-sized marks needs e = subst Sized (sym e) (record { moves = record { definitions = record { more = omega arith }; attributes = record { more = omega arith } }; filling = known-low })
+
+  -- r: the quantifier that the code read
+  pub inserted-answers : {r : Quantifier} (e : r ≡ quantifierOf k) {part : Bytes} (own : part ≡ partIn bs o) {f : Found} (is : f ≡ placeOf true p part) (h : Holder) (n : ℕ) (z : f ≡ At h n) (room : ℕ) {q : Plan}
+      → q ≡ insertElementPlan o (marksAt 0 n part) i (not (skips (quantifierOf k)) && h .spine) → {out : Bytes} {number len : ℕ} {left : Bytes}
+      → Answers (limited room (plannedIn (formEdited bs o (insert r i) h n) q t (bodiesOf bs))) out number len left → Answers (outcome (insertElement o p i k t) bs room) out number len left
+  unfolding formAfter
+  inserted-answers {r} e {part} own {f} is h n z room {q} w a =
+      let y : Placed bs o true p h n = present-at bs (x .fits .good) o (x .fits .there) true p h n (sym (is ∙ ap (placeOf true p) own) ∙ z) in
+      let needs : Bool = not (skips (quantifierOf k)) && spine (y .found .context) in
+      let same : q ≡ insertElementPlan o (marksAt 0 n (partIn bs o)) i needs = w ∙ ap₂ (λ (s : Bytes) (b : Bool). insertElementPlan o (marksAt 0 n s) i (not (skips (quantifierOf k)) && b)) own (y .spine) in
+      let at : placed edit p (members (definitionAt o form)) ≡ some (y .found) = x .fits .at ∙ sym (x .fits .by) ∙ y .there in
+      edited-answers (x .fits) (Insert r i) (edit-same e) own is h n z (insertElement o p i k t) room (insertElementPlan o (marksAt 0 n (partIn bs o)) i needs) t 0 (sym (x .none)) refl
+      (insert-element-planned (storeIn bs) (holds bs (x .fits .good) .good) o p (y .found .context) (formEdited bs o (insert r i) h n) i k t (y .found .picked) (marksAt 0 n (partIn bs o)) (x .none) at (λ b. gap-marked (x .fits .good) (x .fits .there) y)
+      (bodies-hold (x .fits) (Insert r i) (edit-same e) own is h n z (insertElement o p i k t) refl))
+      (answers-as (ap (λ (s : Plan). limited room (plannedIn (formEdited bs o (insert r i) h n) s t (bodiesOf bs))) (sym same)) a)

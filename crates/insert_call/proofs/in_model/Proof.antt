@@ -1,0 +1,19 @@
+-- `insert_call::in_model` meets its contract.
+use native.Mathlib.Omega.{arith}
+use Rattle.insert_call.proofs.FormFacts.{reads}
+use Rattle.insert_call.proofs.ModelLaws.{in-model-is}
+use borrow.Author.Needs.{needs}
+use Rattle.insert_call.proofs.in_model.Statement.{statement}
+use Rattle.insert_call.proofs.in_model.Tie as tie
+
+own-part-requires : tie.Need-own-part-requires
+own-part-requires c κs = omega (arith, c .before .pre .1, reads (c .before .args .store .now) (c .before .pre .0) .whole .fewDefinitions)
+
+lacks-requires : tie.Need-lacks-requires
+lacks-requires c κs = search needs
+
+returns : tie.Need-returns
+returns c = in-model-is _ (reads _ (c .before .before .before .pre .0)) (c .before .before .before .pre .1) (c .before .before .before .pre .2) (c .before .own-part .ensures) (c .lacks .ensures)
+
+pub in-model-spec : {M : Type 1} → statement M
+in-model-spec = tie.close (tie.spec own-part-requires lacks-requires returns)

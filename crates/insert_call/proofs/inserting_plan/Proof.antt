@@ -1,0 +1,23 @@
+-- `insert_call::inserting_plan` meets its contract.
+use mathlib.Core.Path.{ap₂, _∙_}
+use mathlib.Core.Bool.{Bool, _&&_}
+use Rattle.rules.specs.Bytes.{Bytes}
+use Rattle.plans.specs.ModelCalls.{insertElementPlan}
+use borrow.Author.Needs.{needs}
+use Rattle.insert_call.proofs.inserting_plan.Statement.{statement}
+use Rattle.insert_call.proofs.inserting_plan.Tie as tie
+
+needs-filling-requires : tie.Need-needs-filling-requires
+needs-filling-requires c κs = search needs
+
+marks-requires : tie.Need-marks-requires
+marks-requires c κs = search needs
+
+insert-element-plan-requires : tie.Need-insert-element-plan-requires
+insert-element-plan-requires c κs = search needs
+
+returns : tie.Need-returns
+returns c = c .insert-element-plan .ensures ∙ ap₂ (λ (m : Bytes) (b : Bool). insertElementPlan (c .before .before .before .before .args .owner) m (c .before .before .before .before .args .definition) (b && c .before .before .before .before .args .spine)) (c .before .marks .ensures) (c .before .before .needs-filling .ensures)
+
+pub inserting-plan-spec : {M : Type 1} → statement M
+inserting-plan-spec = tie.close (tie.spec needs-filling-requires marks-requires insert-element-plan-requires returns)

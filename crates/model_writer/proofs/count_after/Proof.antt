@@ -1,0 +1,84 @@
+-- `model_writer::count_after` meets its contract.
+use mathlib.Core.Path.{sym, ap, _∙_}
+use Prim.Native.Nat.{ℕ, _+_, _-_}
+use Rattle.model_writer.proofs.HeadWriting.{count-case, first-index}
+use borrow.Author.Needs.{needs}
+use Rattle.model_writer.proofs.count_after.Statement.{statement}
+use Rattle.model_writer.proofs.count_after.Tie as tie
+
+enum-told : tie.Need-enum-told
+enum-told c = search needs
+
+add-result : tie.Need-add-result
+add-result c = search needs
+
+enum-told-2 : tie.Need-enum-told-2
+enum-told-2 c = search needs
+
+less-requires : tie.Need-less-requires
+less-requires c κs = search needs
+
+enum-told-3 : tie.Need-enum-told-3
+enum-told-3 c = search needs
+
+enum-known-edit : tie.Need-enum-known-edit
+enum-known-edit c = search needs
+
+add-less : tie.Need-add-less
+add-less c = search needs
+
+less-requires-2 : tie.Need-less-requires-2
+less-requires-2 c κs = search needs
+
+enum-told-4 : tie.Need-enum-told-4
+enum-told-4 c = search needs
+
+byte-requires : tie.Need-byte-requires
+byte-requires c κs = search needs
+
+cast-less : tie.Need-cast-less
+cast-less c = search needs
+
+add-less-2 : tie.Need-add-less-2
+add-less-2 c = search needs
+
+less-requires-3 : tie.Need-less-requires-3
+less-requires-3 c κs = search needs
+
+returns : tie.Need-returns
+returns c = count-case _ (c .before .before .before .args .n) (c .enum-told .given .1)
+
+returns-2 : tie.Need-returns-2
+returns-2 c = c .less .ensures ∙ count-case _ (c .before .before .before .before .args .n) (c .before .enum-told2 .given .1)
+
+returns-3 : tie.Need-returns-3
+returns-3 c = count-case _ (c .before .before .before .args .n) (c .enum-told3 .given .1)
+
+returns-4 : tie.Need-returns-4
+returns-4 c = c .less2 .ensures ∙ count-case _ (c .before .before .before .before .before .args .n) (c .before .before .edit .given .1)
+
+returns-5 : tie.Need-returns-5
+returns-5 c = c .less3 .ensures ∙ ap (λ (k : ℕ). c .before .before .before .before .before .args .n + k - 1) (c .before .byte .ensures ∙ sym (first-index (c .before .before .before .before .before .args .ys .now) (c .before .before .before .before .before .pre .0))) ∙ count-case _ (c .before .before .before .before .before .args .n) (c .before .before .enum-told4 .given .1)
+
+pub count-after-spec : {M : Type 1} → statement M
+count-after-spec =
+    tie.close
+    (tie.spec
+    enum-told
+    add-result
+    enum-told-2
+    less-requires
+    enum-told-3
+    enum-known-edit
+    add-less
+    less-requires-2
+    enum-told-4
+    byte-requires
+    cast-less
+    add-less-2
+    less-requires-3
+    returns
+    returns-2
+    returns-3
+    returns-4
+    returns-5)

@@ -1,0 +1,22 @@
+-- `model_writer::left` meets its contract.
+use mathlib.Core.Path.{sym}
+use native.Mathlib.Omega.{arith}
+use Rattle.model_writer.proofs.WritingLaws.{passing-member}
+use borrow.Author.Needs.{needs}
+use Rattle.model_writer.proofs.left.Statement.{statement}
+use Rattle.model_writer.proofs.left.Tie as tie
+
+returns : tie.Need-returns
+returns c = search needs
+
+returns-2 : tie.Need-returns-2
+returns-2 c = omega (arith, passing-member (c .before .before .args .inner) (c .before .before .args .n) (c .before .if1 .left))
+
+sub-result : tie.Need-sub-result
+sub-result c = search needs
+
+returns-3 : tie.Need-returns-3
+returns-3 c = sym (passing-member (c .before .before .args .inner) (c .before .before .args .n) (c .before .if1 .left))
+
+pub left-spec : {M : Type 1} → statement M
+left-spec = tie.close (tie.spec returns returns-2 sub-result returns-3)

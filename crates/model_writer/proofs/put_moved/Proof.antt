@@ -1,0 +1,87 @@
+-- `model_writer::put_moved` meets its contract.
+use mathlib.Core.Path.{sym, ap, _∙_}
+use Prim.Native.Nat.{ℕ, _-_}
+use native.Mathlib.Omega.{arith}
+use borrow.Author.Needs.{needs}
+use lib.Dec.{ltb}
+use lib.ListN.{length, drop, length-take, length-drop}
+use Rattle.rules.specs.Layout.{each, particleBytes}
+use Rattle.model.specs.Members.{particlesOf}
+use Rattle.model_writer.specs.PartAfter.{moved}
+use Rattle.model_writer.specs.Writing.{shift}
+use Rattle.model_writer.proofs.WritingLaws.{Going, going-all, going-done, going-rest, going-fits, going-step}
+use Rattle.model_writer.proofs.put_moved.Statement.{statement}
+use Rattle.model_writer.proofs.put_moved.Tie as tie
+
+abbrev Inv-loop : tie.InvT-loop
+Inv-loop s d n deeper out₀ start t₀ m₀ at₀ out t m at = Going (each particleBytes (moved (shift deeper) d n (particlesOf s))) out₀ start 9223372036854775808 (shift deeper) d t m out at
+
+abbrev μ-loop : tie.MeasureT-loop
+μ-loop s d n deeper out₀ start t₀ m₀ at₀ out t m at = length t
+
+loop-holds : tie.Need-loop-holds Inv-loop μ-loop
+loop-holds c = let a = c .before .before in going-all _ _ _ _ _ _ _ (a .pre .0) (a .pre .1) (a .pre .2)
+
+byte-requires : tie.Need-byte-requires Inv-loop μ-loop
+byte-requires c κs = search needs
+
+cast-inner : tie.Need-cast-inner Inv-loop μ-loop
+cast-inner c = search needs
+
+put-requires : tie.Need-put-requires Inv-loop μ-loop
+put-requires c κs = let v = c .before .before .before .before .loop .inv in omega (arith, v .room)
+
+same-length : tie.Need-same-length Inv-loop μ-loop
+same-length c = c .before .before .put .kept .1 .0 ∙ c .before .before .before .before .before .before .before .loop .inv .long
+
+returns : tie.Need-returns Inv-loop μ-loop
+returns c = going-rest (c .before .before .before .before .before .before .before .loop .inv) (omega arith) _ (ap (λ (z : ℕ). ltb (c .before .before .before .before .before .before .before .before .before .before .args .d) z) (sym (c .before .before .before .before .before .byte .ensures))) (c .before .before .before .before .if1 .taken) (c .before .before .put .ensures)
+
+put-shifted-requires : tie.Need-put-shifted-requires Inv-loop μ-loop
+put-shifted-requires c κs = let l = c .before .before .before .before .loop in (going-fits (l .inv) (omega arith) _ (ap (λ (z : ℕ). ltb (c .before .before .before .before .before .before .before .args .d) z) (sym (c .before .before .byte .ensures))) (c .before .if1 .left), omega (arith, l .inv .room))
+
+left-requires : tie.Need-left-requires Inv-loop μ-loop
+left-requires c κs = search needs
+
+sub-t : tie.Need-sub-t Inv-loop μ-loop
+sub-t c = search needs
+
+part-t-start : tie.Need-part-t-start Inv-loop μ-loop
+part-t-start c = search needs
+
+part-t-end : tie.Need-part-t-end Inv-loop μ-loop
+part-t-end c = search needs
+
+loop-less : tie.Need-loop-less Inv-loop μ-loop
+loop-less c = let t = c .before .before .before .before .before .before .before .before .before .loop .t .now in omega (arith, length-take (length t - 4) (drop 4 t), length-drop 4 t)
+
+loop-again : tie.Need-loop-again Inv-loop μ-loop
+loop-again c = going-step (c .before .before .before .before .before .before .before .before .before .loop .inv) (omega arith) _ (ap (λ (z : ℕ). ltb (c .before .before .before .before .before .before .before .before .before .before .before .before .args .d) z) (sym (c .before .before .before .before .before .before .before .byte .ensures))) (c .before .before .before .before .before .before .if1 .left) (c .before .left .ensures) (c .before .before .before .before .put-shifted .kept .1 .1 .0) (c .before .before .before .before .put-shifted .ensures)
+
+same-length-2 : tie.Need-same-length-2 Inv-loop μ-loop
+same-length-2 c = c .before .loop .inv .long
+
+returns-2 : tie.Need-returns-2 Inv-loop μ-loop
+returns-2 c = going-done (c .before .loop .inv) (omega arith)
+
+pub put-moved-spec : {M : Type 1} → statement M
+put-moved-spec =
+    tie.close
+    (tie.spec
+    Inv-loop
+    μ-loop
+    loop-holds
+    byte-requires
+    cast-inner
+    put-requires
+    same-length
+    returns
+    put-shifted-requires
+    left-requires
+    sub-t
+    part-t-start
+    part-t-end
+    loop-less
+    loop-again
+    same-length-2
+    returns-2)

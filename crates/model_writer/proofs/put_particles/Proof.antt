@@ -1,0 +1,67 @@
+-- `model_writer::put_particles` meets its contract.
+use mathlib.Core.Path.{sym, ap}
+use Prim.Native.Nat.{_+_, _*_}
+use native.Mathlib.Omega.{arith}
+use lib.ListN.{length, length-drop}
+use Rattle.rules.specs.Bytes.{Bytes}
+use Rattle.codec.proofs.Writers.{laid-as, laid-then}
+use Rattle.model_writer.proofs.HeadWriting.{length-cut}
+use Rattle.model_writer.proofs.BodyWriting.{length-few, body-bytes, body-part}
+use borrow.Author.Needs.{needs}
+use Rattle.model_writer.proofs.put_particles.Statement.{statement}
+use Rattle.model_writer.proofs.put_particles.Tie as tie
+
+mul-window : tie.Need-mul-window
+mul-window c = search needs
+
+window-requires : tie.Need-window-requires
+window-requires c κs = search needs
+
+put-requires : tie.Need-put-requires
+put-requires c κs = search needs
+
+mul-window-2 : tie.Need-mul-window-2
+mul-window-2 c = search needs
+
+mul-window-3 : tie.Need-mul-window-3
+mul-window-3 c = search needs
+
+window-requires-2 : tie.Need-window-requires-2
+window-requires-2 c κs = search needs
+
+put-part-requires : tie.Need-put-part-requires
+put-part-requires c κs = let a = c .before .before .before .before .before .before .before .before .before in (body-part (a .pre .0) (c .before .window2 .ensures), omega (arith, a .pre .1, c .before .before .before .before .put .ensures .next, length-cut (a .args .parts .now) _ 0 (4 * a .args .first) (c .before .before .before .before .before .before .window .ensures), length-cut (a .args .parts .now) _ (4 * a .args .first) (4 * a .args .k) (c .before .window2 .ensures)))
+
+add-past : tie.Need-add-past
+add-past c = search needs
+
+past-requires : tie.Need-past-requires
+past-requires c κs = search needs
+
+put-requires-2 : tie.Need-put-requires-2
+put-requires-2 c κs = let a = c .before .before .before .before .before .before .before .before .before .before .before .before .before .before in omega (arith, a .pre .1, c .before .before .before .before .before .before .before .before .before .put .ensures .next, c .before .before .before .before .put-part .ensures .next, length-few (body-part (a .pre .0) (c .before .before .before .before .before .before .window2 .ensures)), length-cut (a .args .parts .now) _ 0 (4 * a .args .first) (c .before .before .before .before .before .before .before .before .before .before .before .window .ensures), length-cut (a .args .parts .now) _ (4 * a .args .first) (4 * a .args .k) (c .before .before .before .before .before .before .window2 .ensures), ap (λ (s : Bytes). length s) (c .before .past .ensures), length-drop (4 * (a .args .first + a .args .k)) (a .args .parts .now))
+
+same-length : tie.Need-same-length
+same-length c = search needs
+
+returns : tie.Need-returns
+returns c = let a = c .before .before .before .before .before .before .before .before .before .before .before .before .before .before .before .before .before in
+    laid-as (body-bytes (a .pre .0))
+    (laid-then (laid-as (sym (c .before .before .before .before .before .before .before .before .before .before .before .before .before .before .window .ensures)) (c .before .before .before .before .before .before .before .before .before .before .before .before .put .ensures)) (laid-then (rw (c .before .before .before .before .before .before .before .before .before .window2 .ensures) at (c .before .before .before .before .before .before .before .put-part .ensures)) (laid-as (sym (c .before .before .before .before .past .ensures)) (c .before .before .put2 .ensures))))
+
+pub put-particles-spec : {M : Type 1} → statement M
+put-particles-spec =
+    tie.close
+    (tie.spec
+    mul-window
+    window-requires
+    put-requires
+    mul-window-2
+    mul-window-3
+    window-requires-2
+    put-part-requires
+    add-past
+    past-requires
+    put-requires-2
+    same-length
+    returns)

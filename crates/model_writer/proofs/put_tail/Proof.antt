@@ -1,0 +1,103 @@
+-- `model_writer::put_tail` meets its contract.
+use mathlib.Core.Path.{sym, ap, _∙_}
+use native.Mathlib.Omega.{arith}
+use lib.ListN.{length, length-drop}
+use Rattle.rules.specs.Bytes.{Bytes}
+use Rattle.codec.proofs.Writers.{laid-as}
+use Rattle.model_writer.proofs.TailWriting.{removed-bytes, flattened-whole, flattened-room, flattened-fits, flattened-bytes, tail-as, tail-bytes}
+use borrow.Author.Needs.{needs}
+use Rattle.model_writer.proofs.put_tail.Statement.{statement}
+use Rattle.model_writer.proofs.put_tail.Tie as tie
+
+enum-known-edit : tie.Need-enum-known-edit
+enum-known-edit c = search needs
+
+put-inserted-requires : tie.Need-put-inserted-requires
+put-inserted-requires c κs = tail-as (c .before .before .edit .given .1) (c .before .before .before .before .before .before .pre)
+
+enum-told : tie.Need-enum-told
+enum-told c = search needs
+
+past-requires : tie.Need-past-requires
+past-requires c κs = search needs
+
+put-requires : tie.Need-put-requires
+put-requires c κs = let p = c .before .before .before .before .before .before in omega (arith, p .pre .room, ap (λ (s : Bytes). length s) (c .before .past .ensures), length-drop 4 (p .args .ys .now))
+
+enum-known-edit-2 : tie.Need-enum-known-edit-2
+enum-known-edit-2 c = search needs
+
+put-requantified-requires : tie.Need-put-requantified-requires
+put-requantified-requires c κs = tail-as (c .before .before .edit2 .given .1) (c .before .before .before .before .before .before .pre)
+
+enum-known-edit-3 : tie.Need-enum-known-edit-3
+enum-known-edit-3 c = search needs
+
+put-grouped-requires : tie.Need-put-grouped-requires
+put-grouped-requires c κs = tail-as (c .before .before .edit3 .given .1) (c .before .before .before .before .before .before .pre)
+
+enum-told-2 : tie.Need-enum-told-2
+enum-told-2 c = search needs
+
+past-requires-2 : tie.Need-past-requires-2
+past-requires-2 c κs = search needs
+
+put-moved-requires : tie.Need-put-moved-requires
+put-moved-requires c κs = let v = tail-as (c .before .before .enum-told2 .given .1) (c .before .before .before .before .before .before .pre) in rw (c .before .past2 .ensures) (flattened-whole v, flattened-room v, flattened-fits v)
+
+same-length : tie.Need-same-length
+same-length c = search needs
+
+returns : tie.Need-returns
+returns c = laid-as (tail-bytes _ (c .before .before .before .before .before .before .before .before .before .args .ys .now) (c .before .before .before .before .before .edit .given .1)) (c .before .before .put-inserted .ensures)
+
+same-length-2 : tie.Need-same-length-2
+same-length-2 c = search needs
+
+returns-2 : tie.Need-returns-2
+returns-2 c = let e = c .before .before .before .before .before .enum-told .given .1 in laid-as ((tail-bytes _ (c .before .before .before .before .before .before .before .before .before .args .ys .now) (e)) ∙ removed-bytes (tail-as e (c .before .before .before .before .before .before .before .before .before .pre)) ∙ sym (c .before .before .before .before .past .ensures)) (c .before .before .put .ensures)
+
+same-length-3 : tie.Need-same-length-3
+same-length-3 c = search needs
+
+returns-3 : tie.Need-returns-3
+returns-3 c = laid-as (tail-bytes _ (c .before .before .before .before .before .before .before .before .before .args .ys .now) (c .before .before .before .before .before .edit2 .given .1)) (c .before .before .put-requantified .ensures)
+
+same-length-4 : tie.Need-same-length-4
+same-length-4 c = search needs
+
+returns-4 : tie.Need-returns-4
+returns-4 c = laid-as (tail-bytes _ (c .before .before .before .before .before .before .before .before .before .args .ys .now) (c .before .before .before .before .before .edit3 .given .1)) (c .before .before .put-grouped .ensures)
+
+same-length-5 : tie.Need-same-length-5
+same-length-5 c = search needs
+
+returns-5 : tie.Need-returns-5
+returns-5 c = let e = c .before .before .before .before .before .enum-told2 .given .1 in laid-as ((tail-bytes _ (c .before .before .before .before .before .before .before .before .before .args .ys .now) (e)) ∙ flattened-bytes (tail-as e (c .before .before .before .before .before .before .before .before .before .pre))) (rw (c .before .before .before .before .past2 .ensures) at (c .before .before .put-moved .ensures))
+
+pub put-tail-spec : {M : Type 1} → statement M
+put-tail-spec =
+    tie.close
+    (tie.spec
+    enum-known-edit
+    put-inserted-requires
+    enum-told
+    past-requires
+    put-requires
+    enum-known-edit-2
+    put-requantified-requires
+    enum-known-edit-3
+    put-grouped-requires
+    enum-told-2
+    past-requires-2
+    put-moved-requires
+    same-length
+    returns
+    same-length-2
+    returns-2
+    same-length-3
+    returns-3
+    same-length-4
+    returns-4
+    same-length-5
+    returns-5)

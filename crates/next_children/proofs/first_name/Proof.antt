@@ -1,0 +1,27 @@
+-- `next_children::first_name` meets its contract.
+use Rattle.next_children.proofs.NamesLaws.{first-some}
+use borrow.Author.Needs.{needs}
+use Rattle.next_children.proofs.first_name.Statement.{statement}
+use Rattle.next_children.proofs.first_name.Tie as tie
+
+byte-requires : tie.Need-byte-requires
+byte-requires c κs = search needs
+
+returns : tie.Need-returns
+returns c = search needs
+
+byte-requires-2 : tie.Need-byte-requires-2
+byte-requires-2 c κs = search needs
+
+cast-bit : tie.Need-cast-bit
+cast-bit c = search needs
+
+bit-requires : tie.Need-bit-requires
+bit-requires c κs = search needs
+
+returns-2 : tie.Need-returns-2
+returns-2 c = first-some _ _ _ (c .before .byte2 .ensures) (c .bit .ensures)
+
+pub first-name-spec : {M : Type 1} → statement M
+first-name-spec =
+    tie.close (tie.spec byte-requires returns byte-requires-2 cast-bit bit-requires returns-2)

@@ -1,0 +1,18 @@
+-- `next_children::in_sequence` meets its contract.
+use Rattle.sets.specs.Sets.{union}
+use borrow.Author.Needs.{needs}
+use Rattle.next_children.proofs.in_sequence.Statement.{statement}
+use Rattle.next_children.proofs.in_sequence.Tie as tie
+
+given-requires : tie.Need-given-requires
+given-requires c κs = search needs
+
+given-requires-2 : tie.Need-given-requires-2
+given-requires-2 c κs = search needs
+
+returns : tie.Need-returns
+unfolding union
+returns c = rw (c .before .before .before .before .before .before .before .before .before .given .ensures, c .before .before .before .before .before .before .before .before .given2 .ensures)
+
+pub in-sequence-spec : {M : Type 1} → statement M
+in-sequence-spec = tie.close (tie.spec given-requires given-requires-2 returns)

@@ -1,0 +1,66 @@
+-- `place_marks::mark` meets its contract.
+use borrow.Author.Needs.{needs}
+use native.Mathlib.Omega.{arith}
+use Prim.Native.Nat.{_-_}
+use lib.ListN.{length, drop, length-take, length-drop}
+use Rattle.place_marks.proofs.WriteLaws.{Marking, marking-starts, marking-on, marking-ends}
+use Rattle.place_marks.proofs.mark.Statement.{statement}
+use Rattle.place_marks.proofs.mark.Tie as tie
+
+abbrev Inv-loop : tie.InvT-loop
+Inv-loop particles value marks₀ size t₀ marks t = Marking value particles marks₀ t marks
+
+abbrev μ-loop : tie.MeasureT-loop
+μ-loop particles value marks₀ size t₀ marks t = length t
+
+particle-size-requires : tie.Need-particle-size-requires Inv-loop μ-loop
+particle-size-requires c κs = search needs
+
+loop-holds : tie.Need-loop-holds Inv-loop μ-loop
+loop-holds c = marking-starts
+
+mark-first-requires : tie.Need-mark-first-requires Inv-loop μ-loop
+mark-first-requires c κs = search needs
+
+sub-t : tie.Need-sub-t Inv-loop μ-loop
+sub-t c = search needs
+
+part-t-start : tie.Need-part-t-start Inv-loop μ-loop
+part-t-start c = search needs
+
+part-t-end : tie.Need-part-t-end Inv-loop μ-loop
+part-t-end c = search needs
+
+loop-less : tie.Need-loop-less Inv-loop μ-loop
+loop-less c =
+    let l = c .before .before .before .before .before .before in
+    let size = l .before .particle-size .result in
+    omega (arith, l .before .particle-size .ensures, length-take (length (l .loop .t .now) - size) (drop size (l .loop .t .now)), length-drop size (l .loop .t .now))
+
+loop-again : tie.Need-loop-again Inv-loop μ-loop
+loop-again c =
+    let l = c .before .before .before .before .before .before in
+    marking-on (l .loop .inv) (l .before .particle-size .ensures) (omega arith) (c .before .before .before .mark-first .ensures) (c .before .before .before .mark-first .kept .1 .1 .0)
+
+same-length : tie.Need-same-length Inv-loop μ-loop
+same-length c = c .before .loop .inv .size
+
+returns : tie.Need-returns Inv-loop μ-loop
+returns c = marking-ends (c .before .loop .inv) (omega (arith, c .before .before .particle-size .ensures))
+
+pub mark-spec : {M : Type 1} → statement M
+mark-spec =
+    tie.close
+    (tie.spec
+    Inv-loop
+    μ-loop
+    particle-size-requires
+    loop-holds
+    mark-first-requires
+    sub-t
+    part-t-start
+    part-t-end
+    loop-less
+    loop-again
+    same-length
+    returns)

@@ -1,0 +1,36 @@
+-- `place_marks::mark_first` meets its contract.
+use Rattle.place_marks.proofs.WriteLaws.{first-element, first-group}
+use borrow.Author.Needs.{needs}
+use mathlib.Core.Path.{refl}
+use Rattle.place_marks.proofs.mark_first.Statement.{statement}
+use Rattle.place_marks.proofs.mark_first.Tie as tie
+
+particle-sort-requires : tie.Need-particle-sort-requires
+particle-sort-requires c κs = search needs
+
+particle-index-requires : tie.Need-particle-index-requires
+particle-index-requires c κs = search needs
+
+cast-i : tie.Need-cast-i
+cast-i c = search needs
+
+store-requires : tie.Need-store-requires
+store-requires c κs = search needs
+
+same-length : tie.Need-same-length
+same-length c = search needs
+
+returns : tie.Need-returns
+returns c =
+    let a = c .before .before .before .before .before .before .before .before .before .args in
+    first-element (a .value) (a .particles .now) (a .marks .now) (c .before .before .before .before .before .before .particle-sort .ensures) (c .before .before .before .before .before .if1 .taken) (c .before .before .before .before .particle-index .ensures) refl (c .before .before .store .ensures)
+
+returns-2 : tie.Need-returns-2
+returns-2 c =
+    let a = c .before .before .before .before .args in
+    first-group (a .value) (a .particles .now) (a .marks .now) (c .before .particle-sort .ensures) (c .if1 .left)
+
+pub mark-first-spec : {M : Type 1} → statement M
+mark-first-spec =
+    tie.close
+    (tie.spec particle-sort-requires particle-index-requires cast-i store-requires same-length returns returns-2)

@@ -1,0 +1,55 @@
+-- `place_marks::marks` meets its contract.
+use Rattle.place_marks.proofs.WriteLaws.{marks-laid}
+use native.Mathlib.Omega.{arith}
+use borrow.Author.Needs.{needs}
+use Rattle.place_marks.proofs.marks.Statement.{statement}
+use Rattle.place_marks.proofs.marks.Tie as tie
+
+particle-size-requires : tie.Need-particle-size-requires
+particle-size-requires c κs = search needs
+
+times-requires : tie.Need-times-requires
+times-requires c κs = (omega (arith, c .particle-size .ensures), omega arith)
+
+times-requires-2 : tie.Need-times-requires-2
+times-requires-2 c κs = (omega (arith, c .before .particle-size .ensures), omega arith)
+
+window-requires : tie.Need-window-requires
+window-requires c κs = search needs
+
+slice-aggregate-mark : tie.Need-slice-aggregate-mark
+slice-aggregate-mark c = search needs
+
+mark-requires : tie.Need-mark-requires
+mark-requires c κs = search needs
+
+window-requires-2 : tie.Need-window-requires-2
+window-requires-2 c κs = search needs
+
+slice-aggregate-mark-2 : tie.Need-slice-aggregate-mark-2
+slice-aggregate-mark-2 c = search needs
+
+mark-requires-2 : tie.Need-mark-requires-2
+mark-requires-2 c κs = search needs
+
+returns : tie.Need-returns
+returns c =
+    let b = c .before .before .before .before .before .before .before .before in
+    let a = b .before .before .before .before .args in
+    marks-laid (a .n) (a .p) (a .part .now) (b .before .before .particle-size .ensures) (b .before .times .ensures) (b .times2 .ensures)
+    (c .before .before .before .before .before .before .before .window .ensures) (c .before .before .before .before .before .mark .ensures) (c .before .before .before .window2 .ensures) (c .before .mark2 .ensures)
+
+pub marks-spec : {M : Type 1} → statement M
+marks-spec =
+    tie.close
+    (tie.spec
+    particle-size-requires
+    times-requires
+    times-requires-2
+    window-requires
+    slice-aggregate-mark
+    mark-requires
+    window-requires-2
+    slice-aggregate-mark-2
+    mark-requires-2
+    returns)

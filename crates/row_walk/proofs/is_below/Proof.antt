@@ -1,0 +1,16 @@
+use Prim.Native.Nat.{ℕ}
+use native.Mathlib.Numerals.{add-one}
+use mathlib.Core.Path.{ap}
+use lib.Dec.{eqb}
+use borrow.Author.Needs.{needs}
+use Rattle.row_walk.proofs.is_below.Statement.{statement}
+use Rattle.row_walk.proofs.is_below.Tie as tie
+
+add-result : tie.Need-add-result
+add-result c = search needs
+
+returns : tie.Need-returns
+returns c = let a = c .before .before .args in ap (λ (k : ℕ). eqb (a .o .below) k) (add-one (a .h .depth))
+
+pub is-below-spec : {M : Type 1} → statement M
+is-below-spec = tie.close (tie.spec add-result returns)

@@ -1,0 +1,32 @@
+-- `row_walk::put_row` meets its contract.
+use Rattle.row_walk.proofs.StepLaws.{with-value, with-own}
+use borrow.Author.Needs.{needs}
+use Rattle.row_walk.proofs.put_row.Statement.{statement}
+use Rattle.row_walk.proofs.put_row.Tie as tie
+
+put-valued-requires : tie.Need-put-valued-requires
+put-valued-requires c κs = search needs
+
+same-length : tie.Need-same-length
+same-length c = search needs
+
+returns : tie.Need-returns
+returns c =
+    let a = c .before .before .before .before .before .before .before .before .args in
+    with-value (a .index) (a .text .now) (a .row .now) (c .before .before .before .before .if1 .taken) (c .before .before .put-valued .ensures)
+
+put-kept-requires : tie.Need-put-kept-requires
+put-kept-requires c κs = search needs
+
+same-length-2 : tie.Need-same-length-2
+same-length-2 c = search needs
+
+returns-2 : tie.Need-returns-2
+returns-2 c =
+    let a = c .before .before .before .before .before .before .before .before .args in
+    with-own (a .index) (a .text .now) (a .row .now) (c .before .before .before .before .if1 .left) (c .before .before .put-kept .ensures)
+
+pub put-row-spec : {M : Type 1} → statement M
+put-row-spec =
+    tie.close
+    (tie.spec put-valued-requires same-length returns put-kept-requires same-length-2 returns-2)

@@ -1,0 +1,32 @@
+-- `row_walk::read_head` meets its contract.
+use Rattle.row_walk.proofs.RowLaws.{head-read}
+use borrow.Author.Needs.{needs}
+use Rattle.row_walk.proofs.read_head.Statement.{statement}
+use Rattle.row_walk.proofs.read_head.Tie as tie
+
+row-depth-requires : tie.Need-row-depth-requires
+row-depth-requires c κs = search needs
+
+cast-t3 : tie.Need-cast-t3
+cast-t3 c = search needs
+
+row-sort-requires : tie.Need-row-sort-requires
+row-sort-requires c κs = search needs
+
+row-index-requires : tie.Need-row-index-requires
+row-index-requires c κs = search needs
+
+cast-t6 : tie.Need-cast-t6
+cast-t6 c = search needs
+
+row-serial-requires : tie.Need-row-serial-requires
+row-serial-requires c κs = search needs
+
+returns : tie.Need-returns
+returns c = head-read (c .before .before .before .before .before .args .row .now) _ _ _ _ (c .before .before .before .row-depth .ensures) (c .before .before .row-sort .ensures)
+    (c .before .row-index .ensures) (c .row-serial .ensures)
+
+pub read-head-spec : {M : Type 1} → statement M
+read-head-spec =
+    tie.close
+    (tie.spec row-depth-requires cast-t3 row-sort-requires row-index-requires cast-t6 row-serial-requires returns)

@@ -1,0 +1,26 @@
+-- `row_writer::put_new` meets its contract.
+use Rattle.row_writer.proofs.WrittenLaws.{written-stop, new-written}
+use borrow.Author.Needs.{needs}
+use Rattle.row_writer.proofs.put_new.Statement.{statement}
+use Rattle.row_writer.proofs.put_new.Tie as tie
+
+returns : tie.Need-returns
+returns c = written-stop (c .if1 .taken)
+
+put-row-requires : tie.Need-put-row-requires
+put-row-requires c κs = search needs
+
+sub-t12 : tie.Need-sub-t12
+sub-t12 c = search needs
+
+add-t13 : tie.Need-add-t13
+add-t13 c = search needs
+
+same-length : tie.Need-same-length
+same-length c = search needs
+
+returns-2 : tie.Need-returns-2
+returns-2 c = new-written (c .before .before .before .before .before .before .if1 .left) (c .before .before .before .before .put-row .ensures)
+
+pub put-new-spec : {M : Type 1} → statement M
+put-new-spec = tie.close (tie.spec returns put-row-requires sub-t12 add-t13 same-length returns-2)

@@ -1,0 +1,80 @@
+-- `serial_check::put` meets its contract.
+use Prim.Native.Nat.{_%_}
+use borrow.Author.Needs.{needs}
+use native.Mathlib.Omega.{arith}
+use Rattle.serial_check.proofs.TreeLaws.{rising-more, put-root, put-below, put-twice}
+use Rattle.serial_check.proofs.put.Statement.{statement}
+use Rattle.serial_check.proofs.put.Tie as tie
+
+cast-b : tie.Need-cast-b
+cast-b c = search needs
+
+mul-h : tie.Need-mul-h
+mul-h c = search needs
+
+element-copy-out-h : tie.Need-element-copy-out-h
+element-copy-out-h c = search needs
+
+add-heads : tie.Need-add-heads
+add-heads c = search needs
+
+cast-heads : tie.Need-cast-heads
+cast-heads c = search needs
+
+mul-heads : tie.Need-mul-heads
+mul-heads c = search needs
+
+element-write-heads : tie.Need-element-write-heads
+element-write-heads c = search needs
+
+returns : tie.Need-returns
+returns c =
+    let start = c .before .before .before in
+    put-root (start .pre .3) _ (start .pre .2) (c .if1 .taken)
+
+sought-requires : tie.Need-sought-requires
+sought-requires c κs =
+    let start = c .before .before .before .before in
+    (start .pre .0, omega arith, omega (arith, start .pre .3 .low (start .args .s % 4096)), rising-more _ 4096 (omega arith) (start .pre .3 .rising))
+
+returns-2 : tie.Need-returns-2
+returns-2 c =
+    let start = c .before .before .before .before .before .before in
+    put-twice (start .pre .3) _ (start .pre .2) (c .before .sought .ensures) (omega arith)
+
+add-below : tie.Need-add-below
+add-below c = search needs
+
+cast-below : tie.Need-cast-below
+cast-below c = search needs
+
+mul-below : tie.Need-mul-below
+mul-below c = search needs
+
+element-write-below : tie.Need-element-write-below
+element-write-below c = search needs
+
+returns-3 : tie.Need-returns-3
+returns-3 c =
+    let start = c .before .before .before .before .before .before in
+    put-below (start .pre .3) _ (start .pre .2) (c .before .sought .ensures) (omega arith)
+
+pub put-spec : {M : Type 1} → statement M
+put-spec =
+    tie.close
+    (tie.spec
+    cast-b
+    mul-h
+    element-copy-out-h
+    add-heads
+    cast-heads
+    mul-heads
+    element-write-heads
+    returns
+    sought-requires
+    returns-2
+    add-below
+    cast-below
+    mul-below
+    element-write-below
+    returns-3)

@@ -1,0 +1,36 @@
+-- The counts and bodies that the shape cuts out are those of the string.
+use borrow.Author.Needs.{needs}
+use Rattle.store_check.proofs.CallLaws.{cut-of, headed, cut-laid, cut-form}
+use Rattle.store_check.proofs.form_passes.Statement.{statement}
+use Rattle.store_check.proofs.form_passes.Tie as tie
+
+definition-body-requires : tie.Need-definition-body-requires
+definition-body-requires c κs = search needs
+
+particle-body-requires : tie.Need-particle-body-requires
+particle-body-requires c κs = search needs
+
+attribute-body-requires : tie.Need-attribute-body-requires
+attribute-body-requires c κs = search needs
+
+form-fits-requires : tie.Need-form-fits-requires
+form-fits-requires c κs =
+    let pre = c .before .before .before .before .pre in
+    let slice = c .before .before .before .shared-slice-known in
+    (pre .1 .sized .width, cut-laid (headed _ (pre .0) (slice .given)) (cut-of (pre .1) (c .before .before .definition-body .ensures) (c .before .particle-body .ensures) (c .attribute-body .ensures)) .bodies)
+
+returns : tie.Need-returns
+returns c =
+    let pre = c .before .before .before .before .before .pre in
+    let slice = c .before .before .before .before .shared-slice-known in
+    cut-form (headed _ (pre .0) (slice .given)) (cut-of (pre .1) (c .before .before .before .definition-body .ensures) (c .before .before .particle-body .ensures) (c .before .attribute-body .ensures)) (c .form-fits .ensures)
+
+pub form-passes-spec : {M : Type 1} → statement M
+form-passes-spec =
+    tie.close
+    (tie.spec
+    definition-body-requires
+    particle-body-requires
+    attribute-body-requires
+    form-fits-requires
+    returns)

@@ -1,0 +1,65 @@
+-- A test that fails refutes that the string passes, and all of them show it.
+use borrow.Author.Needs.{needs}
+use borrow.Author.Tests.{not-false}
+use Rattle.store_check.proofs.CallLaws.{header-kept, headed, headless, formless, rowless, passed}
+use Rattle.store_check.proofs.passes.Statement.{statement}
+use Rattle.store_check.proofs.passes.Tie as tie
+
+shape-of-requires : tie.Need-shape-of-requires
+shape-of-requires c κs = search needs
+
+header-fits-requires : tie.Need-header-fits-requires
+header-fits-requires c κs = search needs
+
+returns : tie.Need-returns
+returns c =
+    headless (c .before .before .shape-of .ensures) (c .if1 .taken) (c .before .header-fits .ensures)
+
+form-passes-requires : tie.Need-form-passes-requires
+form-passes-requires c κs =
+    let shape = c .before .before .shape-of .ensures in
+    (header-kept shape (c .if1 .left) (c .before .header-fits .ensures), shape)
+
+returns-2 : tie.Need-returns-2
+returns-2 c =
+    let shape = c .before .before .before .before .shape-of .ensures in
+    let header = header-kept shape (c .before .before .if1 .left) (c .before .before .before .header-fits .ensures) in
+    formless (headed _ header (c .before .before .before .before .before .shared-slice-known .given)) (c .if2 .taken) (c .before .form-passes .ensures)
+
+documents-pass-requires : tie.Need-documents-pass-requires
+documents-pass-requires c κs =
+    let shape = c .before .before .before .before .shape-of .ensures in
+    let header = header-kept shape (c .before .before .if1 .left) (c .before .before .before .header-fits .ensures) in
+    (header, shape, c .before .form-passes .ensures .0 (not-false _ (c .if2 .left)))
+
+returns-3 : tie.Need-returns-3
+returns-3 c =
+    let shape = c .before .before .before .before .before .before .shape-of .ensures in
+    let header = header-kept shape (c .before .before .before .before .if1 .left) (c .before .before .before .before .before .header-fits .ensures) in
+    rowless (headed _ header (c .before .before .before .before .before .before .before .shared-slice-known .given)) (c .if3 .taken) (c .before .documents-pass .ensures)
+
+serials-pass-requires : tie.Need-serials-pass-requires
+serials-pass-requires c κs =
+    let shape = c .before .before .before .before .before .before .shape-of .ensures in
+    (header-kept shape (c .before .before .before .before .if1 .left) (c .before .before .before .before .before .header-fits .ensures), shape)
+
+returns-4 : tie.Need-returns-4
+returns-4 c =
+    let shape = c .before .before .before .before .before .before .before .shape-of .ensures in
+    let header = header-kept shape (c .before .before .before .before .before .if1 .left) (c .before .before .before .before .before .before .header-fits .ensures) in
+    let headed = headed _ header (c .before .before .before .before .before .before .before .before .shared-slice-known .given) in
+    passed headed (c .before .before .before .if2 .left) (c .before .before .before .before .form-passes .ensures) (c .before .if3 .left) (c .before .before .documents-pass .ensures) (c .serials-pass .ensures)
+
+pub passes-spec : {M : Type 1} → statement M
+passes-spec =
+    tie.close
+    (tie.spec
+    shape-of-requires
+    header-fits-requires
+    returns
+    form-passes-requires
+    returns-2
+    documents-pass-requires
+    returns-3
+    serials-pass-requires
+    returns-4)

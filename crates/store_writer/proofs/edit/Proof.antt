@@ -1,0 +1,60 @@
+-- `store_writer::edit` meets its contract.
+use native.Mathlib.Omega.{arith}
+use lib.ListN.{length}
+use Rattle.store_writer.proofs.StoreLaws.{holds}
+use Rattle.store_writer.proofs.FormLaws.{forms-of, own-form, own-answers, start-within}
+use borrow.Author.Needs.{needs}
+use Rattle.store_writer.proofs.edit.Statement.{statement}
+use Rattle.store_writer.proofs.edit.Tie as tie
+
+definition-count-requires : tie.Need-definition-count-requires
+definition-count-requires c κs = search needs
+
+particle-count-requires : tie.Need-particle-count-requires
+particle-count-requires c κs = search needs
+
+attribute-count-requires : tie.Need-attribute-count-requires
+attribute-count-requires c κs = search needs
+
+header-size-requires : tie.Need-header-size-requires
+header-size-requires c κs = search needs
+
+row-start-requires : tie.Need-row-start-requires
+row-start-requires c κs = search needs
+
+sub-form : tie.Need-sub-form
+sub-form c = omega (arith, c .before .header-size .ensures, start-within (holds _ (c .before .before .before .before .before .before .before .before .pre .0)) (c .row-start .ensures))
+
+part-form-start : tie.Need-part-form-start
+part-form-start c = omega (arith, c .before .header-size .ensures, start-within (holds _ (c .before .before .before .before .before .before .before .before .pre .0)) (c .row-start .ensures))
+
+part-form-end : tie.Need-part-form-end
+part-form-end c = omega (arith, c .before .header-size .ensures, start-within (holds _ (c .before .before .before .before .before .before .before .before .pre .0)) (c .row-start .ensures))
+
+edit-form-requires : tie.Need-edit-form-requires
+edit-form-requires c κs = let start = c .before .before .before .before .before .before .before .before .before .before in
+    (start .pre .0, start .pre .1, start .pre .2, forms-of (own-form (holds _ (start .pre .0)) (c .before .before .before .header-size .ensures) (c .before .before .row-start .ensures) (c .before .before .before .before .before .before .definition-count .ensures) (c .before .before .before .before .before .particle-count .ensures) (c .before .before .before .before .attribute-count .ensures)))
+
+same-length : tie.Need-same-length
+same-length c = search needs
+
+returns : tie.Need-returns
+returns c = let start = c .before .before .before .before .before .before .before .before .before .before .before .before .before in
+    let own = own-form (holds _ (start .pre .0)) (c .before .before .before .before .before .before .header-size .ensures) (c .before .before .before .before .before .row-start .ensures) (c .before .before .before .before .before .before .before .before .before .definition-count .ensures) (c .before .before .before .before .before .before .before .before .particle-count .ensures) (c .before .before .before .before .before .before .before .attribute-count .ensures) in
+    own-answers own (start .args .plan) (start .args .text .now) (length (start .args .out .now)) (c .before .before .edit-form .ensures)
+
+pub edit-spec : {M : Type 1} → statement M
+edit-spec =
+    tie.close
+    (tie.spec
+    definition-count-requires
+    particle-count-requires
+    attribute-count-requires
+    header-size-requires
+    row-start-requires
+    sub-form
+    part-form-start
+    part-form-end
+    edit-form-requires
+    same-length
+    returns)

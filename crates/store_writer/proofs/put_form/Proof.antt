@@ -1,0 +1,24 @@
+-- `store_writer::put_form` meets its contract.
+use native.Mathlib.Omega.{arith}
+use Rattle.codec.proofs.Writers.{laid-then}
+use Rattle.layout.proofs.HeaderLaws.{headed-short}
+use borrow.Author.Needs.{needs}
+use Rattle.store_writer.proofs.put_form.Statement.{statement}
+use Rattle.store_writer.proofs.put_form.Tie as tie
+
+put-header-requires : tie.Need-put-header-requires
+put-header-requires c κs = search needs
+
+put-requires : tie.Need-put-requires
+put-requires c κs = let start = c .before .before .before .before .before .before .before .before in
+    let a = start .args in
+    omega (arith, c .before .before .before .put-header .ensures .next, headed-short (a .w) (a .next) (a .d) (a .p) (a .a) (a .r) (a .store .now), start .pre .1 .short)
+
+same-length : tie.Need-same-length
+same-length c = search needs
+
+returns : tie.Need-returns
+returns c = laid-then (c .before .before .before .before .before .before .put-header .ensures) (c .before .before .put .ensures)
+
+pub put-form-spec : {M : Type 1} → statement M
+put-form-spec = tie.close (tie.spec put-header-requires put-requires same-length returns)

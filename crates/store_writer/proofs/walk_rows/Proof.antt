@@ -1,0 +1,55 @@
+-- `store_writer::walk_rows` meets its contract.
+use Rattle.store_writer.proofs.WalkLaws.{reads-of, walk-ready, walk-asked, walk-whole, walk-room, walk-from}
+use borrow.Author.Needs.{needs}
+use Rattle.store_writer.proofs.walk_rows.Statement.{statement}
+use Rattle.store_writer.proofs.walk_rows.Tie as tie
+
+shape-of-requires : tie.Need-shape-of-requires
+shape-of-requires c κs = search needs
+
+definition-body-requires : tie.Need-definition-body-requires
+definition-body-requires c κs = search needs
+
+particle-body-requires : tie.Need-particle-body-requires
+particle-body-requires c κs = search needs
+
+attribute-body-requires : tie.Need-attribute-body-requires
+attribute-body-requires c κs = search needs
+
+row-body-requires : tie.Need-row-body-requires
+row-body-requires c κs = search needs
+
+next-serial-requires : tie.Need-next-serial-requires
+next-serial-requires c κs = search needs
+
+cast-walk : tie.Need-cast-walk
+cast-walk c = search needs
+
+walk-requires : tie.Need-walk-requires
+walk-requires c κs = let start = c .before .before .before .before .before .before .before .before .before .before .before in
+    let q = start .pre .0 in
+    let x = reads-of (c .before .before .before .before .before .before .before .shape-of .ensures) (c .before .before .before .before .before .before .definition-body .ensures) (c .before .before .before .before .before .particle-body .ensures) (c .before .before .before .before .attribute-body .ensures) (c .before .before .before .row-body .ensures) in
+    (walk-ready q x (start .pre .1) (start .pre .2), walk-asked q x, walk-whole q x, walk-room (c .before .before .before .before .before .before .before .shape-of .ensures .sized .width) (start .pre .3) (c .before .before .next-serial .ensures))
+
+same-length : tie.Need-same-length
+same-length c = search needs
+
+returns : tie.Need-returns
+returns c = let start = c .before .before .before .before .before .before .before .before .before .before .before .before .before .before in
+    let x = reads-of (c .before .before .before .before .before .before .before .before .before .before .shape-of .ensures) (c .before .before .before .before .before .before .before .before .before .definition-body .ensures) (c .before .before .before .before .before .before .before .before .particle-body .ensures) (c .before .before .before .before .before .before .before .attribute-body .ensures) (c .before .before .before .before .before .before .row-body .ensures) in
+    walk-from (start .pre .0) x (start .args .plan) (start .args .text .now) (c .before .before .before .before .before .next-serial .ensures) (c .before .before .walk .ensures)
+
+pub walk-rows-spec : {M : Type 1} → statement M
+walk-rows-spec =
+    tie.close
+    (tie.spec
+    shape-of-requires
+    definition-body-requires
+    particle-body-requires
+    attribute-body-requires
+    row-body-requires
+    next-serial-requires
+    cast-walk
+    walk-requires
+    same-length
+    returns)

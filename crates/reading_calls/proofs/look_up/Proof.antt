@@ -1,8 +1,8 @@
--- `formstore::look_up` meets its contract.
+-- `reading_calls::look_up` meets its contract.
 use borrow.Author.Needs.{needs}
-use Rattle.formstore.proofs.look_up.Statement.{statement}
-use Rattle.formstore.proofs.look_up.Tie as tie
-use Rattle.formstore.proofs.Laws.{hands-bad, hands-good}
+use Rattle.reading_calls.proofs.look_up.Statement.{statement}
+use Rattle.reading_calls.proofs.look_up.Tie as tie
+use Rattle.reading_calls.proofs.Laws.{hands-bad, hands-good}
 
 passes-requires : tie.Need-passes-requires
 passes-requires c κs = search needs

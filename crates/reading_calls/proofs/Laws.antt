@@ -21,7 +21,7 @@ use Rattle.printing.specs.Texts.{textOf}
 use Rattle.printing.proofs.FormLaws.{text-is, passing-within}
 use Rattle.lookup.specs.Finding.{foundOn, Looks, Hands}
 use Rattle.lookup.proofs.Laws.{look-up-is}
-use Rattle.formstore.specs.Calls.{checkAnswer}
+use Rattle.reading_calls.specs.Calls.{checkAnswer}
 
 -- `r` is what the check said, and `taken` or `left` which way the code went
 pub check-yes : (bs : Bytes) {r : Bool} → r ≡ true → r ≡ passes bs → 0 ≡ checkAnswer (passes bs)

@@ -1,8 +1,8 @@
--- `formstore::formstore_look_up` meets its contract.
+-- `reading_calls::look_up_place` meets its contract.
 use borrow.Author.Needs.{needs}
-use Rattle.formstore.proofs.formstore_look_up.Statement.{statement}
-use Rattle.formstore.proofs.formstore_look_up.Tie as tie
-use Rattle.formstore.proofs.Laws.{looks-bad, looks-good}
+use Rattle.reading_calls.proofs.look_up_place.Statement.{statement}
+use Rattle.reading_calls.proofs.look_up_place.Tie as tie
+use Rattle.reading_calls.proofs.Laws.{looks-bad, looks-good}
 
 passes-requires : tie.Need-passes-requires
 passes-requires c κs = search needs
@@ -16,5 +16,5 @@ find-requires c κs = search needs
 returns-2 : tie.Need-returns-2
 returns-2 c = looks-good _ _ (c .before .if1 .left) (c .before .before .passes .ensures) (c .find .ensures)
 
-pub formstore-look-up-spec : {M : Type 1} → statement M
-formstore-look-up-spec = tie.close (tie.spec passes-requires returns find-requires returns-2)
+pub look-up-place-spec : {M : Type 1} → statement M
+look-up-place-spec = tie.close (tie.spec passes-requires returns find-requires returns-2)

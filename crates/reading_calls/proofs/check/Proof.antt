@@ -1,8 +1,8 @@
--- `formstore::check` meets its contract.
+-- `reading_calls::check` meets its contract.
 use borrow.Author.Needs.{needs}
-use Rattle.formstore.proofs.check.Statement.{statement}
-use Rattle.formstore.proofs.check.Tie as tie
-use Rattle.formstore.proofs.Laws.{check-yes, check-no}
+use Rattle.reading_calls.proofs.check.Statement.{statement}
+use Rattle.reading_calls.proofs.check.Tie as tie
+use Rattle.reading_calls.proofs.Laws.{check-yes, check-no}
 
 passes-requires : tie.Need-passes-requires
 passes-requires c κs = search needs

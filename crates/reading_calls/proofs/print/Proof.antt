@@ -1,9 +1,9 @@
--- `formstore::print` meets its contract.
+-- `reading_calls::print` meets its contract.
 use native.Mathlib.Omega.{arith}
 use borrow.Author.Needs.{needs}
-use Rattle.formstore.proofs.print.Statement.{statement}
-use Rattle.formstore.proofs.print.Tie as tie
-use Rattle.formstore.proofs.Laws.{within-counts, prints-bad, prints-short, prints-all}
+use Rattle.reading_calls.proofs.print.Statement.{statement}
+use Rattle.reading_calls.proofs.print.Tie as tie
+use Rattle.reading_calls.proofs.Laws.{within-counts, prints-bad, prints-short, prints-all}
 
 passes-requires : tie.Need-passes-requires
 passes-requires c κs = search needs

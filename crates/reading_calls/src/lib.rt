@@ -1,0 +1,78 @@
+//! The calls that change nothing: the check of a store, the look-up of a value, the print.
+use store_writer::Answer;
+ghost use mathlib.Core.Path.{_≡_};
+ghost use Rattle.rules.specs.Passing.{passes};
+ghost use Rattle.rules.specs.LookUp.{lookUp};
+ghost use Rattle.rules.specs.Outcome.{Answers};
+ghost use Rattle.rules.specs.Print.{printOutcome};
+ghost use lib.ListN.{length};
+ghost use Rattle.lookup.specs.Finding.{Looks, Hands};
+ghost use Rattle.reading_calls.specs.Calls.{checkAnswer};
+
+/// 0 if the store passes the check, 1 if it does not.
+pub fn check(store: &[u8]) -> u32
+    ensures { λ r. ⌜ r ≡ checkAnswer (passes (now (store .entry))) ⌝ }
+{
+    if store_check::passes(store) { 0 } else { 1 }
+}
+
+/// The part of the store that is the value of the attribute or text row with a serial, and 0; on a bad store 1, on any other
+/// serial 7, with an empty part.
+pub fn look_up<'a>(store: &'a [u8], serial: u32, number: &mut u32) -> &'a [u8]
+    ensures { λ r. ⌜ Hands (lookUp (now (store .entry)) serial) (now (store .entry)) (now r) (now (number .exit)) ⌝ }
+{
+    if !store_check::passes(store) {
+        *number = 1;
+        return &store[..0];
+    }
+    lookup::value_of(store, serial, number)
+}
+
+/// The number, and where the value stands in the store; 0 and 0 where nothing is found.
+#[repr(C)]
+pub struct Found {
+    pub number: u32,
+    pub start: usize,
+    pub length: usize,
+}
+
+/// The look-up by places: what C callers get.
+pub fn look_up_place(store: &[u8], serial: u32) -> Found
+    ensures { λ r. ⌜ Looks (lookUp (now (store .entry)) serial) (r .number) (r .start) (r .length) ⌝ }
+{
+    if !store_check::passes(store) {
+        return Found {
+            number: 1,
+            start: 0,
+            length: 0,
+        };
+    }
+    let found = lookup::find(store, serial);
+    Found {
+        number: found.number,
+        start: found.start,
+        length: found.length,
+    }
+}
+
+/// Prints the store. A first print into a buffer of one byte, which clips it, tells the length.
+pub fn print(store: &[u8], out: &mut [u8]) -> Answer
+    ensures { λ r. ⌜ Answers (printOutcome (now (store .entry)) (length (now (out .entry)))) (now (out .entry)) (r .number) (r .length) (now (out .exit)) ⌝ }
+{
+    if !store_check::passes(store) {
+        return Answer {
+            number: 1,
+            length: 0,
+        };
+    }
+    let mut clipped = [0; 1];
+    let length = printing::print_store(store, &mut clipped);
+    if length > out.len() {
+        return Answer {
+            number: 18,
+            length: 0,
+        };
+    }
+    printing::print_store(store, out);
+    Answer { number: 0, length }
+}

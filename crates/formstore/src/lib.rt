@@ -61,7 +61,7 @@ pub extern "C" fn formstore_print(store: &[u8], out: &mut [u8]) -> Answer
 pub fn create_definition(store: &[u8], name: &[u8], kind: u32, out: &mut [u8]) -> Answer
     ensures { λ r. ⌜ Promise (createDefinition (now (name .entry)) kind) (now (store .entry)) (now (out .entry)) (r .number) (r .length) (now (out .exit)) ⌝ }
 {
-    definition_calls::create_definition(store, name, kind, out)
+    create_definition_call::create_definition(store, name, kind, out)
 }
 
 #[no_mangle]
@@ -73,14 +73,14 @@ pub extern "C" fn formstore_create_definition(
 ) -> Answer
     ensures { λ r. ⌜ Promise (createDefinition (now (name .entry)) kind) (now (store .entry)) (now (out .entry)) (r .number) (r .length) (now (out .exit)) ⌝ }
 {
-    definition_calls::create_definition(store, name, kind, out)
+    create_definition_call::create_definition(store, name, kind, out)
 }
 
 /// 2: destroys a definition, with its model and attributes.
 pub fn destroy_definition(store: &[u8], definition: u32, out: &mut [u8]) -> Answer
     ensures { λ r. ⌜ Promise (destroyDefinition definition) (now (store .entry)) (now (out .entry)) (r .number) (r .length) (now (out .exit)) ⌝ }
 {
-    definition_calls::destroy_definition(store, definition, out)
+    destroy_definition_call::destroy_definition(store, definition, out)
 }
 
 #[no_mangle]
@@ -91,7 +91,7 @@ pub extern "C" fn formstore_destroy_definition(
 ) -> Answer
     ensures { λ r. ⌜ Promise (destroyDefinition definition) (now (store .entry)) (now (out .entry)) (r .number) (r .length) (now (out .exit)) ⌝ }
 {
-    definition_calls::destroy_definition(store, definition, out)
+    destroy_definition_call::destroy_definition(store, definition, out)
 }
 
 /// 3: inserts an element into a model; on the spine each instance gets a filling if the quantifier needs one.
@@ -257,7 +257,7 @@ pub fn add_attribute(
 ) -> Answer
     ensures { λ r. ⌜ Promise (addAttribute owner (now (name .entry)) sort (now (value .entry))) (now (store .entry)) (now (out .entry)) (r .number) (r .length) (now (out .exit)) ⌝ }
 {
-    attribute_calls::add_attribute(store, owner, name, sort, value, out)
+    add_attribute_call::add_attribute(store, owner, name, sort, value, out)
 }
 
 #[no_mangle]
@@ -271,14 +271,14 @@ pub extern "C" fn formstore_add_attribute(
 ) -> Answer
     ensures { λ r. ⌜ Promise (addAttribute owner (now (name .entry)) sort (now (value .entry))) (now (store .entry)) (now (out .entry)) (r .number) (r .length) (now (out .exit)) ⌝ }
 {
-    attribute_calls::add_attribute(store, owner, name, sort, value, out)
+    add_attribute_call::add_attribute(store, owner, name, sort, value, out)
 }
 
 /// 10: destroys an attribute, with its rows.
 pub fn destroy_attribute(store: &[u8], attribute: u32, out: &mut [u8]) -> Answer
     ensures { λ r. ⌜ Promise (destroyAttribute attribute) (now (store .entry)) (now (out .entry)) (r .number) (r .length) (now (out .exit)) ⌝ }
 {
-    attribute_calls::destroy_attribute(store, attribute, out)
+    destroy_attribute_call::destroy_attribute(store, attribute, out)
 }
 
 #[no_mangle]
@@ -289,14 +289,14 @@ pub extern "C" fn formstore_destroy_attribute(
 ) -> Answer
     ensures { λ r. ⌜ Promise (destroyAttribute attribute) (now (store .entry)) (now (out .entry)) (r .number) (r .length) (now (out .exit)) ⌝ }
 {
-    attribute_calls::destroy_attribute(store, attribute, out)
+    destroy_attribute_call::destroy_attribute(store, attribute, out)
 }
 
 /// 11: a new last document, the filling of a definition.
 pub fn add_document(store: &[u8], definition: u32, text: &[u8], out: &mut [u8]) -> Answer
     ensures { λ r. ⌜ Promise (addDocument definition (now (text .entry))) (now (store .entry)) (now (out .entry)) (r .number) (r .length) (now (out .exit)) ⌝ }
 {
-    document_calls::add_document(store, definition, text, out)
+    element_calls::add_document(store, definition, text, out)
 }
 
 #[no_mangle]
@@ -308,7 +308,7 @@ pub extern "C" fn formstore_add_document(
 ) -> Answer
     ensures { λ r. ⌜ Promise (addDocument definition (now (text .entry))) (now (store .entry)) (now (out .entry)) (r .number) (r .length) (now (out .exit)) ⌝ }
 {
-    document_calls::add_document(store, definition, text, out)
+    element_calls::add_document(store, definition, text, out)
 }
 
 /// 12: adds the filling of a definition as child number `child` of an element.
@@ -322,7 +322,7 @@ pub fn add_element(
 ) -> Answer
     ensures { λ r. ⌜ Promise (addElement parent child definition (now (text .entry))) (now (store .entry)) (now (out .entry)) (r .number) (r .length) (now (out .exit)) ⌝ }
 {
-    document_calls::add_element(store, parent, child, definition, text, out)
+    element_calls::add_element(store, parent, child, definition, text, out)
 }
 
 #[no_mangle]
@@ -336,21 +336,21 @@ pub extern "C" fn formstore_add_element(
 ) -> Answer
     ensures { λ r. ⌜ Promise (addElement parent child definition (now (text .entry))) (now (store .entry)) (now (out .entry)) (r .number) (r .length) (now (out .exit)) ⌝ }
 {
-    document_calls::add_element(store, parent, child, definition, text, out)
+    element_calls::add_element(store, parent, child, definition, text, out)
 }
 
 /// 13: destroys an element with all below it, or a whole document.
 pub fn destroy_element(store: &[u8], element: u32, out: &mut [u8]) -> Answer
     ensures { λ r. ⌜ Promise (destroyElement element) (now (store .entry)) (now (out .entry)) (r .number) (r .length) (now (out .exit)) ⌝ }
 {
-    document_calls::destroy_element(store, element, out)
+    element_calls::destroy_element(store, element, out)
 }
 
 #[no_mangle]
 pub extern "C" fn formstore_destroy_element(store: &[u8], element: u32, out: &mut [u8]) -> Answer
     ensures { λ r. ⌜ Promise (destroyElement element) (now (store .entry)) (now (out .entry)) (r .number) (r .length) (now (out .exit)) ⌝ }
 {
-    document_calls::destroy_element(store, element, out)
+    element_calls::destroy_element(store, element, out)
 }
 
 /// 14: sets an attribute of an element; a row that is there keeps its serial.
@@ -363,7 +363,7 @@ pub fn set_attribute(
 ) -> Answer
     ensures { λ r. ⌜ Promise (setAttribute element attribute (now (value .entry))) (now (store .entry)) (now (out .entry)) (r .number) (r .length) (now (out .exit)) ⌝ }
 {
-    document_calls::set_attribute(store, element, attribute, value, out)
+    attribute_row_calls::set_attribute(store, element, attribute, value, out)
 }
 
 #[no_mangle]
@@ -376,14 +376,14 @@ pub extern "C" fn formstore_set_attribute(
 ) -> Answer
     ensures { λ r. ⌜ Promise (setAttribute element attribute (now (value .entry))) (now (store .entry)) (now (out .entry)) (r .number) (r .length) (now (out .exit)) ⌝ }
 {
-    document_calls::set_attribute(store, element, attribute, value, out)
+    attribute_row_calls::set_attribute(store, element, attribute, value, out)
 }
 
 /// 15: destroys the row of an attribute of an element.
 pub fn destroy_attribute_row(store: &[u8], element: u32, attribute: u32, out: &mut [u8]) -> Answer
     ensures { λ r. ⌜ Promise (destroyAttributeRow element attribute) (now (store .entry)) (now (out .entry)) (r .number) (r .length) (now (out .exit)) ⌝ }
 {
-    document_calls::destroy_attribute_row(store, element, attribute, out)
+    attribute_row_calls::destroy_attribute_row(store, element, attribute, out)
 }
 
 #[no_mangle]
@@ -395,14 +395,14 @@ pub extern "C" fn formstore_destroy_attribute_row(
 ) -> Answer
     ensures { λ r. ⌜ Promise (destroyAttributeRow element attribute) (now (store .entry)) (now (out .entry)) (r .number) (r .length) (now (out .exit)) ⌝ }
 {
-    document_calls::destroy_attribute_row(store, element, attribute, out)
+    attribute_row_calls::destroy_attribute_row(store, element, attribute, out)
 }
 
 /// 16: sets the text of a PCDATA element.
 pub fn set_text(store: &[u8], element: u32, text: &[u8], out: &mut [u8]) -> Answer
     ensures { λ r. ⌜ Promise (setText element (now (text .entry))) (now (store .entry)) (now (out .entry)) (r .number) (r .length) (now (out .exit)) ⌝ }
 {
-    document_calls::set_text(store, element, text, out)
+    text_call::set_text(store, element, text, out)
 }
 
 #[no_mangle]
@@ -414,5 +414,5 @@ pub extern "C" fn formstore_set_text(
 ) -> Answer
     ensures { λ r. ⌜ Promise (setText element (now (text .entry))) (now (store .entry)) (now (out .entry)) (r .number) (r .length) (now (out .exit)) ⌝ }
 {
-    document_calls::set_text(store, element, text, out)
+    text_call::set_text(store, element, text, out)
 }

@@ -30,9 +30,8 @@ use Rattle.printing.specs.Walking.{Passed}
 use Rattle.printing.specs.Parts.{Named, Within, definitionPart, attributePart, definitionBody, particleBody, attributeBody, definitionsFrom, particlesFrom, attributesFrom, rowsFrom, namesOf, attributeNamesOf}
 use Rattle.printing.specs.Texts.{LaidWithin, attributeOf, defaultText, attributeLineText, attributesText, isTree, membersText, contentText, definitionText, declarationsText, formText, documentsText, textOf}
 use Rattle.printing.proofs.TextLaws.{concat-append}
-use Rattle.printing.proofs.SignLaws.{escape-length}
+use Rattle.escaping.proofs.Laws.{laid-long, escape-length}
 use Rattle.printing.proofs.PartLaws.{attribute-step, attribute-name, definition-name, definition-step, value-short}
-use Rattle.printing.proofs.WalkLaws.{laid-long}
 
 -- ---- the default of an attribute
 abbrev defaultBy : AttributeSort → Bytes → Bytes

@@ -19,7 +19,7 @@ use Rattle.printing.specs.Walking.{Passed, Stepped, Enclosed}
 use Rattle.printing.specs.Parts.{Named, rowsFrom, namesOf, attributeNamesOf}
 use Rattle.printing.specs.Texts.{endText, rowsText, elementText, attributeText, rowBodyText, rowText, stays, documentText, documentsText}
 use Rattle.printing.proofs.TextLaws.{documents-tree}
-use Rattle.printing.proofs.SignLaws.{escape-length}
+use Rattle.escaping.proofs.Laws.{escape-length}
 
 pub sort-text : (s : ℕ) → (s ≡ 1 → ⊥) → (s ≡ 2 → ⊥) → rowSortOf s ≡ text
 sort-text zero a b = refl

@@ -6,16 +6,13 @@ use Prim.Native.Nat.{ℕ, suc, _+_, _-_, _*_, _<_, _≤_}
 use native.Mathlib.Omega.{arith}
 use borrow.Author.Tests.{lt-ltb, le-ltb, eq-eqb, ne-eqb}
 use lib.ListN.{length}
-use lib.Seq.{length-sets}
 use Rattle.rules.specs.Bytes.{Bytes}
 use Rattle.rules.specs.Store.{Forest, bare, tree}
 use Rattle.rules.specs.Preorder.{Deep, build}
 use Rattle.codec.specs.Laid.{Laid}
 use Rattle.codec.proofs.Writers.{laid-none, laid-then, laid-as}
+use Rattle.escaping.proofs.Laws.{laid-long}
 use Rattle.printing.specs.Walking.{Passed, Stepped}
-
-pub laid-long : {w out : Bytes} {at r : ℕ} {out′ : Bytes} → Laid w out at r out′ → length out′ ≡ length out
-laid-long {w} {out} {at} l = ap length (l .stored) ∙ length-sets out at w
 
 -- ---- a record with its depth, and the records after it
 module _ {A : Type 0} (x : Deep A) (xs : List (Deep A)) (k : ℕ) where

@@ -7,7 +7,7 @@ ghost use lib.ListN.{length};
 ghost use Rattle.codec.specs.Laid.{Laid};
 ghost use Rattle.rules.specs.Preorder.{build};
 ghost use Rattle.rules.specs.Decode.{nameAt, quantifierOf, groupOf, rowName, rowSortOf, readDefinition, readParticle, readAttribute, readRow, definitionCount, particleCount, attributeCount, ofOwner};
-ghost use Rattle.rules.specs.Print.{escape, escapeByte, markOf};
+ghost use Rattle.rules.specs.Print.{markOf};
 ghost use Rattle.printing.specs.Parts.{Named, Ends, Within, definitionPart, particlePart, attributePart, namesOf, attributeNamesOf, definitionsFrom, particlesFrom, attributesFrom, rowsFrom};
 ghost use Rattle.rules.specs.Layout.{rowSize};
 ghost use Rattle.layout.specs.Bodies.{Width, recordAt};
@@ -60,52 +60,7 @@ fn attribute_name_of(store: &[u8], i: usize) -> &[u8]
     layout::attribute_name(attribute(store, i))
 }
 
-// ---- escapes, marks, separators
-
-fn put_escaped_byte(x: u8, out: &mut [u8], at: usize) -> usize
-    requires { ⌜ at < 9223372036854775808 ⌝ }
-    ensures { λ r. ⌜ Laid (escapeByte x) (now (out .entry)) at r (now (out .exit)) ⌝ }
-{
-    match x {
-        38 => codec::put(b"&amp;", out, at),
-        60 => codec::put(b"&lt;", out, at),
-        62 => codec::put(b"&gt;", out, at),
-        34 => codec::put(b"&quot;", out, at),
-        _ => codec::put_u8(out, at, x),
-    }
-}
-
-// Whether no byte is escaped.
-fn is_plain(value: &[u8]) -> bool
-    ensures { λ r. ⌜ (r ≡ true → escape (now (value .entry)) ≡ now (value .entry)) ⌝ }
-{
-    let mut i = 0;
-    while i < value.len() {
-        let x = value[i];
-        if (x == 38) | (x == 60) | (x == 62) | (x == 34) {
-            return false;
-        }
-        i += 1;
-    }
-    true
-}
-
-/// Writes a value, escaped; one with nothing to escape is written whole.
-fn put_escaped(value: &[u8], out: &mut [u8], start: usize) -> usize
-    requires { ⌜ start + 6 * length (now value) < 9223372036854775808 ⌝ }
-    ensures { λ r. ⌜ Laid (escape (now (value .entry))) (now (out .entry)) start r (now (out .exit)) ⌝ }
-{
-    if is_plain(value) {
-        return codec::put(value, out, start);
-    }
-    let mut at = start;
-    let mut i = 0;
-    while i < value.len() {
-        at = put_escaped_byte(codec::byte(value, i), out, at);
-        i += 1;
-    }
-    at
-}
+// ---- marks, separators
 
 /// Writes the mark of a quantifier.
 fn put_mark(quantifier: u8, out: &mut [u8], at: usize) -> usize
@@ -259,7 +214,7 @@ fn put_attribute(name: &[u8], value: &[u8], out: &mut [u8], at: usize) -> usize
     let spaced = codec::put_u8(out, at, b' ');
     let named = codec::put(name, out, spaced);
     let quoted = codec::put(b"=\"", out, named);
-    let valued = put_escaped(value, out, quoted);
+    let valued = escaping::put_escaped(value, out, quoted);
     codec::put_u8(out, valued, b'"')
 }
 
@@ -329,7 +284,7 @@ fn put_row(
         );
     }
     Walked {
-        at: put_escaped(value_of(bytes), out, ended),
+        at: escaping::put_escaped(value_of(bytes), out, ended),
         next: i + 1,
     }
 }
@@ -452,7 +407,7 @@ fn put_default(store: &[u8], i: usize, out: &mut [u8], at: usize) -> usize
     }
     let value = layout::attribute_value(bytes);
     let quoted = codec::put(b"#FIXED \"", out, at);
-    let valued = put_escaped(value, out, quoted);
+    let valued = escaping::put_escaped(value, out, quoted);
     codec::put_u8(out, valued, b'"')
 }
 

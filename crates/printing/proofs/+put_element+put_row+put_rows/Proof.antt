@@ -12,7 +12,8 @@ use Rattle.printing.specs.Parts.{rowsFrom, namesOf, attributeNamesOf}
 use Rattle.printing.specs.Texts.{rowsText, stays}
 use Rattle.printing.proofs.TextLaws.{rows-tree, rows-bare}
 use Rattle.printing.proofs.PartLaws.{row-step}
-use Rattle.printing.proofs.WalkLaws.{Walk, walk-start, walk-deeper, walk-here, walk-stops, walk-ends, walk-as, laid-long}
+use Rattle.printing.proofs.WalkLaws.{Walk, walk-start, walk-deeper, walk-here, walk-stops, walk-ends, walk-as}
+use Rattle.escaping.proofs.Laws.{laid-long}
 use Rattle.printing.proofs.RowLaws.{end-short, row-short, element-enclosed, attribute-stepped, row-element-stepped, text-stepped}
 use Prim.Native.Nat.{ℕ, _<_}
 use borrow.Fn.Kinds.{In}
@@ -36,7 +37,7 @@ use Rattle.printing.proofs.attribute_name_of.Reads as attribute-name-of
 use Rattle.printing.proofs.name_of.Reads as name-of-reads
 use Rattle.printing.proofs.put_attribute.Reads as put-attribute-reads
 use Rattle.printing.proofs.put_end.Reads as put-end-reads
-use Rattle.printing.proofs.put_escaped.Reads as put-escaped-reads
+use Rattle.escaping.proofs.put_escaped.Reads as put-escaped-reads
 use Rattle.printing.proofs.stays_open.Reads as stays-open-reads
 use Rattle.printing.proofs.value_of.Reads as value-of-reads
 use Rattle.printing.proofs.+put_element+put_row+put_rows.{statement}

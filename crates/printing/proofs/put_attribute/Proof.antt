@@ -1,6 +1,6 @@
 use native.Mathlib.Omega.{arith}
 use Rattle.codec.proofs.Writers.{laid-none, laid-then}
-use Rattle.printing.proofs.SignLaws.{escape-length}
+use Rattle.escaping.proofs.Laws.{escape-length}
 use borrow.Author.Needs.{needs}
 use Rattle.printing.proofs.put_attribute.Statement.{statement}
 use Rattle.printing.proofs.put_attribute.Tie as tie

@@ -1,6 +1,6 @@
 use native.Mathlib.Omega.{arith}
 use Rattle.printing.proofs.FormLaws.{default-implied, default-required, default-fixed, default-short}
-use Rattle.printing.proofs.SignLaws.{escape-length}
+use Rattle.escaping.proofs.Laws.{escape-length}
 use borrow.Author.Needs.{needs}
 use Rattle.printing.proofs.put_default.Statement.{statement}
 use Rattle.printing.proofs.put_default.Tie as tie

@@ -1,0 +1,140 @@
+-- What change 9 asks of the writer, and what it answers.
+use Prim.Native.Nat.{ℕ, suc, _+_, _-_, _*_, _<_, _≤_}
+use native.Mathlib.Omega.{arith}
+use borrow.Author.Tests.{lt-leb, ltb-false}
+use mathlib.Core.Path.{_≡_, refl, sym, ap, _∙_, subst}
+use mathlib.Core.Bool.{Bool, true, false, not}
+use mathlib.Core.List.{_∷_, _++_}
+use lib.ListN.{length, take, drop}
+use Rattle.rules.specs.Bytes.{Bytes}
+use Rattle.rules.specs.Layout.{FlatAttribute, FlatStore, flat, attributeBytes, each}
+use Rattle.rules.specs.Decode.{numberAt, definitionCount, particleCount, attributeCount}
+use Rattle.rules.specs.WellFormed.{isName, isValue, withinCeilings}
+use Rattle.rules.specs.Passing.{passes}
+use Rattle.rules.specs.Change.{addAttribute, after}
+use Rattle.rules.specs.Refusal.{first, conditions}
+use Rattle.rules.specs.Outcome.{Answers}
+use Rattle.rules.proofs.DecodeLaws.{name-width, value-width}
+use Rattle.history.proofs.Conditions.{not-false, not-past}
+use Rattle.codec.specs.Laid.{Laid}
+use Rattle.codec.proofs.Writers.{laid-then, laid-as}
+use Rattle.layout.specs.Bodies.{widthOf, WidthIn, Number}
+use Rattle.layout.proofs.LayoutLaws.{width-within}
+use Rattle.lookup.specs.Bodies.{bodiesOf}
+use Rattle.row_walk.specs.declared.Plan.{Plan}
+use Rattle.store_writer.specs.Stores.{storeIn, limited}
+use Rattle.store_writer.specs.Planned.{plannedIn}
+use Rattle.store_writer.specs.Forms.{formBytes, formIn, Forms}
+use Rattle.store_writer.specs.Writing.{Sized}
+use Rattle.store_writer.proofs.StoreLaws.{Holds, holds}
+use Rattle.store_writer.proofs.CallLaws.{answers-as, passed}
+use Rattle.store_writer.proofs.FormBytesLaws.{form-short}
+use Rattle.store_writer.proofs.FormLaws.{bareForm, FormOf, forms-of, form-answers, form-ceiling, within, good-bodies}
+use Rattle.document_refusals.proofs.StoreFacts.{Whole, whole, value-given}
+use Rattle.plans.specs.AttributeCalls.{attributesTo, addAttributePlan, attributeAdded}
+use Rattle.plans.proofs.CallsPlanned.{none-holds}
+use Rattle.plans.proofs.FormsAfter.{good-attribute, added-ceiling, added-form}
+use Rattle.plans.proofs.AttributeCallsPlanned.{add-attribute-planned}
+use Rattle.attribute_form.specs.Attributes.{Stands, To}
+use Rattle.attribute_form.proofs.FormParts.{front-then, form-from, before-is, fits, front-laid}
+use Rattle.attribute_form.proofs.CountLaws.{count-definitions, count-particles, count-attributes}
+use Rattle.add_attribute_call.specs.Added.{newEntry, Addable, added}
+
+-- ---- no condition holds
+module _ (bs : Bytes) {b : Bool} {m : ℕ} (h : not b ≡ false) (e : b ≡ passes bs) where
+  pub addable : (o : ℕ) (n : Bytes) (k : ℕ) (v : Bytes) → m ≡ first (conditions (addAttribute o n k v) (storeIn bs)) → m ≡ 0 → Addable bs o n k v
+  unfolding conditions
+  addable o n k v f z =
+      let (name, (value, (code, (fresh, (index, more))))) = none-holds (addAttribute o n k v) (storeIn bs) (sym f ∙ z) in
+      let w : Whole bs = whole bs (passed bs h e) in
+      record {
+        passes = passed bs h e;
+        owner = omega (arith, not-past o (storeIn bs .form) index, w .fewDefinitions, w .agrees .size);
+        name = not-false (isName n) name;
+        short = name-width n (not-false (isName n) name);
+        sort = ltb-false 2 k code;
+        value = value-given bs v value;
+        few = value-width (widthOf bs) v (value-given bs v value);
+      }
+
+module _ (bs : Bytes) (q : passes bs ≡ true) where
+  pub add-leaves : (o : ℕ) (n : Bytes) (k : ℕ) (v : Bytes) → first (conditions (addAttribute o n k v) (storeIn bs)) ≡ 0
+      → flat (after (addAttribute o n k v) (storeIn bs)) ≡ added o n k v (bodiesOf bs)
+  unfolding added
+  add-leaves o n k v e = let kept : Holds bs = holds bs q in add-attribute-planned (storeIn bs) (kept .good) o n k v e ∙ sym (ap (added o n k v) (kept .bodies))
+
+-- ---- the bytes of the new form
+-- an attribute at the width that the code reads
+pub wide-attribute : {bs : Bytes} {w : ℕ} {out : Bytes} {at r : ℕ} {out′ : Bytes} → WidthIn bs w → (c : FlatAttribute) → Laid (attributeBytes w c) out at r out′
+    → Laid (attributeBytes (widthOf bs) c) out at r out′
+wide-attribute x c l = laid-as (ap (λ (k : ℕ). attributeBytes k c) (sym (x .value))) l
+
+module _ {w : ℕ} (f : FlatStore) (i : ℕ) {form : Bytes} {at : ℕ} (same : form ≡ formBytes w f) (s : Stands w f i at) {u out out₁ : Bytes} {r₁ : ℕ} (u-is : u ≡ take at form)
+    (x : Laid u out 0 r₁ out₁) where
+  pub added-laid : i ≤ length (f .attributes) → (c : FlatAttribute) {r₂ r₃ : ℕ} {v out₂ out₃ : Bytes} → v ≡ drop at form → Laid (attributeBytes w c) out₁ r₁ r₂ out₂ → Laid v out₂ r₂ r₃ out₃
+      → Laid (formBytes w (attributeAdded i c f)) out 0 r₃ out₃
+  added-laid h c {v = v} v-is y z =
+      let e : v ≡ each (attributeBytes w) (drop i (f .attributes)) = v-is ∙ ap (drop at) same ∙ form-from w f i at (s .place) h in
+      laid-as (front-then w f i (c ∷ drop i (f .attributes)) ∙ (λ j. sym (before-is f i same s u-is x h) j ++ (attributeBytes w c ++ sym e j))) (laid-then x (laid-then y z))
+
+-- ---- the store that is left
+version-of : (bs : Bytes) → numberAt 0 4 bs ≡ bodiesOf bs .version
+unfolding bodiesOf
+version-of bs = refl
+
+module _ (bs : Bytes) (o : ℕ) (n : Bytes) (k : ℕ) (v : Bytes) (x : Addable bs o n k v) where
+  kept : Holds bs
+  kept = holds bs (x .passes)
+
+  pub added-full : (room : ℕ) {a number len : ℕ} {out : Bytes} → Number (attributeCount bs) a → 64 ≤ a → (number ≡ 16) × (len ≡ 0)
+      → Answers (limited room (added o n k v (bodiesOf bs))) out number len out
+  unfolding added
+  added-full room {out = out} e l (n-is, l-is) =
+      let f : FlatStore = bodiesOf bs in
+      let i : ℕ = attributesTo o (f .attributes) in
+      let c : FlatAttribute = newEntry o n k v in
+      let over : withinCeilings (bareForm (attributeAdded i c f)) ≡ false = added-ceiling i f (good-bodies kept) (within kept) c ∙ lt-leb (suc (length (f .attributes))) 64 (omega (arith, count-attributes bs e)) in
+      let a : Answers (limited room (added o n k v f)) out 16 0 out = form-ceiling (attributeAdded i c f) over (addAttributePlan (f .version) o i k) v f room in
+      record { number-is = n-is ∙ a .number-is; length-is = l-is ∙ a .length-is; buffer-is = a .buffer-is }
+
+  module _ {d p a i version r : ℕ} {q : Plan} {buffer left : Bytes} (cd : Number (definitionCount bs) d) (cp : Number (particleCount bs) p) (ca : Number (attributeCount bs) a) (few : a < 64) (to : To o (bodiesOf bs .attributes) i)
+      (at : Number (numberAt 0 4 bs) version) (same : q ≡ addAttributePlan version o i k)
+      (long : length buffer ≡ 9728) (y : Laid (formBytes (widthOf bs) (attributeAdded i (newEntry o n k v) (bodiesOf bs))) buffer 0 r left) where
+    of-bytes : {form : Bytes} → form ≡ formBytes (widthOf bs) (attributeAdded i (newEntry o n k v) (bodiesOf bs))
+        → FormOf (widthOf bs) (attributeAdded i (newEntry o n k v) (bodiesOf bs)) form d p (a + 1)
+    of-bytes e =
+        added-form i (bodiesOf bs) (good-bodies kept) (within kept) (newEntry o n k v) (good-attribute (widthOf bs) o n k v (x .name) (x .value)) (omega (arith, count-attributes bs ca)) e (count-definitions bs cd)
+        (count-particles bs cp) (omega (arith, count-attributes bs ca))
+
+    room-for : length (formBytes (widthOf bs) (attributeAdded i (newEntry o n k v) (bodiesOf bs))) ≤ 9728
+    room-for = form-short (forms-of (of-bytes refl)) (width-within bs)
+
+    pub added-fits : r ≤ length left
+    added-fits = fits long room-for y
+
+    pub added-long : r ≡ length (take r left)
+    added-long = omega (arith, y .next, ap length (front-laid y (omega (arith, long, room-for))))
+
+    of : FormOf (widthOf bs) (attributeAdded i (newEntry o n k v) (bodiesOf bs)) (take r left) d p (a + 1)
+    of = of-bytes (front-laid y (omega (arith, long, room-for)))
+
+    pub added-asks : (passes bs ≡ true) × (isValue (widthOf bs) v ≡ true) × Sized q × Forms (widthOf bs) (take r left) d p (a + 1)
+    added-asks = (
+      x .passes,
+      x .value,
+      subst Sized (sym same) (record { moves = record { definitions = record { more = omega arith }; attributes = record { more = omega arith } }; filling = omega (arith, to .most, count-attributes bs ca) }),
+      forms-of of,
+    )
+
+    pub added-answers : (room : ℕ) {out : Bytes} {number len : ℕ} {end : Bytes}
+        → Answers (limited room (plannedIn (formIn (widthOf bs) (take r left) d p (a + 1)) q v (bodiesOf bs))) out number len end
+        → Answers (limited room (added o n k v (bodiesOf bs))) out number len end
+    unfolding added
+    added-answers room z =
+        let f : FlatStore = bodiesOf bs in
+        let e : version ≡ f .version = at .value ∙ version-of bs in
+        answers-as
+        (ap (limited room)
+        ((λ j. plannedIn (attributeAdded (sym (to .is) j) (newEntry o n k v) f) (addAttributePlan (sym e j) o (sym (to .is) j) k) v f)
+        ∙ ap (λ (s : Plan). plannedIn (attributeAdded i (newEntry o n k v) f) s v f) (sym same)))
+        (form-answers of q v f room z)

@@ -1,0 +1,141 @@
+-- `add_attribute_call::write_added` meets its contract.
+use native.Mathlib.Omega.{arith}
+use lib.ListN.{length}
+use Rattle.attribute_form.proofs.CountLaws.{count-attributes}
+use Rattle.attribute_form.proofs.FormParts.{zeros-long}
+use Rattle.add_attribute_call.proofs.Laws.{added-full, added-fits, added-long, added-asks, added-answers}
+use borrow.Author.Needs.{needs}
+use Rattle.add_attribute_call.proofs.write_added.Statement.{statement}
+use Rattle.add_attribute_call.proofs.write_added.Tie as tie
+
+definition-count-requires : tie.Need-definition-count-requires
+definition-count-requires c κs = search needs
+
+particle-count-requires : tie.Need-particle-count-requires
+particle-count-requires c κs = search needs
+
+attribute-count-requires : tie.Need-attribute-count-requires
+attribute-count-requires c κs = search needs
+
+refused-requires : tie.Need-refused-requires
+refused-requires c κs = search needs
+
+returns : tie.Need-returns
+returns c =
+    let at-attribute-count = c .before .before in
+    let start = at-attribute-count .before .before .before .before .before .before .before in
+    added-full (start .args .store .now) (start .args .owner) (start .args .name .now) (start .args .sort) (start .args .value .now) (start .pre) (length (start .args .out .now))
+    (at-attribute-count .attribute-count .ensures) (omega arith) (c .refused .ensures)
+
+attributes-to-requires : tie.Need-attributes-to-requires
+attributes-to-requires c κs = search needs
+
+version-in-requires : tie.Need-version-in-requires
+version-in-requires c κs = search needs
+
+cast-add-attribute-plan : tie.Need-cast-add-attribute-plan
+cast-add-attribute-plan c =
+    let start = c .before .before .before .before .before .before .before .before .before .before in
+    omega (arith, start .pre .sort)
+
+add-attribute-plan-requires : tie.Need-add-attribute-plan-requires
+add-attribute-plan-requires c κs = search needs
+
+slice-aggregate-put-added : tie.Need-slice-aggregate-put-added
+slice-aggregate-put-added c = search needs
+
+put-added-requires : tie.Need-put-added-requires
+put-added-requires c κs =
+    let at-attributes-to = c .before .before .before in
+    let at-attribute-count = at-attributes-to .before .before in
+    let start = at-attribute-count .before .before .before .before .before .before .before in (
+      (start .pre),
+      at-attributes-to .attributes-to .ensures .most,
+      omega (arith, at-attributes-to .attributes-to .ensures .most, count-attributes (start .args .store .now) (at-attribute-count .attribute-count .ensures)),
+    )
+
+array-share-prefix-form : tie.Need-array-share-prefix-form
+array-share-prefix-form c =
+    let at-put-added = c .before in
+    let at-add-attribute-plan = at-put-added .before .before in
+    let at-version-in = at-add-attribute-plan .before in
+    let at-attributes-to = at-version-in .before in
+    let at-attribute-count = at-attributes-to .before .before in
+    let at-particle-count = at-attribute-count .before in
+    let at-definition-count = at-particle-count .before in
+    let start = at-definition-count .before .before .before .before .before in
+    added-fits (start .args .store .now) (start .args .owner) (start .args .name .now) (start .args .sort) (start .args .value .now) (start .pre)
+    (at-definition-count .definition-count .ensures) (at-particle-count .particle-count .ensures) (at-attribute-count .attribute-count .ensures) (omega arith)
+    (at-attributes-to .attributes-to .ensures) (at-version-in .version-in .ensures) (at-add-attribute-plan .add-attribute-plan .ensures) zeros-long (at-put-added .put-added .ensures)
+
+slice-aggregate-edit-form : tie.Need-slice-aggregate-edit-form
+slice-aggregate-edit-form c =
+    let at-put-added = c .before .before in
+    let at-add-attribute-plan = at-put-added .before .before in
+    let at-version-in = at-add-attribute-plan .before in
+    let at-attributes-to = at-version-in .before in
+    let at-attribute-count = at-attributes-to .before .before in
+    let at-particle-count = at-attribute-count .before in
+    let at-definition-count = at-particle-count .before in
+    let start = at-definition-count .before .before .before .before .before in
+    added-long (start .args .store .now) (start .args .owner) (start .args .name .now) (start .args .sort) (start .args .value .now) (start .pre)
+    (at-definition-count .definition-count .ensures) (at-particle-count .particle-count .ensures) (at-attribute-count .attribute-count .ensures) (omega arith)
+    (at-attributes-to .attributes-to .ensures) (at-version-in .version-in .ensures) (at-add-attribute-plan .add-attribute-plan .ensures) zeros-long (at-put-added .put-added .ensures)
+
+add-edit-form : tie.Need-add-edit-form
+add-edit-form c = search needs
+
+edit-form-requires : tie.Need-edit-form-requires
+edit-form-requires c κs =
+    let at-put-added = c .before .before .before in
+    let at-add-attribute-plan = at-put-added .before .before in
+    let at-version-in = at-add-attribute-plan .before in
+    let at-attributes-to = at-version-in .before in
+    let at-attribute-count = at-attributes-to .before .before in
+    let at-particle-count = at-attribute-count .before in
+    let at-definition-count = at-particle-count .before in
+    let start = at-definition-count .before .before .before .before .before in
+    added-asks (start .args .store .now) (start .args .owner) (start .args .name .now) (start .args .sort) (start .args .value .now) (start .pre)
+    (at-definition-count .definition-count .ensures) (at-particle-count .particle-count .ensures) (at-attribute-count .attribute-count .ensures) (omega arith)
+    (at-attributes-to .attributes-to .ensures) (at-version-in .version-in .ensures) (at-add-attribute-plan .add-attribute-plan .ensures) zeros-long (at-put-added .put-added .ensures)
+
+same-length : tie.Need-same-length
+same-length c = search needs
+
+returns-2 : tie.Need-returns-2
+returns-2 c =
+    let at-edit-form = c .before .before in
+    let at-put-added = at-edit-form .before .before .before .before in
+    let at-add-attribute-plan = at-put-added .before .before in
+    let at-version-in = at-add-attribute-plan .before in
+    let at-attributes-to = at-version-in .before in
+    let at-attribute-count = at-attributes-to .before .before in
+    let at-particle-count = at-attribute-count .before in
+    let at-definition-count = at-particle-count .before in
+    let start = at-definition-count .before .before .before .before .before in
+    added-answers (start .args .store .now) (start .args .owner) (start .args .name .now) (start .args .sort) (start .args .value .now) (start .pre)
+    (at-definition-count .definition-count .ensures) (at-particle-count .particle-count .ensures) (at-attribute-count .attribute-count .ensures) (omega arith)
+    (at-attributes-to .attributes-to .ensures) (at-version-in .version-in .ensures) (at-add-attribute-plan .add-attribute-plan .ensures) zeros-long (at-put-added .put-added .ensures) (length (start .args .out .now))
+    (at-edit-form .edit-form .ensures)
+
+pub write-added-spec : {M : Type 1} → statement M
+write-added-spec =
+    tie.close
+    (tie.spec
+    definition-count-requires
+    particle-count-requires
+    attribute-count-requires
+    refused-requires
+    returns
+    attributes-to-requires
+    version-in-requires
+    cast-add-attribute-plan
+    add-attribute-plan-requires
+    slice-aggregate-put-added
+    put-added-requires
+    array-share-prefix-form
+    slice-aggregate-edit-form
+    add-edit-form
+    edit-form-requires
+    same-length
+    returns-2)

@@ -1,0 +1,86 @@
+//! Change 9: an attribute added. The call is the check, the first refusal that applies, the new form and the plan of the change.
+use store_writer::Answer;
+ghost use Prim.Native.Nat.{_≤_};
+ghost use lib.ListN.{length};
+ghost use Rattle.rules.specs.Change.{addAttribute};
+ghost use Rattle.rules.specs.Outcome.{outcome, Answers};
+ghost use Rattle.codec.specs.Laid.{Laid};
+ghost use Rattle.layout.specs.Bodies.{widthOf};
+ghost use Rattle.lookup.specs.Bodies.{bodiesOf};
+ghost use Rattle.store_writer.specs.Stores.{limited};
+ghost use Rattle.store_writer.specs.Forms.{formBytes};
+ghost use Rattle.plans.specs.AttributeCalls.{attributeAdded};
+ghost use Rattle.add_attribute_call.specs.Added.{newEntry, Addable, added};
+
+const MOST_ATTRIBUTES: usize = 64;
+
+// The bytes of a form at its ceilings and of the widest values: 64 definitions, 256 particles, 64 attributes of 116 bytes.
+const MOST_FORM: usize = 9728;
+
+// Writes the form with a new attribute before attribute i.
+fn put_added(
+    store: &[u8],
+    i: usize,
+    owner: u32,
+    name: &[u8],
+    sort: u32,
+    value: &[u8],
+    out: &mut [u8],
+) -> usize
+    requires { ⌜ Addable (now store) owner (now name) sort (now value) × (i ≤ length (bodiesOf (now store) .attributes)) × (i ≤ 64) ⌝ }
+    ensures { λ r. ⌜ Laid (formBytes (widthOf (now (store .entry))) (attributeAdded i (newEntry owner (now (name .entry)) sort (now (value .entry))) (bodiesOf (now (store .entry))))) (now (out .entry)) 0 r (now (out .exit)) ⌝ }
+{
+    let form = attribute_form::form_of(store);
+    let place = attribute_form::place_of(store, i);
+    let w = layout::width_in(store);
+    let first = codec::put(records::first(form, place), out, 0);
+    let second = layout::put_attribute(w, owner as u8, name, sort as u8, value, out, first);
+    codec::put(records::after(form, place), out, second)
+}
+
+// The store with a new attribute, the last of its owner.
+fn write_added(
+    store: &[u8],
+    owner: u32,
+    name: &[u8],
+    sort: u32,
+    value: &[u8],
+    out: &mut [u8],
+) -> Answer
+    requires { ⌜ Addable (now store) owner (now name) sort (now value) ⌝ }
+    ensures { λ r. ⌜ Answers (limited (length (now (out .entry))) (added owner (now (name .entry)) sort (now (value .entry)) (bodiesOf (now (store .entry))))) (now (out .entry)) (r .number) (r .length) (now (out .exit)) ⌝ }
+{
+    let d = layout::definition_count(store);
+    let p = layout::particle_count(store);
+    let a = layout::attribute_count(store);
+    if a >= MOST_ATTRIBUTES {
+        return store_writer::refused(16);
+    }
+    let i = attribute_form::attributes_to(store, owner);
+    let version = layout::version_in(store);
+    let plan = plans::add_attribute_plan(version, owner as usize, i, sort as u8);
+    let mut form = [0; MOST_FORM];
+    let length = put_added(store, i, owner, name, sort, value, &mut form);
+    store_writer::edit_form(store, &form[..length], d, p, a + 1, plan, value, out)
+}
+
+/// 9: adds an attribute to a definition. REQUIRED: a row of it to each instance.
+pub fn add_attribute(
+    store: &[u8],
+    owner: u32,
+    name: &[u8],
+    sort: u32,
+    value: &[u8],
+    out: &mut [u8],
+) -> Answer
+    ensures { λ r. ⌜ Answers (outcome (addAttribute owner (now (name .entry)) sort (now (value .entry))) (now (store .entry)) (length (now (out .entry)))) (now (out .entry)) (r .number) (r .length) (now (out .exit)) ⌝ }
+{
+    if !store_check::passes(store) {
+        return store_writer::refused(1);
+    }
+    let number = form_refusals::add_attribute_refusal(store, owner, name, sort, value);
+    if number != 0 {
+        return store_writer::refused(number);
+    }
+    write_added(store, owner, name, sort, value, out)
+}

@@ -1,0 +1,27 @@
+-- `attribute_form::form_of` meets its contract.
+use native.Mathlib.Omega.{arith}
+use Rattle.store_writer.proofs.StoreLaws.{holds}
+use Rattle.store_writer.proofs.FormLaws.{start-within}
+use Rattle.attribute_form.proofs.FormParts.{form-at}
+use borrow.Author.Needs.{needs}
+use Rattle.attribute_form.proofs.form_of.Statement.{statement}
+use Rattle.attribute_form.proofs.form_of.Tie as tie
+
+header-size-requires : tie.Need-header-size-requires
+header-size-requires c κs = search needs
+
+row-start-requires : tie.Need-row-start-requires
+row-start-requires c κs = search needs
+
+sub-window : tie.Need-sub-window
+sub-window c = omega (arith, start-within (holds _ (c .before .before .before .pre)) (c .row-start .ensures), c .before .header-size .ensures)
+
+window-requires : tie.Need-window-requires
+window-requires c κs = search needs
+
+returns : tie.Need-returns
+returns c = form-at (c .before .before .before .before .pre) (c .before .before .header-size .ensures) (c .before .row-start .ensures) (c .window .ensures)
+
+pub form-of-spec : {M : Type 1} → statement M
+form-of-spec =
+    tie.close (tie.spec header-size-requires row-start-requires sub-window window-requires returns)

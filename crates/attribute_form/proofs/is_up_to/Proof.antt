@@ -1,0 +1,27 @@
+-- `attribute_form::is_up_to` meets its contract.
+use native.Mathlib.Omega.{arith}
+use Rattle.attribute_form.proofs.CountLaws.{up-to, past-it}
+use borrow.Author.Needs.{needs}
+use Rattle.attribute_form.proofs.is_up_to.Statement.{statement}
+use Rattle.attribute_form.proofs.is_up_to.Tie as tie
+
+owner-byte-requires : tie.Need-owner-byte-requires
+owner-byte-requires c κs = search needs
+
+cast-of : tie.Need-cast-of
+cast-of c = search needs
+
+returns : tie.Need-returns
+returns c = up-to (c .before .before .before .args .owner) (c .before .before .before .args .rec .now) (c .before .owner-byte .ensures) (omega arith)
+
+returns-2 : tie.Need-returns-2
+returns-2 c = past-it (c .before .before .before .args .owner) (c .before .before .before .args .rec .now) (c .before .owner-byte .ensures) (omega arith)
+
+pub is-up-to-spec : {M : Type 1} → statement M
+is-up-to-spec =
+    tie.close
+    (tie.spec
+    owner-byte-requires
+    cast-of
+    returns
+    returns-2)

@@ -1,0 +1,3 @@
+pub mod Created
+pub mod CreatedBytes
+pub mod CreateCall

@@ -1,0 +1,29 @@
+use Rattle.create_definition_call.proofs.CreateCall.{bad-name, bad-code, name-taken, name-free}
+use borrow.Author.Tests.{not-true, not-false}
+use native.Mathlib.Omega.{arith}
+use borrow.Author.Needs.{needs}
+use Rattle.create_definition_call.proofs.create_condition.Statement.{statement}
+use Rattle.create_definition_call.proofs.create_condition.Tie as tie
+
+stored-name-requires : tie.Need-stored-name-requires
+stored-name-requires c κs = search needs
+
+returns : tie.Need-returns
+returns c = bad-name (c .before .before .before .before .args .store .now) (c .before .before .before .before .args .name .now) (c .before .before .before .before .args .kind) (c .before .before .before .before .pre) (c .before .stored-name .ensures) (not-true _ (c .if1 .taken))
+
+returns-2 : tie.Need-returns-2
+returns-2 c = bad-code (c .before .before .before .before .before .args .store .now) (c .before .before .before .before .before .args .name .now) (c .before .before .before .before .before .args .kind) (c .before .before .before .before .before .pre) (c .before .before .stored-name .ensures) (not-false _ (c .before .if1 .left)) (omega arith)
+
+is-taken-requires : tie.Need-is-taken-requires
+is-taken-requires c κs = search needs
+
+returns-3 : tie.Need-returns-3
+returns-3 c = name-taken (c .before .before .before .before .before .before .before .args .store .now) (c .before .before .before .before .before .before .before .args .name .now) (c .before .before .before .before .before .before .before .args .kind) (c .before .before .before .before .before .before .before .pre) (c .before .before .before .before .stored-name .ensures) (not-false _ (c .before .before .before .if1 .left)) (omega arith) (c .before .is-taken .ensures) (c .if3 .taken)
+
+returns-4 : tie.Need-returns-4
+returns-4 c = name-free (c .before .before .before .before .before .before .before .args .store .now) (c .before .before .before .before .before .before .before .args .name .now) (c .before .before .before .before .before .before .before .args .kind) (c .before .before .before .before .before .before .before .pre) (c .before .before .before .before .stored-name .ensures) (not-false _ (c .before .before .before .if1 .left)) (omega arith) (c .before .is-taken .ensures) (c .if3 .left)
+
+pub create-condition-spec : {M : Type 1} → statement M
+create-condition-spec =
+    tie.close
+    (tie.spec stored-name-requires returns returns-2 is-taken-requires returns-3 returns-4)

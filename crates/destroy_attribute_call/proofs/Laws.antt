@@ -1,0 +1,114 @@
+-- What change 10 asks of the writer, and what it answers.
+use Prim.Native.Nat.{ℕ, suc, _+_, _-_, _*_, _<_, _≤_}
+use native.Mathlib.Omega.{arith}
+use native.Mathlib.Numerals.{add-one}
+use mathlib.Core.Path.{_≡_, refl, sym, ap, _∙_, subst}
+use mathlib.Core.Logic.{⊎-elim}
+use mathlib.Core.Bool.{Bool, true, false, not, false≢true}
+use mathlib.Core.Option.{Option, none}
+use mathlib.Core.List.{[], _++_}
+use lib.ListN.{length, take, drop}
+use Rattle.rules.specs.Bytes.{Bytes}
+use Rattle.rules.specs.Layout.{definitionSize, particleSize, attributeSize, FlatStore, flat, attributeBytes, each}
+use Rattle.rules.specs.Decode.{definitionCount, particleCount, attributeCount}
+use Rattle.rules.specs.WellFormed.{isValue}
+use Rattle.rules.specs.Passing.{passes}
+use Rattle.rules.specs.Change.{destroyAttribute, Owned, after}
+use Rattle.rules.specs.Refusal.{first, conditions, isOther}
+use Rattle.rules.specs.Outcome.{Answers}
+use Rattle.codec.specs.Laid.{Laid}
+use Rattle.codec.proofs.Writers.{laid-then, laid-as}
+use Rattle.layout.specs.Bodies.{widthOf, Number}
+use Rattle.layout.proofs.LayoutLaws.{width-within}
+use Rattle.lookup.specs.Bodies.{bodiesOf}
+use Rattle.store_check.proofs.AttributeBlocks.{below-or}
+use Rattle.row_walk.specs.declared.Plan.{Plan}
+use Rattle.store_writer.specs.Stores.{storeIn, limited}
+use Rattle.store_writer.specs.Planned.{plannedIn}
+use Rattle.store_writer.specs.Forms.{formBytes, formIn, Forms}
+use Rattle.store_writer.specs.Writing.{Sized}
+use Rattle.store_writer.proofs.StoreLaws.{Holds, holds}
+use Rattle.store_writer.proofs.CallLaws.{answers-as, passed}
+use Rattle.store_writer.proofs.FormBytesLaws.{form-short}
+use Rattle.store_writer.proofs.FormLaws.{FormOf, forms-of, form-answers, within, good-bodies, counted-attributes}
+use Rattle.document_refusals.proofs.StoreFacts.{Whole, whole, no-value}
+use Rattle.document_refusals.proofs.AttributeRefusals.{unowned}
+use Rattle.plans.specs.AttributeCalls.{ownerAt, destroyAttributePlan, attributeDropped}
+use Rattle.plans.proofs.CallsPlanned.{none-holds}
+use Rattle.plans.proofs.FormsAfter.{dropped-form}
+use Rattle.plans.proofs.AttributeCallsPlanned.{destroy-attribute-planned}
+use Rattle.attribute_form.specs.Attributes.{Stands}
+use Rattle.attribute_form.proofs.FormParts.{front-then, form-from, before-is, fits, front-laid}
+use Rattle.attribute_form.proofs.CountLaws.{count-definitions, count-particles, count-attributes}
+use Rattle.destroy_attribute_call.specs.Dropped.{Droppable, dropped}
+
+-- ---- no condition holds
+module _ (bs : Bytes) {b : Bool} {m : ℕ} (h : not b ≡ false) (e : b ≡ passes bs) where
+  pub droppable : (a : ℕ) → m ≡ first (conditions (destroyAttribute a) (storeIn bs)) → m ≡ 0 → Droppable bs a
+  unfolding conditions
+  droppable a f z =
+      let (there, end) = none-holds (destroyAttribute a) (storeIn bs) (sym f ∙ z) in
+      let w : Whole bs = whole bs (passed bs h e) in
+      let l : a < attributeCount bs = ⊎-elim (λ (x : a < attributeCount bs). x) (λ (x : attributeCount bs ≤ a). absurd (false≢true (sym there ∙ ap (λ (o : Option Owned). isOther o none) (unowned bs w a x)))) (below-or a (attributeCount bs)) in
+      record { passes = passed bs h e; inside = omega (arith, counted-attributes bs); small = omega (arith, w .fewAttributes) }
+
+module _ (bs : Bytes) (q : passes bs ≡ true) where
+  pub destroy-leaves : (a : ℕ) → first (conditions (destroyAttribute a) (storeIn bs)) ≡ 0 → flat (after (destroyAttribute a) (storeIn bs)) ≡ dropped a [] (bodiesOf bs)
+  unfolding dropped
+  destroy-leaves a e = let kept : Holds bs = holds bs q in destroy-attribute-planned (storeIn bs) (kept .good) a [] e ∙ sym (ap (dropped a []) (kept .bodies))
+
+-- ---- the bytes of the new form
+module _ {w : ℕ} (f : FlatStore) (i : ℕ) {form : Bytes} {at : ℕ} (same : form ≡ formBytes w f) (s : Stands w f i at) {u out out₁ : Bytes} {r₁ : ℕ} (u-is : u ≡ take at form)
+    (x : Laid u out 0 r₁ out₁) where
+  -- past: where the next attribute stands
+  pub dropped-laid : i < length (f .attributes) → {past r₂ : ℕ} {v out₂ : Bytes} → Stands w f (i + 1) past → v ≡ drop past form → Laid v out₁ r₁ r₂ out₂
+      → Laid (formBytes w (attributeDropped i f)) out 0 r₂ out₂
+  dropped-laid h {past} {v = v} q v-is y =
+      let e : v ≡ each (attributeBytes w) (drop (suc i) (f .attributes)) =
+      v-is ∙ ap (drop past) same ∙ form-from w f (suc i) past
+      (q .place ∙ ap (λ (k : ℕ). definitionSize * length (f .definitions) + (particleSize * length (f .particles) + attributeSize w * k)) (add-one i)) (omega arith)
+      in
+      laid-as (front-then w f i (drop (suc i) (f .attributes)) ∙ (λ j. sym (before-is f i same s u-is x (omega arith)) j ++ sym e j)) (laid-then x y)
+
+-- ---- the store that is left
+module _ (bs : Bytes) (a : ℕ) (x : Droppable bs a) where
+  stays : Holds bs
+  stays = holds bs (x .passes)
+
+  module _ {d p count o r : ℕ} {q : Plan} {buffer left : Bytes} (cd : Number (definitionCount bs) d) (cp : Number (particleCount bs) p) (ca : Number (attributeCount bs) count) (own : o ≡ ownerAt a (bodiesOf bs .attributes)) (same : q ≡ destroyAttributePlan o a)
+      (long : length buffer ≡ 9728) (y : Laid (formBytes (widthOf bs) (attributeDropped a (bodiesOf bs))) buffer 0 r left) where
+    without-bytes : {form : Bytes} → form ≡ formBytes (widthOf bs) (attributeDropped a (bodiesOf bs)) → FormOf (widthOf bs) (attributeDropped a (bodiesOf bs)) form d p (count - 1)
+    without-bytes e =
+        dropped-form a (bodiesOf bs) (good-bodies stays) (within stays) (x .inside) e (count-definitions bs cd) (count-particles bs cp)
+        (omega (arith, count-attributes bs ca, x .inside))
+
+    less-room : length (formBytes (widthOf bs) (attributeDropped a (bodiesOf bs))) ≤ 9728
+    less-room = form-short (forms-of (without-bytes refl)) (width-within bs)
+
+    pub dropped-fits : r ≤ length left
+    dropped-fits = fits long less-room y
+
+    pub dropped-long : r ≡ length (take r left)
+    dropped-long = omega (arith, y .next, ap length (front-laid y (omega (arith, long, less-room))))
+
+    without : FormOf (widthOf bs) (attributeDropped a (bodiesOf bs)) (take r left) d p (count - 1)
+    without = without-bytes (front-laid y (omega (arith, long, less-room)))
+
+    pub dropped-asks : (passes bs ≡ true) × (isValue (widthOf bs) [] ≡ true) × Sized q × Forms (widthOf bs) (take r left) d p (count - 1)
+    dropped-asks = (
+      x .passes,
+      no-value bs,
+      subst Sized (sym same) (record { moves = record { definitions = record { more = omega arith }; attributes = record { more = omega arith } }; filling = tt }),
+      forms-of without,
+    )
+
+    pub dropped-answers : (room : ℕ) {out : Bytes} {number len : ℕ} {end : Bytes}
+        → Answers (limited room (plannedIn (formIn (widthOf bs) (take r left) d p (count - 1)) q [] (bodiesOf bs))) out number len end
+        → Answers (limited room (dropped a [] (bodiesOf bs))) out number len end
+    unfolding dropped
+    dropped-answers room z =
+        let f : FlatStore = bodiesOf bs in
+        answers-as
+        (ap (limited room)
+        (ap (λ (j : ℕ). plannedIn (attributeDropped a f) (destroyAttributePlan j a) [] f) (sym own) ∙ ap (λ (s : Plan). plannedIn (attributeDropped a f) s [] f) (sym same)))
+        (form-answers without q [] f room z)

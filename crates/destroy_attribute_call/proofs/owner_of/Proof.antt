@@ -1,0 +1,37 @@
+-- `destroy_attribute_call::owner_of` meets its contract.
+use native.Mathlib.Omega.{arith}
+use Rattle.attribute_form.proofs.CountLaws.{owner-is}
+use borrow.Author.Needs.{needs}
+use Rattle.destroy_attribute_call.proofs.owner_of.Statement.{statement}
+use Rattle.destroy_attribute_call.proofs.owner_of.Tie as tie
+
+width-in-requires : tie.Need-width-in-requires
+width-in-requires c κs = search needs
+
+attributes-of-requires : tie.Need-attributes-of-requires
+attributes-of-requires c κs = search needs
+
+attribute-at-requires : tie.Need-attribute-at-requires
+attribute-at-requires c κs = (c .before .width-in .ensures .small, omega (arith, c .before .before .before .pre .small))
+
+attribute-owner-requires : tie.Need-attribute-owner-requires
+attribute-owner-requires c κs = search needs
+
+returns : tie.Need-returns
+returns c =
+    let at-attribute-at = c .before in
+    let at-attributes-of = at-attribute-at .before in
+    let at-width-in = at-attributes-of .before in
+    let start = at-width-in .before .before in
+    owner-is (start .args .store .now) (at-width-in .width-in .ensures) (at-attributes-of .attributes-of .ensures) (start .args .attribute) (start .pre .inside)
+    (at-attribute-at .attribute-at .ensures) (c .attribute-owner .ensures)
+
+pub owner-of-spec : {M : Type 1} → statement M
+owner-of-spec =
+    tie.close
+    (tie.spec
+    width-in-requires
+    attributes-of-requires
+    attribute-at-requires
+    attribute-owner-requires
+    returns)

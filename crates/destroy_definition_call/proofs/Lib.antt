@@ -1,0 +1,2 @@
+pub mod DestroyLimits
+pub mod DestroyCall

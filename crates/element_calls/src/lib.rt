@@ -1,0 +1,64 @@
+//! Changes 11 to 13: a document or an element added, and one destroyed. Each call is the check, the first refusal that applies, and
+//! the plan of the change.
+use filling::Filling;
+use row_walk::Later;
+use row_walk::Which;
+use store_writer::Answer;
+ghost use lib.ListN.{length};
+ghost use Rattle.rules.specs.Change.{addDocument, addElement, destroyElement};
+ghost use Rattle.rules.specs.Outcome.{outcome, Answers};
+
+/// 11: a new last document, the filling of a definition.
+pub fn add_document(store: &[u8], definition: u32, text: &[u8], out: &mut [u8]) -> Answer
+    ensures { λ r. ⌜ Answers (outcome (addDocument definition (now (text .entry))) (now (store .entry)) (length (now (out .entry)))) (now (out .entry)) (r .number) (r .length) (now (out .exit)) ⌝ }
+{
+    if !store_check::passes(store) {
+        return store_writer::refused(1);
+    }
+    let number = document_refusals::add_document_refusal(store, definition, text);
+    if number != 0 {
+        return store_writer::refused(number);
+    }
+    let filling = Filling::Definition(definition as usize);
+    let plan = plans::filling_plan(Which::Ground, Later::Never, filling);
+    store_writer::edit(store, plan, text, out)
+}
+
+/// 12: adds the filling of a definition as child number `child` of an element.
+pub fn add_element(
+    store: &[u8],
+    parent: u32,
+    child: u32,
+    definition: u32,
+    text: &[u8],
+    out: &mut [u8],
+) -> Answer
+    ensures { λ r. ⌜ Answers (outcome (addElement parent child definition (now (text .entry))) (now (store .entry)) (length (now (out .entry)))) (now (out .entry)) (r .number) (r .length) (now (out .exit)) ⌝ }
+{
+    if !store_check::passes(store) {
+        return store_writer::refused(1);
+    }
+    let number = document_refusals::add_element_refusal(store, parent, child, definition, text);
+    if number != 0 {
+        return store_writer::refused(number);
+    }
+    let row = document_refusals::child_serial(store, parent, child);
+    let filling = Filling::Definition(definition as usize);
+    let plan = plans::filling_plan(Which::Serial(parent), Later::Row(row), filling);
+    store_writer::edit(store, plan, text, out)
+}
+
+/// 13: destroys an element with all below it, or a whole document.
+pub fn destroy_element(store: &[u8], element: u32, out: &mut [u8]) -> Answer
+    ensures { λ r. ⌜ Answers (outcome (destroyElement element) (now (store .entry)) (length (now (out .entry)))) (now (out .entry)) (r .number) (r .length) (now (out .exit)) ⌝ }
+{
+    if !store_check::passes(store) {
+        return store_writer::refused(1);
+    }
+    let number = document_refusals::destroy_element_refusal(store, element);
+    if number != 0 {
+        return store_writer::refused(number);
+    }
+    let plan = plans::taking_plan(Which::Everything, Which::Serial(element));
+    store_writer::edit(store, plan, &store[..0], out)
+}

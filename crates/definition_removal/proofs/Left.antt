@@ -17,7 +17,7 @@ use Rattle.rules.specs.Passing.{passes}
 use Rattle.codec.specs.Laid.{Laid}
 use Rattle.codec.proofs.Writers.{laid-as}
 use Rattle.codec.proofs.Records.{many-at}
-use Rattle.row_check.specs.Reading.{definitionIn, particlesBefore}
+use Rattle.form_index.specs.Reading.{definitionIn, particlesBefore}
 use Rattle.store_check.specs.Reading.{noDefinition}
 use Rattle.lookup.specs.Bodies.{bodiesOf}
 use Rattle.layout.specs.Bodies.{widthOf, WidthIn, Number, definitionsIn, particlesIn, attributesIn, rowsIn}

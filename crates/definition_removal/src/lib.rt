@@ -182,7 +182,7 @@ fn model_start(store: &[u8], i: u32) -> usize
     requires { ⌜ (passes (now store) ≡ true) × (i ≤ definitionCount (now store)) ⌝ }
     ensures { λ r. ⌜ Counted (particlesOf i (bodiesOf (now (store .entry)) .definitions)) (particleCount (now (store .entry))) r ⌝ }
 {
-    row_check::particles_before(layout::definitions_of(store), i as usize)
+    form_index::particles_before(layout::definitions_of(store), i as usize)
 }
 
 // How many attributes the first i definitions have.

@@ -28,9 +28,9 @@ use Rattle.history.proofs.Rowwise.{Standing}
 use Rattle.history.proofs.FormLaws.{attribute-owned, owner-found, owner-at, owner-below}
 use Rattle.history.proofs.Untouched.{keep-in}
 use Rattle.history.proofs.StandingLaws.{serialOf, standing-every, found-element, children-are, children-given}
-use Rattle.row_check.specs.Indices.{IndexForm}
+use Rattle.form_index.specs.Indices.{IndexForm}
 use Rattle.layout.specs.Bodies.{widthOf, WidthIn, attributesIn}
-use Rattle.row_check.specs.Reading.{attributeIn}
+use Rattle.form_index.specs.Reading.{attributeIn}
 use Rattle.store_check.proofs.IndexLaws.{known-index, index-once}
 use Rattle.store_check.proofs.AttributeBlocks.{Entry, Block, offset, below-or}
 use Rattle.store_check.proofs.AttributeRows.{rowWritten, index-written}

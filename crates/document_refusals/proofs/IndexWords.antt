@@ -20,7 +20,7 @@ use Rattle.rules.specs.Change.{definitionAt}
 use Rattle.history.proofs.RowEdits.{keep}
 use Rattle.model.specs.Steps.{runs}
 use Rattle.model.proofs.FactsLaws.{runs-accepts}
-use Rattle.row_check.specs.Indices.{IndexForm}
+use Rattle.form_index.specs.Indices.{IndexForm}
 use Rattle.store_check.specs.Reading.{Agrees}
 use Rattle.store_check.proofs.IndexLaws.{namesOf, known-index}
 use Rattle.store_check.proofs.ElementReads.{accepted}

@@ -16,7 +16,7 @@ use Rattle.rules.specs.WellFormed.{isValue, lookup}
 use Rattle.rules.specs.Change.{addDocument, setText}
 use Rattle.rules.specs.Refusal.{Condition, _if_, conditions, badText, isPcdata, pcdataElement}
 use Rattle.layout.specs.Bodies.{widthOf, WidthIn, Number, definitionsIn, rowsIn}
-use Rattle.row_check.specs.Reading.{definitionIn}
+use Rattle.form_index.specs.Reading.{definitionIn}
 use Rattle.store_writer.specs.Stores.{storeIn}
 use Rattle.document_refusals.specs.Finding.{ElementAt, ParentAt, RowOf, kindAt, Gives}
 use Rattle.document_refusals.proofs.SuffixLaws.{rowAt}

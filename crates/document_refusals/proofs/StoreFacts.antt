@@ -34,8 +34,8 @@ use Rattle.history.proofs.StandingLaws.{serialOf, standing-every, standing-line
 use Rattle.lookup.specs.Bodies.{bodiesOf}
 use Rattle.layout.specs.Bodies.{widthOf, definitionsIn, particlesIn, attributesIn, rowsIn}
 use Rattle.lookup.proofs.Laws.{from-step, from-none, from-all}
-use Rattle.row_check.specs.Indices.{IndexForm}
-use Rattle.row_check.specs.Reading.{indexForm}
+use Rattle.form_index.specs.Indices.{IndexForm}
+use Rattle.form_index.specs.Reading.{indexForm}
 use Rattle.store_check.specs.Reading.{Agrees}
 use Rattle.store_check.proofs.IndexLaws.{Indexed, known-index}
 use Rattle.store_check.proofs.AttributeBlocks.{below-or}

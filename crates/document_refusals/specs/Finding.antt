@@ -16,7 +16,7 @@ use Rattle.lookup.specs.Bodies.{recordsFrom}
 use Rattle.model.specs.Members.{membersOf}
 use Rattle.model.specs.Steps.{runs}
 use Rattle.layout.specs.Bodies.{widthOf, recordAt, definitionsIn, particlesIn, rowsIn}
-use Rattle.row_check.specs.Reading.{definitionIn, modelPart}
+use Rattle.form_index.specs.Reading.{definitionIn, modelPart}
 
 -- the rows of a body at a width, from number i on, `count` in all
 abbrev pub rowsFrom : ℕ → Bytes → ℕ → ℕ → List (Deep FlatRow)

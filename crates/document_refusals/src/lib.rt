@@ -12,7 +12,7 @@ ghost use Rattle.rules.specs.Refusal.{first, conditions, noElement, rowsOf};
 ghost use Rattle.rules.specs.Layout.{rowSize};
 ghost use Rattle.rules.specs.Decode.{readRow};
 ghost use Rattle.layout.specs.Bodies.{Width, widthOf, recordAt, attributesIn, rowsIn};
-ghost use Rattle.row_check.specs.Reading.{attributeIn};
+ghost use Rattle.form_index.specs.Reading.{attributeIn};
 ghost use Rattle.store_writer.specs.Stores.{storeIn};
 ghost use Rattle.plans.specs.CallPlans.{attributeSerial};
 ghost use Rattle.model.specs.Members.{membersOf};
@@ -329,7 +329,7 @@ fn model_at(store: &[u8], i: usize) -> &[u8]
     requires { ⌜ RowOf (now store) i ⌝ }
     ensures { λ r. ⌜ membersOf (now r) ≡ modelAt (now (store .entry)) i ⌝ }
 {
-    row_check::model_part(
+    form_index::model_part(
         layout::definitions_of(store),
         layout::particles_of(store),
         definition_at(store, i),
@@ -361,7 +361,7 @@ fn kind_at(store: &[u8], i: usize) -> u8
     requires { ⌜ RowOf (now store) i ⌝ }
     ensures { λ r. ⌜ r ≡ kindAt (now (store .entry)) i ⌝ }
 {
-    row_check::kind_of(layout::definitions_of(store), definition_at(store, i))
+    form_index::kind_of(layout::definitions_of(store), definition_at(store, i))
 }
 
 /// Refusals 3 and 6 of the change that adds a document.
@@ -545,7 +545,7 @@ pub fn set_attribute_refusal(store: &[u8], element: u32, attribute: u32, value: 
         return refusal;
     }
     let attrs = layout::attributes_of(store);
-    if !row_check::value_may(w, attrs, attribute as usize, value) {
+    if !form_index::value_may(w, attrs, attribute as usize, value) {
         return 15;
     }
     0
@@ -567,7 +567,7 @@ pub fn destroy_attribute_row_refusal(store: &[u8], element: u32, attribute: u32)
     let version = layout::version_in(store);
     let w = layout::width_in(store);
     let attrs = layout::attributes_of(store);
-    if row_check::needs(
+    if form_index::needs(
         version,
         w,
         attrs,

@@ -27,9 +27,9 @@ use Rattle.model.specs.declared.Particle.{Particle}
 use Rattle.model.specs.Particle.{whatOf, particleOf}
 use Rattle.model.specs.Members.{indexMember, membersFrom, membersOf}
 use Rattle.model.proofs.MembersLaws.{members-few, members-deeper, members-stop, members-here}
-use Rattle.row_check.specs.Indices.{IndexForm}
+use Rattle.form_index.specs.Indices.{IndexForm}
 use Rattle.layout.specs.Bodies.{recordAt}
-use Rattle.row_check.specs.Reading.{definitionIn, attributeIn, particlesBefore, modelPart, attributesOf, indexForm}
+use Rattle.form_index.specs.Reading.{definitionIn, attributeIn, particlesBefore, modelPart, attributesOf, indexForm}
 use Rattle.row_writer.specs.declared.Cursor.{Cursor}
 use Rattle.row_writer.specs.Written.{Written, Room, newRow}
 use Rattle.row_writer.proofs.WrittenLaws.{written-none, written-then, written-as, written-room, written-long}

@@ -19,8 +19,8 @@ use Rattle.model.specs.declared.What.the-variants.{Element, Group}
 use Rattle.model.specs.Particle.{particleOf}
 use Rattle.model.specs.Members.{membersFrom, membersOf}
 use Rattle.layout.specs.Bodies.{Width}
-use Rattle.row_check.specs.Indices.{IndexForm}
-use Rattle.row_check.specs.Reading.{definitionIn, attributeIn, modelPart, attributesOf, indexForm}
+use Rattle.form_index.specs.Indices.{IndexForm}
+use Rattle.form_index.specs.Reading.{definitionIn, attributeIn, modelPart, attributesOf, indexForm}
 use Rattle.row_writer.specs.declared.Cursor.{Cursor}
 use Rattle.row_writer.specs.Written.{Room}
 use Rattle.filling.specs.declared.Filling.{Filling}

@@ -9,7 +9,7 @@ ghost use lib.ListN.{length, getD};
 ghost use Rattle.rules.specs.Decode.{quantifierOf};
 ghost use Rattle.rules.specs.Model.{skips, neutral, nothing, filling};
 ghost use Rattle.model.specs.Members.{membersFrom};
-ghost use Rattle.row_check.specs.Reading.{attributeIn, indexForm};
+ghost use Rattle.form_index.specs.Reading.{attributeIn, indexForm};
 ghost use Rattle.layout.specs.Bodies.{Width};
 ghost use Rattle.row_writer.specs.Written.{Room, Written, newRow};
 ghost use Rattle.filling.specs.Fillings.{groupFilled, fillingRows};
@@ -164,7 +164,7 @@ fn put_attribute(
     requires { ⌜ Width w × Room w (cursorIn (now c)) × (j < 64) × (depth < 256) ⌝ }
     ensures { λ _. ⌜ Written w (requiredAt version w (now (attrs .entry)) depth i j) (cursorIn (now (c .entry))) (now (out .entry)) (cursorIn (now (c .exit))) (now (out .exit)) ⌝ }
 {
-    if row_check::needs(version, w, attrs, i, j) {
+    if form_index::needs(version, w, attrs, i, j) {
         put_row(w, 2, depth, j, created_value(w, attrs, j), c, out);
     }
 }
@@ -303,12 +303,12 @@ fn put_below(
     requires { ⌜ (i ≤ 256) × Asks (widthIn (now sizes)) (cursorIn (now c)) (now (now text)) (countIn (now sizes)) h depth ⌝ }
     ensures { λ _. ⌜ Written (widthIn (now (sizes .entry))) (belowFilled (now (sizes .entry)) (now (form .entry)) (now (now (text .entry))) h depth i) (cursorIn (now (c .entry))) (now (out .entry)) (cursorIn (now (c .exit))) (now (out .exit)) ⌝ }
 {
-    let k = row_check::kind_of(form[0], i);
+    let k = form_index::kind_of(form[0], i);
     match k {
         0 => {}
         1 => put_row(sizes[0], 3, depth, 0, *text, c, out),
         _ => {
-            let s = row_check::model_part(form[0], form[1], i);
+            let s = form_index::model_part(form[0], form[1], i);
             put_group(
                 s,
                 0,

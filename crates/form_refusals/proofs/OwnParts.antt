@@ -23,7 +23,7 @@ use Rattle.model.proofs.ParticleLaws.{particles-part}
 use Rattle.model.proofs.PositionLaws.{spread-named}
 use Rattle.form_check.specs.Bodies.{definitions, particles, formOf}
 use Rattle.form_check.proofs.Reading.{definitions-length}
-use Rattle.row_check.specs.Reading.{definitionIn, particlesBefore, modelPart}
+use Rattle.form_index.specs.Reading.{definitionIn, particlesBefore, modelPart}
 use Rattle.store_check.specs.Reading.{FieldsFit, partAt, noDefinition}
 use Rattle.store_check.specs.Check.{FormPasses}
 use Rattle.store_check.proofs.IndexLaws.{namesOf}

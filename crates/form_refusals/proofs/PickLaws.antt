@@ -30,7 +30,7 @@ use Rattle.model.specs.Places.{Particles, noParticle, placeOf}
 use Rattle.model.specs.Positions.{elementParticle, groupParticle, spread, leading, trailing, level}
 use Rattle.model.proofs.ParticleLaws.{length-particles, particle-at}
 use Rattle.model.proofs.PositionLaws.{spread-plug, length-leading, code-quantifier}
-use Rattle.row_check.specs.Reading.{definitionIn, particlesBefore, modelPart}
+use Rattle.form_index.specs.Reading.{definitionIn, particlesBefore, modelPart}
 use Rattle.layout.specs.Bodies.{shapeOf, particleBody, definitionsIn, particlesIn}
 use Rattle.definition_writer.proofs.Encoded.{encoded}
 use Rattle.form_refusals.specs.declared.Picked.{Picked}

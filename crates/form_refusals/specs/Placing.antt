@@ -27,7 +27,7 @@ use Rattle.model.specs.Particle.{particleOf}
 use Rattle.model.specs.Members.{particlesOf, membersFrom}
 use Rattle.model.specs.Places.{top}
 use Rattle.model.specs.Positions.{spread, offset, holder}
-use Rattle.row_check.specs.Reading.{modelPart}
+use Rattle.form_index.specs.Reading.{modelPart}
 use Rattle.layout.specs.Bodies.{widthOf, definitionsIn, particlesIn, rowsIn}
 use Rattle.store_writer.specs.Stores.{storeIn}
 use Rattle.form_refusals.specs.declared.Picked.{Picked}

@@ -98,7 +98,7 @@ pub fn own_part(store: &[u8], owner: usize) -> &[u8]
 {
     let definitions = layout::definitions_of(store);
     let particles = layout::particles_of(store);
-    row_check::model_part(definitions, particles, owner)
+    form_index::model_part(definitions, particles, owner)
 }
 
 // What stands at particle p of the list h.

@@ -25,7 +25,7 @@ use Rattle.model.specs.declared.place.Holder.{Holder}
 use Rattle.model.specs.Members.{particlesOf}
 use Rattle.model.specs.Places.{Particles}
 use Rattle.model.proofs.ParticleLaws.{particles-part}
-use Rattle.row_check.specs.Reading.{definitionIn, particlesBefore}
+use Rattle.form_index.specs.Reading.{definitionIn, particlesBefore}
 use Rattle.layout.specs.Bodies.{widthOf, Number, definitionsIn, particlesIn, attributesIn}
 use Rattle.layout.proofs.LayoutLaws.{width-within}
 use Rattle.layout.proofs.HeaderLaws.{attributes-short}

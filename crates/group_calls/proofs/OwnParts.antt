@@ -15,7 +15,7 @@ use Rattle.rules.proofs.SmallBytes.{encode-small}
 use Rattle.codec.proofs.Records.{many-at}
 use Rattle.model.specs.Members.{particlesOf}
 use Rattle.form_check.specs.Bodies.{definitions, particles}
-use Rattle.row_check.specs.Reading.{definitionIn, particlesBefore, modelPart}
+use Rattle.form_index.specs.Reading.{definitionIn, particlesBefore, modelPart}
 use Rattle.store_check.specs.Reading.{noDefinition}
 use Rattle.layout.specs.Bodies.{definitionsIn, particlesIn}
 use Rattle.store_check.proofs.Parts.{before, before-is}

@@ -12,7 +12,7 @@ use Rattle.rules.specs.Passing.{passes}
 use Rattle.model.specs.declared.place.Holder.{Holder}
 use Rattle.model.specs.Members.{particlesOf}
 use Rattle.model.specs.Places.{Particles}
-use Rattle.row_check.specs.Reading.{definitionIn, particlesBefore}
+use Rattle.form_index.specs.Reading.{definitionIn, particlesBefore}
 use Rattle.layout.specs.Bodies.{definitionsIn, particlesIn}
 use Rattle.lookup.specs.Bodies.{bodiesOf}
 use Rattle.model_writer.specs.Spliced.{splicedForm}

@@ -53,7 +53,7 @@ fn own_after(store: &[u8], owner: usize, edit: Edit) -> usize
     ensures { λ r. ⌜ r ≡ lengthAfter (editOf edit) (countIn (now (store .entry)) owner) ⌝ }
 {
     let definitions = layout::definitions_of(store);
-    length_after(edit, row_check::particles_of(definitions, owner))
+    length_after(edit, form_index::particles_of(definitions, owner))
 }
 
 // How many particles a form has after an edit of a model.
@@ -62,7 +62,7 @@ fn all_after(store: &[u8], owner: usize, edit: Edit) -> usize
     ensures { λ r. ⌜ r ≡ particleCount (now (store .entry)) - countIn (now (store .entry)) owner + lengthAfter (editOf edit) (countIn (now (store .entry)) owner) ⌝ }
 {
     let definitions = layout::definitions_of(store);
-    let own = row_check::particles_of(definitions, owner);
+    let own = form_index::particles_of(definitions, owner);
     layout::particle_count(store) - own + length_after(edit, own)
 }
 
@@ -92,8 +92,8 @@ fn put_own(
 {
     let definitions = layout::definitions_of(store);
     let particles = layout::particles_of(store);
-    let first = row_check::particles_before(definitions, owner);
-    let k = row_check::particles_of(definitions, owner);
+    let first = form_index::particles_before(definitions, owner);
+    let k = form_index::particles_of(definitions, owner);
     model_writer::put_particles(particles, first, k, edit, holder, at, out, from)
 }
 

@@ -17,7 +17,7 @@ use Rattle.layout.specs.Bodies.{widthOf, definitionsIn, particlesIn}
 use Rattle.circle_check.specs.Members.{countAt, startAt, membersIn}
 use Rattle.circle_check.specs.Members as circles
 use Rattle.circle_check.proofs.CircleLaws.{Indexed}
-use Rattle.row_check.specs.Reading.{definitionIn, particlesBefore, modelPart}
+use Rattle.form_index.specs.Reading.{definitionIn, particlesBefore, modelPart}
 use Rattle.store_check.proofs.FormLaws.{members-indexed, part-room}
 use Rattle.store_check.proofs.StringChecks.{Headed, laid-in, passes-header, passes-in, same-form}
 use Rattle.store_check.proofs.IndexReads.{index-agrees}

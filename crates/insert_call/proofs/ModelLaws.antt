@@ -19,7 +19,7 @@ use Rattle.circle_check.specs.Members.{elementsOf, membersIn}
 use Rattle.circle_check.specs.Deep.{marked, firstPasses}
 use Rattle.circle_check.specs.Avoiding.{Avoids}
 use Rattle.circle_check.proofs.CircleLaws.{members-named}
-use Rattle.row_check.specs.Reading.{modelPart}
+use Rattle.form_index.specs.Reading.{modelPart}
 use Rattle.store_check.proofs.IndexLaws.{namesOf, lookup-at, name-of}
 use Rattle.store_check.proofs.ElementReads.{same-names}
 use Rattle.store_writer.specs.Stores.{storeIn}

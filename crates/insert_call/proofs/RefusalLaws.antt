@@ -26,7 +26,7 @@ use Rattle.model.specs.declared.place.Holder.{Holder}
 use Rattle.model.specs.declared.place.Found.{Found}
 use Rattle.model.specs.declared.place.Found.the-variants.{At, Absent}
 use Rattle.model.specs.Places.{placeOf}
-use Rattle.row_check.specs.Reading.{definitionIn}
+use Rattle.form_index.specs.Reading.{definitionIn}
 use Rattle.store_writer.specs.Stores.{storeIn}
 use Rattle.document_refusals.proofs.StoreFacts.{formIn}
 use Rattle.document_refusals.specs.Finding.{Gives}

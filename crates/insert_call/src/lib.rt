@@ -68,7 +68,7 @@ fn model_refusal(store: &[u8], o: usize, i: usize, needed: bool, unfilled: bool,
     requires { ⌜ (passes (now store) ≡ true) × (o < definitionCount (now store)) × (i < definitionCount (now store)) ⌝ }
     ensures { λ r. ⌜ r ≡ first (modelConditions o i needed unfilled off (storeIn (now (store .entry)))) ⌝ }
 {
-    if row_check::kind_of(layout::definitions_of(store), o) != 2 {
+    if form_index::kind_of(layout::definitions_of(store), o) != 2 {
         return 9;
     }
     if in_model(store, o, i) {

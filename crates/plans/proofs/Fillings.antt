@@ -23,7 +23,7 @@ use Rattle.rules.proofs.DecodeLaws.{unflat-flat, good-known, good-found}
 use Rattle.rules.proofs.PassingLaws.{good-is}
 use Rattle.rules.proofs.RenamingPlaces.{filling-rename}
 use Rattle.rules.proofs.FillingLaws.{fillBelow, fill-known, in-filling}
-use Rattle.row_check.specs.Indices.{IndexForm}
+use Rattle.form_index.specs.Indices.{IndexForm}
 use Rattle.store_check.specs.Reading.{entryOf, indexForm, Agrees}
 use Rattle.store_check.proofs.IndexLaws.{namesOf, index-name, lookup-at, name-of, definition-in}
 use Rattle.store_check.proofs.AttributeReads.{sort-of}

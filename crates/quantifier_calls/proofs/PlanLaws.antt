@@ -16,7 +16,7 @@ use Rattle.model.specs.Members.{particlesOf}
 use Rattle.model.specs.Particle.{particleOf, kindIn}
 use Rattle.model.specs.Places.{spanOf}
 use Rattle.model.proofs.ParticleLaws.{length-particles, span-bounded}
-use Rattle.row_check.specs.Reading.{particlesBefore}
+use Rattle.form_index.specs.Reading.{particlesBefore}
 use Rattle.layout.specs.Bodies.{definitionsIn}
 use Rattle.filling.specs.declared.Filling.the-variants.{Definition, Particles}
 use Rattle.row_walk.specs.declared.Plan.{Plan}

@@ -49,7 +49,7 @@ fn group_plan(store: &[u8], part: &[u8], owner: usize, h: Holder, p: usize, new:
     let old = x.quantifier;
     let what = x.what;
     let gain = h.spine & form_refusals::gains(old, new);
-    let before = row_check::particles_before(layout::definitions_of(store), owner);
+    let before = form_index::particles_before(layout::definitions_of(store), owner);
     let marks = place_marks::marks(part, p, group_span(part, h, p));
     let filling = Filling::Particles(model::automaton::kind_in(what), before + p + 1, h.depth + 1);
     plans::requantify_plan(owner, marks, false, 0, gain, filling)

@@ -9,10 +9,11 @@ use lib.Dec.{ltb, leb, eqb}
 use borrow.Author.Tests.{lt-ltb, ltb-true, le-leb, leb-true, eq-eqb, eqb-true}
 use Rattle.rules.specs.Layout.{FlatRow}
 use Rattle.rules.proofs.Words.{and-both, and-split}
-use Rattle.row_check.specs.Indices.{IndexForm, indexIn, Owned, Whole}
-use Rattle.row_check.specs.Judge.{every, spare, attributeMay}
-use Rattle.row_check.proofs.Depths.{Side, below, at, above, side}
-use Rattle.row_check.proofs.Numbers.{every→, every←}
+use Rattle.form_index.specs.Indices.{IndexForm, indexIn, Owned, Whole}
+use Rattle.form_table.specs.Every.{every}
+use Rattle.next_row.specs.Judge.{spare, attributeMay}
+use Rattle.form_table.proofs.Numbers.{Side, below, at, above, side}
+use Rattle.form_table.proofs.Numbers.{every→, every←}
 
 module _ (f : IndexForm) (i : ℕ) where
   -- the attribute rows from a on, as the automaton takes them

@@ -14,8 +14,8 @@ use Rattle.rules.specs.Layout.{FlatRow}
 use Rattle.rules.proofs.Words.{and-both, and-split}
 use Rattle.rules.proofs.Correct.{accepts-conforms}
 use Rattle.model.proofs.FactsLaws.{runs-accepts}
-use Rattle.row_check.specs.Indices.{indexIn, Sort, ContentOf}
-use Rattle.row_check.specs.Judge.{childMay, childrenEnd}
+use Rattle.form_index.specs.Indices.{indexIn, Sort, ContentOf}
+use Rattle.next_row.specs.Judge.{childMay, childrenEnd}
 
 -- ---- rows of one sort
 pub sort-none : {s : ℕ} → Sort s []

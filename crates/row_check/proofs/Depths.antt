@@ -1,29 +1,14 @@
--- Depths: where a number stands to another, what `build` makes of the first row, and that the rows of a forest rise.
+-- Depths: what `build` makes of the first row, and that the rows of a forest rise.
 use Prim.Native.Nat.{ℕ, suc, _+_, _-_, _≤_, _<_}
 use native.Mathlib.Omega.{arith}
 use mathlib.Core.Path.{_≡_, refl, sym, subst}
-use mathlib.Core.Bool.{Bool, true, false}
+use mathlib.Core.Bool.{true}
 use mathlib.Core.List.{List, [], _∷_, _++_, append-assoc, append-nil}
-use lib.Dec.{ltb}
-use borrow.Author.Tests.{lt-ltb, le-ltb, le-leb, eq-eqb, ne-eqb, ltb-true, ltb-false}
+use borrow.Author.Tests.{lt-ltb, le-ltb, le-leb, eq-eqb, ne-eqb}
 use Rattle.rules.specs.Store.{Forest, bare, tree}
 use Rattle.rules.specs.Preorder.{Deep, flatten, build}
 use Rattle.rules.proofs.Words.{and-both}
 use Rattle.rules.proofs.PreorderLaws.{rising}
-
--- k is below, at, or above d
-pub data Side (k d : ℕ) : Type 0 where
-  below : k < d → Side k d
-  at : k ≡ d → Side k d
-  above : d < k → Side k d
-
-pub side : (k d : ℕ) → Side k d
-side k d = by (ltb k d) refl (ltb d k) refl
-  where
-    by : (a : Bool) → ltb k d ≡ a → (b : Bool) → ltb d k ≡ b → Side k d
-    by true e b f = below (ltb-true k d e)
-    by false e true f = above (ltb-true d k f)
-    by false e false f = let p = ltb-false k d e in let q = ltb-false d k f in at (omega arith)
 
 module _ {A : Type 0} where
   -- a row of depth k, a deeper one, one less deep

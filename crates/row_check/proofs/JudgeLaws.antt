@@ -13,10 +13,11 @@ use Rattle.rules.specs.Store.{Forest, bare, tree, heads}
 use Rattle.rules.specs.Preorder.{Deep}
 use Rattle.rules.specs.Layout.{FlatRow}
 use Rattle.rules.proofs.Words.{and-both, and-split}
-use Rattle.row_check.specs.declared.Level.{Level}
-use Rattle.row_check.specs.Indices.{IndexForm, Sort, Below, Everywhere, Documents}
+use Rattle.next_row.specs.declared.Level.{Level}
+use Rattle.form_index.specs.Indices.{IndexForm, Sort, Below, Everywhere, Documents}
 use Rattle.row_check.specs.Machine.{runs, Fine, machine}
-use Rattle.row_check.specs.Judge.{every, spare, attributeMay, childMay, childrenEnd, rowMay, after, entered, ground, judge}
+use Rattle.form_table.specs.Every.{every}
+use Rattle.next_row.specs.Judge.{spare, attributeMay, childMay, childrenEnd, rowMay, after, entered, ground, judge}
 use Rattle.row_check.proofs.MachineLaws.{Within, accepted}
 use Rattle.row_check.proofs.Attributes.{Taken, taken→, taken←}
 use Rattle.row_check.proofs.Children.{sort-none, sort-more, sort-first, sort-rest, child-not, walks, content→, content←}

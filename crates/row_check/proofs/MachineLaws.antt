@@ -14,8 +14,10 @@ use Rattle.rules.specs.Store.{Forest, heads}
 use Rattle.rules.specs.Preorder.{Deep, flatten, build}
 use Rattle.rules.proofs.Words.{and-both, and-split}
 use Rattle.rules.proofs.PreorderLaws.{rising, build-flatten, flatten-build}
-use Rattle.row_check.specs.Machine.{Automaton, runs, Fine, closed, opened, machine, keeps}
-use Rattle.row_check.proofs.Depths.{Side, below, at, above, side, build-same, build-less, build-more, flatten-rises}
+use Rattle.next_row.specs.Automaton.{Automaton}
+use Rattle.row_check.specs.Machine.{runs, Fine, closed, opened, machine, keeps}
+use Rattle.form_table.proofs.Numbers.{Side, below, at, above, side}
+use Rattle.row_check.proofs.Depths.{build-same, build-less, build-more, flatten-rises}
 
 -- all rows stand at depths below b
 abbrev pub Within : {A : Type 0} → ℕ → List (Deep A) → Type 0

@@ -16,11 +16,11 @@ use Rattle.rules.proofs.Words.{and-both, and-split}
 use Rattle.codec.proofs.Writers.{tail-seen}
 use Rattle.layout.proofs.LayoutLaws.{room-first, room-rest}
 use Rattle.records.specs.Records.{rowFits, eachFits}
-use Rattle.row_check.specs.declared.Level.{Level}
-use Rattle.row_check.specs.Indices.{IndexForm, Documents}
+use Rattle.next_row.specs.declared.Level.{Level}
+use Rattle.form_index.specs.Indices.{IndexForm, Documents}
 use Rattle.row_check.specs.Machine.{closed, opened, machine, keeps}
-use Rattle.row_check.specs.Judge.{ground, judge}
-use Rattle.row_check.specs.Reading.{rowsIn, fieldsFit, keepsOf, judged, noLevels, verdict}
+use Rattle.next_row.specs.Judge.{ground, judge}
+use Rattle.row_check.specs.Verdict.{rowsIn, fieldsFit, keepsOf, judged, noLevels, verdict}
 use Rattle.row_check.proofs.MachineLaws.{Within, machine-pops, machine-stops, machine-takes}
 use Rattle.row_check.proofs.JudgeLaws.{documents-judged}
 

@@ -12,10 +12,10 @@ use Rattle.rules.specs.Bytes.{Bytes}
 use Rattle.rules.specs.Layout.{rowSize}
 use Rattle.rules.specs.Decode.{readRow}
 use Rattle.records.specs.Records.{rowFits, eachFits}
-use Rattle.row_check.specs.Indices.{IndexForm}
+use Rattle.form_index.specs.Indices.{IndexForm}
 use Rattle.row_check.specs.Machine.{closed, machine}
-use Rattle.row_check.specs.Judge.{judge, ground}
-use Rattle.row_check.specs.Reading.{rowsIn, fieldsFit, judged, verdict}
+use Rattle.next_row.specs.Judge.{judge, ground}
+use Rattle.row_check.specs.Verdict.{rowsIn, fieldsFit, judged, verdict}
 use Rattle.row_check.specs.Steps.{State, start, mayStep, stepped, step, end, walk, ended}
 
 -- the tests of the first row, and those of the others

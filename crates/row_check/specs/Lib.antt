@@ -1,6 +1,3 @@
-pub mod Indices
 pub mod Machine
-pub mod Judge
-pub mod Reading
+pub mod Verdict
 pub mod Steps
-pub mod Table

@@ -7,13 +7,7 @@ use lib.Dec.{ltb, leb}
 use lib.ListN.{getD, set}
 use Rattle.rules.specs.Store.{Forest, bare, tree, heads}
 use Rattle.rules.specs.Preorder.{Deep}
-
--- What may stand below a row: the state that it opens with, whether a row may come next, the state after it, whether no more is owed.
-pub record Automaton (A S : Type 0) : Type 0 where
-  pub enter : A → S
-  pub may : S → A → Bool
-  pub next : S → A → S
-  pub ends : S → Bool
+use Rattle.next_row.specs.Automaton.{Automaton}
 
 module _ {A S : Type 0} (m : Automaton A S) where
   -- a whole list of rows, side by side

@@ -9,11 +9,11 @@ use Rattle.rules.specs.Bytes.{Bytes}
 use Rattle.rules.specs.Layout.{rowSize}
 use Rattle.rules.specs.Decode.{readRow}
 use Rattle.records.specs.Records.{rowFits}
-use Rattle.row_check.specs.declared.Level.{Level}
-use Rattle.row_check.specs.Indices.{IndexForm}
+use Rattle.form_index.specs.Indices.{IndexForm}
+use Rattle.next_row.specs.declared.Level.{Level}
 use Rattle.row_check.specs.Machine.{closed, opened}
-use Rattle.row_check.specs.Judge.{judge, ground}
-use Rattle.row_check.specs.Reading.{noLevels}
+use Rattle.next_row.specs.Judge.{judge, ground}
+use Rattle.row_check.specs.Verdict.{noLevels}
 
 -- a level for each depth, and how many are open
 pub record State : Type 0 where

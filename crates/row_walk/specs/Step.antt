@@ -8,7 +8,7 @@ use Rattle.rules.specs.Bytes.{Bytes}
 use Rattle.rules.specs.Preorder.{Deep}
 use Rattle.rules.specs.Layout.{FlatRow, rowSize}
 use Rattle.rules.specs.Decode.{readRow}
-use Rattle.row_check.specs.Reading.{indexForm}
+use Rattle.form_index.specs.Reading.{indexForm}
 use Rattle.layout.specs.Bodies.{Width}
 use Rattle.layout.specs.RowBytes.{valuedRow}
 use Rattle.row_writer.specs.declared.Cursor.{Cursor}

@@ -19,7 +19,7 @@ use Rattle.rules.specs.Conforming.{mustBePresent, allows}
 use Rattle.rules.specs.Change.{definitionAt}
 use Rattle.rules.proofs.Apart.{differs}
 use Rattle.rules.proofs.DecodeLaws.{attributeNames, length-own}
-use Rattle.row_check.specs.Indices.{IndexForm}
+use Rattle.form_index.specs.Indices.{IndexForm}
 use Rattle.store_check.specs.Reading.{entryOf, Agrees}
 use Rattle.store_check.proofs.IndexLaws.{namesOf, name-in, later-name}
 use Rattle.store_check.proofs.AttributeReads.{sort-of, own-owners, all-owners}

@@ -17,7 +17,7 @@ use Rattle.rules.specs.Conforming.{isAttribute, mustBePresent, allows, strip}
 use Rattle.rules.proofs.Words.{and-split}
 use Rattle.rules.proofs.ConformingLaws.{headAttribute, begins, strip-past, strip-take, begins-none, begins-other, begins-this}
 use Rattle.rules.proofs.DecodeLaws.{attributeNames}
-use Rattle.row_check.specs.Indices.{IndexForm, indexIn, Owned}
+use Rattle.form_index.specs.Indices.{IndexForm, indexIn, Owned}
 use Rattle.store_check.proofs.IndexLaws.{namesOf}
 use Rattle.store_check.proofs.AttributeBlocks.{Entry, Block}
 

@@ -20,10 +20,10 @@ use Rattle.model.specs.Members.{particlesOf, membersFrom, membersOf}
 use Rattle.records.specs.Records.{rowFits, eachFits}
 use Rattle.form_check.specs.Bodies.{definitions, particles, attributes, formOf}
 use Rattle.form_check.proofs.Reading.{definitions-length, attributes-length}
-use Rattle.row_check.specs.Indices.{IndexForm}
+use Rattle.form_index.specs.Indices.{IndexForm}
 use Rattle.layout.specs.Bodies.{recordAt, widthOf, definitionsIn, particlesIn, attributesIn, rowsIn}
-use Rattle.row_check.specs.Reading.{definitionIn, attributeIn, modelPart}
-use Rattle.row_check.specs.Reading as bytes
+use Rattle.form_index.specs.Reading.{definitionIn, attributeIn, modelPart}
+use Rattle.form_index.specs.Reading as bytes
 use Rattle.store_check.specs.Reading.{indexMembers, partAt, noDefinition, noAttribute, entryOf, formAt, indexForm}
 use Rattle.store_check.specs.Check.{FormPasses, FormIn, RowsPass, SerialsIn}
 use Rattle.store_check.proofs.FormLaws.{Laid}

@@ -24,8 +24,8 @@ use Rattle.circle_check.specs.declared.Heights.{Heights}
 use Rattle.circle_check.specs.Members.{membersIn}
 use Rattle.circle_check.specs.Deep.{Ranked}
 use Rattle.serial_check.specs.Serials.{serialsOf, fitting}
-use Rattle.row_check.specs.Indices.{Documents}
-use Rattle.row_check.specs.Reading.{indexForm}
+use Rattle.form_index.specs.Indices.{Documents}
+use Rattle.form_index.specs.Reading.{indexForm}
 use Rattle.store_check.specs.Check.{FormPasses, FormIn, RowsPass, RowsIn, SerialsIn}
 use Rattle.store_check.proofs.FormLaws.{Laid, circle-fit}
 use Rattle.store_check.proofs.StringChecks.{Headed, header, laid-in, rows-whole, passes-header, passes-in}

@@ -29,7 +29,7 @@ use Rattle.rules.proofs.BooleanLaws.{Every, every-append, every-in}
 use Rattle.rules.proofs.WellFormedLaws.{well-formed}
 use Rattle.rules.proofs.ConformingLaws.{Cut, strip-is, content-head}
 use Rattle.rules.proofs.DecodeLaws.{attributeNames}
-use Rattle.row_check.specs.Indices.{IndexForm, indexIn, Sort, ContentOf, Owned, Below}
+use Rattle.form_index.specs.Indices.{IndexForm, indexIn, Sort, ContentOf, Owned, Below}
 use Rattle.store_check.specs.Reading.{Agrees}
 use Rattle.store_check.proofs.IndexLaws.{namesOf, name-once, definition-in, known-index, distinct-unmap}
 use Rattle.store_check.proofs.AttributeBlocks.{Block, offset, block-at, block-first, block-found}

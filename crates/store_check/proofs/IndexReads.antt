@@ -17,8 +17,8 @@ use Rattle.model.specs.Members.{particlesOf, membersFrom, membersOf}
 use Rattle.model.specs.Members as model
 use Rattle.form_check.specs.Bodies.{definitions, particles, attributes, formOf}
 use Rattle.form_check.proofs.Reading.{definitions-length, attributes-length, particles-part}
-use Rattle.row_check.specs.Reading.{definitionIn, attributeIn, particlesBefore, modelPart}
-use Rattle.row_check.specs.Reading as bytes
+use Rattle.form_index.specs.Reading.{definitionIn, attributeIn, particlesBefore, modelPart}
+use Rattle.form_index.specs.Reading as bytes
 use Rattle.store_check.specs.Reading.{FieldsFit, indexMember, indexMembers, partAt, noDefinition, noAttribute, entryOf, formAt, Agrees}
 use Rattle.store_check.specs.Check.{FormPasses}
 use Rattle.store_check.proofs.IndexLaws.{namesOf, distinct-unmap}

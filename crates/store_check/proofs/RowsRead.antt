@@ -19,7 +19,7 @@ use Rattle.rules.specs.Change.{definitionAt}
 use Rattle.rules.proofs.BooleanLaws.{Every, every-in}
 use Rattle.rules.proofs.PreorderLaws.{build-flatten}
 use Rattle.rules.proofs.DecodeLaws.{attributeNames}
-use Rattle.row_check.specs.Indices.{IndexForm, Sort, Below, Under, Everywhere, Documents}
+use Rattle.form_index.specs.Indices.{IndexForm, Sort, Below, Under, Everywhere, Documents}
 use Rattle.store_check.specs.Reading.{Agrees, PlainRow, ReadsAs}
 use Rattle.store_check.proofs.IndexLaws.{namesOf, index-name, lookup-at, Indexed, known-index}
 use Rattle.store_check.proofs.AttributeReads.{every-left, every-right}

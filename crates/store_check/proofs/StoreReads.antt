@@ -24,7 +24,7 @@ use Rattle.rules.proofs.WellFormedLaws.{well-formed, no-circle}
 use Rattle.rules.proofs.PassingLaws.{good-is}
 use Rattle.rules.proofs.DecodeLaws.{attributeNames, unflat-flat, good-flat, good-known, good-found, passes-tests}
 use Rattle.form_check.specs.FormTests.{bodiesFit}
-use Rattle.row_check.specs.Indices.{IndexForm}
+use Rattle.form_index.specs.Indices.{IndexForm}
 use Rattle.store_check.specs.Reading.{FieldsFit, indexForm, Agrees, PlainRow, RowFits, ReadsAs, serialsIn, serialsFit, Checks, FlatPasses}
 use Rattle.store_check.proofs.IndexLaws.{namesOf}
 use Rattle.store_check.proofs.AttributeReads.{every-left, every-right}

@@ -31,7 +31,7 @@ use Rattle.form_check.specs.FormTests.{bodiesFit}
 use Rattle.form_check.specs.Bodies.{definitions, particles, attributes, formOf}
 use Rattle.form_check.proofs.Laws.{bodies-only}
 use Rattle.serial_check.specs.Serials.{serialOf, serialsOf, fitting}
-use Rattle.row_check.specs.Indices.{IndexForm, Documents}
+use Rattle.form_index.specs.Indices.{IndexForm, Documents}
 use Rattle.store_check.specs.Reading.{DefinitionFits, AttributeFits, FieldsFit, indexForm, Agrees, RowFits, serialsIn, serialsFit, Checks, FlatPasses}
 use Rattle.layout.specs.Bodies.{widthOf, shapeOf, attributesStart, rowsStart, definitionBody, particleBody, attributeBody, rowBody, definitionsIn, particlesIn, attributesIn, rowsIn}
 use Rattle.store_check.specs.Check.{FormIn, RowsPass, SerialsIn}

@@ -11,8 +11,8 @@ use Rattle.records.specs.Records.{definitionFits, attributeFits, rowFits, eachF
 use Rattle.form_check.specs.FormTests.{bodiesFit}
 use Rattle.form_check.specs.Bodies.{formOf}
 use Rattle.serial_check.specs.Serials.{serialsOf, fitting}
-use Rattle.row_check.specs.Indices.{IndexForm, Documents}
-use Rattle.row_check.specs.Reading.{indexForm}
+use Rattle.form_index.specs.Indices.{IndexForm, Documents}
+use Rattle.form_index.specs.Reading.{indexForm}
 
 -- ---- the form
 -- each record by itself, the records together, and no definition that reaches itself

@@ -18,7 +18,7 @@ use Rattle.rules.specs.Passing.{knownVersion}
 use Rattle.rules.specs.Change.{definitionAt}
 use Rattle.rules.proofs.BooleanLaws.{Every}
 use Rattle.form_check.specs.FormTests.{bodiesFit}
-use Rattle.row_check.specs.Indices.{IndexForm, Documents}
+use Rattle.form_index.specs.Indices.{IndexForm, Documents}
 
 -- ---- the fields of single records
 pub record DefinitionFits (d : FlatDefinition) : Type 0 where

@@ -20,7 +20,7 @@ use Rattle.rules.proofs.DecodeLaws.{value-width}
 use Rattle.rules.proofs.SmallBytes.{encode-small}
 use Rattle.records.specs.Records.{rowFits, eachFits}
 use Rattle.records.proofs.RecordLaws.{small-take, small-drop, row-canonical}
-use Rattle.row_check.specs.Reading as bytes
+use Rattle.form_index.specs.Reading as bytes
 use Rattle.store_check.proofs.StringChecks.{Headed, passes-header, laid-in, rows-whole, rows-small}
 use Rattle.store_check.proofs.BodiesRead.{rows-fit, read-form, read-attribute, read-rows}
 use Rattle.lookup.specs.Bodies.{bodiesOf}

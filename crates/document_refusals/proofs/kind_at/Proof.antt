@@ -1,7 +1,7 @@
 use mathlib.Core.Path.{ap₂, _∙_}
 use mathlib.Core.List.{List}
 use Prim.Native.Nat.{ℕ}
-use Rattle.row_check.specs.Reading.{definitionIn}
+use Rattle.form_index.specs.Reading.{definitionIn}
 use borrow.Author.Needs.{needs}
 use Rattle.document_refusals.proofs.kind_at.Statement.{statement}
 use Rattle.document_refusals.proofs.kind_at.Tie as tie

@@ -1,6 +1,6 @@
 use mathlib.Core.Path.{ap, _∙_}
 use Rattle.model.specs.Members.{membersOf}
-use Rattle.row_check.specs.Reading.{modelPart}
+use Rattle.form_index.specs.Reading.{modelPart}
 use borrow.Author.Needs.{needs}
 use Rattle.document_refusals.proofs.model_at.Statement.{statement}
 use Rattle.document_refusals.proofs.model_at.Tie as tie

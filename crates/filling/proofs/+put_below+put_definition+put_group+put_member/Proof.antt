@@ -32,8 +32,8 @@ use Rattle.filling.proofs.put_required.Reads as put-required-reads
 use Rattle.filling.proofs.put_row.Reads as put-row-reads
 use Rattle.model.proofs.read_particle.Reads as read-particle-reads
 use Rattle.model.proofs.skips.Reads as skips-reads
-use Rattle.row_check.proofs.kind_of.Reads as kind-of-reads
-use Rattle.row_check.proofs.model_part.Reads as model-part-reads
+use Rattle.form_index.proofs.kind_of.Reads as kind-of-reads
+use Rattle.form_index.proofs.model_part.Reads as model-part-reads
 use Rattle.filling.proofs.+put_below+put_definition+put_group+put_member.{statement}
 use Rattle.filling.proofs.+put_below+put_definition+put_group+put_member.Tie.{close}
 

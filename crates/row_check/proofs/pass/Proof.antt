@@ -2,7 +2,8 @@ use lib.ListN.{length}
 use lib.Seq.{length-take-le}
 use Rattle.rules.specs.Layout.{rowSize}
 use Rattle.layout.proofs.LayoutLaws.{room-first}
-use Rattle.row_check.specs.Reading.{indexForm, verdict}
+use Rattle.form_index.specs.Reading.{indexForm}
+use Rattle.row_check.specs.Verdict.{verdict}
 use mathlib.Core.Path.{refl, sym}
 use Prim.Native.Nat.{_+_, _*_}
 use borrow.Author.Tests.{not-true, not-false}

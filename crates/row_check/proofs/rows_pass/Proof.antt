@@ -1,4 +1,4 @@
-use Rattle.row_check.specs.Reading.{indexForm}
+use Rattle.form_index.specs.Reading.{indexForm}
 use Rattle.row_check.proofs.PassLaws.{verdict-says}
 use borrow.Author.Needs.{needs}
 use Rattle.row_check.proofs.rows_pass.Statement.{statement}

@@ -1,0 +1,34 @@
+use mathlib.Core.Path.{_∙_}
+use Rattle.form_index.proofs.ReadingLaws.{model-read}
+use borrow.Author.Needs.{needs}
+use Rattle.form_index.proofs.model_part.Statement.{statement}
+use Rattle.form_index.proofs.model_part.Tie as tie
+
+particles-before-requires : tie.Need-particles-before-requires
+particles-before-requires c κs = search needs
+
+mul-window : tie.Need-mul-window
+mul-window c = search needs
+
+particles-of-requires : tie.Need-particles-of-requires
+particles-of-requires c κs = search needs
+
+mul-window-2 : tie.Need-mul-window-2
+mul-window-2 c = search needs
+
+window-requires : tie.Need-window-requires
+window-requires c κs = search needs
+
+returns : tie.Need-returns
+returns c = let a = c .before .before .before .before .before .args in c .window .ensures ∙ model-read (a .defs .now) (a .parts .now) (a .i) _ _ (c .before .before .particles-before .ensures .0) (c .before .particles-of .ensures .0)
+
+pub model-part-spec : {M : Type 1} → statement M
+model-part-spec =
+    tie.close
+    (tie.spec
+    particles-before-requires
+    mul-window
+    particles-of-requires
+    mul-window-2
+    window-requires
+    returns)

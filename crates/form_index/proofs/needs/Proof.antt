@@ -1,0 +1,27 @@
+use Rattle.form_index.proofs.ReadingLaws.{needs-read}
+use borrow.Author.Needs.{needs}
+use Rattle.form_index.proofs.needs.Statement.{statement}
+use Rattle.form_index.proofs.needs.Tie as tie
+
+attribute-at-requires : tie.Need-attribute-at-requires
+attribute-at-requires c κs = search needs
+
+attribute-sort-requires : tie.Need-attribute-sort-requires
+attribute-sort-requires c κs = search needs
+
+attribute-owner-requires : tie.Need-attribute-owner-requires
+attribute-owner-requires c κs = search needs
+
+must-be-present-requires : tie.Need-must-be-present-requires
+must-be-present-requires c κs = search needs
+
+returns : tie.Need-returns
+returns c =
+    let a = c .before .before .before .before .before .args in
+    let record-at = c .before .before .before .attribute-at .ensures in
+    needs-read (a .w) _ (a .attrs .now) (a .j) record-at (a .version) (a .i) _ _ _ (c .before .attribute-owner .ensures) (c .before .before .attribute-sort .ensures) (c .must-be-present .ensures)
+
+pub needs-spec : {M : Type 1} → statement M
+needs-spec =
+    tie.close
+    (tie.spec attribute-at-requires attribute-sort-requires attribute-owner-requires must-be-present-requires returns)

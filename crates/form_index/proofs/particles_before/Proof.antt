@@ -1,0 +1,47 @@
+use Prim.Native.Nat.{_-_}
+use borrow.Author.Needs.{needs}
+use Rattle.form_index.proofs.ReadingLaws.{Summed, summed-none, summed-ends, before-more}
+use native.Mathlib.Omega.{arith}
+use Rattle.form_index.proofs.particles_before.Statement.{statement}
+use Rattle.form_index.proofs.particles_before.Tie as tie
+
+abbrev Inv-loop : tie.InvT-loop
+Inv-loop defs i sum₀ j₀ sum j = Summed defs i sum j
+
+abbrev μ-loop : tie.MeasureT-loop
+μ-loop defs i sum₀ j₀ sum j = i - j
+
+loop-holds : tie.Need-loop-holds Inv-loop μ-loop
+loop-holds c = summed-none (c .before .args .defs .now) (c .before .args .i)
+
+particles-of-requires : tie.Need-particles-of-requires Inv-loop μ-loop
+particles-of-requires c κs = search needs
+
+add-sum : tie.Need-add-sum Inv-loop μ-loop
+add-sum c = omega (arith, c .before .before .loop .inv .small, c .before .before .loop .inv .low, c .particles-of .ensures .1)
+
+add-j : tie.Need-add-j Inv-loop μ-loop
+add-j c = search needs
+
+loop-less : tie.Need-loop-less Inv-loop μ-loop
+loop-less c = search needs
+
+loop-again : tie.Need-loop-again Inv-loop μ-loop
+loop-again c = let v = c .before .before .loop .inv in record { is = before-more (c .before .before .before .before .args .defs .now) _ _ _ (v .is) (c .particles-of .ensures .0); low = omega arith; small = omega (arith, v .small, c .particles-of .ensures .1) }
+
+returns : tie.Need-returns Inv-loop μ-loop
+returns c = summed-ends (c .before .before .before .args .defs .now) (c .before .before .before .args .i) _ _ (c .before .loop .inv) (omega arith) (omega arith)
+
+pub particles-before-spec : {M : Type 1} → statement M
+particles-before-spec =
+    tie.close
+    (tie.spec
+    Inv-loop
+    μ-loop
+    loop-holds
+    particles-of-requires
+    add-sum
+    add-j
+    loop-less
+    loop-again
+    returns)

@@ -1,0 +1,20 @@
+use Rattle.form_index.proofs.ReadingLaws.{particles-read}
+use native.Mathlib.Omega.{arith}
+use borrow.Author.Needs.{needs}
+use Rattle.form_index.proofs.particles_of.Statement.{statement}
+use Rattle.form_index.proofs.particles_of.Tie as tie
+
+definition-at-requires : tie.Need-definition-at-requires
+definition-at-requires c κs = search needs
+
+definition-particles-requires : tie.Need-definition-particles-requires
+definition-particles-requires c κs = search needs
+
+cast-result : tie.Need-cast-result
+cast-result c = search needs
+
+returns : tie.Need-returns
+returns c = let a = c .before .before .before .args in (particles-read _ (a .defs .now) (a .i) (c .before .definition-at .ensures) _ (c .definition-particles .ensures), omega arith)
+
+pub particles-of-spec : {M : Type 1} → statement M
+particles-of-spec = tie.close (tie.spec definition-at-requires definition-particles-requires cast-result returns)

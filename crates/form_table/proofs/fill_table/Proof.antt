@@ -1,0 +1,26 @@
+use native.Mathlib.Omega.{arith}
+use Rattle.form_table.proofs.TableLaws.{table-filled}
+use borrow.Author.Needs.{needs}
+use Rattle.form_table.proofs.fill_table.Statement.{statement}
+use Rattle.form_table.proofs.fill_table.Tie as tie
+
+lay-models-requires : tie.Need-lay-models-requires
+lay-models-requires c κs = search needs
+
+lay-needs-requires : tie.Need-lay-needs-requires
+lay-needs-requires c κs = search needs
+
+same-length : tie.Need-same-length
+same-length c = search needs
+
+returns : tie.Need-returns
+returns c =
+    let start = c .before .before .before .before .before .before .before .before .before .before .before .before in
+    let a = start .args in
+    let models = c .before .before .before .before .before .before .lay-models in
+    let attributes = c .before .before .lay-needs in
+    table-filled (a .version) (a .w) (a .n) (a .defs .now) (a .parts .now) (a .attrs .now) (a .a) _ _ (start .pre .1) (models .ensures) (attributes .ensures)
+    (omega (arith, start .pre .3, models .kept .1 .1 .1 .0, attributes .kept .1 .1 .1 .1 .1 .0))
+
+pub fill-table-spec : {M : Type 1} → statement M
+fill-table-spec = tie.close (tie.spec lay-models-requires lay-needs-requires same-length returns)

@@ -1,0 +1,83 @@
+use Rattle.rules.specs.Decode.{readRow}
+use Rattle.form_index.specs.Reading.{indexForm}
+use Rattle.next_row.proofs.RowLaws.{row-attribute, row-child}
+use Rattle.next_row.proofs.RowLaws.{freed-read}
+use borrow.Author.Needs.{needs}
+use Rattle.next_row.proofs.row_may.Statement.{statement}
+use Rattle.next_row.proofs.row_may.Tie as tie
+
+cast-i : tie.Need-cast-i
+cast-i c = search needs
+
+cast-seen : tie.Need-cast-seen
+cast-seen c = search needs
+
+cast-last : tie.Need-cast-last
+cast-last c = search needs
+
+mul-needed : tie.Need-mul-needed
+mul-needed c = search needs
+
+add-needed : tie.Need-add-needed
+add-needed c = search needs
+
+mul-needed-2 : tie.Need-mul-needed-2
+mul-needed-2 c = search needs
+
+shared-slice-read-needed : tie.Need-shared-slice-read-needed
+shared-slice-read-needed c = search needs
+
+row-sort-requires : tie.Need-row-sort-requires
+row-sort-requires c κs = search needs
+
+attribute-may-requires : tie.Need-attribute-may-requires
+attribute-may-requires c κs =
+    let start = c .before .before .before .before .before .before .before .before .before .before .before in
+    (start .pre .0, start .pre .2, start .pre .3 .needed (start .args .l .index) (start .pre .4))
+
+returns : tie.Need-returns
+returns c =
+    let a = c .before .before .before .before .before .before .before .before .before .before .before .before .args in
+    row-attribute (indexForm (a .version) (a .w) 0 (a .defs .now) (a .parts .now) (a .attrs .now) (a .a)) (a .l) (readRow (a .row .now) .row) _ (c .before .before .row-sort .ensures)
+    (c .before .if1 .taken) _ (c .attribute-may .ensures)
+
+row-index-requires : tie.Need-row-index-requires
+row-index-requires c κs = search needs
+
+cast-index : tie.Need-cast-index
+cast-index c = search needs
+
+is-freed-requires : tie.Need-is-freed-requires
+is-freed-requires c κs = search needs
+
+child-may-requires : tie.Need-child-may-requires
+child-may-requires c κs = search needs
+
+returns-2 : tie.Need-returns-2
+returns-2 c =
+    let start = c .before .before .before .before .before .before .before .before .before .before .before .before .before .before in
+    let a = start .args in
+    row-child (indexForm (a .version) (a .w) 0 (a .defs .now) (a .parts .now) (a .attrs .now) (a .a)) (a .l) (readRow (a .row .now) .row) _
+    (c .before .before .before .before .row-sort .ensures) (c .before .before .before .if1 .left) _ _ _ (c .before .before .row-index .ensures)
+    (freed-read (a .version) (a .w) (a .attrs .now) (a .a) (a .l .index) _ (start .pre .3 .needed (a .l .index) (start .pre .4)) (start .pre .2) (a .l .seen) _ (c .before .is-freed .ensures))
+    (c .child-may .ensures)
+
+pub row-may-spec : {M : Type 1} → statement M
+row-may-spec =
+    tie.close
+    (tie.spec
+    cast-i
+    cast-seen
+    cast-last
+    mul-needed
+    add-needed
+    mul-needed-2
+    shared-slice-read-needed
+    row-sort-requires
+    attribute-may-requires
+    returns
+    row-index-requires
+    cast-index
+    is-freed-requires
+    child-may-requires
+    returns-2)

@@ -1,0 +1,36 @@
+-- The rows, read at the width `w` of a value, and the verdict of the one pass.
+use Prim.Native.Nat.{ℕ, zero, suc}
+use mathlib.Core.Bool.{Bool, _&&_}
+use mathlib.Core.List.{List}
+use lib.ListN.{replicate}
+use Rattle.rules.specs.Bytes.{Bytes}
+use Rattle.rules.specs.Preorder.{Deep}
+use Rattle.rules.specs.Layout.{rowSize, FlatRow}
+use Rattle.rules.specs.Decode.{readRow, readMany}
+use Rattle.records.specs.Records.{rowFits, eachFits}
+use Rattle.form_index.specs.Indices.{IndexForm}
+use Rattle.next_row.specs.declared.Level.{Level}
+use Rattle.next_row.specs.Judge.{judge, ground}
+use Rattle.row_check.specs.Machine.{machine}
+
+abbrev pub rowsIn : ℕ → ℕ → Bytes → List (Deep FlatRow)
+rowsIn w count bs = readMany readRow (rowSize w) count bs
+
+abbrev pub fieldsFit : ℕ → ℕ → Bytes → Bool
+fieldsFit w count bs = eachFits (rowFits w) (rowSize w) count bs
+
+-- how many levels the first of `count` rows leaves open
+abbrev pub keepsOf : ℕ → Bytes → ℕ
+keepsOf zero bs = 0
+keepsOf (suc count) bs = suc (readRow bs .depth)
+
+-- of rows from here on, with `live` levels open
+abbrev pub judged : ℕ → IndexForm → List Level → ℕ → ℕ → Bytes → Bool
+judged w f l live count bs = fieldsFit w count bs && machine (judge f) ground l live (rowsIn w count bs)
+
+-- A depth is a byte, so 257 levels are enough.
+unfoldable pub noLevels : List Level
+noLevels = replicate 257 ground
+
+unfoldable pub verdict : ℕ → IndexForm → ℕ → Bytes → Bool
+verdict w f count bs = judged w f noLevels 1 count bs

@@ -99,7 +99,8 @@ known-index : (form : Form) (n : Bytes) → known form n ≡ true → (i : ℕ) 
 known-index [] n k = absurd (false≢true k)
 known-index (d ∷ form) n k = by (same n (d .name)) refl (known-index form n)
   where
-    by : (b : Bool) → same n (d .name) ≡ b → (known form n ≡ true → (i : ℕ) × (i < length form) × (nameAt i (map definitionName form) ≡ n)) → (i : ℕ) × (i < suc (length form)) × (nameAt i (d .name ∷ map definitionName form) ≡ n)
+    by : (b : Bool) → same n (d .name) ≡ b → (known form n ≡ true → (i : ℕ) × (i < length form) × (nameAt i (map definitionName form) ≡ n))
+        → (i : ℕ) × (i < suc (length form)) × (nameAt i (d .name ∷ map definitionName form) ≡ n)
     by true e f = (0, omega arith, sym (same-eq n (d .name) e))
     by false e f =
         let (i, l, q) = f (sym (ap (λ (b : Bool). isThere {A = Definition} (elim b [ true ↦ some d | false ↦ lookup n form ])) e) ∙ k) in

@@ -47,14 +47,18 @@ module _ (ns : List Bytes) where
   names-tree : (d : ℕ) (p : FlatParticle) (b t : Forest FlatParticle) (k : ℕ) → p .sort ≡ k → (k ≡ 0 → b ≡ bare)
       → names (readMembers ns b) ≡ map (λ j. nameAt j ns) (elementsIn (flatten (suc d) b))
       → names (readMembers ns t) ≡ map (λ j. nameAt j ns) (elementsIn (flatten d t))
-      → names (memberOf ns p k (readMembers ns b) (readMembers ns t)) ≡ map (λ j. nameAt j ns) (elim (eqb k 0) [ true ↦ p .index ∷ elementsIn (flatten (suc d) b ++ flatten d t) | false ↦ elementsIn (flatten (suc d) b ++ flatten d t) ])
+      → names (memberOf ns p k (readMembers ns b) (readMembers ns t))
+      ≡ map (λ j. nameAt j ns)
+      (elim (eqb k 0) [ true ↦ p .index ∷ elementsIn (flatten (suc d) b ++ flatten d t) | false ↦ elementsIn (flatten (suc d) b ++ flatten d t) ])
   unfolding names elementsIn
   names-tree d p b t zero e l x y = rw (l refl) (ap (λ (z : List Bytes). nameAt (p .index) ns ∷ z) y)
   names-tree d p b t (suc k) e l x y =
       ap₂ (λ (u v : List Bytes). u ++ v) x y
       ∙ sym (map-append (λ j. nameAt j ns) (elementsIn (flatten (suc d) b)) (elementsIn (flatten d t)))
       ∙ ap (λ (z : List ℕ). map (λ j. nameAt j ns) z) (sym (elements-append (flatten (suc d) b) (flatten d t)))
-      ∙ ap (λ (c : Bool). map (λ j. nameAt j ns) (elim c [ true ↦ p .index ∷ elementsIn (flatten (suc d) b ++ flatten d t) | false ↦ elementsIn (flatten (suc d) b ++ flatten d t) ])) (sym (ne-eqb (suc k) 0 (λ z. omega arith)))
+      ∙ ap (λ (c : Bool). map (λ j. nameAt j ns)
+      (elim c [ true ↦ p .index ∷ elementsIn (flatten (suc d) b ++ flatten d t) | false ↦ elementsIn (flatten (suc d) b ++ flatten d t) ]))
+      (sym (ne-eqb (suc k) 0 (λ z. omega arith)))
 
   pub names-elements : (d : ℕ) (f : Forest FlatParticle) → Leaves f → names (readMembers ns f) ≡ map (λ j. nameAt j ns) (elementsIn (flatten d f))
   unfolding names elementsIn
@@ -62,7 +66,8 @@ module _ (ns : List Bytes) where
   names-elements d (tree p b t) (l, lb, lt) = names-tree d p b t (p .sort) refl l (names-elements (suc d) b lb) (names-elements d t lt)
 
 -- ---- the models of definitions
--- the particles of a definition: no lower than one below those before, elements with none below, none but in COMPLEX ones
+-- the particles of a definition: no lower than one below those before,
+-- elements with none below, none but in COMPLEX ones
 pub record Shaped (d : FlatDefinition) (xs : List (Deep FlatParticle)) : Type 0 where
   pub rises : rising 0 xs ≡ true
   pub leaves : Leaves (build xs 0)
@@ -239,7 +244,9 @@ module _ {defs parts : Bytes} {n p : ℕ} (g : Readable defs parts n p) (cs : Li
       record {
         once = rw named (g .once);
         within = rw count-read within;
-        models = rw named (models-read (map flatName (definitionsRead defs n)) (membersIn defs parts) 0 (definitionsRead defs n) (particlesRead parts p) cs (g .shaped) (λ i l. at i (omega (arith, length-many readDefinition definitionSize n defs))));
+        models = rw named
+            (models-read (map flatName (definitionsRead defs n)) (membersIn defs parts) 0 (definitionsRead defs n) (particlesRead parts p) cs (g .shaped)
+            (λ i l. at i (omega (arith, length-many readDefinition definitionSize n defs))));
       }
     where
       named : map definitionName (formRead defs parts n p cs) ≡ map flatName (definitionsRead defs n)

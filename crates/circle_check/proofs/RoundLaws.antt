@@ -192,7 +192,8 @@ rounds-on {n} {members} {old} {l} {r} s g f = rw (add-one r) (record { is = λ i
         rw (known i k) (raise-low r (λ h. deepIndex members n h i) (getD old i 0) (all (marked old) (members i)) (s .is i) (s .most i) (now i k) (deep-index-more members n r i))
     most i false e = omega (arith, f .others i (ltb-false i n e))
 
-pub rounds-end : {n : ℕ} {members : ℕ → List ℕ} {l : Bytes} {h : ℕ} {r : Bool} → Rounds n members l h → n ≤ h → (r ≡ true) ↔ ((i : ℕ) → i < n → marked l i ≡ true) → Ranked n members (record { fit = r; of = l })
+pub rounds-end : {n : ℕ} {members : ℕ → List ℕ} {l : Bytes} {h : ℕ} {r : Bool} → Rounds n members l h → n ≤ h
+    → (r ≡ true) ↔ ((i : ℕ) → i < n → marked l i ≡ true) → Ranked n members (record { fit = r; of = l })
 rounds-end {n} {members} {l} {h} {r} s g w =
     let z : h ≡ n = omega (arith, s .low) in
     record {

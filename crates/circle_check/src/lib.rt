@@ -10,8 +10,8 @@ ghost use Rattle.circle_check.specs.Avoiding.{Avoids};
 
 const MAX_DEFINITIONS: usize = 64;
 
-/// Whether every chain of members ends, and the height of each definition, which is more than that of each member; 0 for one from
-/// which a chain does not end.
+/// Whether every chain of members ends, and the height of each definition, which is more than that of each member; 0
+/// for one from which a chain does not end.
 pub struct Heights {
     pub fit: bool,
     pub of: [u8; MAX_DEFINITIONS],
@@ -53,8 +53,8 @@ fn raised(model: &[u8], old: &[u8; MAX_DEFINITIONS], was: u8, h: u8) -> u8
     if settled(model, old) { h } else { 0 }
 }
 
-// Round h: height h for the definitions without one whose members all have one. The particles of a definition stand after those of
-// the definitions before it.
+// Round h: height h for the definitions without one whose members all have one. The particles of a definition stand
+// after those of the definitions before it.
 fn round(
     n: usize,
     defs: &[u8],

@@ -212,7 +212,8 @@ unfolding walks stands each apart
 walks-parts n d [] = refl
 walks-parts n d (p ∷ ps) =
     ap (λ (b : Bool). stands n d p ps && b) (walks-parts n (suc (p .depth)) ps)
-    ∙ regroup (low p) (leb (p .depth) d) (countFits n (p .row) (membersFrom (suc (p .depth)) ps)) (not (any (sameElement p) ps)) (all low ps) (rising (suc (p .depth)) ps) (each n ps) (apart sameElement ps)
+    ∙ regroup (low p) (leb (p .depth) d) (countFits n (p .row) (membersFrom (suc (p .depth)) ps)) (not (any (sameElement p) ps)) (all low ps)
+    (rising (suc (p .depth)) ps) (each n ps) (apart sameElement ps)
 
 pub walks-model : (n : ℕ) (ps : List (Deep FlatParticle)) → walks n 0 ps ≡ modelFits n ps
 unfolding modelFits

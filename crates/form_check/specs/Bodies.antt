@@ -1,4 +1,5 @@
--- The bodies of a form as lists of records, at the width `w` of a value, and the tests of FormTests as the code goes through them: record by record.
+-- The bodies of a form as lists of records, at the width `w` of a value, and the
+-- tests of FormTests as the code goes through them: record by record.
 use Prim.Native.Nat.{ℕ, suc, _*_, _≤_}
 use mathlib.Core.Path.{_≡_}
 use mathlib.Core.Bool.{Bool, true, false, _&&_, not}

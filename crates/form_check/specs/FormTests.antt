@@ -17,7 +17,8 @@ unfoldable pub definitionsApart : List FlatDefinition → Bool
 definitionsApart ds = distinct bytes (map flatName ds)
 
 -- ---- particles: the part of each definition is the preorder of a model
--- a particle with what is below it, in a form of n definitions: an element has nothing below it, a group as many members as it says
+-- a particle with what is below it, in a form of n definitions: an element
+-- has nothing below it, a group as many members as it says
 abbrev pub particleFits : ℕ → FlatParticle → List FlatParticle → Bool
 particleFits n p below =
     leb (p .quantifier) 3

@@ -200,8 +200,8 @@ fn particle_stands(n: usize, m: usize, parts: &[u8], i: usize, d: usize) -> bool
     fits & !element_again(m, parts, i)
 }
 
-/// Whether m particles are the preorder of a model in a form of n definitions. For each particle those after it are looked at
-/// twice: at most 256 * 255 in all.
+/// Whether m particles are the preorder of a model in a form of n definitions. For each particle those after it are
+/// looked at twice: at most 256 * 255 in all.
 pub fn model_fits(n: usize, m: usize, parts: &[u8]) -> bool
     requires { ⌜ m ≤ 256 ⌝ }
     ensures { λ r. ⌜ r ≡ modelFits n (particles m (now (parts .entry))) ⌝ }
@@ -239,8 +239,8 @@ pub fn models_fit(n: usize, defs: &[u8], p: usize, parts: &[u8]) -> bool
     at == p
 }
 
-/// Whether the three bodies of a form fit together. At the ceilings: 64 * 63 / 2 pairs of definitions and as many of attributes,
-/// and 256 * 255 particles looked at.
+/// Whether the three bodies of a form fit together. At the ceilings: 64 * 63 / 2 pairs of definitions and as many of
+/// attributes, and 256 * 255 particles looked at.
 pub fn bodies_fit(
     w: usize,
     n: usize,

@@ -51,7 +51,8 @@ good-after room c s g a =
     form-after : (c : Call) (s : Store) → wellFormed (valueWidth (after c s .version)) (after c s .form) ≡ wellFormed (valueWidth (s .version)) (formAfter c (s .form))
     form-after c s = refl
 
-    values-left : (c : Call) (s : Store) → everyRow (λ r below. laidRow (valueWidth (s .version)) r) (after c s .docs) ≡ true → everyRow (λ r below. laidRow (valueWidth (after c s .version)) r) (after c s .docs) ≡ true
+    values-left : (c : Call) (s : Store) → everyRow (λ r below. laidRow (valueWidth (s .version)) r) (after c s .docs) ≡ true
+        → everyRow (λ r below. laidRow (valueWidth (after c s .version)) r) (after c s .docs) ≡ true
     values-left c s e = e
 
 -- DEMAND 3, from any moment at which the store and the book say the same

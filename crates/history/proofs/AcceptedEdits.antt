@@ -15,7 +15,10 @@ use Rattle.rules.specs.Store.{complex, Store, members}
 use Rattle.rules.specs.Decode.{quantifierOf, groupOf}
 use Rattle.rules.specs.WellFormed.{lookup, isThere, reachesIn, wellFormed}
 use Rattle.rules.specs.Lines.{Line}
-use Rattle.rules.specs.Change.{Call, createDefinition, destroyDefinition, insertElement, removeElement, changeQuantifier, convertToGroup, flattenGroup, changeGroupQuantifier, addAttribute, destroyAttribute, addDocument, addElement, destroyElement, setAttribute, destroyAttributeRow, setText, definitionAt, nameAtIndex, editModel, formAfter, insertPlan, removePlan, quantifyPlan, pickedPlan, plan}
+use Rattle.rules.specs.Change.{Call, createDefinition, destroyDefinition, insertElement, removeElement, changeQuantifier, convertToGroup, flattenGroup}
+use Rattle.rules.specs.Change.{changeGroupQuantifier, addAttribute, destroyAttribute, addDocument, addElement, destroyElement, setAttribute}
+use Rattle.rules.specs.Change.{destroyAttributeRow, setText, definitionAt, nameAtIndex, editModel, formAfter, insertPlan, removePlan, quantifyPlan, pickedPlan}
+use Rattle.rules.specs.Change.{plan}
 use Rattle.rules.specs.Refusal.{past as beyond, instanceExists, atPlace, noPlace, onElement, onGroup, noElementAt, noGroupAt, tailOf, flattenUnlike, isComplex, conditions}
 use Rattle.rules.proofs.Children.{misplaced, unfit}
 use Rattle.rules.proofs.Height.{reaches-test}
@@ -23,7 +26,8 @@ use Rattle.rules.proofs.WellFormedLaws.{well-formed}
 use Rattle.rules.proofs.Words.{or-split}
 use Rattle.history.proofs.InstanceEdits.{editPlan}
 use Rattle.history.proofs.Conditions.{Unmet, not-false, not-past}
-use Rattle.history.proofs.EditConditions.{or-both, and-false, complex-content, picked-complex, element-some, group-some, has-some, remove-placed, remove-fits, quantify-placed, element-fits, group-fits, flatten-placed}
+use Rattle.history.proofs.EditConditions.{or-both, and-false, complex-content, picked-complex, element-some, group-some, has-some, remove-placed}
+use Rattle.history.proofs.EditConditions.{remove-fits, quantify-placed, element-fits, group-fits, flatten-placed}
 use Rattle.history.proofs.FormLaws.{definition-found}
 use Rattle.history.proofs.ModelAfter.{place-right}
 use Rattle.history.proofs.Replacing.{Joins}
@@ -51,8 +55,10 @@ module _ (w : ℕ) (s : Store) (ok : wellFormed w (s .form) ≡ true) (o : ℕ) 
   inside-lookup : (i : ℕ) → beyond i (s .form) ≡ false → lookup (nameAtIndex i (s .form)) (s .form) ≡ some (definitionAt i (s .form))
   inside-lookup i e = definition-found i (s .form) (well-formed w (s .form) .0 ok .names) (not-past i (s .form) e)
 
-  accept : (c : Call) (e : Edit Bytes) (txt : Bytes) (f : Found Bytes) → beyond o (s .form) ≡ false → placeOf e p (members (definitionAt o (s .form))) ≡ some f → isComplex (definitionAt o (s .form) .content) ≡ true
-      → misplaced bytes e (f .context) (f .picked) ≡ false → (instanceExists (nameAtIndex o (s .form)) s ≡ true → unfit e (f .context) (f .picked) ≡ false) → Insertable (s .form) (nameAtIndex o (s .form)) e
+  accept : (c : Call) (e : Edit Bytes) (txt : Bytes) (f : Found Bytes) → beyond o (s .form) ≡ false → placeOf e p (members (definitionAt o (s .form))) ≡ some f
+      → isComplex (definitionAt o (s .form) .content) ≡ true
+      → misplaced bytes e (f .context) (f .picked) ≡ false → (instanceExists (nameAtIndex o (s .form)) s ≡ true → unfit e (f .context) (f .picked) ≡ false)
+      → Insertable (s .form) (nameAtIndex o (s .form)) e
       → ((ls : List Line) → plan c (s .version) (s .form) ls ≡ editPlan (s .version) (s .form) ls (nameAtIndex o (s .form)) txt e (f .context) (f .picked))
       → formAfter c (s .form) ≡ editModel o p e (s .form) → Accepted s c
   accept c e txt f l at x m u i pl fo =
@@ -99,11 +105,13 @@ module _ (w : ℕ) (s : Store) (ok : wellFormed w (s .form) ≡ true) (o : ℕ) 
             straight = λ r. false≢true (sym y ∙ reaches-test (s .form) n (nameAtIndex o (s .form)) .1 r);
           }
 
-      by : (x : Option (Found Bytes)) → placeOf e p model ≡ x → noPlace x ≡ false → (instanceExists (nameAtIndex o (s .form)) s && atPlace (λ c y. insertOff c (quantifierOf q)) x) ≡ false → Accepted s (insertElement o p i q t)
+      by : (x : Option (Found Bytes)) → placeOf e p model ≡ x → noPlace x ≡ false
+          → (instanceExists (nameAtIndex o (s .form)) s && atPlace (λ c y. insertOff c (quantifierOf q)) x) ≡ false → Accepted s (insertElement o p i q t)
       by none at a b = absurd (false≢true (sym a))
       by (some f) at a b =
           accept (insertElement o p i q t) e t f (or-split (beyond o (s .form)) (beyond i (s .form)) c6 .0) at (not-false (isComplex (definitionAt o (s .form) .content)) c9)
-          (ap (λ (z : Members Bytes). member bytes n (names z)) (place-right e p model f at) ∙ c10) (λ x. and-false (instanceExists (nameAtIndex o (s .form)) s) (insertOff (f .context) (quantifierOf q)) b x) outside
+          (ap (λ (z : Members Bytes). member bytes n (names z)) (place-right e p model f at) ∙ c10)
+          (λ x. and-false (instanceExists (nameAtIndex o (s .form)) s) (insertOff (f .context) (quantifierOf q)) b x) outside
           (λ ls. ap (insertPlan (s .version) (s .form) (nameAtIndex o (s .form)) t (quantifierOf q) n) at) refl
 
   pub accepted-remove : Unmet (conditions (removeElement o p) s) → Accepted s (removeElement o p)
@@ -122,7 +130,8 @@ module _ (w : ℕ) (s : Store) (ok : wellFormed w (s .form) ≡ true) (o : ℕ) 
   quantified : (c : Call) (r : Quantifier) (t : Bytes)
       → ((ls : List Line) → plan c (s .version) (s .form) ls
       ≡ pickedPlan (quantifyPlan (s .version) (s .form) ls (nameAtIndex o (s .form)) t r) (placeOf (quantify r) p (members (definitionAt o (s .form)))))
-      → formAfter c (s .form) ≡ editModel o p (quantify r) (s .form) → beyond o (s .form) ≡ false → (f : Found Bytes) → placeOf (quantify r) p (members (definitionAt o (s .form))) ≡ some f → isDone (f .picked) ≡ false
+      → formAfter c (s .form) ≡ editModel o p (quantify r) (s .form) → beyond o (s .form) ≡ false → (f : Found Bytes)
+      → placeOf (quantify r) p (members (definitionAt o (s .form))) ≡ some f → isDone (f .picked) ≡ false
       → (instanceExists (nameAtIndex o (s .form)) s ≡ true → unfit (quantify r) (f .context) (f .picked) ≡ false) → Accepted s c
   quantified c r t pl fo l f at a u =
       accept c (quantify r) t f l at (some-complex (quantify r) f at a) (quantify-placed (f .context) r (f .picked) a) u tt
@@ -163,11 +172,13 @@ module _ (w : ℕ) (s : Store) (ok : wellFormed w (s .form) ≡ true) (o : ℕ) 
       e : Edit Bytes
       e = convert (groupOf k) n
 
-      by : (x : Option (Found Bytes)) → placeOf e p (members (definitionAt o (s .form))) ≡ x → (noPlace x || atPlace (λ c y. not (hasMembers n y)) x) ≡ false → atPlace (λ c y. groupUnlike c (groupOf k) (firstMembers n y)) x ≡ false
+      by : (x : Option (Found Bytes)) → placeOf e p (members (definitionAt o (s .form))) ≡ x → (noPlace x || atPlace (λ c y. not (hasMembers n y)) x) ≡ false
+          → atPlace (λ c y. groupUnlike c (groupOf k) (firstMembers n y)) x ≡ false
           → Accepted s (convertToGroup o p n k)
       by none at a b = absurd (false≢true (sym a))
       by (some f) at a b =
-          accept (convertToGroup o p n k) e [] f c6 at (some-complex e f at (has-some n (f .picked) a)) (or-both (not (hasMembers n (f .picked))) (groupUnlike (f .context) (groupOf k) (firstMembers n (f .picked))) a b)
+          accept (convertToGroup o p n k) e [] f c6 at (some-complex e f at (has-some n (f .picked) a))
+          (or-both (not (hasMembers n (f .picked))) (groupUnlike (f .context) (groupOf k) (firstMembers n (f .picked))) a b)
           (λ x. refl) tt (λ ls. refl) refl
 
   pub accepted-flatten : Unmet (conditions (flattenGroup o p) s) → Accepted s (flattenGroup o p)

@@ -1,4 +1,5 @@
--- DEMAND 3 OF THE CALLS: where every call keeps its promise, the store that is left is the one of the rules' history, of which Demand 3 holds.
+-- DEMAND 3 OF THE CALLS: where every call keeps its promise, the store that is
+-- left is the one of the rules' history, of which Demand 3 holds.
 use Prim.Native.Nat.{ℕ, zero, suc}
 use native.Mathlib.Omega.{arith}
 use mathlib.Core.Path.{_≡_, refl, ap, ap₂, _∙_, subst}
@@ -47,7 +48,9 @@ next-is (refused (suc n)) k m bs a = choose (ap (λ (z : ℕ). eqb z 0) (a .numb
   where
     choose : eqb (m .number) 0 ≡ false → next m bs ≡ bs
     choose e = rw (e, next)
-next-is (wrote w) k m bs a = choose (ap (λ (z : ℕ). eqb z 0) (a .number-is) ∙ eq-eqb 0 0 refl) ∙ ap₂ (λ (n : ℕ) (l : Bytes). take n l) (a .length-is) (a .buffer-is) ∙ take-append-seam w (drop (length w) (m .out))
+next-is (wrote w) k m bs a =
+    choose (ap (λ (z : ℕ). eqb z 0) (a .number-is) ∙ eq-eqb 0 0 refl) ∙ ap₂ (λ (n : ℕ) (l : Bytes). take n l) (a .length-is) (a .buffer-is)
+    ∙ take-append-seam w (drop (length w) (m .out))
   where
     choose : eqb (m .number) 0 ≡ true → next m bs ≡ take (m .len) (m .left)
     choose e = rw (e, next)

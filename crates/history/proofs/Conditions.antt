@@ -11,7 +11,9 @@ use Rattle.rules.specs.Bytes.{all}
 use Rattle.rules.specs.Store.{Store}
 use Rattle.rules.specs.Layout.{flat, encode}
 use Rattle.rules.specs.WellFormed.{withinCeilings, highestNumber}
-use Rattle.rules.specs.Change.{Call, createDefinition, destroyDefinition, insertElement, removeElement, changeQuantifier, convertToGroup, flattenGroup, changeGroupQuantifier, addAttribute, destroyAttribute, addDocument, addElement, destroyElement, setAttribute, destroyAttributeRow, setText, after}
+use Rattle.rules.specs.Change.{Call, createDefinition, destroyDefinition, insertElement, removeElement, changeQuantifier, convertToGroup, flattenGroup}
+use Rattle.rules.specs.Change.{changeGroupQuantifier, addAttribute, destroyAttribute, addDocument, addElement, destroyElement, setAttribute}
+use Rattle.rules.specs.Change.{destroyAttributeRow, setText, after}
 use Rattle.rules.specs.Refusal.{Condition, _if_, first, past, conditions, limits, refusal}
 use Rattle.rules.proofs.Words.{and-split}
 
@@ -74,7 +76,8 @@ module _ (room : ℕ) (c : Call) (s : Store) (accepted : refusal room c s ≡ 0)
   unfolding refusal
   none-held = first-append (conditions c s) (limits room (after c s)) (conditions-numbered c s) accepted
 
-  -- At a call, with `unfolding conditions`, its type is a product of `… ≡ false` in the table's order that ends in `Unit`:
+  -- At a call, with `unfolding conditions`, its type is a product of `… ≡
+  -- false` in the table's order that ends in `Unit`:
   -- `let (name, (kind, (fresh, end))) = unmet room (createDefinition n k) s a in`.
   pub unmet : Unmet (conditions c s)
   unmet = none-held .0

@@ -1,4 +1,5 @@
--- Documents that conform to a form conform to another after a plan, if each row does with the rows that it then has below it.
+-- Documents that conform to a form conform to another after a plan, if
+-- each row does with the rows that it then has below it.
 use Prim.Native.Nat.{ℕ, _<_}
 use mathlib.Core.Path.{_≡_, refl, sym, ap, ap₂, _∙_}
 use mathlib.Core.Bool.{Bool, true, false, not, false≢true}
@@ -34,7 +35,8 @@ all-kept test stays (r ∷ rows) e = let (i, j) = and-split (test r) (all test r
     by true q i x = rw (q, keep) (and-both i x)
     by false q i x = rw (q, keep) x
 
-all-planted : (p : Plan) (test : Row → Bool) (u : Row) (due : Bool) (rows : List Row) → (due ≡ true → all test (heads (p .filling)) ≡ true) → all test rows ≡ true → all test (plantRows p u due rows) ≡ true
+all-planted : (p : Plan) (test : Row → Bool) (u : Row) (due : Bool) (rows : List Row) → (due ≡ true → all test (heads (p .filling)) ≡ true)
+    → all test rows ≡ true → all test (plantRows p u due rows) ≡ true
 unfolding plantRows
 all-planted p test u true [] f e = f refl
 all-planted p test u false [] f e = refl

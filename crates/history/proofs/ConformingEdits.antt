@@ -57,7 +57,12 @@ module _ (w : ℕ) (s : Store) (ok : wellFormed w (s .form) ≡ true) (serials :
   row r b i h =
       ap (λ (z : Row). fitsRow (s .version) (formAfter c (s .form)) z (childrenAfter p r (heads b))) (same-row (s .next) (s .docs) serials p (inside .set) r b i)
       ∙ row-fits-after w s ok c a ls r (heads b) (standing-line (elementNamed (nameAtIndex (a .o) (s .form))) 0 (s .docs) r b i)
-      (record { given = children-given (s .next) (s .docs) serials r b i; once = children-once (s .next) (s .docs) serials r b i; seen = λ test. children-are (s .next) (s .docs) serials test r b i }) h
+      (record {
+        given = children-given (s .next) (s .docs) serials r b i;
+        once = children-once (s .next) (s .docs) serials r b i;
+        seen = λ test. children-are (s .next) (s .docs) serials test r b i;
+      })
+      h
 
   pub conforming-edited : conforming (s .version) (s .form) (s .docs) ≡ true → conforming (s .version) (formAfter c (s .form)) (docsAfter c s) ≡ true
   unfolding p ls

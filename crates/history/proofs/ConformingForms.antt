@@ -17,7 +17,9 @@ use Rattle.rules.specs.Conforming.{nameOf, ContentRows, ElementRows, RowConform
 use Rattle.rules.specs.Filling.{attributeRow}
 use Rattle.rules.specs.Lines.{elementNamed, attributeNamed}
 use Rattle.rules.specs.Decode.{groupOf, sortOf}
-use Rattle.rules.specs.Change.{createDefinition, destroyDefinition, convertToGroup, flattenGroup, addAttribute, destroyAttribute, definitionAt, nameAtIndex, Owned, attributeAt, inModel, withAttributes, editFound, editAt, lacking, newAttribute, formAfter, Plan, keeping, taking, making, dropPlan, plan, changed, docsAfter}
+use Rattle.rules.specs.Change.{createDefinition, destroyDefinition, convertToGroup, flattenGroup, addAttribute, destroyAttribute, definitionAt, nameAtIndex}
+use Rattle.rules.specs.Change.{Owned, attributeAt, inModel, withAttributes, editFound, editAt, lacking, newAttribute, formAfter, Plan, keeping, taking, making}
+use Rattle.rules.specs.Change.{dropPlan, plan, changed, docsAfter}
 use Rattle.rules.specs.Passing.{GoodSerials}
 use Rattle.rules.proofs.Words.{and-both, and-split}
 use Rattle.rules.proofs.Letters.{letters}
@@ -46,7 +48,8 @@ content-named (complex ms) rows (q, l) r m s = letters Sequence ms .inside (map 
 
 pub element-named : {version : ℕ} (d : Definition) (rows : List Row) → ElementRows version d rows → (r : Row) → List·Memᴰ r rows → r .sort ≡ element → List·Memᴰ (r .name) (names (members d))
 element-named d rows x r m s =
-    ⊎-elim (λ i. let y : isElement element ≡ isElement attribute = ap isElement (sym s ∙ x .attributes .sorts r i) in absurd (false≢true (sym y))) (λ i. content-named (d .content) (x .back) (x .content) r i s)
+    ⊎-elim (λ i. let y : isElement element ≡ isElement attribute = ap isElement (sym s ∙ x .attributes .sorts r i) in absurd (false≢true (sym y)))
+    (λ i. content-named (d .content) (x .back) (x .content) r i s)
     (List·Memᴰ·append-cases (x .front) (rw (← (x .split)) at m))
 
 module _ (version w : ℕ) (form : Form) (ok : wellFormed w form ≡ true) (docs : Forest Row) (conforms : conforming version form docs ≡ true) where
@@ -97,7 +100,8 @@ module _ (w : ℕ) (s : Store) (ok : wellFormed w (s .form) ≡ true) (serials :
       conforming-kept (s .version) (s .form) (formAfter (createDefinition n k) (s .form)) (s .next) (s .docs) serials (λ r b d i q e. old (r .name) (ap isThere e) ∙ e) conforms
 
   -- 2: no element has the name of the removed definition
-  pub conforming-2 : (i : ℕ) → any (λ (d : Definition). member bytes (nameAtIndex i (s .form)) (names (members d))) (s .form) ≡ false → any (elementNamed (nameAtIndex i (s .form))) (heads (s .docs)) ≡ false
+  pub conforming-2 : (i : ℕ) → any (λ (d : Definition). member bytes (nameAtIndex i (s .form)) (names (members d))) (s .form) ≡ false
+      → any (elementNamed (nameAtIndex i (s .form))) (heads (s .docs)) ≡ false
       → ((m : Bytes) → (m ≡ nameAtIndex i (s .form) → ⊥) → lookup m (formAfter (destroyDefinition i) (s .form)) ≡ lookup m (s .form))
       → conforming (s .version) (formAfter (destroyDefinition i) (s .form)) (docsAfter (destroyDefinition i) s) ≡ true
   unfolding plan
@@ -171,7 +175,8 @@ module _ (w : ℕ) (s : Store) (ok : wellFormed w (s .form) ≡ true) (serials :
         left : childrenAfter plan₁₀ r (heads b) ≡ keep (λ t. not (attributeNamed (o .attribute .name) t)) (heads b)
         left =
             children-cut plan₁₀ r (heads b) refl
-            ∙ map-same (revalued plan₁₀) (keep (λ t. not (plan₁₀ .takes r t)) (heads b)) (λ t m. same-child (s .next) (s .docs) serials plan₁₀ refl r b i t (keep-in (λ t. not (plan₁₀ .takes r t)) (heads b) t m))
+            ∙ map-same (revalued plan₁₀) (keep (λ t. not (plan₁₀ .takes r t)) (heads b))
+            (λ t m. same-child (s .next) (s .docs) serials plan₁₀ refl r b i t (keep-in (λ t. not (plan₁₀ .takes r t)) (heads b) t m))
             ∙ keep-alike (λ t. not (plan₁₀ .takes r t)) (λ t. not (attributeNamed (o .attribute .name) t)) alike (heads b)
 
     pub conforming-10 : (a : ℕ) → attributeAt a (s .form) ≡ some o

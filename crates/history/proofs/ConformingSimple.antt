@@ -11,7 +11,10 @@ use Rattle.rules.specs.Layout.{valueWidth, indexOf, flat}
 use Rattle.rules.specs.WellFormed.{definitionName, isThere, isValue, withinCeilings, wellFormed}
 use Rattle.rules.specs.Conforming.{everyRow, conforming}
 use Rattle.rules.specs.Lines.{elementNamed}
-use Rattle.rules.specs.Change.{Call, createDefinition, destroyDefinition, insertElement, removeElement, changeQuantifier, convertToGroup, flattenGroup, changeGroupQuantifier, addAttribute, destroyAttribute, addDocument, addElement, destroyElement, setAttribute, destroyAttributeRow, setText, nameAtIndex, Owned, attributeAt, update, inModel, withAttributes, editAt, lacking, newAttribute, formAfter, docsAfter, after}
+use Rattle.rules.specs.Change.{Call, createDefinition, destroyDefinition, insertElement, removeElement, changeQuantifier, convertToGroup, flattenGroup}
+use Rattle.rules.specs.Change.{changeGroupQuantifier, addAttribute, destroyAttribute, addDocument, addElement, destroyElement, setAttribute}
+use Rattle.rules.specs.Change.{destroyAttributeRow, setText, nameAtIndex, Owned, attributeAt, update, inModel, withAttributes, editAt, lacking, newAttribute}
+use Rattle.rules.specs.Change.{formAfter, docsAfter, after}
 use Rattle.rules.specs.Passing.{knownVersion, laidRow, GoodSerials, goodSerials, good}
 use Rattle.rules.specs.Refusal.{isOther, conditions, refusal}
 use Rattle.rules.proofs.Words.{and-split, or-split}
@@ -63,7 +66,9 @@ module _ (room : ℕ) (s : Store) (x : GoodTests s) where
   unfolding formAfter conditions
   after-2 i a =
       let (there, (used, end)) = unmet room (destroyDefinition i) s a in
-      let (models, roots) = or-split (any (λ (d : Definition). member bytes (nameAtIndex i (s .form)) (names (members d))) (s .form)) (any (elementNamed (nameAtIndex i (s .form))) (heads (s .docs))) used in
+      let (models, roots) =
+      or-split (any (λ (d : Definition). member bytes (nameAtIndex i (s .form)) (names (members d))) (s .form))
+      (any (elementNamed (nameAtIndex i (s .form))) (heads (s .docs))) used in
       conforming-2 w s (x .form) (x .serials) (x .docs) i models roots (without-other i (s .form))
 
   after-9 : (o : ℕ) (n : Bytes) (k : ℕ) (v : Bytes) → refusal room (addAttribute o n k v) s ≡ 0
@@ -71,7 +76,8 @@ module _ (room : ℕ) (s : Store) (x : GoodTests s) where
   unfolding formAfter conditions
   after-9 o n k v a =
       let (name, (value, (code, (fresh, (there, more))))) = unmet room (addAttribute o n k v) s a in
-      conforming-9 w s (x .form) (x .serials) (x .docs) o n k v fresh (replaced-at (s .form) once o (not-past o (s .form) there) (withAttributes (λ table. table ++ newAttribute n k v ∷ [])) (λ d. refl))
+      conforming-9 w s (x .form) (x .serials) (x .docs) o n k v fresh
+      (replaced-at (s .form) once o (not-past o (s .form) there) (withAttributes (λ table. table ++ newAttribute n k v ∷ [])) (λ d. refl))
 
   after-10 : (a : ℕ) (y : Option Owned) → attributeAt a (s .form) ≡ y → isOther y none ≡ false
       → conforming (s .version) (formAfter (destroyAttribute a) (s .form)) (docsAfter (destroyAttribute a) s) ≡ true
@@ -88,7 +94,8 @@ module _ (room : ℕ) (s : Store) (x : GoodTests s) where
       replaced : Replaced (s .form) (formAfter (destroyAttribute a) (s .form)) (o .owner) (withAttributes (lacking (o .attribute .name)) (o .owner))
       replaced =
           rw (q, formAfter)
-          (subst (λ (d : Definition). Replaced (s .form) (update j less (s .form)) d (less d)) (owner-at a (s .form) once o q) (replaced-at (s .form) once j (owner-below a (s .form) once o q) less (λ d. refl)))
+          (subst (λ (d : Definition). Replaced (s .form) (update j less (s .form)) d (less d)) (owner-at a (s .form) once o q)
+          (replaced-at (s .form) once j (owner-below a (s .form) once o q) less (λ d. refl)))
 
   after-11 : (i : ℕ) (t : Bytes) → refusal room (addDocument i t) s ≡ 0 → conforming (s .version) (formAfter (addDocument i t) (s .form)) (docsAfter (addDocument i t) s) ≡ true
   unfolding conditions

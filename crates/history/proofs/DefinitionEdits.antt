@@ -1,4 +1,5 @@
--- The rows right below one element fit its definition when the model accepts more, and when an attribute is added or taken out.
+-- The rows right below one element fit its definition when the model
+-- accepts more, and when an attribute is added or taken out.
 use Prim.Native.Nat.{ℕ}
 use mathlib.Core.Path.{_≡_, refl, ap, _∙_}
 use mathlib.Core.Bool.{true, false, not, false≢true}

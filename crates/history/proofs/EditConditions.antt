@@ -1,4 +1,5 @@
--- Changes 3 to 8: conditions of the refusal table that do not hold, as the tests `misplaced` and `unfit`; an owner with a member is COMPLEX.
+-- Changes 3 to 8: conditions of the refusal table that do not hold, as the
+-- tests `misplaced` and `unfit`; an owner with a member is COMPLEX.
 use Prim.Native.Nat.{ℕ, zero, suc}
 use mathlib.Core.Path.{_≡_, refl, sym, ap, _∙_}
 use mathlib.Core.Bool.{Bool, true, false, _&&_, not, _||_, false≢true}
@@ -72,13 +73,15 @@ quantify-placed c r done a = a
 quantify-placed c r (el q x t) a = refl
 quantify-placed c r (group q k ms t) a = refl
 
-pub element-fits : (c : Context Bytes) (r : Quantifier) (t : Members Bytes) → onElement true (λ q. false) t ≡ false → onElement false (λ old. quantifyOff c old r) t ≡ false → unfit (quantify r) c t ≡ false
+pub element-fits : (c : Context Bytes) (r : Quantifier) (t : Members Bytes) → onElement true (λ q. false) t ≡ false
+    → onElement false (λ old. quantifyOff c old r) t ≡ false → unfit (quantify r) c t ≡ false
 unfolding unfit
 element-fits c r done a b = refl
 element-fits c r (el q x t) a b = b
 element-fits c r (group q k ms t) a b = absurd (false≢true (sym a))
 
-pub group-fits : (c : Context Bytes) (r : Quantifier) (t : Members Bytes) → onGroup true (λ q. false) t ≡ false → onGroup false (λ old. quantifyGroupOff c old r) t ≡ false → unfit (quantify r) c t ≡ false
+pub group-fits : (c : Context Bytes) (r : Quantifier) (t : Members Bytes) → onGroup true (λ q. false) t ≡ false
+    → onGroup false (λ old. quantifyGroupOff c old r) t ≡ false → unfit (quantify r) c t ≡ false
 unfolding unfit
 group-fits c r done a b = refl
 group-fits c r (el q x t) a b = absurd (false≢true (sym a))

@@ -1,4 +1,5 @@
--- Changes 3 to 8: the rows that an edit fills with are neither the owner's nor of definitions that reach it, and conform before and after it.
+-- Changes 3 to 8: the rows that an edit fills with are neither the owner's nor of
+-- definitions that reach it, and conform before and after it.
 use Prim.Native.Nat.{ℕ, zero, suc, _<_}
 use native.Mathlib.Omega.{arith}
 use mathlib.Core.Path.{_≡_, refl, sym, ap, _∙_}

@@ -40,7 +40,8 @@ module _ (w : ℕ) (s : Store) (ok : wellFormed w (s .form) ≡ true) (c : Call)
   owner-after =
       ap (lookup (d .name)) (a .formed)
       ∙ update-this (inModel (editAt (a .edit) (a .at))) (λ x. refl) (a .o) (s .form) (well-formed w (s .form) .0 ok .names) (ltb→lt (a .o) (length (s .form)) (to-T (a .inside)))
-      ∙ ap (λ (z : Content). some (record { name = d .name; content = z; attributes = d .attributes })) (ap (inContent (editAt (a .edit) (a .at))) (a .content) ∙ ap (λ (z : Option (Found Bytes)). complex (editFound (a .edit) (members d) z)) (a .there))
+      ∙ ap (λ (z : Content). some (record { name = d .name; content = z; attributes = d .attributes }))
+      (ap (inContent (editAt (a .edit) (a .at))) (a .content) ∙ ap (λ (z : Option (Found Bytes)). complex (editFound (a .edit) (members d) z)) (a .there))
     where
       d : Definition
       d = definitionAt (a .o) (s .form)

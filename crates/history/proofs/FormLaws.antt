@@ -70,7 +70,8 @@ pub index-found : (n : Bytes) (form : Form) (d : Definition) → lookup n form �
 index-found n [] d e = let z : false ≡ true = cc e in absurd (false≢true z)
 index-found n (c ∷ form) d e = by (same-or n (c .name)) (index-found n form d)
   where
-    by : (n ≡ c .name) ⊎ (n ≡ c .name → ⊥) → (lookup n form ≡ some d → (indexOf n form < length form) × (definitionAt (indexOf n form) form ≡ d)) → (indexOf n (c ∷ form) < length (c ∷ form)) × (definitionAt (indexOf n (c ∷ form)) (c ∷ form) ≡ d)
+    by : (n ≡ c .name) ⊎ (n ≡ c .name → ⊥) → (lookup n form ≡ some d → (indexOf n form < length form) × (definitionAt (indexOf n form) form ≡ d))
+        → (indexOf n (c ∷ form) < length (c ∷ form)) × (definitionAt (indexOf n (c ∷ form)) (c ∷ form) ≡ d)
     by (inl q) f =
         let j : indexOf n (c ∷ form) ≡ 0 = rw (bytes .same← n (c .name) q, indexOf) in
         let s : some c ≡ some d = sym (lookup-here n c form q) ∙ e in
@@ -91,7 +92,9 @@ unfolding attributeAt
 attribute-owned i [] o e = let z : false ≡ true = cc e in absurd (false≢true z)
 attribute-owned i (d ∷ form) o e = by (entryAt i (d .attributes)) refl (attribute-owned (i - length (d .attributes)) form o)
   where
-    by : (x : Option Attribute) → entryAt i (d .attributes) ≡ x → (attributeAt (i - length (d .attributes)) form ≡ some o → List·Memᴰ (o .owner) form × List·Memᴰ (o .attribute) (o .owner .attributes)) → List·Memᴰ (o .owner) (d ∷ form) × List·Memᴰ (o .attribute) (o .owner .attributes)
+    by : (x : Option Attribute) → entryAt i (d .attributes) ≡ x
+        → (attributeAt (i - length (d .attributes)) form ≡ some o → List·Memᴰ (o .owner) form × List·Memᴰ (o .attribute) (o .owner .attributes))
+        → List·Memᴰ (o .owner) (d ∷ form) × List·Memᴰ (o .attribute) (o .owner .attributes)
     by none q f = let (m, a) = f (rw (q, attributeAt) at e) in (List·Memᴰ·tail m, a)
     by (some a) q f =
         let s : some (record { owner = d; attribute = a }) ≡ some o = rw (q, attributeAt) at e in

@@ -1,4 +1,5 @@
--- Changes 3 to 8 on the rows right below an instance of the owner: the attribute rows stay, the element rows are edited as `childRows` says.
+-- Changes 3 to 8 on the rows right below an instance of the owner: the
+-- attribute rows stay, the element rows are edited as `childRows` says.
 use Prim.Native.Nat.{ℕ}
 use mathlib.Core.Path.{_≡_, refl, sym, ap, ap₂, _∙_}
 use mathlib.Core.Bool.{Bool, true, false, _&&_, not, false≢true}
@@ -88,7 +89,13 @@ first-none x (r ∷ rs) f = rw (differs bytes (r .name) x (λ e. f (List·Memᴰ
 -- sp: on the spine; me: is there a child of the name; `first`, `rs`: the rows after a cut, and the rows
 refit-cases : (sp cu ga me : Bool) (ns : List Bytes) (f first rs : List Row) → (me ≡ false → first ≡ rs)
     → whenDue ((sp && ga) && not me) ns f (elim (sp && cu) as (λ z. List Row) [ true ↦ first | false ↦ rs ])
-    ≡ elim sp as (λ z. List Row) [ true ↦ elim me as (λ z. List Row) [ true ↦ elim cu as (λ z. List Row) [ true ↦ first | false ↦ rs ] | false ↦ elim ga as (λ z. List Row) [ true ↦ placeRows bytes nameOf ns f rs | false ↦ rs ] ] | false ↦ rs ]
+    ≡ elim sp as (λ z. List Row) [
+      | true ↦ elim me as (λ z. List Row) [
+        | true ↦ elim cu as (λ z. List Row) [ true ↦ first | false ↦ rs ]
+        | false ↦ elim ga as (λ z. List Row) [ true ↦ placeRows bytes nameOf ns f rs | false ↦ rs ]
+      ]
+      | false ↦ rs
+    ]
 refit-cases false cu ga me ns f first rs h = refl
 refit-cases true cu true true ns f first rs h = refl
 refit-cases true cu false true ns f first rs h = refl
@@ -156,7 +163,8 @@ module _ (version : ℕ) (form : Form) (ls : List Line) (owner txt : Bytes) (u :
         due-same _ ((spine c && gains q r) && not me) (before c) _ (elementRow x ∷ []) _ (elim (spine c && cuts q r) as (λ z. List Row) [ true ↦ firstRows bytes nameOf x back | false ↦ back ])
         (ap₂ (λ (a b : Bool). (spine c && gains q r) && (a && b)) named (ap isNone (seen-back (elementNamed x) (front-other x)) ∙ named-none x back elements))
         (filling-heads version (length form) form txt x d) (cut (spine c && cuts q r))
-        ∙ refit-cases (spine c) (cuts q r) (gains q r) me (before c) (elementRow x ∷ []) (firstRows bytes nameOf x back) back (λ e. first-none x back (λ m. false≢true (sym e ∙ member-in bytes x (map nameOf back) m))))
+        ∙ refit-cases (spine c) (cuts q r) (gains q r) me (before c) (elementRow x ∷ []) (firstRows bytes nameOf x back) back
+        (λ e. first-none x back (λ m. false≢true (sym e ∙ member-in bytes x (map nameOf back) m))))
       where
         k : ℕ
         k = serialAt 0 (childrenOf (elementNamed x) (u .serial) ls)
@@ -164,7 +172,9 @@ module _ (version : ℕ) (form : Form) (ls : List Line) (owner txt : Bytes) (u :
         me : Bool
         me = member bytes x (map nameOf back)
 
-        cut : (b : Bool) → keep (λ y. not (b && (elementNamed owner u && (elementNamed x y && not (eqb (y .serial) k))))) back ≡ elim b as (λ z. List Row) [ true ↦ firstRows bytes nameOf x back | false ↦ back ]
+        cut : (b : Bool)
+            → keep (λ y. not (b && (elementNamed owner u && (elementNamed x y && not (eqb (y .serial) k))))) back
+            ≡ elim b as (λ z. List Row) [ true ↦ firstRows bytes nameOf x back | false ↦ back ]
         cut true =
             ap (λ (b : Bool). keep (λ y. not (b && (elementNamed x y && not (eqb (y .serial) k)))) back) named
             ∙ keep-first x k back elements once-back (ap (serialAt 0) (seen-back (elementNamed x) (front-other x)))
@@ -178,7 +188,9 @@ module _ (version : ℕ) (form : Form) (ls : List Line) (owner txt : Bytes) (u :
         (λ e. (front-later (before c) u, back-later (before c) u))
         ∙ ap (λ (z : List Row). front ++ z) (
         due-same _ ((spine c && gains q r) && not me) (before c) _ (map elementRow (groupFilling r j ms)) _ back
-        (ap₂ (λ (a b : Bool). (spine c && gains q r) && (a && b)) named (ap isNone (seen-back (elementAmong (names ms)) (λ y m. not-element (y .sort) (member bytes (y .name) (names ms)) (attributes y m))) ∙ among-none (names ms) back elements))
+        (ap₂ (λ (a b : Bool). (spine c && gains q r) && (a && b)) named
+        (ap isNone (seen-back (elementAmong (names ms)) (λ y m. not-element (y .sort) (member bytes (y .name) (names ms)) (attributes y m)))
+        ∙ among-none (names ms) back elements))
         (each-heads version (length form) form txt (groupFilling r j ms) (all-test (λ m. deep (length form) form m) (groupFilling r j ms) .1 d)) (keep-all (λ r. true) back (λ x m. refl))
         ∙ group-cases (spine c) (gains q r) me (before c) (map elementRow (groupFilling r j ms)) back)
       where

@@ -78,7 +78,10 @@ module _ (P : Row → Type 0) (fill : List Bytes → List Row) (new : (ns : List
   each-child remove c (group q k ms t) rs f = f
   each-child (quantify r) c done rs f = f
   each-child (quantify r) c (el q x t) rs f =
-      each-if (spine c) _ _ (each-if (member bytes x (map nameOf rs)) _ _ (each-if (cuts q r) _ _ (λ y m. f y (first-in x rs y m)) f) (each-if (gains q r) _ _ (each-placed (before c) (x ∷ []) rs f) f)) f
+      each-if (spine c) _ _
+      (each-if (member bytes x (map nameOf rs)) _ _ (each-if (cuts q r) _ _ (λ y m. f y (first-in x rs y m)) f)
+      (each-if (gains q r) _ _ (each-placed (before c) (x ∷ []) rs f) f))
+      f
   each-child (quantify r) c (group q k ms t) rs f =
       each-if (spine c) _ _ (each-if (gains q r) _ _ (each-if (anyOf bytes (names ms) (map nameOf rs)) _ _ f (each-placed (before c) (groupFilling r k ms) rs f)) f) f
   each-child (convert j n) c t rs f = f
@@ -113,7 +116,8 @@ abbrev pub editedDefinition : Definition → Edit Bytes → Found Bytes → Defi
 editedDefinition d e f = record { name = d .name; content = complex (modelAfter e f); attributes = d .attributes }
 
 module _ (version w : ℕ) (form : Form) (ok : wellFormed w form ≡ true) (d : Definition) (at : lookup (d .name) form ≡ some d) (ms : Members Bytes) (is : d .content ≡ complex ms)
-    (e : Edit Bytes) (p : List ℕ) (f : Found Bytes) (found : placeOf e p ms ≡ some f) (fits : misplaced bytes e (f .context) (f .picked) ≡ false) (kept : unfit e (f .context) (f .picked) ≡ false) where
+    (e : Edit Bytes) (p : List ℕ) (f : Found Bytes) (found : placeOf e p ms ≡ some f) (fits : misplaced bytes e (f .context) (f .picked) ≡ false)
+    (kept : unfit e (f .context) (f .picked) ≡ false) where
   before-sound : Sound ms
   before-sound = record { distinct = rw is at (definition-good w form ok (d .name) d at .once); full = rw is at (definition-good w form ok (d .name) d at .groups) }
 
@@ -133,7 +137,8 @@ module _ (version w : ℕ) (form : Form) (ok : wellFormed w form ≡ true) (d : 
           each-child (λ y. y .sort ≡ element) (map elementRow) element-sorts e (f .context) (f .picked) (x .back) (content .0),
           accepts-conforms bytes (modelAfter e f) (after-sound .distinct) (map nameOf rest) .0 (
               ap (accepts bytes (modelAfter e f)) (child-rows nameOf bytes (map elementRow) element-names e (f .context) (f .picked) (x .back))
-              ∙ change-accepts bytes e p ms f (place-of e p ms f found) fits before-sound kept (map nameOf (x .back)) (accepts-conforms bytes ms (before-sound .distinct) (map nameOf (x .back)) .1 (content .1))),
+              ∙ change-accepts bytes e p ms f (place-of e p ms f found) fits before-sound kept (map nameOf (x .back))
+              (accepts-conforms bytes ms (before-sound .distinct) (map nameOf (x .back)) .1 (content .1))),
         );
       }
     where

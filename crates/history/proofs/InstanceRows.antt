@@ -1,4 +1,5 @@
--- A plan on the rows right below one row: rows taken by name, rows that come before the first later one, attribute rows that stay in front.
+-- A plan on the rows right below one row: rows taken by name, rows that come
+-- before the first later one, attribute rows that stay in front.
 use Prim.Native.Nat.{ℕ}
 use mathlib.Core.Path.{_≡_, refl, sym, ap, ap₂, _∙_}
 use mathlib.Core.Logic.{⊎-elim}
@@ -64,7 +65,9 @@ revalue-other k v x e = ap (λ (b : Bool). record { serial = x .serial; sort = x
 pub revalued-same : (p : Plan) → p .set ≡ 0 → (rs : List Row) → ((x : Row) → List·Memᴰ x rs → x .serial ≡ 0 → ⊥) → map (revalued p) rs ≡ rs
 revalued-same p z [] f = refl
 revalued-same p z (r ∷ rs) f =
-    ap₂ (λ (a : Row) (b : List Row). a ∷ b) (revalue-other (p .set) (p .value) r (differs numbers (r .serial) (p .set) (λ e. f r (List·Memᴰ·head refl) (e ∙ z)))) (revalued-same p z rs (λ x m. f x (List·Memᴰ·tail m)))
+    ap₂ (λ (a : Row) (b : List Row). a ∷ b)
+    (revalue-other (p .set) (p .value) r (differs numbers (r .serial) (p .set) (λ e. f r (List·Memᴰ·head refl) (e ∙ z))))
+    (revalued-same p z rs (λ x m. f x (List·Memᴰ·tail m)))
 
 -- ---- new rows among the rows of an instance
 module _ (p : Plan) (u : Row) where
@@ -87,12 +90,14 @@ module _ (p : Plan) (u : Row) where
   plant-front due (r ∷ front) back f =
       plant-past due r (front ++ back) (f r (List·Memᴰ·head refl)) ∙ ap (λ (z : List Row). r ∷ z) (plant-front due front back (λ x m. f x (List·Memᴰ·tail m)))
 
-  plant-back : (ns : List Bytes) (back : List Row) → ((x : Row) → List·Memᴰ x back → p .later u x ≡ not (member bytes (x .name) ns)) → plantRows p u true back ≡ placeRows bytes nameOf ns (heads (p .filling)) back
+  plant-back : (ns : List Bytes) (back : List Row) → ((x : Row) → List·Memᴰ x back → p .later u x ≡ not (member bytes (x .name) ns))
+      → plantRows p u true back ≡ placeRows bytes nameOf ns (heads (p .filling)) back
   unfolding plantRows placeRows
   plant-back ns [] f = refl
   plant-back ns (r ∷ back) f = by (member bytes (r .name) ns) refl (plant-back ns back (λ x m. f x (List·Memᴰ·tail m)))
     where
-      by : (c : Bool) → member bytes (r .name) ns ≡ c → plantRows p u true back ≡ placeRows bytes nameOf ns (heads (p .filling)) back → plantRows p u true (r ∷ back) ≡ placeRows bytes nameOf ns (heads (p .filling)) (r ∷ back)
+      by : (c : Bool) → member bytes (r .name) ns ≡ c → plantRows p u true back ≡ placeRows bytes nameOf ns (heads (p .filling)) back
+          → plantRows p u true (r ∷ back) ≡ placeRows bytes nameOf ns (heads (p .filling)) (r ∷ back)
       by true e h = plant-past true r back (f r (List·Memᴰ·head refl) ∙ ap not e) ∙ rw (e, placeRows) (ap (λ (z : List Row). r ∷ z) h)
       by false e h = plant-here r back (f r (List·Memᴰ·head refl) ∙ ap not e) ∙ rw (e, placeRows)
 
@@ -120,14 +125,16 @@ keep-erase t x (r ∷ rs) f = by (same (r .name) x) refl (keep-erase t x rs (λ 
 abbrev pub isFirst : Bytes → ℕ → Row → Bool
 isFirst x k s = not (elementNamed x s && not (eqb (s .serial) k))
 
-pub keep-first : (x : Bytes) (k : ℕ) (rs : List Row) → Sorted element rs → Distinct (map rowSerial rs) → k ≡ serialAt 0 (map rowSerial (keep (elementNamed x) rs)) → keep (isFirst x k) rs ≡ firstRows bytes nameOf x rs
+pub keep-first : (x : Bytes) (k : ℕ) (rs : List Row) → Sorted element rs → Distinct (map rowSerial rs)
+    → k ≡ serialAt 0 (map rowSerial (keep (elementNamed x) rs)) → keep (isFirst x k) rs ≡ firstRows bytes nameOf x rs
 unfolding keep firstRows
 keep-first x k [] s d e = refl
 keep-first x k (r ∷ rs) s (new, d) e = by (same (r .name) x) refl (keep-first x k rs (λ y m. s y (List·Memᴰ·tail m)) d)
   where
     by : (c : Bool) → same (r .name) x ≡ c → (k ≡ serialAt 0 (map rowSerial (keep (elementNamed x) rs)) → keep (isFirst x k) rs ≡ firstRows bytes nameOf x rs)
         → keep (isFirst x k) (r ∷ rs) ≡ firstRows bytes nameOf x (r ∷ rs)
-    by true q h = keep-yes (isFirst x k) r rs (ap₂ (λ (a b : Bool). not (a && not b)) is (numbers .same← (r .serial) k (sym at))) ∙ rw (q, firstRows) (ap (λ (z : List Row). r ∷ z) (keep-erase (isFirst x k) x rs others))
+    by true q h = keep-yes (isFirst x k) r rs (ap₂ (λ (a b : Bool). not (a && not b)) is (numbers .same← (r .serial) k (sym at)))
+        ∙ rw (q, firstRows) (ap (λ (z : List Row). r ∷ z) (keep-erase (isFirst x k) x rs others))
       where
         is : elementNamed x r ≡ true
         is = named-is x r (s r (List·Memᴰ·head refl)) ∙ q
@@ -144,7 +151,9 @@ keep-first x k (r ∷ rs) s (new, d) e = by (same (r .name) x) refl (keep-first 
             ap (λ (b : Bool). not (elementNamed x y && not b)) (differs numbers (y .serial) k (λ p. new (Memᴰ·cast (sym (p ∙ at)) (Memᴰ·map rowSerial m))))
             ∙ and-true (elementNamed x y)
             ∙ ap not (named-is x y (s y (List·Memᴰ·tail m)))
-    by false q h = keep-yes (isFirst x k) r rs (ap (λ (a : Bool). not (a && not (eqb (r .serial) k))) is) ∙ rw (q, firstRows) (ap (λ (z : List Row). r ∷ z) (h (e ∙ ap (λ (z : List Row). serialAt 0 (map rowSerial z)) (keep-no (elementNamed x) r rs is))))
+    by false q h =
+        keep-yes (isFirst x k) r rs (ap (λ (a : Bool). not (a && not (eqb (r .serial) k))) is)
+        ∙ rw (q, firstRows) (ap (λ (z : List Row). r ∷ z) (h (e ∙ ap (λ (z : List Row). serialAt 0 (map rowSerial z)) (keep-no (elementNamed x) r rs is))))
       where
         is : elementNamed x r ≡ false
         is = named-is x r (s r (List·Memᴰ·head refl)) ∙ q
@@ -190,7 +199,9 @@ whenDue due ns f rs = elim due [ true ↦ placeRows bytes nameOf ns f rs | false
 
 pub after-split : (p : Plan) (u : Row) (ns : List Bytes) (front back : List Row) → p .set ≡ 0 → ((x : Row) → List·Memᴰ x (front ++ back) → x .serial ≡ 0 → ⊥)
     → ((x : Row) → List·Memᴰ x front → p .takes u x ≡ false)
-    → (p .fills (revalued p u) ≡ true → ((x : Row) → List·Memᴰ x front → p .later (revalued p u) x ≡ false) × ((x : Row) → List·Memᴰ x back → p .later (revalued p u) x ≡ not (member bytes (x .name) ns)))
+    → (p .fills (revalued p u) ≡ true
+    → ((x : Row) → List·Memᴰ x front → p .later (revalued p u) x ≡ false)
+    × ((x : Row) → List·Memᴰ x back → p .later (revalued p u) x ≡ not (member bytes (x .name) ns)))
     → childrenAfter p u (front ++ back) ≡ front ++ whenDue (p .fills (revalued p u)) ns (heads (p .filling)) (keep (λ r. not (p .takes u r)) back)
 unfolding childrenAfter
 after-split p u ns front back z given stay later = ap (plantRows p v (p .fills v)) rows ∙ by (p .fills v) refl
@@ -214,7 +225,8 @@ after-split p u ns front back z given stay later = ap (plantRows p v (p .fills v
     by false e = plant-not p v (front ++ keep left back)
 
 -- nothing is taken from below u, and nothing comes
-pub untouched : (p : Plan) (u : Row) (rows : List Row) → p .set ≡ 0 → ((x : Row) → List·Memᴰ x rows → x .serial ≡ 0 → ⊥) → ((x : Row) → List·Memᴰ x rows → p .takes u x ≡ false) → p .fills (revalued p u) ≡ false
+pub untouched : (p : Plan) (u : Row) (rows : List Row) → p .set ≡ 0 → ((x : Row) → List·Memᴰ x rows → x .serial ≡ 0 → ⊥)
+    → ((x : Row) → List·Memᴰ x rows → p .takes u x ≡ false) → p .fills (revalued p u) ≡ false
     → childrenAfter p u rows ≡ rows
 untouched p u rows z given stay none =
     after-split p u [] [] rows z given (λ x m. absurd (List·Memᴰ·not-nil m)) (λ e. absurd (false≢true (sym none ∙ e)))

@@ -17,7 +17,10 @@ use Rattle.rules.specs.Conforming.{isElement, isAttribute, isText, everyRow}
 use Rattle.rules.specs.Filling.{fillEach, fillDefinition}
 use Rattle.rules.specs.Lines.{Line, lines, isTextRow, elementNamed, attributeNamed, elementWith, childrenOf, serialAt}
 use Rattle.rules.specs.Decode.{quantifierOf}
-use Rattle.rules.specs.Change.{Call, createDefinition, destroyDefinition, insertElement, removeElement, changeQuantifier, convertToGroup, flattenGroup, changeGroupQuantifier, addAttribute, destroyAttribute, addDocument, addElement, destroyElement, setAttribute, destroyAttributeRow, setText, definitionAt, nameAtIndex, Owned, attributeAt, Plan, keeping, insertPlan, removePlan, groupFilling, quantifyPlan, pickedPlan, setAt, setPlan, dropPlan, plan, changed, docsAfter, after}
+use Rattle.rules.specs.Change.{Call, createDefinition, destroyDefinition, insertElement, removeElement, changeQuantifier, convertToGroup, flattenGroup}
+use Rattle.rules.specs.Change.{changeGroupQuantifier, addAttribute, destroyAttribute, addDocument, addElement, destroyElement, setAttribute}
+use Rattle.rules.specs.Change.{destroyAttributeRow, setText, definitionAt, nameAtIndex, Owned, attributeAt, Plan, keeping, insertPlan, removePlan, groupFilling}
+use Rattle.rules.specs.Change.{quantifyPlan, pickedPlan, setAt, setPlan, dropPlan, plan, changed, docsAfter, after}
 use Rattle.rules.specs.Passing.{laidRow, GoodSerials}
 use Rattle.rules.proofs.Words.{and-both, and-split}
 use Rattle.rules.proofs.WellFormedLaws.{definition-good}
@@ -164,7 +167,8 @@ module _ (w next : ℕ) (docs : Forest Row) (serials : GoodSerials next docs) wh
         of attribute h = refl
         of text h = refl
 
-module _ (w : ℕ) (c : Call) (s : Store) (ok : wellFormed w (s .form) ≡ true) (serials : GoodSerials (s .next) (s .docs)) (given : givenValue w c ≡ true) (before : everyRow (λ r below. laidRow w r) (s .docs) ≡ true) where
+module _ (w : ℕ) (c : Call) (s : Store) (ok : wellFormed w (s .form) ≡ true) (serials : GoodSerials (s .next) (s .docs)) (given : givenValue w c ≡ true)
+    (before : everyRow (λ r below. laidRow w r) (s .docs) ≡ true) where
   pub laid-docs : everyRow (λ r below. laidRow w r) (docsAfter c s) ≡ true
   laid-docs = laid-changed w (s .next) (s .docs) serials (plan c (s .version) (s .form) (lines 0 (s .docs))) (plan-lays w (s .next) (s .docs) serials (s .version) (s .form) ok c given) before
 

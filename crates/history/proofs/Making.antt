@@ -1,4 +1,5 @@
--- The making rule, for any plan: the lines that the book writes in are the lines of the rows that the store plants and numbers.
+-- The making rule, for any plan: the lines that the book writes in are
+-- the lines of the rows that the store plants and numbers.
 use Prim.Native.Nat.{ℕ, suc, _+_, _*_, _≤_}
 use native.Mathlib.Nat.{mul-add, mul-suc, mul-zero}
 use native.Mathlib.Omega.{arith}
@@ -363,7 +364,8 @@ module _ (p : Plan) (docs : Forest Row) (es : List Entry) (h : untaken es ≡ li
       ∙ placed-sketch p ground docs [] (omega (arith, a 0)) tt
       ∙ append-nil (sketch p ground (p .fills ground) docs)
 
-  -- THE MAKING RULE: the book's untaken lines after the new ones are written in are the lines of the documents after planting
+  -- THE MAKING RULE: the book's untaken lines after the new ones are
+  -- written in are the lines of the documents after planting
   pub making : (n : ℕ) → untaken (expand (p .filling) n (placed p ground (spots p es))) ≡ lines 0 (number n (plant p ground (p .fills ground) docs))
   unfolding Apart count
   making n =

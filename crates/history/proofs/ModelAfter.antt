@@ -55,11 +55,15 @@ module _ {A : Type 0} where
   edited-names flatten (el q x t) m i = inl i
   edited-names flatten (group q k s t) m i = inl (rw (names-append s t) at i)
 
-  plug-names : (c : Context A) (t t′ : Members A) (more : List A) → ((m : A) → List·Memᴰ m (names t′) → List·Memᴰ m (names t) ⊎ List·Memᴰ m more) → (m : A) → List·Memᴰ m (names (plug c t′)) → List·Memᴰ m (names (plug c t)) ⊎ List·Memᴰ m more
+  plug-names : (c : Context A) (t t′ : Members A) (more : List A) → ((m : A) → List·Memᴰ m (names t′) → List·Memᴰ m (names t) ⊎ List·Memᴰ m more) → (m : A)
+      → List·Memᴰ m (names (plug c t′)) → List·Memᴰ m (names (plug c t)) ⊎ List·Memᴰ m more
   plug-names c t t′ more f m i =
       let j : List·Memᴰ m (before c ++ (names t′ ++ after c)) = rw (names-plug c t′) at i in
       either (λ k. rw (names-plug c t) k) (λ k. k)
-      (⊎-elim (λ k. inl (Memᴰ·append-left (names t ++ after c) k)) (λ k. ⊎-elim (λ h. either (λ g. Memᴰ·append-right (before c) (Memᴰ·append-left (after c) g)) (λ g. g) (f m h)) (λ h. inl (Memᴰ·append-right (before c) (Memᴰ·append-right (names t) h))) (List·Memᴰ·append-cases (names t′) k)) (List·Memᴰ·append-cases (before c) j))
+      (⊎-elim (λ k. inl (Memᴰ·append-left (names t ++ after c) k))
+      (λ k. ⊎-elim (λ h. either (λ g. Memᴰ·append-right (before c) (Memᴰ·append-left (after c) g)) (λ g. g) (f m h))
+      (λ h. inl (Memᴰ·append-right (before c) (Memᴰ·append-right (names t) h))) (List·Memᴰ·append-cases (names t′) k))
+      (List·Memᴰ·append-cases (before c) j))
 
   -- ---- at a place
   pub place-of : (e : Edit A) (p : List ℕ) (ms : Members A) (f : Found A) → placeOf e p ms ≡ some f → place e p ms ≡ some f
@@ -97,7 +101,9 @@ module _ {A : Type 0} where
 
 -- ---- the conditions of the calls
 -- P: what the conditions say of what is found
-placed : (e : Edit Bytes) (p : List ℕ) (ms : Members Bytes) (P : Option (Found Bytes) → Type 0) → (P none → ⊥) → ((f : Found Bytes) → plug (f .context) (f .picked) ≡ ms → P (some f) → misplaced bytes e (f .context) (f .picked) ≡ false) → P (placeOf e p ms) → Placed bytes e p ms
+placed : (e : Edit Bytes) (p : List ℕ) (ms : Members Bytes) (P : Option (Found Bytes) → Type 0) → (P none → ⊥)
+    → ((f : Found Bytes) → plug (f .context) (f .picked) ≡ ms → P (some f) → misplaced bytes e (f .context) (f .picked) ≡ false) → P (placeOf e p ms)
+    → Placed bytes e p ms
 placed e p ms P absent fit h = by (placeOf e p ms) refl h
   where
     by : (o : Option (Found Bytes)) → placeOf e p ms ≡ o → P o → Placed bytes e p ms
@@ -140,7 +146,8 @@ module _ (room : ℕ) (s : Store) (o : ℕ) (p : List ℕ) where
   unfolding conditions
   placed-remove a =
       let (known, (there, (last, more))) = unmet room (removeElement o p) s a in
-      placed remove p owned (λ x. (noElementAt x ≡ false) × (atPlace (λ c x. removeLast c (tailOf x)) x ≡ false)) (λ h. false≢true (sym (h .0))) (λ f e h. fit-remove (f .context) (f .picked) (h .0) (h .1)) (there, last)
+      placed remove p owned (λ x. (noElementAt x ≡ false) × (atPlace (λ c x. removeLast c (tailOf x)) x ≡ false)) (λ h. false≢true (sym (h .0)))
+      (λ f e h. fit-remove (f .context) (f .picked) (h .0) (h .1)) (there, last)
 
   pub placed-quantify : (q : ℕ) (t : Bytes) → refusal room (changeQuantifier o p q t) s ≡ 0 → Placed bytes (quantify (quantifierOf q)) p owned
   unfolding conditions
@@ -167,4 +174,5 @@ module _ (room : ℕ) (s : Store) (o : ℕ) (p : List ℕ) where
   unfolding conditions
   placed-flatten a =
       let (known, (there, (alike, end))) = unmet room (flattenGroup o p) s a in
-      placed flatten p owned (λ x. (noGroupAt x ≡ false) × (atPlace flattenUnlike x ≡ false)) (λ h. false≢true (sym (h .0))) (λ f e h. fit-flatten (f .context) (f .picked) (h .0) (h .1)) (there, alike)
+      placed flatten p owned (λ x. (noGroupAt x ≡ false) × (atPlace flattenUnlike x ≡ false)) (λ h. false≢true (sym (h .0)))
+      (λ f e h. fit-flatten (f .context) (f .picked) (h .0) (h .1)) (there, alike)

@@ -4,7 +4,8 @@ use mathlib.Core.Path.{_≡_, refl, sym, ap, _∙_}
 use mathlib.Core.Logic.{_⊎_, inl, inr, ⊎-elim}
 use mathlib.Core.Bool.{Bool, true, false, false≢true}
 use mathlib.Core.Option.{Option, none, some}
-use mathlib.Core.List.{List, [], _∷_, _++_, map, map-append, List·Memᴰ, List·Memᴰ·head, List·Memᴰ·tail, List·Memᴰ·not-nil, List·Memᴰ·cases-cons, List·Memᴰ·append-cases, List·Memᴰ·eq-of-singleton, Memᴰ·cast}
+use mathlib.Core.List.{List, [], _∷_, _++_, map, map-append, List·Memᴰ, List·Memᴰ·head, List·Memᴰ·tail, List·Memᴰ·not-nil, List·Memᴰ·cases-cons}
+use mathlib.Core.List.{List·Memᴰ·append-cases, List·Memᴰ·eq-of-singleton, Memᴰ·cast}
 use lib.ListN.{length}
 use Rattle.rules.specs.Bytes.{Bytes}
 use Rattle.rules.specs.Model.{names, Distinct, Full}
@@ -44,7 +45,8 @@ by-lookup : (w : ℕ) (form : Form) → Distinct (map definitionName form) → (
 by-lookup w form once f = record { names = once; definitions = λ d m. f (d .name) d (lookup-distinct form once d m) }
 
 -- a definition in another form
-good-moved : (w : ℕ) (form more : Form) (d : Definition) → GoodDefinition w form d → ((m : Bytes) → List·Memᴰ m (names (members d)) → known more m ≡ true) → ((n : Bytes) → Reaches more n n → ⊥) → GoodDefinition w more d
+good-moved : (w : ℕ) (form more : Form) (d : Definition) → GoodDefinition w form d → ((m : Bytes) → List·Memᴰ m (names (members d)) → known more m ≡ true)
+    → ((n : Bytes) → Reaches more n n → ⊥) → GoodDefinition w more d
 good-moved w form more d g k c =
     record {
       name = g .name;
@@ -190,7 +192,8 @@ module _ (w : ℕ) (form : Form) (ok : wellFormed w form ≡ true) (i : ℕ) (be
         let q : lookup n form ≡ some d = fewer-found n d e in
         let g : GoodDefinition w form d = definition-good w form ok n d q in
         good-moved w form fewer d g
-        (λ m k. ap isThere (without-other i form m (λ z. unused d (lookup-member n form d q .0) (Memᴰ·cast (sym z) k))) ∙ g .inRange m k) (λ x r. no-circle w form ok x (reaches-fewer form fewer fewer-members r))
+        (λ m k. ap isThere (without-other i form m (λ z. unused d (lookup-member n form d q .0) (Memᴰ·cast (sym z) k))) ∙ g .inRange m k)
+        (λ x r. no-circle w form ok x (reaches-fewer form fewer fewer-members r))
 
     pub removed : wellFormed w fewer ≡ true
     removed = well-formed w fewer .1 (by-lookup w fewer (rw (without-names i form) (without-distinct i (map definitionName form) once-named)) fewer-good)

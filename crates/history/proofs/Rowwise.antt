@@ -80,7 +80,8 @@ module _ (p : Plan) where
       kept : keep (λ r. not (p .takes v r)) (r ∷ rs) ≡ keep (λ r. not (p .takes v r)) rs
       kept = rw (e, keep)
 
-  rows-left : (u : Row) (due : Bool) (v r : Row) (rs : List Row) → p .takes v r ≡ false → rowsBelow u due v (r ∷ rs) ≡ plantRows p u due (revalued p r ∷ map (revalued p) (keep (λ r. not (p .takes v r)) rs))
+  rows-left : (u : Row) (due : Bool) (v r : Row) (rs : List Row) → p .takes v r ≡ false
+      → rowsBelow u due v (r ∷ rs) ≡ plantRows p u due (revalued p r ∷ map (revalued p) (keep (λ r. not (p .takes v r)) rs))
   unfolding keep
   rows-left u due v r rs e = ap (λ (z : List Row). plantRows p u due (map (revalued p) z)) kept
     where
@@ -106,7 +107,8 @@ module _ (p : Plan) where
       rest : List Row
       rest = map (revalued p) (keep (λ r. not (p .takes v r)) (heads t))
 
-      by : (c : Bool) → p .takes v r ≡ c → (d : Bool) → (due && p .later u (revalued p r)) ≡ d → heads (below u false v t) ≡ rowsBelow u false v (heads t) → heads (below u due v t) ≡ rowsBelow u due v (heads t)
+      by : (c : Bool) → p .takes v r ≡ c → (d : Bool) → (due && p .later u (revalued p r)) ≡ d → heads (below u false v t) ≡ rowsBelow u false v (heads t)
+          → heads (below u due v t) ≡ rowsBelow u due v (heads t)
           → heads (below u due v (tree r b t)) ≡ rowsBelow u due v (r ∷ heads t)
       by true e d h x y = ap heads (below-taken u due v r b t e) ∙ y ∙ sym (rows-taken u due v r (heads t) e)
       by false e true h x y =

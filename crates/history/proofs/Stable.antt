@@ -1,5 +1,5 @@
--- The book over time: its lines keep their order, serial, sort, name and parent, and stay taken; no serial is given twice, taken lines
--- counted; the rows common to two moments are in the same order at both.
+-- The book over time: its lines keep their order, serial, sort, name and parent, and stay taken; no serial is given
+-- twice, taken lines counted; the rows common to two moments are in the same order at both.
 use Prim.Native.Nat.{ℕ, suc, _+_, _*_, _≤_, _<_}
 use native.Mathlib.Omega.{arith}
 use native.Mathlib.Nat.{mul-suc, mul-zero}

@@ -5,7 +5,8 @@ use mathlib.Core.Path.{_≡_, refl, sym, ap, ap₂, _∙_}
 use mathlib.Core.Logic.{_⊎_, inl, inr, ⊎-elim}
 use mathlib.Core.Bool.{Bool, true, false, _&&_, false≢true}
 use mathlib.Core.Option.{some}
-use mathlib.Core.List.{List, [], _∷_, _++_, map, append-nil, append-assoc, List·Memᴰ, List·Memᴰ·head, List·Memᴰ·tail, List·Memᴰ·not-nil, List·Memᴰ·cases-cons, List·Memᴰ·append-cases, Memᴰ·cast, Memᴰ·append-left, Memᴰ·append-right}
+use mathlib.Core.List.{List, [], _∷_, _++_, map, append-nil, append-assoc, List·Memᴰ, List·Memᴰ·head, List·Memᴰ·tail, List·Memᴰ·not-nil, List·Memᴰ·cases-cons}
+use mathlib.Core.List.{List·Memᴰ·append-cases, Memᴰ·cast, Memᴰ·append-left, Memᴰ·append-right}
 use lib.Dec.{eqb}
 use Rattle.rules.specs.Bytes.{numbers, any, eqb-of, eqb-eq}
 use Rattle.rules.specs.Model.{Distinct}
@@ -147,11 +148,13 @@ module _ (test : Row → Bool) (k : ℕ) where
           children-append test k (lines (r .serial) b) (lines k t)
           ∙ ap (λ (z : List ℕ). z ++ childrenOf test k (lines k t)) (children-none (r .serial) b (λ e. m (List·Memᴰ·head (sym e))) (λ i. m (List·Memᴰ·tail (Memᴰ·append-left (serials t) i))))
 
-      by : (c : Bool) → test r ≡ c → childrenOf test k (lines (r .serial) b ++ lines k t) ≡ map serialOf (keep test (heads t)) → childrenOf test k (lines k (tree r b t)) ≡ map serialOf (keep test (heads (tree r b t)))
+      by : (c : Bool) → test r ≡ c → childrenOf test k (lines (r .serial) b ++ lines k t) ≡ map serialOf (keep test (heads t))
+          → childrenOf test k (lines k (tree r b t)) ≡ map serialOf (keep test (heads (tree r b t)))
       by true e x = rw (eqb-of k k refl, childrenOf) (rw e (ap (λ (z : List ℕ). r .serial ∷ z) x))
       by false e x = rw (eqb-of k k refl, childrenOf) (rw e x)
 
-children-in : (test : Row → Bool) (up : ℕ) (f : Forest Row) (r : Row) (b : Forest Row) → (up ≡ r .serial → ⊥) → Distinct (serials f) → Standing f r b → childrenOf test (r .serial) (lines up f) ≡ map serialOf (keep test (heads b))
+children-in : (test : Row → Bool) (up : ℕ) (f : Forest Row) (r : Row) (b : Forest Row) → (up ≡ r .serial → ⊥) → Distinct (serials f) → Standing f r b
+    → childrenOf test (r .serial) (lines up f) ≡ map serialOf (keep test (heads b))
 children-in test up bare r b n d i = absurd i
 children-in test up (tree s c t) r b n (m, d) i =
     children-past test (r .serial) (record { parent = up; row = s }) (lines (s .serial) c ++ lines up t) n
@@ -164,7 +167,9 @@ children-in test up (tree s c t) r b n (m, d) i =
         → childrenOf test (r .serial) (lines (s .serial) c) ++ childrenOf test (r .serial) (lines up t) ≡ map serialOf (keep test (heads b))
     by (inl (e, g)) x y =
         ap₂ (λ (u v : List ℕ). u ++ v)
-        (ap (λ (z : ℕ). childrenOf test (r .serial) (lines z c)) (ap serialOf e) ∙ children-here test (r .serial) c (λ j. m (Memᴰ·append-left (serials t) (Memᴰ·cast (ap serialOf e) j))) ∙ ap (λ (z : Forest Row). map serialOf (keep test (heads z))) g)
+        (ap (λ (z : ℕ). childrenOf test (r .serial) (lines z c)) (ap serialOf e)
+        ∙ children-here test (r .serial) c (λ j. m (Memᴰ·append-left (serials t) (Memᴰ·cast (ap serialOf e) j)))
+        ∙ ap (λ (z : Forest Row). map serialOf (keep test (heads z))) g)
         (children-none test (r .serial) up t n (λ j. m (Memᴰ·append-right (serials c) (Memᴰ·cast (ap serialOf e) j))))
         ∙ append-nil (map serialOf (keep test (heads b)))
     by (inr (inl j)) x y =
@@ -178,7 +183,8 @@ children-in test up (tree s c t) r b n (m, d) i =
         (children-none test (r .serial) (s .serial) c (λ e. m (Memᴰ·append-right (serials c) (Memᴰ·cast e k))) (λ h. distinct-apart (serials c) (serials t) d (r .serial) h k))
         (y n (distinct-right (serials c) (serials t) d) j)
 
-find-in : (test : Row → Bool) (up : ℕ) (f : Forest Row) (rest : List Line) (r : Row) → findRow test (lines up f ++ rest) ≡ some r → ((b : Forest Row) × Standing f r b × (test r ≡ true)) ⊎ (findRow test rest ≡ some r)
+find-in : (test : Row → Bool) (up : ℕ) (f : Forest Row) (rest : List Line) (r : Row) → findRow test (lines up f ++ rest) ≡ some r
+    → ((b : Forest Row) × Standing f r b × (test r ≡ true)) ⊎ (findRow test rest ≡ some r)
 unfolding findRow
 find-in test up bare rest r e = inr e
 find-in test up (tree s c t) rest r e = by (test s) refl (find-in test (s .serial) c (lines up t ++ rest) r) (find-in test up t rest r)
@@ -193,7 +199,8 @@ find-in test up (tree s c t) rest r e = by (test s) refl (find-in test (s .seria
         ⊎-elim (λ (b, i, q). inl (b, inr (inl i), q)) (λ h. ⊎-elim (λ (b, i, q). inl (b, inr (inr i), q)) (λ z. inr z) (y h)) (x (rw append-assoc at g))
 
 -- the serials of the rows right below a row are those of rows that stand there
-pub child-stands : (test : Row → Bool) (k up : ℕ) (f : Forest Row) (n : ℕ) → List·Memᴰ n (childrenOf test k (lines up f)) → (r : Row) × (b : Forest Row) × Standing f r b × (test r ≡ true) × (r .serial ≡ n)
+pub child-stands : (test : Row → Bool) (k up : ℕ) (f : Forest Row) (n : ℕ) → List·Memᴰ n (childrenOf test k (lines up f))
+    → (r : Row) × (b : Forest Row) × Standing f r b × (test r ≡ true) × (r .serial ≡ n)
 unfolding childrenOf
 child-stands test k up bare n m = absurd (List·Memᴰ·not-nil m)
 child-stands test k up (tree s c t) n m = by (eqb up k && test s) refl (child-stands test k (s .serial) c n) (child-stands test k up t n)
@@ -201,7 +208,8 @@ child-stands test k up (tree s c t) n m = by (eqb up k && test s) refl (child-st
     Found : Forest Row → Type 0
     Found f = (r : Row) × (b : Forest Row) × Standing f r b × (test r ≡ true) × (r .serial ≡ n)
 
-    rest : (List·Memᴰ n (childrenOf test k (lines (s .serial) c)) → Found c) → (List·Memᴰ n (childrenOf test k (lines up t)) → Found t) → List·Memᴰ n (childrenOf test k (lines (s .serial) c ++ lines up t)) → Found (tree s c t)
+    rest : (List·Memᴰ n (childrenOf test k (lines (s .serial) c)) → Found c) → (List·Memᴰ n (childrenOf test k (lines up t)) → Found t)
+        → List·Memᴰ n (childrenOf test k (lines (s .serial) c ++ lines up t)) → Found (tree s c t)
     rest x y i =
         ⊎-elim (λ j. let (r, b, g, q, e) = x j in (r, b, inr (inl g), q, e)) (λ j. let (r, b, g, q, e) = y j in (r, b, inr (inr g), q, e))
         (List·Memᴰ·append-cases (childrenOf test k (lines (s .serial) c)) (rw (children-append test k (lines (s .serial) c) (lines up t)) at i))

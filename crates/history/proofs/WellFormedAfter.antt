@@ -4,7 +4,8 @@ use mathlib.Core.Path.{_≡_, refl, sym, ap, _∙_}
 use mathlib.Core.Logic.{⊎-elim}
 use mathlib.Core.Bool.{Bool, true, false, false≢true}
 use mathlib.Core.Option.{Option, none, some}
-use mathlib.Core.List.{List, [], _∷_, _++_, map, map-append, List·Memᴰ, List·Memᴰ·head, List·Memᴰ·tail, List·Memᴰ·not-nil, List·Memᴰ·cases-cons, List·Memᴰ·append-cases, List·Memᴰ·eq-of-singleton, Memᴰ·cast, Memᴰ·map, Memᴰ·of-map}
+use mathlib.Core.List.{List, [], _∷_, _++_, map, map-append, List·Memᴰ, List·Memᴰ·head, List·Memᴰ·tail, List·Memᴰ·not-nil, List·Memᴰ·cases-cons}
+use mathlib.Core.List.{List·Memᴰ·append-cases, List·Memᴰ·eq-of-singleton, Memᴰ·cast, Memᴰ·map, Memᴰ·of-map}
 use lib.ListN.{length}
 use Rattle.rules.specs.Bytes.{Bytes, same, bytes, any, isNone}
 use Rattle.rules.specs.Model.{Members, done, names, Distinct, Full, member}
@@ -13,7 +14,10 @@ use Rattle.rules.specs.Store.{Content, empty, pcdata, complex, Attribute, Defin
 use Rattle.rules.specs.Layout.{valueWidth, indexOf}
 use Rattle.rules.specs.Decode.{quantifierOf, groupOf, contentOf, sortOf}
 use Rattle.rules.specs.WellFormed.{attributeName, givenName, storedName, isValue, isFill, isAttributeOf, isThere, known, reachesIn, Reaches, directly, through, GoodDefinition, wellFormed}
-use Rattle.rules.specs.Change.{Call, createDefinition, destroyDefinition, insertElement, removeElement, changeQuantifier, convertToGroup, flattenGroup, changeGroupQuantifier, addAttribute, destroyAttribute, addDocument, addElement, destroyElement, setAttribute, destroyAttributeRow, setText, definitionAt, nameAtIndex, Owned, attributeAt, update, inContent, inModel, withAttributes, editAt, editFound, editModel, lacking, dropOwned, newAttribute, formAfter}
+use Rattle.rules.specs.Change.{Call, createDefinition, destroyDefinition, insertElement, removeElement, changeQuantifier, convertToGroup, flattenGroup}
+use Rattle.rules.specs.Change.{changeGroupQuantifier, addAttribute, destroyAttribute, addDocument, addElement, destroyElement, setAttribute}
+use Rattle.rules.specs.Change.{destroyAttributeRow, setText, definitionAt, nameAtIndex, Owned, attributeAt, update, inContent, inModel, withAttributes, editAt}
+use Rattle.rules.specs.Change.{editFound, editModel, lacking, dropOwned, newAttribute, formAfter}
 use Rattle.rules.specs.Refusal.{past, wrongDefault, conditions, refusal}
 use Rattle.rules.proofs.Words.{and-both, or-split}
 use Rattle.rules.proofs.Children.{Sound}
@@ -61,7 +65,8 @@ module _ (w : ℕ) (form : Form) (ok : wellFormed w form ≡ true) (o : ℕ) (be
   abbrev owner : Definition
   owner = definitionAt o form
 
-  model-replaced : (f : Members Bytes → Members Bytes) → Sound (f (members owner)) → ((m : Bytes) → List·Memᴰ m (names (f (members owner))) → Joins form (owner .name) m) → wellFormed w (update o (inModel f) form) ≡ true
+  model-replaced : (f : Members Bytes → Members Bytes) → Sound (f (members owner))
+      → ((m : Bytes) → List·Memᴰ m (names (f (members owner))) → Joins form (owner .name) m) → wellFormed w (update o (inModel f) form) ≡ true
   model-replaced f s j =
       let g = old-good w form ok o below in
       let t : Sound (members (inModel f owner)) = in-model (λ ms. Sound ms) f (owner .content) (record { distinct = g .once; full = g .groups }) s in
@@ -83,7 +88,8 @@ module _ (w : ℕ) (form : Form) (ok : wellFormed w form ≡ true) (o : ℕ) (be
       (rw q (λ m i. ⊎-elim (old-joins w form ok o below m) (f m) (placed-names bytes e p (members owner) x m i)))
 
   -- ---- changes 9 and 10: a table changed
-  table-replaced : (f : List Attribute → List Attribute) → Distinct (map attributeName (f (owner .attributes))) → ((a : Attribute) → List·Memᴰ a (f (owner .attributes)) → isAttributeOf w a ≡ true) → wellFormed w (update o (withAttributes f) form) ≡ true
+  table-replaced : (f : List Attribute → List Attribute) → Distinct (map attributeName (f (owner .attributes)))
+      → ((a : Attribute) → List·Memᴰ a (f (owner .attributes)) → isAttributeOf w a ≡ true) → wellFormed w (update o (withAttributes f) form) ≡ true
   table-replaced f d a =
       let g = old-good w form ok o below in
       replaced w form ok o below (withAttributes f) (λ d. refl) (
@@ -135,7 +141,8 @@ module _ (room : ℕ) (s : Store) (ok : wellFormed (valueWidth (s .version)) (s 
       let n : Bytes = nameAtIndex i (s .form) in
       let (inModels, inDocs) = or-split (any (λ (d : Definition). member bytes n (names (members d))) (s .form)) _ used in
       removed w (s .form) ok i (not-past i (s .form) known)
-      (λ d m k. false-not (any (λ (d : Definition). member bytes n (names (members d))) (s .form)) inModels (any-test (λ (d : Definition). member bytes n (names (members d))) (s .form) .1 (d, m, member-test bytes n (names (members d)) .1 k)))
+      (λ d m k. false-not (any (λ (d : Definition). member bytes n (names (members d))) (s .form)) inModels
+      (any-test (λ (d : Definition). member bytes n (names (members d))) (s .form) .1 (d, m, member-test bytes n (names (members d)) .1 k)))
 
   after-insert : (o : ℕ) (p : List ℕ) (i q : ℕ) (t : Bytes) → refusal room (insertElement o p i q t) s ≡ 0 → wellFormed w (formAfter (insertElement o p i q t) (s .form)) ≡ true
   unfolding formAfter conditions
@@ -153,7 +160,8 @@ module _ (room : ℕ) (s : Store) (ok : wellFormed (valueWidth (s .version)) (s 
       }))
 
   -- 4 to 8 bring no name
-  after-edit : (o : ℕ) (p : List ℕ) (e : Edit Bytes) → past o (s .form) ≡ false → brings e ≡ [] → Placed bytes e p (members (definitionAt o (s .form))) → wellFormed w (editModel o p e (s .form)) ≡ true
+  after-edit : (o : ℕ) (p : List ℕ) (e : Edit Bytes) → past o (s .form) ≡ false → brings e ≡ [] → Placed bytes e p (members (definitionAt o (s .form)))
+      → wellFormed w (editModel o p e (s .form)) ≡ true
   after-edit o p e known b x = model-edited w (s .form) ok o (not-past o (s .form) known) e p x (λ m j. absurd (List·Memᴰ·not-nil (rw b at j)))
 
   after-add : (o : ℕ) (n : Bytes) (k : ℕ) (v : Bytes) → refusal room (addAttribute o n k v) s ≡ 0 → wellFormed w (formAfter (addAttribute o n k v) (s .form)) ≡ true
@@ -165,7 +173,9 @@ module _ (room : ℕ) (s : Store) (ok : wellFormed (valueWidth (s .version)) (s 
       let table : List Attribute = definitionAt o (s .form) .attributes in
       let right : isAttributeOf w (newAttribute n k v) ≡ true = and-both (not-false (givenName n) name) (and-both (not-false (isValue w v) value) (fill-right k v default)) in
       table-replaced w (s .form) ok o below (λ t. t ++ newAttribute n k v ∷ [])
-      (rw (map-append attributeName table (newAttribute n k v ∷ [])) (distinct-last (map attributeName table) n (g .attributeNames) (λ m. false-not (member bytes n (map attributeName table)) new (member-test bytes n (map attributeName table) .1 m))))
+      (rw (map-append attributeName table (newAttribute n k v ∷ []))
+      (distinct-last (map attributeName table) n (g .attributeNames)
+      (λ m. false-not (member bytes n (map attributeName table)) new (member-test bytes n (map attributeName table) .1 m))))
       (λ b m. ⊎-elim (g .attributes b) (λ i. ap (isAttributeOf w) (List·Memᴰ·eq-of-singleton i) ∙ right) (List·Memᴰ·append-cases table m))
 
   after-drop : (x : Option Owned) (i : ℕ) → attributeAt i (s .form) ≡ x → wellFormed w (dropOwned x (s .form)) ≡ true
@@ -176,9 +186,11 @@ module _ (room : ℕ) (s : Store) (ok : wellFormed (valueWidth (s .version)) (s 
       let below : j < length (s .form) = owner-below i (s .form) once o q in
       let g = old-good w (s .form) ok j below in
       let table : List Attribute = definitionAt j (s .form) .attributes in
-      table-replaced w (s .form) ok j below (lacking (o .attribute .name)) (lacking-distinct (o .attribute .name) table (g .attributeNames)) (λ b m. g .attributes b (lacking-in (o .attribute .name) table m))
+      table-replaced w (s .form) ok j below (lacking (o .attribute .name)) (lacking-distinct (o .attribute .name) table (g .attributeNames))
+      (λ b m. g .attributes b (lacking-in (o .attribute .name) table m))
 
-pub well-formed-after : (room : ℕ) (c : Call) (s : Store) → wellFormed (valueWidth (s .version)) (s .form) ≡ true → refusal room c s ≡ 0 → wellFormed (valueWidth (s .version)) (formAfter c (s .form)) ≡ true
+pub well-formed-after : (room : ℕ) (c : Call) (s : Store) → wellFormed (valueWidth (s .version)) (s .form) ≡ true → refusal room c s ≡ 0
+    → wellFormed (valueWidth (s .version)) (formAfter c (s .form)) ≡ true
 unfolding formAfter conditions
 well-formed-after room (createDefinition n k) s ok a = after-create room s ok n k a
 well-formed-after room (destroyDefinition i) s ok a = after-destroy room s ok i a

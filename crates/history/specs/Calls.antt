@@ -1,4 +1,5 @@
--- A history of calls as a box makes them: the buffer that each was given, what it handed back, and the store that the next one reads.
+-- A history of calls as a box makes them: the buffer that each was given,
+-- what it handed back, and the store that the next one reads.
 use Prim.Native.Nat.{ℕ}
 use mathlib.Core.Path.{_≡_}
 use mathlib.Core.Bool.{true, false}

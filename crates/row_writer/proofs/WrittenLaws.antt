@@ -105,7 +105,8 @@ module _ {w : ℕ} where
 
 -- ---- single rows
 module _ {w : ℕ} {c : Cursor} {a : ℕ} {out out′ : Bytes} (more : c .left ≡ 0 → ⊥) where
-  written-row : {x : Deep FlatRow} {n : ℕ} → n ≡ c .serial + isNew x → n ≤ c .serial + 1 → RowLaid w (withSerial (c .serial) x) out (c .at) a out′ → Written w (x ∷ []) c out (record { at = a; left = c .left - 1; serial = n }) out′
+  written-row : {x : Deep FlatRow} {n : ℕ} → n ≡ c .serial + isNew x → n ≤ c .serial + 1 → RowLaid w (withSerial (c .serial) x) out (c .at) a out′
+      → Written w (x ∷ []) c out (record { at = a; left = c .left - 1; serial = n }) out′
   unfolding rowsBytes
   written-row {x} {n} e l p =
       record {
@@ -115,11 +116,13 @@ module _ {w : ℕ} {c : Cursor} {a : ℕ} {out out′ : Bytes} (more : c .left �
         long = ap length (p .laid .stored) ∙ length-sets out (c .at) (rowBytes w (withSerial (c .serial) x));
       }
 
-  pub new-written : {sort depth index : ℕ} {value : Bytes} → RowLaid w (rowOf sort depth index (c .serial) value) out (c .at) a out′ → Written w (newRow sort depth index value ∷ []) c out (record { at = a; left = c .left - 1; serial = c .serial + 1 }) out′
+  pub new-written : {sort depth index : ℕ} {value : Bytes} → RowLaid w (rowOf sort depth index (c .serial) value) out (c .at) a out′
+      → Written w (newRow sort depth index value ∷ []) c out (record { at = a; left = c .left - 1; serial = c .serial + 1 }) out′
   new-written p = written-row refl (omega arith) p
 
   -- an old row keeps its serial
-  pub old-written : {index : ℕ} {value row : Bytes} → OldRow w row → RowLaid w (valuedRow index value row) out (c .at) a out′ → Written w (valuedRow index value row ∷ []) c out (record { at = a; left = c .left - 1; serial = c .serial }) out′
+  pub old-written : {index : ℕ} {value row : Bytes} → OldRow w row → RowLaid w (valuedRow index value row) out (c .at) a out′
+      → Written w (valuedRow index value row ∷ []) c out (record { at = a; left = c .left - 1; serial = c .serial }) out′
   old-written {index} {value} {row} o p =
       written-row (omega (arith, ap {B = ℕ} (λ (t : Bool). elim t [ true ↦ 1 | false ↦ 0 ]) kept)) (omega arith) (rw kept p)
     where

@@ -1,4 +1,5 @@
--- What a writer of rows leaves: where they all fit the rows with their serials, one after the other; and always how many more may be written.
+-- What a writer of rows leaves: where they all fit the rows with their serials,
+-- one after the other; and always how many more may be written.
 use Prim.Native.Nat.{ℕ, _+_, _-_, _*_, _<_, _≤_}
 use mathlib.Core.Path.{_≡_}
 use mathlib.Core.Bool.{true, false}
@@ -13,7 +14,8 @@ use Rattle.codec.specs.Laid.{Laid}
 use Rattle.layout.specs.RowBytes.{rowOf}
 use Rattle.row_writer.specs.declared.Cursor.{Cursor}
 
--- 'New rows get serials in document order': as `isNew`, `newRows`, `given` and `number` of the rules, on rows in a list; a new row has serial 0
+-- 'New rows get serials in document order': as `isNew`, `newRows`, `given` and
+-- `number` of the rules, on rows in a list; a new row has serial 0
 abbrev pub isNew : Deep FlatRow → ℕ
 isNew x = elim (eqb (x .row .serial) 0) [ true ↦ 1 | false ↦ 0 ]
 
@@ -43,8 +45,8 @@ pub record Fitted (w : ℕ) (xs : List (Deep FlatRow)) (c : Cursor) (out : Bytes
   pub serial : r .serial ≡ c .serial + newIn xs
   pub laid : Laid (rowsBytes w (c .serial) xs) out (c .at) (r .at) out′
 
--- A writer of the rows xs was handed the cursor c and left the cursor r. Where not all of them may be written, they are counted and nothing is said
--- of what was laid.
+-- A writer of the rows xs was handed the cursor c and left the cursor r. Where not all of them may be written, they are
+-- counted and nothing is said of what was laid.
 pub record Written (w : ℕ) (xs : List (Deep FlatRow)) (c : Cursor) (out : Bytes) (r : Cursor) (out′ : Bytes) : Type 0 where
   pub left : r .left ≡ c .left - length xs
   pub fitted : length xs ≤ c .left → Fitted w xs c out r out′

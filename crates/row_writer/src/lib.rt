@@ -6,8 +6,8 @@ ghost use Rattle.layout.specs.Bodies.{Width};
 ghost use Rattle.layout.specs.RowBytes.{movedRow, valuedRow};
 ghost use Rattle.row_writer.specs.Written.{Written, Room, OldRow, newRow};
 
-/// Where the next row goes, how many rows may still be written, and the serial that the next new row gets. Writing into a buffer of one
-/// byte with `left` one past the ceiling counts the rows, and stops past it.
+/// Where the next row goes, how many rows may still be written, and the serial that the next new row gets. Writing into
+/// a buffer of one byte with `left` one past the ceiling counts the rows, and stops past it.
 pub struct Cursor {
     pub at: usize,
     pub left: usize,

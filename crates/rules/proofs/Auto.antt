@@ -1,4 +1,5 @@
--- What it is for facts on pairs of elements to describe a language; the smallest languages; an equal language, more letters.
+-- What it is for facts on pairs of elements to describe a language; the
+-- smallest languages; an equal language, more letters.
 use mathlib.Core.Path.{_≡_, refl, sym, _∙_}
 use mathlib.Core.Bool.{Bool, true, false, false≢true}
 use mathlib.Core.List.{List, [], _∷_, _++_, cons≢nil, nil≢cons, head-eq-of-cons-eq, tail-eq-of-cons-eq}

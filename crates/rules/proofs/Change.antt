@@ -26,7 +26,8 @@ not-not true e = refl
 not-not false e = sym e
 
 module _ {A : Type 0} (E : Equality A) (c : Context A) where
-  pub insert-conforms : (q : Quantifier) (n : A) (t : Members A) → Distinct (names (plug c t)) → insertOff c q ≡ false → (w : List A) → Conforms (plug c t) w → Conforms (plug c (el q n t)) (inserted E c q n w)
+  pub insert-conforms : (q : Quantifier) (n : A) (t : Members A) → Distinct (names (plug c t)) → insertOff c q ≡ false → (w : List A) → Conforms (plug c t) w
+      → Conforms (plug c (el q n t)) (inserted E c q n w)
   insert-conforms q n t d e w m = by (skips q) (spine c) refl refl
     where
       choice-or : (k : GroupKind) → (sameKind k Sequence && true) ≡ false → sameKind k Choice ≡ true
@@ -38,10 +39,12 @@ module _ {A : Type 0} (E : Equality A) (c : Context A) where
       by false true f g = rw (f, inserted) (rw g (insert-needed E c g q n t d w m))
       by false false f g = rw (f, inserted) (rw g (insert-kept Sequence c q n t (rw f (choice-or (kindAt Sequence c) (rw (f, g) at e))) .carry w m))
 
-  pub remove-conforms : (q : Quantifier) (x : A) (t : Members A) → Distinct (names (plug c (el q x t))) → removeUnmatched c t ≡ false → (w : List A) → Conforms (plug c (el q x t)) w → Conforms (plug c t) (erase E x w)
+  pub remove-conforms : (q : Quantifier) (x : A) (t : Members A) → Distinct (names (plug c (el q x t))) → removeUnmatched c t ≡ false → (w : List A)
+      → Conforms (plug c (el q x t)) w → Conforms (plug c t) (erase E x w)
   remove-conforms q x t d e w m = remove-element E x c q t d (not-not (leaves true Sequence c t) (sym (unmatched-is t c) ∙ e)) .carry w m
 
-  pub quantify-conforms : (q r : Quantifier) (x : A) (t : Members A) → Distinct (names (plug c (el q x t))) → quantifyOff c q r ≡ false → (w : List A) → Conforms (plug c (el q x t)) w → Conforms (plug c (el r x t)) (requantified E c x q r w)
+  pub quantify-conforms : (q r : Quantifier) (x : A) (t : Members A) → Distinct (names (plug c (el q x t))) → quantifyOff c q r ≡ false → (w : List A)
+      → Conforms (plug c (el q x t)) w → Conforms (plug c (el r x t)) (requantified E c x q r w)
   quantify-conforms q r x t d e w m = by (relaxes q r) (spine c) refl refl
     where
       by : (a b : Bool) → relaxes q r ≡ a → spine c ≡ b → Conforms (plug c (el r x t)) (requantified E c x q r w)

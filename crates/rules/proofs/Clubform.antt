@@ -19,7 +19,8 @@ use Rattle.rules.specs.Filling.{fillAttributes, fillEach, fillContent, f
 use Rattle.rules.specs.Place.{plug, kindAt, spine, before, around, afterMembers, find}
 use Rattle.rules.specs.Edit.{_⊕_, edited, place, placeOf}
 use Rattle.rules.specs.Lines.{Line, lines, findRow, childrenOf}
-use Rattle.rules.specs.Change.{Call, createDefinition, insertElement, changeQuantifier, addDocument, addElement, setText, attributeAt, formAfter, plan, prune, eachRow, plant, newRows, given, number, after}
+use Rattle.rules.specs.Change.{Call, createDefinition, insertElement, changeQuantifier, addDocument, addElement, setText, attributeAt, formAfter, plan}
+use Rattle.rules.specs.Change.{prune, eachRow, plant, newRows, given, number, after}
 use Rattle.rules.specs.Refusal.{conditions, refusal}
 use Rattle.rules.specs.Outcome.{Outcome, wrote, outcome}
 use Rattle.rules.specs.Print.{printed, printOutcome}
@@ -52,7 +53,8 @@ abbrev end : Moment
 end = run clubform start
 
 abbrev pub printedText : Bytes
-printedText = ascii "<!ELEMENT race (finisher*)>\n<!ELEMENT finisher (bib,club,time?)>\n<!ELEMENT bib (#PCDATA)>\n<!ELEMENT time (#PCDATA)>\n<!ELEMENT club (#PCDATA)>\n<race><finisher><bib>7</bib><club>none</club><time>19:04</time></finisher></race>\n"
+printedText = ascii
+    "<!ELEMENT race (finisher*)>\n<!ELEMENT finisher (bib,club,time?)>\n<!ELEMENT bib (#PCDATA)>\n<!ELEMENT time (#PCDATA)>\n<!ELEMENT club (#PCDATA)>\n<race><finisher><bib>7</bib><club>none</club><time>19:04</time></finisher></race>\n"
 
 -- two lists of lines are equal, as a test that computes
 abbrev sameRow : Row → Row → Bool
@@ -105,7 +107,10 @@ pub record Clubform : Type 0 where
   pub book-next : end .book .next ≡ 9
 
 pub clubform-end : Clubform
-unfolding valueWidth names nothing filling member full distinct facts continues accepts plug kindAt spine before around afterMembers find _⊕_ edited place placeOf goodDefinition wellFormed strip fitsRow conforming goodSerials good fillAttributes fillEach fillContent fillWithin findRow childrenOf attributeAt formAfter plan prune eachRow plant newRows given number after conditions refusal confirm outcome printed printOutcome untaken rowBySerial falls mark putSpot spots expand spotCount note step run clubform
+unfolding valueWidth names nothing filling member full distinct facts continues accepts plug kindAt spine before around afterMembers find _⊕_ edited place
+    placeOf goodDefinition wellFormed strip fitsRow conforming goodSerials good fillAttributes fillEach fillContent fillWithin findRow childrenOf attributeAt
+    formAfter plan prune eachRow plant newRows given number after conditions refusal confirm outcome printed printOutcome untaken rowBySerial falls mark putSpot
+    spots expand spotCount note step run clubform
 clubform-end = record { size = refl; next = refl; check = refl; print = refl; rows = refl; row-count = refl; book-next = refl }
 
 -- the store's rows are the book's untaken lines, in its order

@@ -10,7 +10,8 @@ use Rattle.rules.specs.Model.{names, Distinct}
 use Rattle.rules.specs.Automaton.{accepts}
 use Rattle.rules.specs.Store.{Content, empty, pcdata, complex, Attribute, Definition, Form, RowSort, element, attribute, text, Row, Forest, modelOf, members, heads}
 use Rattle.rules.specs.WellFormed.{lookup, attributeName}
-use Rattle.rules.specs.Conforming.{nameOf, Sorted, InOrder, AttributeRows, ContentRows, ElementRows, RowConforms, EveryRow, Conforming, isElement, isAttribute, isText, everyRow, mustBePresent, allows, strip, fits, fitsStripped, fitsDefinition, fitsRow, conforming}
+use Rattle.rules.specs.Conforming.{nameOf, Sorted, InOrder, AttributeRows, ContentRows, ElementRows, RowConforms, EveryRow, Conforming, isElement}
+use Rattle.rules.specs.Conforming.{isAttribute, isText, everyRow, mustBePresent, allows, strip, fits, fitsStripped, fitsDefinition, fitsRow, conforming}
 use Rattle.rules.proofs.Words.{and-both, and-split}
 use Rattle.rules.proofs.Apart.{differs}
 use Rattle.rules.proofs.Correct.{accepts-conforms}

@@ -1,5 +1,6 @@
--- Decoding undoes encoding on stores that pass, and encoding undoes decoding: a byte string passes if and only if it is the
--- encoding of a store that does. Such a store's rows are no deeper than it has definitions, and its bytes are below 256.
+-- Decoding undoes encoding on stores that pass, and encoding undoes decoding: a byte string passes if and only if it is
+-- the encoding of a store that does. Such a store's rows are no deeper
+-- than it has definitions, and its bytes are below 256.
 use Prim.Native.Nat.{ℕ, suc, _+_, _*_, _≤_, _<_}
 use native.Mathlib.Nat.{zero-add, suc-add}
 use native.Mathlib.Omega.{arith}
@@ -18,11 +19,16 @@ use Rattle.rules.specs.declared.GroupKind.the-variants.{Sequence, Choice
 use Rattle.rules.specs.Bytes.{Bytes, same, all, any, between, bytes, numbers, isNone, and-left, and-right, same-eq, same-refl}
 use Rattle.rules.specs.Model.{Members, done, el, group, names, distinct, full}
 use Rattle.rules.specs.Automaton.{accepts}
-use Rattle.rules.specs.Store.{Content, empty, pcdata, complex, AttributeSort, implied, required, fixed, Attribute, Definition, Form, RowSort, element, attribute, text, Row, Forest, bare, tree, Store, modelOf, members, heads}
+use Rattle.rules.specs.Store.{Content, empty, pcdata, complex, AttributeSort, implied, required, fixed, Attribute, Definition, Form, RowSort, element}
+use Rattle.rules.specs.Store.{attribute, text, Row, Forest, bare, tree, Store, modelOf, members, heads}
 use Rattle.rules.specs.Preorder.{Deep, flatten, build}
-use Rattle.rules.specs.Layout.{baseVersion, valueWidth, nameWidth, FlatParticle, FlatAttribute, headerSize, definitionSize, particleSize, attributeSize, rowSize, indexOf, indexIn, attributeIndex, quantifierCode, kindCode, sortCode, rowCode, particles, contentParticles, flatDefinition, allParticles, ownAttributes, allAttributes, rowIndex, indexed, flat, encode}
-use Rattle.rules.specs.Decode.{numberAt, readFlat, sized, nameAt, quantifierOf, contentOf, sortOf, rowSortOf, readMembers, ofOwner, readForm, rowName, readRows, flatName, flatAttributeName, unflat, confirm, decode}
-use Rattle.rules.specs.WellFormed.{startsName, inName, isName, storedName, isValue, highestNumber, withinCeilings, definitionName, attributeName, lookup, isThere, known, reachesIn, isFill, isAttributeOf, goodDefinition, wellFormed}
+use Rattle.rules.specs.Layout.{baseVersion, valueWidth, nameWidth, FlatParticle, FlatAttribute, headerSize, definitionSize, particleSize, attributeSize}
+use Rattle.rules.specs.Layout.{rowSize, indexOf, indexIn, attributeIndex, quantifierCode, kindCode, sortCode, rowCode, particles, contentParticles}
+use Rattle.rules.specs.Layout.{flatDefinition, allParticles, ownAttributes, allAttributes, rowIndex, indexed, flat, encode}
+use Rattle.rules.specs.Decode.{numberAt, readFlat, sized, nameAt, quantifierOf, contentOf, sortOf, rowSortOf, readMembers, ofOwner, readForm, rowName}
+use Rattle.rules.specs.Decode.{readRows, flatName, flatAttributeName, unflat, confirm, decode}
+use Rattle.rules.specs.WellFormed.{startsName, inName, isName, storedName, isValue, highestNumber, withinCeilings, definitionName, attributeName, lookup}
+use Rattle.rules.specs.WellFormed.{isThere, known, reachesIn, isFill, isAttributeOf, goodDefinition, wellFormed}
 use Rattle.rules.specs.Conforming.{nameOf, EveryRow, isElement, isAttribute, isText, everyRow, mustBePresent, allows, strip, fits, fitsStripped, fitsDefinition, fitsRow, conforming}
 use Rattle.rules.specs.Passing.{knownVersion, laidRow, serials, goodSerials, good, goodRead, readStore, isRead, passes}
 use Rattle.rules.proofs.Words.{or-left, or-right, and-split, and-both}
@@ -57,8 +63,12 @@ module _ (form : Form) where
   read-members done h = refl
   read-members (el q n rest) h =
       λ i. el (quantifier-code q i) (name-index form n (and-left (known form n) (all (known form) (names rest)) h) i) (read-members rest (and-right (known form n) (all (known form) (names rest)) h) i)
-  read-members (group q Sequence ms rest) h = λ i. group (quantifier-code q i) Sequence (read-members ms (all-left (known form) (names ms) (names rest) h) i) (read-members rest (all-right (known form) (names ms) (names rest) h) i)
-  read-members (group q Choice ms rest) h = λ i. group (quantifier-code q i) Choice (read-members ms (all-left (known form) (names ms) (names rest) h) i) (read-members rest (all-right (known form) (names ms) (names rest) h) i)
+  read-members (group q Sequence ms rest) h =
+      λ i. group (quantifier-code q i) Sequence (read-members ms (all-left (known form) (names ms) (names rest) h) i)
+      (read-members rest (all-right (known form) (names ms) (names rest) h) i)
+  read-members (group q Choice ms rest) h =
+      λ i. group (quantifier-code q i) Choice (read-members ms (all-left (known form) (names ms) (names rest) h) i)
+      (read-members rest (all-right (known form) (names ms) (names rest) h) i)
 
   read-content : (c : Content) → all (known form) (names (modelOf c)) ≡ true → contentOf (kindCode c) (readMembers (map definitionName form) (build (contentParticles form c) 0)) ≡ c
   read-content empty h = refl
@@ -88,7 +98,13 @@ unfolding FoundBelow
 read-rows form owner bare h = refl
 read-rows form owner (tree r b t) h = λ i. tree (row i) (read-rows form (r .name) b (h .1) i) (read-rows form owner t (h .2) i)
   where
-    row : _≡_ {A = Row} (record { serial = r .serial; sort = rowSortOf (rowCode (r .sort)); name = rowName (map definitionName form) (attributeNames form) (rowSortOf (rowCode (r .sort))) (rowIndex form owner r); value = r .value }) r
+    row : _≡_ {A = Row} (record {
+      serial = r .serial;
+      sort = rowSortOf (rowCode (r .sort));
+      name = rowName (map definitionName form) (attributeNames form) (rowSortOf (rowCode (r .sort))) (rowIndex form owner r);
+      value = r .value;
+    })
+        r
     row = rw (row-code (r .sort)) (λ i. record { serial = r .serial; sort = r .sort; name = h .0 i; value = r .value })
 
 -- ---- attributes by owner
@@ -208,7 +224,8 @@ fits-not pcdata [] h = absurd (false≢true h)
 fits-not pcdata (r ∷ []) h = (text-not (r .sort) (and-left (isText (r .sort)) true h), tt)
 fits-not pcdata (r ∷ x ∷ rows) h = absurd (false≢true (and-right (isText (r .sort)) false h))
 fits-not (complex ms) rows h =
-    every-map (λ r. isElement (r .sort) ≡ true) (λ r. isAttribute (r .sort) ≡ true → ⊥) rows (λ r e. element-not (r .sort) e) (every-of (λ (r : Row). isElement (r .sort)) rows (and-left (all (λ (r : Row). isElement (r .sort)) rows) (accepts bytes ms (map nameOf rows)) h))
+    every-map (λ r. isElement (r .sort) ≡ true) (λ r. isAttribute (r .sort) ≡ true → ⊥) rows (λ r e. element-not (r .sort) e)
+    (every-of (λ (r : Row). isElement (r .sort)) rows (and-left (all (λ (r : Row). isElement (r .sort)) rows) (accepts bytes ms (map nameOf rows)) h))
 
 -- What holds of the attribute rows with names in the table, and of the rows that fit the content, holds of all rows.
 module _ (version : ℕ) (P : Row → Type 0) (c : Content) (others : (rows : List Row) → fits c rows ≡ true → Every P rows) where
@@ -323,7 +340,9 @@ good-parts s h =
       version = version;
       definitionCount = leb-true _ _ c₀;
       particleCount = leb-true _ _ c₂;
-      particleDepths = every-map (λ (p : Deep FlatParticle). leb (p .depth) 4 ≡ true) (λ p. p .depth ≤ 4) (flat s .particles) (λ p e. leb-true (p .depth) 4 e) (every-of (λ p. leb (p .depth) 4) (flat s .particles) c₄);
+      particleDepths =
+          every-map (λ (p : Deep FlatParticle). leb (p .depth) 4 ≡ true) (λ p. p .depth ≤ 4) (flat s .particles) (λ p e. leb-true (p .depth) 4 e)
+          (every-of (λ p. leb (p .depth) 4) (flat s .particles) c₄);
       attributeCount = leb-true _ _ c₆;
       rowCount = leb-true _ _ c₇;
       definitions = every-of (goodDefinition (valueWidth (s .version)) (s .form)) (s .form) (and-right (distinct bytes (map definitionName (s .form))) _ form);
@@ -397,7 +416,8 @@ attribute-bound owner n o (d ∷ ds) = by (same owner (d .name)) (attribute-boun
 good-definitions : (w : ℕ) (form fs : Form) → length (allParticles form fs) ≤ 256 → Every (DefinitionParts w form) fs → Every GoodFlatDefinition (map (flatDefinition form) fs)
 good-definitions w form [] h a = tt
 good-definitions w form (d ∷ fs) h a =
-    let e : length (contentParticles form (d .content) ++ allParticles form fs) ≡ length (contentParticles form (d .content)) + length (allParticles form fs) = length-append (contentParticles form (d .content)) (allParticles form fs) in
+    let e : length (contentParticles form (d .content) ++ allParticles form fs) ≡ length (contentParticles form (d .content)) + length (allParticles form fs) =
+    length-append (contentParticles form (d .content)) (allParticles form fs) in
     (record { name = name-width (d .name) (a .0 .name); particles = omega arith }, good-definitions w form fs (omega arith) (a .1))
 
 own-good : (w o : ℕ) (cs : List Attribute) → Every (λ a. isAttributeOf w a ≡ true) cs → Every (GoodFlatAttribute w) (ownAttributes o cs)
@@ -409,7 +429,9 @@ own-good w o (c ∷ cs) a =
 
 good-attributes : (w : ℕ) (form : Form) (o : ℕ) (fs : Form) → Every (DefinitionParts w form) fs → Every (GoodFlatAttribute w) (allAttributes o fs)
 good-attributes w form o [] a = tt
-good-attributes w form o (d ∷ fs) a = every-append (GoodFlatAttribute w) (ownAttributes o (d .attributes)) (allAttributes (suc o) fs) (own-good w o (d .attributes) (a .0 .attributes)) (good-attributes w form (suc o) fs (a .1))
+good-attributes w form o (d ∷ fs) a =
+    every-append (GoodFlatAttribute w) (ownAttributes o (d .attributes)) (allAttributes (suc o) fs) (own-good w o (d .attributes) (a .0 .attributes))
+    (good-attributes w form (suc o) fs (a .1))
 
 pub laid-value : (w : ℕ) (r : Row) → laidRow w r ≡ true → length (r .value) ≤ w
 laid-value w r h = by (r .sort) refl
@@ -428,7 +450,8 @@ module _ (w next : ℕ) (form : Form) (known-definitions : length form ≤ 64) (
       by attribute = omega (arith, attribute-bound owner (r .name) 0 form)
       by text = omega arith
 
-  good-rows : (owner : Bytes) (depth : ℕ) (f : Forest Row) → EveryRow (λ r below. laidRow w r ≡ true) f → all (λ k. leb 1 k && ltb k next) (serials f) ≡ true → Every (GoodFlatRow w) (flatten depth (indexed form owner f))
+  good-rows : (owner : Bytes) (depth : ℕ) (f : Forest Row) → EveryRow (λ r below. laidRow w r ≡ true) f → all (λ k. leb 1 k && ltb k next) (serials f) ≡ true
+      → Every (GoodFlatRow w) (flatten depth (indexed form owner f))
   good-rows owner depth bare h n = tt
   good-rows owner depth (tree r b t) h n =
       let (n₀, n₁) = and-split (leb 1 (r .serial) && ltb (r .serial) next) _ n in
@@ -445,7 +468,8 @@ module _ (s : Store) (g : good s ≡ true) where
 
   pub every-definition : Every (DefinitionParts (valueWidth (s .version)) (s .form)) (s .form)
   every-definition =
-      every-map (λ d. goodDefinition (valueWidth (s .version)) (s .form) d ≡ true) (DefinitionParts (valueWidth (s .version)) (s .form)) (s .form) (λ d e. definition-parts (valueWidth (s .version)) (s .form) d e) (parts .definitions)
+      every-map (λ d. goodDefinition (valueWidth (s .version)) (s .form) d ≡ true) (DefinitionParts (valueWidth (s .version)) (s .form)) (s .form)
+      (λ d e. definition-parts (valueWidth (s .version)) (s .form) d e) (parts .definitions)
 
   pub good-flat : GoodFlat (valueWidth (s .version)) (flat s)
   good-flat =
@@ -473,7 +497,11 @@ module _ (s : Store) (g : good s ≡ true) where
 
 -- ---- the string
 pub length-encode : (s : Store)
-    → length (encode s) ≡ headerSize + (definitionSize * length (flat s .definitions) + (particleSize * length (flat s .particles) + (attributeSize (valueWidth (s .version)) * length (flat s .attributes) + rowSize (valueWidth (s .version)) * length (flat s .rows))))
+    → length (encode s)
+    ≡ headerSize
+    + (definitionSize * length (flat s .definitions)
+    + (particleSize * length (flat s .particles)
+    + (attributeSize (valueWidth (s .version)) * length (flat s .attributes) + rowSize (valueWidth (s .version)) * length (flat s .rows))))
 length-encode s = length-flatBytes (valueWidth (s .version)) (flat s)
 
 -- `decode` with the version that it reads

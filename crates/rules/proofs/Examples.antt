@@ -22,7 +22,9 @@ use Rattle.rules.specs.Filling.{fillAttributes, fillEach, fillContent, f
 use Rattle.rules.specs.Place.{plug, kindAt, spine, before, around, afterMembers, find}
 use Rattle.rules.specs.Edit.{_⊕_, edited, place, placeOf}
 use Rattle.rules.specs.Lines.{findRow, childrenOf}
-use Rattle.rules.specs.Change.{Call, destroyDefinition, insertElement, removeElement, changeQuantifier, convertToGroup, changeGroupQuantifier, setAttribute, destroyAttributeRow, definitionAt, attributeAt, formAfter, plan, prune, eachRow, plant, newRows, given, number, after}
+use Rattle.rules.specs.Change.{Call, destroyDefinition, insertElement, removeElement, changeQuantifier, convertToGroup, changeGroupQuantifier}
+use Rattle.rules.specs.Change.{setAttribute, destroyAttributeRow, definitionAt, attributeAt, formAfter, plan, prune, eachRow, plant, newRows, given}
+use Rattle.rules.specs.Change.{number, after}
 use Rattle.rules.specs.Refusal.{conditions, refusal}
 use Rattle.rules.specs.Outcome.{wrote, outcome}
 use Rattle.rules.specs.Print.{printed, printOutcome}
@@ -121,7 +123,9 @@ pub record Examples : Type 0 where
   pub p12 : refuses (insertElement 0 (2 ∷ 3 ∷ []) 4 0 (ascii "t")) (emptyOf nested) ≡ 8
 
 pub examples : Examples
-unfolding valueWidth names nothing filling member full distinct facts continues accepts plug kindAt spine before around afterMembers find _⊕_ edited place placeOf goodDefinition wellFormed strip fitsRow conforming goodSerials good fillAttributes fillEach fillContent fillWithin findRow childrenOf attributeAt formAfter plan prune eachRow plant newRows given number after conditions refusal
+unfolding valueWidth names nothing filling member full distinct facts continues accepts plug kindAt spine before around afterMembers find _⊕_ edited place
+    placeOf goodDefinition wellFormed strip fitsRow conforming goodSerials good fillAttributes fillEach fillContent fillWithin findRow childrenOf attributeAt
+    formAfter plan prune eachRow plant newRows given number after conditions refusal
 examples =
     record {
       p1 = refl;
@@ -190,7 +194,9 @@ pub record PlausibleAndFalse : Type 0 where
   pub choice-left : refuses (removeElement 0 (1 ∷ 2 ∷ [])) (storeOf (group None Choice (el None a (el None b done)) done) (b ∷ [])) ≡ 15
 
 pub plausible-and-false : PlausibleAndFalse
-unfolding valueWidth names nothing filling member full distinct facts continues accepts plug kindAt spine before around afterMembers find _⊕_ edited place placeOf goodDefinition wellFormed strip fitsRow conforming goodSerials good fillAttributes fillEach fillContent fillWithin findRow childrenOf attributeAt formAfter plan prune eachRow plant newRows given number after conditions refusal confirm outcome
+unfolding valueWidth names nothing filling member full distinct facts continues accepts plug kindAt spine before around afterMembers find _⊕_ edited place
+    placeOf goodDefinition wellFormed strip fitsRow conforming goodSerials good fillAttributes fillEach fillContent fillWithin findRow childrenOf attributeAt
+    formAfter plan prune eachRow plant newRows given number after conditions refusal confirm outcome
 plausible-and-false =
     record {
       club-as-child-0 = refl;
@@ -256,7 +262,8 @@ printableText =
     ∷ [])
 
 pub record More : Type 0 where
-  -- 8: a gain wants a text, and gives an instance without a child of the group its filling; what only relaxes wants none
+  -- 8: a gain wants a text, and gives an instance without a child of the
+  -- group its filling; what only relaxes wants none
   pub group-gain-without-text : refuses (changeGroupQuantifier 0 (2 ∷ []) 0 []) (emptyOf optionalPair) ≡ 12
   pub group-gain : refuses (changeGroupQuantifier 0 (2 ∷ []) 0 (ascii "t")) (storeOf optionalPair (a ∷ [])) ≡ 0
   pub group-gain-rows : serialsThen (changeGroupQuantifier 0 (2 ∷ []) 0 (ascii "t")) (storeOf optionalPair (a ∷ [])) ≡ 1 ∷ 2 ∷ 3 ∷ 4 ∷ []
@@ -264,7 +271,8 @@ pub record More : Type 0 where
   -- 4: the last of an inner group stays, the last of the top list may go
   pub last-of-group : refuses (removeElement 0 (2 ∷ 1 ∷ [])) (emptyOf (el None a (group None Sequence (el None b done) done))) ≡ 14
   pub last-of-top : refuses (removeElement 0 (1 ∷ [])) (emptyOf (el None a done)) ≡ 0
-  -- 4, with an instance: the CHOICE left accepts nothing by its quantifier, or by a member; a LIST inside a CHOICE is none
+  -- 4, with an instance: the CHOICE left accepts nothing by its
+  -- quantifier, or by a member; a LIST inside a CHOICE is none
   pub choice-star : refuses (removeElement 0 (1 ∷ 2 ∷ [])) (storeOf (group Star Choice (el None a (el None b done)) done) (b ∷ [])) ≡ 0
   pub choice-member : refuses (removeElement 0 (1 ∷ 2 ∷ [])) (storeOf (group None Choice (el Qmark a (el None b done)) done) (b ∷ [])) ≡ 0
   pub choice-around-list : refuses (removeElement 0 (1 ∷ 2 ∷ 1 ∷ [])) (storeOf listInChoice (b ∷ c ∷ [])) ≡ 0
@@ -272,7 +280,9 @@ pub record More : Type 0 where
   pub text : printOutcome (encode printable) 9999 ≡ wrote printableText
 
 pub more : More
-unfolding valueWidth names nothing filling member full distinct facts continues accepts plug kindAt spine before around afterMembers find _⊕_ edited place placeOf goodDefinition wellFormed strip fitsRow conforming goodSerials good fillAttributes fillEach fillContent fillWithin findRow childrenOf attributeAt formAfter plan prune eachRow plant newRows given number after conditions refusal confirm outcome printed printOutcome
+unfolding valueWidth names nothing filling member full distinct facts continues accepts plug kindAt spine before around afterMembers find _⊕_ edited place
+    placeOf goodDefinition wellFormed strip fitsRow conforming goodSerials good fillAttributes fillEach fillContent fillWithin findRow childrenOf attributeAt
+    formAfter plan prune eachRow plant newRows given number after conditions refusal confirm outcome printed printOutcome
 more =
     record {
       group-gain-without-text = refl;
@@ -303,7 +313,8 @@ pub record Sorts : Type 0 where
       ≡ tree (record { serial = 0; sort = attribute; name = ascii "q"; value = ascii "0" }) bare bare
 
 pub sorts : Sorts
-unfolding valueWidth member facts continues accepts strip fitsRow conforming fillAttributes findRow childrenOf attributeAt formAfter plan prune eachRow plant newRows given number after conditions refusal
+unfolding valueWidth member facts continues accepts strip fitsRow conforming fillAttributes findRow childrenOf attributeAt formAfter plan prune eachRow plant
+    newRows given number after conditions refusal
 sorts =
     record {
       required-row = refl;

@@ -5,7 +5,8 @@ use mathlib.Core.Path.{_≡_, refl, sym, ap, ap₂, _∙_}
 use mathlib.Core.Logic.{_⊎_, inl, ⊎-elim}
 use mathlib.Core.Bool.{Bool, true, false, _||_, false≢true}
 use mathlib.Core.Option.{Option, none, some}
-use mathlib.Core.List.{List, [], _∷_, _++_, map, List·Memᴰ, List·Memᴰ·head, List·Memᴰ·tail, List·Memᴰ·not-nil, List·Memᴰ·cases-cons, List·Memᴰ·eq-of-singleton, List·Memᴰ·append-cases, Memᴰ·append-left, Memᴰ·append-right}
+use mathlib.Core.List.{List, [], _∷_, _++_, map, List·Memᴰ, List·Memᴰ·head, List·Memᴰ·tail, List·Memᴰ·not-nil, List·Memᴰ·cases-cons, List·Memᴰ·eq-of-singleton}
+use mathlib.Core.List.{List·Memᴰ·append-cases, Memᴰ·append-left, Memᴰ·append-right}
 use Rattle.rules.specs.declared.GroupKind.{GroupKind}
 use Rattle.rules.specs.declared.GroupKind.the-variants.{Sequence, Choice}
 use Rattle.rules.specs.Bytes.{Bytes, bytes, same-refl, all}
@@ -100,7 +101,8 @@ not-deep : (form : Form) (n : Bytes) → deep zero form n ≡ true → ⊥
 unfolding deep
 not-deep form n e = false≢true e
 
--- What holds of the element's, the attributes' and the text's rows holds of every row. Q says of which heights and names.
+-- What holds of the element's, the attributes' and the text's rows
+-- holds of every row. Q says of which heights and names.
 module _ (version : ℕ) (form : Form) (txt : Bytes) (P : Row → List Row → Type 0) (Q : ℕ → Bytes → Type 0)
     (down : (h : ℕ) (n : Bytes) (d : Definition) → Q (suc h) n → lookup n form ≡ some d → (m : Bytes) → List·Memᴰ m (names (members d)) → Q h m)
     (elements : (h : ℕ) (n : Bytes) (d : Definition) → Q (suc h) n → lookup n form ≡ some d → P (elementRow n) (heads (fillBelow version h form txt d)))

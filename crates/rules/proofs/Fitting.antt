@@ -39,7 +39,8 @@ module _ {A : Type 0} (E : Equality A) (c : Context A) (s : spine c ≡ true) wh
     unfolding Matches
     again u g v z n a b l m h = put c (el r x t) s u (g ++ v) z l (g, v, refl, (n, a, b), m) h
 
-    absent : (u v z w : List A) → u ++ (v ++ z) ≡ w → member E x w ≡ false → placed E (before c) (x ∷ []) w ≡ u ++ ((x ∷ v) ++ z) → Allowed q 0 → Conforms (ahead c) u → Conforms t v → Conforms (behind c) z
+    absent : (u v z w : List A) → u ++ (v ++ z) ≡ w → member E x w ≡ false → placed E (before c) (x ∷ []) w ≡ u ++ ((x ∷ v) ++ z) → Allowed q 0
+        → Conforms (ahead c) u → Conforms t v → Conforms (behind c) z
         → (b : Bool) → gains q r ≡ b → Conforms (plug c (el r x t)) (refit E (before c) x q r w)
     unfolding refit
     absent u v z w e o p a l m h true g = rw (o, refit) (rw g (rw p (again u (x ∷ []) v z 1 (allowed-one r) (x ∷ [], [], refl, refl, refl) l m h)))
@@ -64,13 +65,16 @@ module _ {A : Type 0} (E : Equality A) (c : Context A) (s : spine c ≡ true) wh
         keep-past E x u (((x ∷ b) ++ v) ++ z) f ∙ ap (λ (l : List A). u ++ l) (keep-here E x ((b ++ v) ++ z) ∙ ap (λ (l : List A). x ∷ l)
         (erase-append E x (b ++ v) z ∙ (ap (λ (l : List A). l ++ erase E x z) (erase-append E x b v) ∙ rw (erase-times E x n b i, erase-none E x v g, erase-none E x z h))))
 
-    fitted : (w : List A) → (p : Split c (el q x t) w) → (g v : List A) → g ++ v ≡ p .mid → (n : ℕ) → Allowed q n → Times n (λ y. y ≡ x ∷ []) g → Conforms t v → Conforms (plug c (el r x t)) (refit E (before c) x q r w)
+    fitted : (w : List A) → (p : Split c (el q x t) w) → (g v : List A) → g ++ v ≡ p .mid → (n : ℕ) → Allowed q n → Times n (λ y. y ≡ x ∷ []) g → Conforms t v
+        → Conforms (plug c (el r x t)) (refit E (before c) x q r w)
     unfolding names
     fitted w p g v e zero a i m =
         let f : p .left ++ (v ++ p .right) ≡ w = cc (p .whole) in
         absent (p .left) v (p .right) w f
         (rw (← f) (member-out E x (p .left ++ (v ++ p .right)) (none-here (p .left) v (p .right) (p .left-in) m (p .right-in))))
-        (ap (placed E (before c) (x ∷ [])) (sym f) ∙ placed-at E (before c) (x ∷ []) (p .left) (v ++ p .right) (p .left-in) (later c (el q x t) w p v (p .right) (λ y h. List·Memᴰ·tail (letters Sequence t .inside v m y h)) (p .right-in)))
+        (ap (placed E (before c) (x ∷ [])) (sym f)
+        ∙ placed-at E (before c) (x ∷ []) (p .left) (v ++ p .right) (p .left-in)
+        (later c (el q x t) w p v (p .right) (λ y h. List·Memᴰ·tail (letters Sequence t .inside v m y h)) (p .right-in)))
         a (p .ahead-is) m (p .behind-is) (gains q r) refl
     fitted w p g v e (suc n) a (a1, b1, e1, l1, t1) m =
         let k : g ≡ x ∷ b1 = cc in
@@ -78,7 +82,9 @@ module _ {A : Type 0} (E : Equality A) (c : Context A) (s : spine c ≡ true) wh
         let f1 : p .left ++ (((x ∷ b1) ++ v) ++ p .right) ≡ w = rw k at f in
         present (p .left) g v (p .right) w n f
         (rw (← f1) (member-in E x (p .left ++ (((x ∷ b1) ++ v) ++ p .right)) (Memᴰ·append-right (p .left) (List·Memᴰ·head refl))))
-        (ap (keepFirst E x) (sym f1) ∙ kept (p .left) b1 v (p .right) n t1 (λ h. this .left (p .left-in x h)) (λ h. this .mid (letters Sequence t .inside v m x h)) (λ h. this .right (p .right-in x h)))
+        (ap (keepFirst E x) (sym f1)
+        ∙ kept (p .left) b1 v (p .right) n t1 (λ h. this .left (p .left-in x h)) (λ h. this .mid (letters Sequence t .inside v m x h))
+        (λ h. this .right (p .right-in x h)))
         a (a1, b1, e1, l1, t1) (p .ahead-is) m (p .behind-is) (cuts q r) refl
 
     pub refit-element : (w : List A) → Conforms (plug c (el q x t)) w → Conforms (plug c (el r x t)) (refit E (before c) x q r w)
@@ -98,7 +104,8 @@ module _ {A : Type 0} (E : Equality A) (c : Context A) (s : spine c ≡ true) wh
 
     inner-apart : (y : A) → List·Memᴰ y (names ms) → List·Memᴰ y (names t) → ⊥
     unfolding names
-    inner-apart = distinct-apart (names ms) (names t) (distinct-left (names ms ++ names t) (after c) (distinct-right (before c) ((names ms ++ names t) ++ after c) (rw (names-plug c (group q j ms t)) at d)))
+    inner-apart = distinct-apart (names ms) (names t)
+        (distinct-left (names ms ++ names t) (after c) (distinct-right (before c) ((names ms ++ names t) ++ after c) (rw (names-plug c (group q j ms t)) at d)))
 
     -- no name of the group stands in the rest of the word
     outside : (w : List A) (p : Split c (group q j ms t) w) (v : List A) → Conforms t v → p .left ++ (v ++ p .right) ≡ w → anyOf E (names ms) w ≡ false
@@ -109,7 +116,8 @@ module _ {A : Type 0} (E : Equality A) (c : Context A) (s : spine c ≡ true) wh
         (List·Memᴰ·append-cases (p .left) h)))
 
     -- a child of the group stands there: the word stays
-    gain-some : (w : List A) (p : Split c (group q j ms t) w) (g v : List A) → g ++ v ≡ p .mid → (n : ℕ) → Allowed q n → Times n (Matches j ms) g → Conforms t v → anyOf E (names ms) w ≡ true → Conforms (plug c (group r j ms t)) w
+    gain-some : (w : List A) (p : Split c (group q j ms t) w) (g v : List A) → g ++ v ≡ p .mid → (n : ℕ) → Allowed q n → Times n (Matches j ms) g → Conforms t v
+        → anyOf E (names ms) w ≡ true → Conforms (plug c (group r j ms t)) w
     gain-some w p g v e zero a i m o =
         let f : p .left ++ (v ++ p .right) ≡ w = cc (p .whole) in
         absurd (false≢true (sym (outside w p v m f) ∙ o))
@@ -125,16 +133,21 @@ module _ {A : Type 0} (E : Equality A) (c : Context A) (s : spine c ≡ true) wh
         let F : List A = unless (skips r || nothing j ms) (filling j ms) in
         let f : p .left ++ (v ++ p .right) ≡ w = cc (p .whole) in
         let a : placed E (before c) F w ≡ p .left ++ (F ++ (v ++ p .right)) =
-        ap (placed E (before c) F) (sym f) ∙ placed-at E (before c) F (p .left) (v ++ p .right) (p .left-in) (later c (group q j ms t) w p v (p .right) (λ y h. Memᴰ·append-right (names ms) (letters Sequence t .inside v m y h)) (p .right-in)) in
+        ap (placed E (before c) F) (sym f)
+        ∙ placed-at E (before c) F (p .left) (v ++ p .right) (p .left-in)
+        (later c (group q j ms t) w p v (p .right) (λ y h. Memᴰ·append-right (names ms) (letters Sequence t .inside v m y h)) (p .right-in)) in
         let b : placed E (before c) F w ≡ p .left ++ ((F ++ v) ++ p .right) = a ∙ ap (λ (z : List A). p .left ++ z) (sym (append-assoc F v (p .right))) in
         rw b (regroup (p .left) F v (p .right) (fill-group r j ms full some) (p .ahead-is) m (p .behind-is))
     gain-none w p (y ∷ g) v e l m o =
         let f : p .left ++ (((y ∷ g) ++ v) ++ p .right) ≡ w = cc (p .whole) in
-        let a : anyOf E (names ms) w ≡ true = rw (← f) (any-in E (names ms) (p .left ++ (((y ∷ g) ++ v) ++ p .right)) y (Memᴰ·append-right (p .left) (List·Memᴰ·head refl)) (l y (List·Memᴰ·head refl))) in
+        let a : anyOf E (names ms) w ≡ true =
+        rw (← f)
+        (any-in E (names ms) (p .left ++ (((y ∷ g) ++ v) ++ p .right)) y (Memᴰ·append-right (p .left) (List·Memᴰ·head refl)) (l y (List·Memᴰ·head refl))) in
         absurd (false≢true (sym o ∙ a))
 
     -- no gain: the word stays
-    stay : (w : List A) (p : Split c (group q j ms t) w) (g v : List A) → g ++ v ≡ p .mid → (n : ℕ) → Allowed q n → Times n (Matches j ms) g → Conforms t v → gains q r ≡ false → Conforms (plug c (group r j ms t)) w
+    stay : (w : List A) (p : Split c (group q j ms t) w) (g v : List A) → g ++ v ≡ p .mid → (n : ℕ) → Allowed q n → Times n (Matches j ms) g → Conforms t v
+        → gains q r ≡ false → Conforms (plug c (group r j ms t)) w
     stay w p g v e n a i m k =
         let f : p .left ++ ((g ++ v) ++ p .right) ≡ w = cc (p .whole) in
         rw (← f) (regroup (p .left) g v (p .right) (n, allow n a, i) (p .ahead-is) m (p .behind-is))

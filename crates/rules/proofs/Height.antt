@@ -1,4 +1,5 @@
--- Heights of definitions: no definition reaches itself just where each has a height of at most the number of definitions; the test for reaching decides.
+-- Heights of definitions: no definition reaches itself just where each has a height of at most the number of
+-- definitions; the test for reaching decides.
 use Prim.Native.Nat.{ℕ, zero, suc, _+_, _≤_}
 use native.Mathlib.Omega.{arith}
 use mathlib.Core.Path.{_≡_, refl, sym, ap, _∙_}
@@ -70,7 +71,9 @@ pub deep-test : (h : ℕ) (form : Form) (n : Bytes) → (deep (suc h) form n ≡
 unfolding deep
 deep-test h form n = by (lookup n form)
   where
-    by : (o : Option Definition) → (elim o [ none ↦ false | some d ↦ all (λ m. deep h form m) (names (members d)) ] ≡ true) ↔ ((isThere o ≡ true) × ((m : Bytes) → List·Memᴰ m (namesIn o) → deep h form m ≡ true))
+    by : (o : Option Definition)
+        → (elim o [ none ↦ false | some d ↦ all (λ m. deep h form m) (names (members d)) ] ≡ true)
+        ↔ ((isThere o ≡ true) × ((m : Bytes) → List·Memᴰ m (namesIn o) → deep h form m ≡ true))
     by none = (λ e. absurd (false≢true e), λ (k, f). absurd (false≢true k))
     by (some d) = (λ e. (refl, all-test (λ m. deep h form m) (names (members d)) .0 e), λ (k, f). all-test (λ m. deep h form m) (names (members d)) .1 f)
 
@@ -112,12 +115,14 @@ module _ (form : Form) (closed : (n m : Bytes) → List·Memᴰ m (membersOf n f
     room : (seen : List Bytes) (n : Bytes) → Distinct seen → ((s : Bytes) → List·Memᴰ s seen → Reaches form s n) → known form n ≡ true → suc (length seen) ≤ length form
     room seen n d f k = known-length form (n ∷ seen) (λ i. acyclic n (f n i), d) (λ x i. ⊎-elim (λ q. rw q k) (λ j. reaches-known form (f x j)) (List·Memᴰ·cases-cons i))
 
-    deep-seen : (h : ℕ) (seen : List Bytes) (n : Bytes) → Distinct seen → ((s : Bytes) → List·Memᴰ s seen → Reaches form s n) → known form n ≡ true → length form ≤ h + length seen → deep h form n ≡ true
+    deep-seen : (h : ℕ) (seen : List Bytes) (n : Bytes) → Distinct seen → ((s : Bytes) → List·Memᴰ s seen → Reaches form s n) → known form n ≡ true
+        → length form ≤ h + length seen → deep h form n ≡ true
     deep-seen zero seen n d f k l = absurd (omega (arith, room seen n d f k))
     deep-seen (suc h) seen n d f k l =
         deep-test h form n .1 (
           k,
-          λ m i. deep-seen h (n ∷ seen) m (λ j. acyclic n (f n j), d) (λ s j. ⊎-elim (λ q. rw q (directly i)) (λ t. reaches-then form (f s t) (directly i)) (List·Memᴰ·cases-cons j)) (closed n m i) (omega arith),
+          λ m i. deep-seen h (n ∷ seen) m (λ j. acyclic n (f n j), d)
+              (λ s j. ⊎-elim (λ q. rw q (directly i)) (λ t. reaches-then form (f s t) (directly i)) (List·Memᴰ·cases-cons j)) (closed n m i) (omega arith),
         )
 
     pub acyclic-deep : (n : Bytes) → known form n ≡ true → deep (length form) form n ≡ true

@@ -1,4 +1,5 @@
--- A history that makes, takes, revalues and is refused, computed through the byte strings, with its book; and how new lines find their places.
+-- A history that makes, takes, revalues and is refused, computed through the
+-- byte strings, with its book; and how new lines find their places.
 use Prim.Native.Nat.{ℕ}
 use mathlib.Core.Path.{_≡_, refl}
 use mathlib.Core.Bool.{Bool, true, false}
@@ -18,7 +19,8 @@ use Rattle.rules.specs.Filling.{fillAttributes, fillEach, fillContent, f
 use Rattle.rules.specs.Place.{plug, kindAt, spine, before, around, afterMembers, find}
 use Rattle.rules.specs.Edit.{_⊕_, edited, place, placeOf}
 use Rattle.rules.specs.Lines.{Line, findRow, childrenOf}
-use Rattle.rules.specs.Change.{Call, createDefinition, insertElement, changeQuantifier, addAttribute, addDocument, addElement, destroyElement, setAttribute, setText, attributeAt, formAfter, Plan, plan, prune, eachRow, plant, newRows, given, number, after}
+use Rattle.rules.specs.Change.{Call, createDefinition, insertElement, changeQuantifier, addAttribute, addDocument, addElement, destroyElement}
+use Rattle.rules.specs.Change.{setAttribute, setText, attributeAt, formAfter, Plan, plan, prune, eachRow, plant, newRows, given, number, after}
 use Rattle.rules.specs.Refusal.{conditions, refusal}
 use Rattle.rules.specs.Outcome.{outcome}
 use Rattle.rules.specs.Book.{Entry, stands, taken, Book, untaken, rowBySerial, falls, mark, old, spot, putSpot, spots, expand, spotCount, marks, note}
@@ -27,7 +29,8 @@ use Rattle.rules.specs.Run.{Asked, Moment, start, step, run}
 abbrev asked : Call → Asked
 asked c = record { call = c; room = 1000 }
 
--- Two races; the first has two laps, each with a chip. Rows: race 1; race 2; lap 3 with chip 4 and text 5; lap 6 with 7 and 8.
+-- Two races; the first has two laps, each with a chip. Rows: race 1; race
+-- 2; lap 3 with chip 4 and text 5; lap 6 with 7 and 8.
 pub laps : List Asked
 laps =
     map asked
@@ -48,7 +51,8 @@ laps =
 pub splits : List Asked
 splits = asked (insertElement 0 (1 ∷ []) 2 0 (ascii "t")) ∷ []
 
--- exactly one lap: the first race loses lap 6 with all below it, the second gets lap 11 with chip 12 and text 13, before its split
+-- exactly one lap: the first race loses lap 6 with all below it, the second
+-- gets lap 11 with chip 12 and text 13, before its split
 pub oneLap : List Asked
 oneLap = asked (changeQuantifier 0 (1 ∷ []) 0 (ascii "0")) ∷ []
 
@@ -97,7 +101,10 @@ pub record Laps : Type 0 where
   pub next-store : numberAt 4 4 (end .store) ≡ 14
 
 pub laps-end : Laps
-unfolding valueWidth names nothing filling member full distinct facts continues accepts plug kindAt spine before around afterMembers find _⊕_ edited place placeOf goodDefinition wellFormed strip fitsRow conforming goodSerials good fillAttributes fillEach fillContent fillWithin findRow childrenOf attributeAt formAfter plan prune eachRow plant newRows given number after conditions refusal confirm outcome untaken rowBySerial falls mark putSpot spots expand spotCount note step run laps splits oneLap refusedCalls
+unfolding valueWidth names nothing filling member full distinct facts continues accepts plug kindAt spine before around afterMembers find _⊕_ edited place
+    placeOf goodDefinition wellFormed strip fitsRow conforming goodSerials good fillAttributes fillEach fillContent fillWithin findRow childrenOf attributeAt
+    formAfter plan prune eachRow plant newRows given number after conditions refusal confirm outcome untaken rowBySerial falls mark putSpot spots expand
+    spotCount note step run laps splits oneLap refusedCalls
 laps-end =
     record {
       lines = refl;
@@ -149,5 +156,6 @@ pub record Spots : Type 0 where
   pub next-is : note (insertElement 0 (1 ∷ []) 2 0 (ascii "t")) (record { version = baseVersion; next = 5; form = raceForm; entries = fourLines }) .next ≡ 7
 
 pub spots-example : Spots
-unfolding names nothing filling member plug kindAt spine before afterMembers find _⊕_ edited place placeOf fillAttributes fillEach fillContent fillWithin findRow childrenOf formAfter plan newRows given number untaken rowBySerial falls mark putSpot spots expand spotCount note
+unfolding names nothing filling member plug kindAt spine before afterMembers find _⊕_ edited place placeOf fillAttributes fillEach fillContent fillWithin
+    findRow childrenOf formAfter plan newRows given number untaken rowBySerial falls mark putSpot spots expand spotCount note
 spots-example = record { marks-are = refl; lines-are = refl; next-is = refl }

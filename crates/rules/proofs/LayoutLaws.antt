@@ -11,7 +11,8 @@ use lib.Seq.{take-at, drop-at}
 use borrow.Author.Tests.{eq-eqb}
 use Rattle.rules.specs.Bytes.{Bytes}
 use Rattle.rules.specs.Preorder.{Deep}
-use Rattle.rules.specs.Layout.{le, field, nameWidth, FlatDefinition, FlatParticle, FlatAttribute, FlatRow, FlatStore, headerSize, definitionSize, particleSize, attributeSize, rowSize, definitionBytes, particleBytes, attributeBytes, rowBytes, each, entry, flatBytes}
+use Rattle.rules.specs.Layout.{le, field, nameWidth, FlatDefinition, FlatParticle, FlatAttribute, FlatRow, FlatStore, headerSize, definitionSize}
+use Rattle.rules.specs.Layout.{particleSize, attributeSize, rowSize, definitionBytes, particleBytes, attributeBytes, rowBytes, each, entry, flatBytes}
 use Rattle.rules.specs.Decode.{unle, readDefinition, readParticle, readAttribute, readRow, readMany, readBodies, readFlat, sized}
 use Rattle.rules.proofs.BooleanLaws.{Every, every-map, every-append, every-any}
 
@@ -92,7 +93,8 @@ pub length-each : {A : Type 0} (g : A → Bytes) (n : ℕ) → ((x : A) → leng
 length-each g n h [] = sym (mul-zero n)
 length-each g n h (x ∷ xs) = omega (arith, length-append (g x) (each g xs), h x, length-each g n h xs, mul-suc n (length xs))
 
-pub read-each : {A : Type 0} (f : Bytes → A) (g : A → Bytes) (n : ℕ) (Good : A → Type 0) → ((x : A) → length (g x) ≡ n) → ((x : A) → Good x → f (g x) ≡ x) → (xs : List A) (rest : Bytes) → Every Good xs
+pub read-each : {A : Type 0} (f : Bytes → A) (g : A → Bytes) (n : ℕ) (Good : A → Type 0) → ((x : A) → length (g x) ≡ n) → ((x : A) → Good x → f (g x) ≡ x)
+    → (xs : List A) (rest : Bytes) → Every Good xs
     → readMany f n (length xs) (each g xs ++ rest) ≡ xs
 read-each f g n Good l h [] rest a = refl
 read-each {A} f g n Good l h (x ∷ xs) rest a =
@@ -143,7 +145,10 @@ module _ (w : ℕ) (f : FlatStore) where
       simp length-append
       (ap₂ _+_ length-definitions (ap₂ _+_ length-particles (ap₂ _+_ length-attributes length-rows)))
 
-  pub length-flatBytes : length (flatBytes w f) ≡ headerSize + (definitionSize * length (f .definitions) + (particleSize * length (f .particles) + (attributeSize w * length (f .attributes) + rowSize w * length (f .rows))))
+  pub length-flatBytes : length (flatBytes w f)
+      ≡ headerSize
+      + (definitionSize * length (f .definitions)
+      + (particleSize * length (f .particles) + (attributeSize w * length (f .attributes) + rowSize w * length (f .rows))))
   length-flatBytes = omega (arith, length-bodies)
 
   module _ (g : GoodFlat w f) where
@@ -161,7 +166,9 @@ module _ (w : ℕ) (f : FlatStore) where
           definitions = read-each readDefinition definitionBytes definitionSize GoodFlatDefinition length-definition read-definition (f .definitions) fromParticles (g .definitions) i;
           particles = read-each readParticle particleBytes particleSize (λ p. Unit {0}) length-particle (λ p h. refl) (f .particles) fromAttributes (every-any (f .particles)) i;
           attributes = read-each readAttribute (attributeBytes w) (attributeSize w) (GoodFlatAttribute w) (length-attribute w) (read-attribute w) (f .attributes) rowBody (g .attributes) i;
-          rows = (ap (λ (z : Bytes). readMany readRow (rowSize w) (length (f .rows)) z) (sym (append-nil rowBody)) ∙ read-each readRow (rowBytes w) (rowSize w) (GoodFlatRow w) (length-row w) (read-row w) (f .rows) [] (g .rows)) i;
+          rows = (ap (λ (z : Bytes). readMany readRow (rowSize w) (length (f .rows)) z) (sym (append-nil rowBody))
+              ∙ read-each readRow (rowBytes w) (rowSize w) (GoodFlatRow w) (length-row w) (read-row w) (f .rows) [] (g .rows))
+              i;
         })
 
     -- the length is what the counts say
@@ -180,7 +187,8 @@ module _ (w : ℕ) (f : FlatStore) where
     pub read-bytes : readFlat w (flatBytes w f) ≡ f
     read-bytes =
         (λ i.
-        readBodies w (unle-le 4 (f .version) (g .version) i) (unle-le 4 (f .next) (g .next) i) (unle-le 4 (length (f .definitions)) (g .definitionCount) i) (unle-le 4 (length (f .particles)) (g .particleCount) i)
+        readBodies w (unle-le 4 (f .version) (g .version) i) (unle-le 4 (f .next) (g .next) i) (unle-le 4 (length (f .definitions)) (g .definitionCount) i)
+        (unle-le 4 (length (f .particles)) (g .particleCount) i)
         (unle-le 4 (length (f .attributes)) (g .attributeCount) i) (unle-le 4 (length (f .rows)) (g .rowCount) i) bodies)
         ∙ read-bodies
 
@@ -243,7 +251,9 @@ small-particle p h = small-cons (h .sort) (small-cons (h .quantifier) (small-con
 
 small-attribute : (w : ℕ) (a : FlatAttribute) → SmallAttribute a → Small (attributeBytes w a)
 small-attribute w a h =
-    small-cons (h .owner) (small-cons (h .length-name) (small-append (small-field nameWidth (a .name) (h .name)) (small-cons (h .sort) (small-cons (h .length-value) (small-field w (a .value) (h .value))))))
+    small-cons (h .owner)
+    (small-cons (h .length-name)
+    (small-append (small-field nameWidth (a .name) (h .name)) (small-cons (h .sort) (small-cons (h .length-value) (small-field w (a .value) (h .value))))))
 
 small-row : (w : ℕ) (r : Deep FlatRow) → SmallRow r → Small (rowBytes w r)
 small-row w r h =

@@ -3,7 +3,8 @@ use Prim.Native.Nat.{ℕ, zero, suc}
 use mathlib.Core.Path.{_≡_, refl, sym, ap, _∙_}
 use mathlib.Core.Logic.{_⊎_, inl, inr, ⊎-elim}
 use mathlib.Core.Bool.{Bool, true, false, false≢true}
-use mathlib.Core.List.{List, [], _∷_, _++_, append-nil, List·Memᴰ, List·Memᴰ·head, List·Memᴰ·tail, List·Memᴰ·not-nil, List·Memᴰ·cases-cons, List·Memᴰ·eq-of-singleton, List·Memᴰ·append-cases, Memᴰ·append-left, Memᴰ·append-right}
+use mathlib.Core.List.{List, [], _∷_, _++_, append-nil, List·Memᴰ, List·Memᴰ·head, List·Memᴰ·tail, List·Memᴰ·not-nil, List·Memᴰ·cases-cons}
+use mathlib.Core.List.{List·Memᴰ·eq-of-singleton, List·Memᴰ·append-cases, Memᴰ·append-left, Memᴰ·append-right}
 use Rattle.rules.specs.declared.Quantifier.{Quantifier}
 use Rattle.rules.specs.declared.GroupKind.{GroupKind}
 use Rattle.rules.specs.declared.GroupKind.the-variants.{Sequence, Choice}
@@ -48,7 +49,9 @@ module _ {A : Type 0} where
   unfolding Matches names
   letters k done = over-ended k []
   letters k (el q n rest) = over-joined k (over-repeated q (over-more (λ y m. List·Memᴰ·head (List·Memᴰ·eq-of-singleton m)) (over-single n))) (over-more (λ y m. List·Memᴰ·tail m) (letters k rest))
-  letters k (group q j ms rest) = over-joined k (over-repeated q (over-more (λ y m. Memᴰ·append-left (names rest) m) (letters j ms))) (over-more (λ y m. Memᴰ·append-right (names ms) m) (letters k rest))
+  letters k (group q j ms rest) =
+      over-joined k (over-repeated q (over-more (λ y m. Memᴰ·append-left (names rest) m) (letters j ms)))
+      (over-more (λ y m. Memᴰ·append-right (names ms) m) (letters k rest))
 
   pub letters-repeated : (q : Quantifier) (j : GroupKind) (ms : Members A) → Over (names ms) (Repeated q (Matches j ms))
   letters-repeated q j ms = over-repeated q (letters j ms)

@@ -8,7 +8,9 @@ use mathlib.Core.List.{List, [], _∷_, _++_, map, List·Memᴰ, List·Memᴰ·h
 use lib.Dec.{eqb, leb, leb→le, le→leb}
 use Rattle.rules.specs.Bytes.{all, of-T, to-T, eqb-eq}
 use Rattle.rules.specs.Store.{Store}
-use Rattle.rules.specs.Change.{Call, createDefinition, destroyDefinition, insertElement, removeElement, changeQuantifier, convertToGroup, flattenGroup, changeGroupQuantifier, addAttribute, destroyAttribute, addDocument, addElement, destroyElement, setAttribute, destroyAttributeRow, setText}
+use Rattle.rules.specs.Change.{Call, createDefinition, destroyDefinition, insertElement, removeElement, changeQuantifier, convertToGroup, flattenGroup}
+use Rattle.rules.specs.Change.{changeGroupQuantifier, addAttribute, destroyAttribute, addDocument, addElement, destroyElement, setAttribute}
+use Rattle.rules.specs.Change.{destroyAttributeRow, setText}
 use Rattle.rules.specs.Refusal.{Condition, first, conditions, refusal}
 use Rattle.rules.specs.Lowest.{refusalOrder, inOrder, rank, asked, numbersOf, Lowest}
 use Rattle.rules.proofs.Words.{and-split}
@@ -84,7 +86,8 @@ number-in [] k m = absurd (List·Memᴰ·not-nil m)
 number-in (c ∷ cs) k m = ⊎-elim (λ e. List·Memᴰ·head (ap (λ (y : Condition). y .number) e)) (λ i. List·Memᴰ·tail (number-in cs k i)) (List·Memᴰ·cases-cons m)
 
 -- ---- what is given of conditions in the order of the table
--- a relation that holds between each number of the table and those after it, and of each number to itself, holds from the one given to all that apply
+-- a relation that holds between each number of the table and those after it, and of
+-- each number to itself, holds from the one given to all that apply
 given-related : (r : ℕ → ℕ → Bool) → pairwise r refusalOrder ≡ true → ((n : ℕ) → r n n ≡ true) → (cs : List Condition) → inOrder refusalOrder (numbersOf cs) ≡ true
     → (k : Condition) → List·Memᴰ k cs → k .holds ≡ true → r (first cs) (k .number) ≡ true
 given-related r p own [] e k m h = absurd (List·Memᴰ·not-nil m)

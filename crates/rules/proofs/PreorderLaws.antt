@@ -46,7 +46,9 @@ module _ {A : Type 0} where
   build-at d (tree r b t) rest h =
       build-same d r (flatten (suc d) b ++ flatten d t ++ rest)
       ∙ ap₂ (λ (x y : Forest A). tree r x y)
-      (rw append-assoc (build-at (suc d) b (flatten d t ++ rest) (λ k l. shallow-flatten d t rest h k (omega arith)) ∙ ap (λ (x : Forest A). b ⧺ x) (shallow-flatten d t rest h (suc d) (omega arith)) ∙ ⧺-bare b))
+      (rw append-assoc
+      (build-at (suc d) b (flatten d t ++ rest) (λ k l. shallow-flatten d t rest h k (omega arith))
+      ∙ ap (λ (x : Forest A). b ⧺ x) (shallow-flatten d t rest h (suc d) (omega arith)) ∙ ⧺-bare b))
       (rw append-assoc (build-above (suc d) d b (flatten d t ++ rest) (omega arith) ∙ build-at d t rest h))
 
   pub build-flatten : (f : Forest A) → build (flatten 0 f) 0 ≡ f

@@ -128,7 +128,11 @@ module _ {A : Type 0} (E : Equality A) (x : A) (q : Quantifier) (t : Members A) 
 pub remove-element : {A : Type 0} (E : Equality A) (x : A) (c : Context A) (q : Quantifier) (t : Members A) → Distinct (names (plug c (el q x t))) → leaves true Sequence c t ≡ true
     → Carries (erase E x) (Conforms (plug c (el q x t))) (Conforms (plug c t))
 unfolding names
-remove-element {A} E x c q t d e = record { carry = λ w m. ⊎-elim (λ y. y) (λ z. absurd (list≢choice (z .0))) (removed E x q t (erase-kept E x (names t) (o .mid)) true Sequence c (erase-kept E x (before c) (o .left)) (erase-kept E x (after c) (o .right)) e w m) }
+remove-element {A} E x c q t d e =
+    record {
+      carry = λ w m. ⊎-elim (λ y. y) (λ z. absurd (list≢choice (z .0)))
+          (removed E x q t (erase-kept E x (names t) (o .mid)) true Sequence c (erase-kept E x (before c) (o .left)) (erase-kept E x (after c) (o .right)) e w m);
+    }
   where
     o : Only x c t
     o = only x c t (el q x t) refl d

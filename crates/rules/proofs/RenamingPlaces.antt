@@ -39,7 +39,8 @@ module _ {A B : Type 0} (f : A → B) where
   filling-rename k done = refl
   filling-rename k (el q n rest) = rw (filling-rename k rest, unless-map (skips q) (n ∷ [])) (beside-map k (unless (skips q) (n ∷ [])) (filling k rest))
   filling-rename k (group q j ms rest) =
-      rw (nothing-rename j ms, filling-rename j ms, filling-rename k rest, unless-map (skips q || nothing j ms) (filling j ms)) (beside-map k (unless (skips q || nothing j ms) (filling j ms)) (filling k rest))
+      rw (nothing-rename j ms, filling-rename j ms, filling-rename k rest, unless-map (skips q || nothing j ms) (filling j ms))
+      (beside-map k (unless (skips q || nothing j ms) (filling j ms)) (filling k rest))
 
   pub plug-rename : (c : Context A) (t : Members A) → rename f (plug c t) ≡ plug (renameAround f c) (rename f t)
   unfolding plug rename renameAround
@@ -68,4 +69,5 @@ module _ {A B : Type 0} (f : A → B) where
   leaves-rename b k (past q n c) t = leaves-rename b k c t
   leaves-rename b k (over q j ms c) t = leaves-rename b k c t
   leaves-rename b k (into q j c rest) t =
-      ap (λ (z : Bool). leaves (skips q || z) j (renameAround f c) (rename f t)) (ap (nothing j) (sym (plug-rename c t)) ∙ nothing-rename j (plug c t)) ∙ leaves-rename (skips q || nothing j (plug c t)) j c t
+      ap (λ (z : Bool). leaves (skips q || z) j (renameAround f c) (rename f t)) (ap (nothing j) (sym (plug-rename c t)) ∙ nothing-rename j (plug c t))
+      ∙ leaves-rename (skips q || nothing j (plug c t)) j c t

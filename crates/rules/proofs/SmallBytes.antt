@@ -17,9 +17,11 @@ use Rattle.rules.specs.Bytes.{Bytes, same, all, between, bytes, isNone, 
 use Rattle.rules.specs.Model.{Members, done, el, group, names, distinct}
 use Rattle.rules.specs.Language.{Conforms}
 use Rattle.rules.specs.Automaton.{accepts}
-use Rattle.rules.specs.Store.{Content, empty, pcdata, complex, AttributeSort, implied, required, fixed, Attribute, Definition, Form, RowSort, element, attribute, text, Row, Forest, bare, tree, Store, modelOf, members, heads}
+use Rattle.rules.specs.Store.{Content, empty, pcdata, complex, AttributeSort, implied, required, fixed, Attribute, Definition, Form, RowSort, element}
+use Rattle.rules.specs.Store.{attribute, text, Row, Forest, bare, tree, Store, modelOf, members, heads}
 use Rattle.rules.specs.Preorder.{Deep, flatten}
-use Rattle.rules.specs.Layout.{valueWidth, nameWidth, FlatParticle, quantifierCode, kindCode, sortCode, rowCode, particles, contentParticles, flatDefinition, allParticles, ownAttributes, allAttributes, indexed, flat, encode, howMany, groupCode, FlatRow}
+use Rattle.rules.specs.Layout.{valueWidth, nameWidth, FlatParticle, quantifierCode, kindCode, sortCode, rowCode, particles, contentParticles}
+use Rattle.rules.specs.Layout.{flatDefinition, allParticles, ownAttributes, allAttributes, indexed, flat, encode, howMany, groupCode, FlatRow}
 use Rattle.rules.specs.WellFormed.{startsName, inName, isName, storedName, isValue, withinCeilings, lookup, known, isFill, isAttributeOf, wellFormed}
 use Rattle.rules.specs.Conforming.{nameOf, EveryRow, isElement, isText, fits, fitsDefinition, fitsRow}
 use Rattle.rules.specs.Passing.{knownVersion, laidRow, good, passes}
@@ -31,7 +33,8 @@ use Rattle.rules.proofs.Height.{deep}
 use Rattle.rules.proofs.BooleanLaws.{Every, every-of, every-map, every-append, every-zip, every-in, all-in, none-nil}
 use Rattle.rules.proofs.LayoutLaws.{Small, SmallDefinition, SmallParticle, SmallAttribute, SmallRow, SmallFlat, small-bytes}
 use Rattle.rules.proofs.WellFormedLaws.{definition-deep}
-use Rattle.rules.proofs.DecodeLaws.{DefinitionParts, GoodParts, good-parts, every-definition, element-not, fits-known, index-bound, laid-value, name-width, strip-every, value-width, width-bound}
+use Rattle.rules.proofs.DecodeLaws.{DefinitionParts, GoodParts, good-parts, every-definition, element-not, fits-known, index-bound, laid-value}
+use Rattle.rules.proofs.DecodeLaws.{name-width, strip-every, value-width, width-bound}
 
 either-small : (a b : Bool) {x : ℕ} → (a ≡ true → x < 256) → (b ≡ true → x < 256) → (a || b) ≡ true → x < 256
 either-small a b f g h = ⊎-elim f g (or-cases a b h)
@@ -44,7 +47,8 @@ equal-small x k l h = omega (arith, eqb-true x k h)
 
 start-small : (x : ℕ) → startsName x ≡ true → x < 256
 start-small x =
-    either-small (between 65 90 x || between 97 122 x) (eqb x 95) (either-small (between 65 90 x) (between 97 122 x) (between-small 65 90 x (lit< tt)) (between-small 97 122 x (lit< tt))) (equal-small x 95 (lit< tt))
+    either-small (between 65 90 x || between 97 122 x) (eqb x 95)
+    (either-small (between 65 90 x) (between 97 122 x) (between-small 65 90 x (lit< tt)) (between-small 97 122 x (lit< tt))) (equal-small x 95 (lit< tt))
 
 in-small : (x : ℕ) → inName x ≡ true → x < 256
 in-small x =
@@ -61,7 +65,10 @@ name-small (x ∷ xs) h =
 
 value-small : (w : ℕ) (v : Bytes) → isValue w v ≡ true → Small v
 value-small w v h =
-    record { small = every-map (λ y. between 0x20 0x7E y ≡ true) (λ y. y < 256) v (λ y e. between-small 0x20 0x7E y (lit< tt) e) (every-of (between 0x20 0x7E) v (and-right (leb (length v) w) (all (between 0x20 0x7E) v) h)) }
+    record {
+      small = every-map (λ y. between 0x20 0x7E y ≡ true) (λ y. y < 256) v (λ y e. between-small 0x20 0x7E y (lit< tt) e)
+          (every-of (between 0x20 0x7E) v (and-right (leb (length v) w) (all (between 0x20 0x7E) v) h));
+    }
 
 kind-small : (c : Content) → kindCode c < 256
 kind-small empty = lit< tt
@@ -110,7 +117,9 @@ module _ (form : Form) (few : length form ≤ 64) where
   laid-members depth done h = tt
   laid-members depth (el q n rest) h = (record { sort = lit< tt; quantifier = quantifier-small q; index = omega (arith, index-bound n form) }, laid-members depth rest (omega arith))
   laid-members depth (group q k ms rest) h =
-      let e : length (flatten (suc depth) (particles form ms) ++ flatten depth (particles form rest)) ≡ length (flatten (suc depth) (particles form ms)) + length (flatten depth (particles form rest)) = length-append (flatten (suc depth) (particles form ms)) (flatten depth (particles form rest)) in (
+      let e : length (flatten (suc depth) (particles form ms) ++ flatten depth (particles form rest))
+      ≡ length (flatten (suc depth) (particles form ms)) + length (flatten depth (particles form rest)) =
+      length-append (flatten (suc depth) (particles form ms)) (flatten depth (particles form rest)) in (
         record { sort = group-small k; quantifier = quantifier-small q; index = omega (arith, many-bound (suc depth) ms) },
         every-append LaidParticle (flatten (suc depth) (particles form ms)) (flatten depth (particles form rest)) (laid-members (suc depth) ms (omega arith)) (laid-members depth rest (omega arith)),
       )
@@ -123,7 +132,9 @@ module _ (form : Form) (few : length form ≤ 64) where
   pub laid-particles : (fs : Form) → length (allParticles form fs) ≤ 256 → Every LaidParticle (allParticles form fs)
   laid-particles [] h = tt
   laid-particles (d ∷ fs) h =
-      let e : length (contentParticles form (d .content) ++ allParticles form fs) ≡ length (contentParticles form (d .content)) + length (allParticles form fs) = length-append (contentParticles form (d .content)) (allParticles form fs) in
+      let e : length (contentParticles form (d .content) ++ allParticles form fs)
+      ≡ length (contentParticles form (d .content)) + length (allParticles form fs) =
+      length-append (contentParticles form (d .content)) (allParticles form fs) in
       every-append LaidParticle (contentParticles form (d .content)) (allParticles form fs) (laid-content (d .content) (omega arith)) (laid-particles fs (omega arith))
 
 small-own : (w o : ℕ) (cs : List Attribute) → w < 256 → o < 256 → Every (λ a. isAttributeOf w a ≡ true) cs → Every SmallAttribute (ownAttributes o cs)
@@ -132,13 +143,23 @@ small-own w o (c ∷ cs) u l a =
     let (n, h) = and-split (storedName (c .name)) _ (a .0) in
     let (v, k) = and-split (isValue w (c .value)) (isFill (c .sort) (c .value)) h in
     let short : length (c .name) ≤ nameWidth = name-width (c .name) n in
-    let narrow : length (c .value) ≤ w = value-width w (c .value) v in
-    (record { owner = l; length-name = omega arith; name = name-small (c .name) n; sort = sort-small (c .sort); length-value = omega arith; value = value-small w (c .value) v }, small-own w o cs u l (a .1))
+    let narrow : length (c .value) ≤ w = value-width w (c .value) v in (
+      record {
+        owner = l;
+        length-name = omega arith;
+        name = name-small (c .name) n;
+        sort = sort-small (c .sort);
+        length-value = omega arith;
+        value = value-small w (c .value) v;
+      },
+      small-own w o cs u l (a .1),
+    )
 
 small-attributes : (w : ℕ) (form : Form) (o : ℕ) (fs : Form) → w < 256 → o + length fs ≤ 64 → Every (DefinitionParts w form) fs → Every SmallAttribute (allAttributes o fs)
 small-attributes w form o [] u l a = tt
 small-attributes w form o (d ∷ fs) u l a =
-    every-append SmallAttribute (ownAttributes o (d .attributes)) (allAttributes (suc o) fs) (small-own w o (d .attributes) u (omega arith) (a .0 .attributes)) (small-attributes w form (suc o) fs u (omega arith) (a .1))
+    every-append SmallAttribute (ownAttributes o (d .attributes)) (allAttributes (suc o) fs) (small-own w o (d .attributes) u (omega arith) (a .0 .attributes))
+    (small-attributes w form (suc o) fs u (omega arith) (a .1))
 
 -- ---- how deep the rows stand
 text-no-element : (s : RowSort) → isText s ≡ true → isElement s ≡ true → ⊥
@@ -169,7 +190,9 @@ fits-within h form pcdata d a [] f = absurd (false≢true f)
 fits-within h form pcdata d a (r ∷ []) f = (λ e. absurd (text-no-element (r .sort) (and-left (isText (r .sort)) true f) e), tt)
 fits-within h form pcdata d a (r ∷ x ∷ rows) f = absurd (false≢true (and-right (isText (r .sort)) false f))
 fits-within h form (complex ms) d a rows f =
-    let w : Conforms ms (map nameOf rows) = accepts-conforms bytes ms (d .distinct) (map nameOf rows) .0 (and-right (all (λ (r : Row). isElement (r .sort)) rows) (accepts bytes ms (map nameOf rows)) f) in
+    let w : Conforms ms (map nameOf rows) =
+    accepts-conforms bytes ms (d .distinct) (map nameOf rows) .0
+    (and-right (all (λ (r : Row). isElement (r .sort)) rows) (accepts bytes ms (map nameOf rows)) f) in
     every-in (Within h form) rows (λ r m e. all-in (λ n. deep h form n) (r .name) (names ms) a (letters Sequence ms .inside (map nameOf rows) w (r .name) (Memᴰ·map nameOf m)))
 
 module _ (version : ℕ) (form : Form) (models : Every (λ d. Sound (members d)) form) where
@@ -192,17 +215,20 @@ module _ (version : ℕ) (form : Form) (models : Every (λ d. Sound (members d))
   row-depths h depth owner bare e a = tt
   row-depths h depth owner (tree r b t) e a = (
     omega arith,
-    every-append (λ x. x .depth ≤ depth + h) (flatten (suc depth) (indexed form (r .name) b)) (flatten depth (indexed form owner t)) (by h (r .sort) refl (a .0) (λ k. row-depths k (suc depth) (r .name) b (e .1)))
+    every-append (λ x. x .depth ≤ depth + h) (flatten (suc depth) (indexed form (r .name) b)) (flatten depth (indexed form owner t))
+        (by h (r .sort) refl (a .0) (λ k. row-depths k (suc depth) (r .name) b (e .1)))
         (row-depths h depth owner t (e .2) (a .1)),
   )
     where
       Goal : ℕ → Type 0
       Goal k = Every (λ x. x .depth ≤ depth + k) (flatten (suc depth) (indexed form (r .name) b))
 
-      by : (k : ℕ) (s : RowSort) → r .sort ≡ s → Within k form r → ((j : ℕ) → Every (Within j form) (heads b) → Every (λ x. x .depth ≤ suc depth + j) (flatten (suc depth) (indexed form (r .name) b))) → Goal k
+      by : (k : ℕ) (s : RowSort) → r .sort ≡ s → Within k form r
+          → ((j : ℕ) → Every (Within j form) (heads b) → Every (λ x. x .depth ≤ suc depth + j) (flatten (suc depth) (indexed form (r .name) b))) → Goal k
       by zero element q w i = absurd (false≢true (w (ap isElement q)))
       by (suc k) element q w i =
-          every-map (λ x. x .depth ≤ suc depth + k) (λ x. x .depth ≤ depth + suc k) (flatten (suc depth) (indexed form (r .name) b)) (λ x l. omega arith) (i k (below-within k r (heads b) q (e .0) (w (ap isElement q))))
+          every-map (λ x. x .depth ≤ suc depth + k) (λ x. x .depth ≤ depth + suc k) (flatten (suc depth) (indexed form (r .name) b)) (λ x l. omega arith)
+          (i k (below-within k r (heads b) q (e .0) (w (ap isElement q))))
       by k attribute q w i = none-below (λ x. x .depth ≤ depth + k) (suc depth) (r .name) b (rw (q, fitsRow) at (e .0))
       by k text q w i = none-below (λ x. x .depth ≤ depth + k) (suc depth) (r .name) b (rw (q, fitsRow) at (e .0))
 
@@ -225,7 +251,8 @@ laid-rows w form depth owner bare u a = tt
 laid-rows w form depth owner (tree r b t) u a =
     let l : length (r .value) ≤ w = laid-value w r (a .0) in (
       record { sort = row-small (r .sort); length-value = omega arith; value = laid-small w r (a .0) },
-      every-append LaidRow (flatten (suc depth) (indexed form (r .name) b)) (flatten depth (indexed form owner t)) (laid-rows w form (suc depth) (r .name) b u (a .1)) (laid-rows w form depth owner t u (a .2)),
+      every-append LaidRow (flatten (suc depth) (indexed form (r .name) b)) (flatten depth (indexed form owner t))
+          (laid-rows w form (suc depth) (r .name) b u (a .1)) (laid-rows w form depth owner t u (a .2)),
     )
 
 heads-known : (version : ℕ) (form : Form) (f : Forest Row) → EveryRow (λ r below. fitsRow version form r below ≡ true) f
@@ -268,9 +295,13 @@ module _ (s : Store) (g : good s ≡ true) where
       let narrow : valueWidth (s .version) < 256 = width-bound (s .version) in
       record {
         definitions = small-definitions (valueWidth (s .version)) (s .form) (s .form) (every-definition s g);
-        particles = every-zip LaidParticle (λ x. x .depth ≤ 4) SmallParticle (flat s .particles) (λ x a l. record { sort = a .sort; quantifier = a .quantifier; index = a .index; depth = omega arith }) (laid-particles (s .form) few (s .form) (p .particleCount)) (p .particleDepths);
+        particles = every-zip LaidParticle (λ x. x .depth ≤ 4) SmallParticle (flat s .particles)
+            (λ x a l. record { sort = a .sort; quantifier = a .quantifier; index = a .index; depth = omega arith })
+            (laid-particles (s .form) few (s .form) (p .particleCount)) (p .particleDepths);
         attributes = small-attributes (valueWidth (s .version)) (s .form) 0 (s .form) narrow (omega arith) (every-definition s g);
-        rows = every-zip LaidRow (λ x. x .depth ≤ length (s .form)) SmallRow (flat s .rows) (λ x a l. record { sort = a .sort; depth = omega arith; length-value = a .length-value; value = a .value }) (laid-rows (valueWidth (s .version)) (s .form) 0 [] (s .docs) narrow (p .values)) good-depths;
+        rows = every-zip LaidRow (λ x. x .depth ≤ length (s .form)) SmallRow (flat s .rows)
+            (λ x a l. record { sort = a .sort; depth = omega arith; length-value = a .length-value; value = a .value })
+            (laid-rows (valueWidth (s .version)) (s .form) 0 [] (s .docs) narrow (p .values)) good-depths;
       }
 
   pub encode-small : Small (encode s)

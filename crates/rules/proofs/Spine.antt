@@ -1,4 +1,5 @@
--- Each particle of the spine is passed exactly once: a word is the names before the place, those there, and those after.
+-- Each particle of the spine is passed exactly once: a word is the
+-- names before the place, those there, and those after.
 use mathlib.Core.Path.{_≡_, refl, sym, ap, _∙_}
 use mathlib.Core.Logic.{_⊎_, inl, inr, ⊎-elim}
 use mathlib.Core.Bool.{Bool, true, false, _&&_, false≢true}
@@ -26,7 +27,9 @@ module _ {A : Type 0} where
   around-more : (c : Context A) (L : Language A) (rest : Members A) → Alike (Then (Around c L) (Conforms rest)) (Then (Conforms (ahead c)) (Then L (Conforms (behind c ⊕ rest))))
   around-more c L rest =
       alike-then (joined-assoc Sequence (Conforms (ahead c)) (Then L (Conforms (behind c))) (Conforms rest))
-      (alike-joined Sequence (alike-self _) (alike-then (joined-assoc Sequence L (Conforms (behind c)) (Conforms rest)) (alike-joined Sequence (alike-self _) (alike-sym (append-alike Sequence (behind c) rest)))))
+      (alike-joined Sequence (alike-self _)
+      (alike-then (joined-assoc Sequence L (Conforms (behind c)) (Conforms rest))
+      (alike-joined Sequence (alike-self _) (alike-sym (append-alike Sequence (behind c) rest)))))
 
   -- A WORD OF THE MODEL SPLITS AT A PLACE ON THE SPINE
   pub spine-alike : (c : Context A) (t : Members A) → spine c ≡ true → Alike (Conforms (plug c t)) (Around c (Conforms t))

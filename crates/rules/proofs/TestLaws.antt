@@ -1,4 +1,5 @@
--- What the tests on lists say, in terms of membership; a list of entries that stand once is no longer than a list that has them all.
+-- What the tests on lists say, in terms of membership; a list of entries that
+-- stand once is no longer than a list that has them all.
 use Prim.Native.Nat.{suc, _≤_}
 use native.Mathlib.Omega.{arith}
 use mathlib.Core.Path.{_≡_, refl, sym, ap, _∙_}

@@ -2,7 +2,8 @@
 use mathlib.Core.Path.{_≡_, refl, sym, ap, _∙_}
 use mathlib.Core.Logic.{_⊎_, inl, inr, ⊎-elim, _↔_}
 use mathlib.Core.Bool.{Bool, true, false}
-use mathlib.Core.List.{List, [], _∷_, _++_, List·Memᴰ, List·Memᴰ·head, List·Memᴰ·tail, List·Memᴰ·append-cases, Memᴰ·append-left, Memᴰ·append-right, Memᴰ·cast, head-eq-of-cons-eq, tail-eq-of-cons-eq, cons≢nil, nil≢cons}
+use mathlib.Core.List.{List, [], _∷_, _++_, List·Memᴰ, List·Memᴰ·head, List·Memᴰ·tail, List·Memᴰ·append-cases, Memᴰ·append-left, Memᴰ·append-right, Memᴰ·cast}
+use mathlib.Core.List.{head-eq-of-cons-eq, tail-eq-of-cons-eq, cons≢nil, nil≢cons}
 use Rattle.rules.specs.Model.{Members, names, Distinct, Equality}
 use Rattle.rules.specs.Language.{Conforms}
 use Rattle.rules.specs.Automaton.{accepts}
@@ -28,9 +29,11 @@ module _ {A : Type 0} (c : Context A) (t : Members A) (w : List A) (p r : Split 
   pub split-unique : (p .left ≡ r .left) × (p .mid ≡ r .mid) × (p .right ≡ r .right)
   split-unique =
       let (a, b) = parts (λ y. List·Memᴰ y (before c)) (p .left) (p .mid ++ p .right) (r .left) (r .mid ++ r .right) (p .left-in) (rest-of p) (r .left-in) (rest-of r) (p .whole ∙ sym (r .whole)) in
-      let (d, e) = parts (λ y. List·Memᴰ y (names t)) (p .mid) (p .right) (r .mid) (r .right) (p .mid-in) (λ y m i. p .apart-right y i (p .right-in y m)) (r .mid-in) (λ y m i. r .apart-right y i (r .right-in y m)) b in
+      let (d, e) = parts (λ y. List·Memᴰ y (names t)) (p .mid) (p .right) (r .mid) (r .right) (p .mid-in) (λ y m i. p .apart-right y i (p .right-in y m))
+      (r .mid-in) (λ y m i. r .apart-right y i (r .right-in y m)) b in
       (a, d, e)
 
 -- what takes the words of one model to words of another does so for the test
-pub accepts-carried : {A : Type 0} (E : Equality A) (ms ns : Members A) → Distinct (names ms) → Distinct (names ns) → (w v : List A) → (Conforms ms w → Conforms ns v) → accepts E ms w ≡ true → accepts E ns v ≡ true
+pub accepts-carried : {A : Type 0} (E : Equality A) (ms ns : Members A) → Distinct (names ms) → Distinct (names ns) → (w v : List A)
+    → (Conforms ms w → Conforms ns v) → accepts E ms w ≡ true → accepts E ns v ≡ true
 accepts-carried E ms ns d e w v f a = accepts-conforms E ns e v .1 (f (accepts-conforms E ms d w .0 a))

@@ -117,7 +117,8 @@ module _ {A : Type 0} where
         let e : q ≡ None = once-one q (or-split (not (isOne q)) (groupUnlike c j l) m .0) in
         flatten-sound c j l t (rw e at s)
 
-    pub edit-conforms : (e : Edit A) (t : Members A) → misplaced E e c t ≡ false → unfit e c t ≡ false → Sound (plug c t) → (w : List A) → Conforms (plug c t) w → Conforms (plug c (edited e t)) (children E e c t w)
+    pub edit-conforms : (e : Edit A) (t : Members A) → misplaced E e c t ≡ false → unfit e c t ≡ false → Sound (plug c t) → (w : List A) → Conforms (plug c t) w
+        → Conforms (plug c (edited e t)) (children E e c t w)
     unfolding misplaced edited unfit children
     edit-conforms (insert q n) t m u s w h = insert-conforms E c q n t (s .distinct) u w h
     edit-conforms remove done m u s w h = h

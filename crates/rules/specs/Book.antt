@@ -49,7 +49,8 @@ revalueEntry k v (taken l) = taken l
 revalueEntry k v (stands l) = stands (record { parent = l .parent; row = revalue k v (l .row) })
 
 -- ---- rows made: first the spots where they come, then their lines
--- Say that the book has race 1, lap 2 below it, lap 3 below it, taken, and race 4, and that each race gets a split after its laps:
+-- Say that the book has race 1, lap 2 below it, lap 3 below it, taken, and
+-- race 4, and that each race gets a split after its laps:
 --   lines    race 1   lap 2   (lap 3)            race 4
 --   spots    race 1   lap 2   (lap 3)   spot 1   race 4   spot 4
 --   expand   race 1   lap 2   (lap 3)   split 5  race 4   split 6
@@ -60,8 +61,8 @@ pub data Mark : Type 0 where
   old : Entry → Mark
   spot : ℕ → Mark
 
--- The spot of the row with serial u, in the marks after its line: past the lines below it, up to its first later child; `below` are u and
--- the serials passed.
+-- The spot of the row with serial u, in the marks after its line: past the lines below it, up to its first later child;
+-- `below` are u and the serials passed.
 unfoldable pub putSpot : (Row → Bool) → ℕ → List ℕ → List Mark → List Mark
 putSpot later u below [] = spot u ∷ []
 putSpot later u below (spot v ∷ ms) = spot v ∷ putSpot later u below ms
@@ -93,7 +94,8 @@ spotCount [] = 0
 spotCount (old e ∷ ms) = spotCount ms
 spotCount (spot u ∷ ms) = suc (spotCount ms)
 
--- an accepted call's marks: first lines are taken, then values set, then spots put; the one below the ground is for documents
+-- an accepted call's marks: first lines are taken, then values set, then
+-- spots put; the one below the ground is for documents
 abbrev pub marks : Plan → List Entry → List Mark
 marks p es = placed p ground (spots p (map (revalueEntry (p .set) (p .value)) (mark (p .takes) (ground ∷ []) es)))
 

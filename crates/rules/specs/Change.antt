@@ -130,7 +130,8 @@ formAfter (setText k t) form = form
 
 -- ---- what a change does to the rows, as a plan read off the version, the form and the lines
 -- takes: the row, below its parent, is taken with all below it ('taking rule')
--- fills, later, filling: below each row that `fills`, the rows `filling` come before the first row that is `later`, else last; the
+-- fills, later, filling: below each row that `fills`, the rows `filling` come
+-- before the first row that is `later`, else last; the
 --   row `ground` has the documents below it
 -- set, value: the row with that serial gets that value
 -- Serial 0 is no row's, and stands for four things:
@@ -268,8 +269,8 @@ unfoldable pub eachRow : (Row → Row) → Forest Row → Forest Row
 eachRow f bare = bare
 eachRow f (tree r b t) = tree (f r) (eachRow f b) (eachRow f t)
 
--- The rows below u, with the new rows among them. `due`: u fills, and the new rows have still to come below it; they come before the first
--- row that is later, else after all.
+-- The rows below u, with the new rows among them. `due`: u fills, and the new rows have still to come below it; they
+-- come before the first row that is later, else after all.
 unfoldable pub plant : Plan → Row → Bool → Forest Row → Forest Row
 plant p u true bare = p .filling
 plant p u false bare = bare

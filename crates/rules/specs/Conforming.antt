@@ -10,7 +10,8 @@ use Rattle.rules.specs.Bytes.{Bytes, same, bytes, all, isNone}
 use Rattle.rules.specs.Model.{Members, Distinct}
 use Rattle.rules.specs.Language.{Conforms}
 use Rattle.rules.specs.Automaton.{accepts}
-use Rattle.rules.specs.Store.{Content, empty, pcdata, complex, AttributeSort, implied, required, fixed, Attribute, Definition, Form, RowSort, element, attribute, text, Row, Forest, bare, tree, heads}
+use Rattle.rules.specs.Store.{Content, empty, pcdata, complex, AttributeSort, implied, required, fixed, Attribute, Definition, Form, RowSort, element}
+use Rattle.rules.specs.Store.{attribute, text, Row, Forest, bare, tree, heads}
 use Rattle.rules.specs.WellFormed.{lookup, attributeName}
 
 abbrev pub nameOf : Row → Bytes
@@ -50,7 +51,8 @@ pub record AttributeRows (version : ℕ) (table : List Attribute) (rows : List R
   pub present : (a : Attribute) → List·Memᴰ a table → mustBePresent version (a .sort) ≡ true → List·Memᴰ (a .name) (map nameOf rows)
   pub equal : (a : Attribute) → List·Memᴰ a table → (r : Row) → List·Memᴰ r rows → r .name ≡ a .name → allows (a .sort) (a .value) (r .value) ≡ true
 
--- 'an element's children in order are in its model's language; EMPTY has none, PCDATA has no elements and exactly one text row'
+-- 'an element's children in order are in its model's language; EMPTY has
+-- none, PCDATA has no elements and exactly one text row'
 abbrev pub ContentRows : Content → List Row → Type 0
 ContentRows empty rows = rows ≡ []
 ContentRows pcdata rows = (r : Row) × (rows ≡ r ∷ []) × (r .sort ≡ text)

@@ -1,4 +1,5 @@
--- 'The lowest number that applies is given, never another': said of `refusal` over one list of the table's numbers. No promise cites this.
+-- 'The lowest number that applies is given, never another': said of `refusal`
+-- over one list of the table's numbers. No promise cites this.
 use Prim.Native.Nat.{ℕ, zero, suc, _≤_}
 use mathlib.Core.Path.{_≡_}
 use mathlib.Core.Bool.{Bool, true, false}
@@ -8,8 +9,8 @@ use Rattle.rules.specs.Store.{Store}
 use Rattle.rules.specs.Change.{Call, after}
 use Rattle.rules.specs.Refusal.{Condition, conditions, limits}
 
--- The table's numbers in the order in which they are asked. It is that of the numbers themselves; a number that is to be asked between two
--- of these comes between them here.
+-- The table's numbers in the order in which they are asked. It is that of the numbers themselves; a number that is to
+-- be asked between two of these comes between them here.
 abbrev pub refusalOrder : List ℕ
 refusalOrder = 1 ∷ 2 ∷ 3 ∷ 4 ∷ 5 ∷ 6 ∷ 7 ∷ 8 ∷ 9 ∷ 10 ∷ 11 ∷ 12 ∷ 13 ∷ 14 ∷ 15 ∷ 16 ∷ 17 ∷ 18 ∷ []
 

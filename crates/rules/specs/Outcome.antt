@@ -50,7 +50,8 @@ pub record Answers (o : Outcome) (out : Bytes) (number len : ℕ) (left : Bytes)
   pub length-is : len ≡ lengthOf o
   pub buffer-is : left ≡ bufferOf o out
 
--- The promise of each of the sixteen changes, of the store `bs` that the call reads and the buffer `out` that it is given. The public calls
--- of crates/formstore state it, and the history of a box is made of calls that keep it (crates/history).
+-- The promise of each of the sixteen changes, of the store `bs` that the call reads and the buffer `out` that it is
+-- given. The public calls of crates/formstore state it, and the history of
+-- a box is made of calls that keep it (crates/history).
 abbrev pub Promise : Call → Bytes → Bytes → ℕ → ℕ → Bytes → Type 0
 Promise c bs out number len left = Answers (outcome c bs (length out)) out number len left

@@ -13,7 +13,8 @@ abbrev pub flatten : {A : Type 0} → ℕ → Forest A → List (Deep A)
 flatten d bare = []
 flatten d (tree r b t) = record { depth = d; row = r } ∷ (flatten (suc d) b ++ flatten d t)
 
--- Of rows with depths: those of depth k that stand beside one another from here on, each with the deeper ones that follow it.
+-- Of rows with depths: those of depth k that stand beside one another
+-- from here on, each with the deeper ones that follow it.
 abbrev pub build : {A : Type 0} → List (Deep A) → ℕ → Forest A
 build [] k = bare
 build (x ∷ xs) k =

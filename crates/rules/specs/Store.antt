@@ -1,4 +1,5 @@
--- 'The store': what it holds. Members and rows carry names where the bytes have indices; Layout turns names into indices.
+-- 'The store': what it holds. Members and rows carry names where the
+-- bytes have indices; Layout turns names into indices.
 use Prim.Native.Nat.{ℕ}
 use mathlib.Core.List.{List, [], _∷_}
 use Rattle.rules.specs.Bytes.{Bytes}
@@ -38,7 +39,8 @@ pub record Row : Type 0 where
   pub name : Bytes
   pub value : Bytes
 
--- A row with the rows below it, then the rows beside it that come after. The documents, and what is below a row, are a forest.
+-- A row with the rows below it, then the rows beside it that come after.
+-- The documents, and what is below a row, are a forest.
 pub data Forest (A : Type 0) : Type 0 where
   bare : Forest A
   tree : A → Forest A → Forest A → Forest A

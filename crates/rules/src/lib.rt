@@ -14,8 +14,8 @@ pub enum GroupKind {
     Choice,
 }
 
-/// Of a part of a content model and two names x, y: it accepts nothing; y can be a word's first; x can be a word's last; y can
-/// follow x directly.
+/// Of a part of a content model and two names x, y: it accepts nothing; y can be a word's first; x can be a word's
+/// last; y can follow x directly.
 pub struct Facts {
     pub nothing: bool,
     pub first: bool,

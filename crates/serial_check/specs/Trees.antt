@@ -1,7 +1,9 @@
 -- Trees of rows by the bits of their serials: how the walk over the rows finds a serial again.
--- Rows whose serials have the same remainder by 4096 are in one tree. `heads` has at each remainder the root of its tree, and `below` has
--- two places for each row, 2 * j and 2 * j + 1 for row j. What stands in a place is a row's number, counted from 0, and 1; or 0 for none.
--- A walk goes by the bits of the serial above the remainder, the lowest first: from row j to the first or the second of its places as the bit is 0 or 1.
+-- Rows whose serials have the same remainder by 4096 are in one tree. `heads` has at each remainder the root of its
+-- tree, and `below` has two places for each row, 2 * j and 2 * j + 1 for row j. What stands in a place is a row's
+-- number, counted from 0, and 1; or 0 for none.
+-- A walk goes by the bits of the serial above the remainder, the lowest first: from
+-- row j to the first or the second of its places as the bit is 0 or 1.
 use Prim.Native.Nat.{ℕ, suc, _+_, _*_, _/_, _%_, _<_, _≤_}
 use mathlib.Core.Path.{_≡_}
 use mathlib.Core.Bool.{Bool, true, false}
@@ -36,7 +38,8 @@ pub record Free (w : ℕ) (rows : Bytes) (below : List ℕ) (h s p : ℕ) : Type
   pub empty : getD below p 0 ≡ 0
   pub none : (j : ℕ) → Met below j h (s / 4096) → serialAt w rows j ≡ s → ⊥
 
--- r: the place to which the walk from h for the serial s comes; 8192, which is none, where it meets a row with that serial
+-- r: the place to which the walk from h for the serial s comes; 8192,
+-- which is none, where it meets a row with that serial
 pub record Sought (w : ℕ) (rows : Bytes) (below : List ℕ) (h s r : ℕ) : Type 0 where
   pub met : 8192 ≤ r → (j : ℕ) × Met below j h (s / 4096) × (serialAt w rows j ≡ s)
   pub free : r < 8192 → Free w rows below h s r

@@ -17,7 +17,8 @@ fn serial_at(w: usize, rows: &[u8], k: usize) -> u32
     layout::row_serial_at(w, rows, k)
 }
 
-// The place below the row `from - 1` to which the walk for the serial s comes; PLACES where it meets a row with that serial.
+// The place below the row `from - 1` to which the walk for the serial s
+// comes; PLACES where it meets a row with that serial.
 // What stands below a row is a later one, so the walk ends.
 fn sought(w: usize, rows: &[u8], below: &[u16; PLACES], from: u16, s: u32) -> usize
     requires { ⌜ Width w × (0 < from) × (from ≤ 4096) × Rising (now below) 4096 ⌝ }
@@ -66,8 +67,8 @@ fn put(
 }
 
 /// Whether the serials of the first `count` rows fit: each from 1 and below `next`, no two alike.
-// Rows whose serials have the same remainder by 4096 are in one tree, below its root by the other bits of their serials: a row is compared
-// only with those on its way, at most 21.
+// Rows whose serials have the same remainder by 4096 are in one tree, below its root by the other bits of their
+// serials: a row is compared only with those on its way, at most 21.
 pub fn serials_fit(w: usize, rows: &[u8], count: usize, next: u32) -> bool
     requires { ⌜ Width w × (count ≤ 4096) ⌝ }
     ensures { λ r. ⌜ r ≡ fitting next (serialsOf w count (now (rows .entry))) ⌝ }

@@ -1,4 +1,5 @@
--- The attributes of a definition are a block of the table of all attributes, at the indices from the number of attributes before it on.
+-- The attributes of a definition are a block of the table of all attributes, at
+-- the indices from the number of attributes before it on.
 use Prim.Native.Nat.{ℕ, zero, suc, _+_, _<_, _≤_}
 use native.Mathlib.Nat.{eq-or-lt-of-le}
 use native.Mathlib.Omega.{arith}
@@ -45,7 +46,8 @@ offset i [] = 0
 offset zero (d ∷ ds) = 0
 offset (suc i) (d ∷ ds) = length (d .attributes) + offset i ds
 
-pub owner-index : (form : Form) → Distinct (namesOf form) → (i : ℕ) (n : Bytes) → i < length form → attributeIndex (nameAt i (namesOf form)) n form ≡ offset i form + indexIn n (definitionAt i form .attributes)
+pub owner-index : (form : Form) → Distinct (namesOf form) → (i : ℕ) (n : Bytes) → i < length form
+    → attributeIndex (nameAt i (namesOf form)) n form ≡ offset i form + indexIn n (definitionAt i form .attributes)
 owner-index [] u i n l = absurd (omega arith)
 owner-index (d ∷ ds) u zero n l = rw (same-refl (d .name), attributeIndex) (omega arith)
 owner-index (d ∷ ds) u (suc i) n l = rw (later-name d ds u i (omega arith), attributeIndex) (omega (arith, owner-index ds (u .1) i n (omega arith)))
@@ -70,8 +72,10 @@ module _ (version : ℕ) (F : IndexForm) (form : Form) where
 
   tells-of : (j : ℕ) (cs : List FlatAttribute) → ((k : ℕ) → k < length cs → Told (j + k) (entryOf k cs)) → Tells j cs
   tells-of j [] f = tt
-  tells-of j (c ∷ cs) f =
-      (subst (λ (z : ℕ). Told z c) (let e : j + 0 ≡ j = omega arith in e) (f 0 (omega arith)), tells-of (suc j) cs (λ k l. subst (λ (z : ℕ). Told z (entryOf k cs)) (let e : j + suc k ≡ suc j + k = omega arith in e) (f (suc k) (omega arith))))
+  tells-of j (c ∷ cs) f = (
+    subst (λ (z : ℕ). Told z c) (let e : j + 0 ≡ j = omega arith in e) (f 0 (omega arith)),
+    tells-of (suc j) cs (λ k l. subst (λ (z : ℕ). Told z (entryOf k cs)) (let e : j + suc k ≡ suc j + k = omega arith in e) (f (suc k) (omega arith))),
+  )
 
   tells-left : (j : ℕ) (xs ys : List FlatAttribute) → Tells j (xs ++ ys) → Tells j xs
   tells-left j [] ys t = tt
@@ -100,7 +104,8 @@ module _ (version : ℕ) (F : IndexForm) (form : Form) where
   Block i j [] = (k : ℕ) → j ≤ k → k < F .attributes → F .owner k ≡ i → ⊥
   Block i j (a ∷ table) = Entry i j a × Block i (suc j) table
 
-  own-block : (i j : ℕ) (table : List Attribute) (rest : List FlatAttribute) → Tells j (ownAttributes i table ++ rest) → F .attributes ≡ j + length (ownAttributes i table ++ rest) → ((c : FlatAttribute) → List·Memᴰ c rest → i < c .owner)
+  own-block : (i j : ℕ) (table : List Attribute) (rest : List FlatAttribute) → Tells j (ownAttributes i table ++ rest)
+      → F .attributes ≡ j + length (ownAttributes i table ++ rest) → ((c : FlatAttribute) → List·Memᴰ c rest → i < c .owner)
       → ((k : ℕ) → k < length table → attributeIndex (nameAt i (namesOf form)) (nameAt k (map attributeName table)) form ≡ j + k) → Block i j table
   own-block i j [] rest t e later found = λ k l m q.
       let (c, n, p) = tells-find j k rest t l (omega arith) in
@@ -118,26 +123,44 @@ module _ (version : ℕ) (F : IndexForm) (form : Form) where
   )
 
   block-in : (o j : ℕ) (fs : Form) (i m b : ℕ) → Tells j (allAttributes o fs) → F .attributes ≡ j + length (allAttributes o fs) → i < length fs → m ≡ o + i → b ≡ j + offset i fs
-      → ((k : ℕ) → k < length (definitionAt i fs .attributes) → attributeIndex (nameAt m (namesOf form)) (nameAt k (map attributeName (definitionAt i fs .attributes))) form ≡ b + k) → Block m b (definitionAt i fs .attributes)
+      → ((k : ℕ) → k < length (definitionAt i fs .attributes)
+      → attributeIndex (nameAt m (namesOf form)) (nameAt k (map attributeName (definitionAt i fs .attributes))) form ≡ b + k)
+      → Block m b (definitionAt i fs .attributes)
   block-in o j [] i m b t e l p q found = absurd (omega arith)
   block-in o j (d ∷ fs) zero m b t e l p q found =
       let p₁ : o ≡ m = omega arith in
       let q₁ : j ≡ b = omega arith in
-      own-block m b (d .attributes) (allAttributes (suc o) fs) (subst (λ (z : ℕ). Tells z (ownAttributes m (d .attributes) ++ allAttributes (suc o) fs)) q₁ (subst (λ (z : ℕ). Tells j (ownAttributes z (d .attributes) ++ allAttributes (suc o) fs)) p₁ t))
-      (omega (arith, length-append (ownAttributes o (d .attributes)) (allAttributes (suc o) fs), length-append (ownAttributes m (d .attributes)) (allAttributes (suc o) fs), length-own o (d .attributes), length-own m (d .attributes))) (λ c n. omega (arith, all-owners (suc o) fs c n .0)) found
+      own-block m b (d .attributes) (allAttributes (suc o) fs)
+      (subst (λ (z : ℕ). Tells z (ownAttributes m (d .attributes) ++ allAttributes (suc o) fs)) q₁
+      (subst (λ (z : ℕ). Tells j (ownAttributes z (d .attributes) ++ allAttributes (suc o) fs)) p₁ t))
+      (omega (
+        arith,
+        length-append (ownAttributes o (d .attributes)) (allAttributes (suc o) fs),
+        length-append (ownAttributes m (d .attributes)) (allAttributes (suc o) fs),
+        length-own o (d .attributes),
+        length-own m (d .attributes),
+      ))
+      (λ c n. omega (arith, all-owners (suc o) fs c n .0)) found
   block-in o j (d ∷ fs) (suc i) m b t e l p q found =
-      block-in (suc o) (j + length (d .attributes)) fs i m b (tells-right j (j + length (d .attributes)) (ownAttributes o (d .attributes)) (allAttributes (suc o) fs) (omega (arith, length-own o (d .attributes))) t)
+      block-in (suc o) (j + length (d .attributes)) fs i m b (tells-right j (j + length (d .attributes)) (ownAttributes o (d .attributes))
+      (allAttributes (suc o) fs) (omega (arith, length-own o (d .attributes))) t)
       (omega (arith, length-append (ownAttributes o (d .attributes)) (allAttributes (suc o) fs), length-own o (d .attributes))) (omega arith) (omega arith) (omega arith) found
 
   -- no entry before the block is of definition i
   before : (o j : ℕ) (fs : Form) (i k : ℕ) → Tells j (allAttributes o fs) → i < length fs → j ≤ k → k < F .attributes → F .owner k ≡ o + i → j + offset i fs ≤ k
   before o j [] i k t l m n e = absurd (omega arith)
   before o j (d ∷ fs) zero k t l m n e = omega arith
-  before o j (d ∷ fs) (suc i) k t l m n e = by (below-or k (j + length (d .attributes))) (λ g. before (suc o) (j + length (d .attributes)) fs i k (tells-right j (j + length (d .attributes)) (ownAttributes o (d .attributes)) (allAttributes (suc o) fs) (omega (arith, length-own o (d .attributes))) t) (omega arith) g n (omega arith))
+  before o j (d ∷ fs) (suc i) k t l m n e =
+      by (below-or k (j + length (d .attributes))) (λ g. before (suc o) (j + length (d .attributes)) fs i k
+      (tells-right j (j + length (d .attributes)) (ownAttributes o (d .attributes)) (allAttributes (suc o) fs) (omega (arith, length-own o (d .attributes))) t)
+      (omega arith) g n (omega arith))
     where
-      by : (k < j + length (d .attributes)) ⊎ (j + length (d .attributes) ≤ k) → (j + length (d .attributes) ≤ k → j + length (d .attributes) + offset i fs ≤ k) → j + (length (d .attributes) + offset i fs) ≤ k
+      by : (k < j + length (d .attributes)) ⊎ (j + length (d .attributes) ≤ k) → (j + length (d .attributes) ≤ k → j + length (d .attributes) + offset i fs ≤ k)
+          → j + (length (d .attributes) + offset i fs) ≤ k
       by (inl g) f =
-          let (c, x, p) = tells-find j k (ownAttributes o (d .attributes)) (tells-left j (ownAttributes o (d .attributes)) (allAttributes (suc o) fs) t) m (omega (arith, length-own o (d .attributes))) in
+          let (c, x, p) =
+          tells-find j k (ownAttributes o (d .attributes)) (tells-left j (ownAttributes o (d .attributes)) (allAttributes (suc o) fs) t) m
+          (omega (arith, length-own o (d .attributes))) in
           absurd (omega (arith, own-owners o (d .attributes) c x .0))
       by (inr g) f = omega (arith, f g)
 
@@ -159,9 +182,11 @@ module _ (version : ℕ) (F : IndexForm) (form : Form) where
       block-first k m e = omega (arith, before 0 0 form i k tells l (omega arith) m (omega arith))
 
   -- an entry of definition i stands in the block
-  pub block-found : (i j : ℕ) (table : List Attribute) → Block i j table → (k : ℕ) → j ≤ k → k < F .attributes → F .owner k ≡ i → attributeIndex (nameAt i (namesOf form)) (nameAt k (attributeNames form)) form ≡ k
+  pub block-found : (i j : ℕ) (table : List Attribute) → Block i j table → (k : ℕ) → j ≤ k → k < F .attributes → F .owner k ≡ i
+      → attributeIndex (nameAt i (namesOf form)) (nameAt k (attributeNames form)) form ≡ k
   block-found i j [] b k l m e = absurd (b k l m e)
   block-found i j (a ∷ table) b k l m e =
       ⊎-elim
-      (λ q. ap (λ (z : ℕ). attributeIndex (nameAt i (namesOf form)) (nameAt z (attributeNames form)) form) (sym q) ∙ ap (λ (z : Bytes). attributeIndex (nameAt i (namesOf form)) z form) (b .0 .name) ∙ b .0 .found ∙ q)
+      (λ q. ap (λ (z : ℕ). attributeIndex (nameAt i (namesOf form)) (nameAt z (attributeNames form)) form) (sym q)
+      ∙ ap (λ (z : Bytes). attributeIndex (nameAt i (namesOf form)) z form) (b .0 .name) ∙ b .0 .found ∙ q)
       (λ g. block-found i (suc j) table (b .1) k g m e) (eq-or-lt-of-le l)

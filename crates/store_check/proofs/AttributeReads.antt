@@ -1,5 +1,5 @@
--- The attribute body: what its tests say of the attributes that are read from it, that writing gives it back, and that what a form
--- writes passes them.
+-- The attribute body: what its tests say of the attributes that are read from it, that writing gives it back, and that
+-- what a form writes passes them.
 use Prim.Native.Nat.{ℕ, zero, suc, _+_, _<_, _≤_}
 use native.Mathlib.Omega.{arith}
 use mathlib.Core.Path.{_≡_, refl, ap, ap₂, _∙_, sym}
@@ -74,7 +74,8 @@ front o (a ∷ cs) s h =
         let x : Front o cs = f e in
         record {
           rest = x .rest;
-          split = ap (λ (z : List Attribute). ownAttributes o z ++ x .rest) (own-here o a cs e) ∙ (λ i. record { owner = e i; name = a .name; sort = sort-back (a .sort) (s .0) i; value = a .value } ∷ x .split i);
+          split = ap (λ (z : List Attribute). ownAttributes o z ++ x .rest) (own-here o a cs e)
+              ∙ (λ i. record { owner = e i; name = a .name; sort = sort-back (a .sort) (s .0) i; value = a .value } ∷ x .split i);
           rises = x .rises;
           others = λ k l. own-past k a cs (λ z. omega arith) ∙ x .others k l;
         }
@@ -89,7 +90,8 @@ front o (a ∷ cs) s h =
         }
 
 -- `cs₀`: the whole body; `cs`: the attributes of the owners from o on
-pub attributes-back : (ns : List Bytes) (o : ℕ) (ds : List FlatDefinition) (ps : List (Deep FlatParticle)) (cs₀ cs : List FlatAttribute) → Every (λ a. a .sort ≤ 2) cs → Every (λ a. a .owner < o + length ds) cs → ownersRise o cs ≡ true
+pub attributes-back : (ns : List Bytes) (o : ℕ) (ds : List FlatDefinition) (ps : List (Deep FlatParticle)) (cs₀ cs : List FlatAttribute)
+    → Every (λ a. a .sort ≤ 2) cs → Every (λ a. a .owner < o + length ds) cs → ownersRise o cs ≡ true
     → ((k : ℕ) → o ≤ k → ofOwner k cs₀ ≡ ofOwner k cs) → allAttributes o (readForm ns o ds ps cs₀) ≡ cs
 unfolding ownersRise
 attributes-back ns o [] ps cs₀ [] s b r h = refl
@@ -100,7 +102,8 @@ attributes-back ns o (d ∷ ds) ps cs₀ cs s b r h =
     let x : Front o cs = front o cs s r in
     ap₂ (λ (u v : List FlatAttribute). u ++ v) (ap (ownAttributes o) (h o (omega arith)))
     (attributes-back ns (suc o) ds (drop (d .particles) ps) cs₀ (x .rest) (every-right (λ a. a .sort ≤ 2) (ownAttributes o (ofOwner o cs)) (x .rest) (rw (x .split) s))
-    (every-map (λ a. a .owner < o + suc (length ds)) (λ a. a .owner < suc o + length ds) (x .rest) (λ a l. omega arith) (every-right (λ a. a .owner < o + suc (length ds)) (ownAttributes o (ofOwner o cs)) (x .rest) (rw (x .split) b)))
+    (every-map (λ a. a .owner < o + suc (length ds)) (λ a. a .owner < suc o + length ds) (x .rest) (λ a l. omega arith)
+    (every-right (λ a. a .owner < o + suc (length ds)) (ownAttributes o (ofOwner o cs)) (x .rest) (rw (x .split) b)))
     (x .rises) (λ k l. h k (omega arith) ∙ x .others k l))
     ∙ x .split
 
@@ -208,4 +211,6 @@ fits-own w n o (a ∷ table) l h =
 
 pub all-fit : (w n o : ℕ) (fs : Form) → o + length fs ≤ n → Every (λ d. Every (λ a. isAttributeOf w a ≡ true) (d .attributes)) fs → Every (AttributeFits w n) (allAttributes o fs)
 all-fit w n o [] l h = tt
-all-fit w n o (d ∷ fs) l h = every-append (AttributeFits w n) (ownAttributes o (d .attributes)) (allAttributes (suc o) fs) (fits-own w n o (d .attributes) (omega arith) (h .0)) (all-fit w n (suc o) fs (omega arith) (h .1))
+all-fit w n o (d ∷ fs) l h =
+    every-append (AttributeFits w n) (ownAttributes o (d .attributes)) (allAttributes (suc o) fs) (fits-own w n o (d .attributes) (omega arith) (h .0))
+    (all-fit w n (suc o) fs (omega arith) (h .1))

@@ -100,14 +100,16 @@ module _ (version : ℕ) (F : IndexForm) (form : Form) where
       rw q (⊎-elim (λ z. List·Memᴰ·head (sym z ∙ sym x)) (λ g. List·Memᴰ·tail (whole-of i (suc j) table b rest t k g m p n)) (eq-or-lt-of-le l))
 
   -- ---- rows that are read
-  taken-name : (i j : ℕ) (table : List Attribute) → Block version F form i j table → (r : FlatRow) (rest : List FlatRow) → Taken version j table (r ∷ rest) → (r .sort ≡ 2) × List·Memᴰ (nameAt (r .index) (attributeNames form)) (map attributeName table)
+  taken-name : (i j : ℕ) (table : List Attribute) → Block version F form i j table → (r : FlatRow) (rest : List FlatRow) → Taken version j table (r ∷ rest)
+      → (r .sort ≡ 2) × List·Memᴰ (nameAt (r .index) (attributeNames form)) (map attributeName table)
   taken-name i j [] b r rest t = absurd (cons≢nil t)
   taken-name i j (a ∷ table) (e, b) r rest (inl (m, t)) = let (s, n) = taken-name i (suc j) table b r rest t in (s, List·Memᴰ·tail n)
   taken-name i j (a ∷ table) (e, b) r rest (inr (x, others, q, s, y, v, t)) =
       let z : r ≡ x = head-eq-of-cons-eq q in
       (ap (λ (u : FlatRow). u .sort) z ∙ s, List·Memᴰ·head (ap (λ (k : ℕ). nameAt k (attributeNames form)) (ap (λ (u : FlatRow). u .index) z ∙ y) ∙ e .name))
 
-  pub strip-taken : (i j : ℕ) (table : List Attribute) → Block version F form i j table → Distinct (map attributeName table) → (rs : List FlatRow) → Taken version j table rs → (back : List Row) → headAttribute back ≡ false
+  pub strip-taken : (i j : ℕ) (table : List Attribute) → Block version F form i j table → Distinct (map attributeName table) → (rs : List FlatRow)
+      → Taken version j table rs → (back : List Row) → headAttribute back ≡ false
       → strip version table (map (rowRead form) rs ++ back) ≡ some back
   unfolding strip
   strip-taken i j [] b d rs t back h = rw t
@@ -128,9 +130,11 @@ module _ (version : ℕ) (F : IndexForm) (form : Form) where
   none-some : {A : Type 0} {x : A} → none ≡ some x → ⊥
   none-some e = let z : false ≡ true = cc e in false≢true z
 
-  taken-first : (i j : ℕ) (a : Attribute) (table : List Attribute) → Entry version F form i j a → (r : Row) (front : List Row) → r .sort ≡ attribute → a .name ≡ r .name → allows (a .sort) (a .value) (r .value) ≡ true
+  taken-first : (i j : ℕ) (a : Attribute) (table : List Attribute) → Entry version F form i j a → (r : Row) (front : List Row) → r .sort ≡ attribute
+      → a .name ≡ r .name → allows (a .sort) (a .value) (r .value) ≡ true
       → Taken version (suc j) table (map (rowWritten form (nameAt i (namesOf form))) front)
-      → (x : FlatRow) × (rest : List FlatRow) × (map (rowWritten form (nameAt i (namesOf form))) (r ∷ front) ≡ x ∷ rest) × (x .sort ≡ 2) × (x .index ≡ j) × (allows (a .sort) (a .value) (x .value) ≡ true) × Taken version (suc j) table rest
+      → (x : FlatRow) × (rest : List FlatRow) × (map (rowWritten form (nameAt i (namesOf form))) (r ∷ front) ≡ x ∷ rest) × (x .sort ≡ 2) × (x .index ≡ j)
+      × (allows (a .sort) (a .value) (x .value) ≡ true) × Taken version (suc j) table rest
   taken-first i j a table e r front s n p t = (
     rowWritten form (nameAt i (namesOf form)) r,
     map (rowWritten form (nameAt i (namesOf form))) front,
@@ -147,12 +151,15 @@ module _ (version : ℕ) (F : IndexForm) (form : Form) where
   taken-strip i j [] b rows rest h = ([], (let z : rest ≡ rows = cc h in z), refl)
   taken-strip i j (a ∷ table) (e, b) [] rest h = by (mustBePresent version (a .sort)) refl (taken-strip i (suc j) table b [] rest)
     where
-      by : (c : Bool) → mustBePresent version (a .sort) ≡ c → (strip version table [] ≡ some rest → (front : List Row) × (front ++ rest ≡ []) × Taken version (suc j) table (map (rowWritten form (nameAt i (namesOf form))) front))
+      by : (c : Bool) → mustBePresent version (a .sort) ≡ c
+          → (strip version table [] ≡ some rest
+          → (front : List Row) × (front ++ rest ≡ []) × Taken version (suc j) table (map (rowWritten form (nameAt i (namesOf form))) front))
           → (front : List Row) × (front ++ rest ≡ []) × Taken version j (a ∷ table) (map (rowWritten form (nameAt i (namesOf form))) front)
       by true q f = absurd (none-some (rw (q, strip) at h))
       by false q f = let (front, z, t) = f (rw (q, strip) at h) in (front, z, inl (q, t))
   taken-strip i j (a ∷ table) (e, b) (r ∷ rows) rest h =
-      by (isAttribute (r .sort) && same (a .name) (r .name)) refl (allows (a .sort) (a .value) (r .value)) refl (mustBePresent version (a .sort)) refl (taken-strip i (suc j) table b rows rest) (taken-strip i (suc j) table b (r ∷ rows) rest)
+      by (isAttribute (r .sort) && same (a .name) (r .name)) refl (allows (a .sort) (a .value) (r .value)) refl (mustBePresent version (a .sort)) refl
+      (taken-strip i (suc j) table b rows rest) (taken-strip i (suc j) table b (r ∷ rows) rest)
     where
       Goal : List Row → ℕ → List Attribute → Type 0
       Goal rows j table = (front : List Row) × (front ++ rest ≡ rows) × Taken version j table (map (rowWritten form (nameAt i (namesOf form))) front)
@@ -160,7 +167,8 @@ module _ (version : ℕ) (F : IndexForm) (form : Form) where
       first : r .sort ≡ attribute → a .name ≡ r .name → allows (a .sort) (a .value) (r .value) ≡ true → Goal rows (suc j) table → Goal (r ∷ rows) j (a ∷ table)
       first s n p (front, u, t) = (r ∷ front, ap (λ (l : List Row). r ∷ l) u, inr (taken-first i j a table e r front s n p t))
 
-      by : (x : Bool) → (isAttribute (r .sort) && same (a .name) (r .name)) ≡ x → (y : Bool) → allows (a .sort) (a .value) (r .value) ≡ y → (z : Bool) → mustBePresent version (a .sort) ≡ z → (strip version table rows ≡ some rest → Goal rows (suc j) table)
+      by : (x : Bool) → (isAttribute (r .sort) && same (a .name) (r .name)) ≡ x → (y : Bool) → allows (a .sort) (a .value) (r .value) ≡ y → (z : Bool)
+          → mustBePresent version (a .sort) ≡ z → (strip version table rows ≡ some rest → Goal rows (suc j) table)
           → (strip version table (r ∷ rows) ≡ some rest → Goal (r ∷ rows) (suc j) table) → Goal (r ∷ rows) j (a ∷ table)
       by true q true p z m f g =
           let (k, n) = and-split (isAttribute (r .sort)) (same (a .name) (r .name)) q in

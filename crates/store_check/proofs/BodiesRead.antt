@@ -1,4 +1,5 @@
--- The form by index that is read off the bytes of a store that passes is the form by index of its bodies, for all indices.
+-- The form by index that is read off the bytes of a store that passes
+-- is the form by index of its bodies, for all indices.
 use Prim.Native.Nat.{ℕ, zero, suc, _+_, _*_, _<_, _≤_}
 use native.Mathlib.Nat.{mul-le-mul}
 use native.Mathlib.Omega.{arith}
@@ -60,7 +61,8 @@ module _ {w n : ℕ} {defs : Bytes} {p : ℕ} {parts : Bytes} {a : ℕ} {attrs :
   attribute-any : (j : ℕ) → attributeIn w attrs j ≡ entryOf j (attributes w a attrs)
   attribute-any =
       by-range a (attribute-in laid x)
-      (λ j l. ap readAttribute (record-past (attributeSize w) j a attrs (laid .bodies .attributeBody .whole) l) ∙ sym (List·getD-eq-default (attributes w a attrs) noAttribute {n = j} (omega (arith, attributes-length w a attrs))))
+      (λ j l. ap readAttribute (record-past (attributeSize w) j a attrs (laid .bodies .attributeBody .whole) l)
+      ∙ sym (List·getD-eq-default (attributes w a attrs) noAttribute {n = j} (omega (arith, attributes-length w a attrs))))
 
   model-past : (i : ℕ) → n ≤ i → membersOf (modelPart defs parts i) ≡ indexMembers (build (partAt i (definitions n defs) (particles p parts)) 0)
   unfolding modelPart membersFrom particlesOf indexMembers
@@ -85,8 +87,15 @@ module _ {w n : ℕ} {defs : Bytes} {p : ℕ} {parts : Bytes} {a : ℕ} {attrs :
 
 -- ---- of a byte string that passes
 module _ {bs : Bytes} (h : Headed bs) where
-  told : passes bs ≡ true → FormIn bs × RowsPass (widthOf bs) (bytes.indexForm (numberAt 0 4 bs) (widthOf bs) (definitionCount bs) (definitionsIn bs) (particlesIn bs) (attributesIn bs) (attributeCount bs)) (rowCount bs) (rowsIn bs) × SerialsIn bs
-  told = passes-in h (bytes.indexForm (numberAt 0 4 bs) (widthOf bs) (definitionCount bs) (definitionsIn bs) (particlesIn bs) (attributesIn bs) (attributeCount bs)) (λ x. index-agrees (laid-in h) (x .passes) (numberAt 0 4 bs)) .0
+  told : passes bs ≡ true
+      → FormIn bs
+      × RowsPass (widthOf bs)
+      (bytes.indexForm (numberAt 0 4 bs) (widthOf bs) (definitionCount bs) (definitionsIn bs) (particlesIn bs) (attributesIn bs) (attributeCount bs))
+      (rowCount bs) (rowsIn bs)
+      × SerialsIn bs
+  told = passes-in h
+      (bytes.indexForm (numberAt 0 4 bs) (widthOf bs) (definitionCount bs) (definitionsIn bs) (particlesIn bs) (attributesIn bs) (attributeCount bs))
+      (λ x. index-agrees (laid-in h) (x .passes) (numberAt 0 4 bs)) .0
 
   pub form-in : passes bs ≡ true → FormIn bs
   form-in q = told q .0
@@ -95,10 +104,19 @@ module _ {bs : Bytes} (h : Headed bs) where
   pub rows-fit : passes bs ≡ true → eachFits (rowFits (widthOf bs)) (rowSize (widthOf bs)) (rowCount bs) (rowsIn bs) ≡ true
   rows-fit q = told q .1 .fields
 
-  pub read-form : passes bs ≡ true → bytes.indexForm (numberAt 0 4 bs) (widthOf bs) (definitionCount bs) (definitionsIn bs) (particlesIn bs) (attributesIn bs) (attributeCount bs) ≡ indexForm (flatOf bs)
+  pub read-form : passes bs ≡ true
+      → bytes.indexForm (numberAt 0 4 bs) (widthOf bs) (definitionCount bs) (definitionsIn bs) (particlesIn bs) (attributesIn bs) (attributeCount bs)
+      ≡ indexForm (flatOf bs)
   read-form q =
       index-is (laid-in h) (form-in q .passes) (numberAt 0 4 bs)
-      ∙ (λ i. formAt (numberAt 0 4 bs) (record { version = 0; next = 0; definitions = sym (same-definitions h) i; particles = sym (same-particles h) i; attributes = sym (same-attributes h) i; rows = [] }))
+      ∙ (λ i. formAt (numberAt 0 4 bs) (record {
+        version = 0;
+        next = 0;
+        definitions = sym (same-definitions h) i;
+        particles = sym (same-particles h) i;
+        attributes = sym (same-attributes h) i;
+        rows = [];
+      }))
 
   pub read-attribute : passes bs ≡ true → (j : ℕ) → attributeIn (widthOf bs) (attributesIn bs) j ≡ entryOf j (flatOf bs .attributes)
   read-attribute q j = attribute-any (laid-in h) (form-in q .passes) j ∙ ap (entryOf j) (sym (same-attributes h))

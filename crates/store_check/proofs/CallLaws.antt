@@ -46,10 +46,12 @@ same-truth false true (f, g) (h, k) = g (h refl)
 same-truth false false (f, g) (h, k) = refl
 
 -- ---- the form
-pub laid-of : {w n : ℕ} {defs : Bytes} {p : ℕ} {parts : Bytes} {a : ℕ} {attrs : Bytes} → Bodies w n defs p parts a attrs → ((i : ℕ) → Fits w8 (getD defs i 0)) → ((i : ℕ) → Fits w8 (getD attrs i 0)) → Laid w n defs p parts a attrs
+pub laid-of : {w n : ℕ} {defs : Bytes} {p : ℕ} {parts : Bytes} {a : ℕ} {attrs : Bytes} → Bodies w n defs p parts a attrs → ((i : ℕ) → Fits w8 (getD defs i 0))
+    → ((i : ℕ) → Fits w8 (getD attrs i 0)) → Laid w n defs p parts a attrs
 laid-of {w} {n} {defs} {p} {parts} {a} {attrs} b d c = record { bodies = b; definitions = small-of defs (λ i. omega (arith, d i)); attributes = small-of attrs (λ i. omega (arith, c i)) }
 
-pub form-by : {w n : ℕ} {defs : Bytes} {p : ℕ} {parts : Bytes} {a : ℕ} {attrs : Bytes} {r : Heights} → Laid w n defs p parts a attrs → eachFits definitionFits definitionSize n defs ≡ true → eachFits (attributeFits w n) (attributeSize w) a attrs ≡ true
+pub form-by : {w n : ℕ} {defs : Bytes} {p : ℕ} {parts : Bytes} {a : ℕ} {attrs : Bytes} {r : Heights} → Laid w n defs p parts a attrs
+    → eachFits definitionFits definitionSize n defs ≡ true → eachFits (attributeFits w n) (attributeSize w) a attrs ≡ true
     → bodiesFit (formOf w n defs p parts a attrs) ≡ true → Ranked n (membersIn defs parts) r → (r .fit ≡ true) ↔ FormPasses w n defs p parts a attrs
 form-by laid d c b k = (λ e. record { definitions = d; attributes = c; bodies = b; circle = circle-fit laid d c b k .0 e }, λ x. circle-fit laid d c b k .1 (x .circle))
 
@@ -65,7 +67,16 @@ pub record Cut : Type 0 where
   pub attrs : Bytes
 
 abbrev pub cutOf : Bytes → Cut
-cutOf bs = record { version = numberAt 0 4 bs; w = widthOf bs; n = definitionCount bs; defs = definitionsIn bs; p = particleCount bs; parts = particlesIn bs; a = attributeCount bs; attrs = attributesIn bs }
+cutOf bs = record {
+  version = numberAt 0 4 bs;
+  w = widthOf bs;
+  n = definitionCount bs;
+  defs = definitionsIn bs;
+  p = particleCount bs;
+  parts = particlesIn bs;
+  a = attributeCount bs;
+  attrs = attributesIn bs;
+}
 
 -- rows for the form that is cut out
 abbrev RowsAt : Cut → ℕ → Bytes → Type 0
@@ -126,7 +137,10 @@ module _ {bs : Bytes} {version w n : ℕ} {defs : Bytes} {p : ℕ} {parts : Byte
         let form : FormPasses w n defs p parts a attrs = subst (λ (c : Cut). FormPasses (c .w) (c .n) (c .defs) (c .p) (c .parts) (c .a) (c .attrs)) (k .same) (x .passes) in
         (narrow, cut-laid .bodies .definitionBody .few, cut-laid .bodies .attributeBody .few, omega (arith, ap (λ (s : Bytes). length s) v, rows-whole h), index-once cut-laid form version)
 
-    pub rows-in : {r : Bool} → (r ≡ true) ↔ ((eachFits (rowFits w) (rowSize w) count rows ≡ true) × Documents (indexForm version w n defs parts attrs a) (readMany readRow (rowSize w) count rows)) → (r ≡ true) ↔ RowsIn bs
+    pub rows-in : {r : Bool}
+        → (r ≡ true)
+        ↔ ((eachFits (rowFits w) (rowSize w) count rows ≡ true) × Documents (indexForm version w n defs parts attrs a) (readMany readRow (rowSize w) count rows))
+        → (r ≡ true) ↔ RowsIn bs
     rows-in {r} (f, g) = (
       λ e. let (x, y) = f e in record { passes = back (record { fields = x; documents = y }) },
       λ x. let y : RowsPass w (indexForm version w n defs parts attrs a) count rows = there (x .passes) in g (y .fields, y .documents),
@@ -157,8 +171,14 @@ headless {bs} x {b} h q = by (passes bs) refl
     by false e = refl
 
 module _ {bs : Bytes} (h : Headed bs) where
-  all-in : (passes bs ≡ true) ↔ (FormIn bs × RowsPass (widthOf bs) (indexForm (numberAt 0 4 bs) (widthOf bs) (definitionCount bs) (definitionsIn bs) (particlesIn bs) (attributesIn bs) (attributeCount bs)) (rowCount bs) (rowsIn bs) × SerialsIn bs)
-  all-in = passes-in h (indexForm (numberAt 0 4 bs) (widthOf bs) (definitionCount bs) (definitionsIn bs) (particlesIn bs) (attributesIn bs) (attributeCount bs)) (λ x. index-agrees (laid-in h) (x .passes) (numberAt 0 4 bs))
+  all-in : (passes bs ≡ true)
+      ↔ (FormIn bs
+      × RowsPass (widthOf bs)
+      (indexForm (numberAt 0 4 bs) (widthOf bs) (definitionCount bs) (definitionsIn bs) (particlesIn bs) (attributesIn bs) (attributeCount bs)) (rowCount bs)
+      (rowsIn bs)
+      × SerialsIn bs)
+  all-in = passes-in h (indexForm (numberAt 0 4 bs) (widthOf bs) (definitionCount bs) (definitionsIn bs) (particlesIn bs) (attributesIn bs) (attributeCount bs))
+      (λ x. index-agrees (laid-in h) (x .passes) (numberAt 0 4 bs))
 
   not-passed : (passes bs ≡ true → ⊥) → false ≡ passes bs
   not-passed f = by (passes bs) refl

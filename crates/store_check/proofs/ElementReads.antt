@@ -1,5 +1,5 @@
--- The rows right below an element: what an index form asks of them is what the form asks of the rows that are read, and of those
--- that are written.
+-- The rows right below an element: what an index form asks of them is what the form asks of the rows that are read, and
+-- of those that are written.
 use Prim.Native.Nat.{ℕ, zero, suc, _<_}
 use native.Mathlib.Omega.{arith}
 use mathlib.Core.Path.{_≡_, refl, ap, _∙_, sym, subst}
@@ -104,12 +104,14 @@ module _ {version : ℕ} (w : ℕ) (form : Form) (ok : wellFormed w form ≡ tru
     content-written owner pcdata q rows (r, e, s) = (rowWritten form owner r, ap (λ (z : List Row). map (rowWritten form owner) z) e, ap rowCode s)
     content-written owner (complex ms) q rows (s, c) =
         let c₁ : Conforms (members (definitionAt i form)) (map nameOf rows) = subst (λ (z : Content). Conforms (modelOf z) (map nameOf rows)) (sym q) c in
-        let k : (n : Bytes) → List·Memᴰ n (map nameOf rows) → known form n ≡ true = λ n m. good-at i l .inRange n (letters Sequence (members (definitionAt i form)) .inside (map nameOf rows) c₁ n m) in (
+        let k : (n : Bytes) → List·Memᴰ n (map nameOf rows) → known form n ≡ true =
+        λ n m. good-at i l .inRange n (letters Sequence (members (definitionAt i form)) .inside (map nameOf rows) c₁ n m) in (
           λ x m.
               let (r, j, e) = Memᴰ·of-map (rowWritten form owner) rows m in
               ap (λ (z : FlatRow). z .sort) (sym e) ∙ ap rowCode (s r j),
           subst (λ (z : List ℕ). Conforms (F .model i) z) (sym (elements-written form owner rows s))
-              (conforms-index (map (λ n. indexOf n form) (map nameOf rows)) (λ j m. let (n, x, e) = Memᴰ·of-map (λ n. indexOf n form) (map nameOf rows) m in subst (λ (z : ℕ). z < length form) e (known-index form n (k n x) .below)) .1
+              (conforms-index (map (λ n. indexOf n form) (map nameOf rows)) (λ j m. let (n, x, e) = Memᴰ·of-map (λ n. indexOf n form) (map nameOf rows) m in
+              subst (λ (z : ℕ). z < length form) e (known-index form n (k n x) .below)) .1
               (subst (λ (z : List Bytes). Conforms (members (definitionAt i form)) z) (sym (names-back form (map nameOf rows) k)) c₁)),
         )
 
@@ -123,12 +125,16 @@ module _ {version : ℕ} (w : ℕ) (form : Form) (ok : wellFormed w form ≡ tru
 
     pub below-read : (rs : List FlatRow) → Below F i rs → ElementRows version (definitionAt i form) (map (rowRead form) rs)
     below-read rs x =
-        let taken : Taken version (offset i form) (definitionAt i form .attributes) (x .front) = taken-of version F form i (offset i form) (definitionAt i form .attributes) block (x .front) (from-block (x .front) (x .owned)) (λ k a. x .whole k) in
+        let taken : Taken version (offset i form) (definitionAt i form .attributes) (x .front) =
+        taken-of version F form i (offset i form) (definitionAt i form .attributes) block (x .front) (from-block (x .front) (x .owned))
+        (λ k a. x .whole k) in
         let content : ContentRows (definitionAt i form .content) (map (rowRead form) (x .back)) =
         content-read (definitionAt i form .content) refl (x .back) (subst (λ (k : ℕ). ContentOf k (F .model i) (x .back)) (agrees .kind i l) (x .content)) in
         let cut : Cut version (definitionAt i form .attributes) (map (rowRead form) (x .front) ++ map (rowRead form) (x .back)) (map (rowRead form) (x .back)) =
-        strip-is version (definitionAt i form .attributes) (map (rowRead form) (x .front) ++ map (rowRead form) (x .back)) (map (rowRead form) (x .back)) (good-at i l .attributeNames) (content-head (definitionAt i form .content) (map (rowRead form) (x .back)) content) .0
-        (strip-taken version F form i (offset i form) (definitionAt i form .attributes) block (good-at i l .attributeNames) (x .front) taken (map (rowRead form) (x .back)) (content-head (definitionAt i form .content) (map (rowRead form) (x .back)) content)) in
+        strip-is version (definitionAt i form .attributes) (map (rowRead form) (x .front) ++ map (rowRead form) (x .back)) (map (rowRead form) (x .back))
+        (good-at i l .attributeNames) (content-head (definitionAt i form .content) (map (rowRead form) (x .back)) content) .0
+        (strip-taken version F form i (offset i form) (definitionAt i form .attributes) block (good-at i l .attributeNames) (x .front) taken
+        (map (rowRead form) (x .back)) (content-head (definitionAt i form .content) (map (rowRead form) (x .back)) content)) in
         record {
           front = cut .front;
           back = map (rowRead form) (x .back);
@@ -141,15 +147,18 @@ module _ {version : ℕ} (w : ℕ) (form : Form) (ok : wellFormed w form ≡ tru
     below-written rows x =
         let owner : Bytes = nameAt i (namesOf form) in
         let (front, split, taken) = taken-strip version F form i (offset i form) (definitionAt i form .attributes) block rows (x .back)
-        (strip-is version (definitionAt i form .attributes) rows (x .back) (good-at i l .attributeNames) (content-head (definitionAt i form .content) (x .back) (x .content)) .1 record { front = x .front; split = x .split; attributes = x .attributes }) in
+        (strip-is version (definitionAt i form .attributes) rows (x .back) (good-at i l .attributeNames)
+        (content-head (definitionAt i form .content) (x .back) (x .content)) .1 record { front = x .front; split = x .split; attributes = x .attributes }) in
         record {
           known = omega (arith, agrees .size);
           front = map (rowWritten form owner) front;
           back = map (rowWritten form owner) (x .back);
           split = sym (map-append (rowWritten form owner) front (x .back)) ∙ ap (λ (z : List Row). map (rowWritten form owner) z) split;
           owned = owned-of version F form i (offset i form) (definitionAt i form .attributes) block (map (rowWritten form owner) front) taken 0 (omega arith);
-          whole = λ j m e n. whole-of version F form i (offset i form) (definitionAt i form .attributes) block (map (rowWritten form owner) front) taken j (block-first version F form agrees apart i l j m e) m e n;
-          content = subst (λ (k : ℕ). ContentOf k (F .model i) (map (rowWritten form owner) (x .back))) (sym (agrees .kind i l)) (content-written owner (definitionAt i form .content) refl (x .back) (x .content));
+          whole = λ j m e n. whole-of version F form i (offset i form) (definitionAt i form .attributes) block (map (rowWritten form owner) front) taken j
+              (block-first version F form agrees apart i l j m e) m e n;
+          content = subst (λ (k : ℕ). ContentOf k (F .model i) (map (rowWritten form owner) (x .back))) (sym (agrees .kind i l))
+              (content-written owner (definitionAt i form .content) refl (x .back) (x .content));
         }
 
     -- ---- the attribute rows have the indices that their names have below definition i
@@ -158,8 +167,11 @@ module _ {version : ℕ} (w : ℕ) (form : Form) (ok : wellFormed w form ≡ tru
 
     owned-found : (a : ℕ) (rs : List FlatRow) → Owned F i a rs → Every Found rs
     owned-found a [] o = tt
-    owned-found a (r ∷ rs) (s, b, n, e, v, o) =
-        (λ q. block-found version F form i (offset i form) (definitionAt i form .attributes) block (r .index) (block-first version F form agrees apart i l (r .index) n e) n e, owned-found (suc (r .index)) rs o)
+    owned-found a (r ∷ rs) (s, b, n, e, v, o) = (
+      λ q. block-found version F form i (offset i form) (definitionAt i form .attributes) block (r .index)
+          (block-first version F form agrees apart i l (r .index) n e) n e,
+      owned-found (suc (r .index)) rs o,
+    )
 
     content-found : (k : ℕ) (ms : Members ℕ) (rs : List FlatRow) → ContentOf k ms rs → Every Found rs
     content-found zero ms rs e = rw e tt
@@ -167,4 +179,6 @@ module _ {version : ℕ} (w : ℕ) (form : Form) (ok : wellFormed w form ≡ tru
     content-found (suc (suc k)) ms rs (s, c) = every-in Found rs (λ x m q. absurd (omega (arith, s x m)))
 
     pub below-found : (rs : List FlatRow) → Below F i rs → Every Found rs
-    below-found rs x = subst (λ (z : List FlatRow). Every Found z) (x .split) (every-append Found (x .front) (x .back) (owned-found 0 (x .front) (x .owned)) (content-found (F .kind i) (F .model i) (x .back) (x .content)))
+    below-found rs x =
+        subst (λ (z : List FlatRow). Every Found z) (x .split)
+        (every-append Found (x .front) (x .back) (owned-found 0 (x .front) (x .owned)) (content-found (F .kind i) (F .model i) (x .back) (x .content)))

@@ -1,5 +1,5 @@
--- The form that is read from bodies that pass the tests is well-formed just where no definition reaches itself, and says by name
--- what the bodies say by index. The bodies of a store that passes pass the tests.
+-- The form that is read from bodies that pass the tests is well-formed just where no definition reaches itself, and
+-- says by name what the bodies say by index. The bodies of a store that passes pass the tests.
 use Prim.Native.Nat.{ℕ, _<_}
 use native.Mathlib.Omega.{arith}
 use mathlib.Core.Path.{_≡_, refl, ap, _∙_, sym}
@@ -45,9 +45,11 @@ module _ (w : ℕ) (f : FlatStore) (fit : FieldsFit w f) (bodies : bodiesFit f �
   good-at i l =
       let m : ModelRead (formOf f) (form-apart w f fit bodies) (partAt i (f .definitions) (f .particles)) = model-at w f fit bodies i l in
       let e : members (definitionAt i (formOf f)) ≡ readMembers (namesOf (formOf f)) (build (partAt i (f .definitions) (f .particles)) 0) = members-at w f fit bodies i l in
-      let a : definitionAt i (formOf f) .attributes ≡ ofOwner i (f .attributes) = ap (λ (d : Definition). d .attributes) (read-at w f fit bodies i l) ∙ ap (λ (k : ℕ). ofOwner k (f .attributes)) (omega arith) in
+      let a : definitionAt i (formOf f) .attributes ≡ ofOwner i (f .attributes) =
+      ap (λ (d : Definition). d .attributes) (read-at w f fit bodies i l) ∙ ap (λ (k : ℕ). ofOwner k (f .attributes)) (omega arith) in
       record {
-        name = ap (λ (d : Definition). storedName (d .name)) (read-at w f fit bodies i l) ∙ every-nth DefinitionFits noDefinition (f .definitions) i (omega (arith, form-size f)) (fit .definitions) .name;
+        name = ap (λ (d : Definition). storedName (d .name)) (read-at w f fit bodies i l)
+            ∙ every-nth DefinitionFits noDefinition (f .definitions) i (omega (arith, form-size f)) (fit .definitions) .name;
         inRange = λ n k. m .inRange n (rw e at k);
         once = rw e (m .once);
         groups = rw e (m .groups);
@@ -107,9 +109,12 @@ depths-fit n (d ∷ ds) ps h =
     let (x, y) = and-split (leb (d .particles) (length ps)) _ h in
     let (u, v) = and-split (modelFits n (take (d .particles) ps)) (modelsFit n ds (drop (d .particles) ps)) y in
     ap (all (λ (p : Deep FlatParticle). leb (p .depth) 4)) (sym (take-append-drop (d .particles) ps))
-    ∙ all-append (λ (p : Deep FlatParticle). leb (p .depth) 4) (take (d .particles) ps) (drop (d .particles) ps) (and-split (all (λ (p : Deep FlatParticle). leb (p .depth) 4) (take (d .particles) ps)) _ u .0) (depths-fit n ds (drop (d .particles) ps) v)
+    ∙ all-append (λ (p : Deep FlatParticle). leb (p .depth) 4) (take (d .particles) ps) (drop (d .particles) ps)
+    (and-split (all (λ (p : Deep FlatParticle). leb (p .depth) 4) (take (d .particles) ps)) _ u .0) (depths-fit n ds (drop (d .particles) ps) v)
 
-pub ceilings-counted : (f : FlatStore) → bodiesFit f ≡ true → withinCeilings f ≡ (leb (length (f .definitions)) 64 && (leb (length (f .particles)) 256 && (leb (length (f .attributes)) 64 && leb (length (f .rows)) 4096)))
+pub ceilings-counted : (f : FlatStore) → bodiesFit f ≡ true
+    → withinCeilings f
+    ≡ (leb (length (f .definitions)) 64 && (leb (length (f .particles)) 256 && (leb (length (f .attributes)) 64 && leb (length (f .rows)) 4096)))
 ceilings-counted f h =
     ap (λ (t : Bool). leb (length (f .definitions)) 64 && (leb (length (f .particles)) 256 && (t && (leb (length (f .attributes)) 64 && leb (length (f .rows)) 4096))))
     (depths-fit (length (f .definitions)) (f .definitions) (f .particles) (bodies-of f h .models))
@@ -139,7 +144,8 @@ module _ (s : Store) (ok : good s ≡ true) where
       (and-both
       (ap (λ (n : ℕ). modelsFit n (flat s .definitions) (flat s .particles)) (length-map (s .form) (flatDefinition (s .form)))
       ∙ models-written (s .form) (s .form)
-      (every-map (GoodDefinition (valueWidth (s .version)) (s .form)) (λ d. ModelGood (s .form) (members d)) (s .form) (λ d g. record { inRange = g .inRange; once = g .once; groups = g .groups }) each)
+      (every-map (GoodDefinition (valueWidth (s .version)) (s .form)) (λ d. ModelGood (s .form) (members d)) (s .form)
+      (λ d g. record { inRange = g .inRange; once = g .once; groups = g .groups }) each)
       shallow)
       (and-both (all-rise 0 0 (s .form) (omega arith))
       (all-apart 0 (s .form) (every-map (GoodDefinition (valueWidth (s .version)) (s .form)) (λ d. Distinct (map attributeName (d .attributes))) (s .form) (λ d g. g .attributeNames) each))))

@@ -1,5 +1,5 @@
--- The bodies of a form that fit record by record have fields that fit; where they fit together too, the heights fit just where no
--- definition reaches itself.
+-- The bodies of a form that fit record by record have fields that fit; where they fit together too, the heights fit
+-- just where no definition reaches itself.
 use Prim.Native.Nat.{ℕ, zero, suc, _+_, _*_, _<_, _≤_}
 use native.Mathlib.Omega.{arith}
 use mathlib.Core.Path.{_≡_, refl, ap, _∙_, sym, subst}
@@ -103,10 +103,12 @@ module _ {w n : ℕ} {defs : Bytes} {p : ℕ} {parts : Bytes} {a : ℕ} {attrs :
     fields-fit =
         record {
           definitions = every-map FittingDefinition DefinitionFits (definitions n defs) definition-told
-              (body-fields readDefinition definitionBytes definitionFits definitionSize FittingDefinition definition-fields n defs (laid .definitions) (omega (arith, laid .bodies .definitionBody .whole)) d);
+              (body-fields readDefinition definitionBytes definitionFits definitionSize FittingDefinition definition-fields n defs (laid .definitions)
+              (omega (arith, laid .bodies .definitionBody .whole)) d);
           attributes = subst (λ (m : ℕ). Every (AttributeFits w m) (attributes w a attrs)) (sym (definitions-length n defs))
               (every-map (FittingAttribute w n) (AttributeFits w n) (attributes w a attrs) (attribute-told w n)
-              (body-fields readAttribute (attributeBytes w) (attributeFits w n) (attributeSize w) (FittingAttribute w n) (λ x s l. attribute-fields w n x) a attrs (laid .attributes) (omega (arith, laid .bodies .attributeBody .whole)) c));
+              (body-fields readAttribute (attributeBytes w) (attributeFits w n) (attributeSize w) (FittingAttribute w n) (λ x s l. attribute-fields w n x) a
+              attrs (laid .attributes) (omega (arith, laid .bodies .attributeBody .whole)) c));
         }
 
     module _ (b : bodiesFit (formOf w n defs p parts a attrs) ≡ true) where
@@ -115,7 +117,8 @@ module _ {w n : ℕ} {defs : Bytes} {p : ℕ} {parts : Bytes} {a : ℕ} {attrs :
 
       -- the counts give the particles that are there
       pub before-all : before n (definitions n defs) ≡ p
-      before-all = ap (λ (k : ℕ). before k (definitions n defs)) (sym (definitions-length n defs)) ∙ models-whole (length (definitions n defs)) (definitions n defs) (particles p parts) models ∙ particles-length p parts
+      before-all = ap (λ (k : ℕ). before k (definitions n defs)) (sym (definitions-length n defs))
+          ∙ models-whole (length (definitions n defs)) (definitions n defs) (particles p parts) models ∙ particles-length p parts
 
       start-all : startAt defs n ≤ p
       unfolding startAt
@@ -126,7 +129,12 @@ module _ {w n : ℕ} {defs : Bytes} {p : ℕ} {parts : Bytes} {a : ℕ} {attrs :
 
       readable : Readable defs parts n p
       unfolding definitions particles
-      readable = record { few = start-all; long = long; once = bodies-of (formOf w n defs p parts a attrs) b .apart; shaped = all-shaped (length (definitions n defs)) (definitions n defs) (particles p parts) (fields-fit .definitions) models }
+      readable = record {
+        few = start-all;
+        long = long;
+        once = bodies-of (formOf w n defs p parts a attrs) b .apart;
+        shaped = all-shaped (length (definitions n defs)) (definitions n defs) (particles p parts) (fields-fit .definitions) models;
+      }
 
       members-are : (i : ℕ) → i < n → membersIn defs parts i ≡ elementsIn (partAt i (definitions n defs) (particles p parts))
       unfolding definitions particles
@@ -136,7 +144,9 @@ module _ {w n : ℕ} {defs : Bytes} {p : ℕ} {parts : Bytes} {a : ℕ} {attrs :
       within : Within n (membersIn defs parts)
       within i l j m =
           let size : length (reads.formOf (formOf w n defs p parts a attrs)) ≡ n = form-size (formOf w n defs p parts a attrs) ∙ definitions-length n defs in
-          let x : ModelRead (reads.formOf (formOf w n defs p parts a attrs)) (form-apart w (formOf w n defs p parts a attrs) fields-fit b) (partAt i (definitions n defs) (particles p parts)) = model-at w (formOf w n defs p parts a attrs) fields-fit b i (omega arith) in
+          let x : ModelRead (reads.formOf (formOf w n defs p parts a attrs)) (form-apart w (formOf w n defs p parts a attrs) fields-fit b)
+          (partAt i (definitions n defs) (particles p parts)) =
+          model-at w (formOf w n defs p parts a attrs) fields-fit b i (omega arith) in
           omega (
             arith,
             every-at (λ k. k < length (reads.formOf (formOf w n defs p parts a attrs))) j (names (indexMembers (build (partAt i (definitions n defs) (particles p parts)) 0))) (x .below)

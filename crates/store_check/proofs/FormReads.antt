@@ -1,5 +1,5 @@
--- The bodies of a form that pass the tests: writing what is read gives them back, and each definition that is read has the kind and
--- the model that the bodies say by index.
+-- The bodies of a form that pass the tests: writing what is read gives them back, and each definition that is read has
+-- the kind and the model that the bodies say by index.
 use Prim.Native.Nat.{ℕ, zero, suc, _+_, _<_, _≤_}
 use native.Mathlib.Omega.{arith}
 use mathlib.Core.Path.{_≡_, refl, ap, ap₂, _∙_, sym}
@@ -46,13 +46,18 @@ every-index P (d ∷ form) f = (f 0 (omega arith), every-index P form (λ i l. f
 abbrev pub readAt : List Bytes → ℕ → ℕ → List FlatDefinition → List (Deep FlatParticle) → List FlatAttribute → Definition
 readAt ns o i ds ps cs = record { name = getD ds i noDefinition .name; content = contentOf (getD ds i noDefinition .kind) (readMembers ns (build (partAt i ds ps) 0)); attributes = ofOwner (o + i) cs }
 
-pub definition-at : (ns : List Bytes) (o i : ℕ) (ds : List FlatDefinition) (ps : List (Deep FlatParticle)) (cs : List FlatAttribute) → i < length ds → definitionAt i (readForm ns o ds ps cs) ≡ readAt ns o i ds ps cs
+pub definition-at : (ns : List Bytes) (o i : ℕ) (ds : List FlatDefinition) (ps : List (Deep FlatParticle)) (cs : List FlatAttribute) → i < length ds
+    → definitionAt i (readForm ns o ds ps cs) ≡ readAt ns o i ds ps cs
 definition-at ns o i [] ps cs l = absurd (omega arith)
 definition-at ns o zero (d ∷ ds) ps cs l =
     ap (λ (k : ℕ). record { name = d .name; content = contentOf (d .kind) (readMembers ns (build (take (d .particles) ps) 0)); attributes = ofOwner k cs }) (let e : o ≡ o + 0 = omega arith in e)
 definition-at ns o (suc i) (d ∷ ds) ps cs l =
     definition-at ns (suc o) i ds (drop (d .particles) ps) cs (omega arith)
-    ∙ ap (λ (k : ℕ). record { name = getD ds i noDefinition .name; content = contentOf (getD ds i noDefinition .kind) (readMembers ns (build (partAt i ds (drop (d .particles) ps)) 0)); attributes = ofOwner k cs })
+    ∙ ap (λ (k : ℕ). record {
+      name = getD ds i noDefinition .name;
+      content = contentOf (getD ds i noDefinition .kind) (readMembers ns (build (partAt i ds (drop (d .particles) ps)) 0));
+      attributes = ofOwner k cs;
+    })
     (let e : suc o + i ≡ o + suc i = omega arith in e)
 
 take-none : {A : Type 0} (k : ℕ) (xs : List A) → k ≡ 0 → take k xs ≡ []
@@ -83,7 +88,8 @@ record PartFits (n kind : ℕ) (part : List (Deep FlatParticle)) : Type 0 where
   filled : Fills kind part
   model : modelFits n part ≡ true
 
-part-at : (n i : ℕ) (ds : List FlatDefinition) (ps : List (Deep FlatParticle)) → i < length ds → Every DefinitionFits ds → modelsFit n ds ps ≡ true → PartFits n (getD ds i noDefinition .kind) (partAt i ds ps)
+part-at : (n i : ℕ) (ds : List FlatDefinition) (ps : List (Deep FlatParticle)) → i < length ds → Every DefinitionFits ds → modelsFit n ds ps ≡ true
+    → PartFits n (getD ds i noDefinition .kind) (partAt i ds ps)
 part-at n i [] ps l h m = absurd (omega arith)
 part-at n zero (d ∷ ds) ps l h m = record { filled = fills d ps (h .0); model = parts n d ds ps m .first }
 part-at n (suc i) (d ∷ ds) ps l h m = part-at n i ds (drop (d .particles) ps) (omega arith) (h .1) (parts n d ds ps m .others)
@@ -106,7 +112,8 @@ module _ (form : Form) (apart : Distinct (namesOf form)) where
       → contentParticles form (contentOf (d .kind) (readMembers (namesOf form) (build (take (d .particles) ps) 0))) ≡ take (d .particles) ps
   first-back d ds ps h m = content-back (d .kind) (take (d .particles) ps) (fills d ps h) (model-read form apart (take (d .particles) ps) (parts (length form) d ds ps m .first))
 
-  definitions-back : (o : ℕ) (ds : List FlatDefinition) (ps : List (Deep FlatParticle)) (cs : List FlatAttribute) → Every DefinitionFits ds → modelsFit (length form) ds ps ≡ true → map (flatDefinition form) (readForm (namesOf form) o ds ps cs) ≡ ds
+  definitions-back : (o : ℕ) (ds : List FlatDefinition) (ps : List (Deep FlatParticle)) (cs : List FlatAttribute) → Every DefinitionFits ds
+      → modelsFit (length form) ds ps ≡ true → map (flatDefinition form) (readForm (namesOf form) o ds ps cs) ≡ ds
   definitions-back o [] ps cs h m = refl
   definitions-back o (d ∷ ds) ps cs h m =
       let x : Parts (length form) d ds ps = parts (length form) d ds ps m in
@@ -118,7 +125,8 @@ module _ (form : Form) (apart : Distinct (namesOf form)) where
       }
       ∷ definitions-back (suc o) ds (drop (d .particles) ps) cs (h .1) (x .others) i
 
-  particles-back : (o : ℕ) (ds : List FlatDefinition) (ps : List (Deep FlatParticle)) (cs : List FlatAttribute) → Every DefinitionFits ds → modelsFit (length form) ds ps ≡ true → allParticles form (readForm (namesOf form) o ds ps cs) ≡ ps
+  particles-back : (o : ℕ) (ds : List FlatDefinition) (ps : List (Deep FlatParticle)) (cs : List FlatAttribute) → Every DefinitionFits ds
+      → modelsFit (length form) ds ps ≡ true → allParticles form (readForm (namesOf form) o ds ps cs) ≡ ps
   unfolding modelsFit
   particles-back o [] ps cs h m = sym (none-nil ps m)
   particles-back o (d ∷ ds) ps cs h m =
@@ -168,8 +176,11 @@ module _ (w : ℕ) (f : FlatStore) (fit : FieldsFit w f) (bodies : bodiesFit f �
 
   pub read-attributes : allAttributes 0 (formOf f) ≡ f .attributes
   read-attributes =
-      attributes-back (map flatName (f .definitions)) 0 (f .definitions) (f .particles) (f .attributes) (f .attributes) (every-map (AttributeFits w (length (f .definitions))) (λ a. a .sort ≤ 2) (f .attributes) (λ a x. x .sort) (fit .attributes))
-      (every-map (AttributeFits w (length (f .definitions))) (λ a. a .owner < 0 + length (f .definitions)) (f .attributes) (λ a x. omega arith) (fit .attributes)) (bodies-of f bodies .rise) (λ k l. refl)
+      attributes-back (map flatName (f .definitions)) 0 (f .definitions) (f .particles) (f .attributes) (f .attributes)
+      (every-map (AttributeFits w (length (f .definitions))) (λ a. a .sort ≤ 2) (f .attributes) (λ a x. x .sort) (fit .attributes))
+      (every-map (AttributeFits w (length (f .definitions))) (λ a. a .owner < 0 + length (f .definitions)) (f .attributes) (λ a x. omega arith)
+      (fit .attributes))
+      (bodies-of f bodies .rise) (λ k l. refl)
 
   module _ (i : ℕ) (l : i < length (formOf f)) where
     short : i < length (f .definitions)
@@ -185,7 +196,9 @@ module _ (w : ℕ) (f : FlatStore) (fit : FieldsFit w f) (bodies : bodiesFit f �
     model-at = model-read (formOf f) form-apart (partAt i (f .definitions) (f .particles)) (fits .model)
 
     pub kind-at : kindCode (definitionAt i (formOf f) .content) ≡ getD (f .definitions) i noDefinition .kind
-    kind-at = ap (λ (d : Definition). kindCode (d .content)) read-at ∙ kind-back (getD (f .definitions) i noDefinition .kind) (readMembers (namesOf (formOf f)) (build (partAt i (f .definitions) (f .particles)) 0)) (fits .filled .most)
+    kind-at = ap (λ (d : Definition). kindCode (d .content)) read-at
+        ∙ kind-back (getD (f .definitions) i noDefinition .kind) (readMembers (namesOf (formOf f)) (build (partAt i (f .definitions) (f .particles)) 0))
+        (fits .filled .most)
 
     pub members-at : members (definitionAt i (formOf f)) ≡ readMembers (namesOf (formOf f)) (build (partAt i (f .definitions) (f .particles)) 0)
     members-at = ap (λ (d : Definition). members d) read-at ∙ members-read (namesOf (formOf f)) (getD (f .definitions) i noDefinition .kind) (partAt i (f .definitions) (f .particles)) (fits .filled)

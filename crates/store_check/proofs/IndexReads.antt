@@ -34,12 +34,14 @@ unfolding indexMembers
 members-same bare = refl
 members-same (tree p b t) = by (p .sort) (members-same b) (members-same t)
   where
-    by : (s : ℕ) → model.indexMembers b ≡ indexMembers b → model.indexMembers t ≡ indexMembers t → model.indexMember p s (model.indexMembers b) (model.indexMembers t) ≡ indexMember p s (indexMembers b) (indexMembers t)
+    by : (s : ℕ) → model.indexMembers b ≡ indexMembers b → model.indexMembers t ≡ indexMembers t
+        → model.indexMember p s (model.indexMembers b) (model.indexMembers t) ≡ indexMember p s (indexMembers b) (indexMembers t)
     by zero x y = ap (λ (z : Members ℕ). el (quantifierOf (p .quantifier)) (p .index) z) y
     by (suc k) x y = ap₂ (λ (z u : Members ℕ). group (quantifierOf (p .quantifier)) (groupOf (suc k)) z u) x y
 
 -- of c particles after b others
-part-members : (p : ℕ) (parts : Bytes) (b c : ℕ) → particleSize * p ≡ length parts → b + c ≤ p → membersOf (take (particleSize * c) (drop (particleSize * b) parts)) ≡ indexMembers (build (take c (drop b (particles p parts))) 0)
+part-members : (p : ℕ) (parts : Bytes) (b c : ℕ) → particleSize * p ≡ length parts → b + c ≤ p
+    → membersOf (take (particleSize * c) (drop (particleSize * b) parts)) ≡ indexMembers (build (take c (drop b (particles p parts))) 0)
 unfolding membersFrom particlesOf particles
 part-members p parts b c whole l =
     ap (λ (k : ℕ). model.indexMembers (build (readMany readParticle particleSize k (take (particleSize * c) (drop (particleSize * b) parts))) 0)) count
@@ -48,7 +50,10 @@ part-members p parts b c whole l =
     ∙ members-same (build (take c (drop b (particles p parts))) 0)
   where
     count : length (take (particleSize * c) (drop (particleSize * b) parts)) / particleSize ≡ c
-    count = let e : length (take (particleSize * c) (drop (particleSize * b) parts)) ≡ 4 * c = omega (arith, length-take (particleSize * c) (drop (particleSize * b) parts), length-drop (particleSize * b) parts) in omega arith
+    count =
+        let e : length (take (particleSize * c) (drop (particleSize * b) parts)) ≡ 4 * c =
+        omega (arith, length-take (particleSize * c) (drop (particleSize * b) parts), length-drop (particleSize * b) parts) in
+        omega arith
 
 module _ {w n : ℕ} {defs : Bytes} {p : ℕ} {parts : Bytes} {a : ℕ} {attrs : Bytes} (laid : Laid w n defs p parts a attrs) (x : FormPasses w n defs p parts a attrs) where
   abbrev f : FlatStore
@@ -84,7 +89,8 @@ module _ {w n : ℕ} {defs : Bytes} {p : ℕ} {parts : Bytes} {a : ℕ} {attrs :
     where
       room : (i : ℕ) → i < n → before i (definitions n defs) + getD (definitions n defs) i noDefinition .particles ≤ p
       room i l =
-          let e : before (length (definitions n defs)) (definitions n defs) ≡ p = ap (λ (k : ℕ). before k (definitions n defs)) (definitions-length n defs) ∙ before-all laid (x .definitions) (x .attributes) (x .bodies) in
+          let e : before (length (definitions n defs)) (definitions n defs) ≡ p =
+          ap (λ (k : ℕ). before k (definitions n defs)) (definitions-length n defs) ∙ before-all laid (x .definitions) (x .attributes) (x .bodies) in
           omega (arith, before-within i (definitions n defs) (omega (arith, definitions-length n defs)))
 
   form-count : length (unflat f .form) ≡ n

@@ -1,4 +1,5 @@
--- The part of a definition in the particle body: what the tests say of the model that is read from it, and that writing gives it back.
+-- The part of a definition in the particle body: what the tests say of the
+-- model that is read from it, and that writing gives it back.
 use Prim.Native.Nat.{ℕ, zero, suc, _<_, _≤_}
 use native.Mathlib.Omega.{arith}
 use mathlib.Core.Path.{_≡_, refl, ap, ap₂, _∙_, sym}
@@ -96,7 +97,8 @@ module _ (n : ℕ) where
   names-elements d bare h = refl
   names-elements d (tree p b t) h = let s : Shaped n p b t = shaped-tree n p b t h in by (s .particle) (names-elements (suc d) b (s .below)) (names-elements d t (s .beside))
     where
-      by : Single n p b ⊎ Grouped p b → names (indexMembers b) ≡ elementsIn (flatten (suc d) b) → names (indexMembers t) ≡ elementsIn (flatten d t) → names (indexMembers (tree p b t)) ≡ elementsIn (flatten d (tree p b t))
+      by : Single n p b ⊎ Grouped p b → names (indexMembers b) ≡ elementsIn (flatten (suc d) b) → names (indexMembers t) ≡ elementsIn (flatten d t)
+          → names (indexMembers (tree p b t)) ≡ elementsIn (flatten d (tree p b t))
       by (inl x) e f =
           ap (λ (s : ℕ). names (indexMember p s (indexMembers b) (indexMembers t))) (x .sort)
           ∙ ap (λ (z : List ℕ). p .index ∷ z) f
@@ -194,7 +196,12 @@ module _ (form : Form) (apart : Distinct (namesOf form)) where
       by q (inr x) e f =
           ap (λ (s : ℕ). particles form (memberOf (namesOf form) p s (readMembers (namesOf form) b) (readMembers (namesOf form) t))) (x .sort)
           ∙ (λ i.
-          tree (record { sort = (group-back (x .code) (x .most) ∙ sym (x .sort)) i; quantifier = quantifier-back (p .quantifier) q i; index = (many-read (namesOf form) b ∙ sym (x .index)) i }) (e i) (f i))
+          tree (record {
+            sort = (group-back (x .code) (x .most) ∙ sym (x .sort)) i;
+            quantifier = quantifier-back (p .quantifier) q i;
+            index = (many-read (namesOf form) b ∙ sym (x .index)) i;
+          })
+          (e i) (f i))
 
   -- what the test of a part says of the model
   pub record ModelRead (part : List (Deep FlatParticle)) : Type 0 where
@@ -224,7 +231,8 @@ module _ (form : Form) (apart : Distinct (namesOf form)) where
             rw (← e) (known-at form apart j (every-at (λ j. j < length form) j (names (indexMembers (build part 0))) below k));
         once = rw renamed
             (distinct-map (λ j. nameAt j (namesOf form)) (names (indexMembers (build part 0)))
-            (λ x y i j e. name-once (namesOf form) apart x y (rw length-map (every-at (λ j. j < length form) x (names (indexMembers (build part 0))) below i)) (rw length-map (every-at (λ j. j < length form) y (names (indexMembers (build part 0))) below j)) e)
+            (λ x y i j e. name-once (namesOf form) apart x y (rw length-map (every-at (λ j. j < length form) x (names (indexMembers (build part 0))) below i))
+            (rw length-map (every-at (λ j. j < length form) y (names (indexMembers (build part 0))) below j)) e)
             (rw indices (distinct-test numbers (elementsIn part) .0 apart₁)));
         groups = full-read (length form) (namesOf form) (build part 0) shape;
       }

@@ -32,7 +32,8 @@ pub rising-flatten : {A : Type 0} (d k : ℕ) (t : Forest A) (rest : List (Deep 
 rising-flatten d k bare rest l h = h k l
 rising-flatten {A} d k (tree r b t) rest l h =
     and-both (le-leb d k l)
-    (subst (λ (z : List (Deep A)). rising (suc d) z ≡ true) (sym (append-assoc (flatten (suc d) b) (flatten d t) rest)) (rising-flatten (suc d) (suc d) b (flatten d t ++ rest) (omega arith) (λ j m. rising-flatten d j t rest (omega arith) h)))
+    (subst (λ (z : List (Deep A)). rising (suc d) z ≡ true) (sym (append-assoc (flatten (suc d) b) (flatten d t) rest))
+    (rising-flatten (suc d) (suc d) b (flatten d t ++ rest) (omega arith) (λ j m. rising-flatten d j t rest (omega arith) h)))
 
 pub rising-forest : {A : Type 0} (t : Forest A) → rising 0 (flatten 0 t) ≡ true
 rising-forest {A} t = ap (λ (z : List (Deep A)). rising 0 z) (sym (append-nil (flatten 0 t))) ∙ rising-flatten 0 0 t [] (omega arith) (λ j l. refl)
@@ -57,7 +58,8 @@ module _ (form : Form) where
   element-fits : (q : Quantifier) (n : Bytes) → known form n ≡ true → particleFits (length form) (record { sort = 0; quantifier = quantifierCode q; index = indexOf n form }) [] ≡ true
   element-fits q n h = and-both (quantifier-most q) (and-both (lt-ltb (indexOf n form) (length form) (known-index form n h .below)) refl)
 
-  group-fits : (q : Quantifier) (k : GroupKind) (ms : Members Bytes) → Some ms → particleFits (length form) (record { sort = groupCode k; quantifier = quantifierCode q; index = howMany ms }) (heads (particles form ms)) ≡ true
+  group-fits : (q : Quantifier) (k : GroupKind) (ms : Members Bytes) → Some ms
+      → particleFits (length form) (record { sort = groupCode k; quantifier = quantifierCode q; index = howMany ms }) (heads (particles form ms)) ≡ true
   group-fits q Sequence ms s = and-both (quantifier-most q) (and-both (eq-eqb (howMany ms) (length (heads (particles form ms))) (sym (many-heads ms))) (ap not (some-heads ms s)))
   group-fits q Choice ms s = and-both (quantifier-most q) (and-both (eq-eqb (howMany ms) (length (heads (particles form ms))) (sym (many-heads ms))) (ap not (some-heads ms s)))
 
@@ -68,7 +70,9 @@ module _ (form : Form) where
   unfolding names Full shaped
   shaped-written done h f = refl
   shaped-written (el q n rest) h f = and-both (element-fits q n (h n (List·Memᴰ·head refl))) (shaped-written rest (λ m i. h m (List·Memᴰ·tail i)) f)
-  shaped-written (group q k ms rest) h (s, f, g) = and-both (group-fits q k ms s) (and-both (shaped-written ms (λ m i. h m (Memᴰ·append-left (names rest) i)) f) (shaped-written rest (λ m i. h m (Memᴰ·append-right (names ms) i)) g))
+  shaped-written (group q k ms rest) h (s, f, g) =
+      and-both (group-fits q k ms s)
+      (and-both (shaped-written ms (λ m i. h m (Memᴰ·append-left (names rest) i)) f) (shaped-written rest (λ m i. h m (Memᴰ·append-right (names ms) i)) g))
 
   elements-written : (d : ℕ) (ms : Members Bytes) → elementsIn (flatten d (particles form ms)) ≡ map (λ n. indexOf n form) (names ms)
   unfolding names elementsIn
@@ -90,7 +94,8 @@ module _ (form : Form) where
     pub once : Distinct (names ms)
     pub groups : Full ms
 
-  pub model-written : (c : Content) → ModelGood (modelOf c) → all (λ (p : Deep FlatParticle). leb (p .depth) 4) (contentParticles form c) ≡ true → modelFits (length form) (contentParticles form c) ≡ true
+  pub model-written : (c : Content) → ModelGood (modelOf c) → all (λ (p : Deep FlatParticle). leb (p .depth) 4) (contentParticles form c) ≡ true
+      → modelFits (length form) (contentParticles form c) ≡ true
   unfolding modelFits shaped elementsIn distinct
   model-written empty g h = refl
   model-written pcdata g h = refl
@@ -98,9 +103,12 @@ module _ (form : Form) where
       and-both h
       (and-both (rising-forest (particles form ms))
       (and-both (ap (λ (z : Forest FlatParticle). shaped (length form) z) (build-flatten (particles form ms)) ∙ shaped-written ms (g .inRange) (g .groups))
-      (distinct-test numbers (elementsIn (flatten 0 (particles form ms))) .1 (rw (elements-written 0 ms) (distinct-map (λ n. indexOf n form) (names ms) (λ x y i j e. index-once form x y (g .inRange x i) (g .inRange y j) e) (g .once))))))
+      (distinct-test numbers (elementsIn (flatten 0 (particles form ms))) .1
+      (rw (elements-written 0 ms)
+      (distinct-map (λ n. indexOf n form) (names ms) (λ x y i j e. index-once form x y (g .inRange x i) (g .inRange y j) e) (g .once))))))
 
-  pub models-written : (fs : Form) → Every (λ d. ModelGood (members d)) fs → all (λ (p : Deep FlatParticle). leb (p .depth) 4) (allParticles form fs) ≡ true → modelsFit (length form) (map (flatDefinition form) fs) (allParticles form fs) ≡ true
+  pub models-written : (fs : Form) → Every (λ d. ModelGood (members d)) fs → all (λ (p : Deep FlatParticle). leb (p .depth) 4) (allParticles form fs) ≡ true
+      → modelsFit (length form) (map (flatDefinition form) fs) (allParticles form fs) ≡ true
   unfolding modelsFit
   models-written [] g h = refl
   models-written (d ∷ fs) g h =

@@ -36,7 +36,8 @@ before-within zero (d ∷ ds) l = omega arith
 before-within (suc i) (d ∷ ds) l = omega (arith, before-within i ds (omega arith))
 
 -- a sum of the counts, taken from the front on
-pub before-is : (sum count : ℕ → ℕ) (n : ℕ) (ds : List FlatDefinition) → sum 0 ≡ 0 → ((i : ℕ) → sum (suc i) ≡ sum i + count i) → ((i : ℕ) → i < n → count i ≡ getD ds i noDefinition .particles) → (i : ℕ) → i ≤ n → sum i ≡ before i ds
+pub before-is : (sum count : ℕ → ℕ) (n : ℕ) (ds : List FlatDefinition) → sum 0 ≡ 0 → ((i : ℕ) → sum (suc i) ≡ sum i + count i)
+    → ((i : ℕ) → i < n → count i ≡ getD ds i noDefinition .particles) → (i : ℕ) → i ≤ n → sum i ≡ before i ds
 before-is sum count n ds z s e zero l = z ∙ sym (before-none ds)
 before-is sum count n ds z s e (suc i) l = omega (arith, s i, e i (omega arith), before-is sum count n ds z s e i (omega arith), before-more i ds)
 

@@ -114,7 +114,8 @@ module _ {version : ℕ} (w : ℕ) (form : Form) (ok : wellFormed w form ≡ tru
       (rows-back d owner t g (every-right (λ x. PlainRow (x .row)) (flatten (suc d) b) (flatten d t) (p .1)) (h .1) i)
     where
       at : rowIndex form owner (rowRead form x) ≡ x .index
-      at = index-back owner (x .sort) (x .index) (p .0 .low) (p .0 .high) (λ q. let y : Below F (x .index) (heads b) = under-element F x (heads b) q u in omega (arith, agrees .size)) (h .0) (p .0 .text)
+      at = index-back owner (x .sort) (x .index) (p .0 .low) (p .0 .high)
+          (λ q. let y : Below F (x .index) (heads b) = under-element F x (heads b) q u in omega (arith, agrees .size)) (h .0) (p .0 .text)
 
       placed : Every (Placed (rowRead form x .name)) (heads b)
       placed = below-placed (x .sort) (x .index) (heads b) (p .0 .low) (λ q. under-element F x (heads b) q u) (λ q. under-other F x (heads b) q u)
@@ -150,7 +151,8 @@ module _ {version : ℕ} (w : ℕ) (form : Form) (ok : wellFormed w form ≡ tru
   element-written n d rows e x =
       let k : Indexed form n = known-index form n (ap isThere e) in
       let q : d ≡ definitionAt (indexOf n form) form = cc (e, k .found) in
-      subst (λ (z : Bytes). Below F (indexOf n form) (map (rowWritten form z) rows)) (k .name) (below-written w form ok F agrees (indexOf n form) (k .below) rows (subst (λ (z : Definition). ElementRows version z rows) q x))
+      subst (λ (z : Bytes). Below F (indexOf n form) (map (rowWritten form z) rows)) (k .name)
+      (below-written w form ok F agrees (indexOf n form) (k .below) rows (subst (λ (z : Definition). ElementRows version z rows) q x))
 
   row-written : (owner : Bytes) (r : Row) (rows : List Row) (s : RowSort) → r .sort ≡ s → RowConforms version form r rows → Under F (rowWritten form owner r) (map (rowWritten form (r .name)) rows)
   row-written owner r rows element q c =

@@ -1,5 +1,5 @@
--- The flat bodies of a store pass the tests just where what is read from them passes and is written as them; a byte string passes
--- just where it holds such bodies.
+-- The flat bodies of a store pass the tests just where what is read from them passes and is written as them; a byte
+-- string passes just where it holds such bodies.
 use Prim.Native.Nat.{ℕ, zero, suc, _≤_}
 use native.Mathlib.Omega.{arith}
 use mathlib.Core.Path.{_≡_, refl, ap, _∙_, sym, subst}
@@ -40,8 +40,14 @@ docs-read w f fit bodies = λ i. readRows (form-names f i) (map flatAttributeNam
 none-value : (w : ℕ) → isValue w [] ≡ true
 none-value w = and-both (le-leb 0 w (omega arith)) refl
 
-fits-sort : (w : ℕ) (form : Form) (owner : Bytes) (r : Row) (s : RowSort) → elim s as (λ z. Bool) [ element ↦ isNone (r .value) | attribute ↦ isValue w (r .value) | text ↦ isValue w (r .value) && isNone (r .name) ] ≡ true
-    → RowFits w (record { sort = rowCode s; index = elim s as (λ z. ℕ) [ element ↦ indexOf (r .name) form | attribute ↦ attributeIndex owner (r .name) form | text ↦ 0 ]; serial = r .serial; value = r .value })
+fits-sort : (w : ℕ) (form : Form) (owner : Bytes) (r : Row) (s : RowSort)
+    → elim s as (λ z. Bool) [ element ↦ isNone (r .value) | attribute ↦ isValue w (r .value) | text ↦ isValue w (r .value) && isNone (r .name) ] ≡ true
+    → RowFits w (record {
+      sort = rowCode s;
+      index = elim s as (λ z. ℕ) [ element ↦ indexOf (r .name) form | attribute ↦ attributeIndex owner (r .name) form | text ↦ 0 ];
+      serial = r .serial;
+      value = r .value;
+    })
 fits-sort w form owner r element h =
     record { plain = record { low = omega arith; high = omega arith; text = λ e. absurd (omega arith) }; value = rw (none-nil (r .value) h) (none-value w); element = λ e. none-nil (r .value) h }
 fits-sort w form owner r attribute h = record { plain = record { low = omega arith; high = omega arith; text = λ e. absurd (omega arith) }; value = h; element = λ e. absurd (omega arith) }
@@ -52,7 +58,8 @@ rows-fit : (w : ℕ) (form : Form) (d : ℕ) (owner : Bytes) (t : Forest Row) �
 rows-fit w form d owner bare h = tt
 rows-fit w form d owner (tree r b t) h = (
   fits-sort w form owner r (r .sort) (h .0),
-  every-append (λ x. RowFits w (x .row)) (flatten (suc d) (indexed form (r .name) b)) (flatten d (indexed form owner t)) (rows-fit w form (suc d) (r .name) b (h .1)) (rows-fit w form d owner t (h .2)),
+  every-append (λ x. RowFits w (x .row)) (flatten (suc d) (indexed form (r .name) b)) (flatten d (indexed form owner t))
+      (rows-fit w form (suc d) (r .name) b (h .1)) (rows-fit w form d owner t (h .2)),
 )
 
 laid-sort : (w : ℕ) (form : Form) (x : FlatRow) (s : ℕ) → 1 ≤ s → (s ≡ 1 → x .value ≡ []) → isValue w (x .value) ≡ true
@@ -79,7 +86,8 @@ serials-written : (form : Form) (d : ℕ) (owner : Bytes) (t : Forest Row) → s
 serials-written form d owner bare = refl
 serials-written form d owner (tree r b t) =
     ap (λ (z : List ℕ). r .serial ∷ z)
-    (map-append (λ (x : Deep FlatRow). x .row .serial) (flatten (suc d) (indexed form (r .name) b)) (flatten d (indexed form owner t)) ∙ (λ i. serials-written form (suc d) (r .name) b i ++ serials-written form d owner t i))
+    (map-append (λ (x : Deep FlatRow). x .row .serial) (flatten (suc d) (indexed form (r .name) b)) (flatten d (indexed form owner t))
+    ∙ (λ i. serials-written form (suc d) (r .name) b i ++ serials-written form d owner t i))
 
 serials-are : (next : ℕ) (t : Forest Row) → serialsFit next (serials t) ≡ goodSerials next t
 unfolding serialsFit goodSerials
@@ -111,7 +119,8 @@ module _ (f : FlatStore) (fit : FieldsFit (valueWidth (f .version)) f) (bodies :
     reads : ReadsAs (f .version) (formOf f) (f .rows) (unflat f .docs)
     reads =
         subst (λ (t : Forest Row). ReadsAs (f .version) (formOf f) (f .rows) t) (docs-read (valueWidth (f .version)) f fit bodies)
-        (documents-read (valueWidth (f .version)) (formOf f) ok F agrees (f .rows) (every-map (λ x. RowFits (valueWidth (f .version)) (x .row)) (λ x. PlainRow (x .row)) (f .rows) (λ x h. h .plain) (c .rows)) (c .documents))
+        (documents-read (valueWidth (f .version)) (formOf f) ok F agrees (f .rows)
+        (every-map (λ x. RowFits (valueWidth (f .version)) (x .row)) (λ x. PlainRow (x .row)) (f .rows) (λ x h. h .plain) (c .rows)) (c .documents))
 
     written : flat (unflat f) ≡ f
     written = λ i.

@@ -137,7 +137,9 @@ module _ {bs : Bytes} (h : Headed bs) where
   unfolding attributes widthOf
   same-attributes =
       ap (readMany readAttribute (attributeSize (widthOf bs)) (attributeCount bs)) from-attributes
-      ∙ sym (ap (readMany readAttribute (attributeSize (widthOf bs)) (attributeCount bs)) attributes-cut ∙ many-within readAttribute (attributeSize (widthOf bs)) (attributeCount bs) (drop (atAttributes bs) bs))
+      ∙ sym
+      (ap (readMany readAttribute (attributeSize (widthOf bs)) (attributeCount bs)) attributes-cut
+      ∙ many-within readAttribute (attributeSize (widthOf bs)) (attributeCount bs) (drop (atAttributes bs) bs))
 
   pub same-rows : flatOf bs .rows ≡ readMany readRow (rowSize (widthOf bs)) (rowCount bs) (rowsIn bs)
   unfolding widthOf
@@ -163,12 +165,15 @@ module _ {bs : Bytes} (h : Headed bs) where
   -- ---- record by record
   definitions-each : eachFits definitionFits definitionSize (definitionCount bs) (definitionsIn bs) ≡ eachFits definitionFits definitionSize (definitionCount bs) (drop headerSize bs)
   definitions-each =
-      ap (eachFits definitionFits definitionSize (definitionCount bs)) definitions-cut ∙ each-fits-cut definitionFits definitionSize (definitionCount bs) (definitionSize * definitionCount bs) (drop headerSize bs) (omega arith)
+      ap (eachFits definitionFits definitionSize (definitionCount bs)) definitions-cut
+      ∙ each-fits-cut definitionFits definitionSize (definitionCount bs) (definitionSize * definitionCount bs) (drop headerSize bs) (omega arith)
 
-  attributes-each : eachFits (attributeFits (widthOf bs) (definitionCount bs)) (attributeSize (widthOf bs)) (attributeCount bs) (attributesIn bs) ≡ eachFits (attributeFits (widthOf bs) (definitionCount bs)) (attributeSize (widthOf bs)) (attributeCount bs) (drop (atAttributes bs) bs)
+  attributes-each : eachFits (attributeFits (widthOf bs) (definitionCount bs)) (attributeSize (widthOf bs)) (attributeCount bs) (attributesIn bs)
+      ≡ eachFits (attributeFits (widthOf bs) (definitionCount bs)) (attributeSize (widthOf bs)) (attributeCount bs) (drop (atAttributes bs) bs)
   attributes-each =
       ap (eachFits (attributeFits (widthOf bs) (definitionCount bs)) (attributeSize (widthOf bs)) (attributeCount bs)) attributes-cut
-      ∙ each-fits-cut (attributeFits (widthOf bs) (definitionCount bs)) (attributeSize (widthOf bs)) (attributeCount bs) (attributeSize (widthOf bs) * attributeCount bs) (drop (atAttributes bs) bs) (omega arith)
+      ∙ each-fits-cut (attributeFits (widthOf bs) (definitionCount bs)) (attributeSize (widthOf bs)) (attributeCount bs)
+      (attributeSize (widthOf bs) * attributeCount bs) (drop (atAttributes bs) bs) (omega arith)
 
   rows-each : eachFits (rowFits (widthOf bs)) (rowSize (widthOf bs)) (rowCount bs) (rowsIn bs) ≡ eachFits (rowFits (widthOf bs)) (rowSize (widthOf bs)) (rowCount bs) (drop (atRows (widthOf bs) bs) bs)
   rows-each =
@@ -180,7 +185,8 @@ module _ {bs : Bytes} (h : Headed bs) where
     abbrev Tests : Type 0
     Tests = FormIn bs × RowsPass (widthOf bs) F (rowCount bs) (rowsIn bs) × SerialsIn bs
 
-    checks-as : (G H : IndexForm) → FieldsFit (widthOf bs) (flatOf bs) → bodiesFit (flatOf bs) ≡ true → Agrees (numberAt 0 4 bs) G (unflat (flatOf bs) .form) → Agrees (numberAt 0 4 bs) H (unflat (flatOf bs) .form) → Checks G (flatOf bs) → Checks H (flatOf bs)
+    checks-as : (G H : IndexForm) → FieldsFit (widthOf bs) (flatOf bs) → bodiesFit (flatOf bs) ≡ true → Agrees (numberAt 0 4 bs) G (unflat (flatOf bs) .form)
+        → Agrees (numberAt 0 4 bs) H (unflat (flatOf bs) .form) → Checks G (flatOf bs) → Checks H (flatOf bs)
     unfolding widthOf
     checks-as G H fields bodies x y c = checks-read (flatOf bs) fields bodies H y .0 (checks-read (flatOf bs) fields bodies G x .1 c)
 
@@ -201,7 +207,9 @@ module _ {bs : Bytes} (h : Headed bs) where
             circle = subst (λ (z : Form). (x : Bytes) → Reaches z x x → ⊥) same-form (p .checks .circle);
           };
         } in
-        let c : Checks F (flatOf bs) = checks-as (indexForm (flatOf bs)) F (p .fields) (p .bodies) (form-agrees (widthOf bs) (flatOf bs) (p .fields) (p .bodies) (numberAt 0 4 bs)) (agrees-read form) (p .checks) in (
+        let c : Checks F (flatOf bs) =
+        checks-as (indexForm (flatOf bs)) F (p .fields) (p .bodies) (form-agrees (widthOf bs) (flatOf bs) (p .fields) (p .bodies) (numberAt 0 4 bs))
+        (agrees-read form) (p .checks) in (
           form,
           record { fields = rows-each ∙ each .rows; documents = subst (λ (xs : List (Deep FlatRow)). Documents F xs) same-rows (c .documents) },
           record { fits = ap (fitting (numberAt 4 4 bs)) (sym same-serials) ∙ serials-told (numberAt 4 4 bs) (serialsIn (flatOf bs .rows)) (header .next) (next-most each) .0 (c .serials) },
@@ -213,25 +221,42 @@ module _ {bs : Bytes} (h : Headed bs) where
     passes← : Tests → passes bs ≡ true
     unfolding widthOf
     passes← (form, rows, serials) =
-        let each : records.bodiesFit (widthOf bs) bs ≡ true = each-fits (widthOf bs) bs .1 (record { definitions = sym definitions-each ∙ form .passes .definitions; attributes = sym attributes-each ∙ form .passes .attributes; rows = sym rows-each ∙ rows .fields }) in
+        let each : records.bodiesFit (widthOf bs) bs ≡ true =
+        each-fits (widthOf bs) bs .1
+        (record {
+          definitions = sym definitions-each ∙ form .passes .definitions;
+          attributes = sym attributes-each ∙ form .passes .attributes;
+          rows = sym rows-each ∙ rows .fields;
+        }) in
         let f : FittingFlat (widthOf bs) (flatOf bs) = string-fields (widthOf bs) bs (h .small) (h .header) each in
         let fields : FieldsFit (widthOf bs) (flatOf bs) =
         record {
           definitions = every-map FittingDefinition DefinitionFits (flatOf bs .definitions) definition-told (f .definitions);
-          attributes = every-map (FittingAttribute (widthOf bs) (length (flatOf bs .definitions))) (AttributeFits (widthOf bs) (length (flatOf bs .definitions))) (flatOf bs .attributes) (attribute-told (widthOf bs) (length (flatOf bs .definitions))) (f .attributes);
+          attributes = every-map (FittingAttribute (widthOf bs) (length (flatOf bs .definitions)))
+              (AttributeFits (widthOf bs) (length (flatOf bs .definitions))) (flatOf bs .attributes)
+              (attribute-told (widthOf bs) (length (flatOf bs .definitions))) (f .attributes);
         } in
         let bodies : bodiesFit (flatOf bs) ≡ true = same-bodies ∙ form .passes .bodies in
         let c : Checks F (flatOf bs) =
         record {
           version = f .version;
-          ceilings = ceilings-counted (flatOf bs) bodies ∙ and-both (le-leb _ 64 (f .fewDefinitions)) (and-both (le-leb _ 256 (f .fewParticles)) (and-both (le-leb _ 64 (f .fewAttributes)) (le-leb _ 4096 (f .fewRows))));
+          ceilings = ceilings-counted (flatOf bs) bodies
+              ∙ and-both (le-leb _ 64 (f .fewDefinitions))
+              (and-both (le-leb _ 256 (f .fewParticles)) (and-both (le-leb _ 64 (f .fewAttributes)) (le-leb _ 4096 (f .fewRows))));
           circle = subst (λ (z : Form). (x : Bytes) → Reaches z x x → ⊥) (sym same-form) (form .passes .circle);
           rows = every-map (FittingRow (widthOf bs)) (λ x. RowFits (widthOf bs) (x .row)) (flatOf bs .rows) (row-told (widthOf bs)) (f .rows);
           documents = subst (λ (xs : List (Deep FlatRow)). Documents F xs) (sym same-rows) (rows .documents);
           serials = serials-told (numberAt 4 4 bs) (serialsIn (flatOf bs .rows)) (header .next) (omega (arith, f .most)) .1 (ap (fitting (numberAt 4 4 bs)) same-serials ∙ serials .fits);
         } in
-        passes-read bs .1
-        (string-canonical (widthOf bs) bs (h .small) (h .header) each, record { fields = fields; bodies = bodies; checks = checks-as F (indexForm (flatOf bs)) fields bodies (agrees-read form) (form-agrees (widthOf bs) (flatOf bs) fields bodies (numberAt 0 4 bs)) c })
+        passes-read bs .1 (
+          string-canonical (widthOf bs) bs (h .small) (h .header) each,
+          record {
+            fields = fields;
+            bodies = bodies;
+            checks = checks-as F (indexForm (flatOf bs)) fields bodies (agrees-read form)
+                (form-agrees (widthOf bs) (flatOf bs) fields bodies (numberAt 0 4 bs)) c;
+          },
+        )
 
     pub passes-in : (passes bs ≡ true) ↔ (FormIn bs × RowsPass (widthOf bs) F (rowCount bs) (rowsIn bs) × SerialsIn bs)
     passes-in = (passes→, passes←)

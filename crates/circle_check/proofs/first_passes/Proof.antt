@@ -8,7 +8,9 @@ particle-sort-requires : tie.Need-particle-sort-requires
 particle-sort-requires c κs = search needs
 
 returns : tie.Need-returns
-returns c = first-group (c .before .before .before .args .old .now) _ _ (c .before .particle-sort .ensures) _ (c .if1 .taken)
+returns c =
+    let start = c .before .before .before in
+    first-group (start .args .old .now) _ _ (c .before .particle-sort .ensures) _ (c .if1 .taken)
 
 particle-index-requires : tie.Need-particle-index-requires
 particle-index-requires c κs = search needs
@@ -20,8 +22,13 @@ byte-requires : tie.Need-byte-requires
 byte-requires c κs = search needs
 
 returns-2 : tie.Need-returns-2
-returns-2 c = first-element (c .before .before .before .before .before .before .args .old .now) _ _ (c .before .before .before .before .particle-sort .ensures) _ _ _
-    (c .before .before .before .if1 .left) (c .before .before .particle-index .ensures) (c .byte .ensures)
+returns-2 c =
+    let at-particle-index = c .before .before in
+    let at-if1 = at-particle-index .before in
+    let at-particle-sort = at-if1 .before in
+    let start = at-particle-sort .before .before in
+    first-element (start .args .old .now) _ _ (at-particle-sort .particle-sort .ensures) _ _ _
+    (at-if1 .if1 .left) (at-particle-index .particle-index .ensures) (c .byte .ensures)
 
 pub first-passes-spec : {M : Type 1} → statement M
 first-passes-spec =

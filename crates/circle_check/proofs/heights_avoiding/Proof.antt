@@ -7,6 +7,8 @@ use Rattle.circle_check.proofs.AvoidLaws.{Avoiding, avoiding-starts, av
 use Rattle.circle_check.proofs.heights_avoiding.Statement.{statement}
 use Rattle.circle_check.proofs.heights_avoiding.Tie as tie
 
+-- The loop's invariant: after these rounds, for each h up to their number, a definition has a height of at most h if
+-- and only if every chain of members from it, the target left out, ends within h; the target has none.
 abbrev Inv-loop : tie.InvT-loop
 Inv-loop n defs parts target of₀ rounds₀ of rounds = Avoiding n (membersIn defs parts) target of rounds
 
@@ -35,7 +37,10 @@ loop-less : tie.Need-loop-less Inv-loop μ-loop
 loop-less c = search needs
 
 loop-again : tie.Need-loop-again Inv-loop μ-loop
-loop-again c = avoiding-on (c .before .before .before .loop .inv) (c .before .before .before .before .before .before .pre .1) (omega arith) (c .round .ensures)
+loop-again c =
+    let at-loop = c .before .before .before in
+    let start = at-loop .before .before .before in
+    avoiding-on (at-loop .loop .inv) (start .pre .1) (omega arith) (c .round .ensures)
 
 returns : tie.Need-returns Inv-loop μ-loop
 returns c = avoiding-ends (c .before .loop .inv) (omega arith)

@@ -7,6 +7,8 @@ use Rattle.circle_check.proofs.RoundLaws.{Rounds, rounds-start, rounds-
 use Rattle.circle_check.proofs.heights_of.Statement.{statement}
 use Rattle.circle_check.proofs.heights_of.Tie as tie
 
+-- The loop's invariant: after h rounds, for each k up to h, a definition has a height of at most k if and only if every
+-- chain of members from it ends within k definitions.
 abbrev Inv-loop : tie.InvT-loop
 Inv-loop n defs parts of₀ h₀ of h = Rounds n (membersIn defs parts) of h
 
@@ -32,13 +34,17 @@ loop-less : tie.Need-loop-less Inv-loop μ-loop
 loop-less c = search needs
 
 loop-again : tie.Need-loop-again Inv-loop μ-loop
-loop-again c = rounds-on (c .before .before .before .loop .inv) (omega arith) (c .round .ensures)
+loop-again c =
+    let at-loop = c .before .before .before in
+    rounds-on (at-loop .loop .inv) (omega arith) (c .round .ensures)
 
 whole-requires : tie.Need-whole-requires Inv-loop μ-loop
 whole-requires c κs = search needs
 
 returns : tie.Need-returns Inv-loop μ-loop
-returns c = rounds-end (c .before .before .before .loop .inv) (omega arith) (c .whole .ensures)
+returns c =
+    let at-loop = c .before .before .before in
+    rounds-end (at-loop .loop .inv) (omega arith) (c .whole .ensures)
 
 pub heights-of-spec : {M : Type 1} → statement M
 heights-of-spec =

@@ -9,17 +9,22 @@ use Rattle.circle_check.proofs.raised.Tie as tie
 
 returns : tie.Need-returns
 returns c =
-    let a = c .before .before .args in
+    let start = c .before .before in
+    let a = start .args in
     raised-was (a .h) (a .was) (all (marked (a .old .now)) (elementsOf (a .model .now))) (c .if1 .taken)
 
 settled-requires : tie.Need-settled-requires
 settled-requires c κs = search needs
 
 returns-2 : tie.Need-returns-2
-returns-2 c = raised-new _ _ _ _ (c .before .before .if1 .left) (c .before .settled .ensures) (c .if2 .taken)
+returns-2 c =
+    let at-if1 = c .before .before in
+    raised-new _ _ _ _ (at-if1 .if1 .left) (c .before .settled .ensures) (c .if2 .taken)
 
 returns-3 : tie.Need-returns-3
-returns-3 c = raised-none _ _ _ _ (c .before .before .if1 .left) (c .before .settled .ensures) (c .if2 .left)
+returns-3 c =
+    let at-if1 = c .before .before in
+    raised-none _ _ _ _ (at-if1 .if1 .left) (c .before .settled .ensures) (c .if2 .left)
 
 pub raised-spec : {M : Type 1} → statement M
 raised-spec = tie.close (tie.spec returns settled-requires returns-2 returns-3)

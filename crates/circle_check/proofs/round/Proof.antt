@@ -6,6 +6,8 @@ use Rattle.circle_check.proofs.RoundLaws.{Rounding, rounding-starts, ro
 use Rattle.circle_check.proofs.round.Statement.{statement}
 use Rattle.circle_check.proofs.round.Tie as tie
 
+-- The loop's invariant: the first i definitions have their heights after this round, the others none, and `start` is
+-- the first particle of definition i.
 abbrev Inv-loop : tie.InvT-loop
 Inv-loop n defs parts old h new₀ start₀ i₀ new start i = Rounding n defs parts h old new start i
 
@@ -43,8 +45,12 @@ loop-less : tie.Need-loop-less Inv-loop μ-loop
 loop-less c = search needs
 
 loop-again : tie.Need-loop-again Inv-loop μ-loop
-loop-again c = rounding-on (c .before .before .before .before .before .loop .inv) _ _ _ (omega arith) (omega arith) (c .before .before .before .definition-particles-at .ensures) (omega arith)
-    (c .before .before .particles-part .ensures) (c .raised .ensures)
+loop-again c =
+    let at-particles-part = c .before .before in
+    let at-definition-particles-at = at-particles-part .before in
+    let at-loop = at-definition-particles-at .before .before in
+    rounding-on (at-loop .loop .inv) _ _ _ (omega arith) (omega arith) (at-definition-particles-at .definition-particles-at .ensures) (omega arith)
+    (at-particles-part .particles-part .ensures) (c .raised .ensures)
 
 returns : tie.Need-returns Inv-loop μ-loop
 returns c = rounding-ends (c .before .loop .inv) (omega arith)

@@ -12,6 +12,8 @@ use Rattle.circle_check.proofs.MemberLaws.{settle-on, settle-no, settle
 use Rattle.circle_check.proofs.settled.Statement.{statement}
 use Rattle.circle_check.proofs.settled.Tie as tie
 
+-- The loop's invariant: every element of the model has a height if and only if every element of what is left, t, has
+-- one.
 abbrev Inv-loop : tie.InvT-loop
 Inv-loop model old size t₀ t = all (marked old) (elementsOf model) ≡ all (marked old) (elementsOf t)
 
@@ -28,9 +30,13 @@ first-passes-requires : tie.Need-first-passes-requires Inv-loop μ-loop
 first-passes-requires c κs = search needs
 
 returns : tie.Need-returns Inv-loop μ-loop
-returns c = let l = c .before .before .before in
-    let a = l .before .before .before .args in
-    settle-no (marked (a .old .now)) _ (l .loop .t .now) _ (l .before .particle-size .ensures) (l .loop .inv) (omega arith) _ (c .before .first-passes .ensures) (not-true _ (c .if1 .taken))
+returns c =
+    let at-loop = c .before .before .before in
+    let at-particle-size = at-loop .before in
+    let start = at-particle-size .before .before in
+    let a = start .args in
+    settle-no (marked (a .old .now)) _ (at-loop .loop .t .now) _ (at-particle-size .particle-size .ensures) (at-loop .loop .inv) (omega arith) _
+    (c .before .first-passes .ensures) (not-true _ (c .if1 .taken))
 
 sub-t : tie.Need-sub-t Inv-loop μ-loop
 sub-t c = search needs
@@ -42,20 +48,29 @@ part-t-end : tie.Need-part-t-end Inv-loop μ-loop
 part-t-end c = search needs
 
 loop-less : tie.Need-loop-less Inv-loop μ-loop
-loop-less c = let l = c .before .before .before .before in
-    let size = l .before .particle-size .result in
-    omega (arith, l .before .particle-size .ensures, length-take (length (l .loop .t .now) - size) (drop size (l .loop .t .now)), length-drop size (l .loop .t .now))
+loop-less c =
+    let at-loop = c .before .before .before .before in
+    let at-particle-size = at-loop .before in
+    let size = at-particle-size .particle-size .result in
+    omega (arith, at-particle-size .particle-size .ensures, length-take (length (at-loop .loop .t .now) - size) (drop size (at-loop .loop .t .now)), length-drop size (at-loop .loop .t .now))
 
 loop-again : tie.Need-loop-again Inv-loop μ-loop
-loop-again c = let l = c .before .before .before .before in
-    let a = l .before .before .before .args in
-    settle-on (marked (a .old .now)) _ (l .loop .t .now) _ (l .before .particle-size .ensures) (l .loop .inv) (omega arith) _ (c .before .before .first-passes .ensures)
+loop-again c =
+    let at-first-passes = c .before .before in
+    let at-loop = at-first-passes .before .before in
+    let at-particle-size = at-loop .before in
+    let start = at-particle-size .before .before in
+    let a = start .args in
+    settle-on (marked (a .old .now)) _ (at-loop .loop .t .now) _ (at-particle-size .particle-size .ensures) (at-loop .loop .inv) (omega arith) _ (at-first-passes .first-passes .ensures)
     (not-false _ (c .before .if1 .left))
 
 returns-2 : tie.Need-returns-2 Inv-loop μ-loop
-returns-2 c = let l = c .before in
-    let a = l .before .before .before .args in
-    settle-ends (marked (a .old .now)) _ (l .loop .t .now) _ (l .before .particle-size .ensures) (l .loop .inv) (omega arith)
+returns-2 c =
+    let at-loop = c .before in
+    let at-particle-size = at-loop .before in
+    let start = at-particle-size .before .before in
+    let a = start .args in
+    settle-ends (marked (a .old .now)) _ (at-loop .loop .t .now) _ (at-particle-size .particle-size .ensures) (at-loop .loop .inv) (omega arith)
 
 pub settled-spec : {M : Type 1} → statement M
 settled-spec =

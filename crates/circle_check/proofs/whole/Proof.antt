@@ -6,6 +6,7 @@ use Rattle.circle_check.proofs.RoundLaws.{Passed, passed-starts, passed
 use Rattle.circle_check.proofs.whole.Statement.{statement}
 use Rattle.circle_check.proofs.whole.Tie as tie
 
+-- The loop's invariant: the first i definitions each have a height.
 abbrev Inv-loop : tie.InvT-loop
 Inv-loop n heights i₀ i = Passed heights n i
 
@@ -19,7 +20,9 @@ element-copy-out-if1 : tie.Need-element-copy-out-if1 Inv-loop μ-loop
 element-copy-out-if1 c = search needs
 
 returns : tie.Need-returns Inv-loop μ-loop
-returns c = passed-no (c .before .before .before .before .args .heights .now) (omega arith) (c .if1 .taken)
+returns c =
+    let start = c .before .before .before .before in
+    passed-no (start .args .heights .now) (omega arith) (c .if1 .taken)
 
 add-i : tie.Need-add-i Inv-loop μ-loop
 add-i c = search needs
@@ -28,7 +31,9 @@ loop-less : tie.Need-loop-less Inv-loop μ-loop
 loop-less c = search needs
 
 loop-again : tie.Need-loop-again Inv-loop μ-loop
-loop-again c = passed-on (c .before .before .before .loop .inv) (omega arith) (c .if1 .left)
+loop-again c =
+    let at-loop = c .before .before .before in
+    passed-on (at-loop .loop .inv) (omega arith) (c .if1 .left)
 
 returns-2 : tie.Need-returns-2 Inv-loop μ-loop
 returns-2 c = passed-ends (c .before .loop .inv) (omega arith)

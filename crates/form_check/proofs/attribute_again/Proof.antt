@@ -1,4 +1,5 @@
--- `form_check::attribute_again` meets its contract. The loop's invariant: an attribute after j clashes if and only if one after i does. The measure is what is left of the attributes.
+-- `form_check::attribute_again` meets its contract. The loop's invariant: an attribute after j clashes if and only if
+-- one after i does. The measure is what is left of the attributes.
 use mathlib.Core.Path.{_≡_, refl, sym, _∙_}
 use Prim.Native.Nat.{_+_, _-_, _<_}
 use native.Mathlib.Omega.{arith}
@@ -31,20 +32,35 @@ same-attribute-requires : tie.Need-same-attribute-requires Inv-loop μ-loop
 same-attribute-requires c κs = search needs
 
 returns : tie.Need-returns Inv-loop μ-loop
-returns c = let a = c .before .before .before .before .before .args in
-    let k = c .before .before .before .loop .j + 1 in
-    sym (any-on (clashes (attributeAt (a .w) (a .i) (a .attrs .now))) (attributes-from (a .w) k (a .a) (a .attrs .now) (omega arith)) (sym (c .before .same-attribute .ensures) ∙ c .if1 .taken)) ∙ c .before .before .before .loop .inv .1
+returns c =
+    let at-loop = c .before .before .before in
+    let start = at-loop .before .before in
+    let a = start .args in
+    let k = at-loop .loop .j + 1 in
+    sym
+    (any-on (clashes (attributeAt (a .w) (a .i) (a .attrs .now))) (attributes-from (a .w) k (a .a) (a .attrs .now) (omega arith))
+    (sym (c .before .same-attribute .ensures) ∙ c .if1 .taken))
+    ∙ at-loop .loop .inv .1
 
 loop-less : tie.Need-loop-less Inv-loop μ-loop
 loop-less c = omega arith
 
 loop-again : tie.Need-loop-again Inv-loop μ-loop
-loop-again c = let a = c .before .before .before .before .before .args in
-    let k = c .before .before .before .loop .j + 1 in
-    (omega arith, any-off (clashes (attributeAt (a .w) (a .i) (a .attrs .now))) (attributes-from (a .w) k (a .a) (a .attrs .now) (omega arith)) (sym (c .before .same-attribute .ensures) ∙ c .if1 .left) ∙ c .before .before .before .loop .inv .1)
+loop-again c =
+    let at-loop = c .before .before .before in
+    let start = at-loop .before .before in
+    let a = start .args in
+    let k = at-loop .loop .j + 1 in (
+      omega arith,
+      any-off (clashes (attributeAt (a .w) (a .i) (a .attrs .now))) (attributes-from (a .w) k (a .a) (a .attrs .now) (omega arith))
+          (sym (c .before .same-attribute .ensures) ∙ c .if1 .left)
+          ∙ at-loop .loop .inv .1,
+    )
 
 returns-2 : tie.Need-returns-2 Inv-loop μ-loop
-returns-2 c = let a = c .before .before .before .args in
+returns-2 c =
+    let start = c .before .before .before in
+    let a = start .args in
     sym (any-end (clashes (attributeAt (a .w) (a .i) (a .attrs .now))) (attributes-end (a .w) (c .before .loop .j + 1) (a .a) (a .attrs .now) (omega arith))) ∙ c .before .loop .inv .1
 
 pub attribute-again-spec : {M : Type 1} → statement M

@@ -12,7 +12,9 @@ attribute-name-requires : tie.Need-attribute-name-requires
 attribute-name-requires c κs = search needs
 
 returns : tie.Need-returns
-returns c = let a = c .before .before .before .args in attribute-name (a .w) (a .i) (a .attrs .now) (c .before .attribute-at .ensures) (c .attribute-name .ensures)
+returns c =
+    let start = c .before .before .before in
+    let a = start .args in attribute-name (a .w) (a .i) (a .attrs .now) (c .before .attribute-at .ensures) (c .attribute-name .ensures)
 
 pub attribute-name-spec : {M : Type 1} → statement M
 attribute-name-spec = tie.close (tie.spec attribute-at-requires attribute-name-requires returns)

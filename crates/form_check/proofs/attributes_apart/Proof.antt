@@ -1,4 +1,5 @@
--- `form_check::attributes_apart` meets its contract. The loop's invariant: the attributes from i on are apart if and only if all are. The measure is what is left of them.
+-- `form_check::attributes_apart` meets its contract. The loop's invariant: the attributes from i on are apart if and
+-- only if all are. The measure is what is left of them.
 use mathlib.Core.Path.{_≡_, refl, sym, _∙_}
 use Prim.Native.Nat.{_-_}
 use native.Mathlib.Omega.{arith}
@@ -24,8 +25,14 @@ attribute-again-requires : tie.Need-attribute-again-requires Inv-loop μ-loop
 attribute-again-requires c κs = search needs
 
 returns : tie.Need-returns Inv-loop μ-loop
-returns c = let a = c .before .before .before .before .before .args in
-    sym (apart-off clashes (attributes-from (a .w) (c .before .before .before .loop .i) (a .a) (a .attrs .now) (omega arith)) (sym (c .before .attribute-again .ensures) ∙ c .if1 .taken)) ∙ c .before .before .before .loop .inv ∙ attributes-apart (attributes (a .w) (a .a) (a .attrs .now))
+returns c =
+    let at-loop = c .before .before .before in
+    let start = at-loop .before .before in
+    let a = start .args in
+    sym
+    (apart-off clashes (attributes-from (a .w) (at-loop .loop .i) (a .a) (a .attrs .now) (omega arith))
+    (sym (c .before .attribute-again .ensures) ∙ c .if1 .taken))
+    ∙ at-loop .loop .inv ∙ attributes-apart (attributes (a .w) (a .a) (a .attrs .now))
 
 add-i : tie.Need-add-i Inv-loop μ-loop
 add-i c = omega arith
@@ -34,11 +41,16 @@ loop-less : tie.Need-loop-less Inv-loop μ-loop
 loop-less c = omega arith
 
 loop-again : tie.Need-loop-again Inv-loop μ-loop
-loop-again c = let a = c .before .before .before .before .before .args in
-    apart-on clashes (attributes-from (a .w) (c .before .before .before .loop .i) (a .a) (a .attrs .now) (omega arith)) (sym (c .before .attribute-again .ensures) ∙ c .if1 .left) ∙ c .before .before .before .loop .inv
+loop-again c =
+    let at-loop = c .before .before .before in
+    let start = at-loop .before .before in
+    let a = start .args in
+    apart-on clashes (attributes-from (a .w) (at-loop .loop .i) (a .a) (a .attrs .now) (omega arith)) (sym (c .before .attribute-again .ensures) ∙ c .if1 .left) ∙ at-loop .loop .inv
 
 returns-2 : tie.Need-returns-2 Inv-loop μ-loop
-returns-2 c = let a = c .before .before .before .args in
+returns-2 c =
+    let start = c .before .before .before in
+    let a = start .args in
     sym (apart-end clashes (attributes-end (a .w) (c .before .loop .i) (a .a) (a .attrs .now) (omega arith))) ∙ c .before .loop .inv ∙ attributes-apart (attributes (a .w) (a .a) (a .attrs .now))
 
 pub attributes-apart-spec : {M : Type 1} → statement M

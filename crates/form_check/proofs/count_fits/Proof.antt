@@ -15,13 +15,21 @@ particle-index-at-requires : tie.Need-particle-index-at-requires
 particle-index-at-requires c κs = search needs
 
 returns : tie.Need-returns
-returns c = let a = c .before .before .before .before .before .args in
-    count-element (a .n) (particleAt (a .i) (a .parts .now) .row) (a .below) (c .before .before .before .particle-sort-at .ensures) (c .before .before .particle-quantifier-at .ensures)
+returns c =
+    let at-particle-quantifier-at = c .before .before in
+    let at-particle-sort-at = at-particle-quantifier-at .before in
+    let start = at-particle-sort-at .before .before in
+    let a = start .args in
+    count-element (a .n) (particleAt (a .i) (a .parts .now) .row) (a .below) (at-particle-sort-at .particle-sort-at .ensures) (at-particle-quantifier-at .particle-quantifier-at .ensures)
     (c .before .particle-index-at .ensures) (c .if1 .taken)
 
 returns-2 : tie.Need-returns-2
-returns-2 c = let a = c .before .before .before .before .before .args in
-    count-group (a .n) (particleAt (a .i) (a .parts .now) .row) (a .below) (c .before .before .before .particle-sort-at .ensures) (c .before .before .particle-quantifier-at .ensures)
+returns-2 c =
+    let at-particle-quantifier-at = c .before .before in
+    let at-particle-sort-at = at-particle-quantifier-at .before in
+    let start = at-particle-sort-at .before .before in
+    let a = start .args in
+    count-group (a .n) (particleAt (a .i) (a .parts .now) .row) (a .below) (at-particle-sort-at .particle-sort-at .ensures) (at-particle-quantifier-at .particle-quantifier-at .ensures)
     (c .before .particle-index-at .ensures) (c .if1 .left)
 
 pub count-fits-spec : {M : Type 1} → statement M

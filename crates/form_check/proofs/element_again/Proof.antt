@@ -1,4 +1,5 @@
--- `form_check::element_again` meets its contract. The loop's invariant: an element after j is that of particle i if and only if one after i is. The measure is what is left of the particles.
+-- `form_check::element_again` meets its contract. The loop's invariant: an element after j is that of particle i if and
+-- only if one after i is. The measure is what is left of the particles.
 use mathlib.Core.Path.{_≡_, refl, sym, _∙_}
 use Prim.Native.Nat.{_+_, _-_, _<_}
 use native.Mathlib.Omega.{arith}
@@ -30,20 +31,35 @@ same-element-requires : tie.Need-same-element-requires Inv-loop μ-loop
 same-element-requires c κs = search needs
 
 returns : tie.Need-returns Inv-loop μ-loop
-returns c = let a = c .before .before .before .before .before .args in
-    let k = c .before .before .before .loop .j + 1 in
-    sym (any-on (sameElement (particleAt (a .i) (a .parts .now))) (particles-from k (a .m) (a .parts .now) (omega arith)) (sym (c .before .same-element .ensures) ∙ c .if1 .taken)) ∙ c .before .before .before .loop .inv .1
+returns c =
+    let at-loop = c .before .before .before in
+    let start = at-loop .before .before in
+    let a = start .args in
+    let k = at-loop .loop .j + 1 in
+    sym
+    (any-on (sameElement (particleAt (a .i) (a .parts .now))) (particles-from k (a .m) (a .parts .now) (omega arith))
+    (sym (c .before .same-element .ensures) ∙ c .if1 .taken))
+    ∙ at-loop .loop .inv .1
 
 loop-less : tie.Need-loop-less Inv-loop μ-loop
 loop-less c = omega arith
 
 loop-again : tie.Need-loop-again Inv-loop μ-loop
-loop-again c = let a = c .before .before .before .before .before .args in
-    let k = c .before .before .before .loop .j + 1 in
-    (omega arith, any-off (sameElement (particleAt (a .i) (a .parts .now))) (particles-from k (a .m) (a .parts .now) (omega arith)) (sym (c .before .same-element .ensures) ∙ c .if1 .left) ∙ c .before .before .before .loop .inv .1)
+loop-again c =
+    let at-loop = c .before .before .before in
+    let start = at-loop .before .before in
+    let a = start .args in
+    let k = at-loop .loop .j + 1 in (
+      omega arith,
+      any-off (sameElement (particleAt (a .i) (a .parts .now))) (particles-from k (a .m) (a .parts .now) (omega arith))
+          (sym (c .before .same-element .ensures) ∙ c .if1 .left)
+          ∙ at-loop .loop .inv .1,
+    )
 
 returns-2 : tie.Need-returns-2 Inv-loop μ-loop
-returns-2 c = let a = c .before .before .before .args in
+returns-2 c =
+    let start = c .before .before .before in
+    let a = start .args in
     sym (any-end (sameElement (particleAt (a .i) (a .parts .now))) (particles-end (c .before .loop .j + 1) (a .m) (a .parts .now) (omega arith))) ∙ c .before .loop .inv .1
 
 pub element-again-spec : {M : Type 1} → statement M

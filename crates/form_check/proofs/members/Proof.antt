@@ -1,4 +1,5 @@
--- `form_check::members` meets its contract. The loop's invariant: `count` and the members from j on make up the members from `from` on. The measure is what is left of the particles.
+-- `form_check::members` meets its contract. The loop's invariant: `count` and the members from j on make up the members
+-- from `from` on. The measure is what is left of the particles.
 use Rattle.form_check.specs.Bodies.{particleAt}
 use mathlib.Core.Path.{_≡_}
 use mathlib.Core.Logic.{⊎-elim}
@@ -25,8 +26,11 @@ particle-depth-at-requires : tie.Need-particle-depth-at-requires Inv-loop μ-loo
 particle-depth-at-requires c κs = search needs
 
 returns : tie.Need-returns Inv-loop μ-loop
-returns c = let a = c .before .before .before .before .before .args in
-    let j = c .before .before .before .loop .j in
+returns c =
+    let at-loop = c .before .before .before in
+    let start = at-loop .before .before in
+    let a = start .args in
+    let j = at-loop .loop .j in
     let h : particleAt j (a .parts .now) .depth < a .k = omega arith in
     omega (arith, members-less (a .k) (particles-from j (a .m) (a .parts .now) (omega arith)) h)
 
@@ -40,8 +44,11 @@ loop-less : tie.Need-loop-less Inv-loop μ-loop
 loop-less c = omega arith
 
 loop-again : tie.Need-loop-again Inv-loop μ-loop
-loop-again c = let a = c .before .before .before .before .before .before .args in
-    let j = c .before .before .before .before .loop .j in
+loop-again c =
+    let at-loop = c .before .before .before .before in
+    let start = at-loop .before .before in
+    let a = start .args in
+    let j = at-loop .loop .j in
     let e = particles-from j (a .m) (a .parts .now) (omega arith) in
     ⊎-elim
     (λ w.
@@ -53,7 +60,9 @@ loop-again c = let a = c .before .before .before .before .before .before .args i
     (c .if2 .came)
 
 returns-2 : tie.Need-returns-2 Inv-loop μ-loop
-returns-2 c = let a = c .before .before .before .args in
+returns-2 c =
+    let start = c .before .before .before in
+    let a = start .args in
     omega (arith, members-end (a .k) (particles-end (c .before .loop .j) (a .m) (a .parts .now) (omega arith)))
 
 pub members-spec : {M : Type 1} → statement M

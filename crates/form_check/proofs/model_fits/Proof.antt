@@ -1,4 +1,5 @@
--- `form_check::model_fits` meets its contract. The loop's invariant: the walk from particle i on, with depth d allowed, decides the model. The measure is what is left of the particles.
+-- `form_check::model_fits` meets its contract. The loop's invariant: the walk from particle i on, with depth d allowed,
+-- decides the model. The measure is what is left of the particles.
 use Rattle.form_check.specs.Bodies.{particleAt}
 use Rattle.form_check.proofs.ModelLaws.{stands-depth}
 use mathlib.Core.Path.{_≡_, refl, sym, _∙_}
@@ -25,19 +26,29 @@ particle-stands-requires : tie.Need-particle-stands-requires Inv-loop μ-loop
 particle-stands-requires c κs = search needs
 
 returns : tie.Need-returns Inv-loop μ-loop
-returns c = let a = c .before .before .before .before .before .args in
-    sym (walks-off (a .n) (c .before .before .before .loop .d) (particles-from (c .before .before .before .loop .i) (a .m) (a .parts .now) (omega arith)) (c .before .particle-stands .ensures) (c .if1 .taken)) ∙ c .before .before .before .loop .inv ∙ walks-model (a .n) (particles (a .m) (a .parts .now))
+returns c =
+    let at-loop = c .before .before .before in
+    let start = at-loop .before .before in
+    let a = start .args in
+    sym
+    (walks-off (a .n) (at-loop .loop .d) (particles-from (at-loop .loop .i) (a .m) (a .parts .now) (omega arith)) (c .before .particle-stands .ensures)
+    (c .if1 .taken))
+    ∙ at-loop .loop .inv ∙ walks-model (a .n) (particles (a .m) (a .parts .now))
 
 particle-depth-at-requires : tie.Need-particle-depth-at-requires Inv-loop μ-loop
 particle-depth-at-requires c κs = search needs
 
 add-d : tie.Need-add-d Inv-loop μ-loop
-add-d c = let a = c .before .before .before .before .before .before .args in
+add-d c =
+    let at-particle-stands = c .before .before in
+    let at-loop = at-particle-stands .before .before in
+    let start = at-loop .before .before in
+    let a = start .args in
     omega (
       arith,
       c .particle-depth-at .ensures,
-      stands-depth (a .n) (c .before .before .before .before .loop .d) (particleAt (c .before .before .before .before .loop .i) (a .parts .now))
-          (drop (c .before .before .before .before .loop .i + 1) (particles (a .m) (a .parts .now))) (c .before .before .particle-stands .ensures) (c .before .if1 .left),
+      stands-depth (a .n) (at-loop .loop .d) (particleAt (at-loop .loop .i) (a .parts .now))
+          (drop (at-loop .loop .i + 1) (particles (a .m) (a .parts .now))) (at-particle-stands .particle-stands .ensures) (c .before .if1 .left),
     )
 
 add-i : tie.Need-add-i Inv-loop μ-loop
@@ -47,12 +58,18 @@ loop-less : tie.Need-loop-less Inv-loop μ-loop
 loop-less c = omega arith
 
 loop-again : tie.Need-loop-again Inv-loop μ-loop
-loop-again c = let a = c .before .before .before .before .before .before .args in
-    walks-on (a .n) (c .before .before .before .before .loop .d) (particles-from (c .before .before .before .before .loop .i) (a .m) (a .parts .now) (omega arith))
-    (c .before .before .particle-stands .ensures) (c .before .if1 .left) (c .particle-depth-at .ensures) ∙ c .before .before .before .before .loop .inv
+loop-again c =
+    let at-particle-stands = c .before .before in
+    let at-loop = at-particle-stands .before .before in
+    let start = at-loop .before .before in
+    let a = start .args in
+    walks-on (a .n) (at-loop .loop .d) (particles-from (at-loop .loop .i) (a .m) (a .parts .now) (omega arith))
+    (at-particle-stands .particle-stands .ensures) (c .before .if1 .left) (c .particle-depth-at .ensures) ∙ at-loop .loop .inv
 
 returns-2 : tie.Need-returns-2 Inv-loop μ-loop
-returns-2 c = let a = c .before .before .before .args in
+returns-2 c =
+    let start = c .before .before .before in
+    let a = start .args in
     sym (walks-end (a .n) (c .before .loop .d) (particles-end (c .before .loop .i) (a .m) (a .parts .now) (omega arith))) ∙ c .before .loop .inv ∙ walks-model (a .n) (particles (a .m) (a .parts .now))
 
 pub model-fits-spec : {M : Type 1} → statement M

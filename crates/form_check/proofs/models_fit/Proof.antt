@@ -1,4 +1,5 @@
--- `form_check::models_fit` meets its contract. The loop's invariant: the models from definition i on, in the particles from `at` on, fit if and only if all do. The measure is what is left of the definitions.
+-- `form_check::models_fit` meets its contract. The loop's invariant: the models from definition i on, in the particles
+-- from `at` on, fit if and only if all do. The measure is what is left of the definitions.
 use mathlib.Core.Path.{_≡_, refl, sym, _∙_}
 use Prim.Native.Nat.{_-_, _≤_}
 use native.Mathlib.Omega.{arith}
@@ -30,8 +31,11 @@ sub-if1 : tie.Need-sub-if1 Inv-loop μ-loop
 sub-if1 c = omega arith
 
 returns : tie.Need-returns Inv-loop μ-loop
-returns c = let a = c .before .before .before .before .before .before .args in
-    let l = c .before .before .before .loop in
+returns c =
+    let at-loop = c .before .before .before in
+    let start = at-loop .before .before .before in
+    let a = start .args in
+    let l = at-loop .loop in
     let ps = particles (a .p) (a .parts .now) in
     sym (models-short (a .n) (a .p) (l .at) ps (particles-length (a .p) (a .parts .now)) (definitions-from (l .i) (a .n) (a .defs .now) (omega arith))
     (c .before .definition-particles-at .ensures) (c .if1 .taken)) ∙ l .inv .1
@@ -43,14 +47,20 @@ model-fits-requires : tie.Need-model-fits-requires Inv-loop μ-loop
 model-fits-requires c κs = omega arith
 
 returns-2 : tie.Need-returns-2 Inv-loop μ-loop
-returns-2 c = let a = c .before .before .before .before .before .before .before .before .before .args in
-    let l = c .before .before .before .before .before .before .loop in
-    let k = c .before .before .before .before .definition-particles-at .result in
+returns-2 c =
+    let at-particles-part = c .before .before in
+    let at-if1 = at-particles-part .before in
+    let at-definition-particles-at = at-if1 .before in
+    let at-loop = at-definition-particles-at .before .before in
+    let start = at-loop .before .before .before in
+    let a = start .args in
+    let l = at-loop .loop in
+    let k = at-definition-particles-at .definition-particles-at .result in
     let ps = particles (a .p) (a .parts .now) in
-    let fits = part-fits (a .n) (l .at) k (a .p) (a .parts .now) (c .before .before .particles-part .ensures) (c .before .model-fits .ensures) (omega arith)
-    (c .before .before .before .before .before .before .before .before .before .pre .1 .whole) in
+    let fits = part-fits (a .n) (l .at) k (a .p) (a .parts .now) (at-particles-part .particles-part .ensures) (c .before .model-fits .ensures) (omega arith)
+    (start .pre .1 .whole) in
     sym (models-off (a .n) (a .p) (l .at) ps (particles-length (a .p) (a .parts .now)) (definitions-from (l .i) (a .n) (a .defs .now) (omega arith))
-    (c .before .before .before .before .definition-particles-at .ensures) (c .before .before .before .if1 .left) fits (c .if2 .taken)) ∙ l .inv .1
+    (at-definition-particles-at .definition-particles-at .ensures) (at-if1 .if1 .left) fits (c .if2 .taken)) ∙ l .inv .1
 
 add-at : tie.Need-add-at Inv-loop μ-loop
 add-at c = omega arith
@@ -62,21 +72,32 @@ loop-less : tie.Need-loop-less Inv-loop μ-loop
 loop-less c = omega arith
 
 loop-again : tie.Need-loop-again Inv-loop μ-loop
-loop-again c = let a = c .before .before .before .before .before .before .before .before .before .args in
-    let l = c .before .before .before .before .before .before .loop in
-    let k = c .before .before .before .before .definition-particles-at .result in
+loop-again c =
+    let at-particles-part = c .before .before in
+    let at-if1 = at-particles-part .before in
+    let at-definition-particles-at = at-if1 .before in
+    let at-loop = at-definition-particles-at .before .before in
+    let start = at-loop .before .before .before in
+    let a = start .args in
+    let l = at-loop .loop in
+    let k = at-definition-particles-at .definition-particles-at .result in
     let ps = particles (a .p) (a .parts .now) in
-    let fits = part-fits (a .n) (l .at) k (a .p) (a .parts .now) (c .before .before .particles-part .ensures) (c .before .model-fits .ensures) (omega arith)
-    (c .before .before .before .before .before .before .before .before .before .pre .1 .whole) in (
+    let fits = part-fits (a .n) (l .at) k (a .p) (a .parts .now) (at-particles-part .particles-part .ensures) (c .before .model-fits .ensures) (omega arith)
+    (start .pre .1 .whole) in (
       omega arith,
       models-on (a .n) (a .p) (l .at) ps (particles-length (a .p) (a .parts .now)) (definitions-from (l .i) (a .n) (a .defs .now) (omega arith))
-          (c .before .before .before .before .definition-particles-at .ensures) (c .before .before .before .if1 .left) fits (c .if2 .left) ∙ l .inv .1,
+          (at-definition-particles-at .definition-particles-at .ensures) (at-if1 .if1 .left) fits (c .if2 .left) ∙ l .inv .1,
     )
 
 returns-3 : tie.Need-returns-3 Inv-loop μ-loop
-returns-3 c = let a = c .before .before .before .before .args in
+returns-3 c =
+    let start = c .before .before .before .before in
+    let a = start .args in
     let l = c .before .loop in
-    sym (models-end (a .n) (a .p) (l .at) (particles (a .p) (a .parts .now)) (particles-length (a .p) (a .parts .now)) (omega arith) (definitions-end (l .i) (a .n) (a .defs .now) (omega arith))) ∙ l .inv .1
+    sym
+    (models-end (a .n) (a .p) (l .at) (particles (a .p) (a .parts .now)) (particles-length (a .p) (a .parts .now)) (omega arith)
+    (definitions-end (l .i) (a .n) (a .defs .now) (omega arith)))
+    ∙ l .inv .1
 
 pub models-fit-spec : {M : Type 1} → statement M
 models-fit-spec =

@@ -1,4 +1,5 @@
--- `form_check::name_again` meets its contract. The loop's invariant: the definitions after j have the name if and only if those after i do. The measure is what is left of the definitions.
+-- `form_check::name_again` meets its contract. The loop's invariant: the definitions after j have the name if and only
+-- if those after i do. The measure is what is left of the definitions.
 use mathlib.Core.Path.{_≡_, refl, sym, ap, _∙_}
 use Prim.Native.Nat.{_+_, _-_, _<_}
 use native.Mathlib.Omega.{arith}
@@ -36,26 +37,36 @@ same-name-requires : tie.Need-same-name-requires Inv-loop μ-loop
 same-name-requires c κs = search needs
 
 returns : tie.Need-returns Inv-loop μ-loop
-returns c = let l = c .before .before .before in
-    let a = l .before .before .before .before .args in
-    let k = l .loop .j + 1 in
-    let named = definition-name (a .i) (a .defs .now) (l .before .before .definition-at .ensures) (l .before .definition-name .ensures) in
+returns c =
+    let at-loop = c .before .before .before in
+    let at-definition-name = at-loop .before in
+    let at-definition-at = at-definition-name .before in
+    let start = at-definition-at .before .before in
+    let a = start .args in
+    let k = at-loop .loop .j + 1 in
+    let named = definition-name (a .i) (a .defs .now) (at-definition-at .definition-at .ensures) (at-definition-name .definition-name .ensures) in
     let alike = c .before .same-name .ensures ∙ ap (λ (x : Bytes). same x (definitionAt k (a .defs .now) .name)) named in
-    sym (any-on (sameName (definitionAt (a .i) (a .defs .now))) (definitions-from k (a .n) (a .defs .now) (omega arith)) (sym alike ∙ c .if1 .taken)) ∙ l .loop .inv .1
+    sym (any-on (sameName (definitionAt (a .i) (a .defs .now))) (definitions-from k (a .n) (a .defs .now) (omega arith)) (sym alike ∙ c .if1 .taken)) ∙ at-loop .loop .inv .1
 
 loop-less : tie.Need-loop-less Inv-loop μ-loop
 loop-less c = omega arith
 
 loop-again : tie.Need-loop-again Inv-loop μ-loop
-loop-again c = let l = c .before .before .before in
-    let a = l .before .before .before .before .args in
-    let k = l .loop .j + 1 in
-    let named = definition-name (a .i) (a .defs .now) (l .before .before .definition-at .ensures) (l .before .definition-name .ensures) in
+loop-again c =
+    let at-loop = c .before .before .before in
+    let at-definition-name = at-loop .before in
+    let at-definition-at = at-definition-name .before in
+    let start = at-definition-at .before .before in
+    let a = start .args in
+    let k = at-loop .loop .j + 1 in
+    let named = definition-name (a .i) (a .defs .now) (at-definition-at .definition-at .ensures) (at-definition-name .definition-name .ensures) in
     let alike = c .before .same-name .ensures ∙ ap (λ (x : Bytes). same x (definitionAt k (a .defs .now) .name)) named in
-    (omega arith, any-off (sameName (definitionAt (a .i) (a .defs .now))) (definitions-from k (a .n) (a .defs .now) (omega arith)) (sym alike ∙ c .if1 .left) ∙ l .loop .inv .1)
+    (omega arith, any-off (sameName (definitionAt (a .i) (a .defs .now))) (definitions-from k (a .n) (a .defs .now) (omega arith)) (sym alike ∙ c .if1 .left) ∙ at-loop .loop .inv .1)
 
 returns-2 : tie.Need-returns-2 Inv-loop μ-loop
-returns-2 c = let a = c .before .before .before .before .before .args in
+returns-2 c =
+    let start = c .before .before .before .before .before in
+    let a = start .args in
     sym (any-end (sameName (definitionAt (a .i) (a .defs .now))) (definitions-end (c .before .loop .j + 1) (a .n) (a .defs .now) (omega arith))) ∙ c .before .loop .inv .1
 
 pub name-again-spec : {M : Type 1} → statement M

@@ -1,4 +1,5 @@
--- `form_check::owners_rise` meets its contract. The loop's invariant: the owners from i on rise from `least` on if and only if all rise. The measure is what is left of the attributes.
+-- `form_check::owners_rise` meets its contract. The loop's invariant: the owners from i on rise from `least` on if and
+-- only if all rise. The measure is what is left of the attributes.
 use mathlib.Core.Path.{_≡_, refl, sym, _∙_}
 use Prim.Native.Nat.{_-_}
 use native.Mathlib.Omega.{arith}
@@ -24,8 +25,11 @@ owner-requires : tie.Need-owner-requires Inv-loop μ-loop
 owner-requires c κs = search needs
 
 returns : tie.Need-returns Inv-loop μ-loop
-returns c = let a = c .before .before .before .before .before .args in
-    sym (owners-off (c .before .before .before .loop .least) (attributes-from (a .w) (c .before .before .before .loop .i) (a .a) (a .attrs .now) (omega arith)) (c .before .owner .ensures) (c .if1 .taken)) ∙ c .before .before .before .loop .inv
+returns c =
+    let at-loop = c .before .before .before in
+    let start = at-loop .before .before in
+    let a = start .args in
+    sym (owners-off (at-loop .loop .least) (attributes-from (a .w) (at-loop .loop .i) (a .a) (a .attrs .now) (omega arith)) (c .before .owner .ensures) (c .if1 .taken)) ∙ at-loop .loop .inv
 
 add-i : tie.Need-add-i Inv-loop μ-loop
 add-i c = omega arith
@@ -34,11 +38,16 @@ loop-less : tie.Need-loop-less Inv-loop μ-loop
 loop-less c = omega arith
 
 loop-again : tie.Need-loop-again Inv-loop μ-loop
-loop-again c = let a = c .before .before .before .before .before .args in
-    owners-on (c .before .before .before .loop .least) (attributes-from (a .w) (c .before .before .before .loop .i) (a .a) (a .attrs .now) (omega arith)) (c .before .owner .ensures) (c .if1 .left) ∙ c .before .before .before .loop .inv
+loop-again c =
+    let at-loop = c .before .before .before in
+    let start = at-loop .before .before in
+    let a = start .args in
+    owners-on (at-loop .loop .least) (attributes-from (a .w) (at-loop .loop .i) (a .a) (a .attrs .now) (omega arith)) (c .before .owner .ensures) (c .if1 .left) ∙ at-loop .loop .inv
 
 returns-2 : tie.Need-returns-2 Inv-loop μ-loop
-returns-2 c = let a = c .before .before .before .args in
+returns-2 c =
+    let start = c .before .before .before in
+    let a = start .args in
     sym (owners-end (c .before .loop .least) (attributes-end (a .w) (c .before .loop .i) (a .a) (a .attrs .now) (omega arith))) ∙ c .before .loop .inv
 
 pub owners-rise-spec : {M : Type 1} → statement M

@@ -12,12 +12,17 @@ particle-depth-at-requires : tie.Need-particle-depth-at-requires
 particle-depth-at-requires c κs = search needs
 
 returns : tie.Need-returns
-returns c = let a = c .before .before .before .args in
+returns c =
+    let start = c .before .before .before in
+    let a = start .args in
     sym (stands-low (a .n) (a .d) (particleAt (a .i) (a .parts .now)) (drop (a .i + 1) (particles (a .m) (a .parts .now))) (c .before .particle-depth-at .ensures) (c .if1 .taken))
 
 returns-2 : tie.Need-returns-2
-returns-2 c = let a = c .before .before .before .before .args in
-    sym (stands-far (a .n) (a .d) (particleAt (a .i) (a .parts .now)) (drop (a .i + 1) (particles (a .m) (a .parts .now))) (c .before .before .particle-depth-at .ensures) (c .before .if1 .left)
+returns-2 c =
+    let at-particle-depth-at = c .before .before in
+    let start = at-particle-depth-at .before .before in
+    let a = start .args in
+    sym (stands-far (a .n) (a .d) (particleAt (a .i) (a .parts .now)) (drop (a .i + 1) (particles (a .m) (a .parts .now))) (at-particle-depth-at .particle-depth-at .ensures) (c .before .if1 .left)
     (c .if2 .taken))
 
 add-members : tie.Need-add-members
@@ -36,9 +41,15 @@ element-again-requires : tie.Need-element-again-requires
 element-again-requires c κs = search needs
 
 returns-3 : tie.Need-returns-3
-returns-3 c = let a = c .before .before .before .before .before .before .before .args in
-    stands-by (a .n) (a .d) (particleAt (a .i) (a .parts .now)) (drop (a .i + 1) (particles (a .m) (a .parts .now))) (c .before .before .before .before .before .particle-depth-at .ensures)
-    (c .before .before .before .before .if1 .left) (c .before .before .before .if2 .left) (c .before .before .members .ensures) (c .before .count-fits .ensures) (c .element-again .ensures)
+returns-3 c =
+    let at-members = c .before .before in
+    let at-if2 = at-members .before in
+    let at-if1 = at-if2 .before in
+    let at-particle-depth-at = at-if1 .before in
+    let start = at-particle-depth-at .before .before in
+    let a = start .args in
+    stands-by (a .n) (a .d) (particleAt (a .i) (a .parts .now)) (drop (a .i + 1) (particles (a .m) (a .parts .now))) (at-particle-depth-at .particle-depth-at .ensures)
+    (at-if1 .if1 .left) (at-if2 .if2 .left) (at-members .members .ensures) (c .before .count-fits .ensures) (c .element-again .ensures)
 
 pub particle-stands-spec : {M : Type 1} → statement M
 particle-stands-spec =

@@ -24,7 +24,12 @@ owner-requires-2 : tie.Need-owner-requires-2
 owner-requires-2 c κs = search needs
 
 returns : tie.Need-returns
-returns c = ap₂ (λ (a b : Bool). a && b) (ap₂ (λ (a b : ℕ). eqb a b) (c .before .owner .ensures) (c .owner2 .ensures)) (c .before .before .equal .ensures ∙ ap₂ (λ (a b : Bytes). same a b) (c .before .before .before .before .attribute-name .ensures) (c .before .before .before .attribute-name2 .ensures))
+returns c =
+    let at-equal = c .before .before in
+    let at-attribute-name2 = at-equal .before in
+    let at-attribute-name = at-attribute-name2 .before in
+    ap₂ (λ (a b : Bool). a && b) (ap₂ (λ (a b : ℕ). eqb a b) (c .before .owner .ensures) (c .owner2 .ensures))
+    (at-equal .equal .ensures ∙ ap₂ (λ (a b : Bytes). same a b) (at-attribute-name .attribute-name .ensures) (at-attribute-name2 .attribute-name2 .ensures))
 
 pub same-attribute-spec : {M : Type 1} → statement M
 same-attribute-spec =

@@ -20,8 +20,11 @@ particle-index-at-requires-2 : tie.Need-particle-index-at-requires-2
 particle-index-at-requires-2 c κs = search needs
 
 returns : tie.Need-returns
-returns c = ap₂ (λ (a b : Bool). a && b) (ap (λ (a : ℕ). eqb a 0) (c .before .before .before .particle-sort-at .ensures))
-    (ap₂ (λ (a b : Bool). a && b) (ap (λ (a : ℕ). eqb a 0) (c .before .before .particle-sort-at2 .ensures))
+returns c =
+    let at-particle-sort-at2 = c .before .before in
+    let at-particle-sort-at = at-particle-sort-at2 .before in
+    ap₂ (λ (a b : Bool). a && b) (ap (λ (a : ℕ). eqb a 0) (at-particle-sort-at .particle-sort-at .ensures))
+    (ap₂ (λ (a b : Bool). a && b) (ap (λ (a : ℕ). eqb a 0) (at-particle-sort-at2 .particle-sort-at2 .ensures))
     (ap₂ (λ (a b : ℕ). eqb a b) (c .before .particle-index-at .ensures) (c .particle-index-at2 .ensures)))
 
 pub same-element-spec : {M : Type 1} → statement M

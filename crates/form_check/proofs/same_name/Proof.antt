@@ -16,8 +16,11 @@ equal-requires : tie.Need-equal-requires
 equal-requires c κs = search needs
 
 returns : tie.Need-returns
-returns c = let a = c .before .before .before .before .before .args in
-    c .equal .ensures ∙ ap (λ (l : Bytes). same (a .name .now) l) (definition-name (a .j) (a .defs .now) (c .before .before .definition-at .ensures) (c .before .definition-name .ensures))
+returns c =
+    let at-definition-at = c .before .before in
+    let start = at-definition-at .before .before .before in
+    let a = start .args in
+    c .equal .ensures ∙ ap (λ (l : Bytes). same (a .name .now) l) (definition-name (a .j) (a .defs .now) (at-definition-at .definition-at .ensures) (c .before .definition-name .ensures))
 
 pub same-name-spec : {M : Type 1} → statement M
 same-name-spec =

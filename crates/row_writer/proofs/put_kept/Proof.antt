@@ -17,7 +17,11 @@ same-length : tie.Need-same-length
 same-length c = search needs
 
 returns-2 : tie.Need-returns-2
-returns-2 c = old-written (c .before .before .before .before .before .if1 .left) (c .before .before .before .before .before .before .before .before .before .pre .2) (c .before .before .before .put-row-moved .ensures)
+returns-2 c =
+    let at-put-row-moved = c .before .before .before in
+    let at-if1 = at-put-row-moved .before .before in
+    let start = at-if1 .before .before .before .before in
+    old-written (at-if1 .if1 .left) (start .pre .2) (at-put-row-moved .put-row-moved .ensures)
 
 pub put-kept-spec : {M : Type 1} → statement M
 put-kept-spec = tie.close (tie.spec returns put-row-moved-requires sub-t10 same-length returns-2)

@@ -20,7 +20,10 @@ same-length : tie.Need-same-length
 same-length c = search needs
 
 returns-2 : tie.Need-returns-2
-returns-2 c = new-written (c .before .before .before .before .before .before .if1 .left) (c .before .before .before .before .put-row .ensures)
+returns-2 c =
+    let at-put-row = c .before .before .before .before in
+    let at-if1 = at-put-row .before .before in
+    new-written (at-if1 .if1 .left) (at-put-row .put-row .ensures)
 
 pub put-new-spec : {M : Type 1} → statement M
 put-new-spec = tie.close (tie.spec returns put-row-requires sub-t12 add-t13 same-length returns-2)

@@ -17,7 +17,11 @@ same-length : tie.Need-same-length
 same-length c = search needs
 
 returns-2 : tie.Need-returns-2
-returns-2 c = old-written (c .before .before .before .before .before .if1 .left) (c .before .before .before .before .before .before .before .before .before .before .pre .2) (c .before .before .before .put-row-valued .ensures)
+returns-2 c =
+    let at-put-row-valued = c .before .before .before in
+    let at-if1 = at-put-row-valued .before .before in
+    let start = at-if1 .before .before .before .before .before in
+    old-written (at-if1 .if1 .left) (start .pre .2) (at-put-row-valued .put-row-valued .ensures)
 
 pub put-valued-spec : {M : Type 1} → statement M
 put-valued-spec =

@@ -28,19 +28,21 @@ returns c =
 
 returns-2 : tie.Need-returns-2 Inv-loop μ-loop
 returns-2 c =
-    let at-loop = c .before .before .before .before in
-    refuses (passed-past (at-loop .loop .inv) (omega arith) _ (c .before .before .serial-at .ensures) (omega arith))
+    let at-serial-at = c .before .before in
+    let at-loop = at-serial-at .before .before in
+    refuses (passed-past (at-loop .loop .inv) (omega arith) _ (at-serial-at .serial-at .ensures) (omega arith))
 
 put-requires : tie.Need-put-requires Inv-loop μ-loop
 put-requires c κs =
-    let at-loop = c .before .before .before .before .before .before in
     let read = c .before .before .before .before in
-    (at-loop .before .before .pre .0, omega arith, read .serial-at .ensures, at-loop .loop .inv .trees)
+    let at-loop = read .before .before in
+    let start = at-loop .before .before in
+    (start .pre .0, omega arith, read .serial-at .ensures, at-loop .loop .inv .trees)
 
 returns-3 : tie.Need-returns-3 Inv-loop μ-loop
 returns-3 c =
-    let at-loop = c .before .before .before .before .before .before .before .before in
     let read = c .before .before .before .before .before .before in
+    let at-loop = read .before .before in
     refuses (passed-twice (at-loop .loop .inv) (omega arith) _ (read .serial-at .ensures) (c .before .put .ensures) (not-true _ (c .if3 .taken)))
 
 add-k : tie.Need-add-k Inv-loop μ-loop
@@ -51,9 +53,9 @@ loop-less c = search needs
 
 loop-again : tie.Need-loop-again Inv-loop μ-loop
 loop-again c =
-    let at-loop = c .before .before .before .before .before .before .before .before in
-    let read = c .before .before .before .before .before .before in
     let from-one = c .before .before .before .before .before in
+    let read = from-one .before in
+    let at-loop = read .before .before in
     passed-more (at-loop .loop .inv) (omega arith) _ (read .serial-at .ensures) (from-one .if1 .left) (omega arith) (c .before .put .ensures) (not-false _ (c .if3 .left))
 
 returns-4 : tie.Need-returns-4 Inv-loop μ-loop

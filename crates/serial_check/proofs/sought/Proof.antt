@@ -29,7 +29,9 @@ serial-at-requires : tie.Need-serial-at-requires Inv-loop μ-loop
 serial-at-requires c κs = search needs
 
 returns : tie.Need-returns Inv-loop μ-loop
-returns c = seek-meets (c .before .before .loop .inv) (sym (c .before .serial-at .ensures) ∙ c .if1 .taken)
+returns c =
+    let at-loop = c .before .before in
+    seek-meets (at-loop .loop .inv) (sym (c .before .serial-at .ensures) ∙ c .if1 .taken)
 
 mul-at : tie.Need-mul-at Inv-loop μ-loop
 mul-at c = search needs
@@ -48,8 +50,10 @@ element-copy-out-h c = search needs
 
 returns-2 : tie.Need-returns-2 Inv-loop μ-loop
 returns-2 c =
-    let at-loop = c .before .before .before .before in
-    seek-ends (at-loop .loop .inv) (λ e. c .before .before .if1 .left (c .before .before .before .serial-at .ensures ∙ e)) (omega arith) (c .if2 .taken)
+    let at-if1 = c .before .before in
+    let at-serial-at = at-if1 .before in
+    let at-loop = at-serial-at .before in
+    seek-ends (at-loop .loop .inv) (λ e. at-if1 .if1 .left (at-serial-at .serial-at .ensures ∙ e)) (omega arith) (c .if2 .taken)
 
 sub-j-2 : tie.Need-sub-j-2 Inv-loop μ-loop
 sub-j-2 c = search needs
@@ -57,17 +61,22 @@ sub-j-2 c = search needs
 cast-j-2 : tie.Need-cast-j-2 Inv-loop μ-loop
 cast-j-2 c =
     let at-loop = c .before .before .before .before in
-    omega (arith, at-loop .before .before .pre .3 .low (placeBelow (at-loop .loop .j) (at-loop .loop .rest)))
+    let start = at-loop .before .before in
+    omega (arith, start .pre .3 .low (placeBelow (at-loop .loop .j) (at-loop .loop .rest)))
 
 loop-less : tie.Need-loop-less Inv-loop μ-loop
 loop-less c =
     let at-loop = c .before .before .before .before in
-    omega (arith, at-loop .before .before .pre .3 .up (placeBelow (at-loop .loop .j) (at-loop .loop .rest)) (omega arith))
+    let start = at-loop .before .before in
+    omega (arith, start .pre .3 .up (placeBelow (at-loop .loop .j) (at-loop .loop .rest)) (omega arith))
 
 loop-again : tie.Need-loop-again Inv-loop μ-loop
 loop-again c =
-    let at-loop = c .before .before .before .before in
-    seek-on (at-loop .loop .inv) (λ e. c .before .before .if1 .left (c .before .before .before .serial-at .ensures ∙ e)) (at-loop .before .before .pre .3) (c .if2 .left)
+    let at-if1 = c .before .before in
+    let at-serial-at = at-if1 .before in
+    let at-loop = at-serial-at .before in
+    let start = at-loop .before .before in
+    seek-on (at-loop .loop .inv) (λ e. at-if1 .if1 .left (at-serial-at .serial-at .ensures ∙ e)) (start .pre .3) (c .if2 .left)
 
 pub sought-spec : {M : Type 1} → statement M
 sought-spec =

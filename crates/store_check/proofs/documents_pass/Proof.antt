@@ -21,17 +21,28 @@ cast-rows-pass c = search needs
 
 rows-pass-requires : tie.Need-rows-pass-requires
 rows-pass-requires c κs =
-    let pre = c .before .before .before .before .before .before .pre in
-    let header = headed _ (pre .0) (c .before .before .before .before .before .shared-slice-known .given) in
-    let cut = cut-of (pre .1) (c .before .before .before .before .definition-body .ensures) (c .before .before .before .particle-body .ensures) (c .before .before .attribute-body .ensures) in
+    let at-attribute-body = c .before .before in
+    let at-particle-body = at-attribute-body .before in
+    let at-definition-body = at-particle-body .before in
+    let at-shared-slice-known = at-definition-body .before in
+    let start = at-shared-slice-known .before in
+    let pre = start .pre in
+    let header = headed _ (pre .0) (at-shared-slice-known .shared-slice-known .given) in
+    let cut = cut-of (pre .1) (at-definition-body .definition-body .ensures) (at-particle-body .particle-body .ensures) (at-attribute-body .attribute-body .ensures) in
     rows-asked header cut (rows-counted (pre .1)) (rows-of (pre .1) (c .before .row-body .ensures)) (pre .1 .sized .width) (pre .2)
 
 returns : tie.Need-returns
 returns c =
-    let pre = c .before .before .before .before .before .before .before .pre in
-    let header = headed _ (pre .0) (c .before .before .before .before .before .before .shared-slice-known .given) in
-    let cut = cut-of (pre .1) (c .before .before .before .before .before .definition-body .ensures) (c .before .before .before .before .particle-body .ensures) (c .before .before .before .attribute-body .ensures) in
-    rows-in header cut (rows-counted (pre .1)) (rows-of (pre .1) (c .before .before .row-body .ensures)) (c .rows-pass .ensures)
+    let at-row-body = c .before .before in
+    let at-attribute-body = at-row-body .before in
+    let at-particle-body = at-attribute-body .before in
+    let at-definition-body = at-particle-body .before in
+    let at-shared-slice-known = at-definition-body .before in
+    let start = at-shared-slice-known .before in
+    let pre = start .pre in
+    let header = headed _ (pre .0) (at-shared-slice-known .shared-slice-known .given) in
+    let cut = cut-of (pre .1) (at-definition-body .definition-body .ensures) (at-particle-body .particle-body .ensures) (at-attribute-body .attribute-body .ensures) in
+    rows-in header cut (rows-counted (pre .1)) (rows-of (pre .1) (at-row-body .row-body .ensures)) (c .rows-pass .ensures)
 
 pub documents-pass-spec : {M : Type 1} → statement M
 documents-pass-spec =

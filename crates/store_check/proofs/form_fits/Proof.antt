@@ -1,4 +1,5 @@
--- `store_check::form_fits` meets its contract: a test that fails refutes a field of FormPasses, and the last leaves the circles.
+-- `store_check::form_fits` meets its contract: a test that fails refutes
+-- a field of FormPasses, and the last leaves the circles.
 use borrow.Author.Needs.{needs}
 use Rattle.store_check.proofs.CallLaws.{refused, kept, laid-of, form-by}
 use Rattle.store_check.proofs.form_fits.Statement.{statement}
@@ -26,7 +27,18 @@ heights-of-requires : tie.Need-heights-of-requires
 heights-of-requires c κs = search needs
 
 returns-4 : tie.Need-returns-4
-returns-4 c = form-by (laid-of (c .before .before .before .before .before .before .before .before .before .before .pre .1) (c .before .before .before .before .before .before .before .before .before .shared-slice-known .given) (c .before .before .before .before .before .before .before .shared-slice-known3 .given)) (kept (c .before .before .before .before .before .if1 .left) (c .before .before .before .before .before .before .definitions-fit .ensures)) (kept (c .before .before .before .if2 .left) (c .before .before .before .before .attributes-fit .ensures)) (kept (c .before .if3 .left) (c .before .before .bodies-fit .ensures)) (c .heights-of .ensures)
+returns-4 c =
+    let at-bodies-fit = c .before .before in
+    let at-if2 = at-bodies-fit .before in
+    let at-attributes-fit = at-if2 .before in
+    let at-if1 = at-attributes-fit .before in
+    let at-definitions-fit = at-if1 .before in
+    let at-shared-slice-known3 = at-definitions-fit .before in
+    let at-shared-slice-known = at-shared-slice-known3 .before .before in
+    let start = at-shared-slice-known .before in
+    form-by (laid-of (start .pre .1) (at-shared-slice-known .shared-slice-known .given) (at-shared-slice-known3 .shared-slice-known3 .given))
+    (kept (at-if1 .if1 .left) (at-definitions-fit .definitions-fit .ensures)) (kept (at-if2 .if2 .left) (at-attributes-fit .attributes-fit .ensures))
+    (kept (c .before .if3 .left) (at-bodies-fit .bodies-fit .ensures)) (c .heights-of .ensures)
 
 pub form-fits-spec : {M : Type 1} → statement M
 form-fits-spec =

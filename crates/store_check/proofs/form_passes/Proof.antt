@@ -15,15 +15,27 @@ attribute-body-requires c κs = search needs
 
 form-fits-requires : tie.Need-form-fits-requires
 form-fits-requires c κs =
-    let pre = c .before .before .before .before .pre in
-    let slice = c .before .before .before .shared-slice-known in
-    (pre .1 .sized .width, cut-laid (headed _ (pre .0) (slice .given)) (cut-of (pre .1) (c .before .before .definition-body .ensures) (c .before .particle-body .ensures) (c .attribute-body .ensures)) .bodies)
+    let at-definition-body = c .before .before in
+    let at-shared-slice-known = at-definition-body .before in
+    let start = at-shared-slice-known .before in
+    let pre = start .pre in
+    let slice = at-shared-slice-known .shared-slice-known in (
+      pre .1 .sized .width,
+      cut-laid (headed _ (pre .0) (slice .given))
+          (cut-of (pre .1) (at-definition-body .definition-body .ensures) (c .before .particle-body .ensures) (c .attribute-body .ensures)) .bodies,
+    )
 
 returns : tie.Need-returns
 returns c =
-    let pre = c .before .before .before .before .before .pre in
-    let slice = c .before .before .before .before .shared-slice-known in
-    cut-form (headed _ (pre .0) (slice .given)) (cut-of (pre .1) (c .before .before .before .definition-body .ensures) (c .before .before .particle-body .ensures) (c .before .attribute-body .ensures)) (c .form-fits .ensures)
+    let at-particle-body = c .before .before in
+    let at-definition-body = at-particle-body .before in
+    let at-shared-slice-known = at-definition-body .before in
+    let start = at-shared-slice-known .before in
+    let pre = start .pre in
+    let slice = at-shared-slice-known .shared-slice-known in
+    cut-form (headed _ (pre .0) (slice .given))
+    (cut-of (pre .1) (at-definition-body .definition-body .ensures) (at-particle-body .particle-body .ensures) (c .before .attribute-body .ensures))
+    (c .form-fits .ensures)
 
 pub form-passes-spec : {M : Type 1} → statement M
 form-passes-spec =

@@ -14,14 +14,19 @@ cast-serials-fit c = search needs
 
 serials-fit-requires : tie.Need-serials-fit-requires
 serials-fit-requires c κs =
-    let pre = c .before .before .before .pre in
-    (pre .1 .sized .width, serials-asked (headed _ (pre .0) (c .before .before .shared-slice-known .given)) (rows-counted (pre .1)))
+    let at-shared-slice-known = c .before .before in
+    let start = at-shared-slice-known .before in
+    let pre = start .pre in
+    (pre .1 .sized .width, serials-asked (headed _ (pre .0) (at-shared-slice-known .shared-slice-known .given)) (rows-counted (pre .1)))
 
 returns : tie.Need-returns
 returns c =
-    let pre = c .before .before .before .before .pre in
-    let header = headed _ (pre .0) (c .before .before .before .shared-slice-known .given) in
-    serials-in header (rows-counted (pre .1)) (width-is (pre .1)) (c .before .before .next-serial .ensures .value) (rows-of (pre .1) (c .before .row-body .ensures)) (c .serials-fit .ensures)
+    let at-next-serial = c .before .before in
+    let at-shared-slice-known = at-next-serial .before in
+    let start = at-shared-slice-known .before in
+    let pre = start .pre in
+    let header = headed _ (pre .0) (at-shared-slice-known .shared-slice-known .given) in
+    serials-in header (rows-counted (pre .1)) (width-is (pre .1)) (at-next-serial .next-serial .ensures .value) (rows-of (pre .1) (c .before .row-body .ensures)) (c .serials-fit .ensures)
 
 pub serials-pass-spec : {M : Type 1} → statement M
 serials-pass-spec =

@@ -1,13 +1,12 @@
 -- What change 9 asks of the writer, and what it answers.
-use Prim.Native.Nat.{ℕ, suc, _+_, _-_, _*_, _<_, _≤_}
+use Prim.Native.Nat.{ℕ, suc, _+_, _<_, _≤_}
 use native.Mathlib.Omega.{arith}
 use borrow.Author.Tests.{lt-leb, ltb-false}
 use mathlib.Core.Path.{_≡_, refl, sym, ap, _∙_, subst}
 use mathlib.Core.Bool.{Bool, true, false, not}
-use mathlib.Core.List.{_∷_, _++_}
-use lib.ListN.{length, take, drop}
+use lib.ListN.{length, take}
 use Rattle.rules.specs.Bytes.{Bytes}
-use Rattle.rules.specs.Layout.{FlatAttribute, FlatStore, flat, attributeBytes, each}
+use Rattle.rules.specs.Layout.{FlatAttribute, FlatStore, flat}
 use Rattle.rules.specs.Decode.{numberAt, definitionCount, particleCount, attributeCount}
 use Rattle.rules.specs.WellFormed.{isName, isValue, withinCeilings}
 use Rattle.rules.specs.Passing.{passes}
@@ -17,8 +16,7 @@ use Rattle.rules.specs.Outcome.{Answers}
 use Rattle.rules.proofs.DecodeLaws.{name-width, value-width}
 use Rattle.history.proofs.Conditions.{not-false, not-past}
 use Rattle.codec.specs.Laid.{Laid}
-use Rattle.codec.proofs.Writers.{laid-then, laid-as}
-use Rattle.layout.specs.Bodies.{widthOf, WidthIn, Number}
+use Rattle.layout.specs.Bodies.{widthOf, Number}
 use Rattle.layout.proofs.LayoutLaws.{width-within}
 use Rattle.lookup.specs.Bodies.{bodiesOf}
 use Rattle.row_walk.specs.declared.Plan.{Plan}
@@ -35,10 +33,11 @@ use Rattle.plans.specs.AttributeCalls.{attributesTo, addAttributePlan, attribut
 use Rattle.plans.proofs.CallsPlanned.{none-holds}
 use Rattle.plans.proofs.FormsAfter.{good-attribute, added-ceiling, added-form}
 use Rattle.plans.proofs.AttributeCallsPlanned.{add-attribute-planned}
-use Rattle.attribute_form.specs.Attributes.{Stands, To}
-use Rattle.attribute_form.proofs.FormParts.{front-then, form-from, before-is, fits, front-laid}
+use Rattle.attribute_form.specs.Attributes.{To}
+use Rattle.attribute_form.proofs.FormParts.{fits, front-laid}
 use Rattle.attribute_form.proofs.CountLaws.{count-definitions, count-particles, count-attributes}
-use Rattle.add_attribute_call.specs.Added.{newEntry, Addable, added}
+use Rattle.attribute_writer.specs.Attributes.{newEntry, Addable}
+use Rattle.add_attribute_call.specs.Added.{added}
 
 -- ---- no condition holds
 module _ (bs : Bytes) {b : Bool} {m : ℕ} (h : not b ≡ false) (e : b ≡ passes bs) where
@@ -62,20 +61,6 @@ module _ (bs : Bytes) (q : passes bs ≡ true) where
       → flat (after (addAttribute o n k v) (storeIn bs)) ≡ added o n k v (bodiesOf bs)
   unfolding added
   add-leaves o n k v e = let kept : Holds bs = holds bs q in add-attribute-planned (storeIn bs) (kept .good) o n k v e ∙ sym (ap (added o n k v) (kept .bodies))
-
--- ---- the bytes of the new form
--- an attribute at the width that the code reads
-pub wide-attribute : {bs : Bytes} {w : ℕ} {out : Bytes} {at r : ℕ} {out′ : Bytes} → WidthIn bs w → (c : FlatAttribute) → Laid (attributeBytes w c) out at r out′
-    → Laid (attributeBytes (widthOf bs) c) out at r out′
-wide-attribute x c l = laid-as (ap (λ (k : ℕ). attributeBytes k c) (sym (x .value))) l
-
-module _ {w : ℕ} (f : FlatStore) (i : ℕ) {form : Bytes} {at : ℕ} (same : form ≡ formBytes w f) (s : Stands w f i at) {u out out₁ : Bytes} {r₁ : ℕ} (u-is : u ≡ take at form)
-    (x : Laid u out 0 r₁ out₁) where
-  pub added-laid : i ≤ length (f .attributes) → (c : FlatAttribute) {r₂ r₃ : ℕ} {v out₂ out₃ : Bytes} → v ≡ drop at form → Laid (attributeBytes w c) out₁ r₁ r₂ out₂ → Laid v out₂ r₂ r₃ out₃
-      → Laid (formBytes w (attributeAdded i c f)) out 0 r₃ out₃
-  added-laid h c {v = v} v-is y z =
-      let e : v ≡ each (attributeBytes w) (drop i (f .attributes)) = v-is ∙ ap (drop at) same ∙ form-from w f i at (s .place) h in
-      laid-as (front-then w f i (c ∷ drop i (f .attributes)) ∙ (λ j. sym (before-is f i same s u-is x h) j ++ (attributeBytes w c ++ sym e j))) (laid-then x (laid-then y z))
 
 -- ---- the store that is left
 version-of : (bs : Bytes) → numberAt 0 4 bs ≡ bodiesOf bs .version

@@ -1,29 +1,10 @@
--- What change 9 asks and leaves, by the bodies of a store.
-use Prim.Native.Nat.{ℕ, _≤_, _<_}
-use mathlib.Core.Path.{_≡_}
-use mathlib.Core.Bool.{true}
-use lib.ListN.{length}
+-- What change 9 leaves, by the bodies of a store.
+use Prim.Native.Nat.{ℕ}
 use Rattle.rules.specs.Bytes.{Bytes}
-use Rattle.rules.specs.Layout.{FlatAttribute, FlatStore}
-use Rattle.rules.specs.WellFormed.{isName, isValue}
-use Rattle.rules.specs.Passing.{passes}
-use Rattle.layout.specs.Bodies.{widthOf}
-use Rattle.layout.specs.RecordBytes.{attributeOf}
+use Rattle.rules.specs.Layout.{FlatStore}
 use Rattle.store_writer.specs.Planned.{plannedIn}
 use Rattle.plans.specs.AttributeCalls.{attributesTo, addAttributePlan, attributeAdded}
-
-abbrev pub newEntry : ℕ → Bytes → ℕ → Bytes → FlatAttribute
-newEntry o n k v = attributeOf o n k v
-
--- the arguments of change 9 where no condition holds
-pub record Addable (bs : Bytes) (o : ℕ) (n : Bytes) (k : ℕ) (v : Bytes) : Type 0 where
-  pub passes : passes bs ≡ true
-  pub owner : o < 64
-  pub name : isName n ≡ true
-  pub short : length n ≤ 16
-  pub sort : k ≤ 2
-  pub value : isValue (widthOf bs) v ≡ true
-  pub few : length v ≤ widthOf bs
+use Rattle.attribute_writer.specs.Attributes.{newEntry}
 
 -- the bodies that change 9 leaves
 unfoldable pub added : ℕ → Bytes → ℕ → Bytes → FlatStore → FlatStore

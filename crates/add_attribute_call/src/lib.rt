@@ -1,42 +1,17 @@
 //! Change 9: an attribute added. The call is the check, the first refusal that applies, the new form and the plan of the change.
 use store_writer::Answer;
-ghost use Prim.Native.Nat.{_≤_};
 ghost use lib.ListN.{length};
 ghost use Rattle.rules.specs.Change.{addAttribute};
 ghost use Rattle.rules.specs.Outcome.{outcome, Answers};
-ghost use Rattle.codec.specs.Laid.{Laid};
-ghost use Rattle.layout.specs.Bodies.{widthOf};
 ghost use Rattle.lookup.specs.Bodies.{bodiesOf};
 ghost use Rattle.store_writer.specs.Stores.{limited};
-ghost use Rattle.store_writer.specs.Forms.{formBytes};
-ghost use Rattle.plans.specs.AttributeCalls.{attributeAdded};
-ghost use Rattle.add_attribute_call.specs.Added.{newEntry, Addable, added};
+ghost use Rattle.attribute_writer.specs.Attributes.{Addable};
+ghost use Rattle.add_attribute_call.specs.Added.{added};
 
 const MOST_ATTRIBUTES: usize = 64;
 
 // The bytes of a form at its ceilings and of the widest values: 64 definitions, 256 particles, 64 attributes of 116 bytes.
 const MOST_FORM: usize = 9728;
-
-// Writes the form with a new attribute before attribute i.
-fn put_added(
-    store: &[u8],
-    i: usize,
-    owner: u32,
-    name: &[u8],
-    sort: u32,
-    value: &[u8],
-    out: &mut [u8],
-) -> usize
-    requires { ⌜ Addable (now store) owner (now name) sort (now value) × (i ≤ length (bodiesOf (now store) .attributes)) × (i ≤ 64) ⌝ }
-    ensures { λ r. ⌜ Laid (formBytes (widthOf (now (store .entry))) (attributeAdded i (newEntry owner (now (name .entry)) sort (now (value .entry))) (bodiesOf (now (store .entry))))) (now (out .entry)) 0 r (now (out .exit)) ⌝ }
-{
-    let form = attribute_form::form_of(store);
-    let place = attribute_form::place_of(store, i);
-    let w = layout::width_in(store);
-    let first = codec::put(records::first(form, place), out, 0);
-    let second = layout::put_attribute(w, owner as u8, name, sort as u8, value, out, first);
-    codec::put(records::after(form, place), out, second)
-}
 
 // The store with a new attribute, the last of its owner.
 fn write_added(
@@ -60,7 +35,7 @@ fn write_added(
     let version = layout::version_in(store);
     let plan = plans::add_attribute_plan(version, owner as usize, i, sort as u8);
     let mut form = [0; MOST_FORM];
-    let length = put_added(store, i, owner, name, sort, value, &mut form);
+    let length = attribute_writer::put_added(store, i, owner, name, sort, value, &mut form);
     store_writer::edit_form(store, &form[..length], d, p, a + 1, plan, value, out)
 }
 

@@ -1,15 +1,14 @@
 -- What change 10 asks of the writer, and what it answers.
-use Prim.Native.Nat.{ℕ, suc, _+_, _-_, _*_, _<_, _≤_}
+use Prim.Native.Nat.{ℕ, _-_, _<_, _≤_}
 use native.Mathlib.Omega.{arith}
-use native.Mathlib.Numerals.{add-one}
 use mathlib.Core.Path.{_≡_, refl, sym, ap, _∙_, subst}
 use mathlib.Core.Logic.{⊎-elim}
 use mathlib.Core.Bool.{Bool, true, false, not, false≢true}
 use mathlib.Core.Option.{Option, none}
-use mathlib.Core.List.{[], _++_}
-use lib.ListN.{length, take, drop}
+use mathlib.Core.List.{[]}
+use lib.ListN.{length, take}
 use Rattle.rules.specs.Bytes.{Bytes}
-use Rattle.rules.specs.Layout.{definitionSize, particleSize, attributeSize, FlatStore, flat, attributeBytes, each}
+use Rattle.rules.specs.Layout.{FlatStore, flat}
 use Rattle.rules.specs.Decode.{definitionCount, particleCount, attributeCount}
 use Rattle.rules.specs.WellFormed.{isValue}
 use Rattle.rules.specs.Passing.{passes}
@@ -17,7 +16,6 @@ use Rattle.rules.specs.Change.{destroyAttribute, Owned, after}
 use Rattle.rules.specs.Refusal.{first, conditions, isOther}
 use Rattle.rules.specs.Outcome.{Answers}
 use Rattle.codec.specs.Laid.{Laid}
-use Rattle.codec.proofs.Writers.{laid-then, laid-as}
 use Rattle.layout.specs.Bodies.{widthOf, Number}
 use Rattle.layout.proofs.LayoutLaws.{width-within}
 use Rattle.lookup.specs.Bodies.{bodiesOf}
@@ -37,10 +35,10 @@ use Rattle.plans.specs.AttributeCalls.{ownerAt, destroyAttributePlan, attribute
 use Rattle.plans.proofs.CallsPlanned.{none-holds}
 use Rattle.plans.proofs.FormsAfter.{dropped-form}
 use Rattle.plans.proofs.AttributeCallsPlanned.{destroy-attribute-planned}
-use Rattle.attribute_form.specs.Attributes.{Stands}
-use Rattle.attribute_form.proofs.FormParts.{front-then, form-from, before-is, fits, front-laid}
+use Rattle.attribute_form.proofs.FormParts.{fits, front-laid}
 use Rattle.attribute_form.proofs.CountLaws.{count-definitions, count-particles, count-attributes}
-use Rattle.destroy_attribute_call.specs.Dropped.{Droppable, dropped}
+use Rattle.attribute_writer.specs.Attributes.{Droppable}
+use Rattle.destroy_attribute_call.specs.Dropped.{dropped}
 
 -- ---- no condition holds
 module _ (bs : Bytes) {b : Bool} {m : ℕ} (h : not b ≡ false) (e : b ≡ passes bs) where
@@ -56,19 +54,6 @@ module _ (bs : Bytes) (q : passes bs ≡ true) where
   pub destroy-leaves : (a : ℕ) → first (conditions (destroyAttribute a) (storeIn bs)) ≡ 0 → flat (after (destroyAttribute a) (storeIn bs)) ≡ dropped a [] (bodiesOf bs)
   unfolding dropped
   destroy-leaves a e = let kept : Holds bs = holds bs q in destroy-attribute-planned (storeIn bs) (kept .good) a [] e ∙ sym (ap (dropped a []) (kept .bodies))
-
--- ---- the bytes of the new form
-module _ {w : ℕ} (f : FlatStore) (i : ℕ) {form : Bytes} {at : ℕ} (same : form ≡ formBytes w f) (s : Stands w f i at) {u out out₁ : Bytes} {r₁ : ℕ} (u-is : u ≡ take at form)
-    (x : Laid u out 0 r₁ out₁) where
-  -- past: where the next attribute stands
-  pub dropped-laid : i < length (f .attributes) → {past r₂ : ℕ} {v out₂ : Bytes} → Stands w f (i + 1) past → v ≡ drop past form → Laid v out₁ r₁ r₂ out₂
-      → Laid (formBytes w (attributeDropped i f)) out 0 r₂ out₂
-  dropped-laid h {past} {v = v} q v-is y =
-      let e : v ≡ each (attributeBytes w) (drop (suc i) (f .attributes)) =
-      v-is ∙ ap (drop past) same ∙ form-from w f (suc i) past
-      (q .place ∙ ap (λ (k : ℕ). definitionSize * length (f .definitions) + (particleSize * length (f .particles) + attributeSize w * k)) (add-one i)) (omega arith)
-      in
-      laid-as (front-then w f i (drop (suc i) (f .attributes)) ∙ (λ j. sym (before-is f i same s u-is x (omega arith)) j ++ sym e j)) (laid-then x y)
 
 -- ---- the store that is left
 module _ (bs : Bytes) (a : ℕ) (x : Droppable bs a) where

@@ -5,13 +5,11 @@ ghost use mathlib.Core.List.{[]};
 ghost use lib.ListN.{length};
 ghost use Rattle.rules.specs.Change.{destroyAttribute};
 ghost use Rattle.rules.specs.Outcome.{outcome, Answers};
-ghost use Rattle.codec.specs.Laid.{Laid};
-ghost use Rattle.layout.specs.Bodies.{widthOf};
 ghost use Rattle.lookup.specs.Bodies.{bodiesOf};
 ghost use Rattle.store_writer.specs.Stores.{limited};
-ghost use Rattle.store_writer.specs.Forms.{formBytes};
-ghost use Rattle.plans.specs.AttributeCalls.{ownerAt, attributeDropped};
-ghost use Rattle.destroy_attribute_call.specs.Dropped.{Droppable, dropped};
+ghost use Rattle.plans.specs.AttributeCalls.{ownerAt};
+ghost use Rattle.attribute_writer.specs.Attributes.{Droppable};
+ghost use Rattle.destroy_attribute_call.specs.Dropped.{dropped};
 
 // The bytes of a form at its ceilings and of the widest values: 64 definitions, 256 particles, 64 attributes of 116 bytes.
 const MOST_FORM: usize = 9728;
@@ -25,18 +23,6 @@ fn owner_of(store: &[u8], attribute: usize) -> usize
     layout::attribute_owner(layout::attribute_at(w, attrs, attribute))
 }
 
-// Writes the form without attribute i.
-fn put_dropped(store: &[u8], i: usize, out: &mut [u8]) -> usize
-    requires { ⌜ Droppable (now store) i ⌝ }
-    ensures { λ r. ⌜ Laid (formBytes (widthOf (now (store .entry))) (attributeDropped i (bodiesOf (now (store .entry))))) (now (out .entry)) 0 r (now (out .exit)) ⌝ }
-{
-    let form = attribute_form::form_of(store);
-    let place = attribute_form::place_of(store, i);
-    let rest = attribute_form::place_of(store, i + 1);
-    let next = codec::put(records::first(form, place), out, 0);
-    codec::put(records::after(form, rest), out, next)
-}
-
 // The store without an attribute and its rows.
 fn write_dropped(store: &[u8], attribute: usize, out: &mut [u8]) -> Answer
     requires { ⌜ Droppable (now store) attribute ⌝ }
@@ -47,7 +33,7 @@ fn write_dropped(store: &[u8], attribute: usize, out: &mut [u8]) -> Answer
     let a = layout::attribute_count(store);
     let plan = plans::destroy_attribute_plan(owner_of(store, attribute), attribute);
     let mut form = [0; MOST_FORM];
-    let length = put_dropped(store, attribute, &mut form);
+    let length = attribute_writer::put_dropped(store, attribute, &mut form);
     store_writer::edit_form(store, &form[..length], d, p, a - 1, plan, &store[..0], out)
 }
 

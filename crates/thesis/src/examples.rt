@@ -1,7 +1,6 @@
 // The fourteen examples, each with its number and the text after it. Each function starts from the article.
 use super::article;
-use super::play;
-use super::play::Play;
+use play::Play;
 
 pub fn one_and_two(start: Play) {
     play::tell(b"\n1. create middle EMPTY:");

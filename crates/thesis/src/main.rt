@@ -1,7 +1,6 @@
 // The thesis' fourteen examples on Article.dtd and its sample document: the number of each call, and the text after it.
 mod article;
 mod examples;
-mod play;
 
 fn main() {
     let start = article::article();

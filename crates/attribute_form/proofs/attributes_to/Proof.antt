@@ -6,6 +6,7 @@ use borrow.Author.Needs.{needs}
 use Rattle.attribute_form.proofs.attributes_to.Statement.{statement}
 use Rattle.attribute_form.proofs.attributes_to.Tie as tie
 
+-- sum counts the first i attributes; with those left it makes the count of all
 abbrev Inv-loop : tie.InvT-loop
 Inv-loop store owner w count attrs sum₀ i₀ sum i = Counting w owner attrs count sum i
 

@@ -1,3 +1,4 @@
+-- `create_definition_call::create_condition` meets its contract.
 use Rattle.create_definition_call.proofs.CreateCall.{bad-name, bad-code, name-taken, name-free}
 use borrow.Author.Tests.{not-true, not-false}
 use native.Mathlib.Omega.{arith}

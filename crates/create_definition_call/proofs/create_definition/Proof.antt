@@ -1,3 +1,4 @@
+-- `create_definition_call::create_definition` meets its contract.
 use Rattle.create_definition_call.proofs.CreateCall.{fresh, flat-after-create}
 use Rattle.store_writer.proofs.CallLaws.{answers-bad, answers-refused}
 use Rattle.call_laws.proofs.Limits.{answers-limit, answers-all}

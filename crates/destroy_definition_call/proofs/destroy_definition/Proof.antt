@@ -1,3 +1,4 @@
+-- `destroy_definition_call::destroy_definition` meets its contract.
 use Rattle.destroy_definition_call.proofs.DestroyCall.{stands, flat-after-destroy}
 use Rattle.store_writer.proofs.CallLaws.{answers-bad, answers-refused}
 use Rattle.call_laws.proofs.Limits.{answers-limit, answers-all}

@@ -1,4 +1,4 @@
-// A store that is carried through the sixteen changes, each of which prints its number.
+//! A store that is carried through the sixteen changes, each of which prints its number.
 use store_writer::Answer;
 
 /// The first `length` bytes are the store.

@@ -1,11 +1,11 @@
--- `destroy_attribute_call::put_dropped` meets its contract.
+-- `attribute_writer::put_dropped` meets its contract.
 use native.Mathlib.Omega.{arith}
 use Rattle.lookup.specs.Bodies.{bodiesOf}
 use Rattle.attribute_form.proofs.FormParts.{before-small, rest-small}
-use Rattle.destroy_attribute_call.proofs.Laws.{dropped-laid}
+use Rattle.attribute_writer.proofs.Laws.{dropped-laid}
 use borrow.Author.Needs.{needs}
-use Rattle.destroy_attribute_call.proofs.put_dropped.Statement.{statement}
-use Rattle.destroy_attribute_call.proofs.put_dropped.Tie as tie
+use Rattle.attribute_writer.proofs.put_dropped.Statement.{statement}
+use Rattle.attribute_writer.proofs.put_dropped.Tie as tie
 
 form-of-requires : tie.Need-form-of-requires
 form-of-requires c κs = c .before .before .pre .passes

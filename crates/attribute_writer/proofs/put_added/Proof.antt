@@ -1,14 +1,14 @@
--- `add_attribute_call::put_added` meets its contract.
+-- `attribute_writer::put_added` meets its contract.
 use Rattle.layout.specs.Bodies.{widthOf}
 use native.Mathlib.Omega.{arith}
 use Rattle.rules.proofs.LayoutLaws.{length-attribute}
 use Rattle.lookup.specs.Bodies.{bodiesOf}
-use Rattle.add_attribute_call.specs.Added.{newEntry}
+use Rattle.attribute_writer.specs.Attributes.{newEntry}
 use Rattle.attribute_form.proofs.FormParts.{before-small, rest-small}
-use Rattle.add_attribute_call.proofs.Laws.{wide-attribute, added-laid}
+use Rattle.attribute_writer.proofs.Laws.{wide-attribute, added-laid}
 use borrow.Author.Needs.{needs}
-use Rattle.add_attribute_call.proofs.put_added.Statement.{statement}
-use Rattle.add_attribute_call.proofs.put_added.Tie as tie
+use Rattle.attribute_writer.proofs.put_added.Statement.{statement}
+use Rattle.attribute_writer.proofs.put_added.Tie as tie
 
 form-of-requires : tie.Need-form-of-requires
 form-of-requires c κs = c .before .before .before .before .pre .0 .passes

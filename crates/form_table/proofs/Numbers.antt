@@ -4,7 +4,7 @@ use native.Mathlib.Omega.{arith}
 use native.Mathlib.Numerals.{sub-one}
 use native.Mathlib.Nat.{not-suc-le-zero}
 use mathlib.Core.Path.{_≡_, refl, sym, ap₂, _∙_}
-use mathlib.Core.Bool.{Bool, true, false, not, _&&_}
+use mathlib.Core.Bool.{Bool, true, false, _&&_}
 use lib.Dec.{ltb, leb}
 use borrow.Author.Tests.{le-leb, lt-leb, leb-true, ltb-true, ltb-false}
 use Rattle.rules.proofs.Words.{and-both, and-split}
@@ -73,9 +73,9 @@ module _ (p : ℕ → Bool) (a b k : ℕ) (l : Left p a b k) where
   pub left-ends : k ≤ a → true ≡ every p b a
   left-ends h = sym (l .is ∙ every-stop p a k h)
 
-  module _ (h : a < k) (fails : Bool) (e : not fails ≡ p (k - 1)) where
-    pub left-on : fails ≡ false → Left p a b (k - 1)
+  module _ (h : a < k) (passes : Bool) (e : passes ≡ p (k - 1)) where
+    pub left-on : passes ≡ true → Left p a b (k - 1)
     left-on f = record { is = l .is ∙ every-step p a k h ∙ rw (← e, f); low = omega (arith, l .low) }
 
-    pub left-no : fails ≡ true → false ≡ every p b a
+    pub left-no : passes ≡ false → false ≡ every p b a
     left-no f = sym (l .is ∙ every-step p a k h ∙ rw (← e, f))

@@ -13,7 +13,7 @@ ghost use Rattle.next_row.specs.Judge.{childMay, childrenEnd, attributeM
 /// A place that is open. `holds`: 0 documents, 1 the rows below an element, 2 nothing. Of an element: its definition, 1 and the
 /// first attribute that may still come (0: none may), and 1 and its last child's index (0: no child yet). 12 bytes.
 pub struct Level {
-    pub holds: u8,
+    pub holds: u16,
     pub index: u16,
     pub seen: u32,
     pub last: u32,

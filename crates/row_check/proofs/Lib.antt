@@ -3,5 +3,6 @@ pub mod MachineLaws
 pub mod Attributes
 pub mod Children
 pub mod JudgeLaws
-pub mod PassLaws
+pub mod LevelLaws
 pub mod StepLaws
+pub mod PassLaws

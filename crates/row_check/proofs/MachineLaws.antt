@@ -1,22 +1,21 @@
 -- The one pass judges as the trees do.
 use Prim.Native.Nat.{ℕ, zero, suc, _-_, _≤_, _<_}
 use native.Mathlib.Omega.{arith}
-use native.Mathlib.Nat.{not-suc-le-zero}
 use mathlib.Core.Path.{_≡_, refl, ap, _∙_, sym, subst}
 use mathlib.Core.Logic.{_↔_}
-use mathlib.Core.Bool.{Bool, true, false, _&&_, and-assoc}
+use mathlib.Core.Bool.{true, _&&_}
 use mathlib.Core.List.{List, [], _∷_}
 use lib.Dec.{ltb, leb}
 use lib.ListN.{length, getD, set, length-set}
 use lib.Seq.{getD-set-same, getD-set-other}
-use borrow.Author.Tests.{lt-ltb, le-ltb, le-leb, lt-leb, ltb-true, leb-true}
+use borrow.Author.Tests.{lt-ltb, le-leb, ltb-true, leb-true}
 use Rattle.rules.specs.Store.{Forest, heads}
 use Rattle.rules.specs.Preorder.{Deep, flatten, build}
 use Rattle.rules.proofs.Words.{and-both, and-split}
 use Rattle.rules.proofs.PreorderLaws.{rising, build-flatten, flatten-build}
 use Rattle.next_row.specs.Automaton.{Automaton}
-use Rattle.row_check.specs.Machine.{runs, Fine, closed, opened, machine, keeps}
-use Rattle.form_table.proofs.Numbers.{Side, below, at, above, side}
+use Rattle.row_check.specs.Machine.{runs, Fine, closed, opened, machine}
+use Rattle.form_table.proofs.Numbers.{Side, below, at, above, side, every→, every←}
 use Rattle.row_check.proofs.Depths.{build-same, build-less, build-more, flatten-rises}
 
 -- all rows stand at depths below b
@@ -27,22 +26,11 @@ Within b (x ∷ xs) = (x .depth < b) × Within b xs
 module _ {A S : Type 0} (m : Automaton A S) (none : S) where
   closed→ : (l : List S) (n a : ℕ) → closed m none l n a ≡ true → (k : ℕ) → a ≤ k → k < n → m .ends (getD l k none) ≡ true
   unfolding closed
-  closed→ l zero a h k p q = absurd (not-suc-le-zero q)
-  closed→ l (suc n) a h k p q = by (side k n) (let e = rw (le-leb a n (omega arith), closed) at h in and-split (m .ends (getD l n none)) (closed m none l n a) e) (λ v x. closed→ l n a v k p x)
-    where
-      by : Side k n → (m .ends (getD l n none) ≡ true) × (closed m none l n a ≡ true) → (closed m none l n a ≡ true → k < n → m .ends (getD l k none) ≡ true) → m .ends (getD l k none) ≡ true
-      by (below x) (u, v) f = f v x
-      by (at x) (u, v) f = rw x u
-      by (above x) (u, v) f = absurd (omega arith)
+  closed→ l n a h = every→ (λ k. m .ends (getD l k none)) n a h
 
   closed← : (l : List S) (n a : ℕ) → ((k : ℕ) → a ≤ k → k < n → m .ends (getD l k none) ≡ true) → closed m none l n a ≡ true
   unfolding closed
-  closed← l zero a h = refl
-  closed← l (suc n) a h = by (leb a n) refl (closed← l n a (λ k p q. h k p (omega arith)))
-    where
-      by : (b : Bool) → leb a n ≡ b → closed m none l n a ≡ true → closed m none l (suc n) a ≡ true
-      by true e r = rw (e, closed) (and-both (h n (leb-true a n e) (omega arith)) r)
-      by false e r = rw (e, closed)
+  closed← l n a h = every← (λ k. m .ends (getD l k none)) n a h
 
   -- what level k is owed by the rows from here on
   record Owed (l : List S) (k : ℕ) (xs : List (Deep A)) : Type 0 where
@@ -180,24 +168,3 @@ module _ {A S : Type 0} (m : Automaton A S) (none : S) where
           let e : build xs 0 ≡ g .0 = ap (λ (u : List (Deep A)). build u 0) (sym (g .1)) ∙ build-flatten (g .0) in
           record { row = rw (z, e) (g .2); fine = rw (z, e) (g .3) }),
     )
-
--- ---- the machine, a step at a time
-module _ {A S : Type 0} (m : Automaton A S) (none : S) (l : List S) where
-  -- the deepest level closes
-  pub machine-pops : (n : ℕ) (xs : List (Deep A)) → keeps xs < suc n → machine m none l (suc n) xs ≡ (m .ends (getD l n none) && machine m none l n xs)
-  unfolding machine closed
-  machine-pops n [] h = rw (le-leb 0 n (omega arith), closed)
-  machine-pops n (x ∷ xs) h =
-      rw (lt-ltb (x .depth) (suc n) (omega arith), lt-ltb (x .depth) n (omega arith), machine)
-      (rw (le-leb (suc (x .depth)) n (omega arith), closed) (and-assoc (m .ends (getD l n none)) (closed m none l n (suc (x .depth))) _))
-
-  -- the row is too deep
-  pub machine-stops : (n : ℕ) (xs : List (Deep A)) → n < keeps xs → machine m none l n xs ≡ false
-  unfolding machine
-  machine-stops n [] h = absurd (omega arith)
-  machine-stops n (x ∷ xs) h = rw (le-ltb (x .depth) n (omega arith), machine)
-
-  -- the row comes next at the deepest level
-  pub machine-takes : (x : Deep A) (xs : List (Deep A)) → machine m none l (suc (x .depth)) (x ∷ xs) ≡ (m .may (getD l (x .depth) none) (x .row) && machine m none (opened m none l (x .depth) (x .row)) (suc (suc (x .depth))) xs)
-  unfolding machine closed
-  machine-takes x xs = rw (lt-ltb (x .depth) (suc (x .depth)) (omega arith), machine) (rw (lt-leb (suc (x .depth)) (x .depth) (omega arith), closed))

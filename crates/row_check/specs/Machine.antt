@@ -1,12 +1,13 @@
 -- The rows of trees, judged in one pass: an automaton for what stands below a row, and a level for each row that is open.
-use Prim.Native.Nat.{ℕ, zero, suc}
+use Prim.Native.Nat.{ℕ, suc}
 use mathlib.Core.Path.{_≡_}
-use mathlib.Core.Bool.{Bool, true, false, _&&_}
+use mathlib.Core.Bool.{Bool, true, _&&_}
 use mathlib.Core.List.{List, [], _∷_}
-use lib.Dec.{ltb, leb}
+use lib.Dec.{ltb}
 use lib.ListN.{getD, set}
 use Rattle.rules.specs.Store.{Forest, bare, tree, heads}
 use Rattle.rules.specs.Preorder.{Deep}
+use Rattle.form_table.specs.Every.{every}
 use Rattle.next_row.specs.Automaton.{Automaton}
 
 module _ {A S : Type 0} (m : Automaton A S) where
@@ -23,8 +24,7 @@ module _ {A S : Type 0} (m : Automaton A S) where
   module _ (none : S) where
     -- of the n open levels those from a on are owed nothing
     unfoldable pub closed : List S → ℕ → ℕ → Bool
-    closed l zero a = true
-    closed l (suc n) a = elim (leb a n) [ true ↦ m .ends (getD l n none) && closed l n a | false ↦ true ]
+    closed l n a = every (λ k. m .ends (getD l k none)) n a
 
     -- the levels after a row of depth d
     abbrev pub opened : List S → ℕ → A → List S
@@ -35,8 +35,3 @@ module _ {A S : Type 0} (m : Automaton A S) where
     machine l n [] = closed l n 0
     machine l n (x ∷ xs) =
         ltb (x .depth) n && (closed l n (suc (x .depth)) && (m .may (getD l (x .depth) none) (x .row) && machine (opened l (x .depth) (x .row)) (suc (suc (x .depth))) xs))
-
--- how many levels the next row leaves open
-abbrev pub keeps : {A : Type 0} → List (Deep A) → ℕ
-keeps [] = 0
-keeps (x ∷ xs) = suc (x .depth)

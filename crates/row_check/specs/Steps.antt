@@ -1,18 +1,19 @@
 -- The check of the rows, a row at a time: its state, the step that a row makes, and whether the rows may end.
-use Prim.Native.Nat.{ℕ, zero, suc}
+use Prim.Native.Nat.{ℕ, zero, suc, _/_, _%_, _≤_}
+use mathlib.Core.Path.{_≡_}
 use mathlib.Core.Bool.{Bool, true, false, _&&_}
-use mathlib.Core.List.{List}
+use mathlib.Core.List.{List, [], _∷_}
 use mathlib.Core.Option.{Option, none, some}
-use lib.Dec.{ltb}
-use lib.ListN.{getD, take, drop}
+use lib.Dec.{eqb, ltb}
+use lib.ListN.{length, getD, set, take, drop}
 use Rattle.rules.specs.Bytes.{Bytes}
-use Rattle.rules.specs.Layout.{rowSize}
+use Rattle.rules.specs.Layout.{rowSize, FlatRow}
 use Rattle.rules.specs.Decode.{readRow}
 use Rattle.records.specs.Records.{rowFits}
 use Rattle.form_index.specs.Indices.{IndexForm}
 use Rattle.next_row.specs.declared.Level.{Level}
 use Rattle.row_check.specs.Machine.{closed, opened}
-use Rattle.next_row.specs.Judge.{judge, ground}
+use Rattle.next_row.specs.Judge.{after, entered, ground, judge}
 use Rattle.row_check.specs.Verdict.{noLevels}
 
 -- a level for each depth, and how many are open
@@ -52,3 +53,31 @@ walk w f (suc count) bs o = walk w f count (drop (rowSize w) bs) (elim o [ some 
 abbrev pub ended : IndexForm → Option State → Bool
 ended f none = false
 ended f (some s) = end f s
+
+-- ---- the state as the code holds it: three words for each level, and how many are open
+-- the first word: what the level holds, and its definition
+abbrev pub levelIn : List ℕ → Level
+levelIn s = record { holds = getD s 0 0 / 65536 % 65536; index = getD s 0 0 % 65536; seen = getD s 1 0; last = getD s 2 0 }
+
+unfoldable pub levelsOf : ℕ → List ℕ → List Level
+levelsOf zero s = []
+levelsOf (suc n) s = levelIn s ∷ levelsOf n (drop 3 s)
+
+abbrev pub stateOf : List ℕ → ℕ → State
+stateOf s live = record { levels = levelsOf 257 s; live = live }
+
+-- the words s are the levels ls
+pub record Words (ls : List Level) (s : List ℕ) : Type 0 where
+  pub are : levelsOf 257 s ≡ ls
+  pub long : length s ≡ 771
+
+-- the levels after a row of depth d that came at l
+abbrev pub taken : List Level → ℕ → Level → FlatRow → List Level
+taken ls d l r = set (set ls d (after (eqb (r .sort) 2) l (r .index))) (suc d) (entered (eqb (r .sort) 1) (r .index))
+
+-- the answer: whether the row may come; the state after it, where it may; and the next step may be made
+pub record StepMade (w : ℕ) (f : IndexForm) (s : List ℕ) (live : ℕ) (row : Bytes) (answer : Bool) (s′ : List ℕ) (live′ : ℕ) : Type 0 where
+  pub is : answer ≡ mayStep w f (stateOf s live) row
+  pub state : answer ≡ true → stateOf s′ live′ ≡ stepped f (stateOf s live) row
+  pub long : length s′ ≡ 771
+  pub low : live′ ≤ 257

@@ -1,5 +1,5 @@
 -- The rows, read at the width `w` of a value, and the verdict of the one pass.
-use Prim.Native.Nat.{ℕ, zero, suc}
+use Prim.Native.Nat.{ℕ}
 use mathlib.Core.Bool.{Bool, _&&_}
 use mathlib.Core.List.{List}
 use lib.ListN.{replicate}
@@ -18,11 +18,6 @@ rowsIn w count bs = readMany readRow (rowSize w) count bs
 
 abbrev pub fieldsFit : ℕ → ℕ → Bytes → Bool
 fieldsFit w count bs = eachFits (rowFits w) (rowSize w) count bs
-
--- how many levels the first of `count` rows leaves open
-abbrev pub keepsOf : ℕ → Bytes → ℕ
-keepsOf zero bs = 0
-keepsOf (suc count) bs = suc (readRow bs .depth)
 
 -- of rows from here on, with `live` levels open
 abbrev pub judged : ℕ → IndexForm → List Level → ℕ → ℕ → Bytes → Bool

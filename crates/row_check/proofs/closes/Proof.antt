@@ -1,0 +1,72 @@
+use mathlib.Core.Path.{refl}
+use native.Mathlib.Omega.{arith}
+use borrow.Author.Tests.{not-true, not-false}
+use borrow.Author.Needs.{needs}
+use Rattle.form_index.specs.Reading.{indexForm}
+use Rattle.row_check.proofs.LevelLaws.{Closing, closing-on, closing-no, closing-ends}
+use Rattle.row_check.proofs.closes.Statement.{statement}
+use Rattle.row_check.proofs.closes.Tie as tie
+
+-- of the levels from keep on those below k are left to be tested
+abbrev Inv-loop : tie.InvT-loop
+Inv-loop version w n defs parts a attrs table levels live keep k₀ k = Closing (indexForm version w n defs parts attrs a) levels keep live k
+
+abbrev μ-loop : tie.MeasureT-loop
+μ-loop version w n defs parts a attrs table levels live keep k₀ k = k
+
+loop-holds : tie.Need-loop-holds Inv-loop μ-loop
+loop-holds c = record { is = refl; low = omega arith }
+
+sub-k : tie.Need-sub-k Inv-loop μ-loop
+sub-k c = search needs
+
+level-at-requires : tie.Need-level-at-requires Inv-loop μ-loop
+level-at-requires c κs = search needs
+
+may-end-requires : tie.Need-may-end-requires Inv-loop μ-loop
+may-end-requires c κs = search needs
+
+returns : tie.Need-returns Inv-loop μ-loop
+returns c =
+    let entry = c .before .before .before .before .before .before .before .before .before in
+    let a = entry .args in
+    let form = indexForm (a .version) (a .w) (a .n) (a .defs .now) (a .parts .now) (a .attrs .now) (a .a) in
+    let at = c .before .before .before .before .loop in
+    let level = c .before .before .level-at in
+    closing-no form (a .levels .now) (a .keep) (a .live) (at .k) (at .inv) (omega arith)
+    (level .result) (level .ensures) _ (c .before .may-end .ensures) (not-true _ (c .if1 .taken))
+
+loop-less : tie.Need-loop-less Inv-loop μ-loop
+loop-less c = search needs
+
+loop-again : tie.Need-loop-again Inv-loop μ-loop
+loop-again c =
+    let entry = c .before .before .before .before .before .before .before .before .before in
+    let a = entry .args in
+    let form = indexForm (a .version) (a .w) (a .n) (a .defs .now) (a .parts .now) (a .attrs .now) (a .a) in
+    let at = c .before .before .before .before .loop in
+    let level = c .before .before .level-at in
+    closing-on form (a .levels .now) (a .keep) (a .live) (at .k) (at .inv) (omega arith)
+    (level .result) (level .ensures) _ (c .before .may-end .ensures) (not-false _ (c .if1 .left))
+
+returns-2 : tie.Need-returns-2 Inv-loop μ-loop
+returns-2 c =
+    let a = c .before .before .before .before .before .before .args in
+    let form = indexForm (a .version) (a .w) (a .n) (a .defs .now) (a .parts .now) (a .attrs .now) (a .a) in
+    let at = c .before .loop in
+    closing-ends form (a .levels .now) (a .keep) (a .live) (at .k) (at .inv) (omega arith)
+
+pub closes-spec : {M : Type 1} → statement M
+closes-spec =
+    tie.close
+    (tie.spec
+    Inv-loop
+    μ-loop
+    loop-holds
+    sub-k
+    level-at-requires
+    may-end-requires
+    returns
+    loop-less
+    loop-again
+    returns-2)

@@ -1,0 +1,94 @@
+use native.Mathlib.Omega.{arith}
+use borrow.Author.Tests.{not-true, not-false}
+use borrow.Author.Needs.{needs}
+use Rattle.form_index.specs.Reading.{indexForm}
+use Rattle.row_check.proofs.StepLaws.{step-deep, step-owes, step-not, step-goes}
+use Rattle.row_check.proofs.step.Statement.{statement}
+use Rattle.row_check.proofs.step.Tie as tie
+
+row-depth-requires : tie.Need-row-depth-requires
+row-depth-requires c κs = search needs
+
+cast-d : tie.Need-cast-d
+cast-d c = search needs
+
+returns : tie.Need-returns
+returns c =
+    let start = c .before .before .before .before .before .before .before .before in
+    let a = start .args in
+    let form = indexForm (a .version) (a .w) (a .n) (a .defs .now) (a .parts .now) (a .attrs .now) (a .a) in
+    let depth = c .before .before .row-depth in
+    step-deep (a .w) form (a .levels .now) (a .live .now) (a .row .now) (start .pre .4) (start .pre .5)
+    (depth .result) (depth .ensures) (omega arith)
+
+add-k : tie.Need-add-k
+add-k c = search needs
+
+closes-requires : tie.Need-closes-requires
+closes-requires c κs = search needs
+
+returns-2 : tie.Need-returns-2
+returns-2 c =
+    let start = c .before .before .before .before .before .before .before .before .before .before .before in
+    let a = start .args in
+    let form = indexForm (a .version) (a .w) (a .n) (a .defs .now) (a .parts .now) (a .attrs .now) (a .a) in
+    let depth = c .before .before .before .before .before .row-depth in
+    let closed = c .before .closes in
+    step-owes (a .w) form (a .levels .now) (a .live .now) (a .row .now) (start .pre .4) (start .pre .5)
+    (depth .result) (depth .ensures) (closed .result) (closed .ensures) (not-true _ (c .if2 .taken))
+
+level-at-requires : tie.Need-level-at-requires
+level-at-requires c κs = search needs
+
+row-passes-requires : tie.Need-row-passes-requires
+row-passes-requires c κs = search needs
+
+returns-3 : tie.Need-returns-3
+returns-3 c =
+    let start = c .before .before .before .before .before .before .before .before .before .before .before .before .before .before .before in
+    let a = start .args in
+    let form = indexForm (a .version) (a .w) (a .n) (a .defs .now) (a .parts .now) (a .attrs .now) (a .a) in
+    let depth = c .before .before .before .before .before .before .before .before .before .row-depth in
+    let closed = c .before .before .before .before .before .closes in
+    let level = c .before .before .level-at in
+    let passed = c .before .row-passes in
+    step-not (a .w) form (a .levels .now) (a .live .now) (a .row .now) (start .pre .4) (start .pre .5)
+    (depth .result) (depth .ensures) (closed .result) (closed .ensures) (level .result) (level .ensures) (passed .result) (passed .ensures)
+    (not-true _ (c .if3 .taken))
+
+take-row-requires : tie.Need-take-row-requires
+take-row-requires c κs = search needs
+
+add-live : tie.Need-add-live
+add-live c = search needs
+
+returns-4 : tie.Need-returns-4
+returns-4 c =
+    let start = c .before .before .before .before .before .before .before .before .before .before .before .before .before .before .before .before .before in
+    let a = start .args in
+    let form = indexForm (a .version) (a .w) (a .n) (a .defs .now) (a .parts .now) (a .attrs .now) (a .a) in
+    let depth = c .before .before .before .before .before .before .before .before .before .before .before .row-depth in
+    let closed = c .before .before .before .before .before .before .before .closes in
+    let level = c .before .before .before .before .level-at in
+    let passed = c .before .before .before .row-passes in
+    let opened = c .take-row in
+    step-goes (a .w) form (a .levels .now) (a .live .now) (a .row .now) (start .pre .4) (start .pre .5)
+    (depth .result) (depth .ensures) (closed .result) (closed .ensures) (level .result) (level .ensures) (passed .result) (passed .ensures)
+    (omega (arith, c .before .before .before .before .before .before .before .before .before .if1 .left)) (omega arith) (not-false _ (c .before .before .before .before .before .before .if2 .left)) (not-false _ (c .before .before .if3 .left)) _ (opened .ensures)
+
+pub step-spec : {M : Type 1} → statement M
+step-spec =
+    tie.close
+    (tie.spec
+    row-depth-requires
+    cast-d
+    returns
+    add-k
+    closes-requires
+    returns-2
+    level-at-requires
+    row-passes-requires
+    returns-3
+    take-row-requires
+    add-live
+    returns-4)

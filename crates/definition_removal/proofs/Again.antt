@@ -38,7 +38,9 @@ module _ (g : Bytes → Bytes) (size : ℕ) (body : Bytes) (count : ℕ) where
   record-left i h =
       let e : count - i ≡ suc (count - (i + 1)) = omega arith in
       let z : size * i + size ≡ size * (i + 1) = omega (arith, mul-suc size i, ap (λ (k : ℕ). size * k) (add-one i)) in
-      ap (λ (k : ℕ). eachRecord g size k (drop (size * i) body)) e ∙ ap (λ (l : Bytes). g (take size (drop (size * i) body)) ++ eachRecord g size (count - (i + 1)) l) (drop-drop size (size * i) body ∙ ap (λ (k : ℕ). drop k body) z)
+      ap (λ (k : ℕ). eachRecord g size k (drop (size * i) body)) e
+      ∙ ap (λ (l : Bytes). g (take size (drop (size * i) body)) ++ eachRecord g size (count - (i + 1)) l)
+      (drop-drop size (size * i) body ∙ ap (λ (k : ℕ). drop k body) z)
 
 module _ (g : Bytes → Bytes) (size : ℕ) (body : Bytes) (count : ℕ) {out₀ : Bytes} {at₀ : ℕ} where
   pub going-start : Going g size body count out₀ at₀ out₀ at₀ 0
@@ -49,7 +51,9 @@ module _ (g : Bytes → Bytes) (size : ℕ) (body : Bytes) (count : ℕ) {out₀
         → Going g size body count out₀ at₀ out′ at′ (i + 1)
     going-on rec h e l k =
         record {
-          goes = λ r o m. s .goes r o (laid-as (record-left g size body count i h ∙ ap (λ (x : Bytes). g x ++ eachRecord g size (count - (i + 1)) (drop (size * (i + 1)) body)) (sym e)) (laid-then l m));
+          goes = λ r o m. s .goes r o
+              (laid-as (record-left g size body count i h ∙ ap (λ (x : Bytes). g x ++ eachRecord g size (count - (i + 1)) (drop (size * (i + 1)) body)) (sym e))
+              (laid-then l m));
           small = omega (arith, s .small, l .next);
           inside = omega arith;
           long = ap length (l .stored) ∙ length-sets out at (g rec) ∙ s .long;
@@ -63,7 +67,12 @@ pub records-short : (g : Bytes → Bytes) (size : ℕ) → ((rec : Bytes) → le
 unfolding eachRecord
 records-short g size h zero body = omega arith
 records-short g size h (suc count) body =
-    omega (arith, length-append (g (take size body)) (eachRecord g size count (drop size body)), h (take size body) (omega (arith, length-take size body)), records-short g size h count (drop size body))
+    omega (
+      arith,
+      length-append (g (take size body)) (eachRecord g size count (drop size body)),
+      h (take size body) (omega (arith, length-take size body)),
+      records-short g size h count (drop size body),
+    )
 
 -- ---- the records of a list
 module _ {A : Type 0} (f : A → Bytes) (size : ℕ) (sized : (x : A) → length (f x) ≡ size) where

@@ -68,7 +68,10 @@ module _ (form : Form) (once : Distinct (map definitionName form)) (i : ℕ) (h 
   deeper-not : (d : ℕ) (owner : Bytes) (f : Forest Row) → any (isRoot i) (flatten (suc d) (indexed form owner f)) ≡ false
   deeper-not d owner bare = refl
   deeper-not d owner (tree r b t) =
-      ap (λ (x : Bool). (x && (eqb (rowCode (r .sort)) 1 && eqb (rowIndex form owner r) i)) || any (isRoot i) (flatten (suc (suc d)) (indexed form (r .name) b) ++ flatten (suc d) (indexed form owner t))) (ne-eqb (suc d) 0 (λ e. omega arith))
+      ap
+      (λ (x : Bool). (x && (eqb (rowCode (r .sort)) 1 && eqb (rowIndex form owner r) i))
+      || any (isRoot i) (flatten (suc (suc d)) (indexed form (r .name) b) ++ flatten (suc d) (indexed form owner t)))
+      (ne-eqb (suc d) 0 (λ e. omega arith))
       ∙ any-append (isRoot i) (flatten (suc (suc d)) (indexed form (r .name) b)) (flatten (suc d) (indexed form owner t))
       ∙ ap₂ (λ (x y : Bool). x || y) (deeper-not (suc d) (r .name) b) (deeper-not d owner t)
 
@@ -80,7 +83,8 @@ module _ (form : Form) (once : Distinct (map definitionName form)) (i : ℕ) (h 
       by attribute q = rw q refl
       by text q = rw q refl
 
-  roots-have : (version : ℕ) (owner : Bytes) (f : Forest Row) → EveryRow (λ r below. fitsRow version form r below ≡ true) f → any (isRoot i) (flatten 0 (indexed form owner f)) ≡ any (elementNamed n) (heads f)
+  roots-have : (version : ℕ) (owner : Bytes) (f : Forest Row) → EveryRow (λ r below. fitsRow version form r below ≡ true) f
+      → any (isRoot i) (flatten 0 (indexed form owner f)) ≡ any (elementNamed n) (heads f)
   roots-have version owner bare e = refl
   roots-have version owner (tree r b t) (x, y, z) =
       ap₂ (λ (u v : Bool). u || v) (root-same version owner r (heads b) x)

@@ -87,7 +87,11 @@ module _ (definition from less : ℕ) where
   unfolding keptRow movedRow
   kept-moved v x h =
       ap₂ (λ (k : ℕ) (w : Bytes). record { depth = x .depth; row = record { sort = x .row .sort; index = k; serial = x .row .serial; value = w } })
-      (ap₂ (λ (a b : ℕ). elim (eqb (x .row .sort) 1) as (λ z. ℕ) [ true ↦ a | false ↦ elim (eqb (x .row .sort) 2) as (λ z. ℕ) [ true ↦ b | false ↦ x .row .index ] ]) (shifted-low (x .row .index) definition 1) (shifted-low (x .row .index) from less))
+      (ap₂ (λ (a b : ℕ). elim (eqb (x .row .sort) 1) as (λ z. ℕ) [
+        | true ↦ a
+        | false ↦ elim (eqb (x .row .sort) 2) as (λ z. ℕ) [ true ↦ b | false ↦ x .row .index ]
+      ])
+      (shifted-low (x .row .index) definition 1) (shifted-low (x .row .index) from less))
       (ap (λ (b : Bool). elim b as (λ z. Bytes) [ true ↦ v | false ↦ x .row .value ]) (ne-eqb (x .row .serial) 0 (λ q. omega arith)))
 
   pub kept-rows : (v : Bytes) (xs : List (Deep FlatRow)) → Every Old xs → map (keptRow p v) xs ≡ map (movedRow (lowered definition 1) (lowered from less)) xs

@@ -129,7 +129,9 @@ above-own i o (x ∷ xs) h = ap₂ (λ (b : Bool) (k : ℕ). elim b as (λ z. �
 above-all : (i o : ℕ) (ds : Form) → i ≤ o → attributesOf i (allAttributes o ds) ≡ 0
 unfolding attributesOf
 above-all i o [] h = refl
-above-all i o (d ∷ ds) h = below-append i (ownAttributes o (d .attributes)) (allAttributes (suc o) ds) ∙ ap₂ (λ (x y : ℕ). x + y) (above-own i o (d .attributes) h) (above-all i (suc o) ds (omega arith))
+above-all i o (d ∷ ds) h =
+    below-append i (ownAttributes o (d .attributes)) (allAttributes (suc o) ds)
+    ∙ ap₂ (λ (x y : ℕ). x + y) (above-own i o (d .attributes) h) (above-all i (suc o) ds (omega arith))
 
 owned-count : (i o : ℕ) (ds : Form) → attributesOf (o + i) (allAttributes o ds) ≡ ownedBefore i ds
 unfolding ownedBefore attributesOf
@@ -186,7 +188,9 @@ attribute-lowered o m (suc i) (d ∷ form) h k = by (same o (d .name)) refl (att
         rw (e, attributeIndex) (ap (λ (x : ℕ). n + x) f ∙ lowered-past n b (b - a) (attributeIndex o m form) (omega arith) ∙ ap (λ (x : ℕ). lowered (n + b) x (n + attributeIndex o m form)) z)
 
 pub attributes-lowered : (o m : Bytes) (i : ℕ) (form : Form) → i < length form → (o ≡ nameAtIndex i form → ⊥)
-    → attributeIndex o m (without i form) ≡ lowered (attributesOf (suc i) (allAttributes 0 form)) (attributesOf (suc i) (allAttributes 0 form) - attributesOf i (allAttributes 0 form)) (attributeIndex o m form)
+    → attributeIndex o m (without i form)
+    ≡ lowered (attributesOf (suc i) (allAttributes 0 form)) (attributesOf (suc i) (allAttributes 0 form) - attributesOf i (allAttributes 0 form))
+    (attributeIndex o m form)
 attributes-lowered o m i form h k =
     attribute-lowered o m i form h k ∙ ap₂ (λ (b a : ℕ). lowered b (b - a) (attributeIndex o m form)) (sym (attributes-count (suc i) form)) (sym (attributes-count i form))
 
@@ -210,7 +214,9 @@ all-fall i o (d ∷ ds) h =
     map-append (movedAttribute (lowered (suc i) 1)) (ownAttributes (suc o) (d .attributes)) (allAttributes (suc (suc o)) ds)
     ∙ ap₂ (λ (x y : List FlatAttribute). x ++ y) (own-falls i o (d .attributes) h) (all-fall i (suc o) ds (omega arith))
 
-owners-fall : (i o : ℕ) (ds : Form) → i < length ds → allAttributes o (without i ds) ≡ map (movedAttribute (lowered (suc (o + i)) 1)) (cutOut (ownedBefore i ds) (ownedBefore (suc i) ds - ownedBefore i ds) (allAttributes o ds))
+owners-fall : (i o : ℕ) (ds : Form) → i < length ds
+    → allAttributes o (without i ds)
+    ≡ map (movedAttribute (lowered (suc (o + i)) 1)) (cutOut (ownedBefore i ds) (ownedBefore (suc i) ds - ownedBefore i ds) (allAttributes o ds))
 unfolding ownedBefore
 owners-fall i o [] h = absurd (omega arith)
 owners-fall zero o (d ∷ ds) h =
@@ -226,13 +232,16 @@ owners-fall (suc i) o (d ∷ ds) h =
     let m : FlatAttribute → FlatAttribute = movedAttribute (lowered (suc (o + suc i)) 1) in
     let e : suc (suc o + i) ≡ suc (o + suc i) = omega arith in
     let z : b - a ≡ n + b - (n + a) = omega arith in
-    ap₂ (λ (x y : List FlatAttribute). x ++ y) (sym (own-stays (o + suc i) o (d .attributes) (omega arith))) (owners-fall i (suc o) ds (omega arith) ∙ ap (λ (k : ℕ). map (movedAttribute (lowered k 1)) (cutOut a (b - a) (allAttributes (suc o) ds))) e)
+    ap₂ (λ (x y : List FlatAttribute). x ++ y) (sym (own-stays (o + suc i) o (d .attributes) (omega arith)))
+    (owners-fall i (suc o) ds (omega arith) ∙ ap (λ (k : ℕ). map (movedAttribute (lowered k 1)) (cutOut a (b - a) (allAttributes (suc o) ds))) e)
     ∙ sym (map-append m own (cutOut a (b - a) (allAttributes (suc o) ds)))
     ∙ ap (map m)
     (sym (cut-later own (allAttributes (suc o) ds) a (b - a)) ∙ ap₂ (λ (x y : ℕ). cutOut (x + a) y (own ++ allAttributes (suc o) ds)) (length-own o (d .attributes)) z)
 
 pub attributes-cut : (i : ℕ) (ds : Form) → i < length ds
-    → allAttributes 0 (without i ds) ≡ map (movedAttribute (lowered (suc i) 1)) (cutOut (attributesOf i (allAttributes 0 ds)) (attributesOf (suc i) (allAttributes 0 ds) - attributesOf i (allAttributes 0 ds)) (allAttributes 0 ds))
+    → allAttributes 0 (without i ds)
+    ≡ map (movedAttribute (lowered (suc i) 1))
+    (cutOut (attributesOf i (allAttributes 0 ds)) (attributesOf (suc i) (allAttributes 0 ds) - attributesOf i (allAttributes 0 ds)) (allAttributes 0 ds))
 attributes-cut i ds h =
     let e : suc (0 + i) ≡ suc i = omega arith in
     owners-fall i 0 ds h

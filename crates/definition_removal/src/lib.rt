@@ -16,7 +16,8 @@ ghost use Rattle.codec.specs.Laid.{Laid};
 ghost use Rattle.layout.specs.Bodies.{Width, widthOf};
 ghost use Rattle.lookup.specs.Bodies.{bodiesOf};
 ghost use Rattle.definition_writer.specs.Bodies.{memberMoved};
-ghost use Rattle.definition_removal.specs.Bodies.{lowered, particleRecord, attributeRecord, eachRecord, isMember, isRoot, isBelow, particlesOf, attributesOf, Counted, Defined, destroyed, headerLeft};
+ghost use Rattle.definition_removal.specs.Bodies.{lowered, particleRecord, attributeRecord, eachRecord, isMember, isRoot, isBelow, particlesOf};
+ghost use Rattle.definition_removal.specs.Bodies.{attributesOf, Counted, Defined, destroyed, headerLeft};
 ghost use Rattle.definition_removal.specs.Shifting.{shifting};
 
 // ---- indices

@@ -61,7 +61,9 @@ pub good-given : (s : Store) → good s ≡ true → Given (s .docs)
 good-given s g = every-serial (λ k. 1 ≤ k) (s .docs) .1 (λ k m. good-tests s g .serials .below k m .0)
 
 pub keeping-docs : (f : Forest Row) → Given f → changed keeping f ≡ f
-keeping-docs f g = ap (λ (z : Forest Row). plant keeping ground false (eachRow (revalue 0 []) z)) (prune-none ground f) ∙ ap (λ (z : Forest Row). plant keeping ground false z) (each-same f g) ∙ plant-none ground f
+keeping-docs f g =
+    ap (λ (z : Forest Row). plant keeping ground false (eachRow (revalue 0 []) z)) (prune-none ground f)
+    ∙ ap (λ (z : Forest Row). plant keeping ground false z) (each-same f g) ∙ plant-none ground f
 
 -- the store with another form
 abbrev pub reformed : Store → Call → Store
@@ -72,5 +74,6 @@ unfolding after
 after-kept c s g e =
     let x : Given (s .docs) = good-given s g in
     let k : changed (plan c (s .version) (s .form) (lines 0 (s .docs))) (s .docs) ≡ s .docs = ap (λ (p : Plan). changed p (s .docs)) e ∙ keeping-docs (s .docs) x in
-    let n : s .next + newRows (changed (plan c (s .version) (s .form) (lines 0 (s .docs))) (s .docs)) ≡ s .next = ap (λ (z : Forest Row). s .next + newRows z) k ∙ ap (λ (z : ℕ). s .next + z) (new-none (s .docs) x) ∙ add-zero (s .next) in
+    let n : s .next + newRows (changed (plan c (s .version) (s .form) (lines 0 (s .docs))) (s .docs)) ≡ s .next =
+    ap (λ (z : Forest Row). s .next + newRows z) k ∙ ap (λ (z : ℕ). s .next + z) (new-none (s .docs) x) ∙ add-zero (s .next) in
     λ i. record { version = s .version; next = n i; form = formAfter c (s .form); docs = (ap (number (s .next)) k ∙ number-none (s .next) (s .docs) x) i }

@@ -10,7 +10,8 @@ use Rattle.rules.specs.Bytes.{Bytes}
 use Rattle.rules.specs.Model.{Members, done, el, group, names}
 use Rattle.rules.specs.Store.{Content, empty, pcdata, complex, Definition, Form, RowSort, element, attribute, text, Row, Forest, bare, tree, modelOf, members, heads}
 use Rattle.rules.specs.Preorder.{Deep, flatten}
-use Rattle.rules.specs.Layout.{FlatDefinition, FlatParticle, FlatRow, indexOf, attributeIndex, particles, contentParticles, flatDefinition, allParticles, rowCode, rowIndex, indexed, quantifierCode, groupCode, kindCode, howMany}
+use Rattle.rules.specs.Layout.{FlatDefinition, FlatParticle, FlatRow, indexOf, attributeIndex, particles, contentParticles, flatDefinition, allParticles}
+use Rattle.rules.specs.Layout.{rowCode, rowIndex, indexed, quantifierCode, groupCode, kindCode, howMany}
 use Rattle.rules.specs.Conforming.{EveryRow, isElement}
 use Rattle.rules.proofs.BooleanLaws.{Every, every-in}
 use Rattle.definition_writer.specs.Bodies.{rowMoved, movedRow, movedParticle}
@@ -22,11 +23,15 @@ map-append f (x ∷ xs) ys = ap (λ (l : List _). f x ∷ l) (map-append f xs ys
 -- g: how the definitions move, h: how the attributes do, of the names that are `Ok`
 module _ (form form′ : Form) (g : ℕ → ℕ) (Ok : Bytes → Type 0) (elements : (n : Bytes) → Ok n → indexOf n form′ ≡ g (indexOf n form)) where
   -- ---- models
-  moved-element : (d q i : ℕ) → movedParticle g (record { depth = d; row = record { sort = 0; quantifier = q; index = i } }) ≡ record { depth = d; row = record { sort = 0; quantifier = q; index = g i } }
+  moved-element : (d q i : ℕ)
+      → movedParticle g (record { depth = d; row = record { sort = 0; quantifier = q; index = i } })
+      ≡ record { depth = d; row = record { sort = 0; quantifier = q; index = g i } }
   unfolding movedParticle
   moved-element d q i = refl
 
-  moved-group : (d q i : ℕ) (c : GroupKind) → movedParticle g (record { depth = d; row = record { sort = groupCode c; quantifier = q; index = i } }) ≡ record { depth = d; row = record { sort = groupCode c; quantifier = q; index = i } }
+  moved-group : (d q i : ℕ) (c : GroupKind)
+      → movedParticle g (record { depth = d; row = record { sort = groupCode c; quantifier = q; index = i } })
+      ≡ record { depth = d; row = record { sort = groupCode c; quantifier = q; index = i } }
   unfolding movedParticle
   moved-group d q i Sequence = refl
   moved-group d q i Choice = refl
@@ -35,7 +40,8 @@ module _ (form form′ : Form) (g : ℕ → ℕ) (Ok : Bytes → Type 0) (elemen
   unfolding names
   moved-particles d done k = refl
   moved-particles d (el q n rest) k =
-      ap₂ (λ (i : ℕ) (l : List (Deep FlatParticle)). record { depth = d; row = record { sort = 0; quantifier = quantifierCode q; index = i } } ∷ l) (elements n (k n (List·Memᴰ·head refl))) (moved-particles d rest (λ m j. k m (List·Memᴰ·tail j)))
+      ap₂ (λ (i : ℕ) (l : List (Deep FlatParticle)). record { depth = d; row = record { sort = 0; quantifier = quantifierCode q; index = i } } ∷ l)
+      (elements n (k n (List·Memᴰ·head refl))) (moved-particles d rest (λ m j. k m (List·Memᴰ·tail j)))
       ∙ ap (λ (x : Deep FlatParticle). x ∷ map (movedParticle g) (flatten d (particles form rest))) (sym (moved-element d (quantifierCode q) (indexOf n form)))
   moved-particles d (group q c ms rest) k =
       ap₂ (λ (x y : List (Deep FlatParticle)). record { depth = d; row = record { sort = groupCode c; quantifier = quantifierCode q; index = howMany ms } } ∷ (x ++ y))
@@ -92,7 +98,8 @@ module _ (form form′ : Form) (g : ℕ → ℕ) (Ok : Bytes → Type 0) (elemen
     moved-index owner r e a = by (r .sort) refl
       where
         by : (s : RowSort) → r .sort ≡ s
-            → elim s [ element ↦ indexOf (r .name) form′ | attribute ↦ attributeIndex owner (r .name) form′ | text ↦ 0 ] ≡ rowMoved g h (rowCode s) (elim s [ element ↦ indexOf (r .name) form | attribute ↦ attributeIndex owner (r .name) form | text ↦ 0 ])
+            → elim s [ element ↦ indexOf (r .name) form′ | attribute ↦ attributeIndex owner (r .name) form′ | text ↦ 0 ]
+            ≡ rowMoved g h (rowCode s) (elim s [ element ↦ indexOf (r .name) form | attribute ↦ attributeIndex owner (r .name) form | text ↦ 0 ])
         by element q = elements (r .name) (e q)
         by attribute q = attributes owner (r .name) (a q)
         by text q = refl

@@ -104,7 +104,9 @@ unfolding many attributeAt
 attribute-some a [] l = absurd (omega arith)
 attribute-some a (d ∷ ds) l = by (below-or a (length (d .attributes))) (attribute-some (a - length (d .attributes)) ds)
   where
-    by : (a < length (d .attributes)) ⊎ (length (d .attributes) ≤ a) → (a - length (d .attributes) < many ds → (o : Owned) × (attributeAt (a - length (d .attributes)) ds ≡ some o)) → (o : Owned) × (attributeAt a (d ∷ ds) ≡ some o)
+    by : (a < length (d .attributes)) ⊎ (length (d .attributes) ≤ a)
+        → (a - length (d .attributes) < many ds → (o : Owned) × (attributeAt (a - length (d .attributes)) ds ≡ some o))
+        → (o : Owned) × (attributeAt a (d ∷ ds) ≡ some o)
     by (inl h) f = let (x, e) = entry-some a (d .attributes) h in (record { owner = d; attribute = x }, rw (e, attributeAt))
     by (inr h) f = let (o, e) = f (omega arith) in (o, rw (entry-none a (d .attributes) h, attributeAt) e)
 
@@ -118,9 +120,12 @@ unfolding many
 many-all o [] = refl
 many-all o (d ∷ ds) = omega (arith, length-append (ownAttributes o (d .attributes)) (allAttributes (suc o) ds), length-own o (d .attributes), many-all (suc o) ds)
 
-block-entry : (version : ℕ) (F : IndexForm) (form : Form) (i j : ℕ) (table : List Attribute) → Block version F form i j table → (a : Attribute) → List·Memᴰ a table → (k : ℕ) × Entry version F form i k a
+block-entry : (version : ℕ) (F : IndexForm) (form : Form) (i j : ℕ) (table : List Attribute) → Block version F form i j table → (a : Attribute)
+    → List·Memᴰ a table → (k : ℕ) × Entry version F form i k a
 block-entry version F form i j [] b a m = absurd (List·Memᴰ·not-nil m)
-block-entry version F form i j (c ∷ table) b a m = ⊎-elim (λ e. (j, subst (λ (z : Attribute). Entry version F form i j z) (sym e) (b .0))) (λ n. block-entry version F form i (suc j) table (b .1) a n) (List·Memᴰ·cases-cons m)
+block-entry version F form i j (c ∷ table) b a m =
+    ⊎-elim (λ e. (j, subst (λ (z : Attribute). Entry version F form i j z) (sym e) (b .0))) (λ n. block-entry version F form i (suc j) table (b .1) a n)
+    (List·Memᴰ·cases-cons m)
 
 -- what the readers of an attribute find, at the width and in the body that were read
 module _ (bs : Bytes) {n : ℕ} {attrs : Bytes} (v : n ≡ widthOf bs) (e : attrs ≡ attributesIn bs) (a : ℕ) where
@@ -154,10 +159,13 @@ module _ (bs : Bytes) (w : Whole bs) (a : ℕ) where
     entry : Entry (storeIn bs .version) (byIndex bs) (formIn bs) index a (o .attribute)
     entry =
         let l : index < length (formIn bs) = owner-below a (formIn bs) (w .good .form .names) o at in
-        let (k, e) = block-entry (storeIn bs .version) (byIndex bs) (formIn bs) index (offset index (formIn bs)) (definitionAt index (formIn bs) .attributes) (block (valueWidth (storeIn bs .version)) (formIn bs) (ok (storeIn bs) (w .good)) (byIndex bs) (w .agrees) index l) (o .attribute)
+        let (k, e) = block-entry (storeIn bs .version) (byIndex bs) (formIn bs) index (offset index (formIn bs)) (definitionAt index (formIn bs) .attributes)
+        (block (valueWidth (storeIn bs .version)) (formIn bs) (ok (storeIn bs) (w .good)) (byIndex bs) (w .agrees) index l) (o .attribute)
         (subst (λ (z : Definition). List·Memᴰ (o .attribute) (z .attributes)) (sym (owner-at a (formIn bs) (w .good .form .names) o at)) (attribute-owned a (formIn bs) o at .1)) in
         subst (λ (z : ℕ). Entry (storeIn bs .version) (byIndex bs) (formIn bs) index z (o .attribute))
-        (sym (e .found) ∙ ap (λ (z : Bytes). attributeIndex z (o .attribute .name) (formIn bs)) (known-index (formIn bs) (o .owner .name) is-known .name) ∙ own-index a (formIn bs) o (w .good .form .names) apart at) e
+        (sym (e .found) ∙ ap (λ (z : Bytes). attributeIndex z (o .attribute .name) (formIn bs)) (known-index (formIn bs) (o .owner .name) is-known .name)
+        ∙ own-index a (formIn bs) o (w .good .form .names) apart at)
+        e
 
     -- ---- of an element
     module _ {k i : ℕ} (f : Element bs k i) where
@@ -175,7 +183,9 @@ module _ (bs : Bytes) (w : Whole bs) (a : ℕ) where
 
       module _ (e : o .owner .name ≡ f .row .name) where
         -- ---- its row
-        row-here : (rows : List Row) → flat.serialOf a (map (rowWritten (formIn bs) (f .row .name)) (keep (ofSort (formIn bs) 2) rows)) ≡ serialAt 0 (map serialOf (keep (attributeNamed (o .attribute .name)) rows))
+        row-here : (rows : List Row)
+            → flat.serialOf a (map (rowWritten (formIn bs) (f .row .name)) (keep (ofSort (formIn bs) 2) rows))
+            ≡ serialAt 0 (map serialOf (keep (attributeNamed (o .attribute .name)) rows))
         unfolding keep
         row-here [] = refl
         row-here (r ∷ rows) = by (r .sort) refl (same (o .attribute .name) (r .name)) refl (row-here rows)
@@ -218,12 +228,18 @@ module _ (bs : Bytes) (w : Whole bs) (a : ℕ) where
         row-serial = ap (flat.serialOf a) (children-at bs w k i f 2) ∙ row-here (heads (f .below)) ∙ sym (ap (serialAt 0) rows-are)
 
         pub serial-is : {r : ℕ} → r ≡ flat.serialOf a (childrenAt bs 2 i) → r ≡ attributeSerial k a (storeIn bs)
-        serial-is q = q ∙ row-serial ∙ sym (ap (λ (z : Option Owned). elim z as (λ y. ℕ) [ none ↦ 0 | some o ↦ serialAt 0 (childrenOf (attributeNamed (o .attribute .name)) k (rowsOf (storeIn bs))) ]) at)
+        serial-is q = q ∙ row-serial ∙ sym (ap (λ (z : Option Owned). elim z as (λ y. ℕ) [
+          | none ↦ 0
+          | some o ↦ serialAt 0 (childrenOf (attributeNamed (o .attribute .name)) k (rowsOf (storeIn bs)))
+        ])
+            at)
 
         absent-is : {r : ℕ} → r ≡ flat.serialOf a (childrenAt bs 2 i) → isAbsent k (rowsOf (storeIn bs)) (attributeAt a (formIn bs)) ≡ eqb r 0
         absent-is {r} q =
             ap (isAbsent k (rowsOf (storeIn bs))) at ∙ ap isNone rows-are
-            ∙ counted (keep (attributeNamed (o .attribute .name)) (heads (f .below))) (λ y m. children-given (storeIn bs .next) (docsIn bs) (w .good .serials) (f .row) (f .below) (f .stands) y (keep-in (attributeNamed (o .attribute .name)) (heads (f .below)) y m))
+            ∙ counted (keep (attributeNamed (o .attribute .name)) (heads (f .below)))
+            (λ y m. children-given (storeIn bs .next) (docsIn bs) (w .good .serials) (f .row) (f .below) (f .stands) y
+            (keep-in (attributeNamed (o .attribute .name)) (heads (f .below)) y m))
             ∙ sym (ap (λ (z : ℕ). eqb z 0) (q ∙ row-serial ∙ ap (serialAt 0) rows-are))
 
   pub record Known (k : ℕ) : Type 0 where
@@ -262,19 +278,32 @@ module _ (bs : Bytes) (w : Whole bs) (a : ℕ) where
       pub known-of : Known k
       known-of = by (attributeAt a (formIn bs)) refl (findRow (elementWith k) (rowsOf (storeIn bs))) refl (both .0) (both .1)
         where
-          by : (z : Option Owned) → attributeAt a (formIn bs) ≡ z → (r : Option Row) → findRow (elementWith k) (rowsOf (storeIn bs)) ≡ r → isOther z r ≡ false → noElement k (storeIn bs) ≡ false → Known k
+          by : (z : Option Owned) → attributeAt a (formIn bs) ≡ z → (r : Option Row) → findRow (elementWith k) (rowsOf (storeIn bs)) ≡ r → isOther z r ≡ false
+              → noElement k (storeIn bs) ≡ false → Known k
           by none p r q e g = absurd (false≢true (sym e))
           by (some o) p none q e g = absurd (false≢true (sym g ∙ ap not (any-found (elementWith k) (rowsOf (storeIn bs)) ∙ ap isThere q)))
           by (some o) p (some r) q e g =
               let (b, i, s, t) = found-element k (docsIn bs) r q in
-              record { owned = o; at = p; row = r; below = b; stands = i; sort = is-element (r .sort) s; serial = t; found = q; mine = same-eq (o .owner .name) (r .name) (not-false (same (o .owner .name) (r .name)) e) }
+              record {
+                owned = o;
+                at = p;
+                row = r;
+                below = b;
+                stands = i;
+                sort = is-element (r .sort) s;
+                serial = t;
+                found = q;
+                mine = same-eq (o .owner .name) (r .name) (not-false (same (o .owner .name) (r .name)) e);
+              }
 
   -- ---- conforming after
   module _ {k : ℕ} (y : Known k) where
     shape : (d : Definition) × (lookup (y .row .name) (formIn bs) ≡ some d) × ElementRows (storeIn bs .version) d (heads (y .below))
-    shape = conforms (y .row) (heads (y .below)) (y .sort) (standing-every (λ r below. RowConforms (storeIn bs .version) (formIn bs) r below) (docsIn bs) (w .good .docs .rows) (y .row) (y .below) (y .stands))
+    shape = conforms (y .row) (heads (y .below)) (y .sort)
+        (standing-every (λ r below. RowConforms (storeIn bs .version) (formIn bs) r below) (docsIn bs) (w .good .docs .rows) (y .row) (y .below) (y .stands))
       where
-        conforms : (r : Row) (rows : List Row) → r .sort ≡ element → RowConforms (storeIn bs .version) (formIn bs) r rows → (d : Definition) × (lookup (r .name) (formIn bs) ≡ some d) × ElementRows (storeIn bs .version) d rows
+        conforms : (r : Row) (rows : List Row) → r .sort ≡ element → RowConforms (storeIn bs .version) (formIn bs) r rows
+            → (d : Definition) × (lookup (r .name) (formIn bs) ≡ some d) × ElementRows (storeIn bs .version) d rows
         conforms r rows q x = rw q at x
 
     own : y .owned .owner ≡ shape .0

@@ -32,7 +32,8 @@ unfolding strip begins
 lacks version a table [] h m = rw (m, strip)
 lacks version a table (r ∷ rows) h m = rw (h, strip) (rw m)
 
-wrong : (version : ℕ) (a : Attribute) (table : List Attribute) (r : Row) (rows : List Row) → begins (a .name) (r ∷ rows) ≡ true → allows (a .sort) (a .value) (r .value) ≡ false → strip version (a ∷ table) (r ∷ rows) ≡ none
+wrong : (version : ℕ) (a : Attribute) (table : List Attribute) (r : Row) (rows : List Row) → begins (a .name) (r ∷ rows) ≡ true
+    → allows (a .sort) (a .value) (r .value) ≡ false → strip version (a ∷ table) (r ∷ rows) ≡ none
 unfolding strip begins
 wrong version a table r rows h m = rw (h, strip) (rw m)
 
@@ -53,7 +54,8 @@ unfolding begins
 begins-same c r rows rows′ h = h
 
 -- no row of an attribute that the table does not have
-none-named : (version : ℕ) (n : Bytes) (table : List Attribute) (rows rest : List Row) → all noAttribute rest ≡ true → strip version table rows ≡ some rest → (List·Memᴰ n (map attributeName table) → ⊥) → (r : Row) → List·Memᴰ r rows → attributeNamed n r ≡ false
+none-named : (version : ℕ) (n : Bytes) (table : List Attribute) (rows rest : List Row) → all noAttribute rest ≡ true → strip version table rows ≡ some rest
+    → (List·Memᴰ n (map attributeName table) → ⊥) → (r : Row) → List·Memᴰ r rows → attributeNamed n r ≡ false
 none-named version n table rows rest p e out r m = by (attributeNamed n r) refl
   where
     by : (c : Bool) → attributeNamed n r ≡ c → c ≡ false
@@ -86,7 +88,8 @@ module _ (n : Bytes) where
   unfolding keep
   keep-no r rows e = rw (e, keep)
 
-  keep-plain : (version : ℕ) (table : List Attribute) (rows rest : List Row) → all noAttribute rest ≡ true → strip version table rows ≡ some rest → (List·Memᴰ n (map attributeName table) → ⊥) → keep stays rows ≡ rows
+  keep-plain : (version : ℕ) (table : List Attribute) (rows rest : List Row) → all noAttribute rest ≡ true → strip version table rows ≡ some rest
+      → (List·Memᴰ n (map attributeName table) → ⊥) → keep stays rows ≡ rows
   keep-plain version table rows rest p e out = keep-all stays rows (λ r m. ap not (none-named version n table rows rest p e out r m))
 
   -- the attribute itself, or a later one
@@ -96,7 +99,8 @@ module _ (n : Bytes) where
   out-of : (c : Attribute) (table : List Attribute) → (List·Memᴰ (c .name) (map attributeName table) → ⊥) → c .name ≡ n → List·Memᴰ n (map attributeName table) → ⊥
   out-of c table new e m = new (Memᴰ·cast e m)
 
-  pub strip-without : (version : ℕ) (a : Attribute) → a .name ≡ n → (table : List Attribute) (rows rest : List Row) → Distinct (map attributeName table) → all noAttribute rest ≡ true → strip version table rows ≡ some rest → List·Memᴰ a table
+  pub strip-without : (version : ℕ) (a : Attribute) → a .name ≡ n → (table : List Attribute) (rows rest : List Row) → Distinct (map attributeName table)
+      → all noAttribute rest ≡ true → strip version table rows ≡ some rest → List·Memᴰ a table
       → strip version table (keep stays rows) ≡ given (not (mustBePresent version (a .sort))) rest
   strip-without version a q [] rows rest d p e m = absurd (List·Memᴰ·not-nil m)
   strip-without version a q (c ∷ table) rows rest (new, d) p e m = by (List·Memᴰ·cases-cons m) (strip-step version c table rows rest e) (λ rows t. strip-without version a q table rows rest d p t)
@@ -107,7 +111,9 @@ module _ (n : Bytes) where
       cut : (a ≡ c) → (more : List Row) → strip version table more ≡ some rest → keep stays rows ≡ more → Goal
       cut x more t k =
           let out : List·Memᴰ n (map attributeName table) → ⊥ = out-of c table new (sym (ap attributeName x) ∙ q) in
-          let b : begins (c .name) more ≡ false = begins-off (c .name) more (λ r i. ap (λ (z : Bytes). attributeNamed z r) (sym (ap attributeName x) ∙ q) ∙ none-named version n table more rest p t out r i) in
+          let b : begins (c .name) more ≡ false =
+          begins-off (c .name) more
+          (λ r i. ap (λ (z : Bytes). attributeNamed z r) (sym (ap attributeName x) ∙ q) ∙ none-named version n table more rest p t out r i) in
           ap (strip version (c ∷ table)) k ∙ by (mustBePresent version (c .sort)) refl b ∙ ap (λ (z : Attribute). given (not (mustBePresent version (z .sort))) rest) (sym x)
         where
           by : (s : Bool) → mustBePresent version (c .sort) ≡ s → begins (c .name) more ≡ false → strip version (c ∷ table) more ≡ given (not (mustBePresent version (c .sort))) rest
@@ -176,7 +182,8 @@ module _ (n : Bytes) where
         let (a, b) = and-split (isAttribute (r .sort)) (same c (r .name)) h in
         and-both a (rw (bytes .same← (r .name) c (sym (same-eq c (r .name) b)), member))
 
-    pub strip-put : (version : ℕ) (a : Attribute) → a .name ≡ n → (table : List Attribute) (rows rest : List Row) → Distinct (map attributeName table) → all noAttribute rest ≡ true → strip version table rows ≡ some rest → List·Memᴰ a table
+    pub strip-put : (version : ℕ) (a : Attribute) → a .name ≡ n → (table : List Attribute) (rows rest : List Row) → Distinct (map attributeName table)
+        → all noAttribute rest ≡ true → strip version table rows ≡ some rest → List·Memᴰ a table
         → ((r : Row) → List·Memᴰ r rows → attributeNamed n r ≡ false)
         → strip version table (put (namesBefore n (map attributeName table)) rows) ≡ given (allows (a .sort) (a .value) (x .value)) rest
     strip-put version a q [] rows rest d p e m f = absurd (List·Memᴰ·not-nil m)
@@ -194,7 +201,8 @@ module _ (n : Bytes) where
         -- here
         this : a ≡ c → strip version table rows ≡ some rest → Goal
         this y t =
-            ap (λ (z : List Bytes). strip version (c ∷ table) (put z rows)) before ∙ ap (strip version (c ∷ table)) (put-first rows) ∙ by (allows (c .sort) (c .value) (x .value)) refl ∙ ap result (sym y)
+            ap (λ (z : List Bytes). strip version (c ∷ table) (put z rows)) before ∙ ap (strip version (c ∷ table)) (put-first rows)
+            ∙ by (allows (c .sort) (c .value) (x .value)) refl ∙ ap result (sym y)
           where
             same-name : n ≡ c .name
             same-name = sym q ∙ ap attributeName y
@@ -214,12 +222,16 @@ module _ (n : Bytes) where
         before i = rw (later-name c table a new i q, namesBefore)
 
         by : (a ≡ c) ⊎ List·Memᴰ a table → Step version c table rows rest
-            → ((rows : List Row) → strip version table rows ≡ some rest → List·Memᴰ a table → ((r : Row) → List·Memᴰ r rows → attributeNamed n r ≡ false) → strip version table (put ns rows) ≡ result a) → Goal
+            → ((rows : List Row) → strip version table rows ≡ some rest → List·Memᴰ a table → ((r : Row) → List·Memᴰ r rows → attributeNamed n r ≡ false)
+            → strip version table (put ns rows) ≡ result a)
+            → Goal
         by (inl y) (took r more g b v t) h = absurd (false≢true (sym (f r (subst (λ (z : List Row). List·Memᴰ r z) (sym g) (List·Memᴰ·head refl))) ∙ is-named c r more b (sym q ∙ ap attributeName y)))
         by (inl y) (passed b s t) h = this y t
         by (inr i) (took r more g b v t) h =
             ap₂ (λ (z : List Bytes) (l : List Row). strip version (c ∷ table) (put z l)) (before i) g
-            ∙ ap (strip version (c ∷ table)) (put-past (c .name ∷ ns) r more (test (c .name) ns r more b) ∙ ap (λ (z : List Row). r ∷ z) (put-alike (c .name) ns more (λ s j. none-named version (c .name) table more rest p t new s j)))
+            ∙ ap (strip version (c ∷ table))
+            (put-past (c .name ∷ ns) r more (test (c .name) ns r more b)
+            ∙ ap (λ (z : List Row). r ∷ z) (put-alike (c .name) ns more (λ s j. none-named version (c .name) table more rest p t new s j)))
             ∙ strip-take version c table r (put ns more) (begins-same (c .name) r more (put ns more) b) v
             ∙ h more t i (λ s j. f s (subst (λ (z : List Row). List·Memᴰ s z) (sym g) (List·Memᴰ·tail j)))
         by (inr i) (passed b s t) h =
@@ -253,7 +265,8 @@ module _ (n : Bytes) where
     unfolding keep
     keep-other r rows e = rw (e, keep)
 
-    pub strip-set : (version : ℕ) (a : Attribute) → a .name ≡ n → (table : List Attribute) (rows rest : List Row) → Distinct (map attributeName table) → all noAttribute rest ≡ true → strip version table rows ≡ some rest → List·Memᴰ a table
+    pub strip-set : (version : ℕ) (a : Attribute) → a .name ≡ n → (table : List Attribute) (rows rest : List Row) → Distinct (map attributeName table)
+        → all noAttribute rest ≡ true → strip version table rows ≡ some rest → List·Memᴰ a table
         → Distinct (map serialOf rows) → (y : Row) (ys : List Row) → keep (attributeNamed n) rows ≡ y ∷ ys → m ≡ y .serial
         → strip version table (map (revalue m v) rows) ≡ given (allows (a .sort) (a .value) v) rest
     strip-set version a q [] rows rest d p e i u y ys k l = absurd (List·Memᴰ·not-nil i)
@@ -281,11 +294,17 @@ module _ (n : Bytes) where
             fresh = subst (λ (s : List Row). Distinct (map serialOf s)) g u .0
 
             by : (w : Bool) → allows (c .sort) (c .value) v ≡ w → strip version (c ∷ table) (revalue m v r ∷ more) ≡ result c
-            by true w = strip-take version c table (revalue m v r) more (begins-revalued (c .name) r more ∙ b) (ap (allows (c .sort) (c .value)) (set-value r (sym mark)) ∙ w) ∙ t ∙ sym (ap (λ (z : Bool). given z rest) w)
-            by false w = wrong version c table (revalue m v r) more (begins-revalued (c .name) r more ∙ b) (ap (allows (c .sort) (c .value)) (set-value r (sym mark)) ∙ w) ∙ sym (ap (λ (z : Bool). given z rest) w)
+            by true w = strip-take version c table (revalue m v r) more (begins-revalued (c .name) r more ∙ b)
+                (ap (allows (c .sort) (c .value)) (set-value r (sym mark)) ∙ w)
+                ∙ t ∙ sym (ap (λ (z : Bool). given z rest) w)
+            by false w = wrong version c table (revalue m v r) more (begins-revalued (c .name) r more ∙ b)
+                (ap (allows (c .sort) (c .value)) (set-value r (sym mark)) ∙ w)
+                ∙ sym (ap (λ (z : Bool). given z rest) w)
 
         by : (a ≡ c) ⊎ List·Memᴰ a table → Step version c table rows rest
-            → ((rows : List Row) → strip version table rows ≡ some rest → List·Memᴰ a table → Distinct (map serialOf rows) → (y : Row) (ys : List Row) → keep (attributeNamed n) rows ≡ y ∷ ys → m ≡ y .serial → strip version table (map (revalue m v) rows) ≡ result a) → Goal
+            → ((rows : List Row) → strip version table rows ≡ some rest → List·Memᴰ a table → Distinct (map serialOf rows) → (y : Row) (ys : List Row)
+            → keep (attributeNamed n) rows ≡ y ∷ ys → m ≡ y .serial → strip version table (map (revalue m v) rows) ≡ result a)
+            → Goal
         by (inl z) (took r more g b w t) h = this z r more g b t
         by (inl z) (passed b s t) h =
             absurd (not-nil (sym (keep-none (attributeNamed n) rows (λ r j. none-named version n table rows rest p t (out-of c table new (sym (ap attributeName z) ∙ q)) r j)) ∙ k))

@@ -47,7 +47,8 @@ keep-of test (r ∷ rows) y m e = by (test r) refl (List·Memᴰ·cases-cons m) 
     by false q (inr j) f = rw (q, keep) (f j)
 
 -- rows planted before the first that is later
-planted-put : (p : Plan) (u x : Row) (ns : List Bytes) (n : Bytes) (is : x .sort ≡ attribute) (named : x .name ≡ n) → heads (p .filling) ≡ x ∷ [] → ((r : Row) → p .later u r ≡ not (isAttribute (r .sort) && member bytes (r .name) ns))
+planted-put : (p : Plan) (u x : Row) (ns : List Bytes) (n : Bytes) (is : x .sort ≡ attribute) (named : x .name ≡ n) → heads (p .filling) ≡ x ∷ []
+    → ((r : Row) → p .later u r ≡ not (isAttribute (r .sort) && member bytes (r .name) ns))
     → (rows : List Row) → plantRows p u true rows ≡ put n x is named ns rows
 unfolding plantRows
 planted-put p u x ns n is named one later [] = one
@@ -57,7 +58,8 @@ planted-put p u x ns n is named one later (r ∷ rows) = by (isAttribute (r .sor
     by true e h = rw (later r ∙ ap not e, plantRows) (ap (λ (z : List Row). r ∷ z) h ∙ rw (e, put))
     by false e h = rw (later r ∙ ap not e, plantRows) (ap₂ (λ (a b : List Row). a ++ (r ∷ b)) one (plant-none p u rows) ∙ rw (e, put))
 
-module _ (s : Store) (g : Good s) (r : Row) (b : Forest Row) (i : Standing (s .docs) r b) (is : r .sort ≡ element) (d : Definition) (found : lookup (r .name) (s .form) ≡ some d) (x : ElementRows (s .version) d (heads b))
+module _ (s : Store) (g : Good s) (r : Row) (b : Forest Row) (i : Standing (s .docs) r b) (is : r .sort ≡ element) (d : Definition)
+    (found : lookup (r .name) (s .form) ≡ some d) (x : ElementRows (s .version) d (heads b))
     (a : ℕ) (o : Owned) (at : attributeAt a (s .form) ≡ some o) (own : o .owner ≡ d) where
   abbrev n : Bytes
   n = o .attribute .name
@@ -69,7 +71,8 @@ module _ (s : Store) (g : Good s) (r : Row) (b : Forest Row) (i : Standing (s .d
   names = apart s g r b i is d found x
 
   stripped : strip (s .version) (d .attributes) (heads b) ≡ some (x .back)
-  stripped = strip-is (s .version) (d .attributes) (heads b) (x .back) names (content-head (d .content) (x .back) (x .content)) .1 (record { front = x .front; split = x .split; attributes = x .attributes })
+  stripped = strip-is (s .version) (d .attributes) (heads b) (x .back) names (content-head (d .content) (x .back) (x .content)) .1
+      (record { front = x .front; split = x .split; attributes = x .attributes })
 
   content : fits (d .content) (x .back) ≡ true
   content = content-is (d .content) (definition-good (valueWidth (s .version)) (s .form) (ok s g) (r .name) d found .once) (x .back) .1 (x .content)
@@ -99,7 +102,12 @@ module _ (s : Store) (g : Good s) (r : Row) (b : Forest Row) (i : Standing (s .d
       empty bare e k = k
       empty (tree y e f) h k = List·Memᴰ·not-nil (subst (λ (z : List Row). List·Memᴰ y z) h (List·Memᴰ·head refl))
 
-      by : (t : RowSort) → u .sort ≡ t → elim t as (λ z. Type 0) [ element ↦ (d : Definition) × (lookup (u .name) (s .form) ≡ some d) × ElementRows (s .version) d (heads c) | attribute ↦ heads c ≡ [] | text ↦ heads c ≡ [] ]
+      by : (t : RowSort) → u .sort ≡ t
+          → elim t as (λ z. Type 0) [
+            | element ↦ (d : Definition) × (lookup (u .name) (s .form) ≡ some d) × ElementRows (s .version) d (heads c)
+            | attribute ↦ heads c ≡ []
+            | text ↦ heads c ≡ []
+          ]
           → (u ≡ r) ⊎ Standing c r b → attributeNamed n u ≡ false
       by element e y z = rw e
       by attribute e y (inl h) = let w : false ≡ true = ap isElement (sym e ∙ ap (λ (z : Row). z .sort) h ∙ is) in absurd (false≢true w)
@@ -112,13 +120,16 @@ module _ (s : Store) (g : Good s) (r : Row) (b : Forest Row) (i : Standing (s .d
       unnumbered s g (destroyAttributeRow (r .serial) a)
       ∙ ap (λ (z : Option Owned). conforming (s .version) (s .form) (changed (dropPlan (λ o u. elementWith (r .serial) u) z) (s .docs))) at
       ∙ conforming-local (s .version) (s .form) (s .next) (s .docs) (g .serials) (fine s g) q refl refl r b i (λ v u c j z. and-not (elementWith (r .serial) v) (holds u c j z))
-      (λ u c j f h. ap₂ (λ (z : Row) (rows : List Row). fitsRow (s .version) (s .form) z rows) (same-row (s .next) (s .docs) (g .serials) q refl u c j) (children-kept (s .next) (s .docs) (g .serials) q refl u c j (λ y m. ap (λ (z : Bool). z && attributeNamed n y) (elsewhere u f)) refl) ∙ h)
+      (λ u c j f h. ap₂ (λ (z : Row) (rows : List Row). fitsRow (s .version) (s .form) z rows) (same-row (s .next) (s .docs) (g .serials) q refl u c j)
+      (children-kept (s .next) (s .docs) (g .serials) q refl u c j (λ y m. ap (λ (z : Bool). z && attributeNamed n y) (elsewhere u f)) refl)
+      ∙ h)
       ∙ ap₂ (λ (z : Row) (rows : List Row). fitsRow (s .version) (s .form) z rows) (same-row (s .next) (s .docs) (g .serials) q refl r b i)
       (children-cut q r (heads b) refl
       ∙ ap (map (revalued q)) (keep-alike (λ y. not (elementWith (r .serial) r && attributeNamed n y)) (stays n) (λ y. ap (λ (z : Bool). not (z && attributeNamed n y)) here) (heads b))
       ∙ map-same (revalued q) (keep (stays n) (heads b)) (λ z m. same-child (s .next) (s .docs) (g .serials) q refl r b i z (keep-in (stays n) (heads b) z m)))
       ∙ row-fits s g r b i is d found x (keep (stays n) (heads b))
-      ∙ by-test (keep (stays n) (heads b)) (not (mustBePresent (s .version) (o .attribute .sort))) (strip-without n (s .version) (o .attribute) refl (d .attributes) (heads b) (x .back) names plain stripped among)
+      ∙ by-test (keep (stays n) (heads b)) (not (mustBePresent (s .version) (o .attribute .sort)))
+      (strip-without n (s .version) (o .attribute) refl (d .attributes) (heads b) (x .back) names plain stripped among)
 
   -- ---- 14
   module _ (v : Bytes) where
@@ -130,16 +141,21 @@ module _ (s : Store) (g : Good s) (r : Row) (b : Forest Row) (i : Standing (s .d
 
     -- where no row stands
     p : Plan
-    p = making (elementWith (r .serial)) (λ u y. not (isAttribute (y .sort) && member bytes (y .name) (namesBefore (o .attribute .name) (map attributeName (o .owner .attributes))))) (tree (record { serial = 0; sort = attribute; name = o .attribute .name; value = v }) bare bare)
+    p = making (elementWith (r .serial))
+        (λ u y. not (isAttribute (y .sort) && member bytes (y .name) (namesBefore (o .attribute .name) (map attributeName (o .owner .attributes)))))
+        (tree (record { serial = 0; sort = attribute; name = o .attribute .name; value = v }) bare bare)
 
     added : ((y : Row) → List·Memᴰ y (heads b) → attributeNamed n y ≡ false) → conforming (s .version) (s .form) (changed p (s .docs)) ≡ allows (o .attribute .sort) (o .attribute .value) v
     unfolding p new ns fitsRow
     added absent =
         conforming-local (s .version) (s .form) (s .next) (s .docs) (g .serials) (fine s g) p refl refl r b i (λ v u c j z. refl)
-        (λ u c j f h. ap₂ (λ (z : Row) (rows : List Row). fitsRow (s .version) (s .form) z rows) (same-row (s .next) (s .docs) (g .serials) p refl u c j) (children-kept (s .next) (s .docs) (g .serials) p refl u c j (λ y m. refl) (elsewhere u f)) ∙ h)
+        (λ u c j f h. ap₂ (λ (z : Row) (rows : List Row). fitsRow (s .version) (s .form) z rows) (same-row (s .next) (s .docs) (g .serials) p refl u c j)
+        (children-kept (s .next) (s .docs) (g .serials) p refl u c j (λ y m. refl) (elsewhere u f))
+        ∙ h)
         ∙ ap₂ (λ (z : Row) (rows : List Row). fitsRow (s .version) (s .form) z rows) (same-row (s .next) (s .docs) (g .serials) p refl r b i)
         (children-left p r (heads b) (λ u m. refl)
-        ∙ ap₂ (λ (z : Row) (rows : List Row). plantRows p z (p .fills z) rows) (same-row (s .next) (s .docs) (g .serials) p refl r b i) (map-same (revalued p) (heads b) (same-child (s .next) (s .docs) (g .serials) p refl r b i))
+        ∙ ap₂ (λ (z : Row) (rows : List Row). plantRows p z (p .fills z) rows) (same-row (s .next) (s .docs) (g .serials) p refl r b i)
+        (map-same (revalued p) (heads b) (same-child (s .next) (s .docs) (g .serials) p refl r b i))
         ∙ ap (λ (c : Bool). plantRows p r c (heads b)) here
         ∙ planted-put p r new ns n refl refl refl (λ y. refl) (heads b))
         ∙ row-fits s g r b i is d found x (put n new refl refl ns (heads b))
@@ -148,10 +164,17 @@ module _ (s : Store) (g : Good s) (r : Row) (b : Forest Row) (i : Standing (s .d
         ∙ strip-put n new refl refl (s .version) (o .attribute) refl (d .attributes) (heads b) (x .back) names plain stripped among absent)
 
     -- where one stands
-    revalued-row : (y : Row) (ys : List Row) → keep (attributeNamed n) (heads b) ≡ y ∷ ys → conforming (s .version) (s .form) (changed (setting (y .serial) v) (s .docs)) ≡ allows (o .attribute .sort) (o .attribute .value) v
+    revalued-row : (y : Row) (ys : List Row) → keep (attributeNamed n) (heads b) ≡ y ∷ ys
+        → conforming (s .version) (s .form) (changed (setting (y .serial) v) (s .docs)) ≡ allows (o .attribute .sort) (o .attribute .value) v
     revalued-row y ys k =
         conforming-local (s .version) (s .form) (s .next) (s .docs) (g .serials) (fine s g) w refl refl r b i (λ v u c j z. refl)
-        (λ u c j f h. ap (fitsRow (s .version) (s .form) (revalued w u)) (below u c) ∙ mapped-row (revalued w) (λ z. refl) (λ z. refl) (s .version) (s .form) u (heads c) (λ z m e. ap (λ (t : Row). t .value) (revalued-other w z (λ l. f (ap serialOf (one-parent (s .docs) (g .serials .once) (y .serial) u r c b j i (Memᴰ·cast (sym l) (Memᴰ·map serialOf m)) (Memᴰ·map serialOf there)))))) ∙ h)
+        (λ u c j f h. ap (fitsRow (s .version) (s .form) (revalued w u)) (below u c)
+        ∙ mapped-row (revalued w) (λ z. refl) (λ z. refl) (s .version) (s .form) u (heads c)
+        (λ z m e. ap (λ (t : Row). t .value)
+        (revalued-other w z
+        (λ l. f
+        (ap serialOf (one-parent (s .docs) (g .serials .once) (y .serial) u r c b j i (Memᴰ·cast (sym l) (Memᴰ·map serialOf m)) (Memᴰ·map serialOf there))))))
+        ∙ h)
         ∙ ap (fitsRow (s .version) (s .form) (revalued w r)) (below r b)
         ∙ fits-element (s .version) (s .form) (revalued w r) (map (revalued w) (heads b)) is
         ∙ ap (λ (t : Option Definition). fitsDefinition (s .version) t (map (revalued w) (heads b))) found
@@ -175,7 +198,9 @@ module _ (s : Store) (g : Good s) (r : Row) (b : Forest Row) (i : Standing (s .d
         ∙ ap (λ (z : List ℕ). conforming (s .version) (s .form) (changed (setAt (r .serial) o v z) (s .docs))) (children-are (s .next) (s .docs) (g .serials) (attributeNamed n) r b i)
         ∙ by (keep (attributeNamed n) (heads b)) refl
       where
-        by : (l : List Row) → keep (attributeNamed n) (heads b) ≡ l → conforming (s .version) (s .form) (changed (setAt (r .serial) o v (map serialOf l)) (s .docs)) ≡ allows (o .attribute .sort) (o .attribute .value) v
+        by : (l : List Row) → keep (attributeNamed n) (heads b) ≡ l
+            → conforming (s .version) (s .form) (changed (setAt (r .serial) o v (map serialOf l)) (s .docs))
+            ≡ allows (o .attribute .sort) (o .attribute .value) v
         by [] k = added (λ y m. absent y m (attributeNamed n y) refl)
           where
             absent : (y : Row) → List·Memᴰ y (heads b) → (c : Bool) → attributeNamed n y ≡ c → c ≡ false

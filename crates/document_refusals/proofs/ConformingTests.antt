@@ -41,7 +41,8 @@ module _ (p : Plan) (q : Row → List Row → Bool) (r : Row) (b : Forest Row) w
       Here = q (revalued p r) (childrenAfter p r (heads b)) ≡ true
 
       -- what stands where row s is not taken
-      parts : (d : Bool) → everyRow q (tree (revalued p s) (under p s c) (below p u d v t)) ≡ true → (q (revalued p s) (heads (under p s c)) ≡ true) × (everyRow q (under p s c) ≡ true) × (everyRow q (below p u d v t) ≡ true)
+      parts : (d : Bool) → everyRow q (tree (revalued p s) (under p s c) (below p u d v t)) ≡ true
+          → (q (revalued p s) (heads (under p s c)) ≡ true) × (everyRow q (under p s c) ≡ true) × (everyRow q (below p u d v t) ≡ true)
       parts d g =
           let (x, y) = and-split (q (revalued p s) (heads (under p s c))) (everyRow q (under p s c) && everyRow q (below p u d v t)) g in
           let (z, w) = and-split (everyRow q (under p s c)) (everyRow q (below p u d v t)) y in
@@ -73,17 +74,21 @@ same-truth false true f g = g refl
 same-truth false false f g = refl
 
 -- a plan that puts nothing beside the documents, and below rows other than r leaves what fits
-pub conforming-local : (version : ℕ) (form : Form) (next : ℕ) (docs : Forest Row) → GoodSerials next docs → conforming version form docs ≡ true → (p : Plan) → p .fills ground ≡ false → everyRow (λ s below. fitsRow version form s below) (p .filling) ≡ true
+pub conforming-local : (version : ℕ) (form : Form) (next : ℕ) (docs : Forest Row) → GoodSerials next docs → conforming version form docs ≡ true → (p : Plan)
+    → p .fills ground ≡ false → everyRow (λ s below. fitsRow version form s below) (p .filling) ≡ true
     → (r : Row) (b : Forest Row) → Standing docs r b → Clear p docs r b
-    → ((s : Row) (c : Forest Row) → Standing docs s c → (s .serial ≡ r .serial → ⊥) → fitsRow version form s (heads c) ≡ true → fitsRow version form (revalued p s) (childrenAfter p s (heads c)) ≡ true)
+    → ((s : Row) (c : Forest Row) → Standing docs s c → (s .serial ≡ r .serial → ⊥) → fitsRow version form s (heads c) ≡ true
+    → fitsRow version form (revalued p s) (childrenAfter p s (heads c)) ≡ true)
     → conforming version form (changed p docs) ≡ fitsRow version form (revalued p r) (childrenAfter p r (heads b))
 unfolding conforming
 conforming-local version form next docs serials ok p none new r b i clear others =
     same-truth (conforming version form (changed p docs)) (fitsRow version form (revalued p r) (childrenAfter p r (heads b)))
-    (λ e. every-at p (λ s below. fitsRow version form s below) r b ground (p .fills ground) ground docs i clear (and-split (all (λ (s : Row). isElement (s .sort)) (heads (changed p docs))) (everyRow (λ s below. fitsRow version form s below) (changed p docs)) e .1))
+    (λ e. every-at p (λ s below. fitsRow version form s below) r b ground (p .fills ground) ground docs i clear
+    (and-split (all (λ (s : Row). isElement (s .sort)) (heads (changed p docs))) (everyRow (λ s below. fitsRow version form s below) (changed p docs)) e .1))
     (λ e. conforming-changed version form form p docs (λ h. absurd (false≢true (sym none ∙ h))) new (λ s c j h. by s c j h (eqb (s .serial) (r .serial)) refl e) ok)
   where
-    by : (s : Row) (c : Forest Row) → Standing docs s c → fitsRow version form s (heads c) ≡ true → (x : Bool) → eqb (s .serial) (r .serial) ≡ x → fitsRow version form (revalued p r) (childrenAfter p r (heads b)) ≡ true → fitsRow version form (revalued p s) (childrenAfter p s (heads c)) ≡ true
+    by : (s : Row) (c : Forest Row) → Standing docs s c → fitsRow version form s (heads c) ≡ true → (x : Bool) → eqb (s .serial) (r .serial) ≡ x
+        → fitsRow version form (revalued p r) (childrenAfter p r (heads b)) ≡ true → fitsRow version form (revalued p s) (childrenAfter p s (heads c)) ≡ true
     by s c j h true g e =
         let (u, v) = one-row next docs serials s r c b j i (eqb-eq (s .serial) (r .serial) g) in
         ap₂ (λ (w : Row) (o : Forest Row). fitsRow version form (revalued p w) (childrenAfter p w (heads o))) u v ∙ e

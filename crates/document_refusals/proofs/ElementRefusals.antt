@@ -29,7 +29,8 @@ use Rattle.store_check.proofs.AttributeBlocks.{below-or}
 use Rattle.store_check.proofs.IndexLaws.{name-of}
 use Rattle.store_writer.specs.Stores.{storeIn}
 use Rattle.document_refusals.specs.Finding.{ElementAt, ParentAt, childrenAt, modelAt, kindAt, fitsAt, hasPlace, serialIn, word, Gives}
-use Rattle.document_refusals.proofs.StoreFacts.{formIn, docsIn, byIndex, Whole, Element, NoElement, element-absent, Parent, parent-there, parent-absent, defined, elements-at, texts-at, serials-at}
+use Rattle.document_refusals.proofs.StoreFacts.{formIn, docsIn, byIndex, Whole, Element, NoElement, element-absent, Parent, parent-there, parent-absent}
+use Rattle.document_refusals.proofs.StoreFacts.{defined, elements-at, texts-at, serials-at}
 use Rattle.document_refusals.proofs.ElementTests.{putAt}
 use Rattle.document_refusals.proofs.ElementsAfter.{ok, add-conforms, destroy-conforms, root-conforms}
 use Rattle.document_refusals.proofs.IndexWords.{AllPlain, Named, word-less, word-more, named-runs}
@@ -94,11 +95,14 @@ module _ (bs : Bytes) (w : Whole bs) where
 
     pub more-fits : (j n : ℕ) → n < length (formIn bs) → j ≤ length kids → fitsAt bs i (suc j) n 0 ≡ accepts bytes (members d) (putAt j (nameAtIndex n (formIn bs)) (map nameOf kids))
     unfolding fitsAt
-    more-fits j n l m = ap (λ (z : List FlatRow). runs (modelAt bs i) 0 (word (suc j) n 0 z)) (elements-at bs w k i e) ∙ in-model (word-more (formIn bs) (e .row .name) n (nameAtIndex n (formIn bs)) (name-of (formIn bs) n l) l j kids m plain)
+    more-fits j n l m =
+        ap (λ (z : List FlatRow). runs (modelAt bs i) 0 (word (suc j) n 0 z)) (elements-at bs w k i e)
+        ∙ in-model (word-more (formIn bs) (e .row .name) n (nameAtIndex n (formIn bs)) (name-of (formIn bs) n l) l j kids m plain)
 
     -- ---- how many there are
     kids-of : childrenOf isElementRow k (rowsOf (storeIn bs)) ≡ map serialOf kids
-    kids-of = ap (λ (z : ℕ). childrenOf isElementRow z (rowsOf (storeIn bs))) (sym (e .serial)) ∙ children-are (storeIn bs .next) (docsIn bs) (w .good .serials) isElementRow (e .row) (e .below) (e .stands)
+    kids-of = ap (λ (z : ℕ). childrenOf isElementRow z (rowsOf (storeIn bs))) (sym (e .serial))
+        ∙ children-are (storeIn bs .next) (docsIn bs) (w .good .serials) isElementRow (e .row) (e .below) (e .stands)
 
     serials : map serialIn (childrenAt bs 1 i) ≡ map serialOf kids
     serials = serials-at bs w k i e 1 isElementRow (elements-at bs w k i e) ∙ kids-of
@@ -177,7 +181,9 @@ module _ (bs : Bytes) (w : Whole bs) where
       module _ {i : ℕ} (f : Element bs k i) {a : Bool} (p : a ≡ hasPlace bs i j) where
         pub add-8 : not a ≡ true → Gives 8 (conditions (addElement k j n t) (storeIn bs))
         unfolding conditions
-        add-8 q = gives-next (early .0) (gives-next (early .1) (gives-next (f .there) (gives-hit (over (ltb (length (childrenOf isElementRow k (rowsOf (storeIn bs)))) j) (ap not (sym (p ∙ place-is f j)) ∙ q)))))
+        add-8 q = gives-next (early .0)
+            (gives-next (early .1)
+            (gives-next (f .there) (gives-hit (over (ltb (length (childrenOf isElementRow k (rowsOf (storeIn bs)))) j) (ap not (sym (p ∙ place-is f j)) ∙ q)))))
           where
             over : (c : Bool) → not (not c) ≡ true → c ≡ true
             over true e = refl
@@ -192,7 +198,9 @@ module _ (bs : Bytes) (w : Whole bs) where
               under false e = refl
 
           few : j ≤ length (kids f)
-          few = ⊎-elim (λ h. absurd (false≢true (sym within ∙ lt-ltb (length (childrenOf isElementRow k (rowsOf (storeIn bs)))) j h))) (λ h. omega (arith, ap (λ (z : List ℕ). length z) (kids-of f), length-map (kids f) serialOf)) (below-or (length (childrenOf isElementRow k (rowsOf (storeIn bs)))) j)
+          few = ⊎-elim (λ h. absurd (false≢true (sym within ∙ lt-ltb (length (childrenOf isElementRow k (rowsOf (storeIn bs)))) j h)))
+              (λ h. omega (arith, ap (λ (z : List ℕ). length z) (kids-of f), length-map (kids f) serialOf))
+              (below-or (length (childrenOf isElementRow k (rowsOf (storeIn bs)))) j)
 
           after-added : conforming (storeIn bs .version) (formIn bs) (after (addElement k j n t) (storeIn bs) .docs) ≡ (isComplex (d f .content) && fitsAt bs i (suc j) n 0)
           after-added =

@@ -5,7 +5,8 @@ use mathlib.Core.Path.{_≡_, refl, sym, ap, ap₂, _∙_, subst}
 use mathlib.Core.Logic.{_⊎_, inl, inr, ⊎-elim}
 use mathlib.Core.Bool.{Bool, true, false, _&&_, not, false≢true}
 use mathlib.Core.Option.{some}
-use mathlib.Core.List.{List, [], _∷_, _++_, map, append-nil, map-append, List·Memᴰ, List·Memᴰ·head, List·Memᴰ·tail, List·Memᴰ·not-nil, List·Memᴰ·cases-cons, Memᴰ·cast, Memᴰ·map, Memᴰ·of-map, Memᴰ·append-left, Memᴰ·append-right, List·Memᴰ·append-cases}
+use mathlib.Core.List.{List, [], _∷_, _++_, map, append-nil, map-append, List·Memᴰ, List·Memᴰ·head, List·Memᴰ·tail, List·Memᴰ·not-nil, List·Memᴰ·cases-cons}
+use mathlib.Core.List.{Memᴰ·cast, Memᴰ·map, Memᴰ·of-map, Memᴰ·append-left, Memᴰ·append-right, List·Memᴰ·append-cases}
 use lib.Dec.{eqb}
 use lib.ListN.{length}
 use Rattle.rules.specs.Bytes.{bytes, numbers, all}
@@ -68,7 +69,8 @@ module _ (p : Plan) (u n : Row) (m : ℕ) (one : heads (p .filling) ≡ n ∷ []
   plant-front (r ∷ front) back f =
       plant-past r (front ++ back) (f r (List·Memᴰ·head refl)) ∙ ap (λ (z : List Row). r ∷ z) (plant-front front back (λ s i. f s (List·Memᴰ·tail i)))
 
-  plant-put : (j : ℕ) (rows : List Row) → Distinct (map serialOf rows) → ((r : Row) → List·Memᴰ r rows → r .serial ≡ 0 → ⊥) → m ≡ serialAt j (map serialOf rows) → j ≤ length rows → plantRows p u true rows ≡ putAt j n rows
+  plant-put : (j : ℕ) (rows : List Row) → Distinct (map serialOf rows) → ((r : Row) → List·Memᴰ r rows → r .serial ≡ 0 → ⊥) → m ≡ serialAt j (map serialOf rows)
+      → j ≤ length rows → plantRows p u true rows ≡ putAt j n rows
   plant-put zero [] d z e l = plant-nil
   plant-put (suc j) [] d z e l = absurd (omega arith)
   plant-put zero (r ∷ rows) d z e l = plant-this r rows (sym e)
@@ -136,7 +138,8 @@ module _ {version : ℕ} (d : Definition) (apart : Distinct (map attributeName (
         last back q e =
             ap (plantRows p u true) (q ∙ sym (append-nil back))
             ∙ plant-front p u n m one later back []
-            (λ r i g. given r (in-back r (subst (λ (z : List Row). List·Memᴰ r z) (sym q) i)) (g ∙ at ∙ ap (λ (z : List Row). serialAt j (map serialOf z)) (keep-elements ∙ ap (keep isElementRow) q ∙ e) ∙ none-at j))
+            (λ r i g. given r (in-back r (subst (λ (z : List Row). List·Memᴰ r z) (sym q) i))
+            (g ∙ at ∙ ap (λ (z : List Row). serialAt j (map serialOf z)) (keep-elements ∙ ap (keep isElementRow) q ∙ e) ∙ none-at j))
             ∙ ap (λ (z : List Row). back ++ z) (plant-nil p u n m one later)
           where
             none-at : (i : ℕ) → serialAt i [] ≡ 0
@@ -155,13 +158,19 @@ module _ {version : ℕ} (d : Definition) (apart : Distinct (map attributeName (
             ap (fitsDefinition version (some d)) (planted ∙ ap (λ (z : List Row). x .front ++ z) (last [] e refl))
             ∙ refit (n ∷ []) head-plain ∙ ap (λ (c : Content). fits c (n ∷ [])) q
         by pcdata q (r, e, t) =
-            ap (fitsDefinition version (some d)) (planted ∙ ap (λ (z : List Row). x .front ++ z) (last (r ∷ []) e (keep-none isElementRow (r ∷ []) (λ s i. ⊎-elim (λ g. ap (λ (z : Row). isElement (z .sort)) g ∙ ap isElement t) (λ k. absurd (List·Memᴰ·not-nil k)) (List·Memᴰ·cases-cons i)))))
+            ap (fitsDefinition version (some d))
+            (planted
+            ∙ ap (λ (z : List Row). x .front ++ z)
+            (last (r ∷ []) e
+            (keep-none isElementRow (r ∷ [])
+            (λ s i. ⊎-elim (λ g. ap (λ (z : Row). isElement (z .sort)) g ∙ ap isElement t) (λ k. absurd (List·Memᴰ·not-nil k)) (List·Memᴰ·cases-cons i)))))
             ∙ refit (r ∷ n ∷ []) (ap isAttribute t) ∙ ap (λ (c : Content). fits c (r ∷ n ∷ [])) q ∙ ap (λ (s : RowSort). isText s && false) t
         by (complex ms) q (s, e) =
             let elements : all (λ (r : Row). isElement (r .sort)) (x .back) ≡ true = sorted-is (x .back) .1 s in
             let kept : keep isElementRow rows ≡ x .back = keep-elements ∙ keep-all isElementRow (x .back) (λ r i. ap isElement (s r i)) in
             let put : plantRows p u true (x .back) ≡ putAt j n (x .back) =
-            plant-put p u n m one later j (x .back) (distinct-right (map serialOf (x .front)) (map serialOf (x .back)) parted) (λ r i. given r (in-back r i)) (at ∙ ap (λ (z : List Row). serialAt j (map serialOf z)) kept) (subst (λ (z : List Row). j ≤ length z) kept within) in
+            plant-put p u n m one later j (x .back) (distinct-right (map serialOf (x .front)) (map serialOf (x .back)) parted) (λ r i. given r (in-back r i))
+            (at ∙ ap (λ (z : List Row). serialAt j (map serialOf z)) kept) (subst (λ (z : List Row). j ≤ length z) kept within) in
             ap (fitsDefinition version (some d)) (planted ∙ ap (λ (z : List Row). x .front ++ z) put)
             ∙ refit (putAt j n (x .back)) (head-put j (x .back) (content-head (d .content) (x .back) (x .content)))
             ∙ ap (λ (c : Content). fits c (putAt j n (x .back))) q
@@ -184,11 +193,17 @@ module _ {version : ℕ} (d : Definition) (apart : Distinct (map attributeName (
             ∙ ap (λ (z : List Row). z ++ keep stays (x .back)) (keep-all stays (x .front) (λ s j. stays-other s (not-element (s .sort) (x .attributes .sorts s j))))
 
         in-back : List·Memᴰ r (x .back)
-        in-back = ⊎-elim (λ j. absurd (false≢true (sym (not-element (r .sort) (x .attributes .sorts r j)) ∙ and-split (isElement (r .sort)) (eqb (r .serial) k) here .0))) (λ j. j) (List·Memᴰ·append-cases (x .front) (subst (λ (z : List Row). List·Memᴰ r z) (sym (x .split)) i))
+        in-back = ⊎-elim
+            (λ j. absurd (false≢true (sym (not-element (r .sort) (x .attributes .sorts r j)) ∙ and-split (isElement (r .sort)) (eqb (r .serial) k) here .0)))
+            (λ j. j) (List·Memᴰ·append-cases (x .front) (subst (λ (z : List Row). List·Memᴰ r z) (sym (x .split)) i))
 
         by : (c : Content) → d .content ≡ c → ContentRows c (x .back) → fitsDefinition version (some d) (keep stays rows) ≡ accepts bytes (members d) (map nameOf (keep stays (keep isElementRow rows)))
         by empty q e = absurd (List·Memᴰ·not-nil (subst (λ (z : List Row). List·Memᴰ r z) e in-back))
-        by pcdata q (s, e, t) = absurd (⊎-elim (λ g. false≢true (sym (ap (λ (z : Row). isElement (z .sort)) g ∙ ap isElement t) ∙ and-split (isElement (r .sort)) (eqb (r .serial) k) here .0)) (λ j. List·Memᴰ·not-nil j) (List·Memᴰ·cases-cons (subst (λ (z : List Row). List·Memᴰ r z) e in-back)))
+        by pcdata q (s, e, t) =
+            absurd
+            (⊎-elim
+            (λ g. false≢true (sym (ap (λ (z : Row). isElement (z .sort)) g ∙ ap isElement t) ∙ and-split (isElement (r .sort)) (eqb (r .serial) k) here .0))
+            (λ j. List·Memᴰ·not-nil j) (List·Memᴰ·cases-cons (subst (λ (z : List Row). List·Memᴰ r z) e in-back)))
         by (complex ms) q (s, e) =
             let kept : keep isElementRow rows ≡ x .back = keep-elements ∙ keep-all isElementRow (x .back) (λ t j. ap isElement (s t j)) in
             let sorted : Sorted element (keep stays (x .back)) = λ t j. s t (keep-in stays (x .back) t j) in

@@ -42,14 +42,16 @@ module _ (s : Store) (g : Good s) where
 
   pub fine : conforming (s .version) (s .form) (s .docs) ≡ true
   fine =
-      conforming-is (s .version) (s .form) (λ n d e. definition-good (valueWidth (s .version)) (s .form) ok n d e .once) (λ n d e. definition-good (valueWidth (s .version)) (s .form) ok n d e .attributeNames) (s .docs) .1 (g .docs)
+      conforming-is (s .version) (s .form) (λ n d e. definition-good (valueWidth (s .version)) (s .form) ok n d e .once)
+      (λ n d e. definition-good (valueWidth (s .version)) (s .form) ok n d e .attributeNames) (s .docs) .1 (g .docs)
 
   pub unnumbered : (c : Call) → conforming (s .version) (s .form) (after c s .docs) ≡ conforming (s .version) (s .form) (docsAfter c s)
   unfolding after
   unnumbered c = conforming-number (s .version) (s .form) (s .next) (docsAfter c s)
 
   -- an element row, its definition, and the rows right below it
-  module _ (r : Row) (b : Forest Row) (i : Standing (s .docs) r b) (is : r .sort ≡ element) (d : Definition) (found : lookup (r .name) (s .form) ≡ some d) (x : ElementRows (s .version) d (heads b)) where
+  module _ (r : Row) (b : Forest Row) (i : Standing (s .docs) r b) (is : r .sort ≡ element) (d : Definition) (found : lookup (r .name) (s .form) ≡ some d)
+      (x : ElementRows (s .version) d (heads b)) where
     pub apart : Distinct (map attributeName (d .attributes))
     apart = definition-good (valueWidth (s .version)) (s .form) ok (r .name) d found .attributeNames
 
@@ -62,7 +64,8 @@ module _ (s : Store) (g : Good s) where
       name = nameAtIndex n (s .form)
 
       p : Plan
-      p = making (elementWith (r .serial)) (λ u y. eqb (y .serial) (serialAt j (childrenOf isElementRow (r .serial) (lines 0 (s .docs))))) (fillDefinition (s .version) (s .form) t (nameAtIndex n (s .form)))
+      p = making (elementWith (r .serial)) (λ u y. eqb (y .serial) (serialAt j (childrenOf isElementRow (r .serial) (lines 0 (s .docs)))))
+          (fillDefinition (s .version) (s .form) t (nameAtIndex n (s .form)))
 
       height : deep (length (s .form)) (s .form) (nameAtIndex n (s .form)) ≡ true
       height = definition-deep (valueWidth (s .version)) (s .form) ok (nameAtIndex n (s .form)) (ap isThere (definition-found n (s .form) (g .form .names) l))
@@ -83,17 +86,23 @@ module _ (s : Store) (g : Good s) where
       unfolding p
       after-here =
           children-left p r (heads b) (λ u k. refl)
-          ∙ ap₂ (λ (z : Row) (rows : List Row). plantRows p z (p .fills z) rows) (same-row (s .next) (s .docs) (g .serials) p refl r b i) (map-same (revalued p) (heads b) (same-child (s .next) (s .docs) (g .serials) p refl r b i))
+          ∙ ap₂ (λ (z : Row) (rows : List Row). plantRows p z (p .fills z) rows) (same-row (s .next) (s .docs) (g .serials) p refl r b i)
+          (map-same (revalued p) (heads b) (same-child (s .next) (s .docs) (g .serials) p refl r b i))
           ∙ ap (λ (c : Bool). plantRows p r c (heads b)) fills-here
 
-      pub add-conforms : conforming (s .version) (s .form) (after (addElement (r .serial) j n t) s .docs) ≡ (isComplex (d .content) && accepts bytes (members d) (putAt j (nameAtIndex n (s .form)) (map nameOf (keep isElementRow (heads b)))))
+      pub add-conforms : conforming (s .version) (s .form) (after (addElement (r .serial) j n t) s .docs)
+          ≡ (isComplex (d .content) && accepts bytes (members d) (putAt j (nameAtIndex n (s .form)) (map nameOf (keep isElementRow (heads b)))))
       unfolding p plan
       add-conforms =
           unnumbered (addElement (r .serial) j n t)
           ∙ conforming-local (s .version) (s .form) (s .next) (s .docs) (g .serials) fine p refl
-          (filling-fits (s .version) (s .form) (λ m e q. definition-good (valueWidth (s .version)) (s .form) ok m e q .once) (λ m e q. definition-good (valueWidth (s .version)) (s .form) ok m e q .attributeNames) (λ m e q. definition-good (valueWidth (s .version)) (s .form) ok m e q .groups) t (length (s .form)) (nameAtIndex n (s .form)) height)
+          (filling-fits (s .version) (s .form) (λ m e q. definition-good (valueWidth (s .version)) (s .form) ok m e q .once)
+          (λ m e q. definition-good (valueWidth (s .version)) (s .form) ok m e q .attributeNames)
+          (λ m e q. definition-good (valueWidth (s .version)) (s .form) ok m e q .groups) t (length (s .form)) (nameAtIndex n (s .form)) height)
           r b i (λ v u c k y. refl)
-          (λ u c k f h. ap₂ (λ (z : Row) (rows : List Row). fitsRow (s .version) (s .form) z rows) (same-row (s .next) (s .docs) (g .serials) p refl u c k) (children-kept (s .next) (s .docs) (g .serials) p refl u c k (λ y o. refl) (fills-not u f)) ∙ h)
+          (λ u c k f h. ap₂ (λ (z : Row) (rows : List Row). fitsRow (s .version) (s .form) z rows) (same-row (s .next) (s .docs) (g .serials) p refl u c k)
+          (children-kept (s .next) (s .docs) (g .serials) p refl u c k (λ y o. refl) (fills-not u f))
+          ∙ h)
           ∙ ap₂ (λ (z : Row) (rows : List Row). fitsRow (s .version) (s .form) z rows) (same-row (s .next) (s .docs) (g .serials) p refl r b i) after-here
           ∙ row-fits (plantRows p r true (heads b))
           ∙ added d apart (heads b) x p r (elementRow (nameAtIndex n (s .form))) (serialAt j (childrenOf isElementRow (r .serial) (lines 0 (s .docs))))
@@ -134,21 +143,31 @@ module _ (s : Store) (g : Good s) where
           not-taken z
           (λ e. f (ap serialOf (one-parent (s .docs) (g .serials .once) k u r c b j i (Memᴰ·cast (sym e) (Memᴰ·map serialOf o)) (Memᴰ·cast (sym serial-here) (Memᴰ·map serialOf m)))))
 
-      pub destroy-conforms : conforming (s .version) (s .form) (after (destroyElement k) s .docs) ≡ accepts bytes (members d) (map nameOf (keep (λ z. not (elementWith k z)) (keep isElementRow (heads b))))
+      pub destroy-conforms : conforming (s .version) (s .form) (after (destroyElement k) s .docs)
+          ≡ accepts bytes (members d) (map nameOf (keep (λ z. not (elementWith k z)) (keep isElementRow (heads b))))
       unfolding q plan
       destroy-conforms =
           unnumbered (destroyElement k)
           ∙ conforming-local (s .version) (s .form) (s .next) (s .docs) (g .serials) fine q refl refl r b i clear
-          (λ u c j f h. ap₂ (λ (z : Row) (rows : List Row). fitsRow (s .version) (s .form) z rows) (same-row (s .next) (s .docs) (g .serials) q refl u c j) (children-kept (s .next) (s .docs) (g .serials) q refl u c j (untouched u c j f) refl) ∙ h)
-          ∙ ap₂ (λ (z : Row) (rows : List Row). fitsRow (s .version) (s .form) z rows) (same-row (s .next) (s .docs) (g .serials) q refl r b i) (children-cut q r (heads b) refl ∙ map-same (revalued q) (keep (λ z. not (elementWith k z)) (heads b)) (λ z o. same-child (s .next) (s .docs) (g .serials) q refl r b i z (keep-in (λ z. not (elementWith k z)) (heads b) z o)))
+          (λ u c j f h. ap₂ (λ (z : Row) (rows : List Row). fitsRow (s .version) (s .form) z rows) (same-row (s .next) (s .docs) (g .serials) q refl u c j)
+          (children-kept (s .next) (s .docs) (g .serials) q refl u c j (untouched u c j f) refl)
+          ∙ h)
+          ∙ ap₂ (λ (z : Row) (rows : List Row). fitsRow (s .version) (s .form) z rows) (same-row (s .next) (s .docs) (g .serials) q refl r b i)
+          (children-cut q r (heads b) refl
+          ∙ map-same (revalued q) (keep (λ z. not (elementWith k z)) (heads b))
+          (λ z o. same-child (s .next) (s .docs) (g .serials) q refl r b i z (keep-in (λ z. not (elementWith k z)) (heads b) z o)))
           ∙ row-fits (keep (λ z. not (elementWith k z)) (heads b))
           ∙ lessened d apart (heads b) x k (λ z. not (elementWith k z)) (λ z. refl) y m here
 
   -- ---- 13, of an element that is right below none
-  pub root-conforms : (k : ℕ) → ((u : Row) (c : Forest Row) → Standing (s .docs) u c → (z : Row) → List·Memᴰ z (heads c) → elementWith k z ≡ false) → conforming (s .version) (s .form) (after (destroyElement k) s .docs) ≡ true
+  pub root-conforms : (k : ℕ) → ((u : Row) (c : Forest Row) → Standing (s .docs) u c → (z : Row) → List·Memᴰ z (heads c) → elementWith k z ≡ false)
+      → conforming (s .version) (s .form) (after (destroyElement k) s .docs) ≡ true
   unfolding plan
   root-conforms k f =
       unnumbered (destroyElement k)
       ∙ conforming-changed (s .version) (s .form) (s .form) (taking (λ u z. elementWith k z)) (s .docs) (λ e. absurd (false≢true e)) refl
-      (λ u c j h. ap₂ (λ (z : Row) (rows : List Row). fitsRow (s .version) (s .form) z rows) (same-row (s .next) (s .docs) (g .serials) (taking (λ u z. elementWith k z)) refl u c j) (children-kept (s .next) (s .docs) (g .serials) (taking (λ u z. elementWith k z)) refl u c j (f u c j) refl) ∙ h)
+      (λ u c j h. ap₂ (λ (z : Row) (rows : List Row). fitsRow (s .version) (s .form) z rows)
+      (same-row (s .next) (s .docs) (g .serials) (taking (λ u z. elementWith k z)) refl u c j)
+      (children-kept (s .next) (s .docs) (g .serials) (taking (λ u z. elementWith k z)) refl u c j (f u c j) refl)
+      ∙ h)
       fine

@@ -47,7 +47,11 @@ module _ (form : Form) where
   named-nil = record { names = refl; below = λ j m. absurd (List·Memᴰ·not-nil m) }
 
   named-more : {j : ℕ} {n : Bytes} {v : List ℕ} {w : List Bytes} → nameAt j (namesOf form) ≡ n → j < length form → Named form v w → Named form (j ∷ v) (n ∷ w)
-  named-more e l x = record { names = ap₂ (λ (a : Bytes) (b : List Bytes). a ∷ b) e (x .names); below = λ k m. ⊎-elim (λ q. subst (λ (z : ℕ). z < length form) (sym q) l) (λ i. x .below k i) (List·Memᴰ·cases-cons m) }
+  named-more e l x =
+      record {
+        names = ap₂ (λ (a : Bytes) (b : List Bytes). a ∷ b) e (x .names);
+        below = λ k m. ⊎-elim (λ q. subst (λ (z : ℕ). z < length form) (sym q) l) (λ i. x .below k i) (List·Memᴰ·cases-cons m);
+      }
 
   named-as : {v v′ : List ℕ} {w w′ : List Bytes} → v′ ≡ v → w′ ≡ w → Named form v w → Named form v′ w′
   named-as {v} {v′} {w} {w′} e h x = subst (λ (a : List ℕ). Named form a w′) (sym e) (subst (λ (b : List Bytes). Named form v b) (sym h) x)
@@ -100,17 +104,20 @@ module _ (form : Form) (owner : Bytes) where
       by true e h = named-as form (word-off new k (rowWritten form owner r) (written rows) 0 (λ z. omega arith) (eqb-eq (r .serial) k e)) (rw (with true e, keep)) h
       by false e h =
           let (x, y) = row-name r (p r (List·Memᴰ·head refl)) in
-          named-as form (word-on new k (rowWritten form owner r) (written rows) 0 (λ z. omega arith) (λ z. false≢true (sym e ∙ eqb-of (r .serial) k z))) (rw (with false e, keep)) (named-more form x y h)
+          named-as form (word-on new k (rowWritten form owner r) (written rows) 0 (λ z. omega arith) (λ z. false≢true (sym e ∙ eqb-of (r .serial) k z)))
+          (rw (with false e, keep)) (named-more form x y h)
 
   -- ---- all of them
   word-all : (new : ℕ) (rows : List Row) → AllPlain form rows → Named form (word 0 new 0 (written rows)) (map nameOf rows)
   word-all new [] p = named-as form (word-none new 0) refl (named-nil form)
   word-all new (r ∷ rows) p =
       let (x, y) = row-name r (p r (List·Memᴰ·head refl)) in
-      named-as form (word-on new 0 (rowWritten form owner r) (written rows) 0 (λ z. omega arith) (p r (List·Memᴰ·head refl) .given)) refl (named-more form x y (word-all new rows (λ s i. p s (List·Memᴰ·tail i))))
+      named-as form (word-on new 0 (rowWritten form owner r) (written rows) 0 (λ z. omega arith) (p r (List·Memᴰ·head refl) .given)) refl
+      (named-more form x y (word-all new rows (λ s i. p s (List·Memᴰ·tail i))))
 
   -- ---- with a new one
-  pub word-more : (new : ℕ) (n : Bytes) → nameAt new (namesOf form) ≡ n → new < length form → (j : ℕ) (rows : List Row) → j ≤ length rows → AllPlain form rows → Named form (word (suc j) new 0 (written rows)) (putAt j n (map nameOf rows))
+  pub word-more : (new : ℕ) (n : Bytes) → nameAt new (namesOf form) ≡ n → new < length form → (j : ℕ) (rows : List Row) → j ≤ length rows → AllPlain form rows
+      → Named form (word (suc j) new 0 (written rows)) (putAt j n (map nameOf rows))
   word-more new n e l zero [] b p = named-as form (word-end new 0) refl (named-more form e l (named-nil form))
   word-more new n e l (suc j) [] b p = absurd (omega arith)
   word-more new n e l zero (r ∷ rows) b p =
@@ -120,11 +127,15 @@ module _ (form : Form) (owner : Bytes) where
   word-more new n e l (suc j) (r ∷ rows) b p =
       let (x, y) = row-name r (p r (List·Memᴰ·head refl)) in
       let q : suc (suc j) - 1 ≡ suc j = omega arith in
-      named-as form (word-on new 0 (rowWritten form owner r) (written rows) (suc (suc j)) (λ z. omega arith) (p r (List·Memᴰ·head refl) .given) ∙ ap (λ (m : ℕ). rowIndex form owner r ∷ word m new 0 (written rows)) q) refl
+      named-as form
+      (word-on new 0 (rowWritten form owner r) (written rows) (suc (suc j)) (λ z. omega arith) (p r (List·Memᴰ·head refl) .given)
+      ∙ ap (λ (m : ℕ). rowIndex form owner r ∷ word m new 0 (written rows)) q)
+      refl
       (named-more form x y (word-more new n e l j rows (omega arith) (λ s i. p s (List·Memᴰ·tail i))))
 
 -- ---- in a model
-pub named-runs : {version : ℕ} (w : ℕ) (form : Form) → wellFormed w form ≡ true → (F : IndexForm) → Agrees version F form → (i : ℕ) → i < length form → {v : List ℕ} {ns : List Bytes} → Named form v ns → runs (F .model i) 0 v ≡ accepts bytes (members (definitionAt i form)) ns
+pub named-runs : {version : ℕ} (w : ℕ) (form : Form) → wellFormed w form ≡ true → (F : IndexForm) → Agrees version F form → (i : ℕ) → i < length form
+    → {v : List ℕ} {ns : List Bytes} → Named form v ns → runs (F .model i) 0 v ≡ accepts bytes (members (definitionAt i form)) ns
 named-runs w form ok F agrees i l {v} {ns} x =
     runs-accepts (F .model i) v
     ∙ sym (accepted w form ok F agrees i l v (x .below))

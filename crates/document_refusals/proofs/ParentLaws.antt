@@ -36,7 +36,8 @@ head-above (tree r b t) (n, d) k h s c i m = by (List·Memᴰ·cases-cons h) i (
     in-t : List·Memᴰ k (map serialOf (heads t)) → List·Memᴰ k (serials t)
     in-t j = heads-in t k j
 
-    by : (k ≡ r .serial) ⊎ List·Memᴰ k (map serialOf (heads t)) → Standing (tree r b t) s c → (List·Memᴰ k (map serialOf (heads t)) → (s : Row) (c : Forest Row) → Standing t s c → List·Memᴰ k (serials c) → ⊥) → ⊥
+    by : (k ≡ r .serial) ⊎ List·Memᴰ k (map serialOf (heads t)) → Standing (tree r b t) s c
+        → (List·Memᴰ k (map serialOf (heads t)) → (s : Row) (c : Forest Row) → Standing t s c → List·Memᴰ k (serials c) → ⊥) → ⊥
     by (inl e) (inl (x, y)) f = n (Memᴰ·append-left (serials t) (Memᴰ·cast (sym e) (subst (λ (z : Forest Row). List·Memᴰ k (serials z)) (sym y) m)))
     by (inl e) (inr (inl j)) f = n (Memᴰ·append-left (serials t) (Memᴰ·cast (sym e) (below-in b s c k j m)))
     by (inl e) (inr (inr j)) f = n (Memᴰ·append-right (serials b) (Memᴰ·cast (sym e) (below-in t s c k j m)))
@@ -44,7 +45,8 @@ head-above (tree r b t) (n, d) k h s c i m = by (List·Memᴰ·cases-cons h) i (
     by (inr g) (inr (inl j)) f = distinct-apart (serials b) (serials t) d k (below-in b s c k j m) (in-t g)
     by (inr g) (inr (inr j)) f = f g s c j m
 
-pub one-parent : (f : Forest Row) → Distinct (serials f) → (k : ℕ) (u s : Row) (b c : Forest Row) → Standing f u b → Standing f s c → List·Memᴰ k (map serialOf (heads b)) → List·Memᴰ k (map serialOf (heads c)) → u ≡ s
+pub one-parent : (f : Forest Row) → Distinct (serials f) → (k : ℕ) (u s : Row) (b c : Forest Row) → Standing f u b → Standing f s c
+    → List·Memᴰ k (map serialOf (heads b)) → List·Memᴰ k (map serialOf (heads c)) → u ≡ s
 one-parent bare d k u s b c i j p q = absurd i
 one-parent (tree r a t) (n, d) k u s b c (inl (x, y)) (inl (z, w)) p q = sym x ∙ z
 one-parent (tree r a t) (n, d) k u s b c (inl (x, y)) (inr (inl j)) p q =

@@ -94,5 +94,6 @@ accepted ms new skip last p rs = runs ms last (word p new skip rs)
 pub less-as : (ms : Members ℕ) (new skip last : ℕ) (rs : List FlatRow) {p q : ℕ} → q ≡ p → accepted ms new skip last p rs ≡ accepted ms new skip last q rs
 less-as ms new skip last rs e = ap (λ (p : ℕ). accepted ms new skip last p rs) (sym e)
 
-pub step-at : {ms : Members ℕ} {last : ℕ} (skip : ℕ) {b d : Bytes} {fits : Bool} {after : ℕ} → b ≡ d → Stepped ms last (keptName skip (readRow b .row)) fits after → Stepped ms last (keptName skip (readRow d .row)) fits after
+pub step-at : {ms : Members ℕ} {last : ℕ} (skip : ℕ) {b d : Bytes} {fits : Bool} {after : ℕ} → b ≡ d
+    → Stepped ms last (keptName skip (readRow b .row)) fits after → Stepped ms last (keptName skip (readRow d .row)) fits after
 step-at {ms} {last} skip {b} {d} {fits} {after} e s = subst (λ (z : Bytes). Stepped ms last (keptName skip (readRow z .row)) fits after) e s

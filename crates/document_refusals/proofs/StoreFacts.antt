@@ -130,7 +130,8 @@ find-none test docs f = by (findRow test (lines 0 docs)) refl
     by none e = refl
     by (some r) e = let (b, i, h) = found-stands test docs r e in absurd (false≢true (sym (f r b i) ∙ h))
 
-find-some : (test : Row → Bool) (docs : Forest Row) (r : Row) (b : Forest Row) → Standing docs r b → test r ≡ true → ((s : Row) (c : Forest Row) → Standing docs s c → test s ≡ true → s ≡ r) → findRow test (lines 0 docs) ≡ some r
+find-some : (test : Row → Bool) (docs : Forest Row) (r : Row) (b : Forest Row) → Standing docs r b → test r ≡ true
+    → ((s : Row) (c : Forest Row) → Standing docs s c → test s ≡ true → s ≡ r) → findRow test (lines 0 docs) ≡ some r
 find-some test docs r b i h once = by (findRow test (lines 0 docs)) refl
   where
     by : (o : Option Row) → findRow test (lines 0 docs) ≡ o → o ≡ some r
@@ -200,7 +201,8 @@ module _ (bs : Bytes) (w : Whole bs) where
     located-element x =
         let e : elementWith (l .row .serial) (l .row) ≡ true = and-both x (eqb-of (l .row .serial) (l .row .serial) refl) in
         let once : (s : Row) (c : Forest Row) → Standing (docsIn bs) s c → elementWith (l .row .serial) s ≡ true → s ≡ l .row = λ s c j g.
-        one-row (storeIn bs .next) (docsIn bs) (w .good .serials) s (l .row) c (l .below) j (l .stands) (eqb-eq (s .serial) (l .row .serial) (and-split (isElement (s .sort)) (eqb (s .serial) (l .row .serial)) g .1)) .0 in
+        one-row (storeIn bs .next) (docsIn bs) (w .good .serials) s (l .row) c (l .below) j (l .stands)
+        (eqb-eq (s .serial) (l .row .serial) (and-split (isElement (s .sort)) (eqb (s .serial) (l .row .serial)) g .1)) .0 in
         let g : findRow (elementWith (l .row .serial)) (rowsOf (storeIn bs)) ≡ some (l .row) = find-some (elementWith (l .row .serial)) (docsIn bs) (l .row) (l .below) (l .stands) e once in
         record {
           owner = l .owner;
@@ -217,7 +219,9 @@ module _ (bs : Bytes) (w : Whole bs) where
         }
 
   -- ---- the first row that passes a test
-  module _ (p : Test) (q : Row → List Row → Bool) (same : (owner : Bytes) (r : Row) (rows : List Row) → p (rowWritten (formIn bs) owner r) (map (rowWritten (formIn bs) (r .name)) (keep (ofSort (formIn bs) 1) rows)) ≡ q r rows) where
+  module _ (p : Test) (q : Row → List Row → Bool)
+      (same : (owner : Bytes) (r : Row) (rows : List Row)
+      → p (rowWritten (formIn bs) owner r) (map (rowWritten (formIn bs) (r .name)) (keep (ofSort (formIn bs) 1) rows)) ≡ q r rows) where
     abbrev Sought : List (Deep FlatRow) → Type 0
     Sought zs = ((l : Located (formIn bs) (docsIn bs) zs) × (q (l .row) (heads (l .below)) ≡ true)) ⊎ (((r : Row) (c : Forest Row) → Standing (docsIn bs) r c → q r (heads c) ≡ false) × (zs ≡ []))
 
@@ -275,13 +279,16 @@ module _ (bs : Bytes) (w : Whole bs) where
     serials-written owner (r ∷ rows) = ap (λ (z : List ℕ). r .serial ∷ z) (serials-written owner rows)
 
     -- their serials, of a sort
-    pub serials-at : (s : ℕ) (test : Row → Bool) → childrenAt bs s i ≡ map (rowWritten (formIn bs) (e .row .name)) (keep test (heads (e .below))) → map serialIn (childrenAt bs s i) ≡ childrenOf test k (rowsOf (storeIn bs))
+    pub serials-at : (s : ℕ) (test : Row → Bool) → childrenAt bs s i ≡ map (rowWritten (formIn bs) (e .row .name)) (keep test (heads (e .below)))
+        → map serialIn (childrenAt bs s i) ≡ childrenOf test k (rowsOf (storeIn bs))
     serials-at s test q =
         ap (map serialIn) q ∙ serials-written (e .row .name) (keep test (heads (e .below)))
         ∙ sym children-in-docs
       where
         children-in-docs : childrenOf test k (rowsOf (storeIn bs)) ≡ map serialOf (keep test (heads (e .below)))
-        children-in-docs = ap (λ (z : ℕ). childrenOf test z (rowsOf (storeIn bs))) (sym (e .serial)) ∙ standing.children-are (storeIn bs .next) (docsIn bs) (w .good .serials) test (e .row) (e .below) (e .stands)
+        children-in-docs =
+            ap (λ (z : ℕ). childrenOf test z (rowsOf (storeIn bs))) (sym (e .serial))
+            ∙ standing.children-are (storeIn bs .next) (docsIn bs) (w .good .serials) test (e .row) (e .below) (e .stands)
 
   -- ---- the row right above an element
   pub record Parent (k i : ℕ) : Type 0 where
@@ -323,7 +330,13 @@ module _ (bs : Bytes) (w : Whole bs) where
         holder : (r : Row) (c : Forest Row) → Standing (docsIn bs) r c → (y : Row) → List·Memᴰ y (heads c) → isElement (r .sort) ≡ true
         holder r c j y m = by (r .sort) (standing-every (λ r below. RowConforms (storeIn bs .version) (formIn bs) r below) (docsIn bs) (w .good .docs .rows) r c j)
           where
-            by : (s : RowSort) → elim s as (λ z. Type 0) [ element ↦ (d : Definition) × (lookup (r .name) (formIn bs) ≡ some d) × ElementRows (storeIn bs .version) d (heads c) | attribute ↦ heads c ≡ [] | text ↦ heads c ≡ [] ] → isElement s ≡ true
+            by : (s : RowSort)
+                → elim s as (λ z. Type 0) [
+                  | element ↦ (d : Definition) × (lookup (r .name) (formIn bs) ≡ some d) × ElementRows (storeIn bs .version) d (heads c)
+                  | attribute ↦ heads c ≡ []
+                  | text ↦ heads c ≡ []
+                ]
+                → isElement s ≡ true
             by element x = refl
             by attribute x = absurd (List·Memᴰ·not-nil (subst (λ (z : List Row). List·Memᴰ y z) x m))
             by text x = absurd (List·Memᴰ·not-nil (subst (λ (z : List Row). List·Memᴰ y z) x m))
@@ -345,7 +358,9 @@ module _ (bs : Bytes) (w : Whole bs) where
 
   pub defined : (k i : ℕ) (e : Element bs k i) → Defined k i e
   defined k i e =
-      let (d, g, x) = conforms (e .row) (heads (e .below)) (e .sort) (standing-every (λ r below. RowConforms (storeIn bs .version) (formIn bs) r below) (docsIn bs) (w .good .docs .rows) (e .row) (e .below) (e .stands)) in
+      let (d, g, x) =
+      conforms (e .row) (heads (e .below)) (e .sort)
+      (standing-every (λ r below. RowConforms (storeIn bs .version) (formIn bs) r below) (docsIn bs) (w .good .docs .rows) (e .row) (e .below) (e .stands)) in
       let n : Indexed (formIn bs) (e .row .name) = known-index (formIn bs) (e .row .name) (ap isThere g) in
       record {
         definition = d;
@@ -356,7 +371,8 @@ module _ (bs : Bytes) (w : Whole bs) where
         at = some-same (sym (n .found) ∙ g);
       }
     where
-      conforms : (r : Row) (rows : List Row) → r .sort ≡ element → RowConforms (storeIn bs .version) (formIn bs) r rows → (d : Definition) × (lookup (r .name) (formIn bs) ≡ some d) × ElementRows (storeIn bs .version) d rows
+      conforms : (r : Row) (rows : List Row) → r .sort ≡ element → RowConforms (storeIn bs .version) (formIn bs) r rows
+          → (d : Definition) × (lookup (r .name) (formIn bs) ≡ some d) × ElementRows (storeIn bs .version) d rows
       conforms r rows q x = rw q at x
 
       row-index : (r : Row) (owner : Bytes) → r .sort ≡ element → rowIndex (formIn bs) owner r ≡ indexOf (r .name) (formIn bs)

@@ -127,7 +127,8 @@ module _ (s d : ℕ) where
   children-next [] = refl
   children-next (x ∷ xs) = by (ltb (x .depth) d) refl (eqb (x .depth) d && eqb (x .row .sort) s) refl (children-next xs)
     where
-      by : (a : Bool) → ltb (x .depth) d ≡ a → (b : Bool) → (eqb (x .depth) d && eqb (x .row .sort) s) ≡ b → children s d (next s d xs) ≡ children s d xs → children s d (next s d (x ∷ xs)) ≡ children s d (x ∷ xs)
+      by : (a : Bool) → ltb (x .depth) d ≡ a → (b : Bool) → (eqb (x .depth) d && eqb (x .row .sort) s) ≡ b → children s d (next s d xs) ≡ children s d xs
+          → children s d (next s d (x ∷ xs)) ≡ children s d (x ∷ xs)
       by true p b q h = rw (p, next, children)
       by false p true q h = rw (p, next) (rw q)
       by false p false q h = rw (p, next, children) (rw q h)
@@ -142,7 +143,8 @@ module _ (s d : ℕ) where
   children-first x xs [] e = let z : false ≡ true = cc e in absurd (false≢true z)
   children-first x xs (y ∷ ys) e = by (ltb (y .depth) d) refl (eqb (y .depth) d && eqb (y .row .sort) s) refl (children-first x xs ys)
     where
-      by : (a : Bool) → ltb (y .depth) d ≡ a → (b : Bool) → (eqb (y .depth) d && eqb (y .row .sort) s) ≡ b → (next s d ys ≡ x ∷ xs → children s d (x ∷ xs) ≡ x .row ∷ children s d xs) → children s d (x ∷ xs) ≡ x .row ∷ children s d xs
+      by : (a : Bool) → ltb (y .depth) d ≡ a → (b : Bool) → (eqb (y .depth) d && eqb (y .row .sort) s) ≡ b
+          → (next s d ys ≡ x ∷ xs → children s d (x ∷ xs) ≡ x .row ∷ children s d xs) → children s d (x ∷ xs) ≡ x .row ∷ children s d xs
       by true p b q h = let g : [] ≡ x ∷ xs = rw (p, next) at e in let z : false ≡ true = cc g in absurd (false≢true z)
       by false p true q h =
           let g : y ∷ ys ≡ x ∷ xs = rw (p, q, next) at e in

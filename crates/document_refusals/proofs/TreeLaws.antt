@@ -52,7 +52,8 @@ module _ (form : Form) where
   children-deeper : (s d e : ℕ) (owner : Bytes) (f : Forest Row) (more : List (Deep FlatRow)) → d < e → children s d (written e owner f ++ more) ≡ children s d more
   children-deeper s d e owner bare more l = refl
   children-deeper s d e owner (tree r c t) more l =
-      children-other s d (record { depth = e; row = rowWritten form owner r }) ((written (suc e) (r .name) c ++ written e owner t) ++ more) (omega arith) (ap (λ (z : Bool). z && eqb (rowCode (r .sort)) s) (ne-eqb e d (omega arith)))
+      children-other s d (record { depth = e; row = rowWritten form owner r }) ((written (suc e) (r .name) c ++ written e owner t) ++ more) (omega arith)
+      (ap (λ (z : Bool). z && eqb (rowCode (r .sort)) s) (ne-eqb e d (omega arith)))
       ∙ ap (children s d) (append-assoc (written (suc e) (r .name) c) (written e owner t) more)
       ∙ children-deeper s d (suc e) (r .name) c (written e owner t ++ more) (omega arith)
       ∙ children-deeper s d e owner t more l
@@ -61,7 +62,8 @@ module _ (form : Form) where
   abbrev pub ofSort : ℕ → Row → Bool
   ofSort s r = eqb (rowCode (r .sort)) s
 
-  pub children-tree : (s d : ℕ) (owner : Bytes) (f : Forest Row) (rest : List (Deep FlatRow)) → Ends d rest → children s d (written d owner f ++ rest) ≡ map (rowWritten form owner) (keep (ofSort s) (heads f))
+  pub children-tree : (s d : ℕ) (owner : Bytes) (f : Forest Row) (rest : List (Deep FlatRow)) → Ends d rest
+      → children s d (written d owner f ++ rest) ≡ map (rowWritten form owner) (keep (ofSort s) (heads f))
   unfolding keep
   children-tree s d owner bare rest h = children-ends s d rest h
   children-tree s d owner (tree r c t) rest h = by (ofSort s r) refl (below ∙ children-tree s d owner t rest h)
@@ -79,7 +81,8 @@ module _ (form : Form) where
 
       by : (z : Bool) → ofSort s r ≡ z → children s d ((written (suc d) (r .name) c ++ written d owner t) ++ rest) ≡ map (rowWritten form owner) (keep (ofSort s) (heads t))
           → children s d (x ∷ ((written (suc d) (r .name) c ++ written d owner t) ++ rest)) ≡ map (rowWritten form owner) (keep (ofSort s) (r ∷ heads t))
-      by true e k = children-this s d x ((written (suc d) (r .name) c ++ written d owner t) ++ rest) (omega arith) (same true e) ∙ ap (λ (z : List FlatRow). rowWritten form owner r ∷ z) k ∙ rw (e, keep)
+      by true e k = children-this s d x ((written (suc d) (r .name) c ++ written d owner t) ++ rest) (omega arith) (same true e)
+          ∙ ap (λ (z : List FlatRow). rowWritten form owner r ∷ z) k ∙ rw (e, keep)
       by false e k = children-other s d x ((written (suc d) (r .name) c ++ written d owner t) ++ rest) (omega arith) (same false e) ∙ k ∙ rw (e, keep)
 
   ends-after : (d : ℕ) (owner : Bytes) (t : Forest Row) (rest : List (Deep FlatRow)) → Ends d rest → Ends (suc d) (written d owner t ++ rest)
@@ -98,7 +101,9 @@ module _ (form : Form) where
     pub ends : Ends (suc depth) rest
 
   -- its children of a sort
-  pub located-children : {f : Forest Row} {xs : List (Deep FlatRow)} (l : Located f xs) (s : ℕ) → children s (suc (l .depth)) (flatten (suc (l .depth)) (indexed form (l .row .name) (l .below)) ++ l .rest) ≡ map (rowWritten form (l .row .name)) (keep (ofSort s) (heads (l .below)))
+  pub located-children : {f : Forest Row} {xs : List (Deep FlatRow)} (l : Located f xs) (s : ℕ)
+      → children s (suc (l .depth)) (flatten (suc (l .depth)) (indexed form (l .row .name) (l .below)) ++ l .rest)
+      ≡ map (rowWritten form (l .row .name)) (keep (ofSort s) (heads (l .below)))
   located-children l s = children-tree s (suc (l .depth)) (l .row .name) (l .below) (l .rest) (l .ends)
 
   -- ---- the first row that passes a test
@@ -143,14 +148,27 @@ module _ (form : Form) where
             (record { owner = l .owner; row = l .row; below = l .below; depth = l .depth; rest = l .rest; stands = up (l .row) (l .below) (l .stands); rows = e ∙ l .rows; ends = l .ends }, k)
 
         Goal : Type 0
-        Goal = Met (tree r c t) (seek p (x ∷ ((written (suc d) (r .name) c ++ written d owner t) ++ rest))) ⊎ (Unmet (tree r c t) × (seek p (x ∷ ((written (suc d) (r .name) c ++ written d owner t) ++ rest)) ≡ seek p rest))
+        Goal = Met (tree r c t) (seek p (x ∷ ((written (suc d) (r .name) c ++ written d owner t) ++ rest)))
+            ⊎ (Unmet (tree r c t) × (seek p (x ∷ ((written (suc d) (r .name) c ++ written d owner t) ++ rest)) ≡ seek p rest))
 
         by : (z : Bool) → q r (heads c) ≡ z
             → Met c (seek p more) ⊎ (Unmet c × (seek p more ≡ seek p (written d owner t ++ rest)))
             → Met t (seek p (written d owner t ++ rest)) ⊎ (Unmet t × (seek p (written d owner t ++ rest) ≡ seek p rest))
             → Goal
         by true e m n =
-            inl (record { owner = owner; row = r; below = c; depth = d; rest = written d owner t ++ rest; stands = inl (refl, refl); rows = ap (seek p) joined ∙ seek-this x more (test ∙ e); ends = ends-after d owner t rest h }, e)
+            inl (
+              record {
+                owner = owner;
+                row = r;
+                below = c;
+                depth = d;
+                rest = written d owner t ++ rest;
+                stands = inl (refl, refl);
+                rows = ap (seek p) joined ∙ seek-this x more (test ∙ e);
+                ends = ends-after d owner t rest h;
+              },
+              e,
+            )
         by false e (inl m) n = inl (lift c (λ s b i. inr (inl i)) (ap (seek p) joined ∙ seek-other x more (test ∙ e)) m)
         by false e (inr (m, g)) (inl n) = inl (lift t (λ s b i. inr (inr i)) (ap (seek p) joined ∙ seek-other x more (test ∙ e) ∙ g) n)
         by false e (inr (m, g)) (inr (n, k)) = inr (none, ap (seek p) joined ∙ seek-other x more (test ∙ e) ∙ g ∙ k)

@@ -77,7 +77,8 @@ abbrev pub serialOf : ℕ → List FlatRow → ℕ
 serialOf a [] = 0
 serialOf a (r ∷ rs) = elim (eqb (r .index) a) [ true ↦ r .serial | false ↦ serialOf a rs ]
 
--- The indices of children, without the one with serial `skip`. A new one is put in before child number p - 1; p 0: none.
+-- The indices of children, without the one with serial `skip`. A new
+-- one is put in before child number p - 1; p 0: none.
 unfoldable pub newName : ℕ → ℕ → List ℕ
 newName p new = elim (eqb p 1) [ true ↦ new ∷ [] | false ↦ [] ]
 
@@ -125,7 +126,8 @@ pub record ParentAt (bs : Bytes) (k r : ℕ) : Type 0 where
 unfoldable pub hasPlace : Bytes → ℕ → ℕ → Bool
 hasPlace bs i n = elim (eqb n 0) [ true ↦ true | false ↦ not (eqb (serialAt (n - 1) (map serialIn (childrenAt bs 1 i))) 0) ]
 
--- n is the number of the first condition that holds of an attribute of element k, of those on which both may be named; 0 if none does
+-- n is the number of the first condition that holds of an attribute of
+-- element k, of those on which both may be named; 0 if none does
 pub record AttributeRefused (k a : ℕ) (s : Store) (n : ℕ) : Type 0 where
   pub is : n ≡ first ((6 if unknownAttribute k a s) ∷ (7 if noElement k s) ∷ [])
 

@@ -18,7 +18,9 @@ ghost use Rattle.plans.specs.CallPlans.{attributeSerial};
 ghost use Rattle.model.specs.Members.{membersOf};
 ghost use Rattle.model.specs.Steps.{steps, finishes, runs};
 ghost use Rattle.next_children.specs.Line.{Line};
-ghost use Rattle.document_refusals.specs.Finding.{rowsFrom, Begins, ElementAt, ParentAt, AttributeRefused, RowOf, childrenAt, kindAt, modelAt, fitsAt, hasPlace, Child, children, elementRow, isThis, isParent, seek, serialIn, serialOf, newName, keptName, word, Stepped};
+ghost use Rattle.document_refusals.specs.Finding.{rowsFrom, Begins, ElementAt, ParentAt, AttributeRefused, RowOf, childrenAt, kindAt, modelAt, fitsAt};
+ghost use Rattle.document_refusals.specs.Finding.{hasPlace, Child, children, elementRow, isThis, isParent, seek, serialIn, serialOf, newName, keptName};
+ghost use Rattle.document_refusals.specs.Finding.{word, Stepped};
 
 // Whether a row is the element row with a serial.
 fn is_element(row: &[u8], element: u32) -> bool
@@ -42,7 +44,8 @@ pub fn element_at(w: usize, rows: &[u8], count: usize, element: u32) -> usize
     count
 }
 
-/// The number of the first row from i on that has a depth and a sort, before any that is less deep; `count` if there is none.
+/// The number of the first row from i on that has a depth and a sort,
+/// before any that is less deep; `count` if there is none.
 pub fn next_child(
     w: usize,
     rows: &[u8],

@@ -12,7 +12,8 @@ use Rattle.rules.specs.Bytes.{Bytes, same, bytes}
 use Rattle.rules.specs.Model.{Members, done, el, group}
 use Rattle.rules.specs.Store.{Content, empty, pcdata, complex, Attribute, Definition, Form, Forest, tree, bare}
 use Rattle.rules.specs.Preorder.{Deep, flatten}
-use Rattle.rules.specs.Layout.{FlatDefinition, FlatParticle, FlatAttribute, indexOf, indexIn, sortCode, quantifierCode, groupCode, kindCode, howMany, particles, contentParticles, flatDefinition, allParticles, ownAttributes, allAttributes}
+use Rattle.rules.specs.Layout.{FlatDefinition, FlatParticle, FlatAttribute, indexOf, indexIn, sortCode, quantifierCode, groupCode, kindCode, howMany, particles}
+use Rattle.rules.specs.Layout.{contentParticles, flatDefinition, allParticles, ownAttributes, allAttributes}
 use Rattle.rules.specs.WellFormed.{attributeName}
 use Rattle.rules.specs.Change.{definitionAt, update, withAttributes, lacking}
 use Rattle.rules.proofs.DecodeLaws.{length-own}
@@ -121,10 +122,13 @@ module _ {A : Type 0} where
       ap (λ (l : List A). xs ++ l) (append-assoc ps qs zs)
       ∙ sym (append-assoc xs ps (qs ++ zs))
       ∙ ap₂ (λ (u v : List A). u ++ v) (sym (ap (take a) w ∙ take-at (xs ++ ps) (c ∷ (qs ++ zs)) a z))
-      (sym (ap (drop (suc a)) (w ∙ sym (append-assoc (xs ++ ps) (c ∷ []) (qs ++ zs))) ∙ drop-at ((xs ++ ps) ++ c ∷ []) (qs ++ zs) (suc a) (length-append (xs ++ ps) (c ∷ []) ∙ (let y : length (xs ++ ps) + 1 ≡ suc a = omega arith in y))))
+      (sym
+      (ap (drop (suc a)) (w ∙ sym (append-assoc (xs ++ ps) (c ∷ []) (qs ++ zs)))
+      ∙ drop-at ((xs ++ ps) ++ c ∷ []) (qs ++ zs) (suc a) (length-append (xs ++ ps) (c ∷ []) ∙ (let y : length (xs ++ ps) + 1 ≡ suc a = omega arith in y))))
 
 pub attributes-added : (o : ℕ) (form : Form) (a : Attribute) → o < length form
-    → take (offset (suc o) form) (allAttributes 0 form) ++ flatAttribute o a ∷ drop (offset (suc o) form) (allAttributes 0 form) ≡ allAttributes 0 (update o (withAttributes (λ table. table ++ a ∷ [])) form)
+    → take (offset (suc o) form) (allAttributes 0 form) ++ flatAttribute o a ∷ drop (offset (suc o) form) (allAttributes 0 form)
+    ≡ allAttributes 0 (update o (withAttributes (λ table. table ++ a ∷ [])) form)
 attributes-added o form a l =
     let x : Among o 0 o form = among o 0 o form (omega arith) l in
     let own : List FlatAttribute = ownAttributes o (definitionAt o form .attributes) in

@@ -1,4 +1,5 @@
--- THE STORE AFTER CHANGES 9 AND 10, where no condition of the refusal table holds: the bodies after the plan by indices.
+-- THE STORE AFTER CHANGES 9 AND 10, where no condition of the refusal
+-- table holds: the bodies after the plan by indices.
 use Prim.Native.Nat.{ℕ, zero, suc, _+_, _<_, _≤_}
 use native.Mathlib.Omega.{arith}
 use mathlib.Core.Path.{_≡_, refl, sym, ap, ap₂, _∙_, subst}
@@ -21,7 +22,8 @@ use Rattle.rules.specs.Filling.{attributeRow}
 use Rattle.rules.specs.Lines.{elementNamed, attributeNamed}
 use Rattle.rules.specs.Passing.{good}
 use Rattle.rules.specs.Refusal.{first, conditions}
-use Rattle.rules.specs.Change.{addAttribute, destroyAttribute, definitionAt, nameAtIndex, Owned, attributeAt, update, withAttributes, lacking, dropOwned, newAttribute, formAfter, making, taking, dropPlan, plan, changed, docsAfter, after}
+use Rattle.rules.specs.Change.{addAttribute, destroyAttribute, definitionAt, nameAtIndex, Owned, attributeAt, update, withAttributes, lacking, dropOwned}
+use Rattle.rules.specs.Change.{newAttribute, formAfter, making, taking, dropPlan, plan, changed, docsAfter, after}
 use Rattle.rules.specs.Change as change
 use Rattle.rules.proofs.Words.{and-both, and-split}
 use Rattle.rules.proofs.TestLaws.{member-test}
@@ -104,7 +106,9 @@ module _ (s : Store) (g : good s ≡ true) where
 
     filled : (m : Bytes) → name ≡ m → (d : ℕ) → fill d ≡ flatten d (indexed new m (q .filling))
     filled m e d =
-        let z : attributeIndex m n new ≡ a = ap (λ (b : Bytes). attributeIndex b n new) (sym e) ∙ spot-own more o (s .form) once l n ∙ omega (arith, offset-next o (s .form), index-new n (definitionAt o (s .form) .attributes) (newAttribute n k v) fresh refl) in
+        let z : attributeIndex m n new ≡ a =
+        ap (λ (b : Bytes). attributeIndex b n new) (sym e) ∙ spot-own more o (s .form) once l n
+        ∙ omega (arith, offset-next o (s .form), index-new n (definitionAt o (s .form) .attributes) (newAttribute n k v) fresh refl) in
         λ i. filling.newAttribute d (sym z i) v ∷ []
 
     step : (sel : Bool) (w u r : Row) (b : Forest Row) → sel ≡ elementNamed name u → Owns (s .form) u r → Standing (s .docs) r b → RowFollows (s .form) new q p v fill sel w u r
@@ -124,8 +128,10 @@ module _ (s : Store) (g : good s ≡ true) where
     add-attribute-does : documentsWalk p v fill (indexed (s .form) [] (s .docs)) ≡ flatten 0 (indexed (formAfter (addAttribute o n k v) (s .form)) [] (docsAfter (addAttribute o n k v) s))
     unfolding plan formAfter
     add-attribute-does =
-        documents-kept (s .form) new q p v fill record { keeps = refl; spares = refl } (s .docs) (sym (and-false (mustBePresent (s .version) (sortOf k)))) (λ e. absurd (false≢true (sym (and-false (mustBePresent (s .version) (sortOf k))) ∙ e)))
-        (kept-all (s .form) new q p v fill (s .docs) (λ sel u. sel ≡ elementNamed name u) (Owns (s .form)) (λ sel w u r b x own i. inr (step sel w u r b x own i, element-test (s .form) once o l (u .name) r)) refl
+        documents-kept (s .form) new q p v fill record { keeps = refl; spares = refl } (s .docs) (sym (and-false (mustBePresent (s .version) (sortOf k))))
+        (λ e. absurd (false≢true (sym (and-false (mustBePresent (s .version) (sortOf k))) ∙ e)))
+        (kept-all (s .form) new q p v fill (s .docs) (λ sel u. sel ≡ elementNamed name u) (Owns (s .form))
+        (λ sel w u r b x own i. inr (step sel w u r b x own i, element-test (s .form) once o l (u .name) r)) refl
         (each-owned s g))
 
     add-attribute-holds : k ≤ 2 → Holds (attributeAdded a (record { owner = o; name = n; sort = k; value = v }) (flat s)) (formAfter (addAttribute o n k v) (s .form))
@@ -141,13 +147,16 @@ module _ (s : Store) (g : good s ≡ true) where
 
   pub add-attribute-planned : (o : ℕ) (n : Bytes) (k : ℕ) (v : Bytes) → first (conditions (addAttribute o n k v) s) ≡ 0
       → flat (after (addAttribute o n k v) s)
-      ≡ plannedIn (attributeAdded (attributesTo o (flat s .attributes)) (record { owner = o; name = n; sort = k; value = v }) (flat s)) (addAttributePlan (s .version) o (attributesTo o (flat s .attributes)) k) v (flat s)
+      ≡ plannedIn (attributeAdded (attributesTo o (flat s .attributes)) (record { owner = o; name = n; sort = k; value = v }) (flat s))
+      (addAttributePlan (s .version) o (attributesTo o (flat s .attributes)) k) v (flat s)
   unfolding conditions
   add-attribute-planned o n k v e =
       let (name, (value, (code, (fresh, (index, more))))) = none-holds (addAttribute o n k v) s e in
       let l : o < length (s .form) = not-past o (s .form) index in
-      let new : List·Memᴰ n (map attributeName (definitionAt o (s .form) .attributes)) → ⊥ = λ m. false≢true (sym fresh ∙ member-test bytes n (map attributeName (definitionAt o (s .form) .attributes)) .1 m) in
-      flat-planned-in (addAttribute o n k v) s (addAttributePlan (s .version) o (offset (suc o) (s .form)) k) v (attributeAdded (offset (suc o) (s .form)) (record { owner = o; name = n; sort = k; value = v }) (flat s))
+      let new : List·Memᴰ n (map attributeName (definitionAt o (s .form) .attributes)) → ⊥ =
+      λ m. false≢true (sym fresh ∙ member-test bytes n (map attributeName (definitionAt o (s .form) .attributes)) .1 m) in
+      flat-planned-in (addAttribute o n k v) s (addAttributePlan (s .version) o (offset (suc o) (s .form)) k) v
+      (attributeAdded (offset (suc o) (s .form)) (record { owner = o; name = n; sort = k; value = v }) (flat s))
       (add-attribute-holds o n k v l new (ltb-false 2 k code)) (clear-elements o (addAttributePlan (s .version) o (offset (suc o) (s .form)) k) l refl) (add-attribute-does o n k v l new)
       ∙ ap (λ (a : ℕ). plannedIn (attributeAdded a (record { owner = o; name = n; sort = k; value = v }) (flat s)) (addAttributePlan (s .version) o a k) v (flat s)) (sym (attributes-to o (s .form)))
 
@@ -199,14 +208,18 @@ module _ (s : Store) (g : good s ≡ true) where
           false≢true (sym e ∙ and-both (and-both x (bytes .same← owner (u .name) (sym owner-is ∙ m))) (and-both y (bytes .same← lost (r .name) (sym n))))
 
       drop-step : (sel : Bool) (w u r : Row) (b : Forest Row) → sel ≡ elementNamed owner u → Owns (s .form) u r → Standing (s .docs) r b
-          → BothTake (s .form) left taker dropping v none-filled sel u r ⊎ (RowFollows (s .form) left taker dropping v none-filled sel w u r × (matches (Elements i) (rowWritten (s .form) (u .name) r) ≡ elementNamed owner r))
+          → BothTake (s .form) left taker dropping v none-filled sel u r
+          ⊎ (RowFollows (s .form) left taker dropping v none-filled sel w u r
+          × (matches (Elements i) (rowWritten (s .form) (u .name) r) ≡ elementNamed owner r))
       drop-step sel w u r b x own j = by (elementNamed owner u && attributeNamed lost r) refl
         where
           test : (sel && matches (Attributes a) (rowWritten (s .form) (u .name) r)) ≡ (elementNamed owner u && attributeNamed lost r)
           test = take-test a (s .form) o once distinct at sel (elementNamed owner u) u r x (λ e. sym (same-eq owner (u .name) (and-split (isElement (u .sort)) (same owner (u .name)) e .1)))
 
           by : (c : Bool) → (elementNamed owner u && attributeNamed lost r) ≡ c
-              → BothTake (s .form) left taker dropping v none-filled sel u r ⊎ (RowFollows (s .form) left taker dropping v none-filled sel w u r × (matches (Elements i) (rowWritten (s .form) (u .name) r) ≡ elementNamed owner r))
+              → BothTake (s .form) left taker dropping v none-filled sel u r
+              ⊎ (RowFollows (s .form) left taker dropping v none-filled sel w u r
+              × (matches (Elements i) (rowWritten (s .form) (u .name) r) ≡ elementNamed owner r))
           by true e = inl record { taken = e; takes = test ∙ e }
           by false e =
               inr (
@@ -223,7 +236,8 @@ module _ (s : Store) (g : good s ≡ true) where
                 instance-test u r,
               )
 
-      destroy-attribute-does : documentsWalk dropping v none-filled (indexed (s .form) [] (s .docs)) ≡ flatten 0 (indexed (formAfter (destroyAttribute a) (s .form)) [] (docsAfter (destroyAttribute a) s))
+      destroy-attribute-does : documentsWalk dropping v none-filled (indexed (s .form) [] (s .docs))
+          ≡ flatten 0 (indexed (formAfter (destroyAttribute a) (s .form)) [] (docsAfter (destroyAttribute a) s))
       unfolding plan formAfter
       destroy-attribute-does =
           documents-kept (s .form) left taker dropping v none-filled record { keeps = refl; spares = refl } (s .docs) refl (λ e. absurd (false≢true e))
@@ -242,7 +256,8 @@ module _ (s : Store) (g : good s ≡ true) where
 
     destroy-owned-planned : (v : Bytes) → flat (after (destroyAttribute a) s) ≡ plannedIn (attributeDropped a (flat s)) (destroyAttributePlan (ownerAt a (flat s .attributes)) a) v (flat s)
     destroy-owned-planned v =
-        flat-planned-in (destroyAttribute a) s (destroyAttributePlan i a) v (attributeDropped a (flat s)) destroy-attribute-holds (clear-elements i (destroyAttributePlan i a) below refl) (destroy-attribute-does v)
+        flat-planned-in (destroyAttribute a) s (destroyAttributePlan i a) v (attributeDropped a (flat s)) destroy-attribute-holds
+        (clear-elements i (destroyAttributePlan i a) below refl) (destroy-attribute-does v)
         ∙ ap (λ (j : ℕ). plannedIn (attributeDropped a (flat s)) (destroyAttributePlan j a) v (flat s)) (sym (owner-read i (s .form) below lost there a at-index))
 
   -- any text: none is used

@@ -54,7 +54,8 @@ before-index n x (a ∷ table) = by (same n (a .name)) refl (same x (a .name)) r
         rw (q, namesBefore)
         (rw (p, member)
         (f
-        ∙ sym (less-alike (indexIn x (a ∷ table)) (indexIn n (a ∷ table)) (indexIn x table) (indexIn n table) (λ l. omega (arith, index-there x a table p, index-there n a table q)) (λ l. omega (arith, index-there x a table p, index-there n a table q)))))
+        ∙ sym (less-alike (indexIn x (a ∷ table)) (indexIn n (a ∷ table)) (indexIn x table) (indexIn n table)
+        (λ l. omega (arith, index-there x a table p, index-there n a table q)) (λ l. omega (arith, index-there x a table p, index-there n a table q)))))
 
 -- a name of the table has its own index
 index-same : (n x : Bytes) (table : List Attribute) → List·Memᴰ n (map attributeName table) → indexIn x table ≡ indexIn n table → x ≡ n
@@ -96,13 +97,15 @@ index-from owner (c ∷ form) d e = by (same owner (c .name)) refl (index-from o
         (length (c .attributes) + k, λ n. rw (q, attributeIndex) (omega (arith, g n)))
 
 -- an attribute stands at its index
-owned-index : (a : ℕ) (form : Form) (o : Owned) → Distinct (map definitionName form) → ((d : Definition) → List·Memᴰ d form → Distinct (map attributeName (d .attributes))) → attributeAt a form ≡ some o
+owned-index : (a : ℕ) (form : Form) (o : Owned) → Distinct (map definitionName form)
+    → ((d : Definition) → List·Memᴰ d form → Distinct (map attributeName (d .attributes))) → attributeAt a form ≡ some o
     → attributeIndex (o .owner .name) (o .attribute .name) form ≡ a
 unfolding attributeAt
 owned-index a [] o u d e = let z : false ≡ true = cc e in absurd (false≢true z)
 owned-index a (c ∷ form) o (out, u) d e = by (entryAt a (c .attributes)) refl (owned-index (a - length (c .attributes)) form o u (λ x m. d x (List·Memᴰ·tail m)))
   where
-    by : (x : Option Attribute) → entryAt a (c .attributes) ≡ x → (attributeAt (a - length (c .attributes)) form ≡ some o → attributeIndex (o .owner .name) (o .attribute .name) form ≡ a - length (c .attributes))
+    by : (x : Option Attribute) → entryAt a (c .attributes) ≡ x
+        → (attributeAt (a - length (c .attributes)) form ≡ some o → attributeIndex (o .owner .name) (o .attribute .name) form ≡ a - length (c .attributes))
         → attributeIndex (o .owner .name) (o .attribute .name) (c ∷ form) ≡ a
     by none q f =
         let z : attributeAt (a - length (c .attributes)) form ≡ some o = rw (q, attributeAt) at e in
@@ -114,7 +117,8 @@ owned-index a (c ∷ form) o (out, u) d e = by (entryAt a (c .attributes)) refl 
         rw (← t) (rw (same-refl (c .name), attributeIndex) (entry-index a (c .attributes) b (d c (List·Memᴰ·head refl)) q))
 
 -- ---- an attribute of the form, and names below its owner
-module _ (a : ℕ) (form : Form) (o : Owned) (once : Distinct (map definitionName form)) (apart : (d : Definition) → List·Memᴰ d form → Distinct (map attributeName (d .attributes))) (at : attributeAt a form ≡ some o) where
+module _ (a : ℕ) (form : Form) (o : Owned) (once : Distinct (map definitionName form))
+    (apart : (d : Definition) → List·Memᴰ d form → Distinct (map attributeName (d .attributes))) (at : attributeAt a form ≡ some o) where
   pub own-index : attributeIndex (o .owner .name) (o .attribute .name) form ≡ a
   own-index = owned-index a form o once apart at
 
@@ -122,7 +126,8 @@ module _ (a : ℕ) (form : Form) (o : Owned) (once : Distinct (map definitionNam
   before-lower : (x : Bytes) → ltb (attributeIndex (o .owner .name) x form) a ≡ member bytes x (namesBefore (o .attribute .name) (map attributeName (o .owner .attributes)))
   before-lower x =
       let (k, f) = index-from (o .owner .name) form (o .owner) (owner-found a form once o at) in
-      less-alike (attributeIndex (o .owner .name) x form) a (indexIn x (o .owner .attributes)) (indexIn (o .attribute .name) (o .owner .attributes)) (λ l. omega (arith, own-index, f x, f (o .attribute .name))) (λ l. omega (arith, own-index, f x, f (o .attribute .name)))
+      less-alike (attributeIndex (o .owner .name) x form) a (indexIn x (o .owner .attributes)) (indexIn (o .attribute .name) (o .owner .attributes))
+      (λ l. omega (arith, own-index, f x, f (o .attribute .name))) (λ l. omega (arith, own-index, f x, f (o .attribute .name)))
       ∙ sym (before-index (o .attribute .name) x (o .owner .attributes))
 
   -- the same name has the same index
@@ -134,7 +139,9 @@ module _ (a : ℕ) (form : Form) (o : Owned) (once : Distinct (map definitionNam
       by false q =
           let (k, f) = index-from (o .owner .name) form (o .owner) (owner-found a form once o at) in
           ne-eqb (attributeIndex (o .owner .name) x form) a
-          (λ e. false≢true (sym q ∙ bytes .same← (o .attribute .name) x (sym (index-same (o .attribute .name) x (o .owner .attributes) (Memᴰ·map attributeName (attribute-owned a form o at .1)) (omega (arith, own-index, f x, f (o .attribute .name)))))))
+          (λ e. false≢true (sym q
+          ∙ bytes .same← (o .attribute .name) x (sym (index-same (o .attribute .name) x (o .owner .attributes)
+          (Memᴰ·map attributeName (attribute-owned a form o at .1)) (omega (arith, own-index, f x, f (o .attribute .name)))))))
           ∙ sym q
 
   -- ---- rows right below an element of the owner
@@ -146,16 +153,20 @@ module _ (a : ℕ) (form : Form) (o : Owned) (once : Distinct (map definitionNam
       by attribute q = rw q (name-index (r .name))
       by text q = rw q
 
-  pub past-test : (ms : Bytes) (r : Row) → isLater ms (Past a) (rowWritten form (o .owner .name) r) ≡ not (isAttribute (r .sort) && member bytes (r .name) (namesBefore (o .attribute .name) (map attributeName (o .owner .attributes))))
+  pub past-test : (ms : Bytes) (r : Row)
+      → isLater ms (Past a) (rowWritten form (o .owner .name) r)
+      ≡ not (isAttribute (r .sort) && member bytes (r .name) (namesBefore (o .attribute .name) (map attributeName (o .owner .attributes))))
   past-test ms r = by (r .sort) refl
     where
       by : (t : RowSort) → r .sort ≡ t
-          → not (eqb (rowCode (r .sort)) 2 && ltb (rowIndex form (o .owner .name) r) a) ≡ not (isAttribute (r .sort) && member bytes (r .name) (namesBefore (o .attribute .name) (map attributeName (o .owner .attributes))))
+          → not (eqb (rowCode (r .sort)) 2 && ltb (rowIndex form (o .owner .name) r) a)
+          ≡ not (isAttribute (r .sort) && member bytes (r .name) (namesBefore (o .attribute .name) (map attributeName (o .owner .attributes))))
       by element q = rw q
       by attribute q = rw q (ap not (before-lower (r .name)))
       by text q = rw q
 
   -- below a row that is the owner's where c holds
-  pub take-test : (sel c : Bool) (u r : Row) → sel ≡ c → (c ≡ true → u .name ≡ o .owner .name) → (sel && matches (Attributes a) (rowWritten form (u .name) r)) ≡ (c && attributeNamed (o .attribute .name) r)
+  pub take-test : (sel c : Bool) (u r : Row) → sel ≡ c → (c ≡ true → u .name ≡ o .owner .name)
+      → (sel && matches (Attributes a) (rowWritten form (u .name) r)) ≡ (c && attributeNamed (o .attribute .name) r)
   take-test sel true u r x n = ap₂ (λ (b d : Bool). b && d) x (ap (λ (z : Bytes). matches (Attributes a) (rowWritten form z r)) (n refl) ∙ attribute-test r)
   take-test sel false u r x n = ap (λ (b : Bool). b && matches (Attributes a) (rowWritten form (u .name) r)) x

@@ -86,7 +86,12 @@ module _ (s : Store) (g : good s ≡ true) (k a : ℕ) (o : Owned) (at : attribu
         filling = λ e. absurd (false≢true e);
         rows =
             follows-all (s .form) (s .form) q (destroyAttributeRowPlan k a) v fill (s .docs) Above
-            (λ sel w u r b (x, n) i. (takes-follow (s .form) v fill sel w u r (q .takes) (Serial k) (Attributes a) (given s g r b i) (take-test a (s .form) o once apart at sel (elementWith k u) u r x n), above-row u r b i)) above-ground;
+            (λ sel w u r b (x, n) i. (
+              takes-follow (s .form) v fill sel w u r (q .takes) (Serial k) (Attributes a) (given s g r b i)
+                  (take-test a (s .form) o once apart at sel (elementWith k u) u r x n),
+              above-row u r b i,
+            ))
+            above-ground;
       }
       ∙ ap (λ (x : Option Owned). flatten 0 (indexed (s .form) [] (changed (dropPlan (λ o u. elementWith k u) x) (s .docs)))) (sym at)
     where
@@ -97,7 +102,8 @@ module _ (s : Store) (g : good s ≡ true) (k a : ℕ) (o : Owned) (at : attribu
       fill = fillOf (destroyAttributeRowPlan k a) v (flat s)
 
   -- ---- 14; ms: the serials of the attribute's rows below the element
-  set-plan : (v : Bytes) (ms : List ℕ) → childrenOf (attributeNamed (o .attribute .name)) k (lines 0 (s .docs)) ≡ ms → plan (setAttribute k a v) (s .version) (s .form) (lines 0 (s .docs)) ≡ setAt k o v ms
+  set-plan : (v : Bytes) (ms : List ℕ) → childrenOf (attributeNamed (o .attribute .name)) k (lines 0 (s .docs)) ≡ ms
+      → plan (setAttribute k a v) (s .version) (s .form) (lines 0 (s .docs)) ≡ setAt k o v ms
   unfolding plan
   set-plan v ms e = ap (setPlan (lines 0 (s .docs)) k v) at ∙ ap (setAt k o v) e
 
@@ -112,7 +118,9 @@ module _ (s : Store) (g : good s ≡ true) (k a : ℕ) (o : Owned) (at : attribu
             follows-all (s .form) (s .form) q (setAttributePlan k a 0) v fill (s .docs) Above
             (λ sel w u r b (x, n) i. (
               fills-follow (s .form) v fill sel w u r (q .fills) (q .later) (q .filling) (Serial k) (Past a) (Attribute a) (given s g r b i)
-                  (λ e. ap (λ (z : Bytes). isLater unmarked (Past a) (rowWritten (s .form) z r)) (n (sym x ∙ e)) ∙ past-test a (s .form) o once apart at unmarked r) (serial-test (s .form) (u .name) k r)
+                  (λ e. ap (λ (z : Bytes). isLater unmarked (Past a) (rowWritten (s .form) z r)) (n (sym x ∙ e))
+                  ∙ past-test a (s .form) o once apart at unmarked r)
+                  (serial-test (s .form) (u .name) k r)
                   (λ e d. filled (r .name) (owner-named r b i e) d),
               above-row u r b i,
             ))

@@ -76,7 +76,8 @@ lacking-index n x (a ∷ table) m f = by (same n (a .name)) refl (same x (a .nam
     by false q false p h =
         let e : indexIn x (lacking n (a ∷ table)) ≡ suc (indexIn x (lacking n table)) = rw (q, lacking) (index-there x a (lacking n table) p) in
         ⊎-elim (λ (l, z). inl (omega (arith, index-there n a table q, index-there x a table p), omega (arith, index-there x a table p)))
-        (λ (l, z). inr (omega (arith, index-there n a table q, index-there x a table p), omega (arith, index-there x a table p))) (h (⊎-elim (λ e. absurd (false≢true (sym q ∙ bytes .same← n (a .name) e))) (λ i. i) (List·Memᴰ·cases-cons m)))
+        (λ (l, z). inr (omega (arith, index-there n a table q, index-there x a table p), omega (arith, index-there x a table p)))
+        (h (⊎-elim (λ e. absurd (false≢true (sym q ∙ bytes .same← n (a .name) e))) (λ i. i) (List·Memᴰ·cases-cons m)))
 
 -- ---- in the whole table
 -- names of definitions keep their index
@@ -98,7 +99,8 @@ module _ (e : List Attribute → List Attribute) where
   -- the attributes of definition i are changed: those of definitions before it, its own, and those after it
   pub data Spot (i : ℕ) (form : Form) (owner x : Bytes) (old new : ℕ) : Type 0 where
     before : old < offset i form → new ≡ old → Spot i form owner x old new
-    here : nameAtIndex i form ≡ owner → old ≡ offset i form + indexIn x (definitionAt i form .attributes) → new ≡ offset i form + indexIn x (e (definitionAt i form .attributes)) → Spot i form owner x old new
+    here : nameAtIndex i form ≡ owner → old ≡ offset i form + indexIn x (definitionAt i form .attributes)
+        → new ≡ offset i form + indexIn x (e (definitionAt i form .attributes)) → Spot i form owner x old new
     after : (k : ℕ) → old ≡ offset i form + (length (definitionAt i form .attributes) + k) → new ≡ offset i form + (length (e (definitionAt i form .attributes)) + k) → Spot i form owner x old new
 
   spot-later : (d : Definition) (i : ℕ) (form : Form) (owner x : Bytes) (old new : ℕ) → Spot i form owner x old new

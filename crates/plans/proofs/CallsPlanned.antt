@@ -1,4 +1,5 @@
--- THE STORE AFTER CHANGES 11 TO 16, where no condition of the refusal table holds: the bodies after the plan by indices.
+-- THE STORE AFTER CHANGES 11 TO 16, where no condition of the refusal
+-- table holds: the bodies after the plan by indices.
 use Prim.Native.Nat.{ℕ}
 use mathlib.Core.Path.{_≡_, refl, sym, ap, _∙_, subst}
 use mathlib.Core.Bool.{Bool, true, false, false≢true}
@@ -21,7 +22,8 @@ use Rattle.row_walk.specs.declared.Plan.{Plan}
 use Rattle.row_walk.specs.Walk.{matches}
 use Rattle.store_writer.specs.Planned.{planned}
 use Rattle.plans.specs.Following.{Does}
-use Rattle.plans.specs.CallPlans.{childSerial, attributeSerial, textSerial, fillingPlan, settingPlan, addDocumentPlan, addElementPlan, destroyElementPlan, setAttributePlan, destroyAttributeRowPlan, setTextPlan}
+use Rattle.plans.specs.CallPlans.{childSerial, attributeSerial, textSerial, fillingPlan, settingPlan, addDocumentPlan, addElementPlan, destroyElementPlan}
+use Rattle.plans.specs.CallPlans.{setAttributePlan, destroyAttributeRowPlan, setTextPlan}
 use Rattle.plans.proofs.TreeWalk.{Clear, apart, everywhere, none-of, none-apart}
 use Rattle.plans.proofs.Planned.{flat-planned}
 use Rattle.plans.proofs.ApartLaws.{apart-serial}
@@ -36,7 +38,8 @@ pub owned-there : (x : Option Owned) (r : Option Row) → isOther x r ≡ false 
 owned-there none r e = absurd (false≢true (sym e))
 owned-there (some o) r e = (o, refl)
 
-pub attribute-serial : (k a : ℕ) (s : Store) (o : Owned) → attributeAt a (s .form) ≡ some o → attributeSerial k a s ≡ serialAt 0 (childrenOf (attributeNamed (o .attribute .name)) k (lines 0 (s .docs)))
+pub attribute-serial : (k a : ℕ) (s : Store) (o : Owned) → attributeAt a (s .form) ≡ some o
+    → attributeSerial k a s ≡ serialAt 0 (childrenOf (attributeNamed (o .attribute .name)) k (lines 0 (s .docs)))
 attribute-serial k a s o at = rw (at, attributeSerial)
 
 module _ (s : Store) (g : good s ≡ true) where
@@ -68,14 +71,16 @@ module _ (s : Store) (g : good s ≡ true) where
   unfolding conditions formAfter
   add-element-planned k j i t e =
       let (text, (index, more)) = none-holds (addElement k j i t) s e in
-      flat-planned (addElement k j i t) s (addElementPlan k (childSerial k j s) i) t refl (clear-serial k (addElementPlan k (childSerial k j s) i) refl) (add-element-does s g k j i t (not-past i (s .form) index))
+      flat-planned (addElement k j i t) s (addElementPlan k (childSerial k j s) i) t refl (clear-serial k (addElementPlan k (childSerial k j s) i) refl)
+      (add-element-does s g k j i t (not-past i (s .form) index))
 
   -- any text: none is used
   pub destroy-element-planned : (k : ℕ) (v : Bytes) → flat (after (destroyElement k) s) ≡ planned (destroyElementPlan k) v (flat s)
   unfolding formAfter
   destroy-element-planned k v = flat-planned (destroyElement k) s (destroyElementPlan k) v refl (everywhere refl refl) (destroy-element-does s g k v)
 
-  pub set-attribute-planned : (k a : ℕ) (v : Bytes) → first (conditions (setAttribute k a v) s) ≡ 0 → flat (after (setAttribute k a v) s) ≡ planned (setAttributePlan k a (attributeSerial k a s)) v (flat s)
+  pub set-attribute-planned : (k a : ℕ) (v : Bytes) → first (conditions (setAttribute k a v) s) ≡ 0
+      → flat (after (setAttribute k a v) s) ≡ planned (setAttributePlan k a (attributeSerial k a s)) v (flat s)
   unfolding conditions formAfter
   set-attribute-planned k a v e =
       let (text, (index, more)) = none-holds (setAttribute k a v) s e in
@@ -84,7 +89,8 @@ module _ (s : Store) (g : good s ≡ true) where
       (subst (λ (m : ℕ). Does (setAttribute k a v) s (setAttributePlan k a m) v) (sym (attribute-serial k a s o at)) (set-attribute-does s g k a o at index v))
 
   -- any text: none is used
-  pub destroy-attribute-row-planned : (k a : ℕ) (v : Bytes) → first (conditions (destroyAttributeRow k a) s) ≡ 0 → flat (after (destroyAttributeRow k a) s) ≡ planned (destroyAttributeRowPlan k a) v (flat s)
+  pub destroy-attribute-row-planned : (k a : ℕ) (v : Bytes) → first (conditions (destroyAttributeRow k a) s) ≡ 0
+      → flat (after (destroyAttributeRow k a) s) ≡ planned (destroyAttributeRowPlan k a) v (flat s)
   unfolding conditions formAfter
   destroy-attribute-row-planned k a v e =
       let (index, more) = none-holds (destroyAttributeRow k a) s e in

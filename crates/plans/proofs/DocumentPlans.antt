@@ -1,4 +1,5 @@
--- Changes 11, 12, 13 and 16 on the documents of a store that passes: the plan by indices does what the plan of the rules does.
+-- Changes 11, 12, 13 and 16 on the documents of a store that passes: the
+-- plan by indices does what the plan of the rules does.
 use Prim.Native.Nat.{ℕ, _<_}
 use mathlib.Core.Path.{_≡_, refl, sym, ap, _∙_}
 use mathlib.Core.Bool.{true, false, false≢true}

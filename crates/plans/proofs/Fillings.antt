@@ -37,7 +37,9 @@ use Rattle.store_writer.specs.Planned.{membersAt}
 -- ---- forests side by side
 pub flatten-beside : {A : Type 0} (d : ℕ) (f g : Forest A) → flatten d (f ⧺ g) ≡ flatten d f ++ flatten d g
 flatten-beside d bare g = refl
-flatten-beside {A} d (tree r b t) g = ap (λ (z : List (Deep A)). record { depth = d; row = r } ∷ z) (ap (λ (z : List (Deep A)). flatten (suc d) b ++ z) (flatten-beside d t g) ∙ sym (append-assoc (flatten (suc d) b) (flatten d t) (flatten d g)))
+flatten-beside {A} d (tree r b t) g =
+    ap (λ (z : List (Deep A)). record { depth = d; row = r } ∷ z)
+    (ap (λ (z : List (Deep A)). flatten (suc d) b ++ z) (flatten-beside d t g) ∙ sym (append-assoc (flatten (suc d) b) (flatten d t) (flatten d g)))
 
 pub indexed-beside : (form : Form) (owner : Bytes) (f g : Forest Row) → indexed form owner (f ⧺ g) ≡ indexed form owner f ⧺ indexed form owner g
 indexed-beside form owner bare g = refl
@@ -46,11 +48,19 @@ indexed-beside form owner (tree r b t) g = rw (indexed-beside form owner t g)
 -- ---- the required attributes of definition i in a table of attributes from number j on, and those of its own table
 abbrev requiredOf : ℕ → ℕ → ℕ → ℕ → List FlatAttribute → List (Deep FlatRow)
 requiredOf version d i j [] = []
-requiredOf version d i j (c ∷ cs) = elim (eqb (c .owner) i && mustBePresent version (sortOf (c .sort))) [ true ↦ newAttribute d j (valueOf c) ∷ requiredOf version d i (suc j) cs | false ↦ requiredOf version d i (suc j) cs ]
+requiredOf version d i j (c ∷ cs) =
+    elim (eqb (c .owner) i && mustBePresent version (sortOf (c .sort))) [
+      | true ↦ newAttribute d j (valueOf c) ∷ requiredOf version d i (suc j) cs
+      | false ↦ requiredOf version d i (suc j) cs
+    ]
 
 abbrev requiredIn : ℕ → ℕ → ℕ → List Attribute → List (Deep FlatRow)
 requiredIn version d j [] = []
-requiredIn version d j (a ∷ table) = elim (mustBePresent version (a .sort)) [ true ↦ newAttribute d j (createdValue (a .sort) (a .value)) ∷ requiredIn version d (suc j) table | false ↦ requiredIn version d (suc j) table ]
+requiredIn version d j (a ∷ table) =
+    elim (mustBePresent version (a .sort)) [
+      | true ↦ newAttribute d j (createdValue (a .sort) (a .value)) ∷ requiredIn version d (suc j) table
+      | false ↦ requiredIn version d (suc j) table
+    ]
 
 module _ (version d i : ℕ) where
   others : (o j : ℕ) (table : List Attribute) (rest : List FlatAttribute) → (o ≡ i → ⊥) → requiredOf version d i j (ownAttributes o table ++ rest) ≡ requiredOf version d i (j + length table) rest
@@ -58,11 +68,15 @@ module _ (version d i : ℕ) where
   others o j (a ∷ table) rest n =
       rw (ne-eqb o i n, requiredOf) (others o (suc j) table rest n ∙ ap (λ (k : ℕ). requiredOf version d i k rest) (let e : suc j + length table ≡ j + suc (length table) = omega arith in e))
 
-  own : (j : ℕ) (table : List Attribute) (rest : List FlatAttribute) → requiredOf version d i j (ownAttributes i table ++ rest) ≡ requiredIn version d j table ++ requiredOf version d i (j + length table) rest
+  own : (j : ℕ) (table : List Attribute) (rest : List FlatAttribute)
+      → requiredOf version d i j (ownAttributes i table ++ rest) ≡ requiredIn version d j table ++ requiredOf version d i (j + length table) rest
   own j [] rest = ap (λ (k : ℕ). requiredOf version d i k rest) (let e : j ≡ j + 0 = omega arith in e)
   own j (a ∷ table) rest =
       rw (eq-eqb i i refl, sort-of (a .sort), requiredOf)
-      (by (mustBePresent version (a .sort)) (own (suc j) table rest ∙ ap (λ (k : ℕ). requiredIn version d (suc j) table ++ requiredOf version d i k rest) (let e : suc j + length table ≡ j + suc (length table) = omega arith in e)))
+      (by (mustBePresent version (a .sort))
+      (own (suc j) table rest
+      ∙ ap (λ (k : ℕ). requiredIn version d (suc j) table ++ requiredOf version d i k rest)
+      (let e : suc j + length table ≡ j + suc (length table) = omega arith in e)))
     where
       L : List (Deep FlatRow)
       L = requiredOf version d i (suc j) (ownAttributes i table ++ rest)
@@ -72,7 +86,11 @@ module _ (version d i : ℕ) where
 
       by : (b : Bool) → L ≡ requiredIn version d (suc j) table ++ R
           → elim b as (λ z. List (Deep FlatRow)) [ true ↦ newAttribute d j (createdValue (a .sort) (a .value)) ∷ L | false ↦ L ]
-          ≡ (elim b as (λ z. List (Deep FlatRow)) [ true ↦ newAttribute d j (createdValue (a .sort) (a .value)) ∷ requiredIn version d (suc j) table | false ↦ requiredIn version d (suc j) table ]) ++ R
+          ≡ (elim b as (λ z. List (Deep FlatRow)) [
+            | true ↦ newAttribute d j (createdValue (a .sort) (a .value)) ∷ requiredIn version d (suc j) table
+            | false ↦ requiredIn version d (suc j) table
+          ])
+          ++ R
       by true e = ap (λ (z : List (Deep FlatRow)). newAttribute d j (createdValue (a .sort) (a .value)) ∷ z) e
       by false e = e
 
@@ -99,7 +117,10 @@ module _ (version d i : ℕ) where
 module _ (version w : ℕ) (form : Form) (ok : WellFormed w form) (F : IndexForm) (agrees : Agrees version F form) (value : ℕ → Bytes)
     (values : (j : ℕ) → j < length (allAttributes 0 form) → value j ≡ valueOf (entryOf j (allAttributes 0 form))) (txt : Bytes) where
   -- the table read by indices
-  rows-read : (d i j : ℕ) (cs : List FlatAttribute) → ((k : ℕ) → k < length cs → (F .owner (j + k) ≡ entryOf k cs .owner) × (F .needed (j + k) ≡ mustBePresent version (sortOf (entryOf k cs .sort))) × (value (j + k) ≡ valueOf (entryOf k cs)))
+  rows-read : (d i j : ℕ) (cs : List FlatAttribute)
+      → ((k : ℕ) → k < length cs
+      → (F .owner (j + k) ≡ entryOf k cs .owner) × (F .needed (j + k) ≡ mustBePresent version (sortOf (entryOf k cs .sort)))
+      × (value (j + k) ≡ valueOf (entryOf k cs)))
       → requiredRows F value d i j (length cs) ≡ requiredOf version d i j cs
   unfolding requiredRows
   rows-read d i j [] t = refl
@@ -109,13 +130,22 @@ module _ (version w : ℕ) (form : Form) (ok : WellFormed w form) (F : IndexForm
       let o₁ : F .owner j ≡ c .owner = ap (F .owner) (sym e) ∙ o in
       let n₁ : F .needed j ≡ mustBePresent version (sortOf (c .sort)) = ap (F .needed) (sym e) ∙ n in
       let v₁ : value j ≡ valueOf c = ap value (sym e) ∙ v in
-      let rest : requiredRows F value d i (suc j) (length cs) ≡ requiredOf version d i (suc j) cs = rows-read d i (suc j) cs (λ k l. subst (λ (z : ℕ). (F .owner z ≡ entryOf k cs .owner) × (F .needed z ≡ mustBePresent version (sortOf (entryOf k cs .sort))) × (value z ≡ valueOf (entryOf k cs))) (let q : j + suc k ≡ suc j + k = omega arith in q) (t (suc k) (omega arith))) in
+      let rest : requiredRows F value d i (suc j) (length cs) ≡ requiredOf version d i (suc j) cs =
+      rows-read d i (suc j) cs
+      (λ k l. subst
+      (λ (z : ℕ). (F .owner z ≡ entryOf k cs .owner) × (F .needed z ≡ mustBePresent version (sortOf (entryOf k cs .sort)))
+      × (value z ≡ valueOf (entryOf k cs)))
+      (let q : j + suc k ≡ suc j + k = omega arith in q) (t (suc k) (omega arith))) in
       λ z. elim (eqb (o₁ z) i && n₁ z) as (λ b. List (Deep FlatRow)) [ true ↦ newAttribute d j (v₁ z) ∷ rest z | false ↦ rest z ]
 
   required-index : (d i : ℕ) → i < length form → requiredRows F value d i 0 (F .attributes) ≡ requiredIn version d (offset i form) (definitionAt i form .attributes)
   required-index d i l =
       ap (requiredRows F value d i 0) (agrees .attributes)
-      ∙ rows-read d i 0 (allAttributes 0 form) (λ k m. let q : k ≡ 0 + k = omega arith in subst (λ (z : ℕ). (F .owner z ≡ entryOf k (allAttributes 0 form) .owner) × (F .needed z ≡ mustBePresent version (sortOf (entryOf k (allAttributes 0 form) .sort))) × (value z ≡ valueOf (entryOf k (allAttributes 0 form)))) q (agrees .owner k m, agrees .needed k m, values k m))
+      ∙ rows-read d i 0 (allAttributes 0 form) (λ k m. let q : k ≡ 0 + k = omega arith in
+      subst
+      (λ (z : ℕ). (F .owner z ≡ entryOf k (allAttributes 0 form) .owner)
+      × (F .needed z ≡ mustBePresent version (sortOf (entryOf k (allAttributes 0 form) .sort))) × (value z ≡ valueOf (entryOf k (allAttributes 0 form))))
+      q (agrees .owner k m, agrees .needed k m, values k m))
       ∙ whole version d i 0 0 i form l (omega arith)
       ∙ ap (λ (z : ℕ). requiredIn version d z (definitionAt i form .attributes)) (let p : 0 + offset i form ≡ offset i form = omega arith in p)
 
@@ -134,12 +164,17 @@ module _ (version w : ℕ) (form : Form) (ok : WellFormed w form) (F : IndexForm
 
       by : (c : Bool) → flatten d (indexed form n (fillAttributes version table content)) ≡ requiredIn version d (suc j) table ++ C
           → flatten d (indexed form n (elim c as (λ z. Forest Row) [ true ↦ tree (attributeRow a) bare (fillAttributes version table content) | false ↦ fillAttributes version table content ]))
-          ≡ (elim c as (λ z. List (Deep FlatRow)) [ true ↦ newAttribute d j (createdValue (a .sort) (a .value)) ∷ requiredIn version d (suc j) table | false ↦ requiredIn version d (suc j) table ]) ++ C
+          ≡ (elim c as (λ z. List (Deep FlatRow)) [
+            | true ↦ newAttribute d j (createdValue (a .sort) (a .value)) ∷ requiredIn version d (suc j) table
+            | false ↦ requiredIn version d (suc j) table
+          ])
+          ++ C
       by true e = ap₂ (λ (k : ℕ) (z : List (Deep FlatRow)). newAttribute d k (createdValue (a .sort) (a .value)) ∷ z) (b .0 .found) e
       by false e = e
 
   -- fillings one after the other, from those of each
-  each-index : (d : ℕ) (owner : Bytes) (fill : Bytes → Forest Row) (rows : ℕ → List (Deep FlatRow)) (is : List ℕ) → ((i : ℕ) → List·Memᴰ i is → flatten d (indexed form owner (fill (nameAt i (namesOf form)))) ≡ rows i)
+  each-index : (d : ℕ) (owner : Bytes) (fill : Bytes → Forest Row) (rows : ℕ → List (Deep FlatRow)) (is : List ℕ)
+      → ((i : ℕ) → List·Memᴰ i is → flatten d (indexed form owner (fill (nameAt i (namesOf form)))) ≡ rows i)
       → flatten d (indexed form owner (fillEach fill (map (λ i. nameAt i (namesOf form)) is))) ≡ fillingsOf F value rows is
   unfolding fillEach fillingsOf
   each-index d owner fill rows [] f = refl
@@ -171,8 +206,11 @@ module _ (version w : ℕ) (form : Form) (ok : WellFormed w form) (F : IndexForm
       ap (λ (z : Forest Row). flatten d (indexed form owner z)) (fill-known version h form txt n (definitionAt i form) (lookup-at form (ok .names) i l))
       ∙ ap₂ (λ (k : ℕ) (z : List (Deep FlatRow)). newElement d k ∷ z) (index-name form (ok .names) i l)
       (append-nil (flatten (suc d) (indexed form n (fillBelow version h form txt (definitionAt i form))))
-      ∙ attributes-index (suc d) i (offset i form) (definitionAt i form .attributes) (fillContent (λ m. fillWithin version h form txt m) txt (definitionAt i form .content)) (block-at version F form agrees (ok .names) i l (ok .definitions (definitionAt i form) (definition-in form i l) .attributeNames))
-      ∙ ap₂ (λ (u v : List (Deep FlatRow)). u ++ v) (sym (required-index (suc d) i l)) (content-index (suc d) i l n (λ m. fillWithin version h form txt m) (λ k. fillIndex F value h txt (suc d) k) (λ k m. named-index h (suc d) k n m)))
+      ∙ attributes-index (suc d) i (offset i form) (definitionAt i form .attributes)
+      (fillContent (λ m. fillWithin version h form txt m) txt (definitionAt i form .content))
+      (block-at version F form agrees (ok .names) i l (ok .definitions (definitionAt i form) (definition-in form i l) .attributeNames))
+      ∙ ap₂ (λ (u v : List (Deep FlatRow)). u ++ v) (sym (required-index (suc d) i l))
+      (content-index (suc d) i l n (λ m. fillWithin version h form txt m) (λ k. fillIndex F value h txt (suc d) k) (λ k m. named-index h (suc d) k n m)))
     where
       n : Bytes
       n = nameAt i (namesOf form)
@@ -182,9 +220,13 @@ module _ (version w : ℕ) (form : Form) (ok : WellFormed w form) (F : IndexForm
 
 -- THE FILLING OF A DEFINITION of a store that passes is written as the rows of its filling by indices
 pub filling-index : (s : Store) → good s ≡ true → (txt : Bytes) (d i : ℕ) (owner : Bytes) → i < length (s .form)
-    → flatten d (indexed (s .form) owner (fillDefinition (s .version) (s .form) txt (nameAtIndex i (s .form)))) ≡ fillingRows (indexForm (flat s)) (λ j. valueOf (entryOf j (flat s .attributes))) (λ a b. membersAt (flat s) a b) (Definition i) txt d
+    → flatten d (indexed (s .form) owner (fillDefinition (s .version) (s .form) txt (nameAtIndex i (s .form))))
+    ≡ fillingRows (indexForm (flat s)) (λ j. valueOf (entryOf j (flat s .attributes))) (λ a b. membersAt (flat s) a b) (Definition i) txt d
 filling-index s g txt d i owner l =
     let back = unflat-flat s (good-known s g) (good-found s g) in
-    let agrees : Agrees (s .version) (indexForm (flat s)) (s .form) = subst (λ (z : Store). Agrees (s .version) (indexForm (flat s)) (z .form)) back (form-agrees (valueWidth (s .version)) (flat s) (good-fields s g) (good-bodies s g) (s .version)) in
-    fill-index (s .version) (valueWidth (s .version)) (s .form) (good-is s .0 g .form) (indexForm (flat s)) agrees (λ j. valueOf (entryOf j (flat s .attributes))) (λ j m. refl) txt (length (s .form)) d i owner l
+    let agrees : Agrees (s .version) (indexForm (flat s)) (s .form) =
+    subst (λ (z : Store). Agrees (s .version) (indexForm (flat s)) (z .form)) back
+    (form-agrees (valueWidth (s .version)) (flat s) (good-fields s g) (good-bodies s g) (s .version)) in
+    fill-index (s .version) (valueWidth (s .version)) (s .form) (good-is s .0 g .form) (indexForm (flat s)) agrees
+    (λ j. valueOf (entryOf j (flat s .attributes))) (λ j m. refl) txt (length (s .form)) d i owner l
     ∙ ap (λ (h : ℕ). fillIndex (indexForm (flat s)) (λ j. valueOf (entryOf j (flat s .attributes))) h txt d i) (sym (agrees .size))

@@ -62,7 +62,8 @@ index-same p e f x = by (eqb (x .sort) 1) (eqb (x .sort) 2)
 
 -- definitions stay where they are, and attributes move as the plan says
 pub index-moved : (form new : Form) (p : Plan) (owner : Bytes) (r : Row) → p .definitions ≡ unmoved → indexOf (r .name) new ≡ indexOf (r .name) form
-    → (isAttribute (r .sort) ≡ true → shifted (p .attributes) (attributeIndex owner (r .name) form) ≡ attributeIndex owner (r .name) new) → movedIndex p (rowWritten form owner r) ≡ rowIndex new owner r
+    → (isAttribute (r .sort) ≡ true → shifted (p .attributes) (attributeIndex owner (r .name) form) ≡ attributeIndex owner (r .name) new)
+    → movedIndex p (rowWritten form owner r) ≡ rowIndex new owner r
 index-moved form new p owner r e f h = by (r .sort) refl
   where
     by : (t : RowSort) → r .sort ≡ t → movedIndex p (rowWritten form owner r) ≡ rowIndex new owner r
@@ -93,7 +94,8 @@ module _ (form new : Form) (q : change.Plan) (p : Plan) (v : Bytes) (fill : ℕ 
   kept-in : (sel : Bool) (w u : Row) (f : Forest Row) → S sel u → EachBelow P u f → ((r : Row) (b : Forest Row) → Standing f r b → Standing docs r b) → FollowsKept form new q p v fill sel w u f
   kept-in sel w u bare k e i = tt
   kept-in sel w u (tree r b t) k (e, eb, et) i = (
-    either (λ h. h) (λ (h, n). (h, kept-in (matches (p .above) (rowWritten form (u .name) r)) (revalued q r) r b n eb (λ s c j. i s c (inr (inl j))))) (step sel w u r b k e (i r b (inl (refl, refl)))),
+    either (λ h. h) (λ (h, n). (h, kept-in (matches (p .above) (rowWritten form (u .name) r)) (revalued q r) r b n eb (λ s c j. i s c (inr (inl j)))))
+        (step sel w u r b k e (i r b (inl (refl, refl)))),
     kept-in sel w u t k et (λ s c j. i s c (inr (inr j))),
   )
 

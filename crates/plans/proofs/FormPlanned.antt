@@ -1,4 +1,5 @@
--- The store that a call leaves is the one after a plan that does on the documents what the call does, with the bodies of the form after it.
+-- The store that a call leaves is the one after a plan that does on the
+-- documents what the call does, with the bodies of the form after it.
 use Prim.Native.Nat.{ℕ, _+_}
 use mathlib.Core.Path.{_≡_, sym, ap, ap₂, _∙_}
 use mathlib.Core.List.{List, []}
@@ -37,4 +38,11 @@ module _ (c : Call) (s : Store) (p : Plan) (v : Bytes) where
   flat-planned-in g holds clear e =
       ap₂ (withRows (flat (after c s))) (new-flat (formAfter c (s .form)) 0 [] (docsAfter c s)) (number-flat (formAfter c (s .form)) 0 [] (s .next) (docsAfter c s))
       ∙ ap (λ (rows : List (Deep FlatRow)). withRows (flat (after c s)) (newIn rows) (numbered (s .next) rows)) (rows-left clear e)
-      ∙ (λ i. record { version = s .version; next = s .next + newIn (rowsAfter p v (flat s)); definitions = sym (holds .definitions) i; particles = sym (holds .particles) i; attributes = sym (holds .attributes) i; rows = numbered (s .next) (rowsAfter p v (flat s)) })
+      ∙ (λ i. record {
+        version = s .version;
+        next = s .next + newIn (rowsAfter p v (flat s));
+        definitions = sym (holds .definitions) i;
+        particles = sym (holds .particles) i;
+        attributes = sym (holds .attributes) i;
+        rows = numbered (s .next) (rowsAfter p v (flat s));
+      })

@@ -45,7 +45,9 @@ counted-good (suc o) n (d ∷ ds) h a = (a .0, counted-good o n ds h (a .1))
 
 module _ (o : ℕ) (part : Particles) (f : FlatStore) where
   pub spliced-bytes : (w : ℕ) → formBytes w (splicedForm o part f)
-      ≡ each definitionBytes (counted o (length part) (f .definitions)) ++ (each particleBytes (spliced (startOf o (f .definitions)) (countOf o (f .definitions)) part (f .particles)) ++ each (attributeBytes w) (f .attributes))
+      ≡ each definitionBytes (counted o (length part) (f .definitions))
+      ++ (each particleBytes (spliced (startOf o (f .definitions)) (countOf o (f .definitions)) part (f .particles))
+      ++ each (attributeBytes w) (f .attributes))
   unfolding splicedForm
   spliced-bytes w = refl
 
@@ -56,7 +58,8 @@ module _ (o : ℕ) (part : Particles) (f : FlatStore) where
       let rest : Particles = drop (at + countOf o (f .definitions)) (f .particles) in
       omega (arith, few-particles (few-of (bareForm (splicedForm o part f)) h), length-append (take at (f .particles)) (part ++ rest), length-append part rest)
 
-  pub spliced-form : {w : ℕ} → GoodFlat w f → withinCeilings (bareForm (splicedForm o part f)) ≡ true → {form : Bytes} {d p a : ℕ} → form ≡ formBytes w (splicedForm o part f) → d ≡ length (f .definitions) → p ≡ length (splicedForm o part f .particles) → a ≡ length (f .attributes)
+  pub spliced-form : {w : ℕ} → GoodFlat w f → withinCeilings (bareForm (splicedForm o part f)) ≡ true → {form : Bytes} {d p a : ℕ}
+      → form ≡ formBytes w (splicedForm o part f) → d ≡ length (f .definitions) → p ≡ length (splicedForm o part f .particles) → a ≡ length (f .attributes)
       → FormOf w (splicedForm o part f) form d p a
   unfolding splicedForm
   spliced-form g h e n m k =
@@ -85,7 +88,8 @@ module _ {w : ℕ} (i : ℕ) (f : FlatStore) (g : GoodFlat w f) (h : withinCeili
   pub added-ceiling : (c : FlatAttribute) → withinCeilings (bareForm (attributeAdded i c f)) ≡ leb (suc (length (f .attributes))) 64
   added-ceiling c = few-more f (attributeAdded i c f .attributes) h ∙ ap (λ (n : ℕ). leb n 64) (added-length c)
 
-  pub added-form : (c : FlatAttribute) → GoodFlatAttribute w c → length (f .attributes) < 64 → {form : Bytes} {d p a : ℕ} → form ≡ formBytes w (attributeAdded i c f) → d ≡ length (f .definitions) → p ≡ length (f .particles) → a ≡ suc (length (f .attributes))
+  pub added-form : (c : FlatAttribute) → GoodFlatAttribute w c → length (f .attributes) < 64 → {form : Bytes} {d p a : ℕ}
+      → form ≡ formBytes w (attributeAdded i c f) → d ≡ length (f .definitions) → p ≡ length (f .particles) → a ≡ suc (length (f .attributes))
       → FormOf w (attributeAdded i c f) form d p a
   added-form c fine l e n m k =
       record {
@@ -103,7 +107,8 @@ module _ {w : ℕ} (i : ℕ) (f : FlatStore) (g : GoodFlat w f) (h : withinCeili
   dropped-length : i < length (f .attributes) → suc (length (attributeDropped i f .attributes)) ≡ length (f .attributes)
   dropped-length l = omega (arith, length-append (take i (f .attributes)) (drop (suc i) (f .attributes)), length-take i (f .attributes), length-drop (suc i) (f .attributes))
 
-  pub dropped-form : i < length (f .attributes) → {form : Bytes} {d p a : ℕ} → form ≡ formBytes w (attributeDropped i f) → d ≡ length (f .definitions) → p ≡ length (f .particles) → suc a ≡ length (f .attributes) → FormOf w (attributeDropped i f) form d p a
+  pub dropped-form : i < length (f .attributes) → {form : Bytes} {d p a : ℕ} → form ≡ formBytes w (attributeDropped i f) → d ≡ length (f .definitions)
+      → p ≡ length (f .particles) → suc a ≡ length (f .attributes) → FormOf w (attributeDropped i f) form d p a
   dropped-form l e n m k =
       let many : length (attributeDropped i f .attributes) ≤ 64 = omega (arith, dropped-length l, few-attributes (few-of f h)) in
       record {

@@ -57,7 +57,8 @@ module _ (s : Store) (g : good s ≡ true) (txt : Bytes) (d : ℕ) (owner : Byte
 
   -- THE FILLING OF A GROUP whose members of depth e begin with particle number f
   pub filling-group : (j : GroupKind) (ms : Members Bytes) (f e : ℕ) → ((n : Bytes) → List·Memᴰ n (names ms) → known (s .form) n ≡ true) → membersAt (flat s) f e ≡ rename (λ n. indexOf n (s .form)) ms
-      → fillingRows (indexForm (flat s)) (λ i. valueOf (entryOf i (flat s .attributes))) (λ a b. membersAt (flat s) a b) (Particles j f e) txt d ≡ flatten d (indexed (s .form) owner (fillEach (λ n. fillDefinition (s .version) (s .form) txt n) (unless (nothing j ms) (filling j ms))))
+      → fillingRows (indexForm (flat s)) (λ i. valueOf (entryOf i (flat s .attributes))) (λ a b. membersAt (flat s) a b) (Particles j f e) txt d
+      ≡ flatten d (indexed (s .form) owner (fillEach (λ n. fillDefinition (s .version) (s .form) txt n) (unless (nothing j ms) (filling j ms))))
   unfolding groupFilled
   filling-group j ms f e k q =
       ap (λ (x : Members ℕ). fillingsOf (indexForm (flat s)) value fill (unless (nothing j x) (filling j x))) q

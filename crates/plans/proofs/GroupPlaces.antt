@@ -64,7 +64,8 @@ members-read d (el q i ms) rest h =
     ∙ ap₂ (λ (r : Quantifier) (t : Members ℕ). el r i t) (code-quantifier q) (members-read d ms rest h)
 members-read d (group q j ms t) rest h =
     ap indexMembers (build-same (groupParticle d q j (howMany ms)) ((spread (suc d) ms ++ spread d t) ++ rest) d refl)
-    ∙ ap₂ (λ (u v : Members ℕ). indexMember (groupParticle d q j (howMany ms) .row) (groupCode j) u v) (inner ∙ members-read (suc d) ms (spread d t ++ rest) (shallow-spread d t rest (record { none = λ k l. h .none k (omega arith) })))
+    ∙ ap₂ (λ (u v : Members ℕ). indexMember (groupParticle d q j (howMany ms) .row) (groupCode j) u v)
+    (inner ∙ members-read (suc d) ms (spread d t ++ rest) (shallow-spread d t rest (record { none = λ k l. h .none k (omega arith) })))
     (others ∙ members-read d t rest h)
     ∙ by j
   where
@@ -89,7 +90,8 @@ shallow-trailing d (into q k c t) rest h =
     record { none = λ k l. ap (λ (z : Particles). build z k) (append-assoc (trailing (suc d) c) (spread d t) rest) ∙ x .none k l }
 
 -- THE MEMBERS OF A GROUP at a place c of a model whose particles begin with number `start`
-pub group-begins : (start : ℕ) (ps others : Particles) (c : Context ℕ) (q : Quantifier) (j : GroupKind) (ms rest : Members ℕ) → drop start ps ≡ spread 0 (plug c (group q j ms rest)) ++ others → Shallow 1 others
+pub group-begins : (start : ℕ) (ps others : Particles) (c : Context ℕ) (q : Quantifier) (j : GroupKind) (ms rest : Members ℕ)
+    → drop start ps ≡ spread 0 (plug c (group q j ms rest)) ++ others → Shallow 1 others
     → indexMembers (build (drop (start + (offset c + 1)) ps) (suc (level 0 c))) ≡ ms
 group-begins start ps others c q j ms rest e h =
     ap (λ (l : Particles). indexMembers (build l (suc (level 0 c)))) seen
@@ -129,7 +131,9 @@ module _ (form : Form) where
           let x : Shallow 1 (spread 0 (rename index ms) ++ allParticles form ds) = shallow-spread 0 (rename index ms) (allParticles form ds) h in
           record { none = λ k l. ap (λ (z : Particles). build (z ++ allParticles form ds) k) (spread-named form 0 ms) ∙ x .none k l }
 
-  part-from : (o : ℕ) (ds : Form) → o < length ds → (rest : Form) × (drop (startOf o (map (flatDefinition form) ds)) (allParticles form ds) ≡ contentParticles form (definitionAt o ds .content) ++ allParticles form rest)
+  part-from : (o : ℕ) (ds : Form) → o < length ds
+      → (rest : Form)
+      × (drop (startOf o (map (flatDefinition form) ds)) (allParticles form ds) ≡ contentParticles form (definitionAt o ds .content) ++ allParticles form rest)
   part-from o [] l = absurd (omega arith)
   part-from zero (d ∷ ds) l = (ds, refl)
   part-from (suc o) (d ∷ ds) l =
@@ -139,7 +143,9 @@ module _ (form : Form) where
 -- THE MEMBERS OF A GROUP that is found at a place of the model of definition o
 pub group-at : (s : Store) (o : ℕ) → o < length (s .form) → (e : Edit Bytes) (p : List ℕ) (c : Context Bytes) (q : Quantifier) (j : GroupKind) (ms rest : Members Bytes)
     → placeOf e p (members (definitionAt o (s .form))) ≡ some (record { context = c; picked = group q j ms rest })
-    → membersAt (flat s) (startOf o (flat s .definitions) + (offset (renameAround (λ n. indexOf n (s .form)) c) + 1)) (suc (level 0 (renameAround (λ n. indexOf n (s .form)) c))) ≡ rename (λ n. indexOf n (s .form)) ms
+    → membersAt (flat s) (startOf o (flat s .definitions) + (offset (renameAround (λ n. indexOf n (s .form)) c) + 1))
+    (suc (level 0 (renameAround (λ n. indexOf n (s .form)) c)))
+    ≡ rename (λ n. indexOf n (s .form)) ms
 unfolding membersAt rename
 group-at s o l e p c q j ms rest at =
     let (others, from) = part-from (s .form) o (s .form) l in

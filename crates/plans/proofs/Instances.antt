@@ -1,4 +1,5 @@
--- Instances never nest: below an element stand only elements of definitions that its own reaches, and none reaches itself.
+-- Instances never nest: below an element stand only elements of
+-- definitions that its own reaches, and none reaches itself.
 use Prim.Native.Nat.{ℕ, suc, _<_}
 use native.Mathlib.Omega.{arith}
 use mathlib.Core.Path.{_≡_, refl, sym, ap, _∙_, subst}
@@ -66,7 +67,8 @@ module _ (form : Form) (once : Distinct (map definitionName form)) (o : ℕ) (be
 
 -- ---- rows below a row
 -- an element right below a row that conforms is a member of an element's definition
-member-below : (version : ℕ) (form : Form) (u : Row) (below : List Row) → RowConforms version form u below → (r : Row) → List·Memᴰ r below → r .sort ≡ element → (u .sort ≡ element) × List·Memᴰ (r .name) (membersOf (u .name) form)
+member-below : (version : ℕ) (form : Form) (u : Row) (below : List Row) → RowConforms version form u below → (r : Row) → List·Memᴰ r below → r .sort ≡ element
+    → (u .sort ≡ element) × List·Memᴰ (r .name) (membersOf (u .name) form)
 member-below version form u below x r m s = by (u .sort) refl x
   where
     by : (k : RowSort) → u .sort ≡ k → RowConforms version form u below → (u .sort ≡ element) × List·Memᴰ (r .name) (membersOf (u .name) form)
@@ -76,7 +78,8 @@ member-below version form u below x r m s = by (u .sort) refl x
 
 module _ (version : ℕ) (form : Form) (once : Distinct (map definitionName form)) (acyclic : (n : Bytes) → Reaches form n n → ⊥) (o : ℕ) (below : o < length form) where
   -- where the elements at the top are reached from definition o
-  none-below : (owner : Bytes) (f : Forest Row) → EveryRow (λ r rows. RowConforms version form r rows) f → ((r : Row) → List·Memᴰ r (heads f) → r .sort ≡ element → Reaches form (nameAtIndex o form) (r .name))
+  none-below : (owner : Bytes) (f : Forest Row) → EveryRow (λ r rows. RowConforms version form r rows) f
+      → ((r : Row) → List·Memᴰ r (heads f) → r .sort ≡ element → Reaches form (nameAtIndex o form) (r .name))
       → NoneOf (matches (Elements o)) (indexed form owner f)
   none-below owner bare x h = tt
   none-below owner (tree r b t) (x, y, z) h = (
@@ -87,15 +90,21 @@ module _ (version : ℕ) (form : Form) (once : Distinct (map definitionName form
     where
       other : (c : Bool) → isElement (r .sort) ≡ c → (isElement (r .sort) && same (nameAtIndex o form) (r .name)) ≡ false
       other true q =
-          rw
-          (q, differs bytes (nameAtIndex o form) (r .name) (λ e. acyclic (nameAtIndex o form) (subst (λ (n : Bytes). Reaches form (nameAtIndex o form) n) (sym e) (h r (List·Memᴰ·head refl) (is-element (r .sort) q)))))
+          rw (
+            q,
+            differs bytes (nameAtIndex o form) (r .name)
+                (λ e. acyclic (nameAtIndex o form)
+                (subst (λ (n : Bytes). Reaches form (nameAtIndex o form) n) (sym e) (h r (List·Memᴰ·head refl) (is-element (r .sort) q)))),
+          )
       other false q = rw q
 
   apart-elements : (owner : Bytes) (f : Forest Row) → EveryRow (λ r rows. RowConforms version form r rows) f → Apart (matches (Elements o)) (indexed form owner f)
   apart-elements owner bare x = tt
   apart-elements owner (tree r b t) (x, y, z) = (
     λ e.
-        let n : nameAtIndex o form ≡ r .name = same-eq (nameAtIndex o form) (r .name) (and-split (isElement (r .sort)) (same (nameAtIndex o form) (r .name)) (sym (element-test form once o below owner r) ∙ e) .1) in
+        let n : nameAtIndex o form ≡ r .name =
+        same-eq (nameAtIndex o form) (r .name)
+        (and-split (isElement (r .sort)) (same (nameAtIndex o form) (r .name)) (sym (element-test form once o below owner r) ∙ e) .1) in
         none-below (r .name) b y (λ s m q. subst (λ (k : Bytes). Reaches form k (s .name)) (sym n) (directly (member-below version form r (heads b) x s m q .1))),
     apart-elements (r .name) b y,
     apart-elements owner t z,
@@ -105,4 +114,5 @@ module _ (version : ℕ) (form : Form) (once : Distinct (map definitionName form
 pub apart-instances : (s : Store) → good s ≡ true → (o : ℕ) → o < length (s .form) → Apart (matches (Elements o)) (indexed (s .form) [] (s .docs))
 apart-instances s g o l =
     let ok = good-is s .0 g in
-    apart-elements (s .version) (s .form) (ok .form .names) (no-circle (valueWidth (s .version)) (s .form) (well-formed (valueWidth (s .version)) (s .form) .1 (ok .form))) o l [] (s .docs) (ok .docs .rows)
+    apart-elements (s .version) (s .form) (ok .form .names)
+    (no-circle (valueWidth (s .version)) (s .form) (well-formed (valueWidth (s .version)) (s .form) .1 (ok .form))) o l [] (s .docs) (ok .docs .rows)

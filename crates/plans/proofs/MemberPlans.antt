@@ -18,7 +18,8 @@ use Rattle.rules.specs.WellFormed.{definitionName, known}
 use Rattle.rules.specs.Filling.{fillDefinition}
 use Rattle.rules.specs.Lines.{elementNamed}
 use Rattle.rules.specs.Passing.{good}
-use Rattle.rules.specs.Change.{insertElement, removeElement, definitionAt, nameAtIndex, update, inModel, editAt, formAfter, taking, making, laterThan, insertPlan, removePlan, pickedPlan, plan, changed}
+use Rattle.rules.specs.Change.{insertElement, removeElement, definitionAt, nameAtIndex, update, inModel, editAt, formAfter, taking, making, laterThan}
+use Rattle.rules.specs.Change.{insertPlan, removePlan, pickedPlan, plan, changed}
 use Rattle.rules.specs.Change as change
 use Rattle.rules.proofs.PassingLaws.{good-is}
 use Rattle.history.proofs.Rowwise.{Standing}
@@ -44,7 +45,8 @@ module _ (s : Store) (g : good s ≡ true) (o : ℕ) (l : o < length (s .form)) 
   once = good-is s .0 g .form .names
 
   -- ---- 4: member n at the place
-  pub remove-element-does : (c : Context Bytes) (q : Quantifier) (n : Bytes) (t : Members Bytes) → placeOf remove p (members (definitionAt o (s .form))) ≡ some (record { context = c; picked = el q n t })
+  pub remove-element-does : (c : Context Bytes) (q : Quantifier) (n : Bytes) (t : Members Bytes)
+      → placeOf remove p (members (definitionAt o (s .form))) ≡ some (record { context = c; picked = el q n t })
       → (v : Bytes) → DoesIn (removeElement o p) s (removeElementPlan o (indexOf n (s .form))) v
   unfolding plan formAfter names
   remove-element-does c q n t at v =
@@ -114,7 +116,11 @@ module _ (s : Store) (g : good s ≡ true) (o : ℕ) (l : o < length (s .form)) 
               (λ sel w u r b y j. (insert-row sel w u r b j, element-test (s .form) once o l (u .name) r)) refl;
         }
         ∙ sym (ap (flatten 0) (rows-still (editAt edit p) o (s .form) [] (changed maker (s .docs))))
-        ∙ ap (λ (z : Option (Found Bytes)). flatten 0 (indexed (update o (inModel (editAt edit p)) (s .form)) [] (changed (insertPlan (s .version) (s .form) owner t (quantifierOf k) (nameAtIndex i (s .form)) z) (s .docs)))) (sym at)
+        ∙ ap
+        (λ (z : Option (Found Bytes)). flatten 0
+        (indexed (update o (inModel (editAt edit p)) (s .form)) []
+        (changed (insertPlan (s .version) (s .form) owner t (quantifierOf k) (nameAtIndex i (s .form)) z) (s .docs))))
+        (sym at)
       where
         edit : Edit Bytes
         edit = insert (quantifierOf k) (nameAtIndex i (s .form))

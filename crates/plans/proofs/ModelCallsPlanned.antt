@@ -1,4 +1,5 @@
--- THE STORE AFTER CHANGES 3, 4, 5 AND 8, where no condition of the refusal table holds: the bodies after the plan by indices.
+-- THE STORE AFTER CHANGES 3, 4, 5 AND 8, where no condition of the
+-- refusal table holds: the bodies after the plan by indices.
 use Prim.Native.Nat.{ℕ}
 use mathlib.Core.Path.{_≡_, refl}
 use mathlib.Core.Bool.{true, false, _&&_, _||_, not}
@@ -57,18 +58,26 @@ module _ (s : Store) (g : good s ≡ true) (o : ℕ) (p : List ℕ) (c : Context
   -- 5: element n
   pub change-quantifier-planned : (k : ℕ) (t : Bytes) (old : Quantifier) (n : Bytes) (rest : Members Bytes) (marks : Bytes) → first (conditions (changeQuantifier o p k t) s) ≡ 0
       → placeOf (quantify (quantifierOf k)) p (members (definitionAt o (s .form))) ≡ some (record { context = c; picked = el old n rest })
-      → (((spine c && cuts old (quantifierOf k)) || (spine c && gains old (quantifierOf k))) ≡ true → Marked (s .form) (before c) (n ∷ []) marks) → Holds new (formAfter (changeQuantifier o p k t) (s .form))
+      → (((spine c && cuts old (quantifierOf k)) || (spine c && gains old (quantifierOf k))) ≡ true → Marked (s .form) (before c) (n ∷ []) marks)
+      → Holds new (formAfter (changeQuantifier o p k t) (s .form))
       → flat (after (changeQuantifier o p k t) s)
       ≡ plannedIn new (requantifyPlan o marks (spine c && cuts old (quantifierOf k)) (indexOf n (s .form)) (spine c && gains old (quantifierOf k)) (Definition (indexOf n (s .form)))) t (flat s)
   unfolding conditions
   change-quantifier-planned k t old n rest marks e at marked holds =
       let (text, (code, (index, more))) = none-holds (changeQuantifier o p k t) s e in
-      flat-planned-in (changeQuantifier o p k t) s (requantifyPlan o marks (spine c && cuts old (quantifierOf k)) (indexOf n (s .form)) (spine c && gains old (quantifierOf k)) (Definition (indexOf n (s .form)))) t new holds
-      (clear-elements s g o (requantifyPlan o marks (spine c && cuts old (quantifierOf k)) (indexOf n (s .form)) (spine c && gains old (quantifierOf k)) (Definition (indexOf n (s .form)))) (not-past o (s .form) index) refl)
+      flat-planned-in (changeQuantifier o p k t) s
+      (requantifyPlan o marks (spine c && cuts old (quantifierOf k)) (indexOf n (s .form)) (spine c && gains old (quantifierOf k))
+      (Definition (indexOf n (s .form))))
+      t new holds
+      (clear-elements s g o
+      (requantifyPlan o marks (spine c && cuts old (quantifierOf k)) (indexOf n (s .form)) (spine c && gains old (quantifierOf k))
+      (Definition (indexOf n (s .form))))
+      (not-past o (s .form) index) refl)
       (change-quantifier-does s g o (not-past o (s .form) index) p k t c old marks n rest at marked)
 
   -- 8: a group, whose members of depth e begin with particle number f
-  pub change-group-quantifier-planned : (k : ℕ) (t : Bytes) (old : Quantifier) (j : GroupKind) (ms rest : Members Bytes) (marks : Bytes) (f e : ℕ) → first (conditions (changeGroupQuantifier o p k t) s) ≡ 0
+  pub change-group-quantifier-planned : (k : ℕ) (t : Bytes) (old : Quantifier) (j : GroupKind) (ms rest : Members Bytes) (marks : Bytes) (f e : ℕ)
+      → first (conditions (changeGroupQuantifier o p k t) s) ≡ 0
       → placeOf (quantify (quantifierOf k)) p (members (definitionAt o (s .form))) ≡ some (record { context = c; picked = group old j ms rest })
       → ((spine c && gains old (quantifierOf k)) ≡ true → Marked (s .form) (before c) (names ms) marks)
       → ((spine c && gains old (quantifierOf k)) ≡ true → membersAt (flat s) f e ≡ rename (λ n. indexOf n (s .form)) ms)

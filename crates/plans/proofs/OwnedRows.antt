@@ -25,7 +25,8 @@ Owns form u r = isAttribute (r .sort) ≡ true → (isElement (u .sort) ≡ true
 owned-below : (version : ℕ) (form : Form) (u : Row) (rows : List Row) → fitsRow version form u rows ≡ true → (r : Row) → List·Memᴰ r rows → Owns form u r
 owned-below version form u rows h r m a = by (isElement (u .sort)) refl
   where
-    found : (x : Option Definition) → lookup (u .name) form ≡ x → fitsDefinition version x rows ≡ true → (d : Definition) × (lookup (u .name) form ≡ some d) × List·Memᴰ (r .name) (map attributeName (d .attributes))
+    found : (x : Option Definition) → lookup (u .name) form ≡ x → fitsDefinition version x rows ≡ true
+        → (d : Definition) × (lookup (u .name) form ≡ some d) × List·Memᴰ (r .name) (map attributeName (d .attributes))
     found none q f = absurd (false≢true f)
     found (some d) q f =
         let x : Stripped version d rows = stripped version d rows f in
@@ -51,5 +52,7 @@ each-owned s g =
     let x = good-is s .0 g in
     let ok : wellFormed (valueWidth (s .version)) (s .form) ≡ true = well-formed (valueWidth (s .version)) (s .form) .1 (x .form) in
     each-below (Owns (s .form)) (λ r rows. RowConforms (s .version) (s .form) r rows)
-    (λ u rows c. owned-below (s .version) (s .form) u rows (row-is (s .version) (s .form) (once (valueWidth (s .version)) (s .form) ok) (apart (valueWidth (s .version)) (s .form) ok) u rows .1 c)) ground (s .docs)
+    (λ u rows c. owned-below (s .version) (s .form) u rows
+    (row-is (s .version) (s .form) (once (valueWidth (s .version)) (s .form) ok) (apart (valueWidth (s .version)) (s .form) ok) u rows .1 c))
+    ground (s .docs)
     (λ r m a. absurd (false≢true (sym (ap isAttribute (x .docs .roots r m)) ∙ a))) (x .docs .rows)

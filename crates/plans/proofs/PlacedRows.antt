@@ -1,5 +1,6 @@
--- The rows right below an instance at a place on the spine of its model: those of names before the place, those of the member at it, the
--- others. So if one of the member at the place stands, the first row that is later than the place is one.
+-- The rows right below an instance at a place on the spine of its model: those of names before the place, those of the
+-- member at it, the others. So if one of the member at the place stands,
+-- the first row that is later than the place is one.
 use Prim.Native.Nat.{ℕ, _<_}
 use mathlib.Core.Path.{_≡_, refl, sym, ap, ap₂, _∙_, subst}
 use mathlib.Core.Logic.{_⊎_, inl, inr, ⊎-elim}
@@ -46,12 +47,17 @@ pub record Placed (bs ns w : List Bytes) : Type 0 where
   pub apart : (y : Bytes) → List·Memᴰ y ns → List·Memᴰ y bs → ⊥
 
 -- a word of the model with the members `one` at the place, and `rest` after them
-pub placed : (c : Context Bytes) (one rest : Members Bytes) → spine c ≡ true → Distinct (names (plug c (one ⊕ rest))) → (w : List Bytes) → Conforms (plug c (one ⊕ rest)) w → Placed (before c) (names one) w
+pub placed : (c : Context Bytes) (one rest : Members Bytes) → spine c ≡ true → Distinct (names (plug c (one ⊕ rest))) → (w : List Bytes)
+    → Conforms (plug c (one ⊕ rest)) w → Placed (before c) (names one) w
 placed c one rest s d w m =
     let p = split c (one ⊕ rest) s d w m in
     let (u, v, e, a, b) = append-alike Sequence one rest .to .carry (p .mid) (p .mid-is) in
-    let all : Distinct (names one ++ names rest) = subst (λ (l : List Bytes). Distinct l) (names-append one rest) (distinct-left (names (one ⊕ rest)) (after c) (distinct-right (before c) (names (one ⊕ rest) ++ after c) (subst (λ (l : List Bytes). Distinct l) (names-plug c (one ⊕ rest)) d))) in
-    let here : (y : Bytes) → List·Memᴰ y (names one) → List·Memᴰ y (names (one ⊕ rest)) = λ y k. subst (λ (l : List Bytes). List·Memᴰ y l) (sym (names-append one rest)) (Memᴰ·append-left (names rest) k) in
+    let all : Distinct (names one ++ names rest) =
+    subst (λ (l : List Bytes). Distinct l) (names-append one rest)
+    (distinct-left (names (one ⊕ rest)) (after c)
+    (distinct-right (before c) (names (one ⊕ rest) ++ after c) (subst (λ (l : List Bytes). Distinct l) (names-plug c (one ⊕ rest)) d))) in
+    let here : (y : Bytes) → List·Memᴰ y (names one) → List·Memᴰ y (names (one ⊕ rest)) =
+    λ y k. subst (λ (l : List Bytes). List·Memᴰ y l) (sym (names-append one rest)) (Memᴰ·append-left (names rest) k) in
     record {
       left = p .left;
       mid = u;
@@ -59,7 +65,8 @@ placed c one rest s d w m =
       whole = ap (λ (z : List Bytes). p .left ++ z) (sym (append-assoc u v (p .right)) ∙ ap (λ (z : List Bytes). z ++ p .right) e) ∙ p .whole;
       left-in = p .left-in;
       mid-in = λ y i. letters Sequence one .inside u a y i;
-      right-out = λ y i k. ⊎-elim (λ j. distinct-apart (names one) (names rest) all y k (letters Sequence rest .inside v b y j)) (λ j. p .apart-right y (here y k) (p .right-in y j)) (List·Memᴰ·append-cases v i);
+      right-out = λ y i k. ⊎-elim (λ j. distinct-apart (names one) (names rest) all y k (letters Sequence rest .inside v b y j))
+          (λ j. p .apart-right y (here y k) (p .right-in y j)) (List·Memᴰ·append-cases v i);
       apart = λ y k j. p .apart y (inl (here y k)) j;
     }
 
@@ -90,7 +97,8 @@ module _ (bs ns : List Bytes) where
   element-among : (r : Row) → r .sort ≡ element → (b : Bool) → member bytes (r .name) ns ≡ b → elementAmong ns r ≡ b
   element-among r e b m = ap₂ (λ (s : RowSort) (z : Bool). isElement s && z) e m
 
-  module _ (apart : (y : Bytes) → List·Memᴰ y ns → List·Memᴰ y bs → ⊥) (mid right : List Bytes) (mid-in : (y : Bytes) → List·Memᴰ y mid → List·Memᴰ y ns) (right-out : (y : Bytes) → List·Memᴰ y right → List·Memᴰ y ns → ⊥) where
+  module _ (apart : (y : Bytes) → List·Memᴰ y ns → List·Memᴰ y bs → ⊥) (mid right : List Bytes) (mid-in : (y : Bytes) → List·Memᴰ y mid → List·Memᴰ y ns)
+      (right-out : (y : Bytes) → List·Memᴰ y right → List·Memᴰ y ns → ⊥) where
     right-rows : (rows : List Row) → right ≡ map nameOf rows → Sorted element rows → NoneAt ns rows
     right-rows rows e s r m = element-among r (s r m) false (member-out bytes (r .name) ns (right-out (r .name) (subst (λ (l : List Bytes). List·Memᴰ (r .name) l) (sym e) (Memᴰ·map nameOf m))))
 
@@ -100,7 +108,10 @@ module _ (bs ns : List Bytes) where
     mid-rows (r ∷ rows) (y ∷ w) f e s =
         let n : y ≡ r .name = cc e in
         let k : List·Memᴰ (r .name) ns = f (r .name) (List·Memᴰ·head (sym n)) in
-        inr (inl (element-late r (s r (List·Memᴰ·head refl)) false (member-out bytes (r .name) bs (apart (r .name) k)), element-among r (s r (List·Memᴰ·head refl)) true (member-in bytes (r .name) ns k)))
+        inr (inl (
+          element-late r (s r (List·Memᴰ·head refl)) false (member-out bytes (r .name) bs (apart (r .name) k)),
+          element-among r (s r (List·Memᴰ·head refl)) true (member-in bytes (r .name) ns k),
+        ))
 
     left-rows : (left : List Bytes) (rows : List Row) → ((y : Bytes) → List·Memᴰ y left → List·Memᴰ y bs) → left ++ (mid ++ right) ≡ map nameOf rows → Sorted element rows → Cases rows
     left-rows [] rows f e s = mid-rows rows mid mid-in e s
@@ -109,7 +120,8 @@ module _ (bs ns : List Bytes) where
         let n : y ≡ r .name = cc e in
         let h : left ++ (mid ++ right) ≡ map nameOf rows = cc e in
         let k : List·Memᴰ (r .name) bs = f (r .name) (List·Memᴰ·head (sym n)) in
-        one-more r rows (element-late r (s r (List·Memᴰ·head refl)) true (member-in bytes (r .name) bs k)) (element-among r (s r (List·Memᴰ·head refl)) false (member-out bytes (r .name) ns (λ j. apart (r .name) j k)))
+        one-more r rows (element-late r (s r (List·Memᴰ·head refl)) true (member-in bytes (r .name) bs k))
+        (element-among r (s r (List·Memᴰ·head refl)) false (member-out bytes (r .name) ns (λ j. apart (r .name) j k)))
         (left-rows left rows (λ x i. f x (List·Memᴰ·tail i)) h (λ x i. s x (List·Memᴰ·tail i)))
 
   placed-rows : (rows : List Row) → Sorted element rows → Placed bs ns (map nameOf rows) → Cases rows
@@ -120,7 +132,8 @@ module _ (bs ns : List Bytes) where
   front-rows [] back s k = k
   front-rows (r ∷ front) back s k =
       let e : r .sort ≡ attribute = s r (List·Memᴰ·head refl) in
-      one-more r (front ++ back) (ap (λ (z : RowSort). isElement z && not (member bytes (r .name) bs)) e) (ap (λ (z : RowSort). isElement z && member bytes (r .name) ns) e) (front-rows front back (λ x i. s x (List·Memᴰ·tail i)) k)
+      one-more r (front ++ back) (ap (λ (z : RowSort). isElement z && not (member bytes (r .name) bs)) e)
+      (ap (λ (z : RowSort). isElement z && member bytes (r .name) ns) e) (front-rows front back (λ x i. s x (List·Memᴰ·tail i)) k)
 
 -- ---- the rows right below an instance in a store that passes
 module _ (s : Store) (g : good s ≡ true) (o : ℕ) (l : o < length (s .form)) (e : Edit Bytes) (p : List ℕ) (c : Context Bytes) (one rest : Members Bytes)
@@ -138,7 +151,8 @@ module _ (s : Store) (g : good s ≡ true) (o : ℕ) (l : o < length (s .form)) 
   instance-rows r b i n =
       let (is, called) = and-split (isElement (r .sort)) (same (d .name) (r .name)) n in
       let (k, q, x) = rw (is-element (r .sort) is) at (every-standing (λ u rows. RowConforms (s .version) (s .form) u rows) (s .docs) (good-is s .0 g .docs .rows) r b i) in
-      let found : lookup (r .name) (s .form) ≡ some d = ap (λ (z : Bytes). lookup z (s .form)) (sym (same-eq (d .name) (r .name) called)) ∙ definition-found o (s .form) (good-is s .0 g .form .names) l in
+      let found : lookup (r .name) (s .form) ≡ some d =
+      ap (λ (z : Bytes). lookup z (s .form)) (sym (same-eq (d .name) (r .name) called)) ∙ definition-found o (s .form) (good-is s .0 g .form .names) l in
       let own : k ≡ d = cc (q, found) in
       by (subst (λ (z : Definition). ElementRows (s .version) z (heads b)) own x)
     where
@@ -150,4 +164,5 @@ module _ (s : Store) (g : good s ≡ true) (o : ℕ) (l : o < length (s .form)) 
           let (sorted, word) = subst (λ (z : Content). ContentRows z (x .back)) content (x .content) in
           subst (λ (z : List Row). NoneAt (names one) z ⊎ FirstAt (before c) (names one) z) (x .split)
           (front-rows (before c) (names one) (x .front) (x .back) (x .attributes .sorts)
-          (placed-rows (before c) (names one) (x .back) sorted (placed c one rest spined once (map nameOf (x .back)) (subst (λ (z : Members Bytes). Conforms z (map nameOf (x .back))) (sym right) word))))
+          (placed-rows (before c) (names one) (x .back) sorted
+          (placed c one rest spined once (map nameOf (x .back)) (subst (λ (z : Members Bytes). Conforms z (map nameOf (x .back))) (sym right) word))))

@@ -1,4 +1,5 @@
--- The store that a call leaves is the one after a plan that does on the documents what the call does, where the form stays as it is.
+-- The store that a call leaves is the one after a plan that does on the
+-- documents what the call does, where the form stays as it is.
 use mathlib.Core.Path.{_≡_, refl, sym, ap, _∙_, subst}
 use mathlib.Core.List.{[]}
 use Rattle.rules.specs.Bytes.{Bytes}

@@ -76,7 +76,8 @@ module _ (s : Store) (g : good s ≡ true) (o : ℕ) (l : o < length (s .form)) 
   rowsOf what d = fillingRows (indexForm (flat s)) (λ j. valueOf (entryOf j (flat s .attributes))) (λ a b. membersAt (flat s) a b) what t d
 
   -- the filling if there is a gain
-  gained : (what : Filling) (rows : Forest Row) (b : Bool) (d : ℕ) (m : Bytes) → (b ≡ true → rowsOf what d ≡ flatten d (indexed (s .form) m rows)) → rowsOf (gainFilling b what) d ≡ owed b (flatten d (indexed (s .form) m rows))
+  gained : (what : Filling) (rows : Forest Row) (b : Bool) (d : ℕ) (m : Bytes) → (b ≡ true → rowsOf what d ≡ flatten d (indexed (s .form) m rows))
+      → rowsOf (gainFilling b what) d ≡ owed b (flatten d (indexed (s .form) m rows))
   gained what rows true d m e = e refl
   gained what rows false d m e = refl
 
@@ -102,13 +103,21 @@ module _ (s : Store) (g : good s ≡ true) (o : ℕ) (l : o < length (s .form)) 
     unfolding names _⊕_
     standing f = instance-rows s g o l (quantify new) p c (el old n done) rest at refl (both-spined (spine c) (cuts old new) (gains old new) f)
 
-    pub change-quantifier-does : DoesIn (changeQuantifier o p k t) s (requantifyPlan o marks (spine c && cuts old (quantifierOf k)) (indexOf n (s .form)) (spine c && gains old (quantifierOf k)) (Definition (indexOf n (s .form)))) t
+    pub change-quantifier-does : DoesIn (changeQuantifier o p k t) s
+        (requantifyPlan o marks (spine c && cuts old (quantifierOf k)) (indexOf n (s .form)) (spine c && gains old (quantifierOf k))
+        (Definition (indexOf n (s .form))))
+        t
     unfolding plan formAfter
     change-quantifier-does =
-        requantify-does s g o l c (n ∷ []) marks cut gain x n (Definition x) t (fillDefinition (s .version) (s .form) t n) (elementNamed n) marked standing among (λ e m r. named-test (s .form) once n there m r) (λ e. among)
+        requantify-does s g o l c (n ∷ []) marks cut gain x n (Definition x) t (fillDefinition (s .version) (s .form) t n) (elementNamed n) marked standing
+        among (λ e m r. named-test (s .form) once n there m r) (λ e. among)
         (λ d m. gained (Definition x) (fillDefinition (s .version) (s .form) t n) gain d m (λ e. definition-rows d m))
         ∙ sym (ap (flatten 0) (rows-still (editAt (quantify new) p) o (s .form) [] (changed (quantifyPlan (s .version) (s .form) (lines 0 (s .docs)) owner t new c (el old n rest)) (s .docs))))
-        ∙ ap (λ (z : Option (Found Bytes)). flatten 0 (indexed (update o (inModel (editAt (quantify new) p)) (s .form)) [] (changed (pickedPlan (quantifyPlan (s .version) (s .form) (lines 0 (s .docs)) owner t new) z) (s .docs)))) (sym at)
+        ∙ ap
+        (λ (z : Option (Found Bytes)). flatten 0
+        (indexed (update o (inModel (editAt (quantify new) p)) (s .form)) []
+        (changed (pickedPlan (quantifyPlan (s .version) (s .form) (lines 0 (s .docs)) owner t new) z) (s .docs))))
+        (sym at)
 
   -- ---- 8: a group, whose members of depth e begin with particle number f
   module _ (j : GroupKind) (ms rest : Members Bytes) (at : placeOf (quantify (quantifierOf k)) p (members (definitionAt o (s .form))) ≡ some (record { context = c; picked = group old j ms rest }))
@@ -128,7 +137,9 @@ module _ (s : Store) (g : good s ≡ true) (o : ℕ) (l : o < length (s .form)) 
     known-member n m = picked-known s g o l (quantify new) p (record { context = c; picked = group old j ms rest }) at n (Memᴰ·append-left (names rest) m)
 
     group-rows : gain ≡ true → (d : ℕ) (m : Bytes) → rowsOf (Particles j f e) d ≡ flatten d (indexed (s .form) m rows)
-    group-rows h d m = filling-group s g t d m j ms f e known-member (begin h) ∙ ap (λ (ns : List Bytes). flatten d (indexed (s .form) m (fillEach (λ n. fillDefinition (s .version) (s .form) t n) ns))) (sym (needed h))
+    group-rows h d m =
+        filling-group s g t d m j ms f e known-member (begin h)
+        ∙ ap (λ (ns : List Bytes). flatten d (indexed (s .form) m (fillEach (λ n. fillDefinition (s .version) (s .form) t n) ns))) (sym (needed h))
 
     standing-group : gain ≡ true → (r : Row) (b : Forest Row) → Standing (s .docs) r b → elementNamed owner r ≡ true → NoneAt (names ms) (heads b) ⊎ FirstAt (before c) (names ms) (heads b)
     unfolding names _⊕_
@@ -143,7 +154,12 @@ module _ (s : Store) (g : good s ≡ true) (o : ℕ) (l : o < length (s .form)) 
     pub change-group-quantifier-does : DoesIn (changeGroupQuantifier o p k t) s (requantifyPlan o marks false 0 (spine c && gains old (quantifierOf k)) (Particles j f e)) t
     unfolding plan formAfter
     change-group-quantifier-does =
-        requantify-does s g o l c (names ms) marks false gain 0 [] (Particles j f e) t rows (elementAmong (names ms)) marked standing-group (λ r. refl) (λ e. absurd (false≢true e)) (λ e. absurd (false≢true e))
+        requantify-does s g o l c (names ms) marks false gain 0 [] (Particles j f e) t rows (elementAmong (names ms)) marked standing-group (λ r. refl)
+        (λ e. absurd (false≢true e)) (λ e. absurd (false≢true e))
         (λ d m. gained (Particles j f e) rows gain d m (λ h. group-rows h d m))
         ∙ sym (ap (flatten 0) (rows-still (editAt (quantify new) p) o (s .form) [] (changed (quantifyPlan (s .version) (s .form) (lines 0 (s .docs)) owner t new c (group old j ms rest)) (s .docs))))
-        ∙ ap (λ (z : Option (Found Bytes)). flatten 0 (indexed (update o (inModel (editAt (quantify new) p)) (s .form)) [] (changed (pickedPlan (quantifyPlan (s .version) (s .form) (lines 0 (s .docs)) owner t new) z) (s .docs)))) (sym at)
+        ∙ ap
+        (λ (z : Option (Found Bytes)). flatten 0
+        (indexed (update o (inModel (editAt (quantify new) p)) (s .form)) []
+        (changed (pickedPlan (quantifyPlan (s .version) (s .form) (lines 0 (s .docs)) owner t new) z) (s .docs))))
+        (sym at)

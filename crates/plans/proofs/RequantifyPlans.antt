@@ -61,11 +61,15 @@ owed-twice true false w = refl
 owed-twice false true w = refl
 owed-twice false false w = refl
 
--- `cut`, `gain`: a cut or a gain at the place c, where the elements of the names ns are; x: of the name n, which a cut takes
-module _ (s : Store) (g : good s ≡ true) (o : ℕ) (l : o < length (s .form)) (c : Context Bytes) (ns : List Bytes) (marks : Bytes) (cut gain : Bool) (x : ℕ) (n : Bytes) (what : Filling) (v : Bytes) (rows : Forest Row) (test : Row → Bool)
+-- `cut`, `gain`: a cut or a gain at the place c, where the elements of the
+-- names ns are; x: of the name n, which a cut takes
+module _ (s : Store) (g : good s ≡ true) (o : ℕ) (l : o < length (s .form)) (c : Context Bytes) (ns : List Bytes) (marks : Bytes) (cut gain : Bool) (x : ℕ)
+    (n : Bytes) (what : Filling) (v : Bytes) (rows : Forest Row) (test : Row → Bool)
     (marked : (cut || gain) ≡ true → Marked (s .form) (before c) ns marks)
     (instances : (cut || gain) ≡ true → (r : Row) (b : Forest Row) → Standing (s .docs) r b → elementNamed (nameAtIndex o (s .form)) r ≡ true → NoneAt ns (heads b) ⊎ FirstAt (before c) ns (heads b))
-    (tests : (r : Row) → test r ≡ elementAmong ns r) (takes : cut ≡ true → (m : Bytes) (r : Row) → matches (Elements x) (rowWritten (s .form) m r) ≡ elementNamed n r) (alone : cut ≡ true → (r : Row) → elementNamed n r ≡ elementAmong ns r)
+    (tests : (r : Row) → test r ≡ elementAmong ns r)
+    (takes : cut ≡ true → (m : Bytes) (r : Row) → matches (Elements x) (rowWritten (s .form) m r) ≡ elementNamed n r)
+    (alone : cut ≡ true → (r : Row) → elementNamed n r ≡ elementAmong ns r)
     (fills : (d : ℕ) (m : Bytes) → fillOf (requantifyPlan o marks cut x gain what) v (flat s) d ≡ owed gain (flatten d (indexed (s .form) m rows))) where
   abbrev owner : Bytes
   owner = nameAtIndex o (s .form)
@@ -100,21 +104,23 @@ module _ (s : Store) (g : good s ≡ true) (o : ℕ) (l : o < length (s .form)) 
   serials : GoodSerials (s .next) (s .docs)
   serials = good-is s .0 g .serials
 
-  -- where the rows f, from some row on, stand: not below an instance; below one where none of ns stands; below one before its first of ns;
-  -- below one, after that
+  -- where the rows f, from some row on, stand: not below an instance; below one where none of ns stands; below one
+  -- before its first of ns; below one, after that
   data Phase (sel due owes : Bool) (u : Row) (f : Forest Row) : Type 0 where
     outside : sel ≡ false → due ≡ false → owes ≡ false → elementNamed owner u ≡ false → Phase sel due owes u f
     bereft : sel ≡ true → due ≡ true → owes ≡ gain → elementNamed owner u ≡ true → (cut || gain) ≡ true → NoneAt ns (heads f) → Phase sel due owes u f
     waiting : sel ≡ true → due ≡ true → owes ≡ false → elementNamed owner u ≡ true → (cut || gain) ≡ true → FirstAt (before c) ns (heads f)
         → (cut ≡ true → firstBelow u ≡ serialAt 0 (map rowSerial (keep (elementNamed n) (heads f)))) → Distinct (map rowSerial (heads f)) → Phase sel due owes u f
-    over : sel ≡ true → due ≡ false → owes ≡ false → elementNamed owner u ≡ true → (cut ≡ true → (r : Row) → List·Memᴰ r (heads f) → elementNamed n r ≡ true → r .serial ≡ firstBelow u → ⊥) → Phase sel due owes u f
+    over : sel ≡ true → due ≡ false → owes ≡ false → elementNamed owner u ≡ true
+        → (cut ≡ true → (r : Row) → List·Memᴰ r (heads f) → elementNamed n r ≡ true → r .serial ≡ firstBelow u → ⊥) → Phase sel due owes u f
 
   abbrev State : Bool → Bool → Bool → Row → Row → Forest Row → Type 0
   State sel due owes w u f = Phase sel due owes u f × ((r : Row) (b : Forest Row) → Standing f r b → Standing (s .docs) r b)
 
   -- ---- into the rows below row r
   enter : (u r : Row) (b : Forest Row) → Standing (s .docs) r b → ((y : Row) (d : Forest Row) → Standing b y d → Standing (s .docs) y d)
-      → State (matches (Elements o) (rowWritten (s .form) (u .name) r)) (matches (Elements o) (rowWritten (s .form) (u .name) r) && (cut || gain)) (requantified .fills (revalued requantified r)) (revalued requantified r) r b
+      → State (matches (Elements o) (rowWritten (s .form) (u .name) r)) (matches (Elements o) (rowWritten (s .form) (u .name) r) && (cut || gain))
+      (requantified .fills (revalued requantified r)) (revalued requantified r) r b
   enter u r b i inside = (by (elementNamed owner r) refl, inside)
     where
       m : Bool
@@ -132,10 +138,14 @@ module _ (s : Store) (g : good s ≡ true) (o : ℕ) (l : o < length (s .form)) 
       placed : elementNamed owner r ≡ true → (cut || gain) ≡ true → NoneAt ns (heads b) ⊎ FirstAt (before c) ns (heads b) → Entered
       placed e f (inl none) =
           bereft (is ∙ e) (ap₂ (λ (a d : Bool). a && d) (is ∙ e) f)
-          (ap₂ (λ (a d : Bool). gain && (a && d)) e (ap isNone (children test) ∙ ap (λ (z : List Row). isNone (map rowSerial z)) (keep-none test (heads b) (λ y j. tests y ∙ none y j))) ∙ and-true gain) e f none
+          (ap₂ (λ (a d : Bool). gain && (a && d)) e
+          (ap isNone (children test) ∙ ap (λ (z : List Row). isNone (map rowSerial z)) (keep-none test (heads b) (λ y j. tests y ∙ none y j)))
+          ∙ and-true gain)
+          e f none
       placed e f (inr first) =
           waiting (is ∙ e) (ap₂ (λ (a d : Bool). a && d) (is ∙ e) f)
-          (ap₂ (λ (a d : Bool). gain && (a && d)) e (ap isNone (children test) ∙ first-stands (before c) ns test tests (heads b) first) ∙ and-false gain) e f first (λ k. ap (serialAt 0) (children (elementNamed n)))
+          (ap₂ (λ (a d : Bool). gain && (a && d)) e (ap isNone (children test) ∙ first-stands (before c) ns test tests (heads b) first) ∙ and-false gain) e f
+          first (λ k. ap (serialAt 0) (children (elementNamed n)))
           (children-once (s .next) (s .docs) serials r b i)
 
       due : elementNamed owner r ≡ true → (d : Bool) → (cut || gain) ≡ d → Entered
@@ -163,8 +173,10 @@ module _ (s : Store) (g : good s ≡ true) (o : ℕ) (l : o < length (s .form)) 
     step-as : (sel due owes a d e : Bool) → sel ≡ a → due ≡ d → owes ≡ e → Step a d e → Step sel due owes
     step-as sel due owes a d e p q r h = subst (λ (z : Bool). Step z due owes) (sym p) (subst (λ (z : Bool). Step a z owes) (sym q) (subst (λ (z : Bool). Step a d z) (sym r) h))
 
-  module _ (w u r : Row) (b t : Forest Row) (i : Standing (s .docs) r b) (inside : (y : Row) (d : Forest Row) → Standing b y d → Standing (s .docs) y d) (beside : (y : Row) (d : Forest Row) → Standing t y d → Standing (s .docs) y d) where
-    stays : (sel due owes : Bool) → requantified .takes u r ≡ false → takenAt p sel due (x′ w u r b t) ≡ false → ((d : ℕ) → owed (filledAt p due (x′ w u r b t)) (fill d) ≡ planted (s .form) (s .form) requantified p v fill (owes && isLate (before c) r) (u .name) d)
+  module _ (w u r : Row) (b t : Forest Row) (i : Standing (s .docs) r b) (inside : (y : Row) (d : Forest Row) → Standing b y d → Standing (s .docs) y d)
+      (beside : (y : Row) (d : Forest Row) → Standing t y d → Standing (s .docs) y d) where
+    stays : (sel due owes : Bool) → requantified .takes u r ≡ false → takenAt p sel due (x′ w u r b t) ≡ false
+        → ((d : ℕ) → owed (filledAt p due (x′ w u r b t)) (fill d) ≡ planted (s .form) (s .form) requantified p v fill (owes && isLate (before c) r) (u .name) d)
         → Staying (s .form) (s .form) requantified p v fill sel due owes w u r
     stays sel due owes a e f = record { taken = a; takes = e; filling = f; index = index-same p refl refl (x′ w u r b t); value = value-same r v [] (given s g r b i) }
 
@@ -223,7 +235,8 @@ module _ (s : Store) (g : good s ≡ true) (o : ℕ) (l : o < length (s .form)) 
         next false e = bereft refl (ap not (later f ∙ e)) (ap (λ (z : Bool). gain && not z) e ∙ and-true gain) named f (λ y j. none y (List·Memᴰ·tail j))
 
     -- the first later row is the first of ns: it is spared, and kept
-    step-waiting : elementNamed owner u ≡ true → (cut || gain) ≡ true → FirstAt (before c) ns (r ∷ heads t) → (cut ≡ true → firstBelow u ≡ serialAt 0 (map rowSerial (keep (elementNamed n) (r ∷ heads t)))) → Distinct (map rowSerial (r ∷ heads t))
+    step-waiting : elementNamed owner u ≡ true → (cut || gain) ≡ true → FirstAt (before c) ns (r ∷ heads t)
+        → (cut ≡ true → firstBelow u ≡ serialAt 0 (map rowSerial (keep (elementNamed n) (r ∷ heads t)))) → Distinct (map rowSerial (r ∷ heads t))
         → Step w u r b t true true false
     step-waiting named f (inl (late, here)) serial (new, distinct) =
         inr (
@@ -275,7 +288,8 @@ module _ (s : Store) (g : good s ≡ true) (o : ℕ) (l : o < length (s .form)) 
   -- ---- the documents
   ends : (sel due owes : Bool) (w u : Row) → State sel due owes w u bare → (d : ℕ) → owed due (fill d) ≡ planted (s .form) (s .form) requantified p v fill owes (u .name) d
   ends sel due owes w u (outside a e f other, i) d = ap (λ (z : Bool). owed z (fill d)) e ∙ sym (ap (λ (z : Bool). planted (s .form) (s .form) requantified p v fill z (u .name) d) f)
-  ends sel due owes w u (bereft a e f named k none, i) d = ap (λ (z : Bool). owed z (fill d)) e ∙ fills d (u .name) ∙ sym (ap (λ (z : Bool). planted (s .form) (s .form) requantified p v fill z (u .name) d) f)
+  ends sel due owes w u (bereft a e f named k none, i) d =
+      ap (λ (z : Bool). owed z (fill d)) e ∙ fills d (u .name) ∙ sym (ap (λ (z : Bool). planted (s .form) (s .form) requantified p v fill z (u .name) d) f)
   ends sel due owes w u (waiting a e f named k first serial distinct, i) d = absurd first
   ends sel due owes w u (over a e f named other, i) d = ap (λ (z : Bool). owed z (fill d)) e ∙ sym (ap (λ (z : Bool). planted (s .form) (s .form) requantified p v fill z (u .name) d) f)
 

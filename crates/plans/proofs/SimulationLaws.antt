@@ -1,4 +1,5 @@
--- A plan by indices beside a plan of the rules: the walk over the documents, written by indices, does what that plan does on them.
+-- A plan by indices beside a plan of the rules: the walk over the
+-- documents, written by indices, does what that plan does on them.
 use Prim.Native.Nat.{ℕ, suc}
 use mathlib.Core.Path.{_≡_, refl, sym, ap, ap₂, _∙_}
 use mathlib.Core.Logic.{_⊎_, inl, inr}
@@ -45,11 +46,14 @@ module _ (form new : Form) (q : change.Plan) (p : Plan) (v : Bytes) (fill : ℕ 
     abbrev onRow : Bool → List (Deep FlatRow)
     onRow c = record { depth = d; row = rowWritten new (u .name) (revalued q r) } ∷ (flatten (suc d) (indexed new (r .name) (under q r b)) ++ flatten d (indexed new (u .name) (below q w c u t)))
 
-    below-kept : (owes : Bool) → planted form new q p v fill (owes && q .later w (revalued q r)) (u .name) d ++ onRow (owes && not (q .later w (revalued q r))) ≡ flatten d (indexed new (u .name) (below q w owes u (tree r b t)))
+    below-kept : (owes : Bool)
+        → planted form new q p v fill (owes && q .later w (revalued q r)) (u .name) d ++ onRow (owes && not (q .later w (revalued q r)))
+        ≡ flatten d (indexed new (u .name) (below q w owes u (tree r b t)))
     below-kept owes = by owes refl (q .later w (revalued q r)) refl
       where
         Goal : Type 0
-        Goal = planted form new q p v fill (owes && q .later w (revalued q r)) (u .name) d ++ onRow (owes && not (q .later w (revalued q r))) ≡ flatten d (indexed new (u .name) (below q w owes u (tree r b t)))
+        Goal = planted form new q p v fill (owes && q .later w (revalued q r)) (u .name) d ++ onRow (owes && not (q .later w (revalued q r)))
+            ≡ flatten d (indexed new (u .name) (below q w owes u (tree r b t)))
 
         past : (owes && q .later w (revalued q r)) ≡ false → (owes && not (q .later w (revalued q r))) ≡ owes → Goal
         past e f =
@@ -102,7 +106,10 @@ module _ (form new : Form) (q : change.Plan) (p : Plan) (v : Bytes) (fill : ℕ 
             ∙ sym (ap (λ (z : Forest Row). flatten d (indexed new (u .name) z)) (below-taken q w owes u r b t (h .taken)))
         by (inr (h, kb, kt)) inner others =
             walk-kept p v fill sel due d x (indexed form (r .name) b) (indexed form (u .name) t) (h .takes)
-            ∙ (λ i. h .filling d i ++ (kept-row sel due owes w u r d h i ∷ (inner m (m && p .fills) (q .fills (revalued q r)) (revalued q r) r kb i ++ others sel (due && not l) (owes && not (q .later w (revalued q r))) w u kt i)))
+            ∙ (λ i. h .filling d i
+            ++ (kept-row sel due owes w u r d h i
+            ∷ (inner m (m && p .fills) (q .fills (revalued q r)) (revalued q r) r kb i
+            ++ others sel (due && not l) (owes && not (q .later w (revalued q r))) w u kt i)))
             ∙ below-kept w u r b t d (h .taken) owes
 
     pub documents-simulate : (docs : Forest Row) → S (isGround (p .above)) (isGround (p .above) && p .fills) (q .fills ground) ground ground docs

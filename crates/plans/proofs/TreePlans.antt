@@ -1,4 +1,5 @@
--- A plan by indices that follows a plan of the rules does on the documents, written by indices, what that plan does on them.
+-- A plan by indices that follows a plan of the rules does on the
+-- documents, written by indices, what that plan does on them.
 use Prim.Native.Nat.{ℕ}
 use mathlib.Core.Path.{_≡_, refl, sym, ap, ap₂, _∙_}
 use mathlib.Core.Logic.{_⊎_, inl, inr}
@@ -41,7 +42,8 @@ module _ (form new : Form) (q : change.Plan) (p : Plan) (v : Bytes) (fill : ℕ 
     pub fills : due ≡ true → Fills form new q p v fill (u .name)
     pub rows : FollowsKept form new q p v fill sel w u f
 
-  filling-alike : (due owes : Bool) (u : Row) (a c : Bool) → owes ≡ due → (due ≡ true → Fills form new q p v fill (u .name)) → (due ≡ true → a ≡ c) → (d : ℕ) → owed (due && a) (fill d) ≡ planted form new q p v fill (owes && c) (u .name) d
+  filling-alike : (due owes : Bool) (u : Row) (a c : Bool) → owes ≡ due → (due ≡ true → Fills form new q p v fill (u .name)) → (due ≡ true → a ≡ c) → (d : ℕ)
+      → owed (due && a) (fill d) ≡ planted form new q p v fill (owes && c) (u .name) d
   filling-alike true owes u true c e g h d = g refl d ∙ ap₂ (λ (o z : Bool). planted form new q p v fill (o && z) (u .name) d) (sym e) (h refl)
   filling-alike true owes u false c e g h d = ap₂ (λ (o z : Bool). planted form new q p v fill (o && z) (u .name) d) (sym e) (h refl)
   filling-alike false owes u a c e g h d = ap (λ (o : Bool). planted form new q p v fill (o && c) (u .name) d) (sym e)
@@ -68,13 +70,15 @@ module _ (form new : Form) (q : change.Plan) (p : Plan) (v : Bytes) (fill : ℕ 
 
       by : (BothTake form new q p v fill sel u r ⊎ (RowFollows form new q p v fill sel w u r × FollowsKept form new q p v fill m (revalued q r) r b)) × FollowsKept form new q p v fill sel w u t
           → (Going form new q p v fill sel due u r × Alike sel due owes w u t)
-          ⊎ (Staying form new q p v fill sel due owes w u r × Alike m (m && p .fills) (q .fills (revalued q r)) (revalued q r) r b × Alike sel (due && not (isLater (p .marks) (p .later) x)) (owes && not (q .later w (revalued q r))) w u t)
+          ⊎ (Staying form new q p v fill sel due owes w u r × Alike m (m && p .fills) (q .fills (revalued q r)) (revalued q r) r b
+          × Alike sel (due && not (isLater (p .marks) (p .later) x)) (owes && not (q .later w (revalued q r))) w u t)
       by (inl h, ht) = inl (record { taken = h .taken; takes = taken-plain p plain sel due x ∙ h .takes }, rest ht)
       by (inr (h, hb), ht) = kept (q .takes u r) refl
         where
           kept : (c : Bool) → q .takes u r ≡ c
               → (Going form new q p v fill sel due u r × Alike sel due owes w u t)
-              ⊎ (Staying form new q p v fill sel due owes w u r × Alike m (m && p .fills) (q .fills (revalued q r)) (revalued q r) r b × Alike sel (due && not (isLater (p .marks) (p .later) x)) (owes && not (q .later w (revalued q r))) w u t)
+              ⊎ (Staying form new q p v fill sel due owes w u r × Alike m (m && p .fills) (q .fills (revalued q r)) (revalued q r) r b
+              × Alike sel (due && not (isLater (p .marks) (p .later) x)) (owes && not (q .later w (revalued q r))) w u t)
           kept true e = inl (record { taken = e; takes = taken-plain p plain sel due x ∙ h .takes ∙ e }, rest ht)
           kept false e =
               inr (
@@ -102,7 +106,8 @@ module _ (form new : Form) (q : change.Plan) (p : Plan) (v : Bytes) (fill : ℕ 
       ∙ filling-alike due owes u true true (k .same) (k .fills) (λ z. refl) d
       ∙ ap (λ (c : Bool). planted form new q p v fill c (u .name) d) (and-true owes)
 
-  pub documents-kept : (docs : Forest Row) → (isGround (p .above) && p .fills) ≡ q .fills ground → (q .fills ground ≡ true → Fills form new q p v fill []) → FollowsKept form new q p v fill (isGround (p .above)) ground ground docs
+  pub documents-kept : (docs : Forest Row) → (isGround (p .above) && p .fills) ≡ q .fills ground → (q .fills ground ≡ true → Fills form new q p v fill [])
+      → FollowsKept form new q p v fill (isGround (p .above)) ground ground docs
       → documentsWalk p v fill (indexed form [] docs) ≡ flatten 0 (indexed new [] (changed q docs))
   documents-kept docs e f h =
       documents-simulate form new q p v fill Alike record { ends = alike-end; steps = alike-step } docs

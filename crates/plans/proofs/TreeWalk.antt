@@ -119,7 +119,8 @@ module _ (p : Plan) (v : Bytes) (fill : ℕ → List (Deep FlatRow)) where
       ∙ ap (λ (e : ℕ). owed u (fill e) ++ onRow (opened 0 0 false) x rest) (omega arith)
       ∙ ap (λ (l : List (Deep FlatRow)). owed u (fill d) ++ l) (sym (walk-row (opened 0 0 false) x rest false refl (le-ltb (suc (x .depth)) 0 (omega arith))))
 
-  skipped : (k b : ℕ) (u : Bool) (e : ℕ) (f : Forest FlatRow) (rest : List (Deep FlatRow)) → k < e → walked p v fill (opened (suc k) b u) (flatten e f ++ rest) ≡ walked p v fill (opened (suc k) b u) rest
+  skipped : (k b : ℕ) (u : Bool) (e : ℕ) (f : Forest FlatRow) (rest : List (Deep FlatRow)) → k < e
+      → walked p v fill (opened (suc k) b u) (flatten e f ++ rest) ≡ walked p v fill (opened (suc k) b u) rest
   skipped k b u e bare rest h = refl
   skipped k b u e (tree r g t) rest h =
       walk-gone (opened (suc k) b u) (at e r) ((flatten (suc e) g ++ flatten e t) ++ rest) (ap₂ (λ (i j : Bool). i && j) (lt-ltb 0 (suc k) (omega arith)) (le-leb (suc k) e h))
@@ -136,7 +137,8 @@ module _ (p : Plan) (v : Bytes) (fill : ℕ → List (Deep FlatRow)) where
       elim c [ true ↦ [] | false ↦ owed (isFilled p o x) (fill (x .depth)) ++ keptRow p v x ∷ [] ] ++ walked p v fill (elim c [ true ↦ taken o x | false ↦ kept p o x ]) xs)
       q
 
-  row-kept : (o : Open) (x : Deep FlatRow) (xs : List (Deep FlatRow)) → isTaken p o x ≡ false → onRow o x xs ≡ owed (isFilled p o x) (fill (x .depth)) ++ (keptRow p v x ∷ walked p v fill (kept p o x) xs)
+  row-kept : (o : Open) (x : Deep FlatRow) (xs : List (Deep FlatRow)) → isTaken p o x ≡ false
+      → onRow o x xs ≡ owed (isFilled p o x) (fill (x .depth)) ++ (keptRow p v x ∷ walked p v fill (kept p o x) xs)
   unfolding emitted onward
   row-kept o x xs q =
       ap
@@ -160,7 +162,8 @@ module _ (p : Plan) (v : Bytes) (fill : ℕ → List (Deep FlatRow)) where
     unfolding treeWalk
     tree-taken q = ap onTree q
 
-    tree-kept : takenAt p sel due r ≡ false → (z : List (Deep FlatRow)) → treeWalk p v fill sel due d (tree r g t) ++ z ≡ owed (filledAt p due r) (fill d) ++ (keptRow p v (at d r) ∷ (inner ++ (others ++ z)))
+    tree-kept : takenAt p sel due r ≡ false → (z : List (Deep FlatRow))
+        → treeWalk p v fill sel due d (tree r g t) ++ z ≡ owed (filledAt p due r) (fill d) ++ (keptRow p v (at d r) ∷ (inner ++ (others ++ z)))
     unfolding treeWalk
     tree-kept q z =
         ap (λ (c : Bool). onTree c ++ z) q

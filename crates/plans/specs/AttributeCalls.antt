@@ -25,7 +25,8 @@ abbrev pub ownerAt : ℕ → List FlatAttribute → ℕ
 ownerAt a cs = entryOf a cs .owner
 
 -- ---- the plans
--- 9: an attribute of definition o at a (`attributesTo`), of sort k; below each instance a row of it if it must be present
+-- 9: an attribute of definition o at a (`attributesTo`), of sort k;
+-- below each instance a row of it if it must be present
 abbrev pub addAttributePlan : ℕ → ℕ → ℕ → ℕ → Plan
 addAttributePlan version o a k =
     record {

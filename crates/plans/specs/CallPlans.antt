@@ -26,14 +26,53 @@ unfoldable pub unmarked : Bytes
 unmarked = replicate 64 0
 
 abbrev pub fillingPlan : Which → Later → Filling → Plan
-fillingPlan above later rows = record { above = above; takes = Nothing; fills = true; later = later; filling = rows; marks = unmarked; keeps = false; spares = false; set = 0; definitions = unmoved; attributes = unmoved }
+fillingPlan above later rows =
+    record {
+      above = above;
+      takes = Nothing;
+      fills = true;
+      later = later;
+      filling = rows;
+      marks = unmarked;
+      keeps = false;
+      spares = false;
+      set = 0;
+      definitions = unmoved;
+      attributes = unmoved;
+    }
 
 abbrev pub takingPlan : Which → Which → Plan
-takingPlan above takes = record { above = above; takes = takes; fills = false; later = Never; filling = filling.Nothing; marks = unmarked; keeps = false; spares = false; set = 0; definitions = unmoved; attributes = unmoved }
+takingPlan above takes =
+    record {
+      above = above;
+      takes = takes;
+      fills = false;
+      later = Never;
+      filling = filling.Nothing;
+      marks = unmarked;
+      keeps = false;
+      spares = false;
+      set = 0;
+      definitions = unmoved;
+      attributes = unmoved;
+    }
 
 -- the row with serial m gets the call's value
 abbrev pub settingPlan : ℕ → Plan
-settingPlan m = record { above = Nothing; takes = Nothing; fills = false; later = Never; filling = filling.Nothing; marks = unmarked; keeps = false; spares = false; set = m; definitions = unmoved; attributes = unmoved }
+settingPlan m =
+    record {
+      above = Nothing;
+      takes = Nothing;
+      fills = false;
+      later = Never;
+      filling = filling.Nothing;
+      marks = unmarked;
+      keeps = false;
+      spares = false;
+      set = m;
+      definitions = unmoved;
+      attributes = unmoved;
+    }
 
 -- ---- the serials that plans name; 0: no such row stands
 -- the element child number j of row k
@@ -61,7 +100,8 @@ addElementPlan k m i = fillingPlan (Serial k) (Row m) (Definition i)
 abbrev pub destroyElementPlan : ℕ → Plan
 destroyElementPlan k = takingPlan Everything (Serial k)
 
--- 14: the row m of attribute a below element k gets the value (m: `attributeSerial`); where none stands a row comes after those of lower index
+-- 14: the row m of attribute a below element k gets the value (m: `attributeSerial`);
+-- where none stands a row comes after those of lower index
 abbrev pub setAttributePlan : ℕ → ℕ → ℕ → Plan
 setAttributePlan k a m = elim (eqb m 0) [ true ↦ fillingPlan (Serial k) (Past a) (Attribute a) | false ↦ settingPlan m ]
 

@@ -21,7 +21,8 @@ pub record Plain (p : Plan) : Type 0 where
   pub keeps : p .keeps ≡ false
   pub spares : p .spares ≡ false
 
--- form, new: the form before and after; q: of the rules; p with the value v and the rows `fill d` of its filling: by indices
+-- form, new: the form before and after; q: of the rules; p with the
+-- value v and the rows `fill d` of its filling: by indices
 module _ (form new : Form) (q : change.Plan) (p : Plan) (v : Bytes) (fill : ℕ → List (Deep FlatRow)) where
   -- below an element of this name the fillings are the same
   abbrev pub Fills : Bytes → Type 0

@@ -1,4 +1,5 @@
--- A plan by indices follows a plan of the rules on the rows that are kept: of a row that both take nothing more is asked.
+-- A plan by indices follows a plan of the rules on the rows that are
+-- kept: of a row that both take nothing more is asked.
 use Prim.Native.Nat.{ℕ}
 use mathlib.Core.Path.{_≡_}
 use mathlib.Core.Logic.{_⊎_}

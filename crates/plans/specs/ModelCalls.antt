@@ -50,7 +50,8 @@ insertElementPlan o marks i needs =
       attributes = unmoved;
     }
 
--- 5 and 8: `cut`, `gain`: it cuts or gains, and the place is on the spine; a cut takes the elements of definition x but the first
+-- 5 and 8: `cut`, `gain`: it cuts or gains, and the place is on the spine;
+-- a cut takes the elements of definition x but the first
 abbrev pub cutTakes : Bool → ℕ → Which
 cutTakes cut x = elim cut [ true ↦ Elements x | false ↦ Nothing ]
 

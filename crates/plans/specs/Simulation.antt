@@ -1,4 +1,5 @@
--- A plan by indices beside a plan of the rules, row by row: what is due may differ, as long as the rows that come are the same.
+-- A plan by indices beside a plan of the rules, row by row: what is due
+-- may differ, as long as the rows that come are the same.
 use Prim.Native.Nat.{ℕ}
 use mathlib.Core.Path.{_≡_}
 use mathlib.Core.Logic.{_⊎_}
@@ -15,7 +16,8 @@ use Rattle.row_walk.specs.declared.Plan.{Plan}
 use Rattle.row_walk.specs.Walk.{matches, isLater, movedIndex, valueAfter, owed}
 use Rattle.plans.specs.Trees.{takenAt, filledAt}
 
--- form, new: the form before and after; q: of the rules; p with the value v and the rows `fill d` of its filling: by indices
+-- form, new: the form before and after; q: of the rules; p with the
+-- value v and the rows `fill d` of its filling: by indices
 module _ (form new : Form) (q : change.Plan) (p : Plan) (v : Bytes) (fill : ℕ → List (Deep FlatRow)) where
   -- the filling of the rules below an element of a name, if it is due
   abbrev pub planted : Bool → Bytes → ℕ → List (Deep FlatRow)

@@ -11,7 +11,8 @@ use Rattle.row_walk.specs.declared.Plan.{Plan}
 use Rattle.row_walk.specs.Walk.{matches, isEverything, isGround, isLater, spared, keptRow, owed}
 
 module _ (p : Plan) where
-  -- a row is taken, and a filling comes right before it, below a row that is one of `above` or not, where a filling is due or not
+  -- a row is taken, and a filling comes right before it, below a row that is
+  -- one of `above` or not, where a filling is due or not
   abbrev pub takenAt : Bool → Bool → FlatRow → Bool
   takenAt sel due r = ((isEverything (p .above) || sel) && matches (p .takes) r) && not (p .keeps && due)
 

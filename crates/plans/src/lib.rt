@@ -1,5 +1,5 @@
-//! The plans by indices of the changes, and that the walk over the rows with a plan does what the change of the rules does to the
-//! documents.
+//! The plans by indices of the changes, and that the walk over the rows with a plan does what the change of the rules
+//! does to the documents.
 use filling::Filling;
 use row_walk::Later;
 use row_walk::Plan;

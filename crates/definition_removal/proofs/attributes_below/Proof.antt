@@ -6,6 +6,8 @@ use Prim.Native.Nat.{_-_}
 use Rattle.definition_removal.proofs.attributes_below.Statement.{statement}
 use Rattle.definition_removal.proofs.attributes_below.Tie as tie
 
+-- The loop's invariant: `sum` of the first j attributes are those of definitions before i; with those from j on it
+-- makes up the number asked for.
 abbrev Inv-loop : tie.InvT-loop
 Inv-loop w body count i sum₀ j₀ sum j = Counting w i body count sum j
 
@@ -22,7 +24,9 @@ is-below-requires : tie.Need-is-below-requires Inv-loop μ-loop
 is-below-requires c κs = search needs
 
 add-sum : tie.Need-add-sum Inv-loop μ-loop
-add-sum c = omega (arith, c .before .before .before .loop .inv .small, c .is-below .ensures .most)
+add-sum c =
+    let at-loop = c .before .before .before in
+    omega (arith, at-loop .loop .inv .small, c .is-below .ensures .most)
 
 add-j : tie.Need-add-j Inv-loop μ-loop
 add-j c = search needs

@@ -14,7 +14,9 @@ attribute-start-requires : tie.Need-attribute-start-requires
 attribute-start-requires c κs = search needs
 
 add-attribute-start : tie.Need-add-attribute-start
-add-attribute-start c = let x = encoded (c .before .before .args .store .now) (c .before .before .pre .good) in omega (arith, c .before .before .pre .there, x .definitions, x .fewDefinitions)
+add-attribute-start c =
+    let start = c .before .before in
+    let x = encoded (start .args .store .now) (start .pre .good) in omega (arith, start .pre .there, x .definitions, x .fewDefinitions)
 
 attribute-start-requires-2 : tie.Need-attribute-start-requires-2
 attribute-start-requires-2 c κs = search needs
@@ -33,7 +35,9 @@ sub-result c =
     omega (arith, at-attribute-start .attribute-start .ensures .is, end .is, attributes-step (a .i) cs)
 
 sub-result-2 : tie.Need-sub-result-2
-sub-result-2 c = let a = c .before .before .before .before .args in omega (arith, c .before .attribute-start2 .ensures .most, c .attribute-count .ensures .value)
+sub-result-2 c =
+    let start = c .before .before .before .before in
+    let a = start .args in omega (arith, c .before .attribute-start2 .ensures .most, c .attribute-count .ensures .value)
 
 returns : tie.Need-returns
 returns c =

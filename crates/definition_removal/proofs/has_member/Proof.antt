@@ -11,6 +11,7 @@ use Prim.Native.Nat.{ℕ, _-_}
 use Rattle.definition_removal.proofs.has_member.Statement.{statement}
 use Rattle.definition_removal.proofs.has_member.Tie as tie
 
+-- The loop's invariant: some particle is of the definition if and only if one from i on is.
 abbrev Inv-loop : tie.InvT-loop
 Inv-loop body count definition i₀ i = Searching readParticle particleSize (isMember definition) body count i
 

@@ -11,6 +11,7 @@ use Prim.Native.Nat.{ℕ, _-_}
 use Rattle.definition_removal.proofs.has_root.Statement.{statement}
 use Rattle.definition_removal.proofs.has_root.Tie as tie
 
+-- The loop's invariant: some document is one of the definition if and only if one from row i on is.
 abbrev Inv-loop : tie.InvT-loop
 Inv-loop w body count definition i₀ i = Searching readRow (rowSize w) (isRoot definition) body count i
 

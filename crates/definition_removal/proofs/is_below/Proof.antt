@@ -12,10 +12,14 @@ cast-owner : tie.Need-cast-owner
 cast-owner c = search needs
 
 returns : tie.Need-returns
-returns c = below-yes (c .before .before .before .args .i) (c .before .before .before .args .rec .now) _ (c .before .owner-byte .ensures) (omega arith)
+returns c =
+    let start = c .before .before .before in
+    below-yes (start .args .i) (start .args .rec .now) _ (c .before .owner-byte .ensures) (omega arith)
 
 returns-2 : tie.Need-returns-2
-returns-2 c = below-no (c .before .before .before .args .i) (c .before .before .before .args .rec .now) _ (c .before .owner-byte .ensures) (omega arith)
+returns-2 c =
+    let start = c .before .before .before in
+    below-no (start .args .i) (start .args .rec .now) _ (c .before .owner-byte .ensures) (omega arith)
 
 pub is-below-spec : {M : Type 1} → statement M
 is-below-spec = tie.close (tie.spec owner-byte-requires cast-owner returns returns-2)

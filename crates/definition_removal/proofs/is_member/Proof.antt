@@ -17,7 +17,9 @@ cast-index : tie.Need-cast-index
 cast-index c = search needs
 
 returns : tie.Need-returns
-returns c = ap₂ (λ (a b : ℕ). eqb a 0 && eqb b (c .before .before .before .args .i)) (c .before .particle-sort .ensures) (c .particle-index .ensures)
+returns c =
+    let start = c .before .before .before in
+    ap₂ (λ (a b : ℕ). eqb a 0 && eqb b (start .args .i)) (c .before .particle-sort .ensures) (c .particle-index .ensures)
 
 pub is-member-spec : {M : Type 1} → statement M
 is-member-spec =

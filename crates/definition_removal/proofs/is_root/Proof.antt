@@ -15,7 +15,10 @@ row-index-requires : tie.Need-row-index-requires
 row-index-requires c κs = search needs
 
 returns : tie.Need-returns
-returns c = λ j. eqb (c .before .before .row-depth .ensures j) 0 && (eqb (c .before .row-sort .ensures j) 1 && eqb (c .row-index .ensures j) (c .before .before .before .before .args .i))
+returns c =
+    let at-row-depth = c .before .before in
+    let start = at-row-depth .before .before in
+    λ j. eqb (at-row-depth .row-depth .ensures j) 0 && (eqb (c .before .row-sort .ensures j) 1 && eqb (c .row-index .ensures j) (start .args .i))
 
 pub is-root-spec : {M : Type 1} → statement M
 is-root-spec = tie.close (tie.spec row-depth-requires row-sort-requires row-index-requires returns)

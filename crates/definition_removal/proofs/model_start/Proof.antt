@@ -10,7 +10,9 @@ definitions-of-requires : tie.Need-definitions-of-requires
 definitions-of-requires c κs = search needs
 
 particles-before-requires : tie.Need-particles-before-requires
-particles-before-requires c κs = let x = encoded (c .before .before .args .store .now) (c .before .before .pre .0) in omega (arith, c .before .before .pre .1, x .definitions, x .fewDefinitions)
+particles-before-requires c κs =
+    let start = c .before .before in
+    let x = encoded (start .args .store .now) (start .pre .0) in omega (arith, start .pre .1, x .definitions, x .fewDefinitions)
 
 returns : tie.Need-returns
 returns c =

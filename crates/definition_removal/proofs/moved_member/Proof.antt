@@ -9,7 +9,9 @@ lower-byte-requires : tie.Need-lower-byte-requires
 lower-byte-requires c κs = search needs
 
 returns : tie.Need-returns
-returns c = member-moved (lowered (suc (c .before .before .args .definition)) 1) (c .before .before .args .sort) (c .before .before .args .index) (c .before .if1 .taken) (c .lower-byte .ensures)
+returns c =
+    let start = c .before .before in
+    member-moved (lowered (suc (start .args .definition)) 1) (start .args .sort) (start .args .index) (c .before .if1 .taken) (c .lower-byte .ensures)
 
 returns-2 : tie.Need-returns-2
 returns-2 c = member-stays (lowered (suc (c .before .args .definition)) 1) (c .before .args .sort) (c .before .args .index) (c .if1 .left)

@@ -14,7 +14,9 @@ model-start-requires : tie.Need-model-start-requires
 model-start-requires c κs = search needs
 
 add-model-start : tie.Need-add-model-start
-add-model-start c = let x = encoded (c .before .before .args .store .now) (c .before .before .pre .good) in omega (arith, c .before .before .pre .there, x .definitions, x .fewDefinitions)
+add-model-start c =
+    let start = c .before .before in
+    let x = encoded (start .args .store .now) (start .pre .good) in omega (arith, start .pre .there, x .definitions, x .fewDefinitions)
 
 model-start-requires-2 : tie.Need-model-start-requires-2
 model-start-requires-2 c κs = search needs
@@ -33,7 +35,9 @@ sub-result c =
     omega (arith, at-model-start .model-start .ensures .is, end .is, particles-step (a .i) ds)
 
 sub-result-2 : tie.Need-sub-result-2
-sub-result-2 c = let a = c .before .before .before .before .args in omega (arith, c .before .model-start2 .ensures .most, c .particle-count .ensures .value)
+sub-result-2 c =
+    let start = c .before .before .before .before in
+    let a = start .args in omega (arith, c .before .model-start2 .ensures .most, c .particle-count .ensures .value)
 
 returns : tie.Need-returns
 returns c =

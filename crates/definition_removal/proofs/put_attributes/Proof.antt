@@ -10,6 +10,8 @@ use Prim.Native.Nat.{suc, _-_, _*_}
 use Rattle.definition_removal.proofs.put_attributes.Statement.{statement}
 use Rattle.definition_removal.proofs.put_attributes.Tie as tie
 
+-- The loop's invariant: the attributes from i on, written from `at` on, complete what all attributes give from `start`
+-- on.
 abbrev Inv-loop : tie.InvT-loop
 Inv-loop w body count definition out₀ start at₀ i₀ out at i = Going (attributeRecord (lowered (suc definition) 1)) (attributeSize w) body count out₀ start out at i
 

@@ -8,6 +8,8 @@ use Prim.Native.Nat.{suc, _-_}
 use Rattle.definition_removal.proofs.put_particles.Statement.{statement}
 use Rattle.definition_removal.proofs.put_particles.Tie as tie
 
+-- The loop's invariant: the particles from i on, written from `at` on, complete what all particles give from `start`
+-- on.
 abbrev Inv-loop : tie.InvT-loop
 Inv-loop body count definition out₀ start at₀ i₀ out at i = Going (particleRecord (lowered (suc definition) 1)) particleSize body count out₀ start out at i
 
@@ -15,13 +17,18 @@ abbrev μ-loop : tie.MeasureT-loop
 μ-loop body count definition out₀ start at₀ i₀ out at i = count - i
 
 loop-holds : tie.Need-loop-holds Inv-loop μ-loop
-loop-holds c = going-start (particleRecord (lowered (suc (c .before .before .args .definition)) 1)) particleSize (c .before .before .args .body .now) (c .before .before .args .count)
+loop-holds c =
+    let start = c .before .before in
+    going-start (particleRecord (lowered (suc (start .args .definition)) 1)) particleSize (start .args .body .now) (start .args .count)
 
 particle-at-requires : tie.Need-particle-at-requires Inv-loop μ-loop
 particle-at-requires c κs = search needs
 
 put-particle-requires : tie.Need-put-particle-requires Inv-loop μ-loop
-put-particle-requires c κs = omega (arith, c .before .before .before .loop .inv .small, c .before .before .before .before .before .before .pre)
+put-particle-requires c κs =
+    let at-loop = c .before .before .before in
+    let start = at-loop .before .before .before in
+    omega (arith, at-loop .loop .inv .small, start .pre)
 
 add-i : tie.Need-add-i Inv-loop μ-loop
 add-i c = search needs
@@ -43,7 +50,9 @@ same-length : tie.Need-same-length Inv-loop μ-loop
 same-length c = c .before .loop .inv .long
 
 returns : tie.Need-returns Inv-loop μ-loop
-returns c = let a = c .before .before .before .before .args in going-end (particleRecord (lowered (suc (a .definition)) 1)) particleSize (a .body .now) (a .count) (c .before .loop .inv) (omega arith)
+returns c =
+    let start = c .before .before .before .before in
+    let a = start .args in going-end (particleRecord (lowered (suc (a .definition)) 1)) particleSize (a .body .now) (a .count) (c .before .loop .inv) (omega arith)
 
 pub put-particles-spec : {M : Type 1} → statement M
 put-particles-spec =

@@ -23,10 +23,14 @@ definitions-of-requires : tie.Need-definitions-of-requires Inv-loop μ-loop
 definitions-of-requires c κs = search needs
 
 loop-holds : tie.Need-loop-holds Inv-loop μ-loop
-loop-holds c = searching-start readDefinition definitionSize (hasName (c .before .before .before .before .args .name .now)) _ _
+loop-holds c =
+    let start = c .before .before .before .before in
+    searching-start readDefinition definitionSize (hasName (start .args .name .now)) _ _
 
 definition-at-requires : tie.Need-definition-at-requires Inv-loop μ-loop
-definition-at-requires c κs = omega (arith, c .before .before .before .definition-count .ensures .small)
+definition-at-requires c κs =
+    let at-definition-count = c .before .before .before in
+    omega (arith, at-definition-count .definition-count .ensures .small)
 
 definition-name-requires : tie.Need-definition-name-requires Inv-loop μ-loop
 definition-name-requires c κs = search needs

@@ -12,16 +12,31 @@ is-value-requires : tie.Need-is-value-requires
 is-value-requires c κs = search needs
 
 returns : tie.Need-returns
-returns c = document-3 _ (whole _ (c .before .before .before .before .before .pre)) _ _ (c .before .before .width-in .ensures) (c .before .is-value .ensures) (c .if1 .taken) .is
+returns c =
+    let at-width-in = c .before .before in
+    let start = at-width-in .before .before .before in
+    document-3 _ (whole _ (start .pre)) _ _ (at-width-in .width-in .ensures) (c .before .is-value .ensures) (c .if1 .taken) .is
 
 definition-count-requires : tie.Need-definition-count-requires
 definition-count-requires c κs = search needs
 
 returns-2 : tie.Need-returns-2
-returns-2 c = document-6 (c .before .before .before .before .before .before .before .args .store .now) (whole _ (c .before .before .before .before .before .before .before .pre)) _ (c .before .before .before .before .before .before .before .args .definition) (c .before .before .before .before .width-in .ensures) (c .before .before .before .is-value .ensures) (c .before .before .if1 .left) (c .before .definition-count .ensures) (omega arith) .is
+returns-2 c =
+    let at-if1 = c .before .before in
+    let at-is-value = at-if1 .before in
+    let at-width-in = at-is-value .before in
+    let start = at-width-in .before .before .before in
+    document-6 (start .args .store .now) (whole _ (start .pre)) _ (start .args .definition) (at-width-in .width-in .ensures) (at-is-value .is-value .ensures)
+    (at-if1 .if1 .left) (c .before .definition-count .ensures) (omega arith) .is
 
 returns-3 : tie.Need-returns-3
-returns-3 c = document-0 (c .before .before .before .before .before .before .before .args .store .now) (whole _ (c .before .before .before .before .before .before .before .pre)) _ (c .before .before .before .before .before .before .before .args .definition) (c .before .before .before .before .width-in .ensures) (c .before .before .before .is-value .ensures) (c .before .before .if1 .left) (c .before .definition-count .ensures) (omega arith) .is
+returns-3 c =
+    let at-if1 = c .before .before in
+    let at-is-value = at-if1 .before in
+    let at-width-in = at-is-value .before in
+    let start = at-width-in .before .before .before in
+    document-0 (start .args .store .now) (whole _ (start .pre)) _ (start .args .definition) (at-width-in .width-in .ensures) (at-is-value .is-value .ensures)
+    (at-if1 .if1 .left) (c .before .definition-count .ensures) (omega arith) .is
 
 pub add-document-refusal-spec : {M : Type 1} → statement M
 add-document-refusal-spec =

@@ -22,7 +22,14 @@ indexed-serial-requires : tie.Need-indexed-serial-requires
 indexed-serial-requires c κs = search needs
 
 returns : tie.Need-returns
-returns c = let a = c .before .before .before .before .before .before .args in indexed-read (a .store .now) (a .i) 2 (c .before .before .before .before .width-in .ensures .value) (c .before .before .before .rows-of .ensures) (c .before .before .row-count .ensures .value) (c .before .depth-below .ensures) (a .attribute) (c .indexed-serial .ensures)
+returns c =
+    let at-row-count = c .before .before in
+    let at-rows-of = at-row-count .before in
+    let at-width-in = at-rows-of .before in
+    let start = at-width-in .before .before in
+    let a = start .args in
+    indexed-read (a .store .now) (a .i) 2 (at-width-in .width-in .ensures .value) (at-rows-of .rows-of .ensures) (at-row-count .row-count .ensures .value)
+    (c .before .depth-below .ensures) (a .attribute) (c .indexed-serial .ensures)
 
 pub attribute-at-spec : {M : Type 1} → statement M
 attribute-at-spec =

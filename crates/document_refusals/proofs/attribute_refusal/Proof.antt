@@ -11,7 +11,9 @@ attribute-count-requires : tie.Need-attribute-count-requires
 attribute-count-requires c κs = search needs
 
 returns : tie.Need-returns
-returns c = let w : Whole (c .before .before .before .args .store .now) = whole _ (c .before .before .before .pre) in refused-past _ w (c .before .before .before .args .attribute) (omega (arith, c .before .attribute-count .ensures .value))
+returns c =
+    let start = c .before .before .before in
+    let w : Whole (start .args .store .now) = whole _ (start .pre) in refused-past _ w (start .args .attribute) (omega (arith, c .before .attribute-count .ensures .value))
 
 find-element-requires : tie.Need-find-element-requires
 find-element-requires c κs = search needs
@@ -20,22 +22,46 @@ row-count-requires : tie.Need-row-count-requires
 row-count-requires c κs = search needs
 
 returns-2 : tie.Need-returns-2
-returns-2 c = let w : Whole (c .before .before .before .before .before .before .args .store .now) = whole _ (c .before .before .before .before .before .before .pre) in
-    refused-none _ w (c .before .before .before .before .before .before .args .attribute) (omega (arith, c .before .before .before .before .attribute-count .ensures .value)) (unseen _ w (c .before .before .find-element .ensures) (c .before .row-count .ensures) (omega arith))
+returns-2 c =
+    let at-find-element = c .before .before in
+    let at-attribute-count = at-find-element .before .before in
+    let start = at-attribute-count .before .before in
+    let w : Whole (start .args .store .now) = whole _ (start .pre) in
+    refused-none _ w (start .args .attribute) (omega (arith, at-attribute-count .attribute-count .ensures .value))
+    (unseen _ w (at-find-element .find-element .ensures) (c .before .row-count .ensures) (omega arith))
 
 owner-of-requires : tie.Need-owner-of-requires
-owner-of-requires c κs = let w : Whole (c .before .before .before .before .before .before .args .store .now) = whole _ (c .before .before .before .before .before .before .pre) in omega (arith, w .fewAttributes, c .before .before .before .before .attribute-count .ensures .value)
+owner-of-requires c κs =
+    let at-attribute-count = c .before .before .before .before in
+    let start = at-attribute-count .before .before in
+    let w : Whole (start .args .store .now) = whole _ (start .pre) in omega (arith, w .fewAttributes, at-attribute-count .attribute-count .ensures .value)
 
 definition-at-requires : tie.Need-definition-at-requires
 definition-at-requires c κs = search needs
 
 returns-3 : tie.Need-returns-3
-returns-3 c = let w : Whole (c .before .before .before .before .before .before .before .before .before .args .store .now) = whole _ (c .before .before .before .before .before .before .before .before .before .pre) in
-    refused-other _ w (c .before .before .before .before .before .before .before .before .before .args .attribute) (omega (arith, c .before .before .before .before .before .before .before .attribute-count .ensures .value)) (seen _ w (c .before .before .before .before .before .find-element .ensures) (c .before .before .before .before .row-count .ensures) (omega arith)) (λ e. c .if3 .taken (c .before .before .owner-of .ensures ∙ e ∙ sym (c .before .definition-at .ensures)))
+returns-3 c =
+    let at-owner-of = c .before .before in
+    let at-row-count = at-owner-of .before .before in
+    let at-find-element = at-row-count .before in
+    let at-attribute-count = at-find-element .before .before in
+    let start = at-attribute-count .before .before in
+    let w : Whole (start .args .store .now) = whole _ (start .pre) in
+    refused-other _ w (start .args .attribute) (omega (arith, at-attribute-count .attribute-count .ensures .value))
+    (seen _ w (at-find-element .find-element .ensures) (at-row-count .row-count .ensures) (omega arith))
+    (λ e. c .if3 .taken (at-owner-of .owner-of .ensures ∙ e ∙ sym (c .before .definition-at .ensures)))
 
 returns-4 : tie.Need-returns-4
-returns-4 c = let w : Whole (c .before .before .before .before .before .before .before .before .before .args .store .now) = whole _ (c .before .before .before .before .before .before .before .before .before .pre) in
-    refused-not _ w (c .before .before .before .before .before .before .before .before .before .args .attribute) (omega (arith, c .before .before .before .before .before .before .before .attribute-count .ensures .value)) (seen _ w (c .before .before .before .before .before .find-element .ensures) (c .before .before .before .before .row-count .ensures) (omega arith)) (sym (c .before .before .owner-of .ensures) ∙ c .if3 .left ∙ c .before .definition-at .ensures)
+returns-4 c =
+    let at-owner-of = c .before .before in
+    let at-row-count = at-owner-of .before .before in
+    let at-find-element = at-row-count .before in
+    let at-attribute-count = at-find-element .before .before in
+    let start = at-attribute-count .before .before in
+    let w : Whole (start .args .store .now) = whole _ (start .pre) in
+    refused-not _ w (start .args .attribute) (omega (arith, at-attribute-count .attribute-count .ensures .value))
+    (seen _ w (at-find-element .find-element .ensures) (at-row-count .row-count .ensures) (omega arith))
+    (sym (at-owner-of .owner-of .ensures) ∙ c .if3 .left ∙ c .before .definition-at .ensures)
 
 pub attribute-refusal-spec : {M : Type 1} → statement M
 attribute-refusal-spec =

@@ -13,8 +13,9 @@ slice-aggregate-line-fits c = search needs
 
 line-fits-requires : tie.Need-line-fits-requires
 line-fits-requires c κs =
-    let filled = c .before .before .fill in
-    let start = c .before .before .before .before .before .before in
+    let at-fill = c .before .before in
+    let start = at-fill .before .before .before .before in
+    let filled = at-fill .fill in
     (start .pre .0, start .pre .1, start .pre .2, search needs, filled .ensures .line)
 
 returns : tie.Need-returns

@@ -26,7 +26,8 @@ returns c =
     let row = c .before in
     let rows = row .before in
     let width = rows .before in
-    let a = width .before .before .args in
+    let start = width .before .before in
+    let a = start .args in
     c .row-index .ensures
     ∙ (λ j. readRow ((row .row-at .ensures ∙ (λ k. recordAt (rowSize (width .width-in .ensures .value k)) (a .i) (rows .rows-of .ensures k))) j) .row .index)
 

@@ -12,19 +12,31 @@ attribute-refusal-requires : tie.Need-attribute-refusal-requires
 attribute-refusal-requires c κs = search needs
 
 returns : tie.Need-returns
-returns c = let a = c .before .before .before .args in drop-early (a .store .now) (whole _ (c .before .before .before .pre)) (a .attribute) (a .element) (c .before .attribute-refusal .ensures) (c .if1 .taken) .is
+returns c =
+    let start = c .before .before .before in
+    let a = start .args in drop-early (a .store .now) (whole _ (start .pre)) (a .attribute) (a .element) (c .before .attribute-refusal .ensures) (c .if1 .taken) .is
 
 find-element-requires : tie.Need-find-element-requires
 find-element-requires c κs = search needs
 
 attribute-at-requires : tie.Need-attribute-at-requires
-attribute-at-requires c κs = let a = c .before .before .before .before .args in let w : Whole (a .store .now) = whole _ (c .before .before .before .before .pre) in
-    row-of _ w (c .find-element .ensures) (there _ w (c .find-element .ensures) (both _ w (a .attribute) (c .before .before .attribute-refusal .ensures) (c .before .if1 .left) .1))
+attribute-at-requires c κs =
+    let at-attribute-refusal = c .before .before in
+    let start = at-attribute-refusal .before .before in
+    let a = start .args in let w : Whole (a .store .now) = whole _ (start .pre) in
+    row-of _ w (c .find-element .ensures) (there _ w (c .find-element .ensures) (both _ w (a .attribute) (at-attribute-refusal .attribute-refusal .ensures) (c .before .if1 .left) .1))
 
 returns-2 : tie.Need-returns-2
-returns-2 c = let a = c .before .before .before .before .before .before .args in let w : Whole (a .store .now) = whole _ (c .before .before .before .before .before .before .pre) in
-    let z = both _ w (a .attribute) (c .before .before .before .before .attribute-refusal .ensures) (c .before .before .before .if1 .left) .1 in
-    drop-7 (a .store .now) w (a .attribute) (a .element) (c .before .before .before .before .attribute-refusal .ensures) (c .before .before .before .if1 .left) (element-there _ w _ _ (c .before .before .find-element .ensures .begins) (there _ w (c .before .before .find-element .ensures) z)) (c .before .attribute-at .ensures) (c .if2 .taken) .is
+returns-2 c =
+    let at-find-element = c .before .before in
+    let at-if1 = at-find-element .before in
+    let at-attribute-refusal = at-if1 .before in
+    let start = at-attribute-refusal .before .before in
+    let a = start .args in let w : Whole (a .store .now) = whole _ (start .pre) in
+    let z = both _ w (a .attribute) (at-attribute-refusal .attribute-refusal .ensures) (at-if1 .if1 .left) .1 in
+    drop-7 (a .store .now) w (a .attribute) (a .element) (at-attribute-refusal .attribute-refusal .ensures) (at-if1 .if1 .left)
+    (element-there _ w _ _ (at-find-element .find-element .ensures .begins) (there _ w (at-find-element .find-element .ensures) z))
+    (c .before .attribute-at .ensures) (c .if2 .taken) .is
 
 version-in-requires : tie.Need-version-in-requires
 version-in-requires c κs = search needs
@@ -39,20 +51,63 @@ definition-at-requires : tie.Need-definition-at-requires
 definition-at-requires c κs = search needs
 
 needs-requires : tie.Need-needs-requires
-needs-requires c κs = let a = c .before .before .before .before .before .before .before .before .before .before .args in let w : Whole (a .store .now) = whole _ (c .before .before .before .before .before .before .before .before .before .before .pre) in
-    (c .before .before .width-in .ensures .small, omega (arith, w .fewAttributes, inside _ w (a .attribute) (known-of _ w (a .attribute) (c .before .before .before .before .before .before .before .before .attribute-refusal .ensures) (c .before .before .before .before .before .before .before .if1 .left))))
+needs-requires c κs =
+    let at-width-in = c .before .before in
+    let at-if1 = at-width-in .before .before .before .before .before in
+    let at-attribute-refusal = at-if1 .before in
+    let start = at-attribute-refusal .before .before in
+    let a = start .args in let w : Whole (a .store .now) = whole _ (start .pre) in (
+      at-width-in .width-in .ensures .small,
+      omega (
+        arith,
+        w .fewAttributes,
+        inside _ w (a .attribute) (known-of _ w (a .attribute) (at-attribute-refusal .attribute-refusal .ensures) (at-if1 .if1 .left)),
+      ),
+    )
 
 returns-3 : tie.Need-returns-3
-returns-3 c = let a = c .before .before .before .before .before .before .before .before .before .before .before .before .args in let w : Whole (a .store .now) = whole _ (c .before .before .before .before .before .before .before .before .before .before .before .before .pre) in
-    let z = both _ w (a .attribute) (c .before .before .before .before .before .before .before .before .before .before .attribute-refusal .ensures) (c .before .before .before .before .before .before .before .before .before .if1 .left) .1 in
-    drop-15 (a .store .now) w (a .attribute) (a .element) (c .before .before .before .before .before .before .before .before .before .before .attribute-refusal .ensures) (c .before .before .before .before .before .before .before .before .before .if1 .left) (element-there _ w _ _ (c .before .before .before .before .before .before .before .before .find-element .ensures .begins) (there _ w (c .before .before .before .before .before .before .before .before .find-element .ensures) z)) (c .before .before .before .before .before .before .before .attribute-at .ensures) (c .before .before .before .before .before .before .if2 .left) (c .before .before .definition-at .ensures)
-    (c .before .needs .ensures ∙ needs-in (a .store .now) (c .before .before .before .before .width-in .ensures .value) (c .before .before .before .attributes-of .ensures) (a .attribute) (c .before .before .before .before .before .version-in .ensures .value) (c .before .before .definition-at .result)) (c .if3 .taken) .is
+returns-3 c =
+    let at-definition-at = c .before .before in
+    let at-attributes-of = at-definition-at .before in
+    let at-width-in = at-attributes-of .before in
+    let at-version-in = at-width-in .before in
+    let at-if2 = at-version-in .before in
+    let at-attribute-at = at-if2 .before in
+    let at-find-element = at-attribute-at .before in
+    let at-if1 = at-find-element .before in
+    let at-attribute-refusal = at-if1 .before in
+    let start = at-attribute-refusal .before .before in
+    let a = start .args in let w : Whole (a .store .now) = whole _ (start .pre) in
+    let z = both _ w (a .attribute) (at-attribute-refusal .attribute-refusal .ensures) (at-if1 .if1 .left) .1 in
+    drop-15 (a .store .now) w (a .attribute) (a .element) (at-attribute-refusal .attribute-refusal .ensures) (at-if1 .if1 .left)
+    (element-there _ w _ _ (at-find-element .find-element .ensures .begins) (there _ w (at-find-element .find-element .ensures) z))
+    (at-attribute-at .attribute-at .ensures) (at-if2 .if2 .left) (at-definition-at .definition-at .ensures)
+    (c .before .needs .ensures
+    ∙ needs-in (a .store .now) (at-width-in .width-in .ensures .value) (at-attributes-of .attributes-of .ensures) (a .attribute)
+    (at-version-in .version-in .ensures .value) (at-definition-at .definition-at .result))
+    (c .if3 .taken) .is
 
 returns-4 : tie.Need-returns-4
-returns-4 c = let a = c .before .before .before .before .before .before .before .before .before .before .before .before .args in let w : Whole (a .store .now) = whole _ (c .before .before .before .before .before .before .before .before .before .before .before .before .pre) in
-    let z = both _ w (a .attribute) (c .before .before .before .before .before .before .before .before .before .before .attribute-refusal .ensures) (c .before .before .before .before .before .before .before .before .before .if1 .left) .1 in
-    drop-0 (a .store .now) w (a .attribute) (a .element) (c .before .before .before .before .before .before .before .before .before .before .attribute-refusal .ensures) (c .before .before .before .before .before .before .before .before .before .if1 .left) (element-there _ w _ _ (c .before .before .before .before .before .before .before .before .find-element .ensures .begins) (there _ w (c .before .before .before .before .before .before .before .before .find-element .ensures) z)) (c .before .before .before .before .before .before .before .attribute-at .ensures) (c .before .before .before .before .before .before .if2 .left) (c .before .before .definition-at .ensures)
-    (c .before .needs .ensures ∙ needs-in (a .store .now) (c .before .before .before .before .width-in .ensures .value) (c .before .before .before .attributes-of .ensures) (a .attribute) (c .before .before .before .before .before .version-in .ensures .value) (c .before .before .definition-at .result)) (c .if3 .left) .is
+returns-4 c =
+    let at-definition-at = c .before .before in
+    let at-attributes-of = at-definition-at .before in
+    let at-width-in = at-attributes-of .before in
+    let at-version-in = at-width-in .before in
+    let at-if2 = at-version-in .before in
+    let at-attribute-at = at-if2 .before in
+    let at-find-element = at-attribute-at .before in
+    let at-if1 = at-find-element .before in
+    let at-attribute-refusal = at-if1 .before in
+    let start = at-attribute-refusal .before .before in
+    let a = start .args in let w : Whole (a .store .now) = whole _ (start .pre) in
+    let z = both _ w (a .attribute) (at-attribute-refusal .attribute-refusal .ensures) (at-if1 .if1 .left) .1 in
+    drop-0 (a .store .now) w (a .attribute) (a .element) (at-attribute-refusal .attribute-refusal .ensures) (at-if1 .if1 .left)
+    (element-there _ w _ _ (at-find-element .find-element .ensures .begins) (there _ w (at-find-element .find-element .ensures) z))
+    (at-attribute-at .attribute-at .ensures) (at-if2 .if2 .left) (at-definition-at .definition-at .ensures)
+    (c .before .needs .ensures
+    ∙ needs-in (a .store .now) (at-width-in .width-in .ensures .value) (at-attributes-of .attributes-of .ensures) (a .attribute)
+    (at-version-in .version-in .ensures .value) (at-definition-at .definition-at .result))
+    (c .if3 .left) .is
 
 pub destroy-attribute-row-refusal-spec : {M : Type 1} → statement M
 destroy-attribute-row-refusal-spec =

@@ -9,6 +9,7 @@ use Rattle.document_refusals.proofs.SuffixLaws.{Seeking, seek-start, se
 use Rattle.document_refusals.proofs.element_at.Statement.{statement}
 use Rattle.document_refusals.proofs.element_at.Tie as tie
 
+-- The loop's invariant: the search from row i on finds the row that the search from the first row on finds.
 abbrev Inv-loop : tie.InvT-loop
 Inv-loop w rows count element i₀ i = Seeking w (isThis element) rows count i
 
@@ -25,9 +26,13 @@ is-element-requires : tie.Need-is-element-requires Inv-loop μ-loop
 is-element-requires c κs = search needs
 
 returns : tie.Need-returns Inv-loop μ-loop
-returns c = let l = c .before .before .before .before in let a = l .before .before .args in
-    seek-hit (a .w) (isThis (a .element)) (a .rows .now) (a .count) (l .loop .i) (l .loop .inv) (omega arith)
-    (sym (c .before .is-element .ensures ∙ ap (λ (b : List ℕ). elementRow (a .element) (readRow b .row)) (c .before .before .row-at .ensures)) ∙ c .if1 .taken)
+returns c =
+    let at-row-at = c .before .before in
+    let at-loop = at-row-at .before .before in
+    let start = at-loop .before .before in
+    let a = start .args in
+    seek-hit (a .w) (isThis (a .element)) (a .rows .now) (a .count) (at-loop .loop .i) (at-loop .loop .inv) (omega arith)
+    (sym (c .before .is-element .ensures ∙ ap (λ (b : List ℕ). elementRow (a .element) (readRow b .row)) (at-row-at .row-at .ensures)) ∙ c .if1 .taken)
 
 add-i : tie.Need-add-i Inv-loop μ-loop
 add-i c = search needs
@@ -36,9 +41,13 @@ loop-less : tie.Need-loop-less Inv-loop μ-loop
 loop-less c = search needs
 
 loop-again : tie.Need-loop-again Inv-loop μ-loop
-loop-again c = let l = c .before .before .before .before in let a = l .before .before .args in
-    seek-past (a .w) (isThis (a .element)) (a .rows .now) (a .count) (l .loop .i) (l .loop .inv) (omega arith)
-    (sym (c .before .is-element .ensures ∙ ap (λ (b : List ℕ). elementRow (a .element) (readRow b .row)) (c .before .before .row-at .ensures)) ∙ c .if1 .left)
+loop-again c =
+    let at-row-at = c .before .before in
+    let at-loop = at-row-at .before .before in
+    let start = at-loop .before .before in
+    let a = start .args in
+    seek-past (a .w) (isThis (a .element)) (a .rows .now) (a .count) (at-loop .loop .i) (at-loop .loop .inv) (omega arith)
+    (sym (c .before .is-element .ensures ∙ ap (λ (b : List ℕ). elementRow (a .element) (readRow b .row)) (at-row-at .row-at .ensures)) ∙ c .if1 .left)
 
 returns-2 : tie.Need-returns-2 Inv-loop μ-loop
 returns-2 c = seek-none _ _ _ _ _ (c .before .loop .inv) (omega arith)

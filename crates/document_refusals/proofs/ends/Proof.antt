@@ -13,9 +13,10 @@ contains-requires c κs = search needs
 
 returns : tie.Need-returns
 returns c =
-    let start = c .before .before .before .before .before in
+    let at-if1 = c .before .before in
+    let start = at-if1 .before .before .before in
     let a = start .args in
-    end-none (membersOf (a .part .now)) (a .line .now) (start .pre .1) (a .last) _ (c .before .before .if1 .taken) (c .contains .ensures)
+    end-none (membersOf (a .part .now)) (a .line .now) (start .pre .1) (a .last) _ (at-if1 .if1 .taken) (c .contains .ensures)
 
 shared-slice-read-contains-2 : tie.Need-shared-slice-read-contains-2
 shared-slice-read-contains-2 c = search needs
@@ -28,9 +29,10 @@ contains-requires-2 c κs = search needs
 
 returns-2 : tie.Need-returns-2
 returns-2 c =
-    let start = c .before .before .before .before .before .before in
+    let at-if1 = c .before .before .before in
+    let start = at-if1 .before .before .before in
     let a = start .args in
-    end-child (membersOf (a .part .now)) (a .line .now) (start .pre .1) (a .last) _ (c .before .before .before .if1 .left) (omega arith) (c .contains2 .ensures)
+    end-child (membersOf (a .part .now)) (a .line .now) (start .pre .1) (a .last) _ (at-if1 .if1 .left) (omega arith) (c .contains2 .ensures)
 
 finishes-requires : tie.Need-finishes-requires
 finishes-requires c κs = search needs

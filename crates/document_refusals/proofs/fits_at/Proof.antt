@@ -25,7 +25,15 @@ children-fit-requires : tie.Need-children-fit-requires
 children-fit-requires c κs = search needs
 
 returns : tie.Need-returns
-returns c = let a = c .before .before .before .before .before .before .before .args in fits-read (a .store .now) (a .i) (c .before .before .before .before .before .width-in .ensures .value) (c .before .before .before .before .rows-of .ensures) (c .before .before .row-count .ensures .value) (c .before .depth-below .ensures) (a .place) (a .new) (a .skip) (c .before .before .before .model-at .ensures) (c .children-fit .ensures)
+returns c =
+    let at-row-count = c .before .before in
+    let at-model-at = at-row-count .before in
+    let at-rows-of = at-model-at .before in
+    let at-width-in = at-rows-of .before in
+    let start = at-width-in .before .before in
+    let a = start .args in
+    fits-read (a .store .now) (a .i) (at-width-in .width-in .ensures .value) (at-rows-of .rows-of .ensures) (at-row-count .row-count .ensures .value)
+    (c .before .depth-below .ensures) (a .place) (a .new) (a .skip) (at-model-at .model-at .ensures) (c .children-fit .ensures)
 
 pub fits-at-spec : {M : Type 1} → statement M
 fits-at-spec =

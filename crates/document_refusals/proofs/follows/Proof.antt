@@ -10,13 +10,15 @@ use Rattle.document_refusals.proofs.follows.Tie as tie
 
 mul-contains : tie.Need-mul-contains
 mul-contains c =
-    let a = c .before .before .before .args in
+    let start = c .before .before .before in
+    let a = start .args in
     let low = and-split (leb (a .last) 64) (ltb (a .y) 64) (c .if1 .taken) in
     omega (arith, leb-true (a .last) 64 (low .0))
 
 shared-slice-read-contains : tie.Need-shared-slice-read-contains
 shared-slice-read-contains c =
-    let a = c .before .before .before .before .args in
+    let start = c .before .before .before .before in
+    let a = start .args in
     let low = and-split (leb (a .last) 64) (ltb (a .y) 64) (c .before .if1 .taken) in
     omega (arith, leb-true (a .last) 64 (low .0))
 
@@ -25,9 +27,10 @@ contains-requires c κs = search needs
 
 returns : tie.Need-returns
 returns c =
-    let start = c .before .before .before .before .before in
+    let at-if1 = c .before .before in
+    let start = at-if1 .before .before .before in
     let a = start .args in
-    let low = and-split (leb (a .last) 64) (ltb (a .y) 64) (c .before .before .if1 .taken) in
+    let low = and-split (leb (a .last) 64) (ltb (a .y) 64) (at-if1 .if1 .taken) in
     follow-found (membersOf (a .part .now)) (a .line .now) (start .pre .1) (a .last) _ (a .y) (leb-true (a .last) 64 (low .0)) (ltb-true (a .y) 64 (low .1)) (c .contains .ensures)
 
 steps-requires : tie.Need-steps-requires

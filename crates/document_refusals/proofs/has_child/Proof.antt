@@ -11,6 +11,8 @@ use Rattle.document_refusals.proofs.SerialLaws.{any-this, any-next}
 use Rattle.document_refusals.proofs.has_child.Statement.{statement}
 use Rattle.document_refusals.proofs.has_child.Tie as tie
 
+-- The loop's invariant: row i is a child or there is none left; the element is among the children from there on if and
+-- only if it is among all.
 abbrev Inv-loop : tie.InvT-loop
 Inv-loop w rows count start depth element i₀ i = Looking w 1 depth rows count (any (elementRow element)) (any (elementRow element) (children 1 depth (rowsFrom w rows count start))) i
 
@@ -30,9 +32,16 @@ is-element-requires : tie.Need-is-element-requires Inv-loop μ-loop
 is-element-requires c κs = search needs
 
 returns : tie.Need-returns Inv-loop μ-loop
-returns c = let l = c .before .before .before .before in let a = l .before .before .before .args in
-    sym (any-this (a .element) (rowAt (a .w) (a .rows .now) (l .loop .i) .row) (children 1 (a .depth) (rowsFrom (a .w) (a .rows .now) (a .count) (l .loop .i + 1))) (sym (c .before .is-element .ensures ∙ ap (λ (b : List ℕ). elementRow (a .element) (readRow b .row)) (c .before .before .row-at .ensures)) ∙ c .if1 .taken))
-    ∙ look-here (a .w) 1 (a .depth) (a .rows .now) (a .count) (any (elementRow (a .element))) _ (l .loop .i) (l .loop .inv) (omega arith)
+returns c =
+    let at-row-at = c .before .before in
+    let at-loop = at-row-at .before .before in
+    let start = at-loop .before .before .before in
+    let a = start .args in
+    sym
+    (any-this (a .element) (rowAt (a .w) (a .rows .now) (at-loop .loop .i) .row)
+    (children 1 (a .depth) (rowsFrom (a .w) (a .rows .now) (a .count) (at-loop .loop .i + 1)))
+    (sym (c .before .is-element .ensures ∙ ap (λ (b : List ℕ). elementRow (a .element) (readRow b .row)) (at-row-at .row-at .ensures)) ∙ c .if1 .taken))
+    ∙ look-here (a .w) 1 (a .depth) (a .rows .now) (a .count) (any (elementRow (a .element))) _ (at-loop .loop .i) (at-loop .loop .inv) (omega arith)
 
 add-next-child : tie.Need-add-next-child Inv-loop μ-loop
 add-next-child c = search needs
@@ -44,12 +53,24 @@ loop-less : tie.Need-loop-less Inv-loop μ-loop
 loop-less c = omega (arith, c .next-child2 .ensures .later)
 
 loop-again : tie.Need-loop-again Inv-loop μ-loop
-loop-again c = let l = c .before .before .before .before .before in let a = l .before .before .before .args in
-    look-past (a .w) 1 (a .depth) (a .rows .now) (a .count) (any (elementRow (a .element))) _ (l .loop .i) (l .loop .inv) (any (elementRow (a .element))) (omega arith)
-    (any-next (a .element) (rowAt (a .w) (a .rows .now) (l .loop .i) .row) (children 1 (a .depth) (rowsFrom (a .w) (a .rows .now) (a .count) (l .loop .i + 1))) (sym (c .before .before .is-element .ensures ∙ ap (λ (b : List ℕ). elementRow (a .element) (readRow b .row)) (c .before .before .before .row-at .ensures)) ∙ c .before .if1 .left)) (c .next-child2 .ensures)
+loop-again c =
+    let at-is-element = c .before .before in
+    let at-row-at = at-is-element .before in
+    let at-loop = at-row-at .before .before in
+    let start = at-loop .before .before .before in
+    let a = start .args in
+    look-past (a .w) 1 (a .depth) (a .rows .now) (a .count) (any (elementRow (a .element))) _ (at-loop .loop .i) (at-loop .loop .inv) (any (elementRow (a .element))) (omega arith)
+    (any-next (a .element) (rowAt (a .w) (a .rows .now) (at-loop .loop .i) .row)
+    (children 1 (a .depth) (rowsFrom (a .w) (a .rows .now) (a .count) (at-loop .loop .i + 1)))
+    (sym (at-is-element .is-element .ensures ∙ ap (λ (b : List ℕ). elementRow (a .element) (readRow b .row)) (at-row-at .row-at .ensures))
+    ∙ c .before .if1 .left))
+    (c .next-child2 .ensures)
 
 returns-2 : tie.Need-returns-2 Inv-loop μ-loop
-returns-2 c = let l = c .before in let a = l .before .before .before .args in look-none (a .w) 1 (a .depth) (a .rows .now) (a .count) (any (elementRow (a .element))) _ (l .loop .i) (l .loop .inv) (omega arith)
+returns-2 c =
+    let at-loop = c .before in
+    let start = at-loop .before .before .before in
+    let a = start .args in look-none (a .w) 1 (a .depth) (a .rows .now) (a .count) (any (elementRow (a .element))) _ (at-loop .loop .i) (at-loop .loop .inv) (omega arith)
 
 pub has-child-spec : {M : Type 1} → statement M
 has-child-spec =

@@ -10,6 +10,8 @@ use Rattle.document_refusals.proofs.SerialLaws.{indexed-this, indexed-n
 use Rattle.document_refusals.proofs.indexed_serial.Statement.{statement}
 use Rattle.document_refusals.proofs.indexed_serial.Tie as tie
 
+-- The loop's invariant: row i is a child or there is none left; those from there on give the serial that all children
+-- give.
 abbrev Inv-loop : tie.InvT-loop
 Inv-loop w rows count start depth attribute i₀ i = Looking w 2 depth rows count (serialOf attribute) (serialOf attribute (children 2 depth (rowsFrom w rows count start))) i
 
@@ -35,10 +37,18 @@ row-serial-requires : tie.Need-row-serial-requires Inv-loop μ-loop
 row-serial-requires c κs = search needs
 
 returns : tie.Need-returns Inv-loop μ-loop
-returns c = let l = c .before .before .before .before .before in let a = l .before .before .before .args in
-    c .row-serial .ensures ∙ ap (λ (b : List ℕ). readRow b .row .serial) (c .before .before .before .row-at .ensures)
-    ∙ sym (indexed-this (a .attribute) (rowAt (a .w) (a .rows .now) (l .loop .i) .row) (children 2 (a .depth) (rowsFrom (a .w) (a .rows .now) (a .count) (l .loop .i + 1))) (sym (c .before .before .row-index .ensures ∙ ap (λ (b : List ℕ). readRow b .row .index) (c .before .before .before .row-at .ensures)) ∙ c .before .if1 .taken))
-    ∙ look-here (a .w) 2 (a .depth) (a .rows .now) (a .count) (serialOf (a .attribute)) _ (l .loop .i) (l .loop .inv) (omega arith)
+returns c =
+    let at-row-index = c .before .before in
+    let at-row-at = at-row-index .before in
+    let at-loop = at-row-at .before .before in
+    let start = at-loop .before .before .before in
+    let a = start .args in
+    c .row-serial .ensures ∙ ap (λ (b : List ℕ). readRow b .row .serial) (at-row-at .row-at .ensures)
+    ∙ sym
+    (indexed-this (a .attribute) (rowAt (a .w) (a .rows .now) (at-loop .loop .i) .row)
+    (children 2 (a .depth) (rowsFrom (a .w) (a .rows .now) (a .count) (at-loop .loop .i + 1)))
+    (sym (at-row-index .row-index .ensures ∙ ap (λ (b : List ℕ). readRow b .row .index) (at-row-at .row-at .ensures)) ∙ c .before .if1 .taken))
+    ∙ look-here (a .w) 2 (a .depth) (a .rows .now) (a .count) (serialOf (a .attribute)) _ (at-loop .loop .i) (at-loop .loop .inv) (omega arith)
 
 add-next-child : tie.Need-add-next-child Inv-loop μ-loop
 add-next-child c = search needs
@@ -50,12 +60,23 @@ loop-less : tie.Need-loop-less Inv-loop μ-loop
 loop-less c = omega (arith, c .next-child2 .ensures .later)
 
 loop-again : tie.Need-loop-again Inv-loop μ-loop
-loop-again c = let l = c .before .before .before .before .before in let a = l .before .before .before .args in
-    look-past (a .w) 2 (a .depth) (a .rows .now) (a .count) (serialOf (a .attribute)) _ (l .loop .i) (l .loop .inv) (serialOf (a .attribute)) (omega arith)
-    (indexed-next (a .attribute) (rowAt (a .w) (a .rows .now) (l .loop .i) .row) (children 2 (a .depth) (rowsFrom (a .w) (a .rows .now) (a .count) (l .loop .i + 1))) (λ e. c .before .if1 .left (c .before .before .row-index .ensures ∙ ap (λ (b : List ℕ). readRow b .row .index) (c .before .before .before .row-at .ensures) ∙ e))) (c .next-child2 .ensures)
+loop-again c =
+    let at-row-index = c .before .before in
+    let at-row-at = at-row-index .before in
+    let at-loop = at-row-at .before .before in
+    let start = at-loop .before .before .before in
+    let a = start .args in
+    look-past (a .w) 2 (a .depth) (a .rows .now) (a .count) (serialOf (a .attribute)) _ (at-loop .loop .i) (at-loop .loop .inv) (serialOf (a .attribute)) (omega arith)
+    (indexed-next (a .attribute) (rowAt (a .w) (a .rows .now) (at-loop .loop .i) .row)
+    (children 2 (a .depth) (rowsFrom (a .w) (a .rows .now) (a .count) (at-loop .loop .i + 1)))
+    (λ e. c .before .if1 .left (at-row-index .row-index .ensures ∙ ap (λ (b : List ℕ). readRow b .row .index) (at-row-at .row-at .ensures) ∙ e)))
+    (c .next-child2 .ensures)
 
 returns-2 : tie.Need-returns-2 Inv-loop μ-loop
-returns-2 c = let l = c .before in let a = l .before .before .before .args in look-none (a .w) 2 (a .depth) (a .rows .now) (a .count) (serialOf (a .attribute)) _ (l .loop .i) (l .loop .inv) (omega arith)
+returns-2 c =
+    let at-loop = c .before in
+    let start = at-loop .before .before .before in
+    let a = start .args in look-none (a .w) 2 (a .depth) (a .rows .now) (a .count) (serialOf (a .attribute)) _ (at-loop .loop .i) (at-loop .loop .inv) (omega arith)
 
 pub indexed-serial-spec : {M : Type 1} → statement M
 indexed-serial-spec =

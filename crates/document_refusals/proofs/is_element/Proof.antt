@@ -13,7 +13,9 @@ row-serial-requires : tie.Need-row-serial-requires
 row-serial-requires c κs = search needs
 
 returns : tie.Need-returns
-returns c = ap₂ (λ (a b : ℕ). eqb a 1 && eqb b (c .before .before .before .args .element)) (c .before .row-sort .ensures) (c .row-serial .ensures)
+returns c =
+    let start = c .before .before .before in
+    ap₂ (λ (a b : ℕ). eqb a 1 && eqb b (start .args .element)) (c .before .row-sort .ensures) (c .row-serial .ensures)
 
 pub is-element-spec : {M : Type 1} → statement M
 is-element-spec = tie.close (tie.spec row-sort-requires row-serial-requires returns)

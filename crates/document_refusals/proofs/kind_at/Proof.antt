@@ -16,7 +16,9 @@ kind-of-requires : tie.Need-kind-of-requires
 kind-of-requires c κs = search needs
 
 returns : tie.Need-returns
-returns c = c .kind-of .ensures ∙ ap₂ (λ (b : List ℕ) (n : ℕ). definitionIn b n .kind) (c .before .before .definitions-of .ensures) (c .before .definition-at .ensures)
+returns c =
+    let at-definitions-of = c .before .before in
+    c .kind-of .ensures ∙ ap₂ (λ (b : List ℕ) (n : ℕ). definitionIn b n .kind) (at-definitions-of .definitions-of .ensures) (c .before .definition-at .ensures)
 
 pub kind-at-spec : {M : Type 1} → statement M
 kind-at-spec = tie.close (tie.spec definitions-of-requires definition-at-requires kind-of-requires returns)

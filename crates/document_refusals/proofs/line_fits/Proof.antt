@@ -9,8 +9,12 @@ use Rattle.document_refusals.proofs.StepLaws.{accepted, step-at, word-f
 use Rattle.document_refusals.proofs.line_fits.Statement.{statement}
 use Rattle.document_refusals.proofs.line_fits.Tie as tie
 
+-- The loop's invariant: row i is a child or there is none left; from the position `last`, with the new one `left`
+-- places on, those from there on are accepted if and only if all children are.
 abbrev Inv-loop : tie.InvT-loop
-Inv-loop w part line rows count start depth place new skip last₀ left₀ i₀ last left i = Looking w 1 depth rows count (accepted (membersOf part) new skip last left) (accepted (membersOf part) new skip 0 place (children 1 depth (rowsFrom w rows count start))) i
+Inv-loop w part line rows count start depth place new skip last₀ left₀ i₀ last left i =
+    Looking w 1 depth rows count (accepted (membersOf part) new skip last left)
+    (accepted (membersOf part) new skip 0 place (children 1 depth (rowsFrom w rows count start))) i
 
 abbrev μ-loop : tie.MeasureT-loop
 μ-loop w part line rows count start depth place new skip last₀ left₀ i₀ last left i = count - i
@@ -31,9 +35,19 @@ step-child-requires : tie.Need-step-child-requires Inv-loop μ-loop
 step-child-requires c κs = search needs
 
 returns : tie.Need-returns Inv-loop μ-loop
-returns c = let l = c .before .before .before .before .before .before .before in let a = l .before .before .before .before .before .args in
-    word-fails (membersOf (a .part .now)) (a .new) (a .skip) (l .loop .last) (l .loop .left) (rowAt (a .w) (a .rows .now) (l .loop .i) .row) (children 1 (a .depth) (rowsFrom (a .w) (a .rows .now) (a .count) (l .loop .i + 1))) (c .before .before .before .before .before .step-new .ensures) (step-at (a .skip) (c .before .before .before .before .row-at .ensures) (c .before .before .before .step-child .ensures)) (c .if1 .taken)
-    ∙ look-here (a .w) 1 (a .depth) (a .rows .now) (a .count) (accepted (membersOf (a .part .now)) (a .new) (a .skip) (l .loop .last) (l .loop .left)) _ (l .loop .i) (l .loop .inv) (omega arith)
+returns c =
+    let at-step-child = c .before .before .before in
+    let at-row-at = at-step-child .before in
+    let at-step-new = at-row-at .before in
+    let at-loop = at-step-new .before .before in
+    let start = at-loop .before .before .before .before .before in
+    let a = start .args in
+    word-fails (membersOf (a .part .now)) (a .new) (a .skip) (at-loop .loop .last) (at-loop .loop .left) (rowAt (a .w) (a .rows .now) (at-loop .loop .i) .row)
+    (children 1 (a .depth) (rowsFrom (a .w) (a .rows .now) (a .count) (at-loop .loop .i + 1))) (at-step-new .step-new .ensures)
+    (step-at (a .skip) (at-row-at .row-at .ensures) (at-step-child .step-child .ensures)) (c .if1 .taken)
+    ∙ look-here (a .w) 1 (a .depth) (a .rows .now) (a .count)
+    (accepted (membersOf (a .part .now)) (a .new) (a .skip) (at-loop .loop .last) (at-loop .loop .left)) _ (at-loop .loop .i) (at-loop .loop .inv)
+    (omega arith)
 
 less-requires : tie.Need-less-requires Inv-loop μ-loop
 less-requires c κs = search needs
@@ -48,11 +62,22 @@ loop-less : tie.Need-loop-less Inv-loop μ-loop
 loop-less c = omega (arith, c .next-child2 .ensures .later)
 
 loop-again : tie.Need-loop-again Inv-loop μ-loop
-loop-again c = let l = c .before .before .before .before .before .before .before .before .before in let a = l .before .before .before .before .before .args in
-    look-past (a .w) 1 (a .depth) (a .rows .now) (a .count) (accepted (membersOf (a .part .now)) (a .new) (a .skip) (l .loop .last) (l .loop .left)) _ (l .loop .i) (l .loop .inv)
-    (accepted (membersOf (a .part .now)) (a .new) (a .skip) (c .before .before .before .before .before .step-child .result .last) (c .before .less .result)) (omega arith)
-    (word-past (membersOf (a .part .now)) (a .new) (a .skip) (l .loop .last) (l .loop .left) (rowAt (a .w) (a .rows .now) (l .loop .i) .row) (children 1 (a .depth) (rowsFrom (a .w) (a .rows .now) (a .count) (l .loop .i + 1))) (c .before .before .before .before .before .before .before .step-new .ensures) (step-at (a .skip) (c .before .before .before .before .before .before .row-at .ensures) (c .before .before .before .before .before .step-child .ensures)) (c .before .before .if1 .left)
-    ∙ less-as (membersOf (a .part .now)) (a .new) (a .skip) (c .before .before .before .before .before .step-child .result .last) (children 1 (a .depth) (rowsFrom (a .w) (a .rows .now) (a .count) (l .loop .i + 1))) (c .before .less .ensures)) (c .next-child2 .ensures)
+loop-again c =
+    let at-if1 = c .before .before in
+    let at-step-child = at-if1 .before .before .before in
+    let at-row-at = at-step-child .before in
+    let at-step-new = at-row-at .before in
+    let at-loop = at-step-new .before .before in
+    let start = at-loop .before .before .before .before .before in
+    let a = start .args in
+    look-past (a .w) 1 (a .depth) (a .rows .now) (a .count) (accepted (membersOf (a .part .now)) (a .new) (a .skip) (at-loop .loop .last) (at-loop .loop .left))
+    _ (at-loop .loop .i) (at-loop .loop .inv)
+    (accepted (membersOf (a .part .now)) (a .new) (a .skip) (at-step-child .step-child .result .last) (c .before .less .result)) (omega arith)
+    (word-past (membersOf (a .part .now)) (a .new) (a .skip) (at-loop .loop .last) (at-loop .loop .left) (rowAt (a .w) (a .rows .now) (at-loop .loop .i) .row)
+    (children 1 (a .depth) (rowsFrom (a .w) (a .rows .now) (a .count) (at-loop .loop .i + 1))) (at-step-new .step-new .ensures)
+    (step-at (a .skip) (at-row-at .row-at .ensures) (at-step-child .step-child .ensures)) (at-if1 .if1 .left)
+    ∙ less-as (membersOf (a .part .now)) (a .new) (a .skip) (at-step-child .step-child .result .last)
+    (children 1 (a .depth) (rowsFrom (a .w) (a .rows .now) (a .count) (at-loop .loop .i + 1))) (c .before .less .ensures)) (c .next-child2 .ensures)
 
 step-new-requires-2 : tie.Need-step-new-requires-2 Inv-loop μ-loop
 step-new-requires-2 c κs = search needs
@@ -61,9 +86,15 @@ ends-requires : tie.Need-ends-requires Inv-loop μ-loop
 ends-requires c κs = search needs
 
 returns-2 : tie.Need-returns-2 Inv-loop μ-loop
-returns-2 c = let l = c .before .before .before .before in let a = l .before .before .before .before .before .args in
-    word-ends (membersOf (a .part .now)) (a .new) (a .skip) (l .loop .last) (l .loop .left) (c .before .before .step-new2 .ensures) (c .before .ends .ensures)
-    ∙ look-none (a .w) 1 (a .depth) (a .rows .now) (a .count) (accepted (membersOf (a .part .now)) (a .new) (a .skip) (l .loop .last) (l .loop .left)) _ (l .loop .i) (l .loop .inv) (omega arith)
+returns-2 c =
+    let at-step-new2 = c .before .before in
+    let at-loop = at-step-new2 .before .before in
+    let start = at-loop .before .before .before .before .before in
+    let a = start .args in
+    word-ends (membersOf (a .part .now)) (a .new) (a .skip) (at-loop .loop .last) (at-loop .loop .left) (at-step-new2 .step-new2 .ensures) (c .before .ends .ensures)
+    ∙ look-none (a .w) 1 (a .depth) (a .rows .now) (a .count)
+    (accepted (membersOf (a .part .now)) (a .new) (a .skip) (at-loop .loop .last) (at-loop .loop .left)) _ (at-loop .loop .i) (at-loop .loop .inv)
+    (omega arith)
 
 pub line-fits-spec : {M : Type 1} → statement M
 line-fits-spec =

@@ -18,7 +18,10 @@ model-part-requires : tie.Need-model-part-requires
 model-part-requires c κs = search needs
 
 returns : tie.Need-returns
-returns c = ap membersOf (c .model-part .ensures ∙ (λ i. modelPart (c .before .before .before .definitions-of .ensures i) (c .before .before .particles-of .ensures i) (c .before .definition-at .ensures i)))
+returns c =
+    let at-particles-of = c .before .before in
+    let at-definitions-of = at-particles-of .before in
+    ap membersOf (c .model-part .ensures ∙ (λ i. modelPart (at-definitions-of .definitions-of .ensures i) (at-particles-of .particles-of .ensures i) (c .before .definition-at .ensures i)))
 
 pub model-at-spec : {M : Type 1} → statement M
 model-at-spec =

@@ -12,6 +12,7 @@ use Rattle.document_refusals.proofs.SuffixLaws.{child-of, Stepping, ste
 use Rattle.document_refusals.proofs.next_child.Statement.{statement}
 use Rattle.document_refusals.proofs.next_child.Tie as tie
 
+-- The loop's invariant: the next child from row i on is the next child from `start` on.
 abbrev Inv-loop : tie.InvT-loop
 Inv-loop w rows count start depth sort i₀ i = Stepping w sort depth rows count start i
 
@@ -31,17 +32,33 @@ cast-deep : tie.Need-cast-deep Inv-loop μ-loop
 cast-deep c = search needs
 
 returns : tie.Need-returns Inv-loop μ-loop
-returns c = let l = c .before .before .before .before in let a = l .before .before .args in
-    child-of (step-less (a .w) (a .sort) (a .depth) (a .rows .now) (a .count) (a .start) (l .loop .i) (l .loop .inv) (omega arith) (omega (arith, c .before .row-depth .ensures ∙ ap (λ (b : List ℕ). readRow b .depth) (c .before .before .row-at .ensures)))) (omega arith)
+returns c =
+    let at-row-at = c .before .before in
+    let at-loop = at-row-at .before .before in
+    let start = at-loop .before .before in
+    let a = start .args in
+    child-of (step-less (a .w) (a .sort) (a .depth) (a .rows .now) (a .count) (a .start) (at-loop .loop .i) (at-loop .loop .inv) (omega arith)
+    (omega (arith, c .before .row-depth .ensures ∙ ap (λ (b : List ℕ). readRow b .depth) (at-row-at .row-at .ensures))))
+    (omega arith)
 
 row-sort-requires : tie.Need-row-sort-requires Inv-loop μ-loop
 row-sort-requires c κs = search needs
 
 returns-2 : tie.Need-returns-2 Inv-loop μ-loop
-returns-2 c = let l = c .before .before .before .before .before .before in let a = l .before .before .args in
-    let x : c .before .before .before .row-depth .result ≡ readRow (recordAt (rowSize (a .w)) (l .loop .i) (a .rows .now)) .depth = c .before .before .before .row-depth .ensures ∙ ap (λ (b : List ℕ). readRow b .depth) (c .before .before .before .before .row-at .ensures) in
-    let y : c .before .row-sort .result ≡ readRow (recordAt (rowSize (a .w)) (l .loop .i) (a .rows .now)) .row .sort = c .before .row-sort .ensures ∙ ap (λ (b : List ℕ). readRow b .row .sort) (c .before .before .before .before .row-at .ensures) in
-    child-of (step-hit (a .w) (a .sort) (a .depth) (a .rows .now) (a .count) (a .start) (l .loop .i) (l .loop .inv) (omega arith) (omega arith) (sym (ap₂ (λ (u v : ℕ). eqb u (a .depth) && eqb v (a .sort)) x y) ∙ c .if2 .taken)) (omega (arith, l .loop .inv .onward))
+returns-2 c =
+    let at-row-depth = c .before .before .before in
+    let at-row-at = at-row-depth .before in
+    let at-loop = at-row-at .before .before in
+    let start = at-loop .before .before in
+    let a = start .args in
+    let x : at-row-depth .row-depth .result ≡ readRow (recordAt (rowSize (a .w)) (at-loop .loop .i) (a .rows .now)) .depth =
+    at-row-depth .row-depth .ensures ∙ ap (λ (b : List ℕ). readRow b .depth) (at-row-at .row-at .ensures) in
+    let y : c .before .row-sort .result ≡ readRow (recordAt (rowSize (a .w)) (at-loop .loop .i) (a .rows .now)) .row .sort =
+    c .before .row-sort .ensures ∙ ap (λ (b : List ℕ). readRow b .row .sort) (at-row-at .row-at .ensures) in
+    child-of
+    (step-hit (a .w) (a .sort) (a .depth) (a .rows .now) (a .count) (a .start) (at-loop .loop .i) (at-loop .loop .inv) (omega arith) (omega arith)
+    (sym (ap₂ (λ (u v : ℕ). eqb u (a .depth) && eqb v (a .sort)) x y) ∙ c .if2 .taken))
+    (omega (arith, at-loop .loop .inv .onward))
 
 add-i : tie.Need-add-i Inv-loop μ-loop
 add-i c = search needs
@@ -50,10 +67,18 @@ loop-less : tie.Need-loop-less Inv-loop μ-loop
 loop-less c = search needs
 
 loop-again : tie.Need-loop-again Inv-loop μ-loop
-loop-again c = let l = c .before .before .before .before .before .before in let a = l .before .before .args in
-    let x : c .before .before .before .row-depth .result ≡ readRow (recordAt (rowSize (a .w)) (l .loop .i) (a .rows .now)) .depth = c .before .before .before .row-depth .ensures ∙ ap (λ (b : List ℕ). readRow b .depth) (c .before .before .before .before .row-at .ensures) in
-    let y : c .before .row-sort .result ≡ readRow (recordAt (rowSize (a .w)) (l .loop .i) (a .rows .now)) .row .sort = c .before .row-sort .ensures ∙ ap (λ (b : List ℕ). readRow b .row .sort) (c .before .before .before .before .row-at .ensures) in
-    step-past (a .w) (a .sort) (a .depth) (a .rows .now) (a .count) (a .start) (l .loop .i) (l .loop .inv) (omega arith) (omega arith) (sym (ap₂ (λ (u v : ℕ). eqb u (a .depth) && eqb v (a .sort)) x y) ∙ c .if2 .left)
+loop-again c =
+    let at-row-depth = c .before .before .before in
+    let at-row-at = at-row-depth .before in
+    let at-loop = at-row-at .before .before in
+    let start = at-loop .before .before in
+    let a = start .args in
+    let x : at-row-depth .row-depth .result ≡ readRow (recordAt (rowSize (a .w)) (at-loop .loop .i) (a .rows .now)) .depth =
+    at-row-depth .row-depth .ensures ∙ ap (λ (b : List ℕ). readRow b .depth) (at-row-at .row-at .ensures) in
+    let y : c .before .row-sort .result ≡ readRow (recordAt (rowSize (a .w)) (at-loop .loop .i) (a .rows .now)) .row .sort =
+    c .before .row-sort .ensures ∙ ap (λ (b : List ℕ). readRow b .row .sort) (at-row-at .row-at .ensures) in
+    step-past (a .w) (a .sort) (a .depth) (a .rows .now) (a .count) (a .start) (at-loop .loop .i) (at-loop .loop .inv) (omega arith) (omega arith)
+    (sym (ap₂ (λ (u v : ℕ). eqb u (a .depth) && eqb v (a .sort)) x y) ∙ c .if2 .left)
 
 returns-3 : tie.Need-returns-3 Inv-loop μ-loop
 returns-3 c = child-of (step-none _ _ _ _ _ _ _ (c .before .loop .inv) (omega arith)) (omega arith)

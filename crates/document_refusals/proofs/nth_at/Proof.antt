@@ -22,7 +22,14 @@ nth-serial-requires : tie.Need-nth-serial-requires
 nth-serial-requires c κs = search needs
 
 returns : tie.Need-returns
-returns c = let a = c .before .before .before .before .before .before .args in nth-read (a .store .now) (a .i) (a .sort) (c .before .before .before .before .width-in .ensures .value) (c .before .before .before .rows-of .ensures) (c .before .before .row-count .ensures .value) (c .before .depth-below .ensures) (a .n) (c .nth-serial .ensures)
+returns c =
+    let at-row-count = c .before .before in
+    let at-rows-of = at-row-count .before in
+    let at-width-in = at-rows-of .before in
+    let start = at-width-in .before .before in
+    let a = start .args in
+    nth-read (a .store .now) (a .i) (a .sort) (at-width-in .width-in .ensures .value) (at-rows-of .rows-of .ensures)
+    (at-row-count .row-count .ensures .value) (c .before .depth-below .ensures) (a .n) (c .nth-serial .ensures)
 
 pub nth-at-spec : {M : Type 1} → statement M
 nth-at-spec =

@@ -10,6 +10,8 @@ use Rattle.document_refusals.proofs.SerialLaws.{nth, nth-nil, nth-next,
 use Rattle.document_refusals.proofs.nth_serial.Statement.{statement}
 use Rattle.document_refusals.proofs.nth_serial.Tie as tie
 
+-- The loop's invariant: row i is a child or there is none left; child number `left` from there on is child number n of
+-- all.
 abbrev Inv-loop : tie.InvT-loop
 Inv-loop w rows count start depth sort n i₀ left₀ i left = Looking w sort depth rows count (nth left) (nth n (children sort depth (rowsFrom w rows count start))) i
 
@@ -23,8 +25,11 @@ loop-holds : tie.Need-loop-holds Inv-loop μ-loop
 loop-holds c = look-start (c .next-child .ensures)
 
 returns : tie.Need-returns Inv-loop μ-loop
-returns c = let l = c .before .before in let a = l .before .before .before .args in
-    sym (nth-nil (l .loop .left)) ∙ look-none (a .w) (a .sort) (a .depth) (a .rows .now) (a .count) (nth (l .loop .left)) _ (l .loop .i) (l .loop .inv) (omega arith)
+returns c =
+    let at-loop = c .before .before in
+    let start = at-loop .before .before .before in
+    let a = start .args in
+    sym (nth-nil (at-loop .loop .left)) ∙ look-none (a .w) (a .sort) (a .depth) (a .rows .now) (a .count) (nth (at-loop .loop .left)) _ (at-loop .loop .i) (at-loop .loop .inv) (omega arith)
 
 add-next-child : tie.Need-add-next-child Inv-loop μ-loop
 add-next-child c = search needs
@@ -39,12 +44,22 @@ loop-less : tie.Need-loop-less Inv-loop μ-loop
 loop-less c = search needs
 
 loop-again : tie.Need-loop-again Inv-loop μ-loop
-loop-again c = let l = c .before .before .before in let a = l .before .before .before .args in
-    look-past (a .w) (a .sort) (a .depth) (a .rows .now) (a .count) (nth (l .loop .left)) _ (l .loop .i) (l .loop .inv) (nth (l .loop .left - 1)) (omega arith) (nth-next (l .loop .left) (rowAt (a .w) (a .rows .now) (l .loop .i) .row) (children (a .sort) (a .depth) (rowsFrom (a .w) (a .rows .now) (a .count) (l .loop .i + 1))) (omega arith)) (c .next-child2 .ensures)
+loop-again c =
+    let at-loop = c .before .before .before in
+    let start = at-loop .before .before .before in
+    let a = start .args in
+    look-past (a .w) (a .sort) (a .depth) (a .rows .now) (a .count) (nth (at-loop .loop .left)) _ (at-loop .loop .i) (at-loop .loop .inv)
+    (nth (at-loop .loop .left - 1)) (omega arith)
+    (nth-next (at-loop .loop .left) (rowAt (a .w) (a .rows .now) (at-loop .loop .i) .row)
+    (children (a .sort) (a .depth) (rowsFrom (a .w) (a .rows .now) (a .count) (at-loop .loop .i + 1))) (omega arith))
+    (c .next-child2 .ensures)
 
 returns-2 : tie.Need-returns-2 Inv-loop μ-loop
-returns-2 c = let l = c .before .before in let a = l .before .before .before .args in
-    sym (nth-nil (l .loop .left)) ∙ look-none (a .w) (a .sort) (a .depth) (a .rows .now) (a .count) (nth (l .loop .left)) _ (l .loop .i) (l .loop .inv) (omega arith)
+returns-2 c =
+    let at-loop = c .before .before in
+    let start = at-loop .before .before .before in
+    let a = start .args in
+    sym (nth-nil (at-loop .loop .left)) ∙ look-none (a .w) (a .sort) (a .depth) (a .rows .now) (a .count) (nth (at-loop .loop .left)) _ (at-loop .loop .i) (at-loop .loop .inv) (omega arith)
 
 row-at-requires : tie.Need-row-at-requires Inv-loop μ-loop
 row-at-requires c κs = search needs
@@ -53,9 +68,15 @@ row-serial-requires : tie.Need-row-serial-requires Inv-loop μ-loop
 row-serial-requires c κs = search needs
 
 returns-3 : tie.Need-returns-3 Inv-loop μ-loop
-returns-3 c = let l = c .before .before .before .before in let a = l .before .before .before .args in
-    c .row-serial .ensures ∙ ap (λ (b : List ℕ). readRow b .row .serial) (c .before .row-at .ensures) ∙ sym (nth-this (l .loop .left) (rowAt (a .w) (a .rows .now) (l .loop .i) .row) (children (a .sort) (a .depth) (rowsFrom (a .w) (a .rows .now) (a .count) (l .loop .i + 1))) (omega arith))
-    ∙ look-here (a .w) (a .sort) (a .depth) (a .rows .now) (a .count) (nth (l .loop .left)) _ (l .loop .i) (l .loop .inv) (omega arith)
+returns-3 c =
+    let at-loop = c .before .before .before .before in
+    let start = at-loop .before .before .before in
+    let a = start .args in
+    c .row-serial .ensures ∙ ap (λ (b : List ℕ). readRow b .row .serial) (c .before .row-at .ensures)
+    ∙ sym
+    (nth-this (at-loop .loop .left) (rowAt (a .w) (a .rows .now) (at-loop .loop .i) .row)
+    (children (a .sort) (a .depth) (rowsFrom (a .w) (a .rows .now) (a .count) (at-loop .loop .i + 1))) (omega arith))
+    ∙ look-here (a .w) (a .sort) (a .depth) (a .rows .now) (a .count) (nth (at-loop .loop .left)) _ (at-loop .loop .i) (at-loop .loop .inv) (omega arith)
 
 pub nth-serial-spec : {M : Type 1} → statement M
 nth-serial-spec =

@@ -23,7 +23,8 @@ returns c =
     let record-of = c .before in
     let attrs = record-of .before in
     let width = attrs .before in
-    let a = width .before .before .args in
+    let start = width .before .before in
+    let a = start .args in
     c .attribute-owner .ensures
     ∙ (λ j. readAttribute ((record-of .attribute-at .ensures ∙ (λ k. recordAt (attributeSize (width .width-in .ensures .value k)) (a .attribute) (attrs .attributes-of .ensures k))) j) .owner)
 

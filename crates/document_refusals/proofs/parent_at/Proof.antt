@@ -11,6 +11,7 @@ use Rattle.document_refusals.proofs.SuffixLaws.{rowAt, Seeking, seek-st
 use Rattle.document_refusals.proofs.parent_at.Statement.{statement}
 use Rattle.document_refusals.proofs.parent_at.Tie as tie
 
+-- The loop's invariant: the search from row i on finds the parent that the search from the first row on finds.
 abbrev Inv-loop : tie.InvT-loop
 Inv-loop w rows count element i₀ i = Seeking w (isParent element) rows count i
 
@@ -39,10 +40,16 @@ has-child-requires : tie.Need-has-child-requires Inv-loop μ-loop
 has-child-requires c κs = search needs
 
 returns : tie.Need-returns Inv-loop μ-loop
-returns c = let l = c .before .before .before .before .before in let a = l .before .before .args in
-    let e : c .before .before .row-depth .result + 1 ≡ suc (rowAt (a .w) (a .rows .now) (l .loop .i) .depth) = add-one _ ∙ ap suc (c .before .before .row-depth .ensures ∙ ap (λ (b : List ℕ). readRow b .depth) (c .before .before .before .row-at .ensures)) in
-    seek-hit (a .w) (isParent (a .element)) (a .rows .now) (a .count) (l .loop .i) (l .loop .inv) (omega arith)
-    (sym (c .before .has-child .ensures ∙ ap (λ (d : ℕ). any (elementRow (a .element)) (children 1 d (rowsFrom (a .w) (a .rows .now) (a .count) (l .loop .i + 1)))) e) ∙ c .if1 .taken)
+returns c =
+    let at-row-depth = c .before .before in
+    let at-row-at = at-row-depth .before in
+    let at-loop = at-row-at .before .before in
+    let start = at-loop .before .before in
+    let a = start .args in
+    let e : at-row-depth .row-depth .result + 1 ≡ suc (rowAt (a .w) (a .rows .now) (at-loop .loop .i) .depth) =
+    add-one _ ∙ ap suc (at-row-depth .row-depth .ensures ∙ ap (λ (b : List ℕ). readRow b .depth) (at-row-at .row-at .ensures)) in
+    seek-hit (a .w) (isParent (a .element)) (a .rows .now) (a .count) (at-loop .loop .i) (at-loop .loop .inv) (omega arith)
+    (sym (c .before .has-child .ensures ∙ ap (λ (d : ℕ). any (elementRow (a .element)) (children 1 d (rowsFrom (a .w) (a .rows .now) (a .count) (at-loop .loop .i + 1)))) e) ∙ c .if1 .taken)
 
 add-i : tie.Need-add-i Inv-loop μ-loop
 add-i c = search needs
@@ -51,10 +58,16 @@ loop-less : tie.Need-loop-less Inv-loop μ-loop
 loop-less c = search needs
 
 loop-again : tie.Need-loop-again Inv-loop μ-loop
-loop-again c = let l = c .before .before .before .before .before in let a = l .before .before .args in
-    let e : c .before .before .row-depth .result + 1 ≡ suc (rowAt (a .w) (a .rows .now) (l .loop .i) .depth) = add-one _ ∙ ap suc (c .before .before .row-depth .ensures ∙ ap (λ (b : List ℕ). readRow b .depth) (c .before .before .before .row-at .ensures)) in
-    seek-past (a .w) (isParent (a .element)) (a .rows .now) (a .count) (l .loop .i) (l .loop .inv) (omega arith)
-    (sym (c .before .has-child .ensures ∙ ap (λ (d : ℕ). any (elementRow (a .element)) (children 1 d (rowsFrom (a .w) (a .rows .now) (a .count) (l .loop .i + 1)))) e) ∙ c .if1 .left)
+loop-again c =
+    let at-row-depth = c .before .before in
+    let at-row-at = at-row-depth .before in
+    let at-loop = at-row-at .before .before in
+    let start = at-loop .before .before in
+    let a = start .args in
+    let e : at-row-depth .row-depth .result + 1 ≡ suc (rowAt (a .w) (a .rows .now) (at-loop .loop .i) .depth) =
+    add-one _ ∙ ap suc (at-row-depth .row-depth .ensures ∙ ap (λ (b : List ℕ). readRow b .depth) (at-row-at .row-at .ensures)) in
+    seek-past (a .w) (isParent (a .element)) (a .rows .now) (a .count) (at-loop .loop .i) (at-loop .loop .inv) (omega arith)
+    (sym (c .before .has-child .ensures ∙ ap (λ (d : ℕ). any (elementRow (a .element)) (children 1 d (rowsFrom (a .w) (a .rows .now) (a .count) (at-loop .loop .i + 1)))) e) ∙ c .if1 .left)
 
 returns-2 : tie.Need-returns-2 Inv-loop μ-loop
 returns-2 c = seek-none _ _ _ _ _ (c .before .loop .inv) (omega arith)

@@ -13,30 +13,68 @@ is-value-requires : tie.Need-is-value-requires
 is-value-requires c κs = search needs
 
 returns : tie.Need-returns
-returns c = let a = c .before .before .before .before .before .args in set-3 (a .store .now) (whole _ (c .before .before .before .before .before .pre)) (a .attribute) (a .element) (a .value .now) (c .before .before .width-in .ensures) (c .before .is-value .ensures) (c .if1 .taken) .is
+returns c =
+    let at-width-in = c .before .before in
+    let start = at-width-in .before .before .before in
+    let a = start .args in set-3 (a .store .now) (whole _ (start .pre)) (a .attribute) (a .element) (a .value .now) (at-width-in .width-in .ensures) (c .before .is-value .ensures) (c .if1 .taken) .is
 
 attribute-refusal-requires : tie.Need-attribute-refusal-requires
 attribute-refusal-requires c κs = search needs
 
 returns-2 : tie.Need-returns-2
-returns-2 c = let a = c .before .before .before .before .before .before .before .args in set-early (a .store .now) (whole _ (c .before .before .before .before .before .before .before .pre)) (a .attribute) (a .element) (a .value .now) (c .before .before .before .before .width-in .ensures) (c .before .before .before .is-value .ensures) (c .before .before .if1 .left) (c .before .attribute-refusal .ensures) (c .if2 .taken) .is
+returns-2 c =
+    let at-if1 = c .before .before in
+    let at-is-value = at-if1 .before in
+    let at-width-in = at-is-value .before in
+    let start = at-width-in .before .before .before in
+    let a = start .args in
+    set-early (a .store .now) (whole _ (start .pre)) (a .attribute) (a .element) (a .value .now) (at-width-in .width-in .ensures)
+    (at-is-value .is-value .ensures) (at-if1 .if1 .left) (c .before .attribute-refusal .ensures) (c .if2 .taken) .is
 
 attributes-of-requires : tie.Need-attributes-of-requires
 attributes-of-requires c κs = search needs
 
 value-may-requires : tie.Need-value-may-requires
-value-may-requires c κs = let begin = c .before .before .before .before .before in let a = c .before .before .before .before .before .before .before .before .args in let w : Whole (a .store .now) = whole _ (c .before .before .before .before .before .before .before .before .pre) in
-    (begin .width-in .ensures .small, omega (arith, w .fewAttributes, inside _ w (a .attribute) (known-of _ w (a .attribute) (c .before .before .attribute-refusal .ensures) (c .before .if2 .left))))
+value-may-requires c κs =
+    let at-attribute-refusal = c .before .before in
+    let begin = at-attribute-refusal .before .before .before in
+    let start = begin .before .before .before in
+    let a = start .args in let w : Whole (a .store .now) = whole _ (start .pre) in (
+      begin .width-in .ensures .small,
+      omega (
+        arith,
+        w .fewAttributes,
+        inside _ w (a .attribute) (known-of _ w (a .attribute) (at-attribute-refusal .attribute-refusal .ensures) (c .before .if2 .left)),
+      ),
+    )
 
 returns-3 : tie.Need-returns-3
-returns-3 c = let a = c .before .before .before .before .before .before .before .before .before .before .args in
-    set-15 (a .store .now) (whole _ (c .before .before .before .before .before .before .before .before .before .before .pre)) (a .attribute) (a .element) (a .value .now) (c .before .before .before .before .before .before .before .width-in .ensures) (c .before .before .before .before .before .before .is-value .ensures) (c .before .before .before .before .before .if1 .left) (c .before .before .before .before .attribute-refusal .ensures) (c .before .before .before .if2 .left)
-    (c .before .value-may .ensures ∙ allows-in (a .store .now) (c .before .before .before .before .before .before .before .width-in .ensures .value) (c .before .before .attributes-of .ensures) (a .attribute) (a .value .now)) (c .if3 .taken) .is
+returns-3 c =
+    let at-attributes-of = c .before .before in
+    let at-if2 = at-attributes-of .before in
+    let at-attribute-refusal = at-if2 .before in
+    let at-if1 = at-attribute-refusal .before in
+    let at-is-value = at-if1 .before in
+    let at-width-in = at-is-value .before in
+    let start = at-width-in .before .before .before in
+    let a = start .args in
+    set-15 (a .store .now) (whole _ (start .pre)) (a .attribute) (a .element) (a .value .now) (at-width-in .width-in .ensures) (at-is-value .is-value .ensures)
+    (at-if1 .if1 .left) (at-attribute-refusal .attribute-refusal .ensures) (at-if2 .if2 .left)
+    (c .before .value-may .ensures ∙ allows-in (a .store .now) (at-width-in .width-in .ensures .value) (at-attributes-of .attributes-of .ensures) (a .attribute) (a .value .now)) (c .if3 .taken) .is
 
 returns-4 : tie.Need-returns-4
-returns-4 c = let a = c .before .before .before .before .before .before .before .before .before .before .args in
-    set-0 (a .store .now) (whole _ (c .before .before .before .before .before .before .before .before .before .before .pre)) (a .attribute) (a .element) (a .value .now) (c .before .before .before .before .before .before .before .width-in .ensures) (c .before .before .before .before .before .before .is-value .ensures) (c .before .before .before .before .before .if1 .left) (c .before .before .before .before .attribute-refusal .ensures) (c .before .before .before .if2 .left)
-    (c .before .value-may .ensures ∙ allows-in (a .store .now) (c .before .before .before .before .before .before .before .width-in .ensures .value) (c .before .before .attributes-of .ensures) (a .attribute) (a .value .now)) (c .if3 .left) .is
+returns-4 c =
+    let at-attributes-of = c .before .before in
+    let at-if2 = at-attributes-of .before in
+    let at-attribute-refusal = at-if2 .before in
+    let at-if1 = at-attribute-refusal .before in
+    let at-is-value = at-if1 .before in
+    let at-width-in = at-is-value .before in
+    let start = at-width-in .before .before .before in
+    let a = start .args in
+    set-0 (a .store .now) (whole _ (start .pre)) (a .attribute) (a .element) (a .value .now) (at-width-in .width-in .ensures) (at-is-value .is-value .ensures)
+    (at-if1 .if1 .left) (at-attribute-refusal .attribute-refusal .ensures) (at-if2 .if2 .left)
+    (c .before .value-may .ensures ∙ allows-in (a .store .now) (at-width-in .width-in .ensures .value) (at-attributes-of .attributes-of .ensures) (a .attribute) (a .value .now)) (c .if3 .left) .is
 
 pub set-attribute-refusal-spec : {M : Type 1} → statement M
 set-attribute-refusal-spec =

@@ -9,7 +9,9 @@ row-serial-requires : tie.Need-row-serial-requires
 row-serial-requires c κs = search needs
 
 returns : tie.Need-returns
-returns c = kept-none _ _ (readRow (c .before .before .before .before .before .args .row .now) .row) _ (sym (c .before .row-serial .ensures) ∙ c .if1 .taken)
+returns c =
+    let start = c .before .before .before .before .before in
+    kept-none _ _ (readRow (start .args .row .now) .row) _ (sym (c .before .row-serial .ensures) ∙ c .if1 .taken)
 
 row-index-requires : tie.Need-row-index-requires
 row-index-requires c κs = search needs
@@ -24,7 +26,11 @@ add-t9 : tie.Need-add-t9
 add-t9 c = search needs
 
 returns-2 : tie.Need-returns-2
-returns-2 c = kept-step _ _ (readRow (c .before .before .before .before .before .before .before .args .row .now) .row) _ _ (λ e. c .before .before .if1 .left (c .before .before .before .row-serial .ensures ∙ e)) (c .before .row-index .ensures) (c .follows .ensures)
+returns-2 c =
+    let at-if1 = c .before .before in
+    let at-row-serial = at-if1 .before in
+    let start = at-row-serial .before .before .before .before in
+    kept-step _ _ (readRow (start .args .row .now) .row) _ _ (λ e. at-if1 .if1 .left (at-row-serial .row-serial .ensures ∙ e)) (c .before .row-index .ensures) (c .follows .ensures)
 
 pub step-child-spec : {M : Type 1} → statement M
 step-child-spec =

@@ -157,7 +157,7 @@ fn may_follow(
     if (last <= n) & (index < 64) {
         return sets::contains(table[68 * i + last], index);
     }
-    model::automaton::steps(model_part(defs, parts, i), last, index)
+    automaton::steps(model_part(defs, parts, i), last, index)
 }
 
 // Whether no child is owed after `last`.
@@ -171,7 +171,7 @@ fn may_finish(n: usize, defs: &[u8], parts: &[u8], table: &[u64], i: usize, last
     if last <= n {
         return sets::contains(table[68 * i + 65], last - 1);
     }
-    model::automaton::finishes(model_part(defs, parts, i), last)
+    automaton::finishes(model_part(defs, parts, i), last)
 }
 
 // Whether a row may come next after the child `last`.

@@ -25,7 +25,7 @@ pub fn put_added(
     let place = attribute_form::place_of(store, i);
     let w = layout::width_in(store);
     let first = codec::put(records::first(form, place), out, 0);
-    let second = layout::put_attribute(w, owner as u8, name, sort as u8, value, out, first);
+    let second = layout_writer::put_attribute(w, owner as u8, name, sort as u8, value, out, first);
     codec::put(records::after(form, place), out, second)
 }
 

@@ -24,20 +24,6 @@ part-short at n s h = rw (lt-leb (at + n) (length s) h, partOf)
 pub part-length : (at n : ℕ) (s t : Bytes) → at + n ≤ length s → t ≡ partOf at n s → length t ≡ n
 part-length at n s t h e = ap length (e ∙ part-there at n s h) ∙ length-take-le n (drop at s) (omega (arith, length-drop at s))
 
--- the eight bytes from i on
-pub eight-taken : (s : Bytes) (i : ℕ) → i + 8 ≤ length s
-    → take 8 (drop i s) ≡ getD s i 0 ∷ getD s (i + 1) 0 ∷ getD s (i + 2) 0 ∷ getD s (i + 3) 0 ∷ getD s (i + 4) 0 ∷ getD s (i + 5) 0 ∷ getD s (i + 6) 0 ∷ getD s (i + 7) 0 ∷ []
-eight-taken s i h =
-    let e1 : i + 1 ≡ suc i = omega arith in
-    let e2 : i + 2 ≡ suc (suc i) = omega arith in
-    let e3 : i + 3 ≡ suc (suc (suc i)) = omega arith in
-    let e4 : i + 4 ≡ suc (suc (suc (suc i))) = omega arith in
-    let e5 : i + 5 ≡ suc (suc (suc (suc (suc i)))) = omega arith in
-    let e6 : i + 6 ≡ suc (suc (suc (suc (suc (suc i))))) = omega arith in
-    let e7 : i + 7 ≡ suc (suc (suc (suc (suc (suc (suc i)))))) = omega arith in
-    rw (e1, e2, e3, e4, e5, e6, e7)
-    (rw (drop-cons s i 0 (omega arith), drop-cons s (suc i) 0 (omega arith), drop-cons s (suc (suc i)) 0 (omega arith), drop-cons s (suc (suc (suc i))) 0 (omega arith), drop-cons s (suc (suc (suc (suc i)))) 0 (omega arith), drop-cons s (suc (suc (suc (suc (suc i))))) 0 (omega arith), drop-cons s (suc (suc (suc (suc (suc (suc i)))))) 0 (omega arith), drop-cons s (suc (suc (suc (suc (suc (suc (suc i))))))) 0 (omega arith)))
-
 -- ---- equal strings
 -- strings of two lengths differ
 pub same-lengths : (a b : Bytes) → (length a ≡ length b → ⊥) → same a b ≡ false

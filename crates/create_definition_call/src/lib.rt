@@ -58,7 +58,7 @@ fn put_created(store: &[u8], name: &[u8], kind: u32, out: &mut [u8]) -> usize
     let rest = layout::through_definitions(d);
     let first = definition_writer::put_header(store, d + 1, p, a, out);
     let second = codec::put(layout::definitions_of(store), out, first);
-    let third = layout::put_definition(name, kind as u8, 0, out, second);
+    let third = layout_writer::put_definition(name, kind as u8, 0, out, second);
     codec::put(records::after(store, rest), out, third)
 }
 

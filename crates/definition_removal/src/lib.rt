@@ -59,7 +59,7 @@ fn put_particle(rec: &[u8], definition: u32, out: &mut [u8], at: usize) -> usize
 {
     let sort = layout::particle_sort(rec);
     let moved = moved_member(sort, layout::particle_index(rec), definition);
-    layout::put_particle_moved(rec, moved, out, at)
+    layout_writer::put_particle_moved(rec, moved, out, at)
 }
 
 fn put_attribute(w: usize, rec: &[u8], definition: u32, out: &mut [u8], at: usize) -> usize
@@ -67,7 +67,7 @@ fn put_attribute(w: usize, rec: &[u8], definition: u32, out: &mut [u8], at: usiz
     ensures { λ r. ⌜ Laid (attributeRecord (lowered (suc definition) 1) (now (rec .entry))) (now (out .entry)) at r (now (out .exit)) ⌝ }
 {
     let owner = lower_byte(layout::owner_byte(rec), definition);
-    layout::put_attribute_moved(w, rec, owner, out, at)
+    layout_writer::put_attribute_moved(w, rec, owner, out, at)
 }
 
 // ---- the first `count` records of a body

@@ -17,7 +17,7 @@ pub fn put_header(store: &[u8], d: usize, p: usize, a: usize, out: &mut [u8]) ->
     let w = layout::width_in(store);
     let next = layout::next_serial(store);
     let rows = layout::row_count(store);
-    layout::put_header(w, store, next, d, p, a, rows, out)
+    layout_writer::put_header(w, store, next, d, p, a, rows, out)
 }
 
 /// Whether a definition has the name.

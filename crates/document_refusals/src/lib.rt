@@ -172,7 +172,7 @@ fn follows(part: &[u8], line: &[u64], last: usize, y: usize) -> bool
     if (last <= 64) & (y < 64) {
         return sets::contains(line[last], y);
     }
-    model::automaton::steps(part, last, y)
+    automaton::steps(part, last, y)
 }
 
 // Whether no child is owed after `last`.
@@ -186,7 +186,7 @@ fn ends(part: &[u8], line: &[u64], last: usize) -> bool
     if last <= 64 {
         return sets::contains(line[65], last - 1);
     }
-    model::automaton::finishes(part, last)
+    automaton::finishes(part, last)
 }
 
 // The new child, if its place has come.

@@ -121,7 +121,7 @@ fn pick(store: &[u8], owner: u32, place: &[u32]) -> Picked
     ensures { λ r. ⌜ Picking (now (store .entry)) owner (now (place .entry)) r ⌝ }
 {
     let part = own_part(store, owner as usize);
-    let found = model::place::find(part, place, false);
+    let found = place_lookup::find(part, place, false);
     match found {
         Found::Absent => Picked::Absent,
         Found::At(h, p) => pick_at(part, h, p),
@@ -242,7 +242,7 @@ pub fn convert_to_group_refusal(
     }
     let part = own_part(store, owner as usize);
     let kind = group_kind(sort);
-    let found = model::place::find(part, place, false);
+    let found = place_lookup::find(part, place, false);
     match found {
         Found::Absent => 8,
         Found::At(h, p) => convert_at(part, h, p, count, kind),
@@ -307,7 +307,7 @@ fn accepts_nothing(s: &[u8], d: usize) -> bool
     requires { ⌜ d ≤ 256 ⌝ }
     ensures { λ r. ⌜ r ≡ nothing Choice (membersFrom d (now (s .entry))) ⌝ }
 {
-    let f = model::automaton::facts_from(s, d, GroupKind::Choice, 0, 0);
+    let f = automaton::facts_from(s, d, GroupKind::Choice, 0, 0);
     f.nothing
 }
 

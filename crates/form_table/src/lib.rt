@@ -89,7 +89,7 @@ pub fn may_follow(
     if (last <= n) & (index < 64) {
         return sets::contains(table[68 * i + last], index);
     }
-    model::automaton::steps(form_index::model_part(defs, parts, i), last, index)
+    automaton::steps(form_index::model_part(defs, parts, i), last, index)
 }
 
 // Whether no child is owed after `last`.
@@ -103,7 +103,7 @@ pub fn may_finish(n: usize, defs: &[u8], parts: &[u8], table: &[u64], i: usize, 
     if last <= n {
         return sets::contains(table[68 * i + 65], last - 1);
     }
-    model::automaton::finishes(form_index::model_part(defs, parts, i), last)
+    automaton::finishes(form_index::model_part(defs, parts, i), last)
 }
 
 // ---- attributes, looked up

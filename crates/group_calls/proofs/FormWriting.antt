@@ -33,7 +33,8 @@ use Rattle.lookup.specs.Bodies.{bodiesOf}
 use Rattle.row_walk.specs.declared.Plan.{Plan}
 use Rattle.model_writer.specs.Spliced.{startOf, countOf, counted, spliced, splicedForm}
 use Rattle.model_writer.specs.PartAfter.{partAfter, lengthAfter}
-use Rattle.model_writer.specs.Writing.{Body, countedBytes, within}
+use Rattle.layout.specs.RecordBytes.{countedBytes}
+use Rattle.model_writer.specs.Writing.{Body, within}
 use Rattle.model_writer.specs.Writing as writing
 use Rattle.model_writer.specs.declared.Edit.{Edit as EditCode}
 use Rattle.model_writer.proofs.CountedBytes.{counted-bytes}

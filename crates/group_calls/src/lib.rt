@@ -74,7 +74,7 @@ fn keeps_within(store: &[u8], owner: usize, edit: Edit, holder: Holder, at: usiz
     if p > 256 {
         return false;
     }
-    model_writer::is_within(form_refusals::own_part(store, owner), edit, holder, at)
+    depth_check::is_within(form_refusals::own_part(store, owner), edit, holder, at)
 }
 
 // The particles of the form after an edit.
@@ -111,7 +111,7 @@ fn put_edited(
 {
     let count = own_after(store, owner, edit);
     let table = layout::definitions_of(store);
-    let next = model_writer::put_counted(table, owner, count as u32, out, 0);
+    let next = layout_writer::put_counted(table, owner, count as u32, out, 0);
     let end = put_own(store, owner, edit, holder, at, out, next);
     codec::put(layout::attributes_of(store), out, end)
 }
@@ -167,7 +167,7 @@ pub fn remove_element(store: &[u8], owner: u32, place: &[u32], out: &mut [u8]) -
     }
     let o = owner as usize;
     let part = form_refusals::own_part(store, o);
-    let found = model::place::find(part, place, false);
+    let found = place_lookup::find(part, place, false);
     match found {
         Found::Absent => store_writer::refused(8),
         Found::At(h, p) => {
@@ -197,7 +197,7 @@ pub fn convert_to_group(
     }
     let o = owner as usize;
     let edit = Edit::Convert(form_refusals::group_kind(sort), count as usize);
-    let found = model::place::find(form_refusals::own_part(store, o), place, false);
+    let found = place_lookup::find(form_refusals::own_part(store, o), place, false);
     let plan = plans::setting_plan(0);
     match found {
         Found::Absent => store_writer::refused(8),
@@ -217,7 +217,7 @@ pub fn flatten_group(store: &[u8], owner: u32, place: &[u32], out: &mut [u8]) ->
         return store_writer::refused(number);
     }
     let o = owner as usize;
-    let found = model::place::find(form_refusals::own_part(store, o), place, false);
+    let found = place_lookup::find(form_refusals::own_part(store, o), place, false);
     let plan = plans::setting_plan(0);
     match found {
         Found::Absent => store_writer::refused(8),

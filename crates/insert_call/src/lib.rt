@@ -113,7 +113,7 @@ fn place_refusal(
     requires { ⌜ (passes (now store) ≡ true) × (o < definitionCount (now store)) × (i < definitionCount (now store)) ⌝ }
     ensures { λ r. ⌜ r ≡ first (placeConditions (foundBy true (now (place .entry)) (modelIn (now (store .entry)) o)) o i needed unfilled (storeIn (now (store .entry)))) ⌝ }
 {
-    let found = model::place::find(form_refusals::own_part(store, o), place, true);
+    let found = place_lookup::find(form_refusals::own_part(store, o), place, true);
     match found {
         Found::Absent => 8,
         Found::At(h, _) => model_refusal(store, o, i, needed, unfilled, off_spine(h)),
@@ -200,7 +200,7 @@ pub fn insert_element(
     let o = owner as usize;
     let i = definition as usize;
     let part = form_refusals::own_part(store, o);
-    let found = model::place::find(part, place, true);
+    let found = place_lookup::find(part, place, true);
     match found {
         Found::Absent => store_writer::refused(8),
         Found::At(h, p) => {

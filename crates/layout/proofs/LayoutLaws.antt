@@ -1,6 +1,7 @@
 -- The layout at any width: products, windows, and what the fields read.
 use mathlib.Core.Path.{_≡_, refl, sym, ap, _∙_}
-use mathlib.Core.Bool.{true}
+use mathlib.Core.Bool.{true, _&&_}
+use lib.Dec.{eqb}
 use mathlib.Core.List.{List, [], _∷_}
 use Prim.Native.Nat.{ℕ, zero, suc, _+_, _-_, _*_, _<_, _≤_}
 use native.Mathlib.Omega.{arith}
@@ -9,14 +10,14 @@ use lib.ListN.{length, take, drop, getD, length-take, length-drop, drop-of-lengt
 use lib.Seq.{getD-take, getD-drop, take-nil, take-all, take-take, drop-drop}
 use Rattle.rules.specs.Bytes.{Bytes}
 use Rattle.rules.specs.Store.{Store}
-use Rattle.rules.specs.Layout.{valueWidth, headerSize, definitionSize, particleSize, attributeSize, rowSize, FlatAttribute, FlatRow, FlatStore, flat, encode}
+use Rattle.rules.specs.Layout.{valueWidth, headerSize, definitionSize, particleSize, attributeSize, rowSize, FlatStore, flat, encode}
 use Rattle.rules.specs.Passing.{good}
-use Rattle.rules.specs.Preorder.{Deep}
 use Rattle.rules.specs.Decode.{unle, numberAt, readDefinition, readParticle, readAttribute, readRow, readMany, definitionCount, particleCount, attributeCount, rowCount, readFlat}
 use Rattle.rules.proofs.LayoutLaws.{read-bytes}
 use Rattle.rules.proofs.DecodeLaws.{width-bound, width-most, good-flat}
 use Rattle.codec.proofs.Records.{many-at, many-within}
 use Rattle.layout.specs.declared.Shape.{Shape}
+use Rattle.layout.specs.Fields.{rowUnusedAt, rowValueAt, unusedFit}
 use Rattle.layout.specs.Bodies.{windowOf, Product, recordAt, widthOf, WidthIn, Number, Sized, shapeOf, ShapeOf, attributesStart, rowsStart, Place, definitionBody, particleBody, attributeBody, rowBody, attributeIn}
 
 -- ---- products
@@ -66,6 +67,13 @@ module _ (s : Bytes) (at n : ℕ) where
   pub window-whole : take (at + n - at) (drop at s) ≡ windowOf at n s
   window-whole = let e : at + n - at ≡ n = omega arith in rw e
 
+-- all that stands from a place on
+pub cut-past : (s : Bytes) (n : ℕ) → take (length s) (drop n s) ≡ drop n s
+cut-past s n = take-all (length s) (drop n s) (omega (arith, length-drop n s))
+
+pub length-cut : (s r : Bytes) (k n : ℕ) → r ≡ take n (drop k s) → length r ≤ length s
+length-cut s r k n e = omega (arith, ap (λ (z : Bytes). length z) e, length-take n (drop k s), length-drop k s)
+
 pub record-window : (s r : Bytes) (size i p : ℕ) → Product size i p → r ≡ windowOf p size s → r ≡ recordAt size i s
 record-window s r size i p x e = e ∙ ap (λ (k : ℕ). windowOf k size s) (x .value)
 
@@ -84,6 +92,11 @@ number-after k at n s = rw (drop-drop at k s)
 
 pub attribute-value-by : (s r : Bytes) (n m : ℕ) → m ≡ getD s 19 0 → n ≡ m → r ≡ windowOf 20 n s → r ≡ readAttribute s .value
 attribute-value-by s r n m e g h = window-by s r 20 n m (getD s 19 0) e g h ∙ rw (drop-drop 2 18 s, get-after 18 1 s)
+
+-- the bytes of a row that no field has
+pub unused-of : (w : ℕ) (bs : Bytes) (x y z : ℕ) → x ≡ getD bs rowUnusedAt 0 → y ≡ getD bs (rowValueAt + w) 0 → z ≡ getD bs (rowValueAt + 1 + w) 0 → (eqb x 0 && (eqb y 0 && eqb z 0)) ≡ unusedFit w bs
+unfolding unusedFit
+unused-of w bs x y z p q r = λ i. eqb (p i) 0 && (eqb (q i) 0 && eqb (r i) 0)
 
 -- ---- the shape
 pub shaped : {bs : Bytes} {v w d p a r : ℕ} → v ≡ numberAt 0 4 bs → w ≡ valueWidth v → Number (definitionCount bs) d → Number (particleCount bs) p → Number (attributeCount bs) a → Number (rowCount bs) r

@@ -7,12 +7,14 @@ use native.Mathlib.Omega.{arith}
 use lib.ListN.{length, take, drop, replicate, length-drop}
 use lib.Seq.{take-all}
 use Rattle.rules.specs.Bytes.{Bytes}
-use Rattle.rules.specs.Layout.{le, field, nameWidth, attributeSize, definitionBytes, attributeBytes}
+use Rattle.rules.specs.Layout.{le, field, nameWidth, definitionSize, attributeSize, definitionBytes, attributeBytes}
 use Rattle.rules.specs.Decode.{readParticle}
 use Rattle.codec.specs.Laid.{Laid}
 use Rattle.codec.proofs.Writers.{laid-then, laid-as}
+use Rattle.layout.specs.Fields.{definitionParticlesAt}
 use Rattle.layout.specs.Bodies.{windowOf, Product}
 use Rattle.layout.specs.RecordBytes.{definitionOf, attributeOf, indexedBytes, ownedBytes}
+use Rattle.layout.proofs.LayoutLaws.{cut-past}
 
 -- ---- a value, zero filled
 pub field-is : (w : ℕ) (v : Bytes) → length v ≤ w → field w v ≡ v ++ replicate (w - length v) 0
@@ -44,6 +46,12 @@ pub owned-laid : (w : ℕ) (rec : Bytes) (owner : ℕ) {u out out₁ out₂ : By
 unfolding ownedBytes
 owned-laid w rec owner h g a b = laid-as (ap (λ (l : Bytes). owner ∷ l) (sym (g ∙ take-all (20 + w) (drop 1 rec) (omega (arith, length-drop 1 rec))))) (laid-then a b)
 
+-- the definitions after the count that is written
+pub rest-counted : (o : ℕ) (s : Bytes) {r : Bytes} → r ≡ take (length s) (drop (definitionSize * o + definitionParticlesAt + 2) s) → drop (definitionSize * o + definitionSize) s ≡ r
+rest-counted o s e =
+    let z : definitionSize * o + definitionSize ≡ definitionSize * o + definitionParticlesAt + 2 = omega arith in
+    ap (λ (k : ℕ). drop k s) z ∙ sym (e ∙ cut-past s (definitionSize * o + definitionParticlesAt + 2))
+
 -- ---- parts of a body
 pub records-rest : (s r : Bytes) (size i p : ℕ) → Product size i p → r ≡ windowOf p (length s) s → r ≡ drop (size * i) s
-records-rest s r size i p x e = e ∙ take-all (length s) (drop p s) (omega (arith, length-drop p s)) ∙ ap (λ (k : ℕ). drop k s) (x .value)
+records-rest s r size i p x e = e ∙ cut-past s p ∙ ap (λ (k : ℕ). drop k s) (x .value)

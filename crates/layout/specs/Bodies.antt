@@ -6,6 +6,7 @@ use Rattle.rules.specs.Bytes.{Bytes}
 use Rattle.rules.specs.Layout.{valueWidth, headerSize, definitionSize, particleSize, attributeSize, rowSize}
 use Rattle.rules.specs.Decode.{numberAt, definitionCount, particleCount, attributeCount, rowCount}
 use Rattle.layout.specs.declared.Shape.{Shape}
+use Rattle.layout.specs.Fields.{rowValueAt}
 
 -- all that the code knows of a width: the length of a value fits a byte
 abbrev pub Width : ℕ → Type 0
@@ -109,10 +110,6 @@ attributeIn bs i =
     (attributeSize (widthOf bs))
     bs
 
--- how far a row's value stands from the row's beginning
-abbrev pub valueOffset : ℕ
-valueOffset = 10
-
 -- r is where the value stands of a row that begins at `start`
 pub record ValueAt (start r : ℕ) : Type 0 where
-  pub value : r ≡ start + valueOffset
+  pub value : r ≡ start + rowValueAt

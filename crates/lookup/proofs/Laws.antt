@@ -21,7 +21,8 @@ use Rattle.rules.specs.LookUp.{Found, Numbered, rowWith, foundRow, valueStart, 
 use Rattle.rules.proofs.LayoutLaws.{read-bytes}
 use Rattle.rules.proofs.DecodeLaws.{good-flat, read-good}
 use Rattle.layout.specs.declared.Shape.{Shape}
-use Rattle.layout.specs.Bodies.{widthOf, windowOf, recordAt, shapeOf, ShapeOf, Place, rowsStart, attributesStart, WidthIn, Product, valueOffset}
+use Rattle.layout.specs.Bodies.{widthOf, windowOf, recordAt, shapeOf, ShapeOf, Place, rowsStart, attributesStart, WidthIn, Product}
+use Rattle.layout.specs.Fields.{rowValueAt}
 use Rattle.layout.proofs.LayoutLaws.{version-read}
 use Rattle.lookup.specs.Bodies.{Begins, RowPlace, RowsOf, recordsFrom, bodiesOf, rowStart, rowBody, rowPart}
 use Rattle.lookup.specs.Finding.{Looks, foundOn, foundAt}
@@ -132,7 +133,7 @@ module _ (bs : Bytes) (i : ℕ) where
   found-row : Numbered
   found-row = record { at = i; row = readRow (rowPart bs i) .row }
 
-  value-start : valueStart (widthOf bs) (bodiesOf bs) i ≡ rowStart bs + rowSize (widthOf bs) * i + valueOffset
+  value-start : valueStart (widthOf bs) (bodiesOf bs) i ≡ rowStart bs + rowSize (widthOf bs) * i + rowValueAt
   unfolding rowStart bodiesOf
   value-start =
       simp (
@@ -146,10 +147,10 @@ module _ (bs : Bytes) (i : ℕ) where
   found-element e =
       subst (λ (f : Found). Looks f 7 0 0) (sym (sort-element (widthOf bs) (bodiesOf bs) found-row e)) (record { number-is = refl; start-is = refl; length-is = refl })
 
-  pub found-value : (readRow (rowPart bs i) .row .sort ≡ 1 → ⊥) → Looks (foundAt bs i) 0 (rowStart bs + rowSize (widthOf bs) * i + valueOffset) (length (readRow (rowPart bs i) .row .value))
+  pub found-value : (readRow (rowPart bs i) .row .sort ≡ 1 → ⊥) → Looks (foundAt bs i) 0 (rowStart bs + rowSize (widthOf bs) * i + rowValueAt) (length (readRow (rowPart bs i) .row .value))
   unfolding foundAt found-row
   found-value e =
-      subst (λ (f : Found). Looks f 0 (rowStart bs + rowSize (widthOf bs) * i + valueOffset) (length (readRow (rowPart bs i) .row .value)))
+      subst (λ (f : Found). Looks f 0 (rowStart bs + rowSize (widthOf bs) * i + rowValueAt) (length (readRow (rowPart bs i) .row .value)))
       (sym (sort-other (widthOf bs) (bodiesOf bs) found-row e)) (record { number-is = refl; start-is = sym value-start; length-is = refl })
 
 -- ---- the part is the row's value
@@ -205,10 +206,10 @@ value-there : (bs : Bytes) (i : ℕ) (v : Bytes) → v ≡ readRow (rowPart bs i
 value-there bs i v e =
     let n : ℕ = getD (rowPart bs i) 8 0 in
     let x : Bytes = drop (rowStart bs + rowSize (widthOf bs) * i) bs in
-    let q : v ≡ take n (drop valueOffset (take (rowSize (widthOf bs)) x)) = e ∙ ap (λ (l : Bytes). take n (drop valueOffset l)) (sym (row-place bs i)) in
-    let p : drop (valueStart (widthOf bs) (bodiesOf bs) i) bs ≡ drop valueOffset x = ap (λ (k : ℕ). drop k bs) (value-start bs i) ∙ sym
-    (drop-drop valueOffset (rowStart bs + rowSize (widthOf bs) * i) bs) in
-    ap₂ (λ (l m : Bytes). take (length l) m) q p ∙ take-inside valueOffset n (rowSize (widthOf bs)) x ∙ sym q
+    let q : v ≡ take n (drop rowValueAt (take (rowSize (widthOf bs)) x)) = e ∙ ap (λ (l : Bytes). take n (drop rowValueAt l)) (sym (row-place bs i)) in
+    let p : drop (valueStart (widthOf bs) (bodiesOf bs) i) bs ≡ drop rowValueAt x = ap (λ (k : ℕ). drop k bs) (value-start bs i) ∙ sym
+    (drop-drop rowValueAt (rowStart bs + rowSize (widthOf bs) * i) bs) in
+    ap₂ (λ (l m : Bytes). take (length l) m) q p ∙ take-inside rowValueAt n (rowSize (widthOf bs)) x ∙ sym q
 
 -- the part that is handed back is the value of the row with the serial
 pub part-value : (bs : Bytes) (k : ℕ) (n : Numbered) → rowWith k 0 (bodiesOf bs .rows) ≡ some n → (n .row .sort ≡ 1 → ⊥) → partOf bs (foundOn bs k) ≡ n .row .value

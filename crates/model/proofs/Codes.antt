@@ -1,16 +1,15 @@
 -- Particles, of what their bytes hold.
 use mathlib.Core.Path.{_≡_, refl}
-use Prim.Native.Nat.{ℕ, zero, suc, _+_, _<_}
+use Prim.Native.Nat.{ℕ, zero, suc, _-_, _<_}
 use native.Mathlib.Omega.{arith}
-use native.Mathlib.Nat.{add-zero}
-use lib.ListN.{drop, getD}
-use lib.Seq.{getD-drop}
+use lib.ListN.{length, take, drop}
 use Rattle.rules.specs.declared.Quantifier.{Quantifier}
 use Rattle.rules.specs.declared.Quantifier.the-variants.{None, Qmark, Star, Plus}
 use Rattle.rules.specs.declared.GroupKind.the-variants.{Choice}
 use Rattle.rules.specs.Bytes.{Bytes}
 use Rattle.rules.specs.Layout.{quantifierCode}
 use Rattle.rules.specs.Decode.{quantifierOf, readParticle}
+use Rattle.codec.proofs.Writers.{tail-seen}
 use Rattle.model.specs.declared.What.{What}
 use Rattle.model.specs.declared.What.the-variants.{Group}
 use Rattle.model.specs.declared.Particle.{Particle}
@@ -29,10 +28,11 @@ choice-of (suc zero) n x y = absurd (y refl)
 choice-of (suc (suc b)) n x y = refl
 
 -- the particle of the bytes at a place
-pub particle-read : (s : Bytes) (at sort index code : ℕ) (w : What) (q : Quantifier) → sort ≡ getD s at 0 → index ≡ getD s (at + 2) 0 → code ≡ getD s (at + 1) 0
+pub particle-read : (s : Bytes) (at sort index code : ℕ) (w : What) (q : Quantifier) → let rec : Bytes = take (length s - at) (drop at s) in
+    sort ≡ readParticle rec .row .sort → index ≡ readParticle rec .row .index → code ≡ readParticle rec .row .quantifier
     → w ≡ whatOf sort index → q ≡ quantifierOf code → _≡_ {A = Particle} (record { what = w; quantifier = q }) (particleOf (readParticle (drop at s)))
 unfolding particleOf
-particle-read s at sort index code w q es ei ec ew eq = rw (getD-drop at s 0 0, getD-drop at s 1 0, getD-drop at s 2 0, add-zero, ew, eq, es, ei, ec)
+particle-read s at sort index code w q es ei ec ew eq = rw (ew, eq, es, ei, ec, tail-seen s at)
 
 -- what holds of the four quantifiers
 pub each-quantifier : (P : Quantifier → Type 0) → P None → P Qmark → P Star → P Plus → (q : Quantifier) → P q

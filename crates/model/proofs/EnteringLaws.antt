@@ -11,6 +11,7 @@ use Rattle.rules.specs.declared.GroupKind.{GroupKind}
 use Rattle.rules.specs.Bytes.{Bytes}
 use Rattle.rules.specs.Decode.{readParticle}
 use Rattle.rules.specs.Place.{plain}
+use Rattle.rules.specs.Layout.{particleSize}
 use Rattle.codec.proofs.Writers.{tail-seen}
 use Rattle.model.specs.declared.What.{What}
 use Rattle.model.specs.declared.What.the-variants.{Element, Group}
@@ -67,17 +68,17 @@ module _ (h : Holder) (xs : Particles) where
       g ∙ ap (λ (w : Reached). enteredAt h xs w) (e ∙ ap (λ (i : ℕ). reach (h .depth) i xs) m)
 
 -- ---- a group
-module _ (h : Holder) (p : ℕ) (s : Bytes) (x : Particle) (l : 4 * p + 4 ≤ length s) (e : x ≡ particleOf (readParticle (drop (4 * p) s))) where
+module _ (h : Holder) (p : ℕ) (s : Bytes) (x : Particle) (l : particleSize * p + particleSize ≤ length s) (e : x ≡ particleOf (readParticle (drop (particleSize * p) s))) where
   here : particleOf (getD (particlesOf s) p noParticle) ≡ x
   here = ap particleOf (particle-at p s l) ∙ sym e
 
   pub enter-element : (i : ℕ) → x .what ≡ Element i → Outside ≡ enteredAt h (particlesOf s) (Member p)
   enter-element i w = rw (here, w)
 
-  pub enter-group : (k : GroupKind) (n size : ℕ) (b : Bool) → x .what ≡ Group k n → size ≡ spanOf (h .depth) (particlesOf (take (length s - 4 * (p + 1)) (drop (4 * (p + 1)) s))) → b ≡ plain (x .quantifier) k
+  pub enter-group : (k : GroupKind) (n size : ℕ) (b : Bool) → x .what ≡ Group k n → size ≡ spanOf (h .depth) (particlesOf (take (length s - particleSize * (p + 1)) (drop (particleSize * (p + 1)) s))) → b ≡ plain (x .quantifier) k
       → Inside (record { start = h .start + (p + 1); depth = h .depth + 1; kind = k; spine = h .spine && b }) (p + 1) size ≡ enteredAt h (particlesOf s) (Member p)
   enter-group k n size b w m c =
-      let t : size ≡ spanOf (h .depth) (drop (p + 1) (particlesOf s)) = m ∙ rw (tail-seen s (4 * (p + 1)), particles-drop (p + 1) s (omega arith)) in
+      let t : size ≡ spanOf (h .depth) (drop (p + 1) (particlesOf s)) = m ∙ rw (tail-seen s (particleSize * (p + 1)), particles-drop (p + 1) s (omega arith)) in
       rw (here, w, t, c)
 
 -- ---- a place
@@ -111,7 +112,7 @@ module _ (insert : Bool) (h : Holder) (xs : Particles) where
 pub record Part (h : Holder) (s : Bytes) (g : Holder) (from size : ℕ) : Type 0 where
   pub start : g .start ≡ h .start + from
   pub deep : g .depth ≡ h .depth + 1
-  pub room : 4 * from + 4 * size ≤ length s
+  pub room : particleSize * from + particleSize * size ≤ length s
 
 abbrev Parted : Holder → Bytes → Entered → Type 0
 Parted h s Outside = Unit {0}

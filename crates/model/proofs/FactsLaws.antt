@@ -5,7 +5,7 @@ use mathlib.Core.List.{List, [], _∷_}
 use Prim.Native.Nat.{ℕ, zero, suc, _+_, _-_, _<_, _≤_}
 use native.Mathlib.Omega.{arith}
 use native.Mathlib.Numerals.{add-one}
-use lib.ListN.{length, take, drop, getD, length-take, length-drop}
+use lib.ListN.{length, take, drop, length-take, length-drop}
 use Rattle.rules.specs.declared.Facts.{Facts}
 use Rattle.rules.specs.declared.Quantifier.{Quantifier}
 use Rattle.rules.specs.declared.Quantifier.the-variants.{None, Qmark, Star, Plus}
@@ -15,6 +15,7 @@ use Rattle.rules.specs.Bytes.{Bytes, numbers}
 use Rattle.rules.specs.Model.{Members, done, el, group, Equality, skips, both, nothing}
 use Rattle.rules.specs.Decode.{readParticle}
 use Rattle.rules.specs.Automaton.{single, empty, join, quantify, facts, continues, accepts}
+use Rattle.rules.specs.Layout.{particleSize}
 use Rattle.codec.proofs.Writers.{tail-seen}
 use Rattle.model.specs.declared.What.the-variants.{Element, Group}
 use Rattle.model.specs.declared.Particle.{Particle}
@@ -114,34 +115,34 @@ module _ (d x y : ℕ) (s : Bytes) (p : Particle) (ep : p ≡ particleOf (readPa
   unfolding firstFacts
   first-element i r w e = rw (← ep, w) e
 
-  pub first-group : (j : GroupKind) (n : ℕ) (below r : Facts) → p .what ≡ Group j n → below ≡ facts numbers j (membersFrom (d + 1) (take (length s - 4) (drop 4 s))) x y
+  pub first-group : (j : GroupKind) (n : ℕ) (below r : Facts) → p .what ≡ Group j n → below ≡ facts numbers j (membersFrom (d + 1) (take (length s - particleSize) (drop particleSize s))) x y
       → r ≡ quantify (p .quantifier) below → r ≡ firstFacts d s x y
   unfolding firstFacts
   first-group j n below r w eb e =
-      let u : below ≡ facts numbers j (membersFrom (suc d) (drop 4 s)) x y = eb ∙ rw (tail-seen s 4, add-one d) in
+      let u : below ≡ facts numbers j (membersFrom (suc d) (drop particleSize s)) x y = eb ∙ rw (tail-seen s particleSize, add-one d) in
       rw (← ep, w, ← u) e
 
 module _ (d : ℕ) (k : GroupKind) (x y : ℕ) (s : Bytes) where
-  pub facts-few : length s < 4 → facts numbers k (membersFrom d s) x y ≡ empty k
+  pub facts-few : length s < particleSize → facts numbers k (membersFrom d s) x y ≡ empty k
   unfolding facts
   facts-few h = rw (members-few d s h)
 
-  module _ (h : 4 ≤ length s) where
-    pub facts-stop : getD s 3 0 < d → facts numbers k (membersFrom d s) x y ≡ empty k
+  module _ (h : particleSize ≤ length s) where
+    pub facts-stop : readParticle s .depth < d → facts numbers k (membersFrom d s) x y ≡ empty k
     unfolding facts
     facts-stop l = rw (members-stop d s h l)
 
-    pub facts-here : getD s 3 0 ≡ d → facts numbers k (membersFrom d s) x y ≡ join k (firstFacts d s x y) (facts numbers k (membersFrom d (drop 4 s)) x y)
+    pub facts-here : readParticle s .depth ≡ d → facts numbers k (membersFrom d s) x y ≡ join k (firstFacts d s x y) (facts numbers k (membersFrom d (drop particleSize s)) x y)
     unfolding firstFacts particleOf facts
-    facts-here e = rw (members-here d s h e) (by (getD s 0 0))
+    facts-here e = rw (members-here d s h e) (by (readParticle s .row .sort))
       where
         below : ℕ → Facts
-        below sort = facts numbers (kindIn (whatOf sort (getD s 2 0))) (membersFrom (suc d) (drop 4 s)) x y
+        below sort = facts numbers (kindIn (whatOf sort (readParticle s .row .index))) (membersFrom (suc d) (drop particleSize s)) x y
 
         by : (sort : ℕ)
-            → facts numbers k (indexMember (readParticle s .row) sort (membersFrom (suc d) (drop 4 s)) (membersFrom d (drop 4 s))) x y
-            ≡ join k (particleFacts (record { what = whatOf sort (getD s 2 0); quantifier = particleOf (readParticle s) .quantifier }) (below sort) x y)
-            (facts numbers k (membersFrom d (drop 4 s)) x y)
+            → facts numbers k (indexMember (readParticle s .row) sort (membersFrom (suc d) (drop particleSize s)) (membersFrom d (drop particleSize s))) x y
+            ≡ join k (particleFacts (record { what = whatOf sort (readParticle s .row .index); quantifier = particleOf (readParticle s) .quantifier }) (below sort) x y)
+            (facts numbers k (membersFrom d (drop particleSize s)) x y)
         by zero = refl
         by (suc n) = refl
 
@@ -155,25 +156,25 @@ module _ (k : GroupKind) (d x y : ℕ) (s : Bytes) where
   joining-starts f e = record { short = omega arith; is = rw e (join-left k (facts numbers k (membersFrom d s) x y)) }
 
   module _ (t : Bytes) (f : Facts) (j : Joining k d x y s t f) where
-    pub joining-few : length t < 4 → f ≡ facts numbers k (membersFrom d s) x y
+    pub joining-few : length t < particleSize → f ≡ facts numbers k (membersFrom d s) x y
     joining-few h = sym (join-right k f) ∙ sym (ap (join k f) (facts-few d k x y t h)) ∙ j .is
 
-    shorter : length (take (length t - 4) (drop 4 t)) ≤ length s
-    shorter = omega (arith, j .short, length-take (length t - 4) (drop 4 t), length-drop 4 t)
+    shorter : length (take (length t - particleSize) (drop particleSize t)) ≤ length s
+    shorter = omega (arith, j .short, length-take (length t - particleSize) (drop particleSize t), length-drop particleSize t)
 
-    module _ (e : ℕ) (h : 4 ≤ length t) (g : e ≡ getD t 3 0) where
+    module _ (e : ℕ) (h : particleSize ≤ length t) (g : e ≡ readParticle t .depth) where
       pub joining-stop : e < d → f ≡ facts numbers k (membersFrom d s) x y
       joining-stop l = sym (join-right k f) ∙ sym (ap (join k f) (facts-stop d k x y t h (omega arith))) ∙ j .is
 
-      pub joining-deeper : d < e → Joining k d x y s (take (length t - 4) (drop 4 t)) f
-      joining-deeper l = record { short = shorter; is = rw (tail-seen t 4, ← members-deeper d t h (omega arith)) (j .is) }
+      pub joining-deeper : d < e → Joining k d x y s (take (length t - particleSize) (drop particleSize t)) f
+      joining-deeper l = record { short = shorter; is = rw (tail-seen t particleSize, ← members-deeper d t h (omega arith)) (j .is) }
 
-      pub joining-on : e ≤ d → d ≤ e → (here r : Facts) → here ≡ firstFacts d t x y → r ≡ join k f here → Joining k d x y s (take (length t - 4) (drop 4 t)) r
+      pub joining-on : e ≤ d → d ≤ e → (here r : Facts) → here ≡ firstFacts d t x y → r ≡ join k f here → Joining k d x y s (take (length t - particleSize) (drop particleSize t)) r
       joining-on l m here r eh er =
           record {
             short = shorter;
             is =
-                rw (tail-seen t 4, er, eh) (join-assoc k f (firstFacts d t x y) (facts numbers k (membersFrom d (drop 4 t)) x y))
+                rw (tail-seen t particleSize, er, eh) (join-assoc k f (firstFacts d t x y) (facts numbers k (membersFrom d (drop particleSize t)) x y))
                 ∙ sym (ap (join k f) (facts-here d k x y t h (omega arith))) ∙ j .is;
           }
 

@@ -6,12 +6,12 @@ use Prim.Native.Nat.{ℕ, zero, suc, _/_, _<_, _≤_}
 use native.Mathlib.Omega.{arith}
 use borrow.Author.Tests.{lt-ltb, le-ltb, eq-eqb, ne-eqb}
 use lib.Dec.{ltb, eqb}
-use lib.ListN.{length, drop, getD}
+use lib.ListN.{length, drop}
 use Rattle.rules.specs.Bytes.{Bytes}
 use Rattle.rules.specs.Model.{done, rename}
 use Rattle.rules.specs.Store.{Forest, bare, tree}
 use Rattle.rules.specs.Preorder.{Deep, build}
-use Rattle.rules.specs.Layout.{FlatParticle}
+use Rattle.rules.specs.Layout.{FlatParticle, particleSize}
 use Rattle.rules.specs.Decode.{nameAt, memberOf, readMembers, readParticle, readMany}
 use Rattle.model.specs.Members.{indexMember, indexMembers, particlesOf, membersFrom}
 
@@ -28,52 +28,52 @@ members-named ns (tree p b t) = by (p .sort) (members-named ns b) (members-named
     by (suc k) f g = rw (f, g)
 
 -- ---- one particle on
-pub particles-few : (s : Bytes) → length s < 4 → particlesOf s ≡ []
+pub particles-few : (s : Bytes) → length s < particleSize → particlesOf s ≡ []
 unfolding particlesOf
-particles-few s h = let e : length s / 4 ≡ 0 = omega arith in rw e
+particles-few s h = let e : length s / particleSize ≡ 0 = omega arith in rw e
 
-pub particles-more : (s : Bytes) → 4 ≤ length s → particlesOf s ≡ readParticle s ∷ particlesOf (drop 4 s)
+pub particles-more : (s : Bytes) → particleSize ≤ length s → particlesOf s ≡ readParticle s ∷ particlesOf (drop particleSize s)
 unfolding particlesOf
 particles-more [] h = absurd (omega arith)
 particles-more (a ∷ []) h = absurd (omega arith)
 particles-more (a ∷ b ∷ []) h = absurd (omega arith)
 particles-more (a ∷ b ∷ c ∷ []) h = absurd (omega arith)
 particles-more (a ∷ b ∷ c ∷ e ∷ s) h =
-    let n : length (a ∷ b ∷ c ∷ e ∷ s) / 4 ≡ suc (length s / 4) = omega arith in
-    ap (λ (k : ℕ). readMany readParticle 4 k (a ∷ b ∷ c ∷ e ∷ s)) n
+    let n : length (a ∷ b ∷ c ∷ e ∷ s) / particleSize ≡ suc (length s / particleSize) = omega arith in
+    ap (λ (k : ℕ). readMany readParticle particleSize k (a ∷ b ∷ c ∷ e ∷ s)) n
 
 -- the four cases: too short, the first too deep, not deep enough, at d
 module _ (d : ℕ) (s : Bytes) where
-  pub members-few : length s < 4 → membersFrom d s ≡ done
+  pub members-few : length s < particleSize → membersFrom d s ≡ done
   unfolding membersFrom
   members-few h = rw (particles-few s h)
 
-  module _ (h : 4 ≤ length s) where
+  module _ (h : particleSize ≤ length s) where
     members-more : membersFrom d s
-        ≡ elim (ltb d (getD s 3 0)) [
-          | true ↦ membersFrom d (drop 4 s)
-          | false ↦ elim (eqb d (getD s 3 0)) [ true ↦ indexMember (readParticle s .row) (getD s 0 0) (membersFrom (suc d) (drop 4 s)) (membersFrom d (drop 4 s)) | false ↦ done ]
+        ≡ elim (ltb d (readParticle s .depth)) [
+          | true ↦ membersFrom d (drop particleSize s)
+          | false ↦ elim (eqb d (readParticle s .depth)) [ true ↦ indexMember (readParticle s .row) (readParticle s .row .sort) (membersFrom (suc d) (drop particleSize s)) (membersFrom d (drop particleSize s)) | false ↦ done ]
         ]
     unfolding membersFrom
-    members-more = ap (λ (l : List (Deep FlatParticle)). indexMembers (build l d)) (particles-more s h) ∙ by (ltb d (getD s 3 0)) (eqb d (getD s 3 0))
+    members-more = ap (λ (l : List (Deep FlatParticle)). indexMembers (build l d)) (particles-more s h) ∙ by (ltb d (readParticle s .depth)) (eqb d (readParticle s .depth))
       where
         by : (deeper same : Bool)
-            → indexMembers (elim deeper [ true ↦ build (particlesOf (drop 4 s)) d | false ↦ elim same [ true ↦ tree (readParticle s .row) (build (particlesOf (drop 4 s)) (suc d)) (build (particlesOf (drop 4 s)) d) | false ↦ bare ] ])
+            → indexMembers (elim deeper [ true ↦ build (particlesOf (drop particleSize s)) d | false ↦ elim same [ true ↦ tree (readParticle s .row) (build (particlesOf (drop particleSize s)) (suc d)) (build (particlesOf (drop particleSize s)) d) | false ↦ bare ] ])
             ≡ elim deeper [
-              | true ↦ indexMembers (build (particlesOf (drop 4 s)) d)
-              | false ↦ elim same [ true ↦ indexMember (readParticle s .row) (getD s 0 0) (indexMembers (build (particlesOf (drop 4 s)) (suc d))) (indexMembers (build (particlesOf (drop 4 s)) d)) | false ↦ done ]
+              | true ↦ indexMembers (build (particlesOf (drop particleSize s)) d)
+              | false ↦ elim same [ true ↦ indexMember (readParticle s .row) (readParticle s .row .sort) (indexMembers (build (particlesOf (drop particleSize s)) (suc d))) (indexMembers (build (particlesOf (drop particleSize s)) d)) | false ↦ done ]
             ]
         by true b = refl
         by false true = refl
         by false false = refl
 
-    pub members-deeper : d < getD s 3 0 → membersFrom d s ≡ membersFrom d (drop 4 s)
-    members-deeper l = rw (lt-ltb d (getD s 3 0) l) at members-more
+    pub members-deeper : d < readParticle s .depth → membersFrom d s ≡ membersFrom d (drop particleSize s)
+    members-deeper l = rw (lt-ltb d (readParticle s .depth) l) at members-more
 
-    pub members-stop : getD s 3 0 < d → membersFrom d s ≡ done
+    pub members-stop : readParticle s .depth < d → membersFrom d s ≡ done
     members-stop l =
-        let n : d ≡ getD s 3 0 → ⊥ = λ q. omega arith in
-        rw (le-ltb d (getD s 3 0) (omega arith), ne-eqb d (getD s 3 0) n) at members-more
+        let n : d ≡ readParticle s .depth → ⊥ = λ q. omega arith in
+        rw (le-ltb d (readParticle s .depth) (omega arith), ne-eqb d (readParticle s .depth) n) at members-more
 
-    pub members-here : getD s 3 0 ≡ d → membersFrom d s ≡ indexMember (readParticle s .row) (getD s 0 0) (membersFrom (suc d) (drop 4 s)) (membersFrom d (drop 4 s))
-    members-here e = rw (le-ltb d (getD s 3 0) (omega arith), eq-eqb d (getD s 3 0) (omega arith)) at members-more
+    pub members-here : readParticle s .depth ≡ d → membersFrom d s ≡ indexMember (readParticle s .row) (readParticle s .row .sort) (membersFrom (suc d) (drop particleSize s)) (membersFrom d (drop particleSize s))
+    members-here e = rw (le-ltb d (readParticle s .depth) (omega arith), eq-eqb d (readParticle s .depth) (omega arith)) at members-more

@@ -22,49 +22,49 @@ use Rattle.model.specs.Places.{Particles, noParticle, onward, reach, spa
 use Rattle.model.proofs.MembersLaws.{members-named, particles-few, particles-more}
 
 -- ---- the particles of a byte string
-pub length-particles : (s : Bytes) → length (particlesOf s) ≡ length s / 4
+pub length-particles : (s : Bytes) → length (particlesOf s) ≡ length s / particleSize
 unfolding particlesOf
-length-particles s = length-many readParticle 4 (length s / 4) s
+length-particles s = length-many readParticle particleSize (length s / particleSize) s
 
-pub particle-at : (p : ℕ) (s : Bytes) → 4 * p + 4 ≤ length s → getD (particlesOf s) p noParticle ≡ readParticle (drop (4 * p) s)
+pub particle-at : (p : ℕ) (s : Bytes) → particleSize * p + particleSize ≤ length s → getD (particlesOf s) p noParticle ≡ readParticle (drop (particleSize * p) s)
 particle-at zero s h = rw (particles-more s (omega arith))
 particle-at (suc p) s h =
-    let e : 4 * suc p ≡ 4 + 4 * p = omega arith in
-    rw (particles-more s (omega arith), e, ← drop-drop (4 * p) 4 s) (particle-at p (drop 4 s) (omega (arith, length-drop 4 s)))
+    let e : particleSize * suc p ≡ particleSize + particleSize * p = omega arith in
+    rw (particles-more s (omega arith), e, ← drop-drop (particleSize * p) particleSize s) (particle-at p (drop particleSize s) (omega (arith, length-drop particleSize s)))
 
-pub particles-drop : (k : ℕ) (s : Bytes) → 4 * k ≤ length s → particlesOf (drop (4 * k) s) ≡ drop k (particlesOf s)
+pub particles-drop : (k : ℕ) (s : Bytes) → particleSize * k ≤ length s → particlesOf (drop (particleSize * k) s) ≡ drop k (particlesOf s)
 particles-drop zero s h = refl
 particles-drop (suc k) s h =
-    let e : 4 * suc k ≡ 4 + 4 * k = omega arith in
-    rw (particles-more s (omega arith), e, ← drop-drop (4 * k) 4 s) (particles-drop k (drop 4 s) (omega (arith, length-drop 4 s)))
+    let e : particleSize * suc k ≡ particleSize + particleSize * k = omega arith in
+    rw (particles-more s (omega arith), e, ← drop-drop (particleSize * k) particleSize s) (particles-drop k (drop particleSize s) (omega (arith, length-drop particleSize s)))
 
-pub particles-take : (k : ℕ) (s : Bytes) → 4 * k ≤ length s → particlesOf (take (4 * k) s) ≡ take k (particlesOf s)
+pub particles-take : (k : ℕ) (s : Bytes) → particleSize * k ≤ length s → particlesOf (take (particleSize * k) s) ≡ take k (particlesOf s)
 particles-take zero s h = particles-few [] (omega arith)
 particles-take (suc k) [] h = absurd (omega arith)
 particles-take (suc k) (a ∷ []) h = absurd (omega arith)
 particles-take (suc k) (a ∷ b ∷ []) h = absurd (omega arith)
 particles-take (suc k) (a ∷ b ∷ c ∷ []) h = absurd (omega arith)
 particles-take (suc k) (a ∷ b ∷ c ∷ e ∷ s) h =
-    let n : 4 * suc k ≡ suc (suc (suc (suc (4 * k)))) = omega arith in
-    rw (n, particles-more (a ∷ b ∷ c ∷ e ∷ s) (omega arith), particles-more (a ∷ b ∷ c ∷ e ∷ take (4 * k) s) (omega arith))
+    let n : particleSize * suc k ≡ suc (suc (suc (suc (particleSize * k)))) = omega arith in
+    rw (n, particles-more (a ∷ b ∷ c ∷ e ∷ s) (omega arith), particles-more (a ∷ b ∷ c ∷ e ∷ take (particleSize * k) s) (omega arith))
     (ap (λ (l : Particles). readParticle (a ∷ b ∷ c ∷ e ∷ s) ∷ l) (particles-take k s (omega arith)))
 
-pub particles-part : (at n : ℕ) (s : Bytes) → 4 * at + 4 * n ≤ length s → particlesOf (partOf (4 * at) (4 * n) s) ≡ take n (drop at (particlesOf s))
+pub particles-part : (at n : ℕ) (s : Bytes) → particleSize * at + particleSize * n ≤ length s → particlesOf (partOf (particleSize * at) (particleSize * n) s) ≡ take n (drop at (particlesOf s))
 particles-part at n s h =
-    rw (part-there (4 * at) (4 * n) s h, particles-take n (drop (4 * at) s) (omega (arith, length-drop (4 * at) s)), particles-drop at s (omega arith))
+    rw (part-there (particleSize * at) (particleSize * n) s h, particles-take n (drop (particleSize * at) s) (omega (arith, length-drop (particleSize * at) s)), particles-drop at s (omega arith))
 
 -- ---- a definition's part of the particle body
 -- The n particles from number m on, of a body that has `count`: the form's model of them is that of their bytes, each index as the
 -- name that it stands for.
-pub model-read : (ns : List Bytes) (m n count : ℕ) (body : Bytes) → m + n ≤ count → 4 * count ≤ length body
-    → readMembers ns (build (take n (drop m (readMany readParticle particleSize count body))) 0) ≡ rename (λ i. nameAt i ns) (membersOf (take (4 * n) (drop (4 * m) body)))
+pub model-read : (ns : List Bytes) (m n count : ℕ) (body : Bytes) → m + n ≤ count → particleSize * count ≤ length body
+    → readMembers ns (build (take n (drop m (readMany readParticle particleSize count body))) 0) ≡ rename (λ i. nameAt i ns) (membersOf (take (particleSize * n) (drop (particleSize * m) body)))
 unfolding particlesOf membersFrom
 model-read ns m n count body h l =
-    let part : Bytes = take (4 * n) (drop (4 * m) body) in
-    let size : length part ≡ 4 * n = length-take-le (4 * n) (drop (4 * m) body) (omega (arith, length-drop (4 * m) body)) in
-    let whole : length part / 4 ≡ n = omega arith in
-    members-named ns (build (take n (drop m (readMany readParticle 4 count body))) 0)
-    ∙ ap (λ (l : Particles). rename (λ i. nameAt i ns) (indexMembers (build l 0))) (many-part readParticle 4 m n count body h ∙ ap (λ (k : ℕ). readMany readParticle 4 k part) (sym whole))
+    let part : Bytes = take (particleSize * n) (drop (particleSize * m) body) in
+    let size : length part ≡ particleSize * n = length-take-le (particleSize * n) (drop (particleSize * m) body) (omega (arith, length-drop (particleSize * m) body)) in
+    let whole : length part / particleSize ≡ n = omega arith in
+    members-named ns (build (take n (drop m (readMany readParticle particleSize count body))) 0)
+    ∙ ap (λ (l : Particles). rename (λ i. nameAt i ns) (indexMembers (build l 0))) (many-part readParticle particleSize m n count body h ∙ ap (λ (k : ℕ). readMany readParticle particleSize k part) (sym whole))
 
 -- ---- bounds
 abbrev pub Bounded : Reached → ℕ → Type 0
@@ -105,12 +105,12 @@ span-bounded d (x ∷ xs) = by (ltb d (x .depth)) (span-bounded d xs)
     by false h = omega arith
 
 -- in bytes: what the code learns of a call
-pub member-bounded : (d n : ℕ) (s : Bytes) (r : Reached) (p : ℕ) → r ≡ reach d n (particlesOf s) → r ≡ Member p → 4 * p + 4 ≤ length s
+pub member-bounded : (d n : ℕ) (s : Bytes) (r : Reached) (p : ℕ) → r ≡ reach d n (particlesOf s) → r ≡ Member p → particleSize * p + particleSize ≤ length s
 member-bounded d n s r p e m =
     let b : p < length (particlesOf s) = rw (← e, m) at (reach-bounded d n (particlesOf s)) in
     omega (arith, length-particles s)
 
-pub end-bounded : (d n : ℕ) (s : Bytes) (r : Reached) (p : ℕ) → r ≡ reach d n (particlesOf s) → r ≡ End p → 4 * p ≤ length s
+pub end-bounded : (d n : ℕ) (s : Bytes) (r : Reached) (p : ℕ) → r ≡ reach d n (particlesOf s) → r ≡ End p → particleSize * p ≤ length s
 end-bounded d n s r p e m =
     let b : p ≤ length (particlesOf s) = rw (← e, m) at (reach-bounded d n (particlesOf s)) in
     omega (arith, length-particles s)

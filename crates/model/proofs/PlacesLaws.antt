@@ -4,8 +4,10 @@ use Prim.Native.Nat.{ℕ, zero, suc, _+_, _-_, _*_, _<_, _≤_}
 use native.Mathlib.Omega.{arith}
 use native.Mathlib.Nat.{add-zero}
 use borrow.Author.Tests.{lt-ltb, le-ltb, eq-eqb, ne-eqb}
-use lib.ListN.{length, take, drop, getD, length-drop}
+use lib.ListN.{length, take, drop, length-drop}
 use Rattle.rules.specs.Bytes.{Bytes}
+use Rattle.rules.specs.Layout.{particleSize}
+use Rattle.rules.specs.Decode.{readParticle}
 use Rattle.codec.proofs.Writers.{tail-seen}
 use Rattle.model.specs.declared.place.Reached.{Reached}
 use Rattle.model.specs.declared.place.Reached.the-variants.{Member, End, Few}
@@ -29,7 +31,7 @@ onward-then k Few = refl
 -- ---- past the members of a byte string: what is left to pass gives the same answer
 pub record Left (goal : Reached) (bound d : ℕ) (t : Bytes) (p n : ℕ) : Type 0 where
   pub gives : onward p (reach d n (particlesOf t)) ≡ goal
-  pub sum : 4 * p + length t ≤ bound
+  pub sum : particleSize * p + length t ≤ bound
 
 pub left-all : (d n : ℕ) (s : Bytes) → Left (reach d n (particlesOf s)) (length s) d s 0 n
 left-all d n s = record { gives = by (reach d n (particlesOf s)); sum = omega arith }
@@ -40,72 +42,72 @@ left-all d n s = record { gives = by (reach d n (particlesOf s)); sum = omega ar
     by Few = refl
 
 module _ (goal : Reached) (bound d : ℕ) (t : Bytes) (p : ℕ) where
-  pub left-few : (n : ℕ) → length t < 4 → Left goal bound d t p n → onward p (ended n) ≡ goal
+  pub left-few : (n : ℕ) → length t < particleSize → Left goal bound d t p n → onward p (ended n) ≡ goal
   unfolding reach
   left-few n h l = rw (particles-few t h) at (l .gives)
 
-  module _ (e : ℕ) (h : 4 ≤ length t) (g : e ≡ getD t 3 0) where
+  module _ (e : ℕ) (h : particleSize ≤ length t) (g : e ≡ readParticle t .depth) where
     pub left-stop : (n : ℕ) → e < d → Left goal bound d t p n → onward p (ended n) ≡ goal
     unfolding reach
     left-stop zero k l =
-        let n : d ≡ getD t 3 0 → ⊥ = λ q. omega arith in
-        rw (particles-more t h, le-ltb d (getD t 3 0) (omega arith), ne-eqb d (getD t 3 0) n, reach) at (l .gives)
+        let n : d ≡ readParticle t .depth → ⊥ = λ q. omega arith in
+        rw (particles-more t h, le-ltb d (readParticle t .depth) (omega arith), ne-eqb d (readParticle t .depth) n, reach) at (l .gives)
     left-stop (suc m) k l =
-        let n : d ≡ getD t 3 0 → ⊥ = λ q. omega arith in
-        rw (particles-more t h, le-ltb d (getD t 3 0) (omega arith), ne-eqb d (getD t 3 0) n, reach) at (l .gives)
+        let n : d ≡ readParticle t .depth → ⊥ = λ q. omega arith in
+        rw (particles-more t h, le-ltb d (readParticle t .depth) (omega arith), ne-eqb d (readParticle t .depth) n, reach) at (l .gives)
 
     pub left-member : (n : ℕ) → e ≡ d → n ≡ 0 → Left goal bound d t p n → Member p ≡ goal
     unfolding reach
     left-member zero k z l =
-        ap (λ (i : ℕ). Member i) (sym (add-zero p)) ∙ (rw (particles-more t h, le-ltb d (getD t 3 0) (omega arith), eq-eqb d (getD t 3 0) (omega arith), reach) at (l .gives))
+        ap (λ (i : ℕ). Member i) (sym (add-zero p)) ∙ (rw (particles-more t h, le-ltb d (readParticle t .depth) (omega arith), eq-eqb d (readParticle t .depth) (omega arith), reach) at (l .gives))
     left-member (suc n) k z l = absurd (omega arith)
 
-    pub left-pass : (n : ℕ) → e ≡ d → (n ≡ 0 → ⊥) → Left goal bound d t p n → Left goal bound d (take (length t - 4) (drop 4 t)) (p + 1) (n - 1)
+    pub left-pass : (n : ℕ) → e ≡ d → (n ≡ 0 → ⊥) → Left goal bound d t p n → Left goal bound d (take (length t - particleSize) (drop particleSize t)) (p + 1) (n - 1)
     unfolding reach
     left-pass zero k z l = absurd (z refl)
     left-pass (suc n) k z l =
         let f : suc n - 1 ≡ n = omega arith in
-        rw (tail-seen t 4, f)
+        rw (tail-seen t particleSize, f)
         (record {
-          gives = sym (onward-then p (reach d n (particlesOf (drop 4 t)))) ∙ (rw (particles-more t h, le-ltb d (getD t 3 0) (omega arith), eq-eqb d (getD t 3 0) (omega arith), reach) at (l .gives));
-          sum = omega (arith, l .sum, length-drop 4 t);
+          gives = sym (onward-then p (reach d n (particlesOf (drop particleSize t)))) ∙ (rw (particles-more t h, le-ltb d (readParticle t .depth) (omega arith), eq-eqb d (readParticle t .depth) (omega arith), reach) at (l .gives));
+          sum = omega (arith, l .sum, length-drop particleSize t);
         })
 
-    pub left-deeper : (n : ℕ) → d < e → Left goal bound d t p n → Left goal bound d (take (length t - 4) (drop 4 t)) (p + 1) n
+    pub left-deeper : (n : ℕ) → d < e → Left goal bound d t p n → Left goal bound d (take (length t - particleSize) (drop particleSize t)) (p + 1) n
     unfolding reach
     left-deeper zero k l =
-        rw (tail-seen t 4)
+        rw (tail-seen t particleSize)
         (record {
-          gives = sym (onward-then p (reach d zero (particlesOf (drop 4 t)))) ∙ (rw (particles-more t h, lt-ltb d (getD t 3 0) (omega arith), reach) at (l .gives));
-          sum = omega (arith, l .sum, length-drop 4 t);
+          gives = sym (onward-then p (reach d zero (particlesOf (drop particleSize t)))) ∙ (rw (particles-more t h, lt-ltb d (readParticle t .depth) (omega arith), reach) at (l .gives));
+          sum = omega (arith, l .sum, length-drop particleSize t);
         })
     left-deeper (suc n) k l =
-        rw (tail-seen t 4)
+        rw (tail-seen t particleSize)
         (record {
-          gives = sym (onward-then p (reach d (suc n) (particlesOf (drop 4 t)))) ∙ (rw (particles-more t h, lt-ltb d (getD t 3 0) (omega arith), reach) at (l .gives));
-          sum = omega (arith, l .sum, length-drop 4 t);
+          gives = sym (onward-then p (reach d (suc n) (particlesOf (drop particleSize t)))) ∙ (rw (particles-more t h, lt-ltb d (readParticle t .depth) (omega arith), reach) at (l .gives));
+          sum = omega (arith, l .sum, length-drop particleSize t);
         })
 
 -- ---- the particles deeper than d
 pub record Deeper (goal bound d : ℕ) (t : Bytes) (n : ℕ) : Type 0 where
   pub gives : n + spanOf d (particlesOf t) ≡ goal
-  pub sum : 4 * n + length t ≤ bound
+  pub sum : particleSize * n + length t ≤ bound
 
 pub deeper-all : (d : ℕ) (s : Bytes) → Deeper (spanOf d (particlesOf s)) (length s) d s 0
 deeper-all d s = record { gives = omega arith; sum = omega arith }
 
 module _ (goal bound d : ℕ) (t : Bytes) (n : ℕ) (l : Deeper goal bound d t n) where
-  pub deeper-few : length t < 4 → n ≡ goal
+  pub deeper-few : length t < particleSize → n ≡ goal
   unfolding spanOf
   deeper-few h = sym (add-zero n) ∙ (rw (particles-few t h) at (l .gives))
 
-  module _ (e : ℕ) (h : 4 ≤ length t) (g : e ≡ getD t 3 0) where
+  module _ (e : ℕ) (h : particleSize ≤ length t) (g : e ≡ readParticle t .depth) where
     pub deeper-stop : e ≤ d → n ≡ goal
     unfolding spanOf
-    deeper-stop k = sym (add-zero n) ∙ (rw (particles-more t h, le-ltb d (getD t 3 0) (omega arith), spanOf) at (l .gives))
+    deeper-stop k = sym (add-zero n) ∙ (rw (particles-more t h, le-ltb d (readParticle t .depth) (omega arith), spanOf) at (l .gives))
 
-    pub deeper-on : d < e → Deeper goal bound d (take (length t - 4) (drop 4 t)) (n + 1)
+    pub deeper-on : d < e → Deeper goal bound d (take (length t - particleSize) (drop particleSize t)) (n + 1)
     unfolding spanOf
     deeper-on k =
-        let m = rw (particles-more t h, lt-ltb d (getD t 3 0) (omega arith), spanOf) at (l .gives) in
-        rw (tail-seen t 4) (record { gives = omega arith; sum = omega (arith, l .sum, length-drop 4 t) })
+        let m = rw (particles-more t h, lt-ltb d (readParticle t .depth) (omega arith), spanOf) at (l .gives) in
+        rw (tail-seen t particleSize) (record { gives = omega arith; sum = omega (arith, l .sum, length-drop particleSize t) })

@@ -6,7 +6,7 @@ use Rattle.rules.specs.declared.GroupKind.{GroupKind}
 use Rattle.rules.specs.declared.GroupKind.the-variants.{Sequence}
 use Rattle.rules.specs.Bytes.{Bytes, numbers}
 use Rattle.rules.specs.Preorder.{Deep}
-use Rattle.rules.specs.Layout.{FlatParticle}
+use Rattle.rules.specs.Layout.{FlatParticle, particleSize}
 use Rattle.rules.specs.Decode.{quantifierOf, groupOf, readParticle}
 use Rattle.rules.specs.Automaton.{single, quantify, facts}
 use Rattle.model.specs.declared.What.{What}
@@ -38,4 +38,4 @@ particleFacts p below x y = quantify (p .quantifier) (onceFacts (p .what) below 
 -- those of the particle of depth d that s begins with
 unfoldable pub firstFacts : ℕ → Bytes → ℕ → ℕ → Facts
 firstFacts d s x y =
-    particleFacts (particleOf (readParticle s)) (facts numbers (kindIn (particleOf (readParticle s) .what)) (membersFrom (suc d) (drop 4 s)) x y) x y
+    particleFacts (particleOf (readParticle s)) (facts numbers (kindIn (particleOf (readParticle s) .what)) (membersFrom (suc d) (drop particleSize s)) x y) x y

@@ -1,5 +1,4 @@
 // Content models: a definition's part of the particle body.
-pub mod automaton;
 pub mod place;
 
 use rules::GroupKind;
@@ -11,7 +10,7 @@ ghost use Rattle.rules.specs.Layout.{quantifierCode};
 ghost use Rattle.rules.specs.Decode.{quantifierOf, readParticle};
 ghost use Rattle.rules.specs.Model.{skips};
 ghost use Rattle.rules.specs.Quantifiers.{relaxes};
-ghost use Rattle.model.specs.Particle.{whatOf, particleOf};
+ghost use Rattle.model.specs.Particle.{whatOf, particleOf, kindIn};
 
 /// An element, by its definition's index, or a group with the number of its direct members.
 pub enum What {
@@ -45,13 +44,25 @@ fn read_what(sort: u8, n: usize) -> What
     }
 }
 
+/// A group's kind; an element counts as a LIST.
+pub fn kind_in(what: What) -> GroupKind
+    ensures { λ r. ⌜ r ≡ kindIn what ⌝ }
+{
+    match what {
+        What::Element(_) => GroupKind::Sequence,
+        What::Group(kind, _) => kind,
+    }
+}
+
 /// The particle at byte `at`.
 pub fn read_particle(s: &[u8], at: usize) -> Particle
     requires { ⌜ at ≤ length (now s) ⌝ }
     ensures { λ r. ⌜ r ≡ particleOf (readParticle (drop at (now (s .entry)))) ⌝ }
 {
-    let what = read_what(codec::byte(s, at), codec::byte(s, at + 2) as usize);
-    let quantifier = read_quantifier(codec::byte(s, at + 1));
+    let rec = &s[at..];
+    let index = layout::particle_index(rec) as usize;
+    let what = read_what(layout::particle_sort(rec), index);
+    let quantifier = read_quantifier(layout::particle_quantifier(rec));
     Particle { what, quantifier }
 }
 

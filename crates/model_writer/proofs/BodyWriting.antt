@@ -9,7 +9,7 @@ use lib.ListN.{length, take, drop, length-append, length-drop}
 use lib.Seq.{length-take-le}
 use Rattle.rules.specs.Bytes.{Bytes}
 use Rattle.rules.specs.Preorder.{Deep}
-use Rattle.rules.specs.Layout.{FlatParticle, particleBytes, each}
+use Rattle.rules.specs.Layout.{FlatParticle, particleBytes, each, particleSize}
 use Rattle.rules.specs.Edit.{Edit, insert, remove, quantify, convert, flatten}
 use Rattle.model.specs.declared.place.Holder.{Holder}
 use Rattle.model.specs.Members.{particlesOf}
@@ -68,21 +68,21 @@ one-more flatten n = omega arith
 pub length-few : {e : Edit ℕ} {h : Holder} {n : ℕ} {part : Bytes} → Part e h n part → length (each particleBytes (partAfter e h n (particlesOf part))) ≤ length part + 4
 length-few {e} {h} {n} {part} v =
     let xs : Particles = particlesOf part in
-    let w : length part ≡ 4 * length xs = length-part part (v .whole) in
+    let w : length part ≡ particleSize * length xs = length-part part (v .whole) in
     omega (arith, length-bytes (partAfter e h n xs), length-both e h n xs (omega (arith, w, v .inside)), one-more e (length xs - n), w, v .inside)
 
 -- ---- all particles
-spliced-bytes : (first k : ℕ) (part : Particles) (parts : Bytes) → length parts % 4 ≡ 0
-    → each particleBytes (spliced first k part (particlesOf parts)) ≡ take (4 * first) (drop 0 parts) ++ (each particleBytes part ++ drop (4 * (first + k)) parts)
+spliced-bytes : (first k : ℕ) (part : Particles) (parts : Bytes) → length parts % particleSize ≡ 0
+    → each particleBytes (spliced first k part (particlesOf parts)) ≡ take (particleSize * first) (drop 0 parts) ++ (each particleBytes part ++ drop (particleSize * (first + k)) parts)
 spliced-bytes first k part parts h =
     let xs : Particles = particlesOf parts in
     each-append (take first xs) (part ++ drop (first + k) xs)
     ∙ ap₂ (λ (s t : Bytes). s ++ t) (take-bytes first parts h)
-    (each-append part (drop (first + k) xs) ∙ ap (λ (s : Bytes). each particleBytes part ++ s) (sym (each-drop (first + k) xs) ∙ ap (drop (4 * (first + k))) (whole parts h)))
+    (each-append part (drop (first + k) xs) ∙ ap (λ (s : Bytes). each particleBytes part ++ s) (sym (each-drop (first + k) xs) ∙ ap (drop (particleSize * (first + k))) (whole parts h)))
 
 pub body-bytes : {e : Edit ℕ} {h : Holder} {n first k : ℕ} {parts : Bytes} → Body e h n first k parts
     → each particleBytes (spliced first k (partAfter e h n (particlesOf (partIn first k parts))) (particlesOf parts))
-    ≡ take (4 * first) (drop 0 parts) ++ (each particleBytes (partAfter e h n (particlesOf (partIn first k parts))) ++ drop (4 * (first + k)) parts)
+    ≡ take (particleSize * first) (drop 0 parts) ++ (each particleBytes (partAfter e h n (particlesOf (partIn first k parts))) ++ drop (particleSize * (first + k)) parts)
 body-bytes {e} {h} {n} {first} {k} {parts} v = spliced-bytes first k (partAfter e h n (particlesOf (partIn first k parts))) parts (v .whole)
 
 pub body-part : {e : Edit ℕ} {h : Holder} {n first k : ℕ} {parts own : Bytes} → Body e h n first k parts → own ≡ partIn first k parts → Part e h n own

@@ -6,14 +6,15 @@ use mathlib.Core.Bool.{Bool, true, false, not, _&&_, false≢true}
 use mathlib.Core.List.{[], _∷_, _++_}
 use borrow.Author.Tests.{le-leb, lt-leb, leb-true}
 use lib.Dec.{leb, ltb, eqb}
-use lib.ListN.{length, take, drop, getD, take-append-drop}
+use lib.ListN.{length, take, drop, take-append-drop}
 use Rattle.rules.specs.declared.Quantifier.{Quantifier}
 use Rattle.rules.specs.declared.GroupKind.{GroupKind}
 use Rattle.rules.specs.Bytes.{Bytes, all}
 use Rattle.rules.specs.Preorder.{Deep}
-use Rattle.rules.specs.Layout.{FlatParticle}
+use Rattle.rules.specs.Layout.{FlatParticle, particleSize}
 use Rattle.rules.specs.Edit.{Edit, insert, remove, quantify, convert, flatten}
 use Rattle.rules.proofs.BooleanLaws.{all-left, all-right}
+use Rattle.rules.specs.Decode.{readParticle}
 use Rattle.codec.proofs.Writers.{tail-seen}
 use Rattle.model.specs.declared.place.Holder.{Holder}
 use Rattle.model.specs.Members.{particlesOf}
@@ -89,31 +90,31 @@ pub deep-all : (d : ℕ) (s : Bytes) (n : ℕ) → within (particlesOf s) ≡ tr
 deep-all d s n h = record { still = h; same = refl }
 
 module _ {goal : Bool} {d : ℕ} {t : Bytes} {m : ℕ} (v : Deepening goal d t m) where
-  pub deep-done : length t < 4 → true ≡ goal
+  pub deep-done : length t < particleSize → true ≡ goal
   unfolding within moved
   deep-done l = sym (v .same ∙ ap (λ (xs : Particles). within (moved (shift true) d m xs)) (particles-few t l))
 
-  module _ (l : 4 ≤ length t) (b : Bool) (inner : ltb d (getD t 3 0) ≡ b) where
+  module _ (l : particleSize ≤ length t) (b : Bool) (inner : ltb d (readParticle t .depth) ≡ b) where
     pub deep-stop : (eqb m 0 && not b) ≡ true → true ≡ goal
     deep-stop f = sym (v .same ∙ ap within (moved-none (shift true) d t l b m inner f) ∙ v .still)
 
-    deep-first : (eqb m 0 && not b) ≡ false → goal ≡ (leb (suc (getD t 3 0)) 4 && within (moved (shift true) d (passing b m) (particlesOf (drop 4 t))))
+    deep-first : (eqb m 0 && not b) ≡ false → goal ≡ (leb (suc (readParticle t .depth)) 4 && within (moved (shift true) d (passing b m) (particlesOf (drop particleSize t))))
     unfolding within
     deep-first f = v .same ∙ ap within (moved-first (shift true) d t l b m inner f)
 
-    still-rest : within (particlesOf (drop 4 t)) ≡ true
+    still-rest : within (particlesOf (drop particleSize t)) ≡ true
     unfolding within
-    still-rest = true-second (leb (getD t 3 0) 4) (within (particlesOf (drop 4 t))) (sym (ap within (particles-more t l)) ∙ v .still)
+    still-rest = true-second (leb (readParticle t .depth) 4) (within (particlesOf (drop particleSize t))) (sym (ap within (particles-more t l)) ∙ v .still)
 
-    pub deep-over : (eqb m 0 && not b) ≡ false → 4 ≤ getD t 3 0 → false ≡ goal
-    deep-over f h = sym (deep-first f ∙ ap (λ (z : Bool). z && within (moved (shift true) d (passing b m) (particlesOf (drop 4 t)))) (lt-leb (suc (getD t 3 0)) 4 (omega arith)))
+    pub deep-over : (eqb m 0 && not b) ≡ false → 4 ≤ readParticle t .depth → false ≡ goal
+    deep-over f h = sym (deep-first f ∙ ap (λ (z : Bool). z && within (moved (shift true) d (passing b m) (particlesOf (drop particleSize t)))) (lt-leb (suc (readParticle t .depth)) 4 (omega arith)))
 
-    pub deep-step : (eqb m 0 && not b) ≡ false → getD t 3 0 < 4 → {m′ : ℕ} → m′ ≡ passing b m → Deepening goal d (take (length t - 4) (drop 4 t)) m′
+    pub deep-step : (eqb m 0 && not b) ≡ false → readParticle t .depth < 4 → {m′ : ℕ} → m′ ≡ passing b m → Deepening goal d (take (length t - particleSize) (drop particleSize t)) m′
     deep-step f h {m′} p =
-        rw (tail-seen t 4, p)
+        rw (tail-seen t particleSize, p)
         (record {
           still = still-rest;
-          same = deep-first f ∙ ap (λ (z : Bool). z && within (moved (shift true) d (passing b m) (particlesOf (drop 4 t)))) (le-leb (suc (getD t 3 0)) 4 (omega arith));
+          same = deep-first f ∙ ap (λ (z : Bool). z && within (moved (shift true) d (passing b m) (particlesOf (drop particleSize t)))) (le-leb (suc (readParticle t .depth)) 4 (omega arith));
         })
 
 -- ---- the edits

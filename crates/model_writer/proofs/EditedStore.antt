@@ -13,7 +13,7 @@ use Rattle.rules.specs.Place.{Found as Spot, Context, plug, renameAround}
 use Rattle.rules.specs.Edit.{Edit, insert, remove, quantify, convert, flatten as ungroup, placeOf as placed}
 use Rattle.rules.specs.Store.{complex, Form, Store, members}
 use Rattle.rules.specs.Preorder.{flatten}
-use Rattle.rules.specs.Layout.{FlatStore, indexOf, particleBytes, each, particles, contentParticles, flatDefinition, allParticles, flat}
+use Rattle.rules.specs.Layout.{FlatStore, indexOf, particleBytes, each, particles, contentParticles, flatDefinition, allParticles, flat, particleSize}
 use Rattle.rules.specs.Change.{definitionAt, editModel}
 use Rattle.rules.proofs.BooleanLaws.{Every}
 use Rattle.rules.proofs.LayoutLaws.{SmallParticle}
@@ -98,7 +98,7 @@ module _ (s : Store) (o : ℕ) (p : List ℕ) (e : Edit Bytes) (x : Spot Bytes) 
   own = partIn first many parts
 
   own-particles : own ≡ each particleBytes (take many (drop first (flat s .particles)))
-  own-particles = ap (take (4 * many)) (each-drop first (flat s .particles)) ∙ each-take many (drop first (flat s .particles))
+  own-particles = ap (take (particleSize * many)) (each-drop first (flat s .particles)) ∙ each-take many (drop first (flat s .particles))
 
   own-bytes : own ≡ each particleBytes (spread 0 (rename index (members (definitionAt o (s .form)))))
   own-bytes =
@@ -111,8 +111,8 @@ module _ (s : Store) (o : ℕ) (p : List ℕ) (e : Edit Bytes) (x : Spot Bytes) 
   own-count : length (particlesOf own) ≡ many
   own-count = ap (λ (bs : Bytes). length (particlesOf bs)) own-particles ∙ ap length (particles-written (take many (drop first (flat s .particles)))) ∙ all-there
 
-  own-many : length own ≡ 4 * many
-  own-many = ap length own-particles ∙ length-bytes (take many (drop first (flat s .particles))) ∙ ap (λ (k : ℕ). 4 * k) all-there
+  own-many : length own ≡ particleSize * many
+  own-many = ap length own-particles ∙ length-bytes (take many (drop first (flat s .particles))) ∙ ap (λ (k : ℕ). particleSize * k) all-there
 
   module _ (h : Holder) (n : ℕ) (at : placeOf (inserts e) p own ≡ At h n) where
     -- THE BODIES AFTER THE EDIT
@@ -127,11 +127,11 @@ module _ (s : Store) (o : ℕ) (p : List ℕ) (e : Edit Bytes) (x : Spot Bytes) 
     same-place : At (holder top 0 context) (offset context) ≡ At h n
     same-place = sym (place-here index e p (members (definitionAt o (s .form))) x found) ∙ ap (placeOf (inserts e) p) (sym own-bytes) ∙ at
 
-    own-long : length own ≡ 4 * length (spread 0 (plug context (rename index (x .picked))))
+    own-long : length own ≡ particleSize * length (spread 0 (plug context (rename index (x .picked))))
     own-long =
         ap length own-bytes
         ∙ length-bytes (spread 0 (rename index (members (definitionAt o (s .form)))))
-        ∙ ap (λ (ms : Members ℕ). 4 * length (spread 0 ms)) (ap (rename index) (sym (place-right e p (members (definitionAt o (s .form))) x found)) ∙ plug-rename index (x .context) (x .picked))
+        ∙ ap (λ (ms : Members ℕ). particleSize * length (spread 0 ms)) (ap (rename index) (sym (place-right e p (members (definitionAt o (s .form))) x found)) ∙ plug-rename index (x .context) (x .picked))
 
     -- HOW MANY PARTICLES the owner has then
     pub edit-length : length (partAfter (renameEdit index e) h n (particlesOf own)) ≡ lengthAfter (renameEdit index e) many

@@ -7,7 +7,7 @@ use lib.ListN.{length, take, drop, getD, length-take, length-drop}
 use lib.Seq.{take-nil, drop-nil, drop-cons}
 use Rattle.rules.specs.Bytes.{Bytes}
 use Rattle.rules.specs.Preorder.{Deep}
-use Rattle.rules.specs.Layout.{FlatParticle, particleBytes, each}
+use Rattle.rules.specs.Layout.{FlatParticle, particleBytes, each, particleSize}
 use Rattle.rules.specs.Decode.{readParticle}
 use Rattle.rules.specs.Edit.{Edit}
 use Rattle.rules.proofs.BooleanLaws.{Every}
@@ -28,7 +28,7 @@ pub count-case : (xs : Particles) (n : ℕ) {e f : EditCode} → e ≡ f → cou
 count-case xs n p = ap (λ (z : EditCode). countAfter (editOf z) xs n) (sym p)
 
 -- the count of the first particle, if it is a group
-pub first-index : (s : Bytes) → length s % 4 ≡ 0 → getD (particlesOf s) 0 noParticle .row .index ≡ getD s 2 0
+pub first-index : (s : Bytes) → length s % particleSize ≡ 0 → getD (particlesOf s) 0 noParticle .row .index ≡ readParticle s .row .index
 first-index [] h = ap (λ (xs : Particles). getD xs 0 noParticle .row .index) (particles-few [] (omega arith))
 first-index (a ∷ []) h = absurd (omega arith)
 first-index (a ∷ b ∷ []) h = absurd (omega arith)
@@ -40,21 +40,21 @@ pub each-append : (xs ys : Particles) → each particleBytes (xs ++ ys) ≡ each
 each-append [] ys = refl
 each-append (x ∷ xs) ys = ap (λ (s : Bytes). particleBytes x ++ s) (each-append xs ys)
 
-four-more : (n : ℕ) → 4 * suc n ≡ suc (suc (suc (suc (4 * n))))
+four-more : (n : ℕ) → particleSize * suc n ≡ suc (suc (suc (suc (particleSize * n))))
 four-more n = omega arith
 
-pub each-take : (n : ℕ) (xs : Particles) → take (4 * n) (each particleBytes xs) ≡ each particleBytes (take n xs)
+pub each-take : (n : ℕ) (xs : Particles) → take (particleSize * n) (each particleBytes xs) ≡ each particleBytes (take n xs)
 each-take zero xs = refl
-each-take (suc n) [] = take-nil (4 * suc n)
+each-take (suc n) [] = take-nil (particleSize * suc n)
 each-take (suc n) (x ∷ xs) = ap (λ (k : ℕ). take k (each particleBytes (x ∷ xs))) (four-more n) ∙ ap (λ (s : Bytes). particleBytes x ++ s) (each-take n xs)
 
-pub each-drop : (n : ℕ) (xs : Particles) → drop (4 * n) (each particleBytes xs) ≡ each particleBytes (drop n xs)
+pub each-drop : (n : ℕ) (xs : Particles) → drop (particleSize * n) (each particleBytes xs) ≡ each particleBytes (drop n xs)
 each-drop zero xs = refl
-each-drop (suc n) [] = drop-nil (4 * suc n)
+each-drop (suc n) [] = drop-nil (particleSize * suc n)
 each-drop (suc n) (x ∷ xs) = ap (λ (k : ℕ). drop k (each particleBytes (x ∷ xs))) (four-more n) ∙ each-drop n xs
 
-pub length-bytes : (xs : Particles) → length (each particleBytes xs) ≡ 4 * length xs
-length-bytes xs = length-each particleBytes 4 length-particle xs
+pub length-bytes : (xs : Particles) → length (each particleBytes xs) ≡ particleSize * length xs
+length-bytes xs = length-each particleBytes particleSize length-particle xs
 
 pub every-front : {A : Type 0} (P : A → Type 0) (xs ys : List A) → Every P (xs ++ ys) → Every P xs
 every-front P [] ys h = tt
@@ -82,25 +82,22 @@ length-recounted g zero (x ∷ xs) = refl
 length-recounted g (suc zero) (x ∷ xs) = refl
 length-recounted g (suc (suc s)) (x ∷ xs) = ap suc (length-recounted g (suc s) xs)
 
-read-first : (x : Deep FlatParticle) (s : Bytes) → readParticle (take 4 (particleBytes x ++ s)) ≡ x
+read-first : (x : Deep FlatParticle) (s : Bytes) → readParticle (take particleSize (particleBytes x ++ s)) ≡ x
 read-first x s = refl
 
 -- particle i of a part
-particle-at : (i : ℕ) (part : Bytes) → length part % 4 ≡ 0 → i < length (particlesOf part) → readParticle (take 4 (drop (4 * i) part)) ≡ getD (particlesOf part) i noParticle
+particle-at : (i : ℕ) (part : Bytes) → length part % particleSize ≡ 0 → i < length (particlesOf part) → readParticle (take particleSize (drop (particleSize * i) part)) ≡ getD (particlesOf part) i noParticle
 particle-at i part h l =
     let xs : Particles = particlesOf part in
-    ap (λ (s : Bytes). readParticle (take 4 (drop (4 * i) s))) (sym (whole part h))
-    ∙ ap (λ (s : Bytes). readParticle (take 4 s)) (each-drop i xs ∙ ap (each particleBytes) (drop-cons xs i noParticle l))
+    ap (λ (s : Bytes). readParticle (take particleSize (drop (particleSize * i) s))) (sym (whole part h))
+    ∙ ap (λ (s : Bytes). readParticle (take particleSize s)) (each-drop i xs ∙ ap (each particleBytes) (drop-cons xs i noParticle l))
     ∙ read-first (getD xs i noParticle) (each particleBytes (drop (suc i) xs))
 
-pub length-cut : (s r : Bytes) (k n : ℕ) → r ≡ take n (drop k s) → length r ≤ length s
-length-cut s r k n e = omega (arith, ap (λ (z : Bytes). length z) e, length-take n (drop k s), length-drop k s)
-
-pub length-part : (part : Bytes) → length part % 4 ≡ 0 → length part ≡ 4 * length (particlesOf part)
+pub length-part : (part : Bytes) → length part % particleSize ≡ 0 → length part ≡ particleSize * length (particlesOf part)
 length-part part h = sym (ap length (whole part h)) ∙ length-bytes (particlesOf part)
 
-pub take-bytes : (n : ℕ) (part : Bytes) → length part % 4 ≡ 0 → each particleBytes (take n (particlesOf part)) ≡ take (4 * n) part
-take-bytes n part h = sym (each-take n (particlesOf part)) ∙ ap (take (4 * n)) (whole part h)
+pub take-bytes : (n : ℕ) (part : Bytes) → length part % particleSize ≡ 0 → each particleBytes (take n (particlesOf part)) ≡ take (particleSize * n) part
+take-bytes n part h = sym (each-take n (particlesOf part)) ∙ ap (take (particleSize * n)) (whole part h)
 
 module _ {e : Edit ℕ} {first n : ℕ} {part : Bytes} {at : ℕ} (v : Head e first n part at) where
   abbrev newCount : ℕ → ℕ
@@ -110,14 +107,14 @@ module _ {e : Edit ℕ} {first n : ℕ} {part : Bytes} {at : ℕ} (v : Head e fi
   headAfter = recounted newCount first (take n (particlesOf part))
 
   -- no group holds the place
-  pub head-top : first ≡ 0 → each particleBytes headAfter ≡ take (4 * n) (drop 0 part)
+  pub head-top : first ≡ 0 → each particleBytes headAfter ≡ take (particleSize * n) (drop 0 part)
   head-top z = ap (λ (k : ℕ). each particleBytes (recounted newCount k (take n (particlesOf part)))) z ∙ ap (each particleBytes) (recounted-none newCount (take n (particlesOf part))) ∙ take-bytes n part (v .whole)
 
   long : n ≤ length (particlesOf part)
   long = omega (arith, length-part part (v .whole), v .inside)
 
   head-is : 0 < first
-      → headAfter ≡ take (first - 1) (particlesOf part) ++ (recount newCount (readParticle (take 4 (drop (4 * (first - 1)) part))) ∷ take (n - first) (drop first (particlesOf part)))
+      → headAfter ≡ take (first - 1) (particlesOf part) ++ (recount newCount (readParticle (take particleSize (drop (particleSize * (first - 1)) part))) ∷ take (n - first) (drop first (particlesOf part)))
   head-is l =
       let z : first ≡ suc (first - 1) = omega arith in
       ap (λ (k : ℕ). recounted newCount k (take n (particlesOf part))) z
@@ -126,37 +123,37 @@ module _ {e : Edit ℕ} {first n : ℕ} {part : Bytes} {at : ℕ} (v : Head e fi
 
   pub head-split : 0 < first
       → each particleBytes headAfter
-      ≡ take (4 * (first - 1)) (drop 0 part) ++ (particleBytes (recount newCount (readParticle (take 4 (drop (4 * (first - 1)) part)))) ++ take (4 * n - 4 * first) (drop (4 * (first - 1) + 4) part))
+      ≡ take (particleSize * (first - 1)) (drop 0 part) ++ (particleBytes (recount newCount (readParticle (take particleSize (drop (particleSize * (first - 1)) part)))) ++ take (particleSize * n - particleSize * first) (drop (particleSize * (first - 1) + particleSize) part))
   head-split l =
-      let x : Deep FlatParticle = recount newCount (readParticle (take 4 (drop (4 * (first - 1)) part))) in
-      let p : 4 * first ≡ 4 * (first - 1) + 4 = omega arith in
-      let q : 4 * (n - first) ≡ 4 * n - 4 * first = omega (arith, v .after) in
-      let back : each particleBytes (take (n - first) (drop first (particlesOf part))) ≡ take (4 * n - 4 * first) (drop (4 * (first - 1) + 4) part) =
+      let x : Deep FlatParticle = recount newCount (readParticle (take particleSize (drop (particleSize * (first - 1)) part))) in
+      let p : particleSize * first ≡ particleSize * (first - 1) + particleSize = omega arith in
+      let q : particleSize * (n - first) ≡ particleSize * n - particleSize * first = omega (arith, v .after) in
+      let back : each particleBytes (take (n - first) (drop first (particlesOf part))) ≡ take (particleSize * n - particleSize * first) (drop (particleSize * (first - 1) + particleSize) part) =
       sym (each-take (n - first) (drop first (particlesOf part)))
-      ∙ ap (take (4 * (n - first))) (sym (each-drop first (particlesOf part)) ∙ ap (drop (4 * first)) (whole part (v .whole)))
+      ∙ ap (take (particleSize * (n - first))) (sym (each-drop first (particlesOf part)) ∙ ap (drop (particleSize * first)) (whole part (v .whole)))
       ∙ (λ i. take (q i) (drop (p i) part)) in
       ap (each particleBytes) (head-is l)
       ∙ each-append (take (first - 1) (particlesOf part)) (x ∷ take (n - first) (drop first (particlesOf part)))
       ∙ ap₂ (λ (s t : Bytes). s ++ (particleBytes x ++ t)) (take-bytes (first - 1) part (v .whole)) back
 
   -- the new count is a byte
-  pub head-count : 0 < first → newCount (getD (take 4 (drop (4 * (first - 1)) part)) 2 0) < 256
+  pub head-count : 0 < first → newCount (getD (take particleSize (drop (particleSize * (first - 1)) part)) 2 0) < 256
   unfolding Fitting
   head-count l =
       every-back SmallParticle (take (first - 1) (particlesOf part)) _ (subst (λ (xs : Particles). Every SmallParticle xs) (head-is l) (v .fitting)) .0 .index
 
   -- .. as the code has them: x the group, ys the particles from the place on
-  module _ (l : 0 < first) {x ys : Bytes} (p : x ≡ take 4 (drop (4 * (first - 1)) part)) (q : ys ≡ drop (4 * n) part) where
+  module _ (l : 0 < first) {x ys : Bytes} (p : x ≡ take particleSize (drop (particleSize * (first - 1)) part)) (q : ys ≡ drop (particleSize * n) part) where
     same-count : countAfter e (particlesOf ys) ≡ newCount
     same-count = ap (λ (s : Bytes). countAfter e (particlesOf s)) q ∙ ap (countAfter e) (particles-past n part)
 
-    pub head-fits : (length ys % 4 ≡ 0) × (countAfter e (particlesOf ys) (getD x 2 0) < 256)
+    pub head-fits : (length ys % particleSize ≡ 0) × (countAfter e (particlesOf ys) (readParticle x .row .index) < 256)
     head-fits = (
-      omega (arith, v .whole, v .inside, ap (λ (s : Bytes). length s) q, length-drop (4 * n) part),
+      omega (arith, v .whole, v .inside, ap (λ (s : Bytes). length s) q, length-drop (particleSize * n) part),
       subst (λ (k : ℕ). k < 256) (sym (λ i. same-count i (getD (p i) 2 0))) (head-count l),
     )
 
-    pub head-group : particleBytes (recount newCount (readParticle (take 4 (drop (4 * (first - 1)) part)))) ≡ particleBytes (recount (countAfter e (particlesOf ys)) (readParticle x))
+    pub head-group : particleBytes (recount newCount (readParticle (take particleSize (drop (particleSize * (first - 1)) part)))) ≡ particleBytes (recount (countAfter e (particlesOf ys)) (readParticle x))
     head-group = λ i. particleBytes (recount (sym same-count i) (readParticle (sym p i)))
 
 -- ---- the whole part
@@ -173,12 +170,12 @@ module _ {e : Edit ℕ} {h : Holder} {n : ℕ} {part : Bytes} (v : Part e h n pa
       }
 
   pub part-tail : {at : ℕ} → at + 2 * length part < 4611686018427387904 → {out : Bytes} {r : ℕ} {out′ : Bytes} → Laid (each particleBytes (recounted (countAfter e (drop n (particlesOf part))) (h .start) (take n (particlesOf part)))) out at r out′
-      → Tail e (h .depth) (drop (4 * n) part) r
+      → Tail e (h .depth) (drop (particleSize * n) part) r
   unfolding partAfter Fitting
   part-tail few x =
       record {
-        whole = omega (arith, v .whole, v .inside, length-drop (4 * n) part);
-        room = omega (arith, few, x .next, length-drop (4 * n) part, length-bytes front, length-recounted g (h .start) (take n (particlesOf part)), length-take n (particlesOf part), length-part part (v .whole));
+        whole = omega (arith, v .whole, v .inside, length-drop (particleSize * n) part);
+        room = omega (arith, few, x .next, length-drop (particleSize * n) part, length-bytes front, length-recounted g (h .start) (take n (particlesOf part)), length-take n (particlesOf part), length-part part (v .whole));
         fitting = rw (particles-past n part) (every-back SmallParticle front _ (v .fitting));
       }
     where
@@ -189,7 +186,7 @@ module _ {e : Edit ℕ} {h : Holder} {n : ℕ} {part : Bytes} (v : Part e h n pa
       front = recounted g (h .start) (take n (particlesOf part))
 
   pub part-bytes : each particleBytes (partAfter e h n (particlesOf part))
-      ≡ each particleBytes (recounted (countAfter e (drop n (particlesOf part))) (h .start) (take n (particlesOf part))) ++ each particleBytes (tailAfter e (h .depth) (particlesOf (drop (4 * n) part)))
+      ≡ each particleBytes (recounted (countAfter e (drop n (particlesOf part))) (h .start) (take n (particlesOf part))) ++ each particleBytes (tailAfter e (h .depth) (particlesOf (drop (particleSize * n) part)))
   unfolding partAfter
   part-bytes =
       each-append (recounted (countAfter e (drop n (particlesOf part))) (h .start) (take n (particlesOf part))) (tailAfter e (h .depth) (drop n (particlesOf part)))

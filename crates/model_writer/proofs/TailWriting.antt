@@ -9,7 +9,7 @@ use Rattle.rules.specs.declared.Quantifier.{Quantifier}
 use Rattle.rules.specs.declared.Quantifier.the-variants.{None, Qmark, Star, Plus}
 use Rattle.rules.specs.declared.GroupKind.{GroupKind}
 use Rattle.rules.specs.Bytes.{Bytes}
-use Rattle.rules.specs.Layout.{quantifierCode, particleBytes, each}
+use Rattle.rules.specs.Layout.{quantifierCode, particleBytes, each, particleSize}
 use Rattle.rules.specs.Decode.{readParticle}
 use Rattle.rules.specs.Edit.{insert, remove, quantify, convert, flatten}
 use Rattle.model.specs.Members.{particlesOf}
@@ -27,11 +27,11 @@ code-small Qmark = omega arith
 code-small Star = omega arith
 code-small Plus = omega arith
 
-rest-whole : (s : Bytes) → length s % 4 ≡ 0 → length (drop 4 s) % 4 ≡ 0
-rest-whole s h = omega (arith, length-drop 4 s)
+rest-whole : (s : Bytes) → length s % particleSize ≡ 0 → length (drop particleSize s) % particleSize ≡ 0
+rest-whole s h = omega (arith, length-drop particleSize s)
 
-rest-bytes : (s : Bytes) → length s % 4 ≡ 0 → each particleBytes (drop 1 (particlesOf s)) ≡ drop 4 s
-rest-bytes s h = ap (each particleBytes) (sym (particles-rest s)) ∙ whole (drop 4 s) (rest-whole s h)
+rest-bytes : (s : Bytes) → length s % particleSize ≡ 0 → each particleBytes (drop 1 (particlesOf s)) ≡ drop particleSize s
+rest-bytes s h = ap (each particleBytes) (sym (particles-rest s)) ∙ whole (drop particleSize s) (rest-whole s h)
 
 module _ {d : ℕ} {ys : Bytes} {at : ℕ} where
   -- 3
@@ -48,21 +48,21 @@ module _ {d : ℕ} {ys : Bytes} {at : ℕ} where
   inserted-bytes {q} {i} v = ap (λ (s : Bytes). particleBytes (elementParticle d q i) ++ s) (whole ys (v .whole))
 
   -- 4
-  pub removed-bytes : Tail remove d ys at → each particleBytes (tailAfter remove d (particlesOf ys)) ≡ drop 4 ys
+  pub removed-bytes : Tail remove d ys at → each particleBytes (tailAfter remove d (particlesOf ys)) ≡ drop particleSize ys
   unfolding tailAfter
   removed-bytes v = rest-bytes ys (v .whole)
 
   -- 5 and 8
-  pub requantified-none : {q : Quantifier} → Tail (quantify q) d ys at → length ys < 4 → each particleBytes (tailAfter (quantify q) d (particlesOf ys)) ≡ []
+  pub requantified-none : {q : Quantifier} → Tail (quantify q) d ys at → length ys < particleSize → each particleBytes (tailAfter (quantify q) d (particlesOf ys)) ≡ []
   unfolding tailAfter
   requantified-none {q} v l = ap (λ (xs : Particles). each particleBytes (tailAfter (quantify q) d xs)) (particles-few ys l)
 
-  pub requantified-bytes : {q : Quantifier} → Tail (quantify q) d ys at → 4 ≤ length ys
-      → each particleBytes (tailAfter (quantify q) d (particlesOf ys)) ≡ particleBytes (requantify q (readParticle ys)) ++ drop 4 ys
+  pub requantified-bytes : {q : Quantifier} → Tail (quantify q) d ys at → particleSize ≤ length ys
+      → each particleBytes (tailAfter (quantify q) d (particlesOf ys)) ≡ particleBytes (requantify q (readParticle ys)) ++ drop particleSize ys
   unfolding tailAfter
   requantified-bytes {q} v l =
       ap (λ (xs : Particles). each particleBytes (tailAfter (quantify q) d xs)) (particles-more ys l)
-      ∙ ap (λ (s : Bytes). particleBytes (requantify q (readParticle ys)) ++ s) (whole (drop 4 ys) (rest-whole ys (v .whole)))
+      ∙ ap (λ (s : Bytes). particleBytes (requantify q (readParticle ys)) ++ s) (whole (drop particleSize ys) (rest-whole ys (v .whole)))
 
   -- 6
   pub grouped-index : {k : GroupKind} {n : ℕ} → Tail (convert k n) d ys at → n < 256
@@ -83,17 +83,17 @@ module _ {d : ℕ} {ys : Bytes} {at : ℕ} where
   grouped-bytes v = refl
 
   -- 7
-  pub flattened-whole : Tail flatten d ys at → length (drop 4 ys) % 4 ≡ 0
+  pub flattened-whole : Tail flatten d ys at → length (drop particleSize ys) % particleSize ≡ 0
   flattened-whole v = rest-whole ys (v .whole)
 
-  pub flattened-room : Tail flatten d ys at → at + length (drop 4 ys) < 9223372036854775808
-  flattened-room v = omega (arith, v .room, length-drop 4 ys)
+  pub flattened-room : Tail flatten d ys at → at + length (drop particleSize ys) < 9223372036854775808
+  flattened-room v = omega (arith, v .room, length-drop particleSize ys)
 
-  pub flattened-fits : Tail flatten d ys at → Fitting (moved (shift false) d 0 (particlesOf (drop 4 ys)))
+  pub flattened-fits : Tail flatten d ys at → Fitting (moved (shift false) d 0 (particlesOf (drop particleSize ys)))
   unfolding tailAfter Fitting
   flattened-fits v = rw (particles-rest ys) (v .fitting)
 
-  pub flattened-bytes : Tail flatten d ys at → each particleBytes (tailAfter flatten d (particlesOf ys)) ≡ each particleBytes (moved (shift false) d 0 (particlesOf (drop 4 ys)))
+  pub flattened-bytes : Tail flatten d ys at → each particleBytes (tailAfter flatten d (particlesOf ys)) ≡ each particleBytes (moved (shift false) d 0 (particlesOf (drop particleSize ys)))
   unfolding tailAfter
   flattened-bytes v = ap (λ (xs : Particles). each particleBytes (moved lower d 0 xs)) (sym (particles-rest ys))
 

@@ -6,10 +6,10 @@ use mathlib.Core.Bool.{Bool, true, false, not, _&&_, false≢true}
 use mathlib.Core.List.{[], _∷_}
 use borrow.Author.Tests.{leb-false, ne-eqb}
 use lib.Dec.{ltb, eqb, leb, leb→le}
-use lib.ListN.{length, take, drop, getD, length-drop}
-use lib.Seq.{drop-drop, take-all}
+use lib.ListN.{length, take, drop, length-drop}
+use lib.Seq.{drop-drop}
 use Rattle.rules.specs.Bytes.{Bytes, to-T}
-use Rattle.rules.specs.Layout.{particleBytes, each}
+use Rattle.rules.specs.Layout.{particleBytes, each, particleSize}
 use Rattle.rules.specs.Decode.{readParticle}
 use Rattle.codec.specs.Laid.{Laid}
 use Rattle.codec.proofs.Writers.{tail-seen, laid-none, laid-then, laid-as}
@@ -20,7 +20,7 @@ use Rattle.model_writer.specs.PartAfter.{redeep, moved}
 use Rattle.model_writer.specs.Writing.{shift, passing, Fitting}
 
 -- ---- a whole number of particles
-pub whole : (s : Bytes) → length s % 4 ≡ 0 → each particleBytes (particlesOf s) ≡ s
+pub whole : (s : Bytes) → length s % particleSize ≡ 0 → each particleBytes (particlesOf s) ≡ s
 whole [] h = ap (each particleBytes) (particles-few [] (omega arith))
 whole (a ∷ []) h = absurd (omega arith)
 whole (a ∷ b ∷ []) h = absurd (omega arith)
@@ -28,29 +28,26 @@ whole (a ∷ b ∷ c ∷ []) h = absurd (omega arith)
 whole (a ∷ b ∷ c ∷ e ∷ s) h =
     ap (each particleBytes) (particles-more (a ∷ b ∷ c ∷ e ∷ s) (omega arith)) ∙ ap (λ (r : Bytes). a ∷ b ∷ c ∷ e ∷ r) (whole s (omega arith))
 
-pub particles-rest : (s : Bytes) → particlesOf (drop 4 s) ≡ drop 1 (particlesOf s)
-particles-rest s = by (leb 4 (length s)) refl
+pub particles-rest : (s : Bytes) → particlesOf (drop particleSize s) ≡ drop 1 (particlesOf s)
+particles-rest s = by (leb particleSize (length s)) refl
   where
-    by : (b : Bool) → leb 4 (length s) ≡ b → particlesOf (drop 4 s) ≡ drop 1 (particlesOf s)
-    by true e = sym (ap (drop 1) (particles-more s (leb→le 4 (length s) (to-T e))))
+    by : (b : Bool) → leb particleSize (length s) ≡ b → particlesOf (drop particleSize s) ≡ drop 1 (particlesOf s)
+    by true e = sym (ap (drop 1) (particles-more s (leb→le particleSize (length s) (to-T e))))
     by false e =
-        let l : length s < 4 = leb-false 4 (length s) e in
-        particles-few (drop 4 s) (omega (arith, length-drop 4 s)) ∙ sym (ap (drop 1) (particles-few s l))
+        let l : length s < particleSize = leb-false particleSize (length s) e in
+        particles-few (drop particleSize s) (omega (arith, length-drop particleSize s)) ∙ sym (ap (drop 1) (particles-few s l))
 
-pub particles-past : (n : ℕ) (s : Bytes) → particlesOf (drop (4 * n) s) ≡ drop n (particlesOf s)
+pub particles-past : (n : ℕ) (s : Bytes) → particlesOf (drop (particleSize * n) s) ≡ drop n (particlesOf s)
 particles-past zero s = refl
 particles-past (suc n) s =
-    let z : 4 * suc n ≡ 4 + 4 * n = omega arith in
+    let z : particleSize * suc n ≡ particleSize + particleSize * n = omega arith in
     let y : 1 + n ≡ suc n = omega arith in
     ap (λ (k : ℕ). particlesOf (drop k s)) z
-    ∙ ap particlesOf (sym (drop-drop (4 * n) 4 s))
-    ∙ particles-past n (drop 4 s)
+    ∙ ap particlesOf (sym (drop-drop (particleSize * n) particleSize s))
+    ∙ particles-past n (drop particleSize s)
     ∙ ap (drop n) (particles-rest s)
     ∙ drop-drop n 1 (particlesOf s)
     ∙ ap (λ (k : ℕ). drop k (particlesOf s)) y
-
-pub cut-past : (s : Bytes) (n : ℕ) → take (length s) (drop n s) ≡ drop n s
-cut-past s n = take-all (length s) (drop n s) (omega (arith, length-drop n s))
 
 -- ---- the four bytes of a particle
 pub particle-same : {a b c d a′ b′ c′ d′ : ℕ} → a ≡ a′ → b ≡ b′ → c ≡ c′ → d ≡ d′ → a′ ∷ b′ ∷ c′ ∷ d′ ∷ [] ≡ a ∷ b ∷ c ∷ d ∷ []
@@ -74,16 +71,16 @@ passing-member true n e = absurd (false≢true (sym e))
 passing-member false n e = refl
 
 -- ---- one particle of those that move
-module _ (g : ℕ → ℕ) (d : ℕ) (t : Bytes) (l : 4 ≤ length t) where
-  pub moved-first : (b : Bool) (m : ℕ) → ltb d (getD t 3 0) ≡ b → (eqb m 0 && not b) ≡ false
-      → moved g d m (particlesOf t) ≡ redeep g (readParticle t) ∷ moved g d (passing b m) (particlesOf (drop 4 t))
+module _ (g : ℕ → ℕ) (d : ℕ) (t : Bytes) (l : particleSize ≤ length t) where
+  pub moved-first : (b : Bool) (m : ℕ) → ltb d (readParticle t .depth) ≡ b → (eqb m 0 && not b) ≡ false
+      → moved g d m (particlesOf t) ≡ redeep g (readParticle t) ∷ moved g d (passing b m) (particlesOf (drop particleSize t))
   unfolding moved
   moved-first true zero e f = ap (moved g d 0) (particles-more t l) ∙ rw (e, moved)
   moved-first false zero e f = absurd (false≢true (sym f))
   moved-first true (suc m) e f = ap (moved g d (suc m)) (particles-more t l) ∙ rw (e, moved)
   moved-first false (suc m) e f = let z : suc m - 1 ≡ m = omega arith in ap (moved g d (suc m)) (particles-more t l) ∙ rw (e, moved, z)
 
-  pub moved-none : (b : Bool) (m : ℕ) → ltb d (getD t 3 0) ≡ b → (eqb m 0 && not b) ≡ true → moved g d m (particlesOf t) ≡ particlesOf t
+  pub moved-none : (b : Bool) (m : ℕ) → ltb d (readParticle t .depth) ≡ b → (eqb m 0 && not b) ≡ true → moved g d m (particlesOf t) ≡ particlesOf t
   unfolding moved
   moved-none true zero e f = absurd (false≢true f)
   moved-none false zero e f = ap (moved g d 0) (particles-more t l) ∙ (rw (e, moved) (sym (particles-more t l)))
@@ -91,37 +88,37 @@ module _ (g : ℕ → ℕ) (d : ℕ) (t : Bytes) (l : 4 ≤ length t) where
 
 -- ---- the loop: if what is left is laid from here, all is laid
 pub record Going (w out₀ : Bytes) (start bound : ℕ) (g : ℕ → ℕ) (d : ℕ) (t : Bytes) (m : ℕ) (out : Bytes) (at : ℕ) : Type 0 where
-  pub whole : length t % 4 ≡ 0
+  pub whole : length t % particleSize ≡ 0
   pub room : at + length t ≤ bound
   pub fitting : Fitting (moved g d m (particlesOf t))
   pub long : length out ≡ length out₀
   pub goes : {r : ℕ} {out′ : Bytes} → Laid (each particleBytes (moved g d m (particlesOf t))) out at r out′ → Laid w out₀ start r out′
 
-pub going-all : (out : Bytes) (start bound : ℕ) (g : ℕ → ℕ) (d : ℕ) (s : Bytes) (n : ℕ) → length s % 4 ≡ 0 → start + length s < bound → Fitting (moved g d n (particlesOf s))
+pub going-all : (out : Bytes) (start bound : ℕ) (g : ℕ → ℕ) (d : ℕ) (s : Bytes) (n : ℕ) → length s % particleSize ≡ 0 → start + length s < bound → Fitting (moved g d n (particlesOf s))
     → Going (each particleBytes (moved g d n (particlesOf s))) out start bound g d s n out start
 going-all out start bound g d s n h l f = record { whole = h; room = omega arith; fitting = f; long = refl; goes = λ x. x }
 
 module _ {w out₀ : Bytes} {start bound : ℕ} {g : ℕ → ℕ} {d : ℕ} {t : Bytes} {m : ℕ} {out : Bytes} {at : ℕ} (v : Going w out₀ start bound g d t m out at) where
-  pub going-done : length t < 4 → Laid w out₀ start at out
+  pub going-done : length t < particleSize → Laid w out₀ start at out
   unfolding moved
   going-done l = v .goes (laid-as (ap (λ (xs : Particles). each particleBytes (moved g d m xs)) (particles-few t l) ∙ refl) laid-none)
 
-  module _ (l : 4 ≤ length t) (b : Bool) (inner : ltb d (getD t 3 0) ≡ b) where
+  module _ (l : particleSize ≤ length t) (b : Bool) (inner : ltb d (readParticle t .depth) ≡ b) where
     pub going-rest : (eqb m 0 && not b) ≡ true → {r : ℕ} {out′ : Bytes} → Laid t out at r out′ → Laid w out₀ start r out′
     going-rest f x = v .goes (laid-as (ap (each particleBytes) (moved-none g d t l b m inner f) ∙ whole t (v .whole)) x)
 
-    pub going-fits : (eqb m 0 && not b) ≡ false → g (getD t 3 0) < 256
+    pub going-fits : (eqb m 0 && not b) ≡ false → g (readParticle t .depth) < 256
     unfolding Fitting
     going-fits f = (rw (moved-first g d t l b m inner f) at (v .fitting)) .0 .depth
 
     pub going-step : (eqb m 0 && not b) ≡ false → {m′ r : ℕ} {out′ : Bytes} → m′ ≡ passing b m → length out′ ≡ length out → Laid (particleBytes (redeep g (readParticle t))) out at r out′
-        → Going w out₀ start bound g d (take (length t - 4) (drop 4 t)) m′ out′ r
+        → Going w out₀ start bound g d (take (length t - particleSize) (drop particleSize t)) m′ out′ r
     unfolding Fitting
     going-step f {m′} {r} {out′} p long x =
-        rw (tail-seen t 4, p)
+        rw (tail-seen t particleSize, p)
         (record {
-          whole = omega (arith, v .whole, length-drop 4 t);
-          room = omega (arith, v .room, x .next, length-drop 4 t);
+          whole = omega (arith, v .whole, length-drop particleSize t);
+          room = omega (arith, v .room, x .next, length-drop particleSize t);
           fitting = (rw (moved-first g d t l b m inner f) at (v .fitting)) .1;
           long = long ∙ v .long;
           goes = λ y. v .goes (laid-as (ap (each particleBytes) (moved-first g d t l b m inner f)) (laid-then x y));

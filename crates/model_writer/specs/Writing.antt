@@ -2,12 +2,11 @@
 use Prim.Native.Nat.{ℕ, suc, _+_, _-_, _*_, _%_, _<_, _≤_}
 use mathlib.Core.Path.{_≡_}
 use mathlib.Core.Bool.{Bool, true, false}
-use mathlib.Core.List.{_++_}
 use lib.Dec.{leb}
 use lib.ListN.{length, take, drop}
 use Rattle.rules.specs.Bytes.{Bytes, all}
 use Rattle.rules.specs.Preorder.{Deep}
-use Rattle.rules.specs.Layout.{le, FlatParticle}
+use Rattle.rules.specs.Layout.{FlatParticle, particleSize}
 use Rattle.rules.specs.Edit.{Edit, insert, remove, quantify, convert, flatten}
 use Rattle.rules.proofs.BooleanLaws.{Every}
 use Rattle.rules.proofs.LayoutLaws.{SmallParticle}
@@ -41,38 +40,34 @@ Fitting xs = Every SmallParticle xs
 
 -- the particles ys after an edit can be written from `at` on
 pub record Tail (e : Edit ℕ) (d : ℕ) (ys : Bytes) (at : ℕ) : Type 0 where
-  pub whole : length ys % 4 ≡ 0
+  pub whole : length ys % particleSize ≡ 0
   pub room : at + length ys < 4611686018427387904
   pub fitting : Fitting (tailAfter e d (particlesOf ys))
 
 -- the first n particles after an edit can be written from `at` on, where the members of the list start at particle `first`
 pub record Head (e : Edit ℕ) (first n : ℕ) (part : Bytes) (at : ℕ) : Type 0 where
-  pub whole : length part % 4 ≡ 0
+  pub whole : length part % particleSize ≡ 0
   pub room : at + length part < 4611686018427387904
   pub after : first ≤ n
-  pub inside : 4 * n ≤ length part
+  pub inside : particleSize * n ≤ length part
   pub fitting : Fitting (recounted (countAfter e (drop n (particlesOf part))) first (take n (particlesOf part)))
 
 -- a part after an edit at particle n, in the list h
 pub record Part (e : Edit ℕ) (h : Holder) (n : ℕ) (part : Bytes) : Type 0 where
-  pub whole : length part % 4 ≡ 0
+  pub whole : length part % particleSize ≡ 0
   pub after : h .start ≤ n
-  pub inside : 4 * n ≤ length part
+  pub inside : particleSize * n ≤ length part
   pub fitting : Fitting (partAfter e h n (particlesOf part))
 
 -- the bytes of k particles from number `first` on
 abbrev pub partIn : ℕ → ℕ → Bytes → Bytes
-partIn first k parts = take (4 * k) (drop (4 * first) parts)
+partIn first k parts = take (particleSize * k) (drop (particleSize * first) parts)
 
 -- .. which are an edit's part
 pub record Body (e : Edit ℕ) (h : Holder) (n first k : ℕ) (parts : Bytes) : Type 0 where
-  pub whole : length parts % 4 ≡ 0
-  pub inside : 4 * (first + k) ≤ length parts
+  pub whole : length parts % particleSize ≡ 0
+  pub inside : particleSize * (first + k) ≤ length parts
   pub part : Part e h n (partIn first k parts)
-
--- ---- the definitions with another count, as bytes
-abbrev pub countedBytes : ℕ → ℕ → Bytes → Bytes
-countedBytes o n s = take (20 * o + 18) s ++ (le 2 n ++ drop (20 * o + 20) s)
 
 -- ---- the ceiling of depth
 unfoldable pub within : Particles → Bool

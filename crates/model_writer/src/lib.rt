@@ -1,17 +1,16 @@
 // The particles of a form after an edit of one model: changes 3 to 8.
+use layout::PARTICLE_SIZE;
 use rules::GroupKind;
 use rules::Quantifier;
 ghost use mathlib.Core.Path.{_≡_};
-ghost use mathlib.Core.Bool.{true};
-ghost use mathlib.Core.List.{[], _∷_};
 ghost use Prim.Native.Nat.{_+_, _-_, _*_, _%_, _<_};
-ghost use lib.ListN.{length, take, drop, getD};
-ghost use Rattle.rules.specs.Layout.{each, particleBytes, groupCode};
+ghost use lib.ListN.{length, take, drop};
+ghost use Rattle.rules.specs.Layout.{particleSize, each, particleBytes, groupCode};
 ghost use Rattle.rules.specs.Edit.{insert, quantify, convert};
 ghost use Rattle.rules.specs.Decode.{readParticle};
 ghost use Rattle.codec.specs.Laid.{Laid};
 ghost use Rattle.model.specs.Members.{particlesOf};
-ghost use Rattle.model_writer.specs.Writing.{editOf, shift, passing, Fitting, Tail, Head, Part, partIn, Body, countedBytes, within};
+ghost use Rattle.model_writer.specs.Writing.{editOf, shift, passing, Fitting, Tail, Head, Part, partIn, Body};
 ghost use Rattle.model_writer.specs.Spliced.{spliced};
 ghost use Rattle.model_writer.specs.PartAfter.{redeep, recount, moved, tailAfter, countAfter, recounted, partAfter};
 
@@ -26,22 +25,12 @@ pub enum Edit {
 
 // ---- particles
 
-fn put_particle(sort: u8, quantifier: u8, index: u8, depth: u8, out: &mut [u8], at: usize) -> usize
-    requires { ⌜ at < 9223372036854775808 ⌝ }
-    ensures { λ r. ⌜ Laid (sort ∷ quantifier ∷ index ∷ depth ∷ []) (now (out .entry)) at r (now (out .exit)) ⌝ }
-{
-    let a = codec::put_u8(out, at, sort);
-    let b = codec::put_u8(out, a, quantifier);
-    let c = codec::put_u8(out, b, index);
-    codec::put_u8(out, c, depth)
-}
-
-// All but the first n particles.
-fn past(s: &[u8], n: usize) -> &[u8]
+/// All but the first n particles.
+pub fn past(s: &[u8], n: usize) -> &[u8]
     requires { ⌜ n < 4611686018427387904 ⌝ }
-    ensures { λ r. ⌜ now r ≡ drop (4 * n) (now (s .entry)) ⌝ }
+    ensures { λ r. ⌜ now r ≡ drop (particleSize * n) (now (s .entry)) ⌝ }
 {
-    layout::window(s, 4 * n, s.len())
+    layout::window(s, PARTICLE_SIZE * n, s.len())
 }
 
 fn shifted(depth: u8, deeper: bool) -> u8
@@ -57,8 +46,8 @@ fn shifted(depth: u8, deeper: bool) -> u8
     depth - 1
 }
 
-// How many members are left to pass after a particle; inner: it is no member itself.
-fn left(inner: bool, n: usize) -> usize
+/// How many members are left to pass after a particle; inner: it is no member itself.
+pub fn left(inner: bool, n: usize) -> usize
     ensures { λ r. ⌜ r ≡ passing inner n ⌝ }
 {
     if inner {
@@ -72,14 +61,14 @@ fn left(inner: bool, n: usize) -> usize
 
 // The first particle of t, with another depth.
 fn put_shifted(t: &[u8], deeper: bool, out: &mut [u8], at: usize) -> usize
-    requires { ⌜ (shift deeper (getD (now t) 3 0) < 256) × (at < 9223372036854775808) ⌝ }
+    requires { ⌜ (shift deeper (readParticle (now t) .depth) < 256) × (at < 9223372036854775808) ⌝ }
     ensures { λ r. ⌜ Laid (particleBytes (redeep (shift deeper) (readParticle (now (t .entry))))) (now (out .entry)) at r (now (out .exit)) ⌝ }
 {
-    let depth = shifted(codec::byte(t, 3), deeper);
-    put_particle(
-        codec::byte(t, 0),
-        codec::byte(t, 1),
-        codec::byte(t, 2),
+    let depth = shifted(layout::particle_depth(t), deeper);
+    layout_writer::put_particle(
+        layout::particle_sort(t),
+        layout::particle_quantifier(t),
+        layout::particle_index(t),
         depth,
         out,
         at,
@@ -88,20 +77,20 @@ fn put_shifted(t: &[u8], deeper: bool, out: &mut [u8], at: usize) -> usize
 
 // The particles of the first n members of depth d and the deeper ones before them go one deeper or less deep, the others stay.
 fn put_moved(s: &[u8], d: usize, n: usize, deeper: bool, out: &mut [u8], start: usize) -> usize
-    requires { ⌜ (length (now s) % 4 ≡ 0) × (start + length (now s) < 9223372036854775808) × Fitting (moved (shift deeper) d n (particlesOf (now s))) ⌝ }
+    requires { ⌜ (length (now s) % particleSize ≡ 0) × (start + length (now s) < 9223372036854775808) × Fitting (moved (shift deeper) d n (particlesOf (now s))) ⌝ }
     ensures { λ r. ⌜ Laid (each particleBytes (moved (shift deeper) d n (particlesOf (now (s .entry))))) (now (out .entry)) start r (now (out .exit)) ⌝ }
 {
     let mut t = s;
     let mut m = n;
     let mut at = start;
-    while t.len() >= 4 {
-        let inner = d < codec::byte(t, 3) as usize;
+    while t.len() >= PARTICLE_SIZE {
+        let inner = d < layout::particle_depth(t) as usize;
         if (m == 0) & !inner {
             return codec::put(t, out, at);
         }
         at = put_shifted(t, deeper, out, at);
         m = left(inner, m);
-        t = &t[4..];
+        t = &t[PARTICLE_SIZE..];
     }
     at
 }
@@ -129,7 +118,7 @@ fn put_inserted(
     ensures { λ r. ⌜ Laid (each particleBytes (tailAfter (insert q index) d (particlesOf (now (ys .entry))))) (now (out .entry)) at r (now (out .exit)) ⌝ }
 {
     let code = model::quantifier_code(q) as u8;
-    let next = put_particle(0, code, index as u8, d as u8, out, at);
+    let next = layout_writer::put_particle(0, code, index as u8, d as u8, out, at);
     codec::put(ys, out, next)
 }
 
@@ -137,15 +126,15 @@ fn put_requantified(ys: &[u8], q: Quantifier, d: usize, out: &mut [u8], at: usiz
     requires { ⌜ Tail (quantify q) d (now ys) at ⌝ }
     ensures { λ r. ⌜ Laid (each particleBytes (tailAfter (quantify q) d (particlesOf (now (ys .entry))))) (now (out .entry)) at r (now (out .exit)) ⌝ }
 {
-    if ys.len() < 4 {
+    if ys.len() < PARTICLE_SIZE {
         return at;
     }
     let code = model::quantifier_code(q) as u8;
-    let next = put_particle(
-        codec::byte(ys, 0),
+    let next = layout_writer::put_particle(
+        layout::particle_sort(ys),
         code,
-        codec::byte(ys, 2),
-        codec::byte(ys, 3),
+        layout::particle_index(ys),
+        layout::particle_depth(ys),
         out,
         at,
     );
@@ -156,7 +145,7 @@ fn put_grouped(ys: &[u8], kind: GroupKind, n: usize, d: usize, out: &mut [u8], a
     requires { ⌜ Tail (convert kind n) d (now ys) at ⌝ }
     ensures { λ r. ⌜ Laid (each particleBytes (tailAfter (convert kind n) d (particlesOf (now (ys .entry))))) (now (out .entry)) at r (now (out .exit)) ⌝ }
 {
-    let next = put_particle(group_code(kind), 0, n as u8, d as u8, out, at);
+    let next = layout_writer::put_particle(group_code(kind), 0, n as u8, d as u8, out, at);
     put_moved(ys, d, n, true, out, next)
 }
 
@@ -186,7 +175,7 @@ fn less(a: usize, b: usize) -> usize
 
 // How many members the list around the place has after the edit, of n before; ys: the particles from the place on.
 fn count_after(ys: &[u8], edit: Edit, n: usize) -> usize
-    requires { ⌜ (length (now ys) % 4 ≡ 0) × (n < 256) ⌝ }
+    requires { ⌜ (length (now ys) % particleSize ≡ 0) × (n < 256) ⌝ }
     ensures { λ r. ⌜ r ≡ countAfter (editOf edit) (particlesOf (now (ys .entry))) n ⌝ }
 {
     match edit {
@@ -194,21 +183,21 @@ fn count_after(ys: &[u8], edit: Edit, n: usize) -> usize
         Edit::Remove => less(n, 1),
         Edit::Quantify(_) => n,
         Edit::Convert(_, m) => less(n + 1, m),
-        Edit::Flatten => less(n + codec::byte(ys, 2) as usize, 1),
+        Edit::Flatten => less(n + layout::particle_index(ys) as usize, 1),
     }
 }
 
 // The particle x of a group, with its member count after the edit.
 fn put_recounted(x: &[u8], ys: &[u8], edit: Edit, out: &mut [u8], at: usize) -> usize
-    requires { ⌜ (length (now ys) % 4 ≡ 0) × (countAfter (editOf edit) (particlesOf (now ys)) (getD (now x) 2 0) < 256) × (at < 4611686018427387904) ⌝ }
+    requires { ⌜ (length (now ys) % particleSize ≡ 0) × (countAfter (editOf edit) (particlesOf (now ys)) (readParticle (now x) .row .index) < 256) × (at < 4611686018427387904) ⌝ }
     ensures { λ r. ⌜ Laid (particleBytes (recount (countAfter (editOf edit) (particlesOf (now (ys .entry)))) (readParticle (now (x .entry))))) (now (out .entry)) at r (now (out .exit)) ⌝ }
 {
-    let count = count_after(ys, edit, codec::byte(x, 2) as usize);
-    put_particle(
-        codec::byte(x, 0),
-        codec::byte(x, 1),
+    let count = count_after(ys, edit, layout::particle_index(x) as usize);
+    layout_writer::put_particle(
+        layout::particle_sort(x),
+        layout::particle_quantifier(x),
         count as u8,
-        codec::byte(x, 3),
+        layout::particle_depth(x),
         out,
         at,
     )
@@ -220,14 +209,18 @@ fn put_head(part: &[u8], edit: Edit, first: usize, n: usize, out: &mut [u8], at:
     ensures { λ r. ⌜ Laid (each particleBytes (recounted (countAfter (editOf edit) (drop n (particlesOf (now (part .entry))))) first (take n (particlesOf (now (part .entry)))))) (now (out .entry)) at r (now (out .exit)) ⌝ }
 {
     if first == 0 {
-        return codec::put(layout::window(part, 0, 4 * n), out, at);
+        return codec::put(layout::window(part, 0, PARTICLE_SIZE * n), out, at);
     }
-    let held = 4 * (first - 1);
+    let held = PARTICLE_SIZE * (first - 1);
     let next = codec::put(layout::window(part, 0, held), out, at);
-    let group = layout::window(part, held, 4);
+    let group = layout::window(part, held, PARTICLE_SIZE);
     let inner = put_recounted(group, past(part, n), edit, out, next);
     codec::put(
-        layout::window(part, held + 4, 4 * n - 4 * first),
+        layout::window(
+            part,
+            held + PARTICLE_SIZE,
+            PARTICLE_SIZE * n - PARTICLE_SIZE * first,
+        ),
         out,
         inner,
     )
@@ -262,62 +255,11 @@ pub fn put_particles(
     out: &mut [u8],
     at: usize,
 ) -> usize
-    requires { ⌜ Body (editOf edit) holder n first k (now parts) × (at + 4 * length (now parts) < 2305843009213693952) ⌝ }
+    requires { ⌜ Body (editOf edit) holder n first k (now parts) × (at + particleSize * length (now parts) < 2305843009213693952) ⌝ }
     ensures { λ r. ⌜ Laid (each particleBytes (spliced first k (partAfter (editOf edit) holder n (particlesOf (partIn first k (now (parts .entry))))) (particlesOf (now (parts .entry))))) (now (out .entry)) at r (now (out .exit)) ⌝ }
 {
-    let next = codec::put(layout::window(parts, 0, 4 * first), out, at);
-    let own = layout::window(parts, 4 * first, 4 * k);
+    let next = codec::put(layout::window(parts, 0, PARTICLE_SIZE * first), out, at);
+    let own = layout::window(parts, PARTICLE_SIZE * first, PARTICLE_SIZE * k);
     let end = put_part(own, edit, holder, n, out, next);
     codec::put(past(parts, first + k), out, end)
-}
-
-// ---- the definitions
-
-/// Writes all definitions, number o with n particles.
-pub fn put_counted(defs: &[u8], o: usize, n: u32, out: &mut [u8], at: usize) -> usize
-    requires { ⌜ (o < 4294967296) × (at + length (now defs) < 4611686018427387904) ⌝ }
-    ensures { λ r. ⌜ Laid (countedBytes o n (now (defs .entry))) (now (out .entry)) at r (now (out .exit)) ⌝ }
-{
-    let place = 20 * o + 18;
-    let next = codec::put(layout::window(defs, 0, place), out, at);
-    let end = codec::put_u16(out, next, n);
-    codec::put(layout::window(defs, place + 2, defs.len()), out, end)
-}
-
-// ---- the ceiling of depth
-
-// Whether no particle is deeper than 4 once those of the first n members of depth d, and the deeper ones before them, are one deeper.
-fn moved_within(ys: &[u8], d: usize, n: usize) -> bool
-    requires { ⌜ within (particlesOf (now ys)) ≡ true ⌝ }
-    ensures { λ r. ⌜ r ≡ within (moved (shift true) d n (particlesOf (now (ys .entry)))) ⌝ }
-{
-    let mut t = ys;
-    let mut m = n;
-    while t.len() >= 4 {
-        let depth = codec::byte(t, 3) as usize;
-        let inner = d < depth;
-        if (m == 0) & !inner {
-            return true;
-        }
-        if 4 <= depth {
-            return false;
-        }
-        m = left(inner, m);
-        t = &t[4..];
-    }
-    true
-}
-
-/// Whether no particle of a model is deeper than 4 after an edit at particle n.
-pub fn is_within(part: &[u8], edit: Edit, holder: model::place::Holder, n: usize) -> bool
-    requires { ⌜ (within (particlesOf (now part)) ≡ true) × (n < 4611686018427387904) ⌝ }
-    ensures { λ r. ⌜ r ≡ within (partAfter (editOf edit) holder n (particlesOf (now (part .entry)))) ⌝ }
-{
-    match edit {
-        Edit::Insert(_, _) => holder.depth <= 4,
-        Edit::Remove => true,
-        Edit::Quantify(_) => true,
-        Edit::Convert(_, m) => (holder.depth <= 4) & moved_within(past(part, n), holder.depth, m),
-        Edit::Flatten => true,
-    }
 }

@@ -5,7 +5,7 @@ use Prim.Native.Nat.{ℕ, zero, suc, _-_, _<_, _≤_}
 use native.Mathlib.Omega.{arith}
 use borrow.Author.Tests.{ltb-true, ltb-false, eqb-true, eqb-false, ne-eqb, eq-eqb}
 use lib.Dec.{eqb, ltb}
-use lib.ListN.{length, take, drop, getD, length-take, length-drop}
+use lib.ListN.{length, take, drop}
 use Rattle.rules.specs.declared.Facts.{Facts}
 use Rattle.rules.specs.declared.Quantifier.{Quantifier}
 use Rattle.rules.specs.declared.Quantifier.the-variants.{None, Qmark, Star, Plus}
@@ -14,6 +14,7 @@ use Rattle.rules.specs.declared.GroupKind.the-variants.{Sequence, Choice}
 use Rattle.rules.specs.Bytes.{Bytes, numbers}
 use Rattle.rules.specs.Decode.{readParticle}
 use Rattle.rules.specs.Automaton.{single, empty, join, quantify, facts}
+use Rattle.rules.specs.Layout.{particleSize}
 use Rattle.codec.proofs.Writers.{tail-seen}
 use Rattle.sets.specs.Sets.{has, bit, union}
 use Rattle.sets.proofs.Laws.{has-none, has-bit, has-union}
@@ -49,39 +50,39 @@ never-as : (f g : Facts) → f ≡ g → Never g → Never f
 never-as f g e t = record { last-not = ap (λ (z : Facts). z .last) e ∙ t .last-not; follow-not = ap (λ (z : Facts). z .follow) e ∙ t .follow-not }
 
 -- ---- particle by particle
-pub absent-few : (x : ℕ) (s : Bytes) → length s < 4 → Absent x s
+pub absent-few : (x : ℕ) (s : Bytes) → length s < particleSize → Absent x s
 absent-few x s h k d y = never-as _ _ (facts-few d k x y s h) (never-empty k)
 
 -- the first particle
-never-first : (x : ℕ) (s : Bytes) → (getD s 0 0 ≡ 0 → getD s 2 0 ≡ x → ⊥) → Absent x (drop 4 s) → (d y : ℕ) → Never (firstFacts d s x y)
+never-first : (x : ℕ) (s : Bytes) → (readParticle s .row .sort ≡ 0 → readParticle s .row .index ≡ x → ⊥) → Absent x (drop particleSize s) → (d y : ℕ) → Never (firstFacts d s x y)
 unfolding firstFacts particleOf
-never-first x s differs rest d y = by (getD s 0 0) refl
+never-first x s differs rest d y = by (readParticle s .row .sort) refl
   where
     below : ℕ → Facts
-    below sort = facts numbers (kindIn (whatOf sort (getD s 2 0))) (membersFrom (suc d) (drop 4 s)) x y
+    below sort = facts numbers (kindIn (whatOf sort (readParticle s .row .index))) (membersFrom (suc d) (drop particleSize s)) x y
 
-    by : (sort : ℕ) → getD s 0 0 ≡ sort
-        → Never (particleFacts (record { what = whatOf sort (getD s 2 0); quantifier = particleOf (readParticle s) .quantifier }) (below sort) x y)
-    by zero e = never-quantify (particleOf (readParticle s) .quantifier) (single numbers (getD s 2 0) x y) (record { last-not = ne-eqb x (getD s 2 0) (λ q. differs e (sym q)); follow-not = refl })
-    by (suc n) e = never-quantify (particleOf (readParticle s) .quantifier) (below (suc n)) (rest (kindIn (whatOf (suc n) (getD s 2 0))) (suc d) y)
+    by : (sort : ℕ) → readParticle s .row .sort ≡ sort
+        → Never (particleFacts (record { what = whatOf sort (readParticle s .row .index); quantifier = particleOf (readParticle s) .quantifier }) (below sort) x y)
+    by zero e = never-quantify (particleOf (readParticle s) .quantifier) (single numbers (readParticle s .row .index) x y) (record { last-not = ne-eqb x (readParticle s .row .index) (λ q. differs e (sym q)); follow-not = refl })
+    by (suc n) e = never-quantify (particleOf (readParticle s) .quantifier) (below (suc n)) (rest (kindIn (whatOf (suc n) (readParticle s .row .index))) (suc d) y)
 
-pub absent-on : (x : ℕ) (s : Bytes) → 4 ≤ length s → (getD s 0 0 ≡ 0 → getD s 2 0 ≡ x → ⊥) → Absent x (drop 4 s) → Absent x s
-absent-on x s h differs rest k d y = by (ltb d (getD s 3 0)) refl (eqb d (getD s 3 0)) refl
+pub absent-on : (x : ℕ) (s : Bytes) → particleSize ≤ length s → (readParticle s .row .sort ≡ 0 → readParticle s .row .index ≡ x → ⊥) → Absent x (drop particleSize s) → Absent x s
+absent-on x s h differs rest k d y = by (ltb d (readParticle s .depth)) refl (eqb d (readParticle s .depth)) refl
   where
-    by : (b : Bool) → ltb d (getD s 3 0) ≡ b → (c : Bool) → eqb d (getD s 3 0) ≡ c → Never (facts numbers k (membersFrom d s) x y)
-    by true e c q = rw (members-deeper d s h (ltb-true d (getD s 3 0) e)) (rest k d y)
+    by : (b : Bool) → ltb d (readParticle s .depth) ≡ b → (c : Bool) → eqb d (readParticle s .depth) ≡ c → Never (facts numbers k (membersFrom d s) x y)
+    by true e c q = rw (members-deeper d s h (ltb-true d (readParticle s .depth) e)) (rest k d y)
     by false e true q =
-        never-as _ _ (facts-here d k x y s h (sym (eqb-true d (getD s 3 0) q)))
-        (never-join k (firstFacts d s x y) (facts numbers k (membersFrom d (drop 4 s)) x y) (never-first x s differs rest d y) (rest k d y))
+        never-as _ _ (facts-here d k x y s h (sym (eqb-true d (readParticle s .depth) q)))
+        (never-join k (firstFacts d s x y) (facts numbers k (membersFrom d (drop particleSize s)) x y) (never-first x s differs rest d y) (rest k d y))
     by false e false q =
-        let z : d ≡ getD s 3 0 → ⊥ = eqb-false d (getD s 3 0) q in
-        never-as _ _ (facts-stop d k x y s h (omega (arith, ltb-false d (getD s 3 0) e, z))) (never-empty k)
+        let z : d ≡ readParticle s .depth → ⊥ = eqb-false d (readParticle s .depth) q in
+        never-as _ _ (facts-stop d k x y s h (omega (arith, ltb-false d (readParticle s .depth) e, z))) (never-empty k)
 
 -- ---- the set of the first particle
-pub first-none : (s : Bytes) (b : ℕ) → b ≡ getD s 0 0 → (b ≡ 0 → ⊥) → FirstName s 0
+pub first-none : (s : Bytes) (b : ℕ) → b ≡ readParticle s .row .sort → (b ≡ 0 → ⊥) → FirstName s 0
 first-none s b e n = record { other = λ x h f z q. n (e ∙ z) }
 
-pub first-some : (s : Bytes) (i r : ℕ) → i ≡ getD s 2 0 → r ≡ bit i → FirstName s r
+pub first-some : (s : Bytes) (i r : ℕ) → i ≡ readParticle s .row .index → r ≡ bit i → FirstName s r
 first-some s i r e er =
     record { other = λ x h f z q. false≢true (sym f ∙ ap (λ (n : ℕ). has n x) er ∙ has-bit i x h ∙ eq-eqb x i (sym q ∙ sym e)) }
 
@@ -96,15 +97,15 @@ or-not : (a b : Bool) → (a || b) ≡ false → (a ≡ false) × (b ≡ false)
 or-not true b e = absurd (false≢true (sym e))
 or-not false b e = (refl, e)
 
-pub naming-on : (s t : Bytes) (r : ℕ) → Naming s t r → 4 ≤ length t → (first r′ : ℕ) → FirstName t first → r′ ≡ union r first → Naming s (take (length t - 4) (drop 4 t)) r′
+pub naming-on : (s t : Bytes) (r : ℕ) → Naming s t r → particleSize ≤ length t → (first r′ : ℕ) → FirstName t first → r′ ≡ union r first → Naming s (take (length t - particleSize) (drop particleSize t)) r′
 naming-on s t r n h first r′ f e =
     record {
       absent =
           λ x k out a. let o : (has r x ≡ false) × (has first x ≡ false) = or-not (has r x) (has first x) (sym (has-union r first x) ∙ ap (λ (i : ℕ). has i x) (sym e) ∙ out) in
-          n .absent x k (o .0) (absent-on x t h (f .other x k (o .1)) (rw (tail-seen t 4) at a));
+          n .absent x k (o .0) (absent-on x t h (f .other x k (o .1)) (rw (tail-seen t particleSize) at a));
     }
 
-pub naming-ends : (s t : Bytes) (r : ℕ) → Naming s t r → length t < 4 → NamesIn s r
+pub naming-ends : (s t : Bytes) (r : ℕ) → Naming s t r → length t < particleSize → NamesIn s r
 naming-ends s t r n h = record { absent = λ x k out. n .absent x k out (absent-few x t h) }
 
 -- ---- what follows a child

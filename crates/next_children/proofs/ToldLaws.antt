@@ -1,10 +1,9 @@
 -- The sets of a part of a model have y where the facts of x and y say so; and one particle on.
-use mathlib.Core.Path.{_≡_, refl, sym, ap, ap₂, _∙_}
-use mathlib.Core.Bool.{Bool, true, false, _&&_, _||_}
-use Prim.Native.Nat.{ℕ, suc, _+_, _-_, _<_, _≤_}
+use mathlib.Core.Path.{_≡_, refl, ap, ap₂, _∙_}
+use mathlib.Core.Bool.{Bool, _&&_, _||_}
+use Prim.Native.Nat.{ℕ, _+_, _-_, _<_, _≤_}
 use native.Mathlib.Omega.{arith}
-use lib.Dec.{eqb}
-use lib.ListN.{length, take, drop, getD}
+use lib.ListN.{length, take, drop}
 use Rattle.rules.specs.declared.Facts.{Facts}
 use Rattle.rules.specs.declared.Quantifier.{Quantifier}
 use Rattle.rules.specs.declared.Quantifier.the-variants.{None, Qmark, Star, Plus}
@@ -13,7 +12,8 @@ use Rattle.rules.specs.declared.GroupKind.the-variants.{Sequence, Choice}
 use Rattle.rules.specs.Bytes.{Bytes, numbers}
 use Rattle.rules.specs.Decode.{readParticle}
 use Rattle.rules.specs.Automaton.{single, empty, join, quantify, facts}
-use Rattle.sets.specs.Sets.{has, bit, union, given}
+use Rattle.rules.specs.Layout.{particleSize}
+use Rattle.sets.specs.Sets.{has, union, given}
 use Rattle.sets.proofs.Laws.{has-none, has-bit, has-union, has-given}
 use Rattle.model.specs.declared.What.the-variants.{Element, Group}
 use Rattle.model.specs.declared.Particle.{Particle}
@@ -84,11 +84,11 @@ module _ (d x : ℕ) (s : Bytes) (p : Particle) (ep : p ≡ particleOf (readPart
       (λ y. first-element d x y s p ep i _ w refl)
       (told-quantify (p .quantifier) (nextsSingle i x) (λ y. single numbers i x y) (told-single i x))
 
-  pub told-group : (j : GroupKind) (n : ℕ) (below r : Nexts) → p .what ≡ Group j n → Told below (λ y. facts numbers j (membersFrom (d + 1) (take (length s - 4) (drop 4 s))) x y)
+  pub told-group : (j : GroupKind) (n : ℕ) (below r : Nexts) → p .what ≡ Group j n → Told below (λ y. facts numbers j (membersFrom (d + 1) (take (length s - particleSize) (drop particleSize s))) x y)
       → r ≡ nextsQuantify (p .quantifier) below → Told r (λ y. firstFacts d s x y)
   told-group j n below r w t er =
-      told-as (nextsQuantify (p .quantifier) below) r (λ y. quantify (p .quantifier) (facts numbers j (membersFrom (d + 1) (take (length s - 4) (drop 4 s))) x y)) (λ y. firstFacts d s x y) er
-      (λ y. first-group d x y s p ep j n _ _ w refl refl) (told-quantify (p .quantifier) below (λ y. facts numbers j (membersFrom (d + 1) (take (length s - 4) (drop 4 s))) x y) t)
+      told-as (nextsQuantify (p .quantifier) below) r (λ y. quantify (p .quantifier) (facts numbers j (membersFrom (d + 1) (take (length s - particleSize) (drop particleSize s))) x y)) (λ y. firstFacts d s x y) er
+      (λ y. first-group d x y s p ep j n _ _ w refl refl) (told-quantify (p .quantifier) below (λ y. facts numbers j (membersFrom (d + 1) (take (length s - particleSize) (drop particleSize s))) x y) t)
 
 -- ---- the loop over members beside one another: r tells the facts of those before t
 pub record Telling (k : GroupKind) (d x : ℕ) (s t : Bytes) (r : Nexts) : Type 0 where
@@ -111,21 +111,21 @@ module _ (k : GroupKind) (d x : ℕ) (s : Bytes) where
     abbrev Whole : Type 0
     Whole = Told r (λ y. facts numbers k (membersFrom d s) x y)
 
-    pub telling-few : length t < 4 → Whole
+    pub telling-few : length t < particleSize → Whole
     telling-few h = told-as r r (l .so-far) (λ y. facts numbers k (membersFrom d s) x y) refl (λ y. joining-few k d x y s t (l .so-far y) (l .joining y) h) (l .told)
 
-    module _ (e : ℕ) (h : 4 ≤ length t) (g : e ≡ getD t 3 0) where
+    module _ (e : ℕ) (h : particleSize ≤ length t) (g : e ≡ readParticle t .depth) where
       pub telling-stop : e < d → Whole
       telling-stop q = told-as r r (l .so-far) (λ y. facts numbers k (membersFrom d s) x y) refl (λ y. joining-stop k d x y s t (l .so-far y) (l .joining y) e h g q) (l .told)
 
-      pub telling-deeper : d < e → Telling k d x s (take (length t - 4) (drop 4 t)) r
+      pub telling-deeper : d < e → Telling k d x s (take (length t - particleSize) (drop particleSize t)) r
       telling-deeper q =
-          let on : (y : ℕ) → Joining k d x y s (take (length t - 4) (drop 4 t)) (l .so-far y) = λ y. joining-deeper k d x y s t (l .so-far y) (l .joining y) e h g q in
+          let on : (y : ℕ) → Joining k d x y s (take (length t - particleSize) (drop particleSize t)) (l .so-far y) = λ y. joining-deeper k d x y s t (l .so-far y) (l .joining y) e h g q in
           record { short = on 0 .short; so-far = l .so-far; told = l .told; joining = on }
 
-      pub telling-on : e ≤ d → d ≤ e → (here r′ : Nexts) → Told here (λ y. firstFacts d t x y) → r′ ≡ nextsJoin k r here → Telling k d x s (take (length t - 4) (drop 4 t)) r′
+      pub telling-on : e ≤ d → d ≤ e → (here r′ : Nexts) → Told here (λ y. firstFacts d t x y) → r′ ≡ nextsJoin k r here → Telling k d x s (take (length t - particleSize) (drop particleSize t)) r′
       telling-on q m here r′ u er =
-          let on : (y : ℕ) → Joining k d x y s (take (length t - 4) (drop 4 t)) (join k (l .so-far y) (firstFacts d t x y)) =
+          let on : (y : ℕ) → Joining k d x y s (take (length t - particleSize) (drop particleSize t)) (join k (l .so-far y) (firstFacts d t x y)) =
           λ y. joining-on k d x y s t (l .so-far y) (l .joining y) e h g q m (firstFacts d t x y) (join k (l .so-far y) (firstFacts d t x y)) refl refl in
           record {
             short = on 0 .short;

@@ -2,12 +2,12 @@
 use mathlib.Core.Path.{_≡_}
 use mathlib.Core.Bool.{false}
 use Prim.Native.Nat.{ℕ, suc, _<_}
-use lib.ListN.{getD}
 use Rattle.rules.specs.declared.Facts.{Facts}
 use Rattle.rules.specs.declared.GroupKind.{GroupKind}
 use Rattle.rules.specs.Bytes.{Bytes, numbers}
 use Rattle.rules.specs.Model.{Members}
 use Rattle.rules.specs.Automaton.{facts}
+use Rattle.rules.specs.Decode.{readParticle}
 use Rattle.sets.specs.Sets.{has}
 use Rattle.model.specs.Members.{membersFrom}
 use Rattle.model.specs.Steps.{steps, finishes}
@@ -24,7 +24,7 @@ Absent x s = (k : GroupKind) (d y : ℕ) → Never (facts numbers k (membersFrom
 
 -- a number that is not in r is not the index of the first particle, where that is an element
 pub record FirstName (s : Bytes) (r : ℕ) : Type 0 where
-  pub other : (x : ℕ) → x < 64 → has r x ≡ false → getD s 0 0 ≡ 0 → getD s 2 0 ≡ x → ⊥
+  pub other : (x : ℕ) → x < 64 → has r x ≡ false → readParticle s .row .sort ≡ 0 → readParticle s .row .index ≡ x → ⊥
 
 -- a number that is not in r is none that the model names
 pub record NamesIn (s : Bytes) (r : ℕ) : Type 0 where

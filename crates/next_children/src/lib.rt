@@ -1,5 +1,6 @@
 // What may come after a child, for all children at once: the facts of a model and a last child x, with a set of definition indices
-// where model::automaton has the truth of one. And a table of these sets, so that a model is folded once and looked up afterwards.
+// where `automaton` has the truth of one. And a table of these sets, so that a model is folded once and looked up afterwards.
+use layout::PARTICLE_SIZE;
 use model::What;
 use model::read_particle;
 use rules::GroupKind;
@@ -9,6 +10,7 @@ ghost use Prim.Native.Nat.{_+_, _<_, _≤_};
 ghost use lib.ListN.{length};
 ghost use Rattle.rules.specs.declared.GroupKind.the-variants.{Sequence, Choice};
 ghost use Rattle.rules.specs.Bytes.{numbers};
+ghost use Rattle.rules.specs.Layout.{particleSize};
 ghost use Rattle.rules.specs.Automaton.{facts};
 ghost use Rattle.model.specs.Particle.{firstFacts};
 ghost use Rattle.model.specs.Members.{membersFrom, membersOf};
@@ -119,7 +121,7 @@ fn one_element(i: usize, x: usize) -> Nexts
 
 // Of the particle of depth d that t begins with, from its members, one deeper.
 fn first_nexts(t: &[u8], d: usize, x: usize) -> Nexts
-    requires { ⌜ (d < 256) × (4 ≤ length (now t)) ⌝ }
+    requires { ⌜ (d < 256) × (particleSize ≤ length (now t)) ⌝ }
     ensures { λ r. ⌜ Told r (λ y. firstFacts d (now (t .entry)) x y) ⌝ }
 {
     let p = read_particle(t, 0);
@@ -127,7 +129,7 @@ fn first_nexts(t: &[u8], d: usize, x: usize) -> Nexts
     let q = p.quantifier;
     match what {
         What::Element(i) => quantified(q, one_element(i, x)),
-        What::Group(kind, _) => quantified(q, nexts_from(&t[4..], d + 1, kind, x)),
+        What::Group(kind, _) => quantified(q, nexts_from(&t[PARTICLE_SIZE..], d + 1, kind, x)),
     }
 }
 
@@ -139,16 +141,16 @@ pub fn nexts_from(s: &[u8], d: usize, kind: GroupKind, x: usize) -> Nexts
 {
     let mut f = no_members(kind);
     let mut t = s;
-    while t.len() >= 4 {
-        let depth = codec::byte(t, 3) as usize;
+    while t.len() >= PARTICLE_SIZE {
+        let depth = layout::particle_depth(t) as usize;
         if depth < d {
             return f;
         }
         if d < depth {
-            t = &t[4..];
+            t = &t[PARTICLE_SIZE..];
         } else {
             f = joined(kind, f, first_nexts(t, d, x));
-            t = &t[4..];
+            t = &t[PARTICLE_SIZE..];
         }
     }
     f
@@ -165,10 +167,10 @@ pub fn nexts_of(ms: &[u8], x: usize) -> Nexts
 fn first_name(t: &[u8]) -> u64
     ensures { λ r. ⌜ FirstName (now (t .entry)) r ⌝ }
 {
-    if codec::byte(t, 0) != 0 {
+    if layout::particle_sort(t) != 0 {
         return 0;
     }
-    sets::bit(codec::byte(t, 2) as usize)
+    sets::bit(layout::particle_index(t) as usize)
 }
 
 // The elements that a model names.
@@ -177,9 +179,9 @@ fn names_in(ms: &[u8]) -> u64
 {
     let mut names: u64 = 0;
     let mut t = ms;
-    while t.len() >= 4 {
+    while t.len() >= PARTICLE_SIZE {
         names = sets::union(names, first_name(t));
-        t = &t[4..];
+        t = &t[PARTICLE_SIZE..];
     }
     names
 }

@@ -37,7 +37,7 @@ fn group_span(part: &[u8], h: Holder, p: usize) -> usize
     requires { ⌜ Stands (now part) h p ⌝ }
     ensures { λ r. ⌜ (r ≡ groupSpan (now (part .entry)) h p) × (r ≤ 257) ⌝ }
 {
-    1 + model::place::span(layout::particles_from(part, p + 1), h.depth)
+    1 + place_lookup::span(layout::particles_from(part, p + 1), h.depth)
 }
 
 // The plan of change 8 for the group at particle p of the list h in the owner's part.
@@ -51,7 +51,7 @@ fn group_plan(store: &[u8], part: &[u8], owner: usize, h: Holder, p: usize, new:
     let gain = h.spine & form_refusals::gains(old, new);
     let before = form_index::particles_before(layout::definitions_of(store), owner);
     let marks = place_marks::marks(part, p, group_span(part, h, p));
-    let filling = Filling::Particles(model::automaton::kind_in(what), before + p + 1, h.depth + 1);
+    let filling = Filling::Particles(model::kind_in(what), before + p + 1, h.depth + 1);
     plans::requantify_plan(owner, marks, false, 0, gain, filling)
 }
 
@@ -78,7 +78,7 @@ pub fn change_quantifier(
     let o = owner as usize;
     let new = model::read_quantifier(quantifier as u8);
     let part = form_refusals::own_part(store, o);
-    let found = model::place::find(part, place, false);
+    let found = place_lookup::find(part, place, false);
     match found {
         Found::Absent => store_writer::refused(8),
         Found::At(h, p) => {
@@ -115,7 +115,7 @@ pub fn change_group_quantifier(
     let o = owner as usize;
     let new = model::read_quantifier(quantifier as u8);
     let part = form_refusals::own_part(store, o);
-    let found = model::place::find(part, place, false);
+    let found = place_lookup::find(part, place, false);
     match found {
         Found::Absent => store_writer::refused(8),
         Found::At(h, p) => {

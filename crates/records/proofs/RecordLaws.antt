@@ -18,7 +18,11 @@ use Rattle.rules.specs.WellFormed.{startsName, inName, storedName, isValue, isF
 use Rattle.rules.proofs.Words.{and-both, and-split}
 use Rattle.rules.proofs.BooleanLaws.{Every}
 use Rattle.rules.proofs.LayoutLaws.{Small, unle-le, length-field, take-field}
-use Rattle.records.specs.Records.{zeros, used, filled, nameFits, valueFits, definitionFits, attributeFits, unusedFit, rowFits, eachFits}
+use Rattle.byte_check.specs.Zeros.{zeros}
+use Rattle.layout.specs.Fields.{definitionNameAt, definitionKindAt, definitionParticlesAt, particleSortAt, particleQuantifierAt, particleIndexAt, particleDepthAt}
+use Rattle.layout.specs.Fields.{attributeOwnerAt, attributeNameAt, attributeSortAt, attributeLengthAt, attributeValueAt, attributeLength}
+use Rattle.layout.specs.Fields.{rowSortAt, rowDepthAt, rowIndexAt, rowSerialAt, rowLengthAt, rowUnusedAt, rowValueAt, rowLength, unusedFit}
+use Rattle.records.specs.Records.{used, filled, nameFits, valueFits, definitionFits, attributeFits, rowFits, eachFits}
 
 -- ---- bytes
 abbrev IsByte : ℕ → Type 0
@@ -160,44 +164,49 @@ pub record FittingDefinition (d : FlatDefinition) : Type 0 where
 
 -- the fields at their places
 abbrev definitionAt : Bytes → FlatDefinition
-definitionAt bs = record { name = used bs 1 (getD bs 0 0); kind = getD bs 17 0; particles = numberAt 18 2 bs }
+definitionAt bs = record { name = used bs (suc definitionNameAt) (getD bs definitionNameAt 0); kind = getD bs definitionKindAt 0; particles = numberAt definitionParticlesAt 2 bs }
 
 definition-at : (bs : Bytes) → readDefinition bs ≡ definitionAt bs
-definition-at bs = λ i. record { name = used bs 1 (getD bs 0 0); kind = getD-drop 17 bs 0 0 i; particles = unle (take 2 (drop-drop 1 17 bs i)) }
+definition-at bs = λ i. record { name = used bs (suc definitionNameAt) (getD bs definitionNameAt 0); kind = getD-drop definitionKindAt bs 0 0 i; particles = unle (take 2 (drop-drop 1 definitionKindAt bs i)) }
+
+-- the test by them
+definition-tests : (bs : Bytes) → definitionFits bs ≡ (nameFits bs definitionNameAt && (leb (definitionAt bs .kind) 2 && (eqb (definitionAt bs .kind) 2 || eqb (definitionAt bs .particles) 0)))
+unfolding definitionFits
+definition-tests bs = ap (λ (d : FlatDefinition). nameFits bs definitionNameAt && (leb (d .kind) 2 && (eqb (d .kind) 2 || eqb (d .particles) 0))) (definition-at bs)
 
 pub definition-canonical : (bs : Bytes) → Small bs → length bs ≡ definitionSize → definitionFits bs ≡ true → definitionBytes (readDefinition bs) ≡ bs
 unfolding definitionFits nameFits
 definition-canonical bs a e h =
-    let (n, h₁) = and-split (nameFits bs 0) _ h in
-    let (s, f) = and-split (storedName (used bs 1 (getD bs 0 0))) _ n in
+    let (n, h₁) = and-split (nameFits bs definitionNameAt) _ h in
+    let (s, f) = and-split (storedName (used bs (suc definitionNameAt) (getD bs definitionNameAt 0))) _ n in
     ap definitionBytes (definition-at bs)
-    ∙ byte-then bs 0 1 (length (used bs 1 (getD bs 0 0))) (length-used bs 1 (getD bs 0 0) nameWidth f (omega arith)) refl (omega arith)
-    (field-then bs 1 (getD bs 0 0) nameWidth f (omega arith)
-    (byte-then bs 17 18 (getD bs 17 0) refl refl (omega arith) (number-then bs 18 2 (numberAt 18 2 bs) a refl (omega arith) (all-read bs 20 (omega arith)))))
+    ∙ byte-then bs definitionNameAt (suc definitionNameAt) (length (used bs (suc definitionNameAt) (getD bs definitionNameAt 0))) (length-used bs (suc definitionNameAt) (getD bs definitionNameAt 0) nameWidth f (omega arith)) refl (omega arith)
+    (field-then bs (suc definitionNameAt) (getD bs definitionNameAt 0) nameWidth f (omega arith)
+    (byte-then bs definitionKindAt definitionParticlesAt (getD bs definitionKindAt 0) refl refl (omega arith) (number-then bs definitionParticlesAt 2 (numberAt definitionParticlesAt 2 bs) a refl (omega arith) (all-read bs definitionSize (omega arith)))))
 
 pub number-bound : (k : ℕ) (bs : Bytes) (at : ℕ) → Small bs → at + k ≤ length bs → numberAt at k bs < 256 ^ k
 number-bound k bs at a h = rw (length-part bs at k h) at (unle-bound (take k (drop at bs)) (small-take k (small-drop at a) .small))
 
 pub definition-fields : (bs : Bytes) → Small bs → length bs ≡ definitionSize → definitionFits bs ≡ true → FittingDefinition (readDefinition bs)
-unfolding definitionFits nameFits
+unfolding nameFits
 definition-fields bs a e h =
-    let (n, h₁) = and-split (nameFits bs 0) _ h in
-    let (k, z) = and-split (leb (getD bs 17 0) 2) (eqb (getD bs 17 0) 2 || eqb (numberAt 18 2 bs) 0) h₁ in
+    let (n, h₁) = and-split (nameFits bs definitionNameAt) _ (sym (definition-tests bs) ∙ h) in
+    let (k, z) = and-split (leb (getD bs definitionKindAt 0) 2) (eqb (getD bs definitionKindAt 0) 2 || eqb (numberAt definitionParticlesAt 2 bs) 0) h₁ in
     subst (λ (d : FlatDefinition). FittingDefinition d) (sym (definition-at bs))
-    (record { name = and-split (storedName (used bs 1 (getD bs 0 0))) _ n .0; kind = leb-true _ _ k; none = z; particles = number-bound 2 bs 18 a (omega arith) })
+    (record { name = and-split (storedName (used bs (suc definitionNameAt) (getD bs definitionNameAt 0))) _ n .0; kind = leb-true _ _ k; none = z; particles = number-bound 2 bs definitionParticlesAt a (omega arith) })
 
 pub definition-fits : (d : FlatDefinition) → FittingDefinition d → definitionFits (definitionBytes d) ≡ true
-unfolding definitionFits
 definition-fits d f =
-    and-both (name-fits (definitionBytes d) (d .name) (d .kind ∷ le 2 (d .particles)) 0 refl refl (f .name))
+    definition-tests (definitionBytes d)
+    ∙ and-both (name-fits (definitionBytes d) (d .name) (d .kind ∷ le 2 (d .particles)) definitionNameAt refl refl (f .name))
     (and-both (ap (λ (k : ℕ). leb k 2) kindAt ∙ le-leb _ _ (f .kind)) (ap₂ (λ (k p : ℕ). eqb k 2 || eqb p 0) kindAt particlesAt ∙ f .none))
   where
-    kindAt : getD (definitionBytes d) 17 0 ≡ d .kind
-    kindAt = getD-past (field 16 (d .name)) (d .kind ∷ le 2 (d .particles)) 16 0 (length-field 16 (d .name))
+    kindAt : getD (definitionBytes d) definitionKindAt 0 ≡ d .kind
+    kindAt = getD-past (field nameWidth (d .name)) (d .kind ∷ le 2 (d .particles)) nameWidth 0 (length-field nameWidth (d .name))
 
-    particlesAt : numberAt 18 2 (definitionBytes d) ≡ d .particles
+    particlesAt : numberAt definitionParticlesAt 2 (definitionBytes d) ≡ d .particles
     particlesAt =
-        ap (λ (ys : Bytes). unle (take 2 ys)) (drop-past (field 16 (d .name)) (d .kind ∷ le 2 (d .particles)) 16 1 (length-field 16 (d .name)))
+        ap (λ (ys : Bytes). unle (take 2 ys)) (drop-past (field nameWidth (d .name)) (d .kind ∷ le 2 (d .particles)) nameWidth 1 (length-field nameWidth (d .name)))
         ∙ unle-le 2 (d .particles) (f .particles)
 
 -- a record fits if and only if its fields are good and it is what they are written as
@@ -207,8 +216,10 @@ definition-test bs a e = (λ h. (definition-fields bs a e h, definition-canonica
 -- ---- particles
 pub particle-canonical : (bs : Bytes) → length bs ≡ particleSize → particleBytes (readParticle bs) ≡ bs
 particle-canonical bs e =
-    byte-then bs 0 1 (getD bs 0 0) refl refl (omega arith)
-    (byte-then bs 1 2 (getD bs 1 0) refl refl (omega arith) (byte-then bs 2 3 (getD bs 2 0) refl refl (omega arith) (byte-then bs 3 4 (getD bs 3 0) refl refl (omega arith) (all-read bs 4 (omega arith)))))
+    byte-then bs particleSortAt particleQuantifierAt (readParticle bs .row .sort) refl refl (omega arith)
+    (byte-then bs particleQuantifierAt particleIndexAt (readParticle bs .row .quantifier) refl refl (omega arith)
+    (byte-then bs particleIndexAt particleDepthAt (readParticle bs .row .index) refl refl (omega arith)
+    (byte-then bs particleDepthAt particleSize (readParticle bs .depth) refl refl (omega arith) (all-read bs particleSize (omega arith)))))
 
 -- ---- attributes
 -- what the record of an attribute holds, among n definitions
@@ -220,42 +231,54 @@ pub record FittingAttribute (w n : ℕ) (a : FlatAttribute) : Type 0 where
   pub fill : isFill (sortOf (a .sort)) (a .value) ≡ true
 
 abbrev attributeAt : Bytes → FlatAttribute
-attributeAt bs = record { owner = getD bs 0 0; name = used bs 2 (getD bs 1 0); sort = getD bs 18 0; value = used bs 20 (getD bs 19 0) }
+attributeAt bs = record { owner = getD bs attributeOwnerAt 0; name = used bs (suc attributeNameAt) (getD bs attributeNameAt 0); sort = getD bs attributeSortAt 0; value = used bs attributeValueAt (attributeLength bs) }
 
 attribute-at : (bs : Bytes) → readAttribute bs ≡ attributeAt bs
-attribute-at bs = λ i. record { owner = getD bs 0 0; name = used bs 2 (getD bs 1 0); sort = getD-drop 18 bs 0 0 i; value = take (getD-drop 18 bs 1 0 i) (drop-drop 2 18 bs i) }
+attribute-at bs = λ i. record { owner = getD bs attributeOwnerAt 0; name = used bs (suc attributeNameAt) (getD bs attributeNameAt 0); sort = getD-drop attributeSortAt bs 0 0 i; value = take (getD-drop attributeSortAt bs 1 0 i) (drop-drop 2 attributeSortAt bs i) }
+
+-- the test by them
+attribute-tests : (w n : ℕ) (bs : Bytes)
+    → attributeFits w n bs
+    ≡ (ltb (attributeAt bs .owner) n
+    && (nameFits bs attributeNameAt
+    && (leb (attributeAt bs .sort) 2 && (valueFits w bs attributeValueAt (attributeLength bs) && isFill (sortOf (attributeAt bs .sort)) (attributeAt bs .value)))))
+unfolding attributeFits
+attribute-tests w n bs =
+    ap
+    (λ (a : FlatAttribute). ltb (a .owner) n && (nameFits bs attributeNameAt && (leb (a .sort) 2 && (valueFits w bs attributeValueAt (attributeLength bs) && isFill (sortOf (a .sort)) (a .value)))))
+    (attribute-at bs)
 
 -- the parts of the test
 record AttributeParts (w n : ℕ) (bs : Bytes) : Type 0 where
-  owner : getD bs 0 0 < n
-  name : storedName (used bs 2 (getD bs 1 0)) ≡ true
-  nameFill : filled bs 2 (getD bs 1 0) nameWidth ≡ true
-  sort : getD bs 18 0 ≤ 2
-  value : isValue w (used bs 20 (getD bs 19 0)) ≡ true
-  valueFill : filled bs 20 (getD bs 19 0) w ≡ true
-  fill : isFill (sortOf (getD bs 18 0)) (used bs 20 (getD bs 19 0)) ≡ true
+  owner : getD bs attributeOwnerAt 0 < n
+  name : storedName (used bs (suc attributeNameAt) (getD bs attributeNameAt 0)) ≡ true
+  nameFill : filled bs (suc attributeNameAt) (getD bs attributeNameAt 0) nameWidth ≡ true
+  sort : getD bs attributeSortAt 0 ≤ 2
+  value : isValue w (used bs attributeValueAt (attributeLength bs)) ≡ true
+  valueFill : filled bs attributeValueAt (attributeLength bs) w ≡ true
+  fill : isFill (sortOf (getD bs attributeSortAt 0)) (used bs attributeValueAt (attributeLength bs)) ≡ true
 
 attribute-parts : (w n : ℕ) (bs : Bytes) → attributeFits w n bs ≡ true → AttributeParts w n bs
-unfolding attributeFits nameFits valueFits
+unfolding nameFits valueFits
 attribute-parts w n bs h =
-    let (o, h₁) = and-split (ltb (getD bs 0 0) n) _ h in
-    let (m, h₂) = and-split (nameFits bs 1) _ h₁ in
-    let (s, h₃) = and-split (leb (getD bs 18 0) 2) _ h₂ in
-    let (v, f) = and-split (valueFits w bs 20 (getD bs 19 0)) _ h₃ in
-    let (m₀, m₁) = and-split (storedName (used bs 2 (getD bs 1 0))) _ m in
-    let (v₀, v₁) = and-split (isValue w (used bs 20 (getD bs 19 0))) _ v in
+    let (o, h₁) = and-split (ltb (getD bs attributeOwnerAt 0) n) _ (sym (attribute-tests w n bs) ∙ h) in
+    let (m, h₂) = and-split (nameFits bs attributeNameAt) _ h₁ in
+    let (s, h₃) = and-split (leb (getD bs attributeSortAt 0) 2) _ h₂ in
+    let (v, f) = and-split (valueFits w bs attributeValueAt (attributeLength bs)) _ h₃ in
+    let (m₀, m₁) = and-split (storedName (used bs (suc attributeNameAt) (getD bs attributeNameAt 0))) _ m in
+    let (v₀, v₁) = and-split (isValue w (used bs attributeValueAt (attributeLength bs))) _ v in
     record { owner = ltb-true _ _ o; name = m₀; nameFill = m₁; sort = leb-true _ _ s; value = v₀; valueFill = v₁; fill = f }
 
 pub attribute-canonical : (w n : ℕ) (bs : Bytes) → length bs ≡ attributeSize w → attributeFits w n bs ≡ true → attributeBytes w (readAttribute bs) ≡ bs
 attribute-canonical w n bs e h =
     let p : AttributeParts w n bs = attribute-parts w n bs h in
     ap (attributeBytes w) (attribute-at bs)
-    ∙ byte-then bs 0 1 (getD bs 0 0) refl refl (omega arith)
-    (byte-then bs 1 2 (length (used bs 2 (getD bs 1 0))) (length-used bs 2 (getD bs 1 0) nameWidth (p .nameFill) (omega arith)) refl (omega arith)
-    (field-then bs 2 (getD bs 1 0) nameWidth (p .nameFill) (omega arith)
-    (byte-then bs 18 19 (getD bs 18 0) refl refl (omega arith)
-    (byte-then bs 19 20 (length (used bs 20 (getD bs 19 0))) (length-used bs 20 (getD bs 19 0) w (p .valueFill) (omega arith)) refl (omega arith)
-    (sym (append-nil (field w (used bs 20 (getD bs 19 0)))) ∙ field-then bs 20 (getD bs 19 0) w (p .valueFill) (omega arith) (all-read bs (20 + w) (omega arith)))))))
+    ∙ byte-then bs attributeOwnerAt attributeNameAt (getD bs attributeOwnerAt 0) refl refl (omega arith)
+    (byte-then bs attributeNameAt (suc attributeNameAt) (length (used bs (suc attributeNameAt) (getD bs attributeNameAt 0))) (length-used bs (suc attributeNameAt) (getD bs attributeNameAt 0) nameWidth (p .nameFill) (omega arith)) refl (omega arith)
+    (field-then bs (suc attributeNameAt) (getD bs attributeNameAt 0) nameWidth (p .nameFill) (omega arith)
+    (byte-then bs attributeSortAt attributeLengthAt (getD bs attributeSortAt 0) refl refl (omega arith)
+    (byte-then bs attributeLengthAt attributeValueAt (length (used bs attributeValueAt (attributeLength bs))) (length-used bs attributeValueAt (attributeLength bs) w (p .valueFill) (omega arith)) refl (omega arith)
+    (sym (append-nil (field w (used bs attributeValueAt (attributeLength bs)))) ∙ field-then bs attributeValueAt (attributeLength bs) w (p .valueFill) (omega arith) (all-read bs (attributeSize w) (omega arith)))))))
 
 pub attribute-fields : (w n : ℕ) (bs : Bytes) → attributeFits w n bs ≡ true → FittingAttribute w n (readAttribute bs)
 attribute-fields w n bs h =
@@ -263,27 +286,27 @@ attribute-fields w n bs h =
     subst (λ (a : FlatAttribute). FittingAttribute w n a) (sym (attribute-at bs)) (record { owner = p .owner; name = p .name; sort = p .sort; value = p .value; fill = p .fill })
 
 pub attribute-fits : (w n : ℕ) (a : FlatAttribute) → FittingAttribute w n a → attributeFits w n (attributeBytes w a) ≡ true
-unfolding attributeFits
 attribute-fits w n a f =
-    and-both (lt-ltb _ _ (f .owner))
-    (and-both (name-fits (attributeBytes w a) (a .name) rest 1 refl refl (f .name))
+    attribute-tests w n (attributeBytes w a)
+    ∙ and-both (lt-ltb _ _ (f .owner))
+    (and-both (name-fits (attributeBytes w a) (a .name) rest attributeNameAt refl refl (f .name))
     (and-both (ap (λ (k : ℕ). leb k 2) sortAt ∙ le-leb _ _ (f .sort))
-    (and-both (value-fits w (attributeBytes w a) (a .value) [] 20 _ lengthAt valueAt (f .value)) (ap₂ (λ (k : ℕ) (v : Bytes). isFill (sortOf k) v) sortAt usedAt ∙ f .fill))))
+    (and-both (value-fits w (attributeBytes w a) (a .value) [] attributeValueAt _ lengthAt valueAt (f .value)) (ap₂ (λ (k : ℕ) (v : Bytes). isFill (sortOf k) v) sortAt usedAt ∙ f .fill))))
   where
     rest : Bytes
     rest = a .sort ∷ length (a .value) ∷ field w (a .value)
 
-    sortAt : getD (attributeBytes w a) 18 0 ≡ a .sort
-    sortAt = getD-past (field 16 (a .name)) rest 16 0 (length-field 16 (a .name))
+    sortAt : getD (attributeBytes w a) attributeSortAt 0 ≡ a .sort
+    sortAt = getD-past (field nameWidth (a .name)) rest nameWidth 0 (length-field nameWidth (a .name))
 
-    lengthAt : getD (attributeBytes w a) 19 0 ≡ length (a .value)
-    lengthAt = getD-past (field 16 (a .name)) rest 16 1 (length-field 16 (a .name))
+    lengthAt : attributeLength (attributeBytes w a) ≡ length (a .value)
+    lengthAt = getD-past (field nameWidth (a .name)) rest nameWidth 1 (length-field nameWidth (a .name))
 
-    valueAt : drop 20 (attributeBytes w a) ≡ field w (a .value) ++ []
-    valueAt = drop-past (field 16 (a .name)) rest 16 2 (length-field 16 (a .name)) ∙ sym (append-nil (field w (a .value)))
+    valueAt : drop attributeValueAt (attributeBytes w a) ≡ field w (a .value) ++ []
+    valueAt = drop-past (field nameWidth (a .name)) rest nameWidth 2 (length-field nameWidth (a .name)) ∙ sym (append-nil (field w (a .value)))
 
-    usedAt : used (attributeBytes w a) 20 (getD (attributeBytes w a) 19 0) ≡ a .value
-    usedAt = ap (λ (l : ℕ). used (attributeBytes w a) 20 l) lengthAt ∙ used-field (attributeBytes w a) (a .value) [] 20 w valueAt (value-length w (a .value) (f .value))
+    usedAt : used (attributeBytes w a) attributeValueAt (attributeLength (attributeBytes w a)) ≡ a .value
+    usedAt = ap (λ (l : ℕ). used (attributeBytes w a) attributeValueAt l) lengthAt ∙ used-field (attributeBytes w a) (a .value) [] attributeValueAt w valueAt (value-length w (a .value) (f .value))
 
 pub attribute-test : (w n : ℕ) (bs : Bytes) → length bs ≡ attributeSize w → (attributeFits w n bs ≡ true) ↔ (FittingAttribute w n (readAttribute bs) × (attributeBytes w (readAttribute bs) ≡ bs))
 attribute-test w n bs e = (λ h. (attribute-fields w n bs h, attribute-canonical w n bs e h), λ (f, c). ap (attributeFits w n) (sym c) ∙ attribute-fits w n (readAttribute bs) f)
@@ -311,34 +334,34 @@ unless-of a k b f = by (eqb a k) refl
 
 -- the parts of the test
 record RowParts (w : ℕ) (bs : Bytes) : Type 0 where
-  least : 1 ≤ getD bs 0 0
-  most : getD bs 0 0 ≤ 3
-  value : isValue w (used bs 10 (getD bs 8 0)) ≡ true
-  valueFill : filled bs 10 (getD bs 8 0) w ≡ true
-  element : getD bs 0 0 ≡ 1 → getD bs 8 0 ≡ 0
-  text : getD bs 0 0 ≡ 3 → numberAt 2 2 bs ≡ 0
-  unused₀ : getD bs 9 0 ≡ 0
-  unused₁ : getD bs (10 + w) 0 ≡ 0
-  unused₂ : getD bs (11 + w) 0 ≡ 0
+  least : 1 ≤ readRow bs .row .sort
+  most : readRow bs .row .sort ≤ 3
+  value : isValue w (used bs rowValueAt (rowLength bs)) ≡ true
+  valueFill : filled bs rowValueAt (rowLength bs) w ≡ true
+  element : readRow bs .row .sort ≡ 1 → rowLength bs ≡ 0
+  text : readRow bs .row .sort ≡ 3 → readRow bs .row .index ≡ 0
+  unused₀ : getD bs rowUnusedAt 0 ≡ 0
+  unused₁ : getD bs (rowValueAt + w) 0 ≡ 0
+  unused₂ : getD bs (rowValueAt + 1 + w) 0 ≡ 0
 
 row-parts : (w : ℕ) (bs : Bytes) → rowFits w bs ≡ true → RowParts w bs
 unfolding rowFits valueFits unusedFit
 row-parts w bs h =
-    let (s, h₁) = and-split (leb 1 (getD bs 0 0) && leb (getD bs 0 0) 3) _ h in
-    let (s₀, s₁) = and-split (leb 1 (getD bs 0 0)) (leb (getD bs 0 0) 3) s in
-    let (v, h₂) = and-split (valueFits w bs 10 (getD bs 8 0)) _ h₁ in
-    let (v₀, v₁) = and-split (isValue w (used bs 10 (getD bs 8 0))) _ v in
-    let (e, h₃) = and-split (not (eqb (getD bs 0 0) 1) || eqb (getD bs 8 0) 0) _ h₂ in
-    let (t, h₄) = and-split (not (eqb (getD bs 0 0) 3) || eqb (numberAt 2 2 bs) 0) _ h₃ in
-    let (u₀, h₅) = and-split (eqb (getD bs 9 0) 0) _ h₄ in
-    let (u₁, u₂) = and-split (eqb (getD bs (10 + w) 0) 0) (eqb (getD bs (11 + w) 0) 0) h₅ in
+    let (s, h₁) = and-split (leb 1 (readRow bs .row .sort) && leb (readRow bs .row .sort) 3) _ h in
+    let (s₀, s₁) = and-split (leb 1 (readRow bs .row .sort)) (leb (readRow bs .row .sort) 3) s in
+    let (v, h₂) = and-split (valueFits w bs rowValueAt (rowLength bs)) _ h₁ in
+    let (v₀, v₁) = and-split (isValue w (used bs rowValueAt (rowLength bs))) _ v in
+    let (e, h₃) = and-split (not (eqb (readRow bs .row .sort) 1) || eqb (rowLength bs) 0) _ h₂ in
+    let (t, h₄) = and-split (not (eqb (readRow bs .row .sort) 3) || eqb (readRow bs .row .index) 0) _ h₃ in
+    let (u₀, h₅) = and-split (eqb (getD bs rowUnusedAt 0) 0) _ h₄ in
+    let (u₁, u₂) = and-split (eqb (getD bs (rowValueAt + w) 0) 0) (eqb (getD bs (rowValueAt + 1 + w) 0) 0) h₅ in
     record {
       least = leb-true _ _ s₀;
       most = leb-true _ _ s₁;
       value = v₀;
       valueFill = v₁;
-      element = λ q. eqb-true _ _ (unless-true (getD bs 0 0) 1 (eqb (getD bs 8 0) 0) e q);
-      text = λ q. eqb-true _ _ (unless-true (getD bs 0 0) 3 (eqb (numberAt 2 2 bs) 0) t q);
+      element = λ q. eqb-true _ _ (unless-true (readRow bs .row .sort) 1 (eqb (rowLength bs) 0) e q);
+      text = λ q. eqb-true _ _ (unless-true (readRow bs .row .sort) 3 (eqb (readRow bs .row .index) 0) t q);
       unused₀ = eqb-true _ _ u₀;
       unused₁ = eqb-true _ _ u₁;
       unused₂ = eqb-true _ _ u₂;
@@ -347,15 +370,15 @@ row-parts w bs h =
 pub row-canonical : (w : ℕ) (bs : Bytes) → Small bs → length bs ≡ rowSize w → rowFits w bs ≡ true → rowBytes w (readRow bs) ≡ bs
 row-canonical w bs a e h =
     let p : RowParts w bs = row-parts w bs h in
-    byte-then bs 0 1 (getD bs 0 0) refl refl (omega arith)
-    (byte-then bs 1 2 (getD bs 1 0) refl refl (omega arith)
-    (number-then bs 2 2 (numberAt 2 2 bs) a refl (omega arith)
-    (number-then bs 4 4 (numberAt 4 4 bs) a refl (omega arith)
-    (byte-then bs 8 9 (length (used bs 10 (getD bs 8 0))) (length-used bs 10 (getD bs 8 0) w (p .valueFill) (omega arith)) refl (omega arith)
-    (byte-then bs 9 10 0 (sym (p .unused₀)) refl (omega arith)
-    (field-then bs 10 (getD bs 8 0) w (p .valueFill) (omega arith)
-    (byte-then bs (10 + w) (11 + w) 0 (sym (p .unused₁)) (omega arith) (omega arith)
-    (byte-then bs (11 + w) (12 + w) 0 (sym (p .unused₂)) (omega arith) (omega arith) (all-read bs (12 + w) (omega arith))))))))))
+    byte-then bs rowSortAt rowDepthAt (readRow bs .row .sort) refl refl (omega arith)
+    (byte-then bs rowDepthAt rowIndexAt (readRow bs .depth) refl refl (omega arith)
+    (number-then bs rowIndexAt 2 (readRow bs .row .index) a refl (omega arith)
+    (number-then bs rowSerialAt 4 (readRow bs .row .serial) a refl (omega arith)
+    (byte-then bs rowLengthAt rowUnusedAt (length (used bs rowValueAt (rowLength bs))) (length-used bs rowValueAt (rowLength bs) w (p .valueFill) (omega arith)) refl (omega arith)
+    (byte-then bs rowUnusedAt rowValueAt 0 (sym (p .unused₀)) refl (omega arith)
+    (field-then bs rowValueAt (rowLength bs) w (p .valueFill) (omega arith)
+    (byte-then bs (rowValueAt + w) (rowValueAt + 1 + w) 0 (sym (p .unused₁)) (omega arith) (omega arith)
+    (byte-then bs (rowValueAt + 1 + w) (rowSize w) 0 (sym (p .unused₂)) (omega arith) (omega arith) (all-read bs (rowSize w) (omega arith))))))))))
 
 pub row-fields : (w : ℕ) (bs : Bytes) → Small bs → length bs ≡ rowSize w → rowFits w bs ≡ true → FittingRow w (readRow bs)
 row-fields w bs a e h =
@@ -364,31 +387,31 @@ row-fields w bs a e h =
       least = p .least;
       most = p .most;
       value = p .value;
-      element = λ q. ap (λ (l : ℕ). used bs 10 l) (p .element q);
+      element = λ q. ap (λ (l : ℕ). used bs rowValueAt l) (p .element q);
       text = p .text;
-      index = number-bound 2 bs 2 a (omega arith);
-      serial = number-bound 4 bs 4 a (omega arith);
+      index = number-bound 2 bs rowIndexAt a (omega arith);
+      serial = number-bound 4 bs rowSerialAt a (omega arith);
     }
 
 pub row-fits : (w : ℕ) (r : Deep FlatRow) → FittingRow w r → rowFits w (rowBytes w r) ≡ true
 unfolding rowFits unusedFit
 row-fits w r f =
     and-both (and-both (le-leb _ _ (f .least)) (le-leb _ _ (f .most)))
-    (and-both (value-fits w (rowBytes w r) v (0 ∷ 0 ∷ []) 10 (length v) refl refl (f .value))
+    (and-both (value-fits w (rowBytes w r) v (0 ∷ 0 ∷ []) rowValueAt (length v) refl refl (f .value))
     (and-both (unless-of (r .row .sort) 1 (eqb (length v) 0) (λ q. eq-eqb _ _ (ap length (f .element q))))
-    (and-both (unless-of (r .row .sort) 3 (eqb (numberAt 2 2 (rowBytes w r)) 0) (λ q. eq-eqb _ _ (unle-le 2 (r .row .index) (f .index) ∙ f .text q)))
+    (and-both (unless-of (r .row .sort) 3 (eqb (readRow (rowBytes w r) .row .index) 0) (λ q. eq-eqb _ _ (unle-le 2 (r .row .index) (f .index) ∙ f .text q)))
     (and-both (eq-eqb 0 0 refl) (and-both (eq-eqb _ _ first) (eq-eqb _ _ second))))))
   where
     v : Bytes
     v = r .row .value
 
-    first : getD (rowBytes w r) (10 + w) 0 ≡ 0
-    first = sym (getD-drop 10 (rowBytes w r) w 0) ∙ getD-at (field w v) 0 (0 ∷ []) 0 w (length-field w v)
+    first : getD (rowBytes w r) (rowValueAt + w) 0 ≡ 0
+    first = sym (getD-drop rowValueAt (rowBytes w r) w 0) ∙ getD-at (field w v) 0 (0 ∷ []) 0 w (length-field w v)
 
-    second : getD (rowBytes w r) (11 + w) 0 ≡ 0
+    second : getD (rowBytes w r) (rowValueAt + 1 + w) 0 ≡ 0
     second =
-        let e : 11 + w ≡ 10 + (w + 1) = omega arith in
-        ap (λ (k : ℕ). getD (rowBytes w r) k 0) e ∙ sym (getD-drop 10 (rowBytes w r) (w + 1) 0) ∙ getD-past (field w v) (0 ∷ 0 ∷ []) w 1 (length-field w v)
+        let e : rowValueAt + 1 + w ≡ rowValueAt + (w + 1) = omega arith in
+        ap (λ (k : ℕ). getD (rowBytes w r) k 0) e ∙ sym (getD-drop rowValueAt (rowBytes w r) (w + 1) 0) ∙ getD-past (field w v) (0 ∷ 0 ∷ []) w 1 (length-field w v)
 
 pub row-test : (w : ℕ) (bs : Bytes) → Small bs → length bs ≡ rowSize w → (rowFits w bs ≡ true) ↔ (FittingRow w (readRow bs) × (rowBytes w (readRow bs) ≡ bs))
 row-test w bs a e = (λ h. (row-fields w bs a e h, row-canonical w bs a e h), λ (f, c). ap (rowFits w) (sym c) ∙ row-fits w (readRow bs) f)

@@ -22,38 +22,39 @@ use Rattle.rules.proofs.Words.{and-both, and-split}
 use Rattle.rules.proofs.BooleanLaws.{Every, every-map, every-append, every-zip, none-nil}
 use Rattle.rules.proofs.LayoutLaws.{Small, unle-le, GoodFlatDefinition, GoodFlatAttribute, GoodFlatRow, GoodFlat, length-definition, length-particle, length-attribute, length-row, length-each, length-flatBytes, sized-bytes}
 use Rattle.rules.proofs.DecodeLaws.{version-bound, width-bound, GoodParts, good-parts, DefinitionParts, every-definition, good-flat}
+use Rattle.layout.specs.Fields.{definitionEntryAt, particleEntryAt, attributeEntryAt, rowEntryAt, versionAt, nextAt}
 use Rattle.records.specs.Records.{definitionFits, attributeFits, rowFits, eachFits, atParticles, atAttributes, atRows, bodiesFit, countsFit, offsetsFit, headerFits}
 use Rattle.records.proofs.RecordLaws.{small-drop, number-then, number-bound, name-length, value-length, FittingDefinition, definition-canonical, definition-fields, definition-fits, particle-canonical, FittingAttribute, attribute-canonical, attribute-fields, attribute-fits, FittingRow, row-canonical, row-fields, row-fits, length-many, body-then, body-canonical, body-fields, body-fits, body-fits-whole}
 
 -- ---- the header
 pub record FittingHeader (w : ℕ) (bs : Bytes) : Type 0 where
   pub whole : headerSize ≤ length bs
-  pub version : knownVersion (numberAt 0 4 bs) ≡ true
+  pub version : knownVersion (numberAt versionAt 4 bs) ≡ true
   pub fewDefinitions : definitionCount bs ≤ 64
   pub fewParticles : particleCount bs ≤ 256
   pub fewAttributes : attributeCount bs ≤ 64
   pub fewRows : rowCount bs ≤ 4096
-  pub definitionsAt : numberAt 8 4 bs ≡ headerSize
-  pub particlesAt : numberAt 16 4 bs ≡ atParticles bs
-  pub attributesAt : numberAt 24 4 bs ≡ atAttributes bs
-  pub rowsAt : numberAt 32 4 bs ≡ atRows w bs
+  pub definitionsAt : numberAt definitionEntryAt 4 bs ≡ headerSize
+  pub particlesAt : numberAt particleEntryAt 4 bs ≡ atParticles bs
+  pub attributesAt : numberAt attributeEntryAt 4 bs ≡ atAttributes bs
+  pub rowsAt : numberAt rowEntryAt 4 bs ≡ atRows w bs
   pub size : length bs ≡ atRows w bs + rowSize w * rowCount bs
-  pub next : 1 ≤ numberAt 4 4 bs
+  pub next : 1 ≤ numberAt nextAt 4 bs
 
 pub header-fields : (w : ℕ) (bs : Bytes) → headerFits w bs ≡ true → FittingHeader w bs
 unfolding headerFits countsFit offsetsFit
 header-fields w bs h =
     let (l, h₁) = and-split (leb headerSize (length bs)) _ h in
-    let (v, h₂) = and-split (knownVersion (numberAt 0 4 bs)) _ h₁ in
+    let (v, h₂) = and-split (knownVersion (numberAt versionAt 4 bs)) _ h₁ in
     let (c, h₃) = and-split (countsFit bs) _ h₂ in
     let (o, h₄) = and-split (offsetsFit w bs) _ h₃ in
-    let (s, n) = and-split (sized w bs) (leb 1 (numberAt 4 4 bs)) h₄ in
+    let (s, n) = and-split (sized w bs) (leb 1 (numberAt nextAt 4 bs)) h₄ in
     let (c₀, c₁) = and-split (leb (definitionCount bs) 64) _ c in
     let (c₂, c₃) = and-split (leb (particleCount bs) 256) _ c₁ in
     let (c₄, c₅) = and-split (leb (attributeCount bs) 64) (leb (rowCount bs) 4096) c₃ in
-    let (o₀, o₁) = and-split (eqb (numberAt 8 4 bs) headerSize) _ o in
-    let (o₂, o₃) = and-split (eqb (numberAt 16 4 bs) (atParticles bs)) _ o₁ in
-    let (o₄, o₅) = and-split (eqb (numberAt 24 4 bs) (atAttributes bs)) (eqb (numberAt 32 4 bs) (atRows w bs)) o₃ in
+    let (o₀, o₁) = and-split (eqb (numberAt definitionEntryAt 4 bs) headerSize) _ o in
+    let (o₂, o₃) = and-split (eqb (numberAt particleEntryAt 4 bs) (atParticles bs)) _ o₁ in
+    let (o₄, o₅) = and-split (eqb (numberAt attributeEntryAt 4 bs) (atAttributes bs)) (eqb (numberAt rowEntryAt 4 bs) (atRows w bs)) o₃ in
     let z : length bs ≡ headerSize + (definitionSize * definitionCount bs + (particleSize * particleCount bs + (attributeSize w * attributeCount bs + rowSize w * rowCount bs))) = eqb-true _ _ s in
     record {
       whole = leb-true _ _ l;
@@ -158,24 +159,24 @@ module _ (w : ℕ) (bs : Bytes) where
         ∙ body-then readParticle particleBytes (λ x. true) particleSize (λ x a l h. particle-canonical x l) (particleCount bs) fromParticles small-particles length-particles (any-particle (particleCount bs) fromParticles))
         ∙ body-then readDefinition definitionBytes definitionFits definitionSize definition-canonical (definitionCount bs) (drop headerSize bs) small-bodies length-bodies (parts .definitions)
 
-    counted : flatBytes w (readFlat w bs) ≡ written w (numberAt 0 4 bs) (numberAt 4 4 bs) (definitionCount bs) (particleCount bs) (attributeCount bs) (rowCount bs) (drop headerSize bs)
+    counted : flatBytes w (readFlat w bs) ≡ written w (numberAt versionAt 4 bs) (numberAt nextAt 4 bs) (definitionCount bs) (particleCount bs) (attributeCount bs) (rowCount bs) (drop headerSize bs)
     counted = λ i.
-        written w (numberAt 0 4 bs) (numberAt 4 4 bs) (length-many readDefinition definitionSize (definitionCount bs) (drop headerSize bs) i) (length-many readParticle particleSize (particleCount bs) fromParticles i)
+        written w (numberAt versionAt 4 bs) (numberAt nextAt 4 bs) (length-many readDefinition definitionSize (definitionCount bs) (drop headerSize bs) i) (length-many readParticle particleSize (particleCount bs) fromParticles i)
         (length-many readAttribute (attributeSize w) (attributeCount bs) fromAttributes i) (length-many readRow (rowSize w) (rowCount bs) fromRows i) (bodies-canonical i)
 
     all-canonical : flatBytes w (readFlat w bs) ≡ bs
     all-canonical =
         counted
-        ∙ number-then bs 0 4 (numberAt 0 4 bs) small refl (omega arith)
-        (number-then bs 4 4 (numberAt 4 4 bs) small refl (omega arith)
-        (number-then bs 8 4 headerSize small (sym (header .definitionsAt)) (omega arith)
-        (number-then bs 12 4 (definitionCount bs) small refl (omega arith)
-        (number-then bs 16 4 (atParticles bs) small (sym (header .particlesAt)) (omega arith)
-        (number-then bs 20 4 (particleCount bs) small refl (omega arith)
-        (number-then bs 24 4 (atAttributes bs) small (sym (header .attributesAt)) (omega arith)
-        (number-then bs 28 4 (attributeCount bs) small refl (omega arith)
-        (number-then bs 32 4 (atRows w bs) small (sym (header .rowsAt)) (omega arith)
-        (number-then bs 36 4 (rowCount bs) small refl (omega arith) refl)))))))))
+        ∙ number-then bs versionAt 4 (numberAt versionAt 4 bs) small refl (omega arith)
+        (number-then bs nextAt 4 (numberAt nextAt 4 bs) small refl (omega arith)
+        (number-then bs definitionEntryAt 4 headerSize small (sym (header .definitionsAt)) (omega arith)
+        (number-then bs (definitionEntryAt + 4) 4 (definitionCount bs) small refl (omega arith)
+        (number-then bs particleEntryAt 4 (atParticles bs) small (sym (header .particlesAt)) (omega arith)
+        (number-then bs (particleEntryAt + 4) 4 (particleCount bs) small refl (omega arith)
+        (number-then bs attributeEntryAt 4 (atAttributes bs) small (sym (header .attributesAt)) (omega arith)
+        (number-then bs (attributeEntryAt + 4) 4 (attributeCount bs) small refl (omega arith)
+        (number-then bs rowEntryAt 4 (atRows w bs) small (sym (header .rowsAt)) (omega arith)
+        (number-then bs (rowEntryAt + 4) 4 (rowCount bs) small refl (omega arith) refl)))))))))
 
 pub string-canonical : (w : ℕ) (bs : Bytes) → Small bs → headerFits w bs ≡ true → bodiesFit w bs ≡ true → flatBytes w (readFlat w bs) ≡ bs
 string-canonical w bs a h b = all-canonical w bs a (header-fields w bs h) (body-parts w bs b)
@@ -279,7 +280,7 @@ module _ (w : ℕ) (f : FlatStore) (x : FittingFlat w f) where
   header-fits narrow =
       and-both (le-leb headerSize (length (flatBytes w f)) (omega (arith, length-flatBytes w f)))
       (and-both (ap knownVersion (unle-le 4 (f .version) (fitting-good w f x .version)) ∙ x .version)
-      (and-both counts-fit (and-both (offsets-fit narrow) (and-both (sized-bytes w f (fitting-good w f x)) (le-leb 1 (numberAt 4 4 (flatBytes w f)) (omega (arith, unle-le 4 (f .next) (x .most))))))))
+      (and-both counts-fit (and-both (offsets-fit narrow) (and-both (sized-bytes w f (fitting-good w f x)) (le-leb 1 (numberAt nextAt 4 (flatBytes w f)) (omega (arith, unle-le 4 (f .next) (x .most))))))))
 
   -- the string, and its bodies one after another
   abbrev string : Bytes

@@ -1,17 +1,16 @@
 -- The tests of single records and of the header that the check makes, on their bytes.
-use Prim.Native.Nat.{ℕ, zero, suc, _+_, _*_, _-_, _<_}
-use mathlib.Core.Path.{_≡_}
+use Prim.Native.Nat.{ℕ, zero, suc, _+_, _*_, _-_}
 use mathlib.Core.Bool.{Bool, true, _&&_, _||_, not}
 use lib.Dec.{eqb, leb, ltb}
 use lib.ListN.{length, take, drop, getD}
-use Rattle.rules.specs.Bytes.{Bytes, all}
+use Rattle.rules.specs.Bytes.{Bytes}
 use Rattle.rules.specs.Layout.{nameWidth, headerSize, definitionSize, particleSize, attributeSize, rowSize}
-use Rattle.rules.specs.Decode.{numberAt, definitionCount, particleCount, attributeCount, rowCount, sized, sortOf}
+use Rattle.rules.specs.Decode.{numberAt, readDefinition, readAttribute, readRow, definitionCount, particleCount, attributeCount, rowCount, sized, sortOf}
 use Rattle.rules.specs.WellFormed.{storedName, isValue, isFill}
 use Rattle.rules.specs.Passing.{knownVersion}
-
-abbrev pub zeros : Bytes → Bool
-zeros bs = all (λ x. eqb x 0) bs
+use Rattle.byte_check.specs.Zeros.{zeros}
+use Rattle.layout.specs.Fields.{definitionEntryAt, particleEntryAt, attributeEntryAt, rowEntryAt, versionAt, nextAt}
+use Rattle.layout.specs.Fields.{definitionNameAt, attributeNameAt, attributeValueAt, attributeLength, rowValueAt, rowLength, unusedFit}
 
 -- a field of `width` bytes at `at`, of which the first `used` are used and the others zero
 abbrev pub used : Bytes → ℕ → ℕ → Bytes
@@ -30,24 +29,23 @@ valueFits w bs at l = isValue w (used bs at l) && filled bs at l w
 
 -- ---- records
 unfoldable pub definitionFits : Bytes → Bool
-definitionFits bs = nameFits bs 0 && (leb (getD bs 17 0) 2 && (eqb (getD bs 17 0) 2 || eqb (numberAt 18 2 bs) 0))
+definitionFits bs =
+    nameFits bs definitionNameAt && (leb (readDefinition bs .kind) 2 && (eqb (readDefinition bs .kind) 2 || eqb (readDefinition bs .particles) 0))
 
 -- n definitions are there
 unfoldable pub attributeFits : ℕ → ℕ → Bytes → Bool
 attributeFits w n bs =
-    ltb (getD bs 0 0) n
-    && (nameFits bs 1 && (leb (getD bs 18 0) 2 && (valueFits w bs 20 (getD bs 19 0) && isFill (sortOf (getD bs 18 0)) (used bs 20 (getD bs 19 0)))))
-
--- the bytes of a tree row that no field has
-unfoldable pub unusedFit : ℕ → Bytes → Bool
-unusedFit w bs = eqb (getD bs 9 0) 0 && (eqb (getD bs (10 + w) 0) 0 && eqb (getD bs (11 + w) 0) 0)
+    ltb (readAttribute bs .owner) n
+    && (nameFits bs attributeNameAt
+    && (leb (readAttribute bs .sort) 2
+    && (valueFits w bs attributeValueAt (attributeLength bs) && isFill (sortOf (readAttribute bs .sort)) (readAttribute bs .value))))
 
 -- the fields of a tree row apart from its depth, index and serial: an element has no value, a text has index 0
 unfoldable pub rowFits : ℕ → Bytes → Bool
 rowFits w bs =
-    (leb 1 (getD bs 0 0) && leb (getD bs 0 0) 3)
-    && (valueFits w bs 10 (getD bs 8 0)
-    && ((not (eqb (getD bs 0 0) 1) || eqb (getD bs 8 0) 0) && ((not (eqb (getD bs 0 0) 3) || eqb (numberAt 2 2 bs) 0) && unusedFit w bs)))
+    (leb 1 (readRow bs .row .sort) && leb (readRow bs .row .sort) 3)
+    && (valueFits w bs rowValueAt (rowLength bs)
+    && ((not (eqb (readRow bs .row .sort) 1) || eqb (rowLength bs) 0) && ((not (eqb (readRow bs .row .sort) 3) || eqb (readRow bs .row .index) 0) && unusedFit w bs)))
 
 -- ---- bodies of records
 -- every one of `count` records of `size` bytes passes
@@ -76,7 +74,7 @@ unfoldable pub countsFit : Bytes → Bool
 countsFit bs = leb (definitionCount bs) 64 && (leb (particleCount bs) 256 && (leb (attributeCount bs) 64 && leb (rowCount bs) 4096))
 
 unfoldable pub offsetsFit : ℕ → Bytes → Bool
-offsetsFit w bs = eqb (numberAt 8 4 bs) headerSize && (eqb (numberAt 16 4 bs) (atParticles bs) && (eqb (numberAt 24 4 bs) (atAttributes bs) && eqb (numberAt 32 4 bs) (atRows w bs)))
+offsetsFit w bs = eqb (numberAt definitionEntryAt 4 bs) headerSize && (eqb (numberAt particleEntryAt 4 bs) (atParticles bs) && (eqb (numberAt attributeEntryAt 4 bs) (atAttributes bs) && eqb (numberAt rowEntryAt 4 bs) (atRows w bs)))
 
 unfoldable pub headerFits : ℕ → Bytes → Bool
-headerFits w bs = leb headerSize (length bs) && (knownVersion (numberAt 0 4 bs) && (countsFit bs && (offsetsFit w bs && (sized w bs && leb 1 (numberAt 4 4 bs)))))
+headerFits w bs = leb headerSize (length bs) && (knownVersion (numberAt versionAt 4 bs) && (countsFit bs && (offsetsFit w bs && (sized w bs && leb 1 (numberAt nextAt 4 bs)))))

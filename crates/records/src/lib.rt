@@ -1,24 +1,14 @@
-// The tests of single records and of the header, on their bytes. All are total: a byte past the end counts 0.
-use codec::byte;
-use codec::get_u16;
-use codec::get_u32;
+// The tests of single records, on their bytes. All are total: a byte past the end counts 0.
 ghost use mathlib.Core.Path.{_≡_};
-ghost use Prim.Native.Nat.{min, _+_, _≤_};
-ghost use lib.ListN.{length, take, drop};
-ghost use Rattle.rules.specs.Bytes.{all, between};
+ghost use Prim.Native.Nat.{min};
+ghost use lib.ListN.{take, drop};
 ghost use Rattle.rules.specs.Layout.{definitionSize, attributeSize};
-ghost use Rattle.rules.specs.Decode.{sized, sortOf};
-ghost use Rattle.rules.specs.WellFormed.{startsName, inName, storedName, isValue, isFill};
+ghost use Rattle.rules.specs.Decode.{sortOf};
+ghost use Rattle.rules.specs.WellFormed.{storedName, isValue, isFill};
 ghost use Rattle.rules.specs.Conforming.{mustBePresent, allows};
 ghost use Rattle.rules.specs.Filling.{createdValue};
 ghost use Rattle.layout.specs.Bodies.{Width};
-ghost use Rattle.records.specs.Records.{zeros, filled, nameFits, valueFits, definitionFits, attributeFits, unusedFit, rowFits, eachFits, countsFit, offsetsFit, headerFits};
-
-const BASE_VERSION: usize = 1;
-
-const NAME_WIDTH: usize = 16;
-
-const DEFINITION_SIZE: usize = 20;
+ghost use Rattle.records.specs.Records.{filled, nameFits, valueFits, definitionFits, attributeFits, rowFits, eachFits};
 
 // ---- bytes
 
@@ -48,132 +38,7 @@ fn wide(x: u8) -> usize
     x as usize
 }
 
-// Whether the eight bytes from i on are 0.
-fn eight_zeros(s: &[u8], i: usize) -> bool
-    requires { ⌜ i + 8 ≤ length (now s) ⌝ }
-    ensures { λ r. ⌜ r ≡ zeros (take 8 (drop i (now (s .entry)))) ⌝ }
-{
-    let a = s[i] == 0;
-    let b = s[i + 1] == 0;
-    let c = s[i + 2] == 0;
-    let d = s[i + 3] == 0;
-    let e = s[i + 4] == 0;
-    let f = s[i + 5] == 0;
-    let g = s[i + 6] == 0;
-    let h = s[i + 7] == 0;
-    a & (b & (c & (d & (e & (f & (g & h))))))
-}
-
-fn single_zeros(s: &[u8]) -> bool
-    ensures { λ r. ⌜ r ≡ zeros (now (s .entry)) ⌝ }
-{
-    let mut i = 0;
-    while i < s.len() {
-        if s[i] != 0 {
-            return false;
-        }
-        i += 1;
-    }
-    true
-}
-
-/// Whether all bytes are 0.
-// By eights; the last eight may overlap those before.
-pub fn zeros(s: &[u8]) -> bool
-    ensures { λ r. ⌜ r ≡ zeros (now (s .entry)) ⌝ }
-{
-    if s.len() < 8 {
-        return single_zeros(s);
-    }
-    let last = s.len() - 8;
-    let mut i = 0;
-    while i < last {
-        if !eight_zeros(s, i) {
-            return false;
-        }
-        i += 8;
-    }
-    eight_zeros(s, last)
-}
-
 // ---- names and values
-
-fn starts_name(x: u8) -> bool
-    ensures { λ r. ⌜ r ≡ startsName x ⌝ }
-{
-    ((b'A' <= x) & (x <= b'Z')) | ((b'a' <= x) & (x <= b'z')) | (x == b'_')
-}
-
-fn in_name(x: u8) -> bool
-    ensures { λ r. ⌜ r ≡ inName x ⌝ }
-{
-    starts_name(x) | ((b'0' <= x) & (x <= b'9')) | (x == b'-') | (x == b'.')
-}
-
-fn all_in_name(s: &[u8]) -> bool
-    ensures { λ r. ⌜ r ≡ all inName (now (s .entry)) ⌝ }
-{
-    let mut i = 0;
-    while i < s.len() {
-        if !in_name(s[i]) {
-            return false;
-        }
-        i += 1;
-    }
-    true
-}
-
-fn printable(x: u8) -> bool
-    ensures { λ r. ⌜ r ≡ between 0x20 0x7E x ⌝ }
-{
-    (b' ' <= x) & (x <= b'~')
-}
-
-// Whether the eight bytes from i on are printable.
-fn eight_printable(s: &[u8], i: usize) -> bool
-    requires { ⌜ i + 8 ≤ length (now s) ⌝ }
-    ensures { λ r. ⌜ r ≡ all (between 0x20 0x7E) (take 8 (drop i (now (s .entry)))) ⌝ }
-{
-    let a = printable(s[i]);
-    let b = printable(s[i + 1]);
-    let c = printable(s[i + 2]);
-    let d = printable(s[i + 3]);
-    let e = printable(s[i + 4]);
-    let f = printable(s[i + 5]);
-    let g = printable(s[i + 6]);
-    let h = printable(s[i + 7]);
-    a & (b & (c & (d & (e & (f & (g & h))))))
-}
-
-fn single_printable(s: &[u8]) -> bool
-    ensures { λ r. ⌜ r ≡ all (between 0x20 0x7E) (now (s .entry)) ⌝ }
-{
-    let mut i = 0;
-    while i < s.len() {
-        if !printable(s[i]) {
-            return false;
-        }
-        i += 1;
-    }
-    true
-}
-
-fn all_printable(s: &[u8]) -> bool
-    ensures { λ r. ⌜ r ≡ all (between 0x20 0x7E) (now (s .entry)) ⌝ }
-{
-    if s.len() < 8 {
-        return single_printable(s);
-    }
-    let last = s.len() - 8;
-    let mut i = 0;
-    while i < last {
-        if !eight_printable(s, i) {
-            return false;
-        }
-        i += 8;
-    }
-    eight_printable(s, last)
-}
 
 /// Whether the bytes are a name that may stand in a store.
 pub fn stored_name(s: &[u8]) -> bool
@@ -182,14 +47,16 @@ pub fn stored_name(s: &[u8]) -> bool
     if s.len() == 0 {
         return false;
     }
-    starts_name(s[0]) & all_in_name(after(s, 1)) & (s.len() <= NAME_WIDTH)
+    byte_check::starts_name(s[0])
+        & byte_check::all_in_name(after(s, 1))
+        & (s.len() <= layout::NAME_WIDTH)
 }
 
 /// Whether the bytes are a value.
 pub fn is_value(w: usize, s: &[u8]) -> bool
     ensures { λ r. ⌜ r ≡ isValue w (now (s .entry)) ⌝ }
 {
-    (s.len() <= w) & all_printable(s)
+    (s.len() <= w) & byte_check::all_printable(s)
 }
 
 // Whether a value may stand in an attribute of a sort: none if IMPLIED (0), one if REQUIRED (1).
@@ -215,7 +82,7 @@ fn filled(rec: &[u8], at: usize, used: usize, width: usize) -> bool
         return false;
     }
     let field = first(after(rec, at), width);
-    zeros(after(field, used))
+    byte_check::zeros(after(field, used))
 }
 
 // Whether a name stands at `at`, with its length before it.
@@ -226,8 +93,8 @@ fn name_fits(rec: &[u8], at: usize) -> bool
         return false;
     }
     let start = at + 1;
-    let used = wide(byte(rec, at));
-    stored_name(first(after(rec, start), used)) & filled(rec, start, used, NAME_WIDTH)
+    let used = wide(codec::byte(rec, at));
+    stored_name(first(after(rec, start), used)) & filled(rec, start, used, layout::NAME_WIDTH)
 }
 
 // Whether a value of `used` bytes stands at `at`.
@@ -243,30 +110,23 @@ fn value_fits(w: usize, rec: &[u8], at: usize, used: usize) -> bool
 pub fn definition_fits(rec: &[u8]) -> bool
     ensures { λ r. ⌜ r ≡ definitionFits (now (rec .entry)) ⌝ }
 {
-    let kind = byte(rec, 17);
-    let particles = get_u16(rec, 18);
-    name_fits(rec, 0) & ((kind <= 2) & ((kind == 2) | (particles == 0)))
+    let kind = layout::definition_kind(rec);
+    let particles = layout::definition_particles(rec);
+    name_fits(rec, layout::DEFINITION_NAME) & ((kind <= 2) & ((kind == 2) | (particles == 0)))
 }
 
 /// Whether a record is that of an attribute, among n definitions.
 pub fn attribute_fits(w: usize, rec: &[u8], n: usize) -> bool
     ensures { λ r. ⌜ r ≡ attributeFits w n (now (rec .entry)) ⌝ }
 {
-    let owner = wide(byte(rec, 0));
-    let sort = byte(rec, 18);
-    let used = wide(byte(rec, 19));
-    let value = first(after(rec, 20), used);
+    let owner = layout::attribute_owner(rec);
+    let sort = layout::attribute_sort(rec);
+    let used = layout::attribute_length(rec);
+    let value = layout::attribute_value(rec);
     (owner < n)
-        & (name_fits(rec, 1)
-            & ((sort <= 2) & (value_fits(w, rec, 20, used) & is_fill(sort, value))))
-}
-
-// Whether the bytes of a row that no field has are zeros.
-fn unused_fit(w: usize, rec: &[u8]) -> bool
-    requires { ⌜ Width w ⌝ }
-    ensures { λ r. ⌜ r ≡ unusedFit w (now (rec .entry)) ⌝ }
-{
-    (byte(rec, 9) == 0) & ((byte(rec, 10 + w) == 0) & (byte(rec, 11 + w) == 0))
+        & (name_fits(rec, layout::ATTRIBUTE_NAME)
+            & ((sort <= 2)
+                & (value_fits(w, rec, layout::ATTRIBUTE_VALUE, used) & is_fill(sort, value))))
 }
 
 /// Whether a record is a row's, apart from its depth.
@@ -274,13 +134,15 @@ pub fn row_fits(w: usize, rec: &[u8]) -> bool
     requires { ⌜ Width w ⌝ }
     ensures { λ r. ⌜ r ≡ rowFits w (now (rec .entry)) ⌝ }
 {
-    let sort = byte(rec, 0);
-    let used = wide(byte(rec, 8));
-    let index = get_u16(rec, 2);
+    let sort = layout::row_sort(rec);
+    let used = layout::row_length(rec);
+    let index = layout::row_index(rec);
     let known = (1 <= sort) & (sort <= 3);
     let element = (sort != 1) | (used == 0);
     let text = (sort != 3) | (index == 0);
-    known & (value_fits(w, rec, 10, used) & (element & (text & unused_fit(w, rec))))
+    known
+        & (value_fits(w, rec, layout::ROW_VALUE, used)
+            & (element & (text & layout::unused_fit(w, rec))))
 }
 
 // ---- bodies
@@ -299,10 +161,10 @@ pub fn definitions_fit(body: &[u8], count: usize) -> bool
     let mut rest = body;
     let mut left = count;
     while 0 < left {
-        if !definition_fits(first(rest, DEFINITION_SIZE)) {
+        if !definition_fits(first(rest, layout::DEFINITION_SIZE)) {
             return false;
         }
-        let read = least(DEFINITION_SIZE, rest.len());
+        let read = least(layout::DEFINITION_SIZE, rest.len());
         rest = &rest[read..];
         left -= 1;
     }
@@ -326,60 +188,6 @@ pub fn attributes_fit(w: usize, body: &[u8], count: usize, n: usize) -> bool
         left -= 1;
     }
     true
-}
-
-// ---- the header
-
-// Whether the counts are within the ceilings.
-fn counts_fit(store: &[u8]) -> bool
-    ensures { λ r. ⌜ r ≡ countsFit (now (store .entry)) ⌝ }
-{
-    let definitions = layout::definition_count(store);
-    let particles = layout::particle_count(store);
-    let attributes = layout::attribute_count(store);
-    let rows = layout::row_count(store);
-    (definitions <= 64) & ((particles <= 256) & ((attributes <= 64) & (rows <= 4096)))
-}
-
-// Whether each body begins where the one before it ends.
-fn offsets_fit(w: usize, store: &[u8]) -> bool
-    requires { ⌜ Width w ⌝ }
-    ensures { λ r. ⌜ r ≡ offsetsFit w (now (store .entry)) ⌝ }
-{
-    let n = layout::definition_count(store);
-    let p = layout::particle_count(store);
-    let at_particles = layout::through_definitions(n);
-    let at_attributes = layout::through_particles(n, p);
-    let at_rows = layout::through_attributes(w, n, p, layout::attribute_count(store));
-    let definitions = layout::definition_offset(store);
-    let particles = layout::particle_offset(store);
-    let attributes = layout::attribute_offset(store);
-    let rows = layout::row_offset(store);
-    (definitions == layout::through_definitions(0))
-        & ((particles == at_particles) & ((attributes == at_attributes) & (rows == at_rows)))
-}
-
-// Whether the string is as long as its counts say.
-fn is_sized(w: usize, store: &[u8]) -> bool
-    requires { ⌜ Width w ⌝ }
-    ensures { λ r. ⌜ r ≡ sized w (now (store .entry)) ⌝ }
-{
-    let n = layout::definition_count(store);
-    let p = layout::particle_count(store);
-    let a = layout::attribute_count(store);
-    store.len() == layout::through_rows(w, n, p, a, layout::row_count(store))
-}
-
-/// Whether a header stands at the front of a string: a known version, a next serial, counts and offsets that the length agrees with.
-pub fn header_fits(w: usize, store: &[u8]) -> bool
-    requires { ⌜ Width w ⌝ }
-    ensures { λ r. ⌜ r ≡ headerFits w (now (store .entry)) ⌝ }
-{
-    let version = layout::version_in(store);
-    let next = layout::next_serial(store);
-    (layout::through_definitions(0) <= store.len())
-        & ((version == BASE_VERSION)
-            & (counts_fit(store) & (offsets_fit(w, store) & (is_sized(w, store) & (1 <= next)))))
 }
 
 // ---- what an attribute's sort says

@@ -30,7 +30,7 @@ pub fn put_new(
     if c.left == 0 {
         return c;
     }
-    let at = layout::put_row(w, sort, depth, index, c.serial, value, out, c.at);
+    let at = layout_row_writer::put_row(w, sort, depth, index, c.serial, value, out, c.at);
     Cursor {
         at,
         left: c.left - 1,
@@ -46,7 +46,7 @@ pub fn put_kept(w: usize, row: &[u8], index: usize, c: Cursor, out: &mut [u8]) -
     if c.left == 0 {
         return c;
     }
-    let at = layout::put_row_moved(w, row, index, out, c.at);
+    let at = layout_row_writer::put_row_moved(w, row, index, out, c.at);
     Cursor {
         at,
         left: c.left - 1,
@@ -69,7 +69,7 @@ pub fn put_valued(
     if c.left == 0 {
         return c;
     }
-    let at = layout::put_row_valued(w, row, index, value, out, c.at);
+    let at = layout_row_writer::put_row_valued(w, row, index, value, out, c.at);
     Cursor {
         at,
         left: c.left - 1,

@@ -96,7 +96,7 @@ pub fn passes(store: &[u8]) -> bool
     ensures { λ r. ⌜ r ≡ passes (now (store .entry)) ⌝ }
 {
     let s = layout::shape_of(store);
-    if !records::header_fits(s.width, store) {
+    if !header_check::header_fits(s.width, store) {
         return false;
     }
     if !form_passes(store, s) {

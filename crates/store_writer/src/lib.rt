@@ -53,7 +53,7 @@ fn put_form(
     requires { ⌜ Width w × Heads (now form) next d p a r ⌝ }
     ensures { λ at. ⌜ Laid (headed w next d p a r (now (store .entry)) ++ now (form .entry)) (now (out .entry)) 0 at (now (out .exit)) ⌝ }
 {
-    let at = layout::put_header(w, store, next, d, p, a, r, out);
+    let at = layout_writer::put_header(w, store, next, d, p, a, r, out);
     codec::put(form, out, at)
 }
 

@@ -16,7 +16,7 @@ use Rattle.group_calls.proofs.Calls.{asks, not-absent, kept-answers, ow
 use borrow.Author.Needs.{needs}
 use Rattle.group_calls.proofs.convert_to_group.Statement.{statement}
 use Rattle.group_calls.proofs.convert_to_group.Tie as tie
-use Rattle.model.proofs.place.find.Reads as find-reads
+use Rattle.place_lookup.proofs.find.Reads as find-reads
 use Rattle.group_calls.proofs.edit_model.Reads as edit-model-reads
 use Rattle.form_refusals.proofs.group_kind.Reads as group-kind-reads
 use Rattle.plans.proofs.setting_plan.Reads as setting-plan-reads

@@ -14,7 +14,7 @@ use Rattle.group_calls.proofs.Calls.{asks, not-absent, kept-answers, ow
 use borrow.Author.Needs.{needs}
 use Rattle.group_calls.proofs.flatten_group.Statement.{statement}
 use Rattle.group_calls.proofs.flatten_group.Tie as tie
-use Rattle.model.proofs.place.find.Reads as find-reads
+use Rattle.place_lookup.proofs.find.Reads as find-reads
 use Rattle.group_calls.proofs.edit_model.Reads as edit-model-reads
 use Rattle.plans.proofs.setting_plan.Reads as setting-plan-reads
 use Rattle.form_refusals.proofs.own_part.Reads as own-part-reads

@@ -4,7 +4,7 @@ use Rattle.group_calls.proofs.FormWriting.{owner-low, keeps-not, keeps,
 use Rattle.group_calls.proofs.keeps_within.Statement.{statement}
 use Rattle.group_calls.proofs.keeps_within.Tie as tie
 use Rattle.form_refusals.proofs.own_part.Reads as own-part-reads
-use Rattle.model_writer.proofs.is_within.Reads as is-within-reads
+use Rattle.depth_check.proofs.is_within.Reads as is-within-reads
 
 returns : tie.Need-returns
 returns c = keeps-not (c .before .before .pre .0) (c .before .before .pre .1) (c .if1 .taken)

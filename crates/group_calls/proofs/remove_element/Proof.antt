@@ -12,7 +12,7 @@ use Rattle.group_calls.proofs.Removing.{remove-fits, removed-answers, r
 use borrow.Author.Needs.{needs}
 use Rattle.group_calls.proofs.remove_element.Statement.{statement}
 use Rattle.group_calls.proofs.remove_element.Tie as tie
-use Rattle.model.proofs.place.find.Reads as find-reads
+use Rattle.place_lookup.proofs.find.Reads as find-reads
 use Rattle.group_calls.proofs.edit_model.Reads as edit-model-reads
 use Rattle.form_refusals.proofs.own_part.Reads as own-part-reads
 use Rattle.store_writer.proofs.refused.Reads as refused-reads

@@ -4,7 +4,7 @@ use Prim.Native.Nat.{ℕ, _+_}
 use native.Mathlib.Omega.{arith}
 use lib.ListN.{length}
 use Rattle.rules.specs.Decode.{readRow}
-use Rattle.layout.specs.Bodies.{valueOffset}
+use Rattle.layout.specs.Fields.{rowValueAt}
 use Rattle.lookup.specs.Bodies.{rowPart}
 use Rattle.lookup.proofs.Laws.{looks-as, found-element, found-value}
 use borrow.Author.Needs.{needs}
@@ -44,7 +44,7 @@ returns-2 c = let at-sort = c .before .before .before .before in
     let part = at-sort .before .row .ensures in
     let sort : at-sort .row-sort .result ≡ readRow (rowPart (a .store .now) (a .i)) .row .sort = at-sort .row-sort .ensures ∙ ap (λ (l : List ℕ). readRow l .row .sort) part in
     looks-as
-    (c .value-place .ensures .value ∙ ap (λ (k : ℕ). k + valueOffset) (c .before .row-place .ensures .value))
+    (c .value-place .ensures .value ∙ ap (λ (k : ℕ). k + rowValueAt) (c .before .row-place .ensures .value))
     (ap length (c .before .before .row-value .ensures ∙ ap (λ (l : List ℕ). readRow l .row .value) part))
     (found-value (a .store .now) (a .i) (λ g. c .before .before .before .if1 .left (sort ∙ g)))
 

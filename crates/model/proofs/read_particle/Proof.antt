@@ -4,43 +4,51 @@ use borrow.Author.Needs.{needs}
 use Rattle.model.proofs.read_particle.Statement.{statement}
 use Rattle.model.proofs.read_particle.Tie as tie
 
-byte-requires : tie.Need-byte-requires
-byte-requires c κs = search needs
+sub-rec : tie.Need-sub-rec
+sub-rec c = search needs
 
-add-byte : tie.Need-add-byte
-add-byte c = search needs
+part-rec-start : tie.Need-part-rec-start
+part-rec-start c = search needs
 
-byte-requires-2 : tie.Need-byte-requires-2
-byte-requires-2 c κs = search needs
+part-rec-end : tie.Need-part-rec-end
+part-rec-end c = search needs
 
-cast-read-what : tie.Need-cast-read-what
-cast-read-what c = search needs
+particle-index-requires : tie.Need-particle-index-requires
+particle-index-requires c κs = search needs
+
+cast-index : tie.Need-cast-index
+cast-index c = search needs
+
+particle-sort-requires : tie.Need-particle-sort-requires
+particle-sort-requires c κs = search needs
 
 read-what-requires : tie.Need-read-what-requires
 read-what-requires c κs = search needs
 
-add-byte-2 : tie.Need-add-byte-2
-add-byte-2 c = search needs
-
-byte-requires-3 : tie.Need-byte-requires-3
-byte-requires-3 c κs = search needs
+particle-quantifier-requires : tie.Need-particle-quantifier-requires
+particle-quantifier-requires c κs = search needs
 
 read-quantifier-requires : tie.Need-read-quantifier-requires
 read-quantifier-requires c κs = search needs
 
 returns : tie.Need-returns
-returns c = particle-read (c .before .before .before .before .before .before .args .s .now) (c .before .before .before .before .before .before .args .at) _ _ _ _ _ (c .before .before .before .before .byte .ensures) (c .before .before .before .byte2 .ensures) (c .before .byte3 .ensures) (c .before .before .read-what .ensures) (c .read-quantifier .ensures)
+returns c =
+    let sorted = c .before .before .before in
+    let indexed = sorted .before in
+    let a = indexed .before .before .before .args in
+    particle-read (a .s .now) (a .at) _ _ _ _ _ (sorted .particle-sort .ensures) (indexed .particle-index .ensures) (c .before .particle-quantifier .ensures) (c .before .before .read-what .ensures) (c .read-quantifier .ensures)
 
 pub read-particle-spec : {M : Type 1} → statement M
 read-particle-spec =
     tie.close
     (tie.spec
-    byte-requires
-    add-byte
-    byte-requires-2
-    cast-read-what
+    sub-rec
+    part-rec-start
+    part-rec-end
+    particle-index-requires
+    cast-index
+    particle-sort-requires
     read-what-requires
-    add-byte-2
-    byte-requires-3
+    particle-quantifier-requires
     read-quantifier-requires
     returns)

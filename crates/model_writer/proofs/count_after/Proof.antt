@@ -33,8 +33,8 @@ less-requires-2 c κs = search needs
 enum-told-4 : tie.Need-enum-told-4
 enum-told-4 c = search needs
 
-byte-requires : tie.Need-byte-requires
-byte-requires c κs = search needs
+particle-index-requires : tie.Need-particle-index-requires
+particle-index-requires c κs = search needs
 
 cast-less : tie.Need-cast-less
 cast-less c = search needs
@@ -58,7 +58,7 @@ returns-4 : tie.Need-returns-4
 returns-4 c = c .less2 .ensures ∙ count-case _ (c .before .before .before .before .before .args .n) (c .before .before .edit .given .1)
 
 returns-5 : tie.Need-returns-5
-returns-5 c = c .less3 .ensures ∙ ap (λ (k : ℕ). c .before .before .before .before .before .args .n + k - 1) (c .before .byte .ensures ∙ sym (first-index (c .before .before .before .before .before .args .ys .now) (c .before .before .before .before .before .pre .0))) ∙ count-case _ (c .before .before .before .before .before .args .n) (c .before .before .enum-told4 .given .1)
+returns-5 c = c .less3 .ensures ∙ ap (λ (k : ℕ). c .before .before .before .before .before .args .n + k - 1) (c .before .particle-index .ensures ∙ sym (first-index (c .before .before .before .before .before .args .ys .now) (c .before .before .before .before .before .pre .0))) ∙ count-case _ (c .before .before .before .before .before .args .n) (c .before .before .enum-told4 .given .1)
 
 pub count-after-spec : {M : Type 1} → statement M
 count-after-spec =
@@ -73,7 +73,7 @@ count-after-spec =
     add-less
     less-requires-2
     enum-told-4
-    byte-requires
+    particle-index-requires
     cast-less
     add-less-2
     less-requires-3

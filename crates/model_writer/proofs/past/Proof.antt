@@ -1,10 +1,11 @@
 -- `model_writer::past` meets its contract.
 use mathlib.Core.Path.{_∙_}
 use Prim.Native.Nat.{_*_}
-use Rattle.model_writer.proofs.WritingLaws.{cut-past}
+use Rattle.layout.proofs.LayoutLaws.{cut-past}
 use borrow.Author.Needs.{needs}
 use Rattle.model_writer.proofs.past.Statement.{statement}
 use Rattle.model_writer.proofs.past.Tie as tie
+use Rattle.rules.specs.Layout.{particleSize}
 
 mul-window : tie.Need-mul-window
 mul-window c = search needs
@@ -13,7 +14,7 @@ window-requires : tie.Need-window-requires
 window-requires c κs = search needs
 
 returns : tie.Need-returns
-returns c = c .window .ensures ∙ cut-past (c .before .before .args .s .now) (4 * c .before .before .args .n)
+returns c = c .window .ensures ∙ cut-past (c .before .before .args .s .now) (particleSize * c .before .before .args .n)
 
 pub past-spec : {M : Type 1} → statement M
 past-spec = tie.close (tie.spec mul-window window-requires returns)

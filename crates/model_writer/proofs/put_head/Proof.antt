@@ -3,10 +3,12 @@ use mathlib.Core.Path.{sym, _∙_}
 use Prim.Native.Nat.{_+_, _-_, _*_}
 use native.Mathlib.Omega.{arith}
 use Rattle.codec.proofs.Writers.{laid-as, laid-then}
-use Rattle.model_writer.proofs.HeadWriting.{length-cut, head-top, head-split, head-fits, head-group}
+use Rattle.layout.proofs.LayoutLaws.{length-cut}
+use Rattle.model_writer.proofs.HeadWriting.{head-top, head-split, head-fits, head-group}
 use borrow.Author.Needs.{needs}
 use Rattle.model_writer.proofs.put_head.Statement.{statement}
 use Rattle.model_writer.proofs.put_head.Tie as tie
+use Rattle.rules.specs.Layout.{particleSize}
 
 mul-window : tie.Need-mul-window
 mul-window c = search needs
@@ -42,7 +44,7 @@ past-requires : tie.Need-past-requires
 past-requires c κs = omega (arith, c .before .before .before .before .before .before .before .before .before .pre .inside, c .before .before .before .before .before .before .before .before .before .pre .room)
 
 put-recounted-requires : tie.Need-put-recounted-requires
-put-recounted-requires c κs = let v = c .before .before .before .before .before .before .before .before .before .before .before .pre in let w = head-fits v (omega arith) (c .before .before .window3 .ensures) (c .before .past .ensures) in (w .0, w .1, omega (arith, v .room, c .before .before .before .before .before .put2 .ensures .next, length-cut (c .before .before .before .before .before .before .before .before .before .before .before .args .part .now) _ 0 (4 * (c .before .before .before .before .before .before .before .before .before .before .before .args .first - 1)) (c .before .before .before .before .before .before .before .window2 .ensures)))
+put-recounted-requires c κs = let v = c .before .before .before .before .before .before .before .before .before .before .before .pre in let w = head-fits v (omega arith) (c .before .before .window3 .ensures) (c .before .past .ensures) in (w .0, w .1, omega (arith, v .room, c .before .before .before .before .before .put2 .ensures .next, length-cut (c .before .before .before .before .before .before .before .before .before .before .before .args .part .now) _ 0 (particleSize * (c .before .before .before .before .before .before .before .before .before .before .before .args .first - 1)) (c .before .before .before .before .before .before .before .window2 .ensures)))
 
 add-window : tie.Need-add-window
 add-window c = search needs
@@ -60,7 +62,7 @@ window-requires-4 : tie.Need-window-requires-4
 window-requires-4 c κs = search needs
 
 put-requires-3 : tie.Need-put-requires-3
-put-requires-3 c κs = let a = c .before .before .before .before .before .before .before .before .before .before .before .before .before .before .before .before in omega (arith, a .pre .room, c .before .before .before .before .before .before .before .before .before .before .put2 .ensures .next, c .before .before .before .before .put-recounted .ensures .next, length-cut (a .args .part .now) _ 0 (4 * (a .args .first - 1)) (c .before .before .before .before .before .before .before .before .before .before .before .before .window2 .ensures), length-cut (a .args .part .now) _ (4 * (a .args .first - 1) + 4) (4 * a .args .n - 4 * a .args .first) (c .before .window4 .ensures))
+put-requires-3 c κs = let a = c .before .before .before .before .before .before .before .before .before .before .before .before .before .before .before .before in omega (arith, a .pre .room, c .before .before .before .before .before .before .before .before .before .before .put2 .ensures .next, c .before .before .before .before .put-recounted .ensures .next, length-cut (a .args .part .now) _ 0 (particleSize * (a .args .first - 1)) (c .before .before .before .before .before .before .before .before .before .before .before .before .window2 .ensures), length-cut (a .args .part .now) _ (particleSize * (a .args .first - 1) + particleSize) (particleSize * a .args .n - particleSize * a .args .first) (c .before .window4 .ensures))
 
 same-length-2 : tie.Need-same-length-2
 same-length-2 c = search needs

@@ -5,7 +5,7 @@ use native.Mathlib.Omega.{arith}
 use borrow.Author.Needs.{needs}
 use lib.Dec.{ltb}
 use lib.ListN.{length, drop, length-take, length-drop}
-use Rattle.rules.specs.Layout.{each, particleBytes}
+use Rattle.rules.specs.Layout.{each, particleBytes, particleSize}
 use Rattle.model.specs.Members.{particlesOf}
 use Rattle.model_writer.specs.PartAfter.{moved}
 use Rattle.model_writer.specs.Writing.{shift}
@@ -22,8 +22,8 @@ abbrev μ-loop : tie.MeasureT-loop
 loop-holds : tie.Need-loop-holds Inv-loop μ-loop
 loop-holds c = let a = c .before .before in going-all _ _ _ _ _ _ _ (a .pre .0) (a .pre .1) (a .pre .2)
 
-byte-requires : tie.Need-byte-requires Inv-loop μ-loop
-byte-requires c κs = search needs
+particle-depth-requires : tie.Need-particle-depth-requires Inv-loop μ-loop
+particle-depth-requires c κs = search needs
 
 cast-inner : tie.Need-cast-inner Inv-loop μ-loop
 cast-inner c = search needs
@@ -35,10 +35,10 @@ same-length : tie.Need-same-length Inv-loop μ-loop
 same-length c = c .before .before .put .kept .1 .0 ∙ c .before .before .before .before .before .before .before .loop .inv .long
 
 returns : tie.Need-returns Inv-loop μ-loop
-returns c = going-rest (c .before .before .before .before .before .before .before .loop .inv) (omega arith) _ (ap (λ (z : ℕ). ltb (c .before .before .before .before .before .before .before .before .before .before .args .d) z) (sym (c .before .before .before .before .before .byte .ensures))) (c .before .before .before .before .if1 .taken) (c .before .before .put .ensures)
+returns c = going-rest (c .before .before .before .before .before .before .before .loop .inv) (omega arith) _ (ap (λ (z : ℕ). ltb (c .before .before .before .before .before .before .before .before .before .before .args .d) z) (sym (c .before .before .before .before .before .particle-depth .ensures))) (c .before .before .before .before .if1 .taken) (c .before .before .put .ensures)
 
 put-shifted-requires : tie.Need-put-shifted-requires Inv-loop μ-loop
-put-shifted-requires c κs = let l = c .before .before .before .before .loop in (going-fits (l .inv) (omega arith) _ (ap (λ (z : ℕ). ltb (c .before .before .before .before .before .before .before .args .d) z) (sym (c .before .before .byte .ensures))) (c .before .if1 .left), omega (arith, l .inv .room))
+put-shifted-requires c κs = let l = c .before .before .before .before .loop in (going-fits (l .inv) (omega arith) _ (ap (λ (z : ℕ). ltb (c .before .before .before .before .before .before .before .args .d) z) (sym (c .before .before .particle-depth .ensures))) (c .before .if1 .left), omega (arith, l .inv .room))
 
 left-requires : tie.Need-left-requires Inv-loop μ-loop
 left-requires c κs = search needs
@@ -53,10 +53,10 @@ part-t-end : tie.Need-part-t-end Inv-loop μ-loop
 part-t-end c = search needs
 
 loop-less : tie.Need-loop-less Inv-loop μ-loop
-loop-less c = let t = c .before .before .before .before .before .before .before .before .before .loop .t .now in omega (arith, length-take (length t - 4) (drop 4 t), length-drop 4 t)
+loop-less c = let t = c .before .before .before .before .before .before .before .before .before .loop .t .now in omega (arith, length-take (length t - particleSize) (drop particleSize t), length-drop particleSize t)
 
 loop-again : tie.Need-loop-again Inv-loop μ-loop
-loop-again c = going-step (c .before .before .before .before .before .before .before .before .before .loop .inv) (omega arith) _ (ap (λ (z : ℕ). ltb (c .before .before .before .before .before .before .before .before .before .before .before .before .args .d) z) (sym (c .before .before .before .before .before .before .before .byte .ensures))) (c .before .before .before .before .before .before .if1 .left) (c .before .left .ensures) (c .before .before .before .before .put-shifted .kept .1 .1 .0) (c .before .before .before .before .put-shifted .ensures)
+loop-again c = going-step (c .before .before .before .before .before .before .before .before .before .loop .inv) (omega arith) _ (ap (λ (z : ℕ). ltb (c .before .before .before .before .before .before .before .before .before .before .before .before .args .d) z) (sym (c .before .before .before .before .before .before .before .particle-depth .ensures))) (c .before .before .before .before .before .before .if1 .left) (c .before .left .ensures) (c .before .before .before .before .put-shifted .kept .1 .1 .0) (c .before .before .before .before .put-shifted .ensures)
 
 same-length-2 : tie.Need-same-length-2 Inv-loop μ-loop
 same-length-2 c = c .before .loop .inv .long
@@ -71,7 +71,7 @@ put-moved-spec =
     Inv-loop
     μ-loop
     loop-holds
-    byte-requires
+    particle-depth-requires
     cast-inner
     put-requires
     same-length

@@ -4,8 +4,9 @@ use Prim.Native.Nat.{_+_, _*_}
 use native.Mathlib.Omega.{arith}
 use lib.ListN.{length, length-drop}
 use Rattle.rules.specs.Bytes.{Bytes}
+use Rattle.rules.specs.Layout.{particleSize}
 use Rattle.codec.proofs.Writers.{laid-as, laid-then}
-use Rattle.model_writer.proofs.HeadWriting.{length-cut}
+use Rattle.layout.proofs.LayoutLaws.{length-cut}
 use Rattle.model_writer.proofs.BodyWriting.{length-few, body-bytes, body-part}
 use borrow.Author.Needs.{needs}
 use Rattle.model_writer.proofs.put_particles.Statement.{statement}
@@ -30,7 +31,7 @@ window-requires-2 : tie.Need-window-requires-2
 window-requires-2 c κs = search needs
 
 put-part-requires : tie.Need-put-part-requires
-put-part-requires c κs = let a = c .before .before .before .before .before .before .before .before .before in (body-part (a .pre .0) (c .before .window2 .ensures), omega (arith, a .pre .1, c .before .before .before .before .put .ensures .next, length-cut (a .args .parts .now) _ 0 (4 * a .args .first) (c .before .before .before .before .before .before .window .ensures), length-cut (a .args .parts .now) _ (4 * a .args .first) (4 * a .args .k) (c .before .window2 .ensures)))
+put-part-requires c κs = let a = c .before .before .before .before .before .before .before .before .before in (body-part (a .pre .0) (c .before .window2 .ensures), omega (arith, a .pre .1, c .before .before .before .before .put .ensures .next, length-cut (a .args .parts .now) _ 0 (particleSize * a .args .first) (c .before .before .before .before .before .before .window .ensures), length-cut (a .args .parts .now) _ (particleSize * a .args .first) (particleSize * a .args .k) (c .before .window2 .ensures)))
 
 add-past : tie.Need-add-past
 add-past c = search needs
@@ -39,7 +40,7 @@ past-requires : tie.Need-past-requires
 past-requires c κs = search needs
 
 put-requires-2 : tie.Need-put-requires-2
-put-requires-2 c κs = let a = c .before .before .before .before .before .before .before .before .before .before .before .before .before .before in omega (arith, a .pre .1, c .before .before .before .before .before .before .before .before .before .put .ensures .next, c .before .before .before .before .put-part .ensures .next, length-few (body-part (a .pre .0) (c .before .before .before .before .before .before .window2 .ensures)), length-cut (a .args .parts .now) _ 0 (4 * a .args .first) (c .before .before .before .before .before .before .before .before .before .before .before .window .ensures), length-cut (a .args .parts .now) _ (4 * a .args .first) (4 * a .args .k) (c .before .before .before .before .before .before .window2 .ensures), ap (λ (s : Bytes). length s) (c .before .past .ensures), length-drop (4 * (a .args .first + a .args .k)) (a .args .parts .now))
+put-requires-2 c κs = let a = c .before .before .before .before .before .before .before .before .before .before .before .before .before .before in omega (arith, a .pre .1, c .before .before .before .before .before .before .before .before .before .put .ensures .next, c .before .before .before .before .put-part .ensures .next, length-few (body-part (a .pre .0) (c .before .before .before .before .before .before .window2 .ensures)), length-cut (a .args .parts .now) _ 0 (particleSize * a .args .first) (c .before .before .before .before .before .before .before .before .before .before .before .window .ensures), length-cut (a .args .parts .now) _ (particleSize * a .args .first) (particleSize * a .args .k) (c .before .before .before .before .before .before .window2 .ensures), ap (λ (s : Bytes). length s) (c .before .past .ensures), length-drop (particleSize * (a .args .first + a .args .k)) (a .args .parts .now))
 
 same-length : tie.Need-same-length
 same-length c = search needs

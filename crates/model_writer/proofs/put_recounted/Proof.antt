@@ -10,8 +10,8 @@ use borrow.Author.Needs.{needs}
 use Rattle.model_writer.proofs.put_recounted.Statement.{statement}
 use Rattle.model_writer.proofs.put_recounted.Tie as tie
 
-byte-requires : tie.Need-byte-requires
-byte-requires c κs = search needs
+particle-index-requires : tie.Need-particle-index-requires
+particle-index-requires c κs = search needs
 
 cast-count-after : tie.Need-cast-count-after
 cast-count-after c = search needs
@@ -19,17 +19,17 @@ cast-count-after c = search needs
 count-after-requires : tie.Need-count-after-requires
 count-after-requires c κs = search needs
 
-byte-requires-2 : tie.Need-byte-requires-2
-byte-requires-2 c κs = search needs
+particle-sort-requires : tie.Need-particle-sort-requires
+particle-sort-requires c κs = search needs
 
-byte-requires-3 : tie.Need-byte-requires-3
-byte-requires-3 c κs = search needs
+particle-quantifier-requires : tie.Need-particle-quantifier-requires
+particle-quantifier-requires c κs = search needs
 
 cast-put-particle : tie.Need-cast-put-particle
-cast-put-particle c = omega (arith, c .before .before .before .before .before .before .before .pre .1, c .before .before .count-after .ensures, ap (countAfter (editOf (c .before .before .before .before .before .before .before .args .edit)) (particlesOf (c .before .before .before .before .before .before .before .args .ys .now))) (c .before .before .before .byte .ensures))
+cast-put-particle c = omega (arith, c .before .before .before .before .before .before .before .pre .1, c .before .before .count-after .ensures, ap (countAfter (editOf (c .before .before .before .before .before .before .before .args .edit)) (particlesOf (c .before .before .before .before .before .before .before .args .ys .now))) (c .before .before .before .particle-index .ensures))
 
-byte-requires-4 : tie.Need-byte-requires-4
-byte-requires-4 c κs = search needs
+particle-depth-requires : tie.Need-particle-depth-requires
+particle-depth-requires c κs = search needs
 
 put-particle-requires : tie.Need-put-particle-requires
 put-particle-requires c κs = search needs
@@ -38,19 +38,19 @@ same-length : tie.Need-same-length
 same-length c = search needs
 
 returns : tie.Need-returns
-returns c = laid-as (particle-same (c .before .before .before .before .before .before .byte2 .ensures) (c .before .before .before .before .before .byte3 .ensures) (c .before .before .before .before .before .before .before .count-after .ensures ∙ ap (countAfter (editOf (c .before .before .before .before .before .before .before .before .before .before .before .before .args .edit)) (particlesOf (c .before .before .before .before .before .before .before .before .before .before .before .before .args .ys .now))) (c .before .before .before .before .before .before .before .before .byte .ensures)) (c .before .before .before .before .byte4 .ensures)) (c .before .before .put-particle .ensures)
+returns c = laid-as (particle-same (c .before .before .before .before .before .before .particle-sort .ensures) (c .before .before .before .before .before .particle-quantifier .ensures) (c .before .before .before .before .before .before .before .count-after .ensures ∙ ap (countAfter (editOf (c .before .before .before .before .before .before .before .before .before .before .before .before .args .edit)) (particlesOf (c .before .before .before .before .before .before .before .before .before .before .before .before .args .ys .now))) (c .before .before .before .before .before .before .before .before .particle-index .ensures)) (c .before .before .before .before .particle-depth .ensures)) (c .before .before .put-particle .ensures)
 
 pub put-recounted-spec : {M : Type 1} → statement M
 put-recounted-spec =
     tie.close
     (tie.spec
-    byte-requires
+    particle-index-requires
     cast-count-after
     count-after-requires
-    byte-requires-2
-    byte-requires-3
+    particle-sort-requires
+    particle-quantifier-requires
     cast-put-particle
-    byte-requires-4
+    particle-depth-requires
     put-particle-requires
     same-length
     returns)

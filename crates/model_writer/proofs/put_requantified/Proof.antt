@@ -3,6 +3,7 @@ use mathlib.Core.Path.{sym, ap}
 use native.Mathlib.Omega.{arith}
 use lib.ListN.{length, length-drop}
 use Rattle.rules.specs.Bytes.{Bytes}
+use Rattle.rules.specs.Layout.{particleSize}
 use Rattle.codec.proofs.Writers.{laid-none, laid-as, laid-then}
 use Rattle.model_writer.proofs.WritingLaws.{particle-same}
 use Rattle.model_writer.proofs.TailWriting.{code-small, requantified-none, requantified-bytes}
@@ -19,14 +20,14 @@ quantifier-code-requires c κs = search needs
 cast-code : tie.Need-cast-code
 cast-code c = omega (arith, code-small (c .before .before .before .before .args .q), c .quantifier-code .ensures)
 
-byte-requires : tie.Need-byte-requires
-byte-requires c κs = search needs
+particle-sort-requires : tie.Need-particle-sort-requires
+particle-sort-requires c κs = search needs
 
-byte-requires-2 : tie.Need-byte-requires-2
-byte-requires-2 c κs = search needs
+particle-index-requires : tie.Need-particle-index-requires
+particle-index-requires c κs = search needs
 
-byte-requires-3 : tie.Need-byte-requires-3
-byte-requires-3 c κs = search needs
+particle-depth-requires : tie.Need-particle-depth-requires
+particle-depth-requires c κs = search needs
 
 put-particle-requires : tie.Need-put-particle-requires
 put-particle-requires c κs = omega (arith, c .before .before .before .before .before .before .before .before .pre .room)
@@ -35,13 +36,13 @@ past-requires : tie.Need-past-requires
 past-requires c κs = search needs
 
 put-requires : tie.Need-put-requires
-put-requires c κs = let p = c .before .before .before .before .before .before .before .before .before .before .before .before .before in omega (arith, p .pre .room, c .before .before .before .before .put-particle .ensures .next, ap (λ (s : Bytes). length s) (c .before .past .ensures), length-drop 4 (p .args .ys .now))
+put-requires c κs = let p = c .before .before .before .before .before .before .before .before .before .before .before .before .before in omega (arith, p .pre .room, c .before .before .before .before .put-particle .ensures .next, ap (λ (s : Bytes). length s) (c .before .past .ensures), length-drop particleSize (p .args .ys .now))
 
 same-length : tie.Need-same-length
 same-length c = search needs
 
 returns-2 : tie.Need-returns-2
-returns-2 c = laid-as (requantified-bytes (c .before .before .before .before .before .before .before .before .before .before .before .before .before .before .before .before .pre) (omega arith)) (laid-then (laid-as (particle-same (c .before .before .before .before .before .before .before .before .before .before .before .byte .ensures) (c .before .before .before .before .before .before .before .before .before .before .before .before .quantifier-code .ensures) (c .before .before .before .before .before .before .before .before .before .before .byte2 .ensures) (c .before .before .before .before .before .before .before .before .before .byte3 .ensures)) (c .before .before .before .before .before .before .before .put-particle .ensures)) (laid-as (sym (c .before .before .before .before .past .ensures)) (c .before .before .put .ensures)))
+returns-2 c = laid-as (requantified-bytes (c .before .before .before .before .before .before .before .before .before .before .before .before .before .before .before .before .pre) (omega arith)) (laid-then (laid-as (particle-same (c .before .before .before .before .before .before .before .before .before .before .before .particle-sort .ensures) (c .before .before .before .before .before .before .before .before .before .before .before .before .quantifier-code .ensures) (c .before .before .before .before .before .before .before .before .before .before .particle-index .ensures) (c .before .before .before .before .before .before .before .before .before .particle-depth .ensures)) (c .before .before .before .before .before .before .before .put-particle .ensures)) (laid-as (sym (c .before .before .before .before .past .ensures)) (c .before .before .put .ensures)))
 
 pub put-requantified-spec : {M : Type 1} → statement M
 put-requantified-spec =
@@ -50,9 +51,9 @@ put-requantified-spec =
     returns
     quantifier-code-requires
     cast-code
-    byte-requires
-    byte-requires-2
-    byte-requires-3
+    particle-sort-requires
+    particle-index-requires
+    particle-depth-requires
     put-particle-requires
     past-requires
     put-requires

@@ -3,6 +3,7 @@ use mathlib.Core.Path.{sym, ap, _∙_}
 use native.Mathlib.Omega.{arith}
 use lib.ListN.{length, length-drop}
 use Rattle.rules.specs.Bytes.{Bytes}
+use Rattle.rules.specs.Layout.{particleSize}
 use Rattle.codec.proofs.Writers.{laid-as}
 use Rattle.model_writer.proofs.TailWriting.{removed-bytes, flattened-whole, flattened-room, flattened-fits, flattened-bytes, tail-as, tail-bytes}
 use borrow.Author.Needs.{needs}
@@ -22,7 +23,7 @@ past-requires : tie.Need-past-requires
 past-requires c κs = search needs
 
 put-requires : tie.Need-put-requires
-put-requires c κs = let p = c .before .before .before .before .before .before in omega (arith, p .pre .room, ap (λ (s : Bytes). length s) (c .before .past .ensures), length-drop 4 (p .args .ys .now))
+put-requires c κs = let p = c .before .before .before .before .before .before in omega (arith, p .pre .room, ap (λ (s : Bytes). length s) (c .before .past .ensures), length-drop particleSize (p .args .ys .now))
 
 enum-known-edit-2 : tie.Need-enum-known-edit-2
 enum-known-edit-2 c = search needs

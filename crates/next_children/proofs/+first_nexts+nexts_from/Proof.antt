@@ -13,7 +13,7 @@ use Rattle.next_children.proofs.+first_nexts+nexts_from.Lts-first_nexts
 use Rattle.next_children.proofs.nexts_from.Reads as nexts-from
 use Rattle.next_children.proofs.nexts_from.Kinds as nexts-from-kinds
 use Rattle.next_children.proofs.+first_nexts+nexts_from.Lts-nexts_from as nexts-from-lts
-use Rattle.codec.proofs.byte.Reads as byte-reads
+use Rattle.layout.proofs.particle_depth.Reads as particle-depth-reads
 use Rattle.model.proofs.read_particle.Reads as read-particle-reads
 use Rattle.next_children.proofs.joined.Reads as joined-reads
 use Rattle.next_children.proofs.no_members.Reads as no-members-reads
@@ -21,6 +21,7 @@ use Rattle.next_children.proofs.one_element.Reads as one-element-reads
 use Rattle.next_children.proofs.quantified.Reads as quantified-reads
 use Rattle.next_children.proofs.+first_nexts+nexts_from.{statement}
 use Rattle.next_children.proofs.+first_nexts+nexts_from.Tie.{close}
+use Rattle.rules.specs.Layout.{particleSize}
 
 abbrev μ-first-nexts : Measures 1 first-nexts-kinds.ps ℕ
 μ-first-nexts κs a = 2 * length (a .0 .now)
@@ -49,7 +50,7 @@ first-nexts-calls t =
     (read-particle-reads.Asked, read-particle-reads.Learnt, one-element-reads.Asked, one-element-reads.Learnt, quantified-reads.Asked, quantified-reads.Learnt, nexts-from-below t, nexts-from.Post)
 
 abbrev nexts-from-calls : ℕ → nexts-from-lts.Claims
-nexts-from-calls t = (no-members-reads.Asked, no-members-reads.Learnt, byte-reads.Asked, byte-reads.Learnt, first-nexts-below t, first-nexts.Post, joined-reads.Asked, joined-reads.Learnt)
+nexts-from-calls t = (no-members-reads.Asked, no-members-reads.Learnt, particle-depth-reads.Asked, particle-depth-reads.Learnt, first-nexts-below t, first-nexts.Post, joined-reads.Asked, joined-reads.Learnt)
 
 first-nexts-read-particle-requires : (t : ℕ) → first-nexts-lts.Need-read-particle-requires (first-nexts-calls t) (first-nexts-at t) first-nexts.Post
 first-nexts-read-particle-requires t c κs = search needs
@@ -81,7 +82,7 @@ first-nexts-add-nexts-from t c = search needs
 first-nexts-nexts-from-requires : (t : ℕ) → first-nexts-lts.Need-nexts-from-requires (first-nexts-calls t) (first-nexts-at t) first-nexts.Post
 first-nexts-nexts-from-requires t c κs =
     let t = c .before .before .before .before .before .before .args .t .now in
-    (omega (arith, length-take (length t - 4) (drop 4 t), length-drop 4 t), omega arith)
+    (omega (arith, length-take (length t - particleSize) (drop particleSize t), length-drop particleSize t), omega arith)
 
 first-nexts-quantified-requires-2 : (t : ℕ) → first-nexts-lts.Need-quantified-requires-2 (first-nexts-calls t) (first-nexts-at t) first-nexts.Post
 first-nexts-quantified-requires-2 t c κs = search needs
@@ -111,8 +112,8 @@ nexts-from-no-members-requires t c κs = search needs
 nexts-from-loop-holds : (t : ℕ) → nexts-from-lts.Need-loop-holds (nexts-from-calls t) (nexts-from-at t) nexts-from.Post nexts-from-Inv-loop nexts-from-μ-loop
 nexts-from-loop-holds t c = let a = c .before .before .args in telling-starts (a .kind) (a .d) (a .x) (a .s .now) _ (c .no-members .ensures)
 
-nexts-from-byte-requires : (t : ℕ) → nexts-from-lts.Need-byte-requires (nexts-from-calls t) (nexts-from-at t) nexts-from.Post nexts-from-Inv-loop nexts-from-μ-loop
-nexts-from-byte-requires t c κs = search needs
+nexts-from-particle-depth-requires : (t : ℕ) → nexts-from-lts.Need-particle-depth-requires (nexts-from-calls t) (nexts-from-at t) nexts-from.Post nexts-from-Inv-loop nexts-from-μ-loop
+nexts-from-particle-depth-requires t c κs = search needs
 
 nexts-from-cast-depth : (t : ℕ) → nexts-from-lts.Need-cast-depth (nexts-from-calls t) (nexts-from-at t) nexts-from.Post nexts-from-Inv-loop nexts-from-μ-loop
 nexts-from-cast-depth t c = search needs
@@ -121,7 +122,7 @@ nexts-from-returns : (t : ℕ) → nexts-from-lts.Need-returns (nexts-from-calls
 nexts-from-returns t c =
     let a = c .before .before .before .before .before .before .args in
     let at-loop = c .before .before .before in
-    telling-stop (a .kind) (a .d) (a .x) (a .s .now) (at-loop .loop .t .now) _ (at-loop .loop .inv) _ (omega arith) (c .before .byte .ensures) (omega arith)
+    telling-stop (a .kind) (a .d) (a .x) (a .s .now) (at-loop .loop .t .now) _ (at-loop .loop .inv) _ (omega arith) (c .before .particle-depth .ensures) (omega arith)
 
 nexts-from-sub-t : (t : ℕ) → nexts-from-lts.Need-sub-t (nexts-from-calls t) (nexts-from-at t) nexts-from.Post nexts-from-Inv-loop nexts-from-μ-loop
 nexts-from-sub-t t c = search needs
@@ -133,13 +134,13 @@ nexts-from-part-t-end : (t : ℕ) → nexts-from-lts.Need-part-t-end (nexts-from
 nexts-from-part-t-end t c = search needs
 
 nexts-from-loop-less : (t : ℕ) → nexts-from-lts.Need-loop-less (nexts-from-calls t) (nexts-from-at t) nexts-from.Post nexts-from-Inv-loop nexts-from-μ-loop
-nexts-from-loop-less t c = let t = c .before .before .before .before .before .loop .t .now in omega (arith, length-take (length t - 4) (drop 4 t), length-drop 4 t)
+nexts-from-loop-less t c = let t = c .before .before .before .before .before .loop .t .now in omega (arith, length-take (length t - particleSize) (drop particleSize t), length-drop particleSize t)
 
 nexts-from-loop-again : (t : ℕ) → nexts-from-lts.Need-loop-again (nexts-from-calls t) (nexts-from-at t) nexts-from.Post nexts-from-Inv-loop nexts-from-μ-loop
 nexts-from-loop-again t c =
     let a = c .before .before .before .before .before .before .before .before .args in
     let at-loop = c .before .before .before .before .before in
-    telling-deeper (a .kind) (a .d) (a .x) (a .s .now) (at-loop .loop .t .now) _ (at-loop .loop .inv) _ (omega arith) (c .before .before .before .byte .ensures)
+    telling-deeper (a .kind) (a .d) (a .x) (a .s .now) (at-loop .loop .t .now) _ (at-loop .loop .inv) _ (omega arith) (c .before .before .before .particle-depth .ensures)
     (omega arith)
 
 nexts-from-first-nexts-requires : (t : ℕ) → nexts-from-lts.Need-first-nexts-requires (nexts-from-calls t) (nexts-from-at t) nexts-from.Post nexts-from-Inv-loop nexts-from-μ-loop
@@ -158,14 +159,14 @@ nexts-from-part-t-end-2 : (t : ℕ) → nexts-from-lts.Need-part-t-end-2 (nexts-
 nexts-from-part-t-end-2 t c = search needs
 
 nexts-from-loop-less-2 : (t : ℕ) → nexts-from-lts.Need-loop-less-2 (nexts-from-calls t) (nexts-from-at t) nexts-from.Post nexts-from-Inv-loop nexts-from-μ-loop
-nexts-from-loop-less-2 t c = let t = c .before .before .before .before .before .before .before .loop .t .now in omega (arith, length-take (length t - 4) (drop 4 t), length-drop 4 t)
+nexts-from-loop-less-2 t c = let t = c .before .before .before .before .before .before .before .loop .t .now in omega (arith, length-take (length t - particleSize) (drop particleSize t), length-drop particleSize t)
 
 nexts-from-loop-again-2 : (t : ℕ) → nexts-from-lts.Need-loop-again-2 (nexts-from-calls t) (nexts-from-at t) nexts-from.Post nexts-from-Inv-loop nexts-from-μ-loop
 nexts-from-loop-again-2 t c =
     let a = c .before .before .before .before .before .before .before .before .before .before .args in
     let at-loop = c .before .before .before .before .before .before .before in
     telling-on (a .kind) (a .d) (a .x) (a .s .now) (at-loop .loop .t .now) _ (at-loop .loop .inv) _ (omega arith)
-    (c .before .before .before .before .before .byte .ensures) (omega arith) (omega arith) _ _ (c .before .before .first-nexts .ensures) (c .before .joined .ensures)
+    (c .before .before .before .before .before .particle-depth .ensures) (omega arith) (omega arith) _ _ (c .before .before .first-nexts .ensures) (c .before .joined .ensures)
 
 nexts-from-returns-2 : (t : ℕ) → nexts-from-lts.Need-returns-2 (nexts-from-calls t) (nexts-from-at t) nexts-from.Post nexts-from-Inv-loop nexts-from-μ-loop
 nexts-from-returns-2 t c = let a = c .before .before .before .before .args in telling-few (a .kind) (a .d) (a .x) (a .s .now) _ _ (c .before .loop .inv) (omega arith)
@@ -194,7 +195,7 @@ pub +first-nexts+nexts-from-spec : {M : Type 1} → statement M
     nexts-from-μ-loop
     (nexts-from-no-members-requires t)
     (nexts-from-loop-holds t)
-    (nexts-from-byte-requires t)
+    (nexts-from-particle-depth-requires t)
     (nexts-from-cast-depth t)
     (nexts-from-returns t)
     (nexts-from-sub-t t)

@@ -4,14 +4,14 @@ use borrow.Author.Needs.{needs}
 use Rattle.next_children.proofs.first_name.Statement.{statement}
 use Rattle.next_children.proofs.first_name.Tie as tie
 
-byte-requires : tie.Need-byte-requires
-byte-requires c κs = search needs
+particle-sort-requires : tie.Need-particle-sort-requires
+particle-sort-requires c κs = search needs
 
 returns : tie.Need-returns
 returns c = search needs
 
-byte-requires-2 : tie.Need-byte-requires-2
-byte-requires-2 c κs = search needs
+particle-index-requires : tie.Need-particle-index-requires
+particle-index-requires c κs = search needs
 
 cast-bit : tie.Need-cast-bit
 cast-bit c = search needs
@@ -20,8 +20,8 @@ bit-requires : tie.Need-bit-requires
 bit-requires c κs = search needs
 
 returns-2 : tie.Need-returns-2
-returns-2 c = first-some _ _ _ (c .before .byte2 .ensures) (c .bit .ensures)
+returns-2 c = first-some _ _ _ (c .before .particle-index .ensures) (c .bit .ensures)
 
 pub first-name-spec : {M : Type 1} → statement M
 first-name-spec =
-    tie.close (tie.spec byte-requires returns byte-requires-2 cast-bit bit-requires returns-2)
+    tie.close (tie.spec particle-sort-requires returns particle-index-requires cast-bit bit-requires returns-2)

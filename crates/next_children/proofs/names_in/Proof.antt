@@ -6,6 +6,7 @@ use lib.ListN.{length, drop, length-take, length-drop}
 use Rattle.next_children.proofs.NamesLaws.{Naming, naming-starts, naming-on, naming-ends}
 use Rattle.next_children.proofs.names_in.Statement.{statement}
 use Rattle.next_children.proofs.names_in.Tie as tie
+use Rattle.rules.specs.Layout.{particleSize}
 
 -- what is neither in the set nor in the particles from t on is not in the model
 abbrev Inv-loop : tie.InvT-loop
@@ -33,7 +34,7 @@ part-t-end : tie.Need-part-t-end Inv-loop μ-loop
 part-t-end c = search needs
 
 loop-less : tie.Need-loop-less Inv-loop μ-loop
-loop-less c = let t = c .before .before .before .before .loop .t .now in omega (arith, length-take (length t - 4) (drop 4 t), length-drop 4 t)
+loop-less c = let t = c .before .before .before .before .loop .t .now in omega (arith, length-take (length t - particleSize) (drop particleSize t), length-drop particleSize t)
 
 loop-again : tie.Need-loop-again Inv-loop μ-loop
 loop-again c = naming-on _ _ _ (c .before .before .before .before .loop .inv) (omega arith) _ _ (c .before .before .first-name .ensures) (c .before .union .ensures)

@@ -13,7 +13,7 @@ use Rattle.quantifier_calls.proofs.GroupCall.{group-inside, group-sized
 use borrow.Author.Needs.{needs}
 use Rattle.quantifier_calls.proofs.change_group_quantifier.Statement.{statement}
 use Rattle.quantifier_calls.proofs.change_group_quantifier.Tie as tie
-use Rattle.model.proofs.place.find.Reads as find-reads
+use Rattle.place_lookup.proofs.find.Reads as find-reads
 use Rattle.model.proofs.read_quantifier.Reads as read-quantifier-reads
 use Rattle.group_calls.proofs.edit_model.Reads as edit-model-reads
 use Rattle.form_refusals.proofs.own_part.Reads as own-part-reads

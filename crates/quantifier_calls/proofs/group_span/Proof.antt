@@ -4,7 +4,7 @@ use Rattle.quantifier_calls.proofs.PlanLaws.{span-low, span-is}
 use borrow.Author.Needs.{needs}
 use Rattle.quantifier_calls.proofs.group_span.Statement.{statement}
 use Rattle.quantifier_calls.proofs.group_span.Tie as tie
-use Rattle.model.proofs.place.span.Reads as span-reads
+use Rattle.place_lookup.proofs.span.Reads as span-reads
 use Rattle.layout.proofs.particles_from.Reads as particles-from-reads
 
 add-particles-from : tie.Need-add-particles-from

@@ -1,6 +1,6 @@
 use mathlib.Core.Path.{sym}
 use lib.ListN.{drop-of-length-le}
-use Rattle.records.proofs.CodeLaws.{tail-whole}
+use Rattle.codec.proofs.Writers.{tail-seen}
 use borrow.Author.Needs.{needs}
 use Rattle.records.proofs.after.Statement.{statement}
 use Rattle.records.proofs.after.Tie as tie
@@ -17,7 +17,7 @@ part-result-end : tie.Need-part-result-end
 part-result-end c = search needs
 
 returns : tie.Need-returns
-returns c = tail-whole (c .before .before .args .s .now) (c .before .before .args .n)
+returns c = tail-seen (c .before .before .args .s .now) (c .before .before .args .n)
 
 slice-aggregate-result : tie.Need-slice-aggregate-result
 slice-aggregate-result c = search needs

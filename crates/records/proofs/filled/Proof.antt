@@ -8,7 +8,7 @@ use Rattle.records.proofs.filled.Reads as reads
 use Rattle.records.proofs.filled.Lts as lts
 use Rattle.records.proofs.after.Reads as after-reads
 use Rattle.records.proofs.first.Reads as first-reads
-use Rattle.records.proofs.zeros.Reads as zeros-reads
+use Rattle.byte_check.proofs.zeros.Reads as zeros-reads
 
 returns : tie.Need-returns
 returns c = let a = c .before .before .args in sym (filled-wide (a .rec .now) (a .at) (a .used) (a .width) (c .if1 .taken))

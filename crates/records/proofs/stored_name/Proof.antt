@@ -6,8 +6,8 @@ use Rattle.records.proofs.stored_name.Tie as tie
 use Rattle.records.proofs.stored_name.Reads as reads
 use Rattle.records.proofs.stored_name.Lts as lts
 use Rattle.records.proofs.after.Reads as after-reads
-use Rattle.records.proofs.all_in_name.Reads as all-in-name-reads
-use Rattle.records.proofs.starts_name.Reads as starts-name-reads
+use Rattle.byte_check.proofs.all_in_name.Reads as all-in-name-reads
+use Rattle.byte_check.proofs.starts_name.Reads as starts-name-reads
 
 returns : tie.Need-returns
 returns c = sym (name-none (c .before .before .args .s .now) (c .if1 .taken))

@@ -1,0 +1,19 @@
+use mathlib.Core.Path.{ap}
+use mathlib.Core.Bool.{Bool, _&&_, _||_}
+use lib.Dec.{eqb, leb}
+use borrow.Author.Needs.{needs}
+use Rattle.byte_check.proofs.in_name.Statement.{statement}
+use Rattle.byte_check.proofs.in_name.Tie as tie
+use Rattle.byte_check.proofs.in_name.Reads as reads
+use Rattle.byte_check.proofs.in_name.Lts as lts
+use Rattle.byte_check.proofs.starts_name.Reads as starts-name-reads
+
+starts-name-requires : tie.Need-starts-name-requires
+starts-name-requires c κs = search needs
+
+returns : tie.Need-returns
+returns c = let x = c .before .args .x in
+    ap (λ (t : Bool). t || (leb 48 x && leb x 57) || eqb x 45 || eqb x 46) (c .starts-name .ensures)
+
+pub in-name-spec : {M : Type 1} → statement M
+in-name-spec = tie.close (tie.spec starts-name-requires returns)

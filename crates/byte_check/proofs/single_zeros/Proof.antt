@@ -1,0 +1,54 @@
+use Prim.Native.Nat.{ℕ, _-_}
+use mathlib.Core.Path.{_≡_}
+use lib.Dec.{eqb}
+use lib.ListN.{length, drop}
+use native.Mathlib.Omega.{arith}
+use borrow.Author.Tests.{eq-eqb, ne-eqb}
+use Rattle.byte_check.specs.Zeros.{zeros}
+use Rattle.byte_check.proofs.TestLaws.{all-on, all-off, all-end}
+use borrow.Author.Needs.{needs}
+use Rattle.byte_check.proofs.single_zeros.Statement.{statement}
+use Rattle.byte_check.proofs.single_zeros.Tie as tie
+use Rattle.byte_check.proofs.single_zeros.Reads as reads
+use Rattle.byte_check.proofs.single_zeros.Lts as lts
+
+abbrev Inv-loop : tie.InvT-loop
+Inv-loop s i₀ i = zeros s ≡ zeros (drop i s)
+
+abbrev μ-loop : tie.MeasureT-loop
+μ-loop s i₀ i = length s - i
+
+loop-holds : tie.Need-loop-holds Inv-loop μ-loop
+loop-holds c = search needs
+
+shared-slice-read-if1 : tie.Need-shared-slice-read-if1 Inv-loop μ-loop
+shared-slice-read-if1 c = search needs
+
+returns : tie.Need-returns Inv-loop μ-loop
+returns c = all-off (λ (x : ℕ). eqb x 0) (c .before .before .before .before .args .s .now) (c .before .before .before .loop .i) (c .before .before .before .loop .inv) (omega arith) (ne-eqb _ _ (c .if1 .taken))
+
+add-i : tie.Need-add-i Inv-loop μ-loop
+add-i c = search needs
+
+loop-less : tie.Need-loop-less Inv-loop μ-loop
+loop-less c = search needs
+
+loop-again : tie.Need-loop-again Inv-loop μ-loop
+loop-again c = all-on (λ (x : ℕ). eqb x 0) (c .before .before .before .before .args .s .now) (c .before .before .before .loop .i) (c .before .before .before .loop .inv) (omega arith) (eq-eqb _ _ (c .if1 .left))
+
+returns-2 : tie.Need-returns-2 Inv-loop μ-loop
+returns-2 c = all-end (λ (x : ℕ). eqb x 0) (c .before .before .args .s .now) (c .before .loop .i) (c .before .loop .inv) (omega arith)
+
+pub single-zeros-spec : {M : Type 1} → statement M
+single-zeros-spec =
+    tie.close
+    (tie.spec
+    Inv-loop
+    μ-loop
+    loop-holds
+    shared-slice-read-if1
+    returns
+    add-i
+    loop-less
+    loop-again
+    returns-2)

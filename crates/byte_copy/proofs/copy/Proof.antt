@@ -1,0 +1,89 @@
+-- `byte_copy::copy` meets its contract.
+use mathlib.Core.Path.{_≡_, refl, ap, _∙_}
+use mathlib.Core.List.{List, _++_}
+use Prim.Native.Nat.{ℕ, _+_, _≤_, _-_, zero-le}
+use native.Mathlib.Omega.{arith}
+use lib.ListN.{length, take, drop}
+use lib.Seq.{sets, take-length}
+use borrow.Author.Needs.{needs}
+use Rattle.byte_copy.proofs.CopyLaws.{copy-part}
+use Rattle.byte_copy.proofs.copy.Statement.{statement}
+use Rattle.byte_copy.proofs.copy.Tie as tie
+use Rattle.byte_copy.proofs.copy.Reads as reads
+use Rattle.byte_copy.proofs.copy.Lts as lts
+use Rattle.byte_copy.proofs.copy_eight.Reads as copy-eight-reads
+use Rattle.byte_copy.proofs.copy_singly.Reads as copy-singly-reads
+
+abbrev Inv-loop : tie.InvT-loop
+Inv-loop src out₀ n last i₀ out i = (i ≤ length src) × (out ≡ take i src ++ drop i out₀) × (length out ≡ length out₀)
+
+abbrev μ-loop : tie.MeasureT-loop
+μ-loop src out₀ n last i₀ out i = length src - i
+
+copy-singly-requires : tie.Need-copy-singly-requires Inv-loop μ-loop
+copy-singly-requires c κs = search needs
+
+same-length : tie.Need-same-length Inv-loop μ-loop
+same-length c = c .before .before .copy-singly .kept .1 .0
+
+returns : tie.Need-returns Inv-loop μ-loop
+returns c = (refl, c .before .before .copy-singly .ensures)
+
+loop-holds : tie.Need-loop-holds Inv-loop μ-loop
+loop-holds c = (zero-le, refl, refl)
+
+copy-eight-requires : tie.Need-copy-eight-requires Inv-loop μ-loop
+copy-eight-requires c κs = (omega arith, omega arith)
+
+add-i : tie.Need-add-i Inv-loop μ-loop
+add-i c = omega arith
+
+loop-less : tie.Need-loop-less Inv-loop μ-loop
+loop-less c = omega arith
+
+loop-again : tie.Need-loop-again Inv-loop μ-loop
+loop-again c =
+    let l = c .before .before .before .before .before in
+    let s = l .before .before .before .before .args in (
+      omega arith,
+      c .before .before .copy-eight .ensures
+          ∙ ap (λ (o : List ℕ). sets o (l .loop .i) (take 8 (drop (l .loop .i) (s .src .now)))) (l .loop .inv .1)
+          ∙ copy-part (s .src .now) (s .out .now) (l .loop .i) (l .loop .i) 8 (omega arith) (omega arith) (omega arith) (omega arith),
+      c .before .before .copy-eight .kept .1 .0 ∙ l .loop .inv .2,
+    )
+
+copy-eight-requires-2 : tie.Need-copy-eight-requires-2 Inv-loop μ-loop
+copy-eight-requires-2 c κs = (omega arith, omega arith)
+
+same-length-2 : tie.Need-same-length-2 Inv-loop μ-loop
+same-length-2 c = c .before .before .copy-eight2 .kept .1 .0 ∙ c .before .before .before .before .before .loop .inv .2
+
+returns-2 : tie.Need-returns-2 Inv-loop μ-loop
+returns-2 c =
+    let l = c .before .before .before .before .before in
+    let s = l .before .before .before .before .args in
+    let e : length (s .src .now) - 8 + 8 ≡ length (s .src .now) = omega arith in (
+      refl,
+      c .before .before .copy-eight2 .ensures
+          ∙ ap (λ (o : List ℕ). sets o (length (s .src .now) - 8) (take 8 (drop (length (s .src .now) - 8) (s .src .now)))) (l .loop .inv .1)
+          ∙ copy-part (s .src .now) (s .out .now) (l .loop .i) (length (s .src .now) - 8) 8 (omega arith) (omega arith) (omega arith) (omega arith)
+          ∙ rw (e, take-length),
+    )
+
+pub copy-spec : {M : Type 1} → statement M
+copy-spec =
+    tie.close
+    (tie.spec
+    Inv-loop
+    μ-loop
+    copy-singly-requires
+    same-length
+    returns
+    loop-holds
+    copy-eight-requires
+    add-i
+    loop-less
+    loop-again
+    copy-eight-requires-2
+    same-length-2
+    returns-2)

@@ -1,0 +1,62 @@
+-- `byte_copy::copy_singly` meets its contract.
+use mathlib.Core.Path.{_≡_, refl, _∙_}
+use mathlib.Core.List.{_++_}
+use Prim.Native.Nat.{_≤_, _<_, _-_, zero-le}
+use native.Mathlib.Omega.{arith}
+use native.Mathlib.Numerals.{add-one}
+use lib.ListN.{length, take, drop, length-set}
+use lib.Seq.{take-length}
+use Rattle.byte_copy.proofs.CopyLaws.{copy-more}
+use Rattle.byte_copy.proofs.copy_singly.Statement.{statement}
+use Rattle.byte_copy.proofs.copy_singly.Tie as tie
+
+abbrev Inv-loop : tie.InvT-loop
+Inv-loop src out₀ i₀ out i = (i ≤ length src) × (out ≡ take i src ++ drop i out₀) × (length out ≡ length out₀)
+
+abbrev μ-loop : tie.MeasureT-loop
+μ-loop src out₀ i₀ out i = length src - i
+
+loop-holds : tie.Need-loop-holds Inv-loop μ-loop
+loop-holds c = (zero-le, refl, refl)
+
+shared-slice-read-out : tie.Need-shared-slice-read-out Inv-loop μ-loop
+shared-slice-read-out c = omega arith
+
+slice-write-out : tie.Need-slice-write-out Inv-loop μ-loop
+slice-write-out c = omega arith
+
+add-i : tie.Need-add-i Inv-loop μ-loop
+add-i c = omega arith
+
+loop-less : tie.Need-loop-less Inv-loop μ-loop
+loop-less c = omega arith
+
+loop-again : tie.Need-loop-again Inv-loop μ-loop
+loop-again c =
+    let l = c .before .before in
+    let i = l .loop .i in
+    let src = l .before .args .src .now in
+    let h : i < length src = omega arith in
+    let g : i < length (l .before .args .out .now) = omega arith in
+    (omega arith, rw (l .loop .inv .1, add-one) (copy-more src _ i h g), simp length-set (l .loop .inv .2))
+
+same-length : tie.Need-same-length Inv-loop μ-loop
+same-length c = c .before .loop .inv .2
+
+returns : tie.Need-returns Inv-loop μ-loop
+returns c = let e : c .before .loop .i ≡ length (c .before .before .args .src .now) = omega arith in c .before .loop .inv .1 ∙ rw (e, take-length)
+
+pub copy-singly-spec : {M : Type 1} → statement M
+copy-singly-spec =
+    tie.close
+    (tie.spec
+    Inv-loop
+    μ-loop
+    loop-holds
+    shared-slice-read-out
+    slice-write-out
+    add-i
+    loop-less
+    loop-again
+    same-length
+    returns)

@@ -1,0 +1,26 @@
+use Rattle.records.proofs.CodeLaws.{counts-of}
+use borrow.Author.Needs.{needs}
+use Rattle.header_check.proofs.counts_fit.Statement.{statement}
+use Rattle.header_check.proofs.counts_fit.Tie as tie
+use Rattle.header_check.proofs.counts_fit.Reads as reads
+use Rattle.header_check.proofs.counts_fit.Lts as lts
+
+definition-count-requires : tie.Need-definition-count-requires
+definition-count-requires c κs = search needs
+
+particle-count-requires : tie.Need-particle-count-requires
+particle-count-requires c κs = search needs
+
+attribute-count-requires : tie.Need-attribute-count-requires
+attribute-count-requires c κs = search needs
+
+row-count-requires : tie.Need-row-count-requires
+row-count-requires c κs = search needs
+
+returns : tie.Need-returns
+returns c = counts-of (c .before .before .before .before .before .args .store .now) _ _ _ _ (c .before .before .before .definition-count .ensures .value) (c .before .before .particle-count .ensures .value) (c .before .attribute-count .ensures .value) (c .row-count .ensures .value)
+
+pub counts-fit-spec : {M : Type 1} → statement M
+counts-fit-spec =
+    tie.close
+    (tie.spec definition-count-requires particle-count-requires attribute-count-requires row-count-requires returns)

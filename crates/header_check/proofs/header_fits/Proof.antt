@@ -1,0 +1,45 @@
+use Rattle.records.proofs.CodeLaws.{header-of}
+use borrow.Author.Needs.{needs}
+use Rattle.header_check.proofs.header_fits.Statement.{statement}
+use Rattle.header_check.proofs.header_fits.Tie as tie
+use Rattle.header_check.proofs.header_fits.Reads as reads
+use Rattle.header_check.proofs.header_fits.Lts as lts
+use Rattle.header_check.proofs.counts_fit.Reads as counts-fit-reads
+use Rattle.header_check.proofs.is_sized.Reads as is-sized-reads
+use Rattle.header_check.proofs.offsets_fit.Reads as offsets-fit-reads
+
+version-in-requires : tie.Need-version-in-requires
+version-in-requires c κs = search needs
+
+next-serial-requires : tie.Need-next-serial-requires
+next-serial-requires c κs = search needs
+
+through-definitions-requires : tie.Need-through-definitions-requires
+through-definitions-requires c κs = search needs
+
+counts-fit-requires : tie.Need-counts-fit-requires
+counts-fit-requires c κs = search needs
+
+offsets-fit-requires : tie.Need-offsets-fit-requires
+offsets-fit-requires c κs = search needs
+
+is-sized-requires : tie.Need-is-sized-requires
+is-sized-requires c κs = search needs
+
+returns : tie.Need-returns
+returns c =
+    let a = c .before .before .before .before .before .before .before .args in
+    header-of (a .w) (a .store .now) _ _ _ (c .before .before .before .through-definitions .ensures .value) (c .before .before .before .before .before .version-in .ensures .value) (c .before .before .before .before .next-serial .ensures .value)
+    (c .before .before .counts-fit .ensures) (c .before .offsets-fit .ensures) (c .is-sized .ensures)
+
+pub header-fits-spec : {M : Type 1} → statement M
+header-fits-spec =
+    tie.close
+    (tie.spec
+    version-in-requires
+    next-serial-requires
+    through-definitions-requires
+    counts-fit-requires
+    offsets-fit-requires
+    is-sized-requires
+    returns)

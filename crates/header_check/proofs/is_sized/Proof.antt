@@ -1,0 +1,38 @@
+use Rattle.records.proofs.CodeLaws.{sized-of}
+use borrow.Author.Needs.{needs}
+use Rattle.header_check.proofs.is_sized.Statement.{statement}
+use Rattle.header_check.proofs.is_sized.Tie as tie
+use Rattle.header_check.proofs.is_sized.Reads as reads
+use Rattle.header_check.proofs.is_sized.Lts as lts
+
+definition-count-requires : tie.Need-definition-count-requires
+definition-count-requires c κs = search needs
+
+particle-count-requires : tie.Need-particle-count-requires
+particle-count-requires c κs = search needs
+
+attribute-count-requires : tie.Need-attribute-count-requires
+attribute-count-requires c κs = search needs
+
+row-count-requires : tie.Need-row-count-requires
+row-count-requires c κs = search needs
+
+through-rows-requires : tie.Need-through-rows-requires
+through-rows-requires c κs = search needs
+
+returns : tie.Need-returns
+returns c =
+    let a = c .before .before .before .before .before .before .args in
+    sized-of (a .w) (a .store .now) _ _ _ (c .before .before .before .before .definition-count .ensures .value) (c .before .before .before .particle-count .ensures .value) (c .before .before .attribute-count .ensures .value) _ _
+    (c .before .row-count .ensures .value) (c .through-rows .ensures)
+
+pub is-sized-spec : {M : Type 1} → statement M
+is-sized-spec =
+    tie.close
+    (tie.spec
+    definition-count-requires
+    particle-count-requires
+    attribute-count-requires
+    row-count-requires
+    through-rows-requires
+    returns)

@@ -1,0 +1,29 @@
+use Rattle.layout.proofs.LayoutLaws.{unused-of}
+use borrow.Author.Needs.{needs}
+use Rattle.layout.proofs.unused_fit.Statement.{statement}
+use Rattle.layout.proofs.unused_fit.Tie as tie
+use Rattle.layout.proofs.unused_fit.Reads as reads
+use Rattle.layout.proofs.unused_fit.Lts as lts
+use Rattle.codec.proofs.byte.Reads as byte-reads
+
+byte-requires : tie.Need-byte-requires
+byte-requires c κs = search needs
+
+add-byte : tie.Need-add-byte
+add-byte c = search needs
+
+byte-requires-2 : tie.Need-byte-requires-2
+byte-requires-2 c κs = search needs
+
+add-byte-2 : tie.Need-add-byte-2
+add-byte-2 c = search needs
+
+byte-requires-3 : tie.Need-byte-requires-3
+byte-requires-3 c κs = search needs
+
+returns : tie.Need-returns
+returns c = unused-of (c .before .before .before .before .args .w) (c .before .before .before .before .args .rec .now) _ _ _ (c .before .before .byte .ensures) (c .before .byte2 .ensures) (c .byte3 .ensures)
+
+pub unused-fit-spec : {M : Type 1} → statement M
+unused-fit-spec =
+    tie.close (tie.spec byte-requires add-byte byte-requires-2 add-byte-2 byte-requires-3 returns)

@@ -1,0 +1,60 @@
+-- `layout_writer::put_contents` meets its contract.
+use native.Mathlib.Omega.{arith}
+use Rattle.layout.proofs.HeaderLaws.{place-low, place-as, contents-laid}
+use borrow.Author.Needs.{needs}
+use Rattle.layout_writer.proofs.put_contents.Statement.{statement}
+use Rattle.layout_writer.proofs.put_contents.Tie as tie
+
+through-definitions-requires : tie.Need-through-definitions-requires
+through-definitions-requires c κs = search needs
+
+through-particles-requires : tie.Need-through-particles-requires
+through-particles-requires c κs = search needs
+
+through-attributes-requires : tie.Need-through-attributes-requires
+through-attributes-requires c κs = search needs
+
+put-entry-requires : tie.Need-put-entry-requires
+put-entry-requires c κs = search needs
+
+put-entry-requires-2 : tie.Need-put-entry-requires-2
+put-entry-requires-2 c κs = search needs
+
+put-entry-requires-3 : tie.Need-put-entry-requires-3
+put-entry-requires-3 c κs = search needs
+
+put-entry-requires-4 : tie.Need-put-entry-requires-4
+put-entry-requires-4 c κs = let start = c .before .before .before .before .before .before .before .before .before .before .before .before .before .before .before .before .before in
+    let a = start .args in
+    let low = place-low (a .w) (a .d) (a .p) (a .a) (start .pre .0) (start .pre .1) (start .pre .2) (start .pre .3) (c .before .before .before .before .before .before .before .before .before .before .before .before .before .through-attributes .ensures) in
+    (low, start .pre .4, omega (arith, c .before .before .before .before .before .before .before .before .before .before .before .put-entry .ensures .next, c .before .before .before .before .before .before .before .put-entry2 .ensures .next, c .before .before .before .put-entry3 .ensures .next))
+
+same-length : tie.Need-same-length
+same-length c = search needs
+
+returns : tie.Need-returns
+returns c = let a = c .before .before .before .before .before .before .before .before .before .before .before .before .before .before .before .before .before .before .before .before .args in
+    contents-laid
+    (a .w)
+    (a .d)
+    (a .p)
+    (a .a)
+    (a .r)
+    (c .before .before .before .before .before .before .before .before .before .before .before .before .before .before .put-entry .ensures)
+    (place-as (a .p) (c .before .before .before .before .before .before .before .before .before .before .before .before .before .before .before .before .before .before .through-definitions .ensures) (c .before .before .before .before .before .before .before .before .before .before .put-entry2 .ensures))
+    (place-as (a .a) (c .before .before .before .before .before .before .before .before .before .before .before .before .before .before .before .before .before .through-particles .ensures) (c .before .before .before .before .before .before .put-entry3 .ensures))
+    (place-as (a .r) (c .before .before .before .before .before .before .before .before .before .before .before .before .before .before .before .before .through-attributes .ensures) (c .before .before .put-entry4 .ensures))
+
+pub put-contents-spec : {M : Type 1} → statement M
+put-contents-spec =
+    tie.close
+    (tie.spec
+    through-definitions-requires
+    through-particles-requires
+    through-attributes-requires
+    put-entry-requires
+    put-entry-requires-2
+    put-entry-requires-3
+    put-entry-requires-4
+    same-length
+    returns)

@@ -1,0 +1,57 @@
+-- `layout_writer::put_counted` meets its contract.
+use mathlib.Core.Path.{sym}
+use Prim.Native.Nat.{_+_, _*_}
+use native.Mathlib.Omega.{arith}
+use lib.ListN.{length}
+use Rattle.codec.proofs.Writers.{laid-as, laid-then}
+use Rattle.layout.proofs.LayoutLaws.{length-cut}
+use Rattle.layout.proofs.RecordLaws.{rest-counted}
+use borrow.Author.Needs.{needs}
+use Rattle.layout_writer.proofs.put_counted.Statement.{statement}
+use Rattle.layout_writer.proofs.put_counted.Tie as tie
+
+mul-place : tie.Need-mul-place
+mul-place c = search needs
+
+add-place : tie.Need-add-place
+add-place c = search needs
+
+window-requires : tie.Need-window-requires
+window-requires c κs = search needs
+
+put-requires : tie.Need-put-requires
+put-requires c κs = search needs
+
+put-u16-requires : tie.Need-put-u16-requires
+put-u16-requires c κs = search needs
+
+add-window : tie.Need-add-window
+add-window c = search needs
+
+window-requires-2 : tie.Need-window-requires-2
+window-requires-2 c κs = search needs
+
+put-requires-2 : tie.Need-put-requires-2
+put-requires-2 c κs = let a = c .before .before .before .before .before .before .before .before .before .before .before .before .before in omega (arith, a .pre .0, a .pre .1, c .before .before .before .before .before .before .before .before .put .ensures .next, c .before .before .before .before .put-u16 .ensures .next, length-cut (a .args .defs .now) _ 0 (20 * a .args .o + 18) (c .before .before .before .before .before .before .before .before .before .before .window .ensures), length-cut (a .args .defs .now) _ (20 * a .args .o + 18 + 2) (length (a .args .defs .now)) (c .before .window2 .ensures))
+
+same-length : tie.Need-same-length
+same-length c = search needs
+
+returns : tie.Need-returns
+returns c = let a = c .before .before .before .before .before .before .before .before .before .before .before .before .before .before .before .before .args in
+    laid-then (laid-as (sym (c .before .before .before .before .before .before .before .before .before .before .before .before .before .window .ensures)) (c .before .before .before .before .before .before .before .before .before .before .before .put .ensures)) (laid-then (c .before .before .before .before .before .before .before .put-u16 .ensures) (laid-as (rest-counted (a .o) (a .defs .now) (c .before .before .before .before .window2 .ensures)) (c .before .before .put2 .ensures)))
+
+pub put-counted-spec : {M : Type 1} → statement M
+put-counted-spec =
+    tie.close
+    (tie.spec
+    mul-place
+    add-place
+    window-requires
+    put-requires
+    put-u16-requires
+    add-window
+    window-requires-2
+    put-requires-2
+    same-length
+    returns)

@@ -1,0 +1,34 @@
+-- `layout_writer::put_particle` meets its contract.
+use Rattle.codec.proofs.Writers.{laid-then}
+use borrow.Author.Needs.{needs}
+use Rattle.layout_writer.proofs.put_particle.Statement.{statement}
+use Rattle.layout_writer.proofs.put_particle.Tie as tie
+
+put-u8-requires : tie.Need-put-u8-requires
+put-u8-requires c κs = search needs
+
+put-u8-requires-2 : tie.Need-put-u8-requires-2
+put-u8-requires-2 c κs = search needs
+
+put-u8-requires-3 : tie.Need-put-u8-requires-3
+put-u8-requires-3 c κs = search needs
+
+put-u8-requires-4 : tie.Need-put-u8-requires-4
+put-u8-requires-4 c κs = search needs
+
+same-length : tie.Need-same-length
+same-length c = search needs
+
+returns : tie.Need-returns
+returns c = laid-then (laid-then (laid-then (c .before .before .before .before .before .before .before .before .before .before .before .before .before .before .put-u8 .ensures) (c .before .before .before .before .before .before .before .before .before .before .put-u82 .ensures)) (c .before .before .before .before .before .before .put-u83 .ensures)) (c .before .before .put-u84 .ensures)
+
+pub put-particle-spec : {M : Type 1} → statement M
+put-particle-spec =
+    tie.close
+    (tie.spec
+    put-u8-requires
+    put-u8-requires-2
+    put-u8-requires-3
+    put-u8-requires-4
+    same-length
+    returns)

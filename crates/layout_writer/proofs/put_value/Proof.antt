@@ -1,0 +1,24 @@
+-- `layout_writer::put_value` meets its contract.
+use Rattle.layout.proofs.RecordLaws.{value-laid}
+use borrow.Author.Needs.{needs}
+use Rattle.layout_writer.proofs.put_value.Statement.{statement}
+use Rattle.layout_writer.proofs.put_value.Tie as tie
+
+cast-put-u8 : tie.Need-cast-put-u8
+cast-put-u8 c = search needs
+
+put-u8-requires : tie.Need-put-u8-requires
+put-u8-requires c κs = search needs
+
+put-field-requires : tie.Need-put-field-requires
+put-field-requires c κs = search needs
+
+same-length : tie.Need-same-length
+same-length c = search needs
+
+returns : tie.Need-returns
+returns c = value-laid (c .before .before .before .before .before .before .before .before .before .before .args .width) (c .before .before .before .before .before .before .before .before .before .before .args .s .now) (c .before .before .before .before .before .before .put-u8 .ensures) (c .before .before .put-field .ensures)
+
+pub put-value-spec : {M : Type 1} → statement M
+put-value-spec =
+    tie.close (tie.spec cast-put-u8 put-u8-requires put-field-requires same-length returns)

@@ -172,7 +172,7 @@ pub fn add_attribute(
     if !store_check::passes(store) {
         return store_writer::refused(1);
     }
-    let number = form_refusals::add_attribute_refusal(store, owner, name, sort, value);
+    let number = attribute_refusals::add_attribute_refusal(store, owner, name, sort, value);
     if number != 0 {
         return store_writer::refused(number);
     }
@@ -186,7 +186,7 @@ pub fn destroy_attribute(store: &[u8], attribute: u32, out: &mut [u8]) -> Answer
     if !store_check::passes(store) {
         return store_writer::refused(1);
     }
-    let number = form_refusals::destroy_attribute_refusal(store, attribute);
+    let number = attribute_refusals::destroy_attribute_refusal(store, attribute);
     if number != 0 {
         return store_writer::refused(number);
     }

@@ -1,7 +1,2 @@
-pub mod OwnParts
-pub mod Small
-pub mod Edits
-pub mod FormWriting
-pub mod Calls
+pub mod Keeping
 pub mod Removing
-pub mod Fitting

@@ -2,29 +2,27 @@
 use Prim.Native.Nat.{ℕ, _<_, _≤_}
 use native.Mathlib.Omega.{arith}
 use mathlib.Core.Path.{_≡_, refl, sym, ap, ap₂, _∙_, subst}
-use mathlib.Core.Bool.{Bool, true, not, _&&_}
-use mathlib.Core.Option.{some}
+use mathlib.Core.Bool.{Bool, true, false, not, _&&_, false≢true}
+use mathlib.Core.Option.{Option, none, some}
 use mathlib.Core.List.{List}
 use lib.ListN.{length}
 use borrow.Author.Tests.{ltb-false}
 use Rattle.rules.specs.declared.Quantifier.{Quantifier}
 use Rattle.rules.specs.Bytes.{Bytes}
 use Rattle.rules.specs.Model.{skips}
-use Rattle.rules.specs.Place.{spine}
+use Rattle.rules.specs.Place.{Found as Spot, spine}
 use Rattle.rules.specs.Edit.{Edit, insert, placeOf as placed}
 use Rattle.rules.specs.Store.{Form, members}
 use Rattle.rules.specs.Decode.{quantifierOf}
 use Rattle.rules.specs.WellFormed.{isValue}
 use Rattle.rules.specs.Passing.{passes}
 use Rattle.rules.specs.Change.{insertElement, definitionAt, nameAtIndex, formAfter}
-use Rattle.rules.specs.Refusal.{past, first, conditions}
+use Rattle.rules.specs.Refusal.{past, foundAt, noPlace, isComplex, first, conditions}
 use Rattle.rules.specs.Outcome.{outcome, Answers}
 use Rattle.rules.proofs.Words.{or-split}
-use Rattle.history.proofs.Conditions.{not-past}
+use Rattle.history.proofs.Conditions.{not-past, not-false}
+use Rattle.history.proofs.EditConditions.{complex-content}
 use Rattle.model.specs.declared.place.Holder.{Holder}
-use Rattle.model.specs.declared.place.Found.{Found}
-use Rattle.model.specs.declared.place.Found.the-variants.{At}
-use Rattle.model.specs.Places.{placeOf}
 use Rattle.layout.specs.Bodies.{widthOf}
 use Rattle.lookup.specs.Bodies.{bodiesOf}
 use Rattle.row_walk.specs.declared.Plan.{Plan}
@@ -40,16 +38,37 @@ use Rattle.store_writer.proofs.CallLaws.{answers-as}
 use Rattle.plans.specs.ModelCalls.{insertElementPlan}
 use Rattle.plans.proofs.CallsPlanned.{none-holds}
 use Rattle.plans.proofs.ModelCallsPlanned.{insert-element-planned}
-use Rattle.form_refusals.specs.Placing.{indexIn, partIn, Placed}
+use Rattle.model_places.specs.Placing.{indexIn, partIn, Placed}
 use Rattle.document_refusals.proofs.StoreFacts.{value-given}
-use Rattle.form_refusals.proofs.PlaceLaws.{present-at}
+use Rattle.model_places.proofs.PlaceLaws.{found-insert}
 use Rattle.place_marks.specs.Marking.{marksAt}
 use Rattle.place_marks.proofs.MarkLaws.{gap-marked}
-use Rattle.group_calls.specs.Editing.{formEdited}
-use Rattle.group_calls.proofs.Calls.{Fits, edited-answers, bodies-hold}
-use Rattle.group_calls.proofs.Fitting.{insert-fits}
-use Rattle.insert_call.proofs.FormFacts.{reads}
-use Rattle.insert_call.proofs.ModelLaws.{size}
+use Rattle.model_edit.specs.Editing.{formEdited}
+use Rattle.model_edit.proofs.Fits.{Fits, inside, edited-answers, bodies-hold}
+use Rattle.model_reach.proofs.FormFacts.{reads}
+use Rattle.model_reach.proofs.ModelLaws.{size}
+
+-- where no condition holds, the edit fits
+insert-fits : (bs : Bytes) → passes bs ≡ true → (o : ℕ) (p : List ℕ) (i k : ℕ) (t : Bytes) → first (conditions (insertElement o p i k t) (storeIn bs)) ≡ 0
+    → Fits bs o p (insert (quantifierOf k) (nameAtIndex i (storeIn bs .form)))
+unfolding conditions
+insert-fits bs q o p i k t e =
+    let (text, (code, (index, (place, (kind, more))))) = none-holds (insertElement o p i k t) (storeIn bs) e in
+    by (foundAt (insert (quantifierOf k) (nameAtIndex i (storeIn bs .form))) o p (storeIn bs)) refl (or-split (past o (storeIn bs .form)) (past i (storeIn bs .form)) index .0) place kind
+  where
+    by : (f : Option (Spot Bytes)) → foundAt (insert (quantifierOf k) (nameAtIndex i (storeIn bs .form))) o p (storeIn bs) ≡ f → past o (storeIn bs .form) ≡ false → noPlace f ≡ false
+        → not (isComplex (definitionAt o (storeIn bs .form) .content)) ≡ false → Fits bs o p (insert (quantifierOf k) (nameAtIndex i (storeIn bs .form)))
+    by none at l h c = absurd (false≢true (sym h))
+    by (some f) at l h c =
+        record {
+          good = q;
+          there = inside bs q o p l;
+          found = f;
+          content = complex-content (definitionAt o (storeIn bs .form) .content) (not-false (isComplex (definitionAt o (storeIn bs .form) .content)) c);
+          at = at;
+          by = sym (found-insert (quantifierOf k) (nameAtIndex i (storeIn bs .form)) o p bs) ∙ at;
+          suits = refl;
+        }
 
 -- no condition holds: definition i with quantifier k goes to the place p of definition o's model, its filling has the text t
 pub record Insertion (bs : Bytes) (o : ℕ) (p : List ℕ) (i k : ℕ) (t : Bytes) : Type 0 where
@@ -89,16 +108,17 @@ module _ {bs : Bytes} {o : ℕ} {p : List ℕ} {i k : ℕ} {t : Bytes} (x : Inse
   inserting-sized marks needs e = subst Sized (sym e) (record { moves = record { definitions = record { more = omega arith }; attributes = record { more = omega arith } }; filling = known-low })
 
   -- r: the quantifier that the code read
-  pub inserted-answers : {r : Quantifier} (e : r ≡ quantifierOf k) {part : Bytes} (own : part ≡ partIn bs o) {f : Found} (is : f ≡ placeOf true p part) (h : Holder) (n : ℕ) (z : f ≡ At h n) (room : ℕ) {q : Plan}
+  pub inserted-answers : {r : Quantifier} (e : r ≡ quantifierOf k) {h : Holder} {n : ℕ} (y : Placed bs o true p h n) {part : Bytes} → part ≡ partIn bs o → (room : ℕ) {q : Plan}
       → q ≡ insertElementPlan o (marksAt 0 n part) i (not (skips (quantifierOf k)) && h .spine) → {out : Bytes} {number len : ℕ} {left : Bytes}
       → Answers (limited room (plannedIn (formEdited bs o (insert r i) h n) q t (bodiesOf bs))) out number len left → Answers (outcome (insertElement o p i k t) bs room) out number len left
   unfolding formAfter
-  inserted-answers {r} e {part} own {f} is h n z room {q} w a =
-      let y : Placed bs o true p h n = present-at bs (x .fits .good) o (x .fits .there) true p h n (sym (is ∙ ap (placeOf true p) own) ∙ z) in
+  inserted-answers {r} e {h} {n} y {part} own room {q} w a =
       let needs : Bool = not (skips (quantifierOf k)) && spine (y .found .context) in
-      let same : q ≡ insertElementPlan o (marksAt 0 n (partIn bs o)) i needs = w ∙ ap₂ (λ (s : Bytes) (b : Bool). insertElementPlan o (marksAt 0 n s) i (not (skips (quantifierOf k)) && b)) own (y .spine) in
+      let marks : Bytes = marksAt 0 n (partIn bs o) in
+      let same : q ≡ insertElementPlan o marks i needs =
+      w ∙ ap₂ (λ (s : Bytes) (b : Bool). insertElementPlan o (marksAt 0 n s) i (not (skips (quantifierOf k)) && b)) own (y .spine) in
       let at : placed edit p (members (definitionAt o form)) ≡ some (y .found) = x .fits .at ∙ sym (x .fits .by) ∙ y .there in
-      edited-answers (x .fits) (Insert r i) (edit-same e) own is h n z (insertElement o p i k t) room (insertElementPlan o (marksAt 0 n (partIn bs o)) i needs) t 0 (sym (x .none)) refl
-      (insert-element-planned (storeIn bs) (holds bs (x .fits .good) .good) o p (y .found .context) (formEdited bs o (insert r i) h n) i k t (y .found .picked) (marksAt 0 n (partIn bs o)) (x .none) at (λ b. gap-marked (x .fits .good) (x .fits .there) y)
-      (bodies-hold (x .fits) (Insert r i) (edit-same e) own is h n z (insertElement o p i k t) refl))
+      edited-answers (x .fits) (Insert r i) (edit-same e) y (insertElement o p i k t) room (insertElementPlan o marks i needs) t 0 (sym (x .none)) refl
+      (insert-element-planned (storeIn bs) (holds bs (x .fits .good) .good) o p (y .found .context) (formEdited bs o (insert r i) h n) i k t (y .found .picked) marks (x .none) at
+      (λ b. gap-marked (x .fits .good) (x .fits .there) y) (bodies-hold (x .fits) (Insert r i) (edit-same e) y (insertElement o p i k t) refl))
       (answers-as (ap (λ (s : Plan). limited room (plannedIn (formEdited bs o (insert r i) h n) s t (bodiesOf bs))) (sym same)) a)

@@ -1,5 +1,1 @@
-pub mod FormFacts
-pub mod ReachLaws
-pub mod ModelLaws
-pub mod RefusalLaws
 pub mod Insertion

@@ -36,10 +36,10 @@ use Rattle.store_check.proofs.IndexLaws.{namesOf, definition-in, index-same}
 use Rattle.store_writer.specs.Stores.{storeIn}
 use Rattle.plans.specs.ModelCalls.{Marked}
 use Rattle.document_refusals.proofs.StoreFacts.{formIn, Whole, whole}
-use Rattle.form_refusals.specs.Placing.{indexIn, modelIn, partIn, Placed}
-use Rattle.form_refusals.proofs.PlaceLaws.{found-right}
+use Rattle.model_places.specs.Placing.{indexIn, modelIn, partIn, Placed}
+use Rattle.model_places.proofs.PlaceLaws.{found-right}
 use Rattle.model_writer.proofs.HeadAfter.{depth-holder}
-use Rattle.form_refusals.proofs.PickLaws.{around, from-there, one-there}
+use Rattle.model_places.proofs.PickLaws.{around, from-there, one-there}
 use Rattle.place_marks.specs.Marking.{marksAt}
 use Rattle.place_marks.proofs.ReadLaws.{among, markBy, marks-read, mark-one, mark-two}
 use Rattle.place_marks.proofs.ElementLaws.{elements-read, elements-spread, elements-leading}
@@ -106,7 +106,8 @@ module _ {bs : Bytes} {o : ℕ} {i : Bool} {place : List ℕ} {h : Holder} {p : 
       distinct-apart ns (names (x .found .picked) ++ after (x .found .context)) (subst (λ (l : List Bytes). Distinct l) model-names once) n a (Memᴰ·append-left (after (x .found .context)) b)
 
   -- THE MARKS at a place whose members begin with `one`: the n particles of `one` come next, of depth d
-  pub one-marked : {n : ℕ} {at : List Bytes} (one : Members Bytes) (more : List Bytes) (d : ℕ) (ys : Particles) → n ≡ count (rename (indexIn bs) one) → at ≡ names one → names (x .found .picked) ≡ names one ++ more
+  pub one-marked : {n : ℕ} {at : List Bytes} (one : Members Bytes) (more : List Bytes) (d : ℕ) (ys : Particles) → n ≡ count (rename (indexIn bs) one) → at ≡ names one
+      → names (x .found .picked) ≡ names one ++ more
       → drop p (particlesOf (partIn bs o)) ≡ spread d (rename (indexIn bs) one) ++ ys → Marked (storeIn bs .form) (before (x .found .context)) at (marksAt n p (partIn bs o))
   one-marked {n} {at} one more d ys size are names-are next =
       record {
@@ -127,7 +128,9 @@ module _ {bs : Bytes} {o : ℕ} {i : Bool} {place : List ℕ} {h : Holder} {p : 
       inside m j = subst (λ (l : List Bytes). List·Memᴰ m l) (sym names-are) (Memᴰ·append-left more (subst (λ (l : List Bytes). List·Memᴰ m l) are j))
 
       early-is : (i : ℕ) → i < length (formIn bs) → early i ≡ member bytes (nameAtIndex i (formIn bs)) ns
-      early-is i l = ap (among i) before-elements ∙ among-member (formIn bs) (held .good .form .names) i l ns (λ m j. name-known m (Memᴰ·append-left (names (x .found .picked) ++ after (x .found .context)) j))
+      early-is i l =
+          ap (among i) before-elements ∙ among-member (formIn bs) (held .good .form .names) i l ns
+          (λ m j. name-known m (Memᴰ·append-left (names (x .found .picked) ++ after (x .found .context)) j))
 
       late-is : (i : ℕ) → i < length (formIn bs) → late i ≡ member bytes (nameAtIndex i (formIn bs)) at
       late-is i l =
@@ -151,7 +154,8 @@ module _ {bs : Bytes} {o : ℕ} {i : Bool} {place : List ℕ} {h : Holder} {p : 
   unfolding rename names
   gap-marked = one-marked done (names (x .found .picked)) 0 (drop p (particlesOf (partIn bs o))) refl refl refl refl
 
-  pub element-marked : (q : Quantifier) (n : Bytes) (rest : Members Bytes) → x .found .picked ≡ el q n rest → Marked (storeIn bs .form) (before (x .found .context)) (n ∷ []) (marksAt 1 p (partIn bs o))
+  pub element-marked : (q : Quantifier) (n : Bytes) (rest : Members Bytes) → x .found .picked ≡ el q n rest
+      → Marked (storeIn bs .form) (before (x .found .context)) (n ∷ []) (marksAt 1 p (partIn bs o))
   unfolding rename names
   element-marked q n rest e = one-marked (el q n done) (names rest) lev (spread lev (rename (indexIn bs) rest) ++ trailing 0 (around x)) refl refl (ap names e) (next-there (el q n rest) e)
 

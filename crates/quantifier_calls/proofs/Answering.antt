@@ -1,7 +1,7 @@
 -- What a change of a quantifier answers, of an element or a group.
 use Prim.Native.Nat.{ℕ, suc, _≤_}
 use native.Mathlib.Omega.{arith}
-use mathlib.Core.Path.{_≡_, sym, ap, _∙_}
+use mathlib.Core.Path.{_≡_, sym, ap}
 use mathlib.Core.Bool.{Bool, true, false}
 use mathlib.Core.List.{List, [], _∷_}
 use lib.ListN.{length}
@@ -14,9 +14,6 @@ use Rattle.rules.specs.Change.{Call, after}
 use Rattle.rules.specs.Refusal.{first, conditions}
 use Rattle.rules.specs.Outcome.{outcome, Answers}
 use Rattle.model.specs.declared.place.Holder.{Holder}
-use Rattle.model.specs.declared.place.Found.{Found}
-use Rattle.model.specs.declared.place.Found.the-variants.{At, Absent}
-use Rattle.model.specs.Places.{placeOf}
 use Rattle.lookup.specs.Bodies.{bodiesOf}
 use Rattle.filling.specs.declared.Filling.{Filling}
 use Rattle.filling.specs.Parts.{Indexed}
@@ -27,9 +24,9 @@ use Rattle.store_writer.specs.Planned.{plannedIn}
 use Rattle.store_writer.specs.Writing.{Sized}
 use Rattle.store_writer.proofs.CallLaws.{answers-as}
 use Rattle.plans.specs.ModelCalls.{gainFilling, requantifyPlan}
-use Rattle.form_refusals.specs.Placing.{partIn}
-use Rattle.group_calls.specs.Editing.{formEdited, Edits}
-use Rattle.group_calls.proofs.Calls.{Fits, asks, not-absent, edited-answers}
+use Rattle.model_places.specs.Placing.{Placed}
+use Rattle.model_edit.specs.Editing.{formEdited, Edits}
+use Rattle.model_edit.proofs.Fits.{Fits, asks, edited-answers}
 
 -- ---- numbers small enough for the walk
 pub index-low : (n : Bytes) (form : Form) → indexOf n form ≤ length form
@@ -47,25 +44,19 @@ sized o marks cut i gain what l = record { moves = record { definitions = record
     by true = l
     by false = tt
 
--- ---- a new quantifier at particle n of the list h, which the code finds at the place p in the part of definition o
-module _ {bs : Bytes} {o : ℕ} {p : List ℕ} {to : Quantifier} (x : Fits bs o p (quantify to)) {part : Bytes} (own : part ≡ partIn bs o) {f : Found} (is : f ≡ placeOf false p part) {new : Quantifier} (r : new ≡ to) where
+-- ---- a new quantifier at the place found
+module _ {bs : Bytes} {o : ℕ} {p : List ℕ} {to : Quantifier} (x : Fits bs o p (quantify to)) {h : Holder} {n : ℕ} (y : Placed bs o false p h n) {new : Quantifier} (r : new ≡ to) where
   pub same-edit : _≡_ {A = Edit ℕ} (quantify new) (quantify to)
   same-edit = ap (λ (q : Quantifier). quantify q) r
 
-  pub not-missing : f ≡ Absent → ⊥
-  not-missing z = not-absent x (Quantify new) same-edit own is z
+  pub edits-there : Edits bs o (quantify new) h n
+  edits-there = asks x (Quantify new) same-edit y
 
-  module _ (h : Holder) (n : ℕ) (z : f ≡ At h n) where
-    pub seen : placeOf false p (partIn bs o) ≡ At h n
-    seen = sym (is ∙ ap (placeOf false p) own) ∙ z
-
-    pub edits-there : Edits bs o (quantify new) h n
-    edits-there = asks x (Quantify new) same-edit own is h n z
-
-    -- the call c, where the plan q is that of the rules
-    pub answered : (c : Call) (room : ℕ) (t : Bytes) {q : Plan} (plan : Plan) (m : ℕ) → q ≡ plan → m ≡ first (conditions c (storeIn bs)) → m ≡ 0
-        → flat (after c (storeIn bs)) ≡ plannedIn (formEdited bs o (quantify new) h n) plan t (flat (storeIn bs))
-        → {out : Bytes} {number len : ℕ} {left : Bytes} → Answers (limited room (plannedIn (formEdited bs o (quantify new) h n) q t (bodiesOf bs))) out number len left → Answers (outcome c bs room) out number len left
-    answered c room t plan m w f e g a =
-        edited-answers x (Quantify new) same-edit own is h n z c room plan t m f e g
-        (answers-as (ap (λ (y : Plan). limited room (plannedIn (formEdited bs o (quantify new) h n) y t (bodiesOf bs))) (sym w)) a)
+  -- the call c, where the plan q is that of the rules
+  pub answered : (c : Call) (room : ℕ) (t : Bytes) {q : Plan} (plan : Plan) (m : ℕ) → q ≡ plan → m ≡ first (conditions c (storeIn bs)) → m ≡ 0
+      → flat (after c (storeIn bs)) ≡ plannedIn (formEdited bs o (quantify new) h n) plan t (flat (storeIn bs))
+      → {out : Bytes} {number len : ℕ} {left : Bytes} → Answers (limited room (plannedIn (formEdited bs o (quantify new) h n) q t (bodiesOf bs))) out number len left
+      → Answers (outcome c bs room) out number len left
+  answered c room t plan m w f e g a =
+      edited-answers x (Quantify new) same-edit y c room plan t m f e g
+      (answers-as (ap (λ (y : Plan). limited room (plannedIn (formEdited bs o (quantify new) h n) y t (bodiesOf bs))) (sym w)) a)

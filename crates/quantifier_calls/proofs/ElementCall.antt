@@ -14,9 +14,6 @@ use Rattle.rules.specs.Change.{changeQuantifier, formAfter}
 use Rattle.rules.specs.Refusal.{first, conditions}
 use Rattle.rules.specs.Outcome.{outcome, Answers}
 use Rattle.model.specs.declared.place.Holder.{Holder}
-use Rattle.model.specs.declared.place.Found.{Found}
-use Rattle.model.specs.declared.place.Found.the-variants.{At}
-use Rattle.model.specs.Places.{placeOf}
 use Rattle.lookup.specs.Bodies.{bodiesOf}
 use Rattle.filling.specs.declared.Filling.the-variants.{Definition}
 use Rattle.row_walk.specs.declared.Plan.{Plan}
@@ -28,52 +25,57 @@ use Rattle.store_writer.proofs.StoreLaws.{holds}
 use Rattle.plans.specs.ModelCalls.{Marked, requantifyPlan}
 use Rattle.plans.proofs.ModelCallsPlanned.{change-quantifier-planned}
 use Rattle.definition_writer.proofs.Encoded.{encoded}
-use Rattle.form_refusals.specs.Placing.{indexIn, partIn}
+use Rattle.model_places.specs.Placing.{indexIn, partIn, Placed}
 use Rattle.place_marks.specs.Marking.{marksAt}
 use Rattle.place_marks.proofs.MarkLaws.{element-marked}
-use Rattle.group_calls.specs.Editing.{formEdited}
-use Rattle.group_calls.proofs.OwnParts.{form-size}
-use Rattle.group_calls.proofs.Calls.{bodies-hold}
-use Rattle.group_calls.proofs.Removing.{Element, picked-at, index-there}
-use Rattle.quantifier_calls.specs.Quantifying.{Stands, elementPlan}
-use Rattle.quantifier_calls.proofs.Places.{placed-there, same-found, spine-there, element-stands, element-quantifier}
-use Rattle.quantifier_calls.proofs.Answering.{index-low, sized, same-edit, seen, answered}
+use Rattle.model_edit.specs.Editing.{formEdited}
+use Rattle.model_edit.proofs.OwnParts.{form-size}
+use Rattle.model_edit.proofs.Fits.{same-found, bodies-hold, Element, picked-at, index-there}
+use Rattle.quantifier_plans.specs.Quantifying.{Stands, elementPlan}
+use Rattle.quantifier_calls.proofs.Places.{spine-there, element-stands, element-quantifier}
+use Rattle.quantifier_calls.proofs.Answering.{index-low, sized, same-edit, answered}
 
-module _ {bs : Bytes} {o : ℕ} {p : List ℕ} (k : ℕ) (t : Bytes) (x : Element bs o p (quantify (quantifierOf k))) {part : Bytes} (own : part ≡ partIn bs o) {f : Found} (is : f ≡ placeOf false p part) {new : Quantifier} (r : new ≡ quantifierOf k) (h : Holder) (n : ℕ) (z : f ≡ At h n) where
+module _ {bs : Bytes} {o : ℕ} {p : List ℕ} (k : ℕ) (t : Bytes) (x : Element bs o p (quantify (quantifierOf k))) {h : Holder} {n : ℕ} (y : Placed bs o false p h n)
+    {part : Bytes} (own : part ≡ partIn bs o) {new : Quantifier} (r : new ≡ quantifierOf k) where
   abbrev c : Context Bytes
   c = x .fits .found .context
 
-  at : placeOf false p (partIn bs o) ≡ At h n
-  at = seen (x .fits) own is r h n z
-
   marks-there : Marked (storeIn bs .form) (before c) (x .name ∷ []) (marksAt 1 n (partIn bs o))
   marks-there =
-      let same : placed-there (x .fits) at .found ≡ x .fits .found = same-found (x .fits) at in
+      let same : y .found ≡ x .fits .found = same-found (x .fits) y in
       subst (λ (w : Spot Bytes). Marked (storeIn bs .form) (before (w .context)) (x .name ∷ []) (marksAt 1 n (partIn bs o))) same
-      (element-marked (x .fits .good) (x .fits .there) (placed-there (x .fits) at) (x .quantifier) (x .name) (x .rest) (ap (λ (w : Spot Bytes). w .picked) same ∙ x .is))
+      (element-marked (x .fits .good) (x .fits .there) y (x .quantifier) (x .name) (x .rest) (ap (λ (w : Spot Bytes). w .picked) same ∙ x .is))
 
   pub element-inside : Stands part h n
-  element-inside = subst (λ (s : Bytes). Stands s h n) (sym own) (element-stands (x .fits) at (x .is))
+  element-inside = subst (λ (s : Bytes). Stands s h n) (sym own) (element-stands (x .fits) y (x .is))
 
   abbrev planned : Plan
-  planned = requantifyPlan o (marksAt 1 n (partIn bs o)) (spine c && cuts (x .quantifier) (quantifierOf k)) (indexIn bs (x .name)) (spine c && gains (x .quantifier) (quantifierOf k)) (Definition (indexIn bs (x .name)))
+  planned =
+      requantifyPlan o (marksAt 1 n (partIn bs o)) (spine c && cuts (x .quantifier) (quantifierOf k)) (indexIn bs (x .name)) (spine c && gains (x .quantifier) (quantifierOf k))
+      (Definition (indexIn bs (x .name)))
 
   element-plan : elementPlan o part h n new ≡ planned
   unfolding elementPlan
   element-plan =
       ap (λ (s : Bytes). elementPlan o s h n new) own
-      ∙ (λ i. let q : Quantifier = element-quantifier (x .fits) at (x .is) i in let j : ℕ = index-there x at i in let b : Bool = spine-there (x .fits) at i in requantifyPlan o (marksAt 1 n (partIn bs o)) (b && cuts q (r i)) j (b && gains q (r i)) (Definition j))
+      ∙ (λ i. let q : Quantifier = element-quantifier (x .fits) y (x .is) i in
+      let j : ℕ = index-there x y i in
+      let b : Bool = spine-there (x .fits) y i in
+      requantifyPlan o (marksAt 1 n (partIn bs o)) (b && cuts q (r i)) j (b && gains q (r i)) (Definition j))
 
   pub element-sized : {q : Plan} → q ≡ elementPlan o part h n new → Sized q
   element-sized e =
       subst Sized (sym (e ∙ element-plan))
-      (sized o _ _ _ _ (Definition (indexIn bs (x .name))) (omega (arith, index-low (x .name) (storeIn bs .form), form-size bs (x .fits .good), encoded bs (x .fits .good) .definitions, encoded bs (x .fits .good) .fewDefinitions)))
+      (sized o _ _ _ _ (Definition (indexIn bs (x .name)))
+      (omega (arith, index-low (x .name) (storeIn bs .form), form-size bs (x .fits .good), encoded bs (x .fits .good) .definitions, encoded bs (x .fits .good) .fewDefinitions)))
 
   pub element-answers : (room : ℕ) {q : Plan} (m : ℕ) → q ≡ elementPlan o part h n new → m ≡ first (conditions (changeQuantifier o p k t) (storeIn bs)) → m ≡ 0
-      → {out : Bytes} {number len : ℕ} {left : Bytes} → Answers (limited room (plannedIn (formEdited bs o (quantify new) h n) q t (bodiesOf bs))) out number len left → Answers (outcome (changeQuantifier o p k t) bs room) out number len left
+      → {out : Bytes} {number len : ℕ} {left : Bytes} → Answers (limited room (plannedIn (formEdited bs o (quantify new) h n) q t (bodiesOf bs))) out number len left
+      → Answers (outcome (changeQuantifier o p k t) bs room) out number len left
   unfolding formAfter
   element-answers room m w f e a =
-      answered (x .fits) own is r h n z (changeQuantifier o p k t) room t planned m (w ∙ element-plan) f e
-      (change-quantifier-planned (storeIn bs) (holds bs (x .fits .good) .good) o p c (formEdited bs o (quantify new) h n) k t (x .quantifier) (x .name) (x .rest) (marksAt 1 n (partIn bs o)) (sym f ∙ e) (picked-at x) (λ g. marks-there)
-      (bodies-hold (x .fits) (Quantify new) (same-edit (x .fits) own is r) own is h n z (changeQuantifier o p k t) refl))
+      answered (x .fits) y r (changeQuantifier o p k t) room t planned m (w ∙ element-plan) f e
+      (change-quantifier-planned (storeIn bs) (holds bs (x .fits .good) .good) o p c (formEdited bs o (quantify new) h n) k t (x .quantifier) (x .name) (x .rest)
+      (marksAt 1 n (partIn bs o)) (sym f ∙ e) (picked-at x) (λ g. marks-there)
+      (bodies-hold (x .fits) (Quantify new) (same-edit (x .fits) y r) y (changeQuantifier o p k t) refl))
       a

@@ -17,9 +17,6 @@ use Rattle.rules.specs.Change.{changeGroupQuantifier, formAfter}
 use Rattle.rules.specs.Refusal.{first, conditions}
 use Rattle.rules.specs.Outcome.{outcome, Answers}
 use Rattle.model.specs.declared.place.Holder.{Holder}
-use Rattle.model.specs.declared.place.Found.{Found}
-use Rattle.model.specs.declared.place.Found.the-variants.{At}
-use Rattle.model.specs.Places.{placeOf}
 use Rattle.model.specs.Positions.{offset, level}
 use Rattle.lookup.specs.Bodies.{bodiesOf}
 use Rattle.filling.specs.declared.Filling.the-variants.{Particles}
@@ -33,66 +30,70 @@ use Rattle.store_writer.proofs.StoreLaws.{holds}
 use Rattle.plans.specs.ModelCalls.{Marked, requantifyPlan}
 use Rattle.plans.proofs.GroupPlaces.{group-at}
 use Rattle.plans.proofs.ModelCallsPlanned.{change-group-quantifier-planned}
-use Rattle.form_refusals.specs.Placing.{indexIn, partIn}
-use Rattle.form_refusals.proofs.PickLaws.{around}
+use Rattle.model_places.specs.Placing.{indexIn, partIn, Placed}
+use Rattle.model_places.proofs.PickLaws.{around}
 use Rattle.place_marks.specs.Marking.{marksAt}
 use Rattle.place_marks.proofs.MarkLaws.{group-marked}
-use Rattle.group_calls.specs.Editing.{startIn, formEdited}
-use Rattle.group_calls.proofs.OwnParts.{start-is, form-size}
-use Rattle.group_calls.proofs.Calls.{bodies-hold}
-use Rattle.quantifier_calls.specs.Quantifying.{groupSpan, Stands, groupPlan}
-use Rattle.quantifier_calls.proofs.Places.{placed-there, same-found, spine-there, level-there, group-stands, group-number, group-quantifier, group-kind}
+use Rattle.model_edit.specs.Editing.{startIn, formEdited}
+use Rattle.model_edit.proofs.OwnParts.{start-is, form-size}
+use Rattle.model_edit.proofs.Fits.{same-found, bodies-hold}
+use Rattle.quantifier_plans.specs.Quantifying.{groupSpan, Stands, groupPlan}
+use Rattle.quantifier_calls.proofs.Places.{spine-there, level-there, group-stands, group-number, group-quantifier, group-kind}
 use Rattle.quantifier_calls.proofs.Fitting.{Group, group-picked}
-use Rattle.quantifier_calls.proofs.Answering.{sized, same-edit, seen, answered}
+use Rattle.quantifier_calls.proofs.Answering.{sized, same-edit, answered}
 
-module _ {bs : Bytes} {o : ℕ} {p : List ℕ} (k : ℕ) (t : Bytes) (x : Group bs o p (quantify (quantifierOf k))) {part : Bytes} (own : part ≡ partIn bs o) {f : Found} (is : f ≡ placeOf false p part) {new : Quantifier} (r : new ≡ quantifierOf k) (h : Holder) (n : ℕ) (z : f ≡ At h n) where
+module _ {bs : Bytes} {o : ℕ} {p : List ℕ} (k : ℕ) (t : Bytes) (x : Group bs o p (quantify (quantifierOf k))) {h : Holder} {n : ℕ} (y : Placed bs o false p h n)
+    {part : Bytes} (own : part ≡ partIn bs o) {new : Quantifier} (r : new ≡ quantifierOf k) where
   abbrev c : Context Bytes
   c = x .fits .found .context
 
-  at : placeOf false p (partIn bs o) ≡ At h n
-  at = seen (x .fits) own is r h n z
-
   marks-there : Marked (storeIn bs .form) (before c) (names (x .inner)) (marksAt (groupSpan (partIn bs o) h n) n (partIn bs o))
   marks-there =
-      let same : placed-there (x .fits) at .found ≡ x .fits .found = same-found (x .fits) at in
+      let same : y .found ≡ x .fits .found = same-found (x .fits) y in
       subst (λ (w : Spot Bytes). Marked (storeIn bs .form) (before (w .context)) (names (x .inner)) (marksAt (groupSpan (partIn bs o) h n) n (partIn bs o))) same
-      (group-marked (x .fits .good) (x .fits .there) (placed-there (x .fits) at) (x .quantifier) (x .kind) (x .inner) (x .rest) (ap (λ (w : Spot Bytes). w .picked) same ∙ x .is))
+      (group-marked (x .fits .good) (x .fits .there) y (x .quantifier) (x .kind) (x .inner) (x .rest) (ap (λ (w : Spot Bytes). w .picked) same ∙ x .is))
 
   pub group-inside : Stands part h n
-  group-inside = subst (λ (s : Bytes). Stands s h n) (sym own) (group-stands (x .fits) at (x .is))
+  group-inside = subst (λ (s : Bytes). Stands s h n) (sym own) (group-stands (x .fits) y (x .is))
 
   abbrev planned : Plan
-  planned = requantifyPlan o (marksAt (groupSpan (partIn bs o) h n) n (partIn bs o)) false 0 (spine c && gains (x .quantifier) (quantifierOf k)) (Particles (x .kind) (startIn bs o + n + 1) (h .depth + 1))
+  planned =
+      requantifyPlan o (marksAt (groupSpan (partIn bs o) h n) n (partIn bs o)) false 0 (spine c && gains (x .quantifier) (quantifierOf k))
+      (Particles (x .kind) (startIn bs o + n + 1) (h .depth + 1))
 
   group-plan : groupPlan (startIn bs o) o part h n new ≡ planned
   unfolding groupPlan
   group-plan =
       ap (λ (s : Bytes). groupPlan (startIn bs o) o s h n new) own
-      ∙ (λ i. requantifyPlan o (marksAt (groupSpan (partIn bs o) h n) n (partIn bs o)) false 0 (spine-there (x .fits) at i && gains (group-quantifier (x .fits) at (x .is) i) (r i)) (Particles (group-kind (x .fits) at (x .is) i) (startIn bs o + n + 1) (h .depth + 1)))
+      ∙ (λ i. requantifyPlan o (marksAt (groupSpan (partIn bs o) h n) n (partIn bs o)) false 0 (spine-there (x .fits) y i && gains (group-quantifier (x .fits) y (x .is) i) (r i))
+      (Particles (group-kind (x .fits) y (x .is) i) (startIn bs o + n + 1) (h .depth + 1)))
 
   pub group-sized : {q : Plan} → q ≡ groupPlan (startIn bs o) o part h n new → Sized q
   group-sized e =
-      let y : Stands (partIn bs o) h n = group-stands (x .fits) at (x .is) in
-      subst Sized (sym (e ∙ group-plan)) (sized o _ false 0 _ (Particles (x .kind) (startIn bs o + n + 1) (h .depth + 1)) (group-number (x .fits) at (x .is), omega (arith, y .inside, y .short, y .deep)))
+      let there : Stands (partIn bs o) h n = group-stands (x .fits) y (x .is) in
+      subst Sized (sym (e ∙ group-plan)) (sized o _ false 0 _ (Particles (x .kind) (startIn bs o + n + 1) (h .depth + 1))
+      (group-number (x .fits) y (x .is), omega (arith, there .inside, there .short, there .deep)))
 
   -- where the group's members are read
   members-there : membersAt (flat (storeIn bs)) (startIn bs o + n + 1) (h .depth + 1) ≡ rename (indexIn bs) (x .inner)
   members-there =
       let inside : o < length (storeIn bs .form) = omega (arith, x .fits .there, form-size bs (x .fits .good)) in
       let a : Context ℕ = renameAround (indexIn bs) c in
-      let same : around (placed-there (x .fits) at) ≡ a = ap (λ (w : Spot Bytes). renameAround (indexIn bs) (w .context)) (same-found (x .fits) at) in
+      let same : around y ≡ a = ap (λ (w : Spot Bytes). renameAround (indexIn bs) (w .context)) (same-found (x .fits) y) in
       let start : startOf o (flat (storeIn bs) .definitions) ≡ startIn bs o =
       ap (λ (g : FlatStore). startOf o (g .definitions)) (sym (holds bs (x .fits .good) .bodies)) ∙ sym (start-is bs (x .fits .good) o (omega (arith, x .fits .there))) in
-      let first : startOf o (flat (storeIn bs) .definitions) + (offset a + 1) ≡ startIn bs o + n + 1 = omega (arith, start, placed-there (x .fits) at .stands, ap offset same) in
-      let deep : suc (level 0 a) ≡ h .depth + 1 = omega (arith, level-there (x .fits) at, ap (level 0) same) in
+      let first : startOf o (flat (storeIn bs) .definitions) + (offset a + 1) ≡ startIn bs o + n + 1 = omega (arith, start, y .stands, ap offset same) in
+      let deep : suc (level 0 a) ≡ h .depth + 1 = omega (arith, level-there (x .fits) y, ap (level 0) same) in
       sym (λ i. membersAt (flat (storeIn bs)) (first i) (deep i)) ∙ group-at (storeIn bs) o inside (quantify (quantifierOf k)) p c (x .quantifier) (x .kind) (x .inner) (x .rest) (group-picked x)
 
   pub group-answers : (room : ℕ) {q : Plan} (m : ℕ) → q ≡ groupPlan (startIn bs o) o part h n new → m ≡ first (conditions (changeGroupQuantifier o p k t) (storeIn bs)) → m ≡ 0
-      → {out : Bytes} {number len : ℕ} {left : Bytes} → Answers (limited room (plannedIn (formEdited bs o (quantify new) h n) q t (bodiesOf bs))) out number len left → Answers (outcome (changeGroupQuantifier o p k t) bs room) out number len left
+      → {out : Bytes} {number len : ℕ} {left : Bytes} → Answers (limited room (plannedIn (formEdited bs o (quantify new) h n) q t (bodiesOf bs))) out number len left
+      → Answers (outcome (changeGroupQuantifier o p k t) bs room) out number len left
   unfolding formAfter
   group-answers room m w f e a =
-      answered (x .fits) own is r h n z (changeGroupQuantifier o p k t) room t planned m (w ∙ group-plan) f e
-      (change-group-quantifier-planned (storeIn bs) (holds bs (x .fits .good) .good) o p c (formEdited bs o (quantify new) h n) k t (x .quantifier) (x .kind) (x .inner) (x .rest) (marksAt (groupSpan (partIn bs o) h n) n (partIn bs o))
+      answered (x .fits) y r (changeGroupQuantifier o p k t) room t planned m (w ∙ group-plan) f e
+      (change-group-quantifier-planned (storeIn bs) (holds bs (x .fits .good) .good) o p c (formEdited bs o (quantify new) h n) k t (x .quantifier) (x .kind) (x .inner) (x .rest)
+      (marksAt (groupSpan (partIn bs o) h n) n (partIn bs o))
       (startIn bs o + n + 1) (h .depth + 1) (sym f ∙ e) (group-picked x) (λ g. marks-there) (λ g. members-there)
-      (bodies-hold (x .fits) (Quantify new) (same-edit (x .fits) own is r) own is h n z (changeGroupQuantifier o p k t) refl))
+      (bodies-hold (x .fits) (Quantify new) (same-edit (x .fits) y r) y (changeGroupQuantifier o p k t) refl))
       a

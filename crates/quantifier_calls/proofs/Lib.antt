@@ -1,6 +1,5 @@
 pub mod Places
 pub mod Fitting
-pub mod PlanLaws
 pub mod Answering
 pub mod ElementCall
 pub mod GroupCall

@@ -1,26 +1,19 @@
 -- `group_calls::flatten_group` meets its contract.
-use Rattle.document_refusals.proofs.StoreFacts.{no-value}
-use mathlib.Core.Path.{refl, sym, ap, _∙_}
-use Prim.Native.Nat.{ℕ}
+use mathlib.Core.Path.{refl, sym, _∙_}
 use lib.ListN.{length}
 use borrow.Author.Tests.{not-true, not-false}
-use Rattle.store_writer.proofs.CallLaws.{answers-bad, answers-refused}
-use Rattle.store_writer.proofs.LimitLaws.{answers-as}
-use Rattle.store_writer.specs.Stores.{storeIn}
 use Rattle.rules.specs.Lines.{lines}
 use Rattle.rules.specs.Change.{flattenGroup}
+use Rattle.store_writer.specs.Stores.{storeIn}
 use Rattle.model_writer.specs.declared.Edit.the-variants.{Flatten}
-use Rattle.group_calls.proofs.Calls.{asks, not-absent, kept-answers, owner-fits, keeping-sized, flatten-fits, flatten-form, flatten-plan}
+use Rattle.store_writer.proofs.CallLaws.{answers-bad, answers-refused}
+use Rattle.store_writer.proofs.LimitLaws.{answers-as}
+use Rattle.document_refusals.proofs.StoreFacts.{no-value}
+use Rattle.model_edit.proofs.Fits.{asks}
+use Rattle.group_calls.proofs.Keeping.{flatten-fits, kept-answers, keeping-sized, flatten-form, flatten-plan}
 use borrow.Author.Needs.{needs}
 use Rattle.group_calls.proofs.flatten_group.Statement.{statement}
 use Rattle.group_calls.proofs.flatten_group.Tie as tie
-use Rattle.place_lookup.proofs.find.Reads as find-reads
-use Rattle.group_calls.proofs.edit_model.Reads as edit-model-reads
-use Rattle.plans.proofs.setting_plan.Reads as setting-plan-reads
-use Rattle.form_refusals.proofs.own_part.Reads as own-part-reads
-use Rattle.store_writer.proofs.refused.Reads as refused-reads
-use Rattle.form_refusals.proofs.flatten_group_refusal.Reads as flatten-group-refusal-reads
-use Rattle.store_check.proofs.passes.Reads as passes-reads
 
 passes-requires : tie.Need-passes-requires
 passes-requires c κs = search needs
@@ -33,12 +26,15 @@ returns c =
     let at-if1 = c .before in
     let at-passes = at-if1 .before in
     let start = at-passes .before .before .before .before in
+    let a = start .args in
     answers-as (c .refused .ensures .0) (c .refused .ensures .1)
-    (answers-bad (flattenGroup (start .args .owner) (start .args .place .now)) (start .args .store .now) (length (start .args .out .now))
+    (answers-bad (flattenGroup (a .owner) (a .place .now)) (a .store .now) (length (a .out .now))
     (sym (at-passes .passes .ensures) ∙ not-true _ (at-if1 .if1 .taken)))
 
 flatten-group-refusal-requires : tie.Need-flatten-group-refusal-requires
-flatten-group-refusal-requires c κs = (sym (c .before .passes .ensures) ∙ not-false _ (c .if1 .left))
+flatten-group-refusal-requires c κs =
+    let at-passes = c .before in
+    sym (at-passes .passes .ensures) ∙ not-false _ (c .if1 .left)
 
 refused-requires-2 : tie.Need-refused-requires-2
 refused-requires-2 c κs = search needs
@@ -50,95 +46,50 @@ returns-2 c =
     let at-if1 = at-flatten-group-refusal .before in
     let at-passes = at-if1 .before in
     let start = at-passes .before .before .before .before in
+    let a = start .args in
     answers-as (c .refused2 .ensures .0) (c .refused2 .ensures .1)
-    (answers-refused (flattenGroup (start .args .owner) (start .args .place .now)) (start .args .store .now) (length (start .args .out .now))
-    (sym (at-passes .passes .ensures) ∙ not-false _ (at-if1 .if1 .left)) _ (at-flatten-group-refusal .flatten-group-refusal .ensures) (at-if2 .if2 .taken))
-
-own-part-requires : tie.Need-own-part-requires
-own-part-requires c κs =
-    let at-flatten-group-refusal = c .before in
-    let at-if1 = at-flatten-group-refusal .before in
-    let at-passes = at-if1 .before in
-    let start = at-passes .before .before .before .before in
-    owner-fits
-    (flatten-fits (start .args .store .now) (sym (at-passes .passes .ensures) ∙ not-false _ (at-if1 .if1 .left)) (start .args .owner) (start .args .place .now)
-    (sym (at-flatten-group-refusal .flatten-group-refusal .ensures) ∙ c .if2 .left))
-
-find-requires : tie.Need-find-requires
-find-requires c κs = search needs
+    (answers-refused (flattenGroup (a .owner) (a .place .now)) (a .store .now) (length (a .out .now))
+    (sym (at-passes .passes .ensures) ∙ not-false _ (at-if1 .if1 .left)) _ (at-flatten-group-refusal .flatten-group-refusal .ensures .0) (at-if2 .if2 .taken))
 
 setting-plan-requires : tie.Need-setting-plan-requires
 setting-plan-requires c κs = search needs
-
-enum-told : tie.Need-enum-told
-enum-told c = search needs
-
-refused-requires-3 : tie.Need-refused-requires-3
-refused-requires-3 c κs = search needs
-
-enum-known-found : tie.Need-enum-known-found
-enum-known-found c = search needs
 
 slice-aggregate-edit-model : tie.Need-slice-aggregate-edit-model
 slice-aggregate-edit-model c = search needs
 
 edit-model-requires : tie.Need-edit-model-requires
 edit-model-requires c κs =
-    let at-found = c .before .before .before in
-    let at-setting-plan = at-found .before .before in
-    let at-find = at-setting-plan .before in
-    let at-own-part = at-find .before in
-    let at-if2 = at-own-part .before in
-    let at-flatten-group-refusal = at-if2 .before in
-    let at-if1 = at-flatten-group-refusal .before in
-    let at-passes = at-if1 .before in
-    let start = at-passes .before .before .before .before in (
-      asks
-          (flatten-fits (start .args .store .now) (sym (at-passes .passes .ensures) ∙ not-false _ (at-if1 .if1 .left)) (start .args .owner) (start .args .place .now)
-          (sym (at-flatten-group-refusal .flatten-group-refusal .ensures) ∙ at-if2 .if2 .left))
-          Flatten refl (at-own-part .own-part .ensures) (at-find .find .ensures) _ _ (at-found .found .given .1),
-      no-value (start .args .store .now),
-      keeping-sized (at-setting-plan .setting-plan .ensures),
-    )
-
-returns-3 : tie.Need-returns-3
-returns-3 c =
-    let at-enum-told = c .before in
-    let at-find = at-enum-told .before .before .before in
-    let at-own-part = at-find .before in
-    let at-if2 = at-own-part .before in
+    let at-setting-plan = c .before .before .before in
+    let at-if2 = at-setting-plan .before in
     let at-flatten-group-refusal = at-if2 .before in
     let at-if1 = at-flatten-group-refusal .before in
     let at-passes = at-if1 .before in
     let start = at-passes .before .before .before .before in
-    absurd
-    (not-absent
-    (flatten-fits (start .args .store .now) (sym (at-passes .passes .ensures) ∙ not-false _ (at-if1 .if1 .left)) (start .args .owner) (start .args .place .now)
-    (sym (at-flatten-group-refusal .flatten-group-refusal .ensures) ∙ at-if2 .if2 .left))
-    Flatten refl (at-own-part .own-part .ensures) (at-find .find .ensures) (at-enum-told .enum-told .given .1))
+    let a = start .args in
+    let none = sym (at-flatten-group-refusal .flatten-group-refusal .ensures .0) ∙ at-if2 .if2 .left in
+    let fits = flatten-fits (a .store .now) (sym (at-passes .passes .ensures) ∙ not-false _ (at-if1 .if1 .left)) (a .owner) (a .place .now) none in
+    let place = at-flatten-group-refusal .flatten-group-refusal .ensures .1 .found (at-if2 .if2 .left) in
+    (asks fits Flatten refl place, no-value (a .store .now), keeping-sized (at-setting-plan .setting-plan .ensures))
 
 same-length : tie.Need-same-length
 same-length c = search needs
 
-returns-4 : tie.Need-returns-4
-returns-4 c =
+returns-3 : tie.Need-returns-3
+returns-3 c =
     let at-edit-model = c .before .before in
-    let at-found = at-edit-model .before .before .before .before in
-    let at-setting-plan = at-found .before .before in
-    let at-find = at-setting-plan .before in
-    let at-own-part = at-find .before in
-    let at-if2 = at-own-part .before in
+    let at-setting-plan = at-edit-model .before .before .before .before in
+    let at-if2 = at-setting-plan .before in
     let at-flatten-group-refusal = at-if2 .before in
     let at-if1 = at-flatten-group-refusal .before in
     let at-passes = at-if1 .before in
     let start = at-passes .before .before .before .before in
-    kept-answers
-    (flatten-fits (start .args .store .now) (sym (at-passes .passes .ensures) ∙ not-false _ (at-if1 .if1 .left)) (start .args .owner) (start .args .place .now)
-    (sym (at-flatten-group-refusal .flatten-group-refusal .ensures) ∙ at-if2 .if2 .left))
-    Flatten refl (at-own-part .own-part .ensures) (at-find .find .ensures) _ _ (at-found .found .given .1) (flattenGroup (start .args .owner) (start .args .place .now))
-    (length (start .args .out .now)) _ (at-setting-plan .setting-plan .ensures) (at-flatten-group-refusal .flatten-group-refusal .ensures) (at-if2 .if2 .left)
-    (flatten-form (start .args .owner) (start .args .place .now) (storeIn (start .args .store .now) .form))
-    (flatten-plan (start .args .owner) (start .args .place .now) (storeIn (start .args .store .now) .version) (storeIn (start .args .store .now) .form) (lines 0 (storeIn (start .args .store .now) .docs)))
+    let a = start .args in
+    let none = sym (at-flatten-group-refusal .flatten-group-refusal .ensures .0) ∙ at-if2 .if2 .left in
+    let fits = flatten-fits (a .store .now) (sym (at-passes .passes .ensures) ∙ not-false _ (at-if1 .if1 .left)) (a .owner) (a .place .now) none in
+    let place = at-flatten-group-refusal .flatten-group-refusal .ensures .1 .found (at-if2 .if2 .left) in
+    kept-answers fits Flatten refl place (flattenGroup (a .owner) (a .place .now)) (length (a .out .now)) _ (at-setting-plan .setting-plan .ensures)
+    (at-flatten-group-refusal .flatten-group-refusal .ensures .0) (at-if2 .if2 .left) (flatten-form (a .owner) (a .place .now) (storeIn (a .store .now) .form))
+    (flatten-plan (a .owner) (a .place .now) (storeIn (a .store .now) .version) (storeIn (a .store .now) .form) (lines 0 (storeIn (a .store .now) .docs)))
     (at-edit-model .edit-model .ensures)
 
 pub flatten-group-spec : {M : Type 1} → statement M
@@ -151,14 +102,8 @@ flatten-group-spec =
     flatten-group-refusal-requires
     refused-requires-2
     returns-2
-    own-part-requires
-    find-requires
     setting-plan-requires
-    enum-told
-    refused-requires-3
-    enum-known-found
     slice-aggregate-edit-model
     edit-model-requires
-    returns-3
     same-length
-    returns-4)
+    returns-3)

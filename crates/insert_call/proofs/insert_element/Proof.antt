@@ -8,8 +8,7 @@ use Rattle.rules.specs.Change.{insertElement}
 use Rattle.model_writer.specs.declared.Edit.the-variants.{Insert}
 use Rattle.store_writer.proofs.CallLaws.{answers-bad, answers-refused}
 use Rattle.store_writer.proofs.LimitLaws.{answers-as}
-use Rattle.group_calls.proofs.Calls.{asks, not-absent, owner-fits}
-use Rattle.group_calls.proofs.Removing.{place-low}
+use Rattle.model_edit.proofs.Fits.{asks, owner-fits, place-low}
 use Rattle.insert_call.proofs.Insertion.{insertion, edit-same, inserting-sized, inserted-answers}
 use borrow.Author.Needs.{needs}
 use Rattle.insert_call.proofs.insert_element.Statement.{statement}
@@ -22,52 +21,114 @@ refused-requires : tie.Need-refused-requires
 refused-requires c κs = search needs
 
 returns : tie.Need-returns
-returns c = answers-as (c .refused .ensures .0) (c .refused .ensures .1) (answers-bad (insertElement (c .before .before .before .before .before .before .before .args .owner) (c .before .before .before .before .before .before .before .args .place .now) (c .before .before .before .before .before .before .before .args .definition) (c .before .before .before .before .before .before .before .args .quantifier) (c .before .before .before .before .before .before .before .args .text .now)) (c .before .before .before .before .before .before .before .args .store .now) (length (c .before .before .before .before .before .before .before .args .out .now)) (sym (c .before .before .passes .ensures) ∙ not-true _ (c .before .if1 .taken)))
+returns c =
+    let at-if1 = c .before in
+    let at-passes = at-if1 .before in
+    let start = at-passes .before .before .before .before .before in
+    let a = start .args in
+    answers-as (c .refused .ensures .0) (c .refused .ensures .1)
+    (answers-bad (insertElement (a .owner) (a .place .now) (a .definition) (a .quantifier) (a .text .now)) (a .store .now) (length (a .out .now))
+    (sym (at-passes .passes .ensures) ∙ not-true _ (at-if1 .if1 .taken)))
 
 insert-element-refusal-requires : tie.Need-insert-element-refusal-requires
-insert-element-refusal-requires c κs = (sym (c .before .passes .ensures) ∙ not-false _ (c .if1 .left))
+insert-element-refusal-requires c κs =
+    let at-passes = c .before in
+    sym (at-passes .passes .ensures) ∙ not-false _ (c .if1 .left)
 
 refused-requires-2 : tie.Need-refused-requires-2
 refused-requires-2 c κs = search needs
 
 returns-2 : tie.Need-returns-2
-returns-2 c = answers-as (c .refused2 .ensures .0) (c .refused2 .ensures .1) (answers-refused (insertElement (c .before .before .before .before .before .before .before .before .before .args .owner) (c .before .before .before .before .before .before .before .before .before .args .place .now) (c .before .before .before .before .before .before .before .before .before .args .definition) (c .before .before .before .before .before .before .before .before .before .args .quantifier) (c .before .before .before .before .before .before .before .before .before .args .text .now)) (c .before .before .before .before .before .before .before .before .before .args .store .now) (length (c .before .before .before .before .before .before .before .before .before .args .out .now)) (sym (c .before .before .before .before .passes .ensures) ∙ not-false _ (c .before .before .before .if1 .left)) _ (c .before .before .insert-element-refusal .ensures) (c .before .if2 .taken))
+returns-2 c =
+    let at-if2 = c .before in
+    let at-insert-element-refusal = at-if2 .before in
+    let at-if1 = at-insert-element-refusal .before in
+    let at-passes = at-if1 .before in
+    let start = at-passes .before .before .before .before .before in
+    let a = start .args in
+    answers-as (c .refused2 .ensures .0) (c .refused2 .ensures .1)
+    (answers-refused (insertElement (a .owner) (a .place .now) (a .definition) (a .quantifier) (a .text .now)) (a .store .now) (length (a .out .now))
+    (sym (at-passes .passes .ensures) ∙ not-false _ (at-if1 .if1 .left)) _ (at-insert-element-refusal .insert-element-refusal .ensures .0) (at-if2 .if2 .taken))
 
 own-part-requires : tie.Need-own-part-requires
-own-part-requires c κs = owner-fits ((insertion (c .before .before .before .before .before .before .before .before .args .store .now) (sym (c .before .before .before .passes .ensures) ∙ not-false _ (c .before .before .if1 .left)) (c .before .before .before .before .before .before .before .before .args .owner) (c .before .before .before .before .before .before .before .before .args .place .now) (c .before .before .before .before .before .before .before .before .args .definition) (c .before .before .before .before .before .before .before .before .args .quantifier) (c .before .before .before .before .before .before .before .before .args .text .now) (sym (c .before .insert-element-refusal .ensures) ∙ c .if2 .left)) .fits)
-
-find-requires : tie.Need-find-requires
-find-requires c κs = search needs
-
-enum-told : tie.Need-enum-told
-enum-told c = search needs
-
-refused-requires-3 : tie.Need-refused-requires-3
-refused-requires-3 c κs = search needs
-
-enum-known-found : tie.Need-enum-known-found
-enum-known-found c = search needs
+own-part-requires c κs =
+    let at-if2 = c .before in
+    let at-insert-element-refusal = at-if2 .before in
+    let at-if1 = at-insert-element-refusal .before in
+    let at-passes = at-if1 .before in
+    let start = at-passes .before .before .before .before .before in
+    let a = start .args in
+    let none = sym (at-insert-element-refusal .insert-element-refusal .ensures .0) ∙ at-if2 .if2 .left in
+    let inserted = insertion (a .store .now) (sym (at-passes .passes .ensures) ∙ not-false _ (at-if1 .if1 .left)) (a .owner) (a .place .now) (a .definition) (a .quantifier) (a .text .now) none in
+    owner-fits (inserted .fits)
 
 inserting-plan-requires : tie.Need-inserting-plan-requires
-inserting-plan-requires c κs = (place-low (asks ((insertion (c .before .before .before .before .before .before .before .before .before .before .before .before .before .args .store .now) (sym (c .before .before .before .before .before .before .before .before .passes .ensures) ∙ not-false _ (c .before .before .before .before .before .before .before .if1 .left)) (c .before .before .before .before .before .before .before .before .before .before .before .before .before .args .owner) (c .before .before .before .before .before .before .before .before .before .before .before .before .before .args .place .now) (c .before .before .before .before .before .before .before .before .before .before .before .before .before .args .definition) (c .before .before .before .before .before .before .before .before .before .before .before .before .before .args .quantifier) (c .before .before .before .before .before .before .before .before .before .before .before .before .before .args .text .now) (sym (c .before .before .before .before .before .before .insert-element-refusal .ensures) ∙ c .before .before .before .before .before .if2 .left)) .fits) (Insert (quantifierOf (c .before .before .before .before .before .before .before .before .before .before .before .before .before .args .quantifier)) (c .before .before .before .before .before .before .before .before .before .before .before .before .before .args .definition)) (edit-same (insertion (c .before .before .before .before .before .before .before .before .before .before .before .before .before .args .store .now) (sym (c .before .before .before .before .before .before .before .before .passes .ensures) ∙ not-false _ (c .before .before .before .before .before .before .before .if1 .left)) (c .before .before .before .before .before .before .before .before .before .before .before .before .before .args .owner) (c .before .before .before .before .before .before .before .before .before .before .before .before .before .args .place .now) (c .before .before .before .before .before .before .before .before .before .before .before .before .before .args .definition) (c .before .before .before .before .before .before .before .before .before .before .before .before .before .args .quantifier) (c .before .before .before .before .before .before .before .before .before .before .before .before .before .args .text .now) (sym (c .before .before .before .before .before .before .insert-element-refusal .ensures) ∙ c .before .before .before .before .before .if2 .left)) refl) (c .before .before .before .before .own-part .ensures) (c .before .before .before .find .ensures) _ _ (c .before .found .given .1)), (insertion (c .before .before .before .before .before .before .before .before .before .before .before .before .before .args .store .now) (sym (c .before .before .before .before .before .before .before .before .passes .ensures) ∙ not-false _ (c .before .before .before .before .before .before .before .if1 .left)) (c .before .before .before .before .before .before .before .before .before .before .before .before .before .args .owner) (c .before .before .before .before .before .before .before .before .before .before .before .before .before .args .place .now) (c .before .before .before .before .before .before .before .before .before .before .before .before .before .args .definition) (c .before .before .before .before .before .before .before .before .before .before .before .before .before .args .quantifier) (c .before .before .before .before .before .before .before .before .before .before .before .before .before .args .text .now) (sym (c .before .before .before .before .before .before .insert-element-refusal .ensures) ∙ c .before .before .before .before .before .if2 .left)) .code)
+inserting-plan-requires c κs =
+    let at-if2 = c .before .before in
+    let at-insert-element-refusal = at-if2 .before in
+    let at-if1 = at-insert-element-refusal .before in
+    let at-passes = at-if1 .before in
+    let start = at-passes .before .before .before .before .before in
+    let a = start .args in
+    let none = sym (at-insert-element-refusal .insert-element-refusal .ensures .0) ∙ at-if2 .if2 .left in
+    let inserted = insertion (a .store .now) (sym (at-passes .passes .ensures) ∙ not-false _ (at-if1 .if1 .left)) (a .owner) (a .place .now) (a .definition) (a .quantifier) (a .text .now) none in
+    let place = at-insert-element-refusal .insert-element-refusal .ensures .1 .found (at-if2 .if2 .left) in
+    let edit = Insert (quantifierOf (a .quantifier)) (a .definition) in
+    (place-low (asks (inserted .fits) edit (edit-same inserted refl) place), inserted .code)
 
 cast-read-quantifier : tie.Need-cast-read-quantifier
-cast-read-quantifier c = record { fits = omega (arith, (insertion (c .before .before .before .before .before .before .before .before .before .before .before .before .before .before .args .store .now) (sym (c .before .before .before .before .before .before .before .before .before .passes .ensures) ∙ not-false _ (c .before .before .before .before .before .before .before .before .if1 .left)) (c .before .before .before .before .before .before .before .before .before .before .before .before .before .before .args .owner) (c .before .before .before .before .before .before .before .before .before .before .before .before .before .before .args .place .now) (c .before .before .before .before .before .before .before .before .before .before .before .before .before .before .args .definition) (c .before .before .before .before .before .before .before .before .before .before .before .before .before .before .args .quantifier) (c .before .before .before .before .before .before .before .before .before .before .before .before .before .before .args .text .now) (sym (c .before .before .before .before .before .before .before .insert-element-refusal .ensures) ∙ c .before .before .before .before .before .before .if2 .left)) .code) }
+cast-read-quantifier c =
+    let at-if2 = c .before .before .before in
+    let at-insert-element-refusal = at-if2 .before in
+    let at-if1 = at-insert-element-refusal .before in
+    let at-passes = at-if1 .before in
+    let start = at-passes .before .before .before .before .before in
+    let a = start .args in
+    let none = sym (at-insert-element-refusal .insert-element-refusal .ensures .0) ∙ at-if2 .if2 .left in
+    let inserted = insertion (a .store .now) (sym (at-passes .passes .ensures) ∙ not-false _ (at-if1 .if1 .left)) (a .owner) (a .place .now) (a .definition) (a .quantifier) (a .text .now) none in
+    record { fits = omega (arith, inserted .code) }
 
 read-quantifier-requires : tie.Need-read-quantifier-requires
 read-quantifier-requires c κs = search needs
 
 edit-model-requires : tie.Need-edit-model-requires
-edit-model-requires c κs = (asks ((insertion (c .before .before .before .before .before .before .before .before .before .before .before .before .before .before .before .before .args .store .now) (sym (c .before .before .before .before .before .before .before .before .before .before .before .passes .ensures) ∙ not-false _ (c .before .before .before .before .before .before .before .before .before .before .if1 .left)) (c .before .before .before .before .before .before .before .before .before .before .before .before .before .before .before .before .args .owner) (c .before .before .before .before .before .before .before .before .before .before .before .before .before .before .before .before .args .place .now) (c .before .before .before .before .before .before .before .before .before .before .before .before .before .before .before .before .args .definition) (c .before .before .before .before .before .before .before .before .before .before .before .before .before .before .before .before .args .quantifier) (c .before .before .before .before .before .before .before .before .before .before .before .before .before .before .before .before .args .text .now) (sym (c .before .before .before .before .before .before .before .before .before .insert-element-refusal .ensures) ∙ c .before .before .before .before .before .before .before .before .if2 .left)) .fits) (Insert _ (c .before .before .before .before .before .before .before .before .before .before .before .before .before .before .before .before .args .definition)) (edit-same (insertion (c .before .before .before .before .before .before .before .before .before .before .before .before .before .before .before .before .args .store .now) (sym (c .before .before .before .before .before .before .before .before .before .before .before .passes .ensures) ∙ not-false _ (c .before .before .before .before .before .before .before .before .before .before .if1 .left)) (c .before .before .before .before .before .before .before .before .before .before .before .before .before .before .before .before .args .owner) (c .before .before .before .before .before .before .before .before .before .before .before .before .before .before .before .before .args .place .now) (c .before .before .before .before .before .before .before .before .before .before .before .before .before .before .before .before .args .definition) (c .before .before .before .before .before .before .before .before .before .before .before .before .before .before .before .before .args .quantifier) (c .before .before .before .before .before .before .before .before .before .before .before .before .before .before .before .before .args .text .now) (sym (c .before .before .before .before .before .before .before .before .before .insert-element-refusal .ensures) ∙ c .before .before .before .before .before .before .before .before .if2 .left)) (c .before .read-quantifier .ensures)) (c .before .before .before .before .before .before .before .own-part .ensures) (c .before .before .before .before .before .before .find .ensures) _ _ (c .before .before .before .before .found .given .1), (insertion (c .before .before .before .before .before .before .before .before .before .before .before .before .before .before .before .before .args .store .now) (sym (c .before .before .before .before .before .before .before .before .before .before .before .passes .ensures) ∙ not-false _ (c .before .before .before .before .before .before .before .before .before .before .if1 .left)) (c .before .before .before .before .before .before .before .before .before .before .before .before .before .before .before .before .args .owner) (c .before .before .before .before .before .before .before .before .before .before .before .before .before .before .before .before .args .place .now) (c .before .before .before .before .before .before .before .before .before .before .before .before .before .before .before .before .args .definition) (c .before .before .before .before .before .before .before .before .before .before .before .before .before .before .before .before .args .quantifier) (c .before .before .before .before .before .before .before .before .before .before .before .before .before .before .before .before .args .text .now) (sym (c .before .before .before .before .before .before .before .before .before .insert-element-refusal .ensures) ∙ c .before .before .before .before .before .before .before .before .if2 .left)) .text, inserting-sized (insertion (c .before .before .before .before .before .before .before .before .before .before .before .before .before .before .before .before .args .store .now) (sym (c .before .before .before .before .before .before .before .before .before .before .before .passes .ensures) ∙ not-false _ (c .before .before .before .before .before .before .before .before .before .before .if1 .left)) (c .before .before .before .before .before .before .before .before .before .before .before .before .before .before .before .before .args .owner) (c .before .before .before .before .before .before .before .before .before .before .before .before .before .before .before .before .args .place .now) (c .before .before .before .before .before .before .before .before .before .before .before .before .before .before .before .before .args .definition) (c .before .before .before .before .before .before .before .before .before .before .before .before .before .before .before .before .args .quantifier) (c .before .before .before .before .before .before .before .before .before .before .before .before .before .before .before .before .args .text .now) (sym (c .before .before .before .before .before .before .before .before .before .insert-element-refusal .ensures) ∙ c .before .before .before .before .before .before .before .before .if2 .left)) _ _ (c .before .before .inserting-plan .ensures))
-
-returns-3 : tie.Need-returns-3
-returns-3 c = absurd (not-absent ((insertion (c .before .before .before .before .before .before .before .before .before .before .before .before .before .args .store .now) (sym (c .before .before .before .before .before .before .before .before .passes .ensures) ∙ not-false _ (c .before .before .before .before .before .before .before .if1 .left)) (c .before .before .before .before .before .before .before .before .before .before .before .before .before .args .owner) (c .before .before .before .before .before .before .before .before .before .before .before .before .before .args .place .now) (c .before .before .before .before .before .before .before .before .before .before .before .before .before .args .definition) (c .before .before .before .before .before .before .before .before .before .before .before .before .before .args .quantifier) (c .before .before .before .before .before .before .before .before .before .before .before .before .before .args .text .now) (sym (c .before .before .before .before .before .before .insert-element-refusal .ensures) ∙ c .before .before .before .before .before .if2 .left)) .fits) (Insert (quantifierOf (c .before .before .before .before .before .before .before .before .before .before .before .before .before .args .quantifier)) (c .before .before .before .before .before .before .before .before .before .before .before .before .before .args .definition)) (edit-same (insertion (c .before .before .before .before .before .before .before .before .before .before .before .before .before .args .store .now) (sym (c .before .before .before .before .before .before .before .before .passes .ensures) ∙ not-false _ (c .before .before .before .before .before .before .before .if1 .left)) (c .before .before .before .before .before .before .before .before .before .before .before .before .before .args .owner) (c .before .before .before .before .before .before .before .before .before .before .before .before .before .args .place .now) (c .before .before .before .before .before .before .before .before .before .before .before .before .before .args .definition) (c .before .before .before .before .before .before .before .before .before .before .before .before .before .args .quantifier) (c .before .before .before .before .before .before .before .before .before .before .before .before .before .args .text .now) (sym (c .before .before .before .before .before .before .insert-element-refusal .ensures) ∙ c .before .before .before .before .before .if2 .left)) refl) (c .before .before .before .before .own-part .ensures) (c .before .before .before .find .ensures) (c .before .enum-told .given .1))
+edit-model-requires c κs =
+    let at-read-quantifier = c .before in
+    let at-inserting-plan = at-read-quantifier .before in
+    let at-if2 = at-inserting-plan .before .before .before in
+    let at-insert-element-refusal = at-if2 .before in
+    let at-if1 = at-insert-element-refusal .before in
+    let at-passes = at-if1 .before in
+    let start = at-passes .before .before .before .before .before in
+    let a = start .args in
+    let none = sym (at-insert-element-refusal .insert-element-refusal .ensures .0) ∙ at-if2 .if2 .left in
+    let inserted = insertion (a .store .now) (sym (at-passes .passes .ensures) ∙ not-false _ (at-if1 .if1 .left)) (a .owner) (a .place .now) (a .definition) (a .quantifier) (a .text .now) none in
+    let place = at-insert-element-refusal .insert-element-refusal .ensures .1 .found (at-if2 .if2 .left) in (
+      asks (inserted .fits) (Insert _ (a .definition)) (edit-same inserted (at-read-quantifier .read-quantifier .ensures)) place,
+      inserted .text,
+      inserting-sized inserted _ _ (at-inserting-plan .inserting-plan .ensures),
+    )
 
 same-length : tie.Need-same-length
 same-length c = search needs
 
-returns-4 : tie.Need-returns-4
-returns-4 c = inserted-answers (insertion (c .before .before .before .before .before .before .before .before .before .before .before .before .before .before .before .before .before .before .before .args .store .now) (sym (c .before .before .before .before .before .before .before .before .before .before .before .before .before .before .passes .ensures) ∙ not-false _ (c .before .before .before .before .before .before .before .before .before .before .before .before .before .if1 .left)) (c .before .before .before .before .before .before .before .before .before .before .before .before .before .before .before .before .before .before .before .args .owner) (c .before .before .before .before .before .before .before .before .before .before .before .before .before .before .before .before .before .before .before .args .place .now) (c .before .before .before .before .before .before .before .before .before .before .before .before .before .before .before .before .before .before .before .args .definition) (c .before .before .before .before .before .before .before .before .before .before .before .before .before .before .before .before .before .before .before .args .quantifier) (c .before .before .before .before .before .before .before .before .before .before .before .before .before .before .before .before .before .before .before .args .text .now) (sym (c .before .before .before .before .before .before .before .before .before .before .before .before .insert-element-refusal .ensures) ∙ c .before .before .before .before .before .before .before .before .before .before .before .if2 .left)) (c .before .before .before .before .read-quantifier .ensures) (c .before .before .before .before .before .before .before .before .before .before .own-part .ensures) (c .before .before .before .before .before .before .before .before .before .find .ensures) _ _ (c .before .before .before .before .before .before .before .found .given .1) (length (c .before .before .before .before .before .before .before .before .before .before .before .before .before .before .before .before .before .before .before .args .out .now)) (c .before .before .before .before .before .inserting-plan .ensures) (c .before .before .edit-model .ensures)
+returns-3 : tie.Need-returns-3
+returns-3 c =
+    let at-edit-model = c .before .before in
+    let at-read-quantifier = at-edit-model .before .before in
+    let at-inserting-plan = at-read-quantifier .before in
+    let at-own-part = at-inserting-plan .before in
+    let at-if2 = at-own-part .before .before in
+    let at-insert-element-refusal = at-if2 .before in
+    let at-if1 = at-insert-element-refusal .before in
+    let at-passes = at-if1 .before in
+    let start = at-passes .before .before .before .before .before in
+    let a = start .args in
+    let none = sym (at-insert-element-refusal .insert-element-refusal .ensures .0) ∙ at-if2 .if2 .left in
+    let inserted = insertion (a .store .now) (sym (at-passes .passes .ensures) ∙ not-false _ (at-if1 .if1 .left)) (a .owner) (a .place .now) (a .definition) (a .quantifier) (a .text .now) none in
+    let place = at-insert-element-refusal .insert-element-refusal .ensures .1 .found (at-if2 .if2 .left) in
+    inserted-answers inserted (at-read-quantifier .read-quantifier .ensures) place (at-own-part .own-part .ensures) (length (a .out .now))
+    (at-inserting-plan .inserting-plan .ensures) (at-edit-model .edit-model .ensures)
 
 pub insert-element-spec : {M : Type 1} → statement M
 insert-element-spec =
@@ -80,14 +141,9 @@ insert-element-spec =
     refused-requires-2
     returns-2
     own-part-requires
-    find-requires
-    enum-told
-    refused-requires-3
-    enum-known-found
     inserting-plan-requires
     cast-read-quantifier
     read-quantifier-requires
     edit-model-requires
-    returns-3
     same-length
-    returns-4)
+    returns-3)

@@ -17,7 +17,13 @@ insert-element-plan-requires : tie.Need-insert-element-plan-requires
 insert-element-plan-requires c κs = search needs
 
 returns : tie.Need-returns
-returns c = c .insert-element-plan .ensures ∙ ap₂ (λ (m : Bytes) (b : Bool). insertElementPlan (c .before .before .before .before .args .owner) m (c .before .before .before .before .args .definition) (b && c .before .before .before .before .args .spine)) (c .before .marks .ensures) (c .before .before .needs-filling .ensures)
+returns c =
+    let at-marks = c .before in
+    let at-needs-filling = at-marks .before in
+    let start = at-needs-filling .before .before in
+    let a = start .args in
+    c .insert-element-plan .ensures ∙ ap₂ (λ (m : Bytes) (b : Bool). insertElementPlan (a .owner) m (a .definition) (b && a .spine)) (at-marks .marks .ensures)
+    (at-needs-filling .needs-filling .ensures)
 
 pub inserting-plan-spec : {M : Type 1} → statement M
 inserting-plan-spec = tie.close (tie.spec needs-filling-requires marks-requires insert-element-plan-requires returns)

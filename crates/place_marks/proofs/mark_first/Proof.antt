@@ -22,13 +22,21 @@ same-length c = search needs
 
 returns : tie.Need-returns
 returns c =
-    let a = c .before .before .before .before .before .before .before .before .before .args in
-    first-element (a .value) (a .particles .now) (a .marks .now) (c .before .before .before .before .before .before .particle-sort .ensures) (c .before .before .before .before .before .if1 .taken) (c .before .before .before .before .particle-index .ensures) refl (c .before .before .store .ensures)
+    let at-store = c .before .before in
+    let at-particle-index = at-store .before .before in
+    let at-if1 = at-particle-index .before in
+    let at-particle-sort = at-if1 .before in
+    let start = at-particle-sort .before .before .before in
+    let a = start .args in
+    first-element (a .value) (a .particles .now) (a .marks .now) (at-particle-sort .particle-sort .ensures) (at-if1 .if1 .taken)
+    (at-particle-index .particle-index .ensures) refl (at-store .store .ensures)
 
 returns-2 : tie.Need-returns-2
 returns-2 c =
-    let a = c .before .before .before .before .args in
-    first-group (a .value) (a .particles .now) (a .marks .now) (c .before .particle-sort .ensures) (c .if1 .left)
+    let at-particle-sort = c .before in
+    let start = at-particle-sort .before .before .before in
+    let a = start .args in
+    first-group (a .value) (a .particles .now) (a .marks .now) (at-particle-sort .particle-sort .ensures) (c .if1 .left)
 
 pub mark-first-spec : {M : Type 1} → statement M
 mark-first-spec =

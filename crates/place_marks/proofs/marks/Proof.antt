@@ -34,10 +34,16 @@ mark-requires-2 c κs = search needs
 
 returns : tie.Need-returns
 returns c =
-    let b = c .before .before .before .before .before .before .before .before in
-    let a = b .before .before .before .before .args in
-    marks-laid (a .n) (a .p) (a .part .now) (b .before .before .particle-size .ensures) (b .before .times .ensures) (b .times2 .ensures)
-    (c .before .before .before .before .before .before .before .window .ensures) (c .before .before .before .before .before .mark .ensures) (c .before .before .before .window2 .ensures) (c .before .mark2 .ensures)
+    let at-mark2 = c .before in
+    let at-window2 = at-mark2 .before .before in
+    let at-mark = at-window2 .before .before in
+    let at-window = at-mark .before .before in
+    let at-times2 = at-window .before in
+    let at-times = at-times2 .before in
+    let at-particle-size = at-times .before in
+    let a = at-particle-size .before .before .args in
+    marks-laid (a .n) (a .p) (a .part .now) (at-particle-size .particle-size .ensures) (at-times .times .ensures) (at-times2 .times2 .ensures)
+    (at-window .window .ensures) (at-mark .mark .ensures) (at-window2 .window2 .ensures) (at-mark2 .mark2 .ensures)
 
 pub marks-spec : {M : Type 1} → statement M
 marks-spec =

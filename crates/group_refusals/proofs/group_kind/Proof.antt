@@ -1,0 +1,16 @@
+use Rattle.group_refusals.proofs.ConvertLaws.{kind-2}
+use borrow.Author.Needs.{needs}
+use Rattle.group_refusals.proofs.group_kind.Statement.{statement}
+use Rattle.group_refusals.proofs.group_kind.Tie as tie
+
+returns : tie.Need-returns
+returns c = search needs
+
+returns-2 : tie.Need-returns-2
+returns-2 c = search needs
+
+returns-3 : tie.Need-returns-3
+returns-3 c = kind-2 _ (c .match .rest .0 .1) (c .match .rest .1)
+
+pub group-kind-spec : {M : Type 1} → statement M
+group-kind-spec = tie.close (tie.spec returns returns-2 returns-3)

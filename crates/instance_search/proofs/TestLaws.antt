@@ -1,0 +1,28 @@
+-- What the code tests, of what a condition says.
+use native.Mathlib.Omega.{arith}
+use borrow.Author.Tests.{ne-eqb}
+use mathlib.Core.Path.{_≡_, refl, sym, ap, _∙_}
+use mathlib.Core.Bool.{Bool, true, false, _&&_, not, false≢true}
+use mathlib.Core.List.{[], _∷_}
+use lib.Dec.{eqb}
+use lib.ListN.{length}
+use Rattle.rules.specs.Bytes.{Bytes, isNone}
+
+pub test-is : {a b c : Bool} → a ≡ b → a ≡ c → b ≡ c
+test-is e h = sym e ∙ h
+
+pub not-is : {a b c : Bool} → a ≡ b → not a ≡ c → not b ≡ c
+not-is e h = ap not (sym e) ∙ h
+
+pub and-off : (a b : Bool) → b ≡ false → (a && b) ≡ false
+and-off true b f = f
+and-off false b f = refl
+
+pub and-first : (a b : Bool) → a ≡ false → (a && b) ≡ false
+and-first true b f = absurd (false≢true (sym f))
+and-first false b f = refl
+
+-- an empty text
+pub none-long : (v : Bytes) → eqb (length v) 0 ≡ isNone v
+none-long [] = refl
+none-long (x ∷ xs) = ne-eqb (length (x ∷ xs)) 0 (λ z. omega arith)

@@ -1,0 +1,5 @@
+pub mod OwnParts
+pub mod Small
+pub mod Edits
+pub mod FormWriting
+pub mod Fits

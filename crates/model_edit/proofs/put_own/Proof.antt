@@ -1,0 +1,62 @@
+-- `model_edit::put_own` meets its contract.
+use native.Mathlib.Omega.{arith}
+use Rattle.model_edit.proofs.FormWriting.{owner-low, first-in, many-in, own-laid, body-in}
+use borrow.Author.Needs.{needs}
+use Rattle.model_edit.proofs.put_own.Statement.{statement}
+use Rattle.model_edit.proofs.put_own.Tie as tie
+
+definitions-of-requires : tie.Need-definitions-of-requires
+definitions-of-requires c κs = search needs
+
+particles-of-requires : tie.Need-particles-of-requires
+particles-of-requires c κs = search needs
+
+particles-before-requires : tie.Need-particles-before-requires
+particles-before-requires c κs =
+    let start = c .before .before .before .before in
+    owner-low (start .pre .0)
+
+particles-of-requires-2 : tie.Need-particles-of-requires-2
+particles-of-requires-2 c κs =
+    let start = c .before .before .before .before .before in
+    owner-low (start .pre .0)
+
+put-particles-requires : tie.Need-put-particles-requires
+put-particles-requires c κs =
+    let at-particles-of2 = c .before in
+    let at-particles-before = at-particles-of2 .before in
+    let at-particles-of = at-particles-before .before in
+    let at-definitions-of = at-particles-of .before in
+    let start = at-definitions-of .before .before .before in
+    body-in (start .pre .0) (start .pre .1)
+    (first-in (start .args .store .now) (start .args .owner) (at-definitions-of .definitions-of .ensures) (at-particles-before .particles-before .ensures .0))
+    (many-in (start .args .store .now) (start .args .owner) (at-definitions-of .definitions-of .ensures) (at-particles-of2 .particles-of2 .ensures .0))
+    (at-particles-of .particles-of .ensures) (start .pre .2)
+
+same-length : tie.Need-same-length
+same-length c = search needs
+
+returns : tie.Need-returns
+returns c =
+    let at-put-particles = c .before .before in
+    let at-particles-of2 = at-put-particles .before .before in
+    let at-particles-before = at-particles-of2 .before in
+    let at-particles-of = at-particles-before .before in
+    let at-definitions-of = at-particles-of .before in
+    let start = at-definitions-of .before .before .before in
+    own-laid (start .pre .0)
+    (first-in (start .args .store .now) (start .args .owner) (at-definitions-of .definitions-of .ensures) (at-particles-before .particles-before .ensures .0))
+    (many-in (start .args .store .now) (start .args .owner) (at-definitions-of .definitions-of .ensures) (at-particles-of2 .particles-of2 .ensures .0))
+    (at-particles-of .particles-of .ensures) (at-put-particles .put-particles .ensures)
+
+pub put-own-spec : {M : Type 1} → statement M
+put-own-spec =
+    tie.close
+    (tie.spec
+    definitions-of-requires
+    particles-of-requires
+    particles-before-requires
+    particles-of-requires-2
+    put-particles-requires
+    same-length
+    returns)

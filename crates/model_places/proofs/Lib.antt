@@ -1,0 +1,4 @@
+pub mod OwnParts
+pub mod PlaceLaws
+pub mod PickLaws
+pub mod CountLaws

@@ -1,0 +1,3 @@
+pub mod FormFacts
+pub mod ReachLaws
+pub mod ModelLaws

@@ -1,0 +1,3 @@
+pub mod ContextViews
+pub mod SpreadLaws
+pub mod RemoveLaws

@@ -1,0 +1,16 @@
+use Rattle.remove_refusals.proofs.RemoveLaws.{nothing-read}
+use borrow.Author.Needs.{needs}
+use Rattle.remove_refusals.proofs.accepts_nothing.Statement.{statement}
+use Rattle.remove_refusals.proofs.accepts_nothing.Tie as tie
+
+facts-from-requires : tie.Need-facts-from-requires
+facts-from-requires c κs = search needs
+
+returns : tie.Need-returns
+returns c =
+    let start = c .before .before in
+    let a = start .args in
+    nothing-read (a .d) (a .s .now) (c .facts-from .ensures)
+
+pub accepts-nothing-spec : {M : Type 1} → statement M
+accepts-nothing-spec = tie.close (tie.spec facts-from-requires returns)

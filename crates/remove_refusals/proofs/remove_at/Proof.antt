@@ -1,0 +1,90 @@
+use Rattle.remove_refusals.proofs.RemoveLaws.{at-14, at-list, at-left, at-15, at-0}
+use Rattle.instance_search.specs.Instances.{hasInstance}
+use mathlib.Core.Path.{sym, _∙_}
+use native.Mathlib.Omega.{arith}
+use borrow.Author.Needs.{needs}
+use Rattle.remove_refusals.proofs.remove_at.Statement.{statement}
+use Rattle.remove_refusals.proofs.remove_at.Tie as tie
+
+particles-from-requires : tie.Need-particles-from-requires
+particles-from-requires c κs = search needs
+
+particle-depth-requires : tie.Need-particle-depth-requires
+particle-depth-requires c κs = search needs
+
+cast-d : tie.Need-cast-d
+cast-d c = search needs
+
+count-members-requires : tie.Need-count-members-requires
+count-members-requires c κs = search needs
+
+returns : tie.Need-returns
+returns c =
+    let at-count = c .before .before in
+    let a = at-count .before .before .before .before .before .args in
+    at-14 (hasInstance (a .store .now) (a .owner)) (a .part .now) (a .h) (a .p) (at-count .before .before .particles-from .ensures)
+    (at-count .before .particle-depth .ensures) (at-count .count-members .ensures) (c .if1 .taken)
+
+same-kind-requires : tie.Need-same-kind-requires
+same-kind-requires c κs = search needs
+
+returns-2 : tie.Need-returns-2
+returns-2 c =
+    let at-count = c .before .before .before .before in
+    let a = at-count .before .before .before .before .before .args in
+    at-list (hasInstance (a .store .now) (a .owner)) (a .part .now) (a .h) (a .p) (at-count .before .before .particles-from .ensures)
+    (at-count .before .particle-depth .ensures) (at-count .count-members .ensures)
+    (c .before .before .if1 .left) (c .before .same-kind .ensures) (c .if2 .taken)
+
+choice-left-requires : tie.Need-choice-left-requires
+choice-left-requires c κs =
+    let start = c .before .before .before .before .before .before .before .before .before in
+    (start .pre .deep (sym (c .before .same-kind .ensures) ∙ c .if2 .left), start .pre .later, start .pre .few, omega arith)
+
+returns-3 : tie.Need-returns-3
+returns-3 c =
+    let at-count = c .before .before .before .before .before .before in
+    let a = at-count .before .before .before .before .before .args in
+    at-left (hasInstance (a .store .now) (a .owner)) (a .part .now) (a .h) (a .p) (at-count .before .before .particles-from .ensures)
+    (at-count .before .particle-depth .ensures) (at-count .count-members .ensures)
+    (c .before .before .before .before .if1 .left) (c .before .before .before .same-kind .ensures) (c .before .choice-left .ensures) (c .if3 .taken)
+
+instance-exists-requires : tie.Need-instance-exists-requires
+instance-exists-requires c κs = search needs
+
+returns-4 : tie.Need-returns-4
+returns-4 c =
+    let at-count = c .before .before .before .before .before .before .before .before in
+    let a = at-count .before .before .before .before .before .args in
+    at-15 (hasInstance (a .store .now) (a .owner)) (a .part .now) (a .h) (a .p) (at-count .before .before .particles-from .ensures)
+    (at-count .before .particle-depth .ensures) (at-count .count-members .ensures)
+    (c .before .before .before .before .before .before .if1 .left) (c .before .before .before .before .before .same-kind .ensures)
+    (c .before .before .before .choice-left .ensures) (c .before .before .before .before .if2 .left) (c .before .before .if3 .left) (c .before .instance-exists .ensures)
+    (c .if4 .taken)
+
+returns-5 : tie.Need-returns-5
+returns-5 c =
+    let at-count = c .before .before .before .before .before .before .before .before in
+    let a = at-count .before .before .before .before .before .args in
+    at-0 (hasInstance (a .store .now) (a .owner)) (a .part .now) (a .h) (a .p) (at-count .before .before .particles-from .ensures)
+    (at-count .before .particle-depth .ensures) (at-count .count-members .ensures)
+    (c .before .before .before .before .before .before .if1 .left) (c .before .before .before .before .before .same-kind .ensures)
+    (c .before .before .before .choice-left .ensures) (c .before .before .before .before .if2 .left) (c .before .before .if3 .left) (c .before .instance-exists .ensures)
+    (c .if4 .left)
+
+pub remove-at-spec : {M : Type 1} → statement M
+remove-at-spec =
+    tie.close
+    (tie.spec
+    particles-from-requires
+    particle-depth-requires
+    cast-d
+    count-members-requires
+    returns
+    same-kind-requires
+    returns-2
+    choice-left-requires
+    returns-3
+    instance-exists-requires
+    returns-4
+    returns-5)

@@ -74,9 +74,11 @@ loop-again c =
     let a = c .before .before .before .before .before .before .before .before .before .before .before .before .before .before .args in
     let form = indexForm (a .version) (a .w) (a .n) (a .defs .now) (a .parts .now) (a .attrs .now) (a .a) in
     let at = c .before .before .before .before .before .before .before .loop in
-    let made = c .before .before .step in
-    (at .inv .0, pass-on (a .w) form _ (at .levels) (at .live) (at .t .now) (at .m) (at .inv .1)
-    (omega arith) _ (at .inv .0) _ _ _ (made .ensures) (not-false _ (c .before .if1 .left)))
+    let made = c .before .before .step in (
+      at .inv .0,
+      pass-on (a .w) form _ (at .levels) (at .live) (at .t .now) (at .m) (at .inv .1)
+          (omega arith) _ (at .inv .0) _ _ _ (made .ensures) (not-false _ (c .before .if1 .left)),
+    )
 
 end-requires : tie.Need-end-requires Inv-loop μ-loop
 end-requires c κs = search needs

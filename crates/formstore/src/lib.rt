@@ -128,7 +128,7 @@ pub extern "C" fn formstore_insert_element(
 pub fn remove_element(store: &[u8], owner: u32, place: &[u32], out: &mut [u8]) -> Answer
     ensures { λ r. ⌜ Promise (removeElement owner (now (place .entry))) (now (store .entry)) (now (out .entry)) (r .number) (r .length) (now (out .exit)) ⌝ }
 {
-    group_calls::remove_element(store, owner, place, out)
+    remove_call::remove_element(store, owner, place, out)
 }
 
 #[no_mangle]
@@ -140,7 +140,7 @@ pub extern "C" fn formstore_remove_element(
 ) -> Answer
     ensures { λ r. ⌜ Promise (removeElement owner (now (place .entry))) (now (store .entry)) (now (out .entry)) (r .number) (r .length) (now (out .exit)) ⌝ }
 {
-    group_calls::remove_element(store, owner, place, out)
+    remove_call::remove_element(store, owner, place, out)
 }
 
 /// 5: changes an element's quantifier.

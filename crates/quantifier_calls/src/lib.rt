@@ -28,9 +28,9 @@ pub fn change_quantifier(
         quantifier,
         text,
     );
-    let number = element.number;
-    if number != 0 {
-        return store_writer::refused(number);
+    let element_refusal = element.number;
+    if element_refusal != 0 {
+        return store_writer::refused(element_refusal);
     }
     let o = owner as usize;
     let new = model::read_quantifier(quantifier as u8);
@@ -61,9 +61,9 @@ pub fn change_group_quantifier(
         quantifier,
         text,
     );
-    let number = group.number;
-    if number != 0 {
-        return store_writer::refused(number);
+    let group_refusal = group.number;
+    if group_refusal != 0 {
+        return store_writer::refused(group_refusal);
     }
     let o = owner as usize;
     let new = model::read_quantifier(quantifier as u8);

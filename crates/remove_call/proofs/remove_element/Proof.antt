@@ -1,4 +1,4 @@
--- `group_calls::remove_element` meets its contract.
+-- `remove_call::remove_element` meets its contract.
 use mathlib.Core.Path.{refl, sym, _∙_}
 use lib.ListN.{length}
 use borrow.Author.Tests.{not-true, not-false}
@@ -8,10 +8,10 @@ use Rattle.store_writer.proofs.CallLaws.{answers-bad, answers-refused}
 use Rattle.store_writer.proofs.LimitLaws.{answers-as}
 use Rattle.document_refusals.proofs.StoreFacts.{no-value}
 use Rattle.model_edit.proofs.Fits.{asks, owner-fits, place-low}
-use Rattle.group_calls.proofs.Removing.{remove-fits, removed-answers, removing-sized}
+use Rattle.remove_call.proofs.Removing.{remove-fits, removed-answers, removing-sized}
 use borrow.Author.Needs.{needs}
-use Rattle.group_calls.proofs.remove_element.Statement.{statement}
-use Rattle.group_calls.proofs.remove_element.Tie as tie
+use Rattle.remove_call.proofs.remove_element.Statement.{statement}
+use Rattle.remove_call.proofs.remove_element.Tie as tie
 
 passes-requires : tie.Need-passes-requires
 passes-requires c κs = search needs

@@ -1,7 +1,7 @@
 -- What change 9 asks of the writer, and what it answers.
 use Prim.Native.Nat.{ℕ, suc, _+_, _<_, _≤_}
 use native.Mathlib.Omega.{arith}
-use borrow.Author.Tests.{lt-leb, ltb-false}
+use borrow.Author.Tests.{lt-leb, ltb-false, not-false}
 use mathlib.Core.Path.{_≡_, refl, sym, ap, _∙_, subst}
 use mathlib.Core.Bool.{Bool, true, false, not}
 use lib.ListN.{length, take}
@@ -14,7 +14,7 @@ use Rattle.rules.specs.Change.{addAttribute, after}
 use Rattle.rules.specs.Refusal.{first, conditions}
 use Rattle.rules.specs.Outcome.{Answers}
 use Rattle.rules.proofs.DecodeLaws.{name-width, value-width}
-use Rattle.history.proofs.Conditions.{not-false, not-past}
+use Rattle.change_laws.proofs.Conditions.{not-past}
 use Rattle.codec.specs.Laid.{Laid}
 use Rattle.layout.specs.Bodies.{widthOf, Number}
 use Rattle.layout.proofs.LayoutLaws.{width-within}
@@ -22,13 +22,13 @@ use Rattle.lookup.specs.Bodies.{bodiesOf}
 use Rattle.row_walk.specs.declared.Plan.{Plan}
 use Rattle.store_writer.specs.Stores.{storeIn, limited}
 use Rattle.store_writer.specs.Planned.{plannedIn}
-use Rattle.store_writer.specs.Forms.{formBytes, formIn, Forms}
+use Rattle.store_writer.specs.Forms.{formBytes, formRead, Forms}
 use Rattle.store_writer.specs.Writing.{Sized}
 use Rattle.store_writer.proofs.StoreLaws.{Holds, holds}
 use Rattle.store_writer.proofs.CallLaws.{answers-as, passed}
 use Rattle.store_writer.proofs.FormBytesLaws.{form-short}
 use Rattle.store_writer.proofs.FormLaws.{bareForm, FormOf, forms-of, form-answers, form-ceiling, within, good-bodies}
-use Rattle.document_refusals.proofs.StoreFacts.{Whole, whole, value-given}
+use Rattle.store_writer.proofs.StoreFacts.{Whole, whole, value-given}
 use Rattle.plans.specs.AttributeCalls.{attributesTo, addAttributePlan, attributeAdded}
 use Rattle.plans.proofs.CallsPlanned.{none-holds}
 use Rattle.plans.proofs.FormsAfter.{good-attribute, added-ceiling, added-form}
@@ -112,7 +112,7 @@ module _ (bs : Bytes) (o : ℕ) (n : Bytes) (k : ℕ) (v : Bytes) (x : Addable b
     )
 
     pub added-answers : (room : ℕ) {out : Bytes} {number len : ℕ} {end : Bytes}
-        → Answers (limited room (plannedIn (formIn (widthOf bs) (take r left) d p (a + 1)) q v (bodiesOf bs))) out number len end
+        → Answers (limited room (plannedIn (formRead (widthOf bs) (take r left) d p (a + 1)) q v (bodiesOf bs))) out number len end
         → Answers (limited room (added o n k v (bodiesOf bs))) out number len end
     unfolding added
     added-answers room z =

@@ -17,7 +17,7 @@ use Rattle.lookup.proofs.Laws.{from-step, from-none, from-all}
 use Rattle.store_check.specs.Reading.{noAttribute}
 use Rattle.store_writer.proofs.FormLaws.{counted-definitions, counted-particles, counted-attributes}
 use Rattle.plans.specs.AttributeCalls.{attributesTo, ownerAt}
-use Rattle.attribute_form.specs.Attributes.{Stands, UpTo, To}
+use Rattle.attribute_form.specs.Attributes.{AttributeStands, UpTo, To}
 
 -- ---- the bodies
 module _ (bs : Bytes) {n : ℕ} where
@@ -47,7 +47,7 @@ module _ (bs : Bytes) {w : ℕ} {attrs : Bytes} (wide : WidthIn bs w) (body : at
 
 pub stands : (bs : Bytes) (i : ℕ) {w d p r h : ℕ} → WidthIn bs w → Number (definitionCount bs) d → Number (particleCount bs) p
     → Place (headerSize + definitionSize * d + particleSize * p + attributeSize w * i) r → h ≡ headerSize
-    → Stands (widthOf bs) (bodiesOf bs) i (r - h)
+    → AttributeStands (widthOf bs) (bodiesOf bs) i (r - h)
 stands bs i {w} x e q r h =
     let z : attributeSize w * i ≡ attributeSize (widthOf bs) * i = ap (λ (k : ℕ). attributeSize k * i) (x .value) in
     record { place = omega (arith, r .value, h, z, count-definitions bs e, count-particles bs q); small = omega (arith, r .small) }

@@ -10,21 +10,20 @@ use Rattle.rules.specs.Bytes.{Bytes}
 use Rattle.rules.specs.Layout.{headerSize, definitionSize, particleSize, attributeSize, FlatAttribute, FlatStore, definitionBytes, particleBytes, attributeBytes, each}
 use Rattle.rules.specs.Decode.{definitionCount, particleCount, attributeCount}
 use Rattle.rules.specs.Passing.{passes}
-use Rattle.rules.proofs.LayoutLaws.{length-definition, length-particle, length-attribute, length-each}
+use Rattle.rules.proofs.LayoutLaws.{length-definition, length-particle, length-attribute, length-each, each-append}
 use Rattle.codec.specs.Laid.{Laid}
 use Rattle.layout.specs.Bodies.{widthOf}
 use Rattle.layout.proofs.LayoutLaws.{width-within}
-use Rattle.lookup.specs.Bodies.{bodiesOf, Begins}
+use Rattle.lookup.specs.Bodies.{bodiesOf, RowsBegin}
 use Rattle.store_writer.specs.Forms.{formBytes}
 use Rattle.store_writer.proofs.StoreLaws.{Holds, holds}
 use Rattle.store_writer.proofs.FormBytesLaws.{Few, few-of, few-definitions, few-particles, few-attributes, ceilings-rows, form-short}
 use Rattle.store_writer.proofs.FormLaws.{bareForm, FormOf, forms-of, own-form, within, good-bodies, counted-definitions, counted-particles, counted-attributes}
-use Rattle.definition_writer.proofs.Encoded.{each-append}
 use Rattle.plans.specs.AttributeCalls.{attributesReplaced}
-use Rattle.attribute_form.specs.Attributes.{Stands}
+use Rattle.attribute_form.specs.Attributes.{AttributeStands}
 
 -- ---- the form of a store that passes
-pub form-at : {bs : Bytes} → passes bs ≡ true → {start end : ℕ} → start ≡ headerSize → Begins bs end → {form : Bytes} → form ≡ take (end - start) (drop start bs)
+pub form-at : {bs : Bytes} → passes bs ≡ true → {start end : ℕ} → start ≡ headerSize → RowsBegin bs end → {form : Bytes} → form ≡ take (end - start) (drop start bs)
     → form ≡ formBytes (widthOf bs) (bodiesOf bs)
 form-at {bs} q h b e =
     let y : Holds bs = holds bs q in
@@ -94,7 +93,7 @@ module _ (w : ℕ) (f : FlatStore) (i : ℕ) where
     pub form-from : drop at (formBytes w f) ≡ each (attributeBytes w) (drop i (f .attributes))
     form-from = ap (drop at) form-cut ∙ drop-at front (each (attributeBytes w) (drop i (f .attributes))) at front-long
 
-module _ {w : ℕ} (f : FlatStore) (i : ℕ) {form : Bytes} {at : ℕ} (same : form ≡ formBytes w f) (s : Stands w f i at) {u out out₁ : Bytes} {r₁ : ℕ} (u-is : u ≡ take at form)
+module _ {w : ℕ} (f : FlatStore) (i : ℕ) {form : Bytes} {at : ℕ} (same : form ≡ formBytes w f) (s : AttributeStands w f i at) {u out out₁ : Bytes} {r₁ : ℕ} (u-is : u ≡ take at form)
     (x : Laid u out 0 r₁ out₁) where
   pub before-is : i ≤ length (f .attributes) → u ≡ front w f i
   before-is h = u-is ∙ ap (take at) same ∙ form-before w f i at (s .place) h

@@ -7,7 +7,7 @@ use Rattle.rules.specs.Layout.{definitionSize, particleSize, attributeSize, Fla
 use Rattle.plans.specs.AttributeCalls.{attributesTo}
 
 -- where attribute i stands in the bytes of the form, at a width
-pub record Stands (w : ℕ) (f : FlatStore) (i r : ℕ) : Type 0 where
+pub record AttributeStands (w : ℕ) (f : FlatStore) (i r : ℕ) : Type 0 where
   pub place : r ≡ definitionSize * length (f .definitions) + (particleSize * length (f .particles) + attributeSize w * i)
   pub small : r < 562949953421312
 

@@ -7,7 +7,7 @@ ghost use Rattle.rules.specs.Passing.{passes};
 ghost use Rattle.layout.specs.Bodies.{widthOf};
 ghost use Rattle.lookup.specs.Bodies.{bodiesOf};
 ghost use Rattle.store_writer.specs.Forms.{formBytes};
-ghost use Rattle.attribute_form.specs.Attributes.{Stands, UpTo, To};
+ghost use Rattle.attribute_form.specs.Attributes.{AttributeStands, UpTo, To};
 
 // 1 if the attribute is of one of the definitions up to `owner`.
 fn is_up_to(rec: &[u8], owner: u32) -> usize
@@ -46,7 +46,7 @@ pub fn form_of(store: &[u8]) -> &[u8]
 /// Where attribute i stands in them.
 pub fn place_of(store: &[u8], i: usize) -> usize
     requires { ⌜ i ≤ 64 ⌝ }
-    ensures { λ r. ⌜ Stands (widthOf (now (store .entry))) (bodiesOf (now (store .entry))) i r ⌝ }
+    ensures { λ r. ⌜ AttributeStands (widthOf (now (store .entry))) (bodiesOf (now (store .entry))) i r ⌝ }
 {
     let w = layout::width_in(store);
     let definitions = layout::definition_count(store);

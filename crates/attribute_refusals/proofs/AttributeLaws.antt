@@ -24,9 +24,9 @@ use Rattle.rules.proofs.BooleanLaws.{any-append}
 use Rattle.rules.proofs.DecodeLaws.{length-own}
 use Rattle.store_check.proofs.AttributeBlocks.{below-or}
 use Rattle.store_writer.specs.Stores.{storeIn}
-use Rattle.document_refusals.proofs.StoreFacts.{formIn, Whole}
-use Rattle.document_refusals.specs.Finding.{Gives}
-use Rattle.document_refusals.proofs.RefusalLaws.{gives-hit, gives-next, gives-none}
+use Rattle.store_writer.proofs.StoreFacts.{formIn, Whole}
+use Rattle.change_laws.specs.FirstCondition.{Gives}
+use Rattle.change_laws.proofs.FirstCondition.{gives-hit, gives-next, gives-none}
 use Rattle.instance_search.proofs.TestLaws.{none-long}
 use Rattle.attribute_refusals.specs.OwnAttributes.{ownNamed}
 

@@ -22,8 +22,8 @@ use Rattle.store_writer.specs.Writing.{Sized}
 use Rattle.store_writer.proofs.CallLaws.{passed}
 use Rattle.store_check.proofs.AttributeBlocks.{below-or}
 use Rattle.document_refusals.specs.Finding.{AttributeRefused}
-use Rattle.document_refusals.proofs.StoreFacts.{value-given, Whole, whole}
-use Rattle.document_refusals.proofs.AttributeRefusals.{unowned}
+use Rattle.store_writer.proofs.StoreFacts.{value-given, Whole, whole}
+use Rattle.store_writer.proofs.AttributeOwners.{unowned}
 use Rattle.plans.specs.CallPlans.{fillingPlan, settingPlan, attributeSerial, setAttributePlan}
 use Rattle.plans.proofs.CallsPlanned.{none-holds}
 use Rattle.call_laws.proofs.Calls.{unmoved-small, Asks}

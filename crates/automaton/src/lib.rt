@@ -13,7 +13,7 @@ ghost use Rattle.rules.specs.Bytes.{numbers};
 ghost use Rattle.rules.specs.Layout.{particleSize};
 ghost use Rattle.rules.specs.Automaton.{single, empty, join, quantify, facts};
 ghost use Rattle.model.specs.Particle.{firstFacts};
-ghost use Rattle.model.specs.Members.{membersFrom, membersOf};
+ghost use Rattle.model.specs.Members.{membersFrom, allMembers};
 ghost use Rattle.model.specs.Steps.{steps, finishes};
 
 fn no_members(kind: GroupKind) -> Facts
@@ -143,14 +143,14 @@ pub fn facts_from(s: &[u8], d: usize, kind: GroupKind, x: usize, y: usize) -> Fa
 
 /// The facts of a whole model and two definition indices.
 pub fn facts(ms: &[u8], x: usize, y: usize) -> Facts
-    ensures { λ r. ⌜ r ≡ facts numbers Sequence (membersOf (now (ms .entry))) x y ⌝ }
+    ensures { λ r. ⌜ r ≡ facts numbers Sequence (allMembers (now (ms .entry))) x y ⌝ }
 {
     facts_from(ms, 0, GroupKind::Sequence, x, y)
 }
 
 /// Whether the child y may come after `last`: 0 is no child yet, i + 1 the child with definition index i.
 pub fn steps(ms: &[u8], last: usize, y: usize) -> bool
-    ensures { λ r. ⌜ r ≡ steps (membersOf (now (ms .entry))) last y ⌝ }
+    ensures { λ r. ⌜ r ≡ steps (allMembers (now (ms .entry))) last y ⌝ }
 {
     if last == 0 {
         let f = facts(ms, y, y);
@@ -162,7 +162,7 @@ pub fn steps(ms: &[u8], last: usize, y: usize) -> bool
 
 /// Whether no child is owed after `last`.
 pub fn finishes(ms: &[u8], last: usize) -> bool
-    ensures { λ r. ⌜ r ≡ finishes (membersOf (now (ms .entry))) last ⌝ }
+    ensures { λ r. ⌜ r ≡ finishes (allMembers (now (ms .entry))) last ⌝ }
 {
     if last == 0 {
         let f = facts(ms, 0, 0);

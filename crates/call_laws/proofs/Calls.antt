@@ -22,8 +22,8 @@ use Rattle.store_writer.specs.Planned.{planned}
 use Rattle.store_writer.specs.Writing.{Sized}
 use Rattle.store_writer.proofs.StoreLaws.{Holds, holds}
 use Rattle.store_writer.proofs.CallLaws.{answers-as, answers-written, passed}
-use Rattle.document_refusals.proofs.StoreFacts.{no-value}
 use Rattle.plans.specs.CallPlans.{takingPlan}
+use Rattle.rules.proofs.WellFormedLaws.{none-value}
 
 -- ---- what a call answers; b is what the check gave, m the number of the first condition
 module _ (c : Call) (bs : Bytes) (room : ℕ) (out : Bytes) where
@@ -52,4 +52,4 @@ Asks bs v p = (passes bs ≡ true) × (isValue (widthOf bs) v ≡ true) × Sized
 module _ (bs : Bytes) {b : Bool} {m : ℕ} (h : not b ≡ false) (e : b ≡ passes bs) where
   -- a call without a text: none is used
   pub takes-asks : (c : Call) (w : Which) (x : Which) {q : Plan} → m ≡ first (conditions c (storeIn bs)) → m ≡ 0 → q ≡ takingPlan w x → Asks bs [] q
-  takes-asks c w x f z same = (passed bs h e, no-value bs, subst Sized (sym same) (record { moves = unmoved-small (takingPlan w x) refl refl; filling = tt }))
+  takes-asks c w x f z same = (passed bs h e, none-value (widthOf bs), subst Sized (sym same) (record { moves = unmoved-small (takingPlan w x) refl refl; filling = tt }))

@@ -13,8 +13,8 @@ use Rattle.rules.specs.Layout.{particleSize}
 use Rattle.rules.specs.Decode.{readParticle}
 use Rattle.codec.proofs.Writers.{tail-seen}
 use Rattle.codec.specs.Part.{partOf}
-use Rattle.circle_check.specs.Members.{countAt, startAt, modelPart, elementsOf, membersIn}
-use Rattle.circle_check.specs.Deep.{marked, firstPasses}
+use Rattle.circle_check.specs.Members.{countAt, startAt, modelBytes, elementsOf, membersIn}
+use Rattle.circle_check.specs.Deep.{hasHeight, firstPasses}
 
 pub elements-more : (t : Bytes) → particleSize ≤ length t
     → elementsOf t ≡ elim (eqb (readParticle t .row .sort) 0) [ true ↦ readParticle t .row .index ∷ elementsOf (drop particleSize t) | false ↦ elementsOf (drop particleSize t) ]
@@ -58,8 +58,8 @@ module _ (old : Bytes) (s a : ℕ) (e : s ≡ a) where
   pub first-group : (x : Bool) → (s ≡ 0 → ⊥) → true ≡ elim (eqb a 0) [ true ↦ x | false ↦ true ]
   first-group x n = rw (← e, ne-eqb s 0 n)
 
-  pub first-element : (j b v : ℕ) → s ≡ 0 → j ≡ b → v ≡ getD old j 0 → not (eqb v 0) ≡ elim (eqb a 0) [ true ↦ marked old b | false ↦ true ]
-  unfolding marked
+  pub first-element : (j b v : ℕ) → s ≡ 0 → j ≡ b → v ≡ getD old j 0 → not (eqb v 0) ≡ elim (eqb a 0) [ true ↦ hasHeight old b | false ↦ true ]
+  unfolding hasHeight
   first-element j b v z f g = rw (← e, eq-eqb s 0 z, g, f)
 
 -- ---- where the models begin
@@ -77,5 +77,5 @@ starts-more {defs} {start} {i} c s e h = record { is = rw (add-one i) (rw (s .is
 
 pub model-members : (defs parts : Bytes) (i start c : ℕ) (model : Bytes) → Starts defs start i → c ≡ countAt defs i → model ≡ partOf (particleSize * start) (particleSize * c) parts
     → elementsOf model ≡ membersIn defs parts i
-unfolding modelPart membersIn
+unfolding modelBytes membersIn
 model-members defs parts i start c model s e m = rw (m, s .is, e)

@@ -8,7 +8,7 @@ use mathlib.Core.Bool.{Bool, true, false}
 use mathlib.Core.List.{List, [], _∷_, _++_, map, map-append, List·Memᴰ}
 use lib.Dec.{eqb}
 use lib.ListN.{length, take, drop, length-take, length-drop}
-use lib.Seq.{take-nil, take-take, drop-drop}
+use lib.Seq.{take-nil, drop-drop}
 use borrow.Author.Tests.{ne-eqb}
 use Rattle.rules.specs.Bytes.{Bytes}
 use Rattle.rules.specs.Model.{names, Distinct}
@@ -21,11 +21,12 @@ use Rattle.rules.proofs.PreorderLaws.{rising, flatten-build}
 use Rattle.form_check.specs.FormTests.{elementsIn}
 use Rattle.codec.specs.Part.{partOf}
 use Rattle.codec.proofs.Strings.{part-there}
-use Rattle.layout.proofs.LayoutLaws.{record-first, record-after, drop-take}
-use Rattle.circle_check.specs.Members.{countAt, startAt, modelPart, elementsOf, membersIn}
+use Rattle.layout.proofs.LayoutLaws.{record-first, record-after}
+use Rattle.circle_check.specs.Members.{countAt, startAt, modelBytes, elementsOf, membersIn}
 use Rattle.circle_check.specs.declared.Heights.{Heights}
 use Rattle.circle_check.specs.Deep.{deepIndex, Ranked}
 use Rattle.circle_check.proofs.CircleLaws.{Models, Indexed, fit-within, fit-acyclic}
+use Rattle.codec.proofs.Records.{length-many, many-within}
 
 -- ---- elements among particles
 pub elements-append : (xs ys : List (Deep FlatParticle)) → elementsIn (xs ++ ys) ≡ elementsIn xs ++ elementsIn ys
@@ -122,10 +123,6 @@ module _ (ns : List Bytes) where
 
 -- ---- records in bytes
 module _ {A : Type 0} (f : Bytes → A) (size : ℕ) where
-  length-many : (n : ℕ) (l : Bytes) → length (readMany f size n l) ≡ n
-  length-many zero l = refl
-  length-many (suc n) l = ap suc (length-many n (drop size l))
-
   many-drop : (s q : ℕ) (l : Bytes) → drop s (readMany f size (s + q) l) ≡ readMany f size q (drop (size * s) l)
   many-drop zero q l = rw (zero-add, mul-zero)
   many-drop (suc s) q l =
@@ -135,15 +132,6 @@ module _ {A : Type 0} (f : Bytes → A) (size : ℕ) where
   many-take : (c q : ℕ) (l : Bytes) → take c (readMany f size (c + q) l) ≡ readMany f size c l
   many-take zero q l = refl
   many-take (suc c) q l = rw suc-add (ap (λ (xs : List A). f (take size l) ∷ xs) (many-take c q (drop size l)))
-
-  many-front : (c : ℕ) (l : Bytes) → readMany f size c (take (size * c) l) ≡ readMany f size c l
-  many-front zero l = refl
-  many-front (suc c) l =
-      let e : size * suc c ≡ size + size * c = omega (arith, mul-suc size c) in
-      rw e
-      (ap₂ (λ (x : A) (xs : List A). x ∷ xs)
-      (ap f (take-take size (size + size * c) l (omega arith)))
-      (ap (readMany f size c) (drop-take size (size * c) l) ∙ many-front c (drop size l)))
 
 -- ---- the members in bytes
 elements-read : (k : ℕ) (t : Bytes) → length t ≡ particleSize * k → elementsOf t ≡ elementsIn (readMany readParticle particleSize k t)
@@ -194,7 +182,7 @@ part-elements : (parts : Bytes) (p s c : ℕ) → particleSize * p ≤ length pa
 part-elements parts p s c long room =
     ap elementsOf (part-there (particleSize * s) (particleSize * c) parts (omega arith))
     ∙ elements-read c (take (particleSize * c) (drop (particleSize * s) parts)) (omega (arith, length-take (particleSize * c) (drop (particleSize * s) parts), length-drop (particleSize * s) parts))
-    ∙ ap elementsIn (many-front readParticle particleSize c (drop (particleSize * s) parts) ∙ sym (cut (p - (s + c)) (omega arith)))
+    ∙ ap elementsIn (many-within readParticle particleSize c (drop (particleSize * s) parts) ∙ sym (cut (p - (s + c)) (omega arith)))
   where
     cut : (q : ℕ) → p ≡ s + (c + q) → take c (drop s (readMany readParticle particleSize p parts)) ≡ readMany readParticle particleSize c (drop (particleSize * s) parts)
     cut q e =
@@ -209,7 +197,7 @@ start-room defs n i l = let z : suc i + (n - suc i) ≡ n = omega arith in rw z 
 -- n definitions, whose counts give no more than the p particles that are there
 module _ (defs parts : Bytes) (n p : ℕ) (few : startAt defs n ≤ p) (long : particleSize * p ≤ length parts) where
   pub members-read : (i : ℕ) → i < n → membersIn defs parts i ≡ elementsIn (modelAt i (readMany readDefinition definitionSize n defs) (readMany readParticle particleSize p parts))
-  unfolding membersIn modelPart
+  unfolding membersIn modelBytes
   members-read i l =
       part-elements parts p (startAt defs i) (countAt defs i) long (omega (arith, start-room defs n i l))
       ∙ ap elementsIn (sym (model-read n i defs (readMany readParticle particleSize p parts) l))

@@ -17,7 +17,7 @@ use Rattle.rules.proofs.Words.{and-both, and-split}
 use Rattle.rules.proofs.TestLaws.{all-test}
 use Rattle.rules.specs.Layout.{particleSize}
 use Rattle.circle_check.specs.Members.{elementsOf, membersIn, countAt}
-use Rattle.circle_check.specs.Deep.{deepIndex, marked, raisedTo, Round, Ranked}
+use Rattle.circle_check.specs.Deep.{deepIndex, hasHeight, raisedTo, Round, Ranked}
 use Rattle.circle_check.proofs.MemberLaws.{Starts, starts-none, starts-more, model-members}
 
 pub zeros : (n i : ℕ) → _≡_ {A = ℕ} (getD (replicate n 0) i 0) 0
@@ -38,7 +38,7 @@ module _ (h was : ℕ) (s : Bool) where
 
 -- ---- one round: the first i are done
 pub record Rounding (n : ℕ) (defs parts : Bytes) (h : ℕ) (old new : Bytes) (start i : ℕ) : Type 0 where
-  pub done : (k : ℕ) → k < i → getD new k 0 ≡ raisedTo h (getD old k 0) (all (marked old) (membersIn defs parts k))
+  pub done : (k : ℕ) → k < i → getD new k 0 ≡ raisedTo h (getD old k 0) (all (hasHeight old) (membersIn defs parts k))
   pub rest : (k : ℕ) → i ≤ k → getD new k 0 ≡ 0
   pub long : length new ≡ 64
   pub starts : Starts defs start i
@@ -49,7 +49,7 @@ rounding-starts n defs parts h old = record { done = λ k l. absurd (not-suc-le-
 
 module _ {n : ℕ} {defs parts : Bytes} {h : ℕ} {old new : Bytes} {start i : ℕ} (r : Rounding n defs parts h old new start i) where
   pub rounding-on : (c v : ℕ) (model : Bytes) → i < n → n ≤ 64 → c ≡ countAt defs i → c ≤ 4294967295 → model ≡ partOf (particleSize * start) (particleSize * c) parts
-      → v ≡ raisedTo h (getD old i 0) (all (marked old) (elementsOf model)) → Rounding n defs parts h old (set new i v) (start + c) (i + 1)
+      → v ≡ raisedTo h (getD old i 0) (all (hasHeight old) (elementsOf model)) → Rounding n defs parts h old (set new i v) (start + c) (i + 1)
   rounding-on c v model l m ec small em ev =
       record {
         done = λ k q. done k (omega arith);
@@ -59,13 +59,13 @@ module _ {n : ℕ} {defs parts : Bytes} {h : ℕ} {old new : Bytes} {start i : �
         low = omega arith;
       }
     where
-      is : v ≡ raisedTo h (getD old i 0) (all (marked old) (membersIn defs parts i))
-      is = ev ∙ ap (λ (x : List ℕ). raisedTo h (getD old i 0) (all (marked old) x)) (model-members defs parts i start c model (r .starts) ec em)
+      is : v ≡ raisedTo h (getD old i 0) (all (hasHeight old) (membersIn defs parts i))
+      is = ev ∙ ap (λ (x : List ℕ). raisedTo h (getD old i 0) (all (hasHeight old) x)) (model-members defs parts i start c model (r .starts) ec em)
 
-      done : (k : ℕ) → k < suc i → getD (set new i v) k 0 ≡ raisedTo h (getD old k 0) (all (marked old) (membersIn defs parts k))
+      done : (k : ℕ) → k < suc i → getD (set new i v) k 0 ≡ raisedTo h (getD old k 0) (all (hasHeight old) (membersIn defs parts k))
       done k q = by (ltb k i) refl
         where
-          by : (b : Bool) → ltb k i ≡ b → getD (set new i v) k 0 ≡ raisedTo h (getD old k 0) (all (marked old) (membersIn defs parts k))
+          by : (b : Bool) → ltb k i ≡ b → getD (set new i v) k 0 ≡ raisedTo h (getD old k 0) (all (hasHeight old) (membersIn defs parts k))
           by true f = getD-set-other new i k v 0 (λ z. omega (arith, ltb-true k i f)) ∙ r .done k (ltb-true k i f)
           by false f =
               let z : k ≡ i = omega (arith, ltb-false k i f) in
@@ -157,8 +157,8 @@ all-same : (p q : ℕ → Bool) (xs : List ℕ) → ((i : ℕ) → p i ≡ q i) 
 all-same p q [] h = refl
 all-same p q (x ∷ xs) h = ap₂ (λ (a b : Bool). a && b) (h x) (all-same p q xs h)
 
-pub marked-is : {n : ℕ} {members : ℕ → List ℕ} {l : Bytes} {r : ℕ} → Rounds n members l r → (i : ℕ) → marked l i ≡ deepIndex members n r i
-unfolding marked
+pub marked-is : {n : ℕ} {members : ℕ → List ℕ} {l : Bytes} {r : ℕ} → Rounds n members l r → (i : ℕ) → hasHeight l i ≡ deepIndex members n r i
+unfolding hasHeight
 marked-is {n} {members} {l} {r} s i = by (eqb (getD l i 0) 0) refl
   where
     by : (b : Bool) → eqb (getD l i 0) 0 ≡ b → not b ≡ deepIndex members n r i
@@ -173,27 +173,27 @@ deep-past members n (suc h) i l = rw (le-ltb i n l)
 pub rounds-on : {n : ℕ} {members : ℕ → List ℕ} {old l : Bytes} {r : ℕ} → Rounds n members old r → r < n → Round n members (r + 1) old l → Rounds n members l (r + 1)
 rounds-on {n} {members} {old} {l} {r} s g f = rw (add-one r) (record { is = λ i h q. is i h q (ltb i n) refl; most = λ i. most i (ltb i n) refl; low = g })
   where
-    known : (i : ℕ) → i < n → getD l i 0 ≡ raisedTo (suc r) (getD old i 0) (all (marked old) (members i))
+    known : (i : ℕ) → i < n → getD l i 0 ≡ raisedTo (suc r) (getD old i 0) (all (hasHeight old) (members i))
     known i k = rw (add-one r) at (f .known i k)
 
-    now : (i : ℕ) → i < n → deepIndex members n (suc r) i ≡ all (marked old) (members i)
-    now i k = deep-known members n r i k ∙ sym (all-same (marked old) (λ j. deepIndex members n r j) (members i) (marked-is s))
+    now : (i : ℕ) → i < n → deepIndex members n (suc r) i ≡ all (hasHeight old) (members i)
+    now i k = deep-known members n r i k ∙ sym (all-same (hasHeight old) (λ j. deepIndex members n r j) (members i) (marked-is s))
 
     is : (i h : ℕ) → h ≤ suc r → (b : Bool) → ltb i n ≡ b → deepIndex members n h i ≡ between 1 h (getD l i 0)
     is i h q true e =
         let k : i < n = ltb-true i n e in
-        raise r (λ h. deepIndex members n h i) (getD old i 0) (all (marked old) (members i)) (s .is i) (s .most i) (now i k) (deep-index-more members n r i) h q
+        raise r (λ h. deepIndex members n h i) (getD old i 0) (all (hasHeight old) (members i)) (s .is i) (s .most i) (now i k) (deep-index-more members n r i) h q
         ∙ ap (λ (x : ℕ). between 1 h x) (sym (known i k))
     is i h q false e = deep-past members n h i (ltb-false i n e) ∙ sym (between-none (getD l i 0) h (f .others i (ltb-false i n e)))
 
     most : (i : ℕ) (b : Bool) → ltb i n ≡ b → getD l i 0 ≤ suc r
     most i true e =
         let k : i < n = ltb-true i n e in
-        rw (known i k) (raise-low r (λ h. deepIndex members n h i) (getD old i 0) (all (marked old) (members i)) (s .is i) (s .most i) (now i k) (deep-index-more members n r i))
+        rw (known i k) (raise-low r (λ h. deepIndex members n h i) (getD old i 0) (all (hasHeight old) (members i)) (s .is i) (s .most i) (now i k) (deep-index-more members n r i))
     most i false e = omega (arith, f .others i (ltb-false i n e))
 
 pub rounds-end : {n : ℕ} {members : ℕ → List ℕ} {l : Bytes} {h : ℕ} {r : Bool} → Rounds n members l h → n ≤ h
-    → (r ≡ true) ↔ ((i : ℕ) → i < n → marked l i ≡ true) → Ranked n members (record { fit = r; of = l })
+    → (r ≡ true) ↔ ((i : ℕ) → i < n → hasHeight l i ≡ true) → Ranked n members (record { fit = r; of = l })
 rounds-end {n} {members} {l} {h} {r} s g w =
     let z : h ≡ n = omega (arith, s .low) in
     record {
@@ -203,23 +203,23 @@ rounds-end {n} {members} {l} {h} {r} s g w =
 
 -- ---- the marks of the first n
 pub record Passed (l : Bytes) (n i : ℕ) : Type 0 where
-  pub done : (k : ℕ) → k < i → marked l k ≡ true
+  pub done : (k : ℕ) → k < i → hasHeight l k ≡ true
   pub low : i ≤ n
 
 pub passed-starts : (l : Bytes) (n : ℕ) → Passed l n 0
 passed-starts l n = record { done = λ k h. absurd (not-suc-le-zero h); low = omega arith }
 
 pub passed-on : {l : Bytes} {n i : ℕ} → Passed l n i → i < n → (getD l i 0 ≡ 0 → ⊥) → Passed l n (i + 1)
-unfolding marked
+unfolding hasHeight
 passed-on {l} {n} {i} p h e = rw (add-one i) (record { done = λ k q. by k q (ltb k i) refl; low = h })
   where
     by : (k : ℕ) → k < suc i → (b : Bool) → ltb k i ≡ b → not (eqb (getD l k 0) 0) ≡ true
     by k q true f = p .done k (ltb-true k i f)
     by k q false f = let z : k ≡ i = omega (arith, ltb-false k i f) in rw z (rw (ne-eqb (getD l i 0) 0 e))
 
-pub passed-no : (l : Bytes) {n i : ℕ} → i < n → getD l i 0 ≡ 0 → (false ≡ true) ↔ ((k : ℕ) → k < n → marked l k ≡ true)
-unfolding marked
+pub passed-no : (l : Bytes) {n i : ℕ} → i < n → getD l i 0 ≡ 0 → (false ≡ true) ↔ ((k : ℕ) → k < n → hasHeight l k ≡ true)
+unfolding hasHeight
 passed-no l {n} {i} h e = (λ z. absurd (false≢true z), λ f. rw (eq-eqb (getD l i 0) 0 e) at (f i h))
 
-pub passed-ends : {l : Bytes} {n i : ℕ} → Passed l n i → n ≤ i → (true ≡ true) ↔ ((k : ℕ) → k < n → marked l k ≡ true)
+pub passed-ends : {l : Bytes} {n i : ℕ} → Passed l n i → n ≤ i → (true ≡ true) ↔ ((k : ℕ) → k < n → hasHeight l k ≡ true)
 passed-ends p h = (λ z k q. p .done k (omega arith), λ f. refl)

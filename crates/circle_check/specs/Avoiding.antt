@@ -5,12 +5,12 @@ use mathlib.Core.Bool.{true, false}
 use mathlib.Core.List.{List, [], _∷_}
 use lib.Dec.{eqb}
 use Rattle.rules.specs.Bytes.{Bytes}
-use Rattle.circle_check.specs.Deep.{deepIndex, marked}
+use Rattle.circle_check.specs.Deep.{deepIndex, hasHeight}
 
 -- the target's only member is an index past the n definitions: from it no chain ends
-abbrev pub without : ℕ → (ℕ → List ℕ) → ℕ → ℕ → List ℕ
-without n members target i = elim (eqb i target) [ true ↦ n ∷ [] | false ↦ members i ]
+abbrev pub membersAvoiding : ℕ → (ℕ → List ℕ) → ℕ → ℕ → List ℕ
+membersAvoiding n members target i = elim (eqb i target) [ true ↦ n ∷ [] | false ↦ members i ]
 
 -- those with a height: every chain of members ends within n definitions, none leads to the target
 pub record Avoids (n : ℕ) (members : ℕ → List ℕ) (target : ℕ) (r : Bytes) : Type 0 where
-  pub is : (i : ℕ) → marked r i ≡ deepIndex (without n members target) n n i
+  pub is : (i : ℕ) → hasHeight r i ≡ deepIndex (membersAvoiding n members target) n n i

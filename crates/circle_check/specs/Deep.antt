@@ -18,8 +18,8 @@ module _ (members : ℕ → List ℕ) where
 
 -- ---- the rounds
 -- definition i has a height; 0 stands for none yet
-unfoldable pub marked : Bytes → ℕ → Bool
-marked heights i = not (eqb (getD heights i 0) 0)
+unfoldable pub hasHeight : Bytes → ℕ → Bool
+hasHeight heights i = not (eqb (getD heights i 0) 0)
 
 -- the first of some particles is a group, or an element that passes
 abbrev pub firstPasses : (ℕ → Bool) → Bytes → Bool
@@ -30,7 +30,7 @@ abbrev pub raisedTo : ℕ → ℕ → Bool → ℕ
 raisedTo h was settled = elim (eqb was 0) [ true ↦ elim settled [ true ↦ h | false ↦ 0 ] | false ↦ was ]
 
 pub record Round (n : ℕ) (members : ℕ → List ℕ) (h : ℕ) (old new : Bytes) : Type 0 where
-  pub known : (i : ℕ) → i < n → getD new i 0 ≡ raisedTo h (getD old i 0) (all (marked old) (members i))
+  pub known : (i : ℕ) → i < n → getD new i 0 ≡ raisedTo h (getD old i 0) (all (hasHeight old) (members i))
   pub others : (i : ℕ) → n ≤ i → getD new i 0 ≡ 0
 
 -- ---- the result

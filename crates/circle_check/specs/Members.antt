@@ -18,8 +18,8 @@ startAt defs zero = 0
 startAt defs (suc i) = startAt defs i + countAt defs i
 
 -- the bytes of the particles of definition i
-unfoldable pub modelPart : Bytes → Bytes → ℕ → Bytes
-modelPart defs parts i = partOf (particleSize * startAt defs i) (particleSize * countAt defs i) parts
+unfoldable pub modelBytes : Bytes → Bytes → ℕ → Bytes
+modelBytes defs parts i = partOf (particleSize * startAt defs i) (particleSize * countAt defs i) parts
 
 -- the indices that particles of sort 0, elements, have
 unfoldable pub elementsOf : Bytes → List ℕ
@@ -30,4 +30,4 @@ elementsOf (sort ∷ quantifier ∷ index ∷ []) = []
 elementsOf (sort ∷ quantifier ∷ index ∷ depth ∷ s) = elim (eqb sort 0) [ true ↦ index ∷ elementsOf s | false ↦ elementsOf s ]
 
 unfoldable pub membersIn : Bytes → Bytes → ℕ → List ℕ
-membersIn defs parts i = elementsOf (modelPart defs parts i)
+membersIn defs parts i = elementsOf (modelBytes defs parts i)

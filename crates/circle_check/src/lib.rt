@@ -5,7 +5,7 @@ ghost use mathlib.Core.Bool.{true};
 ghost use Prim.Native.Nat.{ℕ, _<_, _≤_};
 ghost use Rattle.rules.specs.Bytes.{all};
 ghost use Rattle.circle_check.specs.Members.{elementsOf, membersIn};
-ghost use Rattle.circle_check.specs.Deep.{marked, firstPasses, raisedTo, Round, Ranked};
+ghost use Rattle.circle_check.specs.Deep.{hasHeight, firstPasses, raisedTo, Round, Ranked};
 ghost use Rattle.circle_check.specs.Avoiding.{Avoids};
 
 const MAX_DEFINITIONS: usize = 64;
@@ -19,7 +19,7 @@ pub struct Heights {
 
 // Whether the first particle of t is a group, or an element (sort 0) whose index has a height.
 fn first_passes(t: &[u8], old: &[u8; MAX_DEFINITIONS]) -> bool
-    ensures { λ r. ⌜ r ≡ firstPasses (marked (now (old .entry))) (now (t .entry)) ⌝ }
+    ensures { λ r. ⌜ r ≡ firstPasses (hasHeight (now (old .entry))) (now (t .entry)) ⌝ }
 {
     if layout::particle_sort(t) != 0 {
         return true;
@@ -30,7 +30,7 @@ fn first_passes(t: &[u8], old: &[u8; MAX_DEFINITIONS]) -> bool
 
 // Whether all elements that the particles name have a height.
 fn settled(model: &[u8], old: &[u8; MAX_DEFINITIONS]) -> bool
-    ensures { λ r. ⌜ r ≡ all (marked (now (old .entry))) (elementsOf (now (model .entry))) ⌝ }
+    ensures { λ r. ⌜ r ≡ all (hasHeight (now (old .entry))) (elementsOf (now (model .entry))) ⌝ }
 {
     let size = layout::particle_size();
     let mut t = model;
@@ -45,7 +45,7 @@ fn settled(model: &[u8], old: &[u8; MAX_DEFINITIONS]) -> bool
 
 // The height of a definition after round h: the one it had, or h if all members have one.
 fn raised(model: &[u8], old: &[u8; MAX_DEFINITIONS], was: u8, h: u8) -> u8
-    ensures { λ r. ⌜ r ≡ raisedTo h was (all (marked (now (old .entry))) (elementsOf (now (model .entry)))) ⌝ }
+    ensures { λ r. ⌜ r ≡ raisedTo h was (all (hasHeight (now (old .entry))) (elementsOf (now (model .entry)))) ⌝ }
 {
     if was != 0 {
         return was;
@@ -81,7 +81,7 @@ fn round(
 // Whether each of the first n has a height.
 fn whole(n: usize, heights: &[u8; MAX_DEFINITIONS]) -> bool
     requires { ⌜ n ≤ 64 ⌝ }
-    ensures { λ r. ⌜ (r ≡ true) ↔ ((i : ℕ) → i < n → marked (now (heights .entry)) i ≡ true) ⌝ }
+    ensures { λ r. ⌜ (r ≡ true) ↔ ((i : ℕ) → i < n → hasHeight (now (heights .entry)) i ≡ true) ⌝ }
 {
     let mut i = 0;
     while i < n {

@@ -11,7 +11,7 @@ use borrow.Author.Tests.{eq-eqb, leb-true}
 use Rattle.rules.specs.Bytes.{Bytes}
 use Rattle.rules.specs.Decode.{numberAt}
 use Rattle.rules.specs.Outcome.{Outcome, wrote, numberOf, lengthOf, bufferOf, Answers}
-use Rattle.clubform.specs.History.{stage, Reads, Holds}
+use Rattle.clubform.specs.History.{stage, Reads, BufferHolds}
 use Rattle.clubform.proofs.Stages.{Gives, accepted}
 
 -- a call that writes `w`
@@ -34,7 +34,7 @@ length-kept w out h = let e : length (drop (length w) out) ≡ length out - leng
 -- the number is 0, and the buffer holds what is written
 pub record Answered (w : Bytes) (number len : ℕ) (left : Bytes) : Type 0 where
   pub number-is : eqb number 0 ≡ true
-  pub holds : Holds w len left
+  pub holds : BufferHolds w len left
 
 pub answered : {call : Bytes → ℕ → Outcome} {s w store out left : Bytes} {number len : ℕ} → Gives call s w → Reads s store out → Answers (call store (length out)) out number len left → Answered w number len left
 answered {call} {s} {w} {store} {out} {left} {number} {len} g r a =
@@ -53,15 +53,15 @@ answered {call} {s} {w} {store} {out} {left} {number} {len} g r a =
     }
 
 -- the part that is handed on
-pub front : {w buffer : Bytes} {len : ℕ} → Holds w len buffer → len ≡ length (take len buffer)
+pub front : {w buffer : Bytes} {len : ℕ} → BufferHolds w len buffer → len ≡ length (take len buffer)
 front h = h .length-is ∙ sym (ap length (h .begins))
 
 -- the last store fills its buffer
-pub whole : {buffer : Bytes} {len : ℕ} → Holds (stage 13) len buffer → buffer ≡ stage 13
+pub whole : {buffer : Bytes} {len : ℕ} → BufferHolds (stage 13) len buffer → buffer ≡ stage 13
 whole {buffer} {len} h = sym (take-all len buffer (omega (arith, h .room, h .length-is, accepted .length-is))) ∙ h .begins
 
-pub last-length : {buffer : Bytes} {len : ℕ} → Holds (stage 13) len buffer → eqb len 508 ≡ true
+pub last-length : {buffer : Bytes} {len : ℕ} → BufferHolds (stage 13) len buffer → eqb len 508 ≡ true
 last-length {len = len} h = eq-eqb len 508 (h .length-is ∙ accepted .length-is)
 
-pub last-next : {buffer : Bytes} {len next : ℕ} → Holds (stage 13) len buffer → next ≡ numberAt 4 4 buffer → eqb next 9 ≡ true
+pub last-next : {buffer : Bytes} {len next : ℕ} → BufferHolds (stage 13) len buffer → next ≡ numberAt 4 4 buffer → eqb next 9 ≡ true
 last-next {next = next} h e = eq-eqb next 9 (e ∙ ap (λ (b : Bytes). numberAt 4 4 b) (whole h) ∙ accepted .next-is)

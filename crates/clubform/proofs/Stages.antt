@@ -14,7 +14,7 @@ use Rattle.rules.specs.WellFormed.{goodDefinition, wellFormed}
 use Rattle.rules.specs.Conforming.{strip, fitsRow, conforming}
 use Rattle.rules.specs.Passing.{good, goodSerials}
 use Rattle.rules.specs.Filling.{fillAttributes, fillEach, fillContent, fillWithin}
-use Rattle.rules.specs.Place.{plug, kindAt, spine, before, around, afterMembers, find}
+use Rattle.rules.specs.Place.{plug, kindAt, spine, beforePlace, around, afterMembers, find}
 use Rattle.rules.specs.Edit.{_⊕_, edited, place, placeOf}
 use Rattle.rules.specs.Lines.{findRow, childrenOf}
 use Rattle.rules.specs.Change.{createDefinition, insertElement, changeQuantifier, addDocument, addElement, setText, attributeAt, formAfter, plan, prune, eachRow, plant, newRows, given, number, after}
@@ -48,7 +48,7 @@ pub record Accepted : Type 0 where
   pub next-is : numberAt 4 4 (stage 13) ≡ 9
 
 pub accepted : Accepted
-unfolding valueWidth names nothing filling member full distinct facts continues accepts plug kindAt spine before around afterMembers find _⊕_ edited place placeOf goodDefinition wellFormed strip fitsRow conforming goodSerials good fillAttributes fillEach fillContent fillWithin findRow childrenOf attributeAt formAfter plan prune eachRow plant newRows given number after conditions refusal confirm outcome printed printOutcome step run history stage lastText
+unfolding valueWidth names nothing filling member full distinct facts continues accepts plug kindAt spine beforePlace around afterMembers find _⊕_ edited place placeOf goodDefinition wellFormed strip fitsRow conforming goodSerials good fillAttributes fillEach fillContent fillWithin findRow childrenOf attributeAt formAfter plan prune eachRow plant newRows given number after conditions refusal confirm outcome printed printOutcome step run history stage lastText
 accepted =
     record {
       create-race = record { writes = refl; fits = refl };

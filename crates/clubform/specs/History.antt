@@ -25,7 +25,7 @@ pub record Reads (w store out : Bytes) : Type 0 where
   pub room : length out ≡ 508
 
 -- a buffer of 508 bytes begins with the `len` bytes `w`
-pub record Holds (w : Bytes) (len : ℕ) (buffer : Bytes) : Type 0 where
+pub record BufferHolds (w : Bytes) (len : ℕ) (buffer : Bytes) : Type 0 where
   pub room : length buffer ≡ 508
   pub fits : len ≤ 508
   pub length-is : len ≡ length w

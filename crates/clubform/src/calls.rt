@@ -1,5 +1,5 @@
 // The thirteen calls, in their order: each is accepted, and leaves the next store.
-ghost use Rattle.clubform.specs.History.{stage, Reads, Holds};
+ghost use Rattle.clubform.specs.History.{stage, Reads, BufferHolds};
 
 const PCDATA: u32 = 1;
 
@@ -24,7 +24,7 @@ const CLUB: u32 = 4;
 
 pub fn create_race(store: &[u8], out: &mut [u8]) -> usize
     requires { ⌜ Reads (stage 0) (now store) (now out) ⌝ }
-    ensures { λ r. ⌜ Holds (stage 1) r (now (out .exit)) ⌝ }
+    ensures { λ r. ⌜ BufferHolds (stage 1) r (now (out .exit)) ⌝ }
 {
     let answer = formstore::create_definition(store, b"race", COMPLEX, out);
     check::expect(answer.number == 0);
@@ -33,7 +33,7 @@ pub fn create_race(store: &[u8], out: &mut [u8]) -> usize
 
 pub fn create_finisher(store: &[u8], out: &mut [u8]) -> usize
     requires { ⌜ Reads (stage 1) (now store) (now out) ⌝ }
-    ensures { λ r. ⌜ Holds (stage 2) r (now (out .exit)) ⌝ }
+    ensures { λ r. ⌜ BufferHolds (stage 2) r (now (out .exit)) ⌝ }
 {
     let answer = formstore::create_definition(store, b"finisher", COMPLEX, out);
     check::expect(answer.number == 0);
@@ -42,7 +42,7 @@ pub fn create_finisher(store: &[u8], out: &mut [u8]) -> usize
 
 pub fn create_bib(store: &[u8], out: &mut [u8]) -> usize
     requires { ⌜ Reads (stage 2) (now store) (now out) ⌝ }
-    ensures { λ r. ⌜ Holds (stage 3) r (now (out .exit)) ⌝ }
+    ensures { λ r. ⌜ BufferHolds (stage 3) r (now (out .exit)) ⌝ }
 {
     let answer = formstore::create_definition(store, b"bib", PCDATA, out);
     check::expect(answer.number == 0);
@@ -51,7 +51,7 @@ pub fn create_bib(store: &[u8], out: &mut [u8]) -> usize
 
 pub fn create_time(store: &[u8], out: &mut [u8]) -> usize
     requires { ⌜ Reads (stage 3) (now store) (now out) ⌝ }
-    ensures { λ r. ⌜ Holds (stage 4) r (now (out .exit)) ⌝ }
+    ensures { λ r. ⌜ BufferHolds (stage 4) r (now (out .exit)) ⌝ }
 {
     let answer = formstore::create_definition(store, b"time", PCDATA, out);
     check::expect(answer.number == 0);
@@ -60,7 +60,7 @@ pub fn create_time(store: &[u8], out: &mut [u8]) -> usize
 
 pub fn insert_finisher(store: &[u8], out: &mut [u8]) -> usize
     requires { ⌜ Reads (stage 4) (now store) (now out) ⌝ }
-    ensures { λ r. ⌜ Holds (stage 5) r (now (out .exit)) ⌝ }
+    ensures { λ r. ⌜ BufferHolds (stage 5) r (now (out .exit)) ⌝ }
 {
     let answer = formstore::insert_element(store, RACE, &[0], FINISHER, STAR, b"", out);
     check::expect(answer.number == 0);
@@ -69,7 +69,7 @@ pub fn insert_finisher(store: &[u8], out: &mut [u8]) -> usize
 
 pub fn insert_bib(store: &[u8], out: &mut [u8]) -> usize
     requires { ⌜ Reads (stage 5) (now store) (now out) ⌝ }
-    ensures { λ r. ⌜ Holds (stage 6) r (now (out .exit)) ⌝ }
+    ensures { λ r. ⌜ BufferHolds (stage 6) r (now (out .exit)) ⌝ }
 {
     let answer = formstore::insert_element(store, FINISHER, &[0], BIB, NONE, b"0", out);
     check::expect(answer.number == 0);
@@ -78,7 +78,7 @@ pub fn insert_bib(store: &[u8], out: &mut [u8]) -> usize
 
 pub fn insert_time(store: &[u8], out: &mut [u8]) -> usize
     requires { ⌜ Reads (stage 6) (now store) (now out) ⌝ }
-    ensures { λ r. ⌜ Holds (stage 7) r (now (out .exit)) ⌝ }
+    ensures { λ r. ⌜ BufferHolds (stage 7) r (now (out .exit)) ⌝ }
 {
     let answer = formstore::insert_element(store, FINISHER, &[1], TIME, NONE, b"-", out);
     check::expect(answer.number == 0);
@@ -87,7 +87,7 @@ pub fn insert_time(store: &[u8], out: &mut [u8]) -> usize
 
 pub fn new_race(store: &[u8], out: &mut [u8]) -> usize
     requires { ⌜ Reads (stage 7) (now store) (now out) ⌝ }
-    ensures { λ r. ⌜ Holds (stage 8) r (now (out .exit)) ⌝ }
+    ensures { λ r. ⌜ BufferHolds (stage 8) r (now (out .exit)) ⌝ }
 {
     let answer = formstore::add_document(store, RACE, b"", out);
     check::expect(answer.number == 0);
@@ -97,7 +97,7 @@ pub fn new_race(store: &[u8], out: &mut [u8]) -> usize
 // Serial 1 is the race.
 pub fn add_finisher(store: &[u8], out: &mut [u8]) -> usize
     requires { ⌜ Reads (stage 8) (now store) (now out) ⌝ }
-    ensures { λ r. ⌜ Holds (stage 9) r (now (out .exit)) ⌝ }
+    ensures { λ r. ⌜ BufferHolds (stage 9) r (now (out .exit)) ⌝ }
 {
     let answer = formstore::add_element(store, 1, 0, FINISHER, b"7", out);
     check::expect(answer.number == 0);
@@ -107,7 +107,7 @@ pub fn add_finisher(store: &[u8], out: &mut [u8]) -> usize
 // Serial 5 is the time.
 pub fn set_time(store: &[u8], out: &mut [u8]) -> usize
     requires { ⌜ Reads (stage 9) (now store) (now out) ⌝ }
-    ensures { λ r. ⌜ Holds (stage 10) r (now (out .exit)) ⌝ }
+    ensures { λ r. ⌜ BufferHolds (stage 10) r (now (out .exit)) ⌝ }
 {
     let answer = formstore::set_text(store, 5, b"19:04", out);
     check::expect(answer.number == 0);
@@ -116,7 +116,7 @@ pub fn set_time(store: &[u8], out: &mut [u8]) -> usize
 
 pub fn create_club(store: &[u8], out: &mut [u8]) -> usize
     requires { ⌜ Reads (stage 10) (now store) (now out) ⌝ }
-    ensures { λ r. ⌜ Holds (stage 11) r (now (out .exit)) ⌝ }
+    ensures { λ r. ⌜ BufferHolds (stage 11) r (now (out .exit)) ⌝ }
 {
     let answer = formstore::create_definition(store, b"club", PCDATA, out);
     check::expect(answer.number == 0);
@@ -125,7 +125,7 @@ pub fn create_club(store: &[u8], out: &mut [u8]) -> usize
 
 pub fn insert_club(store: &[u8], out: &mut [u8]) -> usize
     requires { ⌜ Reads (stage 11) (now store) (now out) ⌝ }
-    ensures { λ r. ⌜ Holds (stage 12) r (now (out .exit)) ⌝ }
+    ensures { λ r. ⌜ BufferHolds (stage 12) r (now (out .exit)) ⌝ }
 {
     let answer = formstore::insert_element(store, FINISHER, &[1], CLUB, NONE, b"none", out);
     check::expect(answer.number == 0);
@@ -134,7 +134,7 @@ pub fn insert_club(store: &[u8], out: &mut [u8]) -> usize
 
 pub fn make_time_optional(store: &[u8], out: &mut [u8]) -> usize
     requires { ⌜ Reads (stage 12) (now store) (now out) ⌝ }
-    ensures { λ r. ⌜ Holds (stage 13) r (now (out .exit)) ⌝ }
+    ensures { λ r. ⌜ BufferHolds (stage 13) r (now (out .exit)) ⌝ }
 {
     let answer = formstore::change_quantifier(store, FINISHER, &[3], QMARK, b"", out);
     check::expect(answer.number == 0);

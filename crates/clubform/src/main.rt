@@ -1,7 +1,7 @@
 // The club's race, by the public calls: every number that they answer is checked, and the text of the last store is printed.
 ghost use mathlib.Core.Path.{_≡_};
 ghost use lib.ListN.{length};
-ghost use Rattle.clubform.specs.History.{stage, lastText, Reads, Holds};
+ghost use Rattle.clubform.specs.History.{stage, lastText, Reads, BufferHolds};
 
 mod calls;
 
@@ -22,7 +22,7 @@ fn fresh() -> [u8; 40]
 // race, finisher, bib, time.
 fn create_definitions(from: &mut [u8], to: &mut [u8]) -> usize
     requires { ⌜ (length (now from) ≡ 508) × (length (now to) ≡ 508) ⌝ }
-    ensures { λ r. ⌜ Holds (stage 4) r (now (to .exit)) ⌝ }
+    ensures { λ r. ⌜ BufferHolds (stage 4) r (now (to .exit)) ⌝ }
 {
     let start = fresh();
     let race = calls::create_race(&start, from);
@@ -33,8 +33,8 @@ fn create_definitions(from: &mut [u8], to: &mut [u8]) -> usize
 
 // The models of race and of finisher.
 fn insert_members(from: &mut [u8], len: usize, to: &mut [u8]) -> usize
-    requires { ⌜ Holds (stage 4) len (now from) × (length (now to) ≡ 508) ⌝ }
-    ensures { λ r. ⌜ Holds (stage 7) r (now (to .exit)) ⌝ }
+    requires { ⌜ BufferHolds (stage 4) len (now from) × (length (now to) ≡ 508) ⌝ }
+    ensures { λ r. ⌜ BufferHolds (stage 7) r (now (to .exit)) ⌝ }
 {
     let finisher = calls::insert_finisher(&from[..len], to);
     let bib = calls::insert_bib(&to[..finisher], from);
@@ -43,8 +43,8 @@ fn insert_members(from: &mut [u8], len: usize, to: &mut [u8]) -> usize
 
 // A race with one finisher, and the time.
 fn hold_race(from: &mut [u8], len: usize, to: &mut [u8]) -> usize
-    requires { ⌜ Holds (stage 7) len (now from) × (length (now to) ≡ 508) ⌝ }
-    ensures { λ r. ⌜ Holds (stage 10) r (now (to .exit)) ⌝ }
+    requires { ⌜ BufferHolds (stage 7) len (now from) × (length (now to) ≡ 508) ⌝ }
+    ensures { λ r. ⌜ BufferHolds (stage 10) r (now (to .exit)) ⌝ }
 {
     let race = calls::new_race(&from[..len], to);
     let finisher = calls::add_finisher(&to[..race], from);
@@ -53,8 +53,8 @@ fn hold_race(from: &mut [u8], len: usize, to: &mut [u8]) -> usize
 
 // The club comes in while the race is there, and the time may be missing.
 fn change_finisher(from: &mut [u8], len: usize, to: &mut [u8]) -> usize
-    requires { ⌜ Holds (stage 10) len (now from) × (length (now to) ≡ 508) ⌝ }
-    ensures { λ r. ⌜ Holds (stage 13) r (now (to .exit)) ⌝ }
+    requires { ⌜ BufferHolds (stage 10) len (now from) × (length (now to) ≡ 508) ⌝ }
+    ensures { λ r. ⌜ BufferHolds (stage 13) r (now (to .exit)) ⌝ }
 {
     let club = calls::create_club(&from[..len], to);
     let inserted = calls::insert_club(&to[..club], from);
@@ -64,7 +64,7 @@ fn change_finisher(from: &mut [u8], len: usize, to: &mut [u8]) -> usize
 // The text of the last store.
 fn put_text(store: &[u8], out: &mut [u8]) -> usize
     requires { ⌜ Reads (stage 13) (now store) (now out) ⌝ }
-    ensures { λ r. ⌜ Holds lastText r (now (out .exit)) ⌝ }
+    ensures { λ r. ⌜ BufferHolds lastText r (now (out .exit)) ⌝ }
 {
     let answer = formstore::print(store, out);
     check::expect(answer.number == 0);

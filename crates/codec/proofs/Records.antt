@@ -12,7 +12,7 @@ use Rattle.rules.specs.Decode.{readMany}
 times : (size k : ℕ) → size * suc k ≡ size + size * k
 times size k = omega (arith, mul-suc size k)
 
-drop-take : {A : Type 0} (k n : ℕ) (l : List A) → drop k (take (k + n) l) ≡ take n (drop k l)
+pub drop-take : {A : Type 0} (k n : ℕ) (l : List A) → drop k (take (k + n) l) ≡ take n (drop k l)
 drop-take zero n l = rw zero-add
 drop-take (suc k) n [] = ap (λ l. drop (suc k) l) (take-nil (suc k + n)) ∙ sym (take-nil n)
 drop-take (suc k) n (x ∷ l) = rw suc-add (drop-take k n l)

@@ -25,7 +25,7 @@ use Rattle.store_writer.proofs.StoreLaws.{holds, width-of-bodies}
 use Rattle.definition_writer.specs.Bodies.{newDefinition, named}
 use Rattle.call_laws.specs.Limits.{Limit}
 use Rattle.create_definition_call.specs.Bodies.{created}
-use Rattle.definition_writer.proofs.Encoded.{Encoded, encoded}
+use Rattle.store_writer.proofs.Encoded.{Encoded, encoded}
 use Rattle.call_laws.proofs.Limits.{limit-ceiling, limit-room, limit-none}
 use Rattle.create_definition_call.proofs.Created.{known-named, flat-created}
 

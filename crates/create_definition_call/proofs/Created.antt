@@ -22,7 +22,8 @@ use Rattle.definition_writer.specs.Bodies.{newDefinition, movedRow, movedPartic
 use Rattle.create_definition_call.specs.Bodies.{created}
 use Rattle.definition_writer.proofs.Kept.{after-kept}
 use Rattle.definition_writer.proofs.FittingRows.{element-known, others-bare, every-row-map, roots-elements}
-use Rattle.definition_writer.proofs.Renumbered.{map-append, OkRow, moved-models, moved-definitions, moved-rows}
+use Rattle.definition_writer.proofs.Renumbered.{OkRow, moved-models, moved-definitions, moved-rows}
+use Rattle.rules.proofs.RenamingPlaces.{map-append}
 
 -- ---- nothing moves
 abbrev pub stays : ℕ → ℕ

@@ -8,7 +8,7 @@ use lib.ListN.{length, drop, length-append, length-drop}
 use Rattle.rules.specs.Bytes.{Bytes}
 use Rattle.rules.specs.Layout.{headerSize, definitionSize, rowSize, FlatStore, flatBytes, definitionBytes, each}
 use Rattle.rules.specs.Decode.{numberAt, definitionCount, particleCount, attributeCount, rowCount}
-use Rattle.rules.proofs.LayoutLaws.{length-definition, length-each}
+use Rattle.rules.proofs.LayoutLaws.{length-definition, length-each, each-append}
 use Rattle.codec.specs.Laid.{Laid}
 use Rattle.codec.proofs.Writers.{laid-then, laid-as}
 use Rattle.layout.specs.Bodies.{widthOf, Number, Place, definitionsIn}
@@ -16,7 +16,7 @@ use Rattle.layout.specs.Header.{headed}
 use Rattle.layout.proofs.LayoutLaws.{width-small}
 use Rattle.layout.proofs.HeaderLaws.{attributes-few, headed-short}
 use Rattle.definition_writer.specs.Bodies.{newDefinition}
-use Rattle.definition_writer.proofs.Encoded.{Encoded, length-is, bytes-are, others, definitions-at, others-at, each-append}
+use Rattle.store_writer.proofs.Encoded.{Encoded, length-is, bytes-are, others, definitions-at, others-at}
 use Rattle.create_definition_call.specs.Bodies.{created}
 
 module _ {bs : Bytes} {f : FlatStore} (n : Bytes) (k : ℕ) (x : Encoded bs f) where

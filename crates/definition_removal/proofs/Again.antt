@@ -11,15 +11,14 @@ use Rattle.rules.specs.Bytes.{Bytes}
 use Rattle.rules.specs.Preorder.{Deep}
 use Rattle.rules.specs.Layout.{FlatParticle, FlatAttribute, attributeSize, particleBytes, attributeBytes, each}
 use Rattle.rules.specs.Decode.{readParticle}
-use Rattle.rules.proofs.LayoutLaws.{length-each}
+use Rattle.rules.proofs.LayoutLaws.{length-each, each-append}
 use Rattle.codec.specs.Laid.{Laid}
 use Rattle.codec.proofs.Writers.{laid-none, laid-then, laid-as}
 use Rattle.layout.specs.Bodies.{Width}
 use Rattle.layout.specs.RecordBytes.{indexedBytes, ownedBytes}
 use Rattle.definition_writer.specs.Bodies.{memberMoved, movedParticle}
 use Rattle.definition_removal.specs.Bodies.{eachRecord, particleRecord, attributeRecord, movedAttribute, cutOut}
-use Rattle.definition_writer.proofs.Renumbered.{map-append}
-use Rattle.definition_writer.proofs.Encoded.{each-append}
+use Rattle.rules.proofs.RenamingPlaces.{map-append}
 
 -- ---- the loop
 -- whoever writes what is left has written all

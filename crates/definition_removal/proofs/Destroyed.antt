@@ -16,12 +16,12 @@ use Rattle.rules.specs.Change.{destroyDefinition, nameAtIndex, without, formAft
 use Rattle.rules.proofs.BooleanLaws.{Every, every-in}
 use Rattle.rules.proofs.TestLaws.{any-test, member-test}
 use Rattle.rules.proofs.DecodeLaws.{good-parts}
-use Rattle.history.proofs.Rowwise.{Standing}
-use Rattle.history.proofs.StandingLaws.{standing-every}
-use Rattle.history.proofs.ConformingForms.{nowhere}
-use Rattle.history.proofs.ConformingSimple.{GoodTests, good-tests}
+use Rattle.change_laws.proofs.Rowwise.{Standing}
+use Rattle.change_laws.proofs.StandingLaws.{standing-every}
+use Rattle.change_laws.proofs.ConformingForms.{nowhere}
+use Rattle.change_laws.proofs.ConformingSimple.{GoodTests, good-tests}
 use Rattle.definition_writer.specs.Bodies.{movedParticle, movedRow}
-use Rattle.definition_removal.specs.Bodies.{destroyed, lowered, cutOut, particlesOf, attributesOf}
+use Rattle.definition_removal.specs.Bodies.{destroyed, lowered, cutOut, particlesUpTo, attributesUpTo}
 use Rattle.definition_writer.proofs.Kept.{after-kept}
 use Rattle.definition_writer.proofs.Renumbered.{OkRow, moved-models, moved-definitions, moved-rows}
 use Rattle.definition_writer.proofs.FittingRows.{others-bare, roots-elements}
@@ -54,10 +54,10 @@ module _ (i : ℕ) (s : Store) (g : good s ≡ true) (h : i < length (s .form)) 
     down = lowered (suc i) 1
 
     abbrev a : ℕ
-    a = attributesOf i (allAttributes 0 form)
+    a = attributesUpTo i (allAttributes 0 form)
 
     abbrev b : ℕ
-    b = attributesOf (suc i) (allAttributes 0 form)
+    b = attributesUpTo (suc i) (allAttributes 0 form)
 
     names-ok : Every (λ d. (m : Bytes) → List·Memᴰ m (names (members d)) → Ok m) left
     names-ok =
@@ -75,7 +75,7 @@ module _ (i : ℕ) (s : Store) (g : good s ≡ true) (h : i < length (s .form)) 
     definitions-are = moved-definitions form left down Ok elements left names-ok ∙ map-without (flatDefinition form) i form ∙ without-cut i (flat s .definitions)
 
     particles-are : allParticles left left
-        ≡ map (movedParticle down) (cutOut (particlesOf i (flat s .definitions)) (particlesOf (suc i) (flat s .definitions) - particlesOf i (flat s .definitions)) (flat s .particles))
+        ≡ map (movedParticle down) (cutOut (particlesUpTo i (flat s .definitions)) (particlesUpTo (suc i) (flat s .definitions) - particlesUpTo i (flat s .definitions)) (flat s .particles))
     particles-are = moved-models form left down Ok elements left names-ok ∙ ap (map (movedParticle down)) (particles-cut form i form h)
 
     rows-ok : EveryRow (OkRow form left down Ok elements (lowered b (b - a)) attributes) (s .docs)

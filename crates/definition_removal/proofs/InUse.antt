@@ -23,7 +23,7 @@ use Rattle.rules.proofs.Words.{and-split}
 use Rattle.rules.proofs.BooleanLaws.{Every, all-left, all-right, any-append, member-append}
 use Rattle.rules.proofs.WellFormedLaws.{well-formed}
 use Rattle.rules.proofs.DecodeLaws.{good-parts, good-known}
-use Rattle.history.proofs.ConformingSimple.{good-tests}
+use Rattle.change_laws.proofs.ConformingSimple.{good-tests}
 use Rattle.store_check.proofs.IndexLaws.{index-same}
 use Rattle.definition_removal.specs.Bodies.{isMember, isRoot}
 use Rattle.definition_writer.proofs.FittingRows.{element-known}

@@ -2,20 +2,18 @@
 use Prim.Native.Nat.{ℕ, _+_, _-_, _≤_}
 use native.Mathlib.Nat.{add-zero}
 use native.Mathlib.Omega.{arith}
-use mathlib.Core.Path.{_≡_, refl, sym, ap, ap₂, _∙_}
-use mathlib.Core.Bool.{Bool, true, false, _&&_, and-false}
-use mathlib.Core.List.{List, [], _∷_, _++_, map}
+use mathlib.Core.Path.{_≡_, refl, sym, ap, ap₂}
+use mathlib.Core.Bool.{Bool, true, false}
+use mathlib.Core.List.{List, [], _∷_, map}
 use lib.Dec.{eqb, leb}
-use borrow.Author.Tests.{ne-eqb, le-leb}
+use borrow.Author.Tests.{ne-eqb}
 use Rattle.rules.specs.Bytes.{Bytes}
 use Rattle.rules.specs.Preorder.{Deep}
 use Rattle.rules.specs.Layout.{FlatRow, rowBytes, each}
-use Rattle.rules.specs.WellFormed.{isValue}
 use Rattle.rules.proofs.BooleanLaws.{Every}
-use Rattle.row_writer.specs.Written.{isNew, numbered, rowsBytes}
+use Rattle.row_writer.specs.Written.{isNewRow, numbered, rowsBytes}
 use Rattle.row_walk.specs.declared.Plan.{Plan}
-use Rattle.row_walk.specs.declared.Open.{Open}
-use Rattle.row_walk.specs.Walk.{shifted, keptRow, closes, closed, isBelow, isTaken, isFilled, taken, kept, owed, rowDepth, emitted, onward, walked}
+use Rattle.row_walk.specs.Walk.{shifted, keptRow}
 use Rattle.store_writer.specs.Writing.{Sized}
 use Rattle.definition_writer.specs.Bodies.{movedRow}
 use Rattle.definition_removal.specs.Bodies.{lowered}
@@ -30,15 +28,11 @@ numbered-old n [] e = refl
 numbered-old n (x ∷ xs) (a, e) =
     ap₂ (λ (s : ℕ) (l : List (Deep FlatRow)). record { depth = x .depth; row = record { sort = x .row .sort; index = x .row .index; serial = s; value = x .row .value } } ∷ l)
     (ap (λ (b : Bool). elim b as (λ z. ℕ) [ true ↦ n | false ↦ x .row .serial ]) (ne-eqb (x .row .serial) 0 (λ q. omega arith)))
-    (numbered-old (n + isNew x) xs e)
+    (numbered-old (n + isNewRow x) xs e)
 
 pub bytes-old : (w n : ℕ) (xs : List (Deep FlatRow)) → Every Old xs → each (rowBytes w) xs ≡ rowsBytes w n xs
 unfolding rowsBytes
 bytes-old w n xs e = ap (each (rowBytes w)) (sym (numbered-old n xs e))
-
--- the plan sets no value: any text will do
-pub no-text : (w : ℕ) → isValue w [] ≡ true
-no-text w = ap (λ (b : Bool). b && true) (le-leb 0 w (omega arith))
 
 module _ (definition from less : ℕ) where
   abbrev p : Plan
@@ -46,38 +40,6 @@ module _ (definition from less : ℕ) where
 
   pub sized : Sized (shifting definition from less)
   sized = record { moves = record { definitions = record { more = omega arith }; attributes = record { more = omega arith } }; filling = tt }
-
-  -- ---- nothing is open, nothing is due
-  module _ (v : Bytes) (fill : ℕ → List (Deep FlatRow)) where
-    abbrev shut : Open
-    shut = record { taking = 0; below = 0; due = false }
-
-    not-taken : (x : Deep FlatRow) → isTaken p shut x ≡ false
-    not-taken x = ap (λ (b : Bool). b && true) (and-false (isBelow shut x))
-
-    closed-shut : (x : Deep FlatRow) → closed shut x ≡ shut
-    closed-shut x = by (closes shut x)
-      where
-        by : (b : Bool) → elim b as (λ z. Open) [ true ↦ shut | false ↦ shut ] ≡ shut
-        by true = refl
-        by false = refl
-
-    emitted-one : (x : Deep FlatRow) → emitted p v fill shut x ≡ keptRow p v x ∷ []
-    unfolding emitted
-    emitted-one x = ap (λ (b : Bool). elim b as (λ z. List (Deep FlatRow)) [ true ↦ [] | false ↦ owed (isFilled p shut x) (fill (x .depth)) ++ keptRow p v x ∷ [] ]) (not-taken x)
-
-    onward-shut : (x : Deep FlatRow) → onward p v fill shut x ≡ shut
-    unfolding onward
-    onward-shut x = ap (λ (b : Bool). elim b as (λ z. Open) [ true ↦ taken shut x | false ↦ kept p shut x ]) (not-taken x)
-
-    pub walked-shut : (xs : List (Deep FlatRow)) → walked p v fill shut xs ≡ map (keptRow p v) xs
-    unfolding walked
-    walked-shut [] = refl
-    walked-shut (x ∷ xs) =
-        ap (λ (b : Bool). owed b (fill (rowDepth shut)) ++ (emitted p v fill (closed shut x) x ++ walked p v fill (onward p v fill (closed shut x) x) xs)) (and-false (closes shut x))
-        ∙ ap (λ (o : Open). emitted p v fill o x ++ walked p v fill (onward p v fill o x) xs) (closed-shut x)
-        ∙ ap₂ (λ (l : List (Deep FlatRow)) (o : Open). l ++ walked p v fill o xs) (emitted-one x) (onward-shut x)
-        ∙ ap (λ (l : List (Deep FlatRow)). keptRow p v x ∷ l) (walked-shut xs)
 
   -- ---- a row that is kept
   shifted-low : (j least fall : ℕ) → shifted (record { from = least; more = 0; less = fall }) j ≡ lowered least fall j

@@ -18,16 +18,16 @@ use Rattle.codec.specs.Laid.{Laid}
 use Rattle.codec.proofs.Writers.{laid-as}
 use Rattle.codec.proofs.Records.{many-at}
 use Rattle.form_index.specs.Reading.{definitionIn, particlesBefore}
-use Rattle.store_check.specs.Reading.{noDefinition}
+use Rattle.store_check.specs.Reading.{noFlatDefinition}
 use Rattle.lookup.specs.Bodies.{bodiesOf}
-use Rattle.layout.specs.Bodies.{widthOf, WidthIn, Number, definitionsIn, particlesIn, attributesIn, rowsIn}
+use Rattle.layout.specs.Bodies.{widthOf, WidthIn, Number, definitionsIn, particlesIn, attributesIn, treeRowsIn}
 use Rattle.layout.specs.Header.{headed}
 use Rattle.layout.proofs.LayoutLaws as layout
 use Rattle.store_writer.specs.Stores.{storeIn}
 use Rattle.store_writer.proofs.StoreLaws.{holds}
 use Rattle.definition_writer.specs.Bodies.{movedParticle, movedRow}
-use Rattle.definition_removal.specs.Bodies.{lowered, cutOut, particlesOf, isBelow, attributesOf, movedAttribute, Counted, destroyed, headerLeft}
-use Rattle.definition_writer.proofs.Encoded.{Encoded, encoded}
+use Rattle.definition_removal.specs.Bodies.{lowered, cutOut, particlesUpTo, oneBelow, attributesUpTo, movedAttribute, CountWithin, destroyed, headerLeft}
+use Rattle.store_writer.proofs.Encoded.{Encoded, encoded}
 
 -- ---- the bodies, read
 module _ (bs : Bytes) where
@@ -43,46 +43,46 @@ module _ (bs : Bytes) where
   unfolding bodiesOf
   attributes-read = sym (layout.attributes-read bs)
 
-  pub rows-read : bodiesOf bs .rows ≡ readMany readRow (rowSize (widthOf bs)) (rowCount bs) (rowsIn bs)
+  pub rows-read : bodiesOf bs .rows ≡ readMany readRow (rowSize (widthOf bs)) (rowCount bs) (treeRowsIn bs)
   unfolding bodiesOf
   rows-read = sym (layout.rows-read bs)
 
 -- ---- how many particles and attributes the first definitions have
-particles-more : (i : ℕ) (ds : List FlatDefinition) → particlesOf (suc i) ds ≡ particlesOf i ds + getD ds i noDefinition .particles
-unfolding particlesOf
+particles-more : (i : ℕ) (ds : List FlatDefinition) → particlesUpTo (suc i) ds ≡ particlesUpTo i ds + getD ds i noFlatDefinition .particles
+unfolding particlesUpTo
 particles-more zero [] = refl
 particles-more zero (d ∷ ds) = omega arith
 particles-more (suc i) [] = refl
 particles-more (suc i) (d ∷ ds) = omega (arith, particles-more i ds)
 
-pub particles-step : (i : ℕ) (ds : List FlatDefinition) → particlesOf i ds ≤ particlesOf (suc i) ds
+pub particles-step : (i : ℕ) (ds : List FlatDefinition) → particlesUpTo i ds ≤ particlesUpTo (suc i) ds
 particles-step i ds = omega (arith, particles-more i ds)
 
-particles-before : (count : ℕ) (defs : Bytes) (i : ℕ) → i ≤ count → particlesBefore defs i ≡ particlesOf i (readMany readDefinition definitionSize count defs)
-unfolding particlesBefore particlesOf
+particles-before : (count : ℕ) (defs : Bytes) (i : ℕ) → i ≤ count → particlesBefore defs i ≡ particlesUpTo i (readMany readDefinition definitionSize count defs)
+unfolding particlesBefore particlesUpTo
 particles-before count defs zero h = refl
 particles-before count defs (suc i) h =
-    let e : getD (readMany readDefinition definitionSize count defs) i noDefinition ≡ definitionIn defs i = many-at readDefinition definitionSize i count defs noDefinition (omega arith) in
+    let e : getD (readMany readDefinition definitionSize count defs) i noFlatDefinition ≡ definitionIn defs i = many-at readDefinition definitionSize i count defs noFlatDefinition (omega arith) in
     omega (arith, particles-before count defs i (omega arith), particles-more i (readMany readDefinition definitionSize count defs), ap (λ (d : FlatDefinition). d .particles) e)
 
-particles-most : (F : Form) (i : ℕ) (ds : Form) → particlesOf i (map (flatDefinition F) ds) ≤ length (allParticles F ds)
-unfolding particlesOf
+particles-most : (F : Form) (i : ℕ) (ds : Form) → particlesUpTo i (map (flatDefinition F) ds) ≤ length (allParticles F ds)
+unfolding particlesUpTo
 particles-most F zero ds = omega arith
 particles-most F (suc i) [] = omega arith
 particles-most F (suc i) (d ∷ ds) = omega (arith, particles-most F i ds, length-append (contentParticles F (d .content)) (allParticles F ds))
 
-pub particles-within : (bs : Bytes) → passes bs ≡ true → (i : ℕ) → particlesOf i (bodiesOf bs .definitions) ≤ length (bodiesOf bs .particles)
+pub particles-within : (bs : Bytes) → passes bs ≡ true → (i : ℕ) → particlesUpTo i (bodiesOf bs .definitions) ≤ length (bodiesOf bs .particles)
 particles-within bs p i = rw (holds bs p .bodies) (particles-most (storeIn bs .form) i (storeIn bs .form))
 
 pub model-starts : (bs : Bytes) → passes bs ≡ true → (i : ℕ) → i ≤ definitionCount bs → {r : ℕ} {defs : Bytes} → defs ≡ definitionsIn bs → r ≡ particlesBefore defs i
-    → Counted (particlesOf i (bodiesOf bs .definitions)) (particleCount bs) r
+    → CountWithin (particlesUpTo i (bodiesOf bs .definitions)) (particleCount bs) r
 model-starts bs p i h {r} d e =
-    let z : particlesBefore (definitionsIn bs) i ≡ particlesOf i (bodiesOf bs .definitions) = particles-before (definitionCount bs) (definitionsIn bs) i h
-    ∙ ap (particlesOf i) (sym (own-definitions bs)) in
+    let z : particlesBefore (definitionsIn bs) i ≡ particlesUpTo i (bodiesOf bs .definitions) = particles-before (definitionCount bs) (definitionsIn bs) i h
+    ∙ ap (particlesUpTo i) (sym (own-definitions bs)) in
     let q : r ≡ particlesBefore (definitionsIn bs) i = e ∙ ap (λ (l : Bytes). particlesBefore l i) d in
     record { is = q ∙ z; most = omega (arith, q, z, particles-within bs p i, encoded bs p .particles) }
 
-below-step : (i : ℕ) (a : FlatAttribute) → isBelow i a ≤ isBelow (suc i) a
+below-step : (i : ℕ) (a : FlatAttribute) → oneBelow i a ≤ oneBelow (suc i) a
 below-step i a = by (ltb (a .owner) i) refl (ltb (a .owner) (suc i)) refl
   where
     by : (b : Bool) → ltb (a .owner) i ≡ b → (c : Bool) → ltb (a .owner) (suc i) ≡ c → elim b as (λ z. ℕ) [ true ↦ 1 | false ↦ 0 ] ≤ elim c as (λ z. ℕ) [ true ↦ 1 | false ↦ 0 ]
@@ -90,34 +90,34 @@ below-step i a = by (ltb (a .owner) i) refl (ltb (a .owner) (suc i)) refl
     by true e false q = absurd (omega (arith, ltb-true (a .owner) i e, ltb-false (a .owner) (suc i) q))
     by false e c q = omega arith
 
-pub attributes-step : (i : ℕ) (cs : List FlatAttribute) → attributesOf i cs ≤ attributesOf (suc i) cs
-unfolding attributesOf
+pub attributes-step : (i : ℕ) (cs : List FlatAttribute) → attributesUpTo i cs ≤ attributesUpTo (suc i) cs
+unfolding attributesUpTo
 attributes-step i [] = omega arith
 attributes-step i (a ∷ cs) = omega (arith, below-step i a, attributes-step i cs)
 
-below-one : (i : ℕ) (a : FlatAttribute) → isBelow i a ≤ 1
+below-one : (i : ℕ) (a : FlatAttribute) → oneBelow i a ≤ 1
 below-one i a = by (ltb (a .owner) i)
   where
     by : (b : Bool) → elim b as (λ z. ℕ) [ true ↦ 1 | false ↦ 0 ] ≤ 1
     by true = omega arith
     by false = omega arith
 
-pub attributes-most : (i : ℕ) (cs : List FlatAttribute) → attributesOf i cs ≤ length cs
-unfolding attributesOf
+pub attributes-most : (i : ℕ) (cs : List FlatAttribute) → attributesUpTo i cs ≤ length cs
+unfolding attributesUpTo
 attributes-most i [] = omega arith
 attributes-most i (a ∷ cs) = omega (arith, below-one i a, attributes-most i cs)
 
 pub attribute-starts : (bs : Bytes) (i : ℕ) {w count : ℕ} {body : Bytes} {r : ℕ} → WidthIn bs w → Number (attributeCount bs) count → body ≡ attributesIn bs
-    → Counted (attributesOf i (readMany readAttribute (attributeSize w) count body)) count r
-    → Counted (attributesOf i (bodiesOf bs .attributes)) (attributeCount bs) r
+    → CountWithin (attributesUpTo i (readMany readAttribute (attributeSize w) count body)) count r
+    → CountWithin (attributesUpTo i (bodiesOf bs .attributes)) (attributeCount bs) r
 attribute-starts bs i w e q c =
     record {
-      is = c .is ∙ (λ j. attributesOf i (readMany readAttribute (attributeSize (w .value j)) (e .value j) (q j))) ∙ sym (ap (attributesOf i) (attributes-read bs));
+      is = c .is ∙ (λ j. attributesUpTo i (readMany readAttribute (attributeSize (w .value j)) (e .value j) (q j))) ∙ sym (ap (attributesUpTo i) (attributes-read bs));
       most = omega (arith, c .most, e .value);
     }
 
 -- a count at the next number
-pub next-counted : (P : ℕ → ℕ) (i n : ℕ) {r : ℕ} → Counted (P (i + 1)) n r → Counted (P (suc i)) n r
+pub next-counted : (P : ℕ → ℕ) (i n : ℕ) {r : ℕ} → CountWithin (P (i + 1)) n r → CountWithin (P (suc i)) n r
 next-counted P i n c = record { is = c .is ∙ ap P (add-one i); most = c .most }
 
 -- ---- lengths
@@ -142,46 +142,46 @@ module _ (bs : Bytes) (p : passes bs ≡ true) (i : ℕ) (h : i < definitionCoun
       let e : suc i - i ≡ 1 = omega arith in
       ap (λ (k : ℕ). length (cutOut i k (f .definitions))) (sym e) ∙ length-cut i (suc i) (f .definitions) (omega arith) (omega (arith, x .definitions)) ∙ omega (arith, x .definitions)
 
-  pub models-left : {n a b : ℕ} → Number (particleCount bs) n → Counted (particlesOf i (f .definitions)) (particleCount bs) a
-      → Counted (particlesOf (suc i) (f .definitions)) (particleCount bs) b → Counted (length (destroyed i f .particles)) 256 (n - (b - a))
+  pub models-left : {n a b : ℕ} → Number (particleCount bs) n → CountWithin (particlesUpTo i (f .definitions)) (particleCount bs) a
+      → CountWithin (particlesUpTo (suc i) (f .definitions)) (particleCount bs) b → CountWithin (length (destroyed i f .particles)) 256 (n - (b - a))
   unfolding destroyed
   models-left e ca cb =
-      let z : length (destroyed i f .particles) ≡ length (f .particles) - (particlesOf (suc i) (f .definitions) - particlesOf i (f .definitions)) =
-      length-map (cutOut (particlesOf i (f .definitions)) (particlesOf (suc i) (f .definitions) - particlesOf i (f .definitions)) (f .particles)) (movedParticle (lowered (suc i) 1))
-      ∙ length-cut (particlesOf i (f .definitions)) (particlesOf (suc i) (f .definitions)) (f .particles) (particles-step i (f .definitions)) (particles-within bs p (suc i))
+      let z : length (destroyed i f .particles) ≡ length (f .particles) - (particlesUpTo (suc i) (f .definitions) - particlesUpTo i (f .definitions)) =
+      length-map (cutOut (particlesUpTo i (f .definitions)) (particlesUpTo (suc i) (f .definitions) - particlesUpTo i (f .definitions)) (f .particles)) (movedParticle (lowered (suc i) 1))
+      ∙ length-cut (particlesUpTo i (f .definitions)) (particlesUpTo (suc i) (f .definitions)) (f .particles) (particles-step i (f .definitions)) (particles-within bs p (suc i))
       in
       record { is = omega (arith, z, e .value, ca .is, cb .is, x .particles); most = omega (arith, e .value, x .particles, x .fewParticles) }
 
-  pub attributes-left : {n a b : ℕ} → Number (attributeCount bs) n → Counted (attributesOf i (f .attributes)) (attributeCount bs) a
-      → Counted (attributesOf (suc i) (f .attributes)) (attributeCount bs) b → Counted (length (destroyed i f .attributes)) 64 (n - (b - a))
+  pub attributes-left : {n a b : ℕ} → Number (attributeCount bs) n → CountWithin (attributesUpTo i (f .attributes)) (attributeCount bs) a
+      → CountWithin (attributesUpTo (suc i) (f .attributes)) (attributeCount bs) b → CountWithin (length (destroyed i f .attributes)) 64 (n - (b - a))
   unfolding destroyed
   attributes-left e ca cb =
-      let z : length (destroyed i f .attributes) ≡ length (f .attributes) - (attributesOf (suc i) (f .attributes) - attributesOf i (f .attributes)) =
-      length-map (cutOut (attributesOf i (f .attributes)) (attributesOf (suc i) (f .attributes) - attributesOf i (f .attributes)) (f .attributes)) (movedAttribute (lowered (suc i) 1))
-      ∙ length-cut (attributesOf i (f .attributes)) (attributesOf (suc i) (f .attributes)) (f .attributes) (attributes-step i (f .attributes)) (attributes-most (suc i) (f .attributes))
+      let z : length (destroyed i f .attributes) ≡ length (f .attributes) - (attributesUpTo (suc i) (f .attributes) - attributesUpTo i (f .attributes)) =
+      length-map (cutOut (attributesUpTo i (f .attributes)) (attributesUpTo (suc i) (f .attributes) - attributesUpTo i (f .attributes)) (f .attributes)) (movedAttribute (lowered (suc i) 1))
+      ∙ length-cut (attributesUpTo i (f .attributes)) (attributesUpTo (suc i) (f .attributes)) (f .attributes) (attributes-step i (f .attributes)) (attributes-most (suc i) (f .attributes))
       in
       record { is = omega (arith, z, e .value, ca .is, cb .is, x .attributes); most = omega (arith, e .value, x .attributes, x .fewAttributes) }
 
   pub rows-left : length (destroyed i f .rows) ≡ rowCount bs
   unfolding destroyed
-  rows-left = length-map (f .rows) (movedRow (lowered (suc i) 1) (lowered (attributesOf (suc i) (f .attributes)) (attributesOf (suc i) (f .attributes) - attributesOf i (f .attributes))))
+  rows-left = length-map (f .rows) (movedRow (lowered (suc i) 1) (lowered (attributesUpTo (suc i) (f .attributes)) (attributesUpTo (suc i) (f .attributes) - attributesUpTo i (f .attributes))))
       ∙ sym (x .rows)
 
   pub few-particles : length (destroyed i f .particles) ≤ 256
   unfolding destroyed
   few-particles =
-      let a : ℕ = particlesOf i (f .definitions) in
-      let n : ℕ = particlesOf (suc i) (f .definitions) - particlesOf i (f .definitions) in
+      let a : ℕ = particlesUpTo i (f .definitions) in
+      let n : ℕ = particlesUpTo (suc i) (f .definitions) - particlesUpTo i (f .definitions) in
       omega (arith, length-map (cutOut a n (f .particles)) (movedParticle (lowered (suc i) 1)), cut-most a n (f .particles), x .fewParticles)
 
   pub few-attributes : length (destroyed i f .attributes) ≤ 64
   unfolding destroyed
   few-attributes =
-      let a : ℕ = attributesOf i (f .attributes) in
-      let n : ℕ = attributesOf (suc i) (f .attributes) - attributesOf i (f .attributes) in
+      let a : ℕ = attributesUpTo i (f .attributes) in
+      let n : ℕ = attributesUpTo (suc i) (f .attributes) - attributesUpTo i (f .attributes) in
       omega (arith, length-map (cutOut a n (f .attributes)) (movedAttribute (lowered (suc i) 1)), cut-most a n (f .attributes), x .fewAttributes)
 
-  pub header-left : {d m n : ℕ} {out out₁ : Bytes} {at : ℕ} → Number (definitionCount bs) d → Counted (length (destroyed i f .particles)) 256 m → Counted (length (destroyed i f .attributes)) 64 n
+  pub header-left : {d m n : ℕ} {out out₁ : Bytes} {at : ℕ} → Number (definitionCount bs) d → CountWithin (length (destroyed i f .particles)) 256 m → CountWithin (length (destroyed i f .attributes)) 64 n
       → Laid (headed (widthOf bs) (numberAt 4 4 bs) (d - 1) m n (rowCount bs) bs) out 0 at out₁ → Laid (headerLeft i bs) out 0 at out₁
   header-left ed em en l =
       laid-as (λ j. headed (widthOf bs) (numberAt 4 4 bs) ((definitions-left ∙ ap (λ (k : ℕ). k - 1) (sym (ed .value))) j) (sym (em .is) j) (sym (en .is) j) (rows-left j) bs) l

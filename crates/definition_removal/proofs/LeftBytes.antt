@@ -2,7 +2,7 @@
 use Prim.Native.Nat.{ℕ, suc, _+_, _-_, _*_, _<_, _≤_}
 use native.Mathlib.Omega.{arith}
 use native.Mathlib.Numerals.{add-one}
-use mathlib.Core.Path.{_≡_, sym, ap, ap₂, _∙_}
+use mathlib.Core.Path.{_≡_, sym, ap, ap₂, _∙_, refl}
 use mathlib.Core.Bool.{true}
 use mathlib.Core.List.{[], _++_, map, append-nil}
 use lib.ListN.{length, take, drop}
@@ -11,7 +11,7 @@ use Rattle.rules.specs.Layout.{definitionSize, particleSize, attributeSize, Fla
 use Rattle.rules.specs.Decode.{numberAt, definitionCount, particleCount, attributeCount}
 use Rattle.rules.specs.Passing.{passes}
 use Rattle.rules.proofs.BooleanLaws.{Every, every-map}
-use Rattle.rules.proofs.LayoutLaws.{length-definition, length-particle, length-attribute, length-each}
+use Rattle.rules.proofs.LayoutLaws.{length-definition, length-particle, length-attribute, length-each, each-append}
 use Rattle.codec.specs.Laid.{Laid}
 use Rattle.codec.proofs.Writers.{laid-then, laid-as}
 use Rattle.layout.specs.Bodies.{widthOf, WidthIn, Number, definitionsIn, particlesIn, attributesIn}
@@ -24,17 +24,18 @@ use Rattle.row_writer.specs.Written.{Written}
 use Rattle.row_writer.proofs.WrittenLaws.{written-as, written-fitting}
 use Rattle.row_walk.specs.declared.Plan.{Plan}
 use Rattle.store_writer.specs.Stores.{storeIn}
-use Rattle.store_writer.specs.Planned.{fillOf, rowsAfter}
+use Rattle.store_writer.specs.Planned.{rowsAfter}
 use Rattle.store_writer.specs.Writing.{walkFrom}
 use Rattle.store_writer.proofs.StoreLaws.{holds}
 use Rattle.store_writer.proofs.RowBounds.{Bounded, rows-bounded}
 use Rattle.definition_writer.specs.Bodies.{movedParticle, movedRow}
-use Rattle.definition_removal.specs.Bodies.{lowered, cutOut, particlesOf, attributesOf, eachRecord, particleRecord, attributeRecord, movedAttribute, Counted, destroyed, headerLeft}
-use Rattle.definition_writer.proofs.Encoded.{Encoded, encoded, bytes-are, others, definitions-at, particles-at, attributes-at, each-append}
+use Rattle.definition_removal.specs.Bodies.{lowered, cutOut, particlesUpTo, attributesUpTo, eachRecord, particleRecord, attributeRecord, movedAttribute, CountWithin, destroyed, headerLeft}
+use Rattle.store_writer.proofs.Encoded.{Encoded, encoded, bytes-are, others, definitions-at, particles-at, attributes-at}
 use Rattle.definition_removal.specs.Shifting.{shifting}
 use Rattle.definition_removal.proofs.Again.{each-drop, each-take, cut-again, particle-again, attribute-again}
-use Rattle.definition_removal.proofs.KeptRows.{Old, bytes-old, walked-shut, kept-rows, moved-old}
+use Rattle.definition_removal.proofs.KeptRows.{Old, bytes-old, kept-rows, moved-old}
 use Rattle.definition_removal.proofs.Left.{definitions-left, rows-left, few-particles, few-attributes, particles-step, particles-within, attributes-step, attributes-most}
+use Rattle.store_writer.proofs.StillLaws.{rows-still}
 
 module _ (bs : Bytes) (p : passes bs ≡ true) (i : ℕ) (h : i < definitionCount bs) where
   abbrev f : FlatStore
@@ -72,7 +73,7 @@ module _ (bs : Bytes) (p : passes bs ≡ true) (i : ℕ) (h : i < definitionCoun
 
   -- ---- models and attributes
   pub models-laid : {body : Bytes} {a b n : ℕ} {tail out out₁ out₂ : Bytes} {at at₁ at₂ : ℕ} → body ≡ particlesIn bs → Number (particleCount bs) n
-      → Counted (particlesOf i (f .definitions)) (particleCount bs) a → Counted (particlesOf (suc i) (f .definitions)) (particleCount bs) b → tail ≡ drop (particleSize * b) body
+      → CountWithin (particlesUpTo i (f .definitions)) (particleCount bs) a → CountWithin (particlesUpTo (suc i) (f .definitions)) (particleCount bs) b → tail ≡ drop (particleSize * b) body
       → Laid (eachRecord (particleRecord g) particleSize a body) out at at₁ out₁ → Laid (eachRecord (particleRecord g) particleSize (n - b) tail) out₁ at₁ at₂ out₂
       → Laid (each particleBytes (destroyed i f .particles)) out at at₂ out₂
   unfolding destroyed
@@ -80,7 +81,7 @@ module _ (bs : Bytes) (p : passes bs ≡ true) (i : ℕ) (h : i < definitionCoun
       let e : each particleBytes (f .particles) ++ [] ≡ body = append-nil (each particleBytes (f .particles)) ∙ sym (eb ∙ particles-at x) in
       let k : length (f .particles) ≡ n = sym (en .value ∙ x .particles) in
       laid-as
-      (cut-again particleBytes particleSize length-particle (particleRecord g) (movedParticle g) (particle-again g) (particlesOf i (f .definitions)) (particlesOf (suc i) (f .definitions))
+      (cut-again particleBytes particleSize length-particle (particleRecord g) (movedParticle g) (particle-again g) (particlesUpTo i (f .definitions)) (particlesUpTo (suc i) (f .definitions))
       (f .particles)
       [] (particles-step i (f .definitions)) (particles-within bs p (suc i))
       ∙ (λ j. eachRecord (particleRecord g) particleSize (sym (ca .is) j) (e j) ++ eachRecord (particleRecord g) particleSize (k j - sym (cb .is) j) (drop (particleSize * sym (cb .is) j) (e j)))
@@ -89,7 +90,7 @@ module _ (bs : Bytes) (p : passes bs ≡ true) (i : ℕ) (h : i < definitionCoun
 
   -- w: the width as the code reads it
   pub attributes-laid : {w : ℕ} {body : Bytes} {a b n : ℕ} {tail out out₁ out₂ : Bytes} {at at₁ at₂ : ℕ} → WidthIn bs w → body ≡ attributesIn bs → Number (attributeCount bs) n
-      → Counted (attributesOf i (f .attributes)) (attributeCount bs) a → Counted (attributesOf (suc i) (f .attributes)) (attributeCount bs) b → tail ≡ drop (attributeSize w * b) body
+      → CountWithin (attributesUpTo i (f .attributes)) (attributeCount bs) a → CountWithin (attributesUpTo (suc i) (f .attributes)) (attributeCount bs) b → tail ≡ drop (attributeSize w * b) body
       → Laid (eachRecord (attributeRecord g) (attributeSize w) a body) out at at₁ out₁ → Laid (eachRecord (attributeRecord g) (attributeSize w) (n - b) tail) out₁ at₁ at₂ out₂
       → Laid (each (attributeBytes (widthOf bs)) (destroyed i f .attributes)) out at at₂ out₂
   unfolding destroyed
@@ -100,8 +101,8 @@ module _ (bs : Bytes) (p : passes bs ≡ true) (i : ℕ) (h : i < definitionCoun
       let k : length (f .attributes) ≡ n = sym (en .value ∙ x .attributes) in
       laid-as
       (ap (λ (z : ℕ). each (attributeBytes z) (destroyed i f .attributes)) (sym (ew .value))
-      ∙ cut-again (attributeBytes w) (attributeSize w) (length-attribute w) (attributeRecord g) (movedAttribute g) (attribute-again g w) (attributesOf i (f .attributes))
-      (attributesOf (suc i) (f .attributes)) (f .attributes)
+      ∙ cut-again (attributeBytes w) (attributeSize w) (length-attribute w) (attributeRecord g) (movedAttribute g) (attribute-again g w) (attributesUpTo i (f .attributes))
+      (attributesUpTo (suc i) (f .attributes)) (f .attributes)
       [] (attributes-step i (f .attributes)) (attributes-most (suc i) (f .attributes))
       ∙ (λ j. eachRecord (attributeRecord g) (attributeSize w) (sym (ca .is) j) (e j) ++ eachRecord (attributeRecord g) (attributeSize w) (k j - sym (cb .is) j)
       (drop (attributeSize w * sym (cb .is) j) (e j)))
@@ -114,19 +115,19 @@ module _ (bs : Bytes) (p : passes bs ≡ true) (i : ℕ) (h : i < definitionCoun
 
   rows-old : Every Old (destroyed i f .rows)
   unfolding destroyed
-  rows-old = moved-old g (lowered (attributesOf (suc i) (f .attributes)) (attributesOf (suc i) (f .attributes) - attributesOf i (f .attributes))) (f .rows) old
+  rows-old = moved-old g (lowered (attributesUpTo (suc i) (f .attributes)) (attributesUpTo (suc i) (f .attributes) - attributesUpTo i (f .attributes))) (f .rows) old
 
-  rows-are : (a b : ℕ) (v : Bytes) → a ≡ attributesOf i (f .attributes) → b ≡ attributesOf (suc i) (f .attributes) → destroyed i f .rows ≡ rowsAfter (shifting (i + 1) b (b - a)) v f
-  unfolding destroyed rowsAfter
+  rows-are : (a b : ℕ) (v : Bytes) → a ≡ attributesUpTo i (f .attributes) → b ≡ attributesUpTo (suc i) (f .attributes) → destroyed i f .rows ≡ rowsAfter (shifting (i + 1) b (b - a)) v f
+  unfolding destroyed
   rows-are a b v ea eb =
       sym
-      (walked-shut (i + 1) b (b - a) v (fillOf (shifting (i + 1) b (b - a)) v f) (f .rows)
+      (rows-still (shifting (i + 1) b (b - a)) v refl refl f
       ∙ kept-rows (i + 1) b (b - a) v (f .rows) old
       ∙ (λ j. map (movedRow (lowered (add-one i j) 1) (lowered (eb j) (eb j - ea j))) (f .rows)))
 
   -- q: the plan that the code makes
-  pub rows-laid : {a b : ℕ} {q : Plan} (v : Bytes) {out out₁ : Bytes} {at : ℕ} {r : Cursor} → Counted (attributesOf i (f .attributes)) (attributeCount bs) a
-      → Counted (attributesOf (suc i) (f .attributes)) (attributeCount bs) b
+  pub rows-laid : {a b : ℕ} {q : Plan} (v : Bytes) {out out₁ : Bytes} {at : ℕ} {r : Cursor} → CountWithin (attributesUpTo i (f .attributes)) (attributeCount bs) a
+      → CountWithin (attributesUpTo (suc i) (f .attributes)) (attributeCount bs) b
       → q ≡ shifting (i + 1) b (b - a) → Written (widthOf bs) (rowsAfter q v f) (walkFrom at bs) out r out₁ → Laid (each (rowBytes (widthOf bs)) (destroyed i f .rows)) out at (r .at) out₁
   rows-laid {a} {b} {q} v ca cb e w =
       laid-as (bytes-old (widthOf bs) (numberAt 4 4 bs) (destroyed i f .rows) rows-old)

@@ -15,9 +15,9 @@ use Rattle.rules.specs.Preorder.{Deep}
 use Rattle.rules.specs.Layout.{FlatDefinition, FlatParticle, FlatAttribute, indexOf, indexIn, attributeIndex, contentParticles, flatDefinition, allParticles, ownAttributes, allAttributes, sortCode}
 use Rattle.rules.specs.Change.{without, nameAtIndex}
 use Rattle.rules.proofs.Apart.{differs}
-use Rattle.rules.proofs.DecodeLaws.{length-own}
-use Rattle.definition_removal.specs.Bodies.{lowered, cutOut, particlesOf, attributesOf, movedAttribute}
-use Rattle.definition_writer.proofs.Renumbered.{map-append}
+use Rattle.rules.proofs.DecodeLaws.{length-own, own-bound}
+use Rattle.definition_removal.specs.Bodies.{lowered, cutOut, particlesUpTo, attributesUpTo, movedAttribute}
+use Rattle.rules.proofs.RenamingPlaces.{map-append}
 
 -- ---- numbers that fall
 pub lowered-high : (from less x : ℕ) → from ≤ x → lowered from less x ≡ x - less
@@ -91,18 +91,18 @@ module _ (F : Form) where
   model-size d = refl
 
   pub particles-cut : (i : ℕ) (ds : Form) → i < length ds
-      → allParticles F (without i ds) ≡ cutOut (particlesOf i (records ds)) (particlesOf (suc i) (records ds) - particlesOf i (records ds)) (allParticles F ds)
-  unfolding particlesOf
+      → allParticles F (without i ds) ≡ cutOut (particlesUpTo i (records ds)) (particlesUpTo (suc i) (records ds) - particlesUpTo i (records ds)) (allParticles F ds)
+  unfolding particlesUpTo
   particles-cut i [] h = absurd (omega arith)
   particles-cut zero (d ∷ ds) h =
       let e : length (contentParticles F (d .content)) ≡ length (contentParticles F (d .content)) + 0 - 0 = omega arith in
       sym (ap (λ (k : ℕ). cutOut 0 k (contentParticles F (d .content) ++ allParticles F ds)) (sym e) ∙ cut-first (contentParticles F (d .content)) (allParticles F ds))
   particles-cut (suc i) (d ∷ ds) h =
       let n : ℕ = length (contentParticles F (d .content)) in
-      let e : particlesOf (suc i) (records ds) - particlesOf i (records ds) ≡ n + particlesOf (suc i) (records ds) - (n + particlesOf i (records ds)) = omega arith in
+      let e : particlesUpTo (suc i) (records ds) - particlesUpTo i (records ds) ≡ n + particlesUpTo (suc i) (records ds) - (n + particlesUpTo i (records ds)) = omega arith in
       ap (λ (l : List (Deep FlatParticle)). contentParticles F (d .content) ++ l) (particles-cut i ds (omega arith))
-      ∙ sym (cut-later (contentParticles F (d .content)) (allParticles F ds) (particlesOf i (records ds)) (particlesOf (suc i) (records ds) - particlesOf i (records ds)))
-      ∙ ap (λ (k : ℕ). cutOut (n + particlesOf i (records ds)) k (contentParticles F (d .content) ++ allParticles F ds)) e
+      ∙ sym (cut-later (contentParticles F (d .content)) (allParticles F ds) (particlesUpTo i (records ds)) (particlesUpTo (suc i) (records ds) - particlesUpTo i (records ds)))
+      ∙ ap (λ (k : ℕ). cutOut (n + particlesUpTo i (records ds)) k (contentParticles F (d .content) ++ allParticles F ds)) e
 
 -- ---- attributes
 -- how many the first i definitions have
@@ -111,39 +111,39 @@ ownedBefore zero ds = 0
 ownedBefore (suc i) [] = 0
 ownedBefore (suc i) (d ∷ ds) = length (d .attributes) + ownedBefore i ds
 
-below-append : (i : ℕ) (xs ys : List FlatAttribute) → attributesOf i (xs ++ ys) ≡ attributesOf i xs + attributesOf i ys
-unfolding attributesOf
-below-append i [] ys = sym (zero-add (attributesOf i ys))
+below-append : (i : ℕ) (xs ys : List FlatAttribute) → attributesUpTo i (xs ++ ys) ≡ attributesUpTo i xs + attributesUpTo i ys
+unfolding attributesUpTo
+below-append i [] ys = sym (zero-add (attributesUpTo i ys))
 below-append i (x ∷ xs) ys = omega (arith, below-append i xs ys)
 
-below-own : (i o : ℕ) (xs : List Attribute) → o < i → attributesOf i (ownAttributes o xs) ≡ length xs
-unfolding attributesOf
+below-own : (i o : ℕ) (xs : List Attribute) → o < i → attributesUpTo i (ownAttributes o xs) ≡ length xs
+unfolding attributesUpTo
 below-own i o [] h = refl
 below-own i o (x ∷ xs) h = ap₂ (λ (b : Bool) (k : ℕ). elim b as (λ z. ℕ) [ true ↦ 1 | false ↦ 0 ] + k) (lt-ltb o i h) (below-own i o xs h) ∙ omega arith
 
-above-own : (i o : ℕ) (xs : List Attribute) → i ≤ o → attributesOf i (ownAttributes o xs) ≡ 0
-unfolding attributesOf
+above-own : (i o : ℕ) (xs : List Attribute) → i ≤ o → attributesUpTo i (ownAttributes o xs) ≡ 0
+unfolding attributesUpTo
 above-own i o [] h = refl
 above-own i o (x ∷ xs) h = ap₂ (λ (b : Bool) (k : ℕ). elim b as (λ z. ℕ) [ true ↦ 1 | false ↦ 0 ] + k) (le-ltb o i h) (above-own i o xs h)
 
-above-all : (i o : ℕ) (ds : Form) → i ≤ o → attributesOf i (allAttributes o ds) ≡ 0
-unfolding attributesOf
+above-all : (i o : ℕ) (ds : Form) → i ≤ o → attributesUpTo i (allAttributes o ds) ≡ 0
+unfolding attributesUpTo
 above-all i o [] h = refl
 above-all i o (d ∷ ds) h =
     below-append i (ownAttributes o (d .attributes)) (allAttributes (suc o) ds)
     ∙ ap₂ (λ (x y : ℕ). x + y) (above-own i o (d .attributes) h) (above-all i (suc o) ds (omega arith))
 
-owned-count : (i o : ℕ) (ds : Form) → attributesOf (o + i) (allAttributes o ds) ≡ ownedBefore i ds
-unfolding ownedBefore attributesOf
+owned-count : (i o : ℕ) (ds : Form) → attributesUpTo (o + i) (allAttributes o ds) ≡ ownedBefore i ds
+unfolding ownedBefore attributesUpTo
 owned-count zero o ds = above-all (o + 0) o ds (omega arith)
 owned-count (suc i) o [] = refl
 owned-count (suc i) o (d ∷ ds) =
     let e : o + suc i ≡ suc o + i = omega arith in
     below-append (o + suc i) (ownAttributes o (d .attributes)) (allAttributes (suc o) ds)
-    ∙ ap₂ (λ (x y : ℕ). x + y) (below-own (o + suc i) o (d .attributes) (omega arith)) (ap (λ (k : ℕ). attributesOf k (allAttributes (suc o) ds)) e ∙ owned-count i (suc o) ds)
+    ∙ ap₂ (λ (x y : ℕ). x + y) (below-own (o + suc i) o (d .attributes) (omega arith)) (ap (λ (k : ℕ). attributesUpTo k (allAttributes (suc o) ds)) e ∙ owned-count i (suc o) ds)
 
-attributes-count : (i : ℕ) (ds : Form) → attributesOf i (allAttributes 0 ds) ≡ ownedBefore i ds
-attributes-count i ds = let e : i ≡ 0 + i = omega arith in ap (λ (k : ℕ). attributesOf k (allAttributes 0 ds)) e ∙ owned-count i 0 ds
+attributes-count : (i : ℕ) (ds : Form) → attributesUpTo i (allAttributes 0 ds) ≡ ownedBefore i ds
+attributes-count i ds = let e : i ≡ 0 + i = omega arith in ap (λ (k : ℕ). attributesUpTo k (allAttributes 0 ds)) e ∙ owned-count i 0 ds
 
 owned-step : (i : ℕ) (ds : Form) → ownedBefore i ds ≤ ownedBefore (suc i) ds
 unfolding ownedBefore
@@ -151,14 +151,6 @@ owned-step zero [] = omega arith
 owned-step zero (d ∷ ds) = omega arith
 owned-step (suc i) [] = omega arith
 owned-step (suc i) (d ∷ ds) = omega (arith, owned-step i ds)
-
-index-in-bound : (m : Bytes) (xs : List Attribute) → indexIn m xs ≤ length xs
-index-in-bound m [] = omega arith
-index-in-bound m (x ∷ xs) = by (same m (x .name)) (index-in-bound m xs)
-  where
-    by : (b : Bool) → indexIn m xs ≤ length xs → elim b as (λ z. ℕ) [ true ↦ 0 | false ↦ suc (indexIn m xs) ] ≤ suc (length xs)
-    by true h = omega arith
-    by false h = omega arith
 
 attribute-lowered : (o m : Bytes) (i : ℕ) (form : Form) → i < length form → (o ≡ nameAtIndex i form → ⊥)
     → attributeIndex o m (without i form) ≡ lowered (ownedBefore (suc i) form) (ownedBefore (suc i) form - ownedBefore i form) (attributeIndex o m form)
@@ -182,14 +174,14 @@ attribute-lowered o m (suc i) (d ∷ form) h k = by (same o (d .name)) refl (att
 
     by : (c : Bool) → same o (d .name) ≡ c → attributeIndex o m (without i form) ≡ lowered b (b - a) (attributeIndex o m form)
         → attributeIndex o m (d ∷ without i form) ≡ lowered (n + b) (n + b - (n + a)) (attributeIndex o m (d ∷ form))
-    by true e f = rw (e, attributeIndex) (sym (lowered-low (n + b) (n + b - (n + a)) (indexIn m (d .attributes)) (omega (arith, index-in-bound m (d .attributes), owned-step i form))))
+    by true e f = rw (e, attributeIndex) (sym (lowered-low (n + b) (n + b - (n + a)) (indexIn m (d .attributes)) (omega (arith, own-bound m (d .attributes), owned-step i form))))
     by false e f =
         let z : b - a ≡ n + b - (n + a) = omega arith in
         rw (e, attributeIndex) (ap (λ (x : ℕ). n + x) f ∙ lowered-past n b (b - a) (attributeIndex o m form) (omega arith) ∙ ap (λ (x : ℕ). lowered (n + b) x (n + attributeIndex o m form)) z)
 
 pub attributes-lowered : (o m : Bytes) (i : ℕ) (form : Form) → i < length form → (o ≡ nameAtIndex i form → ⊥)
     → attributeIndex o m (without i form)
-    ≡ lowered (attributesOf (suc i) (allAttributes 0 form)) (attributesOf (suc i) (allAttributes 0 form) - attributesOf i (allAttributes 0 form))
+    ≡ lowered (attributesUpTo (suc i) (allAttributes 0 form)) (attributesUpTo (suc i) (allAttributes 0 form) - attributesUpTo i (allAttributes 0 form))
     (attributeIndex o m form)
 attributes-lowered o m i form h k =
     attribute-lowered o m i form h k ∙ ap₂ (λ (b a : ℕ). lowered b (b - a) (attributeIndex o m form)) (sym (attributes-count (suc i) form)) (sym (attributes-count i form))
@@ -241,7 +233,7 @@ owners-fall (suc i) o (d ∷ ds) h =
 pub attributes-cut : (i : ℕ) (ds : Form) → i < length ds
     → allAttributes 0 (without i ds)
     ≡ map (movedAttribute (lowered (suc i) 1))
-    (cutOut (attributesOf i (allAttributes 0 ds)) (attributesOf (suc i) (allAttributes 0 ds) - attributesOf i (allAttributes 0 ds)) (allAttributes 0 ds))
+    (cutOut (attributesUpTo i (allAttributes 0 ds)) (attributesUpTo (suc i) (allAttributes 0 ds) - attributesUpTo i (allAttributes 0 ds)) (allAttributes 0 ds))
 attributes-cut i ds h =
     let e : suc (0 + i) ≡ suc i = omega arith in
     owners-fall i 0 ds h

@@ -16,14 +16,14 @@ use Rattle.layout.specs.RecordBytes.{indexedBytes, ownedBytes}
 use Rattle.lookup.specs.Bodies.{recordsFrom}
 use Rattle.lookup.proofs.Laws.{from-step, from-none, from-all}
 use Rattle.definition_writer.specs.Bodies.{memberMoved}
-use Rattle.definition_removal.specs.Bodies.{lowered, particleRecord, attributeRecord, Counted, isBelow, attributesOf}
+use Rattle.definition_removal.specs.Bodies.{lowered, particleRecord, attributeRecord, CountWithin, oneBelow, attributesUpTo}
 use Rattle.definition_removal.proofs.Lowered.{lowered-high}
 
 -- ---- indices
-pub lower-high : (from less x : ℕ) → from ≤ x → Counted (lowered from less x) x (x - less)
+pub lower-high : (from less x : ℕ) → from ≤ x → CountWithin (lowered from less x) x (x - less)
 lower-high from less x h = record { is = sym (lowered-high from less x h); most = omega arith }
 
-pub lower-low : (from less x : ℕ) → x < from → Counted (lowered from less x) x x
+pub lower-low : (from less x : ℕ) → x < from → CountWithin (lowered from less x) x x
 lower-low from less x h = record { is = sym (ap (λ (b : Bool). elim b as (λ z. ℕ) [ true ↦ x - less | false ↦ x ]) (lt-leb from x h)); most = omega arith }
 
 pub lower-next : (d less x : ℕ) {r : ℕ} → r ≡ lowered (d + 1) less x → r ≡ lowered (suc d) less x
@@ -48,31 +48,31 @@ module _ (g : ℕ → ℕ) (rec : Bytes) where
   attribute-laid eo ex a = laid-as (ap (λ (z : ℕ). ownedBytes z rec) (ap g (sym eo) ∙ sym ex)) a
 
 -- ---- attributes of the first i definitions
-pub below-yes : (i : ℕ) (rec : Bytes) (o : ℕ) → o ≡ readAttribute rec .owner → o < i → Counted (isBelow i (readAttribute rec)) 1 1
+pub below-yes : (i : ℕ) (rec : Bytes) (o : ℕ) → o ≡ readAttribute rec .owner → o < i → CountWithin (oneBelow i (readAttribute rec)) 1 1
 below-yes i rec o e h = record { is = sym (ap (λ (b : Bool). elim b as (λ z. ℕ) [ true ↦ 1 | false ↦ 0 ]) (ap (λ (k : ℕ). ltb k i) (sym e) ∙ lt-ltb o i h)); most = omega arith }
 
-pub below-no : (i : ℕ) (rec : Bytes) (o : ℕ) → o ≡ readAttribute rec .owner → i ≤ o → Counted (isBelow i (readAttribute rec)) 1 0
+pub below-no : (i : ℕ) (rec : Bytes) (o : ℕ) → o ≡ readAttribute rec .owner → i ≤ o → CountWithin (oneBelow i (readAttribute rec)) 1 0
 below-no i rec o e h = record { is = sym (ap (λ (b : Bool). elim b as (λ z. ℕ) [ true ↦ 1 | false ↦ 0 ]) (ap (λ (k : ℕ). ltb k i) (sym e) ∙ le-ltb o i h)); most = omega arith }
 
 -- the loop: `sum` of the first j
 pub record Counting (w i : ℕ) (body : Bytes) (count sum j : ℕ) : Type 0 where
-  pub rest : attributesOf i (readMany readAttribute (attributeSize w) count body) ≡ sum + attributesOf i (recordsFrom readAttribute (attributeSize w) body count j)
+  pub rest : attributesUpTo i (readMany readAttribute (attributeSize w) count body) ≡ sum + attributesUpTo i (recordsFrom readAttribute (attributeSize w) body count j)
   pub small : sum ≤ j
   pub inside : j ≤ count
 
 module _ (w i : ℕ) (body : Bytes) (count : ℕ) where
   pub counting-start : Counting w i body count 0 0
-  counting-start = record { rest = omega (arith, ap (attributesOf i) (from-all readAttribute (attributeSize w) body count 0)); small = omega arith; inside = omega arith }
+  counting-start = record { rest = omega (arith, ap (attributesUpTo i) (from-all readAttribute (attributeSize w) body count 0)); small = omega arith; inside = omega arith }
 
   module _ {sum j : ℕ} (c : Counting w i body count sum j) where
-    pub counting-on : j < count → (rec : Bytes) (r : ℕ) → rec ≡ recordAt (attributeSize w) j body → Counted (isBelow i (readAttribute rec)) 1 r → Counting w i body count (sum + r) (j + 1)
-    unfolding attributesOf
+    pub counting-on : j < count → (rec : Bytes) (r : ℕ) → rec ≡ recordAt (attributeSize w) j body → CountWithin (oneBelow i (readAttribute rec)) 1 r → Counting w i body count (sum + r) (j + 1)
+    unfolding attributesUpTo
     counting-on h rec r e k =
-        let z : isBelow i (readAttribute (recordAt (attributeSize w) j body)) ≡ r = ap (λ (x : Bytes). isBelow i (readAttribute x)) (sym e) ∙ sym (k .is) in
-        let y : attributesOf i (recordsFrom readAttribute (attributeSize w) body count j) ≡ isBelow i (readAttribute (recordAt (attributeSize w) j body)) + attributesOf i
-        (recordsFrom readAttribute (attributeSize w) body count (j + 1)) = ap (attributesOf i) (from-step readAttribute (attributeSize w) body count j h) in
+        let z : oneBelow i (readAttribute (recordAt (attributeSize w) j body)) ≡ r = ap (λ (x : Bytes). oneBelow i (readAttribute x)) (sym e) ∙ sym (k .is) in
+        let y : attributesUpTo i (recordsFrom readAttribute (attributeSize w) body count j) ≡ oneBelow i (readAttribute (recordAt (attributeSize w) j body)) + attributesUpTo i
+        (recordsFrom readAttribute (attributeSize w) body count (j + 1)) = ap (attributesUpTo i) (from-step readAttribute (attributeSize w) body count j h) in
         record { rest = omega (arith, c .rest, y, z); small = omega (arith, c .small, k .most); inside = omega arith }
 
-    pub counting-end : count ≤ j → Counted (attributesOf i (readMany readAttribute (attributeSize w) count body)) count sum
-    unfolding attributesOf
-    counting-end h = record { is = omega (arith, c .rest, ap (attributesOf i) (from-none readAttribute (attributeSize w) body count j h)); most = omega (arith, c .small, c .inside) }
+    pub counting-end : count ≤ j → CountWithin (attributesUpTo i (readMany readAttribute (attributeSize w) count body)) count sum
+    unfolding attributesUpTo
+    counting-end h = record { is = omega (arith, c .rest, ap (attributesUpTo i) (from-none readAttribute (attributeSize w) body count j h)); most = omega (arith, c .small, c .inside) }

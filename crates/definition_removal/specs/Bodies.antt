@@ -26,18 +26,18 @@ unfoldable pub cutOut : {A : Type 0} → ℕ → ℕ → List A → List A
 cutOut a n xs = take a xs ++ drop (a + n) xs
 
 -- how many particles the first i definitions have
-unfoldable pub particlesOf : ℕ → List FlatDefinition → ℕ
-particlesOf zero ds = 0
-particlesOf (suc i) [] = 0
-particlesOf (suc i) (d ∷ ds) = d .particles + particlesOf i ds
+unfoldable pub particlesUpTo : ℕ → List FlatDefinition → ℕ
+particlesUpTo zero ds = 0
+particlesUpTo (suc i) [] = 0
+particlesUpTo (suc i) (d ∷ ds) = d .particles + particlesUpTo i ds
 
 -- how many attributes the first i definitions have
-abbrev pub isBelow : ℕ → FlatAttribute → ℕ
-isBelow i a = elim (ltb (a .owner) i) [ true ↦ 1 | false ↦ 0 ]
+abbrev pub oneBelow : ℕ → FlatAttribute → ℕ
+oneBelow i a = elim (ltb (a .owner) i) [ true ↦ 1 | false ↦ 0 ]
 
-unfoldable pub attributesOf : ℕ → List FlatAttribute → ℕ
-attributesOf i [] = 0
-attributesOf i (a ∷ cs) = isBelow i a + attributesOf i cs
+unfoldable pub attributesUpTo : ℕ → List FlatAttribute → ℕ
+attributesUpTo i [] = 0
+attributesUpTo i (a ∷ cs) = oneBelow i a + attributesUpTo i cs
 
 unfoldable pub movedAttribute : (ℕ → ℕ) → FlatAttribute → FlatAttribute
 movedAttribute g a = record { owner = g (a .owner); name = a .name; sort = a .sort; value = a .value }
@@ -45,10 +45,10 @@ movedAttribute g a = record { owner = g (a .owner); name = a .name; sort = a .so
 unfoldable pub destroyed : ℕ → FlatStore → FlatStore
 destroyed i f =
     let g : ℕ → ℕ = lowered (suc i) 1 in
-    let p : ℕ = particlesOf i (f .definitions) in
-    let q : ℕ = particlesOf (suc i) (f .definitions) in
-    let a : ℕ = attributesOf i (f .attributes) in
-    let b : ℕ = attributesOf (suc i) (f .attributes) in
+    let p : ℕ = particlesUpTo i (f .definitions) in
+    let q : ℕ = particlesUpTo (suc i) (f .definitions) in
+    let a : ℕ = attributesUpTo i (f .attributes) in
+    let b : ℕ = attributesUpTo (suc i) (f .attributes) in
     record {
       version = f .version;
       next = f .next;
@@ -78,7 +78,7 @@ unfoldable pub attributeRecord : (ℕ → ℕ) → Bytes → Bytes
 attributeRecord g rec = ownedBytes (g (readAttribute rec .owner)) rec
 
 -- r is the number `count`, which is at most `all`
-pub record Counted (count all r : ℕ) : Type 0 where
+pub record CountWithin (count all r : ℕ) : Type 0 where
   pub is : r ≡ count
   pub most : r ≤ all
 

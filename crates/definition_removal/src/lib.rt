@@ -16,8 +16,7 @@ ghost use Rattle.codec.specs.Laid.{Laid};
 ghost use Rattle.layout.specs.Bodies.{Width, widthOf};
 ghost use Rattle.lookup.specs.Bodies.{bodiesOf};
 ghost use Rattle.definition_writer.specs.Bodies.{memberMoved};
-ghost use Rattle.definition_removal.specs.Bodies.{lowered, particleRecord, attributeRecord, eachRecord, isMember, isRoot, isBelow, particlesOf};
-ghost use Rattle.definition_removal.specs.Bodies.{attributesOf, Counted, Defined, destroyed, headerLeft};
+ghost use Rattle.definition_removal.specs.Bodies.{lowered, particleRecord, attributeRecord, eachRecord, isMember, isRoot, oneBelow, particlesUpTo, attributesUpTo, CountWithin, Defined, destroyed, headerLeft};
 ghost use Rattle.definition_removal.specs.Shifting.{shifting};
 
 // ---- indices
@@ -25,7 +24,7 @@ ghost use Rattle.definition_removal.specs.Shifting.{shifting};
 // Where an index goes when `less` entries before number `from` go.
 fn lower(index: u32, from: u32, less: u32) -> u32
     requires { ⌜ less ≤ from ⌝ }
-    ensures { λ r. ⌜ Counted (lowered from less index) index r ⌝ }
+    ensures { λ r. ⌜ CountWithin (lowered from less index) index r ⌝ }
 {
     if index >= from { index - less } else { index }
 }
@@ -156,7 +155,7 @@ pub fn has_root(w: usize, body: &[u8], count: usize, definition: u32) -> bool
 
 // 1 if an attribute is of one of the first i definitions.
 fn is_below(rec: &[u8], i: u32) -> usize
-    ensures { λ r. ⌜ Counted (isBelow i (readAttribute (now (rec .entry)))) 1 r ⌝ }
+    ensures { λ r. ⌜ CountWithin (oneBelow i (readAttribute (now (rec .entry)))) 1 r ⌝ }
 {
     let owner = layout::owner_byte(rec) as u32;
     if owner < i { 1 } else { 0 }
@@ -165,7 +164,7 @@ fn is_below(rec: &[u8], i: u32) -> usize
 // How many attributes the first i definitions have.
 fn attributes_below(w: usize, body: &[u8], count: usize, i: u32) -> usize
     requires { ⌜ Width w × (count < 4294967296) ⌝ }
-    ensures { λ r. ⌜ Counted (attributesOf i (readMany readAttribute (attributeSize w) count (now (body .entry)))) count r ⌝ }
+    ensures { λ r. ⌜ CountWithin (attributesUpTo i (readMany readAttribute (attributeSize w) count (now (body .entry)))) count r ⌝ }
 {
     let mut sum = 0;
     let mut j = 0;
@@ -181,14 +180,14 @@ fn attributes_below(w: usize, body: &[u8], count: usize, i: u32) -> usize
 // How many particles the first i definitions have.
 fn model_start(store: &[u8], i: u32) -> usize
     requires { ⌜ (passes (now store) ≡ true) × (i ≤ definitionCount (now store)) ⌝ }
-    ensures { λ r. ⌜ Counted (particlesOf i (bodiesOf (now (store .entry)) .definitions)) (particleCount (now (store .entry))) r ⌝ }
+    ensures { λ r. ⌜ CountWithin (particlesUpTo i (bodiesOf (now (store .entry)) .definitions)) (particleCount (now (store .entry))) r ⌝ }
 {
     form_index::particles_before(layout::definitions_of(store), i as usize)
 }
 
 // How many attributes the first i definitions have.
 fn attribute_start(store: &[u8], i: u32) -> usize
-    ensures { λ r. ⌜ Counted (attributesOf i (bodiesOf (now (store .entry)) .attributes)) (attributeCount (now (store .entry))) r ⌝ }
+    ensures { λ r. ⌜ CountWithin (attributesUpTo i (bodiesOf (now (store .entry)) .attributes)) (attributeCount (now (store .entry))) r ⌝ }
 {
     let w = layout::width_in(store);
     let count = layout::attribute_count(store);
@@ -198,7 +197,7 @@ fn attribute_start(store: &[u8], i: u32) -> usize
 /// How many particles are left without definition i.
 pub fn particles_left(store: &[u8], i: u32) -> usize
     requires { ⌜ Defined (now store) i ⌝ }
-    ensures { λ r. ⌜ Counted (length (destroyed i (bodiesOf (now (store .entry))) .particles)) 256 r ⌝ }
+    ensures { λ r. ⌜ CountWithin (length (destroyed i (bodiesOf (now (store .entry))) .particles)) 256 r ⌝ }
 {
     let start = model_start(store, i);
     let end = model_start(store, i + 1);
@@ -208,7 +207,7 @@ pub fn particles_left(store: &[u8], i: u32) -> usize
 /// How many attributes are left without definition i.
 pub fn attributes_left(store: &[u8], i: u32) -> usize
     requires { ⌜ Defined (now store) i ⌝ }
-    ensures { λ r. ⌜ Counted (length (destroyed i (bodiesOf (now (store .entry))) .attributes)) 64 r ⌝ }
+    ensures { λ r. ⌜ CountWithin (length (destroyed i (bodiesOf (now (store .entry))) .attributes)) 64 r ⌝ }
 {
     let start = attribute_start(store, i);
     let end = attribute_start(store, i + 1);

@@ -13,7 +13,7 @@ use Rattle.rules.specs.Lines.{ground, lines}
 use Rattle.rules.specs.Passing.{serials, good}
 use Rattle.rules.specs.Change.{Call, Plan, keeping, neither, plan, prune, revalue, eachRow, plant, isNew, newRows, given, number, changed, formAfter, after}
 use Rattle.rules.proofs.SerialLaws.{every-serial}
-use Rattle.history.proofs.ConformingSimple.{good-tests}
+use Rattle.change_laws.proofs.ConformingSimple.{good-tests}
 
 -- no row is new
 abbrev pub Given : Forest Row → Type 0

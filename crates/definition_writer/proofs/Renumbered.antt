@@ -10,15 +10,11 @@ use Rattle.rules.specs.Bytes.{Bytes}
 use Rattle.rules.specs.Model.{Members, done, el, group, names}
 use Rattle.rules.specs.Store.{Content, empty, pcdata, complex, Definition, Form, RowSort, element, attribute, text, Row, Forest, bare, tree, modelOf, members, heads}
 use Rattle.rules.specs.Preorder.{Deep, flatten}
-use Rattle.rules.specs.Layout.{FlatDefinition, FlatParticle, FlatRow, indexOf, attributeIndex, particles, contentParticles, flatDefinition, allParticles}
-use Rattle.rules.specs.Layout.{rowCode, rowIndex, indexed, quantifierCode, groupCode, kindCode, howMany}
+use Rattle.rules.specs.Layout.{FlatDefinition, FlatParticle, FlatRow, indexOf, attributeIndex, particles, contentParticles, flatDefinition, allParticles, rowCode, rowIndex, indexed, quantifierCode, groupCode, kindCode, howMany}
 use Rattle.rules.specs.Conforming.{EveryRow, isElement}
 use Rattle.rules.proofs.BooleanLaws.{Every, every-in}
 use Rattle.definition_writer.specs.Bodies.{rowMoved, movedRow, movedParticle}
-
-pub map-append : {A B : Type 0} (f : A → B) (xs ys : List A) → map f (xs ++ ys) ≡ map f xs ++ map f ys
-map-append f [] ys = refl
-map-append f (x ∷ xs) ys = ap (λ (l : List _). f x ∷ l) (map-append f xs ys)
+use Rattle.rules.proofs.RenamingPlaces.{map-append}
 
 -- g: how the definitions move, h: how the attributes do, of the names that are `Ok`
 module _ (form form′ : Form) (g : ℕ → ℕ) (Ok : Bytes → Type 0) (elements : (n : Bytes) → Ok n → indexOf n form′ ≡ g (indexOf n form)) where

@@ -23,14 +23,14 @@ use Rattle.store_check.proofs.AttributeBlocks.{below-or}
 use Rattle.row_walk.specs.declared.Plan.{Plan}
 use Rattle.store_writer.specs.Stores.{storeIn, limited}
 use Rattle.store_writer.specs.Planned.{plannedIn}
-use Rattle.store_writer.specs.Forms.{formBytes, formIn, Forms}
+use Rattle.store_writer.specs.Forms.{formBytes, formRead, Forms}
 use Rattle.store_writer.specs.Writing.{Sized}
 use Rattle.store_writer.proofs.StoreLaws.{Holds, holds}
 use Rattle.store_writer.proofs.CallLaws.{answers-as, passed}
 use Rattle.store_writer.proofs.FormBytesLaws.{form-short}
 use Rattle.store_writer.proofs.FormLaws.{FormOf, forms-of, form-answers, within, good-bodies, counted-attributes}
-use Rattle.document_refusals.proofs.StoreFacts.{Whole, whole, no-value}
-use Rattle.document_refusals.proofs.AttributeRefusals.{unowned}
+use Rattle.store_writer.proofs.StoreFacts.{Whole, whole}
+use Rattle.store_writer.proofs.AttributeOwners.{unowned}
 use Rattle.plans.specs.AttributeCalls.{ownerAt, destroyAttributePlan, attributeDropped}
 use Rattle.plans.proofs.CallsPlanned.{none-holds}
 use Rattle.plans.proofs.FormsAfter.{dropped-form}
@@ -39,6 +39,7 @@ use Rattle.attribute_form.proofs.FormParts.{fits, front-laid}
 use Rattle.attribute_form.proofs.CountLaws.{count-definitions, count-particles, count-attributes}
 use Rattle.attribute_writer.specs.Attributes.{Droppable}
 use Rattle.destroy_attribute_call.specs.Dropped.{dropped}
+use Rattle.rules.proofs.WellFormedLaws.{none-value}
 
 -- ---- no condition holds
 module _ (bs : Bytes) {b : Bool} {m : ℕ} (h : not b ≡ false) (e : b ≡ passes bs) where
@@ -82,13 +83,13 @@ module _ (bs : Bytes) (a : ℕ) (x : Droppable bs a) where
     pub dropped-asks : (passes bs ≡ true) × (isValue (widthOf bs) [] ≡ true) × Sized q × Forms (widthOf bs) (take r left) d p (count - 1)
     dropped-asks = (
       x .passes,
-      no-value bs,
+      none-value (widthOf bs),
       subst Sized (sym same) (record { moves = record { definitions = record { more = omega arith }; attributes = record { more = omega arith } }; filling = tt }),
       forms-of without,
     )
 
     pub dropped-answers : (room : ℕ) {out : Bytes} {number len : ℕ} {end : Bytes}
-        → Answers (limited room (plannedIn (formIn (widthOf bs) (take r left) d p (count - 1)) q [] (bodiesOf bs))) out number len end
+        → Answers (limited room (plannedIn (formRead (widthOf bs) (take r left) d p (count - 1)) q [] (bodiesOf bs))) out number len end
         → Answers (limited room (dropped a [] (bodiesOf bs))) out number len end
     unfolding dropped
     dropped-answers room z =

@@ -17,13 +17,13 @@ use Rattle.rules.specs.Passing.{passes}
 use Rattle.rules.specs.Change.{destroyDefinition, nameAtIndex, after}
 use Rattle.rules.specs.Refusal.{first, conditions, past, _if_}
 use Rattle.rules.proofs.Words.{or-split}
-use Rattle.history.proofs.Conditions.{first-append, conditions-numbered, not-past}
-use Rattle.layout.specs.Bodies.{WidthIn, Number, particlesIn, rowsIn}
+use Rattle.change_laws.proofs.Conditions.{first-append, conditions-numbered, not-past}
+use Rattle.layout.specs.Bodies.{WidthIn, Number, particlesIn, treeRowsIn}
 use Rattle.lookup.specs.Bodies.{bodiesOf}
 use Rattle.store_writer.specs.Stores.{storeIn}
 use Rattle.store_writer.proofs.StoreLaws.{holds}
 use Rattle.definition_removal.specs.Bodies.{isMember, isRoot, destroyed, Defined}
-use Rattle.definition_writer.proofs.Encoded.{encoded}
+use Rattle.store_writer.proofs.Encoded.{encoded}
 use Rattle.definition_removal.proofs.Destroyed.{flat-destroyed}
 use Rattle.definition_removal.proofs.InUse.{used-in-models, used-as-root}
 use Rattle.definition_removal.proofs.Left.{particles-read, rows-read}
@@ -59,7 +59,7 @@ module _ (bs : Bytes) (i : ℕ) (p : passes bs ≡ true) where
     below = omega (arith, count-is)
 
     -- the bodies that the code searches, with their counts and the width
-    module _ {w : ℕ} {ps rs : Bytes} {n m : ℕ} {a b : Bool} (ew : WidthIn bs w) (ep : ps ≡ particlesIn bs) (er : rs ≡ rowsIn bs) (en : Number (particleCount bs) n) (em : Number (rowCount bs) m)
+    module _ {w : ℕ} {ps rs : Bytes} {n m : ℕ} {a b : Bool} (ew : WidthIn bs w) (ep : ps ≡ particlesIn bs) (er : rs ≡ treeRowsIn bs) (en : Number (particleCount bs) n) (em : Number (rowCount bs) m)
         (ea : a ≡ any (isMember i) (readMany readParticle particleSize n ps)) (eb : b ≡ any (isRoot i) (readMany readRow (rowSize w) m rs)) where
       in-use : condition ≡ tests true (a || b)
       in-use =

@@ -20,16 +20,12 @@ use Rattle.layout.specs.Bodies.{widthOf, WidthIn, Number}
 use Rattle.lookup.specs.Bodies.{bodiesOf}
 use Rattle.store_writer.proofs.StoreLaws.{width-of-bodies}
 use Rattle.definition_writer.specs.Bodies.{movedParticle}
-use Rattle.definition_writer.proofs.Encoded.{Encoded, encoded}
-use Rattle.definition_removal.specs.Bodies.{lowered, cutOut, particlesOf, Counted, destroyed}
+use Rattle.store_writer.proofs.Encoded.{Encoded, encoded}
+use Rattle.definition_removal.specs.Bodies.{lowered, cutOut, particlesUpTo, CountWithin, destroyed}
 use Rattle.definition_removal.proofs.Left.{definitions-left, rows-left}
 use Rattle.call_laws.specs.Limits.{Limit}
 use Rattle.call_laws.proofs.Limits.{limit-room, limit-none}
-
--- a test that a move does not change, of what is left
-all-join : {A : Type 0} (t : A → Bool) (xs ys : List A) → all t xs ≡ true → all t ys ≡ true → all t (xs ++ ys) ≡ true
-all-join t [] ys a b = b
-all-join t (x ∷ xs) ys a b = let (c, d) = and-split (t x) (all t xs) a in and-both c (all-join t xs ys d b)
+use Rattle.store_check.proofs.FormGood.{all-append}
 
 all-map : {A : Type 0} (t : A → Bool) (m : A → A) → ((x : A) → t (m x) ≡ t x) → (xs : List A) → all t (map m xs) ≡ all t xs
 all-map t m e [] = refl
@@ -39,7 +35,7 @@ all-moved : {A : Type 0} (t : A → Bool) (m : A → A) → ((x : A) → t (m x)
 unfolding cutOut
 all-moved t m e a n xs h =
     all-map t m e (take a xs ++ drop (a + n) xs)
-    ∙ all-join t (take a xs) (drop (a + n) xs) (all-left t (take a xs) (drop a xs) (ap (all t) (take-append-drop a xs) ∙ h)) (all-right t (take (a + n) xs) (drop (a + n) xs) (ap (all t) (take-append-drop (a + n) xs) ∙ h))
+    ∙ all-append t (take a xs) (drop (a + n) xs) (all-left t (take a xs) (drop a xs) (ap (all t) (take-append-drop a xs) ∙ h)) (all-right t (take (a + n) xs) (drop (a + n) xs) (ap (all t) (take-append-drop (a + n) xs) ∙ h))
 
 module _ (bs : Bytes) (p : passes bs ≡ true) (i : ℕ) (h : i < definitionCount bs) where
   abbrev f : FlatStore
@@ -50,13 +46,13 @@ module _ (bs : Bytes) (p : passes bs ≡ true) (i : ℕ) (h : i < definitionCoun
 
   kept-deep : all (λ (q : Deep FlatParticle). leb (q .depth) 4) (destroyed i f .particles) ≡ true
   unfolding destroyed movedParticle
-  kept-deep = all-moved (λ (q : Deep FlatParticle). leb (q .depth) 4) (movedParticle (lowered (suc i) 1)) (λ q. refl) (particlesOf i (f .definitions)) (particlesOf (suc i) (f .definitions) - particlesOf i (f .definitions)) (f .particles) deep
+  kept-deep = all-moved (λ (q : Deep FlatParticle). leb (q .depth) 4) (movedParticle (lowered (suc i) 1)) (λ q. refl) (particlesUpTo i (f .definitions)) (particlesUpTo (suc i) (f .definitions) - particlesUpTo i (f .definitions)) (f .particles) deep
     where
       deep : all (λ (q : Deep FlatParticle). leb (q .depth) 4) (f .particles) ≡ true
       deep = and-split (all (λ (q : Deep FlatParticle). leb (q .depth) 4) (f .particles)) _ (and-split (leb (length (f .particles)) 256) _ (and-split (leb (length (f .definitions)) 64) _ (x .ceilings) .1) .1) .0
 
   -- m, n: how many particles and attributes are left
-  module _ (m n : ℕ) (cm : Counted (length (destroyed i f .particles)) 256 m) (cn : Counted (length (destroyed i f .attributes)) 64 n) (room : ℕ) where
+  module _ (m n : ℕ) (cm : CountWithin (length (destroyed i f .particles)) 256 m) (cn : CountWithin (length (destroyed i f .attributes)) 64 n) (room : ℕ) where
     within-left : withinCeilings (destroyed i f) ≡ true
     within-left =
         and-both (le-leb (length (destroyed i f .definitions)) 64 (omega (arith, definitions-left bs p i h, x .definitions, x .fewDefinitions)))

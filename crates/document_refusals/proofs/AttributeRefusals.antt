@@ -1,67 +1,59 @@
 -- The conditions of 14 and 15: what the code finds, put together.
-use Prim.Native.Nat.{ℕ, zero, suc, _+_, _-_, _<_, _≤_}
+use Prim.Native.Nat.{ℕ, suc, _-_, _<_, _≤_}
 use native.Mathlib.Omega.{arith}
-use borrow.Author.Tests.{eq-eqb, ne-eqb}
+use borrow.Author.Tests.{eq-eqb, ne-eqb, not-false}
 use mathlib.Core.Path.{_≡_, refl, sym, ap, ap₂, _∙_, subst}
-use mathlib.Core.Logic.{_⊎_, inl, inr, ⊎-elim}
+use mathlib.Core.Logic.{_⊎_, ⊎-elim}
 use mathlib.Core.Bool.{Bool, true, false, _&&_, _||_, not, false≢true, Bool·not-not}
 use mathlib.Core.Option.{Option, none, some}
 use mathlib.Core.List.{List, [], _∷_, map, List·Memᴰ, List·Memᴰ·head, List·Memᴰ·not-nil, List·Memᴰ·cases-cons}
 use lib.Dec.{eqb}
-use lib.ListN.{length, length-append}
+use lib.ListN.{length}
 use Rattle.rules.specs.Bytes.{Bytes, same, same-eq, bytes, isNone}
 use Rattle.rules.specs.Model.{Distinct}
 use Rattle.rules.specs.Store.{Attribute, Definition, Form, RowSort, element, attribute, text, Row, Forest, heads}
-use Rattle.rules.specs.Layout.{FlatRow, valueWidth, rowCode, indexOf, attributeIndex, ownAttributes, allAttributes}
+use Rattle.rules.specs.Layout.{FlatRow, valueWidth, rowCode, indexOf, attributeIndex}
 use Rattle.rules.specs.Decode.{numberAt, attributeCount, sortOf}
 use Rattle.rules.specs.WellFormed.{lookup, isThere, known, isValue, attributeName}
 use Rattle.rules.specs.Conforming.{nameOf, ElementRows, RowConforms, isAttribute, mustBePresent, allows, conforming}
 use Rattle.rules.specs.Lines.{elementWith, attributeNamed, findRow, childrenOf, serialAt}
-use Rattle.rules.specs.Change.{setAttribute, destroyAttributeRow, Owned, entryAt, attributeAt, definitionAt, after}
+use Rattle.rules.specs.Change.{setAttribute, destroyAttributeRow, Owned, attributeAt, definitionAt, after}
 use Rattle.rules.specs.Refusal.{Condition, _if_, first, conditions, rowsOf, noElement, unknownAttribute, isOther, isAbsent}
-use Rattle.history.proofs.RowEdits.{keep}
+use Rattle.change_laws.proofs.RowEdits.{keep}
 use Rattle.rules.proofs.Apart.{differs}
-use Rattle.rules.proofs.DecodeLaws.{length-own}
-use Rattle.history.proofs.Conditions.{not-false}
-use Rattle.history.proofs.ConformingAfter.{is-element}
-use Rattle.history.proofs.Rowwise.{Standing}
-use Rattle.history.proofs.FormLaws.{attribute-owned, owner-found, owner-at, owner-below}
-use Rattle.history.proofs.Untouched.{keep-in}
-use Rattle.history.proofs.StandingLaws.{serialOf, standing-every, found-element, children-are, children-given}
+use Rattle.change_laws.proofs.Rowwise.{Standing}
+use Rattle.change_laws.proofs.FormLaws.{attribute-owned, owner-found, owner-at, owner-below}
+use Rattle.change_laws.proofs.Untouched.{keep-in}
+use Rattle.change_laws.proofs.StandingLaws.{serialOf, standing-every, found-element, children-are, children-given}
 use Rattle.form_index.specs.Indices.{IndexForm}
 use Rattle.layout.specs.Bodies.{widthOf, WidthIn, attributesIn}
 use Rattle.form_index.specs.Reading.{attributeIn}
 use Rattle.store_check.proofs.IndexLaws.{known-index, index-once}
-use Rattle.store_check.proofs.AttributeBlocks.{Entry, Block, offset, below-or}
+use Rattle.store_check.proofs.AttributeBlocks.{Entry, Block, offset}
 use Rattle.store_check.proofs.AttributeRows.{rowWritten, index-written}
 use Rattle.store_check.proofs.ElementReads.{block}
 use Rattle.store_writer.specs.Stores.{storeIn}
 use Rattle.plans.proofs.AttributeIndices.{own-index, name-index}
 use Rattle.plans.specs.CallPlans.{attributeSerial}
 use Rattle.document_refusals.specs.Finding as flat
-use Rattle.document_refusals.specs.Finding.{AttributeRefused, rowIn, childrenAt, Gives}
+use Rattle.document_refusals.specs.Finding.{AttributeRefused, rowIn, childrenAt}
+use Rattle.change_laws.specs.FirstCondition.{Gives}
 use Rattle.document_refusals.proofs.TreeLaws.{ofSort}
-use Rattle.document_refusals.proofs.StoreFacts.{formIn, docsIn, byIndex, Whole, Element, NoElement, defined, children-at, any-found}
+use Rattle.store_writer.proofs.StoreFacts.{formIn, docsIn, byIndex, Whole, bad-text, fine-text}
+use Rattle.document_refusals.proofs.ElementFacts.{Element, NoElement, defined, children-at, any-found}
 use Rattle.document_refusals.proofs.ElementsAfter.{ok}
 use Rattle.document_refusals.proofs.AttributesAfter.{drop-conforms, set-conforms}
-use Rattle.document_refusals.proofs.RefusalLaws.{gives-hit, gives-next, gives-none, bad-text, fine-text}
+use Rattle.change_laws.proofs.FirstCondition.{gives-hit, gives-next, gives-none}
+use Rattle.store_writer.proofs.AttributeOwners.{owned, unowned}
+use Rattle.lookup.proofs.Laws.{some-same}
+use Rattle.change_laws.proofs.InstanceRows.{keep-no, keep-yes}
+use Rattle.rules.proofs.ConformingLaws.{is-element}
 
-some-same : {A : Type 0} {x y : A} → some x ≡ some y → x ≡ y
-some-same e = cc
+serial-this : (a : ℕ) (r : FlatRow) (rs : List FlatRow) → eqb (r .index) a ≡ true → flat.serialOfIndex a (r ∷ rs) ≡ r .serial
+serial-this a r rs e = rw (e, flat.serialOfIndex)
 
-keep-take : (test : Row → Bool) (r : Row) (rows : List Row) → test r ≡ true → keep test (r ∷ rows) ≡ r ∷ keep test rows
-unfolding keep
-keep-take test r rows e = rw (e, keep)
-
-keep-skip : (test : Row → Bool) (r : Row) (rows : List Row) → test r ≡ false → keep test (r ∷ rows) ≡ keep test rows
-unfolding keep
-keep-skip test r rows e = rw (e, keep)
-
-serial-this : (a : ℕ) (r : FlatRow) (rs : List FlatRow) → eqb (r .index) a ≡ true → flat.serialOf a (r ∷ rs) ≡ r .serial
-serial-this a r rs e = rw (e, flat.serialOf)
-
-serial-next : (a : ℕ) (r : FlatRow) (rs : List FlatRow) → eqb (r .index) a ≡ false → flat.serialOf a (r ∷ rs) ≡ flat.serialOf a rs
-serial-next a r rs e = rw (e, flat.serialOf)
+serial-next : (a : ℕ) (r : FlatRow) (rs : List FlatRow) → eqb (r .index) a ≡ false → flat.serialOfIndex a (r ∷ rs) ≡ flat.serialOfIndex a rs
+serial-next a r rs e = rw (e, flat.serialOfIndex)
 
 -- none stands just where the first has serial 0
 counted : (rows : List Row) → ((r : Row) → List·Memᴰ r rows → r .serial ≡ 0 → ⊥) → isNone (map serialOf rows) ≡ eqb (serialAt 0 (map serialOf rows)) 0
@@ -83,43 +75,6 @@ held-or true y z n ds e f = record { is = e }
 held-or false true z n ds e f = record { is = e }
 held-or false false z n ds e f = absurd (f e)
 
--- ---- attributes by index
-entry-some : (i : ℕ) (table : List Attribute) → i < length table → (a : Attribute) × (entryAt i table ≡ some a)
-entry-some i [] l = absurd (omega arith)
-entry-some zero (a ∷ table) l = (a, refl)
-entry-some (suc i) (a ∷ table) l = entry-some i table (omega arith)
-
-entry-none : (i : ℕ) (table : List Attribute) → length table ≤ i → entryAt i table ≡ none
-entry-none i [] l = refl
-entry-none zero (a ∷ table) l = absurd (omega arith)
-entry-none (suc i) (a ∷ table) l = entry-none i table (omega arith)
-
--- how many attributes a form has
-unfoldable many : Form → ℕ
-many [] = 0
-many (d ∷ ds) = length (d .attributes) + many ds
-
-attribute-some : (a : ℕ) (form : Form) → a < many form → (o : Owned) × (attributeAt a form ≡ some o)
-unfolding many attributeAt
-attribute-some a [] l = absurd (omega arith)
-attribute-some a (d ∷ ds) l = by (below-or a (length (d .attributes))) (attribute-some (a - length (d .attributes)) ds)
-  where
-    by : (a < length (d .attributes)) ⊎ (length (d .attributes) ≤ a)
-        → (a - length (d .attributes) < many ds → (o : Owned) × (attributeAt (a - length (d .attributes)) ds ≡ some o))
-        → (o : Owned) × (attributeAt a (d ∷ ds) ≡ some o)
-    by (inl h) f = let (x, e) = entry-some a (d .attributes) h in (record { owner = d; attribute = x }, rw (e, attributeAt))
-    by (inr h) f = let (o, e) = f (omega arith) in (o, rw (entry-none a (d .attributes) h, attributeAt) e)
-
-attribute-none : (a : ℕ) (form : Form) → many form ≤ a → attributeAt a form ≡ none
-unfolding many attributeAt
-attribute-none a [] l = refl
-attribute-none a (d ∷ ds) l = rw (entry-none a (d .attributes) (omega arith), attributeAt) (attribute-none (a - length (d .attributes)) ds (omega arith))
-
-many-all : (o : ℕ) (form : Form) → length (allAttributes o form) ≡ many form
-unfolding many
-many-all o [] = refl
-many-all o (d ∷ ds) = omega (arith, length-append (ownAttributes o (d .attributes)) (allAttributes (suc o) ds), length-own o (d .attributes), many-all (suc o) ds)
-
 block-entry : (version : ℕ) (F : IndexForm) (form : Form) (i j : ℕ) (table : List Attribute) → Block version F form i j table → (a : Attribute)
     → List·Memᴰ a table → (k : ℕ) × Entry version F form i k a
 block-entry version F form i j [] b a m = absurd (List·Memᴰ·not-nil m)
@@ -137,15 +92,6 @@ module _ (bs : Bytes) {n : ℕ} {attrs : Bytes} (v : n ≡ widthOf bs) (e : attr
   needs-in u i = λ j. eqb (attributeIn (v j) (e j) a .owner) i && mustBePresent (u j) (sortOf (attributeIn (v j) (e j) a .sort))
 
 module _ (bs : Bytes) (w : Whole bs) (a : ℕ) where
-  count-is : attributeCount bs ≡ many (formIn bs)
-  count-is = w .agrees .attributes ∙ many-all 0 (formIn bs)
-
-  pub owned : a < attributeCount bs → (o : Owned) × (attributeAt a (formIn bs) ≡ some o)
-  owned l = attribute-some a (formIn bs) (omega (arith, count-is))
-
-  pub unowned : attributeCount bs ≤ a → attributeAt a (formIn bs) ≡ none
-  unowned l = attribute-none a (formIn bs) (omega (arith, count-is))
-
   apart : (d : Definition) → List·Memᴰ d (formIn bs) → Distinct (map attributeName (d .attributes))
   apart d m = w .good .form .definitions d m .attributeNames
 
@@ -184,7 +130,7 @@ module _ (bs : Bytes) (w : Whole bs) (a : ℕ) where
       module _ (e : o .owner .name ≡ f .row .name) where
         -- ---- its row
         row-here : (rows : List Row)
-            → flat.serialOf a (map (rowWritten (formIn bs) (f .row .name)) (keep (ofSort (formIn bs) 2) rows))
+            → flat.serialOfIndex a (map (rowWritten (formIn bs) (f .row .name)) (keep (ofSort (formIn bs) 2) rows))
             ≡ serialAt 0 (map serialOf (keep (attributeNamed (o .attribute .name)) rows))
         unfolding keep
         row-here [] = refl
@@ -196,45 +142,45 @@ module _ (bs : Bytes) (w : Whole bs) (a : ℕ) where
                 ∙ name-index a (formIn bs) o (w .good .form .names) apart at (r .name)
 
             Flat : List Row → ℕ
-            Flat l = flat.serialOf a (map (rowWritten (formIn bs) (f .row .name)) l)
+            Flat l = flat.serialOfIndex a (map (rowWritten (formIn bs) (f .row .name)) l)
 
             Named : List Row → ℕ
             Named l = serialAt 0 (map serialOf l)
 
             past : ofSort (formIn bs) 2 r ≡ false → attributeNamed (o .attribute .name) r ≡ false → Flat (keep (ofSort (formIn bs) 2) rows) ≡ Named (keep (attributeNamed (o .attribute .name)) rows)
                 → Flat (keep (ofSort (formIn bs) 2) (r ∷ rows)) ≡ Named (keep (attributeNamed (o .attribute .name)) (r ∷ rows))
-            past x y l = ap Flat (keep-skip (ofSort (formIn bs) 2) r rows x) ∙ l ∙ sym (ap Named (keep-skip (attributeNamed (o .attribute .name)) r rows y))
+            past x y l = ap Flat (keep-no (ofSort (formIn bs) 2) r rows x) ∙ l ∙ sym (ap Named (keep-no (attributeNamed (o .attribute .name)) r rows y))
 
             by : (t : RowSort) → r .sort ≡ t → (c : Bool) → same (o .attribute .name) (r .name) ≡ c → Flat (keep (ofSort (formIn bs) 2) rows) ≡ Named (keep (attributeNamed (o .attribute .name)) rows)
                 → Flat (keep (ofSort (formIn bs) 2) (r ∷ rows)) ≡ Named (keep (attributeNamed (o .attribute .name)) (r ∷ rows))
             by element q c h l = past (ap (λ (z : RowSort). eqb (rowCode z) 2) q) (ap (λ (z : RowSort). isAttribute z && same (o .attribute .name) (r .name)) q) l
             by text q c h l = past (ap (λ (z : RowSort). eqb (rowCode z) 2) q) (ap (λ (z : RowSort). isAttribute z && same (o .attribute .name) (r .name)) q) l
             by attribute q true h l =
-                ap Flat (keep-take (ofSort (formIn bs) 2) r rows (ap (λ (z : RowSort). eqb (rowCode z) 2) q))
+                ap Flat (keep-yes (ofSort (formIn bs) 2) r rows (ap (λ (z : RowSort). eqb (rowCode z) 2) q))
                 ∙ serial-this a (rowWritten (formIn bs) (f .row .name) r) (map (rowWritten (formIn bs) (f .row .name)) (keep (ofSort (formIn bs) 2) rows)) (named q ∙ h)
-                ∙ sym (ap Named (keep-take (attributeNamed (o .attribute .name)) r rows (ap₂ (λ (x y : Bool). x && y) (ap isAttribute q) h)))
+                ∙ sym (ap Named (keep-yes (attributeNamed (o .attribute .name)) r rows (ap₂ (λ (x y : Bool). x && y) (ap isAttribute q) h)))
             by attribute q false h l =
-                ap Flat (keep-take (ofSort (formIn bs) 2) r rows (ap (λ (z : RowSort). eqb (rowCode z) 2) q))
+                ap Flat (keep-yes (ofSort (formIn bs) 2) r rows (ap (λ (z : RowSort). eqb (rowCode z) 2) q))
                 ∙ serial-next a (rowWritten (formIn bs) (f .row .name) r) (map (rowWritten (formIn bs) (f .row .name)) (keep (ofSort (formIn bs) 2) rows)) (named q ∙ h)
                 ∙ l
-                ∙ sym (ap Named (keep-skip (attributeNamed (o .attribute .name)) r rows (ap₂ (λ (x y : Bool). x && y) (ap isAttribute q) h)))
+                ∙ sym (ap Named (keep-no (attributeNamed (o .attribute .name)) r rows (ap₂ (λ (x y : Bool). x && y) (ap isAttribute q) h)))
 
         rows-are : childrenOf (attributeNamed (o .attribute .name)) k (rowsOf (storeIn bs)) ≡ map serialOf (keep (attributeNamed (o .attribute .name)) (heads (f .below)))
         rows-are =
             ap (λ (z : ℕ). childrenOf (attributeNamed (o .attribute .name)) z (rowsOf (storeIn bs))) (sym (f .serial))
             ∙ children-are (storeIn bs .next) (docsIn bs) (w .good .serials) (attributeNamed (o .attribute .name)) (f .row) (f .below) (f .stands)
 
-        row-serial : flat.serialOf a (childrenAt bs 2 i) ≡ serialAt 0 (childrenOf (attributeNamed (o .attribute .name)) k (rowsOf (storeIn bs)))
-        row-serial = ap (flat.serialOf a) (children-at bs w k i f 2) ∙ row-here (heads (f .below)) ∙ sym (ap (serialAt 0) rows-are)
+        row-serial : flat.serialOfIndex a (childrenAt bs 2 i) ≡ serialAt 0 (childrenOf (attributeNamed (o .attribute .name)) k (rowsOf (storeIn bs)))
+        row-serial = ap (flat.serialOfIndex a) (children-at bs w k i f 2) ∙ row-here (heads (f .below)) ∙ sym (ap (serialAt 0) rows-are)
 
-        pub serial-is : {r : ℕ} → r ≡ flat.serialOf a (childrenAt bs 2 i) → r ≡ attributeSerial k a (storeIn bs)
+        pub serial-is : {r : ℕ} → r ≡ flat.serialOfIndex a (childrenAt bs 2 i) → r ≡ attributeSerial k a (storeIn bs)
         serial-is q = q ∙ row-serial ∙ sym (ap (λ (z : Option Owned). elim z as (λ y. ℕ) [
           | none ↦ 0
           | some o ↦ serialAt 0 (childrenOf (attributeNamed (o .attribute .name)) k (rowsOf (storeIn bs)))
         ])
             at)
 
-        absent-is : {r : ℕ} → r ≡ flat.serialOf a (childrenAt bs 2 i) → isAbsent k (rowsOf (storeIn bs)) (attributeAt a (formIn bs)) ≡ eqb r 0
+        absent-is : {r : ℕ} → r ≡ flat.serialOfIndex a (childrenAt bs 2 i) → isAbsent k (rowsOf (storeIn bs)) (attributeAt a (formIn bs)) ≡ eqb r 0
         absent-is {r} q =
             ap (isAbsent k (rowsOf (storeIn bs))) at ∙ ap isNone rows-are
             ∙ counted (keep (attributeNamed (o .attribute .name)) (heads (f .below)))
@@ -259,16 +205,16 @@ module _ (bs : Bytes) (w : Whole bs) (a : ℕ) where
     refused x = record { is = x .is }
 
     pub refused-past : attributeCount bs ≤ a → AttributeRefused k a (storeIn bs) 6
-    refused-past l = refused (gives-hit (ap (λ (z : Option Owned). isOther z (findRow (elementWith k) (rowsOf (storeIn bs)))) (unowned l)))
+    refused-past l = refused (gives-hit (ap (λ (z : Option Owned). isOther z (findRow (elementWith k) (rowsOf (storeIn bs)))) (unowned bs w a l)))
 
     pub refused-none : a < attributeCount bs → NoElement bs k → AttributeRefused k a (storeIn bs) 7
-    refused-none l f = let (o, at) = owned l in refused (gives-next (ap₂ isOther at (f .found)) (gives-hit (f .there)))
+    refused-none l f = let (o, at) = owned bs w a l in refused (gives-next (ap₂ isOther at (f .found)) (gives-hit (f .there)))
 
     pub refused-other : {i : ℕ} → a < attributeCount bs → Element bs k i → (attributeIn (widthOf bs) (attributesIn bs) a .owner ≡ rowIn bs i .row .index → ⊥) → AttributeRefused k a (storeIn bs) 6
-    refused-other l f h = let (o, at) = owned l in refused (gives-hit (unknown-is o at f ∙ ap not (not-mine o at f h)))
+    refused-other l f h = let (o, at) = owned bs w a l in refused (gives-hit (unknown-is o at f ∙ ap not (not-mine o at f h)))
 
     pub refused-not : {i : ℕ} → a < attributeCount bs → Element bs k i → attributeIn (widthOf bs) (attributesIn bs) a .owner ≡ rowIn bs i .row .index → AttributeRefused k a (storeIn bs) 0
-    refused-not l f h = let (o, at) = owned l in refused (gives-next (unknown-is o at f ∙ ap not (bytes .same← (o .owner .name) (f .row .name) (mine o at f h))) (gives-next (f .there) gives-none))
+    refused-not l f h = let (o, at) = owned bs w a l in refused (gives-next (unknown-is o at f ∙ ap not (bytes .same← (o .owner .name) (f .row .name) (mine o at f h))) (gives-next (f .there) gives-none))
 
     -- ---- none of them holds
     module _ {n : ℕ} (x : AttributeRefused k a (storeIn bs) n) (h : n ≡ 0) where
@@ -356,7 +302,7 @@ module _ (bs : Bytes) (w : Whole bs) (a : ℕ) where
     unfolding conditions
     drop-early f = held-or (unknownAttribute k a (storeIn bs)) (noElement k (storeIn bs)) (isAbsent k (rowsOf (storeIn bs)) (attributeAt a (formIn bs))) n _ (x .is) f
 
-    module _ (z : n ≡ 0) {i : ℕ} (f : Element bs k i) {r : ℕ} (q : r ≡ flat.serialOf a (childrenAt bs 2 i)) where
+    module _ (z : n ≡ 0) {i : ℕ} (f : Element bs k i) {r : ℕ} (q : r ≡ flat.serialOfIndex a (childrenAt bs 2 i)) where
       missing : isAbsent k (rowsOf (storeIn bs)) (attributeAt a (formIn bs)) ≡ eqb r 0
       missing = absent-is (known-of x z .owned) (known-of x z .at) f (same-row (known-of x z) f) q
 

@@ -15,37 +15,27 @@ use Rattle.rules.specs.Lines.{attributeNamed}
 use Rattle.rules.specs.Change.{namesBefore, revalue, setting}
 use Rattle.rules.proofs.Words.{and-both, and-split}
 use Rattle.rules.proofs.Apart.{differs}
-use Rattle.rules.proofs.ConformingLaws.{begins, begins-this, strip-past, strip-take}
-use Rattle.history.proofs.RowEdits.{keep}
-use Rattle.history.proofs.Untouched.{keep-all, keep-in, map-same, revalued-other}
-use Rattle.history.proofs.InstanceRows.{keep-none}
-use Rattle.history.proofs.StandingLaws.{serialOf}
-use Rattle.history.proofs.AttributeEdits.{Step, took, passed, strip-step, noAttribute, owned-rows}
+use Rattle.rules.proofs.ConformingLaws.{begins, begins-this, strip-past, strip-take, strip-lacks, strip-wrong}
+use Rattle.change_laws.proofs.RowEdits.{keep}
+use Rattle.change_laws.proofs.Untouched.{keep-in, map-same, revalued-other}
+use Rattle.change_laws.proofs.InstanceRows.{keep-none, keep-all}
+use Rattle.change_laws.proofs.StandingLaws.{serialOf}
+use Rattle.change_laws.proofs.AttributeEdits.{Step, took, passed, strip-step, noAttribute, owned-rows}
 
 -- what is stripped, if a test passes
 abbrev pub given : Bool → List Row → Option (List Row)
 given true rest = some rest
 given false rest = none
 
-lacks : (version : ℕ) (a : Attribute) (table : List Attribute) (rows : List Row) → begins (a .name) rows ≡ false → mustBePresent version (a .sort) ≡ true → strip version (a ∷ table) rows ≡ none
-unfolding strip begins
-lacks version a table [] h m = rw (m, strip)
-lacks version a table (r ∷ rows) h m = rw (h, strip) (rw m)
-
-wrong : (version : ℕ) (a : Attribute) (table : List Attribute) (r : Row) (rows : List Row) → begins (a .name) (r ∷ rows) ≡ true
-    → allows (a .sort) (a .value) (r .value) ≡ false → strip version (a ∷ table) (r ∷ rows) ≡ none
-unfolding strip begins
-wrong version a table r rows h m = rw (h, strip) (rw m)
-
 begins-off : (c : Bytes) (rows : List Row) → ((r : Row) → List·Memᴰ r rows → attributeNamed c r ≡ false) → begins c rows ≡ false
 unfolding begins
 begins-off c [] f = refl
 begins-off c (r ∷ rows) f = f r (List·Memᴰ·head refl)
 
-first-same : {A : Type 0} {x y : A} {xs ys : List A} → x ∷ xs ≡ y ∷ ys → x ≡ y
+pub first-same : {A : Type 0} {x y : A} {xs ys : List A} → x ∷ xs ≡ y ∷ ys → x ≡ y
 first-same e = cc
 
-not-nil : {A : Type 0} {x : A} {xs : List A} → [] ≡ x ∷ xs → ⊥
+pub not-nil : {A : Type 0} {x : A} {xs : List A} → [] ≡ x ∷ xs → ⊥
 not-nil e = let z : false ≡ true = cc e in false≢true z
 
 -- only the first row matters
@@ -117,7 +107,7 @@ module _ (n : Bytes) where
           ap (strip version (c ∷ table)) k ∙ by (mustBePresent version (c .sort)) refl b ∙ ap (λ (z : Attribute). given (not (mustBePresent version (z .sort))) rest) (sym x)
         where
           by : (s : Bool) → mustBePresent version (c .sort) ≡ s → begins (c .name) more ≡ false → strip version (c ∷ table) more ≡ given (not (mustBePresent version (c .sort))) rest
-          by true s b = lacks version c table more b s ∙ sym (ap (λ (z : Bool). given (not z) rest) s)
+          by true s b = strip-lacks version c table more b s ∙ sym (ap (λ (z : Bool). given (not z) rest) s)
           by false s b = strip-past version c table more b s ∙ t ∙ sym (ap (λ (z : Bool). given (not z) rest) s)
 
       by : (a ≡ c) ⊎ List·Memᴰ a table → Step version c table rows rest
@@ -215,7 +205,7 @@ module _ (n : Bytes) where
 
             by : (z : Bool) → allows (c .sort) (c .value) (x .value) ≡ z → strip version (c ∷ table) (x ∷ rows) ≡ result c
             by true g = strip-take version c table x rows first g ∙ t ∙ sym (ap (λ (z : Bool). given z rest) g)
-            by false g = wrong version c table x rows first g ∙ sym (ap (λ (z : Bool). given z rest) g)
+            by false g = strip-wrong version c table x rows first g ∙ sym (ap (λ (z : Bool). given z rest) g)
 
         -- further on
         before : List·Memᴰ a table → namesBefore n (map attributeName (c ∷ table)) ≡ c .name ∷ ns
@@ -297,7 +287,7 @@ module _ (n : Bytes) where
             by true w = strip-take version c table (revalue m v r) more (begins-revalued (c .name) r more ∙ b)
                 (ap (allows (c .sort) (c .value)) (set-value r (sym mark)) ∙ w)
                 ∙ t ∙ sym (ap (λ (z : Bool). given z rest) w)
-            by false w = wrong version c table (revalue m v r) more (begins-revalued (c .name) r more ∙ b)
+            by false w = strip-wrong version c table (revalue m v r) more (begins-revalued (c .name) r more ∙ b)
                 (ap (allows (c .sort) (c .value)) (set-value r (sym mark)) ∙ w)
                 ∙ sym (ap (λ (z : Bool). given z rest) w)
 

@@ -18,18 +18,19 @@ use Rattle.rules.proofs.Words.{and-both}
 use Rattle.rules.proofs.Apart.{differs}
 use Rattle.rules.proofs.WellFormedLaws.{definition-good}
 use Rattle.rules.proofs.ConformingLaws.{strip-is, content-is, content-head}
-use Rattle.history.proofs.RowEdits.{keep, plantRows, revalued, childrenAfter}
-use Rattle.history.proofs.Rowwise.{Standing}
-use Rattle.history.proofs.FormLaws.{attribute-owned}
-use Rattle.history.proofs.StandingLaws.{serialOf, standing-every, children-are, children-once}
-use Rattle.history.proofs.Untouched.{keep-all, keep-in, keep-alike, map-same, plant-none, children-left, children-cut, children-kept, same-row, same-child, revalued-other}
-use Rattle.history.proofs.Numbered.{mapped-row}
-use Rattle.history.proofs.ConformingAfter.{fits-element}
-use Rattle.history.proofs.AttributeEdits.{noAttribute, content-plain}
+use Rattle.change_laws.proofs.RowEdits.{keep, plantRows, revalued, childrenAfter}
+use Rattle.change_laws.proofs.Rowwise.{Standing}
+use Rattle.change_laws.proofs.FormLaws.{attribute-owned}
+use Rattle.change_laws.proofs.StandingLaws.{serialOf, standing-every, children-are, children-once}
+use Rattle.change_laws.proofs.Untouched.{keep-in, keep-alike, map-same, children-left, children-cut, children-kept, same-row, same-child, revalued-other}
+use Rattle.change_laws.proofs.Numbered.{mapped-row}
+use Rattle.change_laws.proofs.ConformingAfter.{fits-element}
+use Rattle.change_laws.proofs.AttributeEdits.{noAttribute, content-plain}
 use Rattle.document_refusals.proofs.ConformingTests.{conforming-local}
 use Rattle.document_refusals.proofs.ParentLaws.{one-parent}
 use Rattle.document_refusals.proofs.ElementsAfter.{ok, fine, unnumbered, apart, row-fits}
 use Rattle.document_refusals.proofs.AttributeTests.{given, stays, strip-without, put, strip-put, strip-set}
+use Rattle.change_laws.proofs.InstanceRows.{keep-all, plant-not}
 
 and-not : (c : Bool) {b : Bool} → b ≡ false → (c && b) ≡ false
 and-not true e = e
@@ -56,7 +57,7 @@ planted-put p u x ns n is named one later (r ∷ rows) = by (isAttribute (r .sor
   where
     by : (c : Bool) → (isAttribute (r .sort) && member bytes (r .name) ns) ≡ c → plantRows p u true rows ≡ put n x is named ns rows → plantRows p u true (r ∷ rows) ≡ put n x is named ns (r ∷ rows)
     by true e h = rw (later r ∙ ap not e, plantRows) (ap (λ (z : List Row). r ∷ z) h ∙ rw (e, put))
-    by false e h = rw (later r ∙ ap not e, plantRows) (ap₂ (λ (a b : List Row). a ++ (r ∷ b)) one (plant-none p u rows) ∙ rw (e, put))
+    by false e h = rw (later r ∙ ap not e, plantRows) (ap₂ (λ (a b : List Row). a ++ (r ∷ b)) one (plant-not p u rows) ∙ rw (e, put))
 
 module _ (s : Store) (g : Good s) (r : Row) (b : Forest Row) (i : Standing (s .docs) r b) (is : r .sort ≡ element) (d : Definition)
     (found : lookup (r .name) (s .form) ≡ some d) (x : ElementRows (s .version) d (heads b))

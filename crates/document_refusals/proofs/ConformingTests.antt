@@ -12,10 +12,10 @@ use Rattle.rules.specs.Passing.{GoodSerials}
 use Rattle.rules.specs.Lines.{ground}
 use Rattle.rules.specs.Change.{Plan, changed}
 use Rattle.rules.proofs.Words.{and-split}
-use Rattle.history.proofs.RowEdits.{revalued, childrenAfter}
-use Rattle.history.proofs.Rowwise.{Standing, below, under, below-taken, below-here, below-past, heads-changed}
-use Rattle.history.proofs.StandingLaws.{one-row}
-use Rattle.history.proofs.ConformingAfter.{conforming-changed}
+use Rattle.change_laws.proofs.RowEdits.{revalued, childrenAfter}
+use Rattle.change_laws.proofs.Rowwise.{Standing, below, under, below-taken, below-here, below-past, heads-changed}
+use Rattle.change_laws.proofs.StandingLaws.{one-row}
+use Rattle.change_laws.proofs.ConformingAfter.{conforming-changed}
 
 beside-right : (q : Row → List Row → Bool) (f g : Forest Row) → everyRow q (f ⧺ g) ≡ true → everyRow q g ≡ true
 beside-right q bare g e = e

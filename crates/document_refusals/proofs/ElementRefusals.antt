@@ -19,22 +19,24 @@ use Rattle.rules.specs.Conforming.{nameOf, ElementRows, RowConforms, conforming
 use Rattle.rules.specs.Lines.{isElementRow, isTextRow, elementWith, childrenOf, serialAt}
 use Rattle.rules.specs.Change.{addDocument, addElement, destroyElement, nameAtIndex, after}
 use Rattle.rules.specs.Refusal.{Condition, _if_, first, conditions, past, rowsOf, noElement, badText, isComplex}
-use Rattle.history.proofs.RowEdits.{keep}
-use Rattle.history.proofs.Conditions.{not-past}
-use Rattle.history.proofs.ConformingAfter.{is-element}
-use Rattle.history.proofs.Untouched.{keep-in}
-use Rattle.history.proofs.StandingLaws.{serialOf, standing-child, standing-every, no-zero, children-are}
+use Rattle.change_laws.proofs.RowEdits.{keep}
+use Rattle.change_laws.proofs.Conditions.{not-past}
+use Rattle.change_laws.proofs.Untouched.{keep-in}
+use Rattle.change_laws.proofs.StandingLaws.{serialOf, standing-child, standing-every, no-zero, children-are}
 use Rattle.model.specs.Steps.{runs}
 use Rattle.store_check.proofs.AttributeBlocks.{below-or}
 use Rattle.store_check.proofs.IndexLaws.{name-of}
 use Rattle.store_writer.specs.Stores.{storeIn}
-use Rattle.document_refusals.specs.Finding.{ElementAt, ParentAt, childrenAt, modelAt, kindAt, fitsAt, hasPlace, serialIn, word, Gives}
-use Rattle.document_refusals.proofs.StoreFacts.{formIn, docsIn, byIndex, Whole, Element, NoElement, element-absent, Parent, parent-there, parent-absent}
-use Rattle.document_refusals.proofs.StoreFacts.{defined, elements-at, texts-at, serials-at}
+use Rattle.document_refusals.specs.Finding.{ElementRowAt, ParentAt, childrenAt, modelAt, definitionKindAt, fitsAt, hasPlace, serialIn, word}
+use Rattle.change_laws.specs.FirstCondition.{Gives}
+use Rattle.store_writer.proofs.StoreFacts.{formIn, docsIn, byIndex, Whole}
+use Rattle.document_refusals.proofs.ElementFacts.{Element, NoElement, element-absent, Parent, parent-there, parent-absent, defined, elements-at, texts-at, serials-at}
 use Rattle.document_refusals.proofs.ElementTests.{putAt}
 use Rattle.document_refusals.proofs.ElementsAfter.{ok, add-conforms, destroy-conforms, root-conforms}
 use Rattle.document_refusals.proofs.IndexWords.{AllPlain, Named, word-less, word-more, named-runs}
-use Rattle.document_refusals.proofs.RefusalLaws.{gives-hit, gives-next, gives-none, kind-is}
+use Rattle.change_laws.proofs.FirstCondition.{gives-hit, gives-next, gives-none}
+use Rattle.document_refusals.proofs.RefusalLaws.{kind-is}
+use Rattle.rules.proofs.ConformingLaws.{is-element}
 
 keep-is : (test : Row → Bool) (rows : List Row) (r : Row) → List·Memᴰ r (keep test rows) → test r ≡ true
 unfolding keep
@@ -235,7 +237,7 @@ module _ (bs : Bytes) (w : Whole bs) where
       by pcdata h = refl
       by (complex ms) h = absurd (h refl)
 
-  module _ {k i : ℕ} (f : Element bs k i) {c : ℕ} (e : c ≡ kindAt bs i) (a : Bool) where
+  module _ {k i : ℕ} (f : Element bs k i) {c : ℕ} (e : c ≡ definitionKindAt bs i) (a : Bool) where
     pub other-kind : (c ≡ 2 → ⊥) → false ≡ (isComplex (d f .content) && a)
     other-kind h = sym (ap (λ (z : Bool). z && a) (not-complex (d f) (λ q. h (e ∙ kind-is bs w f ∙ q))))
 
@@ -251,5 +253,5 @@ module _ (bs : Bytes) (w : Whole bs) where
     child-serial e = e ∙ ap (serialAt n) (serials-at bs w k i f 1 isElementRow (elements-at bs w k i f))
 
   -- the row stands
-  pub there : {k i : ℕ} → ElementAt bs k i → noElement k (storeIn bs) ≡ false → i < rowCount bs
+  pub there : {k i : ℕ} → ElementRowAt bs k i → noElement k (storeIn bs) ≡ false → i < rowCount bs
   there {k} {i} f h = ⊎-elim (λ l. l) (λ l. absurd (false≢true (sym h ∙ element-absent bs w k i (f .begins) l .there))) (below-or i (rowCount bs))

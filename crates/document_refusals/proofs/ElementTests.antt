@@ -22,10 +22,9 @@ use Rattle.rules.proofs.Words.{and-both, and-split}
 use Rattle.rules.proofs.Apart.{differs}
 use Rattle.rules.proofs.Correct.{distinct-right, distinct-apart}
 use Rattle.rules.proofs.ConformingLaws.{headAttribute, strip-is, content-head, sorted-is}
-use Rattle.history.proofs.RowEdits.{keep, plantRows}
-use Rattle.history.proofs.InstanceRows.{keep-all, keep-none, keep-beside, keep-in}
-use Rattle.history.proofs.StandingLaws.{serialOf}
-use Rattle.history.proofs.Untouched.{plant-none}
+use Rattle.change_laws.proofs.RowEdits.{keep, plantRows}
+use Rattle.change_laws.proofs.InstanceRows.{keep-all, keep-none, keep-beside, keep-in, plant-not}
+use Rattle.change_laws.proofs.StandingLaws.{serialOf}
 
 -- x put in before number j, or last
 abbrev pub putAt : {A : Type 0} → ℕ → A → List A → List A
@@ -58,7 +57,7 @@ module _ (p : Plan) (u n : Row) (m : ℕ) (one : heads (p .filling) ≡ n ∷ []
   unfolding plantRows
   plant-this r rs e =
       rw (later r ∙ numbers .same← (r .serial) m e, plantRows)
-      (ap₂ (λ (x y : List Row). x ++ (r ∷ y)) one (plant-none p u rs))
+      (ap₂ (λ (x y : List Row). x ++ (r ∷ y)) one (plant-not p u rs))
 
   plant-nil : plantRows p u true [] ≡ n ∷ []
   unfolding plantRows

@@ -25,13 +25,13 @@ use Rattle.rules.proofs.Height.{deep}
 use Rattle.rules.proofs.WellFormedLaws.{well-formed, definition-good, definition-deep}
 use Rattle.rules.proofs.ConformingLaws.{conforming-is}
 use Rattle.rules.proofs.FillingLaws.{filling-heads, filling-fits}
-use Rattle.history.proofs.RowEdits.{keep, plantRows, revalued, childrenAfter}
-use Rattle.history.proofs.Rowwise.{Standing}
-use Rattle.history.proofs.FormLaws.{definition-found}
-use Rattle.history.proofs.StandingLaws.{serialOf, standing-head, standing-below, standing-serial, one-row, children-are, children-once, children-given}
-use Rattle.history.proofs.Untouched.{keep-in, map-same, children-left, children-cut, children-kept, same-row, same-child}
-use Rattle.history.proofs.Numbered.{conforming-number}
-use Rattle.history.proofs.ConformingAfter.{conforming-changed, fits-element}
+use Rattle.change_laws.proofs.RowEdits.{keep, plantRows, revalued, childrenAfter}
+use Rattle.change_laws.proofs.Rowwise.{Standing}
+use Rattle.change_laws.proofs.FormLaws.{definition-found}
+use Rattle.change_laws.proofs.StandingLaws.{serialOf, standing-head, standing-below, standing-serial, one-row, children-are, children-once, children-given}
+use Rattle.change_laws.proofs.Untouched.{keep-in, map-same, children-left, children-cut, children-kept, same-row, same-child}
+use Rattle.change_laws.proofs.Numbered.{conforming-number}
+use Rattle.change_laws.proofs.ConformingAfter.{conforming-changed, fits-element}
 use Rattle.document_refusals.proofs.ConformingTests.{Clear, conforming-local}
 use Rattle.document_refusals.proofs.ElementTests.{putAt, added, lessened}
 use Rattle.document_refusals.proofs.ParentLaws.{not-below, one-parent}

@@ -17,7 +17,7 @@ use Rattle.rules.specs.WellFormed.{known, wellFormed}
 use Rattle.rules.specs.Conforming.{nameOf, isElement}
 use Rattle.rules.specs.Lines.{elementWith}
 use Rattle.rules.specs.Change.{definitionAt}
-use Rattle.history.proofs.RowEdits.{keep}
+use Rattle.change_laws.proofs.RowEdits.{keep}
 use Rattle.model.specs.Steps.{runs}
 use Rattle.model.proofs.FactsLaws.{runs-accepts}
 use Rattle.form_index.specs.Indices.{IndexForm}

@@ -2,7 +2,6 @@ pub mod SuffixLaws
 pub mod TreeLaws
 pub mod StepLaws
 pub mod SerialLaws
-pub mod StoreFacts
 pub mod ConformingTests
 pub mod ElementTests
 pub mod ParentLaws
@@ -14,3 +13,4 @@ pub mod ReaderLaws
 pub mod RefusalLaws
 pub mod ElementRefusals
 pub mod AttributeRefusals
+pub mod ElementFacts

@@ -7,8 +7,8 @@ use Rattle.rules.specs.Model.{Distinct}
 use Rattle.rules.specs.Store.{Row, Forest, bare, tree, heads}
 use Rattle.rules.specs.Passing.{serials}
 use Rattle.rules.proofs.Correct.{distinct-left, distinct-right, distinct-apart}
-use Rattle.history.proofs.Rowwise.{Standing}
-use Rattle.history.proofs.StandingLaws.{serialOf, standing-head, standing-serial}
+use Rattle.change_laws.proofs.Rowwise.{Standing}
+use Rattle.change_laws.proofs.StandingLaws.{serialOf, standing-head, standing-serial}
 
 heads-in : (f : Forest Row) (k : ℕ) → List·Memᴰ k (map serialOf (heads f)) → List·Memᴰ k (serials f)
 heads-in f k m =

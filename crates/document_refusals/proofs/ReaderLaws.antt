@@ -10,11 +10,12 @@ use Rattle.rules.specs.Layout.{rowSize, FlatRow}
 use Rattle.rules.specs.Model.{Members}
 use Rattle.rules.specs.Decode.{readRow, rowCount}
 use Rattle.rules.specs.Lines.{serialAt}
-use Rattle.layout.specs.Bodies.{widthOf, recordAt, rowsIn}
+use Rattle.layout.specs.Bodies.{widthOf, recordAt, treeRowsIn}
 use Rattle.model.specs.Steps.{runs}
-use Rattle.document_refusals.specs.Finding.{rowsFrom, children, childrenAt, modelAt, fitsAt, hasPlace, serialIn, serialOf, word}
+use Rattle.document_refusals.specs.Finding.{children, childrenAt, modelAt, fitsAt, hasPlace, serialIn, serialOfIndex, word}
+use Rattle.lookup.specs.Bodies.{rowsFrom}
 
-module _ (bs : Bytes) (i s : ℕ) {w : ℕ} {rows : Bytes} {count depth : ℕ} (v : w ≡ widthOf bs) (e : rows ≡ rowsIn bs) (n : count ≡ rowCount bs)
+module _ (bs : Bytes) (i s : ℕ) {w : ℕ} {rows : Bytes} {count depth : ℕ} (v : w ≡ widthOf bs) (e : rows ≡ treeRowsIn bs) (n : count ≡ rowCount bs)
     (d : depth ≡ suc (readRow (recordAt (rowSize w) i rows) .depth)) where
   children-read : children s depth (rowsFrom w rows count (i + 1)) ≡ childrenAt bs s i
   unfolding childrenAt
@@ -25,10 +26,10 @@ module _ (bs : Bytes) (i s : ℕ) {w : ℕ} {rows : Bytes} {count depth : ℕ} (
   pub nth-read : (m : ℕ) {r : ℕ} → r ≡ serialAt m (map serialIn (children s depth (rowsFrom w rows count (i + 1)))) → r ≡ serialAt m (map serialIn (childrenAt bs s i))
   nth-read m q = q ∙ ap (λ (z : List FlatRow). serialAt m (map serialIn z)) children-read
 
-  pub indexed-read : (a : ℕ) {r : ℕ} → r ≡ serialOf a (children s depth (rowsFrom w rows count (i + 1))) → r ≡ serialOf a (childrenAt bs s i)
-  indexed-read a q = q ∙ ap (serialOf a) children-read
+  pub indexed-read : (a : ℕ) {r : ℕ} → r ≡ serialOfIndex a (children s depth (rowsFrom w rows count (i + 1))) → r ≡ serialOfIndex a (childrenAt bs s i)
+  indexed-read a q = q ∙ ap (serialOfIndex a) children-read
 
-module _ (bs : Bytes) (i : ℕ) {w : ℕ} {rows : Bytes} {count depth : ℕ} (v : w ≡ widthOf bs) (e : rows ≡ rowsIn bs) (n : count ≡ rowCount bs)
+module _ (bs : Bytes) (i : ℕ) {w : ℕ} {rows : Bytes} {count depth : ℕ} (v : w ≡ widthOf bs) (e : rows ≡ treeRowsIn bs) (n : count ≡ rowCount bs)
     (d : depth ≡ suc (readRow (recordAt (rowSize w) i rows) .depth)) where
   pub fits-read : (p new skip : ℕ) {ms : Members ℕ} → ms ≡ modelAt bs i → {r : Bool} → r ≡ runs ms 0 (word p new skip (children 1 depth (rowsFrom w rows count (i + 1)))) → r ≡ fitsAt bs i p new skip
   unfolding fitsAt

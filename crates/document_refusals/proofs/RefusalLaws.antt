@@ -1,59 +1,27 @@
 -- The first condition that holds, of the changes of documents: what the code finds, put together.
 use Prim.Native.Nat.{ℕ, _<_, _≤_}
 use native.Mathlib.Omega.{arith}
-use borrow.Author.Tests.{lt-ltb, le-ltb}
 use mathlib.Core.Path.{_≡_, refl, sym, ap, _∙_}
 use mathlib.Core.Bool.{Bool, true, false, not}
 use mathlib.Core.Option.{Option, none, some}
-use mathlib.Core.List.{List, [], _∷_}
-use lib.Dec.{ltb}
-use lib.ListN.{length}
 use Rattle.rules.specs.Bytes.{Bytes}
 use Rattle.rules.specs.Store.{Content, empty, pcdata, complex, Definition, Row}
-use Rattle.rules.specs.Layout.{valueWidth, kindCode, indexOf}
+use Rattle.rules.specs.Layout.{kindCode, indexOf}
 use Rattle.rules.specs.Decode.{definitionCount, rowCount}
 use Rattle.rules.specs.WellFormed.{isValue, lookup}
 use Rattle.rules.specs.Change.{addDocument, setText}
-use Rattle.rules.specs.Refusal.{Condition, _if_, conditions, badText, isPcdata, pcdataElement}
-use Rattle.layout.specs.Bodies.{widthOf, WidthIn, Number, definitionsIn, rowsIn}
+use Rattle.rules.specs.Refusal.{conditions, isPcdata, pcdataElement}
+use Rattle.layout.specs.Bodies.{widthOf, WidthIn, Number, definitionsIn, treeRowsIn}
 use Rattle.form_index.specs.Reading.{definitionIn}
 use Rattle.store_writer.specs.Stores.{storeIn}
-use Rattle.document_refusals.specs.Finding.{ElementAt, ParentAt, RowOf, kindAt, Gives}
+use Rattle.document_refusals.specs.Finding.{ElementRowAt, ParentAt, RowOf, definitionKindAt}
+use Rattle.change_laws.specs.FirstCondition.{Gives}
 use Rattle.document_refusals.proofs.SuffixLaws.{rowAt}
-use Rattle.document_refusals.proofs.StoreFacts.{formIn, width-of-store, Whole, Element, NoElement, element-there, element-absent, parent-there, defined}
-
-pub gives-hit : {n : ℕ} {b : Bool} {cs : List Condition} → b ≡ true → Gives n ((n if b) ∷ cs)
-gives-hit {n} {b} {cs} e = record { is = rw e }
-
-pub gives-next : {n x : ℕ} {b : Bool} {cs : List Condition} → b ≡ false → Gives x cs → Gives x ((n if b) ∷ cs)
-gives-next {n} {x} {b} {cs} e h = record { is = rw e (h .is) }
-
-pub gives-none : Gives 0 []
-gives-none = record { is = refl }
-
--- ---- a value that is given
-module _ (bs t : Bytes) {n : ℕ} {a : Bool} (v : WidthIn bs n) (e : a ≡ isValue n t) where
-  same-text : a ≡ isValue (valueWidth (storeIn bs .version)) t
-  same-text = e ∙ ap (λ (k : ℕ). isValue k t) (v .value ∙ width-of-store bs)
-
-  pub bad-text : not a ≡ true → badText (storeIn bs) t ≡ true
-  bad-text h = ap not (sym same-text) ∙ h
-
-  pub fine-text : not a ≡ false → badText (storeIn bs) t ≡ false
-  fine-text h = ap not (sym same-text) ∙ h
+use Rattle.store_writer.proofs.StoreFacts.{formIn, Whole, bad-text, fine-text, past-definitions, within-definitions}
+use Rattle.document_refusals.proofs.ElementFacts.{Element, NoElement, element-there, element-absent, parent-there, defined}
+use Rattle.change_laws.proofs.FirstCondition.{gives-hit, gives-next, gives-none}
 
 module _ (bs : Bytes) (w : Whole bs) where
-  -- ---- an index of a definition
-  module _ {n : ℕ} (e : Number (definitionCount bs) n) (i : ℕ) where
-    size : n ≡ length (formIn bs)
-    size = e .value ∙ w .agrees .size
-
-    pub past-definitions : n ≤ i → not (ltb i (length (formIn bs))) ≡ true
-    past-definitions l = ap not (le-ltb i (length (formIn bs)) (omega (arith, size)))
-
-    pub within-definitions : i < n → not (ltb i (length (formIn bs))) ≡ false
-    within-definitions l = ap not (lt-ltb i (length (formIn bs)) (omega (arith, size)))
-
   -- ---- 11
   module _ {n : ℕ} {a : Bool} (t : Bytes) (i : ℕ) (v : WidthIn bs n) (e : a ≡ isValue n t) where
     pub document-3 : not a ≡ true → Gives 3 (conditions (addDocument i t) (storeIn bs))
@@ -62,14 +30,14 @@ module _ (bs : Bytes) (w : Whole bs) where
 
     pub document-6 : not a ≡ false → {m : ℕ} → Number (definitionCount bs) m → m ≤ i → Gives 6 (conditions (addDocument i t) (storeIn bs))
     unfolding conditions
-    document-6 h u l = gives-next (fine-text bs t v e h) (gives-hit (past-definitions u i l))
+    document-6 h u l = gives-next (fine-text bs t v e h) (gives-hit (past-definitions bs w u i l))
 
     pub document-0 : not a ≡ false → {m : ℕ} → Number (definitionCount bs) m → i < m → Gives 0 (conditions (addDocument i t) (storeIn bs))
     unfolding conditions
-    document-0 h u l = gives-next (fine-text bs t v e h) (gives-next (within-definitions u i l) gives-none)
+    document-0 h u l = gives-next (fine-text bs t v e h) (gives-next (within-definitions bs w u i l) gives-none)
 
   -- ---- the element
-  module _ {k i : ℕ} (f : ElementAt bs k i) {n : ℕ} (e : Number (rowCount bs) n) where
+  module _ {k i : ℕ} (f : ElementRowAt bs k i) {n : ℕ} (e : Number (rowCount bs) n) where
     pub seen : i < n → Element bs k i
     seen l = element-there bs w k i (f .begins) (omega (arith, e .value))
 
@@ -77,16 +45,16 @@ module _ (bs : Bytes) (w : Whole bs) where
     unseen l = element-absent bs w k i (f .begins) (omega (arith, e .value))
 
   -- its definition
-  pub kind-limit : {k i : ℕ} → Element bs k i → rowAt (widthOf bs) (rowsIn bs) i .row .index ≤ 64
+  pub kind-limit : {k i : ℕ} → Element bs k i → rowAt (widthOf bs) (treeRowsIn bs) i .row .index ≤ 64
   kind-limit {k} {i} e = let d = defined bs w k i e in omega (arith, d .index, d .below, w .agrees .size, w .fewDefinitions)
 
-  pub row-of : {k i : ℕ} → ElementAt bs k i → i < rowCount bs → RowOf bs i
+  pub row-of : {k i : ℕ} → ElementRowAt bs k i → i < rowCount bs → RowOf bs i
   row-of {k} {i} f l = record { small = l; few = f .few; index = kind-limit (element-there bs w k i (f .begins) l) }
 
   pub parent-row : {k i : ℕ} → ParentAt bs k i → i < rowCount bs → RowOf bs i
   parent-row {k} {i} f l = record { small = l; few = f .few; index = kind-limit (parent-there bs w k i (f .begins) l .parent) }
 
-  pub kind-is : {k i : ℕ} (e : Element bs k i) → kindAt bs i ≡ kindCode (defined bs w k i e .definition .content)
+  pub kind-is : {k i : ℕ} (e : Element bs k i) → definitionKindAt bs i ≡ kindCode (defined bs w k i e .definition .content)
   kind-is {k} {i} e =
       let d = defined bs w k i e in
       ap (λ (j : ℕ). definitionIn (definitionsIn bs) j .kind) (d .index)
@@ -124,7 +92,7 @@ module _ (bs : Bytes) (w : Whole bs) where
     unfolding conditions
     text-7 h f = gives-next (fine-text bs t v e h) (gives-hit (f .there))
 
-    module _ (h : not a ≡ false) {i : ℕ} (x : Element bs k i) {c : ℕ} (kind : c ≡ kindAt bs i) where
+    module _ (h : not a ≡ false) {i : ℕ} (x : Element bs k i) {c : ℕ} (kind : c ≡ definitionKindAt bs i) where
       pub text-9 : (c ≡ 1 → ⊥) → Gives 9 (conditions (setText k t) (storeIn bs))
       unfolding conditions
       text-9 f = gives-next (fine-text bs t v e h) (gives-next (x .there) (gives-hit (ap not (pcdata-is x ∙ other-code (defined bs w k i x .definition) (λ z. f (kind ∙ kind-is x ∙ z))))))

@@ -8,7 +8,7 @@ use mathlib.Core.List.{List, [], _∷_, map}
 use Rattle.rules.specs.Bytes.{any}
 use Rattle.rules.specs.Layout.{FlatRow}
 use Rattle.rules.specs.Lines.{serialAt}
-use Rattle.document_refusals.specs.Finding.{serialIn, serialOf, elementRow}
+use Rattle.document_refusals.specs.Finding.{serialIn, serialOfIndex, elementRowWith}
 
 -- the serial of child number n
 abbrev pub nth : ℕ → List FlatRow → ℕ
@@ -25,14 +25,14 @@ nth-next (suc n) r rs h = let e : suc n - 1 ≡ n = omega arith in rw e
 pub nth-this : (n : ℕ) (r : FlatRow) (rs : List FlatRow) → n ≡ 0 → nth n (r ∷ rs) ≡ r .serial
 nth-this n r rs e = rw e
 
-pub indexed-this : (a : ℕ) (r : FlatRow) (rs : List FlatRow) → r .index ≡ a → serialOf a (r ∷ rs) ≡ r .serial
-indexed-this a r rs e = rw (eq-eqb (r .index) a e, serialOf)
+pub indexed-this : (a : ℕ) (r : FlatRow) (rs : List FlatRow) → r .index ≡ a → serialOfIndex a (r ∷ rs) ≡ r .serial
+indexed-this a r rs e = rw (eq-eqb (r .index) a e, serialOfIndex)
 
-pub indexed-next : (a : ℕ) (r : FlatRow) (rs : List FlatRow) → (r .index ≡ a → ⊥) → serialOf a (r ∷ rs) ≡ serialOf a rs
-indexed-next a r rs e = rw (ne-eqb (r .index) a e, serialOf)
+pub indexed-next : (a : ℕ) (r : FlatRow) (rs : List FlatRow) → (r .index ≡ a → ⊥) → serialOfIndex a (r ∷ rs) ≡ serialOfIndex a rs
+indexed-next a r rs e = rw (ne-eqb (r .index) a e, serialOfIndex)
 
-pub any-this : (k : ℕ) (r : FlatRow) (rs : List FlatRow) → elementRow k r ≡ true → any (elementRow k) (r ∷ rs) ≡ true
-any-this k r rs e = ap (λ (b : Bool). b || any (elementRow k) rs) e
+pub any-this : (k : ℕ) (r : FlatRow) (rs : List FlatRow) → elementRowWith k r ≡ true → any (elementRowWith k) (r ∷ rs) ≡ true
+any-this k r rs e = ap (λ (b : Bool). b || any (elementRowWith k) rs) e
 
-pub any-next : (k : ℕ) (r : FlatRow) (rs : List FlatRow) → elementRow k r ≡ false → any (elementRow k) (r ∷ rs) ≡ any (elementRow k) rs
-any-next k r rs e = ap (λ (b : Bool). b || any (elementRow k) rs) e
+pub any-next : (k : ℕ) (r : FlatRow) (rs : List FlatRow) → elementRowWith k r ≡ false → any (elementRowWith k) (r ∷ rs) ≡ any (elementRowWith k) rs
+any-next k r rs e = ap (λ (b : Bool). b || any (elementRowWith k) rs) e

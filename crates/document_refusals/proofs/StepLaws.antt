@@ -13,11 +13,11 @@ use Rattle.rules.specs.Model.{Members}
 use Rattle.rules.specs.Layout.{FlatRow}
 use Rattle.sets.specs.Sets.{has}
 use Rattle.model.specs.Steps.{steps, finishes, runs}
-use Rattle.next_children.specs.Line.{Line}
-use Rattle.document_refusals.specs.Finding.{newName, keptName, word, Stepped}
+use Rattle.next_children.specs.Line.{NextsLine}
+use Rattle.document_refusals.specs.Finding.{newName, keptName, word, NamesStepped}
 
 -- ---- looked up in the model's line
-module _ (ms : Members ℕ) (t : List ℕ) (l : Line 64 ms 0 t) (last : ℕ) (b : Bool) where
+module _ (ms : Members ℕ) (t : List ℕ) (l : NextsLine 64 ms 0 t) (last : ℕ) (b : Bool) where
   pub follow-found : (y : ℕ) → last ≤ 64 → y < 64 → b ≡ has (getD t last 0) y → b ≡ steps ms last y
   follow-found y h k e = let u : last ≡ 0 + last = omega arith in e ∙ ap (λ (i : ℕ). has (getD t i 0) y) u ∙ l .next-is last y h k
 
@@ -29,34 +29,34 @@ module _ (ms : Members ℕ) (t : List ℕ) (l : Line 64 ms 0 t) (last : ℕ) (b 
 
 -- ---- a name stepped over, or none
 module _ (ms : Members ℕ) (last : ℕ) where
-  stepped-nil : Stepped ms last [] true last
+  stepped-nil : NamesStepped ms last [] true last
   stepped-nil = record { on = λ w. refl }
 
-  stepped-one : (x y : ℕ) {fits : Bool} → y ≡ x + 1 → fits ≡ steps ms last x → Stepped ms last (x ∷ []) fits y
+  stepped-one : (x y : ℕ) {fits : Bool} → y ≡ x + 1 → fits ≡ steps ms last x → NamesStepped ms last (x ∷ []) fits y
   unfolding runs
   stepped-one x y {fits} e g = record { on = λ w. ap₂ (λ (b : Bool) (n : ℕ). b && runs ms n w) (sym g) (sym (e ∙ add-one x)) }
 
-  as-word : {u v : List ℕ} {fits : Bool} {after : ℕ} → u ≡ v → Stepped ms last v fits after → Stepped ms last u fits after
+  as-word : {u v : List ℕ} {fits : Bool} {after : ℕ} → u ≡ v → NamesStepped ms last v fits after → NamesStepped ms last u fits after
   as-word e s = record { on = λ w. ap (λ (z : List ℕ). runs ms last (z ++ w)) e ∙ s .on w }
 
-  pub new-step : (p x : ℕ) {fits : Bool} → p ≡ 1 → fits ≡ steps ms last x → Stepped ms last (newName p x) fits (x + 1)
+  pub new-step : (p x : ℕ) {fits : Bool} → p ≡ 1 → fits ≡ steps ms last x → NamesStepped ms last (newName p x) fits (x + 1)
   unfolding newName
   new-step p x e g = as-word (rw (eq-eqb p 1 e, newName)) (stepped-one x (x + 1) refl g)
 
-  pub new-none : (p x : ℕ) → (p ≡ 1 → ⊥) → Stepped ms last (newName p x) true last
+  pub new-none : (p x : ℕ) → (p ≡ 1 → ⊥) → NamesStepped ms last (newName p x) true last
   unfolding newName
   new-none p x e = as-word (rw (ne-eqb p 1 e, newName)) stepped-nil
 
-  pub kept-step : (r : FlatRow) (skip index : ℕ) {fits : Bool} → (r .serial ≡ skip → ⊥) → index ≡ r .index → fits ≡ steps ms last index → Stepped ms last (keptName skip r) fits (index + 1)
+  pub kept-step : (r : FlatRow) (skip index : ℕ) {fits : Bool} → (r .serial ≡ skip → ⊥) → index ≡ r .index → fits ≡ steps ms last index → NamesStepped ms last (keptName skip r) fits (index + 1)
   unfolding keptName
   kept-step r skip index e i g = as-word (rw (ne-eqb (r .serial) skip e, keptName)) (stepped-one (r .index) (index + 1) (ap (λ (n : ℕ). n + 1) i) (g ∙ ap (steps ms last) i))
 
-  pub kept-none : (r : FlatRow) (skip : ℕ) → r .serial ≡ skip → Stepped ms last (keptName skip r) true last
+  pub kept-none : (r : FlatRow) (skip : ℕ) → r .serial ≡ skip → NamesStepped ms last (keptName skip r) true last
   unfolding keptName
   kept-none r skip e = as-word (rw (eq-eqb (r .serial) skip e, keptName)) stepped-nil
 
 module _ (ms : Members ℕ) (new skip : ℕ) where
-  word-runs : (last p : ℕ) (r : FlatRow) (rs : List FlatRow) {a b : Bool} {m n : ℕ} → Stepped ms last (newName p new) a m → Stepped ms m (keptName skip r) b n
+  word-runs : (last p : ℕ) (r : FlatRow) (rs : List FlatRow) {a b : Bool} {m n : ℕ} → NamesStepped ms last (newName p new) a m → NamesStepped ms m (keptName skip r) b n
       → runs ms last (word p new skip (r ∷ rs)) ≡ (a && (b && runs ms n (word (p - 1) new skip rs)))
   unfolding word
   word-runs last p r rs {a} {b} {m} {n} x y =
@@ -65,7 +65,7 @@ module _ (ms : Members ℕ) (new skip : ℕ) where
       ∙ ap (λ (z : Bool). a && z) (y .on (word (p - 1) new skip rs))
 
   -- one child more, which does not fit, or fits
-  pub word-fails : (last p : ℕ) (r : FlatRow) (rs : List FlatRow) {a b : Bool} {m n : ℕ} → Stepped ms last (newName p new) a m → Stepped ms m (keptName skip r) b n
+  pub word-fails : (last p : ℕ) (r : FlatRow) (rs : List FlatRow) {a b : Bool} {m n : ℕ} → NamesStepped ms last (newName p new) a m → NamesStepped ms m (keptName skip r) b n
       → not (a && b) ≡ true → false ≡ runs ms last (word p new skip (r ∷ rs))
   word-fails last p r rs {a} {b} {m} {n} x y e = sym (word-runs last p r rs x y ∙ by a b e)
     where
@@ -74,7 +74,7 @@ module _ (ms : Members ℕ) (new skip : ℕ) where
       by true false e = refl
       by false b e = refl
 
-  pub word-past : (last p : ℕ) (r : FlatRow) (rs : List FlatRow) {a b : Bool} {m n : ℕ} → Stepped ms last (newName p new) a m → Stepped ms m (keptName skip r) b n
+  pub word-past : (last p : ℕ) (r : FlatRow) (rs : List FlatRow) {a b : Bool} {m n : ℕ} → NamesStepped ms last (newName p new) a m → NamesStepped ms m (keptName skip r) b n
       → not (a && b) ≡ false → runs ms last (word p new skip (r ∷ rs)) ≡ runs ms n (word (p - 1) new skip rs)
   word-past last p r rs {a} {b} {m} {n} x y e = word-runs last p r rs x y ∙ by a b e
     where
@@ -83,7 +83,7 @@ module _ (ms : Members ℕ) (new skip : ℕ) where
       by true false e = absurd (false≢true (sym e))
       by false b e = absurd (false≢true (sym e))
 
-  pub word-ends : (last p : ℕ) {a b : Bool} {m : ℕ} → Stepped ms last (newName p new) a m → b ≡ finishes ms m → (a && b) ≡ runs ms last (word p new skip [])
+  pub word-ends : (last p : ℕ) {a b : Bool} {m : ℕ} → NamesStepped ms last (newName p new) a m → b ≡ finishes ms m → (a && b) ≡ runs ms last (word p new skip [])
   unfolding word runs
   word-ends last p {a} {b} {m} x e = ap (λ (z : Bool). a && z) e ∙ sym (x .on []) ∙ ap (runs ms last) (append-nil (newName p new))
 
@@ -95,5 +95,5 @@ pub less-as : (ms : Members ℕ) (new skip last : ℕ) (rs : List FlatRow) {p q 
 less-as ms new skip last rs e = ap (λ (p : ℕ). accepted ms new skip last p rs) (sym e)
 
 pub step-at : {ms : Members ℕ} {last : ℕ} (skip : ℕ) {b d : Bytes} {fits : Bool} {after : ℕ} → b ≡ d
-    → Stepped ms last (keptName skip (readRow b .row)) fits after → Stepped ms last (keptName skip (readRow d .row)) fits after
-step-at {ms} {last} skip {b} {d} {fits} {after} e s = subst (λ (z : Bytes). Stepped ms last (keptName skip (readRow z .row)) fits after) e s
+    → NamesStepped ms last (keptName skip (readRow b .row)) fits after → NamesStepped ms last (keptName skip (readRow d .row)) fits after
+step-at {ms} {last} skip {b} {d} {fits} {after} e s = subst (λ (z : Bytes). NamesStepped ms last (keptName skip (readRow z .row)) fits after) e s

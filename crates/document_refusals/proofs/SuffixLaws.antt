@@ -12,7 +12,8 @@ use Rattle.rules.specs.Layout.{rowSize, FlatRow}
 use Rattle.rules.specs.Decode.{readRow}
 use Rattle.layout.specs.Bodies.{recordAt}
 use Rattle.lookup.proofs.Laws.{from-step, from-none}
-use Rattle.document_refusals.specs.Finding.{rowsFrom, Begins, next, children, Child, Test, seek}
+use Rattle.document_refusals.specs.Finding.{Begins, nextChild, children, Child, Test, seek}
+use Rattle.lookup.specs.Bodies.{rowsFrom}
 
 abbrev pub rowAt : ℕ → Bytes → ℕ → Deep FlatRow
 rowAt w rows i = readRow (recordAt (rowSize w) i rows)
@@ -62,24 +63,24 @@ module _ (w : ℕ) (p : Test) (rows : Bytes) (count i : ℕ) (s : Seeking w p ro
 
 -- ---- the next row of a depth and a sort
 module _ (s d : ℕ) (x : Deep FlatRow) (xs : List (Deep FlatRow)) where
-  next-less : x .depth < d → next s d (x ∷ xs) ≡ []
-  unfolding next
-  next-less l = rw (lt-ltb (x .depth) d l, next)
+  next-less : x .depth < d → nextChild s d (x ∷ xs) ≡ []
+  unfolding nextChild
+  next-less l = rw (lt-ltb (x .depth) d l, nextChild)
 
-  next-this : d ≤ x .depth → (eqb (x .depth) d && eqb (x .row .sort) s) ≡ true → next s d (x ∷ xs) ≡ x ∷ xs
-  unfolding next
-  next-this l e = rw (le-ltb (x .depth) d l, next) (rw e)
+  next-this : d ≤ x .depth → (eqb (x .depth) d && eqb (x .row .sort) s) ≡ true → nextChild s d (x ∷ xs) ≡ x ∷ xs
+  unfolding nextChild
+  next-this l e = rw (le-ltb (x .depth) d l, nextChild) (rw e)
 
-  next-other : d ≤ x .depth → (eqb (x .depth) d && eqb (x .row .sort) s) ≡ false → next s d (x ∷ xs) ≡ next s d xs
-  unfolding next
-  next-other l e = rw (le-ltb (x .depth) d l, next) (rw e)
+  next-other : d ≤ x .depth → (eqb (x .depth) d && eqb (x .row .sort) s) ≡ false → nextChild s d (x ∷ xs) ≡ nextChild s d xs
+  unfolding nextChild
+  next-other l e = rw (le-ltb (x .depth) d l, nextChild) (rw e)
 
-next-nil : (s d : ℕ) → next s d [] ≡ []
-unfolding next
+next-nil : (s d : ℕ) → nextChild s d [] ≡ []
+unfolding nextChild
 next-nil s d = refl
 
 pub record Stepping (w s d : ℕ) (rows : Bytes) (count start i : ℕ) : Type 0 where
-  pub rest : next s d (rowsFrom w rows count i) ≡ next s d (rowsFrom w rows count start)
+  pub rest : nextChild s d (rowsFrom w rows count i) ≡ nextChild s d (rowsFrom w rows count start)
   pub onward : start ≤ i
 
 pub step-start : {w s d : ℕ} {rows : Bytes} {count start : ℕ} → Stepping w s d rows count start start
@@ -89,70 +90,70 @@ module _ (w s d : ℕ) (rows : Bytes) (count start i : ℕ) (t : Stepping w s d 
   pub step-past : i < count → d ≤ rowAt w rows i .depth → (eqb (rowAt w rows i .depth) d && eqb (rowAt w rows i .row .sort) s) ≡ false → Stepping w s d rows count start (i + 1)
   step-past h l e =
       record {
-        rest = sym (next-other s d (rowAt w rows i) (rowsFrom w rows count (i + 1)) l e) ∙ sym (ap (next s d) (from-step readRow (rowSize w) rows count i h)) ∙ t .rest;
+        rest = sym (next-other s d (rowAt w rows i) (rowsFrom w rows count (i + 1)) l e) ∙ sym (ap (nextChild s d) (from-step readRow (rowSize w) rows count i h)) ∙ t .rest;
         onward = omega (arith, t .onward);
       }
 
-  pub step-hit : i < count → d ≤ rowAt w rows i .depth → (eqb (rowAt w rows i .depth) d && eqb (rowAt w rows i .row .sort) s) ≡ true → Begins w rows count i (next s d (rowsFrom w rows count start))
+  pub step-hit : i < count → d ≤ rowAt w rows i .depth → (eqb (rowAt w rows i .depth) d && eqb (rowAt w rows i .row .sort) s) ≡ true → Begins w rows count i (nextChild s d (rowsFrom w rows count start))
   step-hit h l e =
       record {
         from = from-step readRow (rowSize w) rows count i h
             ∙ sym (next-this s d (rowAt w rows i) (rowsFrom w rows count (i + 1)) l e)
-            ∙ sym (ap (next s d) (from-step readRow (rowSize w) rows count i h))
+            ∙ sym (ap (nextChild s d) (from-step readRow (rowSize w) rows count i h))
             ∙ t .rest;
         within = omega arith;
       }
 
-  pub step-less : i < count → rowAt w rows i .depth < d → Begins w rows count count (next s d (rowsFrom w rows count start))
+  pub step-less : i < count → rowAt w rows i .depth < d → Begins w rows count count (nextChild s d (rowsFrom w rows count start))
   step-less h l =
       record {
         from = from-none readRow (rowSize w) rows count count (omega arith)
             ∙ sym (next-less s d (rowAt w rows i) (rowsFrom w rows count (i + 1)) l)
-            ∙ sym (ap (next s d) (from-step readRow (rowSize w) rows count i h))
+            ∙ sym (ap (nextChild s d) (from-step readRow (rowSize w) rows count i h))
             ∙ t .rest;
         within = omega arith;
       }
 
-  pub step-none : count ≤ i → Begins w rows count count (next s d (rowsFrom w rows count start))
+  pub step-none : count ≤ i → Begins w rows count count (nextChild s d (rowsFrom w rows count start))
   step-none h =
       record {
-        from = from-none readRow (rowSize w) rows count count (omega arith) ∙ sym (next-nil s d) ∙ sym (ap (next s d) (from-none readRow (rowSize w) rows count i h)) ∙ t .rest;
+        from = from-none readRow (rowSize w) rows count count (omega arith) ∙ sym (next-nil s d) ∙ sym (ap (nextChild s d) (from-none readRow (rowSize w) rows count i h)) ∙ t .rest;
         within = omega arith;
       }
 
 -- ---- children
 module _ (s d : ℕ) where
-  children-next : (xs : List (Deep FlatRow)) → children s d (next s d xs) ≡ children s d xs
-  unfolding children next
+  children-next : (xs : List (Deep FlatRow)) → children s d (nextChild s d xs) ≡ children s d xs
+  unfolding children nextChild
   children-next [] = refl
   children-next (x ∷ xs) = by (ltb (x .depth) d) refl (eqb (x .depth) d && eqb (x .row .sort) s) refl (children-next xs)
     where
-      by : (a : Bool) → ltb (x .depth) d ≡ a → (b : Bool) → (eqb (x .depth) d && eqb (x .row .sort) s) ≡ b → children s d (next s d xs) ≡ children s d xs
-          → children s d (next s d (x ∷ xs)) ≡ children s d (x ∷ xs)
-      by true p b q h = rw (p, next, children)
-      by false p true q h = rw (p, next) (rw q)
-      by false p false q h = rw (p, next, children) (rw q h)
+      by : (a : Bool) → ltb (x .depth) d ≡ a → (b : Bool) → (eqb (x .depth) d && eqb (x .row .sort) s) ≡ b → children s d (nextChild s d xs) ≡ children s d xs
+          → children s d (nextChild s d (x ∷ xs)) ≡ children s d (x ∷ xs)
+      by true p b q h = rw (p, nextChild, children)
+      by false p true q h = rw (p, nextChild) (rw q)
+      by false p false q h = rw (p, nextChild, children) (rw q h)
 
   children-hit : (x : Deep FlatRow) (xs : List (Deep FlatRow)) → ltb (x .depth) d ≡ false → (eqb (x .depth) d && eqb (x .row .sort) s) ≡ true → children s d (x ∷ xs) ≡ x .row ∷ children s d xs
   unfolding children
   children-hit x xs p q = rw (p, children) (rw q)
 
   -- where the next one is the first row
-  children-first : (x : Deep FlatRow) (xs ys : List (Deep FlatRow)) → next s d ys ≡ x ∷ xs → children s d (x ∷ xs) ≡ x .row ∷ children s d xs
-  unfolding next children
+  children-first : (x : Deep FlatRow) (xs ys : List (Deep FlatRow)) → nextChild s d ys ≡ x ∷ xs → children s d (x ∷ xs) ≡ x .row ∷ children s d xs
+  unfolding nextChild children
   children-first x xs [] e = let z : false ≡ true = cc e in absurd (false≢true z)
   children-first x xs (y ∷ ys) e = by (ltb (y .depth) d) refl (eqb (y .depth) d && eqb (y .row .sort) s) refl (children-first x xs ys)
     where
       by : (a : Bool) → ltb (y .depth) d ≡ a → (b : Bool) → (eqb (y .depth) d && eqb (y .row .sort) s) ≡ b
-          → (next s d ys ≡ x ∷ xs → children s d (x ∷ xs) ≡ x .row ∷ children s d xs) → children s d (x ∷ xs) ≡ x .row ∷ children s d xs
-      by true p b q h = let g : [] ≡ x ∷ xs = rw (p, next) at e in let z : false ≡ true = cc g in absurd (false≢true z)
+          → (nextChild s d ys ≡ x ∷ xs → children s d (x ∷ xs) ≡ x .row ∷ children s d xs) → children s d (x ∷ xs) ≡ x .row ∷ children s d xs
+      by true p b q h = let g : [] ≡ x ∷ xs = rw (p, nextChild) at e in let z : false ≡ true = cc g in absurd (false≢true z)
       by false p true q h =
-          let g : y ∷ ys ≡ x ∷ xs = rw (p, q, next) at e in
+          let g : y ∷ ys ≡ x ∷ xs = rw (p, q, nextChild) at e in
           let u : x ≡ y = cc g in
           children-hit x xs (ap (λ (z : Deep FlatRow). ltb (z .depth) d) u ∙ p) (ap (λ (z : Deep FlatRow). eqb (z .depth) d && eqb (z .row .sort) s) u ∙ q)
-      by false p false q h = let g : next s d ys ≡ x ∷ xs = rw (p, q, next) at e in h g
+      by false p false q h = let g : nextChild s d ys ≡ x ∷ xs = rw (p, q, nextChild) at e in h g
 
-pub child-of : {w s d : ℕ} {rows : Bytes} {count start i : ℕ} → Begins w rows count i (next s d (rowsFrom w rows count start)) → count - i ≤ count - start → Child w s d rows count start i
+pub child-of : {w s d : ℕ} {rows : Bytes} {count start i : ℕ} → Begins w rows count i (nextChild s d (rowsFrom w rows count start)) → count - i ≤ count - start → Child w s d rows count start i
 child-of {w} {s} {d} {rows} {count} {start} {i} b l =
     record {
       same = ap (children s d) (b .from) ∙ children-next s d (rowsFrom w rows count start);

@@ -11,8 +11,8 @@ use Rattle.rules.specs.Bytes.{Bytes, eqb-of}
 use Rattle.rules.specs.Store.{Form, Row, Forest, bare, tree, heads}
 use Rattle.rules.specs.Preorder.{Deep, flatten}
 use Rattle.rules.specs.Layout.{FlatRow, rowCode, indexed}
-use Rattle.history.proofs.RowEdits.{keep}
-use Rattle.history.proofs.Rowwise.{Standing}
+use Rattle.change_laws.proofs.RowEdits.{keep}
+use Rattle.change_laws.proofs.Rowwise.{Standing}
 use Rattle.store_check.proofs.AttributeRows.{rowWritten}
 use Rattle.document_refusals.specs.Finding.{children, Test, seek}
 

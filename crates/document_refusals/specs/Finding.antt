@@ -7,20 +7,16 @@ use lib.Dec.{eqb, ltb}
 use Rattle.rules.specs.Bytes.{Bytes, any}
 use Rattle.rules.specs.Model.{Members}
 use Rattle.rules.specs.Store.{Store}
-use Rattle.rules.specs.Refusal.{Condition, _if_, first, noElement, unknownAttribute}
+use Rattle.rules.specs.Refusal.{_if_, first, noElement, unknownAttribute}
 use Rattle.rules.specs.Preorder.{Deep}
 use Rattle.rules.specs.Layout.{rowSize, FlatRow}
 use Rattle.rules.specs.Lines.{serialAt}
 use Rattle.rules.specs.Decode.{readRow, rowCount}
-use Rattle.lookup.specs.Bodies.{recordsFrom}
-use Rattle.model.specs.Members.{membersOf}
+use Rattle.lookup.specs.Bodies.{rowsFrom}
+use Rattle.model.specs.Members.{allMembers}
 use Rattle.model.specs.Steps.{runs}
-use Rattle.layout.specs.Bodies.{widthOf, recordAt, definitionsIn, particlesIn, rowsIn}
+use Rattle.layout.specs.Bodies.{widthOf, recordAt, definitionsIn, particlesIn, treeRowsIn}
 use Rattle.form_index.specs.Reading.{definitionIn, modelPart}
-
--- the rows of a body at a width, from number i on, `count` in all
-abbrev pub rowsFrom : ℕ → Bytes → ℕ → ℕ → List (Deep FlatRow)
-rowsFrom w rows count i = recordsFrom readRow (rowSize w) rows count i
 
 -- number r of the rows begins xs; past the last row: none
 pub record Begins (w : ℕ) (rows : Bytes) (count r : ℕ) (xs : List (Deep FlatRow)) : Type 0 where
@@ -28,9 +24,9 @@ pub record Begins (w : ℕ) (rows : Bytes) (count r : ℕ) (xs : List (Deep Flat
   pub within : r ≤ count
 
 -- from the first row of depth d and of a sort on, before any that is less deep
-unfoldable pub next : ℕ → ℕ → List (Deep FlatRow) → List (Deep FlatRow)
-next s d [] = []
-next s d (x ∷ xs) = elim (ltb (x .depth) d) [ true ↦ [] | false ↦ elim (eqb (x .depth) d && eqb (x .row .sort) s) [ true ↦ x ∷ xs | false ↦ next s d xs ] ]
+unfoldable pub nextChild : ℕ → ℕ → List (Deep FlatRow) → List (Deep FlatRow)
+nextChild s d [] = []
+nextChild s d (x ∷ xs) = elim (ltb (x .depth) d) [ true ↦ [] | false ↦ elim (eqb (x .depth) d && eqb (x .row .sort) s) [ true ↦ x ∷ xs | false ↦ nextChild s d xs ] ]
 
 -- all of them
 unfoldable pub children : ℕ → ℕ → List (Deep FlatRow) → List FlatRow
@@ -38,18 +34,18 @@ children s d [] = []
 children s d (x ∷ xs) = elim (ltb (x .depth) d) [ true ↦ [] | false ↦ elim (eqb (x .depth) d && eqb (x .row .sort) s) [ true ↦ x .row ∷ children s d xs | false ↦ children s d xs ] ]
 
 -- an element row with a serial
-abbrev pub elementRow : ℕ → FlatRow → Bool
-elementRow k r = eqb (r .sort) 1 && eqb (r .serial) k
+abbrev pub elementRowWith : ℕ → FlatRow → Bool
+elementRowWith k r = eqb (r .sort) 1 && eqb (r .serial) k
 
 -- a row and its element children
 abbrev pub Test : Type 0
 Test = FlatRow → List FlatRow → Bool
 
 abbrev pub isThis : ℕ → Test
-isThis k r below = elementRow k r
+isThis k r below = elementRowWith k r
 
 abbrev pub isParent : ℕ → Test
-isParent k r below = any (elementRow k) below
+isParent k r below = any (elementRowWith k) below
 
 -- from the first row on that passes a test
 unfoldable pub seek : Test → List (Deep FlatRow) → List (Deep FlatRow)
@@ -58,8 +54,8 @@ seek p (x ∷ xs) = elim (p (x .row) (children 1 (suc (x .depth)) xs)) [ true �
 
 -- ---- in a store
 -- number r of its rows is the element row with serial k; past the last row: there is none
-pub record ElementAt (bs : Bytes) (k r : ℕ) : Type 0 where
-  pub begins : Begins (widthOf bs) (rowsIn bs) (rowCount bs) r (seek (isThis k) (rowsFrom (widthOf bs) (rowsIn bs) (rowCount bs) 0))
+pub record ElementRowAt (bs : Bytes) (k r : ℕ) : Type 0 where
+  pub begins : Begins (widthOf bs) (treeRowsIn bs) (rowCount bs) r (seek (isThis k) (rowsFrom (widthOf bs) (treeRowsIn bs) (rowCount bs) 0))
   pub few : rowCount bs ≤ 4096
 
 -- ---- children, one after the other
@@ -73,9 +69,9 @@ abbrev pub serialIn : FlatRow → ℕ
 serialIn r = r .serial
 
 -- the serial of the first row with an index; 0 if there is none
-abbrev pub serialOf : ℕ → List FlatRow → ℕ
-serialOf a [] = 0
-serialOf a (r ∷ rs) = elim (eqb (r .index) a) [ true ↦ r .serial | false ↦ serialOf a rs ]
+abbrev pub serialOfIndex : ℕ → List FlatRow → ℕ
+serialOfIndex a [] = 0
+serialOfIndex a (r ∷ rs) = elim (eqb (r .index) a) [ true ↦ r .serial | false ↦ serialOfIndex a rs ]
 
 -- The indices of children, without the one with serial `skip`. A new
 -- one is put in before child number p - 1; p 0: none.
@@ -90,23 +86,23 @@ word p new skip [] = newName p new
 word p new skip (r ∷ rs) = (newName p new ++ keptName skip r) ++ word (p - 1) new skip rs
 
 -- the names v are stepped over
-pub record Stepped (ms : Members ℕ) (last : ℕ) (v : List ℕ) (fits : Bool) (after : ℕ) : Type 0 where
+pub record NamesStepped (ms : Members ℕ) (last : ℕ) (v : List ℕ) (fits : Bool) (after : ℕ) : Type 0 where
   pub on : (w : List ℕ) → runs ms last (v ++ w) ≡ (fits && runs ms after w)
 
 -- ---- a row of a store, by its number
 abbrev pub rowIn : Bytes → ℕ → Deep FlatRow
-rowIn bs i = readRow (recordAt (rowSize (widthOf bs)) i (rowsIn bs))
+rowIn bs i = readRow (recordAt (rowSize (widthOf bs)) i (treeRowsIn bs))
 
 -- the rows of a sort right below it
 unfoldable pub childrenAt : Bytes → ℕ → ℕ → List FlatRow
-childrenAt bs s i = children s (suc (rowIn bs i .depth)) (rowsFrom (widthOf bs) (rowsIn bs) (rowCount bs) (i + 1))
+childrenAt bs s i = children s (suc (rowIn bs i .depth)) (rowsFrom (widthOf bs) (treeRowsIn bs) (rowCount bs) (i + 1))
 
 -- its definition's kind and model
-abbrev pub kindAt : Bytes → ℕ → ℕ
-kindAt bs i = definitionIn (definitionsIn bs) (rowIn bs i .row .index) .kind
+abbrev pub definitionKindAt : Bytes → ℕ → ℕ
+definitionKindAt bs i = definitionIn (definitionsIn bs) (rowIn bs i .row .index) .kind
 
 abbrev pub modelAt : Bytes → ℕ → Members ℕ
-modelAt bs i = membersOf (modelPart (definitionsIn bs) (particlesIn bs) (rowIn bs i .row .index))
+modelAt bs i = allMembers (modelPart (definitionsIn bs) (particlesIn bs) (rowIn bs i .row .index))
 
 -- the model takes the element children, as `word` has them
 unfoldable pub fitsAt : Bytes → ℕ → ℕ → ℕ → ℕ → Bool
@@ -119,7 +115,7 @@ pub record RowOf (bs : Bytes) (i : ℕ) : Type 0 where
   pub index : rowIn bs i .row .index ≤ 64
 
 pub record ParentAt (bs : Bytes) (k r : ℕ) : Type 0 where
-  pub begins : Begins (widthOf bs) (rowsIn bs) (rowCount bs) r (seek (isParent k) (rowsFrom (widthOf bs) (rowsIn bs) (rowCount bs) 0))
+  pub begins : Begins (widthOf bs) (treeRowsIn bs) (rowCount bs) r (seek (isParent k) (rowsFrom (widthOf bs) (treeRowsIn bs) (rowCount bs) 0))
   pub few : rowCount bs ≤ 4096
 
 -- it has at least n element children
@@ -130,8 +126,3 @@ hasPlace bs i n = elim (eqb n 0) [ true ↦ true | false ↦ not (eqb (serialAt 
 -- element k, of those on which both may be named; 0 if none does
 pub record AttributeRefused (k a : ℕ) (s : Store) (n : ℕ) : Type 0 where
   pub is : n ≡ first ((6 if unknownAttribute k a s) ∷ (7 if noElement k s) ∷ [])
-
--- ---- conditions
--- n is the number of the first condition that holds, 0 if none does
-pub record Gives (n : ℕ) (cs : List Condition) : Type 0 where
-  pub is : n ≡ first cs

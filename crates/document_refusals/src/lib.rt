@@ -11,20 +11,19 @@ ghost use Rattle.rules.specs.Change.{addDocument, addElement, destroyElement, s
 ghost use Rattle.rules.specs.Refusal.{first, conditions, noElement, rowsOf};
 ghost use Rattle.rules.specs.Layout.{rowSize};
 ghost use Rattle.rules.specs.Decode.{readRow};
-ghost use Rattle.layout.specs.Bodies.{Width, widthOf, recordAt, attributesIn, rowsIn};
+ghost use Rattle.layout.specs.Bodies.{Width, widthOf, recordAt, attributesIn, treeRowsIn};
 ghost use Rattle.form_index.specs.Reading.{attributeIn};
 ghost use Rattle.store_writer.specs.Stores.{storeIn};
 ghost use Rattle.plans.specs.CallPlans.{attributeSerial};
-ghost use Rattle.model.specs.Members.{membersOf};
+ghost use Rattle.model.specs.Members.{allMembers};
 ghost use Rattle.model.specs.Steps.{steps, finishes, runs};
-ghost use Rattle.next_children.specs.Line.{Line};
-ghost use Rattle.document_refusals.specs.Finding.{rowsFrom, Begins, ElementAt, ParentAt, AttributeRefused, RowOf, childrenAt, kindAt, modelAt, fitsAt};
-ghost use Rattle.document_refusals.specs.Finding.{hasPlace, Child, children, elementRow, isThis, isParent, seek, serialIn, serialOf, newName, keptName};
-ghost use Rattle.document_refusals.specs.Finding.{word, Stepped};
+ghost use Rattle.next_children.specs.Line.{NextsLine};
+ghost use Rattle.document_refusals.specs.Finding.{Begins, ElementRowAt, ParentAt, AttributeRefused, RowOf, childrenAt, definitionKindAt, modelAt, fitsAt, hasPlace, Child, children, elementRowWith, isThis, isParent, seek, serialIn, serialOfIndex, newName, keptName, word, NamesStepped};
+ghost use Rattle.lookup.specs.Bodies.{rowsFrom};
 
 // Whether a row is the element row with a serial.
 fn is_element(row: &[u8], element: u32) -> bool
-    ensures { λ r. ⌜ r ≡ elementRow element (readRow (now (row .entry)) .row) ⌝ }
+    ensures { λ r. ⌜ r ≡ elementRowWith element (readRow (now (row .entry)) .row) ⌝ }
 {
     (layout::row_sort(row) == 1) & (layout::row_serial(row) == element)
 }
@@ -110,7 +109,7 @@ pub fn indexed_serial(
     attribute: usize,
 ) -> u32
     requires { ⌜ Width w × (count ≤ 4096) ⌝ }
-    ensures { λ r. ⌜ r ≡ serialOf attribute (children 2 depth (rowsFrom w (now (rows .entry)) count start)) ⌝ }
+    ensures { λ r. ⌜ r ≡ serialOfIndex attribute (children 2 depth (rowsFrom w (now (rows .entry)) count start)) ⌝ }
 {
     let mut i = next_child(w, rows, count, start, depth, 2);
     while i < count {
@@ -126,7 +125,7 @@ pub fn indexed_serial(
 // Whether an element with a serial is among the element children.
 fn has_child(w: usize, rows: &[u8], count: usize, start: usize, depth: usize, element: u32) -> bool
     requires { ⌜ Width w × (count ≤ 4096) ⌝ }
-    ensures { λ r. ⌜ r ≡ any (elementRow element) (children 1 depth (rowsFrom w (now (rows .entry)) count start)) ⌝ }
+    ensures { λ r. ⌜ r ≡ any (elementRowWith element) (children 1 depth (rowsFrom w (now (rows .entry)) count start)) ⌝ }
 {
     let mut i = next_child(w, rows, count, start, depth, 1);
     while i < count {
@@ -166,8 +165,8 @@ struct Ran {
 
 // Whether the child y may come after `last`; what the model's line does not have is looked up in the model.
 fn follows(part: &[u8], line: &[u64], last: usize, y: usize) -> bool
-    requires { ⌜ (67 ≤ length (now line)) × Line 64 (membersOf (now part)) 0 (now line) ⌝ }
-    ensures { λ r. ⌜ r ≡ steps (membersOf (now (part .entry))) last y ⌝ }
+    requires { ⌜ (67 ≤ length (now line)) × NextsLine 64 (allMembers (now part)) 0 (now line) ⌝ }
+    ensures { λ r. ⌜ r ≡ steps (allMembers (now (part .entry))) last y ⌝ }
 {
     if (last <= 64) & (y < 64) {
         return sets::contains(line[last], y);
@@ -177,8 +176,8 @@ fn follows(part: &[u8], line: &[u64], last: usize, y: usize) -> bool
 
 // Whether no child is owed after `last`.
 fn ends(part: &[u8], line: &[u64], last: usize) -> bool
-    requires { ⌜ (67 ≤ length (now line)) × Line 64 (membersOf (now part)) 0 (now line) ⌝ }
-    ensures { λ r. ⌜ r ≡ finishes (membersOf (now (part .entry))) last ⌝ }
+    requires { ⌜ (67 ≤ length (now line)) × NextsLine 64 (allMembers (now part)) 0 (now line) ⌝ }
+    ensures { λ r. ⌜ r ≡ finishes (allMembers (now (part .entry))) last ⌝ }
 {
     if last == 0 {
         return sets::contains(line[66], 0);
@@ -191,8 +190,8 @@ fn ends(part: &[u8], line: &[u64], last: usize) -> bool
 
 // The new child, if its place has come.
 fn step_new(part: &[u8], line: &[u64], last: usize, place: usize, new: usize) -> Ran
-    requires { ⌜ (new < 65536) × (67 ≤ length (now line)) × Line 64 (membersOf (now part)) 0 (now line) ⌝ }
-    ensures { λ r. ⌜ Stepped (membersOf (now (part .entry))) last (newName place new) (r .fits) (r .last) ⌝ }
+    requires { ⌜ (new < 65536) × (67 ≤ length (now line)) × NextsLine 64 (allMembers (now part)) 0 (now line) ⌝ }
+    ensures { λ r. ⌜ NamesStepped (allMembers (now (part .entry))) last (newName place new) (r .fits) (r .last) ⌝ }
 {
     if place == 1 {
         return Ran {
@@ -205,8 +204,8 @@ fn step_new(part: &[u8], line: &[u64], last: usize, place: usize, new: usize) ->
 
 // A child, unless it is left out.
 fn step_child(part: &[u8], line: &[u64], last: usize, row: &[u8], skip: u32) -> Ran
-    requires { ⌜ (67 ≤ length (now line)) × Line 64 (membersOf (now part)) 0 (now line) ⌝ }
-    ensures { λ r. ⌜ Stepped (membersOf (now (part .entry))) last (keptName skip (readRow (now (row .entry)) .row)) (r .fits) (r .last) ⌝ }
+    requires { ⌜ (67 ≤ length (now line)) × NextsLine 64 (allMembers (now part)) 0 (now line) ⌝ }
+    ensures { λ r. ⌜ NamesStepped (allMembers (now (part .entry))) last (keptName skip (readRow (now (row .entry)) .row)) (r .fits) (r .last) ⌝ }
 {
     if layout::row_serial(row) == skip {
         return Ran { fits: true, last };
@@ -231,8 +230,8 @@ fn line_fits(
     new: usize,
     skip: u32,
 ) -> bool
-    requires { ⌜ Width w × (count ≤ 4096) × (new < 65536) × (67 ≤ length (now line)) × Line 64 (membersOf (now part)) 0 (now line) ⌝ }
-    ensures { λ r. ⌜ r ≡ runs (membersOf (now (part .entry))) 0 (word place new skip (children 1 depth (rowsFrom w (now (rows .entry)) count start))) ⌝ }
+    requires { ⌜ Width w × (count ≤ 4096) × (new < 65536) × (67 ≤ length (now line)) × NextsLine 64 (allMembers (now part)) 0 (now line) ⌝ }
+    ensures { λ r. ⌜ r ≡ runs (allMembers (now (part .entry))) 0 (word place new skip (children 1 depth (rowsFrom w (now (rows .entry)) count start))) ⌝ }
 {
     let mut last = 0;
     let mut left = place;
@@ -264,7 +263,7 @@ pub fn children_fit(
     skip: u32,
 ) -> bool
     requires { ⌜ Width w × (count ≤ 4096) × (new < 65536) ⌝ }
-    ensures { λ r. ⌜ r ≡ runs (membersOf (now (part .entry))) 0 (word place new skip (children 1 depth (rowsFrom w (now (rows .entry)) count start))) ⌝ }
+    ensures { λ r. ⌜ r ≡ runs (allMembers (now (part .entry))) 0 (word place new skip (children 1 depth (rowsFrom w (now (rows .entry)) count start))) ⌝ }
 {
     let mut line: [u64; LINE] = [0; LINE];
     next_children::fill(part, 64, 0, &mut line);
@@ -284,7 +283,7 @@ fn less(n: usize) -> usize
 // The number of an element row in a store; the number of rows if there is none.
 fn find_element(store: &[u8], element: u32) -> usize
     requires { ⌜ passes (now store) ≡ true ⌝ }
-    ensures { λ r. ⌜ ElementAt (now (store .entry)) element r ⌝ }
+    ensures { λ r. ⌜ ElementRowAt (now (store .entry)) element r ⌝ }
 {
     let w = layout::width_in(store);
     let rows = layout::rows_of(store);
@@ -294,7 +293,7 @@ fn find_element(store: &[u8], element: u32) -> usize
 // The definition index of row i.
 fn definition_at(store: &[u8], i: usize) -> usize
     requires { ⌜ i ≤ 4096 ⌝ }
-    ensures { λ r. ⌜ r ≡ readRow (recordAt (rowSize (widthOf (now (store .entry)))) i (rowsIn (now (store .entry)))) .row .index ⌝ }
+    ensures { λ r. ⌜ r ≡ readRow (recordAt (rowSize (widthOf (now (store .entry)))) i (treeRowsIn (now (store .entry)))) .row .index ⌝ }
 {
     let w = layout::width_in(store);
     let rows = layout::rows_of(store);
@@ -330,7 +329,7 @@ fn nth_at(store: &[u8], i: usize, sort: u8, n: usize) -> u32
 // The particles of the model of row i's definition.
 fn model_at(store: &[u8], i: usize) -> &[u8]
     requires { ⌜ RowOf (now store) i ⌝ }
-    ensures { λ r. ⌜ membersOf (now r) ≡ modelAt (now (store .entry)) i ⌝ }
+    ensures { λ r. ⌜ allMembers (now r) ≡ modelAt (now (store .entry)) i ⌝ }
 {
     form_index::model_part(
         layout::definitions_of(store),
@@ -362,7 +361,7 @@ fn fits_at(store: &[u8], i: usize, place: usize, new: usize, skip: u32) -> bool
 // The code of the kind of row i's definition.
 fn kind_at(store: &[u8], i: usize) -> u8
     requires { ⌜ RowOf (now store) i ⌝ }
-    ensures { λ r. ⌜ r ≡ kindAt (now (store .entry)) i ⌝ }
+    ensures { λ r. ⌜ r ≡ definitionKindAt (now (store .entry)) i ⌝ }
 {
     form_index::kind_of(layout::definitions_of(store), definition_at(store, i))
 }
@@ -502,7 +501,7 @@ fn owner_of(store: &[u8], attribute: usize) -> usize
 // The serial of the row of an attribute right below row i; 0 if there is none.
 fn attribute_at(store: &[u8], i: usize, attribute: usize) -> u32
     requires { ⌜ RowOf (now store) i ⌝ }
-    ensures { λ r. ⌜ r ≡ serialOf attribute (childrenAt (now (store .entry)) 2 i) ⌝ }
+    ensures { λ r. ⌜ r ≡ serialOfIndex attribute (childrenAt (now (store .entry)) 2 i) ⌝ }
 {
     let w = layout::width_in(store);
     let rows = layout::rows_of(store);

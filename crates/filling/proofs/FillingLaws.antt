@@ -25,7 +25,7 @@ use Rattle.model.specs.declared.What.{What}
 use Rattle.model.specs.declared.What.the-variants.{Element, Group}
 use Rattle.model.specs.declared.Particle.{Particle}
 use Rattle.model.specs.Particle.{whatOf, particleOf}
-use Rattle.model.specs.Members.{indexMember, membersFrom, membersOf}
+use Rattle.model.specs.Members.{indexMember, membersFrom, allMembers}
 use Rattle.model.proofs.MembersLaws.{members-few, members-deeper, members-stop, members-here}
 use Rattle.form_index.specs.Indices.{IndexForm}
 use Rattle.layout.specs.Bodies.{recordAt}
@@ -35,9 +35,8 @@ use Rattle.row_writer.specs.Written.{Written, Room, newRow}
 use Rattle.row_writer.proofs.WrittenLaws.{written-none, written-then, written-as, written-room, written-long}
 use Rattle.filling.specs.declared.Filling.{Filling}
 use Rattle.filling.specs.declared.Filling.the-variants.{Nothing, Definition, Attribute, Particles}
-use Rattle.filling.specs.Fillings.{newElement, newAttribute, requiredRows, fillingsOf, contentRows, fillIndex, groupFilled, fillingRows}
-use Rattle.filling.specs.Parts.{leftOut, passed, settled, sortNothing, memberNothing}
-use Rattle.filling.specs.Parts.{whatFilling, memberFilling, valueIn, requiredAt, requiredIn, formIn, definitionRows, memberRows, belowRows, membersAt, Indexed}
+use Rattle.filling.specs.Fillings.{newElement, newAttributeRow, requiredRows, fillingsOf, contentRows, fillIndex, groupFilled, fillingRows}
+use Rattle.filling.specs.Parts.{leftOut, passed, settled, sortNothing, memberNothing, whatFilling, memberFilling, valueIn, requiredAt, requiredIn, indexFormIn, definitionRows, memberRows, belowRows, membersReadAt, Indexed}
 
 -- ---- readers
 -- a created value is no longer than the fill
@@ -89,8 +88,8 @@ module _ (F : IndexForm) (value : ℕ → Bytes) (d i : ℕ) where
       R = requiredRows F value d i (j + suc n) 1
 
       by : (b : Bool) → L ≡ M ++ R
-          → elim b as (λ z. List (Deep FlatRow)) [ true ↦ newAttribute d j (value j) ∷ L | false ↦ L ] ≡ (elim b as (λ z. List (Deep FlatRow)) [ true ↦ newAttribute d j (value j) ∷ M | false ↦ M ]) ++ R
-      by true e = ap (λ (z : List (Deep FlatRow)). newAttribute d j (value j) ∷ z) e
+          → elim b as (λ z. List (Deep FlatRow)) [ true ↦ newAttributeRow d j (value j) ∷ L | false ↦ L ] ≡ (elim b as (λ z. List (Deep FlatRow)) [ true ↦ newAttributeRow d j (value j) ∷ M | false ↦ M ]) ++ R
+      by true e = ap (λ (z : List (Deep FlatRow)). newAttributeRow d j (value j) ∷ z) e
       by false e = e
 
 module _ (version w : ℕ) (attrs : Bytes) (d i : ℕ) where
@@ -98,20 +97,20 @@ module _ (version w : ℕ) (attrs : Bytes) (d i : ℕ) where
   rowIf true x = x ∷ []
   rowIf false x = []
 
-  required-at : (j : ℕ) {b : Bool} → b ≡ (eqb (attributeIn w attrs j .owner) i && mustBePresent version (sortOf (attributeIn w attrs j .sort))) → requiredAt version w attrs d i j ≡ rowIf b (newAttribute d j (valueIn w attrs j))
+  required-at : (j : ℕ) {b : Bool} → b ≡ (eqb (attributeIn w attrs j .owner) i && mustBePresent version (sortOf (attributeIn w attrs j .sort))) → requiredAt version w attrs d i j ≡ rowIf b (newAttributeRow d j (valueIn w attrs j))
   unfolding requiredAt requiredRows
-  required-at j {b} e = by (eqb (attributeIn w attrs j .owner) i && mustBePresent version (sortOf (attributeIn w attrs j .sort))) ∙ ap (λ (z : Bool). rowIf z (newAttribute d j (valueIn w attrs j))) (sym e)
+  required-at j {b} e = by (eqb (attributeIn w attrs j .owner) i && mustBePresent version (sortOf (attributeIn w attrs j .sort))) ∙ ap (λ (z : Bool). rowIf z (newAttributeRow d j (valueIn w attrs j))) (sym e)
     where
-      by : (c : Bool) → elim c as (λ z. List (Deep FlatRow)) [ true ↦ newAttribute d j (valueIn w attrs j) ∷ [] | false ↦ [] ] ≡ rowIf c (newAttribute d j (valueIn w attrs j))
+      by : (c : Bool) → elim c as (λ z. List (Deep FlatRow)) [ true ↦ newAttributeRow d j (valueIn w attrs j) ∷ [] | false ↦ [] ] ≡ rowIf c (newAttributeRow d j (valueIn w attrs j))
       by true = refl
       by false = refl
 
   pub spare-written : (j : ℕ) {b : Bool} {c : Cursor} {out : Bytes} → b ≡ (eqb (attributeIn w attrs j .owner) i && mustBePresent version (sortOf (attributeIn w attrs j .sort))) → b ≡ false → Written w (requiredAt version w attrs d i j) c out c out
-  spare-written j e f = written-as (required-at j e ∙ ap (λ (z : Bool). rowIf z (newAttribute d j (valueIn w attrs j))) f) written-none
+  spare-written j e f = written-as (required-at j e ∙ ap (λ (z : Bool). rowIf z (newAttributeRow d j (valueIn w attrs j))) f) written-none
 
   pub needed-written : (j : ℕ) {b : Bool} {v : Bytes} {c r : Cursor} {out out′ : Bytes} → b ≡ (eqb (attributeIn w attrs j .owner) i && mustBePresent version (sortOf (attributeIn w attrs j .sort))) → b ≡ true → v ≡ valueIn w attrs j → Written w (newRow 2 d j v ∷ []) c out r out′
       → Written w (requiredAt version w attrs d i j) c out r out′
-  needed-written j e t m p = written-as (required-at j e ∙ ap (λ (z : Bool). rowIf z (newAttribute d j (valueIn w attrs j))) t ∙ ap (λ (z : Bytes). newAttribute d j z ∷ []) (sym m)) p
+  needed-written j e t m p = written-as (required-at j e ∙ ap (λ (z : Bool). rowIf z (newAttributeRow d j (valueIn w attrs j))) t ∙ ap (λ (z : Bytes). newAttributeRow d j z ∷ []) (sym m)) p
 
   pub required-none : {c : Cursor} {out : Bytes} → Written w (requiredIn version w attrs d i 0) c out c out
   unfolding requiredIn requiredRows
@@ -344,7 +343,7 @@ unfolding requiredRows
 form-required version w n a b defs parts attrs value d i j zero = refl
 form-required version w n a b defs parts attrs value d i j (suc k) =
     let e : requiredRows (indexForm version w n defs parts attrs a) value d i (suc j) k ≡ requiredRows (attributesOf version w attrs b) value d i (suc j) k = form-required version w n a b defs parts attrs value d i (suc j) k in
-    λ z. elim (eqb (attributeIn w attrs j .owner) i && mustBePresent version (sortOf (attributeIn w attrs j .sort))) as (λ x. List (Deep FlatRow)) [ true ↦ newAttribute d j (value j) ∷ e z | false ↦ e z ]
+    λ z. elim (eqb (attributeIn w attrs j .owner) i && mustBePresent version (sortOf (attributeIn w attrs j .sort))) as (λ x. List (Deep FlatRow)) [ true ↦ newAttributeRow d j (value j) ∷ e z | false ↦ e z ]
 
 -- nor fillings on the number of definitions
 form-fillings : (version w n m a : ℕ) (defs parts attrs : Bytes) (value : ℕ → Bytes) (f g : ℕ → List (Deep FlatRow)) → ((j : ℕ) → f j ≡ g j) → (is : List ℕ) → fillingsOf (indexForm version w n defs parts attrs a) value f is ≡ fillingsOf (indexForm version w m defs parts attrs a) value g is
@@ -366,7 +365,7 @@ module _ (version w : ℕ) (defs parts attrs : Bytes) (a : ℕ) (txt : Bytes) wh
   sized n zero d i = refl
   sized n (suc h) d i =
       ap₂ (λ (u v : List (Deep FlatRow)). newElement d i ∷ (u ++ v)) (form-required version w n a 0 defs parts attrs (valueIn w attrs) (suc d) i 0 a ∙ sym (form-required version w 0 a 0 defs parts attrs (valueIn w attrs) (suc d) i 0 a))
-      (form-content version w n 0 a defs parts attrs (valueIn w attrs) (λ j. fillIndex (indexForm version w n defs parts attrs a) (valueIn w attrs) h txt (suc d) j) (λ j. fillIndex (indexForm version w 0 defs parts attrs a) (valueIn w attrs) h txt (suc d) j) (λ j. sized n h (suc d) j) txt (suc d) (membersOf (modelPart defs parts i)) (definitionIn defs i .kind))
+      (form-content version w n 0 a defs parts attrs (valueIn w attrs) (λ j. fillIndex (indexForm version w n defs parts attrs a) (valueIn w attrs) h txt (suc d) j) (λ j. fillIndex (indexForm version w 0 defs parts attrs a) (valueIn w attrs) h txt (suc d) j) (λ j. sized n h (suc d) j) txt (suc d) (allMembers (modelPart defs parts i)) (definitionIn defs i .kind))
 
   pub definition-sized : (n d i : ℕ) {c r : Cursor} {out out′ : Bytes} → Written w (definitionRows version w defs parts attrs a txt n d i) c out r out′ → Written w (fillIndex (indexForm version w n defs parts attrs a) (valueIn w attrs) n txt d i) c out r out′
   unfolding definitionRows
@@ -395,9 +394,9 @@ module _ (version w : ℕ) (defs parts attrs : Bytes) (a : ℕ) (txt : Bytes) wh
 
     -- ---- what stands below an element of definition i, whose kind is k
     module _ (i k : ℕ) (e : k ≡ definitionIn defs i .kind) where
-      kind-told : belowRows version w defs parts attrs a txt h d i ≡ contentRows (formIn version w defs parts attrs a) (valueIn w attrs) (λ j. definitionRows version w defs parts attrs a txt h d j) txt d (membersOf (modelPart defs parts i)) k
+      kind-told : belowRows version w defs parts attrs a txt h d i ≡ contentRows (indexFormIn version w defs parts attrs a) (valueIn w attrs) (λ j. definitionRows version w defs parts attrs a txt h d j) txt d (allMembers (modelPart defs parts i)) k
       unfolding belowRows
-      kind-told = ap (λ (z : ℕ). contentRows (formIn version w defs parts attrs a) (valueIn w attrs) (λ j. definitionRows version w defs parts attrs a txt h d j) txt d (membersOf (modelPart defs parts i)) z) (sym e)
+      kind-told = ap (λ (z : ℕ). contentRows (indexFormIn version w defs parts attrs a) (valueIn w attrs) (λ j. definitionRows version w defs parts attrs a txt h d j) txt d (allMembers (modelPart defs parts i)) z) (sym e)
 
       pub below-none : {c : Cursor} {out : Bytes} → k ≡ 0 → Written w (belowRows version w defs parts attrs a txt h d i) c out c out
       unfolding contentRows
@@ -413,7 +412,7 @@ module _ (version w : ℕ) (defs parts attrs : Bytes) (a : ℕ) (txt : Bytes) wh
       below-group s n m q p = written-as (kind-told ∙ by k n m ∙ ap (λ (z : Bytes). memberRows version w defs parts attrs a txt h d (filling Sequence (membersFrom 0 z))) (sym q)) p
         where
           by : (k : ℕ) → (k ≡ 0 → ⊥) → (k ≡ 1 → ⊥)
-              → contentRows (formIn version w defs parts attrs a) (valueIn w attrs) (λ j. definitionRows version w defs parts attrs a txt h d j) txt d (membersOf (modelPart defs parts i)) k
+              → contentRows (indexFormIn version w defs parts attrs a) (valueIn w attrs) (λ j. definitionRows version w defs parts attrs a txt h d j) txt d (allMembers (modelPart defs parts i)) k
               ≡ memberRows version w defs parts attrs a txt h d (filling Sequence (membersFrom 0 (modelPart defs parts i)))
           by zero n m = absurd (n refl)
           by (suc zero) n m = absurd (m refl)
@@ -546,7 +545,7 @@ part-short defs parts i s e =
 -- ---- what a change fills with
 module _ (version w n : ℕ) (defs parts attrs : Bytes) (a : ℕ) (what : Filling) (txt : Bytes) (d : ℕ) where
   abbrev rowsFor : Filling → List (Deep FlatRow)
-  rowsFor x = fillingRows (indexForm version w n defs parts attrs a) (valueIn w attrs) (λ k e. membersAt parts k e) x txt d
+  rowsFor x = fillingRows (indexForm version w n defs parts attrs a) (valueIn w attrs) (λ k e. membersReadAt parts k e) x txt d
 
   pub nothing-filled : {c : Cursor} {out : Bytes} → what ≡ Nothing → Written w (rowsFor what) c out c out
   nothing-filled e = written-as (ap (λ (x : Filling). rowsFor x) e) written-none
@@ -557,26 +556,26 @@ module _ (version w n : ℕ) (defs parts attrs : Bytes) (a : ℕ) (what : Fillin
   pub attribute-filled : (j : ℕ) {c r : Cursor} {out out′ : Bytes} → what ≡ Attribute j → Written w (newRow 2 d j txt ∷ []) c out r out′ → Written w (rowsFor what) c out r out′
   attribute-filled j e p = written-as (ap (λ (x : Filling). rowsFor x) e) p
 
-  pub particles-filled : (g : GroupKind) (k e : ℕ) {c r : Cursor} {out out′ : Bytes} → what ≡ Particles g k e → Written w (memberRows version w defs parts attrs a txt n d (groupFilled g (membersAt parts k e))) c out r out′ → Written w (rowsFor what) c out r out′
+  pub particles-filled : (g : GroupKind) (k e : ℕ) {c r : Cursor} {out out′ : Bytes} → what ≡ Particles g k e → Written w (memberRows version w defs parts attrs a txt n d (groupFilled g (membersReadAt parts k e))) c out r out′ → Written w (rowsFor what) c out r out′
   unfolding memberRows definitionRows
   particles-filled g k e q p =
       written-as
       (ap (λ (x : Filling). rowsFor x) q
       ∙ form-fillings version w n 0 a defs parts attrs (valueIn w attrs) (λ i. fillIndex (indexForm version w n defs parts attrs a) (valueIn w attrs) n txt d i) (λ i. fillIndex (indexForm version w 0 defs parts attrs a) (valueIn w attrs) n txt d i) (λ i. sized version w defs parts attrs a txt n n d i)
-      (groupFilled g (membersAt parts k e)))
+      (groupFilled g (membersReadAt parts k e)))
       p
 
 -- s: the particles from number k on
 module _ (parts s : Bytes) (k e : ℕ) (t : s ≡ take (length parts) (drop (4 * k) parts)) (g : GroupKind) (b : Bool) (told : b ≡ nothing g (membersFrom e s)) where
-  here : membersFrom e s ≡ membersAt parts k e
-  unfolding membersAt
+  here : membersFrom e s ≡ membersReadAt parts k e
+  unfolding membersReadAt
   here = ap (membersFrom e) (t ∙ take-all (length parts) (drop (4 * k) parts) (omega (arith, length-drop (4 * k) parts)))
 
-  pub group-empty : b ≡ true → groupFilled g (membersAt parts k e) ≡ []
+  pub group-empty : b ≡ true → groupFilled g (membersReadAt parts k e) ≡ []
   unfolding groupFilled
   group-empty q = ap (λ (ms : Members ℕ). unless (nothing g ms) (filling g ms)) (sym here) ∙ ap (λ (z : Bool). unless z (filling g (membersFrom e s))) (sym told ∙ q)
 
-  pub group-full : b ≡ false → groupFilled g (membersAt parts k e) ≡ filling g (membersFrom e s)
+  pub group-full : b ≡ false → groupFilled g (membersReadAt parts k e) ≡ filling g (membersFrom e s)
   unfolding groupFilled
   group-full q = ap (λ (ms : Members ℕ). unless (nothing g ms) (filling g ms)) (sym here) ∙ ap (λ (z : Bool). unless z (filling g (membersFrom e s))) (sym told ∙ q)
 

@@ -17,8 +17,8 @@ use Rattle.filling.specs.declared.Filling.the-variants.{Nothing, Definit
 abbrev pub newElement : ℕ → ℕ → Deep FlatRow
 newElement d i = record { depth = d; row = record { sort = 1; index = i; serial = 0; value = [] } }
 
-abbrev pub newAttribute : ℕ → ℕ → Bytes → Deep FlatRow
-newAttribute d j v = record { depth = d; row = record { sort = 2; index = j; serial = 0; value = v } }
+abbrev pub newAttributeRow : ℕ → ℕ → Bytes → Deep FlatRow
+newAttributeRow d j v = record { depth = d; row = record { sort = 2; index = j; serial = 0; value = v } }
 
 abbrev pub newText : ℕ → Bytes → Deep FlatRow
 newText d v = record { depth = d; row = record { sort = 3; index = 0; serial = 0; value = v } }
@@ -32,7 +32,7 @@ module _ (F : IndexForm) (value : ℕ → Bytes) where
   -- 'its REQUIRED attributes with their fills': of n attributes from number j on
   unfoldable pub requiredRows : ℕ → ℕ → ℕ → ℕ → List (Deep FlatRow)
   requiredRows d i j zero = []
-  requiredRows d i j (suc n) = elim (eqb (F .owner j) i && F .needed j) [ true ↦ newAttribute d j (value j) ∷ requiredRows d i (suc j) n | false ↦ requiredRows d i (suc j) n ]
+  requiredRows d i j (suc n) = elim (eqb (F .owner j) i && F .needed j) [ true ↦ newAttributeRow d j (value j) ∷ requiredRows d i (suc j) n | false ↦ requiredRows d i (suc j) n ]
 
   -- fillings one after the other
   unfoldable pub fillingsOf : (ℕ → List (Deep FlatRow)) → List ℕ → List (Deep FlatRow)
@@ -55,5 +55,5 @@ module _ (F : IndexForm) (value : ℕ → Bytes) where
     abbrev pub fillingRows : Filling → Bytes → ℕ → List (Deep FlatRow)
     fillingRows Nothing txt d = []
     fillingRows (Definition i) txt d = fillIndex (F .size) txt d i
-    fillingRows (Attribute j) txt d = newAttribute d j txt ∷ []
+    fillingRows (Attribute j) txt d = newAttributeRow d j txt ∷ []
     fillingRows (Particles g k e) txt d = fillingsOf (λ i. fillIndex (F .size) txt d i) (groupFilled g (at k e))

@@ -17,7 +17,7 @@ use Rattle.rules.specs.Filling.{createdValue}
 use Rattle.model.specs.declared.What.{What}
 use Rattle.model.specs.declared.What.the-variants.{Element, Group}
 use Rattle.model.specs.Particle.{particleOf}
-use Rattle.model.specs.Members.{membersFrom, membersOf}
+use Rattle.model.specs.Members.{membersFrom, allMembers}
 use Rattle.layout.specs.Bodies.{Width}
 use Rattle.form_index.specs.Indices.{IndexForm}
 use Rattle.form_index.specs.Reading.{definitionIn, attributeIn, modelPart, attributesOf, indexForm}
@@ -62,8 +62,8 @@ unfoldable pub memberNothing : ℕ → Bytes → Bool
 memberNothing d s = sortNothing (quantifierOf (getD s 1 0)) (getD s 0 0) (membersFrom (suc d) (drop 4 s))
 
 -- the members of depth e from particle k on
-unfoldable pub membersAt : Bytes → ℕ → ℕ → Members ℕ
-membersAt parts k e = membersFrom e (drop (4 * k) parts)
+unfoldable pub membersReadAt : Bytes → ℕ → ℕ → Members ℕ
+membersReadAt parts k e = membersFrom e (drop (4 * k) parts)
 
 -- ---- rows of depth d
 -- the value of a created row of an attribute, and of attribute j
@@ -81,20 +81,20 @@ unfoldable pub requiredIn : ℕ → ℕ → Bytes → ℕ → ℕ → ℕ → Li
 requiredIn version w attrs d i n = requiredRows (attributesOf version w attrs 0) (valueIn w attrs) d i 0 n
 
 -- how many definitions there are is not looked at
-abbrev pub formIn : ℕ → ℕ → Bytes → Bytes → Bytes → ℕ → IndexForm
-formIn version w defs parts attrs a = indexForm version w 0 defs parts attrs a
+abbrev pub indexFormIn : ℕ → ℕ → Bytes → Bytes → Bytes → ℕ → IndexForm
+indexFormIn version w defs parts attrs a = indexForm version w 0 defs parts attrs a
 
 -- of definitions of at most height h
 module _ (version w : ℕ) (defs parts attrs : Bytes) (a : ℕ) (txt : Bytes) (h d : ℕ) where
   unfoldable pub definitionRows : ℕ → List (Deep FlatRow)
-  definitionRows i = fillIndex (formIn version w defs parts attrs a) (valueIn w attrs) h txt d i
+  definitionRows i = fillIndex (indexFormIn version w defs parts attrs a) (valueIn w attrs) h txt d i
 
   unfoldable pub memberRows : List ℕ → List (Deep FlatRow)
-  memberRows is = fillingsOf (formIn version w defs parts attrs a) (valueIn w attrs) (λ i. definitionRows i) is
+  memberRows is = fillingsOf (indexFormIn version w defs parts attrs a) (valueIn w attrs) (λ i. definitionRows i) is
 
   -- what stands below an element of definition i, after its attributes
   unfoldable pub belowRows : ℕ → List (Deep FlatRow)
-  belowRows i = contentRows (formIn version w defs parts attrs a) (valueIn w attrs) (λ j. definitionRows j) txt d (membersOf (modelPart defs parts i)) (definitionIn defs i .kind)
+  belowRows i = contentRows (indexFormIn version w defs parts attrs a) (valueIn w attrs) (λ j. definitionRows j) txt d (allMembers (modelPart defs parts i)) (definitionIn defs i .kind)
 
 -- ---- a form as it is lent: definitions, particles, attributes
 abbrev pub lentIn : List (RefT Bytes) → ℕ → Bytes
@@ -116,23 +116,23 @@ widthIn ks = getD ks 0 0
 abbrev pub countIn : List ℕ → ℕ
 countIn ks = getD ks 1 0
 
-abbrev pub versionIn : List ℕ → ℕ
-versionIn ks = getD ks 2 0
+abbrev pub versionOfFilling : List ℕ → ℕ
+versionOfFilling ks = getD ks 2 0
 
 -- the rows of a definition, of members, of what stands below an element, and of what a change fills with
 module _ (ks : List ℕ) (fs : List (RefT Bytes)) (txt : Bytes) (h d : ℕ) where
   abbrev pub definitionFilled : ℕ → List (Deep FlatRow)
-  definitionFilled i = definitionRows (versionIn ks) (widthIn ks) (defsIn fs) (partsIn fs) (attrsIn fs) (countIn ks) txt h d i
+  definitionFilled i = definitionRows (versionOfFilling ks) (widthIn ks) (defsIn fs) (partsIn fs) (attrsIn fs) (countIn ks) txt h d i
 
   abbrev pub membersFilled : List ℕ → List (Deep FlatRow)
-  membersFilled is = memberRows (versionIn ks) (widthIn ks) (defsIn fs) (partsIn fs) (attrsIn fs) (countIn ks) txt h d is
+  membersFilled is = memberRows (versionOfFilling ks) (widthIn ks) (defsIn fs) (partsIn fs) (attrsIn fs) (countIn ks) txt h d is
 
   abbrev pub belowFilled : ℕ → List (Deep FlatRow)
-  belowFilled i = belowRows (versionIn ks) (widthIn ks) (defsIn fs) (partsIn fs) (attrsIn fs) (countIn ks) txt h d i
+  belowFilled i = belowRows (versionOfFilling ks) (widthIn ks) (defsIn fs) (partsIn fs) (attrsIn fs) (countIn ks) txt h d i
 
   abbrev pub changeFilled : Filling → List (Deep FlatRow)
   changeFilled what =
-      fillingRows (indexForm (versionIn ks) (widthIn ks) h (defsIn fs) (partsIn fs) (attrsIn fs) (countIn ks)) (valueIn (widthIn ks) (attrsIn fs)) (λ k e. membersAt (partsIn fs) k e) what txt d
+      fillingRows (indexForm (versionOfFilling ks) (widthIn ks) h (defsIn fs) (partsIn fs) (attrsIn fs) (countIn ks)) (valueIn (widthIn ks) (attrsIn fs)) (λ k e. membersReadAt (partsIn fs) k e) what txt d
 
 -- a cursor as it is lent: where the next row goes, how many may still be written, the next serial
 abbrev pub cursorIn : List ℕ → Cursor

@@ -13,8 +13,7 @@ ghost use Rattle.form_index.specs.Reading.{attributeIn, indexForm};
 ghost use Rattle.layout.specs.Bodies.{Width};
 ghost use Rattle.row_writer.specs.Written.{Room, Written, newRow};
 ghost use Rattle.filling.specs.Fillings.{groupFilled, fillingRows};
-ghost use Rattle.filling.specs.Parts.{leftOut, passed, settled, memberNothing};
-ghost use Rattle.filling.specs.Parts.{memberFilling, valueIn, requiredAt, requiredIn, membersAt, partsIn, widthIn, countIn, definitionFilled, membersFilled, belowFilled, changeFilled, cursorIn, Asks, Indexed};
+ghost use Rattle.filling.specs.Parts.{leftOut, passed, settled, memberNothing, memberFilling, valueIn, requiredAt, requiredIn, membersReadAt, partsIn, widthIn, countIn, definitionFilled, membersFilled, belowFilled, changeFilled, cursorIn, Asks, Indexed};
 
 /// What a change fills with: nothing, a definition by its index, one row of an attribute by its index, or a group of a kind by the number
 /// of its first member in the particle body and the depth of its members.
@@ -339,7 +338,7 @@ fn put_members(
     out: &mut [u8],
 )
     requires { ⌜ (first ≤ 256) × (d ≤ 256) × Asks (widthIn (now sizes)) (cursorIn (now c)) (now (now text)) (countIn (now sizes)) h depth ⌝ }
-    ensures { λ _. ⌜ Written (widthIn (now (sizes .entry))) (membersFilled (now (sizes .entry)) (now (form .entry)) (now (now (text .entry))) h depth (groupFilled kind (membersAt (partsIn (now (form .entry))) first d))) (cursorIn (now (c .entry))) (now (out .entry)) (cursorIn (now (c .exit))) (now (out .exit)) ⌝ }
+    ensures { λ _. ⌜ Written (widthIn (now (sizes .entry))) (membersFilled (now (sizes .entry)) (now (form .entry)) (now (now (text .entry))) h depth (groupFilled kind (membersReadAt (partsIn (now (form .entry))) first d))) (cursorIn (now (c .entry))) (now (out .entry)) (cursorIn (now (c .exit))) (now (out .exit)) ⌝ }
 {
     let parts = form[1];
     let s = layout::window(parts, 4 * first, parts.len());
@@ -398,7 +397,7 @@ pub fn put_filling<'a>(
     out: &mut [u8],
 ) -> Cursor
     requires { ⌜ Indexed what × Asks w c (now text) a n depth ⌝ }
-    ensures { λ r. ⌜ Written w (fillingRows (indexForm version w n (now (defs .entry)) (now (parts .entry)) (now (attrs .entry)) a) (λ j. valueIn w (now (attrs .entry)) j) (λ k d. membersAt (now (parts .entry)) k d) what (now (text .entry)) depth) c (now (out .entry)) r (now (out .exit)) ⌝ }
+    ensures { λ r. ⌜ Written w (fillingRows (indexForm version w n (now (defs .entry)) (now (parts .entry)) (now (attrs .entry)) a) (λ j. valueIn w (now (attrs .entry)) j) (λ k d. membersReadAt (now (parts .entry)) k d) what (now (text .entry)) depth) c (now (out .entry)) r (now (out .exit)) ⌝ }
 {
     let form = [defs, parts, attrs];
     let sizes = [w, a, version];

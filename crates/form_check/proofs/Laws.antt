@@ -10,8 +10,9 @@ use Rattle.rules.specs.Model.{member, distinct}
 use Rattle.rules.specs.Layout.{definitionSize, particleSize, attributeSize, FlatDefinition, FlatAttribute, FlatStore}
 use Rattle.rules.specs.Decode.{flatName, readDefinition, readParticle, readAttribute, readBodies}
 use Rattle.form_check.specs.FormTests.{definitionsApart, modelsFit, clashes, ownersRise, attributesApart, bodiesFit}
-use Rattle.form_check.specs.Bodies.{definitions, particles, attributes, formOf, apart, sameName}
-use Rattle.form_check.proofs.Reading.{definitions-length, many-front}
+use Rattle.form_check.specs.Bodies.{definitions, particlesRead, attributes, formOfBodies, apart, sameName}
+use Rattle.form_check.proofs.Reading.{definitions-length}
+use Rattle.codec.proofs.Records.{many-within}
 
 -- ---- an entry like this one, further on
 module _ {A : Type 0} (p : A → Bool) {l rest : List A} {y : A} (e : l ≡ y ∷ rest) where
@@ -75,8 +76,8 @@ owners-end least e = rw e
 
 -- ---- the whole
 pub bodies-by : (w n : ℕ) (defs : Bytes) (p : ℕ) (parts : Bytes) (a : ℕ) (attrs : Bytes) {t u v x : Bool}
-    → t ≡ definitionsApart (definitions n defs) → u ≡ modelsFit n (definitions n defs) (particles p parts) → v ≡ ownersRise 0 (attributes w a attrs) → x ≡ attributesApart (attributes w a attrs)
-    → (t && (u && (v && x))) ≡ bodiesFit (formOf w n defs p parts a attrs)
+    → t ≡ definitionsApart (definitions n defs) → u ≡ modelsFit n (definitions n defs) (particlesRead p parts) → v ≡ ownersRise 0 (attributes w a attrs) → x ≡ attributesApart (attributes w a attrs)
+    → (t && (u && (v && x))) ≡ bodiesFit (formOfBodies w n defs p parts a attrs)
 unfolding bodiesFit
 bodies-by w n defs p parts a attrs ht hu hv hw = rw (ht, hu, hv, hw, bodiesFit, definitions-length n defs)
 
@@ -96,10 +97,10 @@ module _ (w version next n p a r : ℕ) (bs : Bytes) where
   abbrev attributePart : Bytes
   attributePart = take (attributeSize w * a) (drop (particleSize * p) (drop (definitionSize * n) bs))
 
-  pub bodies-read : bodiesFit (readBodies w version next n p a r bs) ≡ bodiesFit (formOf w n definitionPart p particlePart a attributePart)
-  unfolding definitions particles attributes
+  pub bodies-read : bodiesFit (readBodies w version next n p a r bs) ≡ bodiesFit (formOfBodies w n definitionPart p particlePart a attributePart)
+  unfolding definitions particlesRead attributes
   bodies-read =
-      bodies-only (readBodies w version next n p a r bs) (formOf w n definitionPart p particlePart a attributePart)
-      (sym (many-front readDefinition definitionSize n bs))
-      (sym (many-front readParticle particleSize p (drop (definitionSize * n) bs)))
-      (sym (many-front readAttribute (attributeSize w) a (drop (particleSize * p) (drop (definitionSize * n) bs))))
+      bodies-only (readBodies w version next n p a r bs) (formOfBodies w n definitionPart p particlePart a attributePart)
+      (sym (many-within readDefinition definitionSize n bs))
+      (sym (many-within readParticle particleSize p (drop (definitionSize * n) bs)))
+      (sym (many-within readAttribute (attributeSize w) a (drop (particleSize * p) (drop (definitionSize * n) bs))))

@@ -8,16 +8,16 @@ use mathlib.Core.List.{List, [], _∷_}
 use lib.Dec.{eqb, leb, ltb}
 use lib.ListN.{length, take, drop, length-drop}
 use lib.Seq.{drop-drop}
-use borrow.Author.Tests.{lt-ltb, le-ltb, eq-eqb, ne-eqb, le-leb, lt-leb, leb-true, eqb-true, eqb-false, not-true, not-false}
+use borrow.Author.Tests.{le-ltb, eq-eqb, ne-eqb, le-leb, lt-leb, leb-true, eqb-true, eqb-false, not-true, not-false}
 use Rattle.rules.specs.Bytes.{Bytes, numbers, all, any, isNone, and-left, and-right}
 use Rattle.rules.specs.Model.{member, distinct}
-use Rattle.rules.specs.Store.{Forest, bare, tree, heads}
+use Rattle.rules.specs.Store.{Forest, tree, heads}
 use Rattle.rules.specs.Preorder.{Deep, build}
 use Rattle.rules.specs.Layout.{particleSize, FlatParticle, FlatDefinition}
-use Rattle.rules.proofs.PreorderLaws.{rising}
+use Rattle.rules.proofs.PreorderLaws.{rising, build-less, build-more}
 use Rattle.codec.specs.Part.{partOf}
 use Rattle.form_check.specs.FormTests.{particleFits, shaped, elementsIn, modelFits, modelsFit}
-use Rattle.form_check.specs.Bodies.{particles, apart, sameElement, countFits, membersFrom, stands, walks}
+use Rattle.form_check.specs.Bodies.{particlesRead, apart, sameElement, countFits, countBeside, stands, walks}
 use Rattle.form_check.proofs.Reading.{particles-part}
 
 -- ---- build, at a row of depth k, at a deeper one, at one less deep
@@ -25,28 +25,22 @@ module _ {A : Type 0} where
   build-same : (x : Deep A) (xs : List (Deep A)) (k : ℕ) → x .depth ≡ k → build (x ∷ xs) k ≡ tree (x .row) (build xs (suc k)) (build xs k)
   build-same x xs k h = rw (le-ltb k (x .depth) (omega arith), build) (rw (eq-eqb k (x .depth) (sym h)))
 
-  build-deeper : (x : Deep A) (xs : List (Deep A)) (k : ℕ) → k < x .depth → build (x ∷ xs) k ≡ build xs k
-  build-deeper x xs k h = rw (lt-ltb k (x .depth) h, build)
-
-  build-less : (x : Deep A) (xs : List (Deep A)) (k : ℕ) → x .depth < k → build (x ∷ xs) k ≡ bare
-  build-less x xs k h = rw (le-ltb k (x .depth) (omega arith), build) (rw (ne-eqb k (x .depth) (λ e. omega arith)))
-
 -- ---- the scan that counts members
 module _ (k : ℕ) {l rest : List (Deep FlatParticle)} {p : Deep FlatParticle} (e : l ≡ p ∷ rest) where
-  pub members-less : p .depth < k → membersFrom k l ≡ 0
-  unfolding membersFrom
-  members-less h = rw e (ap (λ (f : Forest FlatParticle). length (heads f)) (build-less p rest k h))
+  pub members-less : p .depth < k → countBeside k l ≡ 0
+  unfolding countBeside
+  members-less h = rw e (ap (λ (f : Forest FlatParticle). length (heads f)) (build-more p rest k h))
 
-  pub members-same : p .depth ≡ k → membersFrom k l ≡ suc (membersFrom k rest)
-  unfolding membersFrom
+  pub members-same : p .depth ≡ k → countBeside k l ≡ suc (countBeside k rest)
+  unfolding countBeside
   members-same h = rw e (ap (λ (f : Forest FlatParticle). length (heads f)) (build-same p rest k h))
 
-  pub members-deeper : k < p .depth → membersFrom k l ≡ membersFrom k rest
-  unfolding membersFrom
-  members-deeper h = rw e (ap (λ (f : Forest FlatParticle). length (heads f)) (build-deeper p rest k h))
+  pub members-deeper : k < p .depth → countBeside k l ≡ countBeside k rest
+  unfolding countBeside
+  members-deeper h = rw e (ap (λ (f : Forest FlatParticle). length (heads f)) (build-less p rest k h))
 
-pub members-end : (k : ℕ) {l : List (Deep FlatParticle)} → l ≡ [] → membersFrom k l ≡ 0
-unfolding membersFrom
+pub members-end : (k : ℕ) {l : List (Deep FlatParticle)} → l ≡ [] → countBeside k l ≡ 0
+unfolding countBeside
 members-end k e = rw e
 
 -- ---- one particle's fields, as the code reads them
@@ -68,7 +62,7 @@ module _ (n d : ℕ) (p : Deep FlatParticle) (after : List (Deep FlatParticle)) 
   unfolding stands
   stands-far h g = rw (stands, ← hk, le-leb k 4 h, lt-leb k d g)
 
-  pub stands-by : {m : ℕ} {f again : Bool} → k ≤ 4 → k ≤ d → m ≡ membersFrom (k + 1) after → f ≡ countFits n (p .row) m → again ≡ any (sameElement p) after → (f && not again) ≡ stands n d p after
+  pub stands-by : {m : ℕ} {f again : Bool} → k ≤ 4 → k ≤ d → m ≡ countBeside (k + 1) after → f ≡ countFits n (p .row) m → again ≡ any (sameElement p) after → (f && not again) ≡ stands n d p after
   unfolding stands
   stands-by h g hm hf ha = rw (hf, hm, ha, stands, ← hk, le-leb k 4 h, le-leb k d g, add-one)
 
@@ -76,7 +70,7 @@ pub stands-depth : (n d : ℕ) (p : Deep FlatParticle) (after : List (Deep FlatP
 unfolding stands
 stands-depth n d p after {b} e h =
     leb-true (p .depth) 4
-    (and-left (leb (p .depth) 4) (leb (p .depth) d && (countFits n (p .row) (membersFrom (suc (p .depth)) after) && not (any (sameElement p) after))) (sym e ∙ not-false b h))
+    (and-left (leb (p .depth) 4) (leb (p .depth) d && (countFits n (p .row) (countBeside (suc (p .depth)) after) && not (any (sameElement p) after))) (sym e ∙ not-false b h))
 
 -- ---- the walk
 module _ (n d : ℕ) {l rest : List (Deep FlatParticle)} {p : Deep FlatParticle} {b : Bool} (e : l ≡ p ∷ rest) (g : b ≡ stands n d p rest) where
@@ -109,7 +103,7 @@ fits-count n p below =
 -- every particle with its members
 each : ℕ → List (Deep FlatParticle) → Bool
 each n [] = true
-each n (p ∷ ps) = countFits n (p .row) (membersFrom (suc (p .depth)) ps) && each n ps
+each n (p ∷ ps) = countFits n (p .row) (countBeside (suc (p .depth)) ps) && each n ps
 
 -- the forests at every depth below d, the deepest first
 levels : ℕ → ℕ → List (Deep FlatParticle) → Bool
@@ -129,21 +123,21 @@ levels-none n (suc d) = levels-none n d
 levels-deeper : (n d : ℕ) (x : Deep FlatParticle) (xs : List (Deep FlatParticle)) → d ≤ x .depth → levels n d (x ∷ xs) ≡ levels n d xs
 unfolding levels
 levels-deeper n zero x xs h = refl
-levels-deeper n (suc d) x xs h = ap₂ (λ (f : Forest FlatParticle) (b : Bool). shaped n f && b) (build-deeper x xs d h) (levels-deeper n d x xs (omega arith))
+levels-deeper n (suc d) x xs h = ap₂ (λ (f : Forest FlatParticle) (b : Bool). shaped n f && b) (build-less x xs d h) (levels-deeper n d x xs (omega arith))
 
 levels-less : (n k : ℕ) (x : Deep FlatParticle) (xs : List (Deep FlatParticle)) (d : ℕ) → d ≡ k + x .depth → levels n (suc d) (x ∷ xs) ≡ levels n (suc (x .depth)) (x ∷ xs)
 unfolding levels shaped
 levels-less n zero x xs d e = let q : d ≡ x .depth = omega arith in ap (λ (z : ℕ). levels n (suc z) (x ∷ xs)) q
 levels-less n (suc k) x xs d e =
     let q : d ≡ suc (k + x .depth) = omega arith in
-    ap (λ (f : Forest FlatParticle). shaped n f && levels n d (x ∷ xs)) (build-less x xs d (omega arith))
+    ap (λ (f : Forest FlatParticle). shaped n f && levels n d (x ∷ xs)) (build-more x xs d (omega arith))
     ∙ ap (λ (z : ℕ). levels n z (x ∷ xs)) q
     ∙ levels-less n k x xs (k + x .depth) refl
 
 -- a particle, its members' forests and the others
 level-here : (n : ℕ) (x : Deep FlatParticle) (xs : List (Deep FlatParticle))
-    → levels n (suc (x .depth)) (x ∷ xs) ≡ (countFits n (x .row) (membersFrom (suc (x .depth)) xs) && levels n (suc (suc (x .depth))) xs)
-unfolding levels shaped membersFrom
+    → levels n (suc (x .depth)) (x ∷ xs) ≡ (countFits n (x .row) (countBeside (suc (x .depth)) xs) && levels n (suc (suc (x .depth))) xs)
+unfolding levels shaped countBeside
 level-here n x xs =
     let d = x .depth in
     ap₂ (λ (f : Forest FlatParticle) (b : Bool). shaped n f && b) (build-same x xs d refl) (levels-deeper n d x xs (omega arith))
@@ -157,7 +151,7 @@ levels-all n d (x ∷ xs) h =
     let g : x .depth ≤ d = leb-true (x .depth) d (and-left (leb (x .depth) d) (rising (suc (x .depth)) xs) h) in
     levels-less n (d - x .depth) x xs d (omega arith)
     ∙ level-here n x xs
-    ∙ ap (λ (b : Bool). countFits n (x .row) (membersFrom (suc (x .depth)) xs) && b)
+    ∙ ap (λ (b : Bool). countFits n (x .row) (countBeside (suc (x .depth)) xs) && b)
     (levels-all n (suc (x .depth)) xs (and-right (leb (x .depth) d) (rising (suc (x .depth)) xs) h))
 
 each-shaped : (n : ℕ) (ps : List (Deep FlatParticle)) → rising 0 ps ≡ true → each n ps ≡ shaped n (build ps 0)
@@ -212,7 +206,7 @@ unfolding walks stands each apart
 walks-parts n d [] = refl
 walks-parts n d (p ∷ ps) =
     ap (λ (b : Bool). stands n d p ps && b) (walks-parts n (suc (p .depth)) ps)
-    ∙ regroup (low p) (leb (p .depth) d) (countFits n (p .row) (membersFrom (suc (p .depth)) ps)) (not (any (sameElement p) ps)) (all low ps)
+    ∙ regroup (low p) (leb (p .depth) d) (countFits n (p .row) (countBeside (suc (p .depth)) ps)) (not (any (sameElement p) ps)) (all low ps)
     (rising (suc (p .depth)) ps) (each n ps) (apart sameElement ps)
 
 pub walks-model : (n : ℕ) (ps : List (Deep FlatParticle)) → walks n 0 ps ≡ modelFits n ps
@@ -225,9 +219,9 @@ walks-model n ps = walks-parts n 0 ps ∙ ap (λ (b : Bool). all low ps && b) (b
 
 -- ---- the models one after the other
 -- the code's part of the particle body
-pub part-fits : (n at k p : ℕ) (parts : Bytes) {s : Bytes} {b : Bool} → s ≡ partOf (particleSize * at) (particleSize * k) parts → b ≡ modelFits n (particles k s)
-    → at + k ≤ p → particleSize * p ≡ length parts → b ≡ modelFits n (take k (drop at (particles p parts)))
-part-fits n at k p parts e f h g = f ∙ ap (λ (t : Bytes). modelFits n (particles k t)) e ∙ ap (modelFits n) (particles-part at k p parts h g)
+pub part-fits : (n at k p : ℕ) (parts : Bytes) {s : Bytes} {b : Bool} → s ≡ partOf (particleSize * at) (particleSize * k) parts → b ≡ modelFits n (particlesRead k s)
+    → at + k ≤ p → particleSize * p ≡ length parts → b ≡ modelFits n (take k (drop at (particlesRead p parts)))
+part-fits n at k p parts e f h g = f ∙ ap (λ (t : Bytes). modelFits n (particlesRead k t)) e ∙ ap (modelFits n) (particles-part at k p parts h g)
 
 module _ (n p at : ℕ) (ps : List (Deep FlatParticle)) (hp : length ps ≡ p) {ds rest : List FlatDefinition} {x : FlatDefinition} {k : ℕ} (e : ds ≡ x ∷ rest) (f : k ≡ x .particles) where
   left : length (drop at ps) ≡ p - at

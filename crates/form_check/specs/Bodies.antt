@@ -20,20 +20,20 @@ pub record Body (most size n : ℕ) (s : Bytes) : Type 0 where
   pub whole : size * n ≡ length s
 
 -- record i
-abbrev pub definitionAt : ℕ → Bytes → FlatDefinition
-definitionAt i s = readDefinition (recordAt definitionSize i s)
+abbrev pub definitionRecordAt : ℕ → Bytes → FlatDefinition
+definitionRecordAt i s = readDefinition (recordAt definitionSize i s)
 
-abbrev pub particleAt : ℕ → Bytes → Deep FlatParticle
-particleAt i s = readParticle (recordAt particleSize i s)
+abbrev pub particleRecordAt : ℕ → Bytes → Deep FlatParticle
+particleRecordAt i s = readParticle (recordAt particleSize i s)
 
-abbrev pub attributeAt : ℕ → ℕ → Bytes → FlatAttribute
-attributeAt w i s = readAttribute (recordAt (attributeSize w) i s)
+abbrev pub attributeRecordAt : ℕ → ℕ → Bytes → FlatAttribute
+attributeRecordAt w i s = readAttribute (recordAt (attributeSize w) i s)
 
 unfoldable pub definitions : ℕ → Bytes → List FlatDefinition
 definitions n s = readMany readDefinition definitionSize n s
 
-unfoldable pub particles : ℕ → Bytes → List (Deep FlatParticle)
-particles p s = readMany readParticle particleSize p s
+unfoldable pub particlesRead : ℕ → Bytes → List (Deep FlatParticle)
+particlesRead p s = readMany readParticle particleSize p s
 
 unfoldable pub attributes : ℕ → ℕ → Bytes → List FlatAttribute
 attributes w a s = readMany readAttribute (attributeSize w) a s
@@ -45,13 +45,13 @@ pub record Bodies (w n : ℕ) (defs : Bytes) (p : ℕ) (parts : Bytes) (a : ℕ)
   pub attributeBody : Body 64 (attributeSize w) a attrs
 
 -- a store that has these bodies, and no rows; a form by itself has no version: 0 stands in the field
-abbrev pub formOf : ℕ → ℕ → Bytes → ℕ → Bytes → ℕ → Bytes → FlatStore
-formOf w n defs p parts a attrs =
+abbrev pub formOfBodies : ℕ → ℕ → Bytes → ℕ → Bytes → ℕ → Bytes → FlatStore
+formOfBodies w n defs p parts a attrs =
     record {
       version = 0;
       next = 0;
       definitions = definitions n defs;
-      particles = particles p parts;
+      particles = particlesRead p parts;
       attributes = attributes w a attrs;
       rows = [];
     }
@@ -76,12 +76,12 @@ countFits n p members =
     && elim (eqb (p .sort) 0) [ true ↦ ltb (p .index) n && eqb members 0 | false ↦ leb (p .sort) 2 && (eqb (p .index) members && not (eqb members 0)) ]
 
 -- how many of the particles stand beside one another at depth k from here on
-unfoldable pub membersFrom : ℕ → List (Deep FlatParticle) → ℕ
-membersFrom k ps = length (heads (build ps k))
+unfoldable pub countBeside : ℕ → List (Deep FlatParticle) → ℕ
+countBeside k ps = length (heads (build ps k))
 
 -- a particle where depth d is allowed, with the particles after it
 unfoldable pub stands : ℕ → ℕ → Deep FlatParticle → List (Deep FlatParticle) → Bool
-stands n d p after = leb (p .depth) 4 && (leb (p .depth) d && (countFits n (p .row) (membersFrom (suc (p .depth)) after) && not (any (sameElement p) after)))
+stands n d p after = leb (p .depth) 4 && (leb (p .depth) d && (countFits n (p .row) (countBeside (suc (p .depth)) after) && not (any (sameElement p) after)))
 
 unfoldable pub walks : ℕ → ℕ → List (Deep FlatParticle) → Bool
 walks n d [] = true

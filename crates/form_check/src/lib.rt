@@ -6,7 +6,7 @@ ghost use Rattle.rules.specs.Bytes.{same, any};
 ghost use Rattle.rules.specs.Layout.{definitionSize, particleSize, attributeSize};
 ghost use Rattle.layout.specs.Bodies.{Width};
 ghost use Rattle.form_check.specs.FormTests.{clashes, definitionsApart, modelFits, modelsFit, ownersRise, attributesApart, bodiesFit};
-ghost use Rattle.form_check.specs.Bodies.{Body, definitionAt, particleAt, attributeAt, definitions, particles, attributes, Bodies, formOf, sameName, sameElement, countFits, membersFrom, stands};
+ghost use Rattle.form_check.specs.Bodies.{Body, definitionRecordAt, particleRecordAt, attributeRecordAt, definitions, particlesRead, attributes, Bodies, formOfBodies, sameName, sameElement, countFits, countBeside, stands};
 
 // the sort of a particle that is an element; the others are groups
 const ELEMENT: usize = 0;
@@ -14,7 +14,7 @@ const ELEMENT: usize = 0;
 // Whether definition j has this name.
 fn same_name(name: &[u8], defs: &[u8], j: usize) -> bool
     requires { ⌜ j < 64 ⌝ }
-    ensures { λ r. ⌜ r ≡ same (now (name .entry)) (definitionAt j (now (defs .entry)) .name) ⌝ }
+    ensures { λ r. ⌜ r ≡ same (now (name .entry)) (definitionRecordAt j (now (defs .entry)) .name) ⌝ }
 {
     codec::equal(
         name,
@@ -25,7 +25,7 @@ fn same_name(name: &[u8], defs: &[u8], j: usize) -> bool
 // Whether a later definition has the name of definition i.
 fn name_again(n: usize, defs: &[u8], i: usize) -> bool
     requires { ⌜ Body 64 definitionSize n (now defs) × (i < n) ⌝ }
-    ensures { λ r. ⌜ r ≡ any (sameName (definitionAt i (now (defs .entry)))) (drop (i + 1) (definitions n (now (defs .entry)))) ⌝ }
+    ensures { λ r. ⌜ r ≡ any (sameName (definitionRecordAt i (now (defs .entry)))) (drop (i + 1) (definitions n (now (defs .entry)))) ⌝ }
 {
     let name = layout::definition_name(layout::definition_at(defs, i));
     let mut j = i;
@@ -55,14 +55,14 @@ pub fn definitions_apart(n: usize, defs: &[u8]) -> bool
 
 fn owner(w: usize, attrs: &[u8], i: usize) -> usize
     requires { ⌜ Width w × (i < 64) ⌝ }
-    ensures { λ r. ⌜ r ≡ attributeAt w i (now (attrs .entry)) .owner ⌝ }
+    ensures { λ r. ⌜ r ≡ attributeRecordAt w i (now (attrs .entry)) .owner ⌝ }
 {
     layout::attribute_owner(layout::attribute_at(w, attrs, i))
 }
 
 fn attribute_name(w: usize, attrs: &[u8], i: usize) -> &[u8]
     requires { ⌜ Width w × (i < 64) ⌝ }
-    ensures { λ r. ⌜ now r ≡ attributeAt w i (now (attrs .entry)) .name ⌝ }
+    ensures { λ r. ⌜ now r ≡ attributeRecordAt w i (now (attrs .entry)) .name ⌝ }
 {
     layout::attribute_name(layout::attribute_at(w, attrs, i))
 }
@@ -70,7 +70,7 @@ fn attribute_name(w: usize, attrs: &[u8], i: usize) -> &[u8]
 // Whether attributes i and j have one owner and one name.
 fn same_attribute(w: usize, attrs: &[u8], i: usize, j: usize) -> bool
     requires { ⌜ Width w × (i < 64) × (j < 64) ⌝ }
-    ensures { λ r. ⌜ r ≡ clashes (attributeAt w i (now (attrs .entry))) (attributeAt w j (now (attrs .entry))) ⌝ }
+    ensures { λ r. ⌜ r ≡ clashes (attributeRecordAt w i (now (attrs .entry))) (attributeRecordAt w j (now (attrs .entry))) ⌝ }
 {
     let named = codec::equal(attribute_name(w, attrs, i), attribute_name(w, attrs, j));
     (owner(w, attrs, i) == owner(w, attrs, j)) & named
@@ -79,7 +79,7 @@ fn same_attribute(w: usize, attrs: &[u8], i: usize, j: usize) -> bool
 // Whether a later attribute has the owner and the name of attribute i.
 fn attribute_again(w: usize, a: usize, attrs: &[u8], i: usize) -> bool
     requires { ⌜ Width w × Body 64 (attributeSize w) a (now attrs) × (i < a) ⌝ }
-    ensures { λ r. ⌜ r ≡ any (clashes (attributeAt w i (now (attrs .entry)))) (drop (i + 1) (attributes w a (now (attrs .entry)))) ⌝ }
+    ensures { λ r. ⌜ r ≡ any (clashes (attributeRecordAt w i (now (attrs .entry)))) (drop (i + 1) (attributes w a (now (attrs .entry)))) ⌝ }
 {
     let mut j = i;
     while j + 1 < a {
@@ -127,7 +127,7 @@ pub fn owners_rise(w: usize, a: usize, attrs: &[u8]) -> bool
 // How many particles stand beside one another at depth k, from particle `from` on: the scan ends at a depth below k.
 fn members(m: usize, parts: &[u8], from: usize, k: usize) -> usize
     requires { ⌜ m ≤ 256 ⌝ }
-    ensures { λ r. ⌜ r ≡ membersFrom k (drop from (particles m (now (parts .entry)))) ⌝ }
+    ensures { λ r. ⌜ r ≡ countBeside k (drop from (particlesRead m (now (parts .entry)))) ⌝ }
 {
     let mut count: usize = 0;
     let mut j = from;
@@ -147,7 +147,7 @@ fn members(m: usize, parts: &[u8], from: usize, k: usize) -> usize
 // Whether the codes and the index of particle i fit, with `below` particles directly in it.
 fn count_fits(n: usize, parts: &[u8], i: usize, below: usize) -> bool
     requires { ⌜ i < 256 ⌝ }
-    ensures { λ r. ⌜ r ≡ countFits n (particleAt i (now (parts .entry)) .row) below ⌝ }
+    ensures { λ r. ⌜ r ≡ countFits n (particleRecordAt i (now (parts .entry)) .row) below ⌝ }
 {
     let sort = layout::particle_sort_at(parts, i);
     let marked = layout::particle_quantifier_at(parts, i) <= 3;
@@ -161,7 +161,7 @@ fn count_fits(n: usize, parts: &[u8], i: usize, below: usize) -> bool
 // Whether particles i and j are one element.
 fn same_element(parts: &[u8], i: usize, j: usize) -> bool
     requires { ⌜ (i < 256) × (j < 256) ⌝ }
-    ensures { λ r. ⌜ r ≡ sameElement (particleAt i (now (parts .entry))) (particleAt j (now (parts .entry))) ⌝ }
+    ensures { λ r. ⌜ r ≡ sameElement (particleRecordAt i (now (parts .entry))) (particleRecordAt j (now (parts .entry))) ⌝ }
 {
     let first = layout::particle_sort_at(parts, i) == ELEMENT;
     let second = layout::particle_sort_at(parts, j) == ELEMENT;
@@ -171,7 +171,7 @@ fn same_element(parts: &[u8], i: usize, j: usize) -> bool
 // Whether a later particle is the element of particle i again.
 fn element_again(m: usize, parts: &[u8], i: usize) -> bool
     requires { ⌜ (m ≤ 256) × (i < m) ⌝ }
-    ensures { λ r. ⌜ r ≡ any (sameElement (particleAt i (now (parts .entry)))) (drop (i + 1) (particles m (now (parts .entry)))) ⌝ }
+    ensures { λ r. ⌜ r ≡ any (sameElement (particleRecordAt i (now (parts .entry)))) (drop (i + 1) (particlesRead m (now (parts .entry)))) ⌝ }
 {
     let mut j = i;
     while j + 1 < m {
@@ -186,7 +186,7 @@ fn element_again(m: usize, parts: &[u8], i: usize) -> bool
 // Whether particle i of a model can stand where depth d is allowed.
 fn particle_stands(n: usize, m: usize, parts: &[u8], i: usize, d: usize) -> bool
     requires { ⌜ (m ≤ 256) × (i < m) ⌝ }
-    ensures { λ r. ⌜ r ≡ stands n d (particleAt i (now (parts .entry))) (drop (i + 1) (particles m (now (parts .entry)))) ⌝ }
+    ensures { λ r. ⌜ r ≡ stands n d (particleRecordAt i (now (parts .entry))) (drop (i + 1) (particlesRead m (now (parts .entry)))) ⌝ }
 {
     let depth = layout::particle_depth_at(parts, i);
     if 4 < depth {
@@ -204,7 +204,7 @@ fn particle_stands(n: usize, m: usize, parts: &[u8], i: usize, d: usize) -> bool
 /// looked at twice: at most 256 * 255 in all.
 pub fn model_fits(n: usize, m: usize, parts: &[u8]) -> bool
     requires { ⌜ m ≤ 256 ⌝ }
-    ensures { λ r. ⌜ r ≡ modelFits n (particles m (now (parts .entry))) ⌝ }
+    ensures { λ r. ⌜ r ≡ modelFits n (particlesRead m (now (parts .entry))) ⌝ }
 {
     let mut d: usize = 0;
     let mut i = 0;
@@ -221,7 +221,7 @@ pub fn model_fits(n: usize, m: usize, parts: &[u8]) -> bool
 /// Whether the particles are the models of the definitions, one after the other: each particle is in one model at most.
 pub fn models_fit(n: usize, defs: &[u8], p: usize, parts: &[u8]) -> bool
     requires { ⌜ Body 64 definitionSize n (now defs) × Body 256 particleSize p (now parts) ⌝ }
-    ensures { λ r. ⌜ r ≡ modelsFit n (definitions n (now (defs .entry))) (particles p (now (parts .entry))) ⌝ }
+    ensures { λ r. ⌜ r ≡ modelsFit n (definitions n (now (defs .entry))) (particlesRead p (now (parts .entry))) ⌝ }
 {
     let mut at: usize = 0;
     let mut i = 0;
@@ -251,7 +251,7 @@ pub fn bodies_fit(
     attrs: &[u8],
 ) -> bool
     requires { ⌜ Width w × Bodies w n (now defs) p (now parts) a (now attrs) ⌝ }
-    ensures { λ r. ⌜ r ≡ bodiesFit (formOf w n (now (defs .entry)) p (now (parts .entry)) a (now (attrs .entry))) ⌝ }
+    ensures { λ r. ⌜ r ≡ bodiesFit (formOfBodies w n (now (defs .entry)) p (now (parts .entry)) a (now (attrs .entry))) ⌝ }
 {
     let apart = definitions_apart(n, defs);
     let models = models_fit(n, defs, p, parts);

@@ -22,8 +22,8 @@ pub record IndexForm : Type 0 where
   pub needed : ℕ → Bool
   pub allows : ℕ → Bytes → Bool
 
-abbrev pub indexIn : FlatRow → ℕ
-indexIn r = r .index
+abbrev pub indexOfRow : FlatRow → ℕ
+indexOfRow r = r .index
 
 abbrev pub Sort : ℕ → List FlatRow → Type 0
 Sort s rs = (r : FlatRow) → List·Memᴰ r rs → r .sort ≡ s
@@ -32,17 +32,17 @@ Sort s rs = (r : FlatRow) → List·Memᴰ r rs → r .sort ≡ s
 abbrev pub ContentOf : ℕ → Members ℕ → List FlatRow → Type 0
 ContentOf zero ms rs = rs ≡ []
 ContentOf (suc zero) ms rs = (r : FlatRow) × (rs ≡ r ∷ []) × (r .sort ≡ 3)
-ContentOf (suc (suc k)) ms rs = Sort 1 rs × Conforms ms (map indexIn rs)
+ContentOf (suc (suc k)) ms rs = Sort 1 rs × Conforms ms (map indexOfRow rs)
 
 -- attribute rows of definition i, of rising index from a on
-abbrev pub Owned : IndexForm → ℕ → ℕ → List FlatRow → Type 0
-Owned f i a [] = Unit {0}
-Owned f i a (r ∷ rs) =
-    (r .sort ≡ 2) × (a ≤ r .index) × (r .index < f .attributes) × (f .owner (r .index) ≡ i) × (f .allows (r .index) (r .value) ≡ true) × Owned f i (suc (r .index)) rs
+abbrev pub AttributeRowsOf : IndexForm → ℕ → ℕ → List FlatRow → Type 0
+AttributeRowsOf f i a [] = Unit {0}
+AttributeRowsOf f i a (r ∷ rs) =
+    (r .sort ≡ 2) × (a ≤ r .index) × (r .index < f .attributes) × (f .owner (r .index) ≡ i) × (f .allows (r .index) (r .value) ≡ true) × AttributeRowsOf f i (suc (r .index)) rs
 
 -- those of definition i that must be present are
 abbrev pub Whole : IndexForm → ℕ → List FlatRow → Type 0
-Whole f i rs = (j : ℕ) → j < f .attributes → f .owner j ≡ i → f .needed j ≡ true → List·Memᴰ j (map indexIn rs)
+Whole f i rs = (j : ℕ) → j < f .attributes → f .owner j ≡ i → f .needed j ≡ true → List·Memᴰ j (map indexOfRow rs)
 
 -- the rows right below an element of definition i
 pub record Below (f : IndexForm) (i : ℕ) (rs : List FlatRow) : Type 0 where
@@ -50,7 +50,7 @@ pub record Below (f : IndexForm) (i : ℕ) (rs : List FlatRow) : Type 0 where
   pub front : List FlatRow
   pub back : List FlatRow
   pub split : front ++ back ≡ rs
-  pub owned : Owned f i 0 front
+  pub owned : AttributeRowsOf f i 0 front
   pub whole : Whole f i front
   pub content : ContentOf (f .kind i) (f .model i) back
 

@@ -7,7 +7,7 @@ use Rattle.rules.specs.Layout.{definitionSize, particleSize, attributeSize, Fla
 use Rattle.rules.specs.Decode.{readDefinition, readAttribute, sortOf}
 use Rattle.rules.specs.Conforming.{mustBePresent, allows}
 use Rattle.layout.specs.Bodies.{recordAt}
-use Rattle.model.specs.Members.{membersOf}
+use Rattle.model.specs.Members.{allMembers}
 use Rattle.form_index.specs.Indices.{IndexForm}
 
 abbrev pub definitionIn : Bytes → ℕ → FlatDefinition
@@ -31,7 +31,7 @@ indexForm version w n defs parts attrs a =
     record {
       size = n;
       kind = λ i. definitionIn defs i .kind;
-      model = λ i. membersOf (modelPart defs parts i);
+      model = λ i. allMembers (modelPart defs parts i);
       attributes = a;
       owner = λ j. attributeIn w attrs j .owner;
       needed = λ j. mustBePresent version (sortOf (attributeIn w attrs j .sort));

@@ -4,9 +4,9 @@ use native.Mathlib.Omega.{arith}
 use native.Mathlib.Numerals.{add-one, sub-one}
 use mathlib.Core.Path.{_≡_, refl, sym, ap, subst, _∙_}
 use mathlib.Core.Logic.{_↔_}
-use mathlib.Core.Bool.{Bool, true, false, not, _&&_, _||_, false≢true}
+use mathlib.Core.Bool.{Bool, true, false, not, _&&_, _||_}
 use mathlib.Core.List.{List}
-use borrow.Author.Tests.{not-true, not-false, le-ltb, eqb-true, eqb-false, eq-eqb, ne-eqb}
+use borrow.Author.Tests.{not-true, not-false, le-ltb, eqb-true, eqb-false, eq-eqb, ne-eqb, not-true as has-not}
 use lib.Dec.{eqb, ltb}
 use lib.ListN.{length, getD, set, length-set}
 use lib.Seq.{getD-set-same, getD-set-other}
@@ -14,17 +14,17 @@ use Rattle.rules.specs.Bytes.{Bytes}
 use Rattle.rules.specs.Model.{Members}
 use Rattle.sets.specs.Sets.{has, bit, union}
 use Rattle.sets.proofs.Laws.{has-none, has-with}
-use Rattle.model.specs.Members.{membersOf}
+use Rattle.model.specs.Members.{allMembers}
 use Rattle.model.specs.Steps.{steps, finishes}
-use Rattle.next_children.specs.Line.{Line, Filled}
+use Rattle.next_children.specs.Line.{NextsLine, Filled}
 use Rattle.next_children.proofs.LineLaws.{ends-more}
 use Rattle.form_index.specs.Reading.{modelPart}
 use Rattle.form_table.specs.Every.{every}
-use Rattle.form_table.specs.Table.{wants, freedOf, Modelled, Tabled, Lined, Apart, OneNeed, Needs}
+use Rattle.form_table.specs.Table.{wants, freedOf, Modelled, Tabled, Lined, SetsStay, OneNeed, Needs}
 use Rattle.form_table.proofs.Numbers.{every→, every←}
 
 -- ---- a line that is left alone
-line-same : (n at : ℕ) (ms : Members ℕ) (t t′ : List ℕ) → n ≤ 64 → ((l : ℕ) → l ≤ 66 → getD t′ (at + l) 0 ≡ getD t (at + l) 0) → Line n ms at t → Line n ms at t′
+line-same : (n at : ℕ) (ms : Members ℕ) (t t′ : List ℕ) → n ≤ 64 → ((l : ℕ) → l ≤ 66 → getD t′ (at + l) 0 ≡ getD t (at + l) 0) → NextsLine n ms at t → NextsLine n ms at t′
 line-same n at ms t t′ small same l =
     record {
       next-is = λ last y h k. ap (λ (s : ℕ). has s y) (same last (omega arith)) ∙ l .next-is last y h k;
@@ -43,7 +43,7 @@ module _ (n : ℕ) (defs parts : Bytes) (t : List ℕ) where
   lining-starts = record { low = omega arith; long = refl; lined = record { models = record { line = λ k h. absurd (omega arith) }; blank = λ k h. absurd (omega arith) } }
 
   module _ (i : ℕ) (t₁ : List ℕ) (l : Lining n defs parts i t t₁) (small : n ≤ 64) (room : 4352 ≤ length t) where
-    pub lining-on : i < n → (t₂ : List ℕ) (part : Bytes) → part ≡ modelPart defs parts i → Filled n (membersOf part) t₁ (68 * i) t₂ → length t₂ ≡ length t₁
+    pub lining-on : i < n → (t₂ : List ℕ) (part : Bytes) → part ≡ modelPart defs parts i → Filled n (allMembers part) t₁ (68 * i) t₂ → length t₂ ≡ length t₁
         → Lining n defs parts (i + 1) t (set t₂ (68 * i + 67) 0)
     lining-on h t₂ part e f long =
         record {
@@ -56,15 +56,15 @@ module _ (n : ℕ) (defs parts : Bytes) (t : List ℕ) where
         same : (k j : ℕ) → k < i → j ≤ 67 → getD (set t₂ (68 * i + 67) 0) (68 * k + j) 0 ≡ getD t₁ (68 * k + j) 0
         same k j q m = getD-set-other t₂ (68 * i + 67) (68 * k + j) 0 0 (λ z. omega arith) ∙ f .rest .kept (68 * k + j) (omega arith)
 
-        lines : (k : ℕ) → k < i + 1 → (b : Bool) → eqb k i ≡ b → Line n (membersOf (modelPart defs parts k)) (68 * k) (set t₂ (68 * i + 67) 0)
+        lines : (k : ℕ) → k < i + 1 → (b : Bool) → eqb k i ≡ b → NextsLine n (allMembers (modelPart defs parts k)) (68 * k) (set t₂ (68 * i + 67) 0)
         lines k q true z =
-            subst (λ (x : ℕ). Line n (membersOf (modelPart defs parts x)) (68 * x) (set t₂ (68 * i + 67) 0)) (sym (eqb-true k i z))
-            (line-same n (68 * i) (membersOf (modelPart defs parts i)) t₂ (set t₂ (68 * i + 67) 0) small (λ j m. getD-set-other t₂ (68 * i + 67) (68 * i + j) 0 0 (λ y. omega arith))
-            (subst (λ (x : Bytes). Line n (membersOf x) (68 * i) t₂) e (f .line)))
+            subst (λ (x : ℕ). NextsLine n (allMembers (modelPart defs parts x)) (68 * x) (set t₂ (68 * i + 67) 0)) (sym (eqb-true k i z))
+            (line-same n (68 * i) (allMembers (modelPart defs parts i)) t₂ (set t₂ (68 * i + 67) 0) small (λ j m. getD-set-other t₂ (68 * i + 67) (68 * i + j) 0 0 (λ y. omega arith))
+            (subst (λ (x : Bytes). NextsLine n (allMembers x) (68 * i) t₂) e (f .line)))
         lines k q false z =
             let u : k ≡ i → ⊥ = eqb-false k i z in
             let v : k < i = omega (arith, u) in
-            line-same n (68 * k) (membersOf (modelPart defs parts k)) t₁ (set t₂ (68 * i + 67) 0) small (λ j m. same k j v (omega arith)) (l .lined .models .line k v)
+            line-same n (68 * k) (allMembers (modelPart defs parts k)) t₁ (set t₂ (68 * i + 67) 0) small (λ j m. same k j v (omega arith)) (l .lined .models .line k v)
 
         blanks : (k : ℕ) → k < i + 1 → (b : Bool) → eqb k i ≡ b → getD (set t₂ (68 * i + 67) 0) (68 * k + 67) 0 ≡ 0
         blanks k q true z = let u : k ≡ i = eqb-true k i z in rw u (getD-set-same t₂ (68 * i + 67) 0 0 (omega (arith, l .long, long)))
@@ -77,7 +77,7 @@ module _ (n : ℕ) (defs parts : Bytes) (t : List ℕ) where
     lining-ends h = let e : i ≡ n = omega (arith, l .low) in subst (λ (x : ℕ). Lined n defs parts x t₁) e (l .lined)
 
 -- ---- one attribute
-apart-same : (t : List ℕ) → Apart t t
+apart-same : (t : List ℕ) → SetsStay t t
 apart-same t = record { same = λ i l h. refl }
 
 stays : (a w c : Bool) → w ≡ false → a ≡ (a || (w && c))
@@ -156,35 +156,31 @@ pub table-filled : (version w n : ℕ) (defs parts attrs : Bytes) (a : ℕ) (t t
 table-filled version w n defs parts attrs a t t′ small l f long =
     record {
       long = long;
-      models = record { line = λ k h. line-same n (68 * k) (membersOf (modelPart defs parts k)) t t′ small (λ j m. f .apart .same k j m) (l .models .line k h) };
+      models = record { line = λ k h. line-same n (68 * k) (allMembers (modelPart defs parts k)) t t′ small (λ j m. f .apart .same k j m) (l .models .line k h) };
       needed = λ i h. record { is = λ j m. f .wanted i j h m (l .blank i h) };
     }
 
 -- ---- children, looked up
 module _ (n : ℕ) (defs parts : Bytes) (t : List ℕ) (m : Modelled n defs parts n t) (i : ℕ) (h : i < n) (last : ℕ) (b : Bool) where
-  pub follow-found : (index : ℕ) → last ≤ n → index < 64 → b ≡ has (getD t (68 * i + last) 0) index → b ≡ steps (membersOf (modelPart defs parts i)) last index
+  pub follow-found : (index : ℕ) → last ≤ n → index < 64 → b ≡ has (getD t (68 * i + last) 0) index → b ≡ steps (allMembers (modelPart defs parts i)) last index
   follow-found index l k e = e ∙ m .line i h .next-is last index l k
 
-  pub finish-none : last ≡ 0 → b ≡ has (getD t (68 * i + 66) 0) 0 → b ≡ finishes (membersOf (modelPart defs parts i)) last
+  pub finish-none : last ≡ 0 → b ≡ has (getD t (68 * i + 66) 0) 0 → b ≡ finishes (allMembers (modelPart defs parts i)) last
   finish-none z e = rw z (e ∙ m .line i h .nothing-is)
 
-  pub finish-child : (last ≡ 0 → ⊥) → last ≤ n → b ≡ has (getD t (68 * i + 65) 0) (last - 1) → b ≡ finishes (membersOf (modelPart defs parts i)) last
+  pub finish-child : (last ≡ 0 → ⊥) → last ≤ n → b ≡ has (getD t (68 * i + 65) 0) (last - 1) → b ≡ finishes (allMembers (modelPart defs parts i)) last
   finish-child z l e =
       let u : suc (last - 1) ≡ last = omega (arith, z) in
-      e ∙ m .line i h .ends-is (last - 1) (omega (arith, z)) ∙ ap (finishes (membersOf (modelPart defs parts i))) u
+      e ∙ m .line i h .ends-is (last - 1) (omega (arith, z)) ∙ ap (finishes (allMembers (modelPart defs parts i))) u
 
 -- ---- attributes, looked up
-both-ways : (a b : Bool) → (a ≡ true → b ≡ true) → (b ≡ true → a ≡ true) → a ≡ b
+pub both-ways : (a b : Bool) → (a ≡ true → b ≡ true) → (b ≡ true → a ≡ true) → a ≡ b
 both-ways true b f g = sym (f refl)
 both-ways false true f g = g refl
 both-ways false false f g = refl
 
 not-has : (b : Bool) → b ≡ false → not b ≡ true
 not-has b e = rw e
-
-has-not : (b : Bool) → not b ≡ true → b ≡ false
-has-not true e = absurd (false≢true e)
-has-not false e = refl
 
 pub none-spares : (s from to : ℕ) (b : Bool) → ((b ≡ true) ↔ ((k : ℕ) → from ≤ k → k < to → has s k ≡ false)) → b ≡ every (λ j. not (has s j)) to from
 none-spares s from to b e =

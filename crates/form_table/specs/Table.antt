@@ -9,8 +9,8 @@ use Rattle.rules.specs.Bytes.{Bytes}
 use Rattle.rules.specs.Decode.{sortOf}
 use Rattle.rules.specs.Conforming.{mustBePresent}
 use Rattle.sets.specs.Sets.{has}
-use Rattle.model.specs.Members.{membersOf}
-use Rattle.next_children.specs.Line.{Line}
+use Rattle.model.specs.Members.{allMembers}
+use Rattle.next_children.specs.Line.{NextsLine}
 use Rattle.form_index.specs.Reading.{attributeIn, modelPart}
 use Rattle.form_table.specs.Every.{every}
 
@@ -29,7 +29,7 @@ freedOf s a (suc from) = every (λ j. not (has s j)) a from
 
 -- the sets of the models of the first i definitions
 pub record Modelled (n : ℕ) (defs parts : Bytes) (i : ℕ) (t : List ℕ) : Type 0 where
-  pub line : (k : ℕ) → k < i → Line n (membersOf (modelPart defs parts k)) (68 * k) t
+  pub line : (k : ℕ) → k < i → NextsLine n (allMembers (modelPart defs parts k)) (68 * k) t
 
 -- THE TABLE of a form of n definitions and a attributes
 pub record Tabled (version w n : ℕ) (defs parts attrs : Bytes) (a : ℕ) (t : List ℕ) : Type 0 where
@@ -44,15 +44,15 @@ pub record Lined (n : ℕ) (defs parts : Bytes) (i : ℕ) (t : List ℕ) : Type 
   pub blank : (k : ℕ) → k < i → getD t (68 * k + 67) 0 ≡ 0
 
 -- the models' sets stay
-pub record Apart (t t′ : List ℕ) : Type 0 where
+pub record SetsStay (t t′ : List ℕ) : Type 0 where
   pub same : (i l : ℕ) → l ≤ 66 → getD t′ (68 * i + l) 0 ≡ getD t (68 * i + l) 0
 
 -- attribute j more
 pub record OneNeed (version w n : ℕ) (attrs : Bytes) (j : ℕ) (t t′ : List ℕ) : Type 0 where
-  pub apart : Apart t t′
+  pub apart : SetsStay t t′
   pub wanted : (i k : ℕ) → i < n → k < 64 → has (getD t′ (68 * i + 67) 0) k ≡ (has (getD t (68 * i + 67) 0) k || (wants version w attrs i j && eqb k j))
 
 -- the first a attributes, where there was none
 pub record Needs (version w n : ℕ) (attrs : Bytes) (a : ℕ) (t t′ : List ℕ) : Type 0 where
-  pub apart : Apart t t′
+  pub apart : SetsStay t t′
   pub wanted : (i k : ℕ) → i < n → k < 64 → getD t (68 * i + 67) 0 ≡ 0 → has (getD t′ (68 * i + 67) 0) k ≡ (ltb k a && wants version w attrs i k)

@@ -5,7 +5,7 @@ ghost use Prim.Native.Nat.{_<_, _≤_};
 ghost use lib.ListN.{length};
 ghost use Rattle.layout.specs.Bodies.{Width};
 ghost use Rattle.sets.specs.Sets.{has};
-ghost use Rattle.model.specs.Members.{membersOf};
+ghost use Rattle.model.specs.Members.{allMembers};
 ghost use Rattle.model.specs.Steps.{steps, finishes};
 ghost use Rattle.form_index.specs.Reading.{modelPart};
 ghost use Rattle.form_table.specs.Every.{every};
@@ -84,7 +84,7 @@ pub fn may_follow(
     index: usize,
 ) -> bool
     requires { ⌜ (n ≤ 64) × (i < n) × (4352 ≤ length (now table)) × Modelled n (now defs) (now parts) n (now table) ⌝ }
-    ensures { λ r. ⌜ r ≡ steps (membersOf (modelPart (now (defs .entry)) (now (parts .entry)) i)) last index ⌝ }
+    ensures { λ r. ⌜ r ≡ steps (allMembers (modelPart (now (defs .entry)) (now (parts .entry)) i)) last index ⌝ }
 {
     if (last <= n) & (index < 64) {
         return sets::contains(table[68 * i + last], index);
@@ -95,7 +95,7 @@ pub fn may_follow(
 // Whether no child is owed after `last`.
 pub fn may_finish(n: usize, defs: &[u8], parts: &[u8], table: &[u64], i: usize, last: usize) -> bool
     requires { ⌜ (n ≤ 64) × (i < n) × (4352 ≤ length (now table)) × Modelled n (now defs) (now parts) n (now table) ⌝ }
-    ensures { λ r. ⌜ r ≡ finishes (membersOf (modelPart (now (defs .entry)) (now (parts .entry)) i)) last ⌝ }
+    ensures { λ r. ⌜ r ≡ finishes (allMembers (modelPart (now (defs .entry)) (now (parts .entry)) i)) last ⌝ }
 {
     if last == 0 {
         return sets::contains(table[68 * i + 66], 0);

@@ -18,8 +18,7 @@ use Rattle.rules.specs.Passing.{passes}
 use Rattle.rules.specs.Change.{Call, convertToGroup, flattenGroup, editAt, editModel, keeping, plan, formAfter, docsAfter, after}
 use Rattle.rules.specs.Refusal.{past, foundAt, noPlace, noGroupAt, onGroup, atPlace, first, conditions}
 use Rattle.rules.specs.Outcome.{outcome, Answers}
-use Rattle.history.proofs.Conditions.{not-false}
-use Rattle.history.proofs.EditConditions.{group-some, has-some}
+use Rattle.change_laws.proofs.EditConditions.{group-some, has-some}
 use Rattle.model.specs.declared.place.Holder.{Holder}
 use Rattle.lookup.specs.Bodies.{bodiesOf}
 use Rattle.row_walk.specs.declared.Plan.{Plan}
@@ -35,15 +34,16 @@ use Rattle.plans.specs.CallPlans.{settingPlan}
 use Rattle.plans.proofs.CallsPlanned.{none-holds}
 use Rattle.plans.proofs.DocumentPlans.{set-value-does}
 use Rattle.plans.proofs.FormPlanned.{flat-planned-in}
-use Rattle.plans.proofs.ModelForms.{rows-still}
 use Rattle.plans.proofs.TreeWalk.{apart, none-of, none-apart}
-use Rattle.model_places.specs.Placing.{indexIn, Placed}
+use Rattle.model_places.specs.Placing.{indexOfName, Placed}
 use Rattle.model_places.proofs.PlaceLaws.{found-convert, found-flatten}
 use Rattle.model_edit.specs.Editing.{formEdited}
 use Rattle.model_edit.proofs.Fits.{Fits, inside, some-content, bodies-hold, edited-answers}
+use borrow.Author.Tests.{not-false}
+use Rattle.model_writer.proofs.FormAfter.{rows-kept}
 
 -- ---- a call that keeps all rows
-module _ {bs : Bytes} {o : ℕ} {p : List ℕ} {e : Edit Bytes} (x : Fits bs o p e) (E : EditCode) (same : editOf E ≡ renameEdit (indexIn bs) e) {h : Holder} {n : ℕ}
+module _ {bs : Bytes} {o : ℕ} {p : List ℕ} {e : Edit Bytes} (x : Fits bs o p e) (E : EditCode) (same : editOf E ≡ renameEdit (indexOfName bs) e) {h : Holder} {n : ℕ}
     (y : Placed bs o (inserts e) p h n) where
   kept-planned : (c : Call) → formAfter c (storeIn bs .form) ≡ editModel o p e (storeIn bs .form) → plan c (storeIn bs .version) (storeIn bs .form) (lines 0 (storeIn bs .docs)) ≡ keeping
       → flat (after c (storeIn bs)) ≡ plannedIn (formEdited bs o (editOf E) h n) (settingPlan 0) [] (flat (storeIn bs))
@@ -51,7 +51,7 @@ module _ {bs : Bytes} {o : ℕ} {p : List ℕ} {e : Edit Bytes} (x : Fits bs o p
       let rows = indexed (storeIn bs .form) [] (storeIn bs .docs) in
       flat-planned-in c (storeIn bs) (settingPlan 0) [] (formEdited bs o (editOf E) h n) (bodies-hold x E same y c w) (apart (none-apart _ rows (none-of _ (λ r. refl) rows)))
       (set-value-does (storeIn bs) (holds bs (x .good) .good) 0 [] c k
-      ∙ sym (ap (λ z. flatten 0 (indexed z [] (docsAfter c (storeIn bs)))) w ∙ ap (flatten 0) (rows-still (editAt e p) o (storeIn bs .form) [] (docsAfter c (storeIn bs)))))
+      ∙ sym (ap (λ z. flatten 0 (indexed z [] (docsAfter c (storeIn bs)))) w ∙ ap (flatten 0) (rows-kept (editAt e p) o (storeIn bs .form) [] (docsAfter c (storeIn bs)))))
 
   pub kept-answers : (c : Call) (room : ℕ) {q : Plan} (m : ℕ) → q ≡ settingPlan 0 → m ≡ first (conditions c (storeIn bs)) → m ≡ 0
       → formAfter c (storeIn bs .form) ≡ editModel o p e (storeIn bs .form) → plan c (storeIn bs .version) (storeIn bs .form) (lines 0 (storeIn bs .docs)) ≡ keeping

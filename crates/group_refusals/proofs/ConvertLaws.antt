@@ -24,13 +24,13 @@ use Rattle.model.specs.declared.place.Holder.{Holder}
 use Rattle.model.specs.declared.place.Found.{Found}
 use Rattle.model.specs.declared.place.Found.the-variants.{At, Absent}
 use Rattle.model.specs.Members.{membersFrom}
-use Rattle.model.specs.Places.{placeOf}
+use Rattle.model.specs.Places.{placeIn}
 use Rattle.model_writer.proofs.PartAfter.{has-named}
 use Rattle.store_writer.specs.Stores.{storeIn}
-use Rattle.document_refusals.proofs.StoreFacts.{formIn}
-use Rattle.document_refusals.specs.Finding.{Gives}
-use Rattle.document_refusals.proofs.RefusalLaws.{gives-hit, gives-next, gives-none}
-use Rattle.model_places.specs.Placing.{indexIn, partIn, Placed}
+use Rattle.store_writer.proofs.StoreFacts.{formIn}
+use Rattle.change_laws.specs.FirstCondition.{Gives}
+use Rattle.change_laws.proofs.FirstCondition.{gives-hit, gives-next, gives-none}
+use Rattle.model_places.specs.Placing.{indexOfName, partIn, Placed}
 use Rattle.group_refusals.specs.Grouping.{unlikeKind, convertTests}
 use Rattle.model_places.proofs.PickLaws.{part-few}
 use Rattle.model_places.proofs.PlaceLaws.{found-convert, absent, present-at}
@@ -132,9 +132,9 @@ module _ (bs : Bytes) (pass : passes bs ≡ true) (o : ℕ) (p : List ℕ) (n k 
     unfolding conditions
     convert-6 h = gives-next h₄ (gives-hit h)
 
-    module _ (h₆ : not (ltb o (length (formIn bs))) ≡ false) (l : o < definitionCount bs) {part : Bytes} (own : part ≡ partIn bs o) {f : Found} (e : f ≡ placeOf false p part) where
-      found-in : placeOf false p (partIn bs o) ≡ f
-      found-in = sym (e ∙ ap (placeOf false p) own)
+    module _ (h₆ : not (ltb o (length (formIn bs))) ≡ false) (l : o < definitionCount bs) {part : Bytes} (own : part ≡ partIn bs o) {f : Found} (e : f ≡ placeIn false p part) where
+      found-in : placeIn false p (partIn bs o) ≡ f
+      found-in = sym (e ∙ ap (placeIn false p) own)
 
       pub convert-none : f ≡ Absent → Gives 8 (conditions (convertToGroup o p n k) (storeIn bs))
       unfolding conditions
@@ -155,11 +155,11 @@ module _ (bs : Bytes) (pass : passes bs ≡ true) (o : ℕ) (p : List ℕ) (n k 
         convert-there {r} {kind} g q =
             let x : Spot Bytes = convert-placed .found in
             let z : foundAt (convert (groupOf k) n) o p (storeIn bs) ≡ some x = found-convert (groupOf k) n o p bs ∙ convert-placed .there in
-            let members-are : membersFrom (h .depth) (drop (particleSize * i) part) ≡ rename (indexIn bs) (x .picked) =
+            let members-are : membersFrom (h .depth) (drop (particleSize * i) part) ≡ rename (indexOfName bs) (x .picked) =
             ap (λ (s : Bytes). membersFrom (h .depth) (drop (particleSize * i) s)) own ∙ convert-placed .picked in
             let tests : convertTests (h .kind) kind n (membersFrom (h .depth) (drop (particleSize * i) part)) ≡ convertTests (kindAt Sequence (x .context)) (groupOf k) n (x .picked) =
             ap (convertTests (h .kind) kind n) members-are
-            ∙ tests-named (indexIn bs) (h .kind) kind n (x .picked)
+            ∙ tests-named (indexOfName bs) (h .kind) kind n (x .picked)
             ∙ ap₂ (λ (a b : GroupKind). convertTests a b n (x .picked)) (convert-placed .kind) g in
             gives-next h₄ (gives-next h₆ (record {
               is = q .is ∙ ap first tests

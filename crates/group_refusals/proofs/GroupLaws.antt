@@ -20,9 +20,9 @@ use Rattle.rules.specs.Change.{flattenGroup}
 use Rattle.rules.specs.Refusal.{_if_, first, conditions, foundAt, noGroupAt, atPlace, onGroup, flattenUnlike}
 use Rattle.model.specs.declared.place.Holder.{Holder}
 use Rattle.store_writer.specs.Stores.{storeIn}
-use Rattle.document_refusals.proofs.StoreFacts.{formIn}
-use Rattle.document_refusals.specs.Finding.{Gives}
-use Rattle.document_refusals.proofs.RefusalLaws.{gives-hit, gives-next}
+use Rattle.store_writer.proofs.StoreFacts.{formIn}
+use Rattle.change_laws.specs.FirstCondition.{Gives}
+use Rattle.change_laws.proofs.FirstCondition.{gives-hit, gives-next}
 use Rattle.model_places.specs.Placing.{modelIn, foundBy, ElementAt, GroupAt}
 use Rattle.group_refusals.specs.Grouping.{unlikeKind}
 use Rattle.model_places.proofs.PlaceLaws.{found-flatten}

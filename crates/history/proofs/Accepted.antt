@@ -17,12 +17,12 @@ use Rattle.rules.specs.Run.{Asked, Moment, start, run}
 use Rattle.rules.proofs.Words.{and-both, and-split}
 use Rattle.rules.proofs.SerialLaws.{good-serials}
 use Rattle.history.specs.History.{serialOf, serialsIn, GoodMoment, momentOf, MadeBy, TakenBy, SomeCall, Demand3}
-use Rattle.history.proofs.Conditions.{unmet, ceilings-after, next-after}
-use Rattle.history.proofs.WellFormedAfter.{well-formed-after}
+use Rattle.change_laws.proofs.Conditions.{unmet, ceilings-after, next-after}
+use Rattle.change_laws.proofs.WellFormedAfter.{well-formed-after}
 use Rattle.history.proofs.Agreement.{serials-after}
-use Rattle.history.proofs.AcceptedEdits.{editsModel, accepted-edit}
-use Rattle.history.proofs.ConformingEdits.{conforming-edited}
-use Rattle.history.proofs.ConformingSimple.{GoodTests, good-tests, conforming-after, conforming-after-simple, values-after}
+use Rattle.change_laws.proofs.AcceptedEdits.{editsModel, accepted-edit}
+use Rattle.change_laws.proofs.ConformingEdits.{conforming-edited}
+use Rattle.change_laws.proofs.ConformingSimple.{GoodTests, good-tests, conforming-after, conforming-after-simple, values-after}
 use Rattle.history.proofs.Moments.{start-good, moment-good}
 use Rattle.history.proofs.Theorem.{demand-3-by}
 

@@ -19,10 +19,7 @@ use Rattle.rules.specs.Decode.{quantifierOf}
 use Rattle.rules.specs.Conforming.{isElement}
 use Rattle.rules.specs.Passing.{good, Good}
 use Rattle.rules.specs.Lines.{Line, lines, ground, elementNamed, attributeNamed, elementWith, childrenOf}
-use Rattle.rules.specs.Change.{Call, createDefinition, destroyDefinition, insertElement, removeElement, changeQuantifier, convertToGroup, flattenGroup}
-use Rattle.rules.specs.Change.{changeGroupQuantifier, addAttribute, destroyAttribute, addDocument, addElement, destroyElement, setAttribute}
-use Rattle.rules.specs.Change.{destroyAttributeRow, setText, nameAtIndex, Owned, attributeAt, Plan, plan, insertPlan, removePlan, quantifyPlan, pickedPlan}
-use Rattle.rules.specs.Change.{setAt, setPlan, dropPlan, revalue, newRows}
+use Rattle.rules.specs.Change.{Call, createDefinition, destroyDefinition, insertElement, removeElement, changeQuantifier, convertToGroup, flattenGroup, changeGroupQuantifier, addAttribute, destroyAttribute, addDocument, addElement, destroyElement, setAttribute, destroyAttributeRow, setText, nameAtIndex, Owned, attributeAt, Plan, plan, insertPlan, removePlan, quantifyPlan, pickedPlan, setAt, setPlan, dropPlan, revalue, newRows}
 use Rattle.rules.specs.Refusal.{conditions, refusal, noElement}
 use Rattle.rules.specs.Book.{Entry, Book, untaken, expand, spotCount, marks, note}
 use Rattle.rules.specs.MadeTakenGiven.{HasLine, foundIn, OfElement, AtElement, IsCut, NamedBy, IsTaken, itself, beneath, valueIf, valueAfter, MakesBelow, rowsMade, linesMade}
@@ -30,7 +27,7 @@ use Rattle.rules.proofs.Words.{or-cases, and-split}
 use Rattle.rules.proofs.PassingLaws.{good-is}
 use Rattle.rules.proofs.PlanLaws.{Known, named, ruled, setBy, set-after, Filled, makes, filled, filling-made}
 use Rattle.history.specs.History.{serialOf, everMade, takenSerials, entriesFrom, entriesBelow, Makes, ByTheRules, entrySerials}
-use Rattle.history.proofs.Conditions.{not-false, unmet}
+use Rattle.change_laws.proofs.Conditions.{unmet}
 use Rattle.history.proofs.Taking.{Apart}
 use Rattle.history.proofs.Making.{standing}
 use Rattle.history.proofs.Numbering.{blank-plan}
@@ -38,9 +35,10 @@ use Rattle.history.proofs.Stable.{left, olds-marks, lineSerials, marks-
 use Rattle.history.proofs.Agreement.{onLine, untaken-revalue, Agree, good-apart}
 use Rattle.history.proofs.TakenLines.{marked, taken-marked, expand-old, mark-old, valued, revalue-old, line-serial, distinct-untaken, same-serial}
 use Rattle.history.proofs.Pruned.{has-above}
-use Rattle.history.proofs.RowsBelow.{one-of-attribute, one-of-text, instance-spared}
+use Rattle.change_laws.proofs.RowsBelow.{one-of-attribute, one-of-text, instance-spared}
 use Rattle.history.proofs.TakenByRule.{taken-as, taken-then-under, under-then-taken, taken-or-left}
 use Rattle.history.proofs.MadeLines.{spotsIn, spots-length, expand-new, expand-others, spots-filled, spots-once, made-as, count-as}
+use borrow.Author.Tests.{not-false}
 
 -- ---- what acceptance says
 some-there : (test : Row → Bool) (k : ℕ) → ((r : Row) → test r ≡ true → r .serial ≡ k) → (ls : List Line) → any (λ (l : Line). test (l .row)) ls ≡ true → HasLine test ls k

@@ -6,7 +6,7 @@ use mathlib.Core.Bool.{Bool, true, false, not, _&&_, false≢true}
 use mathlib.Core.Option.{Option, none, some}
 use mathlib.Core.List.{List}
 use lib.ListN.{length}
-use borrow.Author.Tests.{ltb-false}
+use borrow.Author.Tests.{ltb-false, not-false}
 use Rattle.rules.specs.declared.Quantifier.{Quantifier}
 use Rattle.rules.specs.Bytes.{Bytes}
 use Rattle.rules.specs.Model.{skips}
@@ -20,8 +20,8 @@ use Rattle.rules.specs.Change.{insertElement, definitionAt, nameAtIndex, formAf
 use Rattle.rules.specs.Refusal.{past, foundAt, noPlace, isComplex, first, conditions}
 use Rattle.rules.specs.Outcome.{outcome, Answers}
 use Rattle.rules.proofs.Words.{or-split}
-use Rattle.history.proofs.Conditions.{not-past, not-false}
-use Rattle.history.proofs.EditConditions.{complex-content}
+use Rattle.change_laws.proofs.Conditions.{not-past}
+use Rattle.change_laws.proofs.EditConditions.{complex-content}
 use Rattle.model.specs.declared.place.Holder.{Holder}
 use Rattle.layout.specs.Bodies.{widthOf}
 use Rattle.lookup.specs.Bodies.{bodiesOf}
@@ -38,8 +38,8 @@ use Rattle.store_writer.proofs.CallLaws.{answers-as}
 use Rattle.plans.specs.ModelCalls.{insertElementPlan}
 use Rattle.plans.proofs.CallsPlanned.{none-holds}
 use Rattle.plans.proofs.ModelCallsPlanned.{insert-element-planned}
-use Rattle.model_places.specs.Placing.{indexIn, partIn, Placed}
-use Rattle.document_refusals.proofs.StoreFacts.{value-given}
+use Rattle.model_places.specs.Placing.{indexOfName, partIn, Placed}
+use Rattle.store_writer.proofs.StoreFacts.{value-given}
 use Rattle.model_places.proofs.PlaceLaws.{found-insert}
 use Rattle.place_marks.specs.Marking.{marksAt}
 use Rattle.place_marks.proofs.MarkLaws.{gap-marked}
@@ -101,7 +101,7 @@ module _ {bs : Bytes} {o : ℕ} {p : List ℕ} {i k : ℕ} {t : Bytes} (x : Inse
   known-low = omega (arith, x .known, size bs (reads bs (x .fits .good)), reads bs (x .fits .good) .whole .fewDefinitions)
 
   -- the edit of the code is that of the rules, by indices
-  pub edit-same : {r : Quantifier} → r ≡ quantifierOf k → editOf (Insert r i) ≡ renameEdit (indexIn bs) edit
+  pub edit-same : {r : Quantifier} → r ≡ quantifierOf k → editOf (Insert r i) ≡ renameEdit (indexOfName bs) edit
   edit-same e = ap₂ (λ (q : Quantifier) (j : ℕ). insert q j) e (sym (name-index form (reads bs (x .fits .good) .members .once) i (x .known)))
 
   pub inserting-sized : {q : Plan} (marks : Bytes) (needs : Bool) → q ≡ insertElementPlan o marks i needs → Sized q

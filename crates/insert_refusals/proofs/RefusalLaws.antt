@@ -21,22 +21,22 @@ use Rattle.rules.specs.WellFormed.{isValue}
 use Rattle.rules.specs.Passing.{passes}
 use Rattle.rules.specs.Change.{insertElement, definitionAt, nameAtIndex}
 use Rattle.rules.specs.Refusal.{Condition, _if_, first, conditions, past, foundAt, atPlace, noPlace, isComplex, instanceExists}
-use Rattle.layout.specs.Bodies.{widthOf, WidthIn, Number, definitionsIn, rowsIn}
+use Rattle.layout.specs.Bodies.{widthOf, WidthIn, Number, definitionsIn, treeRowsIn}
 use Rattle.model.specs.declared.place.Holder.{Holder}
 use Rattle.model.specs.declared.place.Found.{Found}
 use Rattle.model.specs.declared.place.Found.the-variants.{At, Absent}
-use Rattle.model.specs.Places.{placeOf}
+use Rattle.model.specs.Places.{placeIn}
 use Rattle.form_index.specs.Reading.{definitionIn}
 use Rattle.store_writer.specs.Stores.{storeIn}
-use Rattle.document_refusals.proofs.StoreFacts.{formIn}
-use Rattle.document_refusals.specs.Finding.{Gives}
-use Rattle.document_refusals.proofs.RefusalLaws.{gives-hit, gives-next, gives-none, bad-text, fine-text, past-definitions, within-definitions}
+use Rattle.store_writer.proofs.StoreFacts.{formIn, bad-text, fine-text, past-definitions, within-definitions}
+use Rattle.change_laws.specs.FirstCondition.{Gives}
+use Rattle.change_laws.proofs.FirstCondition.{gives-hit, gives-next, gives-none}
 use Rattle.instance_search.specs.Instances.{instanceRow}
 use Rattle.model_places.specs.Placing.{modelIn, partIn, foundBy, Placed}
 use Rattle.instance_search.proofs.TestLaws.{test-is, none-long}
 use Rattle.instance_search.proofs.InstanceLaws.{instance-is}
 use Rattle.model_places.proofs.PlaceLaws.{found-insert, absent, present-at}
-use Rattle.model_reach.specs.Reach.{inModel, comesRound}
+use Rattle.model_reach.specs.Reach.{standsInModel, comesRound}
 use Rattle.insert_refusals.specs.Inserting.{modelConditions, offSpine, placeConditions}
 use Rattle.model_reach.proofs.FormFacts.{Reads}
 use Rattle.model_reach.proofs.ModelLaws.{size}
@@ -63,7 +63,7 @@ module _ (bs : Bytes) (w : Reads bs) (o i : ℕ) (lo : o < definitionCount bs) (
   pub model-9 : (k ≡ 2 → ⊥) → Result 9
   model-9 f = gives-hit (other-code (definitionAt o (formIn bs) .content) (λ z. f (kind-is ∙ z)))
 
-  module _ (is : k ≡ 2) {b : Bool} (e10 : b ≡ inModel (formIn bs) o i) where
+  module _ (is : k ≡ 2) {b : Bool} (e10 : b ≡ standsInModel (formIn bs) o i) where
     past-9 : not (isComplex (definitionAt o (formIn bs) .content)) ≡ false
     past-9 = complex-code (definitionAt o (formIn bs) .content) (sym kind-is ∙ is)
 
@@ -87,7 +87,7 @@ module _ (bs : Bytes) (w : Reads bs) (o i : ℕ) (lo : o < definitionCount bs) (
               last (ap (λ (z : Bool). instanceExists (nameAtIndex o (formIn bs)) (storeIn bs) && z) (not-true (needed && off) f)
               ∙ and-false (instanceExists (nameAtIndex o (formIn bs)) (storeIn bs))) (gives-next refl gives-none)
 
-          module _ (off-is : not (needed && off) ≡ false) {d : Bool} (e13 : d ≡ any (instanceRow o) (readMany readRow (rowSize (widthOf bs)) (rowCount bs) (rowsIn bs))) where
+          module _ (off-is : not (needed && off) ≡ false) {d : Bool} (e13 : d ≡ any (instanceRow o) (readMany readRow (rowSize (widthOf bs)) (rowCount bs) (treeRowsIn bs))) where
             there : (z : Bool) → d ≡ z → (instanceExists (nameAtIndex o (formIn bs)) (storeIn bs) && (needed && off)) ≡ (z && true)
             there z f = ap₂ (λ (u v : Bool). u && v) (sym (instance-is bs (w .whole) o (omega (arith, size bs w))) ∙ test-is e13 f) (not-false (needed && off) off-is)
 
@@ -102,9 +102,9 @@ module _ (bs : Bytes) (o i : ℕ) (needed unfilled : Bool) (place : List ℕ) wh
   abbrev pub spot : Option (Spot Bytes)
   spot = foundBy true place (modelIn bs o)
 
-  module _ (pass : passes bs ≡ true) (lo : o < definitionCount bs) {part : Bytes} (own : part ≡ partIn bs o) {found : Found} (e : found ≡ placeOf true place part) where
-    find-is : placeOf true place (partIn bs o) ≡ found
-    find-is = sym (e ∙ ap (placeOf true place) own)
+  module _ (pass : passes bs ≡ true) (lo : o < definitionCount bs) {part : Bytes} (own : part ≡ partIn bs o) {found : Found} (e : found ≡ placeIn true place part) where
+    find-is : placeIn true place (partIn bs o) ≡ found
+    find-is = sym (e ∙ ap (placeIn true place) own)
 
     pub place-8 : found ≡ Absent → Gives 8 (placeConditions spot o i needed unfilled (storeIn bs))
     place-8 q = gives-hit (ap noPlace (absent bs pass o lo true place (find-is ∙ q)))
@@ -136,7 +136,7 @@ abbrev laterConditions : Option (Spot Bytes) → Bool → Bool → ℕ → ℕ �
 laterConditions found x y o i s =
     8 if noPlace found
     ∷ 9 if not (isComplex (definitionAt o (s .form) .content))
-    ∷ 10 if inModel (s .form) o i
+    ∷ 10 if standsInModel (s .form) o i
     ∷ 11 if comesRound (s .form) o i
     ∷ 12 if x
     ∷ 13 if (instanceExists (definitionAt o (s .form) .name) s && y)

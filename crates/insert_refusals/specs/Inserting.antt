@@ -10,13 +10,13 @@ use Rattle.rules.specs.Edit.{sameKind}
 use Rattle.rules.specs.Store.{Store}
 use Rattle.rules.specs.Change.{definitionAt}
 use Rattle.rules.specs.Refusal.{Condition, _if_, atPlace, noPlace, isComplex, instanceExists}
-use Rattle.model_reach.specs.Reach.{inModel, comesRound}
+use Rattle.model_reach.specs.Reach.{standsInModel, comesRound}
 
 -- from row 9 on; `needed`: NONE or PLUS; `unfilled`: the default is empty; `off`: the place is in a LIST off the spine
 abbrev pub modelConditions : ℕ → ℕ → Bool → Bool → Bool → Store → List Condition
 modelConditions o i needed unfilled off s =
     9 if not (isComplex (definitionAt o (s .form) .content))
-    ∷ 10 if inModel (s .form) o i
+    ∷ 10 if standsInModel (s .form) o i
     ∷ 11 if comesRound (s .form) o i
     ∷ 12 if (needed && unfilled)
     ∷ 13 if (instanceExists (definitionAt o (s .form) .name) s && (needed && off))

@@ -17,12 +17,12 @@ use Rattle.rules.specs.Conforming.{EveryRow, RowConforms, ElementRows}
 use Rattle.rules.specs.Lines.{Line, lines, elementNamed}
 use Rattle.rules.specs.Change.{nameAtIndex}
 use Rattle.rules.specs.Refusal.{instanceExists}
-use Rattle.layout.specs.Bodies.{widthOf, WidthIn, Number, rowsIn}
+use Rattle.layout.specs.Bodies.{widthOf, WidthIn, Number, treeRowsIn}
 use Rattle.lookup.proofs.Laws.{from-all}
 use Rattle.rules.proofs.BooleanLaws.{any-append}
 use Rattle.store_check.proofs.IndexLaws.{index-same}
 use Rattle.store_writer.specs.Stores.{storeIn}
-use Rattle.document_refusals.proofs.StoreFacts.{formIn, docsIn, Whole}
+use Rattle.store_writer.proofs.StoreFacts.{formIn, docsIn, Whole}
 use Rattle.instance_search.specs.Instances.{instanceRow}
 
 module _ (version : ℕ) (form : Form) (once : Distinct (map definitionName form)) (i : ℕ) (h : i < length form) where
@@ -53,9 +53,9 @@ module _ (version : ℕ) (form : Form) (once : Distinct (map definitionName form
       ∙ sym (any-append (λ (l : Line). elementNamed n (l .row)) (lines (r .serial) b) (lines up t)))
 
 pub instance-is : (bs : Bytes) → Whole bs → (o : ℕ) → o < length (formIn bs)
-    → any (instanceRow o) (readMany readRow (rowSize (widthOf bs)) (rowCount bs) (rowsIn bs)) ≡ instanceExists (nameAtIndex o (formIn bs)) (storeIn bs)
+    → any (instanceRow o) (readMany readRow (rowSize (widthOf bs)) (rowCount bs) (treeRowsIn bs)) ≡ instanceExists (nameAtIndex o (formIn bs)) (storeIn bs)
 instance-is bs w o l =
-    ap (any (instanceRow o)) (sym (from-all readRow (rowSize (widthOf bs)) (rowsIn bs) (rowCount bs) 0) ∙ w .rows)
+    ap (any (instanceRow o)) (sym (from-all readRow (rowSize (widthOf bs)) (treeRowsIn bs) (rowCount bs) 0) ∙ w .rows)
     ∙ rows-have (storeIn bs .version) (formIn bs) (w .good .form .names) o l 0 [] 0 (docsIn bs) (w .good .docs .rows)
 
 -- ---- the loop over the rows
@@ -63,7 +63,7 @@ pub instance-row : (o : ℕ) (at : Bytes) {row : Bytes} {index : ℕ} {sort : �
     → (eqb sort 1 && eqb index o) ≡ instanceRow o (readRow at)
 instance-row o at {row} e s x = ap₂ (λ (a b : ℕ). eqb a 1 && eqb b o) s x ∙ ap (λ (z : Bytes). instanceRow o (readRow z)) e
 
-pub instances-any : (bs : Bytes) (o : ℕ) {w count : ℕ} {rows : Bytes} {r : Bool} → WidthIn bs w → Number (rowCount bs) count → rows ≡ rowsIn bs
+pub instances-any : (bs : Bytes) (o : ℕ) {w count : ℕ} {rows : Bytes} {r : Bool} → WidthIn bs w → Number (rowCount bs) count → rows ≡ treeRowsIn bs
     → r ≡ any (instanceRow o) (readMany readRow (rowSize w) count rows)
-    → r ≡ any (instanceRow o) (readMany readRow (rowSize (widthOf bs)) (rowCount bs) (rowsIn bs))
+    → r ≡ any (instanceRow o) (readMany readRow (rowSize (widthOf bs)) (rowCount bs) (treeRowsIn bs))
 instances-any bs o v e f q = q ∙ (λ j. any (instanceRow o) (readMany readRow (rowSize (v .value j)) (e .value j) (f j)))

@@ -2,7 +2,7 @@
 use mathlib.Core.Path.{_≡_, refl, sym, ap, _∙_}
 use mathlib.Core.Bool.{true, _&&_}
 use lib.Dec.{eqb}
-use mathlib.Core.List.{List, [], _∷_}
+use mathlib.Core.List.{[], _∷_}
 use Prim.Native.Nat.{ℕ, zero, suc, _+_, _-_, _*_, _<_, _≤_}
 use native.Mathlib.Omega.{arith}
 use native.Mathlib.Nat.{mul-le-mul, mul-suc, mul-zero}
@@ -15,10 +15,10 @@ use Rattle.rules.specs.Passing.{good}
 use Rattle.rules.specs.Decode.{unle, numberAt, readDefinition, readParticle, readAttribute, readRow, readMany, definitionCount, particleCount, attributeCount, rowCount, readFlat}
 use Rattle.rules.proofs.LayoutLaws.{read-bytes}
 use Rattle.rules.proofs.DecodeLaws.{width-bound, width-most, good-flat}
-use Rattle.codec.proofs.Records.{many-at, many-within}
+use Rattle.codec.proofs.Records.{many-at, many-within, drop-take}
 use Rattle.layout.specs.declared.Shape.{Shape}
 use Rattle.layout.specs.Fields.{rowUnusedAt, rowValueAt, unusedFit}
-use Rattle.layout.specs.Bodies.{windowOf, Product, recordAt, widthOf, WidthIn, Number, Sized, shapeOf, ShapeOf, attributesStart, rowsStart, Place, definitionBody, particleBody, attributeBody, rowBody, attributeIn}
+use Rattle.layout.specs.Bodies.{windowOf, Product, recordAt, widthOf, WidthIn, Number, ShapeFits, shapeOf, ShapeOf, attributesStart, rowsStart, Place, definitionBody, particleBody, attributeBody, rowBody, attributeBytesIn}
 
 -- ---- products
 pub product : (size n : ℕ) → size < 65536 → n < 4294967296 → Product size n (size * n)
@@ -126,11 +126,11 @@ pub version-read : (s : Store) → good s ≡ true → widthOf (encode s) ≡ va
 unfolding widthOf
 version-read s g = ap (λ (f : FlatStore). valueWidth (f .version)) (read-bytes (valueWidth (s .version)) (flat s) (good-flat s g))
 
-pub attributes-place : (s : Shape) → Sized s → Place (attributesStart s) (40 + 20 * s .definitions + 4 * s .particles)
+pub attributes-place : (s : Shape) → ShapeFits s → Place (attributesStart s) (40 + 20 * s .definitions + 4 * s .particles)
 unfolding attributesStart
 attributes-place s h = record { value = refl; small = omega (arith, h .definitions, h .particles) }
 
-pub rows-place : (s : Shape) (x p : ℕ) → Sized s → Place (attributesStart s) x → Product (20 + s .width) (s .attributes) p → Place (rowsStart s) (x + p)
+pub rows-place : (s : Shape) (x p : ℕ) → ShapeFits s → Place (attributesStart s) x → Product (20 + s .width) (s .attributes) p → Place (rowsStart s) (x + p)
 unfolding attributesStart rowsStart
 rows-place s x p h a m = record { value = omega (arith, a .value, m .value); small = omega (arith, a .value, h .definitions, h .particles, m .small) }
 
@@ -176,8 +176,8 @@ attributes-read bs = many-within readAttribute (attributeSize (widthOf bs)) (att
 
 -- ---- one record of the whole string
 pub attribute-window : {bs : Bytes} {w d p x : ℕ} (i : ℕ) (r : Bytes) → WidthIn bs w → Number (definitionCount bs) d → Number (particleCount bs) p → Product (20 + w) i x
-    → r ≡ windowOf (40 + 20 * d + 4 * p + x) (20 + w) bs → r ≡ attributeIn bs i
-unfolding attributeIn
+    → r ≡ windowOf (40 + 20 * d + 4 * p + x) (20 + w) bs → r ≡ attributeBytesIn bs i
+unfolding attributeBytesIn
 attribute-window {bs} i r width definitions particles product e =
     e
     ∙ (λ j. windowOf (40 + 20 * definitions .value j + 4 * particles .value j + (product .value ∙ ap (λ (v : ℕ). (20 + v) * i) (width .value)) j) (20 + width .value j) bs)
@@ -211,11 +211,6 @@ field-at size i k s h = getD-take size (drop (size * i) s) k 0 h ∙ getD-drop (
 -- the byte that a callee read there
 pub field-by : (size i k : ℕ) (s : Bytes) {r b : ℕ} → k < size → b ≡ getD s (size * i + k) 0 → r ≡ b → r ≡ getD (recordAt size i s) k 0
 field-by size i k s h e g = g ∙ e ∙ sym (field-at size i k s h)
-
-pub drop-take : {A : Type 0} (k m : ℕ) (l : List A) → drop k (take (k + m) l) ≡ take m (drop k l)
-drop-take zero m l = let e : 0 + m ≡ m = omega arith in rw e
-drop-take (suc k) m [] = rw (take-nil (suc k + m), take-nil m)
-drop-take (suc k) m (x ∷ l) = let e : suc k + m ≡ suc (k + m) = omega arith in rw e (drop-take k m l)
 
 pub particles-at : (i : ℕ) (s : Bytes) → numberAt (definitionSize * i + 18) 2 s ≡ readDefinition (recordAt definitionSize i s) .particles
 particles-at i s =

@@ -14,7 +14,7 @@ use Rattle.rules.specs.Decode.{readRow}
 use Rattle.rules.proofs.LayoutLaws.{length-row}
 use Rattle.codec.specs.Laid.{Laid}
 use Rattle.codec.proofs.Writers.{sets-past, laid-then, laid-as}
-use Rattle.layout.specs.RowBytes.{rowOf, rowStart, rowEnd, valuedRow, movedRow, WholeRow, RowLaid}
+use Rattle.layout.specs.RowBytes.{rowOf, rowStart, rowEnd, valuedRow, reindexedRow, WholeRow, RowLaid}
 
 -- ---- zero bytes
 -- a loop that stores them up to the place n: what is left to store gives the same end
@@ -95,14 +95,14 @@ module _ {w : ℕ} {row : Bytes} (o : WholeRow w row) where
   part-length k n h = length-take-le n (drop k row) (omega (arith, length-drop k row, row-length))
 
   -- with its own index it is written whole
-  pub kept-laid : (index : ℕ) {at r : ℕ} {out out′ : Bytes} → readRow row .row .index ≡ index → Laid row out at r out′ → RowLaid w (movedRow index row) out at r out′
-  kept-laid index e q = laid-row {w = w} {x = movedRow index row} (laid-as (ap (λ (k : ℕ). rowBytes w (movedRow k row)) (sym e) ∙ o .written) q)
+  pub kept-laid : (index : ℕ) {at r : ℕ} {out out′ : Bytes} → readRow row .row .index ≡ index → Laid row out at r out′ → RowLaid w (reindexedRow index row) out at r out′
+  kept-laid index e q = laid-row {w = w} {x = reindexedRow index row} (laid-as (ap (λ (k : ℕ). rowBytes w (reindexedRow k row)) (sym e) ∙ o .written) q)
 
   module _ (index : ℕ) {at a : ℕ} {out out₁ : Bytes} (p : Laid (take 2 row ++ le 2 index) out at a out₁) where
-    pub moved-laid : {r : ℕ} {out′ : Bytes} → Laid (take (12 + w - 4) (drop 4 row)) out₁ a r out′ → RowLaid w (movedRow index row) out at r out′
-    moved-laid q = laid-row {w = w} {x = movedRow index row} (laid-as bytes (laid-then p q))
+    pub moved-laid : {r : ℕ} {out′ : Bytes} → Laid (take (12 + w - 4) (drop 4 row)) out₁ a r out′ → RowLaid w (reindexedRow index row) out at r out′
+    moved-laid q = laid-row {w = w} {x = reindexedRow index row} (laid-as bytes (laid-then p q))
       where
-        bytes : rowBytes w (movedRow index row) ≡ (take 2 row ++ le 2 index) ++ take (12 + w - 4) (drop 4 row)
+        bytes : rowBytes w (reindexedRow index row) ≡ (take 2 row ++ le 2 index) ++ take (12 + w - 4) (drop 4 row)
         bytes =
             ap (λ (s : Bytes). (take 2 s ++ le 2 index) ++ drop 4 s) (o .written)
             ∙ ap (λ (s : Bytes). (take 2 row ++ le 2 index) ++ s) (sym (take-all (12 + w - 4) (drop 4 row) (omega (arith, length-drop 4 row, row-length))))

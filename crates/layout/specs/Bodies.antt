@@ -41,7 +41,7 @@ pub record Number (n r : ℕ) : Type 0 where
   pub small : r < 4294967296
 
 -- counts and width that fit their fields, whatever they were read from
-pub record Sized (s : Shape) : Type 0 where
+pub record ShapeFits (s : Shape) : Type 0 where
   pub width : s .width < 256
   pub definitions : s .definitions < 4294967296
   pub particles : s .particles < 4294967296
@@ -62,7 +62,7 @@ shapeOf bs =
 
 pub record ShapeOf (bs : Bytes) (s : Shape) : Type 0 where
   pub is : s ≡ shapeOf bs
-  pub sized : Sized s
+  pub sized : ShapeFits s
 
 -- ---- where the bodies begin
 unfoldable pub attributesStart : Shape → ℕ
@@ -99,12 +99,12 @@ particlesIn bs = particleBody (shapeOf bs) bs
 abbrev pub attributesIn : Bytes → Bytes
 attributesIn bs = attributeBody (shapeOf bs) bs
 
-abbrev pub rowsIn : Bytes → Bytes
-rowsIn bs = rowBody (shapeOf bs) bs
+abbrev pub treeRowsIn : Bytes → Bytes
+treeRowsIn bs = rowBody (shapeOf bs) bs
 
 -- attribute number i of a byte string, at the width that its version says
-unfoldable pub attributeIn : Bytes → ℕ → Bytes
-attributeIn bs i =
+unfoldable pub attributeBytesIn : Bytes → ℕ → Bytes
+attributeBytesIn bs i =
     windowOf
     (headerSize + definitionSize * definitionCount bs + particleSize * particleCount bs + attributeSize (widthOf bs) * i)
     (attributeSize (widthOf bs))

@@ -25,8 +25,8 @@ abbrev pub valuedRow : ℕ → Bytes → Bytes → Deep FlatRow
 valuedRow index value row = rowOf (readRow row .row .sort) (readRow row .depth) index (readRow row .row .serial) value
 
 -- .. with another index
-abbrev pub movedRow : ℕ → Bytes → Deep FlatRow
-movedRow index row = valuedRow index (readRow row .row .value) row
+abbrev pub reindexedRow : ℕ → Bytes → Deep FlatRow
+reindexedRow index row = valuedRow index (readRow row .row .value) row
 
 -- the bytes are those of the row that is read
 pub record WholeRow (w : ℕ) (row : Bytes) : Type 0 where

@@ -6,7 +6,7 @@ ghost use Rattle.rules.specs.Layout.{valueWidth, headerSize, definitionSize, pa
 ghost use Rattle.rules.specs.Decode.{numberAt, readDefinition, readParticle, readAttribute, readRow, definitionCount, particleCount, attributeCount, rowCount};
 ghost use Rattle.codec.specs.Part.{partOf};
 ghost use Rattle.layout.specs.Fields.{attributeLength, rowLength, unusedFit};
-ghost use Rattle.layout.specs.Bodies.{Width, windowOf, Product, recordAt, Number, WidthIn, Sized, ShapeOf, attributesStart, rowsStart, Place, definitionBody, particleBody, attributeBody, rowBody, definitionsIn, particlesIn, attributesIn, rowsIn, attributeIn, ValueAt};
+ghost use Rattle.layout.specs.Bodies.{Width, windowOf, Product, recordAt, Number, WidthIn, ShapeFits, ShapeOf, attributesStart, rowsStart, Place, definitionBody, particleBody, attributeBody, rowBody, definitionsIn, particlesIn, attributesIn, treeRowsIn, attributeBytesIn, ValueAt};
 
 pub const HEADER_SIZE: usize = 40;
 
@@ -316,7 +316,7 @@ pub fn particle_in(store: &[u8], i: usize) -> &[u8]
 /// Attribute i of a store.
 pub fn attribute_in(store: &[u8], i: usize) -> &[u8]
     requires { ⌜ i < 4294967296 ⌝ }
-    ensures { λ r. ⌜ now r ≡ attributeIn (now (store .entry)) i ⌝ }
+    ensures { λ r. ⌜ now r ≡ attributeBytesIn (now (store .entry)) i ⌝ }
 {
     let w = width_in(store);
     let definitions = definition_count(store);
@@ -423,7 +423,7 @@ pub fn shape_of(store: &[u8]) -> Shape
 
 /// The definitions of a store.
 pub fn definition_body(store: &[u8], s: Shape) -> &[u8]
-    requires { ⌜ Sized s ⌝ }
+    requires { ⌜ ShapeFits s ⌝ }
     ensures { λ r. ⌜ now r ≡ definitionBody s (now (store .entry)) ⌝ }
 {
     window(store, HEADER_SIZE, DEFINITION_SIZE * s.definitions)
@@ -431,7 +431,7 @@ pub fn definition_body(store: &[u8], s: Shape) -> &[u8]
 
 /// The particles of a store.
 pub fn particle_body(store: &[u8], s: Shape) -> &[u8]
-    requires { ⌜ Sized s ⌝ }
+    requires { ⌜ ShapeFits s ⌝ }
     ensures { λ r. ⌜ now r ≡ particleBody s (now (store .entry)) ⌝ }
 {
     window(
@@ -443,7 +443,7 @@ pub fn particle_body(store: &[u8], s: Shape) -> &[u8]
 
 /// Where the attributes begin.
 pub fn attributes_start(s: Shape) -> usize
-    requires { ⌜ Sized s ⌝ }
+    requires { ⌜ ShapeFits s ⌝ }
     ensures { λ r. ⌜ Place (attributesStart s) r ⌝ }
 {
     HEADER_SIZE + DEFINITION_SIZE * s.definitions + PARTICLE_SIZE * s.particles
@@ -451,7 +451,7 @@ pub fn attributes_start(s: Shape) -> usize
 
 /// Where the rows begin.
 pub fn rows_start(s: Shape) -> usize
-    requires { ⌜ Sized s ⌝ }
+    requires { ⌜ ShapeFits s ⌝ }
     ensures { λ r. ⌜ Place (rowsStart s) r ⌝ }
 {
     let start = attributes_start(s);
@@ -460,7 +460,7 @@ pub fn rows_start(s: Shape) -> usize
 
 /// The attributes of a store.
 pub fn attribute_body(store: &[u8], s: Shape) -> &[u8]
-    requires { ⌜ Sized s ⌝ }
+    requires { ⌜ ShapeFits s ⌝ }
     ensures { λ r. ⌜ now r ≡ attributeBody s (now (store .entry)) ⌝ }
 {
     let start = attributes_start(s);
@@ -469,7 +469,7 @@ pub fn attribute_body(store: &[u8], s: Shape) -> &[u8]
 
 /// The rows of a store.
 pub fn row_body(store: &[u8], s: Shape) -> &[u8]
-    requires { ⌜ Sized s ⌝ }
+    requires { ⌜ ShapeFits s ⌝ }
     ensures { λ r. ⌜ now r ≡ rowBody s (now (store .entry)) ⌝ }
 {
     let start = rows_start(s);
@@ -502,7 +502,7 @@ pub fn attributes_of(store: &[u8]) -> &[u8]
 
 /// The rows of a store, by its own header.
 pub fn rows_of(store: &[u8]) -> &[u8]
-    ensures { λ r. ⌜ now r ≡ rowsIn (now (store .entry)) ⌝ }
+    ensures { λ r. ⌜ now r ≡ treeRowsIn (now (store .entry)) ⌝ }
 {
     let s = shape_of(store);
     row_body(store, s)

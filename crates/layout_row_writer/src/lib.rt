@@ -6,7 +6,7 @@ ghost use lib.ListN.{length, take, replicate};
 ghost use Rattle.rules.specs.Layout.{rowSize, le};
 ghost use Rattle.codec.specs.Laid.{Laid};
 ghost use Rattle.layout.specs.Bodies.{Width};
-ghost use Rattle.layout.specs.RowBytes.{rowOf, rowStart, rowEnd, movedRow, valuedRow, WholeRow, RowLaid};
+ghost use Rattle.layout.specs.RowBytes.{rowOf, rowStart, rowEnd, reindexedRow, valuedRow, WholeRow, RowLaid};
 
 fn least(a: usize, b: usize) -> usize
     ensures { λ r. ⌜ r ≡ min a b ⌝ }
@@ -82,7 +82,7 @@ fn put_row_index(row: &[u8], index: usize, out: &mut [u8], at: usize) -> usize
 /// Writes a row with another index.
 pub fn put_row_moved(w: usize, row: &[u8], index: usize, out: &mut [u8], at: usize) -> usize
     requires { ⌜ Width w × WholeRow w (now row) × (at + rowSize w < 9223372036854775808) × (index < 65536) ⌝ }
-    ensures { λ r. ⌜ RowLaid w (movedRow index (now (row .entry))) (now (out .entry)) at r (now (out .exit)) ⌝ }
+    ensures { λ r. ⌜ RowLaid w (reindexedRow index (now (row .entry))) (now (out .entry)) at r (now (out .exit)) ⌝ }
 {
     if layout::row_index(row) == index as u32 {
         return codec::put(row, out, at);

@@ -17,21 +17,18 @@ use Rattle.rules.specs.Layout.{valueWidth, headerSize, definitionSize, particle
 use Rattle.rules.specs.Decode.{readDefinition, readParticle, readAttribute, readRow, readMany, definitionCount, particleCount, attributeCount, rowCount, readFlat}
 use Rattle.rules.specs.Store.{Store}
 use Rattle.rules.specs.Passing.{good, readStore}
-use Rattle.rules.specs.LookUp.{Found, Numbered, rowWith, foundRow, valueStart, partOf, notFound, foundIn, lookUp}
+use Rattle.rules.specs.LookUp.{ValueFound, Numbered, rowWith, foundRow, valueStart, partFound, notFound, lookUpIn, lookUp}
 use Rattle.rules.proofs.LayoutLaws.{read-bytes}
 use Rattle.rules.proofs.DecodeLaws.{good-flat, read-good}
 use Rattle.layout.specs.declared.Shape.{Shape}
 use Rattle.layout.specs.Bodies.{widthOf, windowOf, recordAt, shapeOf, ShapeOf, Place, rowsStart, attributesStart, WidthIn, Product}
 use Rattle.layout.specs.Fields.{rowValueAt}
 use Rattle.layout.proofs.LayoutLaws.{version-read}
-use Rattle.lookup.specs.Bodies.{Begins, RowPlace, RowsOf, recordsFrom, bodiesOf, rowStart, rowBody, rowPart}
-use Rattle.lookup.specs.Finding.{Looks, foundOn, foundAt}
+use Rattle.lookup.specs.Bodies.{RowsBegin, RowPlace, RowsOf, recordsFrom, bodiesOf, rowsStartIn, fromRows, rowPart}
+use Rattle.lookup.specs.Finding.{Looks, foundOn, foundRowAt}
+use Rattle.codec.proofs.Records.{length-many}
 
 -- ---- records read one after the other
-pub length-many : {A : Type 0} (f : Bytes → A) (size n : ℕ) (bs : Bytes) → length (readMany f size n bs) ≡ n
-length-many f size zero bs = refl
-length-many f size (suc n) bs = ap suc (length-many f size n (drop size bs))
-
 module _ {A : Type 0} (f : Bytes → A) (size : ℕ) (body : Bytes) (end i : ℕ) where
   pub from-step : i < end → recordsFrom f size body end i ≡ f (take size (drop (size * i) body)) ∷ recordsFrom f size body end (i + 1)
   unfolding recordsFrom
@@ -49,15 +46,15 @@ module _ {A : Type 0} (f : Bytes → A) (size : ℕ) (body : Bytes) (end i : ℕ
   from-all = let e : end - 0 ≡ end = omega arith in rw (e, mul-zero)
 
 -- ---- the place of row number i
-pub row-place : (bs : Bytes) (i : ℕ) → take (rowSize (widthOf bs)) (drop (rowStart bs + (rowSize (widthOf bs)) * i) bs) ≡ rowPart bs i
-unfolding rowStart rowBody rowPart
+pub row-place : (bs : Bytes) (i : ℕ) → take (rowSize (widthOf bs)) (drop (rowsStartIn bs + (rowSize (widthOf bs)) * i) bs) ≡ rowPart bs i
+unfolding rowsStartIn fromRows rowPart
 row-place bs i = simp drop-drop
 
-pub begins : (bs : Bytes) (s : Shape) (r : ℕ) → ShapeOf bs s → Place (rowsStart s) r → Begins bs r
-unfolding rowStart rowsStart attributesStart shapeOf
+pub begins : (bs : Bytes) (s : Shape) (r : ℕ) → ShapeOf bs s → Place (rowsStart s) r → RowsBegin bs r
+unfolding rowsStartIn rowsStart attributesStart shapeOf
 begins bs s r x p = record { start = p .value ∙ ap rowsStart (x .is); small = p .small }
 
-pub row-placed : (bs : Bytes) (i w size p x : ℕ) → WidthIn bs w → size ≡ rowSize w → Product size i p → Begins bs x → RowPlace bs i (x + p)
+pub row-placed : (bs : Bytes) (i w size p x : ℕ) → WidthIn bs w → size ≡ rowSize w → Product size i p → RowsBegin bs x → RowPlace bs i (x + p)
 row-placed bs i w size p x a e b c =
     record { value = ap₂ (λ (m n : ℕ). m + n) (c .start) (b .value ∙ ap (λ (z : ℕ). z * i) (e ∙ ap rowSize (a .value))); small = omega (arith, c .small, b .small) }
 
@@ -65,8 +62,8 @@ pub row-window : (bs : Bytes) (i w size x : ℕ) (r : Bytes) → WidthIn bs w �
 row-window bs i w size x r a g p e = e ∙ ap₂ (λ (n k : ℕ). windowOf k n bs) (g ∙ ap rowSize (a .value)) (p .value) ∙ row-place bs i
 
 -- what is cut to the string's own length is all of it
-pub rows-from : (bs : Bytes) (x : ℕ) (r : Bytes) → Begins bs x → r ≡ windowOf x (length bs) bs → r ≡ rowBody bs
-unfolding rowStart rowBody
+pub rows-from : (bs : Bytes) (x : ℕ) (r : Bytes) → RowsBegin bs x → r ≡ windowOf x (length bs) bs → r ≡ fromRows bs
+unfolding rowsStartIn fromRows
 rows-from bs x r b e =
     e ∙ take-all (length bs) (drop x bs) (omega (arith, length-drop x bs)) ∙ ap (λ (k : ℕ). drop k bs) (b .start) ∙ simp drop-drop
 
@@ -76,7 +73,7 @@ unfolding rowPart
 row-of i h e = e ∙ ap₂ (λ (w : ℕ) (s : Bytes). recordAt (rowSize w) i s) (h .width .value) (h .body)
 
 -- ---- answers in the code's numbers
-pub looks-as : {f : Found} {number s s′ l l′ : ℕ} → s ≡ s′ → l ≡ l′ → Looks f number s′ l′ → Looks f number s l
+pub looks-as : {f : ValueFound} {number s s′ l l′ : ℕ} → s ≡ s′ → l ≡ l′ → Looks f number s′ l′ → Looks f number s l
 looks-as e g h = record { number-is = h .number-is; start-is = e ∙ h .start-is; length-is = g ∙ h .length-is }
 
 -- ---- one row of the walk
@@ -103,29 +100,29 @@ sort-other w f n e = rw (ne-eqb (n .row .sort) 1 e, foundRow)
 -- what is left to look through gives the same row
 pub record Seeking (bs : Bytes) (k count i : ℕ) : Type 0 where
   pub counts : count ≡ rowCount bs
-  pub rest : rowWith k i (recordsFrom readRow (rowSize (widthOf bs)) (rowBody bs) count i) ≡ rowWith k 0 (bodiesOf bs .rows)
+  pub rest : rowWith k i (recordsFrom readRow (rowSize (widthOf bs)) (fromRows bs) count i) ≡ rowWith k 0 (bodiesOf bs .rows)
 
 pub seek-start : (bs : Bytes) (k count : ℕ) → count ≡ rowCount bs → Seeking bs k count 0
-unfolding bodiesOf rowBody
-seek-start bs k count e = record { counts = e; rest = ap (rowWith k 0) (from-all readRow (rowSize (widthOf bs)) (rowBody bs) count 0 ∙ ap (λ (n : ℕ). readMany readRow (rowSize (widthOf bs)) n (rowBody bs)) e) }
+unfolding bodiesOf fromRows
+seek-start bs k count e = record { counts = e; rest = ap (rowWith k 0) (from-all readRow (rowSize (widthOf bs)) (fromRows bs) count 0 ∙ ap (λ (n : ℕ). readMany readRow (rowSize (widthOf bs)) n (fromRows bs)) e) }
 
 module _ (bs : Bytes) (k count i : ℕ) (s : Seeking bs k count i) where
-  step : i < count → rowWith k i (recordsFrom readRow (rowSize (widthOf bs)) (rowBody bs) count i) ≡ rowWith k i (readRow (rowPart bs i) ∷ recordsFrom readRow (rowSize (widthOf bs)) (rowBody bs) count (i + 1))
+  step : i < count → rowWith k i (recordsFrom readRow (rowSize (widthOf bs)) (fromRows bs) count i) ≡ rowWith k i (readRow (rowPart bs i) ∷ recordsFrom readRow (rowSize (widthOf bs)) (fromRows bs) count (i + 1))
   unfolding rowPart
-  step h = ap (rowWith k i) (from-step readRow (rowSize (widthOf bs)) (rowBody bs) count i h)
+  step h = ap (rowWith k i) (from-step readRow (rowSize (widthOf bs)) (fromRows bs) count i h)
 
   pub seek-past : i < count → (readRow (rowPart bs i) .row .serial ≡ k → ⊥) → Seeking bs k count (i + 1)
-  seek-past h e = record { counts = s .counts; rest = sym (row-other k i (readRow (rowPart bs i)) (recordsFrom readRow (rowSize (widthOf bs)) (rowBody bs) count (i + 1)) e) ∙ sym (step h) ∙ s .rest }
+  seek-past h e = record { counts = s .counts; rest = sym (row-other k i (readRow (rowPart bs i)) (recordsFrom readRow (rowSize (widthOf bs)) (fromRows bs) count (i + 1)) e) ∙ sym (step h) ∙ s .rest }
 
-  pub seek-hit : i < count → readRow (rowPart bs i) .row .serial ≡ k → foundAt bs i ≡ foundOn bs k
-  unfolding foundAt foundOn
+  pub seek-hit : i < count → readRow (rowPart bs i) .row .serial ≡ k → foundRowAt bs i ≡ foundOn bs k
+  unfolding foundRowAt foundOn
   seek-hit h e =
-      ap (foundRow (widthOf bs) (bodiesOf bs)) (sym (row-this k i (readRow (rowPart bs i)) (recordsFrom readRow (rowSize (widthOf bs)) (rowBody bs) count (i + 1)) e) ∙ sym (step h) ∙ s .rest)
+      ap (foundRow (widthOf bs) (bodiesOf bs)) (sym (row-this k i (readRow (rowPart bs i)) (recordsFrom readRow (rowSize (widthOf bs)) (fromRows bs) count (i + 1)) e) ∙ sym (step h) ∙ s .rest)
 
   pub seek-none : count ≤ i → Looks (foundOn bs k) 7 0 0
   unfolding foundOn
   seek-none h =
-      let e : rowWith k 0 (bodiesOf bs .rows) ≡ none = sym (s .rest) ∙ ap (rowWith k i) (from-none readRow (rowSize (widthOf bs)) (rowBody bs) count i h) ∙ row-none k i in
+      let e : rowWith k 0 (bodiesOf bs .rows) ≡ none = sym (s .rest) ∙ ap (rowWith k i) (from-none readRow (rowSize (widthOf bs)) (fromRows bs) count i h) ∙ row-none k i in
       subst (λ (o : Option Numbered). Looks (foundRow (widthOf bs) (bodiesOf bs) o) 7 0 0) (sym e) (record { number-is = refl; start-is = refl; length-is = refl })
 
 -- ---- the row that has the serial
@@ -133,8 +130,8 @@ module _ (bs : Bytes) (i : ℕ) where
   found-row : Numbered
   found-row = record { at = i; row = readRow (rowPart bs i) .row }
 
-  value-start : valueStart (widthOf bs) (bodiesOf bs) i ≡ rowStart bs + rowSize (widthOf bs) * i + rowValueAt
-  unfolding rowStart bodiesOf
+  value-start : valueStart (widthOf bs) (bodiesOf bs) i ≡ rowsStartIn bs + rowSize (widthOf bs) * i + rowValueAt
+  unfolding rowsStartIn bodiesOf
   value-start =
       simp (
         length-many readDefinition definitionSize (definitionCount bs) (drop headerSize bs),
@@ -142,19 +139,19 @@ module _ (bs : Bytes) (i : ℕ) where
         length-many readAttribute (attributeSize (widthOf bs)) (attributeCount bs) (drop (particleSize * particleCount bs) (drop (definitionSize * definitionCount bs) (drop headerSize bs))),
       )
 
-  pub found-element : readRow (rowPart bs i) .row .sort ≡ 1 → Looks (foundAt bs i) 7 0 0
-  unfolding foundAt found-row
+  pub found-element : readRow (rowPart bs i) .row .sort ≡ 1 → Looks (foundRowAt bs i) 7 0 0
+  unfolding foundRowAt found-row
   found-element e =
-      subst (λ (f : Found). Looks f 7 0 0) (sym (sort-element (widthOf bs) (bodiesOf bs) found-row e)) (record { number-is = refl; start-is = refl; length-is = refl })
+      subst (λ (f : ValueFound). Looks f 7 0 0) (sym (sort-element (widthOf bs) (bodiesOf bs) found-row e)) (record { number-is = refl; start-is = refl; length-is = refl })
 
-  pub found-value : (readRow (rowPart bs i) .row .sort ≡ 1 → ⊥) → Looks (foundAt bs i) 0 (rowStart bs + rowSize (widthOf bs) * i + rowValueAt) (length (readRow (rowPart bs i) .row .value))
-  unfolding foundAt found-row
+  pub found-value : (readRow (rowPart bs i) .row .sort ≡ 1 → ⊥) → Looks (foundRowAt bs i) 0 (rowsStartIn bs + rowSize (widthOf bs) * i + rowValueAt) (length (readRow (rowPart bs i) .row .value))
+  unfolding foundRowAt found-row
   found-value e =
-      subst (λ (f : Found). Looks f 0 (rowStart bs + rowSize (widthOf bs) * i + rowValueAt) (length (readRow (rowPart bs i) .row .value)))
+      subst (λ (f : ValueFound). Looks f 0 (rowsStartIn bs + rowSize (widthOf bs) * i + rowValueAt) (length (readRow (rowPart bs i) .row .value)))
       (sym (sort-other (widthOf bs) (bodiesOf bs) found-row e)) (record { number-is = refl; start-is = sym value-start; length-is = refl })
 
 -- ---- the part is the row's value
-some-same : {A : Type 0} {x y : A} → some x ≡ some y → x ≡ y
+pub some-same : {A : Type 0} {x y : A} → some x ≡ some y → x ≡ y
 some-same e = cc
 
 take-front : (n : ℕ) (x : Bytes) (k : ℕ) → take (length (take n (take k x))) x ≡ take n (take k x)
@@ -197,26 +194,26 @@ found-where w k i (suc m) t n h = by (eqb (readRow (take (rowSize w) t) .row .se
         (suc j, omega arith, q ∙ row-next w t j)
 
 row-found : (bs : Bytes) (k : ℕ) (n : Numbered) → rowWith k 0 (bodiesOf bs .rows) ≡ some n → n .row ≡ readRow (rowPart bs (n .at)) .row
-unfolding bodiesOf rowBody rowPart rowAt
+unfolding bodiesOf fromRows rowPart rowAt
 row-found bs k n h =
-    let (j, p, q) = found-where (widthOf bs) k 0 (rowCount bs) (rowBody bs) n h in
-    q ∙ ap (λ (x : ℕ). readRow (take (rowSize (widthOf bs)) (drop ((rowSize (widthOf bs)) * x) (rowBody bs))) .row) (sym (p ∙ zero-add j))
+    let (j, p, q) = found-where (widthOf bs) k 0 (rowCount bs) (fromRows bs) n h in
+    q ∙ ap (λ (x : ℕ). readRow (take (rowSize (widthOf bs)) (drop ((rowSize (widthOf bs)) * x) (fromRows bs))) .row) (sym (p ∙ zero-add j))
 
 value-there : (bs : Bytes) (i : ℕ) (v : Bytes) → v ≡ readRow (rowPart bs i) .row .value → take (length v) (drop (valueStart (widthOf bs) (bodiesOf bs) i) bs) ≡ v
 value-there bs i v e =
     let n : ℕ = getD (rowPart bs i) 8 0 in
-    let x : Bytes = drop (rowStart bs + rowSize (widthOf bs) * i) bs in
+    let x : Bytes = drop (rowsStartIn bs + rowSize (widthOf bs) * i) bs in
     let q : v ≡ take n (drop rowValueAt (take (rowSize (widthOf bs)) x)) = e ∙ ap (λ (l : Bytes). take n (drop rowValueAt l)) (sym (row-place bs i)) in
     let p : drop (valueStart (widthOf bs) (bodiesOf bs) i) bs ≡ drop rowValueAt x = ap (λ (k : ℕ). drop k bs) (value-start bs i) ∙ sym
-    (drop-drop rowValueAt (rowStart bs + rowSize (widthOf bs) * i) bs) in
+    (drop-drop rowValueAt (rowsStartIn bs + rowSize (widthOf bs) * i) bs) in
     ap₂ (λ (l m : Bytes). take (length l) m) q p ∙ take-inside rowValueAt n (rowSize (widthOf bs)) x ∙ sym q
 
 -- the part that is handed back is the value of the row with the serial
-pub part-value : (bs : Bytes) (k : ℕ) (n : Numbered) → rowWith k 0 (bodiesOf bs .rows) ≡ some n → (n .row .sort ≡ 1 → ⊥) → partOf bs (foundOn bs k) ≡ n .row .value
+pub part-value : (bs : Bytes) (k : ℕ) (n : Numbered) → rowWith k 0 (bodiesOf bs .rows) ≡ some n → (n .row .sort ≡ 1 → ⊥) → partFound bs (foundOn bs k) ≡ n .row .value
 unfolding foundOn
 part-value bs k n h e =
-    ap (λ (o : Option Numbered). partOf bs (foundRow (widthOf bs) (bodiesOf bs) o)) h
-    ∙ ap (partOf bs) (sort-other (widthOf bs) (bodiesOf bs) n e)
+    ap (λ (o : Option Numbered). partFound bs (foundRow (widthOf bs) (bodiesOf bs) o)) h
+    ∙ ap (partFound bs) (sort-other (widthOf bs) (bodiesOf bs) n e)
     ∙ value-there bs (n .at) (n .row .value) (ap (λ (r : FlatRow). r .value) (row-found bs k n h))
 
 -- ---- on a store that passes
@@ -232,4 +229,4 @@ bodies-flat bs s h =
 
 pub look-up-is : (bs : Bytes) (s : Store) (k : ℕ) → readStore bs ≡ some s → lookUp bs k ≡ foundOn bs k
 unfolding lookUp foundOn
-look-up-is bs s k h = ap (foundIn k) h ∙ sym (ap₂ (λ (w : ℕ) (f : FlatStore). foundRow w f (rowWith k 0 (f .rows))) (width-read bs s h) (bodies-flat bs s h))
+look-up-is bs s k h = ap (lookUpIn k) h ∙ sym (ap₂ (λ (w : ℕ) (f : FlatStore). foundRow w f (rowWith k 0 (f .rows))) (width-read bs s h) (bodies-flat bs s h))

@@ -2,19 +2,19 @@
 ghost use mathlib.Core.Path.{_≡_};
 ghost use Prim.Native.Nat.{_+_, _*_, _<_};
 ghost use lib.ListN.{length};
-ghost use Rattle.lookup.specs.Bodies.{Begins, RowPlace, rowBody, rowPart};
-ghost use Rattle.lookup.specs.Finding.{Looks, Hands, foundOn, foundAt};
+ghost use Rattle.lookup.specs.Bodies.{RowsBegin, RowPlace, fromRows, rowPart};
+ghost use Rattle.lookup.specs.Finding.{Looks, Hands, foundOn, foundRowAt};
 
 /// Where the tree rows begin.
 pub fn row_start(store: &[u8]) -> usize
-    ensures { λ r. ⌜ Begins (now (store .entry)) r ⌝ }
+    ensures { λ r. ⌜ RowsBegin (now (store .entry)) r ⌝ }
 {
     layout::rows_start(layout::shape_of(store))
 }
 
 /// The bytes from the tree rows on.
 pub fn rows_of(store: &[u8]) -> &[u8]
-    ensures { λ r. ⌜ now r ≡ rowBody (now (store .entry)) ⌝ }
+    ensures { λ r. ⌜ now r ≡ fromRows (now (store .entry)) ⌝ }
 {
     let start = row_start(store);
     layout::window(store, start, store.len())
@@ -50,7 +50,7 @@ pub struct Found {
 // Row i has the serial. An element has no value.
 fn found_at(store: &[u8], i: usize) -> Found
     requires { ⌜ i < 4294967296 ⌝ }
-    ensures { λ r. ⌜ Looks (foundAt (now (store .entry)) i) (r .number) (r .start) (r .length) ⌝ }
+    ensures { λ r. ⌜ Looks (foundRowAt (now (store .entry)) i) (r .number) (r .start) (r .length) ⌝ }
 {
     let bytes = row(store, i);
     if layout::row_sort(bytes) == 1 {

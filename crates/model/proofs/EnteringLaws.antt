@@ -25,7 +25,7 @@ use Rattle.model.specs.declared.place.Found.{Found}
 use Rattle.model.specs.declared.place.Found.the-variants.{At, Absent}
 use Rattle.model.specs.Particle.{particleOf}
 use Rattle.model.specs.Members.{particlesOf}
-use Rattle.model.specs.Places.{Particles, noParticle, reach, spanOf, atMember, atGap, lastOf, inGroup, enteredAt, enteredOf, spotOf, top, placeOf}
+use Rattle.model.specs.Places.{Particles, noParticle, reach, spanOf, atMember, atGap, lastOf, enterGroup, enteredAt, enteredOf, spotOf, top, placeIn}
 use Rattle.model.proofs.ParticleLaws.{particle-at, particles-drop, length-particles, Bounded, reach-bounded, span-bounded}
 
 -- ---- the last number
@@ -122,7 +122,7 @@ entered-parted : (h : Holder) (s : Bytes) (n : ℕ) → Parted h s (enteredOf n 
 entered-parted h s zero = tt
 entered-parted h s (suc n) = by (reach (h .depth) n (particlesOf s)) (reach-bounded (h .depth) n (particlesOf s))
   where
-    of-group : (p : ℕ) → p < length (particlesOf s) → (q : Quantifier) (w : What) → Parted h s (inGroup h p (particlesOf s) q w)
+    of-group : (p : ℕ) → p < length (particlesOf s) → (q : Quantifier) (w : What) → Parted h s (enterGroup h p (particlesOf s) q w)
     of-group p l q (Element i) = tt
     of-group p l q (Group k m) =
         record {
@@ -139,10 +139,10 @@ entered-parted h s (suc n) = by (reach (h .depth) n (particlesOf s)) (reach-boun
 pub entered-part : (h : Holder) (s : Bytes) (n : ℕ) (e : Entered) (g : Holder) (from size : ℕ) → e ≡ enteredOf n h (particlesOf s) → e ≡ Inside g from size → Part h s g from size
 entered-part h s n e g from size q o = rw (← q, o) at (entered-parted h s n)
 
-pub place-long : (insert : Bool) (place : List ℕ) (s : Bytes) → 5 < length place → Absent ≡ placeOf insert place s
-unfolding placeOf
-place-long insert place s h = rw (lt-leb (length place) 5 h, placeOf)
+pub place-long : (insert : Bool) (place : List ℕ) (s : Bytes) → 5 < length place → Absent ≡ placeIn insert place s
+unfolding placeIn
+place-long insert place s h = rw (lt-leb (length place) 5 h, placeIn)
 
-pub place-short : (insert : Bool) (place : List ℕ) (s : Bytes) (f : Found) → length place ≤ 5 → f ≡ spotOf insert place top (particlesOf s) → f ≡ placeOf insert place s
-unfolding placeOf
-place-short insert place s f h e = rw (le-leb (length place) 5 h, placeOf) e
+pub place-short : (insert : Bool) (place : List ℕ) (s : Bytes) (f : Found) → length place ≤ 5 → f ≡ spotOf insert place top (particlesOf s) → f ≡ placeIn insert place s
+unfolding placeIn
+place-short insert place s f h e = rw (le-leb (length place) 5 h, placeIn) e

@@ -25,8 +25,8 @@ use Rattle.model.specs.declared.place.Reached.the-variants.{Member, End,
 use Rattle.model.specs.declared.place.Found.{Found}
 use Rattle.model.specs.declared.place.Found.the-variants.{At, Absent}
 use Rattle.model.specs.Particle.{whatOf, particleOf}
-use Rattle.model.specs.Members.{indexMember, indexMembers, particlesOf, membersFrom, membersOf}
-use Rattle.model.specs.Places.{Particles, onward, ended, reach, spanOf, atMember, atGap, lastOf, inGroup, noParticle, enteredAt, enteredOf, goOn, spotOf, top, placeOf, Told, told, shown, lastBy}
+use Rattle.model.specs.Members.{indexMember, indexMembers, particlesOf, membersFrom, allMembers}
+use Rattle.model.specs.Places.{Particles, onward, ended, reach, spanOf, atMember, atGap, lastOf, enterGroup, noParticle, enteredAt, enteredOf, goOn, spotOf, top, placeIn, PlaceTold, told, shown, lastBy}
 use Rattle.model.proofs.ParticleLaws.{Bounded, reach-bounded, span-bounded}
 
 -- the members of depth d that particles begin with
@@ -121,17 +121,17 @@ abbrev memberAt : ℕ → ℕ → Particles → Members ℕ
 memberAt d p xs = indexMember (getD xs p noParticle .row) (getD xs p noParticle .row .sort) (membersIn (suc d) (drop (suc p) xs)) (membersIn d (drop (suc p) xs))
 
 module _ (k : GroupKind) (b : Bool) (go : Members ℕ → Option (Spot ℕ)) (d : ℕ) where
-  abbrev Passes : Particles → Option Told → Reached → Type 0
+  abbrev Passes : Particles → Option PlaceTold → Reached → Type 0
   Passes xs o (Member p) = (o ≡ told k b (go (membersIn d (drop p xs)))) × (membersIn d (drop p xs) ≡ memberAt d p xs)
   Passes xs o (End p) = (o ≡ told k b (go done)) × (membersIn d (drop p xs) ≡ done)
   Passes xs o Few = o ≡ none
 
-  passes-on : (x : Deep FlatParticle) (xs : Particles) (o : Option Told) (r : Reached) → Passes xs o r → Passes (x ∷ xs) o (onward 1 r)
+  passes-on : (x : Deep FlatParticle) (xs : Particles) (o : Option PlaceTold) (r : Reached) → Passes xs o r → Passes (x ∷ xs) o (onward 1 r)
   passes-on x xs o (Member p) h = let e : 1 + p ≡ suc p = omega arith in rw e h
   passes-on x xs o (End p) h = let e : 1 + p ≡ suc p = omega arith in rw e h
   passes-on x xs o Few h = h
 
-  passes-as : (xs : Particles) (o o′ : Option Told) (r r′ : Reached) → o ≡ o′ → r ≡ r′ → Passes xs o′ r′ → Passes xs o r
+  passes-as : (xs : Particles) (o o′ : Option PlaceTold) (r r′ : Reached) → o ≡ o′ → r ≡ r′ → Passes xs o′ r′ → Passes xs o r
   passes-as xs o o′ r r′ e f h = rw (e, f) h
 
   passes : (n : ℕ) (xs : Particles) → Passes xs (told k b (afterMembers go n (membersIn d xs))) (reach d n xs)
@@ -236,7 +236,7 @@ module _ (insert : Bool) (m : ℕ) (ns : List ℕ) (ih : Finds insert (m ∷ ns)
       ap indexMembers (ap (λ (z : ℕ). build (partAt p) z) e ∙ part-same (drop (p + 1) xs) (h .depth) (suc (h .depth)) 0 (omega arith) (omega arith) ∙ ap (λ (z : ℕ). build (drop z xs) (suc (h .depth))) f)
 
   abbrev gone : ℕ → Quantifier → ℕ → ℕ → Found
-  gone p q sort i = goOn (inGroup h p xs q (whatOf sort i)) (λ g from size. spotOf insert (m ∷ ns) g (take size (drop from xs)))
+  gone p q sort i = goOn (enterGroup h p xs q (whatOf sort i)) (λ g from size. spotOf insert (m ∷ ns) g (take size (drop from xs)))
 
   at-particle : (p : ℕ) (x : FlatParticle) (sort : ℕ) (rest : Members ℕ) → p < length xs
       → shown whole (gone p (quantifierOf (x .quantifier)) sort (x .index)) ≡ told (h .kind) (h .spine) (inside onward-in (indexMember x sort (membersIn (suc (h .depth)) (drop (suc p) xs)) rest))
@@ -266,10 +266,10 @@ place-found insert [] whole h xs v = refl
 place-found insert (n ∷ []) whole h xs v = last-found whole h xs v insert n
 place-found insert (n ∷ m ∷ ns) whole h xs v = group-found insert m ns (λ w g ys u. place-found insert (m ∷ ns) w g ys u) whole h xs v n
 
--- .. and in a whole model; the right side is `placeOf` of the rules, for insertion or not
+-- .. and in a whole model; the right side is `placeIn` of the rules, for insertion or not
 pub found-placed : (insert : Bool) (place : List ℕ) (s : Bytes)
-    → shown (particlesOf s) (placeOf insert place s) ≡ told Sequence true (elim (leb (length place) 5) [ true ↦ find (lastBy insert) place (membersOf s) | false ↦ none ])
-unfolding placeOf membersFrom
+    → shown (particlesOf s) (placeIn insert place s) ≡ told Sequence true (elim (leb (length place) 5) [ true ↦ find (lastBy insert) place (allMembers s) | false ↦ none ])
+unfolding placeIn membersFrom
 found-placed insert place s = by (leb (length place) 5)
   where
     all : Seen (particlesOf s) top (particlesOf s)

@@ -17,7 +17,7 @@ use Rattle.codec.proofs.Records.{length-many, many-part}
 use Rattle.codec.proofs.Strings.{part-there}
 use Rattle.model.specs.declared.place.Reached.{Reached}
 use Rattle.model.specs.declared.place.Reached.the-variants.{Member, End, Few}
-use Rattle.model.specs.Members.{indexMembers, particlesOf, membersFrom, membersOf}
+use Rattle.model.specs.Members.{indexMembers, particlesOf, membersFrom, allMembers}
 use Rattle.model.specs.Places.{Particles, noParticle, onward, reach, spanOf}
 use Rattle.model.proofs.MembersLaws.{members-named, particles-few, particles-more}
 
@@ -57,7 +57,7 @@ particles-part at n s h =
 -- The n particles from number m on, of a body that has `count`: the form's model of them is that of their bytes, each index as the
 -- name that it stands for.
 pub model-read : (ns : List Bytes) (m n count : ℕ) (body : Bytes) → m + n ≤ count → particleSize * count ≤ length body
-    → readMembers ns (build (take n (drop m (readMany readParticle particleSize count body))) 0) ≡ rename (λ i. nameAt i ns) (membersOf (take (particleSize * n) (drop (particleSize * m) body)))
+    → readMembers ns (build (take n (drop m (readMany readParticle particleSize count body))) 0) ≡ rename (λ i. nameAt i ns) (allMembers (take (particleSize * n) (drop (particleSize * m) body)))
 unfolding particlesOf membersFrom
 model-read ns m n count body h l =
     let part : Bytes = take (particleSize * n) (drop (particleSize * m) body) in

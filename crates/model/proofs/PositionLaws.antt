@@ -9,15 +9,13 @@ use borrow.Author.Tests.{lt-ltb, le-ltb, eq-eqb}
 use lib.ListN.{length, take, drop, getD, length-append}
 use lib.Seq.{take-at, drop-append-add, drop-drop, getD-drop}
 use Rattle.rules.specs.declared.Quantifier.{Quantifier}
-use Rattle.rules.specs.declared.Quantifier.the-variants.{None, Qmark, Star, Plus}
 use Rattle.rules.specs.declared.GroupKind.{GroupKind}
 use Rattle.rules.specs.declared.GroupKind.the-variants.{Sequence, Choice}
 use Rattle.rules.specs.Bytes.{Bytes}
 use Rattle.rules.specs.Model.{Members, done, el, group, rename}
 use Rattle.rules.specs.Store.{Form}
 use Rattle.rules.specs.Preorder.{Deep, flatten}
-use Rattle.rules.specs.Layout.{FlatParticle, quantifierCode, groupCode, howMany, indexOf, particles}
-use Rattle.rules.specs.Decode.{quantifierOf}
+use Rattle.rules.specs.Layout.{FlatParticle, groupCode, howMany, indexOf, particles}
 use Rattle.rules.specs.Place.{Found as Spot, Context, here, past, over, into, plug, plain, within, afterMembers, inGroup as inside, right, present, gap, find}
 use Rattle.model.specs.declared.What.the-variants.{Group}
 use Rattle.model.specs.declared.place.Holder.{Holder}
@@ -29,6 +27,7 @@ use Rattle.model.specs.Particle.{whatOf, particleOf}
 use Rattle.model.specs.Places.{Particles, onward, reach, spanOf, atMember, atGap, lastOf, noParticle, enteredAt, enteredOf, goOn, spotOf, lastBy}
 use Rattle.model.specs.Positions.{elementParticle, groupParticle, spread, count, offset, holder, spotIn, leading, trailing, level}
 use Rattle.model.proofs.FindLaws.{reach-deeper, reach-here, reach-past}
+use Rattle.rules.proofs.DecodeLaws.{quantifier-code}
 
 -- ---- the particles of members
 pub length-spread : (d : ℕ) (ms : Members ℕ) → length (spread d ms) ≡ count ms
@@ -231,12 +230,6 @@ module _ (h : Holder) (ms : Members ℕ) where
   last-spot false (suc n) = nth-spot n (walk ms (h .depth) n)
 
 -- ---- a number that picks a group
-pub code-quantifier : (q : Quantifier) → quantifierOf (quantifierCode q) ≡ q
-code-quantifier None = refl
-code-quantifier Qmark = refl
-code-quantifier Star = refl
-code-quantifier Plus = refl
-
 code-group : (k : GroupKind) (n : ℕ) → whatOf (groupCode k) n ≡ Group k n
 code-group Sequence n = refl
 code-group Choice n = refl
@@ -289,7 +282,7 @@ module _ (insert : Bool) (m : ℕ) (ns : List ℕ) (ih : Placed insert (m ∷ ns
   entered F p n done w = refl
   entered F p n (el q i rest) w = rw (first-of xs p (elementParticle (h .depth) q i) (spread (h .depth) rest) (w .left))
   entered F p n (group q k ins rest) w =
-      rw (first-of xs p (groupParticle (h .depth) q k (howMany ins)) (spread (suc (h .depth)) ins ++ spread (h .depth) rest) (w .left), code-group k (howMany ins), code-quantifier q)
+      rw (first-of xs p (groupParticle (h .depth) q k (howMany ins)) (spread (suc (h .depth)) ins ++ spread (h .depth) rest) (w .left), code-group k (howMany ins), quantifier-code q)
       (rw (part-is p q k ins rest (w .left)) (ih (listOf p q k) ins ∙ around F p n q k ins rest w (goes ins)))
 
   group-spot : (n : ℕ) → goOn (enteredOf n h xs) onFrom ≡ spotIn h (find (lastBy insert) (n ∷ m ∷ ns) ms)

@@ -17,11 +17,12 @@ use Rattle.rules.specs.Place.{find}
 use Rattle.rules.proofs.PreorderLaws.{build-flatten}
 use Rattle.model.specs.declared.place.Found.{Found}
 use Rattle.model.specs.declared.place.Found.the-variants.{Absent}
-use Rattle.model.specs.Members.{indexMember, indexMembers, particlesOf, membersFrom, membersOf}
-use Rattle.model.specs.Places.{Particles, spotOf, top, placeOf, lastBy}
+use Rattle.model.specs.Members.{indexMember, indexMembers, particlesOf, membersFrom, allMembers}
+use Rattle.model.specs.Places.{Particles, spotOf, top, placeIn, lastBy}
 use Rattle.model.specs.Positions.{elementParticle, groupParticle, spread, spotIn}
 use Rattle.model.proofs.MembersLaws.{particles-few, particles-more}
-use Rattle.model.proofs.PositionLaws.{code-quantifier, place-spot}
+use Rattle.model.proofs.PositionLaws.{place-spot}
+use Rattle.rules.proofs.DecodeLaws.{quantifier-code}
 
 pub particles-written : (xs : Particles) → particlesOf (each particleBytes xs) ≡ xs
 particles-written [] = particles-few [] (omega arith)
@@ -42,23 +43,23 @@ flatten-forest d (group q k ms rest) =
 index-forest : (ms : Members ℕ) → indexMembers (forest ms) ≡ ms
 unfolding forest
 index-forest done = refl
-index-forest (el q i rest) = ap₂ (λ (r : Quantifier) (t : Members ℕ). el r i t) (code-quantifier q) (index-forest rest)
+index-forest (el q i rest) = ap₂ (λ (r : Quantifier) (t : Members ℕ). el r i t) (quantifier-code q) (index-forest rest)
 index-forest (group q k ms rest) = by k (index-forest ms) (index-forest rest)
   where
     by : (k : GroupKind) → indexMembers (forest ms) ≡ ms → indexMembers (forest rest) ≡ rest
         → indexMember (groupParticle 0 q k (howMany ms) .row) (groupCode k) (indexMembers (forest ms)) (indexMembers (forest rest)) ≡ group q k ms rest
-    by Sequence f g = rw (f, g, code-quantifier q)
-    by Choice f g = rw (f, g, code-quantifier q)
+    by Sequence f g = rw (f, g, quantifier-code q)
+    by Choice f g = rw (f, g, quantifier-code q)
 
-pub members-written : (ms : Members ℕ) → membersOf (each particleBytes (spread 0 ms)) ≡ ms
+pub members-written : (ms : Members ℕ) → allMembers (each particleBytes (spread 0 ms)) ≡ ms
 unfolding membersFrom
 members-written ms =
     ap (λ (l : Particles). indexMembers (build l 0)) (particles-written (spread 0 ms) ∙ sym (flatten-forest 0 ms)) ∙ ap indexMembers (build-flatten (forest ms)) ∙ index-forest ms
 
 -- WHERE THE CODE FINDS A PLACE in a model that the layout wrote
 pub place-written : (insert : Bool) (place : List ℕ) (ms : Members ℕ)
-    → placeOf insert place (each particleBytes (spread 0 ms)) ≡ elim (leb (length place) 5) [ true ↦ spotIn top (find (lastBy insert) place ms) | false ↦ Absent ]
-unfolding placeOf
+    → placeIn insert place (each particleBytes (spread 0 ms)) ≡ elim (leb (length place) 5) [ true ↦ spotIn top (find (lastBy insert) place ms) | false ↦ Absent ]
+unfolding placeIn
 place-written insert place ms = by (leb (length place) 5)
   where
     by : (b : Bool)

@@ -26,5 +26,5 @@ particlesOf s = readMany readParticle particleSize (length s / particleSize) s
 unfoldable pub membersFrom : ℕ → Bytes → Members ℕ
 membersFrom d s = indexMembers (build (particlesOf s) d)
 
-abbrev pub membersOf : Bytes → Members ℕ
-membersOf s = membersFrom 0 s
+abbrev pub allMembers : Bytes → Members ℕ
+allMembers s = membersFrom 0 s

@@ -67,16 +67,16 @@ lastOf false zero h xs = Absent
 lastOf false (suc n) h xs = atMember h (reach (h .depth) n xs)
 
 -- the part of a group that stands at p
-abbrev pub inGroup : Holder → ℕ → Particles → Quantifier → What → Entered
-inGroup h p xs q (Element i) = Outside
-inGroup h p xs q (Group k n) =
+abbrev pub enterGroup : Holder → ℕ → Particles → Quantifier → What → Entered
+enterGroup h p xs q (Element i) = Outside
+enterGroup h p xs q (Group k n) =
     Inside (record { start = h .start + (p + 1); depth = h .depth + 1; kind = k; spine = h .spine && plain q k }) (p + 1) (spanOf (h .depth) (drop (p + 1) xs))
 
 abbrev pub noParticle : Deep FlatParticle
 noParticle = record { depth = 0; row = record { sort = 0; quantifier = 0; index = 0 } }
 
 abbrev pub enteredAt : Holder → Particles → Reached → Entered
-enteredAt h xs (Member p) = let x : Particle = particleOf (getD xs p noParticle) in inGroup h p xs (x .quantifier) (x .what)
+enteredAt h xs (Member p) = let x : Particle = particleOf (getD xs p noParticle) in enterGroup h p xs (x .quantifier) (x .what)
 enteredAt h xs (End p) = Outside
 enteredAt h xs Few = Outside
 
@@ -99,21 +99,21 @@ spotOf insert (n ∷ m ∷ ns) h xs = goOn (enteredOf n h xs) (λ g from size. s
 abbrev pub top : Holder
 top = record { start = 0; depth = 0; kind = Sequence; spine = true }
 
-unfoldable pub placeOf : Bool → List ℕ → Bytes → Found
-placeOf insert place s = elim (leb (length place) 5) [ true ↦ spotOf insert place top (particlesOf s) | false ↦ Absent ]
+unfoldable pub placeIn : Bool → List ℕ → Bytes → Found
+placeIn insert place s = elim (leb (length place) 5) [ true ↦ spotOf insert place top (particlesOf s) | false ↦ Absent ]
 
 -- ---- what is told of a place, by the rules and by the code
-pub record Told : Type 0 where
+pub record PlaceTold : Type 0 where
   pub kind : GroupKind
   pub spine : Bool
   pub picked : Members ℕ
 
 -- in a list of kind k that is a spine list or not
-abbrev pub told : GroupKind → Bool → Option (Spot ℕ) → Option Told
+abbrev pub told : GroupKind → Bool → Option (Spot ℕ) → Option PlaceTold
 told k b none = none
 told k b (some f) = some (record { kind = kindAt k (f .context); spine = b && spine (f .context); picked = f .picked })
 
-abbrev pub shown : Particles → Found → Option Told
+abbrev pub shown : Particles → Found → Option PlaceTold
 shown xs Absent = none
 shown xs (At h p) = some (record { kind = h .kind; spine = h .spine; picked = indexMembers (build (drop p xs) (h .depth)) })
 

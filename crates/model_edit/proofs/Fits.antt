@@ -19,9 +19,9 @@ use Rattle.rules.specs.Passing.{passes}
 use Rattle.rules.specs.Change.{Call, definitionAt, editModel, formAfter, after}
 use Rattle.rules.specs.Refusal.{past, first, conditions}
 use Rattle.rules.specs.Outcome.{outcome, Answers}
-use Rattle.history.proofs.Conditions.{not-past}
-use Rattle.history.proofs.EditConditions.{complex-content, picked-complex}
-use Rattle.history.proofs.ModelAfter.{place-right}
+use Rattle.change_laws.proofs.Conditions.{not-past}
+use Rattle.change_laws.proofs.EditConditions.{complex-content, picked-complex}
+use Rattle.change_laws.proofs.ModelAfter.{place-right}
 use Rattle.model.specs.declared.place.Holder.{Holder}
 use Rattle.model.specs.Members.{particlesOf}
 use Rattle.model.specs.Positions.{elementParticle, spread, trailing, level}
@@ -36,8 +36,8 @@ use Rattle.store_writer.specs.Planned.{plannedIn}
 use Rattle.store_writer.proofs.StoreLaws.{holds}
 use Rattle.store_writer.proofs.CallLaws.{answers-as, answers-written}
 use Rattle.plans.specs.Bodies as plans
-use Rattle.definition_writer.proofs.Encoded.{encoded}
-use Rattle.model_places.specs.Placing.{indexIn, modelIn, partIn, foundBy, Placed}
+use Rattle.store_writer.proofs.Encoded.{encoded}
+use Rattle.model_places.specs.Placing.{indexOfName, modelIn, partIn, foundBy, Placed}
 use Rattle.model_places.proofs.PickLaws.{around, from-there, read-there}
 use Rattle.model_edit.specs.Editing.{formEdited, Edits}
 use Rattle.model_edit.proofs.OwnParts.{form-size}
@@ -60,7 +60,7 @@ owner-fits {bs} x = omega (arith, x .there, encoded bs (x .good) .definitions, e
 pub same-found : {bs : Bytes} {o : ℕ} {p : List ℕ} {e : Edit Bytes} (x : Fits bs o p e) {h : Holder} {n : ℕ} (y : Placed bs o (inserts e) p h n) → y .found ≡ x .found
 same-found x y = let same : some (y .found) ≡ some (x .found) = sym (y .there) ∙ x .by in cc same
 
-module _ {bs : Bytes} {o : ℕ} {p : List ℕ} {e : Edit Bytes} (x : Fits bs o p e) (E : EditCode) (same : editOf E ≡ renameEdit (indexIn bs) e) {h : Holder} {n : ℕ}
+module _ {bs : Bytes} {o : ℕ} {p : List ℕ} {e : Edit Bytes} (x : Fits bs o p e) (E : EditCode) (same : editOf E ≡ renameEdit (indexOfName bs) e) {h : Holder} {n : ℕ}
     (y : Placed bs o (inserts e) p h n) where
   pub asks : Edits bs o (editOf E) h n
   asks = subst (λ (d : Edit ℕ). Edits bs o d h n) (sym same) (edits bs (x .good) o (x .there) p e (x .found) (x .content) (x .at) (x .suits) h n (y .at))
@@ -71,7 +71,7 @@ module _ {bs : Bytes} {o : ℕ} {p : List ℕ} {e : Edit Bytes} (x : Fits bs o p
       ∙ ap (λ (d : Edit ℕ). formEdited bs o d h n) (sym same)
 
   pub bodies-hold : (c : Call) → formAfter c (storeIn bs .form) ≡ editModel o p e (storeIn bs .form)
-      → plans.Holds (formEdited bs o (editOf E) h n) (formAfter c (storeIn bs .form))
+      → plans.HoldsForm (formEdited bs o (editOf E) h n) (formAfter c (storeIn bs .form))
   bodies-hold c w =
       let g : flat (reformed (formAfter c (storeIn bs .form)) (storeIn bs)) ≡ formEdited bs o (editOf E) h n =
       ap (λ z. flat (reformed z (storeIn bs))) w ∙ form-is in
@@ -118,11 +118,11 @@ module _ {bs : Bytes} {o : ℕ} {p : List ℕ} {e : Edit Bytes} (x : Element bs 
   picked-at = x .fits .at ∙ ap (λ (t : Members Bytes). some (record { context = x .fits .found .context; picked = t })) (x .is)
 
   -- the index that stands in the particle
-  pub index-there : {h : Holder} {n : ℕ} → Placed bs o (inserts e) p h n → readParticle (drop (particleSize * n) (partIn bs o)) .row .index ≡ indexIn bs (x .name)
+  pub index-there : {h : Holder} {n : ℕ} → Placed bs o (inserts e) p h n → readParticle (drop (particleSize * n) (partIn bs o)) .row .index ≡ indexOfName bs (x .name)
   unfolding rename
   index-there {h} {n} y =
       let d : ℕ = level 0 (around y) in
       let here : y .found .picked ≡ el (x .quantifier) (x .name) (x .rest) = ap (λ (w : Spot Bytes). w .picked) (same-found (x .fits) y) ∙ x .is in
-      let f : drop n (particlesOf (partIn bs o)) ≡ elementParticle d (x .quantifier) (indexIn bs (x .name)) ∷ (spread d (rename (indexIn bs) (x .rest)) ++ trailing 0 (around y)) =
-      from-there y ∙ ap (λ (t : Members Bytes). spread d (rename (indexIn bs) t) ++ trailing 0 (around y)) here in
+      let f : drop n (particlesOf (partIn bs o)) ≡ elementParticle d (x .quantifier) (indexOfName bs (x .name)) ∷ (spread d (rename (indexOfName bs) (x .rest)) ++ trailing 0 (around y)) =
+      from-there y ∙ ap (λ (t : Members Bytes). spread d (rename (indexOfName bs) t) ++ trailing 0 (around y)) here in
       ap (λ (w : Deep FlatParticle). w .row .index) (read-there y _ _ f)

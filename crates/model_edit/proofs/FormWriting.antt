@@ -9,7 +9,7 @@ use lib.ListN.{length, take, drop, take-append-drop, length-append, length-drop}
 use lib.Seq.{length-take-le, length-sets, sets-eq, take-append-seam}
 use borrow.Author.Tests.{le-leb, lt-leb}
 use Rattle.rules.specs.Bytes.{Bytes, all}
-use Rattle.rules.specs.Edit.{Edit, insert, remove, quantify, convert, flatten}
+use Rattle.rules.specs.Edit.{Edit}
 use Rattle.rules.specs.Preorder.{Deep}
 use Rattle.rules.specs.Layout.{particleSize, definitionSize, attributeSize, FlatParticle, FlatStore, definitionBytes, particleBytes, attributeBytes, each}
 use Rattle.rules.specs.Decode.{definitionCount, particleCount, attributeCount}
@@ -31,7 +31,7 @@ use Rattle.lookup.specs.Bodies.{bodiesOf}
 use Rattle.model_writer.specs.Spliced.{startOf, countOf, counted, spliced, splicedForm}
 use Rattle.model_writer.specs.PartAfter.{partAfter, lengthAfter}
 use Rattle.layout.specs.RecordBytes.{countedBytes}
-use Rattle.model_writer.specs.Writing.{Body, within}
+use Rattle.model_writer.specs.Writing.{EditPart, depthsWithin}
 use Rattle.model_writer.specs.Writing as writing
 use Rattle.model_writer.specs.declared.Edit.{Edit as EditCode}
 use Rattle.model_writer.proofs.CountedBytes.{counted-bytes}
@@ -40,10 +40,11 @@ use Rattle.store_writer.proofs.FormLaws.{bareForm, FormOf, forms-of}
 use Rattle.store_writer.proofs.FormBytesLaws.{Few, few-of, few-particles}
 use Rattle.store_writer.proofs.FormBytesLaws as bytes
 use Rattle.plans.proofs.FormsAfter.{spliced-form, counted-length}
-use Rattle.definition_writer.proofs.Encoded.{Encoded, encoded, definitions-at, attributes-at}
+use Rattle.store_writer.proofs.Encoded.{Encoded, encoded, definitions-at, attributes-at}
 use Rattle.model_places.specs.Placing.{partIn}
-use Rattle.model_edit.specs.Editing.{startIn, countIn, partEdited, formEdited, Edits}
+use Rattle.model_edit.specs.Editing.{startIn, modelLength, partEdited, formEdited, Edits}
 use Rattle.model_edit.proofs.OwnParts.{start-is, count-is, own-is, parts-are, particles-are}
+use Rattle.model_writer.proofs.BodyWriting.{one-more}
 
 -- ---- tests
 all-append : {A : Type 0} (t : A → Bool) (xs ys : List A) → all t xs ≡ true → all t (xs ++ ys) ≡ all t ys
@@ -90,20 +91,20 @@ module _ {bs : Bytes} {o : ℕ} {e : Edit ℕ} {h : Holder} {n : ℕ} (v : Edits
   start : startIn bs o ≡ a
   start = start-is bs (v .good) o (omega (arith, v .there))
 
-  count : countIn bs o ≡ k
+  count : modelLength bs o ≡ k
   count = count-is bs (v .good) o (v .there)
 
   pub owner-low : o ≤ 256
   owner-low = omega (arith, v .there, enc .definitions, enc .fewDefinitions)
 
-  pub own-low : countIn bs o ≤ particleCount bs
+  pub own-low : modelLength bs o ≤ particleCount bs
   own-low = omega (arith, v .own)
 
   particles-after : g .particles ≡ spliced a k (partEdited bs o e h n) (f .particles)
   unfolding formEdited splicedForm
   particles-after = refl
 
-  all-length : length (g .particles) ≡ particleCount bs - countIn bs o + lengthAfter e (countIn bs o)
+  all-length : length (g .particles) ≡ particleCount bs - modelLength bs o + lengthAfter e (modelLength bs o)
   all-length =
       let ps : Particles = f .particles in
       let part : Particles = partEdited bs o e h n in
@@ -121,12 +122,12 @@ module _ {bs : Bytes} {o : ℕ} {e : Edit ℕ} {h : Holder} {n : ℕ} (v : Edits
         enc .particles,
       )
 
-  pub as-many : {p : ℕ} → p ≡ particleCount bs - countIn bs o + lengthAfter e (countIn bs o) → p ≡ length (g .particles)
+  pub as-many : {p : ℕ} → p ≡ particleCount bs - modelLength bs o + lengthAfter e (modelLength bs o) → p ≡ length (g .particles)
   as-many p = p ∙ sym all-length
 
   -- ---- the ceilings
-  depths-are : all low (g .particles) ≡ within (partEdited bs o e h n)
-  unfolding within
+  depths-are : all low (g .particles) ≡ depthsWithin (partEdited bs o e h n)
+  unfolding depthsWithin
   depths-are =
       let ps : Particles = f .particles in
       let front : all low (take a ps) ≡ true = all-left low (take a ps) (drop a ps) (ap (all low) (take-append-drop a ps) ∙ few .depths) in
@@ -141,48 +142,48 @@ module _ {bs : Bytes} {o : ℕ} {e : Edit ℕ} {h : Holder} {n : ℕ} (v : Edits
   unfolding formEdited splicedForm
   attributes-few = few .attributes
 
-  ceiling-is : withinCeilings (bareForm g) ≡ (leb (length (g .particles)) 256 && within (partEdited bs o e h n))
+  ceiling-is : withinCeilings (bareForm g) ≡ (leb (length (g .particles)) 256 && depthsWithin (partEdited bs o e h n))
   ceiling-is =
       middle (leb (length (g .definitions)) 64) (leb (length (g .particles)) 256) (all low (g .particles)) (leb (length (g .attributes)) 64) definitions-few attributes-few
       ∙ ap (λ (b : Bool). leb (length (g .particles)) 256 && b) depths-are
 
   pub keeps-not : {p : ℕ} → p ≡ length (g .particles) → 256 < p → false ≡ withinCeilings (bareForm g)
-  keeps-not p l = sym (ceiling-is ∙ ap (λ (b : Bool). b && within (partEdited bs o e h n)) (lt-leb (length (g .particles)) 256 (omega (arith, p))))
+  keeps-not p l = sym (ceiling-is ∙ ap (λ (b : Bool). b && depthsWithin (partEdited bs o e h n)) (lt-leb (length (g .particles)) 256 (omega (arith, p))))
 
   module _ {own : Bytes} (same : own ≡ partIn bs o) where
-    pub keeps : {p : ℕ} {r : Bool} → p ≡ length (g .particles) → p ≤ 256 → r ≡ within (partAfter e h n (particlesOf own)) → r ≡ withinCeilings (bareForm g)
+    pub keeps : {p : ℕ} {r : Bool} → p ≡ length (g .particles) → p ≤ 256 → r ≡ depthsWithin (partAfter e h n (particlesOf own)) → r ≡ withinCeilings (bareForm g)
     unfolding partEdited
     keeps p l w =
-        w ∙ ap (λ (z : Bytes). within (partAfter e h n (particlesOf z))) same
-        ∙ sym (ceiling-is ∙ ap (λ (b : Bool). b && within (partEdited bs o e h n)) (le-leb (length (g .particles)) 256 (omega (arith, p))))
+        w ∙ ap (λ (z : Bytes). depthsWithin (partAfter e h n (particlesOf z))) same
+        ∙ sym (ceiling-is ∙ ap (λ (b : Bool). b && depthsWithin (partEdited bs o e h n)) (le-leb (length (g .particles)) 256 (omega (arith, p))))
 
-    own-particles : particlesOf own ≡ take (countIn bs o) (drop (startIn bs o) (f .particles))
+    own-particles : particlesOf own ≡ take (modelLength bs o) (drop (startIn bs o) (f .particles))
     own-particles =
         let s : ℕ = startIn bs o in
-        let m : ℕ = countIn bs o in
+        let m : ℕ = modelLength bs o in
         let fit : particleSize * s + particleSize * m ≤ length (particlesIn bs) =
         omega (arith, v .own, ap (λ (z : Bytes). length z) (parts-are bs (v .good)), length-each particleBytes particleSize length-particle (f .particles), enc .particles) in
         ap particlesOf (same ∙ own-is bs (v .good) o ∙ sym (part-there (particleSize * s) (particleSize * m) (particlesIn bs) fit))
         ∙ particles-part s m (particlesIn bs) fit
         ∙ ap (λ (z : Particles). take m (drop s z)) (particles-are bs (v .good))
 
-    pub still-within : (within (particlesOf own) ≡ true) × (n < 4611686018427387904)
-    unfolding within
+    pub still-within : (depthsWithin (particlesOf own) ≡ true) × (n < 4611686018427387904)
+    unfolding depthsWithin
     still-within =
         let s : ℕ = startIn bs o in
-        let m : ℕ = countIn bs o in
+        let m : ℕ = modelLength bs o in
         let rest : Particles = drop s (f .particles) in
         let back : all low rest ≡ true = all-right low (take s (f .particles)) rest (ap (all low) (take-append-drop s (f .particles)) ∙ few .depths) in
         (ap (all low) own-particles ∙ all-left low (take m rest) (drop m rest) (ap (all low) (take-append-drop m rest) ∙ back), omega (arith, v .inside, v .own, enc .particles, enc .fewParticles))
 
   -- ---- the bytes
-  pub own-laid : {first many : ℕ} {parts out : Bytes} {at r : ℕ} {out′ : Bytes} → first ≡ startIn bs o → many ≡ countIn bs o → parts ≡ particlesIn bs
-      → Laid (each particleBytes (spliced first many (partAfter e h n (particlesOf (writing.partIn first many parts))) (particlesOf parts))) out at r out′
+  pub own-laid : {first many : ℕ} {parts out : Bytes} {at r : ℕ} {out′ : Bytes} → first ≡ startIn bs o → many ≡ modelLength bs o → parts ≡ particlesIn bs
+      → Laid (each particleBytes (spliced first many (partAfter e h n (particlesOf (writing.particleRange first many parts))) (particlesOf parts))) out at r out′
       → Laid (each particleBytes (g .particles)) out at r out′
   unfolding partEdited
   own-laid {first} {many} {parts} ef em ep w =
-      let part : partEdited bs o e h n ≡ partAfter e h n (particlesOf (writing.partIn first many parts)) =
-      ap (λ (z : Bytes). partAfter e h n (particlesOf z)) (own-is bs (v .good) o ∙ (λ i. writing.partIn (sym ef i) (sym em i) (sym ep i))) in
+      let part : partEdited bs o e h n ≡ partAfter e h n (particlesOf (writing.particleRange first many parts)) =
+      ap (λ (z : Bytes). partAfter e h n (particlesOf z)) (own-is bs (v .good) o ∙ (λ i. writing.particleRange (sym ef i) (sym em i) (sym ep i))) in
       laid-as (ap (each particleBytes) (particles-after ∙ (λ i. spliced (sym (ef ∙ start) i) (sym (em ∙ count) i) (part i) ((sym (ap particlesOf ep ∙ particles-are bs (v .good))) i)))) w
 
   pub table-short : {table : Bytes} → table ≡ definitionsIn bs → length table ≤ 1280
@@ -193,14 +194,14 @@ module _ {bs : Bytes} {o : ℕ} {e : Edit ℕ} {h : Holder} {n : ℕ} (v : Edits
     pub particles-short : length (each particleBytes (g .particles)) ≤ 1024
     particles-short = omega (arith, length-each particleBytes particleSize length-particle (g .particles), few-particles (few-of (bareForm g) w))
 
-    pub own-short : lengthAfter e (countIn bs o) ≤ 256
+    pub own-short : lengthAfter e (modelLength bs o) ≤ 256
     own-short = omega (arith, all-length, few-particles (few-of (bareForm g) w))
 
     pub form-short : length (formBytes (widthOf bs) g) ≤ 9728
     unfolding formEdited
     form-short = bytes.form-short (forms-of (spliced-form o (partEdited bs o e h n) f (enc .good) w refl refl refl refl)) (width-within bs)
 
-  pub form-laid : {count : ℕ} {table attrs out out₁ out₂ out₃ : Bytes} {at₁ at₂ at₃ : ℕ} → count ≡ lengthAfter e (countIn bs o) → table ≡ definitionsIn bs → attrs ≡ attributesIn bs
+  pub form-laid : {count : ℕ} {table attrs out out₁ out₂ out₃ : Bytes} {at₁ at₂ at₃ : ℕ} → count ≡ lengthAfter e (modelLength bs o) → table ≡ definitionsIn bs → attrs ≡ attributesIn bs
       → Laid (countedBytes o count table) out 0 at₁ out₁ → Laid (each particleBytes (g .particles)) out₁ at₁ at₂ out₂ → Laid attrs out₂ at₂ at₃ out₃ → Laid (formBytes (widthOf bs) g) out 0 at₃ out₃
   unfolding formEdited splicedForm
   form-laid {count} ec et ea x y z =
@@ -211,16 +212,16 @@ module _ {bs : Bytes} {o : ℕ} {e : Edit ℕ} {h : Holder} {n : ℕ} (v : Edits
       (counted-bytes o (length (partEdited bs o e h n)) (f .definitions) l ∙ ap₂ (λ (c : ℕ) (t : Bytes). countedBytes o c t) m (sym (et ∙ definitions-at enc))) (sym (ea ∙ attributes-at enc)))
       (laid-then x (laid-then y z))
 
-  pub body-in : withinCeilings (bareForm g) ≡ true → {first many from : ℕ} {parts : Bytes} → first ≡ startIn bs o → many ≡ countIn bs o → parts ≡ particlesIn bs → from ≤ 9728
-      → Body e h n first many parts × (from + 4 * length parts < 2305843009213693952)
+  pub body-in : withinCeilings (bareForm g) ≡ true → {first many from : ℕ} {parts : Bytes} → first ≡ startIn bs o → many ≡ modelLength bs o → parts ≡ particlesIn bs → from ≤ 9728
+      → EditPart e h n first many parts × (from + 4 * length parts < 2305843009213693952)
   body-in w {first} {many} {from} {parts} ef em ep l = (
-    subst (λ (z : ℕ). Body e h n z many parts) (sym ef)
-        (subst (λ (z : ℕ). Body e h n (startIn bs o) z parts) (sym em) (subst (λ (z : Bytes). Body e h n (startIn bs o) (countIn bs o) z) (sym ep) (v .body w))),
+    subst (λ (z : ℕ). EditPart e h n z many parts) (sym ef)
+        (subst (λ (z : ℕ). EditPart e h n (startIn bs o) z parts) (sym em) (subst (λ (z : Bytes). EditPart e h n (startIn bs o) (modelLength bs o) z) (sym ep) (v .body w))),
     omega (arith, ap (λ (z : Bytes). length z) (ep ∙ sym (parts-are bs (v .good))), length-each particleBytes particleSize length-particle (f .particles), enc .fewParticles),
   )
 
   -- what stands before the attributes
-  pub counted-short : {count : ℕ} {table : Bytes} → count ≡ lengthAfter e (countIn bs o) → table ≡ definitionsIn bs → length (countedBytes o count table) ≤ 1280
+  pub counted-short : {count : ℕ} {table : Bytes} → count ≡ lengthAfter e (modelLength bs o) → table ≡ definitionsIn bs → length (countedBytes o count table) ≤ 1280
   counted-short {count} {table} ec et =
       let l : o < length (f .definitions) = omega (arith, v .there, enc .definitions) in
       omega (
@@ -269,21 +270,14 @@ stored {w} {out} {out′} {end} l n r =
 pub length-case : (n : ℕ) {e d : EditCode} → e ≡ d → lengthAfter (writing.editOf d) n ≡ lengthAfter (writing.editOf e) n
 length-case n p = ap (λ (z : EditCode). lengthAfter (writing.editOf z) n) (sym p)
 
-one-more : (e : Edit ℕ) (n : ℕ) → lengthAfter e n ≤ suc n
-one-more (insert q i) n = omega arith
-one-more remove n = omega arith
-one-more (quantify r) n = omega arith
-one-more (convert j m) n = omega arith
-one-more flatten n = omega arith
-
 module _ (bs : Bytes) (o : ℕ) {defs : Bytes} (d : defs ≡ definitionsIn bs) where
   pub first-in : {m : ℕ} → m ≡ particlesBefore defs o → m ≡ startIn bs o
   first-in m = m ∙ ap (λ (z : Bytes). particlesBefore z o) d
 
-  pub many-in : {m : ℕ} → m ≡ definitionIn defs o .particles → m ≡ countIn bs o
+  pub many-in : {m : ℕ} → m ≡ definitionIn defs o .particles → m ≡ modelLength bs o
   many-in m = m ∙ ap (λ (z : Bytes). definitionIn z o .particles) d
 
-  pub after-in : {m r : ℕ} (e : EditCode) → m ≡ definitionIn defs o .particles → r ≡ lengthAfter (writing.editOf e) m → r ≡ lengthAfter (writing.editOf e) (countIn bs o)
+  pub after-in : {m r : ℕ} (e : EditCode) → m ≡ definitionIn defs o .particles → r ≡ lengthAfter (writing.editOf e) m → r ≡ lengthAfter (writing.editOf e) (modelLength bs o)
   after-in e m r = r ∙ ap (lengthAfter (writing.editOf e)) (many-in m)
 
 pub few-more : (e : EditCode) (m : ℕ) {r : ℕ} → r ≡ lengthAfter (writing.editOf e) m → r ≤ suc m

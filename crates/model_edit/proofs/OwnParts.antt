@@ -3,20 +3,19 @@ use Prim.Native.Nat.{ℕ, zero, suc, _+_, _*_, _/_, _<_, _≤_}
 use native.Mathlib.Omega.{arith}
 use mathlib.Core.Path.{_≡_, refl, sym, ap, _∙_, subst}
 use mathlib.Core.Bool.{true}
-use mathlib.Core.List.{List, [], _∷_, map}
-use lib.ListN.{length, drop, getD, length-map, length-append, length-take}
+use mathlib.Core.List.{List, [], _∷_}
+use lib.ListN.{length, drop, getD, length-map, length-take}
 use Rattle.rules.specs.Bytes.{Bytes}
-use Rattle.rules.specs.Store.{Form}
-use Rattle.rules.specs.Layout.{particleSize, FlatDefinition, FlatStore, definitionSize, flat, flatDefinition, allParticles, contentParticles, particleBytes, each}
+use Rattle.rules.specs.Layout.{particleSize, FlatDefinition, FlatStore, definitionSize, flat, flatDefinition, particleBytes, each}
 use Rattle.rules.specs.Decode.{readMany, readDefinition, readParticle, definitionCount, particleCount}
 use Rattle.rules.specs.Passing.{passes}
 use Rattle.rules.proofs.LayoutLaws.{Small}
 use Rattle.rules.proofs.SmallBytes.{encode-small}
 use Rattle.codec.proofs.Records.{many-at}
 use Rattle.model.specs.Members.{particlesOf}
-use Rattle.form_check.specs.Bodies.{definitions, particles}
+use Rattle.form_check.specs.Bodies.{definitions, particlesRead}
 use Rattle.form_index.specs.Reading.{particlesBefore, modelPart}
-use Rattle.store_check.specs.Reading.{noDefinition}
+use Rattle.store_check.specs.Reading.{noFlatDefinition}
 use Rattle.layout.specs.Bodies.{definitionsIn, particlesIn}
 use Rattle.store_check.proofs.Parts.{before, before-is}
 use Rattle.store_check.proofs.StringChecks.{Headed, laid-in, passes-header, same-definitions, same-particles}
@@ -26,35 +25,31 @@ use Rattle.model_writer.specs.Writing as writing
 use Rattle.model_writer.proofs.WritingLaws.{whole}
 use Rattle.store_writer.specs.Stores.{storeIn}
 use Rattle.store_writer.proofs.StoreLaws.{Holds, holds}
-use Rattle.definition_writer.proofs.Encoded.{Encoded, encoded}
+use Rattle.store_writer.proofs.Encoded.{Encoded, encoded}
 use Rattle.model_places.specs.Placing.{partIn}
-use Rattle.model_edit.specs.Editing.{startIn, countIn}
+use Rattle.model_edit.specs.Editing.{startIn, modelLength}
+use Rattle.model_writer.proofs.EditedStore.{own-inside as within-all}
 
-pub own-length : (bs : Bytes) (o : ℕ) → length (partIn bs o) ≤ particleSize * countIn bs o
+pub own-length : (bs : Bytes) (o : ℕ) → length (partIn bs o) ≤ particleSize * modelLength bs o
 unfolding modelPart
-own-length bs o = omega (arith, length-take (particleSize * countIn bs o) (drop (particleSize * startIn bs o) (particlesIn bs)))
+own-length bs o = omega (arith, length-take (particleSize * modelLength bs o) (drop (particleSize * startIn bs o) (particlesIn bs)))
 
 start-before : (o : ℕ) (ds : List FlatDefinition) → before o ds ≡ startOf o ds
 start-before o [] = refl
 start-before zero (d ∷ ds) = refl
 start-before (suc o) (d ∷ ds) = ap (λ (k : ℕ). d .particles + k) (start-before o ds)
 
-count-at : (o : ℕ) (ds : List FlatDefinition) → getD ds o noDefinition .particles ≡ countOf o ds
+count-at : (o : ℕ) (ds : List FlatDefinition) → getD ds o noFlatDefinition .particles ≡ countOf o ds
 count-at o [] = refl
 count-at zero (d ∷ ds) = refl
 count-at (suc o) (d ∷ ds) = count-at o ds
-
-within-all : (form : Form) (o : ℕ) (ds : Form) → startOf o (map (flatDefinition form) ds) + countOf o (map (flatDefinition form) ds) ≤ length (allParticles form ds)
-within-all form o [] = omega arith
-within-all form zero (d ∷ ds) = omega (arith, length-append (contentParticles form (d .content)) (allParticles form ds))
-within-all form (suc o) (d ∷ ds) = omega (arith, length-append (contentParticles form (d .content)) (allParticles form ds), within-all form o ds)
 
 module _ (bs : Bytes) (q : passes bs ≡ true) where
   headed : Headed bs
   headed = let h : Holds bs = holds bs q in record { small = subst Small (h .written) (encode-small (storeIn bs) (h .good)); header = passes-header bs q }
 
   pub particles-are : particlesOf (particlesIn bs) ≡ bodiesOf bs .particles
-  unfolding particlesOf particles bodiesOf
+  unfolding particlesOf particlesRead bodiesOf
   particles-are =
       let e : length (particlesIn bs) / particleSize ≡ particleCount bs = omega (arith, laid-in headed .bodies .particleBody .whole) in
       ap (λ (k : ℕ). readMany readParticle particleSize k (particlesIn bs)) e ∙ sym (same-particles headed)
@@ -62,22 +57,22 @@ module _ (bs : Bytes) (q : passes bs ≡ true) where
   pub parts-are : each particleBytes (bodiesOf bs .particles) ≡ particlesIn bs
   parts-are = ap (each particleBytes) (sym particles-are) ∙ whole (particlesIn bs) (omega (arith, laid-in headed .bodies .particleBody .whole))
 
-  definition-is : (i : ℕ) → i < definitionCount bs → countIn bs i ≡ getD (bodiesOf bs .definitions) i noDefinition .particles
+  definition-is : (i : ℕ) → i < definitionCount bs → modelLength bs i ≡ getD (bodiesOf bs .definitions) i noFlatDefinition .particles
   unfolding definitions bodiesOf
   definition-is i l =
-      ap (λ (d : FlatDefinition). d .particles) (sym (many-at readDefinition definitionSize i (definitionCount bs) (definitionsIn bs) noDefinition l))
-      ∙ ap (λ (ds : List FlatDefinition). getD ds i noDefinition .particles) (sym (same-definitions headed))
+      ap (λ (d : FlatDefinition). d .particles) (sym (many-at readDefinition definitionSize i (definitionCount bs) (definitionsIn bs) noFlatDefinition l))
+      ∙ ap (λ (ds : List FlatDefinition). getD ds i noFlatDefinition .particles) (sym (same-definitions headed))
 
   pub start-is : (i : ℕ) → i ≤ definitionCount bs → startIn bs i ≡ startOf i (bodiesOf bs .definitions)
   unfolding particlesBefore
   start-is i l =
-      before-is (particlesBefore (definitionsIn bs)) (λ i. countIn bs i) (definitionCount bs) (bodiesOf bs .definitions) refl (λ i. refl) definition-is i l
+      before-is (particlesBefore (definitionsIn bs)) (λ i. modelLength bs i) (definitionCount bs) (bodiesOf bs .definitions) refl (λ i. refl) definition-is i l
       ∙ start-before i (bodiesOf bs .definitions)
 
-  pub count-is : (i : ℕ) → i < definitionCount bs → countIn bs i ≡ countOf i (bodiesOf bs .definitions)
+  pub count-is : (i : ℕ) → i < definitionCount bs → modelLength bs i ≡ countOf i (bodiesOf bs .definitions)
   count-is i l = definition-is i l ∙ count-at i (bodiesOf bs .definitions)
 
-  pub own-is : (o : ℕ) → partIn bs o ≡ writing.partIn (startIn bs o) (countIn bs o) (particlesIn bs)
+  pub own-is : (o : ℕ) → partIn bs o ≡ writing.particleRange (startIn bs o) (modelLength bs o) (particlesIn bs)
   unfolding modelPart
   own-is o = refl
 
@@ -88,7 +83,7 @@ module _ (bs : Bytes) (q : passes bs ≡ true) where
   pub form-size : definitionCount bs ≡ length (storeIn bs .form)
   form-size = x .definitions ∙ ap (λ (f : FlatStore). length (f .definitions)) (holds bs q .bodies) ∙ length-map (storeIn bs .form) (flatDefinition (storeIn bs .form))
 
-  pub own-inside : (o : ℕ) → o < definitionCount bs → startIn bs o + countIn bs o ≤ particleCount bs
+  pub own-inside : (o : ℕ) → o < definitionCount bs → startIn bs o + modelLength bs o ≤ particleCount bs
   own-inside o l =
       let f : bodiesOf bs ≡ flat (storeIn bs) = holds bs q .bodies in
       omega (

@@ -17,7 +17,7 @@ use Rattle.layout.specs.Bodies.{definitionsIn, particlesIn}
 use Rattle.lookup.specs.Bodies.{bodiesOf}
 use Rattle.model_writer.specs.Spliced.{splicedForm}
 use Rattle.model_writer.specs.PartAfter.{partAfter, lengthAfter}
-use Rattle.model_writer.specs.Writing.{Body}
+use Rattle.model_writer.specs.Writing.{EditPart}
 use Rattle.store_writer.proofs.FormLaws.{bareForm}
 use Rattle.model_places.specs.Placing.{partIn}
 
@@ -25,8 +25,8 @@ use Rattle.model_places.specs.Placing.{partIn}
 abbrev pub startIn : Bytes → ℕ → ℕ
 startIn bs o = particlesBefore (definitionsIn bs) o
 
-abbrev pub countIn : Bytes → ℕ → ℕ
-countIn bs o = definitionIn (definitionsIn bs) o .particles
+abbrev pub modelLength : Bytes → ℕ → ℕ
+modelLength bs o = definitionIn (definitionsIn bs) o .particles
 
 -- the particles of definition o after an edit at particle n of the list h
 unfoldable pub partEdited : Bytes → ℕ → Edit ℕ → Holder → ℕ → Particles
@@ -40,7 +40,7 @@ formEdited bs o e h n = splicedForm o (partEdited bs o e h n) (bodiesOf bs)
 pub record Edits (bs : Bytes) (o : ℕ) (e : Edit ℕ) (h : Holder) (n : ℕ) : Type 0 where
   pub good : passes bs ≡ true
   pub there : o < definitionCount bs
-  pub own : startIn bs o + countIn bs o ≤ particleCount bs
-  pub inside : n ≤ countIn bs o
-  pub many : length (partEdited bs o e h n) ≡ lengthAfter e (countIn bs o)
-  pub body : withinCeilings (bareForm (formEdited bs o e h n)) ≡ true → Body e h n (startIn bs o) (countIn bs o) (particlesIn bs)
+  pub own : startIn bs o + modelLength bs o ≤ particleCount bs
+  pub inside : n ≤ modelLength bs o
+  pub many : length (partEdited bs o e h n) ≡ lengthAfter e (modelLength bs o)
+  pub body : withinCeilings (bareForm (formEdited bs o e h n)) ≡ true → EditPart e h n (startIn bs o) (modelLength bs o) (particlesIn bs)

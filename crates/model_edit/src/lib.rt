@@ -21,7 +21,7 @@ ghost use Rattle.store_writer.specs.Planned.{plannedIn};
 ghost use Rattle.store_writer.specs.Forms.{formBytes};
 ghost use Rattle.store_writer.specs.Writing.{Sized};
 ghost use Rattle.store_writer.proofs.FormLaws.{bareForm};
-ghost use Rattle.model_edit.specs.Editing.{formEdited, countIn, Edits};
+ghost use Rattle.model_edit.specs.Editing.{formEdited, modelLength, Edits};
 
 /// The most bytes that a form has, of the widest values: 64 definitions, 256 particles, 64 attributes of 116 bytes.
 const FORM_SIZE: usize = 9728;
@@ -43,7 +43,7 @@ fn length_after(edit: Edit, n: usize) -> usize
 // How many particles definition `owner` has after an edit.
 fn own_after(store: &[u8], owner: usize, edit: Edit) -> usize
     requires { ⌜ owner ≤ 256 ⌝ }
-    ensures { λ r. ⌜ r ≡ lengthAfter (editOf edit) (countIn (now (store .entry)) owner) ⌝ }
+    ensures { λ r. ⌜ r ≡ lengthAfter (editOf edit) (modelLength (now (store .entry)) owner) ⌝ }
 {
     let definitions = layout::definitions_of(store);
     length_after(edit, form_index::particles_of(definitions, owner))
@@ -51,8 +51,8 @@ fn own_after(store: &[u8], owner: usize, edit: Edit) -> usize
 
 // How many particles a form has after an edit of a model.
 fn all_after(store: &[u8], owner: usize, edit: Edit) -> usize
-    requires { ⌜ (owner ≤ 256) × (countIn (now store) owner ≤ particleCount (now store)) ⌝ }
-    ensures { λ r. ⌜ r ≡ particleCount (now (store .entry)) - countIn (now (store .entry)) owner + lengthAfter (editOf edit) (countIn (now (store .entry)) owner) ⌝ }
+    requires { ⌜ (owner ≤ 256) × (modelLength (now store) owner ≤ particleCount (now store)) ⌝ }
+    ensures { λ r. ⌜ r ≡ particleCount (now (store .entry)) - modelLength (now (store .entry)) owner + lengthAfter (editOf edit) (modelLength (now (store .entry)) owner) ⌝ }
 {
     let definitions = layout::definitions_of(store);
     let own = form_index::particles_of(definitions, owner);

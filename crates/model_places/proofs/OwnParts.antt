@@ -21,10 +21,10 @@ use Rattle.model.specs.Places.{Particles}
 use Rattle.model.specs.Positions.{spread}
 use Rattle.model.proofs.ParticleLaws.{particles-part}
 use Rattle.model.proofs.PositionLaws.{spread-named}
-use Rattle.form_check.specs.Bodies.{definitions, particles, formOf}
+use Rattle.form_check.specs.Bodies.{definitions, particlesRead, formOfBodies}
 use Rattle.form_check.proofs.Reading.{definitions-length}
 use Rattle.form_index.specs.Reading.{definitionIn, particlesBefore, modelPart}
-use Rattle.store_check.specs.Reading.{FieldsFit, partAt, noDefinition}
+use Rattle.store_check.specs.Reading.{FieldsFit, partAt, noFlatDefinition}
 use Rattle.store_check.specs.Check.{FormPasses}
 use Rattle.store_check.proofs.IndexLaws.{namesOf}
 use Rattle.store_check.proofs.ModelReads.{ModelRead}
@@ -37,52 +37,52 @@ use Rattle.lookup.specs.Bodies.{bodiesOf}
 use Rattle.layout.specs.Bodies.{widthOf, definitionsIn, particlesIn}
 use Rattle.store_writer.specs.Stores.{storeIn}
 use Rattle.store_writer.proofs.StoreLaws.{Holds, holds}
-use Rattle.document_refusals.proofs.StoreFacts.{formIn, byIndex}
+use Rattle.store_writer.proofs.StoreFacts.{formIn, byIndex}
 
 module _ {w n : ℕ} {defs : Bytes} {p : ℕ} {parts : Bytes} {a : ℕ} {attrs : Bytes} (laid : Laid w n defs p parts a attrs) (x : FormPasses w n defs p parts a attrs) where
   abbrev f : FlatStore
-  f = formOf w n defs p parts a attrs
+  f = formOfBodies w n defs p parts a attrs
 
   fields : FieldsFit w f
   fields = fields-fit laid (x .definitions) (x .attributes)
 
-  definition-in : (i : ℕ) → i < n → definitionIn defs i .particles ≡ getD (definitions n defs) i noDefinition .particles
+  definition-in : (i : ℕ) → i < n → definitionIn defs i .particles ≡ getD (definitions n defs) i noFlatDefinition .particles
   unfolding definitions
-  definition-in i l = ap (λ (d : FlatDefinition). d .particles) (sym (many-at readDefinition definitionSize i n defs noDefinition l))
+  definition-in i l = ap (λ (d : FlatDefinition). d .particles) (sym (many-at readDefinition definitionSize i n defs noFlatDefinition l))
 
   before-in : (i : ℕ) → i ≤ n → particlesBefore defs i ≡ before i (definitions n defs)
   unfolding particlesBefore
   before-in = before-is (particlesBefore defs) (λ i. definitionIn defs i .particles) n (definitions n defs) refl (λ i. refl) definition-in
 
-  room : (i : ℕ) → i < n → before i (definitions n defs) + getD (definitions n defs) i noDefinition .particles ≤ p
+  room : (i : ℕ) → i < n → before i (definitions n defs) + getD (definitions n defs) i noFlatDefinition .particles ≤ p
   room i l =
       let e : before (length (definitions n defs)) (definitions n defs) ≡ p =
       ap (λ (k : ℕ). before k (definitions n defs)) (definitions-length n defs) ∙ before-all laid (x .definitions) (x .attributes) (x .bodies) in
       omega (arith, before-within i (definitions n defs) (omega (arith, definitions-length n defs)))
 
-  all-particles : particlesOf parts ≡ particles p parts
-  unfolding particlesOf particles
+  all-particles : particlesOf parts ≡ particlesRead p parts
+  unfolding particlesOf particlesRead
   all-particles = let e : length parts / particleSize ≡ p = omega (arith, laid .bodies .particleBody .whole) in ap (λ (k : ℕ). readMany readParticle particleSize k parts) e
 
-  part-particles : (i : ℕ) → i < n → particlesOf (modelPart defs parts i) ≡ partAt i (definitions n defs) (particles p parts)
+  part-particles : (i : ℕ) → i < n → particlesOf (modelPart defs parts i) ≡ partAt i (definitions n defs) (particlesRead p parts)
   unfolding modelPart
   part-particles i l =
-      let k : ℕ = getD (definitions n defs) i noDefinition .particles in
+      let k : ℕ = getD (definitions n defs) i noFlatDefinition .particles in
       let b : ℕ = before i (definitions n defs) in
       let fit : particleSize * b + particleSize * k ≤ length parts = omega (arith, room i l, laid .bodies .particleBody .whole) in
       ap₂ (λ (u v : ℕ). particlesOf (take (particleSize * u) (drop (particleSize * v) parts))) (definition-in i l) (before-in i (omega arith))
       ∙ ap particlesOf (sym (part-there (particleSize * b) (particleSize * k) parts fit))
       ∙ particles-part b k parts fit
       ∙ ap (λ (l : Particles). take k (drop b l)) all-particles
-      ∙ sym (part-cut i (definitions n defs) (particles p parts))
+      ∙ sym (part-cut i (definitions n defs) (particlesRead p parts))
 
   own-in : (i : ℕ) → i < n → particlesOf (modelPart defs parts i) ≡ spread 0 (rename (λ m. indexOf m (unflat f .form)) (members (definitionAt i (unflat f .form))))
   own-in i l =
       let h : i < length (unflat f .form) = omega (arith, form-size f, definitions-length n defs) in
-      let r : ModelRead (unflat f .form) (form-apart w f fields (x .bodies)) (partAt i (definitions n defs) (particles p parts)) = model-at w f fields (x .bodies) i h in
+      let r : ModelRead (unflat f .form) (form-apart w f fields (x .bodies)) (partAt i (definitions n defs) (particlesRead p parts)) = model-at w f fields (x .bodies) i h in
       part-particles i l
       ∙ sym (r .back)
-      ∙ spread-named (unflat f .form) 0 (readMembers (namesOf (unflat f .form)) (build (partAt i (definitions n defs) (particles p parts)) 0))
+      ∙ spread-named (unflat f .form) 0 (readMembers (namesOf (unflat f .form)) (build (partAt i (definitions n defs) (particlesRead p parts)) 0))
       ∙ ap (λ (ms : Members Bytes). spread 0 (rename (λ m. indexOf m (unflat f .form)) ms)) (sym (members-at w f fields (x .bodies) i h))
 
 -- THE OWNER'S PART: the particles of its model, each name as its index

@@ -27,19 +27,20 @@ use Rattle.model.specs.declared.place.Found.{Found}
 use Rattle.model.specs.declared.place.Found.the-variants.{At, Absent}
 use Rattle.model.specs.Particle.{whatOf, particleOf}
 use Rattle.model.specs.Members.{particlesOf}
-use Rattle.model.specs.Places.{Particles, noParticle, placeOf}
+use Rattle.model.specs.Places.{Particles, noParticle, placeIn}
 use Rattle.model.specs.Positions.{elementParticle, groupParticle, spread, leading, trailing, level}
 use Rattle.model.proofs.ParticleLaws.{length-particles, particle-at}
-use Rattle.model.proofs.PositionLaws.{spread-plug, length-leading, code-quantifier}
+use Rattle.model.proofs.PositionLaws.{spread-plug, length-leading}
 use Rattle.form_index.specs.Reading.{definitionIn, particlesBefore, modelPart}
 use Rattle.layout.specs.Bodies.{shapeOf, particleBody, definitionsIn, particlesIn}
-use Rattle.document_refusals.specs.Finding.{Gives}
-use Rattle.definition_writer.proofs.Encoded.{encoded}
+use Rattle.change_laws.specs.FirstCondition.{Gives}
+use Rattle.store_writer.proofs.Encoded.{encoded}
 use Rattle.model_places.specs.declared.Located.{Located}
 use Rattle.model_places.specs.declared.Picked.{Picked}
 use Rattle.model_places.specs.declared.Picked.the-variants as pick
-use Rattle.model_places.specs.Placing.{indexIn, modelIn, partIn, leads, foundBy, Placed, pickOf, ElementAt, GroupAt, Picks, Picking, locatedAt, Finds}
+use Rattle.model_places.specs.Placing.{indexOfName, modelIn, partIn, leads, foundBy, Placed, pickOf, ElementAt, GroupAt, Picks, Picking, locatedAt, Finds}
 use Rattle.model_places.proofs.PlaceLaws.{absent, present-at}
+use Rattle.rules.proofs.DecodeLaws.{quantifier-code}
 
 -- ---- a member is there
 abbrev Held : {A : Type 0} → Option (Spot A) → Type 0
@@ -90,10 +91,10 @@ module _ {A : Type 0} where
 -- ---- the particle there
 module _ {bs : Bytes} {o : ℕ} {i : Bool} {place : List ℕ} {h : Holder} {p : ℕ} (x : Placed bs o i place h p) where
   abbrev pub around : Context ℕ
-  around = renameAround (indexIn bs) (x .found .context)
+  around = renameAround (indexOfName bs) (x .found .context)
 
   abbrev chosen : Members ℕ
-  chosen = rename (indexIn bs) (x .found .picked)
+  chosen = rename (indexOfName bs) (x .found .picked)
 
   -- the particles from there on
   pub from-there : drop p (particlesOf (partIn bs o)) ≡ spread (level 0 around) chosen ++ trailing 0 around
@@ -139,17 +140,17 @@ picks-there {bs} {o} {place} {h} {p} x = by (x .found .picked) refl
     by : (t : Members Bytes) → x .found .picked ≡ t → Picks bs o place (pickIn bs o h p)
     by done e = absurd (false≢true (sym (found-held place (modelIn bs o) (x .found) (x .there)) ∙ ap isDone e))
     by (el q n rest) e =
-        let f : drop p (particlesOf (partIn bs o)) ≡ elementParticle d q (indexIn bs n) ∷ (spread d (rename (indexIn bs) rest) ++ trailing 0 (around x)) =
-        from-there x ∙ ap (λ (t : Members Bytes). spread d (rename (indexIn bs) t) ++ trailing 0 (around x)) e in
-        let r : pickIn bs o h p ≡ pick.Element h p q = ap (pickRead h p) (read-there x _ _ f) ∙ ap (λ (z : Quantifier). pick.Element h p z) (code-quantifier q) in
+        let f : drop p (particlesOf (partIn bs o)) ≡ elementParticle d q (indexOfName bs n) ∷ (spread d (rename (indexOfName bs) rest) ++ trailing 0 (around x)) =
+        from-there x ∙ ap (λ (t : Members Bytes). spread d (rename (indexOfName bs) t) ++ trailing 0 (around x)) e in
+        let r : pickIn bs o h p ≡ pick.Element h p q = ap (pickRead h p) (read-there x _ _ f) ∙ ap (λ (z : Quantifier). pick.Element h p z) (quantifier-code q) in
         subst (λ (z : Picked). Picks bs o place z) (sym r) (record { placed = x; name = n; rest = rest; is = e })
     by (group q k ms rest) e =
         let f : drop p (particlesOf (partIn bs o)) ≡ groupParticle d q k
-        (howMany (rename (indexIn bs) ms)) ∷ ((spread (suc d) (rename (indexIn bs) ms) ++ spread d (rename (indexIn bs) rest)) ++ trailing 0 (around x)) =
-        from-there x ∙ ap (λ (t : Members Bytes). spread d (rename (indexIn bs) t) ++ trailing 0 (around x)) e in
-        let r : pickIn bs o h p ≡ pick.Group h p q k (howMany (rename (indexIn bs) ms)) =
-        ap (pickRead h p) (read-there x _ _ f) ∙ ap₂ (λ (z : Quantifier) (w : What). pickOf h p z w) (code-quantifier q) (code-group k (howMany (rename (indexIn bs) ms))) in
-        subst (λ (z : Picked). Picks bs o place z) (sym r) (record { placed = x; inner = ms; rest = rest; is = e; many = many-named (indexIn bs) ms })
+        (howMany (rename (indexOfName bs) ms)) ∷ ((spread (suc d) (rename (indexOfName bs) ms) ++ spread d (rename (indexOfName bs) rest)) ++ trailing 0 (around x)) =
+        from-there x ∙ ap (λ (t : Members Bytes). spread d (rename (indexOfName bs) t) ++ trailing 0 (around x)) e in
+        let r : pickIn bs o h p ≡ pick.Group h p q k (howMany (rename (indexOfName bs) ms)) =
+        ap (pickRead h p) (read-there x _ _ f) ∙ ap₂ (λ (z : Quantifier) (w : What). pickOf h p z w) (quantifier-code q) (code-group k (howMany (rename (indexOfName bs) ms))) in
+        subst (λ (z : Picked). Picks bs o place z) (sym r) (record { placed = x; inner = ms; rest = rest; is = e; many = many-named (indexOfName bs) ms })
 
 -- ---- the code
 module _ (h : Holder) (p : ℕ) (s : Bytes) {r : Bytes} {x : Particle} (u : r ≡ drop (particleSize * p) s) (y : x ≡ particleOf (readParticle r)) where
@@ -181,9 +182,9 @@ part-few bs q o =
 pub own-model : (bs : Bytes) {defs parts r : Bytes} (o : ℕ) → defs ≡ definitionsIn bs → parts ≡ particlesIn bs → r ≡ modelPart defs parts o → r ≡ partIn bs o
 own-model bs o d p e = e ∙ ap₂ (λ (a b : Bytes). modelPart a b o) d p
 
-module _ (bs : Bytes) (pass : passes bs ≡ true) (o : ℕ) (l : o < definitionCount bs) (place : List ℕ) {part : Bytes} (own : part ≡ partIn bs o) {f : Found} (e : f ≡ placeOf false place part) where
-  found-in : placeOf false place (partIn bs o) ≡ f
-  found-in = sym (e ∙ ap (placeOf false place) own)
+module _ (bs : Bytes) (pass : passes bs ≡ true) (o : ℕ) (l : o < definitionCount bs) (place : List ℕ) {part : Bytes} (own : part ≡ partIn bs o) {f : Found} (e : f ≡ placeIn false place part) where
+  found-in : placeIn false place (partIn bs o) ≡ f
+  found-in = sym (e ∙ ap (placeIn false place) own)
 
   pub picked-none : f ≡ Absent → Picking bs o place pick.Absent
   picked-none w = record { is = absent bs pass o l false place (found-in ∙ w) }

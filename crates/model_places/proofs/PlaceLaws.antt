@@ -24,8 +24,8 @@ use Rattle.rules.proofs.RenamingPlaces.{plug-rename, spine-rename}
 use Rattle.model.specs.declared.place.Holder.{Holder}
 use Rattle.model.specs.declared.place.Found.{Found}
 use Rattle.model.specs.declared.place.Found.the-variants.{At, Absent}
-use Rattle.model.specs.Members.{indexMembers, particlesOf, membersFrom, membersOf}
-use Rattle.model.specs.Places.{Particles, top, spotOf, placeOf, lastBy, Told, told, shown}
+use Rattle.model.specs.Members.{indexMembers, particlesOf, membersFrom, allMembers}
+use Rattle.model.specs.Places.{Particles, top, spotOf, placeIn, lastBy, PlaceTold, told, shown}
 use Rattle.model.specs.Positions.{spread, offset, holder, spotIn, leading, trailing, level}
 use Rattle.model.proofs.ParticleLaws.{length-particles, particles-drop}
 use Rattle.model.proofs.FindLaws.{found-placed}
@@ -33,8 +33,9 @@ use Rattle.model.proofs.PositionLaws.{place-spot, spread-plug, length-leading}
 use Rattle.model.proofs.WrittenLaws.{particles-written, members-written}
 use Rattle.model.proofs.NamedPlaces.{renameFound, find-gap-named, find-nth-named}
 use Rattle.store_writer.specs.Stores.{storeIn}
-use Rattle.model_places.specs.Placing.{indexIn, modelIn, partIn, leads, foundBy, Placed}
+use Rattle.model_places.specs.Placing.{indexOfName, modelIn, partIn, leads, foundBy, Placed}
 use Rattle.model_places.proofs.OwnParts.{own-particles}
+use Rattle.rules.proofs.ConformingLaws.{none-some}
 
 -- ---- the places of the changes
 pub found-remove : (o : ℕ) (p : List ℕ) (bs : Bytes) → foundAt remove o p (storeIn bs) ≡ foundBy false p (modelIn bs o)
@@ -73,27 +74,24 @@ leads-right : {A : Type 0} (i : Bool) (place : List ℕ) (ms : Members A) (x : S
 leads-right true place ms x e = found-gap place ms x e
 leads-right false place ms x e = found-nth place ms x e
 
-none≢some : {A : Type 0} {x : A} → none ≡ some x → ⊥
-none≢some e = let z : false ≡ true = cc e in false≢true z
-
 pub found-right : {A : Type 0} (i : Bool) (place : List ℕ) (ms : Members A) (x : Spot A) → foundBy i place ms ≡ some x → plug (x .context) (x .picked) ≡ ms
 unfolding foundBy
 found-right {A} i place ms x e = by (leb (length place) 5) e
   where
     by : (b : Bool) → elim b as (λ z. Option (Spot A)) [ true ↦ leads i place ms | false ↦ none ] ≡ some x → plug (x .context) (x .picked) ≡ ms
     by true e = leads-right i place ms x e
-    by false e = absurd (none≢some e)
+    by false e = absurd (none-some e)
 
 -- ---- in the part of a definition
-abbrev pickedOf : Option Told → Members ℕ
+abbrev pickedOf : Option PlaceTold → Members ℕ
 pickedOf none = done
 pickedOf (some t) = t .picked
 
-abbrev kindOf : GroupKind → Option Told → GroupKind
+abbrev kindOf : GroupKind → Option PlaceTold → GroupKind
 kindOf k none = k
 kindOf k (some t) = t .kind
 
-abbrev spineOf : Option Told → Bool
+abbrev spineOf : Option PlaceTold → Bool
 spineOf none = false
 spineOf (some t) = t .spine
 
@@ -102,66 +100,66 @@ isAt Absent = false
 isAt (At h p) = true
 
 module _ (bs : Bytes) (pass : passes bs ≡ true) (o : ℕ) (l : o < definitionCount bs) where
-  members-own : membersOf (partIn bs o) ≡ rename (indexIn bs) (modelIn bs o)
+  members-own : allMembers (partIn bs o) ≡ rename (indexOfName bs) (modelIn bs o)
   unfolding membersFrom
   members-own =
-      ap (λ (xs : Particles). indexMembers (build xs 0)) (own-particles bs pass o l ∙ sym (particles-written (spread 0 (rename (indexIn bs) (modelIn bs o)))))
-      ∙ members-written (rename (indexIn bs) (modelIn bs o))
+      ap (λ (xs : Particles). indexMembers (build xs 0)) (own-particles bs pass o l ∙ sym (particles-written (spread 0 (rename (indexOfName bs) (modelIn bs o)))))
+      ∙ members-written (rename (indexOfName bs) (modelIn bs o))
 
   module _ (i : Bool) (place : List ℕ) where
     -- WHERE THE CODE FINDS IT
-    pub spot-is : placeOf i place (partIn bs o) ≡ spotIn top (renameFound (indexIn bs) (foundBy i place (modelIn bs o)))
-    unfolding placeOf foundBy
+    pub spot-is : placeIn i place (partIn bs o) ≡ spotIn top (renameFound (indexOfName bs) (foundBy i place (modelIn bs o)))
+    unfolding placeIn foundBy
     spot-is = by (leb (length place) 5)
       where
         by : (b : Bool)
             → _≡_ {A = Found} (elim b [ true ↦ spotOf i place top (particlesOf (partIn bs o)) | false ↦ Absent ])
-            (spotIn top (renameFound (indexIn bs) (elim b [ true ↦ leads i place (modelIn bs o) | false ↦ none ])))
+            (spotIn top (renameFound (indexOfName bs) (elim b [ true ↦ leads i place (modelIn bs o) | false ↦ none ])))
         by true =
             ap (spotOf i place top) (own-particles bs pass o l)
-            ∙ place-spot i place top (rename (indexIn bs) (modelIn bs o))
-            ∙ ap (spotIn top) (leads-named (indexIn bs) i place (modelIn bs o))
+            ∙ place-spot i place top (rename (indexOfName bs) (modelIn bs o))
+            ∙ ap (spotIn top) (leads-named (indexOfName bs) i place (modelIn bs o))
         by false = refl
 
-    shown-is : shown (particlesOf (partIn bs o)) (placeOf i place (partIn bs o)) ≡ told Sequence true (renameFound (indexIn bs) (foundBy i place (modelIn bs o)))
+    shown-is : shown (particlesOf (partIn bs o)) (placeIn i place (partIn bs o)) ≡ told Sequence true (renameFound (indexOfName bs) (foundBy i place (modelIn bs o)))
     unfolding foundBy
     shown-is = found-placed i place (partIn bs o) ∙ by (leb (length place) 5)
       where
         by : (b : Bool)
-            → told Sequence true (elim b [ true ↦ find (lastBy i) place (membersOf (partIn bs o)) | false ↦ none ])
-            ≡ told Sequence true (renameFound (indexIn bs) (elim b [ true ↦ leads i place (modelIn bs o) | false ↦ none ]))
+            → told Sequence true (elim b [ true ↦ find (lastBy i) place (allMembers (partIn bs o)) | false ↦ none ])
+            ≡ told Sequence true (renameFound (indexOfName bs) (elim b [ true ↦ leads i place (modelIn bs o) | false ↦ none ]))
         by true =
             ap (λ (ms : Members ℕ). told Sequence true (find (lastBy i) place ms)) members-own
-            ∙ ap (told Sequence true) (leads-named (indexIn bs) i place (modelIn bs o))
+            ∙ ap (told Sequence true) (leads-named (indexOfName bs) i place (modelIn bs o))
         by false = refl
 
     -- absent for both
-    pub absent : placeOf i place (partIn bs o) ≡ Absent → foundBy i place (modelIn bs o) ≡ none
+    pub absent : placeIn i place (partIn bs o) ≡ Absent → foundBy i place (modelIn bs o) ≡ none
     absent e = by (foundBy i place (modelIn bs o)) refl
       where
         by : (x : Option (Spot Bytes)) → foundBy i place (modelIn bs o) ≡ x → x ≡ none
         by none q = refl
-        by (some x) q = absurd (false≢true (sym (ap isAt e) ∙ ap isAt (spot-is ∙ ap (λ (z : Option (Spot Bytes)). spotIn top (renameFound (indexIn bs) z)) q)))
+        by (some x) q = absurd (false≢true (sym (ap isAt e) ∙ ap isAt (spot-is ∙ ap (λ (z : Option (Spot Bytes)). spotIn top (renameFound (indexOfName bs) z)) q)))
 
     -- .. or there for both
-    module _ (h : Holder) (p : ℕ) (e : placeOf i place (partIn bs o) ≡ At h p) where
+    module _ (h : Holder) (p : ℕ) (e : placeIn i place (partIn bs o) ≡ At h p) where
       module _ (x : Spot Bytes) (q : foundBy i place (modelIn bs o) ≡ some x) where
         abbrev context : Context ℕ
-        context = renameAround (indexIn bs) (x .context)
+        context = renameAround (indexOfName bs) (x .context)
 
         abbrev chosen : Members ℕ
-        chosen = rename (indexIn bs) (x .picked)
+        chosen = rename (indexOfName bs) (x .picked)
 
         same-spot : At (holder top 0 context) (0 + offset context) ≡ At h p
-        same-spot = sym (spot-is ∙ ap (λ (z : Option (Spot Bytes)). spotIn top (renameFound (indexIn bs) z)) q) ∙ e
+        same-spot = sym (spot-is ∙ ap (λ (z : Option (Spot Bytes)). spotIn top (renameFound (indexOfName bs) z)) q) ∙ e
 
         same-told : shown (particlesOf (partIn bs o)) (At h p) ≡ told Sequence true (some (record { context = context; picked = chosen }))
-        same-told = ap (shown (particlesOf (partIn bs o))) (sym e) ∙ shown-is ∙ ap (λ (z : Option (Spot Bytes)). told Sequence true (renameFound (indexIn bs) z)) q
+        same-told = ap (shown (particlesOf (partIn bs o))) (sym e) ∙ shown-is ∙ ap (λ (z : Option (Spot Bytes)). told Sequence true (renameFound (indexOfName bs) z)) q
 
         own-spread : particlesOf (partIn bs o) ≡ spread 0 (plug context chosen)
         own-spread =
-            own-particles bs pass o l ∙ ap (λ (ms : Members Bytes). spread 0 (rename (indexIn bs) ms)) (sym (found-right i place (modelIn bs o) x q))
-            ∙ ap (spread 0) (plug-rename (indexIn bs) (x .context) (x .picked))
+            own-particles bs pass o l ∙ ap (λ (ms : Members Bytes). spread 0 (rename (indexOfName bs) ms)) (sym (found-right i place (modelIn bs o) x q))
+            ∙ ap (spread 0) (plug-rename (indexOfName bs) (x .context) (x .picked))
 
         stands-at : offset context ≡ p
         stands-at = let z : 0 + offset context ≡ p = cc same-spot in omega arith
@@ -187,8 +185,8 @@ module _ (bs : Bytes) (pass : passes bs ≡ true) (o : ℕ) (l : o < definitionC
               held = cc same-spot;
               stands = stands-at;
               inside = long;
-              kind = ap (kindOf Sequence) same-told ∙ kind-rename (indexIn bs) Sequence (x .context);
-              spine = ap spineOf same-told ∙ spine-rename (indexIn bs) (x .context);
+              kind = ap (kindOf Sequence) same-told ∙ kind-rename (indexOfName bs) Sequence (x .context);
+              spine = ap spineOf same-told ∙ spine-rename (indexOfName bs) (x .context);
               picked = members-at;
             }
 
@@ -196,5 +194,5 @@ module _ (bs : Bytes) (pass : passes bs ≡ true) (o : ℕ) (l : o < definitionC
       present-at = by (foundBy i place (modelIn bs o)) refl
         where
           by : (x : Option (Spot Bytes)) → foundBy i place (modelIn bs o) ≡ x → Placed bs o i place h p
-          by none q = absurd (false≢true (sym (ap isAt (spot-is ∙ ap (λ (z : Option (Spot Bytes)). spotIn top (renameFound (indexIn bs) z)) q)) ∙ ap isAt e))
+          by none q = absurd (false≢true (sym (ap isAt (spot-is ∙ ap (λ (z : Option (Spot Bytes)). spotIn top (renameFound (indexOfName bs) z)) q)) ∙ ap isAt e))
           by (some x) q = there-is x q

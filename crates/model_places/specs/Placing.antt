@@ -20,7 +20,7 @@ use Rattle.model.specs.declared.What.the-variants as what
 use Rattle.model.specs.declared.place.Holder.{Holder}
 use Rattle.model.specs.Members.{particlesOf, membersFrom}
 use Rattle.model.specs.declared.place.Found.the-variants.{At}
-use Rattle.model.specs.Places.{top, placeOf}
+use Rattle.model.specs.Places.{top, placeIn}
 use Rattle.model.specs.Positions.{spread, offset, holder}
 use Rattle.form_index.specs.Reading.{modelPart}
 use Rattle.layout.specs.Bodies.{definitionsIn, particlesIn}
@@ -30,8 +30,8 @@ use Rattle.model_places.specs.declared.Picked.{Picked}
 use Rattle.model_places.specs.declared.Picked.the-variants as pick
 
 -- the index of a name
-abbrev pub indexIn : Bytes → Bytes → ℕ
-indexIn bs n = indexOf n (storeIn bs .form)
+abbrev pub indexOfName : Bytes → Bytes → ℕ
+indexOfName bs n = indexOf n (storeIn bs .form)
 
 -- the model of definition o, and its part of the particle body
 abbrev pub modelIn : Bytes → ℕ → Members Bytes
@@ -50,16 +50,16 @@ foundBy insert place ms = elim (leb (length place) 5) [ true ↦ leads insert pl
 
 -- THE PLACE: in the part of definition o the code finds the list h and the particle p in it, the rules `found` in its model
 pub record Placed (bs : Bytes) (o : ℕ) (insert : Bool) (place : List ℕ) (h : Holder) (p : ℕ) : Type 0 where
-  pub at : placeOf insert place (partIn bs o) ≡ At h p
+  pub at : placeIn insert place (partIn bs o) ≡ At h p
   pub found : Spot Bytes
   pub there : foundBy insert place (modelIn bs o) ≡ some found
-  pub particles : particlesOf (partIn bs o) ≡ spread 0 (plug (renameAround (indexIn bs) (found .context)) (rename (indexIn bs) (found .picked)))
-  pub held : holder top 0 (renameAround (indexIn bs) (found .context)) ≡ h
-  pub stands : offset (renameAround (indexIn bs) (found .context)) ≡ p
+  pub particles : particlesOf (partIn bs o) ≡ spread 0 (plug (renameAround (indexOfName bs) (found .context)) (rename (indexOfName bs) (found .picked)))
+  pub held : holder top 0 (renameAround (indexOfName bs) (found .context)) ≡ h
+  pub stands : offset (renameAround (indexOfName bs) (found .context)) ≡ p
   pub inside : particleSize * p ≤ length (partIn bs o)
   pub kind : h .kind ≡ kindAt Sequence (found .context)
   pub spine : h .spine ≡ spine (found .context)
-  pub picked : membersFrom (h .depth) (drop (particleSize * p) (partIn bs o)) ≡ rename (indexIn bs) (found .picked)
+  pub picked : membersFrom (h .depth) (drop (particleSize * p) (partIn bs o)) ≡ rename (indexOfName bs) (found .picked)
 
 abbrev pub pickOf : Holder → ℕ → Quantifier → What → Picked
 pickOf h p q (what.Element i) = pick.Element h p q

@@ -22,7 +22,7 @@ use Rattle.store_check.proofs.FormLaws.{members-indexed, part-room}
 use Rattle.store_check.proofs.StringChecks.{Headed, laid-in, passes-header, passes-in, same-form}
 use Rattle.store_check.proofs.IndexReads.{index-agrees}
 use Rattle.store_writer.specs.Stores.{storeIn}
-use Rattle.document_refusals.proofs.StoreFacts.{formIn, byIndex, Whole, whole}
+use Rattle.store_writer.proofs.StoreFacts.{formIn, byIndex, Whole, whole}
 
 -- ---- one part of the particles, read in two ways
 module _ (defs : Bytes) where
@@ -34,8 +34,8 @@ module _ (defs : Bytes) where
   start-same zero = refl
   start-same (suc i) = ap₂ (λ (a b : ℕ). a + b) (start-same i) (count-same i)
 
-  part-same : (parts : Bytes) (i p : ℕ) → startAt defs i + countAt defs i ≤ p → particleSize * p ≤ length parts → circles.modelPart defs parts i ≡ modelPart defs parts i
-  unfolding circles.modelPart modelPart
+  part-same : (parts : Bytes) (i p : ℕ) → startAt defs i + countAt defs i ≤ p → particleSize * p ≤ length parts → circles.modelBytes defs parts i ≡ modelPart defs parts i
+  unfolding circles.modelBytes modelPart
   part-same parts i p room long =
       part-there (particleSize * startAt defs i) (particleSize * countAt defs i) parts (omega arith)
       ∙ ap₂ (λ (a b : ℕ). take (particleSize * b) (drop (particleSize * a) parts)) (start-same i) (count-same i)
@@ -44,7 +44,7 @@ module _ (defs : Bytes) where
 pub record Reads (bs : Bytes) : Type 0 where
   pub whole : Whole bs
   pub members : Indexed (membersIn (definitionsIn bs) (particlesIn bs)) (formIn bs)
-  pub parts : (i : ℕ) → i < definitionCount bs → circles.modelPart (definitionsIn bs) (particlesIn bs) i ≡ modelPart (definitionsIn bs) (particlesIn bs) i
+  pub parts : (i : ℕ) → i < definitionCount bs → circles.modelBytes (definitionsIn bs) (particlesIn bs) i ≡ modelPart (definitionsIn bs) (particlesIn bs) i
 
 pub reads : (bs : Bytes) → passes bs ≡ true → Reads bs
 unfolding storeIn bodiesOf widthOf

@@ -16,7 +16,7 @@ use Rattle.rules.specs.Change.{definitionAt}
 use Rattle.rules.proofs.WellFormedLaws.{well-formed}
 use Rattle.rules.proofs.Height.{lookup-member, known-found, reaches-known}
 use Rattle.circle_check.specs.Members.{elementsOf, membersIn}
-use Rattle.circle_check.specs.Deep.{marked, firstPasses}
+use Rattle.circle_check.specs.Deep.{hasHeight, firstPasses}
 use Rattle.circle_check.specs.Avoiding.{Avoids}
 use Rattle.circle_check.proofs.CircleLaws.{members-named}
 use Rattle.form_index.specs.Reading.{modelPart}
@@ -24,8 +24,8 @@ use Rattle.store_check.proofs.IndexLaws.{namesOf, lookup-at, name-of}
 use Rattle.store_check.proofs.ElementReads.{same-names}
 use Rattle.store_writer.specs.Stores.{storeIn}
 use Rattle.layout.specs.Bodies.{Number, definitionsIn, particlesIn}
-use Rattle.document_refusals.proofs.StoreFacts.{formIn, byIndex}
-use Rattle.model_reach.specs.Reach.{inModel, comesRound}
+use Rattle.store_writer.proofs.StoreFacts.{formIn, byIndex}
+use Rattle.model_reach.specs.Reach.{standsInModel, comesRound}
 use Rattle.model_reach.proofs.FormFacts.{Reads}
 use Rattle.model_reach.proofs.ReachLaws.{avoided}
 
@@ -75,7 +75,7 @@ module _ (bs : Bytes) (w : Reads bs) where
     model-names : map (λ j. nameAt j (namesOf (formIn bs))) (membersIn (definitionsIn bs) (particlesIn bs) o) ≡ names (members (definitionAt o (formIn bs)))
     model-names = sym (members-named (w .members) o owner-in) ∙ ap namesIn (lookup-at (formIn bs) (w .members .once) o owner-in)
 
-    pub in-model-is : {part : Bytes} {r : Bool} → part ≡ modelPart (definitionsIn bs) (particlesIn bs) o → r ≡ all (λ j. not (eqb i j)) (elementsOf part) → not r ≡ inModel (formIn bs) o i
+    pub in-model-is : {part : Bytes} {r : Bool} → part ≡ modelPart (definitionsIn bs) (particlesIn bs) o → r ≡ all (λ j. not (eqb i j)) (elementsOf part) → not r ≡ standsInModel (formIn bs) o i
     unfolding membersIn
     in-model-is {part} {r} e q =
         ap not (q ∙ ap (λ (s : Bytes). all (λ j. not (eqb i j)) (elementsOf s)) (e ∙ sym (w .parts o lo)))
@@ -85,7 +85,7 @@ module _ (bs : Bytes) (w : Reads bs) where
     -- ---- 11
     pub round-is : {n : ℕ} {defs parts r : Bytes} {b : ℕ} → Number (definitionCount bs) n → defs ≡ definitionsIn bs → parts ≡ particlesIn bs → Avoids n (membersIn defs parts) o r
         → b ≡ getD r i 0 → eqb b 0 ≡ comesRound (formIn bs) o i
-    unfolding marked
+    unfolding hasHeight
     round-is {n} {defs} {parts} {r} {b} k d p a e =
         ap (λ (z : ℕ). eqb z 0) e
         ∙ sym (Bool·not-not (eqb (getD r i 0) 0))

@@ -11,8 +11,8 @@ use Rattle.rules.specs.Bytes.{Bytes, same, all, any}
 use Rattle.rules.specs.Store.{Form}
 use Rattle.rules.specs.Decode.{nameAt}
 use Rattle.rules.specs.WellFormed.{definitionName, membersOf, Reaches, reaches, reachesIn}
-use Rattle.circle_check.specs.Deep.{deepIndex, marked}
-use Rattle.circle_check.specs.Avoiding.{without, Avoids}
+use Rattle.circle_check.specs.Deep.{deepIndex, hasHeight}
+use Rattle.circle_check.specs.Avoiding.{membersAvoiding, Avoids}
 use Rattle.circle_check.proofs.RoundLaws.{deep-index-member, deep-past}
 use Rattle.circle_check.proofs.CircleLaws.{Indexed, members-named, fit-acyclic}
 
@@ -41,7 +41,7 @@ module _ {indices : ℕ → List ℕ} {form : Form} (w : Indexed indices form)
   arrives h i = same (nameOf i) (nameOf t) || reaches h form (nameOf t) (nameOf i)
 
   abbrev avoids : ℕ → ℕ → Bool
-  avoids h i = deepIndex (without (length form) indices t) (length form) h i
+  avoids h i = deepIndex (membersAvoiding (length form) indices t) (length form) h i
 
   -- where every chain from definition i ends within h definitions
   avoid-is : (h i : ℕ) → i < length form → deepIndex indices (length form) h i ≡ true → avoids h i ≡ not (arrives h i)
@@ -59,7 +59,7 @@ module _ {indices : ℕ → List ℕ} {form : Form} (w : Indexed indices form)
       by : (b : Bool) → eqb i t ≡ b → ((j : ℕ) → List·Memᴰ j (indices i) → avoids h j ≡ not (arrives h j))
           → (ltb i (length form) && all (λ j. avoids h j) (elim b [ true ↦ length form ∷ [] | false ↦ indices i ])) ≡ not (arrives (suc h) i)
       by true e ih =
-          ap₂ (λ (a b : Bool). a && (b && true)) (lt-ltb i (length form) l) (deep-past (without (length form) indices t) (length form) h (length form) (omega arith))
+          ap₂ (λ (a b : Bool). a && (b && true)) (lt-ltb i (length form) l) (deep-past (membersAvoiding (length form) indices t) (length form) h (length form) (omega arith))
           ∙ sym (ap (λ (b : Bool). not (b || reaches (suc h) form (nameOf t) (nameOf i))) (apart i t l known ∙ e))
       by false e ih =
           ap (λ (b : Bool). b && all (λ j. avoids h j) (indices i)) (lt-ltb i (length form) l)
@@ -68,7 +68,7 @@ module _ {indices : ℕ → List ℕ} {form : Form} (w : Indexed indices form)
 
   -- THE ROUNDS: after as many as there are definitions, those without a height are the target and those that reach it
   pub avoided : ((n : Bytes) → Reaches form n n → ⊥) → {r : Bytes} → Avoids (length form) indices t r → (i : ℕ) → i < length form
-      → not (marked r i) ≡ (same (nameOf i) (nameOf t) || reachesIn form (nameOf i) (nameOf t))
+      → not (hasHeight r i) ≡ (same (nameOf i) (nameOf t) || reachesIn form (nameOf i) (nameOf t))
   avoided acyclic {r} a i l =
       ap not (a .is i ∙ avoid-is (length form) i l (fit-acyclic w .1 acyclic i l))
       ∙ Bool·not-not (arrives (length form) i)

@@ -8,8 +8,8 @@ use Rattle.rules.specs.WellFormed.{reachesIn}
 use Rattle.rules.specs.Change.{definitionAt, nameAtIndex}
 
 -- definition i stands in the model of definition o
-abbrev pub inModel : Form → ℕ → ℕ → Bool
-inModel form o i = member bytes (nameAtIndex i form) (names (members (definitionAt o form)))
+abbrev pub standsInModel : Form → ℕ → ℕ → Bool
+standsInModel form o i = member bytes (nameAtIndex i form) (names (members (definitionAt o form)))
 
 -- definition i is definition o or reaches it
 abbrev pub comesRound : Form → ℕ → ℕ → Bool

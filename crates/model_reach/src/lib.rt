@@ -8,7 +8,7 @@ ghost use Rattle.rules.specs.Decode.{definitionCount};
 ghost use Rattle.rules.specs.Passing.{passes};
 ghost use Rattle.circle_check.specs.Members.{elementsOf};
 ghost use Rattle.store_writer.specs.Stores.{storeIn};
-ghost use Rattle.model_reach.specs.Reach.{inModel, comesRound};
+ghost use Rattle.model_reach.specs.Reach.{standsInModel, comesRound};
 
 // Whether no element among the particles has the index i.
 fn lacks(part: &[u8], i: usize) -> bool
@@ -28,7 +28,7 @@ fn lacks(part: &[u8], i: usize) -> bool
 /// Whether definition i stands in the model of definition o.
 pub fn in_model(store: &[u8], o: usize, i: usize) -> bool
     requires { ⌜ (passes (now store) ≡ true) × (o < definitionCount (now store)) × (i < definitionCount (now store)) ⌝ }
-    ensures { λ r. ⌜ r ≡ inModel (storeIn (now (store .entry)) .form) o i ⌝ }
+    ensures { λ r. ⌜ r ≡ standsInModel (storeIn (now (store .entry)) .form) o i ⌝ }
 {
     !lacks(model_places::own_part(store, o), i)
 }

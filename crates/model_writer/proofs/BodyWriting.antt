@@ -16,7 +16,7 @@ use Rattle.model.specs.Members.{particlesOf}
 use Rattle.model.specs.Places.{Particles}
 use Rattle.model_writer.specs.Spliced.{spliced}
 use Rattle.model_writer.specs.PartAfter.{lower, moved, tailAfter, countAfter, recounted, partAfter, lengthAfter, inserts}
-use Rattle.model_writer.specs.Writing.{Part, partIn, Body}
+use Rattle.model_writer.specs.Writing.{Part, particleRange, EditPart}
 use Rattle.model_writer.proofs.WritingLaws.{whole}
 use Rattle.model_writer.proofs.HeadWriting.{each-append, each-drop, take-bytes, length-bytes, length-recounted, length-part}
 
@@ -57,7 +57,7 @@ length-after (quantify r) h n xs l f = omega (arith, length-both (quantify r) h 
 length-after (convert j m) h n xs l f = omega (arith, length-both (convert j m) h n xs l)
 length-after flatten h n xs l f = omega (arith, length-both flatten h n xs l, f refl)
 
-one-more : (e : Edit ℕ) (n : ℕ) → lengthAfter e n ≤ suc n
+pub one-more : (e : Edit ℕ) (n : ℕ) → lengthAfter e n ≤ suc n
 one-more (insert q i) n = omega arith
 one-more remove n = omega arith
 one-more (quantify r) n = omega arith
@@ -80,10 +80,10 @@ spliced-bytes first k part parts h =
     ∙ ap₂ (λ (s t : Bytes). s ++ t) (take-bytes first parts h)
     (each-append part (drop (first + k) xs) ∙ ap (λ (s : Bytes). each particleBytes part ++ s) (sym (each-drop (first + k) xs) ∙ ap (drop (particleSize * (first + k))) (whole parts h)))
 
-pub body-bytes : {e : Edit ℕ} {h : Holder} {n first k : ℕ} {parts : Bytes} → Body e h n first k parts
-    → each particleBytes (spliced first k (partAfter e h n (particlesOf (partIn first k parts))) (particlesOf parts))
-    ≡ take (particleSize * first) (drop 0 parts) ++ (each particleBytes (partAfter e h n (particlesOf (partIn first k parts))) ++ drop (particleSize * (first + k)) parts)
-body-bytes {e} {h} {n} {first} {k} {parts} v = spliced-bytes first k (partAfter e h n (particlesOf (partIn first k parts))) parts (v .whole)
+pub body-bytes : {e : Edit ℕ} {h : Holder} {n first k : ℕ} {parts : Bytes} → EditPart e h n first k parts
+    → each particleBytes (spliced first k (partAfter e h n (particlesOf (particleRange first k parts))) (particlesOf parts))
+    ≡ take (particleSize * first) (drop 0 parts) ++ (each particleBytes (partAfter e h n (particlesOf (particleRange first k parts))) ++ drop (particleSize * (first + k)) parts)
+body-bytes {e} {h} {n} {first} {k} {parts} v = spliced-bytes first k (partAfter e h n (particlesOf (particleRange first k parts))) parts (v .whole)
 
-pub body-part : {e : Edit ℕ} {h : Holder} {n first k : ℕ} {parts own : Bytes} → Body e h n first k parts → own ≡ partIn first k parts → Part e h n own
+pub body-part : {e : Edit ℕ} {h : Holder} {n first k : ℕ} {parts own : Bytes} → EditPart e h n first k parts → own ≡ particleRange first k parts → Part e h n own
 body-part {e} {h} {n} v p = subst (λ (s : Bytes). Part e h n s) (sym p) (v .part)

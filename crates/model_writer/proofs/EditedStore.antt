@@ -17,18 +17,18 @@ use Rattle.rules.specs.Layout.{FlatStore, indexOf, particleBytes, each, particl
 use Rattle.rules.specs.Change.{definitionAt, editModel}
 use Rattle.rules.proofs.BooleanLaws.{Every}
 use Rattle.rules.proofs.LayoutLaws.{SmallParticle}
-use Rattle.history.proofs.ModelAfter.{place-right}
+use Rattle.change_laws.proofs.ModelAfter.{place-right}
 use Rattle.rules.proofs.RenamingPlaces.{plug-rename}
 use Rattle.model.specs.declared.place.Holder.{Holder}
 use Rattle.model.specs.declared.place.Found.the-variants.{At}
 use Rattle.model.specs.Members.{particlesOf}
-use Rattle.model.specs.Places.{Particles, top, placeOf}
+use Rattle.model.specs.Places.{Particles, top, placeIn}
 use Rattle.model.specs.Positions.{spread, count, offset, holder, leading, trailing, level}
 use Rattle.model.proofs.PositionLaws.{spread-named, spread-plug, length-leading, length-spread}
 use Rattle.model.proofs.WrittenLaws.{particles-written}
 use Rattle.model_writer.specs.Spliced.{startOf, countOf, splicedForm}
 use Rattle.model_writer.specs.PartAfter.{suits, renameEdit, inserts, partAfter, lengthAfter}
-use Rattle.model_writer.specs.Writing.{Fitting, partIn, Body}
+use Rattle.model_writer.specs.Writing.{Fitting, particleRange, EditPart}
 use Rattle.model_writer.proofs.FormAfter.{reformed, form-after}
 use Rattle.model_writer.proofs.HeadAfter.{start-before}
 use Rattle.model_writer.proofs.PartAfter.{place-here, edited-part, suits-named}
@@ -44,7 +44,7 @@ own-part form (suc o) (d ∷ ds) ms l e =
     let a : ℕ = startOf o (map (flatDefinition form) ds) in
     ap (take (countOf o (map (flatDefinition form) ds))) (drop-append-add (contentParticles form (d .content)) (allParticles form ds) a) ∙ own-part form o ds ms (omega arith) e
 
-own-inside : (form : Form) (o : ℕ) (ds : Form) → startOf o (map (flatDefinition form) ds) + countOf o (map (flatDefinition form) ds) ≤ length (allParticles form ds)
+pub own-inside : (form : Form) (o : ℕ) (ds : Form) → startOf o (map (flatDefinition form) ds) + countOf o (map (flatDefinition form) ds) ≤ length (allParticles form ds)
 own-inside form o [] = omega arith
 own-inside form zero (d ∷ ds) = omega (arith, length-append (contentParticles form (d .content)) (allParticles form ds))
 own-inside form (suc o) (d ∷ ds) = omega (arith, length-append (contentParticles form (d .content)) (allParticles form ds), own-inside form o ds)
@@ -95,7 +95,7 @@ module _ (s : Store) (o : ℕ) (p : List ℕ) (e : Edit Bytes) (x : Spot Bytes) 
   many = countOf o (flat s .definitions)
 
   abbrev own : Bytes
-  own = partIn first many parts
+  own = particleRange first many parts
 
   own-particles : own ≡ each particleBytes (take many (drop first (flat s .particles)))
   own-particles = ap (take (particleSize * many)) (each-drop first (flat s .particles)) ∙ each-take many (drop first (flat s .particles))
@@ -114,7 +114,7 @@ module _ (s : Store) (o : ℕ) (p : List ℕ) (e : Edit Bytes) (x : Spot Bytes) 
   own-many : length own ≡ particleSize * many
   own-many = ap length own-particles ∙ length-bytes (take many (drop first (flat s .particles))) ∙ ap (λ (k : ℕ). particleSize * k) all-there
 
-  module _ (h : Holder) (n : ℕ) (at : placeOf (inserts e) p own ≡ At h n) where
+  module _ (h : Holder) (n : ℕ) (at : placeIn (inserts e) p own ≡ At h n) where
     -- THE BODIES AFTER THE EDIT
     pub edit-flat : flat (reformed (editModel o p e (s .form)) s) ≡ splicedForm o (partAfter (renameEdit index e) h n (particlesOf own)) (flat s)
     edit-flat =
@@ -125,7 +125,7 @@ module _ (s : Store) (o : ℕ) (p : List ℕ) (e : Edit Bytes) (x : Spot Bytes) 
     context = renameAround index (x .context)
 
     same-place : At (holder top 0 context) (offset context) ≡ At h n
-    same-place = sym (place-here index e p (members (definitionAt o (s .form))) x found) ∙ ap (placeOf (inserts e) p) (sym own-bytes) ∙ at
+    same-place = sym (place-here index e p (members (definitionAt o (s .form))) x found) ∙ ap (placeIn (inserts e) p) (sym own-bytes) ∙ at
 
     own-long : length own ≡ particleSize * length (spread 0 (plug context (rename index (x .picked))))
     own-long =
@@ -143,7 +143,7 @@ module _ (s : Store) (o : ℕ) (p : List ℕ) (e : Edit Bytes) (x : Spot Bytes) 
         length-after (renameEdit index e) h n (particlesOf own) (omega (arith, stands, inside, own-count)) some-there ∙ ap (lengthAfter (renameEdit index e)) own-count
 
     -- what the writer of the particles asks for
-    pub edit-body : Every SmallParticle (flat (reformed (editModel o p e (s .form)) s) .particles) → Body (renameEdit index e) h n first many parts
+    pub edit-body : Every SmallParticle (flat (reformed (editModel o p e (s .form)) s) .particles) → EditPart (renameEdit index e) h n first many parts
     unfolding Fitting splicedForm
     edit-body small =
         let starts : holder top 0 context ≡ h = cc same-place in

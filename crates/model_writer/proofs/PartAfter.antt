@@ -15,12 +15,12 @@ use Rattle.rules.specs.Place.{Context, here, past, over, into, plug, Found as S
 use Rattle.rules.specs.Edit.{Edit, insert, remove, quantify, convert, flatten, firstMembers, laterMembers, hasMembers, groupUnlike, edited, place, placeOf as placed, modelAfter, _⊕_}
 use Rattle.rules.proofs.Children.{misplaced}
 use Rattle.rules.proofs.RenamingPlaces.{plug-rename}
-use Rattle.history.proofs.ModelAfter.{place-of, place-right}
+use Rattle.change_laws.proofs.ModelAfter.{place-of, place-right}
 use Rattle.model.specs.declared.place.Holder.{Holder}
 use Rattle.model.specs.declared.place.Found.{Found}
 use Rattle.model.specs.declared.place.Found.the-variants.{At, Absent}
 use Rattle.model.specs.Members.{particlesOf}
-use Rattle.model.specs.Places.{Particles, top, placeOf, lastBy}
+use Rattle.model.specs.Places.{Particles, top, placeIn, lastBy}
 use Rattle.model.specs.Positions.{spread, offset, holder, spotIn, leading, trailing, level}
 use Rattle.model.proofs.PositionLaws.{spread-plug, length-leading}
 use Rattle.model.proofs.NamedPlaces.{renameFound, find-gap-named, find-nth-named}
@@ -30,7 +30,7 @@ use Rattle.model_writer.proofs.TailAfter.{Stops, stops-spread, stops-ap
 use Rattle.model_writer.proofs.HeadAfter.{start-top, depth-holder, head-after, count-after}
 
 -- ---- after a place no particle of its list's depth or deeper is left
-deep-level : (d : ℕ) (c : Context ℕ) → d ≤ level d c
+pub deep-level : (d : ℕ) (c : Context ℕ) → d ≤ level d c
 deep-level d here = omega arith
 deep-level d (past q i c) = deep-level d c
 deep-level d (over q k ms c) = deep-level d c
@@ -128,7 +128,7 @@ module _ (f : Bytes → ℕ) where
   spot-named flatten p ms = find-nth-named f p ms
 
   pub place-here : (e : Edit Bytes) (p : List ℕ) (ms : Members Bytes) (x : Spot Bytes) → placed e p ms ≡ some x
-      → placeOf (inserts e) p (each particleBytes (spread 0 (rename f ms))) ≡ At (holder top 0 (renameAround f (x .context))) (offset (renameAround f (x .context)))
+      → placeIn (inserts e) p (each particleBytes (spread 0 (rename f ms))) ≡ At (holder top 0 (renameAround f (x .context))) (offset (renameAround f (x .context)))
   unfolding placed
   place-here e p ms x at = place-written (inserts e) p (rename f ms) ∙ by (leb (length p) 5) refl
     where
@@ -163,11 +163,11 @@ suits-placed flatten c (group q k ms t) h = refl
 
 -- THE PART AFTER AN EDIT: from the bytes of the part before it and the place found in them
 pub edited-part : (f : Bytes → ℕ) (e : Edit Bytes) (p : List ℕ) (ms : Members Bytes) (x : Spot Bytes) (bs : Bytes) (h : Holder) (at : ℕ)
-    → bs ≡ each particleBytes (spread 0 (rename f ms)) → placed e p ms ≡ some x → suits e (x .picked) ≡ true → placeOf (inserts e) p bs ≡ At h at
+    → bs ≡ each particleBytes (spread 0 (rename f ms)) → placed e p ms ≡ some x → suits e (x .picked) ≡ true → placeIn (inserts e) p bs ≡ At h at
     → spread 0 (rename f (modelAfter e x)) ≡ partAfter (renameEdit f e) h at (particlesOf bs)
 edited-part f e p ms x bs h at eb found fits w =
     let c : Context ℕ = renameAround f (x .context) in
-    let same : At (holder top 0 c) (offset c) ≡ At h at = sym (place-here f e p ms x found) ∙ ap (placeOf (inserts e) p) (sym eb) ∙ w in
+    let same : At (holder top 0 c) (offset c) ≡ At h at = sym (place-here f e p ms x found) ∙ ap (placeIn (inserts e) p) (sym eb) ∙ w in
     let held : holder top 0 c ≡ h = cc same in
     let stands : offset c ≡ at = cc same in
     let old : spread 0 (plug c (rename f (x .picked))) ≡ particlesOf bs =

@@ -6,10 +6,10 @@ use mathlib.Core.Bool.{true, false}
 use mathlib.Core.List.{[], _++_}
 use lib.ListN.{length, drop, length-drop}
 use Rattle.rules.specs.declared.Quantifier.{Quantifier}
-use Rattle.rules.specs.declared.Quantifier.the-variants.{None, Qmark, Star, Plus}
+use Rattle.rules.specs.declared.Quantifier.the-variants.{None}
 use Rattle.rules.specs.declared.GroupKind.{GroupKind}
 use Rattle.rules.specs.Bytes.{Bytes}
-use Rattle.rules.specs.Layout.{quantifierCode, particleBytes, each, particleSize}
+use Rattle.rules.specs.Layout.{particleBytes, each, particleSize}
 use Rattle.rules.specs.Decode.{readParticle}
 use Rattle.rules.specs.Edit.{insert, remove, quantify, convert, flatten}
 use Rattle.model.specs.Members.{particlesOf}
@@ -17,15 +17,9 @@ use Rattle.model.specs.Places.{Particles}
 use Rattle.model.specs.Positions.{elementParticle, groupParticle}
 use Rattle.model.proofs.MembersLaws.{particles-few, particles-more}
 use Rattle.model_writer.specs.declared.Edit.{Edit as EditCode}
-use Rattle.model_writer.specs.PartAfter.{lower, requantify, moved, tailAfter}
+use Rattle.model_writer.specs.PartAfter.{lower, requantified, moved, tailAfter}
 use Rattle.model_writer.specs.Writing.{editOf, shift, Fitting, Tail}
 use Rattle.model_writer.proofs.WritingLaws.{whole, particles-rest}
-
-pub code-small : (q : Quantifier) → quantifierCode q < 4
-code-small None = omega arith
-code-small Qmark = omega arith
-code-small Star = omega arith
-code-small Plus = omega arith
 
 rest-whole : (s : Bytes) → length s % particleSize ≡ 0 → length (drop particleSize s) % particleSize ≡ 0
 rest-whole s h = omega (arith, length-drop particleSize s)
@@ -58,11 +52,11 @@ module _ {d : ℕ} {ys : Bytes} {at : ℕ} where
   requantified-none {q} v l = ap (λ (xs : Particles). each particleBytes (tailAfter (quantify q) d xs)) (particles-few ys l)
 
   pub requantified-bytes : {q : Quantifier} → Tail (quantify q) d ys at → particleSize ≤ length ys
-      → each particleBytes (tailAfter (quantify q) d (particlesOf ys)) ≡ particleBytes (requantify q (readParticle ys)) ++ drop particleSize ys
+      → each particleBytes (tailAfter (quantify q) d (particlesOf ys)) ≡ particleBytes (requantified q (readParticle ys)) ++ drop particleSize ys
   unfolding tailAfter
   requantified-bytes {q} v l =
       ap (λ (xs : Particles). each particleBytes (tailAfter (quantify q) d xs)) (particles-more ys l)
-      ∙ ap (λ (s : Bytes). particleBytes (requantify q (readParticle ys)) ++ s) (whole (drop particleSize ys) (rest-whole ys (v .whole)))
+      ∙ ap (λ (s : Bytes). particleBytes (requantified q (readParticle ys)) ++ s) (whole (drop particleSize ys) (rest-whole ys (v .whole)))
 
   -- 6
   pub grouped-index : {k : GroupKind} {n : ℕ} → Tail (convert k n) d ys at → n < 256

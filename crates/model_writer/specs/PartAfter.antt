@@ -50,8 +50,8 @@ redeep g x = record { depth = g (x .depth); row = x .row }
 abbrev pub recount : (ℕ → ℕ) → Deep FlatParticle → Deep FlatParticle
 recount g x = record { depth = x .depth; row = record { sort = x .row .sort; quantifier = x .row .quantifier; index = g (x .row .index) } }
 
-abbrev pub requantify : Quantifier → Deep FlatParticle → Deep FlatParticle
-requantify r x = record { depth = x .depth; row = record { sort = x .row .sort; quantifier = quantifierCode r; index = x .row .index } }
+abbrev pub requantified : Quantifier → Deep FlatParticle → Deep FlatParticle
+requantified r x = record { depth = x .depth; row = record { sort = x .row .sort; quantifier = quantifierCode r; index = x .row .index } }
 
 abbrev pub lower : ℕ → ℕ
 lower n = n - 1
@@ -67,7 +67,7 @@ unfoldable pub tailAfter : Edit ℕ → ℕ → Particles → Particles
 tailAfter (insert q i) d ys = elementParticle d q i ∷ ys
 tailAfter remove d ys = drop 1 ys
 tailAfter (quantify r) d [] = []
-tailAfter (quantify r) d (y ∷ ys) = requantify r y ∷ ys
+tailAfter (quantify r) d (y ∷ ys) = requantified r y ∷ ys
 tailAfter (convert j n) d ys = groupParticle d None j n ∷ moved suc d n ys
 tailAfter flatten d ys = moved lower d 0 (drop 1 ys)
 

@@ -60,15 +60,15 @@ pub record Part (e : Edit ℕ) (h : Holder) (n : ℕ) (part : Bytes) : Type 0 wh
   pub fitting : Fitting (partAfter e h n (particlesOf part))
 
 -- the bytes of k particles from number `first` on
-abbrev pub partIn : ℕ → ℕ → Bytes → Bytes
-partIn first k parts = take (particleSize * k) (drop (particleSize * first) parts)
+abbrev pub particleRange : ℕ → ℕ → Bytes → Bytes
+particleRange first k parts = take (particleSize * k) (drop (particleSize * first) parts)
 
 -- .. which are an edit's part
-pub record Body (e : Edit ℕ) (h : Holder) (n first k : ℕ) (parts : Bytes) : Type 0 where
+pub record EditPart (e : Edit ℕ) (h : Holder) (n first k : ℕ) (parts : Bytes) : Type 0 where
   pub whole : length parts % particleSize ≡ 0
   pub inside : particleSize * (first + k) ≤ length parts
-  pub part : Part e h n (partIn first k parts)
+  pub part : Part e h n (particleRange first k parts)
 
 -- ---- the ceiling of depth
-unfoldable pub within : Particles → Bool
-within xs = all (λ (x : Deep FlatParticle). leb (x .depth) 4) xs
+unfoldable pub depthsWithin : Particles → Bool
+depthsWithin xs = all (λ (x : Deep FlatParticle). leb (x .depth) 4) xs

@@ -10,7 +10,7 @@ ghost use Rattle.rules.specs.Edit.{insert, quantify, convert};
 ghost use Rattle.rules.specs.Decode.{readParticle};
 ghost use Rattle.codec.specs.Laid.{Laid};
 ghost use Rattle.model.specs.Members.{particlesOf};
-ghost use Rattle.model_writer.specs.Writing.{editOf, shift, passing, Fitting, Tail, Head, Part, partIn, Body};
+ghost use Rattle.model_writer.specs.Writing.{editOf, shift, passing, Fitting, Tail, Head, Part, particleRange, EditPart};
 ghost use Rattle.model_writer.specs.Spliced.{spliced};
 ghost use Rattle.model_writer.specs.PartAfter.{redeep, recount, moved, tailAfter, countAfter, recounted, partAfter};
 
@@ -255,8 +255,8 @@ pub fn put_particles(
     out: &mut [u8],
     at: usize,
 ) -> usize
-    requires { ⌜ Body (editOf edit) holder n first k (now parts) × (at + particleSize * length (now parts) < 2305843009213693952) ⌝ }
-    ensures { λ r. ⌜ Laid (each particleBytes (spliced first k (partAfter (editOf edit) holder n (particlesOf (partIn first k (now (parts .entry))))) (particlesOf (now (parts .entry))))) (now (out .entry)) at r (now (out .exit)) ⌝ }
+    requires { ⌜ EditPart (editOf edit) holder n first k (now parts) × (at + particleSize * length (now parts) < 2305843009213693952) ⌝ }
+    ensures { λ r. ⌜ Laid (each particleBytes (spliced first k (partAfter (editOf edit) holder n (particlesOf (particleRange first k (now (parts .entry))))) (particlesOf (now (parts .entry))))) (now (out .entry)) at r (now (out .exit)) ⌝ }
 {
     let next = codec::put(layout::window(parts, 0, PARTICLE_SIZE * first), out, at);
     let own = layout::window(parts, PARTICLE_SIZE * first, PARTICLE_SIZE * k);

@@ -17,14 +17,14 @@ use Rattle.rules.specs.declared.GroupKind.the-variants.{Sequence, Choice}
 use Rattle.rules.specs.Bytes.{numbers}
 use Rattle.rules.specs.Model.{Members, done, el, group}
 use Rattle.rules.specs.Automaton.{single, join, quantify, facts}
-use Rattle.sets.specs.Sets.{has, bit, union, given}
+use Rattle.sets.specs.Sets.{has, bit, union, wholeIf}
 use Rattle.sets.proofs.Laws.{has-none, has-first, has-bit, has-union, has-given}
 use Rattle.model.specs.Steps.{steps, finishes}
 use Rattle.model.proofs.FactsLaws.{facts-nothing, and-true, or-never}
 use Rattle.next_children.specs.declared.Nexts.{Nexts}
 use Rattle.next_children.specs.Nexts.{Told}
 use Rattle.next_children.specs.Names.{After}
-use Rattle.next_children.specs.Line.{Line, Kept, Filled, Laid}
+use Rattle.next_children.specs.Line.{NextsLine, Kept, Filled, NextsLaid}
 
 -- ---- what a word's first can be does not depend on x
 record Alike (f g : Facts) : Type 0 where
@@ -70,7 +70,7 @@ module _ (ms : Members ℕ) (x : ℕ) (r : Nexts) (t : Told r (λ y. facts numbe
 pub record Filling (n : ℕ) (ms : Members ℕ) (t : List ℕ) (at x ends : ℕ) (t′ : List ℕ) : Type 0 where
   pub low : x ≤ n
   pub long : length t′ ≡ length t
-  pub laid : Laid ms t at x ends t′
+  pub laid : NextsLaid ms t at x ends t′
 
 pub filling-starts : (n : ℕ) (ms : Members ℕ) (t : List ℕ) (at : ℕ) → Filling n ms t at 0 0 t
 filling-starts n ms t at =
@@ -103,7 +103,7 @@ ends-more x last old b f eb eo = by (ltb last x) refl (eqb last x) refl
         rw (eo, e, q, le-ltb last (suc x) (omega (arith, ltb-false last x e, z))) (never b)
 
 module _ (n : ℕ) (ms : Members ℕ) (t : List ℕ) (at x ends : ℕ) (t′ : List ℕ) (l : Filling n ms t at x ends t′) (small : n ≤ 64) (room : at + 67 ≤ length t) where
-  pub filling-on : x < n → (r : Nexts) → After ms x r → (one more all : ℕ) → one ≡ bit x → more ≡ given (r .last) one → all ≡ union ends more
+  pub filling-on : x < n → (r : Nexts) → After ms x r → (one more all : ℕ) → one ≡ bit x → more ≡ wholeIf (r .last) one → all ≡ union ends more
       → Filling n ms t at (x + 1) all (set t′ (at + 1 + x) (r .follow))
   filling-on h r after one more all e₁ e₂ e₃ =
       record {
@@ -113,7 +113,7 @@ module _ (n : ℕ) (ms : Members ℕ) (t : List ℕ) (at x ends : ℕ) (t′ : L
             record {
               next-is = λ last y k m. by last y k m (eqb last x) refl;
               ends-is =
-                  λ last k. ap (λ (s : ℕ). has s last) (e₃ ∙ ap (union ends) (e₂ ∙ ap (given (r .last)) e₁)) ∙ has-union ends (given (r .last) (bit x)) last
+                  λ last k. ap (λ (s : ℕ). has s last) (e₃ ∙ ap (union ends) (e₂ ∙ ap (wholeIf (r .last)) e₁)) ∙ has-union ends (wholeIf (r .last) (bit x)) last
                   ∙ ap (λ (b : Bool). has ends last || b) (has-given (r .last) (bit x) last ∙ ap (λ (b : Bool). r .last && b) (has-bit x last k))
                   ∙ ends-more x last (has ends last) (r .last) (λ i. finishes ms (suc i)) (after .last-is) (l .laid .ends-is last k)
                   ∙ ap (λ (i : ℕ). ltb last i && finishes ms (suc last)) (sym (add-one x));
@@ -129,12 +129,12 @@ module _ (n : ℕ) (ms : Members ℕ) (t : List ℕ) (at x ends : ℕ) (t′ : L
           let z : last ≡ x → ⊥ = eqb-false last x e in
           ap (λ (s : ℕ). has s y) (getD-set-other t′ (at + 1 + x) (at + 1 + last) (r .follow) 0 (λ q. z (omega arith))) ∙ l .laid .next-is last y (omega (arith, z)) m
 
-  pub filling-ends : n ≤ x → Laid ms t at n ends t′
-  filling-ends h = let e : x ≡ n = omega (arith, l .low) in subst (λ (i : ℕ). Laid ms t at i ends t′) e (l .laid)
+  pub filling-ends : n ≤ x → NextsLaid ms t at n ends t′
+  filling-ends h = let e : x ≡ n = omega (arith, l .low) in subst (λ (i : ℕ). NextsLaid ms t at i ends t′) e (l .laid)
 
 -- ---- the whole line
-module _ (n : ℕ) (ms : Members ℕ) (t : List ℕ) (at ends : ℕ) (t′ : List ℕ) (l : Laid ms t at n ends t′) (long : length t′ ≡ length t) (small : n ≤ 64) (room : at + 67 ≤ length t)
-    (none : Nexts) (told : Told none (λ y. facts numbers Sequence ms 0 y)) (more : ℕ) (e : more ≡ given (none .nothing) 1) where
+module _ (n : ℕ) (ms : Members ℕ) (t : List ℕ) (at ends : ℕ) (t′ : List ℕ) (l : NextsLaid ms t at n ends t′) (long : length t′ ≡ length t) (small : n ≤ 64) (room : at + 67 ≤ length t)
+    (none : Nexts) (told : Told none (λ y. facts numbers Sequence ms 0 y)) (more : ℕ) (e : more ≡ wholeIf (none .nothing) 1) where
   abbrev written : List ℕ
   written = set (set (set t′ at (none .first)) (at + 65) ends) (at + 66) more
 

@@ -1,6 +1,6 @@
 -- An element that no particle names has no place in a word of the model.
 use mathlib.Core.Path.{_≡_, refl, sym, ap, _∙_}
-use mathlib.Core.Bool.{Bool, true, false, _&&_, _||_, false≢true}
+use mathlib.Core.Bool.{Bool, true, false, _&&_, false≢true}
 use Prim.Native.Nat.{ℕ, zero, suc, _-_, _<_, _≤_}
 use native.Mathlib.Omega.{arith}
 use borrow.Author.Tests.{ltb-true, ltb-false, eqb-true, eqb-false, ne-eqb, eq-eqb}
@@ -19,13 +19,14 @@ use Rattle.codec.proofs.Writers.{tail-seen}
 use Rattle.sets.specs.Sets.{has, bit, union}
 use Rattle.sets.proofs.Laws.{has-none, has-bit, has-union}
 use Rattle.model.specs.Particle.{whatOf, particleOf, kindIn, particleFacts, firstFacts}
-use Rattle.model.specs.Members.{membersFrom, membersOf}
+use Rattle.model.specs.Members.{membersFrom, allMembers}
 use Rattle.model.specs.Steps.{steps, finishes}
 use Rattle.model.proofs.FactsLaws.{facts-few, facts-stop, facts-here}
 use Rattle.model.proofs.MembersLaws.{members-deeper}
 use Rattle.next_children.specs.declared.Nexts.{Nexts}
 use Rattle.next_children.specs.Nexts.{Told, nextsEmpty}
 use Rattle.next_children.specs.Names.{Never, Absent, FirstName, NamesIn, After}
+use Rattle.rules.proofs.Words.{or-split}
 
 -- ---- as the rules build facts
 never-empty : (k : GroupKind) → Never (empty k)
@@ -93,15 +94,11 @@ pub record Naming (s t : Bytes) (r : ℕ) : Type 0 where
 pub naming-starts : (s : Bytes) → Naming s s 0
 naming-starts s = record { absent = λ x h f a. a }
 
-or-not : (a b : Bool) → (a || b) ≡ false → (a ≡ false) × (b ≡ false)
-or-not true b e = absurd (false≢true (sym e))
-or-not false b e = (refl, e)
-
 pub naming-on : (s t : Bytes) (r : ℕ) → Naming s t r → particleSize ≤ length t → (first r′ : ℕ) → FirstName t first → r′ ≡ union r first → Naming s (take (length t - particleSize) (drop particleSize t)) r′
 naming-on s t r n h first r′ f e =
     record {
       absent =
-          λ x k out a. let o : (has r x ≡ false) × (has first x ≡ false) = or-not (has r x) (has first x) (sym (has-union r first x) ∙ ap (λ (i : ℕ). has i x) (sym e) ∙ out) in
+          λ x k out a. let o : (has r x ≡ false) × (has first x ≡ false) = or-split (has r x) (has first x) (sym (has-union r first x) ∙ ap (λ (i : ℕ). has i x) (sym e) ∙ out) in
           n .absent x k (o .0) (absent-on x t h (f .other x k (o .1)) (rw (tail-seen t particleSize) at a));
     }
 
@@ -109,11 +106,11 @@ pub naming-ends : (s t : Bytes) (r : ℕ) → Naming s t r → length t < partic
 naming-ends s t r n h = record { absent = λ x k out. n .absent x k out (absent-few x t h) }
 
 -- ---- what follows a child
-pub after-named : (ms : Bytes) (x : ℕ) (r : Nexts) → Told r (λ y. facts numbers Sequence (membersOf ms) x y) → After (membersOf ms) x r
+pub after-named : (ms : Bytes) (x : ℕ) (r : Nexts) → Told r (λ y. facts numbers Sequence (allMembers ms) x y) → After (allMembers ms) x r
 unfolding steps finishes
 after-named ms x r t = record { last-is = t .last-is x; follow-is = λ y h. t .follow-is y h }
 
-pub after-other : (ms : Bytes) (names x : ℕ) (b : Bool) (r : Nexts) → NamesIn ms names → x < 64 → b ≡ has names x → b ≡ false → r ≡ nextsEmpty Choice → After (membersOf ms) x r
+pub after-other : (ms : Bytes) (names x : ℕ) (b : Bool) (r : Nexts) → NamesIn ms names → x < 64 → b ≡ has names x → b ≡ false → r ≡ nextsEmpty Choice → After (allMembers ms) x r
 unfolding steps finishes
 after-other ms names x b r n h e f er =
     let a : Absent x ms = n .absent x h (sym e ∙ f) in

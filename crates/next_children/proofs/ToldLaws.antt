@@ -13,7 +13,7 @@ use Rattle.rules.specs.Bytes.{Bytes, numbers}
 use Rattle.rules.specs.Decode.{readParticle}
 use Rattle.rules.specs.Automaton.{single, empty, join, quantify, facts}
 use Rattle.rules.specs.Layout.{particleSize}
-use Rattle.sets.specs.Sets.{has, union, given}
+use Rattle.sets.specs.Sets.{has, union, wholeIf}
 use Rattle.sets.proofs.Laws.{has-none, has-bit, has-union, has-given}
 use Rattle.model.specs.declared.What.the-variants.{Element, Group}
 use Rattle.model.specs.declared.Particle.{Particle}
@@ -26,8 +26,8 @@ use Rattle.next_children.specs.Nexts.{Told, nextsSingle, nextsEmpty, nex
 -- ---- as the rules build facts
 module _ (y : ℕ) where
   -- a union with a set that is there on a condition
-  has-more : (a : ℕ) (b : Bool) (s : ℕ) (p c q : Bool) → has a y ≡ p → b ≡ c → has s y ≡ q → has (union a (given b s)) y ≡ (p || (c && q))
-  has-more a b s p c q e f g = has-union a (given b s) y ∙ ap₂ (λ (i j : Bool). i || j) e (has-given b s y ∙ ap₂ (λ (i j : Bool). i && j) f g)
+  has-more : (a : ℕ) (b : Bool) (s : ℕ) (p c q : Bool) → has a y ≡ p → b ≡ c → has s y ≡ q → has (union a (wholeIf b s)) y ≡ (p || (c && q))
+  has-more a b s p c q e f g = has-union a (wholeIf b s) y ∙ ap₂ (λ (i j : Bool). i || j) e (has-given b s y ∙ ap₂ (λ (i j : Bool). i && j) f g)
 
   has-both : (a b : ℕ) (p q : Bool) → has a y ≡ p → has b y ≡ q → has (union a b) y ≡ (p || q)
   has-both a b p q e f = has-union a b y ∙ ap₂ (λ (i j : Bool). i || j) e f
@@ -57,7 +57,7 @@ told-join Choice r s f g t u =
       follow-is = λ y h. has-both y (r .follow) (s .follow) (f y .follow) (g y .follow) (t .follow-is y h) (u .follow-is y h);
     }
 
-told-again : (r : Nexts) (f : ℕ → Facts) → Told r f → (y : ℕ) → y < 64 → has (union (r .follow) (given (r .last) (r .first))) y ≡ (f y .follow || (f y .last && f y .first))
+told-again : (r : Nexts) (f : ℕ → Facts) → Told r f → (y : ℕ) → y < 64 → has (union (r .follow) (wholeIf (r .last) (r .first))) y ≡ (f y .follow || (f y .last && f y .first))
 told-again r f t y h = has-more y (r .follow) (r .last) (r .first) (f y .follow) (f y .last) (f y .first) (t .follow-is y h) (t .last-is y) (t .first-is y h)
 
 told-quantify : (q : Quantifier) (r : Nexts) (f : ℕ → Facts) → Told r f → Told (nextsQuantify q r) (λ y. quantify q (f y))

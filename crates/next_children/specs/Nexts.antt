@@ -8,7 +8,7 @@ use Rattle.rules.specs.declared.Quantifier.{Quantifier}
 use Rattle.rules.specs.declared.Quantifier.the-variants.{None, Qmark, Star, Plus}
 use Rattle.rules.specs.declared.GroupKind.{GroupKind}
 use Rattle.rules.specs.declared.GroupKind.the-variants.{Sequence, Choice}
-use Rattle.sets.specs.Sets.{has, bit, union, given}
+use Rattle.sets.specs.Sets.{has, bit, union, wholeIf}
 use Rattle.next_children.specs.declared.Nexts.{Nexts}
 
 -- r says of each next child y below 64 what the facts f y say
@@ -30,9 +30,9 @@ abbrev pub nextsJoin : GroupKind → Nexts → Nexts → Nexts
 nextsJoin Sequence f g =
     record {
       nothing = f .nothing && g .nothing;
-      first = union (f .first) (given (f .nothing) (g .first));
+      first = union (f .first) (wholeIf (f .nothing) (g .first));
       last = g .last || (g .nothing && f .last);
-      follow = union (union (f .follow) (g .follow)) (given (f .last) (g .first));
+      follow = union (union (f .follow) (g .follow)) (wholeIf (f .last) (g .first));
     }
 nextsJoin Choice f g =
     record {
@@ -45,5 +45,5 @@ nextsJoin Choice f g =
 abbrev pub nextsQuantify : Quantifier → Nexts → Nexts
 nextsQuantify None f = f
 nextsQuantify Qmark f = record { nothing = true; first = f .first; last = f .last; follow = f .follow }
-nextsQuantify Star f = record { nothing = true; first = f .first; last = f .last; follow = union (f .follow) (given (f .last) (f .first)) }
-nextsQuantify Plus f = record { nothing = f .nothing; first = f .first; last = f .last; follow = union (f .follow) (given (f .last) (f .first)) }
+nextsQuantify Star f = record { nothing = true; first = f .first; last = f .last; follow = union (f .follow) (wholeIf (f .last) (f .first)) }
+nextsQuantify Plus f = record { nothing = f .nothing; first = f .first; last = f .last; follow = union (f .follow) (wholeIf (f .last) (f .first)) }

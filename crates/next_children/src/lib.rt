@@ -13,10 +13,10 @@ ghost use Rattle.rules.specs.Bytes.{numbers};
 ghost use Rattle.rules.specs.Layout.{particleSize};
 ghost use Rattle.rules.specs.Automaton.{facts};
 ghost use Rattle.model.specs.Particle.{firstFacts};
-ghost use Rattle.model.specs.Members.{membersFrom, membersOf};
+ghost use Rattle.model.specs.Members.{membersFrom, allMembers};
 ghost use Rattle.next_children.specs.Nexts.{nextsSingle, nextsEmpty, nextsJoin, nextsQuantify, Told};
 ghost use Rattle.next_children.specs.Names.{FirstName, NamesIn, After};
-ghost use Rattle.next_children.specs.Line.{Laid, Filled};
+ghost use Rattle.next_children.specs.Line.{NextsLaid, Filled};
 
 /// Of a part of a model and a last child x: whether it accepts nothing, what can be a word's first, whether x can be a word's
 /// last, and what can follow x directly.
@@ -158,7 +158,7 @@ pub fn nexts_from(s: &[u8], d: usize, kind: GroupKind, x: usize) -> Nexts
 
 /// Of a whole model.
 pub fn nexts_of(ms: &[u8], x: usize) -> Nexts
-    ensures { λ r. ⌜ Told r (λ y. facts numbers Sequence (membersOf (now (ms .entry))) x y) ⌝ }
+    ensures { λ r. ⌜ Told r (λ y. facts numbers Sequence (allMembers (now (ms .entry))) x y) ⌝ }
 {
     nexts_from(ms, 0, GroupKind::Sequence, x)
 }
@@ -189,7 +189,7 @@ fn names_in(ms: &[u8]) -> u64
 // What may follow x, and whether a child is owed after it; the model need not be read where it does not name x.
 fn after_child(ms: &[u8], names: u64, x: usize) -> Nexts
     requires { ⌜ (x < 64) × NamesIn (now ms) names ⌝ }
-    ensures { λ r. ⌜ After (membersOf (now (ms .entry))) x r ⌝ }
+    ensures { λ r. ⌜ After (allMembers (now (ms .entry))) x r ⌝ }
 {
     if sets::contains(names, x) {
         return nexts_of(ms, x);
@@ -200,7 +200,7 @@ fn after_child(ms: &[u8], names: u64, x: usize) -> Nexts
 // Writes at `at + 1 + x` what may follow the child x, for each x below n; gives those after which no child is owed.
 fn fill_after(ms: &[u8], n: usize, at: usize, t: &mut [u64]) -> u64
     requires { ⌜ (n ≤ 64) × (at + 67 ≤ length (now t)) ⌝ }
-    ensures { λ r. ⌜ Laid (membersOf (now (ms .entry))) (now (t .entry)) at n r (now (t .exit)) ⌝ }
+    ensures { λ r. ⌜ NextsLaid (allMembers (now (ms .entry))) (now (t .entry)) at n r (now (t .exit)) ⌝ }
 {
     let names = names_in(ms);
     let mut ends: u64 = 0;
@@ -218,7 +218,7 @@ fn fill_after(ms: &[u8], n: usize, at: usize, t: &mut [u64]) -> u64
 /// at 65 those after which no child is owed, at 66 whether none is owed at all.
 pub fn fill(ms: &[u8], n: usize, at: usize, t: &mut [u64])
     requires { ⌜ (n ≤ 64) × (at + 67 ≤ length (now t)) ⌝ }
-    ensures { λ _. ⌜ Filled n (membersOf (now (ms .entry))) (now (t .entry)) at (now (t .exit)) ⌝ }
+    ensures { λ _. ⌜ Filled n (allMembers (now (ms .entry))) (now (t .entry)) at (now (t .exit)) ⌝ }
 {
     let none = nexts_of(ms, 0);
     let ends = fill_after(ms, n, at, t);

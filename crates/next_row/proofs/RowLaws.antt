@@ -20,7 +20,7 @@ use Rattle.form_table.specs.Every.{every}
 use Rattle.form_table.specs.Table.{wants, Needed, freedOf}
 use Rattle.form_table.proofs.Numbers.{every-same}
 use Rattle.next_row.specs.declared.Level.{Level}
-use Rattle.next_row.specs.Judge.{spare, childMay, childrenEnd, attributeMay, freed, rowMay, may, ends, after, entered}
+use Rattle.next_row.specs.Judge.{spare, childMay, childrenEnd, attributeMay, freed, rowMay, may, ends, levelAfter, entered}
 
 -- a number of two bytes
 pub number-small : (s : Bytes) (at : ℕ) → ((i : ℕ) → getD s i 0 < 256) → numberAt at 2 s < 65536
@@ -28,10 +28,10 @@ number-small s at h = let a = h at in let b = h (at + 1) in omega (arith, number
 
 -- ---- levels
 module _ (l : Level) (sort index s j : ℕ) (es : s ≡ sort) (ej : j ≡ index) where
-  pub after-attribute : s ≡ 2 → _≡_ {A = Level} (record { holds = l .holds; index = l .index; seen = j + 2; last = l .last }) (after (eqb sort 2) l index)
+  pub after-attribute : s ≡ 2 → _≡_ {A = Level} (record { holds = l .holds; index = l .index; seen = j + 2; last = l .last }) (levelAfter (eqb sort 2) l index)
   after-attribute e = let z : j + 2 ≡ suc (suc j) = omega arith in rw (← es, ← ej, eq-eqb s 2 e, z)
 
-  pub after-child : (s ≡ 2 → ⊥) → _≡_ {A = Level} (record { holds = l .holds; index = l .index; seen = 0; last = j + 1 }) (after (eqb sort 2) l index)
+  pub after-child : (s ≡ 2 → ⊥) → _≡_ {A = Level} (record { holds = l .holds; index = l .index; seen = 0; last = j + 1 }) (levelAfter (eqb sort 2) l index)
   after-child e = rw (← es, ← ej, ne-eqb s 2 e, add-one j)
 
 module _ (sort index s : ℕ) (es : s ≡ sort) where

@@ -22,17 +22,17 @@ childrenEnd (suc zero) ms last = not (eqb last 0)
 childrenEnd (suc (suc k)) ms last = finishes ms last
 
 -- the level after a row, by whether it is an attribute's; and the level that a row opens, by whether it is an element
-abbrev pub after : Bool → Level → ℕ → Level
-after true l j = record { holds = l .holds; index = l .index; seen = suc (suc j); last = l .last }
-after false l j = record { holds = l .holds; index = l .index; seen = 0; last = suc j }
+abbrev pub levelAfter : Bool → Level → ℕ → Level
+levelAfter true l j = record { holds = l .holds; index = l .index; seen = suc (suc j); last = l .last }
+levelAfter false l j = record { holds = l .holds; index = l .index; seen = 0; last = suc j }
 
 abbrev pub entered : Bool → ℕ → Level
 entered true i = record { holds = 1; index = i; seen = 1; last = 0 }
 entered false i = record { holds = 2; index = 0; seen = 0; last = 0 }
 
 -- the place of the documents
-abbrev pub ground : Level
-ground = record { holds = 0; index = 0; seen = 0; last = 0 }
+abbrev pub groundLevel : Level
+groundLevel = record { holds = 0; index = 0; seen = 0; last = 0 }
 
 module _ (f : IndexForm) where
   -- attribute j may be missing below definition i
@@ -72,6 +72,6 @@ module _ (f : IndexForm) where
       record {
         enter = λ r. entered (eqb (r .sort) 1) (r .index);
         may = λ l r. may (l .holds) l r;
-        next = λ l r. after (eqb (r .sort) 2) l (r .index);
+        next = λ l r. levelAfter (eqb (r .sort) 2) l (r .index);
         ends = λ l. ends (l .holds) l;
       }

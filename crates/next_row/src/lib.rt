@@ -5,10 +5,10 @@ ghost use lib.Dec.{eqb};
 ghost use lib.ListN.{length};
 ghost use Rattle.rules.specs.Decode.{readRow};
 ghost use Rattle.layout.specs.Bodies.{Width};
-ghost use Rattle.model.specs.Members.{membersOf};
+ghost use Rattle.model.specs.Members.{allMembers};
 ghost use Rattle.form_index.specs.Reading.{definitionIn, modelPart, attributesOf, indexForm};
 ghost use Rattle.form_table.specs.Table.{Needed, Modelled, Tabled};
-ghost use Rattle.next_row.specs.Judge.{childMay, childrenEnd, attributeMay, rowMay, may, ends, after, entered};
+ghost use Rattle.next_row.specs.Judge.{childMay, childrenEnd, attributeMay, rowMay, may, ends, levelAfter, entered};
 
 /// A place that is open. `holds`: 0 documents, 1 the rows below an element, 2 nothing. Of an element: its definition, 1 and the
 /// first attribute that may still come (0: none may), and 1 and its last child's index (0: no child yet). 12 bytes.
@@ -32,7 +32,7 @@ fn child_may(
     index: usize,
 ) -> bool
     requires { ⌜ (n ≤ 64) × (i < n) × (4352 ≤ length (now table)) × Modelled n (now defs) (now parts) n (now table) ⌝ }
-    ensures { λ r. ⌜ r ≡ childMay (definitionIn (now (defs .entry)) i .kind) (membersOf (modelPart (now (defs .entry)) (now (parts .entry)) i)) last sort index ⌝ }
+    ensures { λ r. ⌜ r ≡ childMay (definitionIn (now (defs .entry)) i .kind) (allMembers (modelPart (now (defs .entry)) (now (parts .entry)) i)) last sort index ⌝ }
 {
     let k = form_index::kind_of(defs, i);
     match k {
@@ -45,7 +45,7 @@ fn child_may(
 // Whether the children may end with `last`.
 fn children_end(n: usize, defs: &[u8], parts: &[u8], table: &[u64], i: usize, last: usize) -> bool
     requires { ⌜ (n ≤ 64) × (i < n) × (4352 ≤ length (now table)) × Modelled n (now defs) (now parts) n (now table) ⌝ }
-    ensures { λ r. ⌜ r ≡ childrenEnd (definitionIn (now (defs .entry)) i .kind) (membersOf (modelPart (now (defs .entry)) (now (parts .entry)) i)) last ⌝ }
+    ensures { λ r. ⌜ r ≡ childrenEnd (definitionIn (now (defs .entry)) i .kind) (allMembers (modelPart (now (defs .entry)) (now (parts .entry)) i)) last ⌝ }
 {
     let k = form_index::kind_of(defs, i);
     match k {
@@ -172,7 +172,7 @@ pub fn may_end(
 
 // The level after a row.
 pub fn after_row(l: Level, row: &[u8]) -> Level
-    ensures { λ r. ⌜ r ≡ after (eqb (readRow (now (row .entry)) .row .sort) 2) l (readRow (now (row .entry)) .row .index) ⌝ }
+    ensures { λ r. ⌜ r ≡ levelAfter (eqb (readRow (now (row .entry)) .row .sort) 2) l (readRow (now (row .entry)) .row .index) ⌝ }
 {
     let index = row_index(row) as u32;
     if layout::row_sort(row) == 2 {

@@ -15,7 +15,7 @@ ghost use Rattle.rules.specs.Layout.{particleSize};
 ghost use Rattle.rules.specs.Place.{plain};
 ghost use Rattle.model.specs.Members.{particlesOf};
 ghost use Rattle.model.specs.declared.place.Reached.the-variants.{Member};
-ghost use Rattle.model.specs.Places.{onward, ended, reach, spanOf, atMember, atGap, lastOf, enteredAt, enteredOf, spotOf, placeOf};
+ghost use Rattle.model.specs.Places.{onward, ended, reach, spanOf, atMember, atGap, lastOf, enteredAt, enteredOf, spotOf, placeIn};
 
 fn ended(n: usize, p: usize) -> Reached
     ensures { λ r. ⌜ r ≡ onward p (ended n) ⌝ }
@@ -189,7 +189,7 @@ fn find_in(s: &[u8], place: &[u32], insert: bool, h: Holder) -> Found
 
 /// What a place leads to in a model: a member, or with `insert` the gap after it.
 pub fn find(particles: &[u8], place: &[u32], insert: bool) -> Found
-    ensures { λ r. ⌜ r ≡ placeOf insert (now (place .entry)) (now (particles .entry)) ⌝ }
+    ensures { λ r. ⌜ r ≡ placeIn insert (now (place .entry)) (now (particles .entry)) ⌝ }
 {
     if place.len() > 5 {
         return Found::Absent;

@@ -10,7 +10,7 @@ use Rattle.rules.specs.declared.GroupKind.{GroupKind}
 use Rattle.rules.specs.declared.GroupKind.the-variants.{Sequence, Choice}
 use Rattle.rules.specs.Bytes.{Bytes}
 use Rattle.rules.specs.Model.{Members, done, el, group, names}
-use Rattle.rules.specs.Place.{Context, here, past, over, into, plug, before}
+use Rattle.rules.specs.Place.{Context, here, past, over, into, plug, beforePlace}
 use Rattle.rules.specs.Layout.{howMany}
 use Rattle.circle_check.specs.Members.{elementsOf}
 use Rattle.circle_check.proofs.ReadLaws.{elements-append}
@@ -50,8 +50,8 @@ elements-spread d (group q k ms rest) =
     ∙ ap₂ (λ (u v : List ℕ). u ++ v) (elements-spread (suc d) ms) (elements-spread d rest)
 
 -- ---- and those before a place
-pub elements-leading : (d : ℕ) (c : Context ℕ) (t : Members ℕ) → elementsIn (leading d c t) ≡ before c
-unfolding elementsIn before
+pub elements-leading : (d : ℕ) (c : Context ℕ) (t : Members ℕ) → elementsIn (leading d c t) ≡ beforePlace c
+unfolding elementsIn beforePlace
 elements-leading d here t = refl
 elements-leading d (past q i c) t = ap (λ (l : List ℕ). i ∷ l) (elements-leading d c t)
 elements-leading d (over q k ms c) t =

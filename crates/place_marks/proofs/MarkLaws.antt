@@ -17,7 +17,7 @@ use Rattle.rules.specs.Preorder.{Deep}
 use Rattle.rules.specs.Layout.{particleSize, FlatParticle, indexOf, howMany}
 use Rattle.rules.specs.Decode.{definitionCount}
 use Rattle.rules.specs.WellFormed.{known}
-use Rattle.rules.specs.Place.{Context, Found as Spot, plug, before, after}
+use Rattle.rules.specs.Place.{Context, Found as Spot, plug, beforePlace, afterPlace}
 use Rattle.rules.specs.Change.{definitionAt, nameAtIndex}
 use Rattle.rules.specs.Passing.{passes}
 use Rattle.rules.proofs.Apart.{names-plug}
@@ -35,8 +35,8 @@ use Rattle.model.proofs.PositionLaws.{length-spread, spread-plug, length-leadin
 use Rattle.store_check.proofs.IndexLaws.{namesOf, definition-in, index-same}
 use Rattle.store_writer.specs.Stores.{storeIn}
 use Rattle.plans.specs.ModelCalls.{Marked}
-use Rattle.document_refusals.proofs.StoreFacts.{formIn, Whole, whole}
-use Rattle.model_places.specs.Placing.{indexIn, modelIn, partIn, Placed}
+use Rattle.store_writer.proofs.StoreFacts.{formIn, Whole, whole}
+use Rattle.model_places.specs.Placing.{indexOfName, modelIn, partIn, Placed}
 use Rattle.model_places.proofs.PlaceLaws.{found-right}
 use Rattle.model_writer.proofs.HeadAfter.{depth-holder}
 use Rattle.model_places.proofs.PickLaws.{around, from-there, one-there}
@@ -61,22 +61,22 @@ among-member form once i h (n ∷ ns) k =
 -- ---- the place
 module _ {bs : Bytes} {o : ℕ} {i : Bool} {place : List ℕ} {h : Holder} {p : ℕ} (good : passes bs ≡ true) (there : o < definitionCount bs) (x : Placed bs o i place h p) where
   abbrev ns : List Bytes
-  ns = before (x .found .context)
+  ns = beforePlace (x .found .context)
 
-  model-names : names (modelIn bs o) ≡ ns ++ (names (x .found .picked) ++ after (x .found .context))
+  model-names : names (modelIn bs o) ≡ ns ++ (names (x .found .picked) ++ afterPlace (x .found .context))
   model-names = sym (ap names (found-right i place (modelIn bs o) (x .found) (x .there))) ∙ names-plug (x .found .context) (x .found .picked)
 
-  before-elements : elementsOf (take (particleSize * p) (partIn bs o)) ≡ map (indexIn bs) ns
+  before-elements : elementsOf (take (particleSize * p) (partIn bs o)) ≡ map (indexOfName bs) ns
   before-elements =
       let c : Context ℕ = around x in
-      let t : Members ℕ = rename (indexIn bs) (x .found .picked) in
+      let t : Members ℕ = rename (indexOfName bs) (x .found .picked) in
       elements-read (take (particleSize * p) (partIn bs o))
       ∙ ap elementsIn
       (particles-take p (partIn bs o) (x .inside)
       ∙ ap (λ (l : Particles). take p l) (x .particles ∙ spread-plug 0 c t)
       ∙ take-at (leading 0 c t) (spread (level 0 c) t ++ trailing 0 c) p (length-leading 0 c t ∙ x .stands))
       ∙ elements-leading 0 c t
-      ∙ before-rename (indexIn bs) (x .found .context)
+      ∙ before-rename (indexOfName bs) (x .found .context)
 
   -- the members `one` come next, of depth d
   module _ (d : ℕ) (one : Members ℕ) (ys : Particles) (next : drop p (particlesOf (partIn bs o)) ≡ spread d one ++ ys) where
@@ -97,18 +97,18 @@ module _ {bs : Bytes} {o : ℕ} {i : Bool} {place : List ℕ} {h : Holder} {p : 
   owner : o < length (formIn bs)
   owner = omega (arith, held .agrees .size)
 
-  name-known : (n : Bytes) → List·Memᴰ n (ns ++ (names (x .found .picked) ++ after (x .found .context))) → known (formIn bs) n ≡ true
+  name-known : (n : Bytes) → List·Memᴰ n (ns ++ (names (x .found .picked) ++ afterPlace (x .found .context))) → known (formIn bs) n ≡ true
   name-known n m = held .good .form .definitions (definitionAt o (formIn bs)) (definition-in (formIn bs) o owner) .inRange n (subst (λ (l : List Bytes). List·Memᴰ n l) (sym model-names) m)
 
   apart : (n : Bytes) → List·Memᴰ n ns → List·Memᴰ n (names (x .found .picked)) → ⊥
   apart n a b =
       let once : Distinct (names (modelIn bs o)) = held .good .form .definitions (definitionAt o (formIn bs)) (definition-in (formIn bs) o owner) .once in
-      distinct-apart ns (names (x .found .picked) ++ after (x .found .context)) (subst (λ (l : List Bytes). Distinct l) model-names once) n a (Memᴰ·append-left (after (x .found .context)) b)
+      distinct-apart ns (names (x .found .picked) ++ afterPlace (x .found .context)) (subst (λ (l : List Bytes). Distinct l) model-names once) n a (Memᴰ·append-left (afterPlace (x .found .context)) b)
 
   -- THE MARKS at a place whose members begin with `one`: the n particles of `one` come next, of depth d
-  pub one-marked : {n : ℕ} {at : List Bytes} (one : Members Bytes) (more : List Bytes) (d : ℕ) (ys : Particles) → n ≡ count (rename (indexIn bs) one) → at ≡ names one
+  pub one-marked : {n : ℕ} {at : List Bytes} (one : Members Bytes) (more : List Bytes) (d : ℕ) (ys : Particles) → n ≡ count (rename (indexOfName bs) one) → at ≡ names one
       → names (x .found .picked) ≡ names one ++ more
-      → drop p (particlesOf (partIn bs o)) ≡ spread d (rename (indexIn bs) one) ++ ys → Marked (storeIn bs .form) (before (x .found .context)) at (marksAt n p (partIn bs o))
+      → drop p (particlesOf (partIn bs o)) ≡ spread d (rename (indexOfName bs) one) ++ ys → Marked (storeIn bs .form) (beforePlace (x .found .context)) at (marksAt n p (partIn bs o))
   one-marked {n} {at} one more d ys size are names-are next =
       record {
         ones = λ i l. ap (λ (v : ℕ). eqb v 1) (read i l) ∙ mark-one (early i) (late i) (never i l) ∙ early-is i l;
@@ -130,13 +130,13 @@ module _ {bs : Bytes} {o : ℕ} {i : Bool} {place : List ℕ} {h : Holder} {p : 
       early-is : (i : ℕ) → i < length (formIn bs) → early i ≡ member bytes (nameAtIndex i (formIn bs)) ns
       early-is i l =
           ap (among i) before-elements ∙ among-member (formIn bs) (held .good .form .names) i l ns
-          (λ m j. name-known m (Memᴰ·append-left (names (x .found .picked) ++ after (x .found .context)) j))
+          (λ m j. name-known m (Memᴰ·append-left (names (x .found .picked) ++ afterPlace (x .found .context)) j))
 
       late-is : (i : ℕ) → i < length (formIn bs) → late i ≡ member bytes (nameAtIndex i (formIn bs)) at
       late-is i l =
           ap (λ (k : ℕ). among i (elementsOf (take (particleSize * k) (drop (particleSize * p) (partIn bs o))))) size
-          ∙ ap (among i) (at-elements d (rename (indexIn bs) one) ys next ∙ names-rename (indexIn bs) one ∙ ap (map (indexIn bs)) (sym are))
-          ∙ among-member (formIn bs) (held .good .form .names) i l at (λ m j. name-known m (Memᴰ·append-right ns (Memᴰ·append-left (after (x .found .context)) (inside m j))))
+          ∙ ap (among i) (at-elements d (rename (indexOfName bs) one) ys next ∙ names-rename (indexOfName bs) one ∙ ap (map (indexOfName bs)) (sym are))
+          ∙ among-member (formIn bs) (held .good .form .names) i l at (λ m j. name-known m (Memᴰ·append-right ns (Memᴰ·append-left (afterPlace (x .found .context)) (inside m j))))
 
       never : (i : ℕ) → i < length (formIn bs) → early i ≡ true → late i ≡ true → ⊥
       never i l a b =
@@ -147,43 +147,43 @@ module _ {bs : Bytes} {o : ℕ} {i : Bool} {place : List ℕ} {h : Holder} {p : 
   abbrev lev : ℕ
   lev = level 0 (around x)
 
-  next-there : (t : Members Bytes) → x .found .picked ≡ t → drop p (particlesOf (partIn bs o)) ≡ spread lev (rename (indexIn bs) t) ++ trailing 0 (around x)
-  next-there t e = from-there x ∙ ap (λ (z : Members Bytes). spread lev (rename (indexIn bs) z) ++ trailing 0 (around x)) e
+  next-there : (t : Members Bytes) → x .found .picked ≡ t → drop p (particlesOf (partIn bs o)) ≡ spread lev (rename (indexOfName bs) t) ++ trailing 0 (around x)
+  next-there t e = from-there x ∙ ap (λ (z : Members Bytes). spread lev (rename (indexOfName bs) z) ++ trailing 0 (around x)) e
 
-  pub gap-marked : Marked (storeIn bs .form) (before (x .found .context)) [] (marksAt 0 p (partIn bs o))
+  pub gap-marked : Marked (storeIn bs .form) (beforePlace (x .found .context)) [] (marksAt 0 p (partIn bs o))
   unfolding rename names
   gap-marked = one-marked done (names (x .found .picked)) 0 (drop p (particlesOf (partIn bs o))) refl refl refl refl
 
   pub element-marked : (q : Quantifier) (n : Bytes) (rest : Members Bytes) → x .found .picked ≡ el q n rest
-      → Marked (storeIn bs .form) (before (x .found .context)) (n ∷ []) (marksAt 1 p (partIn bs o))
+      → Marked (storeIn bs .form) (beforePlace (x .found .context)) (n ∷ []) (marksAt 1 p (partIn bs o))
   unfolding rename names
-  element-marked q n rest e = one-marked (el q n done) (names rest) lev (spread lev (rename (indexIn bs) rest) ++ trailing 0 (around x)) refl refl (ap names e) (next-there (el q n rest) e)
+  element-marked q n rest e = one-marked (el q n done) (names rest) lev (spread lev (rename (indexOfName bs) rest) ++ trailing 0 (around x)) refl refl (ap names e) (next-there (el q n rest) e)
 
   module _ (q : Quantifier) (k : GroupKind) (ms rest : Members Bytes) (e : x .found .picked ≡ group q k ms rest) where
     abbrev inner : Particles
-    inner = spread (suc lev) (rename (indexIn bs) ms)
+    inner = spread (suc lev) (rename (indexOfName bs) ms)
 
     abbrev others : Particles
-    others = spread lev (rename (indexIn bs) rest) ++ trailing 0 (around x)
+    others = spread lev (rename (indexOfName bs) rest) ++ trailing 0 (around x)
 
     abbrev front : Deep FlatParticle
-    front = groupParticle lev q k (howMany (rename (indexIn bs) ms))
+    front = groupParticle lev q k (howMany (rename (indexOfName bs) ms))
 
     group-next : drop p (particlesOf (partIn bs o)) ≡ front ∷ (inner ++ others)
     unfolding rename
-    group-next = next-there (group q k ms rest) e ∙ ap (λ (l : Particles). front ∷ l) (append-assoc inner (spread lev (rename (indexIn bs) rest)) (trailing 0 (around x)))
+    group-next = next-there (group q k ms rest) e ∙ ap (λ (l : Particles). front ∷ l) (append-assoc inner (spread lev (rename (indexOfName bs) rest)) (trailing 0 (around x)))
 
-    group-span : spanOf (h .depth) (particlesOf (drop (particleSize * (p + 1)) (partIn bs o))) ≡ count (rename (indexIn bs) ms)
+    group-span : spanOf (h .depth) (particlesOf (drop (particleSize * (p + 1)) (partIn bs o))) ≡ count (rename (indexOfName bs) ms)
     group-span =
         let depth : h .depth ≡ lev = ap (λ (g : Holder). g .depth) (sym (x .held)) ∙ depth-holder top 0 (around x) in
         let room : particleSize * (p + 1) ≤ length (partIn bs o) = omega (arith, one-there x front (inner ++ others) group-next) in
         let after-front : particlesOf (drop (particleSize * (p + 1)) (partIn bs o)) ≡ inner ++ others =
         particles-drop (p + 1) (partIn bs o) room ∙ sym (drop-drop 1 p (particlesOf (partIn bs o))) ∙ ap (λ (l : Particles). drop 1 l) group-next in
-        ap₂ (λ (d : ℕ) (l : Particles). spanOf d l) depth after-front ∙ span-group (around x) (rename (indexIn bs) ms) (rename (indexIn bs) rest)
+        ap₂ (λ (d : ℕ) (l : Particles). spanOf d l) depth after-front ∙ span-group (around x) (rename (indexOfName bs) ms) (rename (indexOfName bs) rest)
 
-    pub group-marked : Marked (storeIn bs .form) (before (x .found .context)) (names ms) (marksAt (1 + spanOf (h .depth) (particlesOf (drop (particleSize * (p + 1)) (partIn bs o)))) p (partIn bs o))
+    pub group-marked : Marked (storeIn bs .form) (beforePlace (x .found .context)) (names ms) (marksAt (1 + spanOf (h .depth) (particlesOf (drop (particleSize * (p + 1)) (partIn bs o)))) p (partIn bs o))
     unfolding rename names
     group-marked =
-        let size : 1 + spanOf (h .depth) (particlesOf (drop (particleSize * (p + 1)) (partIn bs o))) ≡ suc (count (rename (indexIn bs) ms) + 0) = omega (arith, group-span) in
+        let size : 1 + spanOf (h .depth) (particlesOf (drop (particleSize * (p + 1)) (partIn bs o))) ≡ suc (count (rename (indexOfName bs) ms) + 0) = omega (arith, group-span) in
         one-marked (group q k ms done) (names rest) lev others size (sym (append-nil (names ms))) (ap names e ∙ ap (λ (l : List Bytes). l ++ names rest) (sym (append-nil (names ms))))
         (group-next ∙ ap (λ (l : Particles). front ∷ (l ++ others)) (sym (append-nil inner)))

@@ -9,14 +9,9 @@ use Rattle.rules.specs.Place.{Context, here, past, over, into}
 use Rattle.model.specs.Places.{Particles, spanOf}
 use Rattle.model.specs.Positions.{spread, count, trailing, level}
 use Rattle.model.proofs.PositionLaws.{span-skip}
+use Rattle.model_writer.proofs.PartAfter.{deep-level}
 
 -- ---- the depth of a place
-level-least : (d : ℕ) (c : Context ℕ) → d ≤ level d c
-level-least d here = omega arith
-level-least d (past q i c) = level-least d c
-level-least d (over q k ms c) = level-least d c
-level-least d (into q k c rest) = let l : suc d ≤ level (suc d) c = level-least (suc d) c in omega arith
-
 -- ---- members of depth e, no deeper than d
 span-other : (d e : ℕ) (ms : Members ℕ) (ys : Particles) → e ≤ d → spanOf d ys ≡ 0 → spanOf d (spread e ms ++ ys) ≡ 0
 unfolding spanOf
@@ -31,7 +26,7 @@ span-trailing d e (past q i c) ys l z = span-trailing d e c ys l z
 span-trailing d e (over q k ms c) ys l z = span-trailing d e c ys l z
 span-trailing d e (into q k c rest) ys l z =
     ap (λ (zs : Particles). spanOf d zs) (append-assoc (trailing (suc e) c) (spread e rest) ys)
-    ∙ span-trailing d (suc e) c (spread e rest ++ ys) l (span-other d e rest ys (omega (arith, level-least (suc e) c)) z)
+    ∙ span-trailing d (suc e) c (spread e rest ++ ys) l (span-other d e rest ys (omega (arith, deep-level (suc e) c)) z)
 
 -- THE SPAN OF A GROUP at a place: its members
 pub span-group : (c : Context ℕ) (ms rest : Members ℕ) → spanOf (level 0 c) (spread (suc (level 0 c)) ms ++ (spread (level 0 c) rest ++ trailing 0 c)) ≡ count ms

@@ -14,7 +14,7 @@ use Rattle.rules.proofs.Apart.{differs}
 use Rattle.rules.proofs.Correct.{distinct-left, distinct-right}
 use Rattle.row_walk.specs.declared.Which.the-variants.{Serial}
 use Rattle.row_walk.specs.Walk.{matches}
-use Rattle.plans.specs.Trees.{NoneOf, Apart}
+use Rattle.plans.specs.Trees.{NoneOf, NotNested}
 
 module _ (form : Form) (k : ℕ) where
   none-other : (owner : Bytes) (f : Forest Row) → (List·Memᴰ k (serials f) → ⊥) → NoneOf (matches (Serial k)) (indexed form owner f)
@@ -25,7 +25,7 @@ module _ (form : Form) (k : ℕ) where
     none-other owner t (λ m. h (List·Memᴰ·tail (Memᴰ·append-right (serials b) m))),
   )
 
-  pub apart-serial : (owner : Bytes) (f : Forest Row) → Distinct (serials f) → Apart (matches (Serial k)) (indexed form owner f)
+  pub apart-serial : (owner : Bytes) (f : Forest Row) → Distinct (serials f) → NotNested (matches (Serial k)) (indexed form owner f)
   apart-serial owner bare d = tt
   apart-serial owner (tree r b t) (n, d) = (
     λ e. none-other (r .name) b (λ m. n (Memᴰ·append-left (serials t) (Memᴰ·cast (eqb-eq (r .serial) k (and-split (eqb (rowCode (r .sort)) 1) (eqb (r .serial) k) e .1)) m))),

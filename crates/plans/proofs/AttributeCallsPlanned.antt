@@ -22,15 +22,14 @@ use Rattle.rules.specs.Filling.{attributeRow}
 use Rattle.rules.specs.Lines.{elementNamed, attributeNamed}
 use Rattle.rules.specs.Passing.{good}
 use Rattle.rules.specs.Refusal.{first, conditions}
-use Rattle.rules.specs.Change.{addAttribute, destroyAttribute, definitionAt, nameAtIndex, Owned, attributeAt, update, withAttributes, lacking, dropOwned}
-use Rattle.rules.specs.Change.{newAttribute, formAfter, making, taking, dropPlan, plan, changed, docsAfter, after}
+use Rattle.rules.specs.Change.{addAttribute, destroyAttribute, definitionAt, nameAtIndex, Owned, attributeAt, update, withAttributes, lacking, dropOwned, newAttribute, formAfter, making, taking, dropPlan, plan, changed, docsAfter, after}
 use Rattle.rules.specs.Change as change
 use Rattle.rules.proofs.Words.{and-both, and-split}
 use Rattle.rules.proofs.TestLaws.{member-test}
 use Rattle.rules.proofs.PassingLaws.{good-is}
-use Rattle.history.proofs.Conditions.{not-past}
-use Rattle.history.proofs.Rowwise.{Standing}
-use Rattle.history.proofs.FormLaws.{attribute-owned, owner-at, owner-below}
+use Rattle.change_laws.proofs.Conditions.{not-past}
+use Rattle.change_laws.proofs.Rowwise.{Standing}
+use Rattle.change_laws.proofs.FormLaws.{attribute-owned, owner-at, owner-below}
 use Rattle.store_check.proofs.AttributeReads.{sort-back}
 use Rattle.store_check.proofs.AttributeRows.{rowWritten}
 use Rattle.store_check.proofs.AttributeBlocks.{offset}
@@ -41,7 +40,7 @@ use Rattle.row_walk.specs.declared.Plan.{Plan}
 use Rattle.row_walk.specs.Walk.{matches, isLater}
 use Rattle.store_writer.specs.Planned.{fillOf, plannedIn}
 use Rattle.plans.specs.Trees.{documentsWalk}
-use Rattle.plans.specs.Bodies.{Holds}
+use Rattle.plans.specs.Bodies.{HoldsForm}
 use Rattle.plans.specs.Following.{RowFollows}
 use Rattle.plans.specs.Kept.{BothTake}
 use Rattle.plans.specs.AttributeCalls.{attributesTo, ownerAt, addAttributePlan, destroyAttributePlan, attributeAdded, attributeDropped}
@@ -109,7 +108,7 @@ module _ (s : Store) (g : good s ≡ true) where
         let z : attributeIndex m n new ≡ a =
         ap (λ (b : Bytes). attributeIndex b n new) (sym e) ∙ spot-own more o (s .form) once l n
         ∙ omega (arith, offset-next o (s .form), index-new n (definitionAt o (s .form) .attributes) (newAttribute n k v) fresh refl) in
-        λ i. filling.newAttribute d (sym z i) v ∷ []
+        λ i. filling.newAttributeRow d (sym z i) v ∷ []
 
     step : (sel : Bool) (w u r : Row) (b : Forest Row) → sel ≡ elementNamed name u → Owns (s .form) u r → Standing (s .docs) r b → RowFollows (s .form) new q p v fill sel w u r
     step sel w u r b x own i =
@@ -134,7 +133,7 @@ module _ (s : Store) (g : good s ≡ true) where
         (λ sel w u r b x own i. inr (step sel w u r b x own i, element-test (s .form) once o l (u .name) r)) refl
         (each-owned s g))
 
-    add-attribute-holds : k ≤ 2 → Holds (attributeAdded a (record { owner = o; name = n; sort = k; value = v }) (flat s)) (formAfter (addAttribute o n k v) (s .form))
+    add-attribute-holds : k ≤ 2 → HoldsForm (attributeAdded a (record { owner = o; name = n; sort = k; value = v }) (flat s)) (formAfter (addAttribute o n k v) (s .form))
     unfolding formAfter
     add-attribute-holds h =
         record {
@@ -244,10 +243,10 @@ module _ (s : Store) (g : good s ≡ true) where
           (kept-all (s .form) left taker dropping v none-filled (s .docs) (λ sel u. sel ≡ elementNamed owner u) (Owns (s .form)) drop-step refl (each-owned s g))
           ∙ ap (λ (x : Option Owned). flatten 0 (indexed (dropOwned x (s .form)) [] (changed (dropPlan (λ o u. elementNamed (o .owner .name) u) x) (s .docs)))) (sym at)
 
-    destroy-attribute-holds : Holds (attributeDropped a (flat s)) (formAfter (destroyAttribute a) (s .form))
+    destroy-attribute-holds : HoldsForm (attributeDropped a (flat s)) (formAfter (destroyAttribute a) (s .form))
     unfolding formAfter
     destroy-attribute-holds =
-        subst (λ (x : Option Owned). Holds (attributeDropped a (flat s)) (dropOwned x (s .form))) (sym at)
+        subst (λ (x : Option Owned). HoldsForm (attributeDropped a (flat s)) (dropOwned x (s .form))) (sym at)
         record {
           definitions = sym (definitions-kept (lacking lost) i (s .form));
           particles = sym (particles-kept (lacking lost) i (s .form));

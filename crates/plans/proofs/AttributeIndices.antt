@@ -18,7 +18,7 @@ use Rattle.rules.specs.Conforming.{isAttribute}
 use Rattle.rules.specs.Lines.{attributeNamed}
 use Rattle.rules.specs.Change.{Owned, entryAt, attributeAt, namesBefore}
 use Rattle.rules.proofs.Apart.{differs}
-use Rattle.history.proofs.FormLaws.{entry-in, attribute-owned, owner-found}
+use Rattle.change_laws.proofs.FormLaws.{entry-in, attribute-owned, owner-found}
 use Rattle.store_check.proofs.AttributeRows.{rowWritten}
 use Rattle.row_walk.specs.declared.Which.the-variants.{Attributes}
 use Rattle.row_walk.specs.declared.Later.the-variants.{Past}

@@ -20,11 +20,10 @@ use Rattle.rules.specs.Change as change
 use Rattle.rules.proofs.Words.{and-split}
 use Rattle.rules.proofs.Apart.{differs}
 use Rattle.rules.proofs.PassingLaws.{good-is}
-use Rattle.history.proofs.Conditions.{not-false}
-use Rattle.history.proofs.Rowwise.{Standing}
-use Rattle.history.proofs.StandingLaws.{standing-line, child-stands, found-element, one-row}
+use Rattle.change_laws.proofs.Rowwise.{Standing}
+use Rattle.change_laws.proofs.StandingLaws.{standing-line, child-stands, found-element, one-row}
 use Rattle.store_check.proofs.AttributeRows.{rowWritten}
-use Rattle.filling.specs.Fillings.{newAttribute}
+use Rattle.filling.specs.Fillings.{newAttributeRow}
 use Rattle.filling.specs.declared.Filling.the-variants.{Attribute}
 use Rattle.row_walk.specs.declared.Which.the-variants.{Serial, Attributes}
 use Rattle.row_walk.specs.declared.Later.the-variants.{Past}
@@ -37,6 +36,7 @@ use Rattle.plans.proofs.TreePlans.{documents-follow}
 use Rattle.plans.proofs.FollowingLaws.{serial-test, follows-all, fills-follow, takes-follow}
 use Rattle.plans.proofs.AttributeIndices.{own-index, take-test, past-test}
 use Rattle.plans.proofs.DocumentPlans.{given, set-value-does}
+use borrow.Author.Tests.{not-false}
 
 -- a row with a line is found
 find-some : (test : Row → Bool) (ls : List Line) → any (λ (l : Line). test (l .row)) ls ≡ true → findRow test ls ≡ none → ⊥
@@ -137,7 +137,7 @@ module _ (s : Store) (g : good s ≡ true) (k a : ℕ) (o : Owned) (at : attribu
       filled : (n : Bytes) → n ≡ o .owner .name → (d : ℕ) → fill d ≡ flatten d (indexed (s .form) n (q .filling))
       filled n e d =
           let z : attributeIndex n (o .attribute .name) (s .form) ≡ a = ap (λ (z : Bytes). attributeIndex z (o .attribute .name) (s .form)) e ∙ own-index a (s .form) o once apart at in
-          λ i. newAttribute d (sym z i) v ∷ []
+          λ i. newAttributeRow d (sym z i) v ∷ []
 
   old-attribute-does : (v : Bytes) (m : ℕ) (ms : List ℕ) → childrenOf (attributeNamed (o .attribute .name)) k (lines 0 (s .docs)) ≡ m ∷ ms → Does (setAttribute k a v) s (setAttributePlan k a m) v
   old-attribute-does v m ms e =

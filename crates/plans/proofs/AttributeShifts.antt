@@ -15,7 +15,7 @@ use Rattle.rules.specs.Layout.{indexOf, indexIn, attributeIndex}
 use Rattle.rules.specs.WellFormed.{definitionName, attributeName, lookup}
 use Rattle.rules.specs.Change.{definitionAt, nameAtIndex, update, withAttributes, lacking}
 use Rattle.rules.proofs.Apart.{differs}
-use Rattle.history.proofs.FormLaws.{definition-at, definition-found}
+use Rattle.change_laws.proofs.FormLaws.{definition-at, definition-found}
 use Rattle.store_check.proofs.IndexLaws.{name-of}
 use Rattle.store_check.proofs.AttributeBlocks.{offset, owner-index}
 use Rattle.row_walk.specs.declared.Shift.{Shift}

@@ -14,7 +14,7 @@ use Rattle.rules.specs.Passing.{good}
 use Rattle.rules.specs.Refusal.{first, isOther, conditions}
 use Rattle.rules.specs.Change.{Call, addDocument, addElement, destroyElement, setAttribute, destroyAttributeRow, setText, Owned, attributeAt, formAfter, after}
 use Rattle.rules.proofs.PassingLaws.{good-is}
-use Rattle.history.proofs.Conditions.{not-past, Unmet, first-append, conditions-numbered}
+use Rattle.change_laws.proofs.Conditions.{not-past, Unmet, first-append, conditions-numbered}
 use Rattle.filling.specs.declared.Filling.the-variants.{Attribute}
 use Rattle.row_walk.specs.declared.Which.the-variants.{Serial}
 use Rattle.row_walk.specs.declared.Later.the-variants.{Past}
@@ -22,8 +22,7 @@ use Rattle.row_walk.specs.declared.Plan.{Plan}
 use Rattle.row_walk.specs.Walk.{matches}
 use Rattle.store_writer.specs.Planned.{planned}
 use Rattle.plans.specs.Following.{Does}
-use Rattle.plans.specs.CallPlans.{childSerial, attributeSerial, textSerial, fillingPlan, settingPlan, addDocumentPlan, addElementPlan, destroyElementPlan}
-use Rattle.plans.specs.CallPlans.{setAttributePlan, destroyAttributeRowPlan, setTextPlan}
+use Rattle.plans.specs.CallPlans.{childSerial, attributeSerial, textSerial, fillingPlan, settingPlan, addDocumentPlan, addElementPlan, destroyElementPlan, setAttributePlan, destroyAttributeRowPlan, setTextPlan}
 use Rattle.plans.proofs.TreeWalk.{Clear, apart, everywhere, none-of, none-apart}
 use Rattle.plans.proofs.Planned.{flat-planned}
 use Rattle.plans.proofs.ApartLaws.{apart-serial}

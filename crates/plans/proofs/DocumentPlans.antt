@@ -17,8 +17,8 @@ use Rattle.rules.specs.Change.{Call, addDocument, addElement, destroyElement, s
 use Rattle.rules.specs.Change as change
 use Rattle.rules.proofs.Apart.{differs}
 use Rattle.rules.proofs.PassingLaws.{good-is}
-use Rattle.history.proofs.Rowwise.{Standing}
-use Rattle.history.proofs.StandingLaws.{no-zero}
+use Rattle.change_laws.proofs.Rowwise.{Standing}
+use Rattle.change_laws.proofs.StandingLaws.{no-zero}
 use Rattle.filling.specs.declared.Filling.the-variants.{Definition}
 use Rattle.row_walk.specs.declared.Which.the-variants.{Everything, Ground, Serial}
 use Rattle.row_walk.specs.declared.Later.the-variants as later

@@ -19,18 +19,17 @@ use Rattle.rules.specs.Conforming.{mustBePresent}
 use Rattle.rules.specs.Passing.{good}
 use Rattle.rules.specs.Change.{definitionAt, nameAtIndex}
 use Rattle.rules.specs.Filling.{createdValue, attributeRow, fillAttributes, fillEach, fillContent, fillWithin, fillDefinition}
-use Rattle.rules.proofs.DecodeLaws.{unflat-flat, good-known, good-found}
+use Rattle.rules.proofs.DecodeLaws.{unflat-flat, good-known, good-found, sort-code}
 use Rattle.rules.proofs.PassingLaws.{good-is}
 use Rattle.rules.proofs.RenamingPlaces.{filling-rename}
 use Rattle.rules.proofs.FillingLaws.{fillBelow, fill-known, in-filling}
 use Rattle.form_index.specs.Indices.{IndexForm}
-use Rattle.store_check.specs.Reading.{entryOf, indexForm, Agrees}
+use Rattle.store_check.specs.Reading.{entryOf, flatIndexForm, Agrees}
 use Rattle.store_check.proofs.IndexLaws.{namesOf, index-name, lookup-at, name-of, definition-in}
-use Rattle.store_check.proofs.AttributeReads.{sort-of}
 use Rattle.store_check.proofs.AttributeBlocks.{offset, Block, block-at}
 use Rattle.store_check.proofs.FormGood.{form-agrees, good-bodies, good-fields}
 use Rattle.filling.specs.declared.Filling.the-variants.{Definition}
-use Rattle.filling.specs.Fillings.{newElement, newAttribute, requiredRows, fillingsOf, contentRows, fillIndex, fillingRows}
+use Rattle.filling.specs.Fillings.{newElement, newAttributeRow, requiredRows, fillingsOf, contentRows, fillIndex, fillingRows}
 use Rattle.filling.specs.Parts.{valueOf}
 use Rattle.store_writer.specs.Planned.{membersAt}
 
@@ -50,7 +49,7 @@ abbrev requiredOf : ℕ → ℕ → ℕ → ℕ → List FlatAttribute → List 
 requiredOf version d i j [] = []
 requiredOf version d i j (c ∷ cs) =
     elim (eqb (c .owner) i && mustBePresent version (sortOf (c .sort))) [
-      | true ↦ newAttribute d j (valueOf c) ∷ requiredOf version d i (suc j) cs
+      | true ↦ newAttributeRow d j (valueOf c) ∷ requiredOf version d i (suc j) cs
       | false ↦ requiredOf version d i (suc j) cs
     ]
 
@@ -58,7 +57,7 @@ abbrev requiredIn : ℕ → ℕ → ℕ → List Attribute → List (Deep FlatRo
 requiredIn version d j [] = []
 requiredIn version d j (a ∷ table) =
     elim (mustBePresent version (a .sort)) [
-      | true ↦ newAttribute d j (createdValue (a .sort) (a .value)) ∷ requiredIn version d (suc j) table
+      | true ↦ newAttributeRow d j (createdValue (a .sort) (a .value)) ∷ requiredIn version d (suc j) table
       | false ↦ requiredIn version d (suc j) table
     ]
 
@@ -72,7 +71,7 @@ module _ (version d i : ℕ) where
       → requiredOf version d i j (ownAttributes i table ++ rest) ≡ requiredIn version d j table ++ requiredOf version d i (j + length table) rest
   own j [] rest = ap (λ (k : ℕ). requiredOf version d i k rest) (let e : j ≡ j + 0 = omega arith in e)
   own j (a ∷ table) rest =
-      rw (eq-eqb i i refl, sort-of (a .sort), requiredOf)
+      rw (eq-eqb i i refl, sort-code (a .sort), requiredOf)
       (by (mustBePresent version (a .sort))
       (own (suc j) table rest
       ∙ ap (λ (k : ℕ). requiredIn version d (suc j) table ++ requiredOf version d i k rest)
@@ -85,13 +84,13 @@ module _ (version d i : ℕ) where
       R = requiredOf version d i (j + suc (length table)) rest
 
       by : (b : Bool) → L ≡ requiredIn version d (suc j) table ++ R
-          → elim b as (λ z. List (Deep FlatRow)) [ true ↦ newAttribute d j (createdValue (a .sort) (a .value)) ∷ L | false ↦ L ]
+          → elim b as (λ z. List (Deep FlatRow)) [ true ↦ newAttributeRow d j (createdValue (a .sort) (a .value)) ∷ L | false ↦ L ]
           ≡ (elim b as (λ z. List (Deep FlatRow)) [
-            | true ↦ newAttribute d j (createdValue (a .sort) (a .value)) ∷ requiredIn version d (suc j) table
+            | true ↦ newAttributeRow d j (createdValue (a .sort) (a .value)) ∷ requiredIn version d (suc j) table
             | false ↦ requiredIn version d (suc j) table
           ])
           ++ R
-      by true e = ap (λ (z : List (Deep FlatRow)). newAttribute d j (createdValue (a .sort) (a .value)) ∷ z) e
+      by true e = ap (λ (z : List (Deep FlatRow)). newAttributeRow d j (createdValue (a .sort) (a .value)) ∷ z) e
       by false e = e
 
   later : (o j : ℕ) (fs : Form) → i < o → requiredOf version d i j (allAttributes o fs) ≡ []
@@ -136,7 +135,7 @@ module _ (version w : ℕ) (form : Form) (ok : WellFormed w form) (F : IndexForm
       (λ (z : ℕ). (F .owner z ≡ entryOf k cs .owner) × (F .needed z ≡ mustBePresent version (sortOf (entryOf k cs .sort)))
       × (value z ≡ valueOf (entryOf k cs)))
       (let q : j + suc k ≡ suc j + k = omega arith in q) (t (suc k) (omega arith))) in
-      λ z. elim (eqb (o₁ z) i && n₁ z) as (λ b. List (Deep FlatRow)) [ true ↦ newAttribute d j (v₁ z) ∷ rest z | false ↦ rest z ]
+      λ z. elim (eqb (o₁ z) i && n₁ z) as (λ b. List (Deep FlatRow)) [ true ↦ newAttributeRow d j (v₁ z) ∷ rest z | false ↦ rest z ]
 
   required-index : (d i : ℕ) → i < length form → requiredRows F value d i 0 (F .attributes) ≡ requiredIn version d (offset i form) (definitionAt i form .attributes)
   required-index d i l =
@@ -165,11 +164,11 @@ module _ (version w : ℕ) (form : Form) (ok : WellFormed w form) (F : IndexForm
       by : (c : Bool) → flatten d (indexed form n (fillAttributes version table content)) ≡ requiredIn version d (suc j) table ++ C
           → flatten d (indexed form n (elim c as (λ z. Forest Row) [ true ↦ tree (attributeRow a) bare (fillAttributes version table content) | false ↦ fillAttributes version table content ]))
           ≡ (elim c as (λ z. List (Deep FlatRow)) [
-            | true ↦ newAttribute d j (createdValue (a .sort) (a .value)) ∷ requiredIn version d (suc j) table
+            | true ↦ newAttributeRow d j (createdValue (a .sort) (a .value)) ∷ requiredIn version d (suc j) table
             | false ↦ requiredIn version d (suc j) table
           ])
           ++ C
-      by true e = ap₂ (λ (k : ℕ) (z : List (Deep FlatRow)). newAttribute d k (createdValue (a .sort) (a .value)) ∷ z) (b .0 .found) e
+      by true e = ap₂ (λ (k : ℕ) (z : List (Deep FlatRow)). newAttributeRow d k (createdValue (a .sort) (a .value)) ∷ z) (b .0 .found) e
       by false e = e
 
   -- fillings one after the other, from those of each
@@ -221,12 +220,12 @@ module _ (version w : ℕ) (form : Form) (ok : WellFormed w form) (F : IndexForm
 -- THE FILLING OF A DEFINITION of a store that passes is written as the rows of its filling by indices
 pub filling-index : (s : Store) → good s ≡ true → (txt : Bytes) (d i : ℕ) (owner : Bytes) → i < length (s .form)
     → flatten d (indexed (s .form) owner (fillDefinition (s .version) (s .form) txt (nameAtIndex i (s .form))))
-    ≡ fillingRows (indexForm (flat s)) (λ j. valueOf (entryOf j (flat s .attributes))) (λ a b. membersAt (flat s) a b) (Definition i) txt d
+    ≡ fillingRows (flatIndexForm (flat s)) (λ j. valueOf (entryOf j (flat s .attributes))) (λ a b. membersAt (flat s) a b) (Definition i) txt d
 filling-index s g txt d i owner l =
     let back = unflat-flat s (good-known s g) (good-found s g) in
-    let agrees : Agrees (s .version) (indexForm (flat s)) (s .form) =
-    subst (λ (z : Store). Agrees (s .version) (indexForm (flat s)) (z .form)) back
+    let agrees : Agrees (s .version) (flatIndexForm (flat s)) (s .form) =
+    subst (λ (z : Store). Agrees (s .version) (flatIndexForm (flat s)) (z .form)) back
     (form-agrees (valueWidth (s .version)) (flat s) (good-fields s g) (good-bodies s g) (s .version)) in
-    fill-index (s .version) (valueWidth (s .version)) (s .form) (good-is s .0 g .form) (indexForm (flat s)) agrees
+    fill-index (s .version) (valueWidth (s .version)) (s .form) (good-is s .0 g .form) (flatIndexForm (flat s)) agrees
     (λ j. valueOf (entryOf j (flat s .attributes))) (λ j m. refl) txt (length (s .form)) d i owner l
-    ∙ ap (λ (h : ℕ). fillIndex (indexForm (flat s)) (λ j. valueOf (entryOf j (flat s .attributes))) h txt d i) (sym (agrees .size))
+    ∙ ap (λ (h : ℕ). fillIndex (flatIndexForm (flat s)) (λ j. valueOf (entryOf j (flat s .attributes))) h txt d i) (sym (agrees .size))

@@ -16,8 +16,8 @@ use Rattle.rules.specs.Change.{making, taking, setting}
 use Rattle.rules.specs.Change as change
 use Rattle.rules.proofs.Words.{either}
 use Rattle.rules.proofs.Apart.{differs}
-use Rattle.history.proofs.RowEdits.{revalued}
-use Rattle.history.proofs.Rowwise.{Standing}
+use Rattle.change_laws.proofs.RowEdits.{revalued}
+use Rattle.change_laws.proofs.Rowwise.{Standing}
 use Rattle.store_check.proofs.AttributeRows.{rowWritten}
 use Rattle.filling.specs.declared.Filling.{Filling}
 use Rattle.row_walk.specs.declared.Which.{Which}
@@ -25,7 +25,7 @@ use Rattle.row_walk.specs.declared.Which.the-variants.{Serial}
 use Rattle.row_walk.specs.declared.Later.{Later}
 use Rattle.row_walk.specs.declared.Shift.{Shift}
 use Rattle.row_walk.specs.declared.Plan.{Plan}
-use Rattle.row_walk.specs.Walk.{matches, isEverything, isGround, isLater, shifted, movedIndex}
+use Rattle.row_walk.specs.Walk.{matches, isEverything, namesGround, isLater, shifted, movedIndex}
 use Rattle.plans.specs.Following.{Fills, RowFollows, Follows}
 use Rattle.plans.specs.Kept.{EachBelow, BothTake, FollowsKept}
 use Rattle.plans.specs.CallPlans.{unmoved, unmarked, fillingPlan, takingPlan, settingPlan}
@@ -84,8 +84,8 @@ module _ (form new : Form) (q : change.Plan) (p : Plan) (v : Bytes) (fill : ℕ 
       let (h, n) = step sel w u r b k (i r b (inl (refl, refl))) in
       (h, follows-in (matches (p .above) (rowWritten form (u .name) r)) (revalued q r) r b n (λ s c j. i s c (inr (inl j))), follows-in sel w u t k (λ s c j. i s c (inr (inr j))))
 
-  pub follows-all : S (isGround (p .above)) ground → Follows form new q p v fill (isGround (p .above)) ground ground docs
-  follows-all k = follows-in (isGround (p .above)) ground ground docs k (λ r b j. j)
+  pub follows-all : S (namesGround (p .above)) ground → Follows form new q p v fill (namesGround (p .above)) ground ground docs
+  follows-all k = follows-in (namesGround (p .above)) ground ground docs k (λ r b j. j)
 
 -- the same where rows may be taken; P: what is known of a row and the row right above it
 module _ (form new : Form) (q : change.Plan) (p : Plan) (v : Bytes) (fill : ℕ → List (Deep FlatRow)) (docs : Forest Row) (S : Bool → Row → Type 0) (P : Row → Row → Type 0)
@@ -99,8 +99,8 @@ module _ (form new : Form) (q : change.Plan) (p : Plan) (v : Bytes) (fill : ℕ 
     kept-in sel w u t k et (λ s c j. i s c (inr (inr j))),
   )
 
-  pub kept-all : S (isGround (p .above)) ground → EachBelow P ground docs → FollowsKept form new q p v fill (isGround (p .above)) ground ground docs
-  kept-all k e = kept-in (isGround (p .above)) ground ground docs k e (λ r b j. j)
+  pub kept-all : S (namesGround (p .above)) ground → EachBelow P ground docs → FollowsKept form new q p v fill (namesGround (p .above)) ground ground docs
+  kept-all k e = kept-in (namesGround (p .above)) ground ground docs k e (λ r b j. j)
 
 -- ---- the three kinds of plans, at row r below row u
 module _ (form : Form) (v : Bytes) (fill : ℕ → List (Deep FlatRow)) (sel : Bool) (w u r : Row) where

@@ -12,7 +12,7 @@ use Rattle.row_writer.specs.Written.{newIn, numbered}
 use Rattle.row_walk.specs.declared.Plan.{Plan}
 use Rattle.store_writer.specs.Planned.{fillOf, rowsAfter, plannedIn}
 use Rattle.plans.specs.Trees.{documentsWalk}
-use Rattle.plans.specs.Bodies.{Holds}
+use Rattle.plans.specs.Bodies.{HoldsForm}
 use Rattle.plans.proofs.Numbered.{new-flat, number-flat}
 use Rattle.plans.proofs.TreeWalk.{Clear, walk-tree}
 
@@ -32,7 +32,7 @@ module _ (c : Call) (s : Store) (p : Plan) (v : Bytes) where
   unfolding rowsAfter
   rows-left clear e = sym e ∙ sym (walk-tree p v (fillOf p v (flat s)) standing clear)
 
-  pub flat-planned-in : (g : FlatStore) → Holds g (formAfter c (s .form)) → Clear p (indexed (s .form) [] (s .docs))
+  pub flat-planned-in : (g : FlatStore) → HoldsForm g (formAfter c (s .form)) → Clear p (indexed (s .form) [] (s .docs))
       → documentsWalk p v (fillOf p v (flat s)) (indexed (s .form) [] (s .docs)) ≡ flatten 0 (indexed (formAfter c (s .form)) [] (docsAfter c s)) → flat (after c s) ≡ plannedIn g p v (flat s)
   unfolding after plannedIn
   flat-planned-in g holds clear e =

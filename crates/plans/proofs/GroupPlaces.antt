@@ -6,7 +6,7 @@ use mathlib.Core.Option.{some}
 use mathlib.Core.List.{List, [], _∷_, _++_, map, append-assoc}
 use lib.ListN.{length, drop}
 use lib.Seq.{drop-drop, drop-append-add}
-use borrow.Author.Tests.{lt-ltb, le-ltb, eq-eqb, ne-eqb}
+use borrow.Author.Tests.{le-ltb, eq-eqb}
 use Rattle.rules.specs.declared.Quantifier.{Quantifier}
 use Rattle.rules.specs.declared.GroupKind.{GroupKind}
 use Rattle.rules.specs.declared.GroupKind.the-variants.{Sequence, Choice}
@@ -19,24 +19,20 @@ use Rattle.rules.specs.Preorder.{Deep, build}
 use Rattle.rules.specs.Layout.{FlatParticle, groupCode, howMany, indexOf, contentParticles, flatDefinition, allParticles, flat}
 use Rattle.rules.specs.Change.{definitionAt}
 use Rattle.rules.proofs.RenamingPlaces.{plug-rename}
-use Rattle.history.proofs.ModelAfter.{place-right}
-use Rattle.history.proofs.EditConditions.{complex-content, picked-complex}
+use Rattle.change_laws.proofs.ModelAfter.{place-right}
+use Rattle.change_laws.proofs.EditConditions.{complex-content, picked-complex}
 use Rattle.model.specs.Members.{indexMember, indexMembers}
 use Rattle.model.specs.Places.{Particles}
 use Rattle.model.specs.Positions.{elementParticle, groupParticle, spread, offset, leading, trailing, level}
-use Rattle.model.proofs.PositionLaws.{code-quantifier, spread-named, spread-plug, length-leading}
+use Rattle.model.proofs.PositionLaws.{spread-named, spread-plug, length-leading}
 use Rattle.model_writer.specs.Spliced.{startOf}
 use Rattle.store_writer.specs.Planned.{membersAt}
+use Rattle.rules.proofs.PreorderLaws.{build-less, build-more}
+use Rattle.rules.proofs.DecodeLaws.{quantifier-code}
 
 -- ---- a particle of depth d, a deeper one, one less deep
 build-same : (x : Deep FlatParticle) (xs : Particles) (d : ℕ) → d ≡ x .depth → build (x ∷ xs) d ≡ tree (x .row) (build xs (suc d)) (build xs d)
 build-same x xs d e = rw (le-ltb d (x .depth) (omega arith), build) (rw (eq-eqb d (x .depth) e))
-
-build-less : (x : Deep FlatParticle) (xs : Particles) (k : ℕ) → k < x .depth → build (x ∷ xs) k ≡ build xs k
-build-less x xs k h = rw (lt-ltb k (x .depth) h, build)
-
-build-more : (x : Deep FlatParticle) (xs : Particles) (k : ℕ) → x .depth < k → build (x ∷ xs) k ≡ bare
-build-more x xs k h = rw (le-ltb k (x .depth) (omega arith), build) (rw (ne-eqb k (x .depth) (λ e. omega arith)))
 
 -- no particle comes next, or one less deep than d
 pub record Shallow (d : ℕ) (rest : Particles) : Type 0 where
@@ -61,7 +57,7 @@ members-read : (d : ℕ) (ms : Members ℕ) (rest : Particles) → Shallow d res
 members-read d done rest h = ap indexMembers (h .none d (omega arith))
 members-read d (el q i ms) rest h =
     ap indexMembers (build-same (elementParticle d q i) (spread d ms ++ rest) d refl)
-    ∙ ap₂ (λ (r : Quantifier) (t : Members ℕ). el r i t) (code-quantifier q) (members-read d ms rest h)
+    ∙ ap₂ (λ (r : Quantifier) (t : Members ℕ). el r i t) (quantifier-code q) (members-read d ms rest h)
 members-read d (group q j ms t) rest h =
     ap indexMembers (build-same (groupParticle d q j (howMany ms)) ((spread (suc d) ms ++ spread d t) ++ rest) d refl)
     ∙ ap₂ (λ (u v : Members ℕ). indexMember (groupParticle d q j (howMany ms) .row) (groupCode j) u v)
@@ -76,8 +72,8 @@ members-read d (group q j ms t) rest h =
     others = ap (λ (l : Particles). indexMembers (build l d)) (append-assoc (spread (suc d) ms) (spread d t) rest) ∙ ap indexMembers (build-above (suc d) d ms (spread d t ++ rest) (omega arith))
 
     by : (k : GroupKind) → indexMember (groupParticle d q k (howMany ms) .row) (groupCode k) ms t ≡ group q k ms t
-    by Sequence = ap (λ (r : Quantifier). group r Sequence ms t) (code-quantifier q)
-    by Choice = ap (λ (r : Quantifier). group r Choice ms t) (code-quantifier q)
+    by Sequence = ap (λ (r : Quantifier). group r Sequence ms t) (quantifier-code q)
+    by Choice = ap (λ (r : Quantifier). group r Choice ms t) (quantifier-code q)
 
 -- after a place nothing deeper than it comes
 shallow-trailing : (d : ℕ) (c : Context ℕ) (rest : Particles) → Shallow (suc d) rest → Shallow (suc (level d c)) (trailing d c ++ rest)

@@ -22,13 +22,13 @@ use Rattle.rules.proofs.Apart.{differs}
 use Rattle.rules.proofs.Height.{reaches-then}
 use Rattle.rules.proofs.WellFormedLaws.{well-formed, no-circle}
 use Rattle.rules.proofs.PassingLaws.{good-is}
-use Rattle.history.proofs.ConformingAfter.{is-element}
-use Rattle.history.proofs.ConformingForms.{element-named}
+use Rattle.change_laws.proofs.ConformingForms.{element-named}
 use Rattle.store_check.proofs.IndexLaws.{index-name, name-of}
 use Rattle.store_check.proofs.AttributeRows.{rowWritten}
 use Rattle.row_walk.specs.declared.Which.the-variants.{Elements}
 use Rattle.row_walk.specs.Walk.{matches}
-use Rattle.plans.specs.Trees.{NoneOf, Apart}
+use Rattle.plans.specs.Trees.{NoneOf, NotNested}
+use Rattle.rules.proofs.ConformingLaws.{is-element}
 
 -- ---- definitions by name and by index
 -- a name stands at its index
@@ -98,7 +98,7 @@ module _ (version : ℕ) (form : Form) (once : Distinct (map definitionName form
           )
       other false q = rw q
 
-  apart-elements : (owner : Bytes) (f : Forest Row) → EveryRow (λ r rows. RowConforms version form r rows) f → Apart (matches (Elements o)) (indexed form owner f)
+  apart-elements : (owner : Bytes) (f : Forest Row) → EveryRow (λ r rows. RowConforms version form r rows) f → NotNested (matches (Elements o)) (indexed form owner f)
   apart-elements owner bare x = tt
   apart-elements owner (tree r b t) (x, y, z) = (
     λ e.
@@ -111,7 +111,7 @@ module _ (version : ℕ) (form : Form) (once : Distinct (map definitionName form
   )
 
 -- INSTANCES NEVER NEST in a store that passes
-pub apart-instances : (s : Store) → good s ≡ true → (o : ℕ) → o < length (s .form) → Apart (matches (Elements o)) (indexed (s .form) [] (s .docs))
+pub apart-instances : (s : Store) → good s ≡ true → (o : ℕ) → o < length (s .form) → NotNested (matches (Elements o)) (indexed (s .form) [] (s .docs))
 apart-instances s g o l =
     let ok = good-is s .0 g in
     apart-elements (s .version) (s .form) (ok .form .names)

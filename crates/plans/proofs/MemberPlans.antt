@@ -8,7 +8,7 @@ use lib.ListN.{length}
 use Rattle.rules.specs.declared.Quantifier.{Quantifier}
 use Rattle.rules.specs.Bytes.{Bytes}
 use Rattle.rules.specs.Model.{Members, el, Distinct, skips, names}
-use Rattle.rules.specs.Place.{Context, Found, spine, before}
+use Rattle.rules.specs.Place.{Context, Found, spine, beforePlace}
 use Rattle.rules.specs.Edit.{Edit, insert, remove, placeOf}
 use Rattle.rules.specs.Store.{Row, Forest, Store, members}
 use Rattle.rules.specs.Preorder.{Deep, flatten}
@@ -18,11 +18,10 @@ use Rattle.rules.specs.WellFormed.{definitionName, known}
 use Rattle.rules.specs.Filling.{fillDefinition}
 use Rattle.rules.specs.Lines.{elementNamed}
 use Rattle.rules.specs.Passing.{good}
-use Rattle.rules.specs.Change.{insertElement, removeElement, definitionAt, nameAtIndex, update, inModel, editAt, formAfter, taking, making, laterThan}
-use Rattle.rules.specs.Change.{insertPlan, removePlan, pickedPlan, plan, changed}
+use Rattle.rules.specs.Change.{insertElement, removeElement, definitionAt, nameAtIndex, update, inModel, editAt, formAfter, taking, making, laterThan, insertPlan, removePlan, pickedPlan, plan, changed}
 use Rattle.rules.specs.Change as change
 use Rattle.rules.proofs.PassingLaws.{good-is}
-use Rattle.history.proofs.Rowwise.{Standing}
+use Rattle.change_laws.proofs.Rowwise.{Standing}
 use Rattle.store_check.proofs.AttributeRows.{rowWritten}
 use Rattle.row_walk.specs.declared.Which.the-variants.{Elements}
 use Rattle.row_walk.specs.declared.Plan.{Plan}
@@ -35,7 +34,8 @@ use Rattle.plans.proofs.FollowingLaws.{index-same, value-same, follows-
 use Rattle.plans.proofs.DocumentPlans.{given}
 use Rattle.plans.proofs.Instances.{element-test}
 use Rattle.plans.proofs.AttributeCallsPlanned.{and-swap}
-use Rattle.plans.proofs.ModelForms.{rows-still, known-element, picked-known, named-test, later-test}
+use Rattle.plans.proofs.ModelForms.{known-element, picked-known, named-test, later-test}
+use Rattle.model_writer.proofs.FormAfter.{rows-kept}
 
 module _ (s : Store) (g : good s ≡ true) (o : ℕ) (l : o < length (s .form)) (p : List ℕ) where
   abbrev owner : Bytes
@@ -62,7 +62,7 @@ module _ (s : Store) (g : good s ≡ true) (o : ℕ) (l : o < length (s .form)) 
             ))
             refl;
       }
-      ∙ sym (ap (flatten 0) (rows-still (editAt remove p) o (s .form) [] (changed taker (s .docs))))
+      ∙ sym (ap (flatten 0) (rows-kept (editAt remove p) o (s .form) [] (changed taker (s .docs))))
       ∙ ap (λ (z : Option (Found Bytes)). flatten 0 (indexed (update o (inModel (editAt remove p)) (s .form)) [] (changed (pickedPlan (λ c t. removePlan owner t) z) (s .docs)))) (sym at)
     where
       x : ℕ
@@ -80,7 +80,7 @@ module _ (s : Store) (g : good s ≡ true) (o : ℕ) (l : o < length (s .form)) 
   -- ---- 3: definition i, before the members t at the place
   module _ (i k : ℕ) (t : Bytes) (c : Context Bytes) (ms : Members Bytes) (below : i < length (s .form))
       (at : placeOf (insert (quantifierOf k) (nameAtIndex i (s .form))) p (members (definitionAt o (s .form))) ≡ some (record { context = c; picked = ms }))
-      (marks : Bytes) (marked : (not (skips (quantifierOf k)) && spine c) ≡ true → Marked (s .form) (before c) [] marks) where
+      (marks : Bytes) (marked : (not (skips (quantifierOf k)) && spine c) ≡ true → Marked (s .form) (beforePlace c) [] marks) where
     abbrev needs : Bool
     needs = not (skips (quantifierOf k)) && spine c
 
@@ -88,7 +88,7 @@ module _ (s : Store) (g : good s ≡ true) (o : ℕ) (l : o < length (s .form)) 
     inserting = insertElementPlan o marks i needs
 
     abbrev maker : change.Plan
-    maker = making (λ r. needs && elementNamed owner r) (laterThan (before c)) (fillDefinition (s .version) (s .form) t (nameAtIndex i (s .form)))
+    maker = making (λ r. needs && elementNamed owner r) (laterThan (beforePlace c)) (fillDefinition (s .version) (s .form) t (nameAtIndex i (s .form)))
 
     abbrev fill : ℕ → List (Deep FlatRow)
     fill = fillOf inserting t (flat s)
@@ -97,7 +97,7 @@ module _ (s : Store) (g : good s ≡ true) (o : ℕ) (l : o < length (s .form)) 
     insert-row sel w u r b j =
         record {
           takes = and-false sel;
-          later = λ e f. later-test (s .form) once (before c) [] marks (marked f) (u .name) r (known-element s g r b j);
+          later = λ e f. later-test (s .form) once (beforePlace c) [] marks (marked f) (u .name) r (known-element s g r b j);
           index = index-same inserting refl refl (rowWritten (s .form) (u .name) r);
           value = value-same r t [] (given s g r b j);
           fills = ap (λ (a : Bool). a && needs) (element-test (s .form) once o l (u .name) r) ∙ and-swap (elementNamed owner r) needs;
@@ -115,7 +115,7 @@ module _ (s : Store) (g : good s ≡ true) (o : ℕ) (l : o < length (s .form)) 
               follows-all (s .form) (s .form) maker inserting t fill (s .docs) (λ sel u. sel ≡ elementNamed owner u)
               (λ sel w u r b y j. (insert-row sel w u r b j, element-test (s .form) once o l (u .name) r)) refl;
         }
-        ∙ sym (ap (flatten 0) (rows-still (editAt edit p) o (s .form) [] (changed maker (s .docs))))
+        ∙ sym (ap (flatten 0) (rows-kept (editAt edit p) o (s .form) [] (changed maker (s .docs))))
         ∙ ap
         (λ (z : Option (Found Bytes)). flatten 0
         (indexed (update o (inModel (editAt edit p)) (s .form)) []

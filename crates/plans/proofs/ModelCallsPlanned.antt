@@ -10,7 +10,7 @@ use Rattle.rules.specs.declared.GroupKind.{GroupKind}
 use Rattle.rules.specs.Bytes.{Bytes}
 use Rattle.rules.specs.Model.{Members, el, group, names, rename, skips}
 use Rattle.rules.specs.Quantifiers.{gains, cuts}
-use Rattle.rules.specs.Place.{Context, spine, before}
+use Rattle.rules.specs.Place.{Context, spine, beforePlace}
 use Rattle.rules.specs.Edit.{insert, remove, quantify, placeOf}
 use Rattle.rules.specs.Store.{Store, members}
 use Rattle.rules.specs.Layout.{FlatStore, indexOf, flat}
@@ -19,10 +19,10 @@ use Rattle.rules.specs.Passing.{good}
 use Rattle.rules.specs.Refusal.{past, first, conditions}
 use Rattle.rules.specs.Change.{insertElement, removeElement, changeQuantifier, changeGroupQuantifier, definitionAt, nameAtIndex, formAfter, after}
 use Rattle.rules.proofs.Words.{or-split}
-use Rattle.history.proofs.Conditions.{not-past}
+use Rattle.change_laws.proofs.Conditions.{not-past}
 use Rattle.filling.specs.declared.Filling.the-variants.{Definition, Particles}
 use Rattle.store_writer.specs.Planned.{membersAt, plannedIn}
-use Rattle.plans.specs.Bodies.{Holds}
+use Rattle.plans.specs.Bodies.{HoldsForm}
 use Rattle.plans.specs.ModelCalls.{Marked, insertElementPlan, removeElementPlan, requantifyPlan}
 use Rattle.plans.proofs.FormPlanned.{flat-planned-in}
 use Rattle.plans.proofs.CallsPlanned.{none-holds}
@@ -35,7 +35,7 @@ module _ (s : Store) (g : good s ≡ true) (o : ℕ) (p : List ℕ) (c : Context
   -- 3; ms: the members after the place
   pub insert-element-planned : (i k : ℕ) (t : Bytes) (ms : Members Bytes) (marks : Bytes) → first (conditions (insertElement o p i k t) s) ≡ 0
       → placeOf (insert (quantifierOf k) (nameAtIndex i (s .form))) p (members (definitionAt o (s .form))) ≡ some (record { context = c; picked = ms })
-      → ((not (skips (quantifierOf k)) && spine c) ≡ true → Marked (s .form) (before c) [] marks) → Holds new (formAfter (insertElement o p i k t) (s .form))
+      → ((not (skips (quantifierOf k)) && spine c) ≡ true → Marked (s .form) (beforePlace c) [] marks) → HoldsForm new (formAfter (insertElement o p i k t) (s .form))
       → flat (after (insertElement o p i k t) s) ≡ plannedIn new (insertElementPlan o marks i (not (skips (quantifierOf k)) && spine c)) t (flat s)
   unfolding conditions
   insert-element-planned i k t ms marks e at marked holds =
@@ -47,7 +47,7 @@ module _ (s : Store) (g : good s ≡ true) (o : ℕ) (p : List ℕ) (c : Context
 
   -- 4: element n; any text: none is used
   pub remove-element-planned : (q : Quantifier) (n : Bytes) (rest : Members Bytes) (v : Bytes) → first (conditions (removeElement o p) s) ≡ 0
-      → placeOf remove p (members (definitionAt o (s .form))) ≡ some (record { context = c; picked = el q n rest }) → Holds new (formAfter (removeElement o p) (s .form))
+      → placeOf remove p (members (definitionAt o (s .form))) ≡ some (record { context = c; picked = el q n rest }) → HoldsForm new (formAfter (removeElement o p) (s .form))
       → flat (after (removeElement o p) s) ≡ plannedIn new (removeElementPlan o (indexOf n (s .form))) v (flat s)
   unfolding conditions
   remove-element-planned q n rest v e at holds =
@@ -58,8 +58,8 @@ module _ (s : Store) (g : good s ≡ true) (o : ℕ) (p : List ℕ) (c : Context
   -- 5: element n
   pub change-quantifier-planned : (k : ℕ) (t : Bytes) (old : Quantifier) (n : Bytes) (rest : Members Bytes) (marks : Bytes) → first (conditions (changeQuantifier o p k t) s) ≡ 0
       → placeOf (quantify (quantifierOf k)) p (members (definitionAt o (s .form))) ≡ some (record { context = c; picked = el old n rest })
-      → (((spine c && cuts old (quantifierOf k)) || (spine c && gains old (quantifierOf k))) ≡ true → Marked (s .form) (before c) (n ∷ []) marks)
-      → Holds new (formAfter (changeQuantifier o p k t) (s .form))
+      → (((spine c && cuts old (quantifierOf k)) || (spine c && gains old (quantifierOf k))) ≡ true → Marked (s .form) (beforePlace c) (n ∷ []) marks)
+      → HoldsForm new (formAfter (changeQuantifier o p k t) (s .form))
       → flat (after (changeQuantifier o p k t) s)
       ≡ plannedIn new (requantifyPlan o marks (spine c && cuts old (quantifierOf k)) (indexOf n (s .form)) (spine c && gains old (quantifierOf k)) (Definition (indexOf n (s .form)))) t (flat s)
   unfolding conditions
@@ -79,9 +79,9 @@ module _ (s : Store) (g : good s ≡ true) (o : ℕ) (p : List ℕ) (c : Context
   pub change-group-quantifier-planned : (k : ℕ) (t : Bytes) (old : Quantifier) (j : GroupKind) (ms rest : Members Bytes) (marks : Bytes) (f e : ℕ)
       → first (conditions (changeGroupQuantifier o p k t) s) ≡ 0
       → placeOf (quantify (quantifierOf k)) p (members (definitionAt o (s .form))) ≡ some (record { context = c; picked = group old j ms rest })
-      → ((spine c && gains old (quantifierOf k)) ≡ true → Marked (s .form) (before c) (names ms) marks)
+      → ((spine c && gains old (quantifierOf k)) ≡ true → Marked (s .form) (beforePlace c) (names ms) marks)
       → ((spine c && gains old (quantifierOf k)) ≡ true → membersAt (flat s) f e ≡ rename (λ n. indexOf n (s .form)) ms)
-      → Holds new (formAfter (changeGroupQuantifier o p k t) (s .form))
+      → HoldsForm new (formAfter (changeGroupQuantifier o p k t) (s .form))
       → flat (after (changeGroupQuantifier o p k t) s) ≡ plannedIn new (requantifyPlan o marks false 0 (spine c && gains old (quantifierOf k)) (Particles j f e)) t (flat s)
   unfolding conditions
   change-group-quantifier-planned k t old j ms rest marks f e unmet at marked begin holds =

@@ -1,62 +1,37 @@
 -- An edit of one model: no index moves. Elements and their marks, by index and by name.
-use Prim.Native.Nat.{ℕ, zero, suc, _+_, _<_}
+use Prim.Native.Nat.{ℕ, _+_, _<_}
 use mathlib.Core.Path.{_≡_, refl, sym, ap, _∙_, subst}
 use mathlib.Core.Logic.{inl, inr}
-use mathlib.Core.Bool.{true, false, _&&_, not}
+use mathlib.Core.Bool.{true, _&&_, not}
 use mathlib.Core.Option.{some}
-use mathlib.Core.List.{List, [], _∷_, _++_, map, List·Memᴰ, Memᴰ·append-left, Memᴰ·append-right}
+use mathlib.Core.List.{List, _++_, map, List·Memᴰ, Memᴰ·append-left, Memᴰ·append-right}
 use lib.Dec.{eqb}
 use lib.ListN.{length, getD}
-use Rattle.rules.specs.Bytes.{Bytes, same, bytes}
+use Rattle.rules.specs.Bytes.{Bytes, bytes}
 use Rattle.rules.specs.Model.{Members, names, Distinct, member}
-use Rattle.rules.specs.Place.{Found, before, after}
+use Rattle.rules.specs.Place.{Found, beforePlace, afterPlace}
 use Rattle.rules.specs.Store.{Form, RowSort, element, attribute, text, Row, Forest, bare, tree, heads, Store, members}
-use Rattle.rules.specs.Layout.{rowCode, rowIndex, indexOf, indexIn, attributeIndex, indexed}
+use Rattle.rules.specs.Layout.{rowCode, rowIndex, indexOf}
 use Rattle.rules.specs.WellFormed.{definitionName, isThere, known}
 use Rattle.rules.specs.Conforming.{isElement, EveryRow, RowConforms}
 use Rattle.rules.specs.Lines.{elementNamed}
 use Rattle.rules.specs.Passing.{good}
 use Rattle.rules.specs.Edit.{Edit, placeOf}
-use Rattle.rules.specs.Change.{definitionAt, nameAtIndex, update, inModel}
+use Rattle.rules.specs.Change.{definitionAt, nameAtIndex}
 use Rattle.rules.proofs.Apart.{names-plug}
 use Rattle.rules.proofs.PassingLaws.{good-is}
-use Rattle.history.proofs.Rowwise.{Standing}
-use Rattle.history.proofs.ConformingAfter.{is-element}
-use Rattle.history.proofs.ModelAfter.{place-right}
+use Rattle.change_laws.proofs.Rowwise.{Standing}
+use Rattle.change_laws.proofs.ModelAfter.{place-right}
 use Rattle.store_check.proofs.IndexLaws.{Indexed, known-index, name-of, definition-in}
 use Rattle.store_check.proofs.AttributeRows.{rowWritten}
 use Rattle.row_walk.specs.declared.Which.the-variants.{Elements}
 use Rattle.row_walk.specs.declared.Later.the-variants.{Unmarked}
-use Rattle.row_walk.specs.Walk.{matches, markOf, isLater}
+use Rattle.row_walk.specs.Walk.{matches, placeMark, isLater}
 use Rattle.plans.specs.ModelCalls.{Marked}
 use Rattle.plans.proofs.Instances.{element-test}
+use Rattle.rules.proofs.ConformingLaws.{is-element}
 
 -- ---- rows by indices, whatever becomes of one model
-module _ (u : Members Bytes → Members Bytes) where
-  index-still : (o : ℕ) (form : Form) (n : Bytes) → indexOf n (update o (inModel u) form) ≡ indexOf n form
-  index-still o [] n = refl
-  index-still zero (d ∷ ds) n = refl
-  index-still (suc o) (d ∷ ds) n = ap (λ (i : ℕ). elim (same n (d .name)) as (λ z. ℕ) [ true ↦ 0 | false ↦ suc i ]) (index-still o ds n)
-
-  attribute-still : (o : ℕ) (form : Form) (owner n : Bytes) → attributeIndex owner n (update o (inModel u) form) ≡ attributeIndex owner n form
-  attribute-still o [] owner n = refl
-  attribute-still zero (d ∷ ds) owner n = refl
-  attribute-still (suc o) (d ∷ ds) owner n =
-      ap (λ (i : ℕ). elim (same owner (d .name)) as (λ z. ℕ) [ true ↦ indexIn n (d .attributes) | false ↦ length (d .attributes) + i ]) (attribute-still o ds owner n)
-
-  pub rows-still : (o : ℕ) (form : Form) (owner : Bytes) (f : Forest Row) → indexed (update o (inModel u) form) owner f ≡ indexed form owner f
-  rows-still o form owner bare = refl
-  rows-still o form owner (tree r b t) =
-      λ i. tree (record { sort = rowCode (r .sort); index = index (r .sort) i; serial = r .serial; value = r .value }) (rows-still o form (r .name) b i) (rows-still o form owner t i)
-    where
-      index : (s : RowSort)
-          → _≡_ {A = ℕ}
-          (elim s [ element ↦ indexOf (r .name) (update o (inModel u) form) | attribute ↦ attributeIndex owner (r .name) (update o (inModel u) form) | text ↦ 0 ])
-          (elim s [ element ↦ indexOf (r .name) form | attribute ↦ attributeIndex owner (r .name) form | text ↦ 0 ])
-      index element = index-still o form (r .name)
-      index attribute = attribute-still o form owner (r .name)
-      index text = refl
-
 -- ---- what stands in the documents
 pub every-standing : (Q : Row → List Row → Type 0) (f : Forest Row) → EveryRow Q f → (r : Row) (b : Forest Row) → Standing f r b → Q r (heads b)
 every-standing Q bare x r b i = absurd i
@@ -72,14 +47,14 @@ known-element s g r b i e = by (every-standing (λ u rows. RowConforms (s .versi
     by x = let (d, q, y) = rw (is-element (r .sort) e) at x in ap isThere q
 
 -- a name in a model is one of a definition: the names around a place, and at it
-pub names-around : (e : Edit Bytes) (p : List ℕ) (ms : Members Bytes) (f : Found Bytes) → placeOf e p ms ≡ some f → names ms ≡ before (f .context) ++ (names (f .picked) ++ after (f .context))
+pub names-around : (e : Edit Bytes) (p : List ℕ) (ms : Members Bytes) (f : Found Bytes) → placeOf e p ms ≡ some f → names ms ≡ beforePlace (f .context) ++ (names (f .picked) ++ afterPlace (f .context))
 names-around e p ms f at = sym (ap names (place-right e p ms f at)) ∙ names-plug (f .context) (f .picked)
 
 pub picked-known : (s : Store) → good s ≡ true → (o : ℕ) → o < length (s .form) → (e : Edit Bytes) (p : List ℕ) (f : Found Bytes) → placeOf e p (members (definitionAt o (s .form))) ≡ some f
     → (n : Bytes) → List·Memᴰ n (names (f .picked)) → known (s .form) n ≡ true
 picked-known s g o l e p f at n m =
     good-is s .0 g .form .definitions (definitionAt o (s .form)) (definition-in (s .form) o l) .inRange n
-    (subst (λ (ns : List Bytes). List·Memᴰ n ns) (sym (names-around e p (members (definitionAt o (s .form))) f at)) (Memᴰ·append-right (before (f .context)) (Memᴰ·append-left (after (f .context)) m)))
+    (subst (λ (ns : List Bytes). List·Memᴰ n ns) (sym (names-around e p (members (definitionAt o (s .form))) f at)) (Memᴰ·append-right (beforePlace (f .context)) (Memᴰ·append-left (afterPlace (f .context)) m)))
 
 -- ---- elements by the index of their name
 module _ (form : Form) (once : Distinct (map definitionName form)) where
@@ -93,18 +68,18 @@ module _ (form : Form) (once : Distinct (map definitionName form)) where
       element-test form once (indexOf n form) l owner r ∙ ap (λ (m : Bytes). elementNamed m r) e
 
   -- marks by name
-  module _ (before at : List Bytes) (marks : Bytes) (m : Marked form before at marks) (owner : Bytes) (r : Row) (k : isElement (r .sort) ≡ true → known form (r .name) ≡ true) where
-    pub later-test : isLater marks Unmarked (rowWritten form owner r) ≡ (isElement (r .sort) && not (member bytes (r .name) before))
+  module _ (beforePlace at : List Bytes) (marks : Bytes) (m : Marked form beforePlace at marks) (owner : Bytes) (r : Row) (k : isElement (r .sort) ≡ true → known form (r .name) ≡ true) where
+    pub later-test : isLater marks Unmarked (rowWritten form owner r) ≡ (isElement (r .sort) && not (member bytes (r .name) beforePlace))
     later-test = by (r .sort) refl
       where
-        by : (t : RowSort) → r .sort ≡ t → (eqb (rowCode (r .sort)) 1 && not (eqb (getD marks (rowIndex form owner r) 0) 1)) ≡ (isElement (r .sort) && not (member bytes (r .name) before))
+        by : (t : RowSort) → r .sort ≡ t → (eqb (rowCode (r .sort)) 1 && not (eqb (getD marks (rowIndex form owner r) 0) 1)) ≡ (isElement (r .sort) && not (member bytes (r .name) beforePlace))
         by element q =
             let (l, e) = index-of-name (r .name) (k (ap isElement q)) in
-            rw q (ap not (m .ones (indexOf (r .name) form) l ∙ ap (λ (n : Bytes). member bytes n before) e))
+            rw q (ap not (m .ones (indexOf (r .name) form) l ∙ ap (λ (n : Bytes). member bytes n beforePlace) e))
         by attribute q = rw q
         by text q = rw q
 
-    pub place-test : (eqb (rowCode (r .sort)) 1 && eqb (markOf marks (rowWritten form owner r)) 2) ≡ (isElement (r .sort) && member bytes (r .name) at)
+    pub place-test : (eqb (rowCode (r .sort)) 1 && eqb (placeMark marks (rowWritten form owner r)) 2) ≡ (isElement (r .sort) && member bytes (r .name) at)
     place-test = by (r .sort) refl
       where
         by : (t : RowSort) → r .sort ≡ t → (eqb (rowCode (r .sort)) 1 && eqb (getD marks (rowIndex form owner r) 0) 2) ≡ (isElement (r .sort) && member bytes (r .name) at)

@@ -12,11 +12,11 @@ use Rattle.rules.specs.Conforming.{isElement, isAttribute, EveryRow, RowConform
 use Rattle.rules.specs.Lines.{ground}
 use Rattle.rules.specs.Passing.{good}
 use Rattle.rules.proofs.WellFormedLaws.{well-formed}
-use Rattle.rules.proofs.ConformingLaws.{row-is}
+use Rattle.rules.proofs.ConformingLaws.{row-is, is-element}
 use Rattle.rules.proofs.PassingLaws.{once, apart, good-is}
-use Rattle.history.proofs.AttributeEdits.{content-plain, owned-rows}
-use Rattle.history.proofs.DefinitionEdits.{Stripped, stripped}
-use Rattle.history.proofs.ConformingAfter.{is-element, fits-element, fits-other}
+use Rattle.change_laws.proofs.AttributeEdits.{content-plain, owned-rows}
+use Rattle.change_laws.proofs.DefinitionEdits.{Stripped, stripped}
+use Rattle.change_laws.proofs.ConformingAfter.{fits-element, fits-other}
 use Rattle.plans.specs.Kept.{EachBelow}
 
 abbrev pub Owns : Form → Row → Row → Type 0

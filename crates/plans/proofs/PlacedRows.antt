@@ -12,7 +12,7 @@ use Rattle.rules.specs.declared.GroupKind.the-variants.{Sequence}
 use Rattle.rules.specs.Bytes.{Bytes, same, bytes, same-eq}
 use Rattle.rules.specs.Model.{Members, names, isDone, Distinct, member}
 use Rattle.rules.specs.Language.{Conforms}
-use Rattle.rules.specs.Place.{Context, plug, spine, before, after}
+use Rattle.rules.specs.Place.{Context, plug, spine, beforePlace, afterPlace}
 use Rattle.rules.specs.Edit.{Edit, _⊕_, placeOf}
 use Rattle.rules.specs.Store.{Content, complex, Definition, RowSort, element, attribute, Row, Forest, heads, Store, members}
 use Rattle.rules.specs.WellFormed.{lookup}
@@ -27,13 +27,13 @@ use Rattle.rules.proofs.Correct.{distinct-left, distinct-right, distinct-apart}
 use Rattle.rules.proofs.Letters.{letters, member-in, member-out}
 use Rattle.rules.proofs.Spine.{split, names-append}
 use Rattle.rules.proofs.PassingLaws.{good-is}
-use Rattle.history.proofs.Rowwise.{Standing}
-use Rattle.history.proofs.FormLaws.{definition-found}
-use Rattle.history.proofs.ModelAfter.{place-right}
-use Rattle.history.proofs.EditConditions.{complex-content, picked-complex}
-use Rattle.history.proofs.ConformingAfter.{is-element}
+use Rattle.change_laws.proofs.Rowwise.{Standing}
+use Rattle.change_laws.proofs.FormLaws.{definition-found}
+use Rattle.change_laws.proofs.ModelAfter.{place-right}
+use Rattle.change_laws.proofs.EditConditions.{complex-content, picked-complex}
 use Rattle.store_check.proofs.IndexLaws.{definition-in}
 use Rattle.plans.proofs.ModelForms.{every-standing}
+use Rattle.rules.proofs.ConformingLaws.{is-element}
 
 -- ---- words
 pub record Placed (bs ns w : List Bytes) : Type 0 where
@@ -48,14 +48,14 @@ pub record Placed (bs ns w : List Bytes) : Type 0 where
 
 -- a word of the model with the members `one` at the place, and `rest` after them
 pub placed : (c : Context Bytes) (one rest : Members Bytes) → spine c ≡ true → Distinct (names (plug c (one ⊕ rest))) → (w : List Bytes)
-    → Conforms (plug c (one ⊕ rest)) w → Placed (before c) (names one) w
+    → Conforms (plug c (one ⊕ rest)) w → Placed (beforePlace c) (names one) w
 placed c one rest s d w m =
     let p = split c (one ⊕ rest) s d w m in
     let (u, v, e, a, b) = append-alike Sequence one rest .to .carry (p .mid) (p .mid-is) in
     let all : Distinct (names one ++ names rest) =
     subst (λ (l : List Bytes). Distinct l) (names-append one rest)
-    (distinct-left (names (one ⊕ rest)) (after c)
-    (distinct-right (before c) (names (one ⊕ rest) ++ after c) (subst (λ (l : List Bytes). Distinct l) (names-plug c (one ⊕ rest)) d))) in
+    (distinct-left (names (one ⊕ rest)) (afterPlace c)
+    (distinct-right (beforePlace c) (names (one ⊕ rest) ++ afterPlace c) (subst (λ (l : List Bytes). Distinct l) (names-plug c (one ⊕ rest)) d))) in
     let here : (y : Bytes) → List·Memᴰ y (names one) → List·Memᴰ y (names (one ⊕ rest)) =
     λ y k. subst (λ (l : List Bytes). List·Memᴰ y l) (sym (names-append one rest)) (Memᴰ·append-left (names rest) k) in
     record {
@@ -147,7 +147,7 @@ module _ (s : Store) (g : good s ≡ true) (o : ℕ) (l : o < length (s .form)) 
   content : d .content ≡ complex (members d)
   content = complex-content (d .content) (picked-complex (d .content) c (one ⊕ rest) right there)
 
-  pub instance-rows : (r : Row) (b : Forest Row) → Standing (s .docs) r b → elementNamed (nameAtIndex o (s .form)) r ≡ true → NoneAt (names one) (heads b) ⊎ FirstAt (before c) (names one) (heads b)
+  pub instance-rows : (r : Row) (b : Forest Row) → Standing (s .docs) r b → elementNamed (nameAtIndex o (s .form)) r ≡ true → NoneAt (names one) (heads b) ⊎ FirstAt (beforePlace c) (names one) (heads b)
   instance-rows r b i n =
       let (is, called) = and-split (isElement (r .sort)) (same (d .name) (r .name)) n in
       let (k, q, x) = rw (is-element (r .sort) is) at (every-standing (λ u rows. RowConforms (s .version) (s .form) u rows) (s .docs) (good-is s .0 g .docs .rows) r b i) in
@@ -159,10 +159,10 @@ module _ (s : Store) (g : good s ≡ true) (o : ℕ) (l : o < length (s .form)) 
       once : Distinct (names (plug c (one ⊕ rest)))
       once = subst (λ (z : Members Bytes). Distinct (names z)) (sym right) (good-is s .0 g .form .definitions d (definition-in (s .form) o l) .once)
 
-      by : ElementRows (s .version) d (heads b) → NoneAt (names one) (heads b) ⊎ FirstAt (before c) (names one) (heads b)
+      by : ElementRows (s .version) d (heads b) → NoneAt (names one) (heads b) ⊎ FirstAt (beforePlace c) (names one) (heads b)
       by x =
           let (sorted, word) = subst (λ (z : Content). ContentRows z (x .back)) content (x .content) in
-          subst (λ (z : List Row). NoneAt (names one) z ⊎ FirstAt (before c) (names one) z) (x .split)
-          (front-rows (before c) (names one) (x .front) (x .back) (x .attributes .sorts)
-          (placed-rows (before c) (names one) (x .back) sorted
+          subst (λ (z : List Row). NoneAt (names one) z ⊎ FirstAt (beforePlace c) (names one) z) (x .split)
+          (front-rows (beforePlace c) (names one) (x .front) (x .back) (x .attributes .sorts)
+          (placed-rows (beforePlace c) (names one) (x .back) sorted
           (placed c one rest spined once (map nameOf (x .back)) (subst (λ (z : Members Bytes). Conforms z (map nameOf (x .back))) (sym right) word))))

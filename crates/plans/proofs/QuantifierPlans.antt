@@ -11,7 +11,7 @@ use Rattle.rules.specs.declared.GroupKind.{GroupKind}
 use Rattle.rules.specs.Bytes.{Bytes, same, bytes, same-eq}
 use Rattle.rules.specs.Model.{Members, done, el, group, skips, nothing, unless, filling, names, rename, Distinct, member}
 use Rattle.rules.specs.Quantifiers.{gains, cuts}
-use Rattle.rules.specs.Place.{Context, Found, spine, before}
+use Rattle.rules.specs.Place.{Context, Found, spine, beforePlace}
 use Rattle.rules.specs.Edit.{quantify, placeOf, _⊕_}
 use Rattle.rules.specs.Store.{Row, Forest, heads, Store, members}
 use Rattle.rules.specs.Preorder.{Deep, flatten}
@@ -26,8 +26,8 @@ use Rattle.rules.specs.Change.{changeQuantifier, changeGroupQuantifier, definit
 use Rattle.rules.proofs.Words.{and-split}
 use Rattle.rules.proofs.Letters.{member-in, member-out}
 use Rattle.rules.proofs.PassingLaws.{good-is}
-use Rattle.history.proofs.Rowwise.{Standing}
-use Rattle.store_check.specs.Reading.{indexForm, entryOf}
+use Rattle.change_laws.proofs.Rowwise.{Standing}
+use Rattle.store_check.specs.Reading.{flatIndexForm, entryOf}
 use Rattle.filling.specs.declared.Filling.{Filling}
 use Rattle.filling.specs.declared.Filling.the-variants.{Definition, Particles}
 use Rattle.filling.specs.Fillings.{fillingRows}
@@ -37,9 +37,11 @@ use Rattle.store_writer.specs.Planned.{membersAt}
 use Rattle.plans.specs.ModelCalls.{Marked, gainFilling, requantifyPlan, DoesIn}
 use Rattle.plans.proofs.Fillings.{filling-index}
 use Rattle.plans.proofs.GroupFillings.{filling-group}
-use Rattle.plans.proofs.ModelForms.{rows-still, picked-known, index-of-name, named-test}
+use Rattle.plans.proofs.ModelForms.{picked-known, index-of-name, named-test}
 use Rattle.plans.proofs.PlacedRows.{NoneAt, FirstAt, instance-rows}
 use Rattle.plans.proofs.RequantifyPlans.{requantify-does}
+use borrow.Author.Tests.{not-true}
+use Rattle.model_writer.proofs.FormAfter.{rows-kept}
 
 same-one : (n m : Bytes) → same n m ≡ member bytes m (n ∷ [])
 same-one n m = by (same n m) refl
@@ -47,10 +49,6 @@ same-one n m = by (same n m) refl
     by : (b : Bool) → same n m ≡ b → same n m ≡ member bytes m (n ∷ [])
     by true e = e ∙ sym (member-in bytes m (n ∷ []) (List·Memᴰ·head (sym (same-eq n m e))))
     by false e = e ∙ sym (member-out bytes m (n ∷ []) (λ j. false≢true (sym e ∙ bytes .same← n m (sym (List·Memᴰ·eq-of-singleton j)))))
-
-not-true : (b : Bool) → not b ≡ true → b ≡ false
-not-true true e = absurd (false≢true e)
-not-true false e = refl
 
 both-spined : (a b d : Bool) → ((a && b) || (a && d)) ≡ true → a ≡ true
 both-spined true b d e = refl
@@ -73,7 +71,7 @@ module _ (s : Store) (g : good s ≡ true) (o : ℕ) (l : o < length (s .form)) 
   once = good-is s .0 g .form .names
 
   abbrev rowsOf : Filling → ℕ → List (Deep FlatRow)
-  rowsOf what d = fillingRows (indexForm (flat s)) (λ j. valueOf (entryOf j (flat s .attributes))) (λ a b. membersAt (flat s) a b) what t d
+  rowsOf what d = fillingRows (flatIndexForm (flat s)) (λ j. valueOf (entryOf j (flat s .attributes))) (λ a b. membersAt (flat s) a b) what t d
 
   -- the filling if there is a gain
   gained : (what : Filling) (rows : Forest Row) (b : Bool) (d : ℕ) (m : Bytes) → (b ≡ true → rowsOf what d ≡ flatten d (indexed (s .form) m rows))
@@ -83,7 +81,7 @@ module _ (s : Store) (g : good s ≡ true) (o : ℕ) (l : o < length (s .form)) 
 
   -- ---- 5: element n
   module _ (n : Bytes) (rest : Members Bytes) (at : placeOf (quantify (quantifierOf k)) p (members (definitionAt o (s .form))) ≡ some (record { context = c; picked = el old n rest }))
-      (marked : ((spine c && cuts old (quantifierOf k)) || (spine c && gains old (quantifierOf k))) ≡ true → Marked (s .form) (before c) (n ∷ []) marks) where
+      (marked : ((spine c && cuts old (quantifierOf k)) || (spine c && gains old (quantifierOf k))) ≡ true → Marked (s .form) (beforePlace c) (n ∷ []) marks) where
     abbrev x : ℕ
     x = indexOf n (s .form)
 
@@ -99,7 +97,7 @@ module _ (s : Store) (g : good s ≡ true) (o : ℕ) (l : o < length (s .form)) 
         let (below, name) = index-of-name (s .form) once n there in
         sym (filling-index s g t d x m below) ∙ ap (λ (z : Bytes). flatten d (indexed (s .form) m (fillDefinition (s .version) (s .form) t z))) name
 
-    standing : (cut || gain) ≡ true → (r : Row) (b : Forest Row) → Standing (s .docs) r b → elementNamed owner r ≡ true → NoneAt (n ∷ []) (heads b) ⊎ FirstAt (before c) (n ∷ []) (heads b)
+    standing : (cut || gain) ≡ true → (r : Row) (b : Forest Row) → Standing (s .docs) r b → elementNamed owner r ≡ true → NoneAt (n ∷ []) (heads b) ⊎ FirstAt (beforePlace c) (n ∷ []) (heads b)
     unfolding names _⊕_
     standing f = instance-rows s g o l (quantify new) p c (el old n done) rest at refl (both-spined (spine c) (cuts old new) (gains old new) f)
 
@@ -112,7 +110,7 @@ module _ (s : Store) (g : good s ≡ true) (o : ℕ) (l : o < length (s .form)) 
         requantify-does s g o l c (n ∷ []) marks cut gain x n (Definition x) t (fillDefinition (s .version) (s .form) t n) (elementNamed n) marked standing
         among (λ e m r. named-test (s .form) once n there m r) (λ e. among)
         (λ d m. gained (Definition x) (fillDefinition (s .version) (s .form) t n) gain d m (λ e. definition-rows d m))
-        ∙ sym (ap (flatten 0) (rows-still (editAt (quantify new) p) o (s .form) [] (changed (quantifyPlan (s .version) (s .form) (lines 0 (s .docs)) owner t new c (el old n rest)) (s .docs))))
+        ∙ sym (ap (flatten 0) (rows-kept (editAt (quantify new) p) o (s .form) [] (changed (quantifyPlan (s .version) (s .form) (lines 0 (s .docs)) owner t new c (el old n rest)) (s .docs))))
         ∙ ap
         (λ (z : Option (Found Bytes)). flatten 0
         (indexed (update o (inModel (editAt (quantify new) p)) (s .form)) []
@@ -121,7 +119,7 @@ module _ (s : Store) (g : good s ≡ true) (o : ℕ) (l : o < length (s .form)) 
 
   -- ---- 8: a group, whose members of depth e begin with particle number f
   module _ (j : GroupKind) (ms rest : Members Bytes) (at : placeOf (quantify (quantifierOf k)) p (members (definitionAt o (s .form))) ≡ some (record { context = c; picked = group old j ms rest }))
-      (marked : (spine c && gains old (quantifierOf k)) ≡ true → Marked (s .form) (before c) (names ms) marks) (f e : ℕ)
+      (marked : (spine c && gains old (quantifierOf k)) ≡ true → Marked (s .form) (beforePlace c) (names ms) marks) (f e : ℕ)
       (begin : (spine c && gains old (quantifierOf k)) ≡ true → membersAt (flat s) f e ≡ rename (λ n. indexOf n (s .form)) ms) where
     abbrev rows : Forest Row
     rows = fillEach (λ n. fillDefinition (s .version) (s .form) t n) (groupFilling new j ms)
@@ -141,10 +139,10 @@ module _ (s : Store) (g : good s ≡ true) (o : ℕ) (l : o < length (s .form)) 
         filling-group s g t d m j ms f e known-member (begin h)
         ∙ ap (λ (ns : List Bytes). flatten d (indexed (s .form) m (fillEach (λ n. fillDefinition (s .version) (s .form) t n) ns))) (sym (needed h))
 
-    standing-group : gain ≡ true → (r : Row) (b : Forest Row) → Standing (s .docs) r b → elementNamed owner r ≡ true → NoneAt (names ms) (heads b) ⊎ FirstAt (before c) (names ms) (heads b)
+    standing-group : gain ≡ true → (r : Row) (b : Forest Row) → Standing (s .docs) r b → elementNamed owner r ≡ true → NoneAt (names ms) (heads b) ⊎ FirstAt (beforePlace c) (names ms) (heads b)
     unfolding names _⊕_
     standing-group f r b i n =
-        subst (λ (ns : List Bytes). NoneAt ns (heads b) ⊎ FirstAt (before c) ns (heads b)) (append-nil (names ms))
+        subst (λ (ns : List Bytes). NoneAt ns (heads b) ⊎ FirstAt (beforePlace c) ns (heads b)) (append-nil (names ms))
         (instance-rows s g o l (quantify new) p c (group old j ms done) rest at refl (both-spined (spine c) false (gains old new) (or-no (spine c) (spine c && gains old new) f)) r b i n)
       where
         or-no : (a b : Bool) → b ≡ true → ((a && false) || b) ≡ true
@@ -157,7 +155,7 @@ module _ (s : Store) (g : good s ≡ true) (o : ℕ) (l : o < length (s .form)) 
         requantify-does s g o l c (names ms) marks false gain 0 [] (Particles j f e) t rows (elementAmong (names ms)) marked standing-group (λ r. refl)
         (λ e. absurd (false≢true e)) (λ e. absurd (false≢true e))
         (λ d m. gained (Particles j f e) rows gain d m (λ h. group-rows h d m))
-        ∙ sym (ap (flatten 0) (rows-still (editAt (quantify new) p) o (s .form) [] (changed (quantifyPlan (s .version) (s .form) (lines 0 (s .docs)) owner t new c (group old j ms rest)) (s .docs))))
+        ∙ sym (ap (flatten 0) (rows-kept (editAt (quantify new) p) o (s .form) [] (changed (quantifyPlan (s .version) (s .form) (lines 0 (s .docs)) owner t new c (group old j ms rest)) (s .docs))))
         ∙ ap
         (λ (z : Option (Found Bytes)). flatten 0
         (indexed (update o (inModel (editAt (quantify new) p)) (s .form)) []

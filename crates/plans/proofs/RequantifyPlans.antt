@@ -3,13 +3,13 @@ use Prim.Native.Nat.{ℕ, _<_}
 use mathlib.Core.Path.{_≡_, refl, sym, ap, ap₂, _∙_, subst}
 use mathlib.Core.Logic.{_⊎_, inl, inr}
 use mathlib.Core.Bool.{Bool, true, false, _&&_, _||_, not, and-true, and-false, false≢true}
-use mathlib.Core.List.{List, [], _∷_, _++_, map, List·Memᴰ, List·Memᴰ·head, List·Memᴰ·tail, List·Memᴰ·eq-of-singleton, Memᴰ·map}
+use mathlib.Core.List.{List, [], _∷_, map, List·Memᴰ, List·Memᴰ·head, List·Memᴰ·tail, Memᴰ·map}
 use lib.Dec.{eqb}
 use lib.ListN.{length}
 use borrow.Author.Tests.{eq-eqb, ne-eqb}
 use Rattle.rules.specs.Bytes.{Bytes, isNone}
 use Rattle.rules.specs.Model.{Distinct}
-use Rattle.rules.specs.Place.{Context, before}
+use Rattle.rules.specs.Place.{Context, beforePlace}
 use Rattle.rules.specs.Store.{Row, Forest, bare, tree, heads, Store}
 use Rattle.rules.specs.Preorder.{Deep, flatten}
 use Rattle.rules.specs.Layout.{FlatRow, indexed, flat}
@@ -20,10 +20,10 @@ use Rattle.rules.specs.Change.{nameAtIndex, laterThan, changed}
 use Rattle.rules.specs.Change as change
 use Rattle.rules.proofs.PassingLaws.{good-is}
 use Rattle.rules.proofs.Words.{or-split}
-use Rattle.history.proofs.RowEdits.{keep, revalued}
-use Rattle.history.proofs.Rowwise.{Standing}
-use Rattle.history.proofs.StandingLaws.{children-are, children-once}
-use Rattle.history.proofs.InstanceRows.{rowSerial, keep-all, keep-none, keep-beside}
+use Rattle.change_laws.proofs.RowEdits.{keep, revalued}
+use Rattle.change_laws.proofs.Rowwise.{Standing}
+use Rattle.change_laws.proofs.StandingLaws.{children-are, children-once}
+use Rattle.change_laws.proofs.InstanceRows.{rowSerial, keep-none, keep-no, keep-yes}
 use Rattle.store_check.proofs.AttributeRows.{rowWritten}
 use Rattle.filling.specs.declared.Filling.{Filling}
 use Rattle.row_walk.specs.declared.Which.the-variants.{Elements}
@@ -42,17 +42,10 @@ use Rattle.plans.proofs.ModelForms.{known-element, later-test, place-te
 use Rattle.plans.proofs.PlacedRows.{isLate, NoneAt, FirstAt}
 
 -- ---- rows that pass a test
-module _ (test : Row → Bool) (r : Row) (rows : List Row) where
-  keep-first-row : test r ≡ true → keep test (r ∷ rows) ≡ r ∷ keep test rows
-  keep-first-row e = keep-beside test (r ∷ []) rows ∙ ap (λ (z : List Row). z ++ keep test rows) (keep-all test (r ∷ []) (λ x m. ap test (List·Memᴰ·eq-of-singleton m) ∙ e))
-
-  keep-other-row : test r ≡ false → keep test (r ∷ rows) ≡ keep test rows
-  keep-other-row e = keep-beside test (r ∷ []) rows ∙ ap (λ (z : List Row). z ++ keep test rows) (keep-none test (r ∷ []) (λ x m. ap test (List·Memᴰ·eq-of-singleton m) ∙ e))
-
 first-stands : (bs ns : List Bytes) (test : Row → Bool) → ((r : Row) → test r ≡ elementAmong ns r) → (rows : List Row) → FirstAt bs ns rows → isNone (map rowSerial (keep test rows)) ≡ false
 first-stands bs ns test same [] f = absurd f
-first-stands bs ns test same (r ∷ rows) (inl (l, a)) = ap (λ (z : List Row). isNone (map rowSerial z)) (keep-first-row test r rows (same r ∙ a))
-first-stands bs ns test same (r ∷ rows) (inr (l, a, f)) = ap (λ (z : List Row). isNone (map rowSerial z)) (keep-other-row test r rows (same r ∙ a)) ∙ first-stands bs ns test same rows f
+first-stands bs ns test same (r ∷ rows) (inl (l, a)) = ap (λ (z : List Row). isNone (map rowSerial z)) (keep-yes test r rows (same r ∙ a))
+first-stands bs ns test same (r ∷ rows) (inr (l, a, f)) = ap (λ (z : List Row). isNone (map rowSerial z)) (keep-no test r rows (same r ∙ a)) ∙ first-stands bs ns test same rows f
 
 -- ---- tests
 owed-twice : (a b : Bool) (w : List (Deep FlatRow)) → owed a (owed b w) ≡ owed (b && a) w
@@ -65,8 +58,8 @@ owed-twice false false w = refl
 -- names ns are; x: of the name n, which a cut takes
 module _ (s : Store) (g : good s ≡ true) (o : ℕ) (l : o < length (s .form)) (c : Context Bytes) (ns : List Bytes) (marks : Bytes) (cut gain : Bool) (x : ℕ)
     (n : Bytes) (what : Filling) (v : Bytes) (rows : Forest Row) (test : Row → Bool)
-    (marked : (cut || gain) ≡ true → Marked (s .form) (before c) ns marks)
-    (instances : (cut || gain) ≡ true → (r : Row) (b : Forest Row) → Standing (s .docs) r b → elementNamed (nameAtIndex o (s .form)) r ≡ true → NoneAt ns (heads b) ⊎ FirstAt (before c) ns (heads b))
+    (marked : (cut || gain) ≡ true → Marked (s .form) (beforePlace c) ns marks)
+    (instances : (cut || gain) ≡ true → (r : Row) (b : Forest Row) → Standing (s .docs) r b → elementNamed (nameAtIndex o (s .form)) r ≡ true → NoneAt ns (heads b) ⊎ FirstAt (beforePlace c) ns (heads b))
     (tests : (r : Row) → test r ≡ elementAmong ns r)
     (takes : cut ≡ true → (m : Bytes) (r : Row) → matches (Elements x) (rowWritten (s .form) m r) ≡ elementNamed n r)
     (alone : cut ≡ true → (r : Row) → elementNamed n r ≡ elementAmong ns r)
@@ -89,7 +82,7 @@ module _ (s : Store) (g : good s ≡ true) (o : ℕ) (l : o < length (s .form)) 
       record {
         takes = λ u r. cut && (elementNamed owner u && (elementNamed n r && not (eqb (r .serial) (firstBelow u))));
         fills = λ r. gain && (elementNamed owner r && isNone (childrenOf test (r .serial) ls));
-        later = laterThan (before c);
+        later = laterThan (beforePlace c);
         filling = rows;
         set = 0;
         value = [];
@@ -109,7 +102,7 @@ module _ (s : Store) (g : good s ≡ true) (o : ℕ) (l : o < length (s .form)) 
   data Phase (sel due owes : Bool) (u : Row) (f : Forest Row) : Type 0 where
     outside : sel ≡ false → due ≡ false → owes ≡ false → elementNamed owner u ≡ false → Phase sel due owes u f
     bereft : sel ≡ true → due ≡ true → owes ≡ gain → elementNamed owner u ≡ true → (cut || gain) ≡ true → NoneAt ns (heads f) → Phase sel due owes u f
-    waiting : sel ≡ true → due ≡ true → owes ≡ false → elementNamed owner u ≡ true → (cut || gain) ≡ true → FirstAt (before c) ns (heads f)
+    waiting : sel ≡ true → due ≡ true → owes ≡ false → elementNamed owner u ≡ true → (cut || gain) ≡ true → FirstAt (beforePlace c) ns (heads f)
         → (cut ≡ true → firstBelow u ≡ serialAt 0 (map rowSerial (keep (elementNamed n) (heads f)))) → Distinct (map rowSerial (heads f)) → Phase sel due owes u f
     over : sel ≡ true → due ≡ false → owes ≡ false → elementNamed owner u ≡ true
         → (cut ≡ true → (r : Row) → List·Memᴰ r (heads f) → elementNamed n r ≡ true → r .serial ≡ firstBelow u → ⊥) → Phase sel due owes u f
@@ -135,7 +128,7 @@ module _ (s : Store) (g : good s ≡ true) (o : ℕ) (l : o < length (s .form)) 
       Entered : Type 0
       Entered = Phase m (m && (cut || gain)) (requantified .fills (revalued requantified r)) r b
 
-      placed : elementNamed owner r ≡ true → (cut || gain) ≡ true → NoneAt ns (heads b) ⊎ FirstAt (before c) ns (heads b) → Entered
+      placed : elementNamed owner r ≡ true → (cut || gain) ≡ true → NoneAt ns (heads b) ⊎ FirstAt (beforePlace c) ns (heads b) → Entered
       placed e f (inl none) =
           bereft (is ∙ e) (ap₂ (λ (a d : Bool). a && d) (is ∙ e) f)
           (ap₂ (λ (a d : Bool). gain && (a && d)) e
@@ -144,7 +137,7 @@ module _ (s : Store) (g : good s ≡ true) (o : ℕ) (l : o < length (s .form)) 
           e f none
       placed e f (inr first) =
           waiting (is ∙ e) (ap₂ (λ (a d : Bool). a && d) (is ∙ e) f)
-          (ap₂ (λ (a d : Bool). gain && (a && d)) e (ap isNone (children test) ∙ first-stands (before c) ns test tests (heads b) first) ∙ and-false gain) e f
+          (ap₂ (λ (a d : Bool). gain && (a && d)) e (ap isNone (children test) ∙ first-stands (beforePlace c) ns test tests (heads b) first) ∙ and-false gain) e f
           first (λ k. ap (serialAt 0) (children (elementNamed n)))
           (children-once (s .next) (s .docs) serials r b i)
 
@@ -168,7 +161,7 @@ module _ (s : Store) (g : good s ≡ true) (o : ℕ) (l : o < length (s .form)) 
         (Going (s .form) (s .form) requantified p v fill sel due u r × State sel due owes w u t)
         ⊎ (Staying (s .form) (s .form) requantified p v fill sel due owes w u r
         × State (matches (Elements o) x′) (matches (Elements o) x′ && (cut || gain)) (requantified .fills (revalued requantified r)) (revalued requantified r) r b
-        × State sel (due && not (isLater marks Unmarked x′)) (owes && not (isLate (before c) r)) w u t)
+        × State sel (due && not (isLater marks Unmarked x′)) (owes && not (isLate (beforePlace c) r)) w u t)
 
     step-as : (sel due owes a d e : Bool) → sel ≡ a → due ≡ d → owes ≡ e → Step a d e → Step sel due owes
     step-as sel due owes a d e p q r h = subst (λ (z : Bool). Step z due owes) (sym p) (subst (λ (z : Bool). Step a z owes) (sym q) (subst (λ (z : Bool). Step a d z) (sym r) h))
@@ -176,15 +169,15 @@ module _ (s : Store) (g : good s ≡ true) (o : ℕ) (l : o < length (s .form)) 
   module _ (w u r : Row) (b t : Forest Row) (i : Standing (s .docs) r b) (inside : (y : Row) (d : Forest Row) → Standing b y d → Standing (s .docs) y d)
       (beside : (y : Row) (d : Forest Row) → Standing t y d → Standing (s .docs) y d) where
     stays : (sel due owes : Bool) → requantified .takes u r ≡ false → takenAt p sel due (x′ w u r b t) ≡ false
-        → ((d : ℕ) → owed (filledAt p due (x′ w u r b t)) (fill d) ≡ planted (s .form) (s .form) requantified p v fill (owes && isLate (before c) r) (u .name) d)
+        → ((d : ℕ) → owed (filledAt p due (x′ w u r b t)) (fill d) ≡ planted (s .form) (s .form) requantified p v fill (owes && isLate (beforePlace c) r) (u .name) d)
         → Staying (s .form) (s .form) requantified p v fill sel due owes w u r
     stays sel due owes a e f = record { taken = a; takes = e; filling = f; index = index-same p refl refl (x′ w u r b t); value = value-same r v [] (given s g r b i) }
 
-    later : (cut || gain) ≡ true → isLater marks Unmarked (x′ w u r b t) ≡ isLate (before c) r
-    later f = later-test (s .form) once (before c) ns marks (marked f) (u .name) r (known-element s g r b i)
+    later : (cut || gain) ≡ true → isLater marks Unmarked (x′ w u r b t) ≡ isLate (beforePlace c) r
+    later f = later-test (s .form) once (beforePlace c) ns marks (marked f) (u .name) r (known-element s g r b i)
 
-    filled : (cut || gain) ≡ true → filledAt p true (x′ w u r b t) ≡ (isLate (before c) r && not (elementAmong ns r))
-    filled f = ap₂ (λ (a d : Bool). a && not d) (later f) (place-test (s .form) once (before c) ns marks (marked f) (u .name) r (known-element s g r b i))
+    filled : (cut || gain) ≡ true → filledAt p true (x′ w u r b t) ≡ (isLate (beforePlace c) r && not (elementAmong ns r))
+    filled f = ap₂ (λ (a d : Bool). a && not d) (later f) (place-test (s .form) once (beforePlace c) ns marks (marked f) (u .name) r (known-element s g r b i))
 
     -- up to the first no row is taken
     taken-due : takenAt p true true (x′ w u r b t) ≡ false
@@ -223,7 +216,7 @@ module _ (s : Store) (g : good s ≡ true) (o : ℕ) (l : o < length (s .form)) 
         )
       where
         late : Bool
-        late = isLate (before c) r
+        late = isLate (beforePlace c) r
 
         here : elementAmong ns r ≡ false
         here = none r (List·Memᴰ·head refl)
@@ -235,7 +228,7 @@ module _ (s : Store) (g : good s ≡ true) (o : ℕ) (l : o < length (s .form)) 
         next false e = bereft refl (ap not (later f ∙ e)) (ap (λ (z : Bool). gain && not z) e ∙ and-true gain) named f (λ y j. none y (List·Memᴰ·tail j))
 
     -- the first later row is the first of ns: it is spared, and kept
-    step-waiting : elementNamed owner u ≡ true → (cut || gain) ≡ true → FirstAt (before c) ns (r ∷ heads t)
+    step-waiting : elementNamed owner u ≡ true → (cut || gain) ≡ true → FirstAt (beforePlace c) ns (r ∷ heads t)
         → (cut ≡ true → firstBelow u ≡ serialAt 0 (map rowSerial (keep (elementNamed n) (r ∷ heads t)))) → Distinct (map rowSerial (r ∷ heads t))
         → Step w u r b t true true false
     step-waiting named f (inl (late, here)) serial (new, distinct) =
@@ -247,7 +240,7 @@ module _ (s : Store) (g : good s ≡ true) (o : ℕ) (l : o < length (s .form)) 
         )
       where
         this : cut ≡ true → firstBelow u ≡ r .serial
-        this k = serial k ∙ ap (λ (z : List Row). serialAt 0 (map rowSerial z)) (keep-first-row (elementNamed n) r (heads t) (alone k r ∙ here))
+        this k = serial k ∙ ap (λ (z : List Row). serialAt 0 (map rowSerial z)) (keep-yes (elementNamed n) r (heads t) (alone k r ∙ here))
     step-waiting named f (inr (early, other, first)) serial (new, distinct) =
         inr (
           stays true true false (not-taken (λ k. ap (λ (z : Bool). z && not (eqb (r .serial) (firstBelow u))) (alone k r ∙ other))) taken-due
@@ -255,7 +248,7 @@ module _ (s : Store) (g : good s ≡ true) (o : ℕ) (l : o < length (s .form)) 
           enter u r b i inside,
           (
             waiting refl (ap not (later f ∙ early)) refl named f first
-                (λ k. serial k ∙ ap (λ (z : List Row). serialAt 0 (map rowSerial z)) (keep-other-row (elementNamed n) r (heads t) (alone k r ∙ other))) distinct,
+                (λ k. serial k ∙ ap (λ (z : List Row). serialAt 0 (map rowSerial z)) (keep-no (elementNamed n) r (heads t) (alone k r ∙ other))) distinct,
             beside,
           ),
         )

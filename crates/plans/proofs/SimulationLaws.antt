@@ -12,18 +12,18 @@ use Rattle.rules.specs.Layout.{FlatRow, indexed}
 use Rattle.rules.specs.Lines.{ground}
 use Rattle.rules.specs.Change.{plant, prune, eachRow, changed}
 use Rattle.rules.specs.Change as change
-use Rattle.history.proofs.RowEdits.{revalued}
-use Rattle.history.proofs.Rowwise.{below, under, below-taken, below-here, below-past}
+use Rattle.change_laws.proofs.RowEdits.{revalued}
+use Rattle.change_laws.proofs.Rowwise.{below, under, below-taken, below-here, below-past}
 use Rattle.store_check.proofs.AttributeRows.{rowWritten}
 use Rattle.row_walk.specs.declared.Plan.{Plan}
-use Rattle.row_walk.specs.Walk.{matches, isGround, isLater, keptRow, owed}
+use Rattle.row_walk.specs.Walk.{matches, namesGround, isLater, keptRow, owed}
 use Rattle.plans.specs.Trees.{takenAt, filledAt, treeWalk, documentsWalk}
 use Rattle.plans.specs.Simulation.{planted, Going, Staying, Simulates}
 use Rattle.plans.proofs.Fillings.{flatten-beside, indexed-beside}
 
 -- ---- the walk at one row
 module _ (p : Plan) (v : Bytes) (fill : ℕ → List (Deep FlatRow)) (sel due : Bool) (d : ℕ) (x : FlatRow) (b t : Forest FlatRow) where
-  walk-taken : takenAt p sel due x ≡ true → treeWalk p v fill sel due d (tree x b t) ≡ treeWalk p v fill sel due d t
+  pub walk-taken : takenAt p sel due x ≡ true → treeWalk p v fill sel due d (tree x b t) ≡ treeWalk p v fill sel due d t
   unfolding treeWalk
   walk-taken e = rw (e, treeWalk)
 
@@ -112,6 +112,6 @@ module _ (form new : Form) (q : change.Plan) (p : Plan) (v : Bytes) (fill : ℕ 
             ++ others sel (due && not l) (owes && not (q .later w (revalued q r))) w u kt i)))
             ∙ below-kept w u r b t d (h .taken) owes
 
-    pub documents-simulate : (docs : Forest Row) → S (isGround (p .above)) (isGround (p .above) && p .fills) (q .fills ground) ground ground docs
+    pub documents-simulate : (docs : Forest Row) → S (namesGround (p .above)) (namesGround (p .above) && p .fills) (q .fills ground) ground ground docs
         → documentsWalk p v fill (indexed form [] docs) ≡ flatten 0 (indexed new [] (changed q docs))
-    documents-simulate docs k = walk-simulates (isGround (p .above)) (isGround (p .above) && p .fills) (q .fills ground) 0 ground ground docs k
+    documents-simulate docs k = walk-simulates (namesGround (p .above)) (namesGround (p .above) && p .fills) (q .fills ground) 0 ground ground docs k

@@ -14,10 +14,10 @@ use Rattle.rules.specs.Lines.{ground}
 use Rattle.rules.specs.Change.{changed}
 use Rattle.rules.specs.Change as change
 use Rattle.rules.proofs.Words.{and-split}
-use Rattle.history.proofs.RowEdits.{revalued}
+use Rattle.change_laws.proofs.RowEdits.{revalued}
 use Rattle.store_check.proofs.AttributeRows.{rowWritten}
 use Rattle.row_walk.specs.declared.Plan.{Plan}
-use Rattle.row_walk.specs.Walk.{matches, isEverything, isGround, markOf, isLater, owed}
+use Rattle.row_walk.specs.Walk.{matches, isEverything, namesGround, placeMark, isLater, owed}
 use Rattle.plans.specs.Trees.{takenAt, filledAt, documentsWalk}
 use Rattle.plans.specs.Following.{Fills, RowFollows, Follows, DocumentsFollow, Plain}
 use Rattle.plans.specs.Kept.{BothTake, FollowsKept}
@@ -31,7 +31,7 @@ module _ (p : Plan) (plain : Plain p) where
 
   filled-plain : (due : Bool) (x : FlatRow) → filledAt p due x ≡ (due && isLater (p .marks) (p .later) x)
   filled-plain due x =
-      ap (λ (k : Bool). due && (isLater (p .marks) (p .later) x && not (k && (eqb (x .sort) 1 && eqb (markOf (p .marks) x) 2)))) (plain .spares)
+      ap (λ (k : Bool). due && (isLater (p .marks) (p .later) x && not (k && (eqb (x .sort) 1 && eqb (placeMark (p .marks) x) 2)))) (plain .spares)
       ∙ ap (λ (k : Bool). due && k) (and-true (isLater (p .marks) (p .later) x))
 
 module _ (form new : Form) (q : change.Plan) (p : Plan) (v : Bytes) (fill : ℕ → List (Deep FlatRow)) (plain : Plain p) where
@@ -106,16 +106,16 @@ module _ (form new : Form) (q : change.Plan) (p : Plan) (v : Bytes) (fill : ℕ 
       ∙ filling-alike due owes u true true (k .same) (k .fills) (λ z. refl) d
       ∙ ap (λ (c : Bool). planted form new q p v fill c (u .name) d) (and-true owes)
 
-  pub documents-kept : (docs : Forest Row) → (isGround (p .above) && p .fills) ≡ q .fills ground → (q .fills ground ≡ true → Fills form new q p v fill [])
-      → FollowsKept form new q p v fill (isGround (p .above)) ground ground docs
+  pub documents-kept : (docs : Forest Row) → (namesGround (p .above) && p .fills) ≡ q .fills ground → (q .fills ground ≡ true → Fills form new q p v fill [])
+      → FollowsKept form new q p v fill (namesGround (p .above)) ground ground docs
       → documentsWalk p v fill (indexed form [] docs) ≡ flatten 0 (indexed new [] (changed q docs))
   documents-kept docs e f h =
       documents-simulate form new q p v fill Alike record { ends = alike-end; steps = alike-step } docs
-      record { same = sym e; chosen = λ z. and-split (isGround (p .above)) (p .fills) z; fills = λ z. f (sym e ∙ z); rows = h }
+      record { same = sym e; chosen = λ z. and-split (namesGround (p .above)) (p .fills) z; fills = λ z. f (sym e ∙ z); rows = h }
 
   follows-kept : (sel : Bool) (w u : Row) (f : Forest Row) → Follows form new q p v fill sel w u f → FollowsKept form new q p v fill sel w u f
   follows-kept sel w u bare h = tt
   follows-kept sel w u (tree r b t) (h, hb, ht) = (inr (h, follows-kept (matches (p .above) (rowWritten form (u .name) r)) (revalued q r) r b hb), follows-kept sel w u t ht)
 
   pub documents-follow : (docs : Forest Row) → DocumentsFollow form new q p v fill docs → documentsWalk p v fill (indexed form [] docs) ≡ flatten 0 (indexed new [] (changed q docs))
-  documents-follow docs h = documents-kept docs (h .fills) (h .filling) (follows-kept (isGround (p .above)) ground ground docs (h .rows))
+  documents-follow docs h = documents-kept docs (h .fills) (h .filling) (follows-kept (namesGround (p .above)) ground ground docs (h .rows))

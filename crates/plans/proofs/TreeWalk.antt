@@ -14,12 +14,13 @@ use Rattle.row_walk.specs.declared.Which.{Which}
 use Rattle.row_walk.specs.declared.Which.the-variants.{Nothing, Everything, Ground, Elements, Attributes, Serial}
 use Rattle.row_walk.specs.declared.Plan.{Plan}
 use Rattle.row_walk.specs.declared.Open.{Open}
-use Rattle.row_walk.specs.Walk.{matches, isEverything, isGround, isLater, keptRow, gone, closes, closed, isTaken, isFilled, taken, kept, owed, rowDepth, emitted, onward, walked, atFirst}
-use Rattle.plans.specs.Trees.{takenAt, filledAt, treeWalk, documentsWalk, NoneOf, Apart}
+use Rattle.row_walk.specs.Walk.{matches, isEverything, namesGround, isLater, keptRow, gone, closes, closed, isTaken, isFilled, taken, kept, owed, rowDepth, emitted, nextOpen, walked, atFirst}
+use Rattle.plans.specs.Trees.{takenAt, filledAt, treeWalk, documentsWalk, NoneOf, NotNested}
+use Rattle.plans.proofs.SimulationLaws.{walk-taken}
 
 -- what the walk over the rows in a list needs of a plan and the documents
 pub data Clear (p : Plan) (f : Forest FlatRow) : Type 0 where
-  apart : Apart (matches (p .above)) f → Clear p f
+  apart : NotNested (matches (p .above)) f → Clear p f
   everywhere : isEverything (p .above) ≡ true → p .fills ≡ false → Clear p f
 
 -- no row comes next, or one of a depth less than d
@@ -60,7 +61,7 @@ not-everything (Elements i) r e = refl
 not-everything (Attributes j) r e = refl
 not-everything (Serial k) r e = refl
 
-everything-ground : (w : Which) → isEverything w ≡ true → isGround w ≡ false
+everything-ground : (w : Which) → isEverything w ≡ true → namesGround w ≡ false
 everything-ground Nothing e = refl
 everything-ground Everything e = refl
 everything-ground Ground e = absurd (false≢true e)
@@ -68,7 +69,7 @@ everything-ground (Elements i) e = refl
 everything-ground (Attributes j) e = refl
 everything-ground (Serial k) e = refl
 
-ground-matches : (w : Which) → isGround w ≡ true → (r : FlatRow) → matches w r ≡ false
+ground-matches : (w : Which) → namesGround w ≡ true → (r : FlatRow) → matches w r ≡ false
 ground-matches Nothing e r = refl
 ground-matches Everything e r = absurd (false≢true e)
 ground-matches Ground e r = refl
@@ -82,14 +83,14 @@ module _ (q : FlatRow → Bool) where
   none-of h bare = tt
   none-of h (tree r b t) = (h r, none-of h b, none-of h t)
 
-  pub none-apart : (f : Forest FlatRow) → NoneOf q f → Apart q f
+  pub none-apart : (f : Forest FlatRow) → NoneOf q f → NotNested q f
   none-apart bare n = tt
   none-apart (tree r b t) (other, inside, beside) = ((λ e. inside), none-apart b inside, none-apart t beside)
 
 module _ (p : Plan) (v : Bytes) (fill : ℕ → List (Deep FlatRow)) where
   -- ---- the walk at a row, by what the row meets
   abbrev onRow : Open → Deep FlatRow → List (Deep FlatRow) → List (Deep FlatRow)
-  onRow o x xs = emitted p v fill o x ++ walked p v fill (onward p v fill o x) xs
+  onRow o x xs = emitted p v fill o x ++ walked p v fill (nextOpen p v fill o x) xs
 
   walk-gone : (o : Open) (x : Deep FlatRow) (xs : List (Deep FlatRow)) → gone o x ≡ true → walked p v fill o (x ∷ xs) ≡ walked p v fill o xs
   unfolding walked
@@ -130,7 +131,7 @@ module _ (p : Plan) (v : Bytes) (fill : ℕ → List (Deep FlatRow)) where
 
   -- ---- a row that closes nothing is taken or kept
   row-taken : (o : Open) (x : Deep FlatRow) (xs : List (Deep FlatRow)) → isTaken p o x ≡ true → onRow o x xs ≡ walked p v fill (taken o x) xs
-  unfolding emitted onward
+  unfolding emitted nextOpen
   row-taken o x xs q =
       ap
       (λ (c : Bool).
@@ -139,7 +140,7 @@ module _ (p : Plan) (v : Bytes) (fill : ℕ → List (Deep FlatRow)) where
 
   row-kept : (o : Open) (x : Deep FlatRow) (xs : List (Deep FlatRow)) → isTaken p o x ≡ false
       → onRow o x xs ≡ owed (isFilled p o x) (fill (x .depth)) ++ (keptRow p v x ∷ walked p v fill (kept p o x) xs)
-  unfolding emitted onward
+  unfolding emitted nextOpen
   row-kept o x xs q =
       ap
       (λ (c : Bool).
@@ -157,10 +158,6 @@ module _ (p : Plan) (v : Bytes) (fill : ℕ → List (Deep FlatRow)) where
 
     abbrev onTree : Bool → List (Deep FlatRow)
     onTree c = elim c [ true ↦ treeWalk p v fill sel due d t | false ↦ owed (filledAt p due r) (fill d) ++ (keptRow p v (at d r) ∷ (inner ++ others)) ]
-
-    tree-taken : takenAt p sel due r ≡ true → treeWalk p v fill sel due d (tree r g t) ≡ treeWalk p v fill sel due d t
-    unfolding treeWalk
-    tree-taken q = ap onTree q
 
     tree-kept : takenAt p sel due r ≡ false → (z : List (Deep FlatRow))
         → treeWalk p v fill sel due d (tree r g t) ++ z ≡ owed (filledAt p due r) (fill d) ++ (keptRow p v (at d r) ∷ (inner ++ (others ++ z)))
@@ -196,7 +193,7 @@ module _ (p : Plan) (v : Bytes) (fill : ℕ → List (Deep FlatRow)) where
             ∙ skipped d b u (suc d) g (flatten d t ++ rest) (omega arith)
             ∙ done-taking (suc d) b u (flatten d t ++ rest) (shallow-flatten d t rest end)
             ∙ skip
-            ∙ ap (λ (l : List (Deep FlatRow)). l ++ z) (sym (tree-taken q))
+            ∙ ap (λ (l : List (Deep FlatRow)). l ++ z) (sym (walk-taken p v fill sel due d r g t q))
         by false q =
             row-kept (opened 0 b u) (at d r) (flatten (suc d) g ++ (flatten d t ++ rest)) (tested ∙ q)
             ∙ ap₂ (λ (c : Bool) (l : List (Deep FlatRow)). owed (filledAt p c r) (fill d) ++ (keptRow p v (at d r) ∷ l)) owes below
@@ -237,7 +234,7 @@ module _ (p : Plan) (v : Bytes) (fill : ℕ → List (Deep FlatRow)) where
       here = eq-eqb (suc d) (suc d) refl
 
   -- none
-  walk-apart : (d : ℕ) (f : Forest FlatRow) (rest : List (Deep FlatRow)) → Apart (matches (p .above)) f → Shallow d rest
+  walk-apart : (d : ℕ) (f : Forest FlatRow) (rest : List (Deep FlatRow)) → NotNested (matches (p .above)) f → Shallow d rest
       → walked p v fill (opened 0 0 false) (flatten d f ++ rest) ≡ treeWalk p v fill false false d f ++ walked p v fill (opened 0 0 false) rest
   unfolding treeWalk
   walk-apart d bare rest a end = refl
@@ -276,17 +273,17 @@ module _ (p : Plan) (v : Bytes) (fill : ℕ → List (Deep FlatRow)) where
   -- ---- the documents
   pub walk-tree : (f : Forest FlatRow) → Clear p f → walked p v fill (atFirst p) (flatten 0 f) ≡ documentsWalk p v fill f
   unfolding walked
-  walk-tree f clear = ap (walked p v fill (atFirst p)) (sym (append-nil (flatten 0 f))) ∙ by (isGround (p .above)) refl clear ∙ append-nil (documentsWalk p v fill f)
+  walk-tree f clear = ap (walked p v fill (atFirst p)) (sym (append-nil (flatten 0 f))) ∙ by (namesGround (p .above)) refl clear ∙ append-nil (documentsWalk p v fill f)
     where
       openFirst : Bool → Open
       openFirst c = elim c [ true ↦ opened 0 1 (p .fills) | false ↦ opened 0 0 false ]
 
-      from : (c : Bool) → isGround (p .above) ≡ c → walked p v fill (openFirst c) (flatten 0 f ++ []) ≡ treeWalk p v fill c (c && p .fills) 0 f ++ []
+      from : (c : Bool) → namesGround (p .above) ≡ c → walked p v fill (openFirst c) (flatten 0 f ++ []) ≡ treeWalk p v fill c (c && p .fills) 0 f ++ []
           → walked p v fill (atFirst p) (flatten 0 f ++ []) ≡ documentsWalk p v fill f ++ []
       from c q x =
           ap (λ (c : Bool). walked p v fill (openFirst c) (flatten 0 f ++ [])) q ∙ x ∙ ap (λ (c : Bool). treeWalk p v fill c (c && p .fills) 0 f ++ []) (sym q)
 
-      by : (c : Bool) → isGround (p .above) ≡ c → Clear p f → walked p v fill (atFirst p) (flatten 0 f ++ []) ≡ documentsWalk p v fill f ++ []
+      by : (c : Bool) → namesGround (p .above) ≡ c → Clear p f → walked p v fill (atFirst p) (flatten 0 f ++ []) ≡ documentsWalk p v fill f ++ []
       by true q (apart a) = from true q (walk-below 0 (p .fills) f [] (none-of (matches (p .above)) (ground-matches (p .above) q) f) tt)
       by true q (everywhere e n) = absurd (false≢true (sym (everything-ground (p .above) e) ∙ q))
       by false q (apart a) = from false q (walk-apart 0 f [] a tt)

@@ -9,10 +9,10 @@ use Rattle.rules.specs.Preorder.{Deep, flatten}
 use Rattle.rules.specs.Layout.{FlatRow, rowIndex, indexed, flat}
 use Rattle.rules.specs.Lines.{ground}
 use Rattle.rules.specs.Change as change
-use Rattle.history.proofs.RowEdits.{revalued}
+use Rattle.change_laws.proofs.RowEdits.{revalued}
 use Rattle.store_check.proofs.AttributeRows.{rowWritten}
 use Rattle.row_walk.specs.declared.Plan.{Plan}
-use Rattle.row_walk.specs.Walk.{matches, isEverything, isGround, isLater, movedIndex, valueAfter}
+use Rattle.row_walk.specs.Walk.{matches, isEverything, namesGround, isLater, movedIndex, valueSet}
 use Rattle.store_writer.specs.Planned.{fillOf}
 use Rattle.plans.specs.Trees.{documentsWalk}
 
@@ -33,7 +33,7 @@ module _ (form new : Form) (q : change.Plan) (p : Plan) (v : Bytes) (fill : ℕ 
     pub takes : ((isEverything (p .above) || sel) && matches (p .takes) (rowWritten form (u .name) r)) ≡ q .takes u r
     pub later : sel ≡ true → p .fills ≡ true → isLater (p .marks) (p .later) (rowWritten form (u .name) r) ≡ q .later w (revalued q r)
     pub index : movedIndex p (rowWritten form (u .name) r) ≡ rowIndex new (u .name) r
-    pub value : valueAfter p v (rowWritten form (u .name) r) ≡ revalued q r .value
+    pub value : valueSet p v (rowWritten form (u .name) r) ≡ revalued q r .value
     pub fills : (matches (p .above) (rowWritten form (u .name) r) && p .fills) ≡ q .fills (revalued q r)
     pub filling : q .fills (revalued q r) ≡ true → Fills (r .name)
 
@@ -42,9 +42,9 @@ module _ (form new : Form) (q : change.Plan) (p : Plan) (v : Bytes) (fill : ℕ 
   Follows sel w u (tree r b t) = RowFollows sel w u r × Follows (matches (p .above) (rowWritten form (u .name) r)) (revalued q r) r b × Follows sel w u t
 
   pub record DocumentsFollow (docs : Forest Row) : Type 0 where
-    pub fills : (isGround (p .above) && p .fills) ≡ q .fills ground
+    pub fills : (namesGround (p .above) && p .fills) ≡ q .fills ground
     pub filling : q .fills ground ≡ true → Fills []
-    pub rows : Follows (isGround (p .above)) ground ground docs
+    pub rows : Follows (namesGround (p .above)) ground ground docs
 
 -- a plan that leaves the form as it is, with the value v, does on the documents what the call c does
 abbrev pub Does : change.Call → Store → Plan → Bytes → Type 0

@@ -10,7 +10,7 @@ use Rattle.rules.specs.Store.{Form, Row, Forest, bare, tree}
 use Rattle.rules.specs.Preorder.{Deep}
 use Rattle.rules.specs.Layout.{FlatRow}
 use Rattle.rules.specs.Change as change
-use Rattle.history.proofs.RowEdits.{revalued}
+use Rattle.change_laws.proofs.RowEdits.{revalued}
 use Rattle.store_check.proofs.AttributeRows.{rowWritten}
 use Rattle.row_walk.specs.declared.Plan.{Plan}
 use Rattle.row_walk.specs.Walk.{matches, isEverything}

@@ -10,10 +10,10 @@ use Rattle.rules.specs.Store.{Form, Row, Forest, bare, tree}
 use Rattle.rules.specs.Preorder.{Deep, flatten}
 use Rattle.rules.specs.Layout.{FlatRow, rowIndex, indexed}
 use Rattle.rules.specs.Change as change
-use Rattle.history.proofs.RowEdits.{revalued}
+use Rattle.change_laws.proofs.RowEdits.{revalued}
 use Rattle.store_check.proofs.AttributeRows.{rowWritten}
 use Rattle.row_walk.specs.declared.Plan.{Plan}
-use Rattle.row_walk.specs.Walk.{matches, isLater, movedIndex, valueAfter, owed}
+use Rattle.row_walk.specs.Walk.{matches, isLater, movedIndex, valueSet, owed}
 use Rattle.plans.specs.Trees.{takenAt, filledAt}
 
 -- form, new: the form before and after; q: of the rules; p with the
@@ -34,7 +34,7 @@ module _ (form new : Form) (q : change.Plan) (p : Plan) (v : Bytes) (fill : ℕ 
     pub takes : takenAt p sel due (rowWritten form (u .name) r) ≡ false
     pub filling : (d : ℕ) → owed (filledAt p due (rowWritten form (u .name) r)) (fill d) ≡ planted (owes && q .later w (revalued q r)) (u .name) d
     pub index : movedIndex p (rowWritten form (u .name) r) ≡ rowIndex new (u .name) r
-    pub value : valueAfter p v (rowWritten form (u .name) r) ≡ revalued q r .value
+    pub value : valueSet p v (rowWritten form (u .name) r) ≡ revalued q r .value
 
   -- S: what is known of the rows from some row on, below a row u that is w after the change
   pub record Simulates (S : Bool → Bool → Bool → Row → Row → Forest Row → Type 0) : Type 0 where

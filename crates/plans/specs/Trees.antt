@@ -8,7 +8,7 @@ use Rattle.rules.specs.Store.{Forest, bare, tree}
 use Rattle.rules.specs.Preorder.{Deep}
 use Rattle.rules.specs.Layout.{FlatRow}
 use Rattle.row_walk.specs.declared.Plan.{Plan}
-use Rattle.row_walk.specs.Walk.{matches, isEverything, isGround, isLater, spared, keptRow, owed}
+use Rattle.row_walk.specs.Walk.{matches, isEverything, namesGround, isLater, spared, keptRow, owed}
 
 module _ (p : Plan) where
   -- a row is taken, and a filling comes right before it, below a row that is
@@ -34,7 +34,7 @@ module _ (p : Plan) (v : Bytes) (fill : ℕ → List (Deep FlatRow)) where
 
   -- the documents
   abbrev pub documentsWalk : Forest FlatRow → List (Deep FlatRow)
-  documentsWalk f = treeWalk (isGround (p .above)) (isGround (p .above) && p .fills) 0 f
+  documentsWalk f = treeWalk (namesGround (p .above)) (namesGround (p .above) && p .fills) 0 f
 
 -- ---- no row of `above` stands below another
 -- no row of a forest is one of them
@@ -42,6 +42,6 @@ abbrev pub NoneOf : (FlatRow → Bool) → Forest FlatRow → Type 0
 NoneOf q bare = Unit {0}
 NoneOf q (tree r b t) = (q r ≡ false) × NoneOf q b × NoneOf q t
 
-abbrev pub Apart : (FlatRow → Bool) → Forest FlatRow → Type 0
-Apart q bare = Unit {0}
-Apart q (tree r b t) = (q r ≡ true → NoneOf q b) × Apart q b × Apart q t
+abbrev pub NotNested : (FlatRow → Bool) → Forest FlatRow → Type 0
+NotNested q bare = Unit {0}
+NotNested q (tree r b t) = (q r ≡ true → NoneOf q b) × NotNested q b × NotNested q t

@@ -22,16 +22,18 @@ use Rattle.rules.specs.Decode.{nameAt, groupOf, sortOf, contentOf, memberOf, re
 use Rattle.rules.specs.Print.{escape, defaultTokens, memberTokens, modelTokens, contentTokens, attributeLines, formLines, documentLines, printed}
 use Rattle.codec.specs.Laid.{Laid}
 use Rattle.codec.proofs.Writers.{laid-none, laid-then, laid-as}
-use Rattle.lookup.specs.Bodies.{recordsFrom, bodiesOf, rowBody, RowsOf}
-use Rattle.lookup.proofs.Laws.{from-none, from-all, length-many, bodies-flat}
+use Rattle.lookup.specs.Bodies.{recordsFrom, bodiesOf, fromRows, RowsOf, rowsFrom}
+use Rattle.lookup.proofs.Laws.{from-none, from-all, bodies-flat}
 use Rattle.rules.proofs.DecodeLaws.{read-good, unflat-flat, good-known, good-found, GoodParts, good-parts}
 use Rattle.rules.specs.Passing.{readStore}
 use Rattle.printing.specs.Walking.{Passed}
-use Rattle.printing.specs.Parts.{Named, Within, definitionPart, attributePart, definitionBody, particleBody, attributeBody, definitionsFrom, particlesFrom, attributesFrom, rowsFrom, namesOf, attributeNamesOf}
-use Rattle.printing.specs.Texts.{LaidWithin, attributeOf, defaultText, attributeLineText, attributesText, isTree, membersText, contentText, definitionText, declarationsText, formText, documentsText, textOf}
+use Rattle.printing.specs.Parts.{Named, Within, definitionPart, attributePart, fromDefinitions, fromParticles, fromAttributes, definitionsFrom, particlesFrom, attributesFrom, namesOf, attributeNamesOf}
+use Rattle.printing.specs.Texts.{LaidWithin, attributeRead, defaultText, attributeLineText, attributesText, isTree, membersText, contentText, definitionText, declarationsText, formText, documentsText, textOf}
 use Rattle.printing.proofs.TextLaws.{concat-append}
 use Rattle.escaping.proofs.Laws.{laid-long, escape-length}
 use Rattle.printing.proofs.PartLaws.{attribute-step, attribute-name, definition-name, definition-step, value-short}
+use Rattle.rules.proofs.RenamingPlaces.{map-append}
+use Rattle.codec.proofs.Records.{length-many}
 
 -- ---- the default of an attribute
 abbrev defaultBy : AttributeSort → Bytes → Bytes
@@ -90,7 +92,7 @@ attribute-line bs i owner w h short n a b c d e f g =
     record {
       laid =
           laid-as
-          (ap (λ (l : Bytes). ascii "<!ATTLIST " ++ (owner ++ (ascii " " ++ (x .name ++ (ascii " CDATA " ++ l))))) (concat-append (defaultTokens (attributeOf x)) (ascii ">\n" ∷ []))
+          (ap (λ (l : Bytes). ascii "<!ATTLIST " ++ (owner ++ (ascii " " ++ (x .name ++ (ascii " CDATA " ++ l))))) (concat-append (defaultTokens (attributeRead x)) (ascii ">\n" ∷ []))
           ∙ ap (λ (z : Bytes). ascii "<!ATTLIST " ++ (owner ++ (ascii " " ++ (z ++ (ascii " CDATA " ++ (defaultText x ++ (ascii ">\n" ++ []))))))) (sym (n .name-is ∙ attribute-name bs i h)))
           (laid-then a (laid-then b (laid-then c (laid-then d (laid-then e (laid-then (f .laid) (laid-then g laid-none)))))));
       small = omega (arith, a .next, b .next, c .next, d .next, e .next, f .small, g .next, n .short);
@@ -108,13 +110,13 @@ pub record Listing (bs owner : Bytes) (o count : ℕ) (goal out₀ : Bytes) (at�
   pub small : at ≤ at₀ + 3000 * i
   pub long : length out ≡ length out₀
 
-owner-this : (o : ℕ) (x : FlatAttribute) (xs : List FlatAttribute) → x .owner ≡ o → ofOwner o (x ∷ xs) ≡ attributeOf x ∷ ofOwner o xs
+owner-this : (o : ℕ) (x : FlatAttribute) (xs : List FlatAttribute) → x .owner ≡ o → ofOwner o (x ∷ xs) ≡ attributeRead x ∷ ofOwner o xs
 owner-this o x xs e = rw (eq-eqb o (x .owner) (sym e), ofOwner)
 
 owner-other : (o : ℕ) (x : FlatAttribute) (xs : List FlatAttribute) → (x .owner ≡ o → ⊥) → ofOwner o (x ∷ xs) ≡ ofOwner o xs
 owner-other o x xs h = rw (ne-eqb o (x .owner) (λ e. h (sym e)), ofOwner)
 
-lines-more : (owner : Bytes) (x : FlatAttribute) (xs : List Attribute) → attributesText owner (attributeOf x ∷ xs) ≡ attributeLineText owner x ++ attributesText owner xs
+lines-more : (owner : Bytes) (x : FlatAttribute) (xs : List Attribute) → attributesText owner (attributeRead x ∷ xs) ≡ attributeLineText owner x ++ attributesText owner xs
 unfolding attributesText attributeLineText
 lines-more owner x xs = refl
 
@@ -148,7 +150,7 @@ listing-start bs owner o count at out e =
 
 pub listing-done : (bs owner : Bytes) (o count : ℕ) {goal out₀ : Bytes} {at₀ : ℕ} {out : Bytes} {at i : ℕ} → Listing bs owner o count goal out₀ at₀ out at i → count ≤ i → at ≤ at₀ + 192000 → LaidWithin 192000 goal out₀ at₀ at out
 unfolding attributesText
-listing-done bs owner o count {at = at} {i = i} w h k = record { laid = w .goes at _ (laid-as (ap (λ (xs : List FlatAttribute). attributesText owner (ofOwner o xs)) (from-none readAttribute (attributeSize (widthOf bs)) (attributeBody bs) count i h)) laid-none); small = k }
+listing-done bs owner o count {at = at} {i = i} w h k = record { laid = w .goes at _ (laid-as (ap (λ (xs : List FlatAttribute). attributesText owner (ofOwner o xs)) (from-none readAttribute (attributeSize (widthOf bs)) (fromAttributes bs) count i h)) laid-none); small = k }
 
 -- ---- content
 content-none : (ns : List Bytes) (kind : ℕ) (f : Forest FlatParticle) → (kind ≡ 0 → ⊥) → (kind ≡ 1 → ⊥) → false ≡ isTree f → contentText ns kind f ≡ ascii "EMPTY" ++ []
@@ -215,10 +217,6 @@ definition-laid bs o end from d at-o h kind kind-is {w} a n b c e g =
         (sym (n .name-is ∙ definition-name bs o h)) kind-here
 
 -- ---- the form
-map-append : {A B : Type 0} (g : A → B) (xs ys : List A) → map g (xs ++ ys) ≡ map g xs ++ map g ys
-map-append g [] ys = refl
-map-append g (x ∷ xs) ys = ap (λ (l : List _). g x ∷ l) (map-append g xs ys)
-
 pub lines-append : (xs ys : List (List Bytes)) → concat (map concat (xs ++ ys)) ≡ concat (map concat xs) ++ concat (map concat ys)
 lines-append xs ys = ap concat (map-append concat xs ys) ∙ concat-append (map concat xs) (map concat ys)
 
@@ -322,7 +320,7 @@ declaring-on bs count {o = o} {from = from} w h p at-o n n-is small l =
           (ap (λ (ds : List FlatDefinition). formText (namesOf bs) o ds ps cs) (definition-step bs count o h)
           ∙ form-step (namesOf bs) o d (definitionsFrom bs count (o + 1)) ps cs
           ∙ ap (λ (xs : List (Deep FlatParticle)). declarationsText (namesOf bs) o d ps cs ++ formText (namesOf bs) (o + 1) (definitionsFrom bs count (o + 1)) xs cs)
-          (ap (λ (k : ℕ). drop k ps) particles ∙ from-drop readParticle particleSize (particleBody bs) (particleCount bs) from n))
+          (ap (λ (k : ℕ). drop k ps) particles ∙ from-drop readParticle particleSize (fromParticles bs) (particleCount bs) from n))
           (laid-then (l .laid) m));
       small = omega (arith, w .small, l .small);
       few = omega (arith, w .few);
@@ -347,7 +345,7 @@ declaring-done bs count {at = at} {o = o} {from = from} w h k =
       laid =
           w .goes at _
           (laid-as
-          (ap (λ (ds : List FlatDefinition). formText (namesOf bs) o ds (particlesFrom bs (particleCount bs) from) (attributesFrom bs (attributeCount bs) 0)) (from-none readDefinition definitionSize (definitionBody bs) count o h)
+          (ap (λ (ds : List FlatDefinition). formText (namesOf bs) o ds (particlesFrom bs (particleCount bs) from) (attributesFrom bs (attributeCount bs) 0)) (from-none readDefinition definitionSize (fromDefinitions bs) count o h)
           ∙ form-none (namesOf bs) o (particlesFrom bs (particleCount bs) from) (attributesFrom bs (attributeCount bs) 0))
           laid-none);
       small = omega (arith, w .small, w .upto, w .counts);
@@ -356,12 +354,12 @@ declaring-done bs count {at = at} {o = o} {from = from} w h k =
 -- ---- the whole text
 pub text-parts : {bs rows : Bytes} {w f : ℕ} → RowsOf bs w rows → f ≡ rowCount bs
     → textOf bs ≡ formText (namesOf bs) 0 (definitionsFrom bs (definitionCount bs) 0) (particlesFrom bs (particleCount bs) 0) (attributesFrom bs (attributeCount bs) 0) ++ documentsText (namesOf bs) (attributeNamesOf bs) (build (rowsFrom w rows f 0) 0)
-unfolding textOf printed formText documentsText namesOf attributeNamesOf bodiesOf definitionBody particleBody attributeBody rowBody
+unfolding textOf printed formText documentsText namesOf attributeNamesOf bodiesOf fromDefinitions fromParticles fromAttributes fromRows
 text-parts {bs} {rows} {w} {f} h e =
     lines-append (formLines (unflat (bodiesOf bs) .form)) (documentLines (unflat (bodiesOf bs) .docs))
     ∙ sym
     (ap₂ _++_
-    (λ i. concat (map concat (formLines (readForm (namesOf bs) 0 (from-all readDefinition definitionSize (definitionBody bs) (definitionCount bs) 0 i) (from-all readParticle particleSize (particleBody bs) (particleCount bs) 0 i) (from-all readAttribute (attributeSize (widthOf bs)) (attributeBody bs) (attributeCount bs) 0 i)))))
+    (λ i. concat (map concat (formLines (readForm (namesOf bs) 0 (from-all readDefinition definitionSize (fromDefinitions bs) (definitionCount bs) 0 i) (from-all readParticle particleSize (fromParticles bs) (particleCount bs) 0 i) (from-all readAttribute (attributeSize (widthOf bs)) (fromAttributes bs) (attributeCount bs) 0 i)))))
     (ap (λ (xs : List (Deep FlatRow)). concat (map concat (documentLines (readRows (namesOf bs) (attributeNamesOf bs) (build xs 0))))) (from-all readRow (rowSize w) rows f 0 ∙ (λ i. readMany readRow (rowSize (h .width .value i)) (e i) (h .body i)))))
 
 -- on a store that passes

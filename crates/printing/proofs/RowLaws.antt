@@ -16,10 +16,11 @@ use Rattle.layout.specs.Bodies.{Width, recordAt}
 use Rattle.codec.specs.Laid.{Laid}
 use Rattle.codec.proofs.Writers.{laid-none, laid-then, laid-as}
 use Rattle.printing.specs.Walking.{Passed, Stepped, Enclosed}
-use Rattle.printing.specs.Parts.{Named, rowsFrom, namesOf, attributeNamesOf}
+use Rattle.printing.specs.Parts.{Named, namesOf, attributeNamesOf}
 use Rattle.printing.specs.Texts.{endText, rowsText, elementText, attributeText, rowBodyText, rowText, stays, documentText, documentsText}
 use Rattle.printing.proofs.TextLaws.{documents-tree}
 use Rattle.escaping.proofs.Laws.{escape-length}
+use Rattle.lookup.specs.Bodies.{rowsFrom}
 
 pub sort-text : (s : ℕ) → (s ≡ 1 → ⊥) → (s ≡ 2 → ⊥) → rowSortOf s ≡ text
 sort-text zero a b = refl

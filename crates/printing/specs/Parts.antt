@@ -5,44 +5,40 @@ use mathlib.Core.List.{List, map}
 use lib.ListN.{length, take, drop}
 use Rattle.rules.specs.Bytes.{Bytes}
 use Rattle.rules.specs.Preorder.{Deep}
-use Rattle.rules.specs.Layout.{headerSize, definitionSize, particleSize, attributeSize, rowSize, FlatDefinition, FlatParticle, FlatAttribute, FlatRow}
-use Rattle.rules.specs.Decode.{readDefinition, readParticle, readAttribute, readRow, definitionCount, particleCount, attributeCount, rowCount, flatName, flatAttributeName}
+use Rattle.rules.specs.Layout.{headerSize, definitionSize, particleSize, attributeSize, FlatDefinition, FlatParticle, FlatAttribute}
+use Rattle.rules.specs.Decode.{readDefinition, readParticle, readAttribute, definitionCount, particleCount, attributeCount, rowCount, flatName, flatAttributeName}
 use Rattle.lookup.specs.Bodies.{recordsFrom, bodiesOf}
 use Rattle.layout.specs.Bodies.{recordAt, widthOf}
 
 -- the bytes from a body on
-unfoldable pub definitionBody : Bytes → Bytes
-definitionBody bs = drop headerSize bs
+unfoldable pub fromDefinitions : Bytes → Bytes
+fromDefinitions bs = drop headerSize bs
 
-unfoldable pub particleBody : Bytes → Bytes
-particleBody bs = drop (definitionSize * definitionCount bs) (drop headerSize bs)
+unfoldable pub fromParticles : Bytes → Bytes
+fromParticles bs = drop (definitionSize * definitionCount bs) (drop headerSize bs)
 
-unfoldable pub attributeBody : Bytes → Bytes
-attributeBody bs = drop (particleSize * particleCount bs) (drop (definitionSize * definitionCount bs) (drop headerSize bs))
+unfoldable pub fromAttributes : Bytes → Bytes
+fromAttributes bs = drop (particleSize * particleCount bs) (drop (definitionSize * definitionCount bs) (drop headerSize bs))
 
 -- the bytes of a record
 unfoldable pub definitionPart : Bytes → ℕ → Bytes
-definitionPart bs i = take definitionSize (drop (definitionSize * i) (definitionBody bs))
+definitionPart bs i = take definitionSize (drop (definitionSize * i) (fromDefinitions bs))
 
 unfoldable pub particlePart : Bytes → ℕ → Bytes
-particlePart bs i = take particleSize (drop (particleSize * i) (particleBody bs))
+particlePart bs i = take particleSize (drop (particleSize * i) (fromParticles bs))
 
 unfoldable pub attributePart : Bytes → ℕ → Bytes
-attributePart bs i = recordAt (attributeSize (widthOf bs)) i (attributeBody bs)
+attributePart bs i = recordAt (attributeSize (widthOf bs)) i (fromAttributes bs)
 
 -- the records from number i on, of those up to number `end`
 abbrev pub definitionsFrom : Bytes → ℕ → ℕ → List FlatDefinition
-definitionsFrom bs end i = recordsFrom readDefinition definitionSize (definitionBody bs) end i
+definitionsFrom bs end i = recordsFrom readDefinition definitionSize (fromDefinitions bs) end i
 
 abbrev pub particlesFrom : Bytes → ℕ → ℕ → List (Deep FlatParticle)
-particlesFrom bs end i = recordsFrom readParticle particleSize (particleBody bs) end i
+particlesFrom bs end i = recordsFrom readParticle particleSize (fromParticles bs) end i
 
 abbrev pub attributesFrom : Bytes → ℕ → ℕ → List FlatAttribute
-attributesFrom bs end i = recordsFrom readAttribute (attributeSize (widthOf bs)) (attributeBody bs) end i
-
--- .. of the bytes `rows` at a width of a value
-abbrev pub rowsFrom : ℕ → Bytes → ℕ → ℕ → List (Deep FlatRow)
-rowsFrom w rows end i = recordsFrom readRow (rowSize w) rows end i
+attributesFrom bs end i = recordsFrom readAttribute (attributeSize (widthOf bs)) (fromAttributes bs) end i
 
 -- the names of definitions, and of attributes, in the order of their tables
 unfoldable pub namesOf : Bytes → List Bytes

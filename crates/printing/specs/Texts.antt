@@ -75,14 +75,14 @@ pub record LaidWithin (k : ℕ) (w out : Bytes) (at r : ℕ) (out′ : Bytes) : 
   pub small : r ≤ at + k
 
 -- an attribute as it stands in the form
-abbrev pub attributeOf : FlatAttribute → Attribute
-attributeOf x = record { name = x .name; sort = sortOf (x .sort); value = x .value }
+abbrev pub attributeRead : FlatAttribute → Attribute
+attributeRead x = record { name = x .name; sort = sortOf (x .sort); value = x .value }
 
 unfoldable pub defaultText : FlatAttribute → Bytes
-defaultText x = concat (defaultTokens (attributeOf x))
+defaultText x = concat (defaultTokens (attributeRead x))
 
 unfoldable pub attributeLineText : Bytes → FlatAttribute → Bytes
-attributeLineText owner x = concat (attributeLine owner (attributeOf x))
+attributeLineText owner x = concat (attributeLine owner (attributeRead x))
 
 unfoldable pub attributesText : Bytes → List Attribute → Bytes
 attributesText owner table = concat (map concat (attributeLines owner table))

@@ -8,7 +8,7 @@ use Rattle.rules.specs.Preorder.{Deep, build}
 use Rattle.codec.specs.Laid.{Laid}
 
 -- There is room for the text of all records from number i on, 2500 bytes each.
-pub record Room (end i depth at : ℕ) : Type 0 where
+pub record TextRoom (end i depth at : ℕ) : Type 0 where
   pub few : end < 4294967296
   pub deep : depth < 257
   pub room : at + 2500 * (end - i) < 4611686018427387904

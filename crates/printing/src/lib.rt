@@ -8,11 +8,12 @@ ghost use Rattle.codec.specs.Laid.{Laid};
 ghost use Rattle.rules.specs.Preorder.{build};
 ghost use Rattle.rules.specs.Decode.{nameAt, quantifierOf, groupOf, rowName, rowSortOf, readDefinition, readParticle, readAttribute, readRow, definitionCount, particleCount, attributeCount, ofOwner};
 ghost use Rattle.rules.specs.Print.{markOf};
-ghost use Rattle.printing.specs.Parts.{Named, Ends, Within, definitionPart, particlePart, attributePart, namesOf, attributeNamesOf, definitionsFrom, particlesFrom, attributesFrom, rowsFrom};
+ghost use Rattle.printing.specs.Parts.{Named, Ends, Within, definitionPart, particlePart, attributePart, namesOf, attributeNamesOf, definitionsFrom, particlesFrom, attributesFrom};
 ghost use Rattle.rules.specs.Layout.{rowSize};
 ghost use Rattle.layout.specs.Bodies.{Width, recordAt};
-ghost use Rattle.printing.specs.Walking.{Room, Passed, Stepped, Enclosed};
+ghost use Rattle.printing.specs.Walking.{TextRoom, Passed, Stepped, Enclosed};
 ghost use Rattle.printing.specs.Texts.{signText, endText, memberText, membersText, stays, attributeText, elementText, rowText, rowsText, documentText, documentsText, LaidWithin, defaultText, attributeLineText, attributesText, isTree, contentText, definitionText, declarationsText, formText, textOf};
+ghost use Rattle.lookup.specs.Bodies.{rowsFrom};
 
 // ---- records
 
@@ -119,7 +120,7 @@ fn put_member(
     out: &mut [u8],
     at: usize,
 ) -> Walked
-    requires { ⌜ Room end i depth at × (i < end) × (depth < 256) ⌝ }
+    requires { ⌜ TextRoom end i depth at × (i < end) × (depth < 256) ⌝ }
     ensures { λ r. ⌜ Stepped (particlesFrom (now (store .entry)) end) (memberText (namesOf (now (store .entry))) (groupOf kind) first (readParticle (particlePart (now (store .entry)) i) .row) (build (particlesFrom (now (store .entry)) end (i + 1)) (suc depth))) end i depth at (now (out .entry)) (r .next) (r .at) (now (out .exit)) ⌝ }
 {
     let bytes = particle(store, i);
@@ -153,7 +154,7 @@ fn put_members(
     out: &mut [u8],
     start: usize,
 ) -> Walked
-    requires { ⌜ Room end from depth start ⌝ }
+    requires { ⌜ TextRoom end from depth start ⌝ }
     ensures { λ r. ⌜ Passed (particlesFrom (now (store .entry)) end) (membersText (namesOf (now (store .entry))) (groupOf kind) true) end from depth start (now (out .entry)) (r .next) (r .at) (now (out .exit)) ⌝ }
 {
     let mut at = start;
@@ -230,7 +231,7 @@ fn put_element(
     out: &mut [u8],
     at: usize,
 ) -> Walked
-    requires { ⌜ Room count (i + 1) depth (at + 1000) × (i < count) × (depth < 256) × (length (now name) ≤ 300) × Width w ⌝ }
+    requires { ⌜ TextRoom count (i + 1) depth (at + 1000) × (i < count) × (depth < 256) × (length (now name) ≤ 300) × Width w ⌝ }
     ensures { λ r. ⌜ Enclosed (rowsFrom w (now (rows .entry)) count) (elementText (namesOf (now (store .entry))) (attributeNamesOf (now (store .entry))) (now (name .entry)) (build (rowsFrom w (now (rows .entry)) count (i + 1)) (suc depth))) count i depth at (now (out .entry)) (r .next) (r .at) (now (out .exit)) ⌝ }
 {
     let signed = codec::put_u8(out, at, b'<');
@@ -256,7 +257,7 @@ fn put_row(
     out: &mut [u8],
     at: usize,
 ) -> Walked
-    requires { ⌜ Room count i depth at × (i < count) × (depth < 256) × Width w ⌝ }
+    requires { ⌜ TextRoom count i depth at × (i < count) × (depth < 256) × Width w ⌝ }
     ensures { λ r. ⌜ Stepped (rowsFrom w (now (rows .entry)) count) (rowText (namesOf (now (store .entry))) (attributeNamesOf (now (store .entry))) opened (readRow (recordAt (rowSize w) i (now (rows .entry))) .row) (build (rowsFrom w (now (rows .entry)) count (i + 1)) (suc depth))) count i depth at (now (out .entry)) (r .next) (r .at) (now (out .exit)) ⌝ }
 {
     let bytes = layout::row_at(w, rows, i);
@@ -301,7 +302,7 @@ fn put_rows(
     out: &mut [u8],
     start: usize,
 ) -> Walked
-    requires { ⌜ Room count from depth start × Width w ⌝ }
+    requires { ⌜ TextRoom count from depth start × Width w ⌝ }
     ensures { λ r. ⌜ Passed (rowsFrom w (now (rows .entry)) count) (rowsText (namesOf (now (store .entry))) (attributeNamesOf (now (store .entry))) behind) count from depth start (now (out .entry)) (r .next) (r .at) (now (out .exit)) ⌝ }
 {
     let mut at = start;
@@ -341,7 +342,7 @@ fn put_document(
     out: &mut [u8],
     at: usize,
 ) -> Walked
-    requires { ⌜ Room count i 0 at × (i < count) × Width w ⌝ }
+    requires { ⌜ TextRoom count i 0 at × (i < count) × Width w ⌝ }
     ensures { λ r. ⌜ Stepped (rowsFrom w (now (rows .entry)) count) (documentText (now (store .entry)) (readRow (recordAt (rowSize w) i (now (rows .entry))) .row) (build (rowsFrom w (now (rows .entry)) count (i + 1)) 1)) count i 0 at (now (out .entry)) (r .next) (r .at) (now (out .exit)) ⌝ }
 {
     let bytes = layout::row_at(w, rows, i);
@@ -373,7 +374,7 @@ fn put_documents(
     out: &mut [u8],
     start: usize,
 ) -> usize
-    requires { ⌜ Room count 0 0 start × Width w ⌝ }
+    requires { ⌜ TextRoom count 0 0 start × Width w ⌝ }
     ensures { λ r. ⌜ Laid (documentsText (namesOf (now (store .entry))) (attributeNamesOf (now (store .entry))) (build (rowsFrom w (now (rows .entry)) count 0) 0)) (now (out .entry)) start r (now (out .exit)) ⌝ }
 {
     let mut at = start;

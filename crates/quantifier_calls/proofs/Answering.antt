@@ -1,15 +1,13 @@
 -- What a change of a quantifier answers, of an element or a group.
-use Prim.Native.Nat.{ℕ, suc, _≤_}
+use Prim.Native.Nat.{ℕ}
 use native.Mathlib.Omega.{arith}
 use mathlib.Core.Path.{_≡_, sym, ap}
 use mathlib.Core.Bool.{Bool, true, false}
-use mathlib.Core.List.{List, [], _∷_}
-use lib.ListN.{length}
+use mathlib.Core.List.{List}
 use Rattle.rules.specs.declared.Quantifier.{Quantifier}
-use Rattle.rules.specs.Bytes.{Bytes, same}
+use Rattle.rules.specs.Bytes.{Bytes}
 use Rattle.rules.specs.Edit.{Edit, quantify}
-use Rattle.rules.specs.Store.{Form}
-use Rattle.rules.specs.Layout.{indexOf, flat}
+use Rattle.rules.specs.Layout.{flat}
 use Rattle.rules.specs.Change.{Call, after}
 use Rattle.rules.specs.Refusal.{first, conditions}
 use Rattle.rules.specs.Outcome.{outcome, Answers}
@@ -29,14 +27,6 @@ use Rattle.model_edit.specs.Editing.{formEdited, Edits}
 use Rattle.model_edit.proofs.Fits.{Fits, asks, edited-answers}
 
 -- ---- numbers small enough for the walk
-pub index-low : (n : Bytes) (form : Form) → indexOf n form ≤ length form
-index-low n [] = omega arith
-index-low n (d ∷ form) = by (same n (d .name)) (index-low n form)
-  where
-    by : (b : Bool) → indexOf n form ≤ length form → elim b [ true ↦ 0 | false ↦ suc (indexOf n form) ] ≤ suc (length form)
-    by true l = omega arith
-    by false l = omega arith
-
 pub sized : (o : ℕ) (marks : Bytes) (cut : Bool) (i : ℕ) (gain : Bool) (what : Filling) → Indexed what → Sized (requantifyPlan o marks cut i gain what)
 sized o marks cut i gain what l = record { moves = record { definitions = record { more = omega arith }; attributes = record { more = omega arith } }; filling = by gain }
   where

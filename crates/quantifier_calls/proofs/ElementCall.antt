@@ -7,7 +7,7 @@ use mathlib.Core.List.{List, [], _∷_}
 use Rattle.rules.specs.declared.Quantifier.{Quantifier}
 use Rattle.rules.specs.Bytes.{Bytes}
 use Rattle.rules.specs.Quantifiers.{gains, cuts}
-use Rattle.rules.specs.Place.{Context, Found as Spot, spine, before}
+use Rattle.rules.specs.Place.{Context, Found as Spot, spine, beforePlace}
 use Rattle.rules.specs.Edit.{quantify}
 use Rattle.rules.specs.Decode.{quantifierOf}
 use Rattle.rules.specs.Change.{changeQuantifier, formAfter}
@@ -24,8 +24,8 @@ use Rattle.store_writer.specs.Writing.{Sized}
 use Rattle.store_writer.proofs.StoreLaws.{holds}
 use Rattle.plans.specs.ModelCalls.{Marked, requantifyPlan}
 use Rattle.plans.proofs.ModelCallsPlanned.{change-quantifier-planned}
-use Rattle.definition_writer.proofs.Encoded.{encoded}
-use Rattle.model_places.specs.Placing.{indexIn, partIn, Placed}
+use Rattle.store_writer.proofs.Encoded.{encoded}
+use Rattle.model_places.specs.Placing.{indexOfName, partIn, Placed}
 use Rattle.place_marks.specs.Marking.{marksAt}
 use Rattle.place_marks.proofs.MarkLaws.{element-marked}
 use Rattle.model_edit.specs.Editing.{formEdited}
@@ -33,17 +33,18 @@ use Rattle.model_edit.proofs.OwnParts.{form-size}
 use Rattle.model_edit.proofs.Fits.{same-found, bodies-hold, Element, picked-at, index-there}
 use Rattle.quantifier_plans.specs.Quantifying.{Stands, elementPlan}
 use Rattle.quantifier_calls.proofs.Places.{spine-there, element-stands, element-quantifier}
-use Rattle.quantifier_calls.proofs.Answering.{index-low, sized, same-edit, answered}
+use Rattle.quantifier_calls.proofs.Answering.{sized, same-edit, answered}
+use Rattle.rules.proofs.DecodeLaws.{index-bound}
 
 module _ {bs : Bytes} {o : ℕ} {p : List ℕ} (k : ℕ) (t : Bytes) (x : Element bs o p (quantify (quantifierOf k))) {h : Holder} {n : ℕ} (y : Placed bs o false p h n)
     {part : Bytes} (own : part ≡ partIn bs o) {new : Quantifier} (r : new ≡ quantifierOf k) where
   abbrev c : Context Bytes
   c = x .fits .found .context
 
-  marks-there : Marked (storeIn bs .form) (before c) (x .name ∷ []) (marksAt 1 n (partIn bs o))
+  marks-there : Marked (storeIn bs .form) (beforePlace c) (x .name ∷ []) (marksAt 1 n (partIn bs o))
   marks-there =
       let same : y .found ≡ x .fits .found = same-found (x .fits) y in
-      subst (λ (w : Spot Bytes). Marked (storeIn bs .form) (before (w .context)) (x .name ∷ []) (marksAt 1 n (partIn bs o))) same
+      subst (λ (w : Spot Bytes). Marked (storeIn bs .form) (beforePlace (w .context)) (x .name ∷ []) (marksAt 1 n (partIn bs o))) same
       (element-marked (x .fits .good) (x .fits .there) y (x .quantifier) (x .name) (x .rest) (ap (λ (w : Spot Bytes). w .picked) same ∙ x .is))
 
   pub element-inside : Stands part h n
@@ -51,8 +52,8 @@ module _ {bs : Bytes} {o : ℕ} {p : List ℕ} (k : ℕ) (t : Bytes) (x : Elemen
 
   abbrev planned : Plan
   planned =
-      requantifyPlan o (marksAt 1 n (partIn bs o)) (spine c && cuts (x .quantifier) (quantifierOf k)) (indexIn bs (x .name)) (spine c && gains (x .quantifier) (quantifierOf k))
-      (Definition (indexIn bs (x .name)))
+      requantifyPlan o (marksAt 1 n (partIn bs o)) (spine c && cuts (x .quantifier) (quantifierOf k)) (indexOfName bs (x .name)) (spine c && gains (x .quantifier) (quantifierOf k))
+      (Definition (indexOfName bs (x .name)))
 
   element-plan : elementPlan o part h n new ≡ planned
   unfolding elementPlan
@@ -66,8 +67,8 @@ module _ {bs : Bytes} {o : ℕ} {p : List ℕ} (k : ℕ) (t : Bytes) (x : Elemen
   pub element-sized : {q : Plan} → q ≡ elementPlan o part h n new → Sized q
   element-sized e =
       subst Sized (sym (e ∙ element-plan))
-      (sized o _ _ _ _ (Definition (indexIn bs (x .name)))
-      (omega (arith, index-low (x .name) (storeIn bs .form), form-size bs (x .fits .good), encoded bs (x .fits .good) .definitions, encoded bs (x .fits .good) .fewDefinitions)))
+      (sized o _ _ _ _ (Definition (indexOfName bs (x .name)))
+      (omega (arith, index-bound (x .name) (storeIn bs .form), form-size bs (x .fits .good), encoded bs (x .fits .good) .definitions, encoded bs (x .fits .good) .fewDefinitions)))
 
   pub element-answers : (room : ℕ) {q : Plan} (m : ℕ) → q ≡ elementPlan o part h n new → m ≡ first (conditions (changeQuantifier o p k t) (storeIn bs)) → m ≡ 0
       → {out : Bytes} {number len : ℕ} {left : Bytes} → Answers (limited room (plannedIn (formEdited bs o (quantify new) h n) q t (bodiesOf bs))) out number len left

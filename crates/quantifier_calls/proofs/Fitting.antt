@@ -18,11 +18,11 @@ use Rattle.rules.specs.Passing.{passes}
 use Rattle.rules.specs.Change.{changeQuantifier, changeGroupQuantifier}
 use Rattle.rules.specs.Refusal.{badText, past, foundAt, noElementAt, noGroupAt, onElement, onGroup, first, conditions}
 use Rattle.layout.specs.Bodies.{widthOf}
-use Rattle.history.proofs.EditConditions.{element-some, group-some}
+use Rattle.change_laws.proofs.EditConditions.{element-some, group-some}
 use Rattle.model_writer.specs.PartAfter.{suits}
 use Rattle.store_writer.specs.Stores.{storeIn}
 use Rattle.plans.proofs.CallsPlanned.{none-holds}
-use Rattle.document_refusals.proofs.StoreFacts.{value-given}
+use Rattle.store_writer.proofs.StoreFacts.{value-given}
 use Rattle.model_places.specs.Placing.{modelIn}
 use Rattle.model_places.proofs.PlaceLaws.{found-quantify}
 use Rattle.model_edit.proofs.Fits.{Fits, Element, inside, some-content}

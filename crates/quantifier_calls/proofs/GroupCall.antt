@@ -9,7 +9,7 @@ use Rattle.rules.specs.declared.Quantifier.{Quantifier}
 use Rattle.rules.specs.Bytes.{Bytes}
 use Rattle.rules.specs.Model.{names, rename}
 use Rattle.rules.specs.Quantifiers.{gains}
-use Rattle.rules.specs.Place.{Context, Found as Spot, spine, before, renameAround}
+use Rattle.rules.specs.Place.{Context, Found as Spot, spine, beforePlace, renameAround}
 use Rattle.rules.specs.Edit.{quantify}
 use Rattle.rules.specs.Layout.{FlatStore, flat}
 use Rattle.rules.specs.Decode.{quantifierOf}
@@ -30,7 +30,7 @@ use Rattle.store_writer.proofs.StoreLaws.{holds}
 use Rattle.plans.specs.ModelCalls.{Marked, requantifyPlan}
 use Rattle.plans.proofs.GroupPlaces.{group-at}
 use Rattle.plans.proofs.ModelCallsPlanned.{change-group-quantifier-planned}
-use Rattle.model_places.specs.Placing.{indexIn, partIn, Placed}
+use Rattle.model_places.specs.Placing.{indexOfName, partIn, Placed}
 use Rattle.model_places.proofs.PickLaws.{around}
 use Rattle.place_marks.specs.Marking.{marksAt}
 use Rattle.place_marks.proofs.MarkLaws.{group-marked}
@@ -47,10 +47,10 @@ module _ {bs : Bytes} {o : ℕ} {p : List ℕ} (k : ℕ) (t : Bytes) (x : Group 
   abbrev c : Context Bytes
   c = x .fits .found .context
 
-  marks-there : Marked (storeIn bs .form) (before c) (names (x .inner)) (marksAt (groupSpan (partIn bs o) h n) n (partIn bs o))
+  marks-there : Marked (storeIn bs .form) (beforePlace c) (names (x .inner)) (marksAt (groupSpan (partIn bs o) h n) n (partIn bs o))
   marks-there =
       let same : y .found ≡ x .fits .found = same-found (x .fits) y in
-      subst (λ (w : Spot Bytes). Marked (storeIn bs .form) (before (w .context)) (names (x .inner)) (marksAt (groupSpan (partIn bs o) h n) n (partIn bs o))) same
+      subst (λ (w : Spot Bytes). Marked (storeIn bs .form) (beforePlace (w .context)) (names (x .inner)) (marksAt (groupSpan (partIn bs o) h n) n (partIn bs o))) same
       (group-marked (x .fits .good) (x .fits .there) y (x .quantifier) (x .kind) (x .inner) (x .rest) (ap (λ (w : Spot Bytes). w .picked) same ∙ x .is))
 
   pub group-inside : Stands part h n
@@ -75,11 +75,11 @@ module _ {bs : Bytes} {o : ℕ} {p : List ℕ} (k : ℕ) (t : Bytes) (x : Group 
       (group-number (x .fits) y (x .is), omega (arith, there .inside, there .short, there .deep)))
 
   -- where the group's members are read
-  members-there : membersAt (flat (storeIn bs)) (startIn bs o + n + 1) (h .depth + 1) ≡ rename (indexIn bs) (x .inner)
+  members-there : membersAt (flat (storeIn bs)) (startIn bs o + n + 1) (h .depth + 1) ≡ rename (indexOfName bs) (x .inner)
   members-there =
       let inside : o < length (storeIn bs .form) = omega (arith, x .fits .there, form-size bs (x .fits .good)) in
-      let a : Context ℕ = renameAround (indexIn bs) c in
-      let same : around y ≡ a = ap (λ (w : Spot Bytes). renameAround (indexIn bs) (w .context)) (same-found (x .fits) y) in
+      let a : Context ℕ = renameAround (indexOfName bs) c in
+      let same : around y ≡ a = ap (λ (w : Spot Bytes). renameAround (indexOfName bs) (w .context)) (same-found (x .fits) y) in
       let start : startOf o (flat (storeIn bs) .definitions) ≡ startIn bs o =
       ap (λ (g : FlatStore). startOf o (g .definitions)) (sym (holds bs (x .fits .good) .bodies)) ∙ sym (start-is bs (x .fits .good) o (omega (arith, x .fits .there))) in
       let first : startOf o (flat (storeIn bs) .definitions) + (offset a + 1) ≡ startIn bs o + n + 1 = omega (arith, start, y .stands, ap offset same) in

@@ -18,16 +18,16 @@ use Rattle.model.specs.Members.{particlesOf}
 use Rattle.model.specs.Particle.{whatOf, particleOf, kindIn}
 use Rattle.model.specs.Places.{Particles, top}
 use Rattle.model.specs.Positions.{spread, offset, trailing, level}
-use Rattle.model.proofs.PositionLaws.{code-quantifier}
 use Rattle.model_writer.specs.PartAfter.{inserts}
 use Rattle.model_writer.proofs.HeadAfter.{depth-holder}
-use Rattle.definition_writer.proofs.Encoded.{encoded}
-use Rattle.model_places.specs.Placing.{indexIn, partIn, Placed}
+use Rattle.store_writer.proofs.Encoded.{encoded}
+use Rattle.model_places.specs.Placing.{indexOfName, partIn, Placed}
 use Rattle.model_places.proofs.PickLaws.{around, from-there, one-there, read-there}
 use Rattle.model_edit.specs.Editing.{startIn}
 use Rattle.model_edit.proofs.OwnParts.{own-length, own-inside}
 use Rattle.model_edit.proofs.Fits.{Fits, same-found}
 use Rattle.quantifier_plans.specs.Quantifying.{particleAt, Stands}
+use Rattle.rules.proofs.DecodeLaws.{quantifier-code}
 
 -- each group around a place has a particle before it
 level-before : (d : ℕ) (c : Context ℕ) → level d c ≤ d + offset c
@@ -48,8 +48,8 @@ module _ {bs : Bytes} {o : ℕ} {p : List ℕ} {e : Edit Bytes} (x : Fits bs o p
   level-there = ap (λ (g : Holder). g .depth) (sym (y .held)) ∙ depth-holder top 0 (around y)
 
   -- the particles from the place on, where the members t stand
-  from-found : (t : Members Bytes) → x .found .picked ≡ t → drop n (particlesOf (partIn bs o)) ≡ spread (level 0 (around y)) (rename (indexIn bs) t) ++ trailing 0 (around y)
-  from-found t is = from-there y ∙ ap (λ (u : Members Bytes). spread (level 0 (around y)) (rename (indexIn bs) u) ++ trailing 0 (around y)) (ap (λ (w : Spot Bytes). w .picked) (same-found x y) ∙ is)
+  from-found : (t : Members Bytes) → x .found .picked ≡ t → drop n (particlesOf (partIn bs o)) ≡ spread (level 0 (around y)) (rename (indexOfName bs) t) ++ trailing 0 (around y)
+  from-found t is = from-there y ∙ ap (λ (u : Members Bytes). spread (level 0 (around y)) (rename (indexOfName bs) u) ++ trailing 0 (around y)) (ap (λ (w : Spot Bytes). w .picked) (same-found x y) ∙ is)
 
   module _ {z : Deep FlatParticle} {zs : Particles} (from : drop n (particlesOf (partIn bs o)) ≡ z ∷ zs) where
     stands : Stands (partIn bs o) h n
@@ -73,7 +73,7 @@ module _ {bs : Bytes} {o : ℕ} {p : List ℕ} {e : Edit Bytes} (x : Fits bs o p
 
     pub element-quantifier : particleAt (partIn bs o) n .quantifier ≡ q
     unfolding rename particleOf
-    element-quantifier = ap (λ (z : Deep FlatParticle). particleOf z .quantifier) (read-there y _ _ (from-found (el q m rest) is)) ∙ code-quantifier q
+    element-quantifier = ap (λ (z : Deep FlatParticle). particleOf z .quantifier) (read-there y _ _ (from-found (el q m rest) is)) ∙ quantifier-code q
 
   -- ---- a group
   module _ {q : Quantifier} {k : GroupKind} {ms rest : Members Bytes} (is : x .found .picked ≡ group q k ms rest) where
@@ -87,7 +87,7 @@ module _ {bs : Bytes} {o : ℕ} {p : List ℕ} {e : Edit Bytes} (x : Fits bs o p
 
     pub group-quantifier : particleAt (partIn bs o) n .quantifier ≡ q
     unfolding rename particleOf
-    group-quantifier = ap (λ (z : Deep FlatParticle). particleOf z .quantifier) (read-there y _ _ (from-found (group q k ms rest) is)) ∙ code-quantifier q
+    group-quantifier = ap (λ (z : Deep FlatParticle). particleOf z .quantifier) (read-there y _ _ (from-found (group q k ms rest) is)) ∙ quantifier-code q
 
     pub group-kind : kindIn (particleAt (partIn bs o) n .what) ≡ k
     unfolding rename particleOf

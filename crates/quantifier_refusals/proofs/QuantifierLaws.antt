@@ -23,9 +23,9 @@ use Rattle.rules.proofs.Words.{and-both}
 use Rattle.model.specs.declared.place.Holder.{Holder}
 use Rattle.layout.specs.Bodies.{WidthIn, Number}
 use Rattle.store_writer.specs.Stores.{storeIn}
-use Rattle.document_refusals.proofs.StoreFacts.{formIn, Whole}
-use Rattle.document_refusals.specs.Finding.{Gives}
-use Rattle.document_refusals.proofs.RefusalLaws.{gives-hit, gives-next, gives-none, bad-text, fine-text}
+use Rattle.store_writer.proofs.StoreFacts.{formIn, Whole, bad-text, fine-text}
+use Rattle.change_laws.specs.FirstCondition.{Gives}
+use Rattle.change_laws.proofs.FirstCondition.{gives-hit, gives-next, gives-none}
 use Rattle.instance_search.specs.Instances.{hasInstance}
 use Rattle.model_places.specs.Placing.{modelIn, foundBy, ElementAt, GroupAt}
 use Rattle.quantifier_refusals.specs.Requantifying.{isOff, earlyTests, quantifierTests, requantify}

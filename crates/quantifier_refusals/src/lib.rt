@@ -9,7 +9,7 @@ ghost use Rattle.rules.specs.Passing.{passes};
 ghost use Rattle.rules.specs.Change.{changeQuantifier, changeGroupQuantifier};
 ghost use Rattle.rules.specs.Refusal.{first, conditions};
 ghost use Rattle.store_writer.specs.Stores.{storeIn};
-ghost use Rattle.document_refusals.specs.Finding.{Gives};
+ghost use Rattle.change_laws.specs.FirstCondition.{Gives};
 ghost use Rattle.instance_search.specs.Instances.{hasInstance};
 ghost use Rattle.model_places.specs.Placing.{Finds};
 ghost use Rattle.quantifier_refusals.specs.Requantifying.{isOff, earlyTests, quantifierTests, requantify};

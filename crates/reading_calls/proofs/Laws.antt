@@ -6,15 +6,15 @@ use mathlib.Core.Option.{Option, none, some}
 use mathlib.Core.List.{List, [], _++_}
 use native.Mathlib.Nat.{zero-add}
 use native.Mathlib.Omega.{arith}
-use lib.Dec.{ltb, lt→ltb, ltb→lt}
+use lib.Dec.{ltb, ltb→lt}
 use lib.ListN.{length, take, drop}
 use lib.Seq.{sets, sets-eq}
-use Rattle.rules.specs.Bytes.{Bytes, of-T, to-T}
+use Rattle.rules.specs.Bytes.{Bytes, to-T}
 use Rattle.rules.specs.Store.{Store}
 use Rattle.rules.specs.Passing.{readStore, isRead, passes}
 use Rattle.rules.specs.Outcome.{Outcome, refused, wrote, unlessRefused, onStore, Answers}
 use Rattle.rules.specs.Print.{printed, tooLong, printOutcome}
-use Rattle.rules.specs.LookUp.{Found, notFound, foundIn, lookUp, partOf}
+use Rattle.rules.specs.LookUp.{ValueFound, notFound, lookUpIn, lookUp, partFound}
 use Rattle.codec.specs.Laid.{Laid}
 use Rattle.printing.specs.Parts.{Within}
 use Rattle.printing.specs.Texts.{textOf}
@@ -22,6 +22,7 @@ use Rattle.printing.proofs.FormLaws.{text-is, passing-within}
 use Rattle.lookup.specs.Finding.{foundOn, Looks, Hands}
 use Rattle.lookup.proofs.Laws.{look-up-is}
 use Rattle.reading_calls.specs.Calls.{checkAnswer}
+use borrow.Author.Tests.{lt-ltb}
 
 -- `r` is what the check said, and `taken` or `left` which way the code went
 pub check-yes : (bs : Bytes) {r : Bool} → r ≡ true → r ≡ passes bs → 0 ≡ checkAnswer (passes bs)
@@ -43,7 +44,7 @@ unfolding lookUp
 look-bad bs k e = by (readStore bs) refl
   where
     by : (o : Option Store) → readStore bs ≡ o → lookUp bs k ≡ notFound 1
-    by none q = ap (foundIn k) q
+    by none q = ap (lookUpIn k) q
     by (some s) q = absurd (false≢true (sym e ∙ ap isRead q))
 
 look-good : (bs : Bytes) (k : ℕ) → passes bs ≡ true → lookUp bs k ≡ foundOn bs k
@@ -67,9 +68,6 @@ pub looks-good : (bs : Bytes) (k : ℕ) {r : Bool} {number start length : ℕ} �
 looks-good bs k left e h = rw (look-good bs k (shown bs left e)) h
 
 -- ---- printing
-ltb-yes : (m n : ℕ) → m < n → ltb m n ≡ true
-ltb-yes m n h = of-T (lt→ltb m n h)
-
 ltb-no : (m n : ℕ) → n ≤ m → ltb m n ≡ false
 ltb-no m n h = by (ltb m n) refl
   where
@@ -106,7 +104,7 @@ pub prints-bad : (bs : Bytes) (out : Bytes) {r : Bool} → not r ≡ true → r 
 prints-bad bs out taken e = rw (print-bad bs (length out) (refuted bs taken e)) (record { number-is = refl; length-is = refl; buffer-is = refl })
 
 print-short : (room : ℕ) (w : Bytes) → room < length w → unlessRefused (tooLong room w) w ≡ refused 18
-print-short room w h = ap (λ (b : Bool). unlessRefused (elim b [ true ↦ 18 | false ↦ 0 ]) w) (ltb-yes room (length w) h)
+print-short room w h = ap (λ (b : Bool). unlessRefused (elim b [ true ↦ 18 | false ↦ 0 ]) w) (lt-ltb room (length w) h)
 
 print-fits : (room : ℕ) (w : Bytes) → length w ≤ room → unlessRefused (tooLong room w) w ≡ wrote w
 print-fits room w h = ap (λ (b : Bool). unlessRefused (elim b [ true ↦ 18 | false ↦ 0 ]) w) (ltb-no room (length w) h)

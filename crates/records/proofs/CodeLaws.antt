@@ -17,8 +17,7 @@ use Rattle.rules.specs.Decode.{numberAt, readDefinition, readAttribute, readRow
 use Rattle.rules.specs.Passing.{knownVersion}
 use Rattle.codec.proofs.Writers.{tail-seen}
 use Rattle.byte_check.specs.Zeros.{zeros}
-use Rattle.layout.specs.Fields.{definitionEntryAt, particleEntryAt, attributeEntryAt, rowEntryAt, versionAt, nextAt}
-use Rattle.layout.specs.Fields.{definitionNameAt, attributeNameAt, attributeValueAt, attributeLength, rowValueAt, rowLength, unusedFit}
+use Rattle.layout.specs.Fields.{definitionEntryAt, particleEntryAt, attributeEntryAt, rowEntryAt, versionAt, nextAt, definitionNameAt, attributeNameAt, attributeValueAt, attributeLength, rowValueAt, rowLength, unusedFit}
 use Rattle.layout.specs.Bodies.{Place}
 use Rattle.records.specs.Records.{used, filled, nameFits, valueFits, definitionFits, attributeFits, rowFits, eachFits, countsFit, offsetsFit, headerFits}
 use Rattle.records.proofs.RecordLaws.{drop-take}

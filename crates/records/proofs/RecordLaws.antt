@@ -19,10 +19,9 @@ use Rattle.rules.proofs.Words.{and-both, and-split}
 use Rattle.rules.proofs.BooleanLaws.{Every}
 use Rattle.rules.proofs.LayoutLaws.{Small, unle-le, length-field, take-field}
 use Rattle.byte_check.specs.Zeros.{zeros}
-use Rattle.layout.specs.Fields.{definitionNameAt, definitionKindAt, definitionParticlesAt, particleSortAt, particleQuantifierAt, particleIndexAt, particleDepthAt}
-use Rattle.layout.specs.Fields.{attributeOwnerAt, attributeNameAt, attributeSortAt, attributeLengthAt, attributeValueAt, attributeLength}
-use Rattle.layout.specs.Fields.{rowSortAt, rowDepthAt, rowIndexAt, rowSerialAt, rowLengthAt, rowUnusedAt, rowValueAt, rowLength, unusedFit}
+use Rattle.layout.specs.Fields.{definitionNameAt, definitionKindAt, definitionParticlesAt, particleSortAt, particleQuantifierAt, particleIndexAt, particleDepthAt, attributeOwnerAt, attributeNameAt, attributeSortAt, attributeLengthAt, attributeValueAt, attributeLength, rowSortAt, rowDepthAt, rowIndexAt, rowSerialAt, rowLengthAt, rowUnusedAt, rowValueAt, rowLength, unusedFit}
 use Rattle.records.specs.Records.{used, filled, nameFits, valueFits, definitionFits, attributeFits, rowFits, eachFits}
+use Rattle.rules.proofs.DecodeLaws.{value-width}
 
 -- ---- bytes
 abbrev IsByte : ℕ → Type 0
@@ -139,9 +138,6 @@ pub name-length : (n : Bytes) → storedName n ≡ true → length n ≤ nameWid
 name-length [] h = absurd (false≢true h)
 name-length (x ∷ xs) h = leb-true (length (x ∷ xs)) nameWidth (and-split (startsName x && all inName xs) (leb (length (x ∷ xs)) nameWidth) h .1)
 
-pub value-length : (w : ℕ) (v : Bytes) → isValue w v ≡ true → length v ≤ w
-value-length w v h = leb-true (length v) w (and-split (leb (length v) w) _ h .0)
-
 name-fits : (bs n post : Bytes) (at : ℕ) → getD bs at 0 ≡ length n → drop (suc at) bs ≡ field nameWidth n ++ post → storedName n ≡ true → nameFits bs at ≡ true
 unfolding nameFits
 name-fits bs n post at g e s =
@@ -152,7 +148,7 @@ value-fits : (w : ℕ) (bs v post : Bytes) (at l : ℕ) → l ≡ length v → d
 unfolding valueFits
 value-fits w bs v post at l g e s =
     ap (λ (k : ℕ). isValue w (used bs at k) && filled bs at k w) g
-    ∙ and-both (ap (isValue w) (used-field bs v post at w e (value-length w v s)) ∙ s) (filled-field bs v post at w e (value-length w v s))
+    ∙ and-both (ap (isValue w) (used-field bs v post at w e (value-width w v s)) ∙ s) (filled-field bs v post at w e (value-width w v s))
 
 -- ---- definitions
 -- what a definition's record holds
@@ -306,7 +302,7 @@ attribute-fits w n a f =
     valueAt = drop-past (field nameWidth (a .name)) rest nameWidth 2 (length-field nameWidth (a .name)) ∙ sym (append-nil (field w (a .value)))
 
     usedAt : used (attributeBytes w a) attributeValueAt (attributeLength (attributeBytes w a)) ≡ a .value
-    usedAt = ap (λ (l : ℕ). used (attributeBytes w a) attributeValueAt l) lengthAt ∙ used-field (attributeBytes w a) (a .value) [] attributeValueAt w valueAt (value-length w (a .value) (f .value))
+    usedAt = ap (λ (l : ℕ). used (attributeBytes w a) attributeValueAt l) lengthAt ∙ used-field (attributeBytes w a) (a .value) [] attributeValueAt w valueAt (value-width w (a .value) (f .value))
 
 pub attribute-test : (w n : ℕ) (bs : Bytes) → length bs ≡ attributeSize w → (attributeFits w n bs ≡ true) ↔ (FittingAttribute w n (readAttribute bs) × (attributeBytes w (readAttribute bs) ≡ bs))
 attribute-test w n bs e = (λ h. (attribute-fields w n bs h, attribute-canonical w n bs e h), λ (f, c). ap (attributeFits w n) (sym c) ∙ attribute-fits w n (readAttribute bs) f)
@@ -417,10 +413,6 @@ pub row-test : (w : ℕ) (bs : Bytes) → Small bs → length bs ≡ rowSize w �
 row-test w bs a e = (λ h. (row-fields w bs a e h, row-canonical w bs a e h), λ (f, c). ap (rowFits w) (sym c) ∙ row-fits w (readRow bs) f)
 
 -- ---- bodies
-pub length-many : {A : Type 0} (f : Bytes → A) (size count : ℕ) (bs : Bytes) → length (readMany f size count bs) ≡ count
-length-many f size zero bs = refl
-length-many f size (suc count) bs = ap suc (length-many f size count (drop size bs))
-
 pub drop-take : (k m : ℕ) (xs : Bytes) → k ≤ m → drop k (take m xs) ≡ take (m - k) (drop k xs)
 drop-take zero m xs h = let e : m ≡ m - 0 = omega arith in ap (λ (n : ℕ). take n xs) e
 drop-take (suc k) zero xs h = absurd (omega arith)

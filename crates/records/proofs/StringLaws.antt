@@ -21,10 +21,11 @@ use Rattle.rules.specs.Passing.{knownVersion, laidRow, good}
 use Rattle.rules.proofs.Words.{and-both, and-split}
 use Rattle.rules.proofs.BooleanLaws.{Every, every-map, every-append, every-zip, none-nil}
 use Rattle.rules.proofs.LayoutLaws.{Small, unle-le, GoodFlatDefinition, GoodFlatAttribute, GoodFlatRow, GoodFlat, length-definition, length-particle, length-attribute, length-row, length-each, length-flatBytes, sized-bytes}
-use Rattle.rules.proofs.DecodeLaws.{version-bound, width-bound, GoodParts, good-parts, DefinitionParts, every-definition, good-flat}
+use Rattle.rules.proofs.DecodeLaws.{version-bound, width-bound, GoodParts, good-parts, DefinitionParts, every-definition, good-flat, value-width}
 use Rattle.layout.specs.Fields.{definitionEntryAt, particleEntryAt, attributeEntryAt, rowEntryAt, versionAt, nextAt}
-use Rattle.records.specs.Records.{definitionFits, attributeFits, rowFits, eachFits, atParticles, atAttributes, atRows, bodiesFit, countsFit, offsetsFit, headerFits}
-use Rattle.records.proofs.RecordLaws.{small-drop, number-then, number-bound, name-length, value-length, FittingDefinition, definition-canonical, definition-fields, definition-fits, particle-canonical, FittingAttribute, attribute-canonical, attribute-fields, attribute-fits, FittingRow, row-canonical, row-fields, row-fits, length-many, body-then, body-canonical, body-fields, body-fits, body-fits-whole}
+use Rattle.records.specs.Records.{definitionFits, attributeFits, rowFits, eachFits, atParticles, atAttributes, atRows, recordsFit, countsFit, offsetsFit, headerFits}
+use Rattle.records.proofs.RecordLaws.{small-drop, number-then, number-bound, name-length, FittingDefinition, definition-canonical, definition-fields, definition-fits, particle-canonical, FittingAttribute, attribute-canonical, attribute-fields, attribute-fits, FittingRow, row-canonical, row-fields, row-fits, body-then, body-canonical, body-fields, body-fits, body-fits-whole}
+use Rattle.codec.proofs.Records.{length-many}
 
 -- ---- the header
 pub record FittingHeader (w : ℕ) (bs : Bytes) : Type 0 where
@@ -92,8 +93,8 @@ record BodyParts (w : ℕ) (bs : Bytes) : Type 0 where
   attributes : eachFits (attributeFits w (definitionCount bs)) (attributeSize w) (attributeCount bs) (drop (atAttributes bs) bs) ≡ true
   rows : eachFits (rowFits w) (rowSize w) (rowCount bs) (drop (atRows w bs) bs) ≡ true
 
-body-parts : (w : ℕ) (bs : Bytes) → bodiesFit w bs ≡ true → BodyParts w bs
-unfolding bodiesFit
+body-parts : (w : ℕ) (bs : Bytes) → recordsFit w bs ≡ true → BodyParts w bs
+unfolding recordsFit
 body-parts w bs h =
     let (d, h₁) = and-split (eachFits definitionFits definitionSize (definitionCount bs) (drop headerSize bs)) _ h in
     let (a, r) = and-split (eachFits (attributeFits w (definitionCount bs)) (attributeSize w) (attributeCount bs) (drop (atAttributes bs) bs)) _ h₁ in
@@ -178,7 +179,7 @@ module _ (w : ℕ) (bs : Bytes) where
         (number-then bs rowEntryAt 4 (atRows w bs) small (sym (header .rowsAt)) (omega arith)
         (number-then bs (rowEntryAt + 4) 4 (rowCount bs) small refl (omega arith) refl)))))))))
 
-pub string-canonical : (w : ℕ) (bs : Bytes) → Small bs → headerFits w bs ≡ true → bodiesFit w bs ≡ true → flatBytes w (readFlat w bs) ≡ bs
+pub string-canonical : (w : ℕ) (bs : Bytes) → Small bs → headerFits w bs ≡ true → recordsFit w bs ≡ true → flatBytes w (readFlat w bs) ≡ bs
 string-canonical w bs a h b = all-canonical w bs a (header-fields w bs h) (body-parts w bs b)
 
 -- ---- what a string that fits holds
@@ -214,7 +215,7 @@ all-fields w bs a x p =
     definitionsRead : length (readFlat w bs .definitions) ≡ definitionCount bs
     definitionsRead = length-many readDefinition definitionSize (definitionCount bs) (drop headerSize bs)
 
-pub string-fields : (w : ℕ) (bs : Bytes) → Small bs → headerFits w bs ≡ true → bodiesFit w bs ≡ true → FittingFlat w (readFlat w bs)
+pub string-fields : (w : ℕ) (bs : Bytes) → Small bs → headerFits w bs ≡ true → recordsFit w bs ≡ true → FittingFlat w (readFlat w bs)
 string-fields w bs a h b = all-fields w bs a (header-fields w bs h) (body-parts w bs b)
 
 -- ---- what is written of such a store fits
@@ -228,8 +229,8 @@ fitting-good w f x =
       attributeCount = omega arith;
       rowCount = omega arith;
       definitions = every-map FittingDefinition GoodFlatDefinition (f .definitions) (λ d y. record { name = name-length (d .name) (y .name); particles = y .particles }) (x .definitions);
-      attributes = every-map (FittingAttribute w (length (f .definitions))) (GoodFlatAttribute w) (f .attributes) (λ a y. record { name = name-length (a .name) (y .name); value = value-length w (a .value) (y .value) }) (x .attributes);
-      rows = every-map (FittingRow w) (GoodFlatRow w) (f .rows) (λ r y. record { index = y .index; serial = y .serial; value = value-length w (r .row .value) (y .value) }) (x .rows);
+      attributes = every-map (FittingAttribute w (length (f .definitions))) (GoodFlatAttribute w) (f .attributes) (λ a y. record { name = name-length (a .name) (y .name); value = value-width w (a .value) (y .value) }) (x .attributes);
+      rows = every-map (FittingRow w) (GoodFlatRow w) (f .rows) (λ r y. record { index = y .index; serial = y .serial; value = value-width w (r .row .value) (y .value) }) (x .rows);
     }
 
 module _ (w : ℕ) (f : FlatStore) (x : FittingFlat w f) where
@@ -309,8 +310,8 @@ module _ (w : ℕ) (f : FlatStore) (x : FittingFlat w f) where
       ∙ ap₂ (λ (m : ℕ) (ys : Bytes). drop (attributeSize w * m) ys) attributes-counted (from-attributes w string ∙ attributes-from)
       ∙ drop-at attributeBody rowBody (attributeSize w * a) (length-each (attributeBytes w) (attributeSize w) (length-attribute w) (f .attributes))
 
-  pub bodies-fit : bodiesFit w (flatBytes w f) ≡ true
-  unfolding bodiesFit
+  pub bodies-fit : recordsFit w (flatBytes w f) ≡ true
+  unfolding recordsFit
   bodies-fit =
       and-both
       (ap (λ (n : ℕ). eachFits definitionFits definitionSize n (drop headerSize string)) definitions-counted
@@ -325,10 +326,10 @@ module _ (w : ℕ) (f : FlatStore) (x : FittingFlat w f) where
       (every-map (FittingRow w) (λ y. rowFits w (rowBytes w y) ≡ true) (f .rows) (row-fits w) (x .rows))))
 
 -- header and bodies fit if and only if what is read is good and the string is what it is written as
-pub string-test : (w : ℕ) (bs : Bytes) → w < 256 → Small bs → ((headerFits w bs && bodiesFit w bs) ≡ true) ↔ (FittingFlat w (readFlat w bs) × (flatBytes w (readFlat w bs) ≡ bs))
+pub string-test : (w : ℕ) (bs : Bytes) → w < 256 → Small bs → ((headerFits w bs && recordsFit w bs) ≡ true) ↔ (FittingFlat w (readFlat w bs) × (flatBytes w (readFlat w bs) ≡ bs))
 string-test w bs narrow small = (
-  λ t. let (h, b) = and-split (headerFits w bs) (bodiesFit w bs) t in (string-fields w bs small h b, string-canonical w bs small h b),
-  λ (x, e). ap (λ (ys : Bytes). headerFits w ys && bodiesFit w ys) (sym e) ∙ and-both (header-fits w (readFlat w bs) x narrow) (bodies-fit w (readFlat w bs) x),
+  λ t. let (h, b) = and-split (headerFits w bs) (recordsFit w bs) t in (string-fields w bs small h b, string-canonical w bs small h b),
+  λ (x, e). ap (λ (ys : Bytes). headerFits w ys && recordsFit w ys) (sym e) ∙ and-both (header-fits w (readFlat w bs) x narrow) (bodies-fit w (readFlat w bs) x),
 )
 
 -- ---- a store that passes
@@ -347,7 +348,7 @@ store-definitions w form [] a g = tt
 store-definitions w form (d ∷ fs) a g =
     (record { name = a .0 .name; kind = kind-few (d .content); none = kind-none form (d .content); particles = g .0 .particles }, store-definitions w form fs (a .1) (g .1))
 
-sort-few : (s : AttributeSort) → sortCode s ≤ 2
+pub sort-few : (s : AttributeSort) → sortCode s ≤ 2
 sort-few implied = omega arith
 sort-few required = omega arith
 sort-few fixed = omega arith
@@ -425,5 +426,5 @@ store-fields s g = of (good-parts s g) (good-flat s g)
 pub store-header-fits : (s : Store) → good s ≡ true → headerFits (valueWidth (s .version)) (encode s) ≡ true
 store-header-fits s g = header-fits (valueWidth (s .version)) (flat s) (store-fields s g) (width-bound (s .version))
 
-pub store-bodies-fit : (s : Store) → good s ≡ true → bodiesFit (valueWidth (s .version)) (encode s) ≡ true
+pub store-bodies-fit : (s : Store) → good s ≡ true → recordsFit (valueWidth (s .version)) (encode s) ≡ true
 store-bodies-fit s g = bodies-fit (valueWidth (s .version)) (flat s) (store-fields s g)

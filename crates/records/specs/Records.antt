@@ -9,8 +9,7 @@ use Rattle.rules.specs.Decode.{numberAt, readDefinition, readAttribute, readRow
 use Rattle.rules.specs.WellFormed.{storedName, isValue, isFill}
 use Rattle.rules.specs.Passing.{knownVersion}
 use Rattle.byte_check.specs.Zeros.{zeros}
-use Rattle.layout.specs.Fields.{definitionEntryAt, particleEntryAt, attributeEntryAt, rowEntryAt, versionAt, nextAt}
-use Rattle.layout.specs.Fields.{definitionNameAt, attributeNameAt, attributeValueAt, attributeLength, rowValueAt, rowLength, unusedFit}
+use Rattle.layout.specs.Fields.{definitionEntryAt, particleEntryAt, attributeEntryAt, rowEntryAt, versionAt, nextAt, definitionNameAt, attributeNameAt, attributeValueAt, attributeLength, rowValueAt, rowLength, unusedFit}
 
 -- a field of `width` bytes at `at`, of which the first `used` are used and the others zero
 abbrev pub used : Bytes → ℕ → ℕ → Bytes
@@ -63,8 +62,8 @@ atAttributes bs = atParticles bs + particleSize * particleCount bs
 abbrev pub atRows : ℕ → Bytes → ℕ
 atRows w bs = atAttributes bs + attributeSize w * attributeCount bs
 
-unfoldable pub bodiesFit : ℕ → Bytes → Bool
-bodiesFit w bs =
+unfoldable pub recordsFit : ℕ → Bytes → Bool
+recordsFit w bs =
     eachFits definitionFits definitionSize (definitionCount bs) (drop headerSize bs)
     && (eachFits (attributeFits w (definitionCount bs)) (attributeSize w) (attributeCount bs) (drop (atAttributes bs) bs)
     && eachFits (rowFits w) (rowSize w) (rowCount bs) (drop (atRows w bs) bs))

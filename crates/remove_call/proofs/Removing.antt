@@ -16,7 +16,7 @@ use Rattle.rules.specs.Passing.{passes}
 use Rattle.rules.specs.Change.{removeElement, formAfter}
 use Rattle.rules.specs.Refusal.{past, foundAt, noElementAt, onElement, first, conditions}
 use Rattle.rules.specs.Outcome.{outcome, Answers}
-use Rattle.history.proofs.EditConditions.{element-some}
+use Rattle.change_laws.proofs.EditConditions.{element-some}
 use Rattle.model.specs.declared.place.Holder.{Holder}
 use Rattle.lookup.specs.Bodies.{bodiesOf}
 use Rattle.row_walk.specs.declared.Plan.{Plan}
@@ -30,7 +30,7 @@ use Rattle.store_writer.proofs.CallLaws.{answers-as}
 use Rattle.plans.specs.ModelCalls.{removeElementPlan}
 use Rattle.plans.proofs.CallsPlanned.{none-holds}
 use Rattle.plans.proofs.ModelCallsPlanned.{remove-element-planned}
-use Rattle.model_places.specs.Placing.{indexIn, partIn, Placed}
+use Rattle.model_places.specs.Placing.{indexOfName, partIn, Placed}
 use Rattle.model_places.proofs.PlaceLaws.{found-remove}
 use Rattle.model_edit.specs.Editing.{formEdited}
 use Rattle.model_edit.proofs.Fits.{Fits, Element, picked-at, index-there, inside, some-content, edited-answers, bodies-hold}
@@ -74,7 +74,7 @@ pub removed-answers : {bs : Bytes} {o : ℕ} {p : List ℕ} (x : Element bs o p 
 unfolding formAfter
 removed-answers {bs} {o} {p} x {h} {n} y own room m w f e a =
     let there = ap (λ (s : Bytes). readParticle (drop (particleSize * n) s) .row .index) own ∙ index-there x y in
-    edited-answers (x .fits) Remove refl y (removeElement o p) room (removeElementPlan o (indexIn bs (x .name))) [] m f e
+    edited-answers (x .fits) Remove refl y (removeElement o p) room (removeElementPlan o (indexOfName bs (x .name))) [] m f e
     (remove-element-planned (storeIn bs) (holds bs (x .fits .good) .good) o p (x .fits .found .context) (formEdited bs o remove h n) (x .quantifier) (x .name) (x .rest) [] (sym f ∙ e)
     (picked-at x) (bodies-hold (x .fits) Remove refl y (removeElement o p) refl))
     (answers-as (ap (λ (y : Plan). limited room (plannedIn (formEdited bs o remove h n) y [] (bodiesOf bs))) (sym (w ∙ ap (removeElementPlan o) there))) a)

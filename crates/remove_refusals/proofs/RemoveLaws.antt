@@ -35,16 +35,16 @@ use Rattle.model.specs.Members.{indexMember, indexMembers, particlesOf, members
 use Rattle.model.specs.Places.{Particles, noParticle, top}
 use Rattle.model.specs.Positions.{elementParticle, groupParticle, spread, count, trailing, level}
 use Rattle.model.proofs.ParticleLaws.{particle-at, particles-drop, particles-take}
-use Rattle.model.proofs.PositionLaws.{spread-plug, length-leading, length-spread, code-quantifier}
+use Rattle.model.proofs.PositionLaws.{spread-plug, length-leading, length-spread}
 use Rattle.model.proofs.MembersLaws.{members-here}
 use Rattle.model.proofs.FactsLaws.{facts-nothing}
 use Rattle.model_writer.proofs.HeadAfter.{depth-holder}
 use Rattle.store_writer.specs.Stores.{storeIn}
-use Rattle.document_refusals.proofs.StoreFacts.{formIn, Whole}
-use Rattle.document_refusals.specs.Finding.{Gives}
-use Rattle.document_refusals.proofs.RefusalLaws.{gives-hit, gives-next, gives-none}
+use Rattle.store_writer.proofs.StoreFacts.{formIn, Whole}
+use Rattle.change_laws.specs.FirstCondition.{Gives}
+use Rattle.change_laws.proofs.FirstCondition.{gives-hit, gives-next, gives-none}
 use Rattle.instance_search.specs.Instances.{hasInstance}
-use Rattle.model_places.specs.Placing.{indexIn, modelIn, partIn, foundBy, ElementAt, GroupAt}
+use Rattle.model_places.specs.Placing.{indexOfName, modelIn, partIn, foundBy, ElementAt, GroupAt}
 use Rattle.remove_refusals.specs.Removing.{choiceLeft, Removable, removeTests}
 use Rattle.instance_search.proofs.TestLaws.{and-off, and-first}
 use Rattle.model_places.proofs.PlaceLaws.{found-remove}
@@ -53,6 +53,8 @@ use Rattle.instance_search.proofs.InstanceLaws.{instance-is}
 use Rattle.model_places.proofs.CountLaws.{done-many}
 use Rattle.remove_refusals.proofs.ContextViews.{Lead, Inner, View, outer, inner, view}
 use Rattle.remove_refusals.proofs.SpreadLaws.{members-spread}
+use Rattle.change_laws.proofs.EditConditions.{or-both}
+use Rattle.rules.proofs.DecodeLaws.{quantifier-code}
 
 -- ---- words
 opens-rename : {A B : Type 0} (f : A → B) (b : Bool) (c : Context A) → opens b (renameAround f c) ≡ opens b c
@@ -105,14 +107,14 @@ module _ {bs : Bytes} {o : ℕ} {place : List ℕ} {h : Holder} {p : ℕ} {q : Q
   d = level 0 c
 
   abbrev left : Members ℕ
-  left = rename (indexIn bs) (x .rest)
+  left = rename (indexOfName bs) (x .rest)
 
   abbrev here-is : Deep FlatParticle
-  here-is = elementParticle d q (indexIn bs (x .name))
+  here-is = elementParticle d q (indexOfName bs (x .name))
 
-  chosen-is : rename (indexIn bs) (x .placed .found .picked) ≡ el q (indexIn bs (x .name)) left
+  chosen-is : rename (indexOfName bs) (x .placed .found .picked) ≡ el q (indexOfName bs (x .name)) left
   unfolding rename
-  chosen-is = ap (λ (t : Members Bytes). rename (indexIn bs) t) (x .is)
+  chosen-is = ap (λ (t : Members Bytes). rename (indexOfName bs) t) (x .is)
 
   from-here : drop p (particlesOf part) ≡ here-is ∷ (spread d left ++ trailing 0 c)
   from-here = from-there (x .placed) ∙ ap (λ (t : Members ℕ). spread d t ++ trailing 0 c) chosen-is
@@ -127,7 +129,7 @@ module _ {bs : Bytes} {o : ℕ} {place : List ℕ} {h : Holder} {p : ℕ} {q : Q
   held-depth : h .depth ≡ d
   held-depth = ap (λ (g : Holder). g .depth) (sym (x .placed .held)) ∙ depth-holder top 0 c
 
-  members-is : membersFrom d (drop (particleSize * p) part) ≡ el q (indexIn bs (x .name)) left
+  members-is : membersFrom d (drop (particleSize * p) part) ≡ el q (indexOfName bs (x .name)) left
   members-is = ap (λ (z : ℕ). membersFrom z (drop (particleSize * p) part)) (sym held-depth) ∙ x .placed .picked ∙ chosen-is
 
   rest-is : membersFrom d (drop (particleSize * (p + 1)) part) ≡ left
@@ -141,18 +143,18 @@ module _ {bs : Bytes} {o : ℕ} {place : List ℕ} {h : Holder} {p : ℕ} {q : Q
       ∙ ap restOf (sym (members-here d (drop (particleSize * p) part) (omega (arith, room-here, length-drop (particleSize * p) part)) depth-read) ∙ members-is)
 
   alone-is : eqb (howMany (membersFrom d (drop (particleSize * p) part))) 1 ≡ isDone (x .rest)
-  alone-is = ap (λ (t : Members ℕ). eqb (howMany t) 1) members-is ∙ sym (done-many left) ∙ done-rename (indexIn bs) (x .rest)
+  alone-is = ap (λ (t : Members ℕ). eqb (howMany t) 1) members-is ∙ sym (done-many left) ∙ done-rename (indexOfName bs) (x .rest)
 
   -- in an inner group
   module _ {r : Quantifier} {k : GroupKind} {f : Members ℕ} {n : ℕ} (v : Inner c r k f n) where
-    abbrev lead : Lead c r k f n 0 (rename (indexIn bs) (x .placed .found .picked))
-    lead = v .lead 0 (rename (indexIn bs) (x .placed .found .picked))
+    abbrev lead : Lead c r k f n 0 (rename (indexOfName bs) (x .placed .found .picked))
+    lead = v .lead 0 (rename (indexOfName bs) (x .placed .found .picked))
 
     abbrev around-is : Deep FlatParticle
     around-is = groupParticle (lead .depth) r k (lead .many)
 
     abbrev onward : Particles
-    onward = spread d (rename (indexIn bs) (x .placed .found .picked)) ++ trailing 0 c
+    onward = spread d (rename (indexOfName bs) (x .placed .found .picked)) ++ trailing 0 c
 
     start-is : h .start ≡ suc n
     start-is = omega (arith, ap (λ (g : Holder). g .start) (x .placed .held), v .start top 0)
@@ -160,12 +162,12 @@ module _ {bs : Bytes} {o : ℕ} {place : List ℕ} {h : Holder} {p : ℕ} {q : Q
     stands-is : p ≡ n + suc (count f)
     stands-is =
         let l : length (lead .front ++ (around-is ∷ spread d f)) ≡ length (lead .front) + length (around-is ∷ spread d f) = length-append (lead .front) (around-is ∷ spread d f) in
-        omega (arith, l, x .placed .stands, length-leading 0 c (rename (indexIn bs) (x .placed .found .picked)), ap length (lead .is), lead .long, length-spread d f)
+        omega (arith, l, x .placed .stands, length-leading 0 c (rename (indexOfName bs) (x .placed .found .picked)), ap length (lead .is), lead .long, length-spread d f)
 
     all-is : particlesOf part ≡ lead .front ++ (around-is ∷ (spread d f ++ onward))
     all-is =
         x .placed .particles
-        ∙ spread-plug 0 c (rename (indexIn bs) (x .placed .found .picked))
+        ∙ spread-plug 0 c (rename (indexOfName bs) (x .placed .found .picked))
         ∙ ap (λ (l : Particles). l ++ onward) (lead .is)
         ∙ append-assoc (lead .front) (around-is ∷ spread d f) onward
 
@@ -185,7 +187,7 @@ module _ {bs : Bytes} {o : ℕ} {place : List ℕ} {h : Holder} {p : ℕ} {q : Q
     unfolding particleOf
     quantifier-read =
         let z : h .start - 1 ≡ n = omega (arith, start-is) in
-        ap (λ (i : ℕ). particleOf (readParticle (drop (particleSize * i) part)) .quantifier) z ∙ ap (λ (y : Deep FlatParticle). particleOf y .quantifier) group-read ∙ code-quantifier r
+        ap (λ (i : ℕ). particleOf (readParticle (drop (particleSize * i) part)) .quantifier) z ∙ ap (λ (y : Deep FlatParticle). particleOf y .quantifier) group-read ∙ quantifier-code r
 
     from-first : drop (h .start) (particlesOf part) ≡ spread d f ++ onward
     from-first =
@@ -252,10 +254,10 @@ module _ {bs : Bytes} {o : ℕ} {place : List ℕ} {h : Holder} {p : ℕ} {q : Q
   removable q {s} e = subst (λ (z : Bytes). Removable z h p) (sym e) (record { deep = start-inner; later = start-before; few = omega (arith, room-here, part-few bs q o) })
 
   last-test : ((ltb 0 d && eqb p (h .start)) && eqb (howMany (membersFrom d (drop (particleSize * p) part))) 1) ≡ removeLast (x .placed .found .context) (x .rest)
-  last-test = ap₂ (λ (a b : Bool). a && b) (opens-is ∙ opens-rename (indexIn bs) false (x .placed .found .context)) alone-is ∙ sym (last-is (x .rest) (x .placed .found .context))
+  last-test = ap₂ (λ (a b : Bool). a && b) (opens-is ∙ opens-rename (indexOfName bs) false (x .placed .found .context)) alone-is ∙ sym (last-is (x .rest) (x .placed .found .context))
 
   left-test : not (sameKind (h .kind) Sequence || choiceLeft part (h .start) p d) ≡ removeUnmatched (x .placed .found .context) (x .rest)
-  left-test = ap not (leaves-is ∙ leaves-rename (indexIn bs) true Sequence (x .placed .found .context) (x .rest)) ∙ sym (unmatched-is (x .rest) (x .placed .found .context))
+  left-test = ap not (leaves-is ∙ leaves-rename (indexOfName bs) true Sequence (x .placed .found .context) (x .rest)) ∙ sym (unmatched-is (x .rest) (x .placed .found .context))
 
 -- ---- the conditions
 module _ (bs : Bytes) (w : Whole bs) (o : ℕ) (place : List ℕ) where
@@ -307,10 +309,6 @@ module _ (s : Bytes) (start p d : ℕ) {x : Particle} {i k : Bytes} {a b c : Boo
       let between = g ∙ ap (λ (t : Bytes). nothing Choice (membersFrom d t)) (u ∙ ap₂ (λ (m : ℕ) (t : Bytes). take m t) span l) in
       λ j. (first j || between j) || (h ∙ ap (λ (t : Bytes). nothing Choice (membersFrom d t)) v) j
 
-or-none : (a b : Bool) → a ≡ false → b ≡ false → (a || b) ≡ false
-or-none true b e f = e
-or-none false b e f = f
-
 module _ (exists : Bool) (s : Bytes) (h : Holder) (p : ℕ) {r : Bytes} {d n : ℕ} (u : r ≡ drop (particleSize * p) s) (at : d ≡ readParticle r .depth) (m : n ≡ howMany (membersFrom d r)) where
   abbrev depth : ℕ
   depth = readParticle (drop (particleSize * p) s) .depth
@@ -343,7 +341,7 @@ module _ (exists : Bool) (s : Bytes) (h : Holder) (p : ℕ) {r : Bytes} {d n : �
 
       module _ (no : a ≡ false) (off : b ≡ false) {y : Bool} (i : y ≡ exists) where
         unmatched : not (sameKind (h .kind) Sequence || choiceLeft s (h .start) p depth) ≡ true
-        unmatched = ap not (or-none (sameKind (h .kind) Sequence) (choiceLeft s (h .start) p depth) (sym f ∙ no) (sym left-at ∙ off))
+        unmatched = ap not (or-both (sameKind (h .kind) Sequence) (choiceLeft s (h .start) p depth) (sym f ∙ no) (sym left-at ∙ off))
 
         pub at-15 : y ≡ true → Gives 15 (removeTests exists s h p)
         at-15 z = gives-next (last-read k) (gives-hit (and-both (sym i ∙ z) unmatched))

@@ -1,7 +1,7 @@
 -- The particles of members, read back at any depth.
 use Prim.Native.Nat.{ℕ, suc, _<_, _≤_}
 use native.Mathlib.Omega.{arith}
-use borrow.Author.Tests.{lt-ltb, le-ltb, eq-eqb, ne-eqb}
+use borrow.Author.Tests.{le-ltb, eq-eqb}
 use mathlib.Core.Path.{_≡_, refl, sym, ap, ap₂, _∙_}
 use mathlib.Core.Bool.{true, false}
 use mathlib.Core.List.{[], _∷_, _++_, append-assoc, append-nil}
@@ -16,27 +16,22 @@ use Rattle.rules.specs.Layout.{FlatParticle, howMany, groupCode}
 use Rattle.model.specs.Members.{indexMember, indexMembers}
 use Rattle.model.specs.Places.{Particles}
 use Rattle.model.specs.Positions.{elementParticle, groupParticle, spread}
-use Rattle.model.proofs.PositionLaws.{code-quantifier}
+use Rattle.rules.proofs.PreorderLaws.{build-less, build-more as build-stop}
+use Rattle.rules.proofs.DecodeLaws.{quantifier-code}
 
 build-more : (x : Deep FlatParticle) (xs : Particles) (d : ℕ)
     → build (x ∷ xs) d ≡ elim (ltb d (x .depth)) [ true ↦ build xs d | false ↦ elim (eqb d (x .depth)) [ true ↦ tree (x .row) (build xs (suc d)) (build xs d) | false ↦ bare ] ]
 build-more x xs d = refl
 
 module _ (x : Deep FlatParticle) (xs : Particles) (d : ℕ) where
-  build-deeper : d < x .depth → build (x ∷ xs) d ≡ build xs d
-  build-deeper l = build-more x xs d ∙ rw (lt-ltb d (x .depth) l)
-
   build-here : x .depth ≡ d → build (x ∷ xs) d ≡ tree (x .row) (build xs (suc d)) (build xs d)
   build-here e = build-more x xs d ∙ rw (le-ltb d (x .depth) (omega arith), eq-eqb d (x .depth) (omega arith))
 
-  build-stop : x .depth < d → build (x ∷ xs) d ≡ bare
-  build-stop l = let n : d ≡ x .depth → ⊥ = λ z. omega arith in build-more x xs d ∙ rw (le-ltb d (x .depth) (omega arith), ne-eqb d (x .depth) n)
-
 skip-deeper : (d e : ℕ) (ms : Members ℕ) (ys : Particles) → d < e → build (spread e ms ++ ys) d ≡ build ys d
 skip-deeper d e done ys l = refl
-skip-deeper d e (el q i rest) ys l = build-deeper (elementParticle e q i) (spread e rest ++ ys) d l ∙ skip-deeper d e rest ys l
+skip-deeper d e (el q i rest) ys l = build-less (elementParticle e q i) (spread e rest ++ ys) d l ∙ skip-deeper d e rest ys l
 skip-deeper d e (group q k ms rest) ys l =
-    build-deeper (groupParticle e q k (howMany ms)) ((spread (suc e) ms ++ spread e rest) ++ ys) d l
+    build-less (groupParticle e q k (howMany ms)) ((spread (suc e) ms ++ spread e rest) ++ ys) d l
     ∙ ap (λ (zs : Particles). build zs d) (append-assoc (spread (suc e) ms) (spread e rest) ys)
     ∙ skip-deeper d (suc e) ms (spread e rest ++ ys) (omega arith)
     ∙ skip-deeper d e rest ys l
@@ -51,14 +46,14 @@ low-spread d (el q i rest) ys l e h = build-stop (elementParticle d q i) (spread
 low-spread d (group q k ms rest) ys l e h = build-stop (groupParticle d q k (howMany ms)) ((spread (suc d) ms ++ spread d rest) ++ ys) e (omega arith)
 
 group-back : (d : ℕ) (q : Quantifier) (k : GroupKind) (n : ℕ) (ms rest : Members ℕ) → indexMember (groupParticle d q k n .row) (groupCode k) ms rest ≡ group q k ms rest
-group-back d q Sequence n ms rest = ap (λ (z : Quantifier). group z Sequence ms rest) (code-quantifier q)
-group-back d q Choice n ms rest = ap (λ (z : Quantifier). group z Choice ms rest) (code-quantifier q)
+group-back d q Sequence n ms rest = ap (λ (z : Quantifier). group z Sequence ms rest) (quantifier-code q)
+group-back d q Choice n ms rest = ap (λ (z : Quantifier). group z Choice ms rest) (quantifier-code q)
 
 members-low : (d : ℕ) (ms : Members ℕ) (ys : Particles) → Low d ys → indexMembers (build (spread d ms ++ ys) d) ≡ ms
 members-low d done ys l = ap indexMembers (l d (omega arith))
 members-low d (el q i rest) ys l =
     ap indexMembers (build-here (elementParticle d q i) (spread d rest ++ ys) d refl)
-    ∙ ap₂ (λ (z : Quantifier) (t : Members ℕ). el z i t) (code-quantifier q) (members-low d rest ys l)
+    ∙ ap₂ (λ (z : Quantifier) (t : Members ℕ). el z i t) (quantifier-code q) (members-low d rest ys l)
 members-low d (group q k ms rest) ys l =
     ap indexMembers
     (build-here (groupParticle d q k (howMany ms)) ((spread (suc d) ms ++ spread d rest) ++ ys) d refl

@@ -13,7 +13,7 @@ ghost use Rattle.rules.specs.Change.{removeElement};
 ghost use Rattle.rules.specs.Refusal.{first, conditions};
 ghost use Rattle.model.specs.Members.{membersFrom};
 ghost use Rattle.store_writer.specs.Stores.{storeIn};
-ghost use Rattle.document_refusals.specs.Finding.{Gives};
+ghost use Rattle.change_laws.specs.FirstCondition.{Gives};
 ghost use Rattle.instance_search.specs.Instances.{hasInstance};
 ghost use Rattle.model_places.specs.Placing.{Finds};
 ghost use Rattle.remove_refusals.specs.Removing.{choiceLeft, Removable, removeTests};

@@ -9,11 +9,10 @@ use lib.Dec.{ltb, leb, eqb}
 use borrow.Author.Tests.{lt-ltb, ltb-true, le-leb, leb-true, eq-eqb, eqb-true}
 use Rattle.rules.specs.Layout.{FlatRow}
 use Rattle.rules.proofs.Words.{and-both, and-split}
-use Rattle.form_index.specs.Indices.{IndexForm, indexIn, Owned, Whole}
+use Rattle.form_index.specs.Indices.{IndexForm, indexOfRow, AttributeRowsOf, Whole}
 use Rattle.form_table.specs.Every.{every}
 use Rattle.next_row.specs.Judge.{spare, attributeMay}
-use Rattle.form_table.proofs.Numbers.{Side, below, at, above, side}
-use Rattle.form_table.proofs.Numbers.{every→, every←}
+use Rattle.form_table.proofs.Numbers.{Side, below, at, above, side, every→, every←}
 
 module _ (f : IndexForm) (i : ℕ) where
   -- the attribute rows from a on, as the automaton takes them
@@ -23,7 +22,7 @@ module _ (f : IndexForm) (i : ℕ) where
 
   -- those from a on that must be present are
   abbrev WholeFrom : ℕ → List FlatRow → Type 0
-  WholeFrom a rs = (j : ℕ) → a ≤ j → j < f .attributes → f .owner j ≡ i → f .needed j ≡ true → List·Memᴰ j (map indexIn rs)
+  WholeFrom a rs = (j : ℕ) → a ≤ j → j < f .attributes → f .owner j ≡ i → f .needed j ≡ true → List·Memᴰ j (map indexOfRow rs)
 
   spare-not : (j : ℕ) → spare f i j ≡ true → f .owner j ≡ i → f .needed j ≡ true → ⊥
   spare-not j h o n = false≢true (sym (rw (eq-eqb (f .owner j) i o, n)) ∙ h)
@@ -51,7 +50,7 @@ module _ (f : IndexForm) (i : ℕ) where
       let (v, s) = and-split (f .allows (r .index) (r .value)) (every (spare f i) (r .index) a) h3 in
       record { from = leb-true a (r .index) p; known = ltb-true (r .index) (f .attributes) q; own = eqb-true (f .owner (r .index)) i o; fits = v; skips = s }
 
-  from→ : (a : ℕ) (rs : List FlatRow) → Taken a rs → Owned f i a rs × WholeFrom a rs
+  from→ : (a : ℕ) (rs : List FlatRow) → Taken a rs → AttributeRowsOf f i a rs × WholeFrom a rs
   unfolding Taken
   from→ a [] h = (tt, λ j l k o n. absurd (spare-not j (every→ (spare f i) (f .attributes) a h j l k) o n))
   from→ a (r ∷ rs) (s, m, h) =
@@ -59,18 +58,18 @@ module _ (f : IndexForm) (i : ℕ) where
       let (u, v) = from→ (suc (r .index)) rs h in
       ((s, p .from, p .known, p .own, p .fits, u), λ j l k o n. by j l k o n p v (side j (r .index)))
     where
-      by : (j : ℕ) → a ≤ j → j < f .attributes → f .owner j ≡ i → f .needed j ≡ true → May a r → WholeFrom (suc (r .index)) rs → Side j (r .index) → List·Memᴰ j (r .index ∷ map indexIn rs)
+      by : (j : ℕ) → a ≤ j → j < f .attributes → f .owner j ≡ i → f .needed j ≡ true → May a r → WholeFrom (suc (r .index)) rs → Side j (r .index) → List·Memᴰ j (r .index ∷ map indexOfRow rs)
       by j l k o n p v (below x) = absurd (spare-not j (every→ (spare f i) (r .index) a (p .skips) j l x) o n)
       by j l k o n p v (at x) = List·Memᴰ·head x
       by j l k o n p v (above x) = List·Memᴰ·tail (v j x k o n)
 
   -- rising rows hold no index below the first
-  owned-above : (a : ℕ) (rs : List FlatRow) → Owned f i a rs → (j : ℕ) → j < a → List·Memᴰ j (map indexIn rs) → ⊥
+  owned-above : (a : ℕ) (rs : List FlatRow) → AttributeRowsOf f i a rs → (j : ℕ) → j < a → List·Memᴰ j (map indexOfRow rs) → ⊥
   owned-above a [] h j l m = List·Memᴰ·not-nil m
   owned-above a (r ∷ rs) (s, q, k, o, v, h) j l m =
       ⊎-elim (λ e. omega arith) (λ n. owned-above (suc (r .index)) rs h j (omega arith) n) (List·Memᴰ·cases-cons m)
 
-  from← : (a : ℕ) (rs : List FlatRow) → Owned f i a rs → WholeFrom a rs → Taken a rs
+  from← : (a : ℕ) (rs : List FlatRow) → AttributeRowsOf f i a rs → WholeFrom a rs → Taken a rs
   unfolding Taken
   from← a [] h n = every← (spare f i) (f .attributes) a (λ k l q. not-spare k (λ o d. List·Memᴰ·not-nil (n k l q o d)))
   from← a (r ∷ rs) (s, p, k, o, v, h) n = (
@@ -80,14 +79,14 @@ module _ (f : IndexForm) (i : ℕ) where
     from← (suc (r .index)) rs h (λ j l q o d. later j l (n j (omega arith) q o d)),
   )
     where
-      no : (j : ℕ) → j < r .index → List·Memᴰ j (r .index ∷ map indexIn rs) → ⊥
+      no : (j : ℕ) → j < r .index → List·Memᴰ j (r .index ∷ map indexOfRow rs) → ⊥
       no j l m = ⊎-elim (λ e. omega arith) (λ u. owned-above (suc (r .index)) rs h j (omega arith) u) (List·Memᴰ·cases-cons m)
 
-      later : (j : ℕ) → suc (r .index) ≤ j → List·Memᴰ j (r .index ∷ map indexIn rs) → List·Memᴰ j (map indexIn rs)
+      later : (j : ℕ) → suc (r .index) ≤ j → List·Memᴰ j (r .index ∷ map indexOfRow rs) → List·Memᴰ j (map indexOfRow rs)
       later j l m = ⊎-elim (λ e. absurd (omega arith)) (λ u. u) (List·Memᴰ·cases-cons m)
 
-  pub taken→ : (rs : List FlatRow) → Taken 0 rs → Owned f i 0 rs × Whole f i rs
+  pub taken→ : (rs : List FlatRow) → Taken 0 rs → AttributeRowsOf f i 0 rs × Whole f i rs
   taken→ rs h = let (o, n) = from→ 0 rs h in (o, λ j k u v. n j (omega arith) k u v)
 
-  pub taken← : (rs : List FlatRow) → Owned f i 0 rs → Whole f i rs → Taken 0 rs
+  pub taken← : (rs : List FlatRow) → AttributeRowsOf f i 0 rs → Whole f i rs → Taken 0 rs
   taken← rs o n = from← 0 rs o (λ j l k u v. n j k u v)

@@ -14,7 +14,7 @@ use Rattle.rules.specs.Layout.{FlatRow}
 use Rattle.rules.proofs.Words.{and-both, and-split}
 use Rattle.rules.proofs.Correct.{accepts-conforms}
 use Rattle.model.proofs.FactsLaws.{runs-accepts}
-use Rattle.form_index.specs.Indices.{indexIn, Sort, ContentOf}
+use Rattle.form_index.specs.Indices.{indexOfRow, Sort, ContentOf}
 use Rattle.next_row.specs.Judge.{childMay, childrenEnd}
 
 -- ---- rows of one sort
@@ -43,7 +43,7 @@ walks k ms last (r ∷ rs) = childMay k ms last (r .sort) (r .index) && walks k 
 
 module _ (ms : Members ℕ) where
   module _ (k : ℕ) where
-    word→ : (last : ℕ) (rs : List FlatRow) → walks (suc (suc k)) ms last rs ≡ true → Sort 1 rs × (runs ms last (map indexIn rs) ≡ true)
+    word→ : (last : ℕ) (rs : List FlatRow) → walks (suc (suc k)) ms last rs ≡ true → Sort 1 rs × (runs ms last (map indexOfRow rs) ≡ true)
     unfolding walks runs
     word→ last [] e = (sort-none, e)
     word→ last (r ∷ rs) e =
@@ -52,11 +52,11 @@ module _ (ms : Members ℕ) where
         let (p, q) = word→ (suc (r .index)) rs v in
         (sort-more (eqb-true (r .sort) 1 s) p, and-both t q)
 
-    word← : (last : ℕ) (rs : List FlatRow) → Sort 1 rs → runs ms last (map indexIn rs) ≡ true → walks (suc (suc k)) ms last rs ≡ true
+    word← : (last : ℕ) (rs : List FlatRow) → Sort 1 rs → runs ms last (map indexOfRow rs) ≡ true → walks (suc (suc k)) ms last rs ≡ true
     unfolding walks runs
     word← last [] p e = e
     word← last (r ∷ rs) p e =
-        let (t, q) = and-split (steps ms last (r .index)) (runs ms (suc (r .index)) (map indexIn rs)) e in
+        let (t, q) = and-split (steps ms last (r .index)) (runs ms (suc (r .index)) (map indexOfRow rs)) e in
         and-both (and-both (eq-eqb (r .sort) 1 (sort-first p)) t) (word← (suc (r .index)) rs (sort-rest p) q)
 
   module _ (d : Distinct (names ms)) where
@@ -75,10 +75,10 @@ module _ (ms : Members ℕ) where
         let (s, t) = and-split (eqb (x .sort) 3) (eqb (suc (r .index)) 0) p in
         let z = eqb-true (suc (r .index)) 0 t in
         absurd (omega arith)
-    content→ (suc (suc k)) rs e = let (p, q) = word→ k 0 rs e in (p, accepts-conforms numbers ms d (map indexIn rs) .0 (sym (runs-accepts ms (map indexIn rs)) ∙ q))
+    content→ (suc (suc k)) rs e = let (p, q) = word→ k 0 rs e in (p, accepts-conforms numbers ms d (map indexOfRow rs) .0 (sym (runs-accepts ms (map indexOfRow rs)) ∙ q))
 
     pub content← : (k : ℕ) (rs : List FlatRow) → ContentOf k ms rs → walks k ms 0 rs ≡ true
     unfolding walks
     content← zero rs e = rw e
     content← (suc zero) rs (r, e, s) = rw e (and-both (and-both (eq-eqb (r .sort) 3 s) refl) (rw (ne-eqb (suc (r .index)) 0 (λ z. omega arith))))
-    content← (suc (suc k)) rs (p, q) = word← k 0 rs p (runs-accepts ms (map indexIn rs) ∙ accepts-conforms numbers ms d (map indexIn rs) .1 q)
+    content← (suc (suc k)) rs (p, q) = word← k 0 rs p (runs-accepts ms (map indexOfRow rs) ∙ accepts-conforms numbers ms d (map indexOfRow rs) .1 q)

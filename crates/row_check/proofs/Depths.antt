@@ -1,10 +1,10 @@
 -- Depths: what `build` makes of the first row, and that the rows of a forest rise.
-use Prim.Native.Nat.{ℕ, suc, _+_, _-_, _≤_, _<_}
+use Prim.Native.Nat.{ℕ, suc, _+_, _-_, _≤_}
 use native.Mathlib.Omega.{arith}
 use mathlib.Core.Path.{_≡_, refl, sym, subst}
 use mathlib.Core.Bool.{true}
 use mathlib.Core.List.{List, [], _∷_, _++_, append-assoc, append-nil}
-use borrow.Author.Tests.{lt-ltb, le-ltb, le-leb, eq-eqb, ne-eqb}
+use borrow.Author.Tests.{le-ltb, le-leb, eq-eqb}
 use Rattle.rules.specs.Store.{Forest, bare, tree}
 use Rattle.rules.specs.Preorder.{Deep, flatten, build}
 use Rattle.rules.proofs.Words.{and-both}
@@ -14,12 +14,6 @@ module _ {A : Type 0} where
   -- a row of depth k, a deeper one, one less deep
   pub build-same : (x : Deep A) (xs : List (Deep A)) → build (x ∷ xs) (x .depth) ≡ tree (x .row) (build xs (suc (x .depth))) (build xs (x .depth))
   build-same x xs = rw (le-ltb (x .depth) (x .depth) (omega arith), build) (rw (eq-eqb (x .depth) (x .depth) refl))
-
-  pub build-less : (x : Deep A) (xs : List (Deep A)) (k : ℕ) → k < x .depth → build (x ∷ xs) k ≡ build xs k
-  build-less x xs k h = rw (lt-ltb k (x .depth) h, build)
-
-  pub build-more : (x : Deep A) (xs : List (Deep A)) (k : ℕ) → x .depth < k → build (x ∷ xs) k ≡ bare
-  build-more x xs k h = rw (le-ltb k (x .depth) (omega arith), build) (rw (ne-eqb k (x .depth) (λ e. omega arith)))
 
   -- the rows of a forest rise, after a row of any depth at least theirs
   Low : ℕ → List (Deep A) → Type 0

@@ -13,12 +13,12 @@ use Rattle.rules.specs.Layout.{FlatRow}
 use Rattle.form_index.specs.Indices.{IndexForm}
 use Rattle.form_table.proofs.Numbers.{Left, left-ends, left-on, left-no}
 use Rattle.next_row.specs.declared.Level.{Level}
-use Rattle.next_row.specs.Judge.{ends, after, entered, ground, judge}
-use Rattle.row_check.specs.Machine.{closed}
+use Rattle.next_row.specs.Judge.{ends, levelAfter, entered, groundLevel, judge}
+use Rattle.row_check.specs.Machine.{levelsEnd}
 use Rattle.row_check.specs.Steps.{levelIn, levelsOf, Words, taken}
 
 -- level k is the three words from 3 * k on
-level-read : (n k : ℕ) (s : List ℕ) → k < n → getD (levelsOf n s) k ground ≡ levelIn (drop (3 * k) s)
+level-read : (n k : ℕ) (s : List ℕ) → k < n → getD (levelsOf n s) k groundLevel ≡ levelIn (drop (3 * k) s)
 unfolding levelsOf
 level-read zero k s h = absurd (not-suc-le-zero h)
 level-read (suc n) zero s h = refl
@@ -28,7 +28,7 @@ level-read (suc n) (suc k) s h =
 
 pub level-here : (k : ℕ) (s : List ℕ) → k < 257
     → _≡_ {A = Level} (record { holds = getD s (3 * k) 0 / 65536 % 65536; index = getD s (3 * k) 0 % 65536; seen = getD s (3 * k + 1) 0; last = getD s (3 * k + 2) 0 })
-    (getD (levelsOf 257 s) k ground)
+    (getD (levelsOf 257 s) k groundLevel)
 level-here k s h =
     let z : 3 * k + 0 ≡ 3 * k = omega arith in
     let first : getD s (3 * k) 0 ≡ getD (drop (3 * k) s) 0 0 = ap (λ (j : ℕ). getD s j 0) (sym z) ∙ sym (getD-drop (3 * k) s 0 0) in
@@ -70,7 +70,7 @@ level-put k l s h long high small =
 
 -- a row's two levels
 pub row-taken : (ls : List Level) (s₁ s₂ : List ℕ) (d : ℕ) (l x y : Level) (r : FlatRow) → Words (set ls d x) s₁ → Words (set (levelsOf 257 s₁) (d + 1) y) s₂
-    → x ≡ after (eqb (r .sort) 2) l (r .index) → y ≡ entered (eqb (r .sort) 1) (r .index) → Words (taken ls d l r) s₂
+    → x ≡ levelAfter (eqb (r .sort) 2) l (r .index) → y ≡ entered (eqb (r .sort) 1) (r .index) → Words (taken ls d l r) s₂
 row-taken ls s₁ s₂ d l x y r first second ex ey =
     record {
       are = second .are ∙ rw (add-one d, first .are, ex, ey);
@@ -78,27 +78,27 @@ row-taken ls s₁ s₂ d l x y r first second ex ey =
     }
 
 -- no row yet
-pub none-yet : (n : ℕ) → levelsOf n (replicate (3 * n) 0) ≡ replicate n ground
+pub none-yet : (n : ℕ) → levelsOf n (replicate (3 * n) 0) ≡ replicate n groundLevel
 unfolding levelsOf
 none-yet zero = refl
-none-yet (suc n) = let e : 3 * suc n ≡ suc (suc (suc (3 * n))) = omega arith in rw e (ap (λ (l : List Level). ground ∷ l) (none-yet n))
+none-yet (suc n) = let e : 3 * suc n ≡ suc (suc (suc (3 * n))) = omega arith in rw e (ap (λ (l : List Level). groundLevel ∷ l) (none-yet n))
 
 -- ---- the loop that closes levels, the deepest first: those from keep up to k are left
 abbrev pub Closing : IndexForm → List ℕ → ℕ → ℕ → ℕ → Type 0
-Closing f s keep live k = Left (λ j. judge f .ends (getD (levelsOf 257 s) j ground)) keep live k
+Closing f s keep live k = Left (λ j. judge f .ends (getD (levelsOf 257 s) j groundLevel)) keep live k
 
 module _ (f : IndexForm) (s : List ℕ) (keep live k : ℕ) (p : Closing f s keep live k) where
-  pub closing-ends : k ≤ keep → true ≡ closed (judge f) ground (levelsOf 257 s) live keep
-  unfolding closed
-  closing-ends h = left-ends (λ j. judge f .ends (getD (levelsOf 257 s) j ground)) keep live k p h
+  pub closing-ends : k ≤ keep → true ≡ levelsEnd (judge f) groundLevel (levelsOf 257 s) live keep
+  unfolding levelsEnd
+  closing-ends h = left-ends (λ j. judge f .ends (getD (levelsOf 257 s) j groundLevel)) keep live k p h
 
-  module _ (h : keep < k) (l : Level) (el : l ≡ getD (levelsOf 257 s) (k - 1) ground) (b : Bool) (eb : b ≡ ends f (l .holds) l) where
-    here : b ≡ judge f .ends (getD (levelsOf 257 s) (k - 1) ground)
+  module _ (h : keep < k) (l : Level) (el : l ≡ getD (levelsOf 257 s) (k - 1) groundLevel) (b : Bool) (eb : b ≡ ends f (l .holds) l) where
+    here : b ≡ judge f .ends (getD (levelsOf 257 s) (k - 1) groundLevel)
     here = eb ∙ ap (λ (x : Level). ends f (x .holds) x) el
 
     pub closing-on : b ≡ true → Closing f s keep live (k - 1)
-    closing-on q = left-on (λ j. judge f .ends (getD (levelsOf 257 s) j ground)) keep live k p h b here q
+    closing-on q = left-on (λ j. judge f .ends (getD (levelsOf 257 s) j groundLevel)) keep live k p h b here q
 
-    pub closing-no : b ≡ false → false ≡ closed (judge f) ground (levelsOf 257 s) live keep
-    unfolding closed
-    closing-no q = left-no (λ j. judge f .ends (getD (levelsOf 257 s) j ground)) keep live k p h b here q
+    pub closing-no : b ≡ false → false ≡ levelsEnd (judge f) groundLevel (levelsOf 257 s) live keep
+    unfolding levelsEnd
+    closing-no q = left-no (λ j. judge f .ends (getD (levelsOf 257 s) j groundLevel)) keep live k p h b here q

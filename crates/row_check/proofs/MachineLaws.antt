@@ -12,11 +12,11 @@ use borrow.Author.Tests.{lt-ltb, le-leb, ltb-true, leb-true}
 use Rattle.rules.specs.Store.{Forest, heads}
 use Rattle.rules.specs.Preorder.{Deep, flatten, build}
 use Rattle.rules.proofs.Words.{and-both, and-split}
-use Rattle.rules.proofs.PreorderLaws.{rising, build-flatten, flatten-build}
+use Rattle.rules.proofs.PreorderLaws.{rising, build-flatten, flatten-build, build-less, build-more}
 use Rattle.next_row.specs.Automaton.{Automaton}
-use Rattle.row_check.specs.Machine.{runs, Fine, closed, opened, machine}
+use Rattle.row_check.specs.Machine.{rowsRun, Fine, levelsEnd, opened, machine}
 use Rattle.form_table.proofs.Numbers.{Side, below, at, above, side, every→, every←}
-use Rattle.row_check.proofs.Depths.{build-same, build-less, build-more, flatten-rises}
+use Rattle.row_check.proofs.Depths.{build-same, flatten-rises}
 
 -- all rows stand at depths below b
 abbrev pub Within : {A : Type 0} → ℕ → List (Deep A) → Type 0
@@ -24,17 +24,17 @@ Within b [] = Unit {0}
 Within b (x ∷ xs) = (x .depth < b) × Within b xs
 
 module _ {A S : Type 0} (m : Automaton A S) (none : S) where
-  closed→ : (l : List S) (n a : ℕ) → closed m none l n a ≡ true → (k : ℕ) → a ≤ k → k < n → m .ends (getD l k none) ≡ true
-  unfolding closed
+  closed→ : (l : List S) (n a : ℕ) → levelsEnd m none l n a ≡ true → (k : ℕ) → a ≤ k → k < n → m .ends (getD l k none) ≡ true
+  unfolding levelsEnd
   closed→ l n a h = every→ (λ k. m .ends (getD l k none)) n a h
 
-  closed← : (l : List S) (n a : ℕ) → ((k : ℕ) → a ≤ k → k < n → m .ends (getD l k none) ≡ true) → closed m none l n a ≡ true
-  unfolding closed
+  closed← : (l : List S) (n a : ℕ) → ((k : ℕ) → a ≤ k → k < n → m .ends (getD l k none) ≡ true) → levelsEnd m none l n a ≡ true
+  unfolding levelsEnd
   closed← l n a h = every← (λ k. m .ends (getD l k none)) n a h
 
   -- what level k is owed by the rows from here on
   record Owed (l : List S) (k : ℕ) (xs : List (Deep A)) : Type 0 where
-    row : runs m (getD l k none) (heads (build xs k)) ≡ true
+    row : rowsRun m (getD l k none) (heads (build xs k)) ≡ true
     fine : Fine m (build xs k)
 
   module _ (b : ℕ) where
@@ -63,7 +63,7 @@ module _ {A S : Type 0} (m : Automaton A S) (none : S) where
       module _ (xs : List (Deep A)) where
         owed→ : (k n : ℕ) → k < n → ((j : ℕ) → suc (x .depth) ≤ j → j < n → m .ends (getD l j none) ≡ true) → m .may (getD l (x .depth) none) (x .row) ≡ true
             → ((j : ℕ) → j < suc (suc (x .depth)) → Owed (opened m none l (x .depth) (x .row)) j xs) → Owed l k (x ∷ xs)
-        unfolding runs Fine
+        unfolding rowsRun Fine
         owed→ k n q c u o = by (side k (x .depth))
           where
             by : Side k (x .depth) → Owed l k (x ∷ xs)
@@ -88,19 +88,19 @@ module _ {A S : Type 0} (m : Automaton A S) (none : S) where
 
         -- what the row leaves of what its level is owed
         module _ (o : Owed l (x .depth) (x ∷ xs)) where
-          of-row : (m .may (getD l (x .depth) none) (x .row) && runs m (m .next (getD l (x .depth) none) (x .row)) (heads (build xs (x .depth)))) ≡ true
-          unfolding runs
+          of-row : (m .may (getD l (x .depth) none) (x .row) && rowsRun m (m .next (getD l (x .depth) none) (x .row)) (heads (build xs (x .depth)))) ≡ true
+          unfolding rowsRun
           of-row = rw (build-same x xs) at (o .row)
 
-          of-fine : (runs m (m .enter (x .row)) (heads (build xs (suc (x .depth)))) ≡ true) × Fine m (build xs (suc (x .depth))) × Fine m (build xs (x .depth))
+          of-fine : (rowsRun m (m .enter (x .row)) (heads (build xs (suc (x .depth)))) ≡ true) × Fine m (build xs (suc (x .depth))) × Fine m (build xs (x .depth))
           unfolding Fine
           of-fine = rw (build-same x xs) at (o .fine)
 
           of-may : m .may (getD l (x .depth) none) (x .row) ≡ true
-          of-may = and-split (m .may (getD l (x .depth) none) (x .row)) (runs m (m .next (getD l (x .depth) none) (x .row)) (heads (build xs (x .depth)))) of-row .0
+          of-may = and-split (m .may (getD l (x .depth) none) (x .row)) (rowsRun m (m .next (getD l (x .depth) none) (x .row)) (heads (build xs (x .depth)))) of-row .0
 
-          of-rest : runs m (m .next (getD l (x .depth) none) (x .row)) (heads (build xs (x .depth))) ≡ true
-          of-rest = and-split (m .may (getD l (x .depth) none) (x .row)) (runs m (m .next (getD l (x .depth) none) (x .row)) (heads (build xs (x .depth)))) of-row .1
+          of-rest : rowsRun m (m .next (getD l (x .depth) none) (x .row)) (heads (build xs (x .depth))) ≡ true
+          of-rest = and-split (m .may (getD l (x .depth) none) (x .row)) (rowsRun m (m .next (getD l (x .depth) none) (x .row)) (heads (build xs (x .depth)))) of-row .1
 
         owed← : (n : ℕ) → x .depth < n → ((j : ℕ) → j < n → Owed l j (x ∷ xs)) → (k : ℕ) → k < suc (suc (x .depth)) → Owed (opened m none l (x .depth) (x .row)) k xs
         owed← n q o k r = by (side k (x .depth))
@@ -127,23 +127,23 @@ module _ {A S : Type 0} (m : Automaton A S) (none : S) where
                 }
 
         ended← : (n : ℕ) → ((j : ℕ) → j < n → Owed l j (x ∷ xs)) → (k : ℕ) → suc (x .depth) ≤ k → k < n → m .ends (getD l k none) ≡ true
-        unfolding runs
+        unfolding rowsRun
         ended← n o k r q = rw (build-more x xs k r) at (o k q .row)
 
     -- with d + 1 levels open
     machine→ : (xs : List (Deep A)) (l : List S) (d : ℕ) → length l ≡ suc b → Within b xs → machine m none l (suc d) xs ≡ true → (rising d xs ≡ true) × ((k : ℕ) → k < suc d → Owed l k xs)
-    unfolding machine runs Fine
+    unfolding machine rowsRun Fine
     machine→ [] l d h w e = (refl, λ k q. record { row = closed→ l (suc d) 0 e k (omega arith) q; fine = tt })
     machine→ (x ∷ xs) l d h (p, w) e =
-        let (e1, f1) = and-split (ltb (x .depth) (suc d)) (closed m none l (suc d) (suc (x .depth)) && (m .may (getD l (x .depth) none) (x .row) && machine m none (opened m none l (x .depth) (x .row)) (suc (suc (x .depth))) xs)) e in
-        let (e2, f2) = and-split (closed m none l (suc d) (suc (x .depth))) (m .may (getD l (x .depth) none) (x .row) && machine m none (opened m none l (x .depth) (x .row)) (suc (suc (x .depth))) xs) f1 in
+        let (e1, f1) = and-split (ltb (x .depth) (suc d)) (levelsEnd m none l (suc d) (suc (x .depth)) && (m .may (getD l (x .depth) none) (x .row) && machine m none (opened m none l (x .depth) (x .row)) (suc (suc (x .depth))) xs)) e in
+        let (e2, f2) = and-split (levelsEnd m none l (suc d) (suc (x .depth))) (m .may (getD l (x .depth) none) (x .row) && machine m none (opened m none l (x .depth) (x .row)) (suc (suc (x .depth))) xs) f1 in
         let (e3, f3) = and-split (m .may (getD l (x .depth) none) (x .row)) (machine m none (opened m none l (x .depth) (x .row)) (suc (suc (x .depth))) xs) f2 in
         let (r, o) = machine→ xs (opened m none l (x .depth) (x .row)) (suc (x .depth)) (still x l h p) w f3 in
         let s : x .depth < suc d = ltb-true (x .depth) (suc d) e1 in
         (and-both (le-leb (x .depth) d (omega arith)) r, λ k q. owed→ x l h p xs k (suc d) q (closed→ l (suc d) (suc (x .depth)) e2) e3 o)
 
     machine← : (xs : List (Deep A)) (l : List S) (d : ℕ) → length l ≡ suc b → Within b xs → rising d xs ≡ true → ((k : ℕ) → k < suc d → Owed l k xs) → machine m none l (suc d) xs ≡ true
-    unfolding machine runs
+    unfolding machine rowsRun
     machine← [] l d h w r o = closed← l (suc d) 0 (λ k p q. o k q .row)
     machine← (x ∷ xs) l d h (p, w) e o =
         let (e1, r) = and-split (leb (x .depth) d) (rising (suc (x .depth)) xs) e in
@@ -156,7 +156,7 @@ module _ {A S : Type 0} (m : Automaton A S) (none : S) where
 
     -- THE PASS: it accepts exactly the rows of a forest whose first rows may stand beside one another and in which every row is fine
     pub accepted : (xs : List (Deep A)) (l : List S) → length l ≡ suc b → Within b xs
-        → (machine m none l 1 xs ≡ true) ↔ ((f : Forest A) × (flatten 0 f ≡ xs) × (runs m (getD l 0 none) (heads f) ≡ true) × Fine m f)
+        → (machine m none l 1 xs ≡ true) ↔ ((f : Forest A) × (flatten 0 f ≡ xs) × (rowsRun m (getD l 0 none) (heads f) ≡ true) × Fine m f)
     accepted xs l h w = (
       λ e.
           let (r, o) = machine→ xs l 0 h w e in

@@ -15,9 +15,9 @@ use Rattle.codec.proofs.Writers.{tail-seen}
 use Rattle.layout.proofs.LayoutLaws.{room-rest}
 use Rattle.form_index.specs.Indices.{IndexForm, Documents}
 use Rattle.next_row.specs.declared.Level.{Level}
-use Rattle.next_row.specs.Judge.{ground, judge}
+use Rattle.next_row.specs.Judge.{groundLevel, judge}
 use Rattle.row_check.specs.Machine.{machine}
-use Rattle.row_check.specs.Verdict.{rowsIn, fieldsFit, judged, noLevels, verdict}
+use Rattle.row_check.specs.Verdict.{rowsRead, fieldsFit, judged, noLevels, verdict}
 use Rattle.row_check.specs.Steps.{State, mayStep, stepped, end, levelsOf, stateOf, StepMade}
 use Rattle.row_check.proofs.MachineLaws.{Within}
 use Rattle.row_check.proofs.JudgeLaws.{documents-judged}
@@ -72,19 +72,19 @@ module _ (w : ℕ) (f : IndexForm) (goal : Bool) (s : List ℕ) (live : ℕ) (t 
         })
 
 -- ---- what the verdict says
-rows-within : (w m : ℕ) (t : Bytes) → ((i : ℕ) → getD t i 0 < 256) → Within 256 (rowsIn w m t)
+rows-within : (w m : ℕ) (t : Bytes) → ((i : ℕ) → getD t i 0 < 256) → Within 256 (rowsRead w m t)
 rows-within w zero t h = tt
 rows-within w (suc m) t h =
     ((rw (getD-take (rowSize w) t 1 0 (omega arith)) (h 1)), rows-within w m (drop (rowSize w) t) (λ i. rw (getD-drop (rowSize w) t i 0) (h (rowSize w + i))))
 
 -- THE VERDICT: the fields fit, and the rows are those of documents that conform
 pub verdict-says : (w : ℕ) (f : IndexForm) (count : ℕ) (rows : Bytes) (r : Bool) → r ≡ verdict w f count rows → ((i : ℕ) → i < f .size → Distinct (names (f .model i)))
-    → ((i : ℕ) → getD rows i 0 < 256) → (r ≡ true) ↔ ((fieldsFit w count rows ≡ true) × Documents f (rowsIn w count rows))
+    → ((i : ℕ) → getD rows i 0 < 256) → (r ≡ true) ↔ ((fieldsFit w count rows ≡ true) × Documents f (rowsRead w count rows))
 unfolding verdict noLevels
 verdict-says w f count rows r e sound small =
-    let j = documents-judged f sound 256 (rowsIn w count rows) noLevels refl refl (rows-within w count rows small) in (
+    let j = documents-judged f sound 256 (rowsRead w count rows) noLevels refl refl (rows-within w count rows small) in (
       λ h.
-          let (a, b) = and-split (fieldsFit w count rows) (machine (judge f) ground noLevels 1 (rowsIn w count rows)) (sym e ∙ h) in
+          let (a, b) = and-split (fieldsFit w count rows) (machine (judge f) groundLevel noLevels 1 (rowsRead w count rows)) (sym e ∙ h) in
           (a, j .0 b),
       λ d. e ∙ and-both (d .0) (j .1 (d .1)),
     )

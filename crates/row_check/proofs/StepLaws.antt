@@ -1,4 +1,4 @@
--- The verdict is the fold of `step`, then `end`; and the rows may be split anywhere.
+-- The verdict is the fold of `rowStep`, then `end`; and the rows may be split anywhere.
 use Prim.Native.Nat.{ℕ, zero, suc, _+_, _*_, _≤_, _<_}
 use native.Mathlib.Omega.{arith}
 use native.Mathlib.Nat.{mul-zero, mul-suc}
@@ -15,11 +15,11 @@ use Rattle.rules.specs.Layout.{rowSize}
 use Rattle.rules.specs.Decode.{readRow}
 use Rattle.records.specs.Records.{rowFits, eachFits}
 use Rattle.form_index.specs.Indices.{IndexForm}
-use Rattle.row_check.specs.Machine.{closed, machine}
+use Rattle.row_check.specs.Machine.{levelsEnd, machine}
 use Rattle.next_row.specs.declared.Level.{Level}
-use Rattle.next_row.specs.Judge.{judge, ground}
-use Rattle.row_check.specs.Verdict.{rowsIn, fieldsFit, judged, verdict}
-use Rattle.row_check.specs.Steps.{State, start, mayStep, stepped, step, end, walk, ended, levelsOf, stateOf, Words, taken, StepMade}
+use Rattle.next_row.specs.Judge.{judge, groundLevel}
+use Rattle.row_check.specs.Verdict.{rowsRead, fieldsFit, judged, verdict}
+use Rattle.row_check.specs.Steps.{State, startState, mayStep, stepped, rowStep, end, walk, stateEnds, levelsOf, stateOf, Words, taken, StepMade}
 
 -- the tests of the first row, and those of the others
 first-apart : (x a b c xs ys : Bool) → ((x && xs) && (a && (b && (c && ys)))) ≡ ((x && (a && (b && c))) && (xs && ys))
@@ -41,36 +41,36 @@ module _ (w : ℕ) (f : IndexForm) where
   unfolding machine eachFits mayStep stepped
   from-step s count bs =
       let row = take (rowSize w) bs in
-      first-apart (rowFits w row) (ltb (readRow row .depth) (s .live)) (closed (judge f) ground (s .levels) (s .live) (suc (readRow row .depth)))
-      (judge f .may (getD (s .levels) (readRow row .depth) ground) (readRow row .row))
-      (fieldsFit w count (drop (rowSize w) bs)) (machine (judge f) ground (stepped f s row .levels) (stepped f s row .live) (rowsIn w count (drop (rowSize w) bs)))
+      first-apart (rowFits w row) (ltb (readRow row .depth) (s .live)) (levelsEnd (judge f) groundLevel (s .levels) (s .live) (suc (readRow row .depth)))
+      (judge f .may (getD (s .levels) (readRow row .depth) groundLevel) (readRow row .row))
+      (fieldsFit w count (drop (rowSize w) bs)) (machine (judge f) groundLevel (stepped f s row .levels) (stepped f s row .live) (rowsRead w count (drop (rowSize w) bs)))
 
   pub from-none : (s : State) (bs : Bytes) → from s 0 bs ≡ end f s
   unfolding machine eachFits end
   from-none s bs = refl
 
-  walk-refused : (count : ℕ) (bs : Bytes) → ended f (walk w f count bs none) ≡ false
+  walk-refused : (count : ℕ) (bs : Bytes) → stateEnds f (walk w f count bs none) ≡ false
   unfolding walk
   walk-refused zero bs = refl
   walk-refused (suc count) bs = walk-refused count (drop (rowSize w) bs)
 
   -- the rows from a state on: a fold of steps, and the end
-  pub judged-walk : (count : ℕ) (bs : Bytes) (s : State) → judged w f (s .levels) (s .live) count bs ≡ ended f (walk w f count bs (some s))
+  pub judged-walk : (count : ℕ) (bs : Bytes) (s : State) → judged w f (s .levels) (s .live) count bs ≡ stateEnds f (walk w f count bs (some s))
   unfolding walk
   judged-walk zero bs s = from-none s bs
   judged-walk (suc count) bs s = from-step s count bs ∙ by (mayStep w f s (take (rowSize w) bs)) refl (judged-walk count (drop (rowSize w) bs) (stepped f s (take (rowSize w) bs)))
     where
       by : (b : Bool) → mayStep w f s (take (rowSize w) bs) ≡ b
-          → from (stepped f s (take (rowSize w) bs)) count (drop (rowSize w) bs) ≡ ended f (walk w f count (drop (rowSize w) bs) (some (stepped f s (take (rowSize w) bs))))
+          → from (stepped f s (take (rowSize w) bs)) count (drop (rowSize w) bs) ≡ stateEnds f (walk w f count (drop (rowSize w) bs) (some (stepped f s (take (rowSize w) bs))))
           → (b && from (stepped f s (take (rowSize w) bs)) count (drop (rowSize w) bs))
-          ≡ ended f (walk w f count (drop (rowSize w) bs) (elim b [ true ↦ some (stepped f s (take (rowSize w) bs)) | false ↦ none ]))
+          ≡ stateEnds f (walk w f count (drop (rowSize w) bs) (elim b [ true ↦ some (stepped f s (take (rowSize w) bs)) | false ↦ none ]))
       by true e h = h
       by false e h = sym (walk-refused count (drop (rowSize w) bs))
 
   -- THE VERDICT is the fold of the steps from the start, and the end
-  pub verdict-walk : (count : ℕ) (bs : Bytes) → verdict w f count bs ≡ ended f (walk w f count bs (some start))
-  unfolding verdict start
-  verdict-walk count bs = judged-walk count bs start
+  pub verdict-walk : (count : ℕ) (bs : Bytes) → verdict w f count bs ≡ stateEnds f (walk w f count bs (some startState))
+  unfolding verdict startState
+  verdict-walk count bs = judged-walk count bs startState
 
   -- the state after the first m rows, and the rows that are left, give the state after all
   pub walk-split : (m n : ℕ) (bs : Bytes) (o : Option State) → walk w f (m + n) bs o ≡ walk w f n (drop (rowSize w * m) bs) (walk w f m bs o)
@@ -84,8 +84,8 @@ module _ (w : ℕ) (f : IndexForm) where
       ∙ ap (λ (t : Bytes). walk w f n t (walk w f (suc m) bs o)) (drop-drop (rowSize w * m) (rowSize w) bs ∙ ap (λ (k : ℕ). drop k bs) g)
 
   -- and so the verdict
-  pub verdict-split : (m n : ℕ) (bs : Bytes) → verdict w f (m + n) bs ≡ ended f (walk w f n (drop (rowSize w * m) bs) (walk w f m bs (some start)))
-  verdict-split m n bs = verdict-walk (m + n) bs ∙ ap (ended f) (walk-split m n bs (some start))
+  pub verdict-split : (m n : ℕ) (bs : Bytes) → verdict w f (m + n) bs ≡ stateEnds f (walk w f n (drop (rowSize w * m) bs) (walk w f m bs (some startState)))
+  verdict-split m n bs = verdict-walk (m + n) bs ∙ ap (stateEnds f) (walk-split m n bs (some startState))
 
 -- ---- the tests of a step, in the code's order
 none-deep : (fits deep closes may : Bool) → deep ≡ false → false ≡ (fits && (deep && (closes && may)))
@@ -112,10 +112,10 @@ module _ (w : ℕ) (f : IndexForm) (s : List ℕ) (live : ℕ) (row : Bytes) (lo
   deep = ltb (readRow row .depth) live
 
   abbrev closes : Bool
-  closes = closed (judge f) ground (levelsOf 257 s) live (suc (readRow row .depth))
+  closes = levelsEnd (judge f) groundLevel (levelsOf 257 s) live (suc (readRow row .depth))
 
   abbrev comes : Bool
-  comes = judge f .may (getD (levelsOf 257 s) (readRow row .depth) ground) (readRow row .row)
+  comes = judge f .may (getD (levelsOf 257 s) (readRow row .depth) groundLevel) (readRow row .row)
 
   refused : false ≡ mayStep w f (stateOf s live) row → StepMade w f s live row false s live
   refused e = record { is = e; state = λ z. absurd (false≢true z); long = long; low = low }
@@ -125,18 +125,18 @@ module _ (w : ℕ) (f : IndexForm) (s : List ℕ) (live : ℕ) (row : Bytes) (lo
   unfolding mayStep
   step-deep h = refused (none-deep (rowFits w row) deep closes comes (le-ltb (readRow row .depth) live (omega arith)))
 
-  module _ (b : Bool) (eb : b ≡ closed (judge f) ground (levelsOf 257 s) live (d + 1)) where
+  module _ (b : Bool) (eb : b ≡ levelsEnd (judge f) groundLevel (levelsOf 257 s) live (d + 1)) where
     closes-is : b ≡ closes
-    closes-is = let e : d + 1 ≡ suc (readRow row .depth) = omega arith in eb ∙ ap (λ (k : ℕ). closed (judge f) ground (levelsOf 257 s) live k) e
+    closes-is = let e : d + 1 ≡ suc (readRow row .depth) = omega arith in eb ∙ ap (λ (k : ℕ). levelsEnd (judge f) groundLevel (levelsOf 257 s) live k) e
 
     -- a deeper level is owed something
     pub step-owes : b ≡ false → StepMade w f s live row false s live
     unfolding mayStep
     step-owes q = refused (none-closed (rowFits w row) deep closes comes (sym closes-is ∙ q))
 
-    module _ (l : Level) (el : l ≡ getD (levelsOf 257 s) d ground) (r : Bool) (er : r ≡ (rowFits w row && judge f .may l (readRow row .row))) where
-      here : l ≡ getD (levelsOf 257 s) (readRow row .depth) ground
-      here = el ∙ ap (λ (k : ℕ). getD (levelsOf 257 s) k ground) ed
+    module _ (l : Level) (el : l ≡ getD (levelsOf 257 s) d groundLevel) (r : Bool) (er : r ≡ (rowFits w row && judge f .may l (readRow row .row))) where
+      here : l ≡ getD (levelsOf 257 s) (readRow row .depth) groundLevel
+      here = el ∙ ap (λ (k : ℕ). getD (levelsOf 257 s) k groundLevel) ed
 
       comes-is : r ≡ (rowFits w row && comes)
       comes-is = er ∙ ap (λ (x : Level). rowFits w row && judge f .may x (readRow row .row)) here

@@ -12,19 +12,19 @@ use Rattle.next_row.specs.Automaton.{Automaton}
 
 module _ {A S : Type 0} (m : Automaton A S) where
   -- a whole list of rows, side by side
-  unfoldable pub runs : S → List A → Bool
-  runs s [] = m .ends s
-  runs s (r ∷ rs) = m .may s r && runs (m .next s r) rs
+  unfoldable pub rowsRun : S → List A → Bool
+  rowsRun s [] = m .ends s
+  rowsRun s (r ∷ rs) = m .may s r && rowsRun (m .next s r) rs
 
   -- below every row stands what may
   unfoldable pub Fine : Forest A → Type 0
   Fine bare = Unit {0}
-  Fine (tree r b t) = (runs (m .enter r) (heads b) ≡ true) × Fine b × Fine t
+  Fine (tree r b t) = (rowsRun (m .enter r) (heads b) ≡ true) × Fine b × Fine t
 
   module _ (none : S) where
     -- of the n open levels those from a on are owed nothing
-    unfoldable pub closed : List S → ℕ → ℕ → Bool
-    closed l n a = every (λ k. m .ends (getD l k none)) n a
+    unfoldable pub levelsEnd : List S → ℕ → ℕ → Bool
+    levelsEnd l n a = every (λ k. m .ends (getD l k none)) n a
 
     -- the levels after a row of depth d
     abbrev pub opened : List S → ℕ → A → List S
@@ -32,6 +32,6 @@ module _ {A S : Type 0} (m : Automaton A S) where
 
     -- the rows from here on, with n levels open: each closes those deeper than its own
     unfoldable pub machine : List S → ℕ → List (Deep A) → Bool
-    machine l n [] = closed l n 0
+    machine l n [] = levelsEnd l n 0
     machine l n (x ∷ xs) =
-        ltb (x .depth) n && (closed l n (suc (x .depth)) && (m .may (getD l (x .depth) none) (x .row) && machine (opened l (x .depth) (x .row)) (suc (suc (x .depth))) xs))
+        ltb (x .depth) n && (levelsEnd l n (suc (x .depth)) && (m .may (getD l (x .depth) none) (x .row) && machine (opened l (x .depth) (x .row)) (suc (suc (x .depth))) xs))

@@ -12,8 +12,8 @@ use Rattle.rules.specs.Decode.{readRow}
 use Rattle.records.specs.Records.{rowFits}
 use Rattle.form_index.specs.Indices.{IndexForm}
 use Rattle.next_row.specs.declared.Level.{Level}
-use Rattle.row_check.specs.Machine.{closed, opened}
-use Rattle.next_row.specs.Judge.{after, entered, ground, judge}
+use Rattle.row_check.specs.Machine.{levelsEnd, opened}
+use Rattle.next_row.specs.Judge.{levelAfter, entered, groundLevel, judge}
 use Rattle.row_check.specs.Verdict.{noLevels}
 
 -- a level for each depth, and how many are open
@@ -22,37 +22,37 @@ pub record State : Type 0 where
   pub live : ℕ
 
 -- no row yet: only the place of the documents is open
-unfoldable pub start : State
-start = record { levels = noLevels; live = 1 }
+unfoldable pub startState : State
+startState = record { levels = noLevels; live = 1 }
 
 -- a row's fields fit, its depth is open, the levels deeper than its own are owed nothing, and it may come next at its own
 unfoldable pub mayStep : ℕ → IndexForm → State → Bytes → Bool
 mayStep w f s row =
     rowFits w row
     && (ltb (readRow row .depth) (s .live)
-    && (closed (judge f) ground (s .levels) (s .live) (suc (readRow row .depth)) && judge f .may (getD (s .levels) (readRow row .depth) ground) (readRow row .row)))
+    && (levelsEnd (judge f) groundLevel (s .levels) (s .live) (suc (readRow row .depth)) && judge f .may (getD (s .levels) (readRow row .depth) groundLevel) (readRow row .row)))
 
 -- the state after a row that may come
 unfoldable pub stepped : IndexForm → State → Bytes → State
-stepped f s row = record { levels = opened (judge f) ground (s .levels) (readRow row .depth) (readRow row .row); live = suc (suc (readRow row .depth)) }
+stepped f s row = record { levels = opened (judge f) groundLevel (s .levels) (readRow row .depth) (readRow row .row); live = suc (suc (readRow row .depth)) }
 
 -- THE STEP: the state after a row, or a refusal
-abbrev pub step : ℕ → IndexForm → State → Bytes → Option State
-step w f s row = elim (mayStep w f s row) [ true ↦ some (stepped f s row) | false ↦ none ]
+abbrev pub rowStep : ℕ → IndexForm → State → Bytes → Option State
+rowStep w f s row = elim (mayStep w f s row) [ true ↦ some (stepped f s row) | false ↦ none ]
 
 -- THE END: no level that is open is owed anything
 unfoldable pub end : IndexForm → State → Bool
-end f s = closed (judge f) ground (s .levels) (s .live) 0
+end f s = levelsEnd (judge f) groundLevel (s .levels) (s .live) 0
 
 -- the state after `count` rows, from a state or a refusal on
 unfoldable pub walk : ℕ → IndexForm → ℕ → Bytes → Option State → Option State
 walk w f zero bs o = o
-walk w f (suc count) bs o = walk w f count (drop (rowSize w) bs) (elim o [ some s ↦ step w f s (take (rowSize w) bs) | none ↦ none ])
+walk w f (suc count) bs o = walk w f count (drop (rowSize w) bs) (elim o [ some s ↦ rowStep w f s (take (rowSize w) bs) | none ↦ none ])
 
 -- a refusal stays, and a state may be an end
-abbrev pub ended : IndexForm → Option State → Bool
-ended f none = false
-ended f (some s) = end f s
+abbrev pub stateEnds : IndexForm → Option State → Bool
+stateEnds f none = false
+stateEnds f (some s) = end f s
 
 -- ---- the state as the code holds it: three words for each level, and how many are open
 -- the first word: what the level holds, and its definition
@@ -73,7 +73,7 @@ pub record Words (ls : List Level) (s : List ℕ) : Type 0 where
 
 -- the levels after a row of depth d that came at l
 abbrev pub taken : List Level → ℕ → Level → FlatRow → List Level
-taken ls d l r = set (set ls d (after (eqb (r .sort) 2) l (r .index))) (suc d) (entered (eqb (r .sort) 1) (r .index))
+taken ls d l r = set (set ls d (levelAfter (eqb (r .sort) 2) l (r .index))) (suc d) (entered (eqb (r .sort) 1) (r .index))
 
 -- the answer: whether the row may come; the state after it, where it may; and the next step may be made
 pub record StepMade (w : ℕ) (f : IndexForm) (s : List ℕ) (live : ℕ) (row : Bytes) (answer : Bool) (s′ : List ℕ) (live′ : ℕ) : Type 0 where

@@ -13,8 +13,8 @@ ghost use Rattle.records.specs.Records.{rowFits, eachFits};
 ghost use Rattle.form_index.specs.Indices.{Documents};
 ghost use Rattle.form_index.specs.Reading.{indexForm};
 ghost use Rattle.form_table.specs.Table.{Tabled};
-ghost use Rattle.next_row.specs.Judge.{ground, judge};
-ghost use Rattle.row_check.specs.Machine.{closed};
+ghost use Rattle.next_row.specs.Judge.{groundLevel, judge};
+ghost use Rattle.row_check.specs.Machine.{levelsEnd};
 ghost use Rattle.row_check.specs.Verdict.{verdict};
 ghost use Rattle.row_check.specs.Steps.{end, levelsOf, stateOf, Words, taken, StepMade};
 
@@ -42,7 +42,7 @@ fn row_passes(
 // Level k. The halves of its first word: what it holds, and its definition.
 fn level_at(levels: &[u32; 771], k: usize) -> Level
     requires { ⌜ k < 257 ⌝ }
-    ensures { λ r. ⌜ r ≡ getD (levelsOf 257 (now (levels .entry))) k ground ⌝ }
+    ensures { λ r. ⌜ r ≡ getD (levelsOf 257 (now (levels .entry))) k groundLevel ⌝ }
 {
     let at = 3 * k;
     let first = levels[at];
@@ -84,7 +84,7 @@ fn closes(
     keep: usize,
 ) -> bool
     requires { ⌜ Width w × (n ≤ 64) × (a ≤ 64) × Tabled version w n (now defs) (now parts) (now attrs) a (now table) × (live ≤ 257) ⌝ }
-    ensures { λ r. ⌜ r ≡ closed (judge (indexForm version w n (now (defs .entry)) (now (parts .entry)) (now (attrs .entry)) a)) ground (levelsOf 257 (now (levels .entry))) live keep ⌝ }
+    ensures { λ r. ⌜ r ≡ levelsEnd (judge (indexForm version w n (now (defs .entry)) (now (parts .entry)) (now (attrs .entry)) a)) groundLevel (levelsOf 257 (now (levels .entry))) live keep ⌝ }
 {
     let mut k = live;
     while keep < k {

@@ -11,8 +11,8 @@ use Rattle.row_walk.specs.declared.Shift.{Shift}
 use Rattle.row_walk.specs.declared.Plan.{Plan}
 use Rattle.row_walk.specs.declared.Open.{Open}
 use Rattle.row_walk.specs.declared.Head.{Head}
-use Rattle.row_walk.specs.Walk.{matches, isEverything, isGround, isLater, spared, shifted, movedIndex, closes, closed, isBelow, isTaken, isFilled, taken, kept, atFirst}
-use Rattle.row_walk.specs.Step.{rowOf, bare, staysDue, Moves}
+use Rattle.row_walk.specs.Walk.{matches, isEverything, namesGround, isLater, spared, shifted, movedIndex, closes, closed, isBelow, isTaken, isFilled, taken, kept, atFirst}
+use Rattle.row_walk.specs.Step.{rowOfHead, bare, staysDue, Moves}
 
 -- ---- renumbering
 module _ (s : Shift) (i : ℕ) (small : i ≤ 1000) where
@@ -65,14 +65,14 @@ module _ (o : Open) (h : Head) where
       → ((o .due && b) && (l && not s)) ≡ isFilled p o (bare h)
   filled-by p b l s eb el es = rw (eb, el, es)
 
-module _ (p : Plan) (b : Bool) (e : b ≡ isGround (p .above)) where
+module _ (p : Plan) (b : Bool) (e : b ≡ namesGround (p .above)) where
   pub first-ground : b ≡ true → _≡_ {A = Open} (record { taking = 0; below = 1; due = p .fills }) (atFirst p)
-  first-ground t = let u : isGround (p .above) ≡ true = sym e ∙ t in rw (u, atFirst)
+  first-ground t = let u : namesGround (p .above) ≡ true = sym e ∙ t in rw (u, atFirst)
 
   pub first-other : b ≡ false → _≡_ {A = Open} (record { taking = 0; below = 0; due = false }) (atFirst p)
-  first-other t = let u : isGround (p .above) ≡ false = sym e ∙ t in rw (u, atFirst)
+  first-other t = let u : namesGround (p .above) ≡ false = sym e ∙ t in rw (u, atFirst)
 
 -- ---- reading
 pub head-read : (row : Bytes) (d s i k : ℕ) → d ≡ readRow row .depth → s ≡ readRow row .row .sort → i ≡ readRow row .row .index → k ≡ readRow row .row .serial
-    → rowOf (record { depth = d; sort = s; index = i; serial = k }) (readRow row .row .value) ≡ readRow row
+    → rowOfHead (record { depth = d; sort = s; index = i; serial = k }) (readRow row .row .value) ≡ readRow row
 head-read row d s i k ed es ei ek = rw (ed, es, ei, ek)

@@ -11,7 +11,7 @@ use Rattle.rules.specs.Preorder.{Deep}
 use Rattle.rules.specs.Layout.{FlatRow}
 use Rattle.rules.specs.Decode.{readRow}
 use Rattle.row_writer.specs.declared.Cursor.{Cursor}
-use Rattle.layout.specs.RowBytes.{movedRow, valuedRow}
+use Rattle.layout.specs.RowBytes.{reindexedRow, valuedRow}
 use Rattle.row_writer.specs.Written.{Written, Room}
 use Rattle.row_writer.proofs.WrittenLaws.{written-none, written-then, written-as}
 use Rattle.filling.specs.Parts.{Asks}
@@ -23,11 +23,11 @@ use Rattle.row_walk.specs.declared.Plan.{Plan}
 use Rattle.row_walk.specs.declared.Open.{Open}
 use Rattle.row_walk.specs.declared.Head.{Head}
 use Rattle.row_walk.specs.declared.Stepped.{Stepped}
-use Rattle.row_walk.specs.Walk.{matches, isEverything, isLater, spared, movedIndex, keptRow, gone, closes, closed, isBelow, isTaken, isFilled, taken, kept, owed, rowDepth, emitted, onward}
-use Rattle.row_walk.specs.Step.{rowOf, bare, rowWith, stepRows, stepOpen, Came, Ready, Near, WalkRow, Seen}
+use Rattle.row_walk.specs.Walk.{matches, isEverything, isLater, spared, movedIndex, keptRow, gone, closes, closed, isBelow, isTaken, isFilled, taken, kept, owed, rowDepth, emitted, nextOpen}
+use Rattle.row_walk.specs.Step.{rowOfHead, bare, rowRewritten, stepRows, stepOpen, Came, Ready, Near, WalkRow, Seen}
 
 -- ---- no test looks at a row's value
-matches-any : (w : Which) (h : Head) (u : Bytes) → matches w (rowOf h u .row) ≡ matches w (bare h .row)
+matches-any : (w : Which) (h : Head) (u : Bytes) → matches w (rowOfHead h u .row) ≡ matches w (bare h .row)
 matches-any Nothing h u = refl
 matches-any Everything h u = refl
 matches-any Ground h u = refl
@@ -35,20 +35,20 @@ matches-any (Elements i) h u = refl
 matches-any (Attributes j) h u = refl
 matches-any (Serial k) h u = refl
 
-later-any : (m : Bytes) (l : Later) (h : Head) (u : Bytes) → isLater m l (rowOf h u .row) ≡ isLater m l (bare h .row)
+later-any : (m : Bytes) (l : Later) (h : Head) (u : Bytes) → isLater m l (rowOfHead h u .row) ≡ isLater m l (bare h .row)
 later-any m Never h u = refl
 later-any m (Row k) h u = refl
 later-any m (Past j) h u = refl
 later-any m Unmarked h u = refl
 
 module _ (p : Plan) (o : Open) (h : Head) (u : Bytes) where
-  taken-any : isTaken p o (rowOf h u) ≡ isTaken p o (bare h)
+  taken-any : isTaken p o (rowOfHead h u) ≡ isTaken p o (bare h)
   taken-any = ap (λ (b : Bool). ((isEverything (p .above) || isBelow o (bare h)) && b) && not (p .keeps && o .due)) (matches-any (p .takes) h u)
 
-  filled-any : isFilled p o (rowOf h u) ≡ isFilled p o (bare h)
+  filled-any : isFilled p o (rowOfHead h u) ≡ isFilled p o (bare h)
   filled-any = ap (λ (b : Bool). (o .due && isBelow o (bare h)) && (b && not (spared p (bare h .row)))) (later-any (p .marks) (p .later) h u)
 
-  kept-any : kept p o (rowOf h u) ≡ kept p o (bare h)
+  kept-any : kept p o (rowOfHead h u) ≡ kept p o (bare h)
   kept-any = ap₂ opened (matches-any (p .above) h u) (later-any (p .marks) (p .later) h u)
     where
       opened : Bool → Bool → Open
@@ -76,11 +76,11 @@ asks-of r m h = record { width = r .width; room = m; text = r .text; attributes 
 
 -- ---- a row that is kept
 module _ {w : ℕ} {valued : Bool} (index : ℕ) (v row : Bytes) {c r : Cursor} {out out′ : Bytes} where
-  pub with-value : valued ≡ true → Written w (valuedRow index v row ∷ []) c out r out′ → Written w (rowWith valued index v row ∷ []) c out r out′
-  with-value e p = written-as (ap (λ (b : Bool). rowWith b index v row ∷ []) e) p
+  pub with-value : valued ≡ true → Written w (valuedRow index v row ∷ []) c out r out′ → Written w (rowRewritten valued index v row ∷ []) c out r out′
+  with-value e p = written-as (ap (λ (b : Bool). rowRewritten b index v row ∷ []) e) p
 
-  pub with-own : valued ≡ false → Written w (movedRow index row ∷ []) c out r out′ → Written w (rowWith valued index v row ∷ []) c out r out′
-  with-own e p = written-as (ap (λ (b : Bool). rowWith b index v row ∷ []) e) p
+  pub with-own : valued ≡ false → Written w (reindexedRow index row ∷ []) c out r out′ → Written w (rowRewritten valued index v row ∷ []) c out r out′
+  with-own e p = written-as (ap (λ (b : Bool). rowRewritten b index v row ∷ []) e) p
 
 module _ {w : ℕ} (p : Plan) (v : Bytes) (h : Head) (row : Bytes) (s : Seen w h row) (index : ℕ) (e : index ≡ movedIndex p (bare h .row)) where
   moved-as : index ≡ movedIndex p (readRow row .row)
@@ -94,10 +94,10 @@ module _ {w : ℕ} (p : Plan) (v : Bytes) (h : Head) (row : Bytes) (s : Seen w h
   row-as b t u q =
       ap₂ (λ (j : ℕ) (u : Bytes). valuedRow j u row) (sym moved-as) (ap (λ (z : Bool). elim z [ true ↦ v | false ↦ readRow row .row .value ]) t ∙ q)
 
-  pub row-kept : {c r : Cursor} {out out′ : Bytes} → Written w (rowWith (eqb (h .serial) (p .set)) index v row ∷ []) c out r out′ → Written w (keptRow p v (readRow row) ∷ []) c out r out′
+  pub row-kept : {c r : Cursor} {out out′ : Bytes} → Written w (rowRewritten (eqb (h .serial) (p .set)) index v row ∷ []) c out r out′ → Written w (keptRow p v (readRow row) ∷ []) c out r out′
   row-kept x = written-as (ap (λ (x : Deep FlatRow). x ∷ []) (row-as (eqb (h .serial) (p .set)) (ap (λ (k : ℕ). eqb k (p .set)) (sym serial-as)) _ refl)) x
 
-pub seen : {w : ℕ} {h : Head} {row : Bytes} → WalkRow w row → rowOf h (readRow row .row .value) ≡ readRow row → Seen w h row
+pub seen : {w : ℕ} {h : Head} {row : Bytes} → WalkRow w row → rowOfHead h (readRow row .row .value) ≡ readRow row → Seen w h row
 seen r e =
     record {
       is = e;
@@ -112,8 +112,8 @@ module _ {w : ℕ} (p : Plan) (v : Bytes) (fill : ℕ → List (Deep FlatRow)) (
     is-taken = ap (isTaken p o) (sym (s .is)) ∙ taken-any p o h (readRow row .row .value) ∙ sym e
 
     pub came-taken : {c : Cursor} {out : Bytes} → b ≡ true → (t : Open) → t ≡ taken o (bare h)
-        → Came w (emitted p v fill o (readRow row)) (onward p v fill o (readRow row)) c out (record { cursor = c; opened = t }) out
-    unfolding emitted onward
+        → Came w (emitted p v fill o (readRow row)) (nextOpen p v fill o (readRow row)) c out (record { cursor = c; opened = t }) out
+    unfolding emitted nextOpen
     came-taken q t g =
         record {
           written = written-as (ap (λ (z : Bool). elim z [ true ↦ [] | false ↦ owed (isFilled p o (readRow row)) (fill (readRow row .depth)) ++ keptRow p v (readRow row) ∷ [] ])
@@ -123,8 +123,8 @@ module _ {w : ℕ} (p : Plan) (v : Bytes) (fill : ℕ → List (Deep FlatRow)) (
 
     pub came-kept : {c d r : Cursor} {out out₁ out′ : Bytes} → b ≡ false → (f : Bool) → f ≡ isFilled p o (bare h) → Written w (owed f (fill (h .depth))) c out d out₁
         → Written w (keptRow p v (readRow row) ∷ []) d out₁ r out′ → (k : Open) → k ≡ kept p o (bare h)
-        → Came w (emitted p v fill o (readRow row)) (onward p v fill o (readRow row)) c out (record { cursor = r; opened = k }) out′
-    unfolding emitted onward
+        → Came w (emitted p v fill o (readRow row)) (nextOpen p v fill o (readRow row)) c out (record { cursor = r; opened = k }) out′
+    unfolding emitted nextOpen
     came-kept q f ef w₁ w₂ k g =
         let filled : isFilled p o (readRow row) ≡ f = ap (isFilled p o) (sym (s .is)) ∙ filled-any p o h (readRow row .row .value) ∙ sym ef in
         let deep : readRow row .depth ≡ h .depth = ap (λ (x : Deep FlatRow). x .depth) (sym (s .is)) in
@@ -141,7 +141,7 @@ module _ {w : ℕ} (p : Plan) (v : Bytes) (fill : ℕ → List (Deep FlatRow)) (
     -- nothing is due right below
     pub came-still : {c r : Cursor} {out out′ : Bytes} → b ≡ false → (o .due && isBelow o (bare h)) ≡ false
         → Written w (keptRow p v (readRow row) ∷ []) c out r out′ → (k : Open) → k ≡ kept p o (bare h)
-        → Came w (emitted p v fill o (readRow row)) (onward p v fill o (readRow row)) c out (record { cursor = r; opened = k }) out′
+        → Came w (emitted p v fill o (readRow row)) (nextOpen p v fill o (readRow row)) c out (record { cursor = r; opened = k }) out′
     came-still q n x k g =
         let none : false ≡ isFilled p o (bare h) = sym (ap (λ (z : Bool). z && (isLater (p .marks) (p .later) (bare h .row) && not (spared p (bare h .row)))) n) in
         came-kept q false none (owed-none (fill (h .depth)) refl) x k g
@@ -157,12 +157,12 @@ module _ {w : ℕ} (p : Plan) (v : Bytes) (fill : ℕ → List (Deep FlatRow)) (
           written = written-as (ap
               (λ (z : Bool). elim z [ true ↦ [] | false ↦ owed (closes o (readRow row) && o .due) (fill (rowDepth o)) ++ emitted p v fill (closed o (readRow row)) (readRow row) ])
               (is-gone ∙ q)) written-none;
-          opened = ap (λ (z : Bool). elim z [ true ↦ o | false ↦ onward p v fill (closed o (readRow row)) (readRow row) ]) (sym (is-gone ∙ q));
+          opened = ap (λ (z : Bool). elim z [ true ↦ o | false ↦ nextOpen p v fill (closed o (readRow row)) (readRow row) ]) (sym (is-gone ∙ q));
         }
 
     pub step-on : {c d : Cursor} {r : Stepped} {out out₁ out′ : Bytes} → g ≡ false → (z : Bool) → z ≡ closes o (bare h) → (k : ℕ) → k ≡ o .below - 1 → (u : Open) → u ≡ closed o (bare h)
         → Written w (owed (z && o .due) (fill k)) c out d out₁
-        → Came w (emitted p v fill u (readRow row)) (onward p v fill u (readRow row)) d out₁ r out′ → Came w (stepRows p v fill o (readRow row)) (stepOpen p v fill o (readRow row)) c out r out′
+        → Came w (emitted p v fill u (readRow row)) (nextOpen p v fill u (readRow row)) d out₁ r out′ → Came w (stepRows p v fill o (readRow row)) (stepOpen p v fill o (readRow row)) c out r out′
     unfolding stepRows stepOpen
     step-on q z ez k ek u eu x m =
         let closing : closes o (readRow row) ≡ z = ap (closes o) (sym (s .is)) ∙ sym ez in
@@ -174,8 +174,8 @@ module _ {w : ℕ} (p : Plan) (v : Bytes) (fill : ℕ → List (Deep FlatRow)) (
               ∙ ap₂ (λ (b : Bool) (y : Open). owed (b && o .due) (fill (rowDepth o)) ++ emitted p v fill y (readRow row)) closing after
               ∙ ap (λ (i : ℕ). owed (z && o .due) (fill i) ++ emitted p v fill u (readRow row)) (sym ek))
               (written-then x (m .written));
-          opened = m .opened ∙ ap (λ (y : Open). onward p v fill y (readRow row)) (sym after) ∙ ap
-              (λ (b : Bool). elim b [ true ↦ o | false ↦ onward p v fill (closed o (readRow row)) (readRow row) ]) (sym (is-gone ∙ q));
+          opened = m .opened ∙ ap (λ (y : Open). nextOpen p v fill y (readRow row)) (sym after) ∙ ap
+              (λ (b : Bool). elim b [ true ↦ o | false ↦ nextOpen p v fill (closed o (readRow row)) (readRow row) ]) (sym (is-gone ∙ q));
         }
 
 -- ---- how deep the open row stands
@@ -187,8 +187,8 @@ module _ (p : Plan) (v : Bytes) (fill : ℕ → List (Deep FlatRow)) (o : Open) 
   near-closed : Near (closed o x)
   near-closed = near-if (closes o x) (record { below = omega arith }) (record { below = n .below })
 
-  near-onward : x .depth ≤ 80 → Near (onward p v fill o x)
-  unfolding onward
+  near-onward : x .depth ≤ 80 → Near (nextOpen p v fill o x)
+  unfolding nextOpen
   near-onward l =
       near-if (isTaken p o x)
       (record { below = n .below })

@@ -18,7 +18,7 @@ use Rattle.row_writer.proofs.WrittenLaws.{written-stop, written-then, written-a
 use Rattle.row_walk.specs.declared.Plan.{Plan}
 use Rattle.row_walk.specs.declared.Open.{Open}
 use Rattle.row_walk.specs.declared.Stepped.{Stepped}
-use Rattle.row_walk.specs.Walk.{gone, closes, closed, owed, rowDepth, emitted, onward, walked, atFirst, isGround}
+use Rattle.row_walk.specs.Walk.{gone, closes, closed, owed, rowDepth, emitted, nextOpen, walked, atFirst, namesGround}
 use Rattle.row_walk.specs.Step.{stepRows, stepOpen, Came, Near, WalkRow, WalkRows}
 use Rattle.row_walk.proofs.StepLaws.{near-if, near-step}
 
@@ -46,12 +46,12 @@ module _ (p : Plan) (v : Bytes) (fill : ℕ → List (Deep FlatRow)) where
       by : (b : Bool) → elim b [
         | true ↦ walked p v fill o xs
         | false ↦ owed (closes o x && o .due) (fill (rowDepth o)) ++
-            (emitted p v fill (closed o x) x ++ walked p v fill (onward p v fill (closed o x) x) xs)
+            (emitted p v fill (closed o x) x ++ walked p v fill (nextOpen p v fill (closed o x) x) xs)
       ]
           ≡ elim b [ true ↦ [] | false ↦ owed (closes o x && o .due) (fill (rowDepth o)) ++ emitted p v fill (closed o x) x ] ++ walked p v fill
-          (elim b [ true ↦ o | false ↦ onward p v fill (closed o x) x ]) xs
+          (elim b [ true ↦ o | false ↦ nextOpen p v fill (closed o x) x ]) xs
       by true = refl
-      by false = sym (append-assoc (owed (closes o x && o .due) (fill (rowDepth o))) (emitted p v fill (closed o x) x) (walked p v fill (onward p v fill (closed o x) x) xs))
+      by false = sym (append-assoc (owed (closes o x && o .due) (fill (rowDepth o))) (emitted p v fill (closed o x) x) (walked p v fill (nextOpen p v fill (closed o x) x) xs))
 
   walked-none : (o : Open) → walked p v fill o [] ≡ owed (o .due) (fill (rowDepth o))
   unfolding walked
@@ -70,7 +70,7 @@ pub record Going (w : ℕ) (p : Plan) (v : Bytes) (fill : ℕ → List (Deep Fla
   pub long : length out′ ≡ length out
 
 near-first : (p : Plan) → Near (atFirst p)
-near-first p = near-if (isGround (p .above)) (record { below = omega arith }) (record { below = omega arith })
+near-first p = near-if (namesGround (p .above)) (record { below = omega arith }) (record { below = omega arith })
 
 module _ {w : ℕ} {p : Plan} {v : Bytes} {fill : ℕ → List (Deep FlatRow)} where
   pub going-start : {c : Cursor} {out t : Bytes} {m : ℕ} {o : Open} → WalkRows w m t → rowSize w * m ≤ length t → Room w c → o ≡ atFirst p

@@ -15,24 +15,24 @@ use Rattle.row_writer.specs.declared.Cursor.{Cursor}
 use Rattle.row_writer.specs.Written.{Written, OldRow}
 use Rattle.filling.specs.declared.Filling.{Filling}
 use Rattle.filling.specs.Fillings.{fillingRows}
-use Rattle.filling.specs.Parts.{valueIn, membersAt, Indexed}
+use Rattle.filling.specs.Parts.{valueIn, membersReadAt, Indexed}
 use Rattle.row_walk.specs.declared.Plan.{Plan}
 use Rattle.row_walk.specs.declared.Shift.{Shift}
 use Rattle.row_walk.specs.declared.Open.{Open}
 use Rattle.row_walk.specs.declared.Head.{Head}
 use Rattle.row_walk.specs.declared.Stepped.{Stepped}
-use Rattle.row_walk.specs.Walk.{isLater, gone, closes, closed, isBelow, owed, rowDepth, emitted, onward}
+use Rattle.row_walk.specs.Walk.{isLater, gone, closes, closed, isBelow, owed, rowDepth, emitted, nextOpen}
 
 -- a row with what was read of it, and a value
-abbrev pub rowOf : Head → Bytes → Deep FlatRow
-rowOf h v = record { depth = h .depth; row = record { sort = h .sort; index = h .index; serial = h .serial; value = v } }
+abbrev pub rowOfHead : Head → Bytes → Deep FlatRow
+rowOfHead h v = record { depth = h .depth; row = record { sort = h .sort; index = h .index; serial = h .serial; value = v } }
 
 abbrev pub bare : Head → Deep FlatRow
-bare h = rowOf h []
+bare h = rowOfHead h []
 
 -- an old row with another index, and with another value if b
-abbrev pub rowWith : Bool → ℕ → Bytes → Bytes → Deep FlatRow
-rowWith b index v row = valuedRow index (elim b [ true ↦ v | false ↦ readRow row .row .value ]) row
+abbrev pub rowRewritten : Bool → ℕ → Bytes → Bytes → Deep FlatRow
+rowRewritten b index v row = valuedRow index (elim b [ true ↦ v | false ↦ readRow row .row .value ]) row
 
 -- what is due stays due after a row that opens nothing
 abbrev pub staysDue : Plan → Open → Deep FlatRow → Bool
@@ -44,7 +44,7 @@ module _ (p : Plan) (v : Bytes) (fill : ℕ → List (Deep FlatRow)) where
   stepRows o x = elim (gone o x) [ true ↦ [] | false ↦ owed (closes o x && o .due) (fill (rowDepth o)) ++ emitted p v fill (closed o x) x ]
 
   unfoldable pub stepOpen : Open → Deep FlatRow → Open
-  stepOpen o x = elim (gone o x) [ true ↦ o | false ↦ onward p v fill (closed o x) x ]
+  stepOpen o x = elim (gone o x) [ true ↦ o | false ↦ nextOpen p v fill (closed o x) x ]
 
 -- the rows xs were written, and o is open after them
 pub record Came (w : ℕ) (xs : List (Deep FlatRow)) (o : Open) (c : Cursor) (out : Bytes) (r : Stepped) (out′ : Bytes) : Type 0 where
@@ -53,10 +53,10 @@ pub record Came (w : ℕ) (xs : List (Deep FlatRow)) (o : Open) (c : Cursor) (ou
 
 -- a filling at a depth, from the bytes of the form; and that of a plan
 abbrev pub fillWith : ℕ → ℕ → ℕ → Bytes → Bytes → ℕ → Bytes → Filling → Bytes → ℕ → List (Deep FlatRow)
-fillWith version w n defs parts a attrs what text d = fillingRows (indexForm version w n defs parts attrs a) (λ j. valueIn w attrs j) (λ k e. membersAt parts k e) what text d
+fillWith version w n defs parts a attrs what text d = fillingRows (indexForm version w n defs parts attrs a) (λ j. valueIn w attrs j) (λ k e. membersReadAt parts k e) what text d
 
-abbrev pub fillOf : ℕ → ℕ → ℕ → Bytes → Bytes → ℕ → Bytes → Plan → Bytes → ℕ → List (Deep FlatRow)
-fillOf version w n defs parts a attrs p text d = fillWith version w n defs parts a attrs (p .filling) text d
+abbrev pub planFilling : ℕ → ℕ → ℕ → Bytes → Bytes → ℕ → Bytes → Plan → Bytes → ℕ → List (Deep FlatRow)
+planFilling version w n defs parts a attrs p text d = fillWith version w n defs parts a attrs (p .filling) text d
 
 -- ---- how large the numbers are that the walk meets
 -- indices of at most 1,000 move up by at most 1,000; those of a store that passes are at most 64
@@ -91,7 +91,7 @@ pub record WalkRow (w : ℕ) (row : Bytes) : Type 0 where
 
 -- h is what was read of it
 pub record Seen (w : ℕ) (h : Head) (row : Bytes) : Type 0 where
-  pub is : rowOf h (readRow row .row .value) ≡ readRow row
+  pub is : rowOfHead h (readRow row .row .value) ≡ readRow row
   pub old : OldRow w row
   pub fair : Fair h
 

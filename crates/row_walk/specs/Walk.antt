@@ -33,28 +33,28 @@ isEverything (Elements i) = false
 isEverything (Attributes j) = false
 isEverything (Serial k) = false
 
-abbrev pub isGround : Which → Bool
-isGround Nothing = false
-isGround Everything = false
-isGround Ground = true
-isGround (Elements i) = false
-isGround (Attributes j) = false
-isGround (Serial k) = false
+abbrev pub namesGround : Which → Bool
+namesGround Nothing = false
+namesGround Everything = false
+namesGround Ground = true
+namesGround (Elements i) = false
+namesGround (Attributes j) = false
+namesGround (Serial k) = false
 
 -- the mark of its definition: 1 before a place in a model, 2 at the place, else 0
-abbrev pub markOf : Bytes → FlatRow → ℕ
-markOf marks r = getD marks (r .index) 0
+abbrev pub placeMark : Bytes → FlatRow → ℕ
+placeMark marks r = getD marks (r .index) 0
 
 -- a filling comes before it
 abbrev pub isLater : Bytes → Later → FlatRow → Bool
 isLater marks Never r = false
 isLater marks (Row k) r = eqb (r .serial) k
 isLater marks (Past j) r = not (eqb (r .sort) 2 && ltb (r .index) j)
-isLater marks Unmarked r = eqb (r .sort) 1 && not (eqb (markOf marks r) 1)
+isLater marks Unmarked r = eqb (r .sort) 1 && not (eqb (placeMark marks r) 1)
 
 -- but none does, since it is an element at the place
 abbrev pub spared : Plan → FlatRow → Bool
-spared p r = p .spares && (eqb (r .sort) 1 && eqb (markOf (p .marks) r) 2)
+spared p r = p .spares && (eqb (r .sort) 1 && eqb (placeMark (p .marks) r) 2)
 
 -- ---- renumbering and values
 abbrev pub shifted : Shift → ℕ → ℕ
@@ -64,11 +64,11 @@ shifted s i = elim (leb (s .from) i) [ true ↦ i + s .more - s .less | false �
 abbrev pub movedIndex : Plan → FlatRow → ℕ
 movedIndex p r = elim (eqb (r .sort) 1) [ true ↦ shifted (p .definitions) (r .index) | false ↦ elim (eqb (r .sort) 2) [ true ↦ shifted (p .attributes) (r .index) | false ↦ r .index ] ]
 
-abbrev pub valueAfter : Plan → Bytes → FlatRow → Bytes
-valueAfter p v r = elim (eqb (r .serial) (p .set)) [ true ↦ v | false ↦ r .value ]
+abbrev pub valueSet : Plan → Bytes → FlatRow → Bytes
+valueSet p v r = elim (eqb (r .serial) (p .set)) [ true ↦ v | false ↦ r .value ]
 
 unfoldable pub keptRow : Plan → Bytes → Deep FlatRow → Deep FlatRow
-keptRow p v x = record { depth = x .depth; row = record { sort = x .row .sort; index = movedIndex p (x .row); serial = x .row .serial; value = valueAfter p v (x .row) } }
+keptRow p v x = record { depth = x .depth; row = record { sort = x .row .sort; index = movedIndex p (x .row); serial = x .row .serial; value = valueSet p v (x .row) } }
 
 -- ---- what a row meets
 -- it stands below a row taken
@@ -117,17 +117,17 @@ module _ (p : Plan) (v : Bytes) (fill : ℕ → List (Deep FlatRow)) where
   unfoldable pub emitted : Open → Deep FlatRow → List (Deep FlatRow)
   emitted o x = elim (isTaken p o x) [ true ↦ [] | false ↦ owed (isFilled p o x) (fill (x .depth)) ++ keptRow p v x ∷ [] ]
 
-  unfoldable pub onward : Open → Deep FlatRow → Open
-  onward o x = elim (isTaken p o x) [ true ↦ taken o x | false ↦ kept p o x ]
+  unfoldable pub nextOpen : Open → Deep FlatRow → Open
+  nextOpen o x = elim (isTaken p o x) [ true ↦ taken o x | false ↦ kept p o x ]
 
   unfoldable pub walked : Open → List (Deep FlatRow) → List (Deep FlatRow)
   walked o [] = owed (o .due) (fill (rowDepth o))
   walked o (x ∷ xs) =
       elim (gone o x) [
         | true ↦ walked o xs
-        | false ↦ owed (closes o x && o .due) (fill (rowDepth o)) ++ (emitted (closed o x) x ++ walked (onward (closed o x) x) xs)
+        | false ↦ owed (closes o x && o .due) (fill (rowDepth o)) ++ (emitted (closed o x) x ++ walked (nextOpen (closed o x) x) xs)
       ]
 
 -- what is open before the first row
 abbrev pub atFirst : Plan → Open
-atFirst p = elim (isGround (p .above)) [ true ↦ record { taking = 0; below = 1; due = p .fills } | false ↦ record { taking = 0; below = 0; due = false } ]
+atFirst p = elim (namesGround (p .above)) [ true ↦ record { taking = 0; below = 1; due = p .fills } | false ↦ record { taking = 0; below = 0; due = false } ]

@@ -11,8 +11,8 @@ ghost use Rattle.rules.specs.Decode.{readRow, readMany};
 ghost use Rattle.layout.specs.Bodies.{Width};
 ghost use Rattle.row_writer.specs.Written.{Written, Room, OldRow};
 ghost use Rattle.filling.specs.Parts.{Asks, Indexed};
-ghost use Rattle.row_walk.specs.Walk.{matches, isEverything, isGround, markOf, isLater, spared, shifted, movedIndex, keptRow, gone, closes, closed, isBelow, isTaken, isFilled, taken, kept, owed, emitted, onward, walked, atFirst};
-ghost use Rattle.row_walk.specs.Step.{rowOf, bare, rowWith, staysDue, stepRows, stepOpen, Came, fillWith, fillOf, Moves, Planned, Ready, Fair, Near, WalkRow, Seen, WalkRows};
+ghost use Rattle.row_walk.specs.Walk.{matches, isEverything, namesGround, placeMark, isLater, spared, shifted, movedIndex, keptRow, gone, closes, closed, isBelow, isTaken, isFilled, taken, kept, owed, emitted, nextOpen, walked, atFirst};
+ghost use Rattle.row_walk.specs.Step.{rowOfHead, bare, rowRewritten, staysDue, stepRows, stepOpen, Came, fillWith, planFilling, Moves, Planned, Ready, Fair, Near, WalkRow, Seen, WalkRows};
 
 /// Some rows: none; every row, and what stands above the documents; that alone; the elements of a definition; the rows of an attribute; the
 /// element with a serial.
@@ -84,7 +84,7 @@ pub struct Head {
 // ---- rows
 
 fn read_head(row: &[u8]) -> Head
-    ensures { λ r. ⌜ rowOf r (readRow (now (row .entry)) .row .value) ≡ readRow (now (row .entry)) ⌝ }
+    ensures { λ r. ⌜ rowOfHead r (readRow (now (row .entry)) .row .value) ≡ readRow (now (row .entry)) ⌝ }
 {
     Head {
         depth: layout::row_depth(row) as usize,
@@ -122,7 +122,7 @@ fn is_everything(w: Which) -> bool
 }
 
 fn is_ground(w: Which) -> bool
-    ensures { λ r. ⌜ r ≡ isGround w ⌝ }
+    ensures { λ r. ⌜ r ≡ namesGround w ⌝ }
 {
     match w {
         Which::Nothing => false,
@@ -136,14 +136,14 @@ fn is_ground(w: Which) -> bool
 
 // The mark of the definition of an element.
 fn mark(p: Plan, h: Head) -> u8
-    ensures { λ r. ⌜ r ≡ markOf (p .marks) (bare h .row) ⌝ }
+    ensures { λ r. ⌜ r ≡ placeMark (p .marks) (bare h .row) ⌝ }
 {
     codec::byte(&p.marks, h.index)
 }
 
 // Whether a filling comes before a row with the mark m.
 fn is_later(p: Plan, h: Head, m: u8) -> bool
-    requires { ⌜ m ≡ markOf (p .marks) (bare h .row) ⌝ }
+    requires { ⌜ m ≡ placeMark (p .marks) (bare h .row) ⌝ }
     ensures { λ r. ⌜ r ≡ isLater (p .marks) (p .later) (bare h .row) ⌝ }
 {
     let l = p.later;
@@ -157,7 +157,7 @@ fn is_later(p: Plan, h: Head, m: u8) -> bool
 
 // Whether a row is an element at the place, before which no filling comes.
 fn spared(p: Plan, h: Head, m: u8) -> bool
-    requires { ⌜ m ≡ markOf (p .marks) (bare h .row) ⌝ }
+    requires { ⌜ m ≡ placeMark (p .marks) (bare h .row) ⌝ }
     ensures { λ r. ⌜ r ≡ spared p (bare h .row) ⌝ }
 {
     p.spares & ((h.sort == 1) & (m == 2))
@@ -252,7 +252,7 @@ fn is_taken(p: Plan, o: Open, h: Head) -> bool
 
 // Whether a filling comes right before a row.
 fn is_filled(p: Plan, o: Open, h: Head, m: u8) -> bool
-    requires { ⌜ Fair h × (m ≡ markOf (p .marks) (bare h .row)) ⌝ }
+    requires { ⌜ Fair h × (m ≡ placeMark (p .marks) (bare h .row)) ⌝ }
     ensures { λ r. ⌜ r ≡ isFilled p o (bare h) ⌝ }
 {
     (o.due & is_below(o, h)) & (is_later(p, h, m) & !spared(p, h, m))
@@ -360,7 +360,7 @@ fn put_row(
     out: &mut [u8],
 ) -> Cursor
     requires { ⌜ Width w × (index ≤ 2000) × (length (now text) ≤ w) × OldRow w (now row) × Room w c ⌝ }
-    ensures { λ r. ⌜ Written w (rowWith valued index (now (text .entry)) (now (row .entry)) ∷ []) c (now (out .entry)) r (now (out .exit)) ⌝ }
+    ensures { λ r. ⌜ Written w (rowRewritten valued index (now (text .entry)) (now (row .entry)) ∷ []) c (now (out .entry)) r (now (out .exit)) ⌝ }
 {
     if valued {
         return row_writer::put_valued(w, row, index, text, c, out);
@@ -386,7 +386,7 @@ fn come_due<'a>(
     out: &mut [u8],
 ) -> Stepped
     requires { ⌜ Ready w n a (now text) p × Seen w h (now row) × Room w c × (isTaken p o (bare h) ≡ false) ⌝ }
-    ensures { λ r. ⌜ Came w (emitted p (now (text .entry)) (fillOf version w n (now (defs .entry)) (now (parts .entry)) a (now (attrs .entry)) p (now (text .entry))) o (readRow (now (row .entry)))) (onward p (now (text .entry)) (fillOf version w n (now (defs .entry)) (now (parts .entry)) a (now (attrs .entry)) p (now (text .entry))) o (readRow (now (row .entry)))) c (now (out .entry)) r (now (out .exit)) ⌝ }
+    ensures { λ r. ⌜ Came w (emitted p (now (text .entry)) (planFilling version w n (now (defs .entry)) (now (parts .entry)) a (now (attrs .entry)) p (now (text .entry))) o (readRow (now (row .entry)))) (nextOpen p (now (text .entry)) (planFilling version w n (now (defs .entry)) (now (parts .entry)) a (now (attrs .entry)) p (now (text .entry))) o (readRow (now (row .entry)))) c (now (out .entry)) r (now (out .exit)) ⌝ }
 {
     let m = mark(p, h);
     let filled = is_filled(p, o, h, m);
@@ -433,7 +433,7 @@ fn come<'a>(
     out: &mut [u8],
 ) -> Stepped
     requires { ⌜ Ready w n a (now text) p × Seen w h (now row) × Room w c ⌝ }
-    ensures { λ r. ⌜ Came w (emitted p (now (text .entry)) (fillOf version w n (now (defs .entry)) (now (parts .entry)) a (now (attrs .entry)) p (now (text .entry))) o (readRow (now (row .entry)))) (onward p (now (text .entry)) (fillOf version w n (now (defs .entry)) (now (parts .entry)) a (now (attrs .entry)) p (now (text .entry))) o (readRow (now (row .entry)))) c (now (out .entry)) r (now (out .exit)) ⌝ }
+    ensures { λ r. ⌜ Came w (emitted p (now (text .entry)) (planFilling version w n (now (defs .entry)) (now (parts .entry)) a (now (attrs .entry)) p (now (text .entry))) o (readRow (now (row .entry)))) (nextOpen p (now (text .entry)) (planFilling version w n (now (defs .entry)) (now (parts .entry)) a (now (attrs .entry)) p (now (text .entry))) o (readRow (now (row .entry)))) c (now (out .entry)) r (now (out .exit)) ⌝ }
 {
     if is_taken(p, o, h) {
         return Stepped {
@@ -484,7 +484,7 @@ fn step<'a>(
     out: &mut [u8],
 ) -> Stepped
     requires { ⌜ Ready w n a (now text) p × WalkRow w (now row) × Near o × Room w c ⌝ }
-    ensures { λ r. ⌜ Came w (stepRows p (now (text .entry)) (fillOf version w n (now (defs .entry)) (now (parts .entry)) a (now (attrs .entry)) p (now (text .entry))) o (readRow (now (row .entry)))) (stepOpen p (now (text .entry)) (fillOf version w n (now (defs .entry)) (now (parts .entry)) a (now (attrs .entry)) p (now (text .entry))) o (readRow (now (row .entry)))) c (now (out .entry)) r (now (out .exit)) ⌝ }
+    ensures { λ r. ⌜ Came w (stepRows p (now (text .entry)) (planFilling version w n (now (defs .entry)) (now (parts .entry)) a (now (attrs .entry)) p (now (text .entry))) o (readRow (now (row .entry)))) (stepOpen p (now (text .entry)) (planFilling version w n (now (defs .entry)) (now (parts .entry)) a (now (attrs .entry)) p (now (text .entry))) o (readRow (now (row .entry)))) c (now (out .entry)) r (now (out .exit)) ⌝ }
 {
     let h = read_head(row);
     if gone(o, h) {
@@ -547,7 +547,7 @@ pub fn walk<'a>(
     out: &mut [u8],
 ) -> Cursor
     requires { ⌜ Ready w n a (now text) plan × WalkRows w count (now rows) × (rowSize w * count ≤ length (now rows)) × Room w c ⌝ }
-    ensures { λ r. ⌜ Written w (walked plan (now (text .entry)) (fillOf version w n (now (defs .entry)) (now (parts .entry)) a (now (attrs .entry)) plan (now (text .entry))) (atFirst plan) (readMany readRow (rowSize w) count (now (rows .entry)))) c (now (out .entry)) r (now (out .exit)) ⌝ }
+    ensures { λ r. ⌜ Written w (walked plan (now (text .entry)) (planFilling version w n (now (defs .entry)) (now (parts .entry)) a (now (attrs .entry)) plan (now (text .entry))) (atFirst plan) (readMany readRow (rowSize w) count (now (rows .entry)))) c (now (out .entry)) r (now (out .exit)) ⌝ }
 {
     let size = layout::row_size(w);
     let mut t = rows;

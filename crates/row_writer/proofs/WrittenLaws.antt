@@ -1,7 +1,7 @@
 -- Writers of rows, one after the other; single rows.
 use mathlib.Core.Path.{_≡_, refl, sym, ap, _∙_}
 use mathlib.Core.Bool.{Bool, true, false}
-use mathlib.Core.List.{List, [], _∷_, _++_, append-nil, append-assoc}
+use mathlib.Core.List.{List, [], _∷_, _++_, append-nil}
 use Prim.Native.Nat.{ℕ, suc, _+_, _-_, _*_, _<_, _≤_}
 use native.Mathlib.Nat.{add-zero}
 use native.Mathlib.Omega.{arith}
@@ -18,13 +18,10 @@ use Rattle.codec.proofs.Writers.{laid-none, laid-then, laid-as}
 use Rattle.layout.specs.RowBytes.{rowOf, valuedRow, RowLaid}
 use Rattle.layout.proofs.RowLaws.{size-more}
 use Rattle.row_writer.specs.declared.Cursor.{Cursor}
-use Rattle.row_writer.specs.Written.{isNew, newIn, withSerial, numbered, rowsBytes, Room, Fitted, Written, newRow, OldRow}
+use Rattle.row_writer.specs.Written.{isNewRow, newIn, withSerial, numbered, rowsBytes, Room, Fitted, Written, newRow, OldRow}
+use Rattle.rules.proofs.LayoutLaws.{each-append}
 
 -- ---- lists
-each-append : {A : Type 0} (f : A → Bytes) (xs ys : List A) → each f (xs ++ ys) ≡ each f xs ++ each f ys
-each-append f [] ys = refl
-each-append f (x ∷ xs) ys = ap (λ (l : Bytes). f x ++ l) (each-append f xs ys) ∙ sym (append-assoc (f x) (each f xs) (each f ys))
-
 -- ---- serials
 pub new-append : (xs ys : List (Deep FlatRow)) → newIn (xs ++ ys) ≡ newIn xs + newIn ys
 new-append [] ys = omega arith
@@ -33,12 +30,12 @@ new-append (x ∷ xs) ys = omega (arith, new-append xs ys)
 pub numbered-append : (n : ℕ) (xs ys : List (Deep FlatRow)) → numbered n (xs ++ ys) ≡ numbered n xs ++ numbered (n + newIn xs) ys
 numbered-append n [] ys = rw add-zero
 numbered-append n (x ∷ xs) ys =
-    let e : n + isNew x + newIn xs ≡ n + (isNew x + newIn xs) = omega arith in
-    ap (λ (l : List (Deep FlatRow)). withSerial n x ∷ l) (numbered-append (n + isNew x) xs ys ∙ ap (λ (k : ℕ). numbered (n + isNew x) xs ++ numbered k ys) e)
+    let e : n + isNewRow x + newIn xs ≡ n + (isNewRow x + newIn xs) = omega arith in
+    ap (λ (l : List (Deep FlatRow)). withSerial n x ∷ l) (numbered-append (n + isNewRow x) xs ys ∙ ap (λ (k : ℕ). numbered (n + isNewRow x) xs ++ numbered k ys) e)
 
 pub length-numbered : (n : ℕ) (xs : List (Deep FlatRow)) → length (numbered n xs) ≡ length xs
 length-numbered n [] = refl
-length-numbered n (x ∷ xs) = ap suc (length-numbered (n + isNew x) xs)
+length-numbered n (x ∷ xs) = ap suc (length-numbered (n + isNewRow x) xs)
 
 rows-append : (w n : ℕ) (xs ys : List (Deep FlatRow)) → rowsBytes w n (xs ++ ys) ≡ rowsBytes w n xs ++ rowsBytes w (n + newIn xs) ys
 unfolding rowsBytes
@@ -105,7 +102,7 @@ module _ {w : ℕ} where
 
 -- ---- single rows
 module _ {w : ℕ} {c : Cursor} {a : ℕ} {out out′ : Bytes} (more : c .left ≡ 0 → ⊥) where
-  written-row : {x : Deep FlatRow} {n : ℕ} → n ≡ c .serial + isNew x → n ≤ c .serial + 1 → RowLaid w (withSerial (c .serial) x) out (c .at) a out′
+  written-row : {x : Deep FlatRow} {n : ℕ} → n ≡ c .serial + isNewRow x → n ≤ c .serial + 1 → RowLaid w (withSerial (c .serial) x) out (c .at) a out′
       → Written w (x ∷ []) c out (record { at = a; left = c .left - 1; serial = n }) out′
   unfolding rowsBytes
   written-row {x} {n} e l p =

@@ -14,14 +14,14 @@ use Rattle.codec.specs.Laid.{Laid}
 use Rattle.layout.specs.RowBytes.{rowOf}
 use Rattle.row_writer.specs.declared.Cursor.{Cursor}
 
--- 'New rows get serials in document order': as `isNew`, `newRows`, `given` and
+-- 'New rows get serials in document order': as `isNewRow`, `newRows`, `given` and
 -- `number` of the rules, on rows in a list; a new row has serial 0
-abbrev pub isNew : Deep FlatRow → ℕ
-isNew x = elim (eqb (x .row .serial) 0) [ true ↦ 1 | false ↦ 0 ]
+abbrev pub isNewRow : Deep FlatRow → ℕ
+isNewRow x = elim (eqb (x .row .serial) 0) [ true ↦ 1 | false ↦ 0 ]
 
 abbrev pub newIn : List (Deep FlatRow) → ℕ
 newIn [] = 0
-newIn (x ∷ xs) = isNew x + newIn xs
+newIn (x ∷ xs) = isNewRow x + newIn xs
 
 abbrev pub withSerial : ℕ → Deep FlatRow → Deep FlatRow
 withSerial n x =
@@ -29,7 +29,7 @@ withSerial n x =
 
 abbrev pub numbered : ℕ → List (Deep FlatRow) → List (Deep FlatRow)
 numbered n [] = []
-numbered n (x ∷ xs) = withSerial n x ∷ numbered (n + isNew x) xs
+numbered n (x ∷ xs) = withSerial n x ∷ numbered (n + isNewRow x) xs
 
 -- the bytes of rows, the new ones with serials from n on
 unfoldable pub rowsBytes : ℕ → ℕ → List (Deep FlatRow) → Bytes

@@ -3,7 +3,7 @@ ghost use mathlib.Core.List.{[], _∷_};
 ghost use Prim.Native.Nat.{_<_, _≤_};
 ghost use lib.ListN.{length};
 ghost use Rattle.layout.specs.Bodies.{Width};
-ghost use Rattle.layout.specs.RowBytes.{movedRow, valuedRow};
+ghost use Rattle.layout.specs.RowBytes.{reindexedRow, valuedRow};
 ghost use Rattle.row_writer.specs.Written.{Written, Room, OldRow, newRow};
 
 /// Where the next row goes, how many rows may still be written, and the serial that the next new row gets. Writing into
@@ -41,7 +41,7 @@ pub fn put_new(
 /// An old row with another index.
 pub fn put_kept(w: usize, row: &[u8], index: usize, c: Cursor, out: &mut [u8]) -> Cursor
     requires { ⌜ Width w × Room w c × OldRow w (now row) × (index < 65536) ⌝ }
-    ensures { λ r. ⌜ Written w (movedRow index (now (row .entry)) ∷ []) c (now (out .entry)) r (now (out .exit)) ⌝ }
+    ensures { λ r. ⌜ Written w (reindexedRow index (now (row .entry)) ∷ []) c (now (out .entry)) r (now (out .exit)) ⌝ }
 {
     if c.left == 0 {
         return c;

@@ -4,26 +4,26 @@ use mathlib.Core.Logic.{_⊎_, inl, inr, ⊎-elim}
 use mathlib.Core.Bool.{Bool, true, false, true≢false}
 use mathlib.Core.List.{List, [], _∷_, _++_, append-assoc, List·Memᴰ, List·Memᴰ·head, List·Memᴰ·tail, Memᴰ·append-left, Memᴰ·append-right}
 use Rattle.rules.specs.Model.{Members, done, el, group, names, Distinct, Equality}
-use Rattle.rules.specs.Place.{Context, here, past, over, into, plug, before, after}
+use Rattle.rules.specs.Place.{Context, here, past, over, into, plug, beforePlace, afterPlace}
 use Rattle.rules.proofs.Correct.{distinct-left, distinct-right, distinct-apart}
 
 module _ {A : Type 0} where
-  pub names-plug : (c : Context A) (t : Members A) → names (plug c t) ≡ before c ++ (names t ++ after c)
-  unfolding names plug before after
+  pub names-plug : (c : Context A) (t : Members A) → names (plug c t) ≡ beforePlace c ++ (names t ++ afterPlace c)
+  unfolding names plug beforePlace afterPlace
   names-plug here t = sym (append-nil′ (names t))
     where
       append-nil′ : (l : List A) → l ++ [] ≡ l
       append-nil′ [] = refl
       append-nil′ (x ∷ l) = ap (λ (z : List A). x ∷ z) (append-nil′ l)
   names-plug (past q n c) t = ap (λ (z : List A). n ∷ z) (names-plug c t)
-  names-plug (over q k ms c) t = ap (λ (z : List A). names ms ++ z) (names-plug c t) ∙ sym (append-assoc (names ms) (before c) (names t ++ after c))
+  names-plug (over q k ms c) t = ap (λ (z : List A). names ms ++ z) (names-plug c t) ∙ sym (append-assoc (names ms) (beforePlace c) (names t ++ afterPlace c))
   names-plug (into q k c rest) t = rw (names-plug c t) (simp append-assoc)
 
   -- a name that stands at the place and nowhere else
   pub record Only (x : A) (c : Context A) (t : Members A) : Type 0 where
-    pub left : List·Memᴰ x (before c) → ⊥
+    pub left : List·Memᴰ x (beforePlace c) → ⊥
     pub mid : List·Memᴰ x (names t) → ⊥
-    pub right : List·Memᴰ x (after c) → ⊥
+    pub right : List·Memᴰ x (afterPlace c) → ⊥
 
   only-list : (x : A) (a b d : List A) → Distinct (a ++ (x ∷ (b ++ d))) → (List·Memᴰ x a → ⊥) × (List·Memᴰ x b → ⊥) × (List·Memᴰ x d → ⊥)
   only-list x a b d e = (
@@ -34,7 +34,7 @@ module _ {A : Type 0} where
 
   pub only : (x : A) (c : Context A) (t t′ : Members A) → names t′ ≡ x ∷ names t → Distinct (names (plug c t′)) → Only x c t
   only x c t t′ f d =
-      let (l, m, r) = only-list x (before c) (names t) (after c) (rw (names-plug c t′, f) at d) in
+      let (l, m, r) = only-list x (beforePlace c) (names t) (afterPlace c) (rw (names-plug c t′, f) at d) in
       record { left = l; mid = m; right = r }
 
   pub differs : (E : Equality A) (x y : A) → (x ≡ y → ⊥) → E .same x y ≡ false

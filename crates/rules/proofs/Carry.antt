@@ -10,7 +10,7 @@ use Rattle.rules.specs.declared.GroupKind.{GroupKind}
 use Rattle.rules.specs.declared.GroupKind.the-variants.{Sequence, Choice}
 use Rattle.rules.specs.Model.{Members, done, el, group, names}
 use Rattle.rules.specs.Language.{Language, Then, Times, Allowed, Repeated, Joined, Ended, Matches}
-use Rattle.rules.specs.Place.{Context, here, past, over, into, plug, kindAt, before, after}
+use Rattle.rules.specs.Place.{Context, here, past, over, into, plug, kindAt, beforePlace, afterPlace}
 
 -- one word after another goes to one after another
 pub record Spread {A B : Type 0} (h : List A → List B) : Type 0 where
@@ -63,16 +63,16 @@ module _ {A : Type 0} {h : List A → List A} (H : Spread h) where
       carry-joined H k (carry-repeated H (relaxes-same q) (carry-kept j ms (λ x m. f x (Memᴰ·append-left (names rest) m)))) (carry-kept k rest (λ x m. f x (Memᴰ·append-right (names ms) m)))
 
   -- AT ANY PLACE: what is carried there is carried in the whole
-  pub carry-plug : (k : GroupKind) (c : Context A) (t t′ : Members A) → Kept h (before c) → Kept h (after c)
+  pub carry-plug : (k : GroupKind) (c : Context A) (t t′ : Members A) → Kept h (beforePlace c) → Kept h (afterPlace c)
       → Carries h (Matches (kindAt k c) t) (Matches (kindAt k c) t′) → Carries h (Matches k (plug c t)) (Matches k (plug c t′))
-  unfolding Matches names before after plug kindAt
+  unfolding Matches names beforePlace afterPlace plug kindAt
   carry-plug k here t t′ f g x = x
   carry-plug k (past q n c) t t′ f g x =
       carry-joined H k (carry-repeated H (relaxes-same q) (carry-single n (f n (List·Memᴰ·head refl)))) (carry-plug k c t t′ (λ y m. f y (List·Memᴰ·tail m)) g x)
   carry-plug k (over q j ms c) t t′ f g x =
-      carry-joined H k (carry-repeated H (relaxes-same q) (carry-kept j ms (λ y m. f y (Memᴰ·append-left (before c) m)))) (carry-plug k c t t′ (λ y m. f y (Memᴰ·append-right (names ms) m)) g x)
+      carry-joined H k (carry-repeated H (relaxes-same q) (carry-kept j ms (λ y m. f y (Memᴰ·append-left (beforePlace c) m)))) (carry-plug k c t t′ (λ y m. f y (Memᴰ·append-right (names ms) m)) g x)
   carry-plug k (into q j c rest) t t′ f g x =
-      carry-joined H k (carry-repeated H (relaxes-same q) (carry-plug j c t t′ f (λ y m. g y (Memᴰ·append-left (names rest) m)) x)) (carry-kept k rest (λ y m. g y (Memᴰ·append-right (after c) m)))
+      carry-joined H k (carry-repeated H (relaxes-same q) (carry-plug j c t t′ f (λ y m. g y (Memᴰ·append-left (names rest) m)) x)) (carry-kept k rest (λ y m. g y (Memᴰ·append-right (afterPlace c) m)))
 
 -- ---- words unchanged
 infix 20 _⊑_

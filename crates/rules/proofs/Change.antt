@@ -1,7 +1,7 @@
 -- Changes 3 to 8: what is not refused leaves the children of each instance a word of the new model.
 use mathlib.Core.Path.{_≡_, refl, sym, ap, _∙_}
 use mathlib.Core.Logic.{_⊎_, inl, inr, ⊎-elim}
-use mathlib.Core.Bool.{Bool, true, false, not, _&&_, _||_, false≢true}
+use mathlib.Core.Bool.{Bool, true, false, _&&_, _||_, false≢true}
 use mathlib.Core.List.{List, [], _∷_, _++_}
 use Rattle.rules.specs.declared.Quantifier.{Quantifier}
 use Rattle.rules.specs.declared.Quantifier.the-variants.{None, Qmark, Star, Plus}
@@ -9,7 +9,7 @@ use Rattle.rules.specs.declared.GroupKind.{GroupKind}
 use Rattle.rules.specs.declared.GroupKind.the-variants.{Sequence, Choice}
 use Rattle.rules.specs.Model.{Members, done, el, group, Equality, names, Distinct, skips, Some, Full}
 use Rattle.rules.specs.Language.{Conforms}
-use Rattle.rules.specs.Place.{Context, here, past, over, into, plug, kindAt, spine, before}
+use Rattle.rules.specs.Place.{Context, here, past, over, into, plug, kindAt, spine, beforePlace}
 use Rattle.rules.specs.Edit.{lone, sameKind, _⊕_, insertOff, removeUnmatched, quantifyOff, quantifyGroupOff, groupUnlike}
 use Rattle.rules.proofs.AroundLaws.{leaves, unmatched-is}
 use Rattle.rules.proofs.Children.{erase, placed, refit, refitGroup, inserted, requantified, groupRequantified}
@@ -20,10 +20,7 @@ use Rattle.rules.proofs.Inserting.{insert-kept}
 use Rattle.rules.proofs.Removing.{remove-element}
 use Rattle.rules.proofs.Grouping.{Alike, group-alike}
 use Rattle.rules.proofs.Fitting.{insert-needed, refit-element, refit-group}
-
-not-not : (b : Bool) → not b ≡ false → b ≡ true
-not-not true e = refl
-not-not false e = sym e
+use borrow.Author.Tests.{not-false}
 
 module _ {A : Type 0} (E : Equality A) (c : Context A) where
   pub insert-conforms : (q : Quantifier) (n : A) (t : Members A) → Distinct (names (plug c t)) → insertOff c q ≡ false → (w : List A) → Conforms (plug c t) w
@@ -41,7 +38,7 @@ module _ {A : Type 0} (E : Equality A) (c : Context A) where
 
   pub remove-conforms : (q : Quantifier) (x : A) (t : Members A) → Distinct (names (plug c (el q x t))) → removeUnmatched c t ≡ false → (w : List A)
       → Conforms (plug c (el q x t)) w → Conforms (plug c t) (erase E x w)
-  remove-conforms q x t d e w m = remove-element E x c q t d (not-not (leaves true Sequence c t) (sym (unmatched-is t c) ∙ e)) .carry w m
+  remove-conforms q x t d e w m = remove-element E x c q t d (not-false (leaves true Sequence c t) (sym (unmatched-is t c) ∙ e)) .carry w m
 
   pub quantify-conforms : (q r : Quantifier) (x : A) (t : Members A) → Distinct (names (plug c (el q x t))) → quantifyOff c q r ≡ false → (w : List A)
       → Conforms (plug c (el q x t)) w → Conforms (plug c (el r x t)) (requantified E c x q r w)
@@ -70,4 +67,4 @@ module _ {A : Type 0} (E : Equality A) (c : Context A) where
       by false false p g = absurd (false≢true (sym (rw (p, g) at (left (quantifyOff c q r) (cuts q r) e))))
 
   pub convert-conforms : (j : GroupKind) (s r : Members A) → groupUnlike c j s ≡ false → Alike (Conforms (plug c (s ⊕ r))) (Conforms (plug c (group None j s r)))
-  convert-conforms j s r e = group-alike Sequence c j s r (not-not (sameKind j (kindAt Sequence c) || lone s) e)
+  convert-conforms j s r e = group-alike Sequence c j s r (not-false (sameKind j (kindAt Sequence c) || lone s) e)

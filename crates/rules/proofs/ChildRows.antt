@@ -5,7 +5,7 @@ use mathlib.Core.List.{List, [], _∷_, _++_, map}
 use Rattle.rules.specs.declared.Quantifier.{Quantifier}
 use Rattle.rules.specs.declared.GroupKind.{GroupKind}
 use Rattle.rules.specs.Model.{Members, done, el, group, Equality, names, skips, nothing, unless, filling, member}
-use Rattle.rules.specs.Place.{Context, spine, before}
+use Rattle.rules.specs.Place.{Context, spine, beforePlace}
 use Rattle.rules.proofs.Children.{anyOf}
 use Rattle.rules.specs.Quantifiers.{gains, cuts}
 use Rattle.rules.specs.Edit.{Edit, insert, remove, quantify, convert, flatten}
@@ -40,12 +40,12 @@ module _ {A R : Type 0} (E : Equality A) (name : R → A) where
         ]
 
     unfoldable pub childRows : Edit A → Context A → Members A → List R → List R
-    childRows (insert q n) c t rs = elim (not (skips q) && spine c) [ true ↦ placeRows (before c) (fill (n ∷ [])) rs | false ↦ rs ]
+    childRows (insert q n) c t rs = elim (not (skips q) && spine c) [ true ↦ placeRows (beforePlace c) (fill (n ∷ [])) rs | false ↦ rs ]
     childRows remove c done rs = rs
     childRows remove c (el q x t) rs = eraseRows x rs
     childRows remove c (group q k ms t) rs = rs
     childRows (quantify r) c done rs = rs
-    childRows (quantify r) c (el q x t) rs = elim (spine c) [ true ↦ refitRows (before c) x q r rs | false ↦ rs ]
-    childRows (quantify r) c (group q k ms t) rs = elim (spine c) [ true ↦ refitGroupRows (before c) q r k ms rs | false ↦ rs ]
+    childRows (quantify r) c (el q x t) rs = elim (spine c) [ true ↦ refitRows (beforePlace c) x q r rs | false ↦ rs ]
+    childRows (quantify r) c (group q k ms t) rs = elim (spine c) [ true ↦ refitGroupRows (beforePlace c) q r k ms rs | false ↦ rs ]
     childRows (convert j n) c t rs = rs
     childRows flatten c t rs = rs

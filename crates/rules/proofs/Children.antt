@@ -11,9 +11,8 @@ use Rattle.rules.specs.declared.GroupKind.{GroupKind}
 use Rattle.rules.specs.declared.GroupKind.the-variants.{Sequence, Choice}
 use Rattle.rules.specs.Model.{Members, done, el, group, Equality, names, Distinct, Full, skips, nothing, unless, filling, member, full, distinct}
 use Rattle.rules.specs.Quantifiers.{many, gains, cuts, relaxes}
-use Rattle.rules.specs.Place.{Context, here, past, over, into, plug, kindAt, spine, before}
-use Rattle.rules.specs.Edit.{_⊕_, lone, sameKind, Edit, insert, remove, quantify, convert, flatten, firstMembers, hasMembers, isOne, insertOff}
-use Rattle.rules.specs.Edit.{removeLast, removeUnmatched, quantifyOff, quantifyGroupOff, groupUnlike}
+use Rattle.rules.specs.Place.{Context, here, past, over, into, plug, kindAt, spine, beforePlace}
+use Rattle.rules.specs.Edit.{_⊕_, lone, sameKind, Edit, insert, remove, quantify, convert, flatten, firstMembers, hasMembers, isOne, insertOff, removeLast, removeUnmatched, quantifyOff, quantifyGroupOff, groupUnlike}
 
 -- a word without a name
 unfoldable pub erase : {A : Type 0} → Equality A → A → List A → List A
@@ -64,13 +63,13 @@ behind (over q k ms c) = behind c
 behind (into q k c rest) = behind c ⊕ rest
 
 abbrev pub inserted : {A : Type 0} → Equality A → Context A → Quantifier → A → List A → List A
-inserted E c q n w = elim (not (skips q) && spine c) [ true ↦ placed E (before c) (n ∷ []) w | false ↦ w ]
+inserted E c q n w = elim (not (skips q) && spine c) [ true ↦ placed E (beforePlace c) (n ∷ []) w | false ↦ w ]
 
 abbrev pub requantified : {A : Type 0} → Equality A → Context A → A → Quantifier → Quantifier → List A → List A
-requantified E c x q r w = elim (spine c) [ true ↦ refit E (before c) x q r w | false ↦ w ]
+requantified E c x q r w = elim (spine c) [ true ↦ refit E (beforePlace c) x q r w | false ↦ w ]
 
 abbrev pub groupRequantified : {A : Type 0} → Equality A → Context A → Quantifier → Quantifier → GroupKind → Members A → List A → List A
-groupRequantified E c q r j ms w = elim (spine c) [ true ↦ refitGroup E (before c) q r j ms w | false ↦ w ]
+groupRequantified E c q r j ms w = elim (spine c) [ true ↦ refitGroup E (beforePlace c) q r j ms w | false ↦ w ]
 
 -- rows 8, 10 and 14
 unfoldable pub misplaced : {A : Type 0} → Equality A → Edit A → Context A → Members A → Bool

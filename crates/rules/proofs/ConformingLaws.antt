@@ -10,12 +10,12 @@ use Rattle.rules.specs.Model.{names, Distinct}
 use Rattle.rules.specs.Automaton.{accepts}
 use Rattle.rules.specs.Store.{Content, empty, pcdata, complex, Attribute, Definition, Form, RowSort, element, attribute, text, Row, Forest, modelOf, members, heads}
 use Rattle.rules.specs.WellFormed.{lookup, attributeName}
-use Rattle.rules.specs.Conforming.{nameOf, Sorted, InOrder, AttributeRows, ContentRows, ElementRows, RowConforms, EveryRow, Conforming, isElement}
-use Rattle.rules.specs.Conforming.{isAttribute, isText, everyRow, mustBePresent, allows, strip, fits, fitsStripped, fitsDefinition, fitsRow, conforming}
+use Rattle.rules.specs.Conforming.{nameOf, Sorted, InOrder, AttributeRows, ContentRows, ElementRows, RowConforms, EveryRow, Conforming, isElement, isAttribute, isText, everyRow, mustBePresent, allows, strip, fits, fitsStripped, fitsDefinition, fitsRow, conforming}
 use Rattle.rules.proofs.Words.{and-both, and-split}
 use Rattle.rules.proofs.Apart.{differs}
 use Rattle.rules.proofs.Correct.{accepts-conforms}
 use Rattle.rules.proofs.SerialLaws.{every-row-is}
+use Rattle.rules.proofs.BooleanLaws.{none-nil}
 
 -- ---- sorts
 pub is-element : (s : RowSort) → isElement s ≡ true → s ≡ element
@@ -128,7 +128,7 @@ unfolding strip begins
 strip-past version a table [] h m = rw (m, strip)
 strip-past version a table (r ∷ rows) h m = rw (h, strip) (rw m)
 
-strip-lacks : (version : ℕ) (a : Attribute) (table : List Attribute) (rows : List Row) → begins (a .name) rows ≡ false → mustBePresent version (a .sort) ≡ true → strip version (a ∷ table) rows ≡ none
+pub strip-lacks : (version : ℕ) (a : Attribute) (table : List Attribute) (rows : List Row) → begins (a .name) rows ≡ false → mustBePresent version (a .sort) ≡ true → strip version (a ∷ table) rows ≡ none
 unfolding strip begins
 strip-lacks version a table [] h m = rw (m, strip)
 strip-lacks version a table (r ∷ rows) h m = rw (h, strip) (rw m)
@@ -138,7 +138,7 @@ pub strip-take : (version : ℕ) (a : Attribute) (table : List Attribute) (r : R
 unfolding strip begins
 strip-take version a table r rows h m = rw (h, strip) (rw m)
 
-strip-wrong : (version : ℕ) (a : Attribute) (table : List Attribute) (r : Row) (rows : List Row) → begins (a .name) (r ∷ rows) ≡ true → allows (a .sort) (a .value) (r .value) ≡ false
+pub strip-wrong : (version : ℕ) (a : Attribute) (table : List Attribute) (r : Row) (rows : List Row) → begins (a .name) (r ∷ rows) ≡ true → allows (a .sort) (a .value) (r .value) ≡ false
     → strip version (a ∷ table) (r ∷ rows) ≡ none
 unfolding strip begins
 strip-wrong version a table r rows h m = rw (h, strip) (rw m)
@@ -168,7 +168,7 @@ cut-add version a table r rows rest new e v x =
       attributes = rows-add version a table r (x .front) new (sym (same-eq (a .name) (r .name) n)) (is-attribute (r .sort) s) v (x .attributes);
     }
 
-none-some : {A : Type 0} {x : A} → none ≡ some x → ⊥
+pub none-some : {A : Type 0} {x : A} → none ≡ some x → ⊥
 none-some e = let z : false ≡ true = cc e in false≢true z
 
 strip→ : (version : ℕ) (table : List Attribute) (rows rest : List Row) → Distinct (map attributeName table) → strip version table rows ≡ some rest → Cut version table rows rest
@@ -283,10 +283,6 @@ module _ (version : ℕ) (d : Definition) (once : Distinct (names (members d))) 
   element-is = (element→ (strip version (d .attributes) below) refl, element←)
 
 -- ---- every row
-none→ : (rows : List Row) → isNone rows ≡ true → rows ≡ []
-none→ [] e = refl
-none→ (r ∷ rows) e = absurd (false≢true e)
-
 module _ (version : ℕ) (form : Form) (once : (n : Bytes) (d : Definition) → lookup n form ≡ some d → Distinct (names (members d)))
     (apart : (n : Bytes) (d : Definition) → lookup n form ≡ some d → Distinct (map attributeName (d .attributes))) where
   found→ : (n : Bytes) (below : List Row) (o : Option Definition) → lookup n form ≡ o → fitsDefinition version o below ≡ true
@@ -301,8 +297,8 @@ module _ (version : ℕ) (form : Form) (once : (n : Bytes) (d : Definition) → 
       → (elim s as (λ x. Bool) [ element ↦ fitsDefinition version (lookup n form) below | attribute ↦ isNone below | text ↦ isNone below ] ≡ true)
       ↔ (elim s as (λ x. Type 0) [ element ↦ (d : Definition) × (lookup n form ≡ some d) × ElementRows version d below | attribute ↦ below ≡ [] | text ↦ below ≡ [] ])
   sort-is element n below = (found→ n below (lookup n form) refl, found← n below)
-  sort-is attribute n below = (none→ below, λ e. rw e)
-  sort-is text n below = (none→ below, λ e. rw e)
+  sort-is attribute n below = (none-nil below, λ e. rw e)
+  sort-is text n below = (none-nil below, λ e. rw e)
 
   pub row-is : (r : Row) (below : List Row) → (fitsRow version form r below ≡ true) ↔ RowConforms version form r below
   unfolding fitsRow

@@ -19,12 +19,10 @@ use Rattle.rules.specs.WellFormed.{reaches, goodDefinition, wellFormed}
 use Rattle.rules.specs.Conforming.{strip, fitsRow, conforming, nameOf}
 use Rattle.rules.specs.Passing.{serials, good, goodSerials}
 use Rattle.rules.specs.Filling.{fillAttributes, fillEach, fillContent, fillWithin}
-use Rattle.rules.specs.Place.{plug, kindAt, spine, before, around, afterMembers, find}
+use Rattle.rules.specs.Place.{plug, kindAt, spine, beforePlace, around, afterMembers, find}
 use Rattle.rules.specs.Edit.{_⊕_, edited, place, placeOf}
 use Rattle.rules.specs.Lines.{findRow, childrenOf}
-use Rattle.rules.specs.Change.{Call, destroyDefinition, insertElement, removeElement, changeQuantifier, convertToGroup, changeGroupQuantifier}
-use Rattle.rules.specs.Change.{setAttribute, destroyAttributeRow, definitionAt, attributeAt, formAfter, plan, prune, eachRow, plant, newRows, given}
-use Rattle.rules.specs.Change.{number, after}
+use Rattle.rules.specs.Change.{Call, destroyDefinition, insertElement, removeElement, changeQuantifier, convertToGroup, changeGroupQuantifier, setAttribute, destroyAttributeRow, definitionAt, attributeAt, formAfter, plan, prune, eachRow, plant, newRows, given, number, after}
 use Rattle.rules.specs.Refusal.{conditions, refusal}
 use Rattle.rules.specs.Outcome.{wrote, outcome}
 use Rattle.rules.specs.Print.{printed, printOutcome}
@@ -123,7 +121,7 @@ pub record Examples : Type 0 where
   pub p12 : refuses (insertElement 0 (2 ∷ 3 ∷ []) 4 0 (ascii "t")) (emptyOf nested) ≡ 8
 
 pub examples : Examples
-unfolding valueWidth names nothing filling member full distinct facts continues accepts plug kindAt spine before around afterMembers find _⊕_ edited place
+unfolding valueWidth names nothing filling member full distinct facts continues accepts plug kindAt spine beforePlace around afterMembers find _⊕_ edited place
     placeOf goodDefinition wellFormed strip fitsRow conforming goodSerials good fillAttributes fillEach fillContent fillWithin findRow childrenOf attributeAt
     formAfter plan prune eachRow plant newRows given number after conditions refusal
 examples =
@@ -194,7 +192,7 @@ pub record PlausibleAndFalse : Type 0 where
   pub choice-left : refuses (removeElement 0 (1 ∷ 2 ∷ [])) (storeOf (group None Choice (el None a (el None b done)) done) (b ∷ [])) ≡ 15
 
 pub plausible-and-false : PlausibleAndFalse
-unfolding valueWidth names nothing filling member full distinct facts continues accepts plug kindAt spine before around afterMembers find _⊕_ edited place
+unfolding valueWidth names nothing filling member full distinct facts continues accepts plug kindAt spine beforePlace around afterMembers find _⊕_ edited place
     placeOf goodDefinition wellFormed strip fitsRow conforming goodSerials good fillAttributes fillEach fillContent fillWithin findRow childrenOf attributeAt
     formAfter plan prune eachRow plant newRows given number after conditions refusal confirm outcome
 plausible-and-false =
@@ -280,7 +278,7 @@ pub record More : Type 0 where
   pub text : printOutcome (encode printable) 9999 ≡ wrote printableText
 
 pub more : More
-unfolding valueWidth names nothing filling member full distinct facts continues accepts plug kindAt spine before around afterMembers find _⊕_ edited place
+unfolding valueWidth names nothing filling member full distinct facts continues accepts plug kindAt spine beforePlace around afterMembers find _⊕_ edited place
     placeOf goodDefinition wellFormed strip fitsRow conforming goodSerials good fillAttributes fillEach fillContent fillWithin findRow childrenOf attributeAt
     formAfter plan prune eachRow plant newRows given number after conditions refusal confirm outcome printed printOutcome
 more =

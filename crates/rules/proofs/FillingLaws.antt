@@ -142,7 +142,7 @@ filling-laid version w h form txt n values v =
     every-filled version form txt (λ r b. laidRow w r ≡ true) (λ k m. Unit {0}) (λ k m d x q i j. tt) (λ k m d x q. refl) values (and-both v refl) h n tt
 
 -- ---- the rows at the top
-heads-beside : (f g : Forest Row) → heads (f ⧺ g) ≡ heads f ++ heads g
+pub heads-beside : (f g : Forest Row) → heads (f ⧺ g) ≡ heads f ++ heads g
 heads-beside bare g = refl
 heads-beside (tree r b t) g = ap (λ (z : List Row). r ∷ z) (heads-beside t g)
 

@@ -16,11 +16,10 @@ use Rattle.rules.specs.WellFormed.{goodDefinition, wellFormed}
 use Rattle.rules.specs.Conforming.{strip, fitsRow, conforming}
 use Rattle.rules.specs.Passing.{good, goodSerials, serials, readStore}
 use Rattle.rules.specs.Filling.{fillAttributes, fillEach, fillContent, fillWithin}
-use Rattle.rules.specs.Place.{plug, kindAt, spine, before, around, afterMembers, find}
+use Rattle.rules.specs.Place.{plug, kindAt, spine, beforePlace, around, afterMembers, find}
 use Rattle.rules.specs.Edit.{_⊕_, edited, place, placeOf}
 use Rattle.rules.specs.Lines.{Line, findRow, childrenOf}
-use Rattle.rules.specs.Change.{Call, createDefinition, insertElement, changeQuantifier, addAttribute, addDocument, addElement, destroyElement}
-use Rattle.rules.specs.Change.{setAttribute, setText, attributeAt, formAfter, Plan, plan, prune, eachRow, plant, newRows, given, number, after}
+use Rattle.rules.specs.Change.{Call, createDefinition, insertElement, changeQuantifier, addAttribute, addDocument, addElement, destroyElement, setAttribute, setText, attributeAt, formAfter, Plan, plan, prune, eachRow, plant, newRows, given, number, after}
 use Rattle.rules.specs.Refusal.{conditions, refusal}
 use Rattle.rules.specs.Outcome.{outcome}
 use Rattle.rules.specs.Book.{Entry, stands, taken, Book, untaken, rowBySerial, falls, mark, old, spot, putSpot, spots, expand, spotCount, marks, note}
@@ -101,7 +100,7 @@ pub record Laps : Type 0 where
   pub next-store : numberAt 4 4 (end .store) ≡ 14
 
 pub laps-end : Laps
-unfolding valueWidth names nothing filling member full distinct facts continues accepts plug kindAt spine before around afterMembers find _⊕_ edited place
+unfolding valueWidth names nothing filling member full distinct facts continues accepts plug kindAt spine beforePlace around afterMembers find _⊕_ edited place
     placeOf goodDefinition wellFormed strip fitsRow conforming goodSerials good fillAttributes fillEach fillContent fillWithin findRow childrenOf attributeAt
     formAfter plan prune eachRow plant newRows given number after conditions refusal confirm outcome untaken rowBySerial falls mark putSpot spots expand
     spotCount note step run laps splits oneLap refusedCalls
@@ -156,6 +155,6 @@ pub record Spots : Type 0 where
   pub next-is : note (insertElement 0 (1 ∷ []) 2 0 (ascii "t")) (record { version = baseVersion; next = 5; form = raceForm; entries = fourLines }) .next ≡ 7
 
 pub spots-example : Spots
-unfolding names nothing filling member plug kindAt spine before afterMembers find _⊕_ edited place placeOf fillAttributes fillEach fillContent fillWithin
+unfolding names nothing filling member plug kindAt spine beforePlace afterMembers find _⊕_ edited place placeOf fillAttributes fillEach fillContent fillWithin
     findRow childrenOf formAfter plan newRows given number untaken rowBySerial falls mark putSpot spots expand spotCount note
 spots-example = record { marks-are = refl; lines-are = refl; next-is = refl }

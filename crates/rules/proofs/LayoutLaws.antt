@@ -11,8 +11,7 @@ use lib.Seq.{take-at, drop-at}
 use borrow.Author.Tests.{eq-eqb}
 use Rattle.rules.specs.Bytes.{Bytes}
 use Rattle.rules.specs.Preorder.{Deep}
-use Rattle.rules.specs.Layout.{le, field, nameWidth, FlatDefinition, FlatParticle, FlatAttribute, FlatRow, FlatStore, headerSize, definitionSize}
-use Rattle.rules.specs.Layout.{particleSize, attributeSize, rowSize, definitionBytes, particleBytes, attributeBytes, rowBytes, each, entry, flatBytes}
+use Rattle.rules.specs.Layout.{le, field, nameWidth, FlatDefinition, FlatParticle, FlatAttribute, FlatRow, FlatStore, headerSize, definitionSize, particleSize, attributeSize, rowSize, definitionBytes, particleBytes, attributeBytes, rowBytes, each, entry, flatBytes}
 use Rattle.rules.specs.Decode.{unle, readDefinition, readParticle, readAttribute, readRow, readMany, readBodies, readFlat, sized}
 use Rattle.rules.proofs.BooleanLaws.{Every, every-map, every-append, every-any}
 
@@ -297,3 +296,7 @@ small-bytes w f h =
 
     small-entry : (offset count : ℕ) → Small (entry offset count)
     small-entry offset count = small-append (small-le 4 offset) (small-le 4 count)
+
+pub each-append : {A : Type 0} (f : A → Bytes) (a b : List A) → each f (a ++ b) ≡ each f a ++ each f b
+each-append f [] b = refl
+each-append f (x ∷ a) b = ap (λ (z : Bytes). f x ++ z) (each-append f a b) ∙ sym (append-assoc (f x) (each f a) (each f b))

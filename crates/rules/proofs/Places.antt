@@ -9,7 +9,7 @@ use Rattle.rules.specs.declared.Quantifier.{Quantifier}
 use Rattle.rules.specs.declared.Quantifier.the-variants.{None}
 use Rattle.rules.specs.declared.GroupKind.{GroupKind}
 use Rattle.rules.specs.Model.{Members, done, el, group, names, Distinct, Some, Full, isDone}
-use Rattle.rules.specs.Place.{Context, here, past, over, into, plug, before, after, Found, within, afterMembers, inGroup, right, present, gap, nth, find}
+use Rattle.rules.specs.Place.{Context, here, past, over, into, plug, beforePlace, afterPlace, Found, within, afterMembers, inGroup, right, present, gap, nth, find}
 use Rattle.rules.specs.Edit.{_⊕_}
 use Rattle.rules.proofs.AroundLaws.{opens}
 use Rattle.rules.proofs.Apart.{names-plug}
@@ -93,11 +93,11 @@ module _ {A : Type 0} where
 
   pub insert-distinct : (c : Context A) (q : Quantifier) (n : A) (t : Members A) → (List·Memᴰ n (names (plug c t)) → ⊥) → Distinct (names (plug c t)) → Distinct (names (plug c (el q n t)))
   unfolding names
-  insert-distinct c q n t f d = rw (names-plug c (el q n t)) (distinct-insert (before c) (names t ++ after c) n (rw (names-plug c t) at f) (rw (names-plug c t) at d))
+  insert-distinct c q n t f d = rw (names-plug c (el q n t)) (distinct-insert (beforePlace c) (names t ++ afterPlace c) n (rw (names-plug c t) at f) (rw (names-plug c t) at d))
 
   pub remove-distinct : (c : Context A) (q : Quantifier) (n : A) (t : Members A) → Distinct (names (plug c (el q n t))) → Distinct (names (plug c t))
   unfolding names
-  remove-distinct c q n t d = rw (names-plug c t) (distinct-remove (before c) (names t ++ after c) n (rw (names-plug c (el q n t)) at d))
+  remove-distinct c q n t d = rw (names-plug c t) (distinct-remove (beforePlace c) (names t ++ afterPlace c) n (rw (names-plug c (el q n t)) at d))
 
   pub same-names : (c : Context A) (t t′ : Members A) → names t ≡ names t′ → names (plug c t) ≡ names (plug c t′)
   same-names c t t′ e = names-plug c t ∙ rw e (sym (names-plug c t′))

@@ -19,22 +19,12 @@ use Rattle.rules.specs.Decode.{quantifierOf, sortOf}
 use Rattle.rules.specs.Conforming.{isElement, mustBePresent}
 use Rattle.rules.specs.Filling.{fillDefinition}
 use Rattle.rules.specs.Lines.{Line, ground, isTextRow, elementNamed, elementAmong, attributeNamed, elementWith, childrenOf, serialAt}
-use Rattle.rules.specs.Change.{Call, createDefinition, destroyDefinition, insertElement, removeElement, changeQuantifier, convertToGroup, flattenGroup}
-use Rattle.rules.specs.Change.{changeGroupQuantifier, addAttribute, destroyAttribute, addDocument, addElement, destroyElement, setAttribute}
-use Rattle.rules.specs.Change.{destroyAttributeRow, setText, nameAtIndex, Owned, attributeAt, Plan, plan, pickedPlan, quantifyPlan, removePlan}
-use Rattle.rules.specs.Change.{insertPlan, dropPlan, setPlan, setAt}
+use Rattle.rules.specs.Change.{Call, createDefinition, destroyDefinition, insertElement, removeElement, changeQuantifier, convertToGroup, flattenGroup, changeGroupQuantifier, addAttribute, destroyAttribute, addDocument, addElement, destroyElement, setAttribute, destroyAttributeRow, setText, nameAtIndex, Owned, attributeAt, Plan, plan, pickedPlan, quantifyPlan, removePlan, insertPlan, dropPlan, setPlan, setAt}
 use Rattle.rules.specs.Refusal.{noElementAt, noGroupAt}
-use Rattle.rules.specs.MadeTakenGiven.{HasLine, StandsBelow, IsFirst, foundIn, AtPlace, OfElement, AtElement, OfGroup, AtGroup, OfAttribute, IsRemoved}
-use Rattle.rules.specs.MadeTakenGiven.{IsCut, IsDropped, NamedBy, valueIf, isRowOf, valueAfter, MakesBelow, setRow, fillingOf, fillingAt, rowsMade}
+use Rattle.rules.specs.MadeTakenGiven.{HasLine, StandsBelow, IsFirst, foundIn, AtPlace, OfElement, AtElement, OfGroup, AtGroup, OfAttribute, IsRemoved, IsCut, IsDropped, NamedBy, valueIf, isRowOf, valueAfter, MakesBelow, setRow, fillingOf, fillingAt, rowsMade}
 use Rattle.rules.proofs.Words.{and-both, and-split}
-
-not-true : (b : Bool) → not b ≡ true → b ≡ false
-not-true true e = absurd (false≢true e)
-not-true false e = refl
-
-none-then : {A : Type 0} (xs : List A) → isNone xs ≡ true → xs ≡ []
-none-then [] e = refl
-none-then (x ∷ xs) e = absurd (false≢true e)
+use borrow.Author.Tests.{not-true}
+use Rattle.rules.proofs.BooleanLaws.{none-nil}
 
 -- What acceptance says of a call: 5 picks an element and 8 a group; the element of 12 and of 14 is there.
 abbrev pub Known : Call → Form → List Line → Type 0
@@ -382,7 +372,7 @@ module _ (ls : List Line) (u : ℕ) where
       let (y, w) = filled-there fills (elementNamed o) ls (λ r h. and-split (elementNamed o r) _ (and-split a _ h .1) .0) refl u z in
       let s = and-split a _ (y .3) in
       let t = and-split (elementNamed o (y .0 .row)) (isNone (childrenOf test (y .0 .row .serial) ls)) (s .1) in
-      (s .0, ap (λ (k : ℕ). childrenOf test k ls) (sym (y .2)) ∙ none-then (childrenOf test (y .0 .row .serial) ls) (t .1), w)
+      (s .0, ap (λ (k : ℕ). childrenOf test k ls) (sym (y .2)) ∙ none-nil (childrenOf test (y .0 .row .serial) ls) (t .1), w)
 
   lacks-back : (test : Row → Bool) (o : Bytes) (a : Bool) → a ≡ true → childrenOf test u ls ≡ [] → HasLine (elementNamed o) ls u
       → Filled (λ r. a && (elementNamed o r && isNone (childrenOf test (r .serial) ls))) ls u

@@ -19,10 +19,10 @@ module _ {A : Type 0} where
   build-same : (d : ℕ) (r : A) (xs : List (Deep A)) → build (record { depth = d; row = r } ∷ xs) d ≡ tree r (build xs (suc d)) (build xs d)
   build-same d r xs = rw (le-ltb d d (omega arith), build) (rw (eq-eqb d d refl))
 
-  build-less : (x : Deep A) (xs : List (Deep A)) (k : ℕ) → k < x .depth → build (x ∷ xs) k ≡ build xs k
+  pub build-less : (x : Deep A) (xs : List (Deep A)) (k : ℕ) → k < x .depth → build (x ∷ xs) k ≡ build xs k
   build-less x xs k h = rw (lt-ltb k (x .depth) h, build)
 
-  build-more : (x : Deep A) (xs : List (Deep A)) (k : ℕ) → x .depth < k → build (x ∷ xs) k ≡ bare
+  pub build-more : (x : Deep A) (xs : List (Deep A)) (k : ℕ) → x .depth < k → build (x ∷ xs) k ≡ bare
   build-more x xs k h = rw (le-ltb k (x .depth) (omega arith), build) (rw (ne-eqb k (x .depth) (λ e. omega arith)))
 
   -- no row comes next, or one of depth d at most

@@ -11,7 +11,7 @@ use Rattle.rules.specs.declared.GroupKind.{GroupKind}
 use Rattle.rules.specs.declared.GroupKind.the-variants.{Sequence, Choice}
 use Rattle.rules.specs.Model.{Members, done, el, group, names, Distinct, Equality, skips, nothing}
 use Rattle.rules.specs.Language.{Language, Then, Times, Allowed, Repeated, Joined, Ended, Matches, Conforms}
-use Rattle.rules.specs.Place.{Context, here, past, over, into, plug, before, after}
+use Rattle.rules.specs.Place.{Context, here, past, over, into, plug, beforePlace, afterPlace}
 use Rattle.rules.proofs.AroundLaws.{leaves}
 use Rattle.rules.proofs.Children.{erase}
 use Rattle.rules.proofs.Words.{or-cases}
@@ -106,9 +106,9 @@ module _ {A : Type 0} (E : Equality A) (x : A) (q : Quantifier) (t : Members A) 
   H : Spread (erase E x)
   H = erased E x
 
-  removed : (b : Bool) (k : GroupKind) (c : Context A) → Kept (erase E x) (before c) → Kept (erase E x) (after c) → leaves b k c t ≡ true
+  removed : (b : Bool) (k : GroupKind) (c : Context A) → Kept (erase E x) (beforePlace c) → Kept (erase E x) (afterPlace c) → leaves b k c t ≡ true
       → (w : List A) → Matches k (plug c (el q x t)) w → Matches k (plug c t) (erase E x w) ⊎ ((k ≡ Choice) × (b ≡ true) × (erase E x w ≡ []))
-  unfolding Matches plug before after leaves
+  unfolding Matches plug beforePlace afterPlace leaves
   removed b Sequence here f g e w (u, v, p, (n, a, r), m) =
       let z : erase E x v ≡ erase E x w = sym (ap (λ (y : List A). y ++ erase E x v) (erase-times E x n u r)) ∙ (sym (H .app u v) ∙ ap (erase E x) p) in
       inl (rw z at (carry-kept H Sequence t kept .carry v m))
@@ -117,12 +117,12 @@ module _ {A : Type 0} (E : Equality A) (x : A) (q : Quantifier) (t : Members A) 
   removed b k (past r n c) f g e w m =
       gone-past H _ _ _ k b (carry-repeated H (relaxes-same r) (carry-single H n (f n (List·Memᴰ·head refl)))) (removed b k c (λ y z. f y (List·Memᴰ·tail z)) g e) w m
   removed b k (over r j ms c) f g e w m =
-      gone-past H _ _ _ k b (carry-repeated H (relaxes-same r) (carry-kept H j ms (λ y z. f y (Memᴰ·append-left (before c) z)))) (removed b k c (λ y z. f y (Memᴰ·append-right (names ms) z)) g e) w m
+      gone-past H _ _ _ k b (carry-repeated H (relaxes-same r) (carry-kept H j ms (λ y z. f y (Memᴰ·append-left (beforePlace c) z)))) (removed b k c (λ y z. f y (Memᴰ·append-right (names ms) z)) g e) w m
   removed b k (into r j c rest) f g e w m =
       inl (carry-joined H k
       (repeated-gone H (Matches j (plug c (el q x t))) (Matches j (plug c t)) r (nothing j (plug c t)) (nothing→ j (plug c t))
       (λ v n. ⊎-elim (λ y. inl y) (λ y. inr (y .1, y .2)) (removed (skips r || nothing j (plug c t)) j c f (λ y z. g y (Memᴰ·append-left (names rest) z)) e v n)))
-      (carry-kept H k rest (λ y z. g y (Memᴰ·append-right (after c) z))) .carry w m)
+      (carry-kept H k rest (λ y z. g y (Memᴰ·append-right (afterPlace c) z))) .carry w m)
 
 -- 4: REMOVAL
 pub remove-element : {A : Type 0} (E : Equality A) (x : A) (c : Context A) (q : Quantifier) (t : Members A) → Distinct (names (plug c (el q x t))) → leaves true Sequence c t ≡ true
@@ -131,7 +131,7 @@ unfolding names
 remove-element {A} E x c q t d e =
     record {
       carry = λ w m. ⊎-elim (λ y. y) (λ z. absurd (list≢choice (z .0)))
-          (removed E x q t (erase-kept E x (names t) (o .mid)) true Sequence c (erase-kept E x (before c) (o .left)) (erase-kept E x (after c) (o .right)) e w m);
+          (removed E x q t (erase-kept E x (names t) (o .mid)) true Sequence c (erase-kept E x (beforePlace c) (o .left)) (erase-kept E x (afterPlace c) (o .right)) e w m);
     }
   where
     o : Only x c t

@@ -6,11 +6,11 @@ use Rattle.rules.specs.declared.Quantifier.{Quantifier}
 use Rattle.rules.specs.declared.GroupKind.{GroupKind}
 use Rattle.rules.specs.declared.GroupKind.the-variants.{Sequence, Choice}
 use Rattle.rules.specs.Model.{Members, done, el, group, names, nothing, rename, filling, beside, unless, skips}
-use Rattle.rules.specs.Place.{Context, here, past, over, into, plug, kindAt, spine, before, renameAround, plain}
+use Rattle.rules.specs.Place.{Context, here, past, over, into, plug, kindAt, spine, beforePlace, renameAround, plain}
 use Rattle.rules.proofs.AroundLaws.{leaves}
 
 module _ {A B : Type 0} (f : A → B) where
-  map-append : (u v : List A) → map f (u ++ v) ≡ map f u ++ map f v
+  pub map-append : (u v : List A) → map f (u ++ v) ≡ map f u ++ map f v
   map-append [] v = refl
   map-append (x ∷ u) v = ap (λ (z : List B). f x ∷ z) (map-append u v)
 
@@ -56,11 +56,11 @@ module _ {A B : Type 0} (f : A → B) where
   spine-rename (over q k ms c) = spine-rename c
   spine-rename (into q k c rest) = rw (spine-rename c)
 
-  pub before-rename : (c : Context A) → before (renameAround f c) ≡ map f (before c)
-  unfolding before renameAround
+  pub before-rename : (c : Context A) → beforePlace (renameAround f c) ≡ map f (beforePlace c)
+  unfolding beforePlace renameAround
   before-rename here = refl
   before-rename (past q n c) = ap (λ (z : List B). f n ∷ z) (before-rename c)
-  before-rename (over q k ms c) = rw (names-rename ms, before-rename c) (sym (map-append (names ms) (before c)))
+  before-rename (over q k ms c) = rw (names-rename ms, before-rename c) (sym (map-append (names ms) (beforePlace c)))
   before-rename (into q k c rest) = before-rename c
 
   pub leaves-rename : (b : Bool) (k : GroupKind) (c : Context A) (t : Members A) → leaves b k (renameAround f c) (rename f t) ≡ leaves b k c t

@@ -5,7 +5,7 @@ use mathlib.Core.List.{List, [], _∷_, _++_, map}
 use Rattle.rules.specs.declared.Quantifier.{Quantifier}
 use Rattle.rules.specs.declared.GroupKind.{GroupKind}
 use Rattle.rules.specs.Model.{Members, done, el, group, Equality, names, skips, nothing, unless, filling, member}
-use Rattle.rules.specs.Place.{Context, spine, before}
+use Rattle.rules.specs.Place.{Context, spine, beforePlace}
 use Rattle.rules.proofs.Children.{anyOf, erase, placed, keepFirst, refit, refitGroup, inserted, requantified, groupRequantified, children}
 use Rattle.rules.specs.Quantifiers.{gains, cuts}
 use Rattle.rules.specs.Edit.{Edit, insert, remove, quantify, convert, flatten}
@@ -52,12 +52,12 @@ module _ {A R : Type 0} (name : R → A) where
 
       pub child-rows : (e : Edit A) (c : Context A) (t : Members A) (rs : List R) → map name (childRows E name fill e c t rs) ≡ children E e c t (map name rs)
       unfolding childRows children
-      child-rows (insert q n) c t rs = map-if (not (skips q) && spine c) _ _ _ _ (place-fill (before c) (n ∷ []) rs) refl
+      child-rows (insert q n) c t rs = map-if (not (skips q) && spine c) _ _ _ _ (place-fill (beforePlace c) (n ∷ []) rs) refl
       child-rows remove c done rs = refl
       child-rows remove c (el q x t) rs = erase-rows x rs
       child-rows remove c (group q k ms t) rs = refl
       child-rows (quantify r) c done rs = refl
-      child-rows (quantify r) c (el q x t) rs = map-if (spine c) _ _ _ _ (refit-rows (before c) x q r rs) refl
-      child-rows (quantify r) c (group q k ms t) rs = map-if (spine c) _ _ _ _ (refit-group-rows (before c) q r k ms rs) refl
+      child-rows (quantify r) c (el q x t) rs = map-if (spine c) _ _ _ _ (refit-rows (beforePlace c) x q r rs) refl
+      child-rows (quantify r) c (group q k ms t) rs = map-if (spine c) _ _ _ _ (refit-group-rows (beforePlace c) q r k ms rs) refl
       child-rows (convert j n) c t rs = refl
       child-rows flatten c t rs = refl

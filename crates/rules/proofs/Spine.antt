@@ -10,7 +10,7 @@ use Rattle.rules.specs.declared.GroupKind.{GroupKind}
 use Rattle.rules.specs.declared.GroupKind.the-variants.{Sequence, Choice}
 use Rattle.rules.specs.Model.{Members, done, el, group, names, Distinct, Equality}
 use Rattle.rules.specs.Language.{Language, Then, Times, Repeated, Joined, Ended, Matches, Conforms}
-use Rattle.rules.specs.Place.{Context, here, past, over, into, plug, spine, plain, before, after}
+use Rattle.rules.specs.Place.{Context, here, past, over, into, plug, spine, plain, beforePlace, afterPlace}
 use Rattle.rules.specs.Edit.{_⊕_}
 use Rattle.rules.proofs.Children.{ahead, behind, placed}
 use Rattle.rules.proofs.Words.{and-split}
@@ -50,15 +50,15 @@ module _ {A : Type 0} where
   names-append (el q n s) r = ap (λ (z : List A). n ∷ z) (names-append s r)
   names-append (group q k ms s) r = ap (λ (z : List A). names ms ++ z) (names-append s r) ∙ sym (append-assoc (names ms) (names s) (names r))
 
-  pub names-ahead : (c : Context A) → names (ahead c) ≡ before c
-  unfolding names ahead before
+  pub names-ahead : (c : Context A) → names (ahead c) ≡ beforePlace c
+  unfolding names ahead beforePlace
   names-ahead here = refl
   names-ahead (past q n c) = ap (λ (z : List A). n ∷ z) (names-ahead c)
   names-ahead (over q k ms c) = ap (λ (z : List A). names ms ++ z) (names-ahead c)
   names-ahead (into q k c rest) = names-ahead c
 
-  pub names-behind : (c : Context A) → names (behind c) ≡ after c
-  unfolding names behind after
+  pub names-behind : (c : Context A) → names (behind c) ≡ afterPlace c
+  unfolding names behind afterPlace
   names-behind here = refl
   names-behind (past q n c) = names-behind c
   names-behind (over q k ms c) = names-behind c
@@ -73,16 +73,16 @@ module _ {A : Type 0} where
     pub ahead-is : Conforms (ahead c) left
     pub mid-is : Conforms t mid
     pub behind-is : Conforms (behind c) right
-    pub left-in : (y : A) → List·Memᴰ y left → List·Memᴰ y (before c)
+    pub left-in : (y : A) → List·Memᴰ y left → List·Memᴰ y (beforePlace c)
     pub mid-in : (y : A) → List·Memᴰ y mid → List·Memᴰ y (names t)
-    pub right-in : (y : A) → List·Memᴰ y right → List·Memᴰ y (after c)
-    pub apart : (y : A) → List·Memᴰ y (names t) ⊎ List·Memᴰ y (after c) → List·Memᴰ y (before c) → ⊥
-    pub apart-right : (y : A) → List·Memᴰ y (names t) → List·Memᴰ y (after c) → ⊥
+    pub right-in : (y : A) → List·Memᴰ y right → List·Memᴰ y (afterPlace c)
+    pub apart : (y : A) → List·Memᴰ y (names t) ⊎ List·Memᴰ y (afterPlace c) → List·Memᴰ y (beforePlace c) → ⊥
+    pub apart-right : (y : A) → List·Memᴰ y (names t) → List·Memᴰ y (afterPlace c) → ⊥
 
   pub split : (c : Context A) (t : Members A) → spine c ≡ true → Distinct (names (plug c t)) → (w : List A) → Conforms (plug c t) w → Split c t w
   split c t s d w m = by (spine-alike c t s .to .carry w m) (rw (names-plug c t) at d)
     where
-      by : Around c (Conforms t) w → Distinct (before c ++ (names t ++ after c)) → Split c t w
+      by : Around c (Conforms t) w → Distinct (beforePlace c ++ (names t ++ afterPlace c)) → Split c t w
       by (u, v, e, a, (x, y, f, b, z)) g =
           record {
             left = u;
@@ -95,8 +95,8 @@ module _ {A : Type 0} where
             left-in = λ n i. rw (names-ahead c) at (letters Sequence (ahead c) .inside u a n i);
             mid-in = λ n i. letters Sequence t .inside x b n i;
             right-in = λ n i. rw (names-behind c) at (letters Sequence (behind c) .inside y z n i);
-            apart = λ n i j. distinct-apart (before c) (names t ++ after c) g n j (⊎-elim (Memᴰ·append-left (after c)) (Memᴰ·append-right (names t)) i);
-            apart-right = λ n i j. distinct-apart (names t) (after c) (distinct-right (before c) (names t ++ after c) g) n i j;
+            apart = λ n i j. distinct-apart (beforePlace c) (names t ++ afterPlace c) g n j (⊎-elim (Memᴰ·append-left (afterPlace c)) (Memᴰ·append-right (names t)) i);
+            apart-right = λ n i j. distinct-apart (names t) (afterPlace c) (distinct-right (beforePlace c) (names t ++ afterPlace c) g) n i j;
           }
 
   -- other names at the place
@@ -104,6 +104,6 @@ module _ {A : Type 0} where
   put c t s u v z a b d = spine-alike c t s .from .carry (u ++ (v ++ z)) (u, v ++ z, refl, a, (v, z, refl, b, d))
 
   -- the names there and after are none of the names before
-  pub later : (c : Context A) (t : Members A) (w : List A) (p : Split c t w) (v z : List A) → ((y : A) → List·Memᴰ y v → List·Memᴰ y (names t)) → ((y : A) → List·Memᴰ y z → List·Memᴰ y (after c))
-      → (y : A) → List·Memᴰ y (v ++ z) → List·Memᴰ y (before c) → ⊥
+  pub later : (c : Context A) (t : Members A) (w : List A) (p : Split c t w) (v z : List A) → ((y : A) → List·Memᴰ y v → List·Memᴰ y (names t)) → ((y : A) → List·Memᴰ y z → List·Memᴰ y (afterPlace c))
+      → (y : A) → List·Memᴰ y (v ++ z) → List·Memᴰ y (beforePlace c) → ⊥
   later c t w p v z f g y m j = p .apart y (⊎-elim (λ a. inl (f y a)) (λ b. inr (g y b)) (List·Memᴰ·append-cases v m)) j

@@ -7,7 +7,7 @@ use mathlib.Core.List.{head-eq-of-cons-eq, tail-eq-of-cons-eq, cons≢nil, nil�
 use Rattle.rules.specs.Model.{Members, names, Distinct, Equality}
 use Rattle.rules.specs.Language.{Conforms}
 use Rattle.rules.specs.Automaton.{accepts}
-use Rattle.rules.specs.Place.{Context, before, after}
+use Rattle.rules.specs.Place.{Context, beforePlace, afterPlace}
 use Rattle.rules.proofs.Spine.{Split, later}
 use Rattle.rules.proofs.Correct.{accepts-conforms}
 
@@ -23,12 +23,12 @@ module _ {A : Type 0} (S : A → Type 0) where
       (cc (head-eq-of-cons-eq e, p), q)
 
 module _ {A : Type 0} (c : Context A) (t : Members A) (w : List A) (p r : Split c t w) where
-  rest-of : (s : Split c t w) → (y : A) → List·Memᴰ y (s .mid ++ s .right) → List·Memᴰ y (before c) → ⊥
+  rest-of : (s : Split c t w) → (y : A) → List·Memᴰ y (s .mid ++ s .right) → List·Memᴰ y (beforePlace c) → ⊥
   rest-of s = later c t w s (s .mid) (s .right) (s .mid-in) (s .right-in)
 
   pub split-unique : (p .left ≡ r .left) × (p .mid ≡ r .mid) × (p .right ≡ r .right)
   split-unique =
-      let (a, b) = parts (λ y. List·Memᴰ y (before c)) (p .left) (p .mid ++ p .right) (r .left) (r .mid ++ r .right) (p .left-in) (rest-of p) (r .left-in) (rest-of r) (p .whole ∙ sym (r .whole)) in
+      let (a, b) = parts (λ y. List·Memᴰ y (beforePlace c)) (p .left) (p .mid ++ p .right) (r .left) (r .mid ++ r .right) (p .left-in) (rest-of p) (r .left-in) (rest-of r) (p .whole ∙ sym (r .whole)) in
       let (d, e) = parts (λ y. List·Memᴰ y (names t)) (p .mid) (p .right) (r .mid) (r .right) (p .mid-in) (λ y m i. p .apart-right y i (p .right-in y m))
       (r .mid-in) (λ y m i. r .apart-right y i (r .right-in y m)) b in
       (a, d, e)

@@ -9,14 +9,15 @@ use lib.ListN.{length}
 use Rattle.rules.specs.Bytes.{Bytes, bytes, all}
 use Rattle.rules.specs.Model.{names, Distinct, distinct, full}
 use Rattle.rules.specs.Store.{Definition, Form, members}
-use Rattle.rules.specs.WellFormed.{definitionName, attributeName, lookup, known, namesIn, membersOf, Reaches, reachesIn, storedName, isAttributeOf}
-use Rattle.rules.specs.WellFormed.{GoodDefinition, WellFormed, goodDefinition, wellFormed}
+use Rattle.rules.specs.WellFormed.{definitionName, attributeName, lookup, known, namesIn, membersOf, Reaches, reachesIn, storedName, isAttributeOf, GoodDefinition, WellFormed, goodDefinition, wellFormed, isValue}
 use Rattle.rules.proofs.Words.{and-both, and-split}
 use Rattle.rules.proofs.Apart.{differs}
 use Rattle.rules.proofs.Children.{Sound, sound}
 use Rattle.rules.proofs.Sound.{sound-test}
 use Rattle.rules.proofs.TestLaws.{not-test, all-test, distinct-test}
 use Rattle.rules.proofs.Height.{deep, known-found, reaches-known, acyclic-deep, reaches-test}
+use native.Mathlib.Omega.{arith}
+use borrow.Author.Tests.{le-leb}
 pub use Rattle.rules.proofs.Height.{lookup-member}
 
 pub good-definition : (w : ℕ) (form : Form) (d : Definition) → (goodDefinition w form d ≡ true) ↔ GoodDefinition w form d
@@ -95,3 +96,7 @@ module _ (w : ℕ) (form : Form) (ok : wellFormed w form ≡ true) where
 
   pub definition-deep : (n : Bytes) → known form n ≡ true → deep (length form) form n ≡ true
   definition-deep = acyclic-deep form members-known no-circle
+
+-- the empty text is a value of any width
+pub none-value : (w : ℕ) → isValue w [] ≡ true
+none-value w = and-both (le-leb 0 w (omega arith)) refl

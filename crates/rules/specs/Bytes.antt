@@ -60,9 +60,9 @@ pub and-right : (a b : Bool) → (a && b) ≡ true → b ≡ true
 and-right true b h = h
 and-right false b h = absurd (false≢true h)
 
-pub both : (a b : Bool) → a ≡ true → b ≡ true → (a && b) ≡ true
-both true b x y = y
-both false b x y = x
+pub both-true : (a b : Bool) → a ≡ true → b ≡ true → (a && b) ≡ true
+both-true true b x y = y
+both-true false b x y = x
 
 pub eqb-eq : (m n : ℕ) → eqb m n ≡ true → m ≡ n
 eqb-eq m n h = eqb→eq m n (to-T h)
@@ -75,7 +75,7 @@ same-eq (x ∷ xs) (y ∷ ys) h = ap₂ (λ (a : ℕ) (b : Bytes). a ∷ b) (eqb
 
 pub same-refl : (n : Bytes) → same n n ≡ true
 same-refl [] = refl
-same-refl (x ∷ xs) = both (eqb x x) (same xs xs) (of-T (eqb-refl x)) (same-refl xs)
+same-refl (x ∷ xs) = both-true (eqb x x) (same xs xs) (of-T (eqb-refl x)) (same-refl xs)
 
 abbrev pub bytes : Equality Bytes
 bytes = record { same = same; same→ = same-eq; same← = λ x y e. ap (λ (z : Bytes). same x z) (sym e) ∙ same-refl x }

@@ -10,7 +10,7 @@ use Rattle.rules.specs.declared.GroupKind.{GroupKind}
 use Rattle.rules.specs.Bytes.{Bytes, same, bytes, isNone}
 use Rattle.rules.specs.Model.{Members, done, el, group, names, skips, nothing, unless, filling, member}
 use Rattle.rules.specs.Quantifiers.{gains, cuts}
-use Rattle.rules.specs.Place.{Context, Found, spine, before}
+use Rattle.rules.specs.Place.{Context, Found, spine, beforePlace}
 use Rattle.rules.specs.Edit.{Edit, insert, remove, quantify, convert, flatten, placeOf, modelAfter}
 use Rattle.rules.specs.Store.{Content, empty, pcdata, complex, AttributeSort, Attribute, Definition, Form, attribute, Row, Forest, bare, tree, Store, members, _⧺_}
 use Rattle.rules.specs.Layout.{indexOf}
@@ -173,7 +173,7 @@ laterThan ns u r = isElement (r .sort) && not (member bytes (r .name) ns)
 abbrev pub insertPlan : ℕ → Form → Bytes → Bytes → Quantifier → Bytes → Option (Found Bytes) → Plan
 insertPlan version form owner txt q n none = keeping
 insertPlan version form owner txt q n (some f) =
-    making (λ r. (not (skips q) && spine (f .context)) && elementNamed owner r) (laterThan (before (f .context))) (fillDefinition version form txt n)
+    making (λ r. (not (skips q) && spine (f .context)) && elementNamed owner r) (laterThan (beforePlace (f .context))) (fillDefinition version form txt n)
 
 -- 4: those children of instances
 abbrev pub removePlan : Bytes → Members Bytes → Plan
@@ -200,13 +200,13 @@ quantifyPlan version form ls owner txt new c (el old x rest) =
     record {
       takes = λ u r. (spine c && cuts old new) && (elementNamed owner u && (elementNamed x r && not (eqb (r .serial) (firstChild x u ls))));
       fills = λ r. (spine c && gains old new) && (elementNamed owner r && lacks (elementNamed x) r ls);
-      later = laterThan (before c);
+      later = laterThan (beforePlace c);
       filling = fillDefinition version form txt x;
       set = 0;
       value = [];
     }
 quantifyPlan version form ls owner txt new c (group old k ms rest) =
-    making (λ r. (spine c && gains old new) && (elementNamed owner r && lacks (elementAmong (names ms)) r ls)) (laterThan (before c))
+    making (λ r. (spine c && gains old new) && (elementNamed owner r && lacks (elementAmong (names ms)) r ls)) (laterThan (beforePlace c))
     (fillEach (λ n. fillDefinition version form txt n) (groupFilling new k ms))
 
 abbrev pub pickedPlan : (Context Bytes → Members Bytes → Plan) → Option (Found Bytes) → Plan

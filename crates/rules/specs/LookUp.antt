@@ -12,12 +12,12 @@ use Rattle.rules.specs.Layout.{valueWidth, headerSize, definitionSize, p
 use Rattle.rules.specs.Passing.{readStore}
 
 -- a part of the store, and the number
-pub record Found : Type 0 where
+pub record ValueFound : Type 0 where
   pub number : ℕ
   pub start : ℕ
   pub size : ℕ
 
-abbrev pub notFound : ℕ → Found
+abbrev pub notFound : ℕ → ValueFound
 notFound n = record { number = n; start = 0; size = 0 }
 
 -- a row with its number in the tree body, counted from 0
@@ -35,16 +35,16 @@ abbrev pub valueStart : ℕ → FlatStore → ℕ → ℕ
 valueStart w f i =
     headerSize + definitionSize * length (f .definitions) + particleSize * length (f .particles) + attributeSize w * length (f .attributes) + rowSize w * i + 10
 
-abbrev pub foundRow : ℕ → FlatStore → Option Numbered → Found
+abbrev pub foundRow : ℕ → FlatStore → Option Numbered → ValueFound
 foundRow w f none = notFound 7
 foundRow w f (some n) = elim (eqb (n .row .sort) (rowCode element)) [ true ↦ notFound 7 | false ↦ record { number = 0; start = valueStart w f (n .at); size = length (n .row .value) } ]
 
-abbrev pub foundIn : ℕ → Option Store → Found
-foundIn k none = notFound 1
-foundIn k (some s) = foundRow (valueWidth (s .version)) (flat s) (rowWith k 0 (flat s .rows))
+abbrev pub lookUpIn : ℕ → Option Store → ValueFound
+lookUpIn k none = notFound 1
+lookUpIn k (some s) = foundRow (valueWidth (s .version)) (flat s) (rowWith k 0 (flat s .rows))
 
-unfoldable pub lookUp : Bytes → ℕ → Found
-lookUp bs k = foundIn k (readStore bs)
+unfoldable pub lookUp : Bytes → ℕ → ValueFound
+lookUp bs k = lookUpIn k (readStore bs)
 
-abbrev pub partOf : Bytes → Found → Bytes
-partOf bs f = take (f .size) (drop (f .start) bs)
+abbrev pub partFound : Bytes → ValueFound → Bytes
+partFound bs f = take (f .size) (drop (f .start) bs)

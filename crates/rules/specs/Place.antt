@@ -47,18 +47,18 @@ spine (over q k ms c) = spine c
 spine (into q k c rest) = plain q k && spine c
 
 -- the names before the place
-unfoldable pub before : {A : Type 0} → Context A → List A
-before here = []
-before (past q n c) = n ∷ before c
-before (over q k ms c) = names ms ++ before c
-before (into q k c rest) = before c
+unfoldable pub beforePlace : {A : Type 0} → Context A → List A
+beforePlace here = []
+beforePlace (past q n c) = n ∷ beforePlace c
+beforePlace (over q k ms c) = names ms ++ beforePlace c
+beforePlace (into q k c rest) = beforePlace c
 
 -- the names after the members there
-unfoldable pub after : {A : Type 0} → Context A → List A
-after here = []
-after (past q n c) = after c
-after (over q k ms c) = after c
-after (into q k c rest) = after c ++ names rest
+unfoldable pub afterPlace : {A : Type 0} → Context A → List A
+afterPlace here = []
+afterPlace (past q n c) = afterPlace c
+afterPlace (over q k ms c) = afterPlace c
+afterPlace (into q k c rest) = afterPlace c ++ names rest
 
 -- the inner group directly around the place: its quantifier and kind, and its members with the place open
 pub record Around (A : Type 0) : Type 0 where

@@ -20,23 +20,23 @@ use Rattle.rules.specs.Passing.{serials, goodSerials}
 use Rattle.rules.proofs.Words.{and-both, and-split}
 use Rattle.rules.proofs.TestLaws.{all-test, distinct-test}
 use Rattle.rules.proofs.PreorderLaws.{rising, flatten-build}
-use Rattle.serial_check.specs.Serials.{serialOf, serialsOf, fitting, serialAt, Ranged, Apart}
+use Rattle.serial_check.specs.Serials.{serialOfDeep, serialsOf, fitting, serialAtRow, Ranged, Apart}
 
 -- ---- the serials of documents
 -- the serials of documents are those of their rows in preorder
-pub serials-flat : (d : ℕ) (form : Form) (owner : Bytes) (docs : Forest Row) → serials docs ≡ map serialOf (flatten d (indexed form owner docs))
+pub serials-flat : (d : ℕ) (form : Form) (owner : Bytes) (docs : Forest Row) → serials docs ≡ map serialOfDeep (flatten d (indexed form owner docs))
 serials-flat d form owner bare = refl
 serials-flat d form owner (tree r b t) =
     ap (λ (l : List ℕ). r .serial ∷ l)
     (ap₂ (λ (x y : List ℕ). x ++ y) (serials-flat (suc d) form (r .name) b) (serials-flat d form owner t)
-    ∙ sym (map-append serialOf (flatten (suc d) (indexed form (r .name) b)) (flatten d (indexed form owner t))))
+    ∙ sym (map-append serialOfDeep (flatten (suc d) (indexed form (r .name) b)) (flatten d (indexed form owner t))))
 
 -- .. and so are those of documents that were read
-pub serials-read : (d : ℕ) (ns cs : List Bytes) (f : Forest FlatRow) → serials (readRows ns cs f) ≡ map serialOf (flatten d f)
+pub serials-read : (d : ℕ) (ns cs : List Bytes) (f : Forest FlatRow) → serials (readRows ns cs f) ≡ map serialOfDeep (flatten d f)
 serials-read d ns cs bare = refl
 serials-read d ns cs (tree x b t) =
     ap (λ (l : List ℕ). x .serial ∷ l)
-    (ap₂ (λ (x y : List ℕ). x ++ y) (serials-read (suc d) ns cs b) (serials-read d ns cs t) ∙ sym (map-append serialOf (flatten (suc d) b) (flatten d t)))
+    (ap₂ (λ (x y : List ℕ). x ++ y) (serials-read (suc d) ns cs b) (serials-read d ns cs t) ∙ sym (map-append serialOfDeep (flatten (suc d) b) (flatten d t)))
 
 -- the rows of a body whose depths rise by one at most
 pub serials-body : (w : ℕ) (ns cs : List Bytes) (count : ℕ) (rows : Bytes) → rising 0 (readMany readRow (rowSize w) count rows) ≡ true
@@ -44,7 +44,7 @@ pub serials-body : (w : ℕ) (ns cs : List Bytes) (count : ℕ) (rows : Bytes) �
 unfolding serialsOf
 serials-body w ns cs count rows h =
     let xs : List (Deep FlatRow) = readMany readRow (rowSize w) count rows in
-    serials-read 0 ns cs (build xs 0) ∙ ap (λ (l : List (Deep FlatRow)). map serialOf l) (flatten-build xs h)
+    serials-read 0 ns cs (build xs 0) ∙ ap (λ (l : List (Deep FlatRow)). map serialOfDeep l) (flatten-build xs h)
 
 -- the test of the check, of serials and of the next one
 pub good-serials-fit : (next : ℕ) (docs : Forest Row) → goodSerials next docs ≡ (fitting next (serials docs) && (leb 1 next && leb next highestNumber))
@@ -62,11 +62,11 @@ unfolding serialsOf
 serials-length w zero rows = refl
 serials-length w (suc count) rows = ap suc (serials-length w count (drop (rowSize w) rows))
 
-serials-at : (w count : ℕ) (rows : Bytes) (k : ℕ) → k < count → getD (serialsOf w count rows) k 0 ≡ serialAt w rows k
-unfolding serialsOf serialAt
+serials-at : (w count : ℕ) (rows : Bytes) (k : ℕ) → k < count → getD (serialsOf w count rows) k 0 ≡ serialAtRow w rows k
+unfolding serialsOf serialAtRow
 serials-at w zero rows k h = absurd (not-suc-le-zero h)
-serials-at w (suc count) rows zero h = ap (λ (b : Bytes). serialOf (readRow b)) (record-first (rowSize w) rows)
-serials-at w (suc count) rows (suc k) h = serials-at w count (drop (rowSize w) rows) k (le-of-suc-le-suc h) ∙ ap (λ (b : Bytes). serialOf (readRow b)) (record-after (rowSize w) k rows)
+serials-at w (suc count) rows zero h = ap (λ (b : Bytes). serialOfDeep (readRow b)) (record-first (rowSize w) rows)
+serials-at w (suc count) rows (suc k) h = serials-at w count (drop (rowSize w) rows) k (le-of-suc-le-suc h) ∙ ap (λ (b : Bytes). serialOfDeep (readRow b)) (record-after (rowSize w) k rows)
 
 -- ---- by number, and by membership
 at-member : (xs : List ℕ) (i : ℕ) → i < length xs → List·Memᴰ (getD xs i 0) xs
@@ -109,7 +109,7 @@ module _ (w : ℕ) (rows : Bytes) (count : ℕ) where
   pub apart← : distinct numbers (serialsOf w count rows) ≡ true → Apart w rows count
   apart← d = record { apart = apart (distinct-different (serialsOf w count rows) (distinct-test numbers (serialsOf w count rows) .0 d)) }
     where
-      apart : Different (serialsOf w count rows) → (i k : ℕ) → i < k → k < count → serialAt w rows i ≡ serialAt w rows k → ⊥
+      apart : Different (serialsOf w count rows) → (i k : ℕ) → i < k → k < count → serialAtRow w rows i ≡ serialAtRow w rows k → ⊥
       apart f i k h l e =
           f i k h (omega (arith, serials-length w count rows)) (serials-at w count rows i (omega arith) ∙ e ∙ sym (serials-at w count rows k l))
 
@@ -125,7 +125,7 @@ module _ (w : ℕ) (rows : Bytes) (next count : ℕ) where
       ranged x m =
           let (k, h, e) = member-at m in
           let (a, b) = s .ranged k (omega (arith, serials-length w count rows)) in
-          let z : serialAt w rows k ≡ x = sym (serials-at w count rows k (omega (arith, serials-length w count rows))) ∙ e in
+          let z : serialAtRow w rows k ≡ x = sym (serials-at w count rows k (omega (arith, serials-length w count rows))) ∙ e in
           and-both (le-leb 1 x (omega arith)) (lt-ltb x next (omega arith))
 
   pub ranged← : all inRange (serialsOf w count rows) ≡ true → Ranged w rows next count
@@ -134,11 +134,11 @@ module _ (w : ℕ) (rows : Bytes) (next count : ℕ) where
       serial : ℕ → ℕ
       serial k = getD (serialsOf w count rows) k 0
 
-      ranged : (k : ℕ) → k < count → (1 ≤ serialAt w rows k) × (serialAt w rows k < next)
+      ranged : (k : ℕ) → k < count → (1 ≤ serialAtRow w rows k) × (serialAtRow w rows k < next)
       ranged k h =
           let m : List·Memᴰ (serial k) (serialsOf w count rows) = at-member (serialsOf w count rows) k (omega (arith, serials-length w count rows)) in
           let (x, y) = and-split (leb 1 (serial k)) (ltb (serial k) next) (all-test inRange (serialsOf w count rows) .0 a (serial k) m) in
-          let z : serial k ≡ serialAt w rows k = serials-at w count rows k h in
+          let z : serial k ≡ serialAtRow w rows k = serials-at w count rows k h in
           (omega (arith, leb-true 1 (serial k) x), omega (arith, ltb-true (serial k) next y))
 
 -- what the walk decides is the test

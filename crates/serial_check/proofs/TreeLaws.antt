@@ -12,7 +12,7 @@ use lib.ListN.{length, getD, set, length-set, replicate, length-replicate}
 use lib.Seq.{getD-set-same, getD-set-other}
 use borrow.Author.Tests.{ltb-true, ltb-false, eqb-true, eqb-false}
 use Rattle.rules.specs.Bytes.{Bytes}
-use Rattle.serial_check.specs.Serials.{serialAt, Ranged, Apart}
+use Rattle.serial_check.specs.Serials.{serialAtRow, Ranged, Apart}
 use Rattle.serial_check.specs.Trees.{placeBelow, Met, here, there, Comes, last, later, Rising, Free, Sought, Trees, Put}
 
 -- ---- walks
@@ -62,7 +62,7 @@ rising-more k m l r = record { low = λ p. omega (arith, r .low p); up = r .up }
 pub record Seek (w : ℕ) (rows : Bytes) (below : List ℕ) (from s h q : ℕ) : Type 0 where
   pub on : (i : ℕ) → Met below i h q → Met below i from (s / 4096)
   pub comes : (p : ℕ) → Comes below p h q → Comes below p from (s / 4096)
-  pub rest : (i : ℕ) → Met below i from (s / 4096) → serialAt w rows i ≡ s → Met below i h q
+  pub rest : (i : ℕ) → Met below i from (s / 4096) → serialAtRow w rows i ≡ s → Met below i h q
   pub low : h ≤ 4096
 
 -- a place that is not empty, as a row's number and 1
@@ -72,16 +72,16 @@ seek-row {w} {rows} {below} {from} {s} {h} {q} l k = let e : h ≡ suc (h - 1) =
 pub seek-starts : (w : ℕ) (rows : Bytes) (below : List ℕ) (from s : ℕ) → 0 < from → from ≤ 4096 → Seek w rows below from s (suc (from - 1)) (s / 4096)
 seek-starts w rows below from s l m = seek-row l (record { on = λ i o. o; comes = λ p o. o; rest = λ i o e. o; low = m })
 
-pub seek-meets : {w : ℕ} {rows : Bytes} {below : List ℕ} {from s j q : ℕ} → Seek w rows below from s (suc j) q → serialAt w rows j ≡ s → Sought w rows below from s 8192
+pub seek-meets : {w : ℕ} {rows : Bytes} {below : List ℕ} {from s j q : ℕ} → Seek w rows below from s (suc j) q → serialAtRow w rows j ≡ s → Sought w rows below from s 8192
 seek-meets {j = j} k e = record { met = λ l. (j, k .on j here, e); free = λ l. absurd (omega arith) }
 
-module _ {w : ℕ} {rows : Bytes} {below : List ℕ} {from s j q : ℕ} (k : Seek w rows below from s (suc j) q) (n : serialAt w rows j ≡ s → ⊥) where
+module _ {w : ℕ} {rows : Bytes} {below : List ℕ} {from s j q : ℕ} (k : Seek w rows below from s (suc j) q) (n : serialAtRow w rows j ≡ s → ⊥) where
   -- who has the serial and was not passed is met further on
-  further : (i : ℕ) → Met below i from (s / 4096) → serialAt w rows i ≡ s → Met below i (getD below (placeBelow j q) 0) (q / 2)
+  further : (i : ℕ) → Met below i from (s / 4096) → serialAtRow w rows i ≡ s → Met below i (getD below (placeBelow j q) 0) (q / 2)
   further i m e = by (met-cases j (k .rest i m e) refl)
     where
       by : (i ≡ j) ⊎ Met below i (getD below (placeBelow j q) 0) (q / 2) → Met below i (getD below (placeBelow j q) 0) (q / 2)
-      by (inl g) = absurd (n (ap (serialAt w rows) (sym g) ∙ e))
+      by (inl g) = absurd (n (ap (serialAtRow w rows) (sym g) ∙ e))
       by (inr o) = o
 
   pub seek-ends : j < 4096 → getD below (placeBelow j q) 0 ≡ 0 → Sought w rows below from s (placeBelow j q)
@@ -114,12 +114,12 @@ trees-start w rows =
     }
 
 -- a row more, whose serial none before it has
-apart-more : {w : ℕ} {rows : Bytes} {k : ℕ} → Apart w rows k → ((i : ℕ) → i < k → serialAt w rows i ≡ serialAt w rows k → ⊥) → Apart w rows (suc k)
+apart-more : {w : ℕ} {rows : Bytes} {k : ℕ} → Apart w rows k → ((i : ℕ) → i < k → serialAtRow w rows i ≡ serialAtRow w rows k → ⊥) → Apart w rows (suc k)
 apart-more {w} {rows} {k} a n = record { apart = λ i j h l e. by i j h l e (ltb j k) refl }
   where
-    by : (i j : ℕ) → i < j → j < suc k → serialAt w rows i ≡ serialAt w rows j → (x : Bool) → ltb j k ≡ x → ⊥
+    by : (i j : ℕ) → i < j → j < suc k → serialAtRow w rows i ≡ serialAtRow w rows j → (x : Bool) → ltb j k ≡ x → ⊥
     by i j h l e true q = a .apart i j h (ltb-true j k q) e
-    by i j h l e false q = let y : j ≡ k = omega (arith, ltb-false j k q) in n i (omega arith) (e ∙ ap (serialAt w rows) y)
+    by i j h l e false q = let y : j ≡ k = omega (arith, ltb-false j k q) in n i (omega arith) (e ∙ ap (serialAtRow w rows) y)
 
 -- what holds of each row before k, and of k, holds of each before the next
 each-more : {P : ℕ → Type 0} (k : ℕ) → ((j : ℕ) → j < k → P j) → P k → (j : ℕ) → j < suc k → P j
@@ -145,9 +145,9 @@ rising-set {below} k i r h l = record { low = low-set below k i (r .low) h; up =
     by p false q = rw (getD-set-other below i p (suc k) 0 (eqb-false p i q)) (r .up p)
 
 -- row k, whose serial is s
-module _ {w : ℕ} {rows : Bytes} {heads below : List ℕ} {k : ℕ} (t : Trees w rows heads below k) (s : ℕ) (es : s ≡ serialAt w rows k) where
+module _ {w : ℕ} {rows : Bytes} {heads below : List ℕ} {k : ℕ} (t : Trees w rows heads below k) (s : ℕ) (es : s ≡ serialAtRow w rows k) where
   -- a row with the serial s is met by the walk for s
-  covered : (j : ℕ) → j < k → serialAt w rows j ≡ s → Met below j (getD heads (s % 4096) 0) (s / 4096)
+  covered : (j : ℕ) → j < k → serialAtRow w rows j ≡ s → Met below j (getD heads (s % 4096) 0) (s / 4096)
   covered j h e = rw e at (t .covers j h)
 
   -- it is the first with its remainder
@@ -168,9 +168,9 @@ module _ {w : ℕ} {rows : Bytes} {heads below : List ℕ} {k : ℕ} (t : Trees 
         no = λ q. absurd (true≢false q);
       })
     where
-      covers : (j : ℕ) → j < k → Met below j (getD (set heads (s % 4096) (suc k)) (serialAt w rows j % 4096) 0) (serialAt w rows j / 4096)
+      covers : (j : ℕ) → j < k → Met below j (getD (set heads (s % 4096) (suc k)) (serialAtRow w rows j % 4096) 0) (serialAtRow w rows j / 4096)
       covers j h =
-          rw (getD-set-other heads (s % 4096) (serialAt w rows j % 4096) (suc k) 0 (λ e. met-none (t .covers j h) (ap (λ (n : ℕ). getD heads n 0) e ∙ z)))
+          rw (getD-set-other heads (s % 4096) (serialAtRow w rows j % 4096) (suc k) 0 (λ e. met-none (t .covers j h) (ap (λ (n : ℕ). getD heads n 0) e ∙ z)))
           (t .covers j h)
 
   -- the walk for s comes to an empty place
@@ -213,7 +213,7 @@ passed-none w rows next count = record { trees = trees-start w rows; range = rec
 
 -- row k, whose serial is s
 module _ {w : ℕ} {rows : Bytes} {next count : ℕ} {heads below : List ℕ} {k : ℕ} (c : Passed w rows next count heads below k) (g : k < count)
-    (s : ℕ) (es : s ≡ serialAt w rows k) where
+    (s : ℕ) (es : s ≡ serialAtRow w rows k) where
   pub passed-zero : s ≡ 0 → Ranged w rows next count → Apart w rows count → ⊥
   passed-zero e r a = omega (arith, r .ranged k g .0)
 

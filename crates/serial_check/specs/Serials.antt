@@ -11,12 +11,12 @@ use Rattle.rules.specs.Layout.{rowSize, FlatRow}
 use Rattle.rules.specs.Decode.{readRow, readMany}
 use Rattle.layout.specs.Bodies.{recordAt}
 
-abbrev pub serialOf : Deep FlatRow → ℕ
-serialOf r = r .row .serial
+abbrev pub serialOfDeep : Deep FlatRow → ℕ
+serialOfDeep r = r .row .serial
 
 -- the serials of the first `count` rows of a body, at a width of a value
 unfoldable pub serialsOf : ℕ → ℕ → Bytes → List ℕ
-serialsOf w count rows = map serialOf (readMany readRow (rowSize w) count rows)
+serialsOf w count rows = map serialOfDeep (readMany readRow (rowSize w) count rows)
 
 -- 'Serials are distinct, from 1, below the next serial'
 unfoldable pub fitting : ℕ → List ℕ → Bool
@@ -24,13 +24,13 @@ fitting next ks = distinct numbers ks && all (λ k. leb 1 k && ltb k next) ks
 
 -- ---- by number
 -- the serial of row number k, counted from 0, at a width of a value
-unfoldable pub serialAt : ℕ → Bytes → ℕ → ℕ
-serialAt w rows k = serialOf (readRow (recordAt (rowSize w) k rows))
+unfoldable pub serialAtRow : ℕ → Bytes → ℕ → ℕ
+serialAtRow w rows k = serialOfDeep (readRow (recordAt (rowSize w) k rows))
 
 -- the serials of the first n rows are from 1 and below the next serial
 pub record Ranged (w : ℕ) (rows : Bytes) (next n : ℕ) : Type 0 where
-  pub ranged : (k : ℕ) → k < n → (1 ≤ serialAt w rows k) × (serialAt w rows k < next)
+  pub ranged : (k : ℕ) → k < n → (1 ≤ serialAtRow w rows k) × (serialAtRow w rows k < next)
 
 -- no two of the first n rows have one serial
 pub record Apart (w : ℕ) (rows : Bytes) (n : ℕ) : Type 0 where
-  pub apart : (i k : ℕ) → i < k → k < n → serialAt w rows i ≡ serialAt w rows k → ⊥
+  pub apart : (i k : ℕ) → i < k → k < n → serialAtRow w rows i ≡ serialAtRow w rows k → ⊥

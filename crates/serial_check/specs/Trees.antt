@@ -10,7 +10,7 @@ use mathlib.Core.Bool.{Bool, true, false}
 use mathlib.Core.List.{List}
 use lib.ListN.{length, getD}
 use Rattle.rules.specs.Bytes.{Bytes}
-use Rattle.serial_check.specs.Serials.{serialAt, Apart}
+use Rattle.serial_check.specs.Serials.{serialAtRow, Apart}
 
 -- ---- walks
 -- the place to which a walk by the bits of q goes from row j
@@ -36,12 +36,12 @@ pub record Rising (below : List ℕ) (k : ℕ) : Type 0 where
 pub record Free (w : ℕ) (rows : Bytes) (below : List ℕ) (h s p : ℕ) : Type 0 where
   pub comes : Comes below p h (s / 4096)
   pub empty : getD below p 0 ≡ 0
-  pub none : (j : ℕ) → Met below j h (s / 4096) → serialAt w rows j ≡ s → ⊥
+  pub none : (j : ℕ) → Met below j h (s / 4096) → serialAtRow w rows j ≡ s → ⊥
 
 -- r: the place to which the walk from h for the serial s comes; 8192,
 -- which is none, where it meets a row with that serial
 pub record Sought (w : ℕ) (rows : Bytes) (below : List ℕ) (h s r : ℕ) : Type 0 where
-  pub met : 8192 ≤ r → (j : ℕ) × Met below j h (s / 4096) × (serialAt w rows j ≡ s)
+  pub met : 8192 ≤ r → (j : ℕ) × Met below j h (s / 4096) × (serialAtRow w rows j ≡ s)
   pub free : r < 8192 → Free w rows below h s r
 
 -- ---- the first k rows
@@ -50,7 +50,7 @@ pub record Trees (w : ℕ) (rows : Bytes) (heads below : List ℕ) (k : ℕ) : T
   pub distinct : Apart w rows k
   pub rising : Rising below k
   pub low : (b : ℕ) → getD heads b 0 ≤ k
-  pub covers : (j : ℕ) → j < k → Met below j (getD heads (serialAt w rows j % 4096) 0) (serialAt w rows j / 4096)
+  pub covers : (j : ℕ) → j < k → Met below j (getD heads (serialAtRow w rows j % 4096) 0) (serialAtRow w rows j / 4096)
   pub many : length heads ≡ 4096
   pub long : length below ≡ 8192
 

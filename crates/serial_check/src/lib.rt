@@ -2,7 +2,7 @@
 ghost use mathlib.Core.Path.{_≡_};
 ghost use Prim.Native.Nat.{_<_, _≤_};
 ghost use Rattle.layout.specs.Bodies.{Width};
-ghost use Rattle.serial_check.specs.Serials.{serialsOf, fitting, serialAt};
+ghost use Rattle.serial_check.specs.Serials.{serialsOf, fitting, serialAtRow};
 ghost use Rattle.serial_check.specs.Trees.{Rising, Sought, Trees, Put};
 
 const MAX_ROWS: usize = 4096;
@@ -12,7 +12,7 @@ const PLACES: usize = 8192;
 
 fn serial_at(w: usize, rows: &[u8], k: usize) -> u32
     requires { ⌜ Width w × (k < 4096) ⌝ }
-    ensures { λ r. ⌜ r ≡ serialAt w (now (rows .entry)) k ⌝ }
+    ensures { λ r. ⌜ r ≡ serialAtRow w (now (rows .entry)) k ⌝ }
 {
     layout::row_serial_at(w, rows, k)
 }
@@ -49,7 +49,7 @@ fn put(
     k: usize,
     s: u32,
 ) -> bool
-    requires { ⌜ Width w × (k < 4096) × (s ≡ serialAt w (now rows) k) × Trees w (now rows) (now heads) (now below) k ⌝ }
+    requires { ⌜ Width w × (k < 4096) × (s ≡ serialAtRow w (now rows) k) × Trees w (now rows) (now heads) (now below) k ⌝ }
     ensures { λ r. ⌜ Put w (now (rows .entry)) (now (heads .exit)) (now (below .exit)) k r ⌝ }
 {
     let b = (s % 4096) as usize;

@@ -19,11 +19,11 @@ use Rattle.rules.specs.WellFormed.{attributeName}
 use Rattle.rules.specs.Conforming.{mustBePresent, allows}
 use Rattle.rules.specs.Change.{definitionAt}
 use Rattle.rules.proofs.Apart.{differs}
-use Rattle.rules.proofs.DecodeLaws.{attributeNames, length-own}
+use Rattle.rules.proofs.DecodeLaws.{attributeNames, length-own, sort-code}
 use Rattle.form_index.specs.Indices.{IndexForm}
 use Rattle.store_check.specs.Reading.{entryOf, Agrees}
 use Rattle.store_check.proofs.IndexLaws.{namesOf, name-in, later-name}
-use Rattle.store_check.proofs.AttributeReads.{sort-of, own-owners, all-owners}
+use Rattle.store_check.proofs.AttributeReads.{own-owners, all-owners}
 
 pub below-or : (a b : ℕ) → (a < b) ⊎ (b ≤ a)
 below-or a b = by (ltb a b) refl
@@ -114,8 +114,8 @@ module _ (version : ℕ) (F : IndexForm) (form : Form) where
     record {
       inside = omega arith;
       owner = t .0 .owner;
-      needed = t .0 .needed ∙ ap (mustBePresent version) (sort-of (a .sort));
-      allowed = λ v. t .0 .allowed v ∙ ap (λ (s : AttributeSort). allows s (a .value) v) (sort-of (a .sort));
+      needed = t .0 .needed ∙ ap (mustBePresent version) (sort-code (a .sort));
+      allowed = λ v. t .0 .allowed v ∙ ap (λ (s : AttributeSort). allows s (a .value) v) (sort-code (a .sort));
       name = t .0 .name;
       found = found 0 (omega arith) ∙ (let q : j + 0 ≡ j = omega arith in q);
     },

@@ -11,7 +11,7 @@ use lib.ListN.{length, drop}
 use borrow.Author.Tests.{eqb-true, eqb-false, leb-true, le-leb, eq-eqb, ne-eqb}
 use Rattle.rules.specs.Bytes.{Bytes, same, same-eq, same-refl, any}
 use Rattle.rules.specs.Model.{Distinct}
-use Rattle.rules.specs.Store.{AttributeSort, implied, required, fixed, Attribute, Form}
+use Rattle.rules.specs.Store.{AttributeSort, Attribute, Form}
 use Rattle.rules.specs.Preorder.{Deep}
 use Rattle.rules.specs.Layout.{FlatDefinition, FlatParticle, FlatAttribute, sortCode, ownAttributes, allAttributes}
 use Rattle.rules.specs.Decode.{sortOf, ofOwner, readForm}
@@ -21,6 +21,8 @@ use Rattle.rules.proofs.BooleanLaws.{Every, every-append, every-map}
 use Rattle.rules.proofs.TestLaws.{any-test, not-test}
 use Rattle.form_check.specs.FormTests.{ownersRise, clashes, attributesApart}
 use Rattle.store_check.specs.Reading.{AttributeFits}
+use Rattle.records.proofs.StringLaws.{sort-few}
+use Rattle.rules.proofs.DecodeLaws.{sort-code}
 
 pub every-right : {A : Type 0} (P : A → Type 0) (xs ys : List A) → Every P (xs ++ ys) → Every P ys
 every-right P [] ys a = a
@@ -149,16 +151,6 @@ own-good w n o (a ∷ cs) h = by (eqb o (a .owner)) refl (own-good w n o cs (h .
     by false q e = rw (own-past o a cs (eqb-false o (a .owner) q)) e
 
 -- ---- what a form writes
-sort-most : (s : AttributeSort) → sortCode s ≤ 2
-sort-most implied = omega arith
-sort-most required = omega arith
-sort-most fixed = omega arith
-
-pub sort-of : (s : AttributeSort) → sortOf (sortCode s) ≡ s
-sort-of implied = refl
-sort-of required = refl
-sort-of fixed = refl
-
 pub own-owners : (o : ℕ) (table : List Attribute) (c : FlatAttribute) → List·Memᴰ c (ownAttributes o table) → (c .owner ≡ o) × List·Memᴰ (c .name) (map attributeName table)
 own-owners o [] c m = absurd (List·Memᴰ·not-nil m)
 own-owners o (a ∷ table) c m =
@@ -207,7 +199,7 @@ fits-own w n o [] l h = tt
 fits-own w n o (a ∷ table) l h =
     let (x, y) = and-split (storedName (a .name)) _ (h .0) in
     let (u, v) = and-split (isValue w (a .value)) (isFill (a .sort) (a .value)) y in
-    (record { owner = l; name = x; sort = sort-most (a .sort); value = u; fill = ap (λ (s : AttributeSort). isFill s (a .value)) (sort-of (a .sort)) ∙ v }, fits-own w n o table l (h .1))
+    (record { owner = l; name = x; sort = sort-few (a .sort); value = u; fill = ap (λ (s : AttributeSort). isFill s (a .value)) (sort-code (a .sort)) ∙ v }, fits-own w n o table l (h .1))
 
 pub all-fit : (w n o : ℕ) (fs : Form) → o + length fs ≤ n → Every (λ d. Every (λ a. isAttributeOf w a ≡ true) (d .attributes)) fs → Every (AttributeFits w n) (allAttributes o fs)
 all-fit w n o [] l h = tt

@@ -5,19 +5,19 @@ use native.Mathlib.Omega.{arith}
 use mathlib.Core.Path.{_≡_, refl, ap, _∙_, sym, subst}
 use mathlib.Core.Logic.{_⊎_, inl, inr, ⊎-elim}
 use mathlib.Core.Bool.{Bool, true, false, _&&_, false≢true}
-use mathlib.Core.Option.{none, some}
+use mathlib.Core.Option.{some}
 use mathlib.Core.List.{List, [], _∷_, _++_, map, List·Memᴰ, List·Memᴰ·head, List·Memᴰ·tail, List·Memᴰ·not-nil, List·Memᴰ·cases-cons, Memᴰ·cast, cons≢nil, head-eq-of-cons-eq}
 use Rattle.rules.specs.Bytes.{Bytes, same, same-eq}
 use Rattle.rules.specs.Model.{Distinct}
-use Rattle.rules.specs.Store.{Attribute, Form, RowSort, element, attribute, text, Row}
+use Rattle.rules.specs.Store.{Attribute, Form, attribute, Row}
 use Rattle.rules.specs.Layout.{FlatRow, rowCode, attributeIndex, rowIndex}
 use Rattle.rules.specs.Decode.{nameAt, rowSortOf, rowName}
 use Rattle.rules.specs.WellFormed.{attributeName}
 use Rattle.rules.specs.Conforming.{isAttribute, mustBePresent, allows, strip}
 use Rattle.rules.proofs.Words.{and-split}
-use Rattle.rules.proofs.ConformingLaws.{headAttribute, begins, strip-past, strip-take, begins-none, begins-other, begins-this}
+use Rattle.rules.proofs.ConformingLaws.{headAttribute, begins, strip-past, strip-take, begins-none, begins-other, begins-this, none-some, is-attribute}
 use Rattle.rules.proofs.DecodeLaws.{attributeNames}
-use Rattle.form_index.specs.Indices.{IndexForm, indexIn, Owned}
+use Rattle.form_index.specs.Indices.{IndexForm, indexOfRow, AttributeRowsOf}
 use Rattle.store_check.proofs.IndexLaws.{namesOf}
 use Rattle.store_check.proofs.AttributeBlocks.{Entry, Block}
 
@@ -34,11 +34,6 @@ name-read form x q = ap (λ (s : ℕ). rowName (namesOf form) (attributeNames fo
 pub index-written : (form : Form) (owner : Bytes) (r : Row) → r .sort ≡ attribute → rowIndex form owner r ≡ attributeIndex owner (r .name) form
 index-written form owner r q = rw q
 
-is-attribute : (s : RowSort) → isAttribute s ≡ true → s ≡ attribute
-is-attribute element e = absurd (false≢true e)
-is-attribute attribute e = refl
-is-attribute text e = absurd (false≢true e)
-
 -- ---- rows that take entries out of a table whose first entry has index j
 abbrev pub Taken : ℕ → ℕ → List Attribute → List FlatRow → Type 0
 Taken version j [] rs = rs ≡ []
@@ -47,28 +42,28 @@ Taken version j (a ∷ table) rs =
     ⊎ ((r : FlatRow) × (rest : List FlatRow) × (rs ≡ r ∷ rest) × (r .sort ≡ 2) × (r .index ≡ j) × (allows (a .sort) (a .value) (r .value) ≡ true) × Taken version (suc j) table rest)
 
 module _ (version : ℕ) (F : IndexForm) (form : Form) where
-  owned-least : (i a : ℕ) (rs : List FlatRow) (k : ℕ) → Owned F i a rs → List·Memᴰ k (map indexIn rs) → a ≤ k
+  owned-least : (i a : ℕ) (rs : List FlatRow) (k : ℕ) → AttributeRowsOf F i a rs → List·Memᴰ k (map indexOfRow rs) → a ≤ k
   owned-least i a [] k o m = absurd (List·Memᴰ·not-nil m)
   owned-least i a (r ∷ rs) k (s, l, n, e, v, o) m = ⊎-elim (λ q. omega arith) (λ t. omega (arith, owned-least i (suc (r .index)) rs k o t)) (List·Memᴰ·cases-cons m)
 
   abbrev WholeFrom : ℕ → ℕ → List FlatRow → Type 0
-  WholeFrom i j rs = (k : ℕ) → j ≤ k → k < F .attributes → F .owner k ≡ i → F .needed k ≡ true → List·Memᴰ k (map indexIn rs)
+  WholeFrom i j rs = (k : ℕ) → j ≤ k → k < F .attributes → F .owner k ≡ i → F .needed k ≡ true → List·Memᴰ k (map indexOfRow rs)
 
   -- an entry that no row takes need not be taken
-  lacks : (i j : ℕ) (a : Attribute) (rs : List FlatRow) → Entry version F form i j a → WholeFrom i j rs → (List·Memᴰ j (map indexIn rs) → ⊥) → mustBePresent version (a .sort) ≡ false
+  lacks : (i j : ℕ) (a : Attribute) (rs : List FlatRow) → Entry version F form i j a → WholeFrom i j rs → (List·Memᴰ j (map indexOfRow rs) → ⊥) → mustBePresent version (a .sort) ≡ false
   lacks i j a rs e h out = by (mustBePresent version (a .sort)) refl
     where
       by : (c : Bool) → mustBePresent version (a .sort) ≡ c → mustBePresent version (a .sort) ≡ false
       by true q = absurd (out (h j (omega arith) (e .inside) (e .owner) (e .needed ∙ q)))
       by false q = q
 
-  pub taken-of : (i j : ℕ) (table : List Attribute) → Block version F form i j table → (rs : List FlatRow) → Owned F i j rs → WholeFrom i j rs → Taken version j table rs
+  pub taken-of : (i j : ℕ) (table : List Attribute) → Block version F form i j table → (rs : List FlatRow) → AttributeRowsOf F i j rs → WholeFrom i j rs → Taken version j table rs
   taken-of i j [] b [] o h = refl
   taken-of i j [] b (r ∷ rs) (s, l, n, e, v, o) h = absurd (b (r .index) l n e)
   taken-of i j (a ∷ table) (e, b) [] o h = inl (lacks i j a [] e h (λ m. List·Memᴰ·not-nil m), taken-of i (suc j) table b [] tt (λ k l. h k (omega arith)))
   taken-of i j (a ∷ table) (e, b) (r ∷ rs) (s, l, n, w, v, o) h = by (eq-or-lt-of-le l) (taken-of i (suc j) table b)
     where
-      by : (j ≡ r .index) ⊎ (j < r .index) → ((rs : List FlatRow) → Owned F i (suc j) rs → WholeFrom i (suc j) rs → Taken version (suc j) table rs) → Taken version j (a ∷ table) (r ∷ rs)
+      by : (j ≡ r .index) ⊎ (j < r .index) → ((rs : List FlatRow) → AttributeRowsOf F i (suc j) rs → WholeFrom i (suc j) rs → Taken version (suc j) table rs) → Taken version j (a ∷ table) (r ∷ rs)
       by (inl q) f =
           inr (
             r,
@@ -77,7 +72,7 @@ module _ (version : ℕ) (F : IndexForm) (form : Form) where
             s,
             sym q,
             sym (e .allowed (r .value)) ∙ ap (λ (z : ℕ). F .allows z (r .value)) q ∙ v,
-            f rs (subst (λ (z : ℕ). Owned F i (suc z) rs) (sym q) o) (λ k l m p x. ⊎-elim (λ z. absurd (omega arith)) (λ t. t) (List·Memᴰ·cases-cons (h k (omega arith) m p x))),
+            f rs (subst (λ (z : ℕ). AttributeRowsOf F i (suc z) rs) (sym q) o) (λ k l m p x. ⊎-elim (λ z. absurd (omega arith)) (λ t. t) (List·Memᴰ·cases-cons (h k (omega arith) m p x))),
           )
       by (inr g) f =
           inl (
@@ -85,7 +80,7 @@ module _ (version : ℕ) (F : IndexForm) (form : Form) where
             f (r ∷ rs) (s, g, n, w, v, o) (λ k l. h k (omega arith)),
           )
 
-  pub owned-of : (i j : ℕ) (table : List Attribute) → Block version F form i j table → (rs : List FlatRow) → Taken version j table rs → (a : ℕ) → a ≤ j → Owned F i a rs
+  pub owned-of : (i j : ℕ) (table : List Attribute) → Block version F form i j table → (rs : List FlatRow) → Taken version j table rs → (a : ℕ) → a ≤ j → AttributeRowsOf F i a rs
   owned-of i j [] b rs t a l = rw t tt
   owned-of i j (c ∷ table) (e, b) rs (inl (m, t)) a l = owned-of i (suc j) table b rs t a (omega arith)
   owned-of i j (c ∷ table) (e, b) rs (inr (r, rest, q, s, x, v, t)) a l =
@@ -127,9 +122,6 @@ module _ (version : ℕ) (F : IndexForm) (form : Form) where
       ∙ strip-taken i (suc j) table b d rest t back h
 
   -- ---- rows that are written
-  none-some : {A : Type 0} {x : A} → none ≡ some x → ⊥
-  none-some e = let z : false ≡ true = cc e in false≢true z
-
   taken-first : (i j : ℕ) (a : Attribute) (table : List Attribute) → Entry version F form i j a → (r : Row) (front : List Row) → r .sort ≡ attribute
       → a .name ≡ r .name → allows (a .sort) (a .value) (r .value) ≡ true
       → Taken version (suc j) table (map (rowWritten form (nameAt i (namesOf form))) front)

@@ -17,15 +17,15 @@ use Rattle.rules.specs.Layout.{definitionSize, particleSize, attributeSize, row
 use Rattle.rules.specs.Decode.{numberAt, readRow, readMany, readDefinition, readAttribute, sortOf, definitionCount, particleCount, attributeCount, rowCount}
 use Rattle.rules.specs.Conforming.{mustBePresent, allows}
 use Rattle.rules.specs.Passing.{passes}
-use Rattle.model.specs.Members.{particlesOf, membersFrom, membersOf}
+use Rattle.model.specs.Members.{particlesOf, membersFrom, allMembers}
 use Rattle.records.specs.Records.{rowFits, eachFits}
-use Rattle.form_check.specs.Bodies.{definitions, particles, attributes, formOf}
+use Rattle.form_check.specs.Bodies.{definitions, particlesRead, attributes, formOfBodies}
 use Rattle.form_check.proofs.Reading.{definitions-length, attributes-length}
 use Rattle.form_index.specs.Indices.{IndexForm}
-use Rattle.layout.specs.Bodies.{recordAt, widthOf, definitionsIn, particlesIn, attributesIn, rowsIn}
+use Rattle.layout.specs.Bodies.{recordAt, widthOf, definitionsIn, particlesIn, attributesIn, treeRowsIn}
 use Rattle.form_index.specs.Reading.{definitionIn, attributeIn, modelPart}
 use Rattle.form_index.specs.Reading as bytes
-use Rattle.store_check.specs.Reading.{indexMembers, partAt, noDefinition, noAttribute, entryOf, formAt, indexForm}
+use Rattle.store_check.specs.Reading.{indexMembers, partAt, noFlatDefinition, noAttribute, entryOf, formAt, flatIndexForm}
 use Rattle.store_check.specs.Check.{FormPasses, FormIn, RowsPass, SerialsIn}
 use Rattle.store_check.proofs.FormLaws.{Laid}
 use Rattle.store_check.proofs.IndexReads.{definition-in, attribute-in, model-in, index-agrees}
@@ -52,11 +52,11 @@ by-range {P} n f g i = by (ltb i n) refl
     by false e = g i (ltb-false i n e)
 
 module _ {w n : ℕ} {defs : Bytes} {p : ℕ} {parts : Bytes} {a : ℕ} {attrs : Bytes} (laid : Laid w n defs p parts a attrs) (x : FormPasses w n defs p parts a attrs) where
-  definition-past : (i : ℕ) → n ≤ i → definitionIn defs i ≡ noDefinition
+  definition-past : (i : ℕ) → n ≤ i → definitionIn defs i ≡ noFlatDefinition
   definition-past i l = ap readDefinition (record-past definitionSize i n defs (laid .bodies .definitionBody .whole) l)
 
-  definition-any : (i : ℕ) → definitionIn defs i ≡ getD (definitions n defs) i noDefinition
-  definition-any = by-range n (definition-in laid x) (λ i l. definition-past i l ∙ sym (List·getD-eq-default (definitions n defs) noDefinition {n = i} (omega (arith, definitions-length n defs))))
+  definition-any : (i : ℕ) → definitionIn defs i ≡ getD (definitions n defs) i noFlatDefinition
+  definition-any = by-range n (definition-in laid x) (λ i l. definition-past i l ∙ sym (List·getD-eq-default (definitions n defs) noFlatDefinition {n = i} (omega (arith, definitions-length n defs))))
 
   attribute-any : (j : ℕ) → attributeIn w attrs j ≡ entryOf j (attributes w a attrs)
   attribute-any =
@@ -64,16 +64,16 @@ module _ {w n : ℕ} {defs : Bytes} {p : ℕ} {parts : Bytes} {a : ℕ} {attrs :
       (λ j l. ap readAttribute (record-past (attributeSize w) j a attrs (laid .bodies .attributeBody .whole) l)
       ∙ sym (List·getD-eq-default (attributes w a attrs) noAttribute {n = j} (omega (arith, attributes-length w a attrs))))
 
-  model-past : (i : ℕ) → n ≤ i → membersOf (modelPart defs parts i) ≡ indexMembers (build (partAt i (definitions n defs) (particles p parts)) 0)
+  model-past : (i : ℕ) → n ≤ i → allMembers (modelPart defs parts i) ≡ indexMembers (build (partAt i (definitions n defs) (particlesRead p parts)) 0)
   unfolding modelPart membersFrom particlesOf indexMembers
   model-past i l =
-      ap (λ (d : FlatDefinition). membersOf (take (particleSize * d .particles) (drop (particleSize * bytes.particlesBefore defs i) parts))) (definition-past i l)
-      ∙ sym (ap (λ (ps : List (Deep FlatParticle)). indexMembers (build ps 0)) (part-past i (definitions n defs) (particles p parts) (omega (arith, definitions-length n defs))))
+      ap (λ (d : FlatDefinition). allMembers (take (particleSize * d .particles) (drop (particleSize * bytes.particlesBefore defs i) parts))) (definition-past i l)
+      ∙ sym (ap (λ (ps : List (Deep FlatParticle)). indexMembers (build ps 0)) (part-past i (definitions n defs) (particlesRead p parts) (omega (arith, definitions-length n defs))))
 
-  model-any : (i : ℕ) → membersOf (modelPart defs parts i) ≡ indexMembers (build (partAt i (definitions n defs) (particles p parts)) 0)
+  model-any : (i : ℕ) → allMembers (modelPart defs parts i) ≡ indexMembers (build (partAt i (definitions n defs) (particlesRead p parts)) 0)
   model-any = by-range n (model-in laid x) model-past
 
-  index-is : (version : ℕ) → bytes.indexForm version w n defs parts attrs a ≡ formAt version (formOf w n defs p parts a attrs)
+  index-is : (version : ℕ) → bytes.indexForm version w n defs parts attrs a ≡ formAt version (formOfBodies w n defs p parts a attrs)
   index-is version = λ i.
       record {
         size = sym (definitions-length n defs) i;
@@ -91,7 +91,7 @@ module _ {bs : Bytes} (h : Headed bs) where
       → FormIn bs
       × RowsPass (widthOf bs)
       (bytes.indexForm (numberAt 0 4 bs) (widthOf bs) (definitionCount bs) (definitionsIn bs) (particlesIn bs) (attributesIn bs) (attributeCount bs))
-      (rowCount bs) (rowsIn bs)
+      (rowCount bs) (treeRowsIn bs)
       × SerialsIn bs
   told = passes-in h
       (bytes.indexForm (numberAt 0 4 bs) (widthOf bs) (definitionCount bs) (definitionsIn bs) (particlesIn bs) (attributesIn bs) (attributeCount bs))
@@ -101,12 +101,12 @@ module _ {bs : Bytes} (h : Headed bs) where
   form-in q = told q .0
 
   -- each row by itself
-  pub rows-fit : passes bs ≡ true → eachFits (rowFits (widthOf bs)) (rowSize (widthOf bs)) (rowCount bs) (rowsIn bs) ≡ true
+  pub rows-fit : passes bs ≡ true → eachFits (rowFits (widthOf bs)) (rowSize (widthOf bs)) (rowCount bs) (treeRowsIn bs) ≡ true
   rows-fit q = told q .1 .fields
 
   pub read-form : passes bs ≡ true
       → bytes.indexForm (numberAt 0 4 bs) (widthOf bs) (definitionCount bs) (definitionsIn bs) (particlesIn bs) (attributesIn bs) (attributeCount bs)
-      ≡ indexForm (flatOf bs)
+      ≡ flatIndexForm (flatOf bs)
   read-form q =
       index-is (laid-in h) (form-in q .passes) (numberAt 0 4 bs)
       ∙ (λ i. formAt (numberAt 0 4 bs) (record {
@@ -121,5 +121,5 @@ module _ {bs : Bytes} (h : Headed bs) where
   pub read-attribute : passes bs ≡ true → (j : ℕ) → attributeIn (widthOf bs) (attributesIn bs) j ≡ entryOf j (flatOf bs .attributes)
   read-attribute q j = attribute-any (laid-in h) (form-in q .passes) j ∙ ap (entryOf j) (sym (same-attributes h))
 
-  pub read-rows : readMany readRow (rowSize (widthOf bs)) (rowCount bs) (rowsIn bs) ≡ flatOf bs .rows
+  pub read-rows : readMany readRow (rowSize (widthOf bs)) (rowCount bs) (treeRowsIn bs) ≡ flatOf bs .rows
   read-rows = sym (same-rows h)

@@ -14,12 +14,12 @@ use Rattle.rules.specs.Layout.{definitionSize, attributeSize, rowSize}
 use Rattle.rules.specs.Decode.{numberAt, readRow, readMany, definitionCount, particleCount, attributeCount, rowCount}
 use Rattle.rules.specs.Passing.{passes}
 use Rattle.layout.specs.declared.Shape.{Shape}
-use Rattle.layout.specs.Bodies.{Width, widthOf, shapeOf, ShapeOf, definitionBody, particleBody, attributeBody, rowBody, definitionsIn, particlesIn, attributesIn, rowsIn}
+use Rattle.layout.specs.Bodies.{Width, widthOf, shapeOf, ShapeOf, definitionBody, particleBody, attributeBody, rowBody, definitionsIn, particlesIn, attributesIn, treeRowsIn}
 use Rattle.layout.proofs.LayoutLaws.{by-shape}
 use Rattle.records.specs.Records.{definitionFits, attributeFits, rowFits, eachFits, headerFits}
 use Rattle.records.proofs.RecordLaws.{small-of}
 use Rattle.form_check.specs.FormTests.{bodiesFit}
-use Rattle.form_check.specs.Bodies.{Bodies, formOf}
+use Rattle.form_check.specs.Bodies.{Bodies, formOfBodies}
 use Rattle.circle_check.specs.declared.Heights.{Heights}
 use Rattle.circle_check.specs.Members.{membersIn}
 use Rattle.circle_check.specs.Deep.{Ranked}
@@ -52,7 +52,7 @@ laid-of {w} {n} {defs} {p} {parts} {a} {attrs} b d c = record { bodies = b; defi
 
 pub form-by : {w n : ℕ} {defs : Bytes} {p : ℕ} {parts : Bytes} {a : ℕ} {attrs : Bytes} {r : Heights} → Laid w n defs p parts a attrs
     → eachFits definitionFits definitionSize n defs ≡ true → eachFits (attributeFits w n) (attributeSize w) a attrs ≡ true
-    → bodiesFit (formOf w n defs p parts a attrs) ≡ true → Ranked n (membersIn defs parts) r → (r .fit ≡ true) ↔ FormPasses w n defs p parts a attrs
+    → bodiesFit (formOfBodies w n defs p parts a attrs) ≡ true → Ranked n (membersIn defs parts) r → (r .fit ≡ true) ↔ FormPasses w n defs p parts a attrs
 form-by laid d c b k = (λ e. record { definitions = d; attributes = c; bodies = b; circle = circle-fit laid d c b k .0 e }, λ x. circle-fit laid d c b k .1 (x .circle))
 
 -- the version, the counts and the bodies of a form
@@ -101,7 +101,7 @@ module _ {bs : Bytes} {s : Shape} (x : ShapeOf bs s) where
   unfolding shapeOf
   rows-counted = ap (λ (z : Shape). z .rows) (x .is)
 
-  pub rows-of : {rows : Bytes} → rows ≡ rowBody s bs → rows ≡ rowsIn bs
+  pub rows-of : {rows : Bytes} → rows ≡ rowBody s bs → rows ≡ treeRowsIn bs
   rows-of e = by-shape rowBody bs x e
 
   pub width-is : s .width ≡ widthOf bs
@@ -129,7 +129,7 @@ module _ {bs : Bytes} {version w n : ℕ} {defs : Bytes} {p : ℕ} {parts : Byte
   )
 
   -- ---- the rows
-  module _ {count : ℕ} {rows : Bytes} (u : count ≡ rowCount bs) (v : rows ≡ rowsIn bs) where
+  module _ {count : ℕ} {rows : Bytes} (u : count ≡ rowCount bs) (v : rows ≡ treeRowsIn bs) where
     pub rows-asked : Width w → FormIn bs → Width w × (n ≤ 64) × (a ≤ 64) × (rowSize w * count ≤ length rows) × ((i : ℕ) → i < n → Distinct (names (indexForm version w n defs parts attrs a .model i)))
     rows-asked narrow x =
         let z : cutOf bs ≡ given = k .same in
@@ -146,20 +146,20 @@ module _ {bs : Bytes} {version w n : ℕ} {defs : Bytes} {p : ℕ} {parts : Byte
       λ x. let y : RowsPass w (indexForm version w n defs parts attrs a) count rows = there (x .passes) in g (y .fields, y .documents),
     )
       where
-        back : RowsAt given count rows → RowsAt (cutOf bs) (rowCount bs) (rowsIn bs)
-        back y = subst (λ (c : Cut). RowsAt c (rowCount bs) (rowsIn bs)) (sym (k .same)) (subst (λ (s : Bytes). RowsAt given (rowCount bs) s) v (subst (λ (m : ℕ). RowsAt given m rows) u y))
+        back : RowsAt given count rows → RowsAt (cutOf bs) (rowCount bs) (treeRowsIn bs)
+        back y = subst (λ (c : Cut). RowsAt c (rowCount bs) (treeRowsIn bs)) (sym (k .same)) (subst (λ (s : Bytes). RowsAt given (rowCount bs) s) v (subst (λ (m : ℕ). RowsAt given m rows) u y))
 
-        there : RowsAt (cutOf bs) (rowCount bs) (rowsIn bs) → RowsAt given count rows
-        there y = subst (λ (m : ℕ). RowsAt given m rows) (sym u) (subst (λ (s : Bytes). RowsAt given (rowCount bs) s) (sym v) (subst (λ (c : Cut). RowsAt c (rowCount bs) (rowsIn bs)) (k .same) y))
+        there : RowsAt (cutOf bs) (rowCount bs) (treeRowsIn bs) → RowsAt given count rows
+        there y = subst (λ (m : ℕ). RowsAt given m rows) (sym u) (subst (λ (s : Bytes). RowsAt given (rowCount bs) s) (sym v) (subst (λ (c : Cut). RowsAt c (rowCount bs) (treeRowsIn bs)) (k .same) y))
 
 -- ---- serials
 module _ {bs : Bytes} (h : Headed bs) {count : ℕ} (u : count ≡ rowCount bs) where
   pub serials-asked : count ≤ 4096
   serials-asked = omega (arith, header h .fewRows)
 
-  pub serials-in : {w next : ℕ} {rows : Bytes} {r : Bool} → w ≡ widthOf bs → next ≡ numberAt 4 4 bs → rows ≡ rowsIn bs → r ≡ fitting next (serialsOf w count rows) → (r ≡ true) ↔ SerialsIn bs
+  pub serials-in : {w next : ℕ} {rows : Bytes} {r : Bool} → w ≡ widthOf bs → next ≡ numberAt 4 4 bs → rows ≡ treeRowsIn bs → r ≡ fitting next (serialsOf w count rows) → (r ≡ true) ↔ SerialsIn bs
   serials-in {w} {next} {rows} {r} v x y e =
-      let q : r ≡ fitting (numberAt 4 4 bs) (serialsOf (widthOf bs) (rowCount bs) (rowsIn bs)) = e ∙ (λ i. fitting (x i) (serialsOf (v i) (u i) (y i))) in
+      let q : r ≡ fitting (numberAt 4 4 bs) (serialsOf (widthOf bs) (rowCount bs) (treeRowsIn bs)) = e ∙ (λ i. fitting (x i) (serialsOf (v i) (u i) (y i))) in
       (λ z. record { fits = sym q ∙ z }, λ z. q ∙ z .fits)
 
 -- ---- all
@@ -175,7 +175,7 @@ module _ {bs : Bytes} (h : Headed bs) where
       ↔ (FormIn bs
       × RowsPass (widthOf bs)
       (indexForm (numberAt 0 4 bs) (widthOf bs) (definitionCount bs) (definitionsIn bs) (particlesIn bs) (attributesIn bs) (attributeCount bs)) (rowCount bs)
-      (rowsIn bs)
+      (treeRowsIn bs)
       × SerialsIn bs)
   all-in = passes-in h (indexForm (numberAt 0 4 bs) (widthOf bs) (definitionCount bs) (definitionsIn bs) (particlesIn bs) (attributesIn bs) (attributeCount bs))
       (λ x. index-agrees (laid-in h) (x .passes) (numberAt 0 4 bs))

@@ -29,21 +29,21 @@ use Rattle.rules.proofs.BooleanLaws.{Every, every-append, every-in}
 use Rattle.rules.proofs.WellFormedLaws.{well-formed}
 use Rattle.rules.proofs.ConformingLaws.{Cut, strip-is, content-head}
 use Rattle.rules.proofs.DecodeLaws.{attributeNames}
-use Rattle.form_index.specs.Indices.{IndexForm, indexIn, Sort, ContentOf, Owned, Below}
+use Rattle.form_index.specs.Indices.{IndexForm, indexOfRow, Sort, ContentOf, AttributeRowsOf, Below}
 use Rattle.store_check.specs.Reading.{Agrees}
 use Rattle.store_check.proofs.IndexLaws.{namesOf, name-once, definition-in, known-index, distinct-unmap}
 use Rattle.store_check.proofs.AttributeBlocks.{Block, offset, block-at, block-first, block-found}
 use Rattle.store_check.proofs.AttributeRows.{rowRead, rowWritten, Taken, taken-of, owned-of, whole-of, strip-taken, taken-strip}
 
 -- ---- names of element rows
-elements-read : (form : Form) (rs : List FlatRow) → Sort 1 rs → map nameOf (map (rowRead form) rs) ≡ map (λ j. nameAt j (namesOf form)) (map indexIn rs)
+elements-read : (form : Form) (rs : List FlatRow) → Sort 1 rs → map nameOf (map (rowRead form) rs) ≡ map (λ j. nameAt j (namesOf form)) (map indexOfRow rs)
 elements-read form [] s = refl
 elements-read form (x ∷ rs) s = λ i. rowName (namesOf form) (attributeNames form) (rowSortOf (s x (List·Memᴰ·head refl) i)) (x .index) ∷ elements-read form rs (λ y m. s y (List·Memᴰ·tail m)) i
 
 element-index : (form : Form) (owner : Bytes) (r : Row) → r .sort ≡ element → rowIndex form owner r ≡ indexOf (r .name) form
 element-index form owner r q = rw q
 
-elements-written : (form : Form) (owner : Bytes) (rows : List Row) → Sorted element rows → map indexIn (map (rowWritten form owner) rows) ≡ map (λ n. indexOf n form) (map nameOf rows)
+elements-written : (form : Form) (owner : Bytes) (rows : List Row) → Sorted element rows → map indexOfRow (map (rowWritten form owner) rows) ≡ map (λ n. indexOf n form) (map nameOf rows)
 elements-written form owner [] s = refl
 elements-written form owner (r ∷ rows) s = λ i. element-index form owner r (s r (List·Memᴰ·head refl)) i ∷ elements-written form owner rows (λ y m. s y (List·Memᴰ·tail m)) i
 
@@ -95,8 +95,8 @@ module _ {version : ℕ} (w : ℕ) (form : Form) (ok : wellFormed w form ≡ tru
           let (x, k, e) = Memᴰ·of-map (rowRead form) rs m in
           ap (λ (z : Row). z .sort) (sym e) ∙ ap rowSortOf (s x k),
       subst (λ (z : List Bytes). Conforms ms z) (sym (elements-read form rs s))
-          (subst (λ (z : Content). Conforms (modelOf z) (map (λ j. nameAt j (namesOf form)) (map indexIn rs))) q
-          (conforms-index (map indexIn rs) (λ j m. agrees .inRange i l j (letters Sequence (F .model i) .inside (map indexIn rs) c j m)) .0 c)),
+          (subst (λ (z : Content). Conforms (modelOf z) (map (λ j. nameAt j (namesOf form)) (map indexOfRow rs))) q
+          (conforms-index (map indexOfRow rs) (λ j m. agrees .inRange i l j (letters Sequence (F .model i) .inside (map indexOfRow rs) c j m)) .0 c)),
     )
 
     content-written : (owner : Bytes) (c : Content) → definitionAt i form .content ≡ c → (rows : List Row) → ContentRows c rows → ContentOf (kindCode c) (F .model i) (map (rowWritten form owner) rows)
@@ -119,7 +119,7 @@ module _ {version : ℕ} (w : ℕ) (form : Form) (ok : wellFormed w form ≡ tru
     pub block : Block version F form i (offset i form) (definitionAt i form .attributes)
     block = block-at version F form agrees apart i l (good-at i l .attributeNames)
 
-    from-block : (rs : List FlatRow) → Owned F i 0 rs → Owned F i (offset i form) rs
+    from-block : (rs : List FlatRow) → AttributeRowsOf F i 0 rs → AttributeRowsOf F i (offset i form) rs
     from-block [] o = tt
     from-block (r ∷ rs) (s, a, n, e, v, o) = (s, block-first version F form agrees apart i l (r .index) n e, n, e, v, o)
 
@@ -165,7 +165,7 @@ module _ {version : ℕ} (w : ℕ) (form : Form) (ok : wellFormed w form ≡ tru
     abbrev pub Found : FlatRow → Type 0
     Found x = x .sort ≡ 2 → attributeIndex (nameAt i (namesOf form)) (nameAt (x .index) (attributeNames form)) form ≡ x .index
 
-    owned-found : (a : ℕ) (rs : List FlatRow) → Owned F i a rs → Every Found rs
+    owned-found : (a : ℕ) (rs : List FlatRow) → AttributeRowsOf F i a rs → Every Found rs
     owned-found a [] o = tt
     owned-found a (r ∷ rs) (s, b, n, e, v, o) = (
       λ q. block-found version F form i (offset i form) (definitionAt i form .attributes) block (r .index)

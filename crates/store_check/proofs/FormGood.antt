@@ -24,7 +24,7 @@ use Rattle.rules.proofs.TestLaws.{distinct-test}
 use Rattle.rules.proofs.WellFormedLaws.{well-formed, no-circle}
 use Rattle.rules.proofs.PassingLaws.{good-is}
 use Rattle.form_check.specs.FormTests.{definitionsApart, modelFits, modelsFit, bodiesFit}
-use Rattle.store_check.specs.Reading.{DefinitionFits, FieldsFit, indexMembers, partAt, noDefinition, entryOf, formAt, Agrees}
+use Rattle.store_check.specs.Reading.{DefinitionFits, FieldsFit, indexMembers, partAt, noFlatDefinition, entryOf, formAt, Agrees}
 use Rattle.store_check.proofs.IndexLaws.{namesOf}
 use Rattle.store_check.proofs.ModelReads.{ModelRead}
 use Rattle.store_check.proofs.AttributeReads.{own-apart, own-good, all-rise, all-apart, all-fit}
@@ -49,7 +49,7 @@ module _ (w : ℕ) (f : FlatStore) (fit : FieldsFit w f) (bodies : bodiesFit f �
       ap (λ (d : Definition). d .attributes) (read-at w f fit bodies i l) ∙ ap (λ (k : ℕ). ofOwner k (f .attributes)) (omega arith) in
       record {
         name = ap (λ (d : Definition). storedName (d .name)) (read-at w f fit bodies i l)
-            ∙ every-nth DefinitionFits noDefinition (f .definitions) i (omega (arith, form-size f)) (fit .definitions) .name;
+            ∙ every-nth DefinitionFits noFlatDefinition (f .definitions) i (omega (arith, form-size f)) (fit .definitions) .name;
         inRange = λ n k. m .inRange n (rw e at k);
         once = rw e (m .once);
         groups = rw e (m .groups);
@@ -98,7 +98,7 @@ module _ (w : ℕ) (f : FlatStore) (fit : FieldsFit w f) (bodies : bodiesFit f �
       }
 
 -- ---- ceilings: the bodies' tests hold the depths, so that the counts are left
-all-append : {A : Type 0} (p : A → Bool) (xs ys : List A) → all p xs ≡ true → all p ys ≡ true → all p (xs ++ ys) ≡ true
+pub all-append : {A : Type 0} (p : A → Bool) (xs ys : List A) → all p xs ≡ true → all p ys ≡ true → all p (xs ++ ys) ≡ true
 all-append p [] ys h g = g
 all-append p (x ∷ xs) ys h g = let (a, b) = and-split (p x) (all p xs) h in and-both a (all-append p xs ys b g)
 

@@ -24,7 +24,7 @@ use Rattle.codec.proofs.Records.{many-at}
 use Rattle.records.specs.Records.{definitionFits, attributeFits, eachFits}
 use Rattle.records.proofs.RecordLaws.{FittingDefinition, definition-fields, FittingAttribute, attribute-fields, body-fields}
 use Rattle.form_check.specs.FormTests.{elementsIn, shaped, modelFits, modelsFit, bodiesFit}
-use Rattle.form_check.specs.Bodies.{Bodies, definitions, particles, attributes, formOf}
+use Rattle.form_check.specs.Bodies.{Bodies, definitions, particlesRead, attributes, formOfBodies}
 use Rattle.form_check.proofs.Reading.{definitions-length, particles-length}
 use Rattle.circle_check.specs.declared.Heights.{Heights}
 use Rattle.circle_check.specs.Members.{countAt, startAt, membersIn}
@@ -32,7 +32,7 @@ use Rattle.circle_check.specs.Deep.{Ranked}
 use Rattle.circle_check.proofs.CircleLaws.{Indexed}
 use Rattle.circle_check.proofs.ReadLaws.{Leaves, AllShaped, modelAt, members-read, start-room, Within, Readable, form-read, fit-read}
 use Rattle.circle_check.proofs.ReadLaws as circle
-use Rattle.store_check.specs.Reading.{DefinitionFits, AttributeFits, FieldsFit, indexMembers, partAt, noDefinition}
+use Rattle.store_check.specs.Reading.{DefinitionFits, AttributeFits, FieldsFit, indexMembers, partAt, noFlatDefinition}
 use Rattle.store_check.proofs.ModelReads.{Shaped, Single, Grouped, shaped-tree, ModelRead}
 use Rattle.store_check.proofs.FormReads.{bodies-of, form-size, form-apart, model-at}
 use Rattle.store_check.proofs.FormReads as reads
@@ -85,9 +85,9 @@ model-is-part i [] ps = refl
 model-is-part zero (d ∷ ds) ps = refl
 model-is-part (suc i) (d ∷ ds) ps = model-is-part i ds (drop (d .particles) ps)
 
-count-at : (n : ℕ) (defs : Bytes) (i : ℕ) → i < n → countAt defs i ≡ getD (definitions n defs) i noDefinition .particles
+count-at : (n : ℕ) (defs : Bytes) (i : ℕ) → i < n → countAt defs i ≡ getD (definitions n defs) i noFlatDefinition .particles
 unfolding definitions
-count-at n defs i l = ap (λ (d : FlatDefinition). d .particles) (sym (many-at readDefinition definitionSize i n defs noDefinition l))
+count-at n defs i l = ap (λ (d : FlatDefinition). d .particles) (sym (many-at readDefinition definitionSize i n defs noFlatDefinition l))
 
 -- ---- the bodies of a form
 -- bodies of bytes
@@ -98,7 +98,7 @@ pub record Laid (w n : ℕ) (defs : Bytes) (p : ℕ) (parts : Bytes) (a : ℕ) (
 
 module _ {w n : ℕ} {defs : Bytes} {p : ℕ} {parts : Bytes} {a : ℕ} {attrs : Bytes} (laid : Laid w n defs p parts a attrs) where
   module _ (d : eachFits definitionFits definitionSize n defs ≡ true) (c : eachFits (attributeFits w n) (attributeSize w) a attrs ≡ true) where
-    pub fields-fit : FieldsFit w (formOf w n defs p parts a attrs)
+    pub fields-fit : FieldsFit w (formOfBodies w n defs p parts a attrs)
     unfolding definitions attributes
     fields-fit =
         record {
@@ -111,14 +111,14 @@ module _ {w n : ℕ} {defs : Bytes} {p : ℕ} {parts : Bytes} {a : ℕ} {attrs :
               attrs (laid .attributes) (omega (arith, laid .bodies .attributeBody .whole)) c));
         }
 
-    module _ (b : bodiesFit (formOf w n defs p parts a attrs) ≡ true) where
-      models : modelsFit (length (definitions n defs)) (definitions n defs) (particles p parts) ≡ true
-      models = bodies-of (formOf w n defs p parts a attrs) b .models
+    module _ (b : bodiesFit (formOfBodies w n defs p parts a attrs) ≡ true) where
+      models : modelsFit (length (definitions n defs)) (definitions n defs) (particlesRead p parts) ≡ true
+      models = bodies-of (formOfBodies w n defs p parts a attrs) b .models
 
       -- the counts give the particles that are there
       pub before-all : before n (definitions n defs) ≡ p
       before-all = ap (λ (k : ℕ). before k (definitions n defs)) (sym (definitions-length n defs))
-          ∙ models-whole (length (definitions n defs)) (definitions n defs) (particles p parts) models ∙ particles-length p parts
+          ∙ models-whole (length (definitions n defs)) (definitions n defs) (particlesRead p parts) models ∙ particles-length p parts
 
       start-all : startAt defs n ≤ p
       unfolding startAt
@@ -128,34 +128,34 @@ module _ {w n : ℕ} {defs : Bytes} {p : ℕ} {parts : Bytes} {a : ℕ} {attrs :
       long = omega (arith, laid .bodies .particleBody .whole)
 
       readable : Readable defs parts n p
-      unfolding definitions particles
+      unfolding definitions particlesRead
       readable = record {
         few = start-all;
         long = long;
-        once = bodies-of (formOf w n defs p parts a attrs) b .apart;
-        shaped = all-shaped (length (definitions n defs)) (definitions n defs) (particles p parts) (fields-fit .definitions) models;
+        once = bodies-of (formOfBodies w n defs p parts a attrs) b .apart;
+        shaped = all-shaped (length (definitions n defs)) (definitions n defs) (particlesRead p parts) (fields-fit .definitions) models;
       }
 
-      members-are : (i : ℕ) → i < n → membersIn defs parts i ≡ elementsIn (partAt i (definitions n defs) (particles p parts))
-      unfolding definitions particles
+      members-are : (i : ℕ) → i < n → membersIn defs parts i ≡ elementsIn (partAt i (definitions n defs) (particlesRead p parts))
+      unfolding definitions particlesRead
       members-are i l =
-          members-read defs parts n p start-all long i l ∙ ap elementsIn (model-is-part i (definitions n defs) (particles p parts))
+          members-read defs parts n p start-all long i l ∙ ap elementsIn (model-is-part i (definitions n defs) (particlesRead p parts))
 
       within : Within n (membersIn defs parts)
       within i l j m =
-          let size : length (reads.formOf (formOf w n defs p parts a attrs)) ≡ n = form-size (formOf w n defs p parts a attrs) ∙ definitions-length n defs in
-          let x : ModelRead (reads.formOf (formOf w n defs p parts a attrs)) (form-apart w (formOf w n defs p parts a attrs) fields-fit b)
-          (partAt i (definitions n defs) (particles p parts)) =
-          model-at w (formOf w n defs p parts a attrs) fields-fit b i (omega arith) in
+          let size : length (reads.formOf (formOfBodies w n defs p parts a attrs)) ≡ n = form-size (formOfBodies w n defs p parts a attrs) ∙ definitions-length n defs in
+          let x : ModelRead (reads.formOf (formOfBodies w n defs p parts a attrs)) (form-apart w (formOfBodies w n defs p parts a attrs) fields-fit b)
+          (partAt i (definitions n defs) (particlesRead p parts)) =
+          model-at w (formOfBodies w n defs p parts a attrs) fields-fit b i (omega arith) in
           omega (
             arith,
-            every-at (λ k. k < length (reads.formOf (formOf w n defs p parts a attrs))) j (names (indexMembers (build (partAt i (definitions n defs) (particles p parts)) 0))) (x .below)
+            every-at (λ k. k < length (reads.formOf (formOfBodies w n defs p parts a attrs))) j (names (indexMembers (build (partAt i (definitions n defs) (particlesRead p parts)) 0))) (x .below)
                 (subst (λ (ks : List ℕ). List·Memᴰ j ks) (members-are i l ∙ sym (x .indices)) m),
           )
 
       -- the members that the bytes have are those of the form that is read
-      pub members-indexed : Indexed (membersIn defs parts) (unflat (formOf w n defs p parts a attrs) .form)
-      unfolding definitions particles
+      pub members-indexed : Indexed (membersIn defs parts) (unflat (formOfBodies w n defs p parts a attrs) .form)
+      unfolding definitions particlesRead
       members-indexed = form-read readable (attributes w a attrs) within
 
       -- the part of a definition is there
@@ -163,6 +163,6 @@ module _ {w n : ℕ} {defs : Bytes} {p : ℕ} {parts : Bytes} {a : ℕ} {attrs :
       part-room i l = omega (arith, start-room defs n i l, start-all)
 
       -- the heights fit just where no definition reaches itself
-      pub circle-fit : {r : Heights} → Ranked n (membersIn defs parts) r → (r .fit ≡ true) ↔ ((x : Bytes) → Reaches (unflat (formOf w n defs p parts a attrs) .form) x x → ⊥)
-      unfolding definitions particles
+      pub circle-fit : {r : Heights} → Ranked n (membersIn defs parts) r → (r .fit ≡ true) ↔ ((x : Bytes) → Reaches (unflat (formOfBodies w n defs p parts a attrs) .form) x x → ⊥)
+      unfolding definitions particlesRead
       circle-fit {r} k = (λ e. fit-read readable (attributes w a attrs) k .0 e .1, λ f. fit-read readable (attributes w a attrs) k .1 (within, f))

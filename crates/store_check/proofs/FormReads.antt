@@ -23,7 +23,7 @@ use Rattle.rules.proofs.BooleanLaws.{Every, every-map, none-nil}
 use Rattle.rules.proofs.TestLaws.{distinct-test}
 use Rattle.rules.proofs.RenamingPlaces.{names-rename}
 use Rattle.form_check.specs.FormTests.{definitionsApart, elementsIn, modelFits, modelsFit, ownersRise, attributesApart, bodiesFit}
-use Rattle.store_check.specs.Reading.{DefinitionFits, AttributeFits, FieldsFit, indexMembers, partAt, noDefinition}
+use Rattle.store_check.specs.Reading.{DefinitionFits, AttributeFits, FieldsFit, indexMembers, partAt, noFlatDefinition}
 use Rattle.store_check.proofs.IndexLaws.{namesOf}
 use Rattle.store_check.proofs.ModelReads.{Fills, ModelRead, model-read, read-index, members-read, kind-back}
 use Rattle.store_check.proofs.AttributeReads.{attributes-back}
@@ -44,7 +44,7 @@ every-index P (d ∷ form) f = (f 0 (omega arith), every-index P form (λ i l. f
 
 -- definition i, as it is read
 abbrev pub readAt : List Bytes → ℕ → ℕ → List FlatDefinition → List (Deep FlatParticle) → List FlatAttribute → Definition
-readAt ns o i ds ps cs = record { name = getD ds i noDefinition .name; content = contentOf (getD ds i noDefinition .kind) (readMembers ns (build (partAt i ds ps) 0)); attributes = ofOwner (o + i) cs }
+readAt ns o i ds ps cs = record { name = getD ds i noFlatDefinition .name; content = contentOf (getD ds i noFlatDefinition .kind) (readMembers ns (build (partAt i ds ps) 0)); attributes = ofOwner (o + i) cs }
 
 pub definition-at : (ns : List Bytes) (o i : ℕ) (ds : List FlatDefinition) (ps : List (Deep FlatParticle)) (cs : List FlatAttribute) → i < length ds
     → definitionAt i (readForm ns o ds ps cs) ≡ readAt ns o i ds ps cs
@@ -54,8 +54,8 @@ definition-at ns o zero (d ∷ ds) ps cs l =
 definition-at ns o (suc i) (d ∷ ds) ps cs l =
     definition-at ns (suc o) i ds (drop (d .particles) ps) cs (omega arith)
     ∙ ap (λ (k : ℕ). record {
-      name = getD ds i noDefinition .name;
-      content = contentOf (getD ds i noDefinition .kind) (readMembers ns (build (partAt i ds (drop (d .particles) ps)) 0));
+      name = getD ds i noFlatDefinition .name;
+      content = contentOf (getD ds i noFlatDefinition .kind) (readMembers ns (build (partAt i ds (drop (d .particles) ps)) 0));
       attributes = ofOwner k cs;
     })
     (let e : suc o + i ≡ o + suc i = omega arith in e)
@@ -89,7 +89,7 @@ record PartFits (n kind : ℕ) (part : List (Deep FlatParticle)) : Type 0 where
   model : modelFits n part ≡ true
 
 part-at : (n i : ℕ) (ds : List FlatDefinition) (ps : List (Deep FlatParticle)) → i < length ds → Every DefinitionFits ds → modelsFit n ds ps ≡ true
-    → PartFits n (getD ds i noDefinition .kind) (partAt i ds ps)
+    → PartFits n (getD ds i noFlatDefinition .kind) (partAt i ds ps)
 part-at n i [] ps l h m = absurd (omega arith)
 part-at n zero (d ∷ ds) ps l h m = record { filled = fills d ps (h .0); model = parts n d ds ps m .first }
 part-at n (suc i) (d ∷ ds) ps l h m = part-at n i ds (drop (d .particles) ps) (omega arith) (h .1) (parts n d ds ps m .others)
@@ -189,19 +189,19 @@ module _ (w : ℕ) (f : FlatStore) (fit : FieldsFit w f) (bodies : bodiesFit f �
     pub read-at : definitionAt i (formOf f) ≡ readAt (namesOf (formOf f)) 0 i (f .definitions) (f .particles) (f .attributes)
     read-at = ap (λ (z : Form). definitionAt i z) again ∙ definition-at (namesOf (formOf f)) 0 i (f .definitions) (f .particles) (f .attributes) short
 
-    fits : PartFits (length (formOf f)) (getD (f .definitions) i noDefinition .kind) (partAt i (f .definitions) (f .particles))
+    fits : PartFits (length (formOf f)) (getD (f .definitions) i noFlatDefinition .kind) (partAt i (f .definitions) (f .particles))
     fits = part-at (length (formOf f)) i (f .definitions) (f .particles) short (fit .definitions) models-fit
 
     pub model-at : ModelRead (formOf f) form-apart (partAt i (f .definitions) (f .particles))
     model-at = model-read (formOf f) form-apart (partAt i (f .definitions) (f .particles)) (fits .model)
 
-    pub kind-at : kindCode (definitionAt i (formOf f) .content) ≡ getD (f .definitions) i noDefinition .kind
+    pub kind-at : kindCode (definitionAt i (formOf f) .content) ≡ getD (f .definitions) i noFlatDefinition .kind
     kind-at = ap (λ (d : Definition). kindCode (d .content)) read-at
-        ∙ kind-back (getD (f .definitions) i noDefinition .kind) (readMembers (namesOf (formOf f)) (build (partAt i (f .definitions) (f .particles)) 0))
+        ∙ kind-back (getD (f .definitions) i noFlatDefinition .kind) (readMembers (namesOf (formOf f)) (build (partAt i (f .definitions) (f .particles)) 0))
         (fits .filled .most)
 
     pub members-at : members (definitionAt i (formOf f)) ≡ readMembers (namesOf (formOf f)) (build (partAt i (f .definitions) (f .particles)) 0)
-    members-at = ap (λ (d : Definition). members d) read-at ∙ members-read (namesOf (formOf f)) (getD (f .definitions) i noDefinition .kind) (partAt i (f .definitions) (f .particles)) (fits .filled)
+    members-at = ap (λ (d : Definition). members d) read-at ∙ members-read (namesOf (formOf f)) (getD (f .definitions) i noFlatDefinition .kind) (partAt i (f .definitions) (f .particles)) (fits .filled)
 
     -- the model is the one over indices, with names for the indices
     pub model-renamed : members (definitionAt i (formOf f)) ≡ rename (λ j. nameAt j (namesOf (formOf f))) (indexMembers (build (partAt i (f .definitions) (f .particles)) 0))

@@ -13,13 +13,13 @@ use Rattle.rules.specs.Decode.{nameAt, quantifierOf, groupOf, readDefinition, r
 use Rattle.rules.specs.Conforming.{mustBePresent, allows}
 use Rattle.codec.proofs.Strings.{part-there}
 use Rattle.codec.proofs.Records.{many-at}
-use Rattle.model.specs.Members.{particlesOf, membersFrom, membersOf}
+use Rattle.model.specs.Members.{particlesOf, membersFrom, allMembers}
 use Rattle.model.specs.Members as model
-use Rattle.form_check.specs.Bodies.{definitions, particles, attributes, formOf}
+use Rattle.form_check.specs.Bodies.{definitions, particlesRead, attributes, formOfBodies}
 use Rattle.form_check.proofs.Reading.{definitions-length, attributes-length, particles-part}
 use Rattle.form_index.specs.Reading.{definitionIn, attributeIn, particlesBefore, modelPart}
 use Rattle.form_index.specs.Reading as bytes
-use Rattle.store_check.specs.Reading.{FieldsFit, indexMember, indexMembers, partAt, noDefinition, noAttribute, entryOf, formAt, Agrees}
+use Rattle.store_check.specs.Reading.{FieldsFit, indexMember, indexMembers, partAt, noFlatDefinition, noAttribute, entryOf, formAt, Agrees}
 use Rattle.store_check.specs.Check.{FormPasses}
 use Rattle.store_check.proofs.IndexLaws.{namesOf, distinct-unmap}
 use Rattle.store_check.proofs.ModelReads.{ModelRead, read-names}
@@ -41,13 +41,13 @@ members-same (tree p b t) = by (p .sort) (members-same b) (members-same t)
 
 -- of c particles after b others
 part-members : (p : ℕ) (parts : Bytes) (b c : ℕ) → particleSize * p ≡ length parts → b + c ≤ p
-    → membersOf (take (particleSize * c) (drop (particleSize * b) parts)) ≡ indexMembers (build (take c (drop b (particles p parts))) 0)
-unfolding membersFrom particlesOf particles
+    → allMembers (take (particleSize * c) (drop (particleSize * b) parts)) ≡ indexMembers (build (take c (drop b (particlesRead p parts))) 0)
+unfolding membersFrom particlesOf particlesRead
 part-members p parts b c whole l =
     ap (λ (k : ℕ). model.indexMembers (build (readMany readParticle particleSize k (take (particleSize * c) (drop (particleSize * b) parts))) 0)) count
     ∙ ap (λ (s : Bytes). model.indexMembers (build (readMany readParticle particleSize c s) 0)) (sym (part-there (particleSize * b) (particleSize * c) parts (omega arith)))
     ∙ ap (λ (ps : List (Deep FlatParticle)). model.indexMembers (build ps 0)) (particles-part b c p parts l whole)
-    ∙ members-same (build (take c (drop b (particles p parts))) 0)
+    ∙ members-same (build (take c (drop b (particlesRead p parts))) 0)
   where
     count : length (take (particleSize * c) (drop (particleSize * b) parts)) / particleSize ≡ c
     count =
@@ -57,7 +57,7 @@ part-members p parts b c whole l =
 
 module _ {w n : ℕ} {defs : Bytes} {p : ℕ} {parts : Bytes} {a : ℕ} {attrs : Bytes} (laid : Laid w n defs p parts a attrs) (x : FormPasses w n defs p parts a attrs) where
   abbrev f : FlatStore
-  f = formOf w n defs p parts a attrs
+  f = formOfBodies w n defs p parts a attrs
 
   fields : FieldsFit w f
   fields = fields-fit laid (x .definitions) (x .attributes)
@@ -65,9 +65,9 @@ module _ {w n : ℕ} {defs : Bytes} {p : ℕ} {parts : Bytes} {a : ℕ} {attrs :
   agrees : (version : ℕ) → Agrees version (formAt version f) (unflat f .form)
   agrees version = form-agrees w f fields (x .bodies) version
 
-  pub definition-in : (i : ℕ) → i < n → definitionIn defs i ≡ getD (definitions n defs) i noDefinition
+  pub definition-in : (i : ℕ) → i < n → definitionIn defs i ≡ getD (definitions n defs) i noFlatDefinition
   unfolding definitions
-  definition-in i l = sym (many-at readDefinition definitionSize i n defs noDefinition l)
+  definition-in i l = sym (many-at readDefinition definitionSize i n defs noFlatDefinition l)
 
   pub attribute-in : (j : ℕ) → j < a → attributeIn w attrs j ≡ entryOf j (attributes w a attrs)
   unfolding attributes
@@ -77,17 +77,17 @@ module _ {w n : ℕ} {defs : Bytes} {p : ℕ} {parts : Bytes} {a : ℕ} {attrs :
   unfolding particlesBefore
   before-in = before-is (particlesBefore defs) (λ i. definitionIn defs i .particles) n (definitions n defs) refl (λ i. refl) (λ i l. ap (λ (d : FlatDefinition). d .particles) (definition-in i l))
 
-  pub model-in : (i : ℕ) → i < n → membersOf (modelPart defs parts i) ≡ indexMembers (build (partAt i (definitions n defs) (particles p parts)) 0)
+  pub model-in : (i : ℕ) → i < n → allMembers (modelPart defs parts i) ≡ indexMembers (build (partAt i (definitions n defs) (particlesRead p parts)) 0)
   unfolding modelPart
   model-in i l =
-      let c : definitionIn defs i .particles ≡ getD (definitions n defs) i noDefinition .particles = ap (λ (d : FlatDefinition). d .particles) (definition-in i l) in
+      let c : definitionIn defs i .particles ≡ getD (definitions n defs) i noFlatDefinition .particles = ap (λ (d : FlatDefinition). d .particles) (definition-in i l) in
       let b : particlesBefore defs i ≡ before i (definitions n defs) = before-in i (omega arith) in
-      ap₂ (λ (k m : ℕ). membersOf (take (particleSize * k) (drop (particleSize * m) parts))) c b
-      ∙ part-members p parts (before i (definitions n defs)) (getD (definitions n defs) i noDefinition .particles) (laid .bodies .particleBody .whole)
+      ap₂ (λ (k m : ℕ). allMembers (take (particleSize * k) (drop (particleSize * m) parts))) c b
+      ∙ part-members p parts (before i (definitions n defs)) (getD (definitions n defs) i noFlatDefinition .particles) (laid .bodies .particleBody .whole)
       (room i l)
-      ∙ ap (λ (ps : List (Deep FlatParticle)). indexMembers (build ps 0)) (sym (part-cut i (definitions n defs) (particles p parts)))
+      ∙ ap (λ (ps : List (Deep FlatParticle)). indexMembers (build ps 0)) (sym (part-cut i (definitions n defs) (particlesRead p parts)))
     where
-      room : (i : ℕ) → i < n → before i (definitions n defs) + getD (definitions n defs) i noDefinition .particles ≤ p
+      room : (i : ℕ) → i < n → before i (definitions n defs) + getD (definitions n defs) i noFlatDefinition .particles ≤ p
       room i l =
           let e : before (length (definitions n defs)) (definitions n defs) ≡ p =
           ap (λ (k : ℕ). before k (definitions n defs)) (definitions-length n defs) ∙ before-all laid (x .definitions) (x .attributes) (x .bodies) in
@@ -113,11 +113,11 @@ module _ {w n : ℕ} {defs : Bytes} {p : ℕ} {parts : Bytes} {a : ℕ} {attrs :
       short j l = omega (arith, agrees version .attributes, attributes-length w a attrs)
 
   -- ---- no model names an element twice
-  once-in : (i : ℕ) → i < n → Distinct (names (indexMembers (build (partAt i (definitions n defs) (particles p parts)) 0)))
+  once-in : (i : ℕ) → i < n → Distinct (names (indexMembers (build (partAt i (definitions n defs) (particlesRead p parts)) 0)))
   once-in i l =
-      let r : ModelRead (unflat f .form) (form-apart w f fields (x .bodies)) (partAt i (definitions n defs) (particles p parts)) = model-at w f fields (x .bodies) i (omega (arith, form-count)) in
-      distinct-unmap (λ j. nameAt j (namesOf (unflat f .form))) (names (indexMembers (build (partAt i (definitions n defs) (particles p parts)) 0)))
-      (subst (λ (ns : List Bytes). Distinct ns) (read-names (namesOf (unflat f .form)) (build (partAt i (definitions n defs) (particles p parts)) 0)) (r .once))
+      let r : ModelRead (unflat f .form) (form-apart w f fields (x .bodies)) (partAt i (definitions n defs) (particlesRead p parts)) = model-at w f fields (x .bodies) i (omega (arith, form-count)) in
+      distinct-unmap (λ j. nameAt j (namesOf (unflat f .form))) (names (indexMembers (build (partAt i (definitions n defs) (particlesRead p parts)) 0)))
+      (subst (λ (ns : List Bytes). Distinct ns) (read-names (namesOf (unflat f .form)) (build (partAt i (definitions n defs) (particlesRead p parts)) 0)) (r .once))
 
   pub index-once : (version i : ℕ) → i < n → Distinct (names (bytes.indexForm version w n defs parts attrs a .model i))
   index-once version i l = subst (λ (m : Members ℕ). Distinct (names m)) (sym (model-in i l)) (once-in i l)

@@ -4,7 +4,7 @@ use native.Mathlib.Omega.{arith}
 use mathlib.Core.Path.{_≡_, refl, ap, ap₂, _∙_, sym, subst}
 use mathlib.Core.Logic.{_⊎_, inl, inr}
 use mathlib.Core.Bool.{true, false, not}
-use mathlib.Core.List.{List, [], _∷_, _++_, map, List·Memᴰ, List·Memᴰ·head, List·Memᴰ·tail, Memᴰ·append-left, Memᴰ·append-right, append-assoc, append-nil, map-append}
+use mathlib.Core.List.{List, [], _∷_, _++_, map, List·Memᴰ, List·Memᴰ·head, List·Memᴰ·tail, Memᴰ·append-left, Memᴰ·append-right, append-assoc, map-append}
 use lib.Dec.{leb}
 use lib.ListN.{length, length-append}
 use lib.Seq.{take-append-seam, drop-append-seam}
@@ -27,6 +27,7 @@ use Rattle.form_check.specs.FormTests.{particleFits, shaped, elementsIn, modelF
 use Rattle.store_check.specs.Reading.{DefinitionFits}
 use Rattle.store_check.proofs.IndexLaws.{known-index, index-once, distinct-map}
 use Rattle.circle_check.proofs.ReadLaws.{elements-append}
+use Rattle.row_check.proofs.Depths.{flatten-rises}
 
 pub rising-flatten : {A : Type 0} (d k : ℕ) (t : Forest A) (rest : List (Deep A)) → d ≤ k → ((j : ℕ) → d ≤ j → rising j rest ≡ true) → rising k (flatten d t ++ rest) ≡ true
 rising-flatten d k bare rest l h = h k l
@@ -34,9 +35,6 @@ rising-flatten {A} d k (tree r b t) rest l h =
     and-both (le-leb d k l)
     (subst (λ (z : List (Deep A)). rising (suc d) z ≡ true) (sym (append-assoc (flatten (suc d) b) (flatten d t) rest))
     (rising-flatten (suc d) (suc d) b (flatten d t ++ rest) (omega arith) (λ j m. rising-flatten d j t rest (omega arith) h)))
-
-pub rising-forest : {A : Type 0} (t : Forest A) → rising 0 (flatten 0 t) ≡ true
-rising-forest {A} t = ap (λ (z : List (Deep A)). rising 0 z) (sym (append-nil (flatten 0 t))) ∙ rising-flatten 0 0 t [] (omega arith) (λ j l. refl)
 
 quantifier-most : (q : Quantifier) → leb (quantifierCode q) 3 ≡ true
 quantifier-most None = refl
@@ -101,7 +99,7 @@ module _ (form : Form) where
   model-written pcdata g h = refl
   model-written (complex ms) g h =
       and-both h
-      (and-both (rising-forest (particles form ms))
+      (and-both (flatten-rises (particles form ms))
       (and-both (ap (λ (z : Forest FlatParticle). shaped (length form) z) (build-flatten (particles form ms)) ∙ shaped-written ms (g .inRange) (g .groups))
       (distinct-test numbers (elementsIn (flatten 0 (particles form ms))) .1
       (rw (elements-written 0 ms)

@@ -8,15 +8,15 @@ use Rattle.rules.specs.Bytes.{Bytes}
 use Rattle.rules.specs.Layout.{headerSize, definitionSize, attributeSize, rowSize}
 use Rattle.rules.specs.Decode.{definitionCount, attributeCount, rowCount}
 use Rattle.rules.proofs.Words.{and-both, and-split}
-use Rattle.records.specs.Records.{definitionFits, attributeFits, rowFits, eachFits, atAttributes, atRows, bodiesFit}
+use Rattle.records.specs.Records.{definitionFits, attributeFits, rowFits, eachFits, atAttributes, atRows, recordsFit}
 
 pub record EachFits (w : ℕ) (bs : Bytes) : Type 0 where
   pub definitions : eachFits definitionFits definitionSize (definitionCount bs) (drop headerSize bs) ≡ true
   pub attributes : eachFits (attributeFits w (definitionCount bs)) (attributeSize w) (attributeCount bs) (drop (atAttributes bs) bs) ≡ true
   pub rows : eachFits (rowFits w) (rowSize w) (rowCount bs) (drop (atRows w bs) bs) ≡ true
 
-pub each-fits : (w : ℕ) (bs : Bytes) → (bodiesFit w bs ≡ true) ↔ EachFits w bs
-unfolding bodiesFit
+pub each-fits : (w : ℕ) (bs : Bytes) → (recordsFit w bs ≡ true) ↔ EachFits w bs
+unfolding recordsFit
 each-fits w bs = (
   λ h.
       let (d, h₁) = and-split (eachFits definitionFits definitionSize (definitionCount bs) (drop headerSize bs)) _ h in

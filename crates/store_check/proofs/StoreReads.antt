@@ -6,7 +6,6 @@ use mathlib.Core.Path.{_≡_, refl, ap, _∙_, sym, subst}
 use mathlib.Core.Logic.{_↔_}
 use mathlib.Core.Bool.{Bool, true, _&&_}
 use mathlib.Core.List.{List, [], _∷_, _++_, map, map-append}
-use borrow.Author.Tests.{le-leb}
 use Rattle.rules.specs.Bytes.{Bytes, isNone}
 use Rattle.rules.specs.Store.{Form, RowSort, element, attribute, text, Row, Forest, bare, tree, Store}
 use Rattle.rules.specs.Preorder.{Deep, flatten, build}
@@ -20,12 +19,12 @@ use Rattle.rules.proofs.BooleanLaws.{Every, every-append, every-map, none-nil}
 use Rattle.rules.proofs.PreorderLaws.{build-flatten}
 use Rattle.rules.proofs.LayoutLaws.{unle-le, read-bytes}
 use Rattle.rules.proofs.SerialLaws.{good-serials}
-use Rattle.rules.proofs.WellFormedLaws.{well-formed, no-circle}
+use Rattle.rules.proofs.WellFormedLaws.{well-formed, no-circle, none-value}
 use Rattle.rules.proofs.PassingLaws.{good-is}
 use Rattle.rules.proofs.DecodeLaws.{attributeNames, unflat-flat, good-flat, good-known, good-found, passes-tests}
 use Rattle.form_check.specs.FormTests.{bodiesFit}
 use Rattle.form_index.specs.Indices.{IndexForm}
-use Rattle.store_check.specs.Reading.{FieldsFit, indexForm, Agrees, PlainRow, RowFits, ReadsAs, serialsIn, serialsFit, Checks, FlatPasses}
+use Rattle.store_check.specs.Reading.{FieldsFit, flatIndexForm, Agrees, PlainRow, RowFits, ReadsAs, serialsOfRows, serialsFit, Checks, FlatPasses}
 use Rattle.store_check.proofs.IndexLaws.{namesOf}
 use Rattle.store_check.proofs.AttributeReads.{every-left, every-right}
 use Rattle.store_check.proofs.FormReads.{formOf, form-names, read-definitions, read-particles, read-attributes}
@@ -37,9 +36,6 @@ pub docs-read : (w : ℕ) (f : FlatStore) → FieldsFit w f → bodiesFit f ≡ 
 docs-read w f fit bodies = λ i. readRows (form-names f i) (map flatAttributeName (read-attributes w f fit bodies i)) (build (f .rows) 0)
 
 -- ---- values
-none-value : (w : ℕ) → isValue w [] ≡ true
-none-value w = and-both (le-leb 0 w (omega arith)) refl
-
 fits-sort : (w : ℕ) (form : Form) (owner : Bytes) (r : Row) (s : RowSort)
     → elim s as (λ z. Bool) [ element ↦ isNone (r .value) | attribute ↦ isValue w (r .value) | text ↦ isValue w (r .value) && isNone (r .name) ] ≡ true
     → RowFits w (record {
@@ -82,7 +78,7 @@ rows-laid w form d (tree x b t) h = (
 )
 
 -- ---- serials
-serials-written : (form : Form) (d : ℕ) (owner : Bytes) (t : Forest Row) → serialsIn (flatten d (indexed form owner t)) ≡ serials t
+serials-written : (form : Form) (d : ℕ) (owner : Bytes) (t : Forest Row) → serialsOfRows (flatten d (indexed form owner t)) ≡ serials t
 serials-written form d owner bare = refl
 serials-written form d owner (tree r b t) =
     ap (λ (z : List ℕ). r .serial ∷ z)
@@ -106,7 +102,7 @@ module _ (f : FlatStore) (fit : FieldsFit (valueWidth (f .version)) f) (bodies :
         circle = no-circle (valueWidth (f .version)) (formOf f) ok;
         rows = subst (λ (xs : List (Deep FlatRow)). Every (λ x. RowFits (valueWidth (f .version)) (x .row)) xs) rows (rows-fit (valueWidth (f .version)) (formOf f) 0 [] (unflat f .docs) (s .values));
         documents = documents-written (valueWidth (f .version)) (formOf f) ok F agrees (f .rows) (unflat f .docs) rows (s .docs);
-        serials = ap (λ (xs : List (Deep FlatRow)). serialsFit (f .next) (serialsIn xs)) (sym rows)
+        serials = ap (λ (xs : List (Deep FlatRow)). serialsFit (f .next) (serialsOfRows xs)) (sym rows)
             ∙ ap (serialsFit (f .next)) (serials-written (formOf f) 0 [] (unflat f .docs))
             ∙ serials-are (f .next) (unflat f .docs)
             ∙ good-serials (f .next) (unflat f .docs) .1 (s .serials);
@@ -152,7 +148,7 @@ module _ (f : FlatStore) (fit : FieldsFit (valueWidth (f .version)) f) (bodies :
           values = laid;
           serials = good-serials (f .next) (unflat f .docs) .0
               (sym (serials-are (f .next) (unflat f .docs))
-              ∙ ap (serialsFit (f .next)) (sym (serials-written (formOf f) 0 [] (unflat f .docs)) ∙ ap serialsIn (reads .rows))
+              ∙ ap (serialsFit (f .next)) (sym (serials-written (formOf f) 0 [] (unflat f .docs)) ∙ ap serialsOfRows (reads .rows))
               ∙ c .serials);
         }
 
@@ -165,7 +161,7 @@ pub flat-passes : (f : FlatStore) → ((s : Store) × (flat s ≡ f) × (good s 
 flat-passes f = (
   λ (s, e, g). subst FlatPasses e (to s g),
   λ p.
-      let (g, e) = checks-read f (p .fields) (p .bodies) (indexForm f) (form-agrees (valueWidth (f .version)) f (p .fields) (p .bodies) (f .version)) .1 (p .checks) in
+      let (g, e) = checks-read f (p .fields) (p .bodies) (flatIndexForm f) (form-agrees (valueWidth (f .version)) f (p .fields) (p .bodies) (f .version)) .1 (p .checks) in
       (unflat f, e, g),
 )
   where
@@ -177,7 +173,7 @@ flat-passes f = (
         record {
           fields = fit;
           bodies = bodies;
-          checks = checks-read (flat s) fit bodies (indexForm (flat s)) (form-agrees (valueWidth (s .version)) (flat s) fit bodies (s .version)) .0 (ap good back ∙ g, ap flat back);
+          checks = checks-read (flat s) fit bodies (flatIndexForm (flat s)) (form-agrees (valueWidth (s .version)) (flat s) fit bodies (s .version)) .0 (ap good back ∙ g, ap flat back);
         }
 
 -- a byte string passes just where it is written from bodies that do

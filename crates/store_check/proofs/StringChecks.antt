@@ -28,12 +28,12 @@ use Rattle.records.specs.Records as records
 use Rattle.records.proofs.RecordLaws.{small-take, small-drop, FittingDefinition, FittingAttribute, FittingRow, each-fits-cut}
 use Rattle.records.proofs.StringLaws.{FittingHeader, header-fields, string-canonical, FittingFlat, string-fields, store-header-fits, store-bodies-fit}
 use Rattle.form_check.specs.FormTests.{bodiesFit}
-use Rattle.form_check.specs.Bodies.{definitions, particles, attributes, formOf}
+use Rattle.form_check.specs.Bodies.{definitions, particlesRead, attributes, formOfBodies}
 use Rattle.form_check.proofs.Laws.{bodies-only}
-use Rattle.serial_check.specs.Serials.{serialOf, serialsOf, fitting}
+use Rattle.serial_check.specs.Serials.{serialOfDeep, serialsOf, fitting}
 use Rattle.form_index.specs.Indices.{IndexForm, Documents}
-use Rattle.store_check.specs.Reading.{DefinitionFits, AttributeFits, FieldsFit, indexForm, Agrees, RowFits, serialsIn, serialsFit, Checks, FlatPasses}
-use Rattle.layout.specs.Bodies.{widthOf, shapeOf, attributesStart, rowsStart, definitionBody, particleBody, attributeBody, rowBody, definitionsIn, particlesIn, attributesIn, rowsIn}
+use Rattle.store_check.specs.Reading.{DefinitionFits, AttributeFits, FieldsFit, flatIndexForm, Agrees, RowFits, serialsOfRows, serialsFit, Checks, FlatPasses}
+use Rattle.layout.specs.Bodies.{widthOf, shapeOf, attributesStart, rowsStart, definitionBody, particleBody, attributeBody, rowBody, definitionsIn, particlesIn, attributesIn, treeRowsIn}
 use Rattle.store_check.specs.Check.{FormIn, RowsPass, SerialsIn}
 use Rattle.store_check.proofs.FormGood.{form-agrees, ceilings-counted}
 use Rattle.store_check.proofs.StoreReads.{checks-read, flatOf, passes-read}
@@ -61,10 +61,10 @@ passes-header bs q =
     subst (λ (ys : Bytes). headerFits (widthOf ys) ys ≡ true) e (subst (λ (w : ℕ). headerFits w (encode s) ≡ true) (sym (version-read s g)) (store-header-fits s g))
 
 -- .. and bodies that fit
-passes-bodies : (bs : Bytes) → passes bs ≡ true → records.bodiesFit (widthOf bs) bs ≡ true
+passes-bodies : (bs : Bytes) → passes bs ≡ true → records.recordsFit (widthOf bs) bs ≡ true
 passes-bodies bs q =
     let (s, e, g) = passes-tests bs .0 q in
-    subst (λ (ys : Bytes). records.bodiesFit (widthOf ys) ys ≡ true) e (subst (λ (w : ℕ). records.bodiesFit w (encode s) ≡ true) (sym (version-read s g)) (store-bodies-fit s g))
+    subst (λ (ys : Bytes). records.recordsFit (widthOf ys) ys ≡ true) e (subst (λ (w : ℕ). records.recordsFit w (encode s) ≡ true) (sym (version-read s g)) (store-bodies-fit s g))
 
 -- bytes whose header fits
 pub record Headed (bs : Bytes) : Type 0 where
@@ -88,7 +88,7 @@ module _ {bs : Bytes} (h : Headed bs) where
   unfolding attributeBody attributesStart shapeOf
   attributes-cut = refl
 
-  rows-cut : rowsIn bs ≡ take (rowSize (widthOf bs) * rowCount bs) (drop (atRows (widthOf bs) bs) bs)
+  rows-cut : treeRowsIn bs ≡ take (rowSize (widthOf bs) * rowCount bs) (drop (atRows (widthOf bs) bs) bs)
   unfolding rowBody rowsStart attributesStart shapeOf
   rows-cut = refl
 
@@ -110,10 +110,10 @@ module _ {bs : Bytes} (h : Headed bs) where
         attributes = cut-small (atAttributes bs) (attributeSize (widthOf bs) * attributeCount bs) attributes-cut;
       }
 
-  pub rows-whole : rowSize (widthOf bs) * rowCount bs ≡ length (rowsIn bs)
+  pub rows-whole : rowSize (widthOf bs) * rowCount bs ≡ length (treeRowsIn bs)
   rows-whole = cut-length (atRows (widthOf bs) bs) (rowSize (widthOf bs) * rowCount bs) rows-cut (omega (arith, header .size))
 
-  pub rows-small : Small (rowsIn bs)
+  pub rows-small : Small (treeRowsIn bs)
   rows-small = cut-small (atRows (widthOf bs) bs) (rowSize (widthOf bs) * rowCount bs) rows-cut
 
   -- ---- what is read of them
@@ -122,8 +122,8 @@ module _ {bs : Bytes} (h : Headed bs) where
   same-definitions =
       sym (ap (readMany readDefinition definitionSize (definitionCount bs)) definitions-cut ∙ many-within readDefinition definitionSize (definitionCount bs) (drop headerSize bs))
 
-  pub same-particles : flatOf bs .particles ≡ particles (particleCount bs) (particlesIn bs)
-  unfolding particles
+  pub same-particles : flatOf bs .particles ≡ particlesRead (particleCount bs) (particlesIn bs)
+  unfolding particlesRead
   same-particles =
       ap (readMany readParticle particleSize (particleCount bs)) (drop-drop (definitionSize * definitionCount bs) headerSize bs)
       ∙ sym (ap (readMany readParticle particleSize (particleCount bs)) particles-cut ∙ many-within readParticle particleSize (particleCount bs) (drop (atParticles bs) bs))
@@ -141,7 +141,7 @@ module _ {bs : Bytes} (h : Headed bs) where
       (ap (readMany readAttribute (attributeSize (widthOf bs)) (attributeCount bs)) attributes-cut
       ∙ many-within readAttribute (attributeSize (widthOf bs)) (attributeCount bs) (drop (atAttributes bs) bs))
 
-  pub same-rows : flatOf bs .rows ≡ readMany readRow (rowSize (widthOf bs)) (rowCount bs) (rowsIn bs)
+  pub same-rows : flatOf bs .rows ≡ readMany readRow (rowSize (widthOf bs)) (rowCount bs) (treeRowsIn bs)
   unfolding widthOf
   same-rows =
       ap (readMany readRow (rowSize (widthOf bs)) (rowCount bs))
@@ -150,7 +150,7 @@ module _ {bs : Bytes} (h : Headed bs) where
 
   -- the form alone
   abbrev pub formIn : FlatStore
-  formIn = formOf (widthOf bs) (definitionCount bs) (definitionsIn bs) (particleCount bs) (particlesIn bs) (attributeCount bs) (attributesIn bs)
+  formIn = formOfBodies (widthOf bs) (definitionCount bs) (definitionsIn bs) (particleCount bs) (particlesIn bs) (attributeCount bs) (attributesIn bs)
 
   pub same-form : unflat (flatOf bs) .form ≡ unflat formIn .form
   same-form = λ i. readForm (map flatName (same-definitions i)) 0 (same-definitions i) (same-particles i) (same-attributes i)
@@ -158,9 +158,9 @@ module _ {bs : Bytes} (h : Headed bs) where
   same-bodies : bodiesFit (flatOf bs) ≡ bodiesFit formIn
   same-bodies = bodies-only (flatOf bs) formIn same-definitions same-particles same-attributes
 
-  same-serials : serialsIn (flatOf bs .rows) ≡ serialsOf (widthOf bs) (rowCount bs) (rowsIn bs)
+  same-serials : serialsOfRows (flatOf bs .rows) ≡ serialsOf (widthOf bs) (rowCount bs) (treeRowsIn bs)
   unfolding serialsOf
-  same-serials = ap (λ (xs : List (Deep FlatRow)). map serialOf xs) same-rows
+  same-serials = ap (λ (xs : List (Deep FlatRow)). map serialOfDeep xs) same-rows
 
   -- ---- record by record
   definitions-each : eachFits definitionFits definitionSize (definitionCount bs) (definitionsIn bs) ≡ eachFits definitionFits definitionSize (definitionCount bs) (drop headerSize bs)
@@ -175,7 +175,7 @@ module _ {bs : Bytes} (h : Headed bs) where
       ∙ each-fits-cut (attributeFits (widthOf bs) (definitionCount bs)) (attributeSize (widthOf bs)) (attributeCount bs)
       (attributeSize (widthOf bs) * attributeCount bs) (drop (atAttributes bs) bs) (omega arith)
 
-  rows-each : eachFits (rowFits (widthOf bs)) (rowSize (widthOf bs)) (rowCount bs) (rowsIn bs) ≡ eachFits (rowFits (widthOf bs)) (rowSize (widthOf bs)) (rowCount bs) (drop (atRows (widthOf bs) bs) bs)
+  rows-each : eachFits (rowFits (widthOf bs)) (rowSize (widthOf bs)) (rowCount bs) (treeRowsIn bs) ≡ eachFits (rowFits (widthOf bs)) (rowSize (widthOf bs)) (rowCount bs) (drop (atRows (widthOf bs) bs) bs)
   rows-each =
       ap (eachFits (rowFits (widthOf bs)) (rowSize (widthOf bs)) (rowCount bs)) rows-cut
       ∙ each-fits-cut (rowFits (widthOf bs)) (rowSize (widthOf bs)) (rowCount bs) (rowSize (widthOf bs) * rowCount bs) (drop (atRows (widthOf bs) bs) bs) (omega arith)
@@ -183,7 +183,7 @@ module _ {bs : Bytes} (h : Headed bs) where
   -- ---- the tests; F: the form by index
   module _ (F : IndexForm) (agrees : FormIn bs → Agrees (numberAt 0 4 bs) F (unflat formIn .form)) where
     abbrev Tests : Type 0
-    Tests = FormIn bs × RowsPass (widthOf bs) F (rowCount bs) (rowsIn bs) × SerialsIn bs
+    Tests = FormIn bs × RowsPass (widthOf bs) F (rowCount bs) (treeRowsIn bs) × SerialsIn bs
 
     checks-as : (G H : IndexForm) → FieldsFit (widthOf bs) (flatOf bs) → bodiesFit (flatOf bs) ≡ true → Agrees (numberAt 0 4 bs) G (unflat (flatOf bs) .form)
         → Agrees (numberAt 0 4 bs) H (unflat (flatOf bs) .form) → Checks G (flatOf bs) → Checks H (flatOf bs)
@@ -208,11 +208,11 @@ module _ {bs : Bytes} (h : Headed bs) where
           };
         } in
         let c : Checks F (flatOf bs) =
-        checks-as (indexForm (flatOf bs)) F (p .fields) (p .bodies) (form-agrees (widthOf bs) (flatOf bs) (p .fields) (p .bodies) (numberAt 0 4 bs))
+        checks-as (flatIndexForm (flatOf bs)) F (p .fields) (p .bodies) (form-agrees (widthOf bs) (flatOf bs) (p .fields) (p .bodies) (numberAt 0 4 bs))
         (agrees-read form) (p .checks) in (
           form,
           record { fields = rows-each ∙ each .rows; documents = subst (λ (xs : List (Deep FlatRow)). Documents F xs) same-rows (c .documents) },
-          record { fits = ap (fitting (numberAt 4 4 bs)) (sym same-serials) ∙ serials-told (numberAt 4 4 bs) (serialsIn (flatOf bs .rows)) (header .next) (next-most each) .0 (c .serials) },
+          record { fits = ap (fitting (numberAt 4 4 bs)) (sym same-serials) ∙ serials-told (numberAt 4 4 bs) (serialsOfRows (flatOf bs .rows)) (header .next) (next-most each) .0 (c .serials) },
         )
       where
         next-most : EachFits (widthOf bs) bs → numberAt 4 4 bs ≤ highestNumber
@@ -221,7 +221,7 @@ module _ {bs : Bytes} (h : Headed bs) where
     passes← : Tests → passes bs ≡ true
     unfolding widthOf
     passes← (form, rows, serials) =
-        let each : records.bodiesFit (widthOf bs) bs ≡ true =
+        let each : records.recordsFit (widthOf bs) bs ≡ true =
         each-fits (widthOf bs) bs .1
         (record {
           definitions = sym definitions-each ∙ form .passes .definitions;
@@ -246,17 +246,17 @@ module _ {bs : Bytes} (h : Headed bs) where
           circle = subst (λ (z : Form). (x : Bytes) → Reaches z x x → ⊥) (sym same-form) (form .passes .circle);
           rows = every-map (FittingRow (widthOf bs)) (λ x. RowFits (widthOf bs) (x .row)) (flatOf bs .rows) (row-told (widthOf bs)) (f .rows);
           documents = subst (λ (xs : List (Deep FlatRow)). Documents F xs) (sym same-rows) (rows .documents);
-          serials = serials-told (numberAt 4 4 bs) (serialsIn (flatOf bs .rows)) (header .next) (omega (arith, f .most)) .1 (ap (fitting (numberAt 4 4 bs)) same-serials ∙ serials .fits);
+          serials = serials-told (numberAt 4 4 bs) (serialsOfRows (flatOf bs .rows)) (header .next) (omega (arith, f .most)) .1 (ap (fitting (numberAt 4 4 bs)) same-serials ∙ serials .fits);
         } in
         passes-read bs .1 (
           string-canonical (widthOf bs) bs (h .small) (h .header) each,
           record {
             fields = fields;
             bodies = bodies;
-            checks = checks-as F (indexForm (flatOf bs)) fields bodies (agrees-read form)
+            checks = checks-as F (flatIndexForm (flatOf bs)) fields bodies (agrees-read form)
                 (form-agrees (widthOf bs) (flatOf bs) fields bodies (numberAt 0 4 bs)) c;
           },
         )
 
-    pub passes-in : (passes bs ≡ true) ↔ (FormIn bs × RowsPass (widthOf bs) F (rowCount bs) (rowsIn bs) × SerialsIn bs)
+    pub passes-in : (passes bs ≡ true) ↔ (FormIn bs × RowsPass (widthOf bs) F (rowCount bs) (treeRowsIn bs) × SerialsIn bs)
     passes-in = (passes→, passes←)

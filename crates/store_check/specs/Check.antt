@@ -6,10 +6,10 @@ use Rattle.rules.specs.Bytes.{Bytes}
 use Rattle.rules.specs.Layout.{definitionSize, particleSize, attributeSize, rowSize}
 use Rattle.rules.specs.Decode.{numberAt, readRow, readMany, definitionCount, particleCount, attributeCount, rowCount, unflat}
 use Rattle.rules.specs.WellFormed.{Reaches}
-use Rattle.layout.specs.Bodies.{widthOf, definitionsIn, particlesIn, attributesIn, rowsIn}
+use Rattle.layout.specs.Bodies.{widthOf, definitionsIn, particlesIn, attributesIn, treeRowsIn}
 use Rattle.records.specs.Records.{definitionFits, attributeFits, rowFits, eachFits}
 use Rattle.form_check.specs.FormTests.{bodiesFit}
-use Rattle.form_check.specs.Bodies.{formOf}
+use Rattle.form_check.specs.Bodies.{formOfBodies}
 use Rattle.serial_check.specs.Serials.{serialsOf, fitting}
 use Rattle.form_index.specs.Indices.{IndexForm, Documents}
 use Rattle.form_index.specs.Reading.{indexForm}
@@ -19,8 +19,8 @@ use Rattle.form_index.specs.Reading.{indexForm}
 pub record FormPasses (w n : ℕ) (defs : Bytes) (p : ℕ) (parts : Bytes) (a : ℕ) (attrs : Bytes) : Type 0 where
   pub definitions : eachFits definitionFits definitionSize n defs ≡ true
   pub attributes : eachFits (attributeFits w n) (attributeSize w) a attrs ≡ true
-  pub bodies : bodiesFit (formOf w n defs p parts a attrs) ≡ true
-  pub circle : (x : Bytes) → Reaches (unflat (formOf w n defs p parts a attrs) .form) x x → ⊥
+  pub bodies : bodiesFit (formOfBodies w n defs p parts a attrs) ≡ true
+  pub circle : (x : Bytes) → Reaches (unflat (formOfBodies w n defs p parts a attrs) .form) x x → ⊥
 
 -- of a byte string
 pub record FormIn (bs : Bytes) : Type 0 where
@@ -34,7 +34,7 @@ pub record RowsPass (w : ℕ) (F : IndexForm) (count : ℕ) (rows : Bytes) : Typ
 
 -- of a byte string
 pub record RowsIn (bs : Bytes) : Type 0 where
-  pub passes : RowsPass (widthOf bs) (indexForm (numberAt 0 4 bs) (widthOf bs) (definitionCount bs) (definitionsIn bs) (particlesIn bs) (attributesIn bs) (attributeCount bs)) (rowCount bs) (rowsIn bs)
+  pub passes : RowsPass (widthOf bs) (indexForm (numberAt 0 4 bs) (widthOf bs) (definitionCount bs) (definitionsIn bs) (particlesIn bs) (attributesIn bs) (attributeCount bs)) (rowCount bs) (treeRowsIn bs)
 
 pub record SerialsIn (bs : Bytes) : Type 0 where
-  pub fits : fitting (numberAt 4 4 bs) (serialsOf (widthOf bs) (rowCount bs) (rowsIn bs)) ≡ true
+  pub fits : fitting (numberAt 4 4 bs) (serialsOf (widthOf bs) (rowCount bs) (treeRowsIn bs)) ≡ true

@@ -54,8 +54,8 @@ partAt zero (d ∷ ds) ps = take (d .particles) ps
 partAt (suc i) (d ∷ ds) ps = partAt i ds (drop (d .particles) ps)
 
 -- ---- the form by index
-abbrev pub noDefinition : FlatDefinition
-noDefinition = record { name = []; kind = 0; particles = 0 }
+abbrev pub noFlatDefinition : FlatDefinition
+noFlatDefinition = record { name = []; kind = 0; particles = 0 }
 
 abbrev pub noAttribute : FlatAttribute
 noAttribute = record { owner = 0; name = []; sort = 0; value = [] }
@@ -68,7 +68,7 @@ abbrev pub formAt : ℕ → FlatStore → IndexForm
 formAt version f =
     record {
       size = length (f .definitions);
-      kind = λ i. getD (f .definitions) i noDefinition .kind;
+      kind = λ i. getD (f .definitions) i noFlatDefinition .kind;
       model = λ i. indexMembers (build (partAt i (f .definitions) (f .particles)) 0);
       attributes = length (f .attributes);
       owner = λ j. entryOf j (f .attributes) .owner;
@@ -76,8 +76,8 @@ formAt version f =
       allows = λ j v. allows (sortOf (entryOf j (f .attributes) .sort)) (entryOf j (f .attributes) .value) v;
     }
 
-abbrev pub indexForm : FlatStore → IndexForm
-indexForm f = formAt (f .version) f
+abbrev pub flatIndexForm : FlatStore → IndexForm
+flatIndexForm f = formAt (f .version) f
 
 -- an index form says what a form says in a store of a version
 pub record Agrees (version : ℕ) (F : IndexForm) (form : Form) : Type 0 where
@@ -110,8 +110,8 @@ pub record ReadsAs (version : ℕ) (form : Form) (xs : List (Deep FlatRow)) (doc
   pub unnamed : EveryRow (λ r below. r .sort ≡ text → r .name ≡ []) docs
 
 -- ---- the whole store
-abbrev pub serialsIn : List (Deep FlatRow) → List ℕ
-serialsIn xs = map (λ (x : Deep FlatRow). x .row .serial) xs
+abbrev pub serialsOfRows : List (Deep FlatRow) → List ℕ
+serialsOfRows xs = map (λ (x : Deep FlatRow). x .row .serial) xs
 
 unfoldable pub serialsFit : ℕ → List ℕ → Bool
 serialsFit next ks = distinct numbers ks && (all (λ k. leb 1 k && ltb k next) ks && (leb 1 next && leb next highestNumber))
@@ -123,10 +123,10 @@ pub record Checks (F : IndexForm) (f : FlatStore) : Type 0 where
   pub circle : (n : Bytes) → Reaches (unflat f .form) n n → ⊥
   pub rows : Every (λ x. RowFits (valueWidth (f .version)) (x .row)) (f .rows)
   pub documents : Documents F (f .rows)
-  pub serials : serialsFit (f .next) (serialsIn (f .rows)) ≡ true
+  pub serials : serialsFit (f .next) (serialsOfRows (f .rows)) ≡ true
 
 -- all tests
 pub record FlatPasses (f : FlatStore) : Type 0 where
   pub fields : FieldsFit (valueWidth (f .version)) f
   pub bodies : bodiesFit f ≡ true
-  pub checks : Checks (indexForm f) f
+  pub checks : Checks (flatIndexForm f) f

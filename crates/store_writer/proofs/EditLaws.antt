@@ -24,7 +24,7 @@ use Rattle.row_writer.proofs.WrittenLaws.{written-fitting, length-numbered}
 use Rattle.row_walk.specs.declared.Plan.{Plan}
 use Rattle.store_writer.specs.Stores.{limited}
 use Rattle.store_writer.specs.Planned.{rowsAfter, plannedIn}
-use Rattle.store_writer.specs.Forms.{formIn, Forms}
+use Rattle.store_writer.specs.Forms.{formRead, Forms}
 use Rattle.store_writer.specs.Writing.{walkFrom, Counted}
 use Rattle.store_writer.proofs.StoreLaws.{Holds, width-of-bodies}
 use Rattle.store_writer.proofs.LimitLaws.{answers-refused, answers-wrote, limited-ceiling, limited-serials, limited-buffer, limited-none}
@@ -45,15 +45,15 @@ module _ {bs : Bytes} (h : Holds bs) {form : Bytes} {d p a : ℕ} (x : Forms (wi
   next = f .next + newIn xs
 
   abbrev after : FlatStore
-  after = plannedIn (formIn (widthOf bs) form d p a) plan v f
+  after = plannedIn (formRead (widthOf bs) form d p a) plan v f
 
-  after-is : after ≡ reformed f (formIn (widthOf bs) form d p a) next (numbered (f .next) xs)
+  after-is : after ≡ reformed f (formRead (widthOf bs) form d p a) next (numbered (f .next) xs)
   unfolding plannedIn
   after-is = refl
 
   ceilings : withinCeilings after ≡ leb (length xs) 4096
   ceilings =
-      ap withinCeilings after-is ∙ ceilings-rows f (formIn (widthOf bs) form d p a) next (numbered (f .next) xs) (x .ceilings) ∙ ap (λ (n : ℕ). leb n 4096) (length-numbered (f .next) xs)
+      ap withinCeilings after-is ∙ ceilings-rows f (formRead (widthOf bs) form d p a) next (numbered (f .next) xs) (x .ceilings) ∙ ap (λ (n : ℕ). leb n 4096) (length-numbered (f .next) xs)
 
   next-after : after .next ≡ next
   unfolding plannedIn

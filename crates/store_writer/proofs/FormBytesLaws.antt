@@ -19,10 +19,10 @@ use Rattle.layout.specs.Bodies.{widthOf}
 use Rattle.layout.specs.Header.{contents, headed}
 use Rattle.layout.proofs.HeaderLaws.{attributes-short, headed-short}
 use Rattle.lookup.specs.Bodies.{bodiesOf}
-use Rattle.lookup.proofs.Laws.{length-many}
-use Rattle.store_writer.specs.Forms.{formBytes, formIn, Forms}
+use Rattle.store_writer.specs.Forms.{formBytes, formRead, Forms}
 use Rattle.store_writer.specs.Writing.{Heads}
 use Rattle.store_writer.proofs.StoreLaws.{Holds, width-of-bodies}
+use Rattle.codec.proofs.Records.{length-many}
 
 -- ---- a form by its bytes
 pub length-form : (w : ℕ) (g : FlatStore) → length (formBytes w g) ≡ definitionSize * length (g .definitions) + (particleSize * length (g .particles) + attributeSize w * length (g .attributes))
@@ -44,16 +44,16 @@ form-then w g rest =
     sym (append-assoc d (p ++ a) rest ∙ ap (λ (l : Bytes). d ++ l) (append-assoc p a rest))
 
 module _ (w : ℕ) (form : Bytes) (d p a : ℕ) where
-  pub count-definitions : length (formIn w form d p a .definitions) ≡ d
-  unfolding formIn
+  pub count-definitions : length (formRead w form d p a .definitions) ≡ d
+  unfolding formRead
   count-definitions = length-many readDefinition definitionSize d form
 
-  pub count-particles : length (formIn w form d p a .particles) ≡ p
-  unfolding formIn
+  pub count-particles : length (formRead w form d p a .particles) ≡ p
+  unfolding formRead
   count-particles = length-many readParticle particleSize p (drop (definitionSize * d) form)
 
-  pub count-attributes : length (formIn w form d p a .attributes) ≡ a
-  unfolding formIn
+  pub count-attributes : length (formRead w form d p a .attributes) ≡ a
+  unfolding formRead
   count-attributes = length-many readAttribute (attributeSize w) a (drop (particleSize * p) (drop (definitionSize * d) form))
 
 -- what the ceilings allow of a form
@@ -93,7 +93,7 @@ ceilings-rows f g next rows h = let x : Few g = few-of g h in λ i. x .definitio
 
 module _ {w : ℕ} {form : Bytes} {d p a : ℕ} (x : Forms w form d p a) (f : FlatStore) (next : ℕ) (rows : List (Deep FlatRow)) where
   abbrev g : FlatStore
-  g = formIn w form d p a
+  g = formRead w form d p a
 
   pub reformed-length : length (flatBytes w (reformed f g next rows)) ≡ headerSize + length form + rowSize w * length rows
   reformed-length = omega (arith, length-flatBytes w (reformed f g next rows), length-form w g, ap length (x .written))
@@ -114,8 +114,8 @@ module _ {w : ℕ} {form : Bytes} {d p a : ℕ} (x : Forms w form d p a) (f : Fl
 
 -- ---- as the code writes them
 module _ {w : ℕ} {form : Bytes} {d p a : ℕ} (x : Forms w form d p a) where
-  few : Few (formIn w form d p a)
-  few = few-of (formIn w form d p a) (x .ceilings)
+  few : Few (formRead w form d p a)
+  few = few-of (formRead w form d p a) (x .ceilings)
 
   -- the widest value that a version has is 96 bytes long
   pub form-short : w ≤ 96 → length form ≤ 9728
@@ -123,10 +123,10 @@ module _ {w : ℕ} {form : Bytes} {d p a : ℕ} (x : Forms w form d p a) where
       omega (
         arith,
         ap length (x .written),
-        length-form w (formIn w form d p a),
+        length-form w (formRead w form d p a),
         few-definitions few,
         few-particles few,
-        attributes-short w (length (formIn w form d p a .attributes)) h (few-attributes few),
+        attributes-short w (length (formRead w form d p a .attributes)) h (few-attributes few),
       )
 
   pub heads-of : {next r : ℕ} → w ≤ 96 → next ≤ 4294967295 → r ≤ 4096 → Heads form next d p a r

@@ -18,19 +18,19 @@ use Rattle.rules.proofs.Words.{and-split}
 use Rattle.rules.proofs.BooleanLaws.{Every}
 use Rattle.rules.proofs.LayoutLaws.{GoodFlatDefinition, GoodFlatAttribute, GoodFlat, unle-le, read-bytes, length-flatBytes}
 use Rattle.rules.proofs.DecodeLaws.{good-flat}
-use Rattle.lookup.specs.Bodies.{bodiesOf, rowStart, Begins}
+use Rattle.lookup.specs.Bodies.{bodiesOf, rowsStartIn, RowsBegin}
 use Rattle.layout.specs.Bodies.{widthOf, Number}
-use Rattle.lookup.proofs.Laws.{length-many}
 use Rattle.row_walk.specs.declared.Plan.{Plan}
 use Rattle.store_writer.specs.Stores.{storeIn, limited}
 use Rattle.store_writer.specs.Planned.{planned, plannedIn}
-use Rattle.store_writer.specs.Forms.{formBytes, formIn, Forms}
+use Rattle.store_writer.specs.Forms.{formBytes, formRead, Forms}
 use Rattle.store_writer.proofs.StoreLaws.{Holds, width-of-bodies}
 use Rattle.store_writer.proofs.LimitLaws.{answers-refused, limited-ceiling}
 use Rattle.store_writer.proofs.CallLaws.{answers-as}
 use Rattle.store_writer.proofs.FormBytesLaws.{Few, few-of, few-definitions, few-particles, few-attributes, form-then, length-form, whole, ceilings-rows}
+use Rattle.codec.proofs.Records.{length-many}
 
--- the form of g alone, as `formIn` reads it
+-- the form of g alone, as `formRead` reads it
 abbrev pub bareForm : FlatStore → FlatStore
 bareForm g = record { version = 0; next = 0; definitions = g .definitions; particles = g .particles; attributes = g .attributes; rows = [] }
 
@@ -70,19 +70,19 @@ module _ {w : ℕ} {g : FlatStore} {form : Bytes} {d p a : ℕ} (x : FormOf w g 
       (each definitionBytes (g .definitions) ++ (each particleBytes (g .particles) ++ append-nil (each (attributeBytes w) (g .attributes)) i)))
       ∙ read-bytes w (bareForm g) fine
 
-  pub read-form : formIn w form d p a ≡ bareForm g
-  unfolding formIn
+  pub read-form : formRead w form d p a ≡ bareForm g
+  unfolding formRead
   read-form = (λ i. readBodies w 0 0 (x .definitionCount i) (x .particleCount i) (x .attributeCount i) 0 (x .bytes i)) ∙ read-again
 
   pub forms-of : Forms w form d p a
   forms-of = record { written = ap (formBytes w) read-form ∙ sym (x .bytes); ceilings = ap withinCeilings read-form ∙ x .ceilings }
 
   -- the store after a plan, by the form itself
-  pub planned-of : (plan : Plan) (v : Bytes) (f : FlatStore) → plannedIn (formIn w form d p a) plan v f ≡ plannedIn g plan v f
+  pub planned-of : (plan : Plan) (v : Bytes) (f : FlatStore) → plannedIn (formRead w form d p a) plan v f ≡ plannedIn g plan v f
   unfolding plannedIn
   planned-of plan v f = ap (λ (z : FlatStore). plannedIn z plan v f) read-form
 
-  pub form-answers : (plan : Plan) (v : Bytes) (f : FlatStore) (room : ℕ) {out : Bytes} {number len : ℕ} {left : Bytes} → Answers (limited room (plannedIn (formIn w form d p a) plan v f)) out number len left
+  pub form-answers : (plan : Plan) (v : Bytes) (f : FlatStore) (room : ℕ) {out : Bytes} {number len : ℕ} {left : Bytes} → Answers (limited room (plannedIn (formRead w form d p a) plan v f)) out number len left
       → Answers (limited room (plannedIn g plan v f)) out number len left
   form-answers plan v f room r = answers-as (ap (limited room) (sym (planned-of plan v f))) r
 
@@ -121,19 +121,19 @@ module _ (bs : Bytes) where
   unfolding bodiesOf widthOf
   counted-attributes = sym (length-many readAttribute (attributeSize (widthOf bs)) (attributeCount bs) _)
 
-  start-is : rowStart bs ≡ headerSize + length (formBytes (widthOf bs) (bodiesOf bs))
-  unfolding rowStart
+  start-is : rowsStartIn bs ≡ headerSize + length (formBytes (widthOf bs) (bodiesOf bs))
+  unfolding rowsStartIn
   start-is =
       let e : attributeSize (widthOf bs) * attributeCount bs ≡ attributeSize (widthOf bs) * length (bodiesOf bs .attributes) = ap (λ (n : ℕ). attributeSize (widthOf bs) * n) counted-attributes in
       omega (arith, length-form (widthOf bs) (bodiesOf bs), counted-definitions, counted-particles, e)
 
-form-at : {bs : Bytes} → Holds bs → take (rowStart bs - headerSize) (drop headerSize bs) ≡ formBytes (widthOf bs) (bodiesOf bs)
+form-at : {bs : Bytes} → Holds bs → take (rowsStartIn bs - headerSize) (drop headerSize bs) ≡ formBytes (widthOf bs) (bodiesOf bs)
 form-at {bs} h =
     let f : FlatStore = bodiesOf bs in
     let w : ℕ = widthOf bs in
-    let e : length (formBytes w f) ≡ rowStart bs - headerSize = omega (arith, start-is bs) in
-    ap (λ (l : Bytes). take (rowStart bs - headerSize) (drop headerSize l)) (sym (whole h)) ∙ ap (take (rowStart bs - headerSize)) (form-then w f (each (rowBytes w) (f .rows)))
-    ∙ take-at (formBytes w f) (each (rowBytes w) (f .rows)) (rowStart bs - headerSize) e
+    let e : length (formBytes w f) ≡ rowsStartIn bs - headerSize = omega (arith, start-is bs) in
+    ap (λ (l : Bytes). take (rowsStartIn bs - headerSize) (drop headerSize l)) (sym (whole h)) ∙ ap (take (rowsStartIn bs - headerSize)) (form-then w f (each (rowBytes w) (f .rows)))
+    ∙ take-at (formBytes w f) (each (rowBytes w) (f .rows)) (rowsStartIn bs - headerSize) e
 
 pub good-bodies : {bs : Bytes} → Holds bs → GoodFlat (widthOf bs) (bodiesOf bs)
 good-bodies {bs} h =
@@ -141,7 +141,7 @@ good-bodies {bs} h =
     (subst (λ (f : FlatStore). GoodFlat (valueWidth (f .version)) f) (sym (h .bodies)) (good-flat (storeIn bs) (h .good)))
 
 -- `head` and `start`: where the code finds that the form begins and ends
-pub own-form : {bs : Bytes} → Holds bs → {head start d p a : ℕ} → head ≡ headerSize → Begins bs start → Number (definitionCount bs) d → Number (particleCount bs) p → Number (attributeCount bs) a → FormOf (widthOf bs) (bodiesOf bs) (take (start - head) (drop head bs)) d p a
+pub own-form : {bs : Bytes} → Holds bs → {head start d p a : ℕ} → head ≡ headerSize → RowsBegin bs start → Number (definitionCount bs) d → Number (particleCount bs) p → Number (attributeCount bs) a → FormOf (widthOf bs) (bodiesOf bs) (take (start - head) (drop head bs)) d p a
 own-form {bs} h e b n m k =
     let w : GoodFlat (widthOf bs) (bodiesOf bs) = good-bodies h in
     record {
@@ -154,14 +154,14 @@ own-form {bs} h e b n m k =
       ceilings = ceilings-rows (bareForm (bodiesOf bs)) (bodiesOf bs) 0 [] (within h);
     }
 
-pub start-within : {bs : Bytes} → Holds bs → {start : ℕ} → Begins bs start → (headerSize ≤ start) × (start ≤ length bs)
+pub start-within : {bs : Bytes} → Holds bs → {start : ℕ} → RowsBegin bs start → (headerSize ≤ start) × (start ≤ length bs)
 start-within {bs} h b = (omega (arith, b .start, start-is bs), omega (arith, b .start, start-is bs, ap length (whole h), length-form (widthOf bs) (bodiesOf bs), length-flatBytes (widthOf bs) (bodiesOf bs)))
 
-planned-same : (plan : Plan) (v : Bytes) (f : FlatStore) → plannedIn f plan v f ≡ planned plan v f
+pub planned-same : (plan : Plan) (v : Bytes) (f : FlatStore) → plannedIn f plan v f ≡ planned plan v f
 unfolding plannedIn planned
 planned-same plan v f = refl
 
 -- an edit that leaves the form as it is
-pub own-answers : {w : ℕ} {f : FlatStore} {form : Bytes} {d p a : ℕ} → FormOf w f form d p a → (plan : Plan) (v : Bytes) (room : ℕ) {out : Bytes} {number len : ℕ} {left : Bytes} → Answers (limited room (plannedIn (formIn w form d p a) plan v f)) out number len left
+pub own-answers : {w : ℕ} {f : FlatStore} {form : Bytes} {d p a : ℕ} → FormOf w f form d p a → (plan : Plan) (v : Bytes) (room : ℕ) {out : Bytes} {number len : ℕ} {left : Bytes} → Answers (limited room (plannedIn (formRead w form d p a) plan v f)) out number len left
     → Answers (limited room (planned plan v f)) out number len left
 own-answers {f} x plan v room r = answers-as (ap (limited room) (sym (planned-of x plan v f ∙ planned-same plan v f))) r

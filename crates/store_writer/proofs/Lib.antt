@@ -8,3 +8,6 @@ pub mod PartLaws
 pub mod WalkLaws
 pub mod StillLaws
 pub mod EditLaws
+pub mod Encoded
+pub mod StoreFacts
+pub mod AttributeOwners

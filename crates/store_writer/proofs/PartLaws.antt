@@ -14,7 +14,7 @@ use Rattle.rules.specs.Layout.{particleSize, FlatParticle}
 use Rattle.rules.specs.Decode.{readMany, readParticle, particleCount}
 use Rattle.model.specs.Members.{indexMembers, particlesOf, membersFrom}
 use Rattle.model.proofs.MembersLaws.{particles-few, particles-more}
-use Rattle.form_check.specs.Bodies.{particles}
+use Rattle.form_check.specs.Bodies.{particlesRead}
 use Rattle.store_check.proofs.StringChecks.{Headed, laid-in, same-particles}
 use Rattle.lookup.specs.Bodies.{bodiesOf}
 use Rattle.layout.specs.Bodies.{widthOf, particlesIn}
@@ -34,12 +34,12 @@ particles-from (suc k) s = by (ltb (length s) particleSize) refl (particles-from
         let n : particleSize * suc k ≡ particleSize + particleSize * k = omega arith in
         ap (λ (m : ℕ). particlesOf (drop m s)) n ∙ sym (ap particlesOf (drop-drop (particleSize * k) particleSize s)) ∙ f ∙ sym (ap (λ (l : List (Deep FlatParticle)). drop (suc k) l) (particles-more s long))
 
-all-particles : {bs : Bytes} → Headed bs → particlesOf (particlesIn bs) ≡ particles (particleCount bs) (particlesIn bs)
-unfolding particlesOf particles
+all-particles : {bs : Bytes} → Headed bs → particlesOf (particlesIn bs) ≡ particlesRead (particleCount bs) (particlesIn bs)
+unfolding particlesOf particlesRead
 all-particles {bs} h =
     let e : length (particlesIn bs) / particleSize ≡ particleCount bs = omega (arith, laid-in h .bodies .particleBody .whole) in
     ap (λ (k : ℕ). readMany readParticle particleSize k (particlesIn bs)) e
 
-pub members-at : {bs : Bytes} → Headed bs → (k e : ℕ) → bytes.membersAt (particlesIn bs) k e ≡ membersAt (bodiesOf bs) k e
-unfolding bytes.membersAt membersAt membersFrom bodiesOf widthOf
+pub members-at : {bs : Bytes} → Headed bs → (k e : ℕ) → bytes.membersReadAt (particlesIn bs) k e ≡ membersAt (bodiesOf bs) k e
+unfolding bytes.membersReadAt membersAt membersFrom bodiesOf widthOf
 members-at {bs} h k e = ap (λ (l : List (Deep FlatParticle)). indexMembers (build l e)) (particles-from k (particlesIn bs) ∙ ap (λ (l : List (Deep FlatParticle)). drop k l) (all-particles h ∙ sym (same-particles h)))

@@ -4,17 +4,15 @@ use native.Mathlib.Omega.{arith}
 use mathlib.Core.Path.{_≡_, refl, sym, ap, ap₂, _∙_, subst}
 use mathlib.Core.Bool.{Bool, true, false, _&&_, _||_, not, and-false, false≢true}
 use mathlib.Core.List.{List, [], _∷_, _++_, map}
-use lib.Dec.{eqb}
 use lib.ListN.{length, length-map}
 use borrow.Author.Tests.{ne-eqb}
 use Rattle.rules.specs.Bytes.{Bytes}
 use Rattle.rules.specs.Preorder.{Deep}
-use Rattle.rules.specs.Layout.{FlatRow, FlatStore, rowSize, flat}
+use Rattle.rules.specs.Layout.{FlatRow, FlatStore, rowSize}
 use Rattle.rules.specs.Decode.{numberAt, readRow, rowCount}
 use Rattle.rules.specs.Passing.{passes}
 use Rattle.rules.proofs.BooleanLaws.{Every}
-use Rattle.rules.proofs.DecodeLaws.{GoodParts, good-parts}
-use Rattle.records.proofs.RecordLaws.{length-many}
+use Rattle.rules.proofs.DecodeLaws.{good-parts}
 use Rattle.lookup.specs.Bodies.{bodiesOf}
 use Rattle.layout.specs.Bodies.{widthOf, Number}
 use Rattle.row_writer.specs.declared.Cursor.{Cursor}
@@ -23,12 +21,13 @@ use Rattle.row_walk.specs.declared.Which.{Which}
 use Rattle.row_walk.specs.declared.Which.the-variants.{Nothing, Everything, Ground, Elements, Attributes, Serial}
 use Rattle.row_walk.specs.declared.Plan.{Plan}
 use Rattle.row_walk.specs.declared.Open.{Open}
-use Rattle.row_walk.specs.Walk.{matches, isEverything, isGround, keptRow, closes, closed, isBelow, isTaken, isFilled, taken, kept, owed, rowDepth, emitted, onward, walked, atFirst}
+use Rattle.row_walk.specs.Walk.{matches, isEverything, namesGround, keptRow, closes, closed, isBelow, isTaken, isFilled, taken, kept, owed, rowDepth, emitted, nextOpen, walked, atFirst}
 use Rattle.store_writer.specs.Stores.{storeIn}
 use Rattle.store_writer.specs.Planned.{fillOf, rowsAfter}
 use Rattle.store_writer.specs.Writing.{walkFrom, Counted, isNothing}
-use Rattle.store_writer.proofs.StoreLaws.{Holds, holds}
+use Rattle.store_writer.proofs.StoreLaws.{holds}
 use Rattle.store_writer.proofs.RowBounds.{Bounded, rows-bounded}
+use Rattle.codec.proofs.Records.{length-many}
 
 matches-none : (w : Which) (r : FlatRow) → isNothing w ≡ true → matches w r ≡ false
 matches-none Nothing r e = refl
@@ -70,8 +69,8 @@ module _ (p : Plan) (v : Bytes) (none : isNothing (p .takes) ≡ true) (dry : p 
       by true = ap (λ (d : Bool). record { taking = 0; below = suc (suc (x .depth)); due = d }) dry
       by false = refl
 
-  first-calm : atFirst p ≡ calm (elim (isGround (p .above)) as (λ z. ℕ) [ true ↦ 1 | false ↦ 0 ])
-  first-calm = by (isGround (p .above))
+  first-calm : atFirst p ≡ calm (elim (namesGround (p .above)) as (λ z. ℕ) [ true ↦ 1 | false ↦ 0 ])
+  first-calm = by (namesGround (p .above))
     where
       by : (g : Bool) → elim g as (λ z. Open) [ true ↦ record { taking = 0; below = 1; due = p .fills } | false ↦ calm 0 ] ≡ calm (elim g as (λ z. ℕ) [ true ↦ 1 | false ↦ 0 ])
       by true = ap (λ (d : Bool). record { taking = 0; below = 1; due = d }) dry
@@ -82,23 +81,23 @@ module _ (p : Plan) (v : Bytes) (none : isNothing (p .takes) ≡ true) (dry : p 
     unfolding emitted
     emitted-one b x = ap (λ (t : Bool). elim t as (λ z. List (Deep FlatRow)) [ true ↦ [] | false ↦ owed (isFilled p (calm b) x) (fill (x .depth)) ++ keptRow p v x ∷ [] ]) (not-taken (calm b) x)
 
-    onward-calm : (b : ℕ) (x : Deep FlatRow) → onward p v fill (calm b) x ≡ calm (deeper b x)
-    unfolding onward
+    onward-calm : (b : ℕ) (x : Deep FlatRow) → nextOpen p v fill (calm b) x ≡ calm (deeper b x)
+    unfolding nextOpen
     onward-calm b x = ap (λ (t : Bool). elim t as (λ z. Open) [ true ↦ taken (calm b) x | false ↦ kept p (calm b) x ]) (not-taken (calm b) x) ∙ kept-calm b x
 
     walked-calm : (b : ℕ) (xs : List (Deep FlatRow)) → walked p v fill (calm b) xs ≡ map (keptRow p v) xs
     unfolding walked
     walked-calm b [] = refl
     walked-calm b (x ∷ xs) =
-        ap (λ (t : Bool). owed t (fill (rowDepth (calm b))) ++ (emitted p v fill (closed (calm b) x) x ++ walked p v fill (onward p v fill (closed (calm b) x) x) xs)) (and-false (closes (calm b) x))
-        ∙ ap (λ (o : Open). emitted p v fill o x ++ walked p v fill (onward p v fill o x) xs) (closed-calm b x)
+        ap (λ (t : Bool). owed t (fill (rowDepth (calm b))) ++ (emitted p v fill (closed (calm b) x) x ++ walked p v fill (nextOpen p v fill (closed (calm b) x) x) xs)) (and-false (closes (calm b) x))
+        ∙ ap (λ (o : Open). emitted p v fill o x ++ walked p v fill (nextOpen p v fill o x) xs) (closed-calm b x)
         ∙ ap₂ (λ (l : List (Deep FlatRow)) (o : Open). l ++ walked p v fill o xs) (emitted-one (shallow b x) x) (onward-calm (shallow b x) x)
         ∙ ap (λ (l : List (Deep FlatRow)). keptRow p v x ∷ l) (walked-calm (deeper (shallow b x) x) xs)
 
     walked-still : (xs : List (Deep FlatRow)) → walked p v fill (atFirst p) xs ≡ map (keptRow p v) xs
     walked-still xs = ap (λ (o : Open). walked p v fill o xs) first-calm ∙ walked-calm _ xs
 
-  rows-still : (f : FlatStore) → rowsAfter p v f ≡ map (keptRow p v) (f .rows)
+  pub rows-still : (f : FlatStore) → rowsAfter p v f ≡ map (keptRow p v) (f .rows)
   unfolding rowsAfter
   rows-still f = walked-still (fillOf p v f) (f .rows)
 

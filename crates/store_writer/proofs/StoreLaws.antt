@@ -16,7 +16,7 @@ use Rattle.rules.specs.Refusal.{Condition, first, conditions, limits, refusal}
 use Rattle.rules.specs.Outcome.{Outcome, refused, unlessRefused, onStore, outcome}
 use Rattle.rules.proofs.Words.{and-split}
 use Rattle.rules.proofs.DecodeLaws.{read-good, unflat-flat, good-known, good-found}
-use Rattle.history.proofs.Conditions.{numbered, conditions-numbered}
+use Rattle.change_laws.proofs.Conditions.{numbered, conditions-numbered}
 use Rattle.layout.specs.Bodies.{widthOf}
 use Rattle.lookup.specs.Bodies.{bodiesOf}
 use Rattle.lookup.proofs.Laws.{bodies-flat}

@@ -25,7 +25,7 @@ use Rattle.store_check.proofs.StringChecks.{Headed, passes-header, laid-in, row
 use Rattle.store_check.proofs.BodiesRead.{rows-fit, read-form, read-attribute, read-rows}
 use Rattle.lookup.specs.Bodies.{bodiesOf}
 use Rattle.layout.specs.declared.Shape.{Shape}
-use Rattle.layout.specs.Bodies.{Width, widthOf, Number, shapeOf, ShapeOf, definitionBody, particleBody, attributeBody, rowBody, definitionsIn, particlesIn, attributesIn, rowsIn}
+use Rattle.layout.specs.Bodies.{Width, widthOf, Number, shapeOf, ShapeOf, definitionBody, particleBody, attributeBody, rowBody, definitionsIn, particlesIn, attributesIn, treeRowsIn}
 use Rattle.layout.proofs.LayoutLaws.{width-small, by-shape}
 use Rattle.row_writer.specs.declared.Cursor.{Cursor}
 use Rattle.row_writer.specs.Written.{Written, Room}
@@ -34,7 +34,7 @@ use Rattle.filling.specs.Fillings.{fillingRows}
 use Rattle.row_walk.specs.declared.Plan.{Plan}
 use Rattle.row_walk.specs.Walk.{walked, atFirst}
 use Rattle.filling.specs.Parts.{valueOf}
-use Rattle.row_walk.specs.Step.{fillOf, Ready, WalkRow, WalkRows}
+use Rattle.row_walk.specs.Step.{planFilling, Ready, WalkRow, WalkRows}
 use Rattle.store_writer.specs.Stores.{storeIn}
 use Rattle.store_writer.specs.Planned.{rowsAfter}
 use Rattle.store_writer.specs.Writing.{walkFrom, Sized}
@@ -64,7 +64,7 @@ pub record Reads (bs : Bytes) (version w n : ℕ) (defs parts : Bytes) (a : ℕ)
   pub parts-is : parts ≡ particlesIn bs
   pub a-is : a ≡ attributeCount bs
   pub attrs-is : attrs ≡ attributesIn bs
-  pub rows-is : rows ≡ rowsIn bs
+  pub rows-is : rows ≡ treeRowsIn bs
   pub count-is : count ≡ rowCount bs
 
 pub reads-of : {bs : Bytes} {s : Shape} {defs parts attrs rows : Bytes} → ShapeOf bs s → defs ≡ definitionBody s bs → parts ≡ particleBody s bs → attrs ≡ attributeBody s bs → rows ≡ rowBody s bs
@@ -102,25 +102,25 @@ module _ {bs : Bytes} (q : passes bs ≡ true) {version w n : ℕ} {defs parts :
   pub walk-asked : WalkRows w count rows
   unfolding bodiesOf widthOf
   walk-asked =
-      let b : readMany readRow (rowSize (widthOf bs)) (rowCount bs) (rowsIn bs) ≡ flat (storeIn bs) .rows = read-rows h ∙ ap (λ (f : FlatStore). f .rows) (holds bs q .bodies) in
+      let b : readMany readRow (rowSize (widthOf bs)) (rowCount bs) (treeRowsIn bs) ≡ flat (storeIn bs) .rows = read-rows h ∙ ap (λ (f : FlatStore). f .rows) (holds bs q .bodies) in
       subst (λ (s : Bytes). WalkRows w count s) (sym (x .rows-is))
-      (subst (λ (k : ℕ). WalkRows w k (rowsIn bs)) (sym (x .count-is))
-      (subst (λ (k : ℕ). WalkRows k (rowCount bs) (rowsIn bs)) (sym (x .w-is))
-      (walk-rows (widthOf bs) (rowCount bs) (rowsIn bs) (rows-small h) (omega (arith, rows-whole h)) (rows-fit h q) (subst (λ (ys : List (Deep FlatRow)). Every Bounded ys) (sym b) (rows-bounded (storeIn bs) (holds bs q .good))))))
+      (subst (λ (k : ℕ). WalkRows w k (treeRowsIn bs)) (sym (x .count-is))
+      (subst (λ (k : ℕ). WalkRows k (rowCount bs) (treeRowsIn bs)) (sym (x .w-is))
+      (walk-rows (widthOf bs) (rowCount bs) (treeRowsIn bs) (rows-small h) (omega (arith, rows-whole h)) (rows-fit h q) (subst (λ (ys : List (Deep FlatRow)). Every Bounded ys) (sym b) (rows-bounded (storeIn bs) (holds bs q .good))))))
 
   -- the rows that the walk leaves are those after the plan
-  rows-after : (p : Plan) (v : Bytes) → rowsAfter p v (bodiesOf bs) ≡ walked p v (fillOf version w n defs parts a attrs p v) (atFirst p) (bytes.rowsIn w count rows)
+  rows-after : (p : Plan) (v : Bytes) → rowsAfter p v (bodiesOf bs) ≡ walked p v (planFilling version w n defs parts a attrs p v) (atFirst p) (bytes.rowsIn w count rows)
   unfolding rowsAfter bodiesOf widthOf
   rows-after p v =
       sym
-      ((λ i. walked p v (fillOf (x .version-is i) (x .w-is i) (x .n-is i) (x .defs-is i) (x .parts-is i) (x .a-is i) (x .attrs-is i) p v) (atFirst p) (bytes.rowsIn (x .w-is i) (x .count-is i) (x .rows-is i)))
+      ((λ i. walked p v (planFilling (x .version-is i) (x .w-is i) (x .n-is i) (x .defs-is i) (x .parts-is i) (x .a-is i) (x .attrs-is i) p v) (atFirst p) (bytes.rowsIn (x .w-is i) (x .count-is i) (x .rows-is i)))
       ∙ (λ i. walked p v (λ d. fillingRows (read-form h q i) (λ j. valueOf (read-attribute h q j i)) (λ k e. members-at h k e i) (p .filling) v d) (atFirst p) (read-rows h i)))
 
   -- .. and written from the serials of the store on
-  pub walk-from : (p : Plan) (v : Bytes) {at next : ℕ} {out : Bytes} {r : Cursor} {out′ : Bytes} → Number (numberAt 4 4 bs) next → Written w (walked p v (fillOf version w n defs parts a attrs p v) (atFirst p) (bytes.rowsIn w count rows)) (record { at = at; left = 4097; serial = next }) out r out′
+  pub walk-from : (p : Plan) (v : Bytes) {at next : ℕ} {out : Bytes} {r : Cursor} {out′ : Bytes} → Number (numberAt 4 4 bs) next → Written w (walked p v (planFilling version w n defs parts a attrs p v) (atFirst p) (bytes.rowsIn w count rows)) (record { at = at; left = 4097; serial = next }) out r out′
       → Written (widthOf bs) (rowsAfter p v (bodiesOf bs)) (walkFrom at bs) out r out′
   walk-from p v {at} {next} {out} {r} {out′} m d =
-      let xs : List (Deep FlatRow) = walked p v (fillOf version w n defs parts a attrs p v) (atFirst p) (bytes.rowsIn w count rows) in
+      let xs : List (Deep FlatRow) = walked p v (planFilling version w n defs parts a attrs p v) (atFirst p) (bytes.rowsIn w count rows) in
       written-as (rows-after p v)
       (subst (λ (k : ℕ). Written k xs (walkFrom at bs) out r out′) (x .w-is)
       (subst (λ (k : ℕ). Written w xs (record { at = at; left = 4097; serial = k }) out r out′) (m .value) d))

@@ -13,10 +13,10 @@ abbrev pub formBytes : ℕ → FlatStore → Bytes
 formBytes w g = each definitionBytes (g .definitions) ++ (each particleBytes (g .particles) ++ each (attributeBytes w) (g .attributes))
 
 -- the form that such bytes are read as, for d definitions, p particles and a attributes; it has no version and no rows
-unfoldable pub formIn : ℕ → Bytes → ℕ → ℕ → ℕ → FlatStore
-formIn w form d p a = readBodies w 0 0 d p a 0 form
+unfoldable pub formRead : ℕ → Bytes → ℕ → ℕ → ℕ → FlatStore
+formRead w form d p a = readBodies w 0 0 d p a 0 form
 
 -- the bytes are those of the form that is read, which keeps within the ceilings
 pub record Forms (w : ℕ) (form : Bytes) (d p a : ℕ) : Type 0 where
-  pub written : formBytes w (formIn w form d p a) ≡ form
-  pub ceilings : withinCeilings (formIn w form d p a) ≡ true
+  pub written : formBytes w (formRead w form d p a) ≡ form
+  pub ceilings : withinCeilings (formRead w form d p a) ≡ true

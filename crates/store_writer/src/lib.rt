@@ -18,7 +18,7 @@ ghost use Rattle.lookup.specs.Bodies.{bodiesOf};
 ghost use Rattle.row_writer.specs.Written.{Written, Room};
 ghost use Rattle.store_writer.specs.Stores.{limited};
 ghost use Rattle.store_writer.specs.Planned.{rowsAfter, planned, plannedIn};
-ghost use Rattle.store_writer.specs.Forms.{formIn, Forms};
+ghost use Rattle.store_writer.specs.Forms.{formRead, Forms};
 ghost use Rattle.store_writer.specs.Writing.{Heads, walkFrom, Sized, isNothing, Counted};
 
 /// 0 and the length of what was written, or the number of a refusal and 0.
@@ -135,7 +135,7 @@ pub fn edit_form(
     out: &mut [u8],
 ) -> Answer
     requires { ⌜ (passes (now store) ≡ true) × (isValue (widthOf (now store)) (now text) ≡ true) × Sized plan × Forms (widthOf (now store)) (now form) d p a ⌝ }
-    ensures { λ r. ⌜ Answers (limited (length (now (out .entry))) (plannedIn (formIn (widthOf (now (store .entry))) (now (form .entry)) d p a) plan (now (text .entry)) (bodiesOf (now (store .entry))))) (now (out .entry)) (r .number) (r .length) (now (out .exit)) ⌝ }
+    ensures { λ r. ⌜ Answers (limited (length (now (out .entry))) (plannedIn (formRead (widthOf (now (store .entry))) (now (form .entry)) d p a) plan (now (text .entry)) (bodiesOf (now (store .entry))))) (now (out .entry)) (r .number) (r .length) (now (out .exit)) ⌝ }
 {
     let counted = count_after(store, plan, text);
     if counted.left == 0 {

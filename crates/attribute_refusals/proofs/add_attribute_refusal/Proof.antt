@@ -1,7 +1,6 @@
 use native.Mathlib.Omega.{arith}
-use Rattle.document_refusals.proofs.StoreFacts.{whole}
+use Rattle.store_writer.proofs.StoreFacts.{whole, bad-text, fine-text, past-definitions, within-definitions}
 use Rattle.instance_search.proofs.TestLaws.{test-is, not-is}
-use Rattle.document_refusals.proofs.RefusalLaws.{bad-text, fine-text, past-definitions, within-definitions}
 use Rattle.attribute_refusals.proofs.AttributeLaws.{add-2, add-3, add-4, add-5, add-6, add-12, add-0}
 use borrow.Author.Needs.{needs}
 use Rattle.attribute_refusals.proofs.add_attribute_refusal.Statement.{statement}

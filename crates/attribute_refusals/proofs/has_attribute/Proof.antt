@@ -1,4 +1,4 @@
-use Rattle.definition_writer.proofs.Searching.{Searching, searching-start, searching-hit, searching-on, searching-end}
+use Rattle.lookup.proofs.Searching.{Searching, searching-start, searching-hit, searching-on, searching-end}
 use Rattle.attribute_refusals.proofs.AttributeLaws.{attributes-any, own-at}
 use Rattle.attribute_refusals.specs.OwnAttributes.{ownNamed}
 use Rattle.rules.specs.Layout.{attributeSize}

@@ -1,7 +1,7 @@
 -- `circle_check::raised` meets its contract.
 use Rattle.rules.specs.Bytes.{all}
 use Rattle.circle_check.specs.Members.{elementsOf}
-use Rattle.circle_check.specs.Deep.{marked}
+use Rattle.circle_check.specs.Deep.{hasHeight}
 use Rattle.circle_check.proofs.RoundLaws.{raised-was, raised-new, raised-none}
 use borrow.Author.Needs.{needs}
 use Rattle.circle_check.proofs.raised.Statement.{statement}
@@ -11,7 +11,7 @@ returns : tie.Need-returns
 returns c =
     let start = c .before .before in
     let a = start .args in
-    raised-was (a .h) (a .was) (all (marked (a .old .now)) (elementsOf (a .model .now))) (c .if1 .taken)
+    raised-was (a .h) (a .was) (all (hasHeight (a .old .now)) (elementsOf (a .model .now))) (c .if1 .taken)
 
 settled-requires : tie.Need-settled-requires
 settled-requires c κs = search needs

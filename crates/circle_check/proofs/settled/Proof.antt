@@ -5,7 +5,7 @@ use mathlib.Core.Path.{_≡_, refl}
 use native.Mathlib.Omega.{arith}
 use Prim.Native.Nat.{_-_}
 use lib.ListN.{length, drop, length-take, length-drop}
-use Rattle.circle_check.specs.Deep.{marked}
+use Rattle.circle_check.specs.Deep.{hasHeight}
 use Rattle.circle_check.specs.Members.{elementsOf}
 use Rattle.rules.specs.Bytes.{all}
 use Rattle.circle_check.proofs.MemberLaws.{settle-on, settle-no, settle-ends}
@@ -15,7 +15,7 @@ use Rattle.circle_check.proofs.settled.Tie as tie
 -- The loop's invariant: every element of the model has a height if and only if every element of what is left, t, has
 -- one.
 abbrev Inv-loop : tie.InvT-loop
-Inv-loop model old size t₀ t = all (marked old) (elementsOf model) ≡ all (marked old) (elementsOf t)
+Inv-loop model old size t₀ t = all (hasHeight old) (elementsOf model) ≡ all (hasHeight old) (elementsOf t)
 
 abbrev μ-loop : tie.MeasureT-loop
 μ-loop model old size t₀ t = length t
@@ -35,7 +35,7 @@ returns c =
     let at-particle-size = at-loop .before in
     let start = at-particle-size .before .before in
     let a = start .args in
-    settle-no (marked (a .old .now)) _ (at-loop .loop .t .now) _ (at-particle-size .particle-size .ensures) (at-loop .loop .inv) (omega arith) _
+    settle-no (hasHeight (a .old .now)) _ (at-loop .loop .t .now) _ (at-particle-size .particle-size .ensures) (at-loop .loop .inv) (omega arith) _
     (c .before .first-passes .ensures) (not-true _ (c .if1 .taken))
 
 sub-t : tie.Need-sub-t Inv-loop μ-loop
@@ -61,7 +61,7 @@ loop-again c =
     let at-particle-size = at-loop .before in
     let start = at-particle-size .before .before in
     let a = start .args in
-    settle-on (marked (a .old .now)) _ (at-loop .loop .t .now) _ (at-particle-size .particle-size .ensures) (at-loop .loop .inv) (omega arith) _ (at-first-passes .first-passes .ensures)
+    settle-on (hasHeight (a .old .now)) _ (at-loop .loop .t .now) _ (at-particle-size .particle-size .ensures) (at-loop .loop .inv) (omega arith) _ (at-first-passes .first-passes .ensures)
     (not-false _ (c .before .if1 .left))
 
 returns-2 : tie.Need-returns-2 Inv-loop μ-loop
@@ -70,7 +70,7 @@ returns-2 c =
     let at-particle-size = at-loop .before in
     let start = at-particle-size .before .before in
     let a = start .args in
-    settle-ends (marked (a .old .now)) _ (at-loop .loop .t .now) _ (at-particle-size .particle-size .ensures) (at-loop .loop .inv) (omega arith)
+    settle-ends (hasHeight (a .old .now)) _ (at-loop .loop .t .now) _ (at-particle-size .particle-size .ensures) (at-loop .loop .inv) (omega arith)
 
 pub settled-spec : {M : Type 1} → statement M
 settled-spec =

@@ -1,7 +1,7 @@
 -- `definition_removal::attributes_left` meets its contract.
 use Rattle.definition_removal.proofs.Left.{next-counted, attributes-step, attributes-left}
-use Rattle.definition_writer.proofs.Encoded.{encoded}
-use Rattle.definition_removal.specs.Bodies.{attributesOf}
+use Rattle.store_writer.proofs.Encoded.{encoded}
+use Rattle.definition_removal.specs.Bodies.{attributesUpTo}
 use Rattle.lookup.specs.Bodies.{bodiesOf}
 use Rattle.rules.specs.Decode.{attributeCount}
 use native.Mathlib.Omega.{arith}
@@ -31,7 +31,7 @@ sub-result c =
     let start = at-attribute-start .before .before in
     let a = start .args in
     let cs = bodiesOf (a .store .now) .attributes in
-    let end = next-counted (λ (k : ℕ). attributesOf k cs) (a .i) (attributeCount (a .store .now)) (at-attribute-start2 .attribute-start2 .ensures) in
+    let end = next-counted (λ (k : ℕ). attributesUpTo k cs) (a .i) (attributeCount (a .store .now)) (at-attribute-start2 .attribute-start2 .ensures) in
     omega (arith, at-attribute-start .attribute-start .ensures .is, end .is, attributes-step (a .i) cs)
 
 sub-result-2 : tie.Need-sub-result-2
@@ -46,7 +46,7 @@ returns c =
     let start = at-attribute-start .before .before in
     let a = start .args in
     attributes-left (a .store .now) (start .pre .good) (a .i) (start .pre .there) (c .attribute-count .ensures) (at-attribute-start .attribute-start .ensures)
-    (next-counted (λ (k : ℕ). attributesOf k (bodiesOf (a .store .now) .attributes)) (a .i) (attributeCount (a .store .now)) (at-attribute-start2 .attribute-start2 .ensures))
+    (next-counted (λ (k : ℕ). attributesUpTo k (bodiesOf (a .store .now) .attributes)) (a .i) (attributeCount (a .store .now)) (at-attribute-start2 .attribute-start2 .ensures))
 
 pub attributes-left-spec : {M : Type 1} → statement M
 attributes-left-spec =

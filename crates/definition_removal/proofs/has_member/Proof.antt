@@ -1,5 +1,5 @@
 -- `definition_removal::has_member` meets its contract.
-use Rattle.definition_writer.proofs.Searching.{Searching, searching-start, searching-hit, searching-on, searching-end}
+use Rattle.lookup.proofs.Searching.{Searching, searching-start, searching-hit, searching-on, searching-end}
 use Rattle.definition_removal.specs.Bodies.{isMember}
 use Rattle.rules.specs.Layout.{particleSize}
 use Rattle.rules.specs.Decode.{readParticle}

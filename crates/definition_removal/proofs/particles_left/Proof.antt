@@ -1,7 +1,7 @@
 -- `definition_removal::particles_left` meets its contract.
 use Rattle.definition_removal.proofs.Left.{next-counted, particles-step, models-left}
-use Rattle.definition_writer.proofs.Encoded.{encoded}
-use Rattle.definition_removal.specs.Bodies.{particlesOf}
+use Rattle.store_writer.proofs.Encoded.{encoded}
+use Rattle.definition_removal.specs.Bodies.{particlesUpTo}
 use Rattle.lookup.specs.Bodies.{bodiesOf}
 use Rattle.rules.specs.Decode.{particleCount}
 use native.Mathlib.Omega.{arith}
@@ -31,7 +31,7 @@ sub-result c =
     let start = at-model-start .before .before in
     let a = start .args in
     let ds = bodiesOf (a .store .now) .definitions in
-    let end = next-counted (λ (k : ℕ). particlesOf k ds) (a .i) (particleCount (a .store .now)) (at-model-start2 .model-start2 .ensures) in
+    let end = next-counted (λ (k : ℕ). particlesUpTo k ds) (a .i) (particleCount (a .store .now)) (at-model-start2 .model-start2 .ensures) in
     omega (arith, at-model-start .model-start .ensures .is, end .is, particles-step (a .i) ds)
 
 sub-result-2 : tie.Need-sub-result-2
@@ -46,7 +46,7 @@ returns c =
     let start = at-model-start .before .before in
     let a = start .args in
     models-left (a .store .now) (start .pre .good) (a .i) (start .pre .there) (c .particle-count .ensures) (at-model-start .model-start .ensures)
-    (next-counted (λ (k : ℕ). particlesOf k (bodiesOf (a .store .now) .definitions)) (a .i) (particleCount (a .store .now)) (at-model-start2 .model-start2 .ensures))
+    (next-counted (λ (k : ℕ). particlesUpTo k (bodiesOf (a .store .now) .definitions)) (a .i) (particleCount (a .store .now)) (at-model-start2 .model-start2 .ensures))
 
 pub particles-left-spec : {M : Type 1} → statement M
 particles-left-spec =

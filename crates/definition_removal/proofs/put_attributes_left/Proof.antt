@@ -2,8 +2,8 @@
 use Rattle.definition_removal.proofs.LeftBytes.{attributes-laid}
 use Rattle.definition_removal.proofs.Left.{next-counted}
 use Rattle.definition_removal.proofs.Again.{records-short, attribute-short}
-use Rattle.definition_writer.proofs.Encoded.{encoded}
-use Rattle.definition_removal.specs.Bodies.{attributesOf, attributeRecord, lowered}
+use Rattle.store_writer.proofs.Encoded.{encoded}
+use Rattle.definition_removal.specs.Bodies.{attributesUpTo, attributeRecord, lowered}
 use Rattle.lookup.specs.Bodies.{bodiesOf}
 use Rattle.rules.specs.Layout.{attributeSize}
 use Rattle.rules.specs.Decode.{attributeCount}
@@ -94,7 +94,7 @@ returns c =
     let a = start .args in
     attributes-laid (a .store .now) (start .pre .0 .good) (a .i) (start .pre .0 .there) (at-width-in .width-in .ensures) (at-attributes-of .attributes-of .ensures)
     (at-attribute-count .attribute-count .ensures) (at-attribute-start .attribute-start .ensures)
-    (next-counted (λ (k : ℕ). attributesOf k (bodiesOf (a .store .now) .attributes)) (a .i) (attributeCount (a .store .now)) (at-attribute-start2 .attribute-start2 .ensures))
+    (next-counted (λ (k : ℕ). attributesUpTo k (bodiesOf (a .store .now) .attributes)) (a .i) (attributeCount (a .store .now)) (at-attribute-start2 .attribute-start2 .ensures))
     (at-attributes-from .attributes-from .ensures) (at-put-attributes .put-attributes .ensures) (at-put-attributes2 .put-attributes2 .ensures)
 
 pub put-attributes-left-spec : {M : Type 1} → statement M

@@ -2,8 +2,8 @@
 use Rattle.definition_removal.proofs.LeftBytes.{models-laid}
 use Rattle.definition_removal.proofs.Left.{next-counted}
 use Rattle.definition_removal.proofs.Again.{records-short, particle-short}
-use Rattle.definition_writer.proofs.Encoded.{encoded}
-use Rattle.definition_removal.specs.Bodies.{particlesOf, particleRecord, lowered}
+use Rattle.store_writer.proofs.Encoded.{encoded}
+use Rattle.definition_removal.specs.Bodies.{particlesUpTo, particleRecord, lowered}
 use Rattle.lookup.specs.Bodies.{bodiesOf}
 use Rattle.rules.specs.Layout.{particleSize}
 use Rattle.rules.specs.Decode.{particleCount}
@@ -82,7 +82,7 @@ returns c =
     let a = start .args in
     models-laid (a .store .now) (start .pre .0 .good) (a .i) (start .pre .0 .there) (at-particles-of .particles-of .ensures) (at-particle-count .particle-count .ensures)
     (at-model-start .model-start .ensures)
-    (next-counted (λ (k : ℕ). particlesOf k (bodiesOf (a .store .now) .definitions)) (a .i) (particleCount (a .store .now)) (at-model-start2 .model-start2 .ensures))
+    (next-counted (λ (k : ℕ). particlesUpTo k (bodiesOf (a .store .now) .definitions)) (a .i) (particleCount (a .store .now)) (at-model-start2 .model-start2 .ensures))
     (at-particles-from .particles-from .ensures) (at-put-particles .put-particles .ensures) (at-put-particles2 .put-particles2 .ensures)
 
 pub put-particles-left-spec : {M : Type 1} → statement M

@@ -1,6 +1,6 @@
 -- `definition_removal::put_rows_left` meets its contract.
 use Rattle.layout.specs.Bodies.{widthOf}
-use Rattle.definition_removal.proofs.KeptRows.{no-text, sized}
+use Rattle.definition_removal.proofs.KeptRows.{sized}
 use native.Mathlib.Omega.{arith}
 use Prim.Native.Nat.{ℕ}
 use mathlib.Core.Path.{sym, subst}
@@ -9,14 +9,14 @@ use Rattle.rules.specs.Decode.{attributeCount}
 use Rattle.lookup.specs.Bodies.{bodiesOf}
 use Rattle.row_walk.specs.declared.Plan.{Plan}
 use Rattle.store_writer.specs.Writing.{Sized}
-use Rattle.definition_writer.proofs.Encoded.{encoded}
-use Rattle.definition_removal.specs.Bodies.{attributesOf}
-use Rattle.definition_removal.proofs.KeptRows.{sized}
+use Rattle.store_writer.proofs.Encoded.{encoded}
+use Rattle.definition_removal.specs.Bodies.{attributesUpTo}
 use Rattle.definition_removal.proofs.Left.{next-counted, attributes-step}
 use Rattle.definition_removal.proofs.LeftBytes.{rows-laid}
 use borrow.Author.Needs.{needs}
 use Rattle.definition_removal.proofs.put_rows_left.Statement.{statement}
 use Rattle.definition_removal.proofs.put_rows_left.Tie as tie
+use Rattle.rules.proofs.WellFormedLaws.{none-value}
 
 attribute-start-requires : tie.Need-attribute-start-requires
 attribute-start-requires c κs = search needs
@@ -38,7 +38,7 @@ sub-shifting c =
     let start = at-attribute-start .before .before .before in
     let a = start .args in
     let cs = bodiesOf (a .store .now) .attributes in
-    let end = next-counted (λ (k : ℕ). attributesOf k cs) (a .i) (attributeCount (a .store .now)) (c .attribute-start2 .ensures) in
+    let end = next-counted (λ (k : ℕ). attributesUpTo k cs) (a .i) (attributeCount (a .store .now)) (c .attribute-start2 .ensures) in
     omega (arith, at-attribute-start .attribute-start .ensures .is, end .is, attributes-step (a .i) cs)
 
 shifting-requires : tie.Need-shifting-requires
@@ -52,7 +52,7 @@ walk-rows-requires c κs =
     let at-shifting = c .before .before in
     let start = at-shifting .before .before .before .before .before in (
       start .pre .0 .good,
-      no-text (widthOf (start .args .store .now)),
+      none-value (widthOf (start .args .store .now)),
       subst (λ (q : Plan). Sized q) (sym (at-shifting .shifting .ensures)) (sized _ _ _),
       omega (arith, start .pre .1),
     )
@@ -69,7 +69,7 @@ returns c =
     let start = at-attribute-start .before .before .before in
     let a = start .args in
     rows-laid (a .store .now) (start .pre .0 .good) (a .i) (start .pre .0 .there) [] (at-attribute-start .attribute-start .ensures)
-    (next-counted (λ (k : ℕ). attributesOf k (bodiesOf (a .store .now) .attributes)) (a .i) (attributeCount (a .store .now)) (at-attribute-start2 .attribute-start2 .ensures))
+    (next-counted (λ (k : ℕ). attributesUpTo k (bodiesOf (a .store .now) .attributes)) (a .i) (attributeCount (a .store .now)) (at-attribute-start2 .attribute-start2 .ensures))
     (at-shifting .shifting .ensures) (at-walk-rows .walk-rows .ensures)
 
 pub put-rows-left-spec : {M : Type 1} → statement M

@@ -3,7 +3,7 @@ use Prim.Native.Nat.{_-_}
 use native.Mathlib.Omega.{arith}
 use Rattle.rules.specs.Layout.{definitionSize}
 use Rattle.rules.specs.Decode.{readDefinition}
-use Rattle.definition_writer.proofs.Searching.{Searching, searching-start, searching-hit, searching-on, searching-end}
+use Rattle.lookup.proofs.Searching.{Searching, searching-start, searching-hit, searching-on, searching-end}
 use Rattle.definition_writer.proofs.Naming.{hasName, definitions-named, record-named}
 use borrow.Author.Needs.{needs}
 use Rattle.definition_writer.proofs.is_taken.Statement.{statement}

@@ -6,7 +6,7 @@ use Rattle.rules.specs.Bytes.{Bytes}
 use Rattle.model.specs.Members.{particlesOf}
 use Rattle.model.specs.Places.{Particles}
 use Rattle.model_writer.specs.PartAfter.{moved}
-use Rattle.model_writer.specs.Writing.{shift, within}
+use Rattle.model_writer.specs.Writing.{shift, depthsWithin}
 use Rattle.model_writer.proofs.WritingLaws.{particles-past}
 use Rattle.model_writer.proofs.Ceiling.{within-drop, inserted-within, removed-within, requantified-within, grouped-within, flattened-within, within-case}
 use borrow.Author.Needs.{needs}
@@ -30,7 +30,7 @@ past-requires c κs = c .before .before .before .before .before .pre .1
 
 moved-within-requires : tie.Need-moved-within-requires
 moved-within-requires c κs = let a = c .before .before .before .before .before .before in
-    ap (λ (s : Bytes). within (particlesOf s)) (c .past .ensures) ∙ ap within (particles-past (a .args .n) (a .args .part .now)) ∙ within-drop (a .args .n) (particlesOf (a .args .part .now)) (a .pre .0)
+    ap (λ (s : Bytes). depthsWithin (particlesOf s)) (c .past .ensures) ∙ ap depthsWithin (particles-past (a .args .n) (a .args .part .now)) ∙ within-drop (a .args .n) (particlesOf (a .args .part .now)) (a .pre .0)
 
 enum-told-4 : tie.Need-enum-told-4
 enum-told-4 c = search needs
@@ -48,7 +48,7 @@ returns-4 : tie.Need-returns-4
 returns-4 c = let a = c .before .before .before .before .before .before .before in
     ap (λ (b : Bool). leb (a .args .holder .depth) 4 && b)
     (c .moved-within .ensures
-    ∙ ap (λ (ys : Particles). within (moved (shift true) (a .args .holder .depth) (c .before .before .before .before .edit .given .0 .1 .0) ys)) (ap particlesOf (c .before .past .ensures) ∙ particles-past (a .args .n) (a .args .part .now)))
+    ∙ ap (λ (ys : Particles). depthsWithin (moved (shift true) (a .args .holder .depth) (c .before .before .before .before .edit .given .0 .1 .0) ys)) (ap particlesOf (c .before .past .ensures) ∙ particles-past (a .args .n) (a .args .part .now)))
     ∙ grouped-within (a .args .holder) (a .args .n) (particlesOf (a .args .part .now)) (a .pre .0) _ _
     ∙ within-case (a .args .holder) (a .args .n) (particlesOf (a .args .part .now)) (c .before .before .before .before .edit .given .1)
 

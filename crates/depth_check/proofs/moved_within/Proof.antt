@@ -8,14 +8,14 @@ use lib.Dec.{ltb}
 use lib.ListN.{length, drop, length-take, length-drop}
 use Rattle.model.specs.Members.{particlesOf}
 use Rattle.model_writer.specs.PartAfter.{moved}
-use Rattle.model_writer.specs.Writing.{shift, within}
+use Rattle.model_writer.specs.Writing.{shift, depthsWithin}
 use Rattle.model_writer.proofs.Ceiling.{Deepening, deep-all, deep-done, deep-stop, deep-over, deep-step}
 use Rattle.depth_check.proofs.moved_within.Statement.{statement}
 use Rattle.depth_check.proofs.moved_within.Tie as tie
 use Rattle.rules.specs.Layout.{particleSize}
 
 abbrev Inv-loop : tie.InvT-loop
-Inv-loop ys d n t₀ m₀ t m = Deepening (within (moved (shift true) d n (particlesOf ys))) d t m
+Inv-loop ys d n t₀ m₀ t m = Deepening (depthsWithin (moved (shift true) d n (particlesOf ys))) d t m
 
 abbrev μ-loop : tie.MeasureT-loop
 μ-loop ys d n t₀ m₀ t m = length t

@@ -1,5 +1,6 @@
 use mathlib.Core.Path.{refl}
-use Rattle.document_refusals.proofs.StoreFacts.{Whole, whole, element-there}
+use Rattle.store_writer.proofs.StoreFacts.{Whole, whole}
+use Rattle.document_refusals.proofs.ElementFacts.{element-there}
 use Rattle.document_refusals.proofs.RefusalLaws.{row-of}
 use Rattle.document_refusals.proofs.ElementRefusals.{there}
 use Rattle.document_refusals.proofs.AttributeRefusals.{both, known-of, same-row, serial-is}

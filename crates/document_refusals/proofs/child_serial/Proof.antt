@@ -1,4 +1,5 @@
-use Rattle.document_refusals.proofs.StoreFacts.{Whole, whole, element-there}
+use Rattle.store_writer.proofs.StoreFacts.{Whole, whole}
+use Rattle.document_refusals.proofs.ElementFacts.{element-there}
 use Rattle.document_refusals.proofs.RefusalLaws.{row-of}
 use Rattle.document_refusals.proofs.ElementRefusals.{there, child-serial}
 use borrow.Author.Needs.{needs}

@@ -1,6 +1,7 @@
 use mathlib.Core.Path.{_∙_}
 use native.Mathlib.Omega.{arith}
-use Rattle.document_refusals.proofs.StoreFacts.{Whole, whole, element-there}
+use Rattle.store_writer.proofs.StoreFacts.{Whole, whole}
+use Rattle.document_refusals.proofs.ElementFacts.{element-there}
 use Rattle.document_refusals.proofs.RefusalLaws.{row-of}
 use Rattle.document_refusals.proofs.ElementRefusals.{there}
 use Rattle.document_refusals.proofs.AttributeRefusals.{needs-in, drop-early, drop-7, drop-15, drop-0, both, known-of, inside}

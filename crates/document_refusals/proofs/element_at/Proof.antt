@@ -4,7 +4,7 @@ use mathlib.Core.List.{List}
 use Prim.Native.Nat.{ℕ, _-_}
 use native.Mathlib.Omega.{arith}
 use Rattle.rules.specs.Decode.{readRow}
-use Rattle.document_refusals.specs.Finding.{elementRow, isThis}
+use Rattle.document_refusals.specs.Finding.{elementRowWith, isThis}
 use Rattle.document_refusals.proofs.SuffixLaws.{Seeking, seek-start, seek-past, seek-hit, seek-none}
 use Rattle.document_refusals.proofs.element_at.Statement.{statement}
 use Rattle.document_refusals.proofs.element_at.Tie as tie
@@ -32,7 +32,7 @@ returns c =
     let start = at-loop .before .before in
     let a = start .args in
     seek-hit (a .w) (isThis (a .element)) (a .rows .now) (a .count) (at-loop .loop .i) (at-loop .loop .inv) (omega arith)
-    (sym (c .before .is-element .ensures ∙ ap (λ (b : List ℕ). elementRow (a .element) (readRow b .row)) (at-row-at .row-at .ensures)) ∙ c .if1 .taken)
+    (sym (c .before .is-element .ensures ∙ ap (λ (b : List ℕ). elementRowWith (a .element) (readRow b .row)) (at-row-at .row-at .ensures)) ∙ c .if1 .taken)
 
 add-i : tie.Need-add-i Inv-loop μ-loop
 add-i c = search needs
@@ -47,7 +47,7 @@ loop-again c =
     let start = at-loop .before .before in
     let a = start .args in
     seek-past (a .w) (isThis (a .element)) (a .rows .now) (a .count) (at-loop .loop .i) (at-loop .loop .inv) (omega arith)
-    (sym (c .before .is-element .ensures ∙ ap (λ (b : List ℕ). elementRow (a .element) (readRow b .row)) (at-row-at .row-at .ensures)) ∙ c .if1 .left)
+    (sym (c .before .is-element .ensures ∙ ap (λ (b : List ℕ). elementRowWith (a .element) (readRow b .row)) (at-row-at .row-at .ensures)) ∙ c .if1 .left)
 
 returns-2 : tie.Need-returns-2 Inv-loop μ-loop
 returns-2 c = seek-none _ _ _ _ _ (c .before .loop .inv) (omega arith)

@@ -1,5 +1,5 @@
 use native.Mathlib.Omega.{arith}
-use Rattle.model.specs.Members.{membersOf}
+use Rattle.model.specs.Members.{allMembers}
 use Rattle.document_refusals.proofs.StepLaws.{end-none, end-child}
 use borrow.Author.Needs.{needs}
 use Rattle.document_refusals.proofs.ends.Statement.{statement}
@@ -16,7 +16,7 @@ returns c =
     let at-if1 = c .before .before in
     let start = at-if1 .before .before .before in
     let a = start .args in
-    end-none (membersOf (a .part .now)) (a .line .now) (start .pre .1) (a .last) _ (at-if1 .if1 .taken) (c .contains .ensures)
+    end-none (allMembers (a .part .now)) (a .line .now) (start .pre .1) (a .last) _ (at-if1 .if1 .taken) (c .contains .ensures)
 
 shared-slice-read-contains-2 : tie.Need-shared-slice-read-contains-2
 shared-slice-read-contains-2 c = search needs
@@ -32,7 +32,7 @@ returns-2 c =
     let at-if1 = c .before .before .before in
     let start = at-if1 .before .before .before in
     let a = start .args in
-    end-child (membersOf (a .part .now)) (a .line .now) (start .pre .1) (a .last) _ (at-if1 .if1 .left) (omega arith) (c .contains2 .ensures)
+    end-child (allMembers (a .part .now)) (a .line .now) (start .pre .1) (a .last) _ (at-if1 .if1 .left) (omega arith) (c .contains2 .ensures)
 
 finishes-requires : tie.Need-finishes-requires
 finishes-requires c κs = search needs

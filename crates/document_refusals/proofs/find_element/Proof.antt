@@ -1,5 +1,6 @@
 use native.Mathlib.Omega.{arith}
-use Rattle.document_refusals.proofs.StoreFacts.{whole, element-at-is}
+use Rattle.store_writer.proofs.StoreFacts.{whole}
+use Rattle.document_refusals.proofs.ElementFacts.{element-at-is}
 use borrow.Author.Needs.{needs}
 use Rattle.document_refusals.proofs.find_element.Statement.{statement}
 use Rattle.document_refusals.proofs.find_element.Tie as tie

@@ -1,5 +1,6 @@
 use native.Mathlib.Omega.{arith}
-use Rattle.document_refusals.proofs.StoreFacts.{whole, parent-at-is}
+use Rattle.store_writer.proofs.StoreFacts.{whole}
+use Rattle.document_refusals.proofs.ElementFacts.{parent-at-is}
 use borrow.Author.Needs.{needs}
 use Rattle.document_refusals.proofs.find_parent.Statement.{statement}
 use Rattle.document_refusals.proofs.find_parent.Tie as tie

@@ -2,7 +2,7 @@ use native.Mathlib.Omega.{arith}
 use borrow.Author.Tests.{leb-true, ltb-true}
 use lib.Dec.{leb, ltb}
 use Rattle.rules.proofs.Words.{and-split}
-use Rattle.model.specs.Members.{membersOf}
+use Rattle.model.specs.Members.{allMembers}
 use Rattle.document_refusals.proofs.StepLaws.{follow-found}
 use borrow.Author.Needs.{needs}
 use Rattle.document_refusals.proofs.follows.Statement.{statement}
@@ -31,7 +31,7 @@ returns c =
     let start = at-if1 .before .before .before in
     let a = start .args in
     let low = and-split (leb (a .last) 64) (ltb (a .y) 64) (at-if1 .if1 .taken) in
-    follow-found (membersOf (a .part .now)) (a .line .now) (start .pre .1) (a .last) _ (a .y) (leb-true (a .last) 64 (low .0)) (ltb-true (a .y) 64 (low .1)) (c .contains .ensures)
+    follow-found (allMembers (a .part .now)) (a .line .now) (start .pre .1) (a .last) _ (a .y) (leb-true (a .last) 64 (low .0)) (ltb-true (a .y) 64 (low .1)) (c .contains .ensures)
 
 steps-requires : tie.Need-steps-requires
 steps-requires c κs = search needs

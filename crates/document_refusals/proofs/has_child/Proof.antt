@@ -5,16 +5,17 @@ use Prim.Native.Nat.{ℕ, _+_, _-_}
 use native.Mathlib.Omega.{arith}
 use Rattle.rules.specs.Bytes.{any}
 use Rattle.rules.specs.Decode.{readRow}
-use Rattle.document_refusals.specs.Finding.{rowsFrom, children, elementRow}
+use Rattle.document_refusals.specs.Finding.{children, elementRowWith}
 use Rattle.document_refusals.proofs.SuffixLaws.{rowAt, Looking, look-start, look-here, look-past, look-none}
 use Rattle.document_refusals.proofs.SerialLaws.{any-this, any-next}
 use Rattle.document_refusals.proofs.has_child.Statement.{statement}
 use Rattle.document_refusals.proofs.has_child.Tie as tie
+use Rattle.lookup.specs.Bodies.{rowsFrom}
 
 -- The loop's invariant: row i is a child or there is none left; the element is among the children from there on if and
 -- only if it is among all.
 abbrev Inv-loop : tie.InvT-loop
-Inv-loop w rows count start depth element i₀ i = Looking w 1 depth rows count (any (elementRow element)) (any (elementRow element) (children 1 depth (rowsFrom w rows count start))) i
+Inv-loop w rows count start depth element i₀ i = Looking w 1 depth rows count (any (elementRowWith element)) (any (elementRowWith element) (children 1 depth (rowsFrom w rows count start))) i
 
 abbrev μ-loop : tie.MeasureT-loop
 μ-loop w rows count start depth element i₀ i = count - i
@@ -40,8 +41,8 @@ returns c =
     sym
     (any-this (a .element) (rowAt (a .w) (a .rows .now) (at-loop .loop .i) .row)
     (children 1 (a .depth) (rowsFrom (a .w) (a .rows .now) (a .count) (at-loop .loop .i + 1)))
-    (sym (c .before .is-element .ensures ∙ ap (λ (b : List ℕ). elementRow (a .element) (readRow b .row)) (at-row-at .row-at .ensures)) ∙ c .if1 .taken))
-    ∙ look-here (a .w) 1 (a .depth) (a .rows .now) (a .count) (any (elementRow (a .element))) _ (at-loop .loop .i) (at-loop .loop .inv) (omega arith)
+    (sym (c .before .is-element .ensures ∙ ap (λ (b : List ℕ). elementRowWith (a .element) (readRow b .row)) (at-row-at .row-at .ensures)) ∙ c .if1 .taken))
+    ∙ look-here (a .w) 1 (a .depth) (a .rows .now) (a .count) (any (elementRowWith (a .element))) _ (at-loop .loop .i) (at-loop .loop .inv) (omega arith)
 
 add-next-child : tie.Need-add-next-child Inv-loop μ-loop
 add-next-child c = search needs
@@ -59,10 +60,10 @@ loop-again c =
     let at-loop = at-row-at .before .before in
     let start = at-loop .before .before .before in
     let a = start .args in
-    look-past (a .w) 1 (a .depth) (a .rows .now) (a .count) (any (elementRow (a .element))) _ (at-loop .loop .i) (at-loop .loop .inv) (any (elementRow (a .element))) (omega arith)
+    look-past (a .w) 1 (a .depth) (a .rows .now) (a .count) (any (elementRowWith (a .element))) _ (at-loop .loop .i) (at-loop .loop .inv) (any (elementRowWith (a .element))) (omega arith)
     (any-next (a .element) (rowAt (a .w) (a .rows .now) (at-loop .loop .i) .row)
     (children 1 (a .depth) (rowsFrom (a .w) (a .rows .now) (a .count) (at-loop .loop .i + 1)))
-    (sym (at-is-element .is-element .ensures ∙ ap (λ (b : List ℕ). elementRow (a .element) (readRow b .row)) (at-row-at .row-at .ensures))
+    (sym (at-is-element .is-element .ensures ∙ ap (λ (b : List ℕ). elementRowWith (a .element) (readRow b .row)) (at-row-at .row-at .ensures))
     ∙ c .before .if1 .left))
     (c .next-child2 .ensures)
 
@@ -70,7 +71,7 @@ returns-2 : tie.Need-returns-2 Inv-loop μ-loop
 returns-2 c =
     let at-loop = c .before in
     let start = at-loop .before .before .before in
-    let a = start .args in look-none (a .w) 1 (a .depth) (a .rows .now) (a .count) (any (elementRow (a .element))) _ (at-loop .loop .i) (at-loop .loop .inv) (omega arith)
+    let a = start .args in look-none (a .w) 1 (a .depth) (a .rows .now) (a .count) (any (elementRowWith (a .element))) _ (at-loop .loop .i) (at-loop .loop .inv) (omega arith)
 
 pub has-child-spec : {M : Type 1} → statement M
 has-child-spec =

@@ -4,16 +4,17 @@ use mathlib.Core.List.{List}
 use Prim.Native.Nat.{ℕ, _+_, _-_}
 use native.Mathlib.Omega.{arith}
 use Rattle.rules.specs.Decode.{readRow}
-use Rattle.document_refusals.specs.Finding.{rowsFrom, children, serialOf}
+use Rattle.document_refusals.specs.Finding.{children, serialOfIndex}
 use Rattle.document_refusals.proofs.SuffixLaws.{rowAt, Looking, look-start, look-here, look-past, look-none}
 use Rattle.document_refusals.proofs.SerialLaws.{indexed-this, indexed-next}
 use Rattle.document_refusals.proofs.indexed_serial.Statement.{statement}
 use Rattle.document_refusals.proofs.indexed_serial.Tie as tie
+use Rattle.lookup.specs.Bodies.{rowsFrom}
 
 -- The loop's invariant: row i is a child or there is none left; those from there on give the serial that all children
 -- give.
 abbrev Inv-loop : tie.InvT-loop
-Inv-loop w rows count start depth attribute i₀ i = Looking w 2 depth rows count (serialOf attribute) (serialOf attribute (children 2 depth (rowsFrom w rows count start))) i
+Inv-loop w rows count start depth attribute i₀ i = Looking w 2 depth rows count (serialOfIndex attribute) (serialOfIndex attribute (children 2 depth (rowsFrom w rows count start))) i
 
 abbrev μ-loop : tie.MeasureT-loop
 μ-loop w rows count start depth attribute i₀ i = count - i
@@ -48,7 +49,7 @@ returns c =
     (indexed-this (a .attribute) (rowAt (a .w) (a .rows .now) (at-loop .loop .i) .row)
     (children 2 (a .depth) (rowsFrom (a .w) (a .rows .now) (a .count) (at-loop .loop .i + 1)))
     (sym (at-row-index .row-index .ensures ∙ ap (λ (b : List ℕ). readRow b .row .index) (at-row-at .row-at .ensures)) ∙ c .before .if1 .taken))
-    ∙ look-here (a .w) 2 (a .depth) (a .rows .now) (a .count) (serialOf (a .attribute)) _ (at-loop .loop .i) (at-loop .loop .inv) (omega arith)
+    ∙ look-here (a .w) 2 (a .depth) (a .rows .now) (a .count) (serialOfIndex (a .attribute)) _ (at-loop .loop .i) (at-loop .loop .inv) (omega arith)
 
 add-next-child : tie.Need-add-next-child Inv-loop μ-loop
 add-next-child c = search needs
@@ -66,7 +67,7 @@ loop-again c =
     let at-loop = at-row-at .before .before in
     let start = at-loop .before .before .before in
     let a = start .args in
-    look-past (a .w) 2 (a .depth) (a .rows .now) (a .count) (serialOf (a .attribute)) _ (at-loop .loop .i) (at-loop .loop .inv) (serialOf (a .attribute)) (omega arith)
+    look-past (a .w) 2 (a .depth) (a .rows .now) (a .count) (serialOfIndex (a .attribute)) _ (at-loop .loop .i) (at-loop .loop .inv) (serialOfIndex (a .attribute)) (omega arith)
     (indexed-next (a .attribute) (rowAt (a .w) (a .rows .now) (at-loop .loop .i) .row)
     (children 2 (a .depth) (rowsFrom (a .w) (a .rows .now) (a .count) (at-loop .loop .i + 1)))
     (λ e. c .before .if1 .left (at-row-index .row-index .ensures ∙ ap (λ (b : List ℕ). readRow b .row .index) (at-row-at .row-at .ensures) ∙ e)))
@@ -76,7 +77,7 @@ returns-2 : tie.Need-returns-2 Inv-loop μ-loop
 returns-2 c =
     let at-loop = c .before in
     let start = at-loop .before .before .before in
-    let a = start .args in look-none (a .w) 2 (a .depth) (a .rows .now) (a .count) (serialOf (a .attribute)) _ (at-loop .loop .i) (at-loop .loop .inv) (omega arith)
+    let a = start .args in look-none (a .w) 2 (a .depth) (a .rows .now) (a .count) (serialOfIndex (a .attribute)) _ (at-loop .loop .i) (at-loop .loop .inv) (omega arith)
 
 pub indexed-serial-spec : {M : Type 1} → statement M
 indexed-serial-spec =

@@ -2,19 +2,20 @@ use borrow.Author.Needs.{needs}
 use mathlib.Core.Path.{_∙_}
 use Prim.Native.Nat.{_+_, _-_}
 use native.Mathlib.Omega.{arith}
-use Rattle.model.specs.Members.{membersOf}
-use Rattle.document_refusals.specs.Finding.{rowsFrom, children}
+use Rattle.model.specs.Members.{allMembers}
+use Rattle.document_refusals.specs.Finding.{children}
 use Rattle.document_refusals.proofs.SuffixLaws.{rowAt, Looking, look-start, look-here, look-past, look-none}
 use Rattle.document_refusals.proofs.StepLaws.{accepted, step-at, word-fails, word-past, word-ends, less-as}
 use Rattle.document_refusals.proofs.line_fits.Statement.{statement}
 use Rattle.document_refusals.proofs.line_fits.Tie as tie
+use Rattle.lookup.specs.Bodies.{rowsFrom}
 
 -- The loop's invariant: row i is a child or there is none left; from the position `last`, with the new one `left`
 -- places on, those from there on are accepted if and only if all children are.
 abbrev Inv-loop : tie.InvT-loop
 Inv-loop w part line rows count start depth place new skip last₀ left₀ i₀ last left i =
-    Looking w 1 depth rows count (accepted (membersOf part) new skip last left)
-    (accepted (membersOf part) new skip 0 place (children 1 depth (rowsFrom w rows count start))) i
+    Looking w 1 depth rows count (accepted (allMembers part) new skip last left)
+    (accepted (allMembers part) new skip 0 place (children 1 depth (rowsFrom w rows count start))) i
 
 abbrev μ-loop : tie.MeasureT-loop
 μ-loop w part line rows count start depth place new skip last₀ left₀ i₀ last left i = count - i
@@ -42,11 +43,11 @@ returns c =
     let at-loop = at-step-new .before .before in
     let start = at-loop .before .before .before .before .before in
     let a = start .args in
-    word-fails (membersOf (a .part .now)) (a .new) (a .skip) (at-loop .loop .last) (at-loop .loop .left) (rowAt (a .w) (a .rows .now) (at-loop .loop .i) .row)
+    word-fails (allMembers (a .part .now)) (a .new) (a .skip) (at-loop .loop .last) (at-loop .loop .left) (rowAt (a .w) (a .rows .now) (at-loop .loop .i) .row)
     (children 1 (a .depth) (rowsFrom (a .w) (a .rows .now) (a .count) (at-loop .loop .i + 1))) (at-step-new .step-new .ensures)
     (step-at (a .skip) (at-row-at .row-at .ensures) (at-step-child .step-child .ensures)) (c .if1 .taken)
     ∙ look-here (a .w) 1 (a .depth) (a .rows .now) (a .count)
-    (accepted (membersOf (a .part .now)) (a .new) (a .skip) (at-loop .loop .last) (at-loop .loop .left)) _ (at-loop .loop .i) (at-loop .loop .inv)
+    (accepted (allMembers (a .part .now)) (a .new) (a .skip) (at-loop .loop .last) (at-loop .loop .left)) _ (at-loop .loop .i) (at-loop .loop .inv)
     (omega arith)
 
 less-requires : tie.Need-less-requires Inv-loop μ-loop
@@ -70,13 +71,13 @@ loop-again c =
     let at-loop = at-step-new .before .before in
     let start = at-loop .before .before .before .before .before in
     let a = start .args in
-    look-past (a .w) 1 (a .depth) (a .rows .now) (a .count) (accepted (membersOf (a .part .now)) (a .new) (a .skip) (at-loop .loop .last) (at-loop .loop .left))
+    look-past (a .w) 1 (a .depth) (a .rows .now) (a .count) (accepted (allMembers (a .part .now)) (a .new) (a .skip) (at-loop .loop .last) (at-loop .loop .left))
     _ (at-loop .loop .i) (at-loop .loop .inv)
-    (accepted (membersOf (a .part .now)) (a .new) (a .skip) (at-step-child .step-child .result .last) (c .before .less .result)) (omega arith)
-    (word-past (membersOf (a .part .now)) (a .new) (a .skip) (at-loop .loop .last) (at-loop .loop .left) (rowAt (a .w) (a .rows .now) (at-loop .loop .i) .row)
+    (accepted (allMembers (a .part .now)) (a .new) (a .skip) (at-step-child .step-child .result .last) (c .before .less .result)) (omega arith)
+    (word-past (allMembers (a .part .now)) (a .new) (a .skip) (at-loop .loop .last) (at-loop .loop .left) (rowAt (a .w) (a .rows .now) (at-loop .loop .i) .row)
     (children 1 (a .depth) (rowsFrom (a .w) (a .rows .now) (a .count) (at-loop .loop .i + 1))) (at-step-new .step-new .ensures)
     (step-at (a .skip) (at-row-at .row-at .ensures) (at-step-child .step-child .ensures)) (at-if1 .if1 .left)
-    ∙ less-as (membersOf (a .part .now)) (a .new) (a .skip) (at-step-child .step-child .result .last)
+    ∙ less-as (allMembers (a .part .now)) (a .new) (a .skip) (at-step-child .step-child .result .last)
     (children 1 (a .depth) (rowsFrom (a .w) (a .rows .now) (a .count) (at-loop .loop .i + 1))) (c .before .less .ensures)) (c .next-child2 .ensures)
 
 step-new-requires-2 : tie.Need-step-new-requires-2 Inv-loop μ-loop
@@ -91,9 +92,9 @@ returns-2 c =
     let at-loop = at-step-new2 .before .before in
     let start = at-loop .before .before .before .before .before in
     let a = start .args in
-    word-ends (membersOf (a .part .now)) (a .new) (a .skip) (at-loop .loop .last) (at-loop .loop .left) (at-step-new2 .step-new2 .ensures) (c .before .ends .ensures)
+    word-ends (allMembers (a .part .now)) (a .new) (a .skip) (at-loop .loop .last) (at-loop .loop .left) (at-step-new2 .step-new2 .ensures) (c .before .ends .ensures)
     ∙ look-none (a .w) 1 (a .depth) (a .rows .now) (a .count)
-    (accepted (membersOf (a .part .now)) (a .new) (a .skip) (at-loop .loop .last) (at-loop .loop .left)) _ (at-loop .loop .i) (at-loop .loop .inv)
+    (accepted (allMembers (a .part .now)) (a .new) (a .skip) (at-loop .loop .last) (at-loop .loop .left)) _ (at-loop .loop .i) (at-loop .loop .inv)
     (omega arith)
 
 pub line-fits-spec : {M : Type 1} → statement M

@@ -1,5 +1,5 @@
 use mathlib.Core.Path.{ap, _∙_}
-use Rattle.model.specs.Members.{membersOf}
+use Rattle.model.specs.Members.{allMembers}
 use Rattle.form_index.specs.Reading.{modelPart}
 use borrow.Author.Needs.{needs}
 use Rattle.document_refusals.proofs.model_at.Statement.{statement}
@@ -21,7 +21,7 @@ returns : tie.Need-returns
 returns c =
     let at-particles-of = c .before .before in
     let at-definitions-of = at-particles-of .before in
-    ap membersOf (c .model-part .ensures ∙ (λ i. modelPart (at-definitions-of .definitions-of .ensures i) (at-particles-of .particles-of .ensures i) (c .before .definition-at .ensures i)))
+    ap allMembers (c .model-part .ensures ∙ (λ i. modelPart (at-definitions-of .definitions-of .ensures i) (at-particles-of .particles-of .ensures i) (c .before .definition-at .ensures i)))
 
 pub model-at-spec : {M : Type 1} → statement M
 model-at-spec =

@@ -4,11 +4,12 @@ use mathlib.Core.List.{List}
 use Prim.Native.Nat.{ℕ, _+_, _-_}
 use native.Mathlib.Omega.{arith}
 use Rattle.rules.specs.Decode.{readRow}
-use Rattle.document_refusals.specs.Finding.{rowsFrom, children}
+use Rattle.document_refusals.specs.Finding.{children}
 use Rattle.document_refusals.proofs.SuffixLaws.{rowAt, Looking, look-start, look-here, look-past, look-none}
 use Rattle.document_refusals.proofs.SerialLaws.{nth, nth-nil, nth-next, nth-this}
 use Rattle.document_refusals.proofs.nth_serial.Statement.{statement}
 use Rattle.document_refusals.proofs.nth_serial.Tie as tie
+use Rattle.lookup.specs.Bodies.{rowsFrom}
 
 -- The loop's invariant: row i is a child or there is none left; child number `left` from there on is child number n of
 -- all.

@@ -6,10 +6,11 @@ use native.Mathlib.Omega.{arith}
 use native.Mathlib.Numerals.{add-one}
 use Rattle.rules.specs.Decode.{readRow}
 use Rattle.rules.specs.Bytes.{any}
-use Rattle.document_refusals.specs.Finding.{rowsFrom, children, elementRow, isParent}
+use Rattle.document_refusals.specs.Finding.{children, elementRowWith, isParent}
 use Rattle.document_refusals.proofs.SuffixLaws.{rowAt, Seeking, seek-start, seek-past, seek-hit, seek-none}
 use Rattle.document_refusals.proofs.parent_at.Statement.{statement}
 use Rattle.document_refusals.proofs.parent_at.Tie as tie
+use Rattle.lookup.specs.Bodies.{rowsFrom}
 
 -- The loop's invariant: the search from row i on finds the parent that the search from the first row on finds.
 abbrev Inv-loop : tie.InvT-loop
@@ -49,7 +50,7 @@ returns c =
     let e : at-row-depth .row-depth .result + 1 ≡ suc (rowAt (a .w) (a .rows .now) (at-loop .loop .i) .depth) =
     add-one _ ∙ ap suc (at-row-depth .row-depth .ensures ∙ ap (λ (b : List ℕ). readRow b .depth) (at-row-at .row-at .ensures)) in
     seek-hit (a .w) (isParent (a .element)) (a .rows .now) (a .count) (at-loop .loop .i) (at-loop .loop .inv) (omega arith)
-    (sym (c .before .has-child .ensures ∙ ap (λ (d : ℕ). any (elementRow (a .element)) (children 1 d (rowsFrom (a .w) (a .rows .now) (a .count) (at-loop .loop .i + 1)))) e) ∙ c .if1 .taken)
+    (sym (c .before .has-child .ensures ∙ ap (λ (d : ℕ). any (elementRowWith (a .element)) (children 1 d (rowsFrom (a .w) (a .rows .now) (a .count) (at-loop .loop .i + 1)))) e) ∙ c .if1 .taken)
 
 add-i : tie.Need-add-i Inv-loop μ-loop
 add-i c = search needs
@@ -67,7 +68,7 @@ loop-again c =
     let e : at-row-depth .row-depth .result + 1 ≡ suc (rowAt (a .w) (a .rows .now) (at-loop .loop .i) .depth) =
     add-one _ ∙ ap suc (at-row-depth .row-depth .ensures ∙ ap (λ (b : List ℕ). readRow b .depth) (at-row-at .row-at .ensures)) in
     seek-past (a .w) (isParent (a .element)) (a .rows .now) (a .count) (at-loop .loop .i) (at-loop .loop .inv) (omega arith)
-    (sym (c .before .has-child .ensures ∙ ap (λ (d : ℕ). any (elementRow (a .element)) (children 1 d (rowsFrom (a .w) (a .rows .now) (a .count) (at-loop .loop .i + 1)))) e) ∙ c .if1 .left)
+    (sym (c .before .has-child .ensures ∙ ap (λ (d : ℕ). any (elementRowWith (a .element)) (children 1 d (rowsFrom (a .w) (a .rows .now) (a .count) (at-loop .loop .i + 1)))) e) ∙ c .if1 .left)
 
 returns-2 : tie.Need-returns-2 Inv-loop μ-loop
 returns-2 c = seek-none _ _ _ _ _ (c .before .loop .inv) (omega arith)

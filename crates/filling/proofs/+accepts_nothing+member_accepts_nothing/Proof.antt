@@ -2,8 +2,7 @@
 use native.Mathlib.Omega.{arith}
 use borrow.Author.Needs.{needs}
 use lib.ListN.{length, drop, length-take, length-drop}
-use Rattle.filling.proofs.FillingLaws.{Unsettled, unsettled-starts, unsettled-ends, unsettled-over, unsettled-past, unsettled-here, unsettled-by, unsettled-on}
-use Rattle.filling.proofs.FillingLaws.{absent-skips, absent-element, absent-list, absent-choice}
+use Rattle.filling.proofs.FillingLaws.{Unsettled, unsettled-starts, unsettled-ends, unsettled-over, unsettled-past, unsettled-here, unsettled-by, unsettled-on, absent-skips, absent-element, absent-list, absent-choice}
 use Prim.Native.Nat.{ℕ, _<_, _+_, _-_, _*_}
 use borrow.Fn.Kinds.{In}
 use borrow.Fn.PlainCycle.{Measures, is, falls, and}

@@ -3,11 +3,8 @@ use lib.ListN.{take, drop, length-take, length-drop, length}
 use Rattle.rules.specs.Model.{filling}
 use Rattle.model.specs.Members.{membersFrom}
 use Rattle.row_writer.proofs.WrittenLaws.{written-stop, written-room, written-long}
-use Rattle.filling.specs.Parts.{defsIn, partsIn, attrsIn, widthIn, countIn, versionIn, cursorIn}
-use Rattle.filling.proofs.FillingLaws.{Rest, rest-starts, rest-past, rest-here, rest-on, rest-first, rest-over, rest-ends}
-use Rattle.filling.proofs.FillingLaws.{member-skips, member-element, member-nothing, member-group}
-use Rattle.filling.proofs.FillingLaws.{definition-low, definition-written, below-none, below-text, below-group, none-written, one-written, same-written}
-use Rattle.filling.proofs.FillingLaws.{index-small, top, rank, rank-particles, rank-part, rank-height, part-short}
+use Rattle.filling.specs.Parts.{defsIn, partsIn, attrsIn, widthIn, countIn, versionOfFilling, cursorIn}
+use Rattle.filling.proofs.FillingLaws.{Rest, rest-starts, rest-past, rest-here, rest-on, rest-first, rest-over, rest-ends, member-skips, member-element, member-nothing, member-group, definition-low, definition-written, below-none, below-text, below-group, none-written, one-written, same-written, index-small, top, rank, rank-particles, rank-part, rank-height, part-short}
 use borrow.Author.Needs.{needs}
 use native.Mathlib.Omega.{arith}
 use Prim.Native.Nat.{ℕ, _<_, _+_, _-_, _*_}
@@ -125,22 +122,22 @@ put-below-put-group-requires : (t : ℕ) → put-below-lts.Need-put-group-requir
 put-below-put-group-requires t c κs = let a = c .before .before .before .before .before .before .before .before .before .args in let q = c .before .before .before .before .before .before .before .before .before .pre .1 .1 in let short = part-short (defsIn (a .form .now)) (partsIn (a .form .now)) (a .i) (c .before .before .model-part .result .now) (c .before .before .model-part .ensures) in (omega (arith, rank-part (a .h) (length (c .before .before .model-part .result .now)) (omega arith)), (omega arith, q))
 
 put-below-returns : (t : ℕ) → put-below-lts.Need-returns (put-below-calls t) (put-below-at t) put-below.Post
-put-below-returns t c = let a = c .before .before .before .before .args in below-none (versionIn (a .sizes .now)) (widthIn (a .sizes .now)) (defsIn (a .form .now)) (partsIn (a .form .now)) (attrsIn (a .form .now)) (countIn (a .sizes .now)) (a .text .now .now) (a .h) (a .depth) (a .i) _ (c .before .kind-of .ensures) (omega arith)
+put-below-returns t c = let a = c .before .before .before .before .args in below-none (versionOfFilling (a .sizes .now)) (widthIn (a .sizes .now)) (defsIn (a .form .now)) (partsIn (a .form .now)) (attrsIn (a .form .now)) (countIn (a .sizes .now)) (a .text .now .now) (a .h) (a .depth) (a .i) _ (c .before .kind-of .ensures) (omega arith)
 
 put-below-same-length : (t : ℕ) → put-below-lts.Need-same-length (put-below-calls t) (put-below-at t) put-below.Post
 put-below-same-length t c = search needs
 
 put-below-returns-2 : (t : ℕ) → put-below-lts.Need-returns-2 (put-below-calls t) (put-below-at t) put-below.Post
-put-below-returns-2 t c = let a = c .before .before .before .before .before .before .before .before .before .before .before .args in below-text (versionIn (a .sizes .now)) (widthIn (a .sizes .now)) (defsIn (a .form .now)) (partsIn (a .form .now)) (attrsIn (a .form .now)) (countIn (a .sizes .now)) (a .text .now .now) (a .h) (a .depth) (a .i) _ (c .before .before .before .before .before .before .before .before .kind-of .ensures) (omega arith) (c .before .before .put-row .ensures)
+put-below-returns-2 t c = let a = c .before .before .before .before .before .before .before .before .before .before .before .args in below-text (versionOfFilling (a .sizes .now)) (widthIn (a .sizes .now)) (defsIn (a .form .now)) (partsIn (a .form .now)) (attrsIn (a .form .now)) (countIn (a .sizes .now)) (a .text .now .now) (a .h) (a .depth) (a .i) _ (c .before .before .before .before .before .before .before .before .kind-of .ensures) (omega arith) (c .before .before .put-row .ensures)
 
 put-below-same-length-2 : (t : ℕ) → put-below-lts.Need-same-length-2 (put-below-calls t) (put-below-at t) put-below.Post
 put-below-same-length-2 t c = search needs
 
 put-below-returns-3 : (t : ℕ) → put-below-lts.Need-returns-3 (put-below-calls t) (put-below-at t) put-below.Post
-put-below-returns-3 t c = let a = c .before .before .before .before .before .before .before .before .before .before .before .before .args in below-group (versionIn (a .sizes .now)) (widthIn (a .sizes .now)) (defsIn (a .form .now)) (partsIn (a .form .now)) (attrsIn (a .form .now)) (countIn (a .sizes .now)) (a .text .now .now) (a .h) (a .depth) (a .i) _ (c .before .before .before .before .before .before .before .before .before .kind-of .ensures) _ (λ e. omega arith) (λ e. omega arith) (c .before .before .before .before .before .model-part .ensures) (c .before .before .put-group .ensures)
+put-below-returns-3 t c = let a = c .before .before .before .before .before .before .before .before .before .before .before .before .args in below-group (versionOfFilling (a .sizes .now)) (widthIn (a .sizes .now)) (defsIn (a .form .now)) (partsIn (a .form .now)) (attrsIn (a .form .now)) (countIn (a .sizes .now)) (a .text .now .now) (a .h) (a .depth) (a .i) _ (c .before .before .before .before .before .before .before .before .before .kind-of .ensures) _ (λ e. omega arith) (λ e. omega arith) (c .before .before .before .before .before .model-part .ensures) (c .before .before .put-group .ensures)
 
 put-definition-returns : (t : ℕ) → put-definition-lts.Need-returns (put-definition-calls t) (put-definition-at t) put-definition.Post
-put-definition-returns t c = let a = c .before .before .args in definition-low (versionIn (a .sizes .now)) (widthIn (a .sizes .now)) (defsIn (a .form .now)) (partsIn (a .form .now)) (attrsIn (a .form .now)) (countIn (a .sizes .now)) (a .text .now .now) (a .h) (a .depth) (a .i) (omega arith)
+put-definition-returns t c = let a = c .before .before .args in definition-low (versionOfFilling (a .sizes .now)) (widthIn (a .sizes .now)) (defsIn (a .form .now)) (partsIn (a .form .now)) (attrsIn (a .form .now)) (countIn (a .sizes .now)) (a .text .now .now) (a .h) (a .depth) (a .i) (omega arith)
 
 put-definition-element-copy-out-w : (t : ℕ) → put-definition-lts.Need-element-copy-out-w (put-definition-calls t) (put-definition-at t) put-definition.Post
 put-definition-element-copy-out-w t c = search needs
@@ -182,12 +179,12 @@ put-definition-same-length : (t : ℕ) → put-definition-lts.Need-same-length (
 put-definition-same-length t c = search needs
 
 put-definition-returns-2 : (t : ℕ) → put-definition-lts.Need-returns-2 (put-definition-calls t) (put-definition-at t) put-definition.Post
-put-definition-returns-2 t c = let a = c .before .before .before .before .before .before .before .before .before .before .before .before .before .before .before .before .before .before .before .before .before .before .before .args in definition-written (versionIn (a .sizes .now)) (widthIn (a .sizes .now)) (defsIn (a .form .now)) (partsIn (a .form .now)) (attrsIn (a .form .now)) (countIn (a .sizes .now)) (a .text .now .now) (a .h) (a .depth) (a .i) (λ e. omega arith) (c .before .before .before .before .before .before .before .before .before .before .before .before .before .before .before .put-row .ensures) (c .before .before .before .before .before .before .before .put-required .ensures) (c .before .before .put-below .ensures)
+put-definition-returns-2 t c = let a = c .before .before .before .before .before .before .before .before .before .before .before .before .before .before .before .before .before .before .before .before .before .before .before .args in definition-written (versionOfFilling (a .sizes .now)) (widthIn (a .sizes .now)) (defsIn (a .form .now)) (partsIn (a .form .now)) (attrsIn (a .form .now)) (countIn (a .sizes .now)) (a .text .now .now) (a .h) (a .depth) (a .i) (λ e. omega arith) (c .before .before .before .before .before .before .before .before .before .before .before .before .before .before .before .put-row .ensures) (c .before .before .before .before .before .before .before .put-required .ensures) (c .before .before .put-below .ensures)
 
 -- the members from t on are still to be written
 abbrev put-group-Inv-loop : put-group-lts.InvT-loop
 put-group-Inv-loop s d kind form text sizes h depth c₀ out₀ t₀ c out t =
-    Rest (versionIn sizes) (widthIn sizes) (defsIn form) (partsIn form) (attrsIn form) (countIn sizes) (text .now) h depth kind d s (cursorIn c₀) out₀ t (cursorIn c) out
+    Rest (versionOfFilling sizes) (widthIn sizes) (defsIn form) (partsIn form) (attrsIn form) (countIn sizes) (text .now) h depth kind d s (cursorIn c₀) out₀ t (cursorIn c) out
 
 abbrev put-group-μ-loop : put-group-lts.MeasureT-loop
 put-group-μ-loop s d kind form text sizes h depth c₀ out₀ t₀ c out t = length t
@@ -307,7 +304,7 @@ put-member-skips-requires : (t : ℕ) → put-member-lts.Need-skips-requires (pu
 put-member-skips-requires t c κs = search needs
 
 put-member-returns : (t : ℕ) → put-member-lts.Need-returns (put-member-calls t) (put-member-at t) put-member.Post
-put-member-returns t c = let a = c .before .before .before .before .before .args in none-written (versionIn (a .sizes .now)) (widthIn (a .sizes .now)) (defsIn (a .form .now)) (partsIn (a .form .now)) (attrsIn (a .form .now)) (countIn (a .sizes .now)) (a .text .now .now) (a .h) (a .depth) _ (member-skips (a .d) (a .s .now) _ (c .before .before .read-particle .ensures) _ (c .before .skips .ensures) (c .if1 .taken))
+put-member-returns t c = let a = c .before .before .before .before .before .args in none-written (versionOfFilling (a .sizes .now)) (widthIn (a .sizes .now)) (defsIn (a .form .now)) (partsIn (a .form .now)) (attrsIn (a .form .now)) (countIn (a .sizes .now)) (a .text .now .now) (a .h) (a .depth) _ (member-skips (a .d) (a .s .now) _ (c .before .before .read-particle .ensures) _ (c .before .skips .ensures) (c .if1 .taken))
 
 put-member-enum-known-what : (t : ℕ) → put-member-lts.Need-enum-known-what (put-member-calls t) (put-member-at t) put-member.Post
 put-member-enum-known-what t c = search needs
@@ -334,7 +331,7 @@ put-member-accepts-nothing-requires : (t : ℕ) → put-member-lts.Need-accepts-
 put-member-accepts-nothing-requires t c κs = search needs
 
 put-member-returns-2 : (t : ℕ) → put-member-lts.Need-returns-2 (put-member-calls t) (put-member-at t) put-member.Post
-put-member-returns-2 t c = let a = c .before .before .before .before .before .before .before .before .before .before .before .args in none-written (versionIn (a .sizes .now)) (widthIn (a .sizes .now)) (defsIn (a .form .now)) (partsIn (a .form .now)) (attrsIn (a .form .now)) (countIn (a .sizes .now)) (a .text .now .now) (a .h) (a .depth) _ (member-nothing (a .d) (a .s .now) _ (c .before .before .before .before .before .before .before .before .read-particle .ensures) _ (c .before .before .before .before .before .before .before .skips .ensures) (c .before .before .before .before .before .before .if1 .left) _ _ (c .before .before .before .before .what2 .given .1) _ refl _ (c .before .accepts-nothing .ensures) (c .if2 .taken))
+put-member-returns-2 t c = let a = c .before .before .before .before .before .before .before .before .before .before .before .args in none-written (versionOfFilling (a .sizes .now)) (widthIn (a .sizes .now)) (defsIn (a .form .now)) (partsIn (a .form .now)) (attrsIn (a .form .now)) (countIn (a .sizes .now)) (a .text .now .now) (a .h) (a .depth) _ (member-nothing (a .d) (a .s .now) _ (c .before .before .before .before .before .before .before .before .read-particle .ensures) _ (c .before .before .before .before .before .before .before .skips .ensures) (c .before .before .before .before .before .before .if1 .left) _ _ (c .before .before .before .before .what2 .given .1) _ refl _ (c .before .accepts-nothing .ensures) (c .if2 .taken))
 
 put-member-add-put-group : (t : ℕ) → put-member-lts.Need-add-put-group (put-member-calls t) (put-member-at t) put-member.Post
 put-member-add-put-group t c = search needs
@@ -346,13 +343,13 @@ put-member-same-length : (t : ℕ) → put-member-lts.Need-same-length (put-memb
 put-member-same-length t c = search needs
 
 put-member-returns-3 : (t : ℕ) → put-member-lts.Need-returns-3 (put-member-calls t) (put-member-at t) put-member.Post
-put-member-returns-3 t c = let a = c .before .before .before .before .before .before .before .before .before .before .before .before .before .args in one-written (versionIn (a .sizes .now)) (widthIn (a .sizes .now)) (defsIn (a .form .now)) (partsIn (a .form .now)) (attrsIn (a .form .now)) (countIn (a .sizes .now)) (a .text .now .now) (a .h) (a .depth) _ _ (member-element (a .d) (a .s .now) _ (c .before .before .before .before .before .before .before .before .before .before .read-particle .ensures) _ (c .before .before .before .before .before .before .before .before .before .skips .ensures) (c .before .before .before .before .before .before .before .before .if1 .left) _ (c .before .before .before .before .before .before .what .given .1)) (c .before .before .put-definition .ensures)
+put-member-returns-3 t c = let a = c .before .before .before .before .before .before .before .before .before .before .before .before .before .args in one-written (versionOfFilling (a .sizes .now)) (widthIn (a .sizes .now)) (defsIn (a .form .now)) (partsIn (a .form .now)) (attrsIn (a .form .now)) (countIn (a .sizes .now)) (a .text .now .now) (a .h) (a .depth) _ _ (member-element (a .d) (a .s .now) _ (c .before .before .before .before .before .before .before .before .before .before .read-particle .ensures) _ (c .before .before .before .before .before .before .before .before .before .skips .ensures) (c .before .before .before .before .before .before .before .before .if1 .left) _ (c .before .before .before .before .before .before .what .given .1)) (c .before .before .put-definition .ensures)
 
 put-member-same-length-2 : (t : ℕ) → put-member-lts.Need-same-length-2 (put-member-calls t) (put-member-at t) put-member.Post
 put-member-same-length-2 t c = search needs
 
 put-member-returns-4 : (t : ℕ) → put-member-lts.Need-returns-4 (put-member-calls t) (put-member-at t) put-member.Post
-put-member-returns-4 t c = let a = c .before .before .before .before .before .before .before .before .before .before .before .before .before .before .before .before .args in same-written (versionIn (a .sizes .now)) (widthIn (a .sizes .now)) (defsIn (a .form .now)) (partsIn (a .form .now)) (attrsIn (a .form .now)) (countIn (a .sizes .now)) (a .text .now .now) (a .h) (a .depth) _ _ (member-group (a .d) (a .s .now) _ (c .before .before .before .before .before .before .before .before .before .before .before .before .before .read-particle .ensures) _ (c .before .before .before .before .before .before .before .before .before .before .before .before .skips .ensures) (c .before .before .before .before .before .before .before .before .before .before .before .if1 .left) _ _ (c .before .before .before .before .before .before .before .before .before .what2 .given .1) _ refl _ (c .before .before .before .before .before .before .accepts-nothing .ensures) (c .before .before .before .before .before .if2 .left)) (c .before .before .put-group .ensures)
+put-member-returns-4 t c = let a = c .before .before .before .before .before .before .before .before .before .before .before .before .before .before .before .before .args in same-written (versionOfFilling (a .sizes .now)) (widthIn (a .sizes .now)) (defsIn (a .form .now)) (partsIn (a .form .now)) (attrsIn (a .form .now)) (countIn (a .sizes .now)) (a .text .now .now) (a .h) (a .depth) _ _ (member-group (a .d) (a .s .now) _ (c .before .before .before .before .before .before .before .before .before .before .before .before .before .read-particle .ensures) _ (c .before .before .before .before .before .before .before .before .before .before .before .before .skips .ensures) (c .before .before .before .before .before .before .before .before .before .before .before .if1 .left) _ _ (c .before .before .before .before .before .before .before .before .before .what2 .given .1) _ refl _ (c .before .before .before .before .before .before .accepts-nothing .ensures) (c .before .before .before .before .before .if2 .left)) (c .before .before .put-group .ensures)
 
 pub +put-below+put-definition+put-group+put-member-spec : {M : Type 1} → statement M
 +put-below+put-definition+put-group+put-member-spec =

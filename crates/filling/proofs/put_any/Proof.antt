@@ -1,5 +1,5 @@
 use native.Mathlib.Omega.{arith}
-use Rattle.filling.specs.Parts.{defsIn, partsIn, attrsIn, widthIn, countIn, versionIn}
+use Rattle.filling.specs.Parts.{defsIn, partsIn, attrsIn, widthIn, countIn, versionOfFilling}
 use Rattle.filling.proofs.FillingLaws.{nothing-filled, definition-filled, attribute-filled, particles-filled, filled-definition, filled-attribute, filled-particles}
 use borrow.Author.Needs.{needs}
 use Rattle.filling.proofs.put_any.Statement.{statement}
@@ -30,25 +30,25 @@ put-members-requires : tie.Need-put-members-requires
 put-members-requires c κs = let p = c .before .before .before .before .before .before .pre in let (x, y) = filled-particles (c .before .before .before .before .before .before .args .what) _ _ _ (c .before .before .before .what3 .given .1) (p .0) in (x, y, p .1)
 
 returns : tie.Need-returns
-returns c = let a = c .before .before .before .args in nothing-filled (versionIn (a .sizes .now)) (widthIn (a .sizes .now)) (a .h) (defsIn (a .form .now)) (partsIn (a .form .now)) (attrsIn (a .form .now)) (countIn (a .sizes .now)) (a .what) (a .text .now .now) (a .depth) (c .enum-told .given .1)
+returns c = let a = c .before .before .before .args in nothing-filled (versionOfFilling (a .sizes .now)) (widthIn (a .sizes .now)) (a .h) (defsIn (a .form .now)) (partsIn (a .form .now)) (attrsIn (a .form .now)) (countIn (a .sizes .now)) (a .what) (a .text .now .now) (a .depth) (c .enum-told .given .1)
 
 same-length : tie.Need-same-length
 same-length c = search needs
 
 returns-2 : tie.Need-returns-2
-returns-2 c = let a = c .before .before .before .before .before .before .before .before .before .args in definition-filled (versionIn (a .sizes .now)) (widthIn (a .sizes .now)) (a .h) (defsIn (a .form .now)) (partsIn (a .form .now)) (attrsIn (a .form .now)) (countIn (a .sizes .now)) (a .what) (a .text .now .now) (a .depth) _ (c .before .before .before .before .before .before .what .given .1) (c .before .before .put-definition .ensures)
+returns-2 c = let a = c .before .before .before .before .before .before .before .before .before .args in definition-filled (versionOfFilling (a .sizes .now)) (widthIn (a .sizes .now)) (a .h) (defsIn (a .form .now)) (partsIn (a .form .now)) (attrsIn (a .form .now)) (countIn (a .sizes .now)) (a .what) (a .text .now .now) (a .depth) _ (c .before .before .before .before .before .before .what .given .1) (c .before .before .put-definition .ensures)
 
 same-length-2 : tie.Need-same-length-2
 same-length-2 c = search needs
 
 returns-3 : tie.Need-returns-3
-returns-3 c = let a = c .before .before .before .before .before .before .before .before .before .before .before .args in attribute-filled (versionIn (a .sizes .now)) (widthIn (a .sizes .now)) (a .h) (defsIn (a .form .now)) (partsIn (a .form .now)) (attrsIn (a .form .now)) (countIn (a .sizes .now)) (a .what) (a .text .now .now) (a .depth) _ (c .before .before .before .before .before .before .before .before .what2 .given .1) (c .before .before .put-row .ensures)
+returns-3 c = let a = c .before .before .before .before .before .before .before .before .before .before .before .args in attribute-filled (versionOfFilling (a .sizes .now)) (widthIn (a .sizes .now)) (a .h) (defsIn (a .form .now)) (partsIn (a .form .now)) (attrsIn (a .form .now)) (countIn (a .sizes .now)) (a .what) (a .text .now .now) (a .depth) _ (c .before .before .before .before .before .before .before .before .what2 .given .1) (c .before .before .put-row .ensures)
 
 same-length-3 : tie.Need-same-length-3
 same-length-3 c = search needs
 
 returns-4 : tie.Need-returns-4
-returns-4 c = let a = c .before .before .before .before .before .before .before .before .before .args in particles-filled (versionIn (a .sizes .now)) (widthIn (a .sizes .now)) (a .h) (defsIn (a .form .now)) (partsIn (a .form .now)) (attrsIn (a .form .now)) (countIn (a .sizes .now)) (a .what) (a .text .now .now) (a .depth) _ _ _ (c .before .before .before .before .before .before .what3 .given .1) (c .before .before .put-members .ensures)
+returns-4 c = let a = c .before .before .before .before .before .before .before .before .before .args in particles-filled (versionOfFilling (a .sizes .now)) (widthIn (a .sizes .now)) (a .h) (defsIn (a .form .now)) (partsIn (a .form .now)) (attrsIn (a .form .now)) (countIn (a .sizes .now)) (a .what) (a .text .now .now) (a .depth) _ _ _ (c .before .before .before .before .before .before .what3 .given .1) (c .before .before .put-members .ensures)
 
 pub put-any-spec : {M : Type 1} → statement M
 put-any-spec =

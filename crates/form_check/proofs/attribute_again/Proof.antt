@@ -7,14 +7,14 @@ use borrow.Author.Needs.{needs}
 use lib.ListN.{drop}
 use Rattle.rules.specs.Bytes.{any}
 use Rattle.form_check.specs.FormTests.{clashes}
-use Rattle.form_check.specs.Bodies.{attributeAt, attributes}
+use Rattle.form_check.specs.Bodies.{attributeRecordAt, attributes}
 use Rattle.form_check.proofs.Reading.{attributes-from, attributes-end}
 use Rattle.form_check.proofs.Laws.{any-on, any-off, any-end}
 use Rattle.form_check.proofs.attribute_again.Statement.{statement}
 use Rattle.form_check.proofs.attribute_again.Tie as tie
 
 abbrev Inv-loop : tie.InvT-loop
-Inv-loop w a attrs i j₀ j = (j < a) × (any (clashes (attributeAt w i attrs)) (drop (j + 1) (attributes w a attrs)) ≡ any (clashes (attributeAt w i attrs)) (drop (i + 1) (attributes w a attrs)))
+Inv-loop w a attrs i j₀ j = (j < a) × (any (clashes (attributeRecordAt w i attrs)) (drop (j + 1) (attributes w a attrs)) ≡ any (clashes (attributeRecordAt w i attrs)) (drop (i + 1) (attributes w a attrs)))
 
 abbrev μ-loop : tie.MeasureT-loop
 μ-loop w a attrs i j₀ j = a - j
@@ -38,7 +38,7 @@ returns c =
     let a = start .args in
     let k = at-loop .loop .j + 1 in
     sym
-    (any-on (clashes (attributeAt (a .w) (a .i) (a .attrs .now))) (attributes-from (a .w) k (a .a) (a .attrs .now) (omega arith))
+    (any-on (clashes (attributeRecordAt (a .w) (a .i) (a .attrs .now))) (attributes-from (a .w) k (a .a) (a .attrs .now) (omega arith))
     (sym (c .before .same-attribute .ensures) ∙ c .if1 .taken))
     ∙ at-loop .loop .inv .1
 
@@ -52,7 +52,7 @@ loop-again c =
     let a = start .args in
     let k = at-loop .loop .j + 1 in (
       omega arith,
-      any-off (clashes (attributeAt (a .w) (a .i) (a .attrs .now))) (attributes-from (a .w) k (a .a) (a .attrs .now) (omega arith))
+      any-off (clashes (attributeRecordAt (a .w) (a .i) (a .attrs .now))) (attributes-from (a .w) k (a .a) (a .attrs .now) (omega arith))
           (sym (c .before .same-attribute .ensures) ∙ c .if1 .left)
           ∙ at-loop .loop .inv .1,
     )
@@ -61,7 +61,7 @@ returns-2 : tie.Need-returns-2 Inv-loop μ-loop
 returns-2 c =
     let start = c .before .before .before in
     let a = start .args in
-    sym (any-end (clashes (attributeAt (a .w) (a .i) (a .attrs .now))) (attributes-end (a .w) (c .before .loop .j + 1) (a .a) (a .attrs .now) (omega arith))) ∙ c .before .loop .inv .1
+    sym (any-end (clashes (attributeRecordAt (a .w) (a .i) (a .attrs .now))) (attributes-end (a .w) (c .before .loop .j + 1) (a .a) (a .attrs .now) (omega arith))) ∙ c .before .loop .inv .1
 
 pub attribute-again-spec : {M : Type 1} → statement M
 attribute-again-spec =

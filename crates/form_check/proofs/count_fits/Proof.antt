@@ -1,5 +1,5 @@
 -- `form_check::count_fits` meets its contract. The fields of a particle and the number of its members, by its sort.
-use Rattle.form_check.specs.Bodies.{particleAt}
+use Rattle.form_check.specs.Bodies.{particleRecordAt}
 use Rattle.form_check.proofs.ModelLaws.{count-element, count-group}
 use borrow.Author.Needs.{needs}
 use Rattle.form_check.proofs.count_fits.Statement.{statement}
@@ -20,7 +20,7 @@ returns c =
     let at-particle-sort-at = at-particle-quantifier-at .before in
     let start = at-particle-sort-at .before .before in
     let a = start .args in
-    count-element (a .n) (particleAt (a .i) (a .parts .now) .row) (a .below) (at-particle-sort-at .particle-sort-at .ensures) (at-particle-quantifier-at .particle-quantifier-at .ensures)
+    count-element (a .n) (particleRecordAt (a .i) (a .parts .now) .row) (a .below) (at-particle-sort-at .particle-sort-at .ensures) (at-particle-quantifier-at .particle-quantifier-at .ensures)
     (c .before .particle-index-at .ensures) (c .if1 .taken)
 
 returns-2 : tie.Need-returns-2
@@ -29,7 +29,7 @@ returns-2 c =
     let at-particle-sort-at = at-particle-quantifier-at .before in
     let start = at-particle-sort-at .before .before in
     let a = start .args in
-    count-group (a .n) (particleAt (a .i) (a .parts .now) .row) (a .below) (at-particle-sort-at .particle-sort-at .ensures) (at-particle-quantifier-at .particle-quantifier-at .ensures)
+    count-group (a .n) (particleRecordAt (a .i) (a .parts .now) .row) (a .below) (at-particle-sort-at .particle-sort-at .ensures) (at-particle-quantifier-at .particle-quantifier-at .ensures)
     (c .before .particle-index-at .ensures) (c .if1 .left)
 
 pub count-fits-spec : {M : Type 1} → statement M

@@ -6,14 +6,14 @@ use native.Mathlib.Omega.{arith}
 use borrow.Author.Needs.{needs}
 use lib.ListN.{drop}
 use Rattle.rules.specs.Bytes.{any}
-use Rattle.form_check.specs.Bodies.{particleAt, particles, sameElement}
+use Rattle.form_check.specs.Bodies.{particleRecordAt, particlesRead, sameElement}
 use Rattle.form_check.proofs.Reading.{particles-from, particles-end}
 use Rattle.form_check.proofs.Laws.{any-on, any-off, any-end}
 use Rattle.form_check.proofs.element_again.Statement.{statement}
 use Rattle.form_check.proofs.element_again.Tie as tie
 
 abbrev Inv-loop : tie.InvT-loop
-Inv-loop m parts i j₀ j = (j < m) × (any (sameElement (particleAt i parts)) (drop (j + 1) (particles m parts)) ≡ any (sameElement (particleAt i parts)) (drop (i + 1) (particles m parts)))
+Inv-loop m parts i j₀ j = (j < m) × (any (sameElement (particleRecordAt i parts)) (drop (j + 1) (particlesRead m parts)) ≡ any (sameElement (particleRecordAt i parts)) (drop (i + 1) (particlesRead m parts)))
 
 abbrev μ-loop : tie.MeasureT-loop
 μ-loop m parts i j₀ j = m - j
@@ -37,7 +37,7 @@ returns c =
     let a = start .args in
     let k = at-loop .loop .j + 1 in
     sym
-    (any-on (sameElement (particleAt (a .i) (a .parts .now))) (particles-from k (a .m) (a .parts .now) (omega arith))
+    (any-on (sameElement (particleRecordAt (a .i) (a .parts .now))) (particles-from k (a .m) (a .parts .now) (omega arith))
     (sym (c .before .same-element .ensures) ∙ c .if1 .taken))
     ∙ at-loop .loop .inv .1
 
@@ -51,7 +51,7 @@ loop-again c =
     let a = start .args in
     let k = at-loop .loop .j + 1 in (
       omega arith,
-      any-off (sameElement (particleAt (a .i) (a .parts .now))) (particles-from k (a .m) (a .parts .now) (omega arith))
+      any-off (sameElement (particleRecordAt (a .i) (a .parts .now))) (particles-from k (a .m) (a .parts .now) (omega arith))
           (sym (c .before .same-element .ensures) ∙ c .if1 .left)
           ∙ at-loop .loop .inv .1,
     )
@@ -60,7 +60,7 @@ returns-2 : tie.Need-returns-2 Inv-loop μ-loop
 returns-2 c =
     let start = c .before .before .before in
     let a = start .args in
-    sym (any-end (sameElement (particleAt (a .i) (a .parts .now))) (particles-end (c .before .loop .j + 1) (a .m) (a .parts .now) (omega arith))) ∙ c .before .loop .inv .1
+    sym (any-end (sameElement (particleRecordAt (a .i) (a .parts .now))) (particles-end (c .before .loop .j + 1) (a .m) (a .parts .now) (omega arith))) ∙ c .before .loop .inv .1
 
 pub element-again-spec : {M : Type 1} → statement M
 element-again-spec =

@@ -1,20 +1,19 @@
 -- `form_check::members` meets its contract. The loop's invariant: `count` and the members from j on make up the members
 -- from `from` on. The measure is what is left of the particles.
-use Rattle.form_check.specs.Bodies.{particleAt}
+use Rattle.form_check.specs.Bodies.{particleRecordAt, particlesRead, countBeside}
 use mathlib.Core.Path.{_≡_}
 use mathlib.Core.Logic.{⊎-elim}
 use Prim.Native.Nat.{_+_, _-_, _≤_, _<_}
 use native.Mathlib.Omega.{arith}
 use borrow.Author.Needs.{needs}
 use lib.ListN.{drop}
-use Rattle.form_check.specs.Bodies.{particles, membersFrom}
 use Rattle.form_check.proofs.Reading.{particles-from, particles-end}
 use Rattle.form_check.proofs.ModelLaws.{members-less, members-same, members-deeper, members-end}
 use Rattle.form_check.proofs.members.Statement.{statement}
 use Rattle.form_check.proofs.members.Tie as tie
 
 abbrev Inv-loop : tie.InvT-loop
-Inv-loop m parts from k count₀ j₀ count j = (count ≤ j) × (count + membersFrom k (drop j (particles m parts)) ≡ membersFrom k (drop from (particles m parts)))
+Inv-loop m parts from k count₀ j₀ count j = (count ≤ j) × (count + countBeside k (drop j (particlesRead m parts)) ≡ countBeside k (drop from (particlesRead m parts)))
 
 abbrev μ-loop : tie.MeasureT-loop
 μ-loop m parts from k count₀ j₀ count j = m - j
@@ -31,7 +30,7 @@ returns c =
     let start = at-loop .before .before in
     let a = start .args in
     let j = at-loop .loop .j in
-    let h : particleAt j (a .parts .now) .depth < a .k = omega arith in
+    let h : particleRecordAt j (a .parts .now) .depth < a .k = omega arith in
     omega (arith, members-less (a .k) (particles-from j (a .m) (a .parts .now) (omega arith)) h)
 
 add-count : tie.Need-add-count Inv-loop μ-loop
@@ -52,10 +51,10 @@ loop-again c =
     let e = particles-from j (a .m) (a .parts .now) (omega arith) in
     ⊎-elim
     (λ w.
-    let h : particleAt j (a .parts .now) .depth ≡ a .k = omega arith in
+    let h : particleRecordAt j (a .parts .now) .depth ≡ a .k = omega arith in
     (omega arith, omega (arith, members-same (a .k) e h)))
     (λ w.
-    let h : a .k < particleAt j (a .parts .now) .depth = omega arith in
+    let h : a .k < particleRecordAt j (a .parts .now) .depth = omega arith in
     (omega arith, omega (arith, members-deeper (a .k) e h)))
     (c .if2 .came)
 

@@ -1,20 +1,18 @@
 -- `form_check::model_fits` meets its contract. The loop's invariant: the walk from particle i on, with depth d allowed,
 -- decides the model. The measure is what is left of the particles.
-use Rattle.form_check.specs.Bodies.{particleAt}
-use Rattle.form_check.proofs.ModelLaws.{stands-depth}
+use Rattle.form_check.specs.Bodies.{particleRecordAt, particlesRead, walks}
+use Rattle.form_check.proofs.ModelLaws.{stands-depth, walks-on, walks-off, walks-end, walks-model}
 use mathlib.Core.Path.{_≡_, refl, sym, _∙_}
 use Prim.Native.Nat.{_+_, _-_}
 use native.Mathlib.Omega.{arith}
 use borrow.Author.Needs.{needs}
 use lib.ListN.{drop}
-use Rattle.form_check.specs.Bodies.{particles, walks}
 use Rattle.form_check.proofs.Reading.{particles-from, particles-end}
-use Rattle.form_check.proofs.ModelLaws.{walks-on, walks-off, walks-end, walks-model}
 use Rattle.form_check.proofs.model_fits.Statement.{statement}
 use Rattle.form_check.proofs.model_fits.Tie as tie
 
 abbrev Inv-loop : tie.InvT-loop
-Inv-loop n m parts d₀ i₀ d i = walks n d (drop i (particles m parts)) ≡ walks n 0 (particles m parts)
+Inv-loop n m parts d₀ i₀ d i = walks n d (drop i (particlesRead m parts)) ≡ walks n 0 (particlesRead m parts)
 
 abbrev μ-loop : tie.MeasureT-loop
 μ-loop n m parts d₀ i₀ d i = m - i
@@ -33,7 +31,7 @@ returns c =
     sym
     (walks-off (a .n) (at-loop .loop .d) (particles-from (at-loop .loop .i) (a .m) (a .parts .now) (omega arith)) (c .before .particle-stands .ensures)
     (c .if1 .taken))
-    ∙ at-loop .loop .inv ∙ walks-model (a .n) (particles (a .m) (a .parts .now))
+    ∙ at-loop .loop .inv ∙ walks-model (a .n) (particlesRead (a .m) (a .parts .now))
 
 particle-depth-at-requires : tie.Need-particle-depth-at-requires Inv-loop μ-loop
 particle-depth-at-requires c κs = search needs
@@ -47,8 +45,8 @@ add-d c =
     omega (
       arith,
       c .particle-depth-at .ensures,
-      stands-depth (a .n) (at-loop .loop .d) (particleAt (at-loop .loop .i) (a .parts .now))
-          (drop (at-loop .loop .i + 1) (particles (a .m) (a .parts .now))) (at-particle-stands .particle-stands .ensures) (c .before .if1 .left),
+      stands-depth (a .n) (at-loop .loop .d) (particleRecordAt (at-loop .loop .i) (a .parts .now))
+          (drop (at-loop .loop .i + 1) (particlesRead (a .m) (a .parts .now))) (at-particle-stands .particle-stands .ensures) (c .before .if1 .left),
     )
 
 add-i : tie.Need-add-i Inv-loop μ-loop
@@ -70,7 +68,7 @@ returns-2 : tie.Need-returns-2 Inv-loop μ-loop
 returns-2 c =
     let start = c .before .before .before in
     let a = start .args in
-    sym (walks-end (a .n) (c .before .loop .d) (particles-end (c .before .loop .i) (a .m) (a .parts .now) (omega arith))) ∙ c .before .loop .inv ∙ walks-model (a .n) (particles (a .m) (a .parts .now))
+    sym (walks-end (a .n) (c .before .loop .d) (particles-end (c .before .loop .i) (a .m) (a .parts .now) (omega arith))) ∙ c .before .loop .inv ∙ walks-model (a .n) (particlesRead (a .m) (a .parts .now))
 
 pub model-fits-spec : {M : Type 1} → statement M
 model-fits-spec =

@@ -6,14 +6,14 @@ use native.Mathlib.Omega.{arith}
 use borrow.Author.Needs.{needs}
 use lib.ListN.{drop}
 use Rattle.form_check.specs.FormTests.{modelsFit}
-use Rattle.form_check.specs.Bodies.{definitions, particles}
+use Rattle.form_check.specs.Bodies.{definitions, particlesRead}
 use Rattle.form_check.proofs.Reading.{definitions-from, definitions-end, particles-length}
 use Rattle.form_check.proofs.ModelLaws.{part-fits, models-short, models-off, models-on, models-end}
 use Rattle.form_check.proofs.models_fit.Statement.{statement}
 use Rattle.form_check.proofs.models_fit.Tie as tie
 
 abbrev Inv-loop : tie.InvT-loop
-Inv-loop n defs p parts at₀ i₀ at i = (at ≤ p) × (modelsFit n (drop i (definitions n defs)) (drop at (particles p parts)) ≡ modelsFit n (definitions n defs) (particles p parts))
+Inv-loop n defs p parts at₀ i₀ at i = (at ≤ p) × (modelsFit n (drop i (definitions n defs)) (drop at (particlesRead p parts)) ≡ modelsFit n (definitions n defs) (particlesRead p parts))
 
 abbrev μ-loop : tie.MeasureT-loop
 μ-loop n defs p parts at₀ i₀ at i = n - i
@@ -36,7 +36,7 @@ returns c =
     let start = at-loop .before .before .before in
     let a = start .args in
     let l = at-loop .loop in
-    let ps = particles (a .p) (a .parts .now) in
+    let ps = particlesRead (a .p) (a .parts .now) in
     sym (models-short (a .n) (a .p) (l .at) ps (particles-length (a .p) (a .parts .now)) (definitions-from (l .i) (a .n) (a .defs .now) (omega arith))
     (c .before .definition-particles-at .ensures) (c .if1 .taken)) ∙ l .inv .1
 
@@ -56,7 +56,7 @@ returns-2 c =
     let a = start .args in
     let l = at-loop .loop in
     let k = at-definition-particles-at .definition-particles-at .result in
-    let ps = particles (a .p) (a .parts .now) in
+    let ps = particlesRead (a .p) (a .parts .now) in
     let fits = part-fits (a .n) (l .at) k (a .p) (a .parts .now) (at-particles-part .particles-part .ensures) (c .before .model-fits .ensures) (omega arith)
     (start .pre .1 .whole) in
     sym (models-off (a .n) (a .p) (l .at) ps (particles-length (a .p) (a .parts .now)) (definitions-from (l .i) (a .n) (a .defs .now) (omega arith))
@@ -81,7 +81,7 @@ loop-again c =
     let a = start .args in
     let l = at-loop .loop in
     let k = at-definition-particles-at .definition-particles-at .result in
-    let ps = particles (a .p) (a .parts .now) in
+    let ps = particlesRead (a .p) (a .parts .now) in
     let fits = part-fits (a .n) (l .at) k (a .p) (a .parts .now) (at-particles-part .particles-part .ensures) (c .before .model-fits .ensures) (omega arith)
     (start .pre .1 .whole) in (
       omega arith,
@@ -95,7 +95,7 @@ returns-3 c =
     let a = start .args in
     let l = c .before .loop in
     sym
-    (models-end (a .n) (a .p) (l .at) (particles (a .p) (a .parts .now)) (particles-length (a .p) (a .parts .now)) (omega arith)
+    (models-end (a .n) (a .p) (l .at) (particlesRead (a .p) (a .parts .now)) (particles-length (a .p) (a .parts .now)) (omega arith)
     (definitions-end (l .i) (a .n) (a .defs .now) (omega arith)))
     ∙ l .inv .1
 

@@ -6,14 +6,14 @@ use native.Mathlib.Omega.{arith}
 use borrow.Author.Needs.{needs}
 use lib.ListN.{drop}
 use Rattle.rules.specs.Bytes.{Bytes, same, any}
-use Rattle.form_check.specs.Bodies.{definitionAt, definitions, sameName}
+use Rattle.form_check.specs.Bodies.{definitionRecordAt, definitions, sameName}
 use Rattle.form_check.proofs.Reading.{definitions-from, definitions-end, definition-name}
 use Rattle.form_check.proofs.Laws.{any-on, any-off, any-end}
 use Rattle.form_check.proofs.name_again.Statement.{statement}
 use Rattle.form_check.proofs.name_again.Tie as tie
 
 abbrev Inv-loop : tie.InvT-loop
-Inv-loop n defs i name j₀ j = (j < n) × (any (sameName (definitionAt i defs)) (drop (j + 1) (definitions n defs)) ≡ any (sameName (definitionAt i defs)) (drop (i + 1) (definitions n defs)))
+Inv-loop n defs i name j₀ j = (j < n) × (any (sameName (definitionRecordAt i defs)) (drop (j + 1) (definitions n defs)) ≡ any (sameName (definitionRecordAt i defs)) (drop (i + 1) (definitions n defs)))
 
 abbrev μ-loop : tie.MeasureT-loop
 μ-loop n defs i name j₀ j = n - j
@@ -45,8 +45,8 @@ returns c =
     let a = start .args in
     let k = at-loop .loop .j + 1 in
     let named = definition-name (a .i) (a .defs .now) (at-definition-at .definition-at .ensures) (at-definition-name .definition-name .ensures) in
-    let alike = c .before .same-name .ensures ∙ ap (λ (x : Bytes). same x (definitionAt k (a .defs .now) .name)) named in
-    sym (any-on (sameName (definitionAt (a .i) (a .defs .now))) (definitions-from k (a .n) (a .defs .now) (omega arith)) (sym alike ∙ c .if1 .taken)) ∙ at-loop .loop .inv .1
+    let alike = c .before .same-name .ensures ∙ ap (λ (x : Bytes). same x (definitionRecordAt k (a .defs .now) .name)) named in
+    sym (any-on (sameName (definitionRecordAt (a .i) (a .defs .now))) (definitions-from k (a .n) (a .defs .now) (omega arith)) (sym alike ∙ c .if1 .taken)) ∙ at-loop .loop .inv .1
 
 loop-less : tie.Need-loop-less Inv-loop μ-loop
 loop-less c = omega arith
@@ -60,14 +60,14 @@ loop-again c =
     let a = start .args in
     let k = at-loop .loop .j + 1 in
     let named = definition-name (a .i) (a .defs .now) (at-definition-at .definition-at .ensures) (at-definition-name .definition-name .ensures) in
-    let alike = c .before .same-name .ensures ∙ ap (λ (x : Bytes). same x (definitionAt k (a .defs .now) .name)) named in
-    (omega arith, any-off (sameName (definitionAt (a .i) (a .defs .now))) (definitions-from k (a .n) (a .defs .now) (omega arith)) (sym alike ∙ c .if1 .left) ∙ at-loop .loop .inv .1)
+    let alike = c .before .same-name .ensures ∙ ap (λ (x : Bytes). same x (definitionRecordAt k (a .defs .now) .name)) named in
+    (omega arith, any-off (sameName (definitionRecordAt (a .i) (a .defs .now))) (definitions-from k (a .n) (a .defs .now) (omega arith)) (sym alike ∙ c .if1 .left) ∙ at-loop .loop .inv .1)
 
 returns-2 : tie.Need-returns-2 Inv-loop μ-loop
 returns-2 c =
     let start = c .before .before .before .before .before in
     let a = start .args in
-    sym (any-end (sameName (definitionAt (a .i) (a .defs .now))) (definitions-end (c .before .loop .j + 1) (a .n) (a .defs .now) (omega arith))) ∙ c .before .loop .inv .1
+    sym (any-end (sameName (definitionRecordAt (a .i) (a .defs .now))) (definitions-end (c .before .loop .j + 1) (a .n) (a .defs .now) (omega arith))) ∙ c .before .loop .inv .1
 
 pub name-again-spec : {M : Type 1} → statement M
 name-again-spec =

@@ -2,7 +2,7 @@
 use mathlib.Core.Path.{sym}
 use Prim.Native.Nat.{_+_}
 use lib.ListN.{drop}
-use Rattle.form_check.specs.Bodies.{particleAt, particles}
+use Rattle.form_check.specs.Bodies.{particleRecordAt, particlesRead}
 use Rattle.form_check.proofs.ModelLaws.{stands-low, stands-far, stands-by}
 use borrow.Author.Needs.{needs}
 use Rattle.form_check.proofs.particle_stands.Statement.{statement}
@@ -15,14 +15,14 @@ returns : tie.Need-returns
 returns c =
     let start = c .before .before .before in
     let a = start .args in
-    sym (stands-low (a .n) (a .d) (particleAt (a .i) (a .parts .now)) (drop (a .i + 1) (particles (a .m) (a .parts .now))) (c .before .particle-depth-at .ensures) (c .if1 .taken))
+    sym (stands-low (a .n) (a .d) (particleRecordAt (a .i) (a .parts .now)) (drop (a .i + 1) (particlesRead (a .m) (a .parts .now))) (c .before .particle-depth-at .ensures) (c .if1 .taken))
 
 returns-2 : tie.Need-returns-2
 returns-2 c =
     let at-particle-depth-at = c .before .before in
     let start = at-particle-depth-at .before .before in
     let a = start .args in
-    sym (stands-far (a .n) (a .d) (particleAt (a .i) (a .parts .now)) (drop (a .i + 1) (particles (a .m) (a .parts .now))) (at-particle-depth-at .particle-depth-at .ensures) (c .before .if1 .left)
+    sym (stands-far (a .n) (a .d) (particleRecordAt (a .i) (a .parts .now)) (drop (a .i + 1) (particlesRead (a .m) (a .parts .now))) (at-particle-depth-at .particle-depth-at .ensures) (c .before .if1 .left)
     (c .if2 .taken))
 
 add-members : tie.Need-add-members
@@ -48,7 +48,7 @@ returns-3 c =
     let at-particle-depth-at = at-if1 .before in
     let start = at-particle-depth-at .before .before in
     let a = start .args in
-    stands-by (a .n) (a .d) (particleAt (a .i) (a .parts .now)) (drop (a .i + 1) (particles (a .m) (a .parts .now))) (at-particle-depth-at .particle-depth-at .ensures)
+    stands-by (a .n) (a .d) (particleRecordAt (a .i) (a .parts .now)) (drop (a .i + 1) (particlesRead (a .m) (a .parts .now))) (at-particle-depth-at .particle-depth-at .ensures)
     (at-if1 .if1 .left) (at-if2 .if2 .left) (at-members .members .ensures) (c .before .count-fits .ensures) (c .element-again .ensures)
 
 pub particle-stands-spec : {M : Type 1} → statement M

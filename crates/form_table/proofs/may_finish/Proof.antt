@@ -1,7 +1,7 @@
 use mathlib.Core.Path.{ap, _∙_}
 use native.Mathlib.Omega.{arith}
 use Rattle.rules.specs.Bytes.{Bytes}
-use Rattle.model.specs.Members.{membersOf}
+use Rattle.model.specs.Members.{allMembers}
 use Rattle.model.specs.Steps.{finishes}
 use Rattle.form_table.proofs.TableLaws.{finish-none, finish-child}
 use borrow.Author.Needs.{needs}
@@ -63,7 +63,7 @@ finishes-requires c κs = search needs
 returns-3 : tie.Need-returns-3
 returns-3 c =
     let a = c .before .before .before .before .before .before .before .args in
-    c .finishes .ensures ∙ ap (λ (s : Bytes). finishes (membersOf s) (a .last)) (c .before .model-part .ensures)
+    c .finishes .ensures ∙ ap (λ (s : Bytes). finishes (allMembers s) (a .last)) (c .before .model-part .ensures)
 
 pub may-finish-spec : {M : Type 1} → statement M
 may-finish-spec =

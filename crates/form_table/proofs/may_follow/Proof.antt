@@ -4,7 +4,7 @@ use borrow.Author.Tests.{leb-true, ltb-true}
 use lib.Dec.{leb, ltb}
 use Rattle.rules.specs.Bytes.{Bytes}
 use Rattle.rules.proofs.Words.{and-split}
-use Rattle.model.specs.Members.{membersOf}
+use Rattle.model.specs.Members.{allMembers}
 use Rattle.model.specs.Steps.{steps}
 use Rattle.form_table.proofs.TableLaws.{follow-found}
 use borrow.Author.Needs.{needs}
@@ -50,7 +50,7 @@ steps-requires : tie.Need-steps-requires
 steps-requires c κs = search needs
 
 returns-2 : tie.Need-returns-2
-returns-2 c = let a = c .before .before .before .before .before .before .args in c .steps .ensures ∙ ap (λ (s : Bytes). steps (membersOf s) (a .last) (a .index)) (c .before .model-part .ensures)
+returns-2 c = let a = c .before .before .before .before .before .before .args in c .steps .ensures ∙ ap (λ (s : Bytes). steps (allMembers s) (a .last) (a .index)) (c .before .model-part .ensures)
 
 pub may-follow-spec : {M : Type 1} → statement M
 may-follow-spec =

@@ -10,12 +10,13 @@ use Rattle.store_writer.specs.Stores.{storeIn}
 use Rattle.model_writer.specs.declared.Edit.the-variants.{Convert}
 use Rattle.store_writer.proofs.CallLaws.{answers-bad, answers-refused}
 use Rattle.store_writer.proofs.LimitLaws.{answers-as}
-use Rattle.document_refusals.proofs.StoreFacts.{no-value}
 use Rattle.model_edit.proofs.Fits.{asks}
 use Rattle.group_calls.proofs.Keeping.{convert-fits, kept-answers, keeping-sized, convert-form, convert-plan}
 use borrow.Author.Needs.{needs}
 use Rattle.group_calls.proofs.convert_to_group.Statement.{statement}
 use Rattle.group_calls.proofs.convert_to_group.Tie as tie
+use Rattle.rules.proofs.WellFormedLaws.{none-value}
+use Rattle.layout.specs.Bodies.{widthOf}
 
 passes-requires : tie.Need-passes-requires
 passes-requires c κs = search needs
@@ -77,7 +78,7 @@ edit-model-requires c κs =
     let place = at-convert-to-group-refusal .convert-to-group-refusal .ensures .1 .found (at-if2 .if2 .left) in
     let edit = Convert (at-group-kind .group-kind .result) (a .count) in
     let same = ap (λ (k : GroupKind). convert k (a .count)) (at-group-kind .group-kind .ensures) in
-    (asks fits edit same place, no-value (a .store .now), keeping-sized (at-setting-plan .setting-plan .ensures))
+    (asks fits edit same place, none-value (widthOf (a .store .now)), keeping-sized (at-setting-plan .setting-plan .ensures))
 
 same-length : tie.Need-same-length
 same-length c = search needs

@@ -8,12 +8,13 @@ use Rattle.store_writer.specs.Stores.{storeIn}
 use Rattle.model_writer.specs.declared.Edit.the-variants.{Flatten}
 use Rattle.store_writer.proofs.CallLaws.{answers-bad, answers-refused}
 use Rattle.store_writer.proofs.LimitLaws.{answers-as}
-use Rattle.document_refusals.proofs.StoreFacts.{no-value}
 use Rattle.model_edit.proofs.Fits.{asks}
 use Rattle.group_calls.proofs.Keeping.{flatten-fits, kept-answers, keeping-sized, flatten-form, flatten-plan}
 use borrow.Author.Needs.{needs}
 use Rattle.group_calls.proofs.flatten_group.Statement.{statement}
 use Rattle.group_calls.proofs.flatten_group.Tie as tie
+use Rattle.rules.proofs.WellFormedLaws.{none-value}
+use Rattle.layout.specs.Bodies.{widthOf}
 
 passes-requires : tie.Need-passes-requires
 passes-requires c κs = search needs
@@ -69,7 +70,7 @@ edit-model-requires c κs =
     let none = sym (at-flatten-group-refusal .flatten-group-refusal .ensures .0) ∙ at-if2 .if2 .left in
     let fits = flatten-fits (a .store .now) (sym (at-passes .passes .ensures) ∙ not-false _ (at-if1 .if1 .left)) (a .owner) (a .place .now) none in
     let place = at-flatten-group-refusal .flatten-group-refusal .ensures .1 .found (at-if2 .if2 .left) in
-    (asks fits Flatten refl place, no-value (a .store .now), keeping-sized (at-setting-plan .setting-plan .ensures))
+    (asks fits Flatten refl place, none-value (widthOf (a .store .now)), keeping-sized (at-setting-plan .setting-plan .ensures))
 
 same-length : tie.Need-same-length
 same-length c = search needs

@@ -1,4 +1,4 @@
-use Rattle.document_refusals.proofs.RefusalLaws.{gives-hit, gives-next, gives-none}
+use Rattle.change_laws.proofs.FirstCondition.{gives-hit, gives-next, gives-none}
 use Rattle.group_refusals.proofs.GroupLaws.{flat-read}
 use borrow.Author.Needs.{needs}
 use Rattle.group_refusals.proofs.flatten_at.Statement.{statement}

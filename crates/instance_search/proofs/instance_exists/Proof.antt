@@ -1,4 +1,4 @@
-use Rattle.definition_writer.proofs.Searching.{Searching, searching-start, searching-hit, searching-on, searching-end}
+use Rattle.lookup.proofs.Searching.{Searching, searching-start, searching-hit, searching-on, searching-end}
 use Rattle.instance_search.proofs.InstanceLaws.{instance-row, instances-any}
 use Rattle.instance_search.specs.Instances.{instanceRow}
 use Rattle.rules.specs.Layout.{rowSize}

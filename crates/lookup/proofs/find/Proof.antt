@@ -4,7 +4,7 @@ use mathlib.Core.List.{List}
 use Prim.Native.Nat.{ℕ, _-_, _<_}
 use native.Mathlib.Omega.{arith}
 use Rattle.rules.specs.Decode.{readRow}
-use Rattle.rules.specs.LookUp.{Found}
+use Rattle.rules.specs.LookUp.{ValueFound}
 use Rattle.lookup.specs.Bodies.{RowsOf}
 use Rattle.lookup.specs.Finding.{Looks}
 use Rattle.lookup.proofs.Laws.{Seeking, seek-start, seek-past, seek-hit, seek-none, row-of}
@@ -52,7 +52,7 @@ returns c = let at-loop = c .before .before .before .before .before in
     let a = at-loop .before .before .before .before .before .args in
     let row = row-of (at-loop .loop .i) (at-loop .loop .inv .1) (c .before .before .before .row-at .ensures) in
     let e = c .before .before .row-serial .ensures ∙ ap (λ (b : List ℕ). readRow b .row .serial) row in
-    subst (λ (f : Found). Looks f (c .found-at .result .number) (c .found-at .result .start) (c .found-at .result .length))
+    subst (λ (f : ValueFound). Looks f (c .found-at .result .number) (c .found-at .result .start) (c .found-at .result .length))
     (seek-hit (a .store .now) (a .serial) _ (at-loop .loop .i) (at-loop .loop .inv .0) (omega arith) (sym e ∙ c .before .if1 .taken))
     (c .found-at .ensures)
 

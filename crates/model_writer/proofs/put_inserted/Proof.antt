@@ -3,10 +3,11 @@ use mathlib.Core.Path.{refl}
 use native.Mathlib.Omega.{arith}
 use Rattle.codec.proofs.Writers.{laid-as, laid-then}
 use Rattle.model_writer.proofs.WritingLaws.{particle-same}
-use Rattle.model_writer.proofs.TailWriting.{code-small, inserted-index, inserted-depth, inserted-bytes}
+use Rattle.model_writer.proofs.TailWriting.{inserted-index, inserted-depth, inserted-bytes}
 use borrow.Author.Needs.{needs}
 use Rattle.model_writer.proofs.put_inserted.Statement.{statement}
 use Rattle.model_writer.proofs.put_inserted.Tie as tie
+use Rattle.model.proofs.Codes.{code-small}
 
 quantifier-code-requires : tie.Need-quantifier-code-requires
 quantifier-code-requires c κs = search needs

@@ -6,10 +6,11 @@ use Rattle.rules.specs.Bytes.{Bytes}
 use Rattle.rules.specs.Layout.{particleSize}
 use Rattle.codec.proofs.Writers.{laid-none, laid-as, laid-then}
 use Rattle.model_writer.proofs.WritingLaws.{particle-same}
-use Rattle.model_writer.proofs.TailWriting.{code-small, requantified-none, requantified-bytes}
+use Rattle.model_writer.proofs.TailWriting.{requantified-none, requantified-bytes}
 use borrow.Author.Needs.{needs}
 use Rattle.model_writer.proofs.put_requantified.Statement.{statement}
 use Rattle.model_writer.proofs.put_requantified.Tie as tie
+use Rattle.model.proofs.Codes.{code-small}
 
 returns : tie.Need-returns
 returns c = laid-as (requantified-none (c .before .before .before .pre) (omega arith)) laid-none

@@ -1,5 +1,5 @@
 -- `next_children::fill` meets its contract.
-use Rattle.model.specs.Members.{membersOf}
+use Rattle.model.specs.Members.{allMembers}
 use Rattle.next_children.proofs.LineLaws.{line-filled}
 use native.Mathlib.Omega.{arith}
 use lib.ListN.{length-set}
@@ -46,7 +46,7 @@ same-length c = search needs
 returns : tie.Need-returns
 returns c =
     let a = c .before .before .before .before .before .before .before .before .args in
-    line-filled (a .n) (membersOf (a .ms .now)) (a .t .now) (a .at) _ _ (c .before .before .before .fill-after .ensures)
+    line-filled (a .n) (allMembers (a .ms .now)) (a .t .now) (a .at) _ _ (c .before .before .before .fill-after .ensures)
     (c .before .before .before .fill-after .kept .1 .1 .1 .0) (c .before .before .before .before .before .before .before .before .pre .0)
     (c .before .before .before .before .before .before .before .before .pre .1) _ (c .before .before .before .before .before .nexts-of .ensures) _ (c .given .ensures)
 

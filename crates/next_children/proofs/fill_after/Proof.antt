@@ -2,14 +2,14 @@
 use Prim.Native.Nat.{_-_}
 use native.Mathlib.Omega.{arith}
 use borrow.Author.Needs.{needs}
-use Rattle.model.specs.Members.{membersOf}
+use Rattle.model.specs.Members.{allMembers}
 use Rattle.next_children.proofs.LineLaws.{Filling, filling-starts, filling-on, filling-ends}
 use Rattle.next_children.proofs.fill_after.Statement.{statement}
 use Rattle.next_children.proofs.fill_after.Tie as tie
 
 -- the entries of the children below x are written, and `ends` has those among them after which no child is owed
 abbrev Inv-loop : tie.InvT-loop
-Inv-loop ms n at t₀ names₀ ends₀ x₀ t ends x = Filling n (membersOf ms) t₀ at x ends t
+Inv-loop ms n at t₀ names₀ ends₀ x₀ t ends x = Filling n (allMembers ms) t₀ at x ends t
 
 abbrev μ-loop : tie.MeasureT-loop
 μ-loop ms n at t₀ names₀ ends₀ x₀ t ends x = n - x
@@ -18,7 +18,7 @@ names-in-requires : tie.Need-names-in-requires Inv-loop μ-loop
 names-in-requires c κs = search needs
 
 loop-holds : tie.Need-loop-holds Inv-loop μ-loop
-loop-holds c = let a = c .before .before .before .args in filling-starts (a .n) (membersOf (a .ms .now)) (a .t .now) (a .at)
+loop-holds c = let a = c .before .before .before .args in filling-starts (a .n) (allMembers (a .ms .now)) (a .t .now) (a .at)
 
 after-child-requires : tie.Need-after-child-requires Inv-loop μ-loop
 after-child-requires c κs = (omega arith, c .before .before .names-in .ensures)
@@ -54,7 +54,7 @@ loop-again : tie.Need-loop-again Inv-loop μ-loop
 loop-again c =
     let a = c .before .before .before .before .before .before .before .before .before .args in
     let at-loop = c .before .before .before .before .before in
-    filling-on (a .n) (membersOf (a .ms .now)) (a .t .now) (a .at) _ _ _ (at-loop .loop .inv)
+    filling-on (a .n) (allMembers (a .ms .now)) (a .t .now) (a .at) _ _ _ (at-loop .loop .inv)
     (c .before .before .before .before .before .before .before .before .before .pre .0)
     (c .before .before .before .before .before .before .before .before .before .pre .1) (omega arith) _ (c .before .before .before .after-child .ensures) _ _ _
     (c .before .before .bit .ensures) (c .before .given .ensures) (c .union .ensures)
@@ -65,7 +65,7 @@ same-length c = c .before .loop .inv .long
 returns : tie.Need-returns Inv-loop μ-loop
 returns c =
     let a = c .before .before .before .before .before .args in
-    filling-ends (a .n) (membersOf (a .ms .now)) (a .t .now) (a .at) _ _ _ (c .before .loop .inv) (c .before .before .before .before .before .pre .0)
+    filling-ends (a .n) (allMembers (a .ms .now)) (a .t .now) (a .at) _ _ _ (c .before .loop .inv) (c .before .before .before .before .before .pre .0)
     (c .before .before .before .before .before .pre .1) (omega arith)
 
 pub fill-after-spec : {M : Type 1} → statement M

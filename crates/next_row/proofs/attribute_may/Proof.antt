@@ -1,8 +1,7 @@
 use Rattle.form_index.specs.Reading.{attributesOf}
 use Rattle.rules.specs.Decode.{readRow}
 use Rattle.form_index.proofs.ReadingLaws.{owner-read}
-use Rattle.next_row.proofs.RowLaws.{attribute-late, attribute-past, attribute-comes, value-read}
-use Rattle.next_row.proofs.RowLaws.{spares-read}
+use Rattle.next_row.proofs.RowLaws.{attribute-late, attribute-past, attribute-comes, value-read, spares-read}
 use native.Mathlib.Omega.{arith}
 use borrow.Author.Needs.{needs}
 use Rattle.next_row.proofs.attribute_may.Statement.{statement}

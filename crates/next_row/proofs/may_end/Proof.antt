@@ -1,7 +1,6 @@
 use native.Mathlib.Omega.{arith}
 use Rattle.form_index.specs.Reading.{indexForm}
-use Rattle.next_row.proofs.RowLaws.{ends-other, ends-unknown, ends-known}
-use Rattle.next_row.proofs.RowLaws.{freed-read}
+use Rattle.next_row.proofs.RowLaws.{ends-other, ends-unknown, ends-known, freed-read}
 use borrow.Author.Needs.{needs}
 use Rattle.next_row.proofs.may_end.Statement.{statement}
 use Rattle.next_row.proofs.may_end.Tie as tie

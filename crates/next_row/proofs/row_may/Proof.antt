@@ -1,7 +1,6 @@
 use Rattle.rules.specs.Decode.{readRow}
 use Rattle.form_index.specs.Reading.{indexForm}
-use Rattle.next_row.proofs.RowLaws.{row-attribute, row-child}
-use Rattle.next_row.proofs.RowLaws.{freed-read}
+use Rattle.next_row.proofs.RowLaws.{row-attribute, row-child, freed-read}
 use borrow.Author.Needs.{needs}
 use Rattle.next_row.proofs.row_may.Statement.{statement}
 use Rattle.next_row.proofs.row_may.Tie as tie

@@ -8,7 +8,7 @@ use Rattle.rules.specs.Decode.{readRow, rowSortOf}
 use Rattle.rules.specs.Layout.{rowSize}
 use Rattle.layout.specs.Bodies.{recordAt}
 use Rattle.lookup.proofs.Laws.{from-none}
-use Rattle.printing.specs.Parts.{rowsFrom, namesOf, attributeNamesOf}
+use Rattle.printing.specs.Parts.{namesOf, attributeNamesOf}
 use Rattle.printing.specs.Texts.{rowsText, stays}
 use Rattle.printing.proofs.TextLaws.{rows-tree, rows-bare}
 use Rattle.printing.proofs.PartLaws.{row-step}
@@ -42,6 +42,7 @@ use Rattle.printing.proofs.stays_open.Reads as stays-open-reads
 use Rattle.printing.proofs.value_of.Reads as value-of-reads
 use Rattle.printing.proofs.+put_element+put_row+put_rows.{statement}
 use Rattle.printing.proofs.+put_element+put_row+put_rows.Tie.{close}
+use Rattle.lookup.specs.Bodies.{rowsFrom}
 
 abbrev μ-put-element : Measures 4 put-element-kinds.ps ℕ
 μ-put-element κs a = 3 * (a .1 .1 .1 .0 - a .1 .1 .1 .1 .0)

@@ -3,7 +3,7 @@ use Prim.Native.Nat.{ℕ}
 use native.Mathlib.Omega.{arith}
 use Rattle.rules.specs.Layout.{particleSize}
 use Rattle.rules.specs.Decode.{readParticle, particleCount}
-use Rattle.printing.specs.Parts.{particleBody, particlesFrom}
+use Rattle.printing.specs.Parts.{fromParticles, particlesFrom}
 use Rattle.printing.proofs.FormLaws.{from-take, from-take-all}
 use borrow.Author.Needs.{needs}
 use Rattle.printing.proofs.model_end.Statement.{statement}
@@ -17,11 +17,11 @@ add-end c = search needs
 
 returns : tie.Need-returns
 returns c = let a = c .before .before .before .args in let e : c .before .particle-count .result ≡ particleCount (a .store .now) = c .before .particle-count .ensures .value in
-    record { taken = from-take readParticle particleSize (particleBody (a .store .now)) (particleCount (a .store .now)) (a .from) (a .n) (omega arith); upto = omega arith }
+    record { taken = from-take readParticle particleSize (fromParticles (a .store .now)) (particleCount (a .store .now)) (a .from) (a .n) (omega arith); upto = omega arith }
 
 returns-2 : tie.Need-returns-2
 returns-2 c = let a = c .before .before .before .args in let e : c .before .particle-count .result ≡ particleCount (a .store .now) = c .before .particle-count .ensures .value in
-    record { taken = from-take-all readParticle particleSize (particleBody (a .store .now)) (particleCount (a .store .now)) (a .from) (a .n) (omega arith) ∙ ap (λ (k : ℕ). particlesFrom (a .store .now) k (a .from)) (sym e); upto = omega arith }
+    record { taken = from-take-all readParticle particleSize (fromParticles (a .store .now)) (particleCount (a .store .now)) (a .from) (a .n) (omega arith) ∙ ap (λ (k : ℕ). particlesFrom (a .store .now) k (a .from)) (sym e); upto = omega arith }
 
 pub model-end-spec : {M : Type 1} → statement M
 model-end-spec = tie.close (tie.spec particle-count-requires add-end returns returns-2)

@@ -10,7 +10,7 @@ use Rattle.rules.specs.Layout.{FlatRow, rowSize}
 use Rattle.rules.specs.Decode.{readRow}
 use Rattle.layout.specs.Bodies.{recordAt}
 use Rattle.lookup.proofs.Laws.{from-none}
-use Rattle.printing.specs.Parts.{rowsFrom, namesOf, attributeNamesOf}
+use Rattle.printing.specs.Parts.{namesOf, attributeNamesOf}
 use Rattle.printing.specs.Texts.{documentsText}
 use Rattle.printing.proofs.TextLaws.{documents-bare}
 use Rattle.printing.proofs.PartLaws.{row-step}
@@ -18,6 +18,7 @@ use Rattle.printing.proofs.WalkLaws.{Walk, walk-start, walk-deeper, wal
 use Rattle.printing.proofs.RowLaws.{documents-step}
 use Rattle.printing.proofs.put_documents.Statement.{statement}
 use Rattle.printing.proofs.put_documents.Tie as tie
+use Rattle.lookup.specs.Bodies.{rowsFrom}
 
 abbrev Inv-loop : tie.InvT-loop
 Inv-loop w store rows count out₀ start at₀ i₀ out at i = Walk (rowsFrom w rows count) (λ (q : Bool) (f : Forest FlatRow). documentsText (namesOf store) (attributeNamesOf store) f) (documentsText (namesOf store) (attributeNamesOf store) (build (rowsFrom w rows count 0) 0)) count 0 0 start out₀ i at true out

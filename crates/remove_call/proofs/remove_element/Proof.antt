@@ -6,12 +6,13 @@ use Rattle.rules.specs.Change.{removeElement}
 use Rattle.model_writer.specs.declared.Edit.the-variants.{Remove}
 use Rattle.store_writer.proofs.CallLaws.{answers-bad, answers-refused}
 use Rattle.store_writer.proofs.LimitLaws.{answers-as}
-use Rattle.document_refusals.proofs.StoreFacts.{no-value}
 use Rattle.model_edit.proofs.Fits.{asks, owner-fits, place-low}
 use Rattle.remove_call.proofs.Removing.{remove-fits, removed-answers, removing-sized}
 use borrow.Author.Needs.{needs}
 use Rattle.remove_call.proofs.remove_element.Statement.{statement}
 use Rattle.remove_call.proofs.remove_element.Tie as tie
+use Rattle.rules.proofs.WellFormedLaws.{none-value}
+use Rattle.layout.specs.Bodies.{widthOf}
 
 passes-requires : tie.Need-passes-requires
 passes-requires c κs = search needs
@@ -88,7 +89,7 @@ edit-model-requires c κs =
     let none = sym (at-remove-element-refusal .remove-element-refusal .ensures .0) ∙ at-if2 .if2 .left in
     let element = remove-fits (a .store .now) (sym (at-passes .passes .ensures) ∙ not-false _ (at-if1 .if1 .left)) (a .owner) (a .place .now) none in
     let place = at-remove-element-refusal .remove-element-refusal .ensures .1 .found (at-if2 .if2 .left) in
-    (asks (element .fits) Remove refl place, no-value (a .store .now), removing-sized _ _ (at-removing-plan .removing-plan .ensures))
+    (asks (element .fits) Remove refl place, none-value (widthOf (a .store .now)), removing-sized _ _ (at-removing-plan .removing-plan .ensures))
 
 same-length : tie.Need-same-length
 same-length c = search needs

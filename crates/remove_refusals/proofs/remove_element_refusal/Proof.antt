@@ -1,7 +1,6 @@
 -- `remove_refusals::remove_element_refusal` meets its contract.
 use native.Mathlib.Omega.{arith}
-use Rattle.document_refusals.proofs.StoreFacts.{whole}
-use Rattle.document_refusals.proofs.RefusalLaws.{past-definitions}
+use Rattle.store_writer.proofs.StoreFacts.{whole, past-definitions}
 use Rattle.model_places.proofs.PickLaws.{as-element, as-group, as-none, refused-there, located-there}
 use Rattle.remove_refusals.proofs.RemoveLaws.{removable, remove-6, remove-none, remove-group, remove-there}
 use borrow.Author.Needs.{needs}

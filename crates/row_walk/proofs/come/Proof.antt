@@ -1,7 +1,7 @@
 -- `row_walk::come` meets its contract.
 use mathlib.Core.Path.{ap, sym, _∙_}
 use mathlib.Core.Bool.{Bool, _&&_}
-use Rattle.row_walk.specs.Step.{fillOf}
+use Rattle.row_walk.specs.Step.{planFilling}
 use Rattle.row_walk.proofs.RowLaws.{due-still}
 use Rattle.row_walk.proofs.StepLaws.{came-taken, came-still, row-kept}
 use borrow.Author.Needs.{needs}
@@ -18,7 +18,7 @@ returns : tie.Need-returns
 returns c =
     let s = c .before .before .before .before .before .before .before .before .before in
     let a = s .args in
-    came-taken (a .p) (a .text .now) (fillOf (a .version) (a .w) (a .n) (a .defs .now) (a .parts .now) (a .a) (a .attrs .now) (a .p) (a .text .now)) (a .o) (a .h) (a .row .now) (s .pre .1) _
+    came-taken (a .p) (a .text .now) (planFilling (a .version) (a .w) (a .n) (a .defs .now) (a .parts .now) (a .a) (a .attrs .now) (a .p) (a .text .now)) (a .o) (a .h) (a .row .now) (s .pre .1) _
     (c .before .before .is-taken .ensures) (c .before .if1 .taken) _ (c .taken .ensures)
 
 is-below-requires : tie.Need-is-below-requires
@@ -56,7 +56,7 @@ returns-3 : tie.Need-returns-3
 returns-3 c =
     let s = c .before .before .before .before .before .before .before .before .before .before .before .before .before .before .before .before .before .before .before in
     let a = s .args in
-    came-still (a .p) (a .text .now) (fillOf (a .version) (a .w) (a .n) (a .defs .now) (a .parts .now) (a .a) (a .attrs .now) (a .p) (a .text .now)) (a .o) (a .h) (a .row .now) (s .pre .1) _
+    came-still (a .p) (a .text .now) (planFilling (a .version) (a .w) (a .n) (a .defs .now) (a .parts .now) (a .a) (a .attrs .now) (a .p) (a .text .now)) (a .o) (a .h) (a .row .now) (s .pre .1) _
     (c .before .before .before .before .before .before .before .before .before .before .before .before .is-taken .ensures)
     (c .before .before .before .before .before .before .before .before .before .before .before .if1 .left)
     (ap (λ (z : Bool). a .o .due && z) (sym (c .before .before .before .before .before .before .before .before .before .before .is-below .ensures)) ∙ c .before .before .before .before .before .before .before .before .if2 .left)

@@ -2,7 +2,7 @@
 use native.Mathlib.Omega.{arith}
 use mathlib.Core.Path.{refl, sym}
 use mathlib.Core.Bool.{false, not, _&&_}
-use Rattle.row_walk.specs.Step.{fillOf}
+use Rattle.row_walk.specs.Step.{planFilling}
 use Rattle.row_walk.proofs.StepLaws.{asks-of, row-kept, came-kept}
 use borrow.Author.Needs.{needs}
 use Rattle.row_walk.proofs.come_due.Statement.{statement}
@@ -45,7 +45,7 @@ returns : tie.Need-returns
 returns c =
     let s = c .before .before .before .before .before .before .before .before .before .before .before .before .before .before .before .before .before .before .before .before .before .before .before in
     let a = s .args in
-    came-kept (a .p) (a .text .now) (fillOf (a .version) (a .w) (a .n) (a .defs .now) (a .parts .now) (a .a) (a .attrs .now) (a .p) (a .text .now)) (a .o) (a .h) (a .row .now) (s .pre .1) false
+    came-kept (a .p) (a .text .now) (planFilling (a .version) (a .w) (a .n) (a .defs .now) (a .parts .now) (a .a) (a .attrs .now) (a .p) (a .text .now)) (a .o) (a .h) (a .row .now) (s .pre .1) false
     (sym (s .pre .3)) refl _ (c .before .before .before .before .before .before .before .before .before .before .before .before .before .before .before .is-filled .ensures)
     (c .before .before .before .before .before .before .before .before .before .before .before .before .before .put-owed .ensures)
     (row-kept (a .p) (a .text .now) (a .h) (a .row .now) (s .pre .1) _ (c .before .before .before .before .before .before .before .before .before .before .moved-index .ensures .0) (c .before .before .before .before .before .before .put-row .ensures)) _ (c .kept .ensures)

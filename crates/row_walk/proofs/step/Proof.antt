@@ -1,7 +1,7 @@
 -- `row_walk::step` meets its contract.
 use native.Mathlib.Omega.{arith}
 use borrow.Author.Needs.{needs}
-use Rattle.row_walk.specs.Step.{fillOf}
+use Rattle.row_walk.specs.Step.{planFilling}
 use Rattle.row_walk.proofs.StepLaws.{asks-of, seen, step-gone, step-on}
 use Rattle.row_walk.proofs.step.Statement.{statement}
 use Rattle.row_walk.proofs.step.Tie as tie
@@ -16,7 +16,7 @@ returns : tie.Need-returns
 returns c =
     let s = c .before .before .before .before .before .before .before .before .before in
     let a = s .args in
-    step-gone (a .p) (a .text .now) (fillOf (a .version) (a .w) (a .n) (a .defs .now) (a .parts .now) (a .a) (a .attrs .now) (a .p) (a .text .now)) (a .o) _ (a .row .now)
+    step-gone (a .p) (a .text .now) (planFilling (a .version) (a .w) (a .n) (a .defs .now) (a .parts .now) (a .a) (a .attrs .now) (a .p) (a .text .now)) (a .o) _ (a .row .now)
     (seen (s .pre .1) (c .before .before .read-head .ensures)) _ (c .before .gone .ensures) (c .if1 .taken)
 
 closes-requires : tie.Need-closes-requires
@@ -50,7 +50,7 @@ returns-2 : tie.Need-returns-2
 returns-2 c =
     let s = c .before .before .before .before .before .before .before .before .before .before .before .before .before .before .before .before .before .before .before .before .before in
     let a = s .args in
-    step-on (a .p) (a .text .now) (fillOf (a .version) (a .w) (a .n) (a .defs .now) (a .parts .now) (a .a) (a .attrs .now) (a .p) (a .text .now)) (a .o) _ (a .row .now)
+    step-on (a .p) (a .text .now) (planFilling (a .version) (a .w) (a .n) (a .defs .now) (a .parts .now) (a .a) (a .attrs .now) (a .p) (a .text .now)) (a .o) _ (a .row .now)
     (seen (s .pre .1) (c .before .before .before .before .before .before .before .before .before .before .before .before .before .before .read-head .ensures)) _
     (c .before .before .before .before .before .before .before .before .before .before .before .before .before .gone .ensures)
     (c .before .before .before .before .before .before .before .before .before .before .before .before .if1 .left) _

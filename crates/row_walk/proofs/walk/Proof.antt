@@ -6,7 +6,7 @@ use borrow.Author.Needs.{needs}
 use Rattle.rules.specs.Layout.{rowSize}
 use Rattle.rules.specs.Decode.{readRow, readMany}
 use Rattle.row_walk.specs.Walk.{walked, atFirst}
-use Rattle.row_walk.specs.Step.{fillOf}
+use Rattle.row_walk.specs.Step.{planFilling}
 use Rattle.row_walk.proofs.StepLaws.{asks-of, owed-put, owed-none}
 use Rattle.row_walk.proofs.WalkLaws.{Going, going-start, going-stop, going-first, going-row, going-step, going-end}
 use Rattle.row_walk.proofs.walk.Statement.{statement}
@@ -15,8 +15,8 @@ use Rattle.row_walk.proofs.walk.Tie as tie
 -- whoever writes what comes of the rows that are left has written all
 abbrev Inv-loop : tie.InvT-loop
 Inv-loop version w n defs parts a attrs rows count plan text out₀ k t₀ m₀ at₀ o₀ out t m at o =
-    Going w plan text (fillOf version w n defs parts a attrs plan text)
-    (walked plan text (fillOf version w n defs parts a attrs plan text) (atFirst plan) (readMany readRow (rowSize w) count rows)) at₀ out₀ t m at o out
+    Going w plan text (planFilling version w n defs parts a attrs plan text)
+    (walked plan text (planFilling version w n defs parts a attrs plan text) (atFirst plan) (readMany readRow (rowSize w) count rows)) at₀ out₀ t m at o out
 
 abbrev μ-loop : tie.MeasureT-loop
 μ-loop version w n defs parts a attrs rows count plan text out₀ k t₀ m₀ at₀ o₀ out t m at o = m

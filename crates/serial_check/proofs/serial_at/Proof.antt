@@ -1,6 +1,6 @@
 -- `serial_check::serial_at` meets its contract.
 use borrow.Author.Needs.{needs}
-use Rattle.serial_check.specs.Serials.{serialAt}
+use Rattle.serial_check.specs.Serials.{serialAtRow}
 use Rattle.serial_check.proofs.serial_at.Statement.{statement}
 use Rattle.serial_check.proofs.serial_at.Tie as tie
 
@@ -8,7 +8,7 @@ row-serial-at-requires : tie.Need-row-serial-at-requires
 row-serial-at-requires c κs = search needs
 
 returns : tie.Need-returns
-unfolding serialAt
+unfolding serialAtRow
 returns c = c .row-serial-at .ensures
 
 pub serial-at-spec : {M : Type 1} → statement M

@@ -2,26 +2,20 @@
 use Prim.Native.Nat.{ℕ, suc, _≤_, _<_}
 use native.Mathlib.Omega.{arith}
 use mathlib.Core.Path.{_≡_, refl, sym, ap, _∙_}
-use mathlib.Core.Bool.{Bool, true, false, not, false≢true}
+use mathlib.Core.Bool.{Bool, true, false, false≢true}
 use mathlib.Core.List.{List, [], _∷_, _++_}
 use lib.Dec.{leb, ltb}
 use lib.ListN.{length}
-use borrow.Author.Tests.{ltb-true, ltb-false}
+use borrow.Author.Tests.{ltb-true, ltb-false, not-false}
 use Rattle.rules.specs.Bytes.{all}
 use Rattle.rules.specs.Store.{Store}
 use Rattle.rules.specs.Layout.{flat, encode}
 use Rattle.rules.specs.WellFormed.{withinCeilings, highestNumber}
-use Rattle.rules.specs.Change.{Call, createDefinition, destroyDefinition, insertElement, removeElement, changeQuantifier, convertToGroup, flattenGroup}
-use Rattle.rules.specs.Change.{changeGroupQuantifier, addAttribute, destroyAttribute, addDocument, addElement, destroyElement, setAttribute}
-use Rattle.rules.specs.Change.{destroyAttributeRow, setText, after}
+use Rattle.rules.specs.Change.{Call, createDefinition, destroyDefinition, insertElement, removeElement, changeQuantifier, convertToGroup, flattenGroup, changeGroupQuantifier, addAttribute, destroyAttribute, addDocument, addElement, destroyElement, setAttribute, destroyAttributeRow, setText, after}
 use Rattle.rules.specs.Refusal.{Condition, _if_, first, past, conditions, limits, refusal}
 use Rattle.rules.proofs.Words.{and-split}
 
 -- ---- tests that are false
-pub not-false : (b : Bool) → not b ≡ false → b ≡ true
-not-false true e = refl
-not-false false e = sym e
-
 -- an index that is not past the end
 pub not-past : {A : Type 0} (i : ℕ) (xs : List A) → past i xs ≡ false → i < length xs
 not-past i xs e = ltb-true i (length xs) (not-false (ltb i (length xs)) e)

@@ -12,7 +12,7 @@ use Rattle.rules.specs.declared.GroupKind.{GroupKind}
 use Rattle.rules.specs.Bytes.{Bytes, same, bytes, isNone}
 use Rattle.rules.specs.Model.{Members, done, el, group, Distinct, names, skips, member}
 use Rattle.rules.specs.Quantifiers.{gains, cuts}
-use Rattle.rules.specs.Place.{Context, spine, before}
+use Rattle.rules.specs.Place.{Context, spine, beforePlace}
 use Rattle.rules.specs.Edit.{Edit, insert, remove, quantify, convert, flatten}
 use Rattle.rules.specs.Store.{Form, RowSort, element, attribute, Row}
 use Rattle.rules.specs.Conforming.{nameOf, Sorted, isElement}
@@ -26,8 +26,8 @@ use Rattle.rules.proofs.ChildRows.{placeRows, firstRows, refitRows, refitGroupR
 use Rattle.rules.proofs.Height.{deep}
 use Rattle.rules.proofs.TestLaws.{all-test}
 use Rattle.rules.proofs.FillingLaws.{filling-heads, each-heads}
-use Rattle.history.proofs.RowEdits.{keep, childrenAfter}
-use Rattle.history.proofs.InstanceRows.{rowSerial, keep-all, keep-none, keep-beside, named-is, keep-erase, keep-first, named-none, among-none, whenDue, after-split, untouched}
+use Rattle.change_laws.proofs.RowEdits.{keep, childrenAfter}
+use Rattle.change_laws.proofs.InstanceRows.{rowSerial, keep-all, keep-none, keep-beside, named-is, keep-erase, keep-first, named-none, among-none, whenDue, after-split, untouched}
 
 -- the plan of an edit of the owner's model, at the place c before the members t
 abbrev pub editPlan : ℕ → Form → List Line → Bytes → Bytes → Edit Bytes → Context Bytes → Members Bytes → Plan
@@ -140,8 +140,8 @@ module _ (version : ℕ) (form : Form) (ls : List Line) (owner txt : Bytes) (u :
         → childrenAfter (editPlan version form ls owner txt (insert q n) c t) u (front ++ back) ≡ front ++ childRows bytes nameOf (map elementRow) (insert q n) c t back
     unfolding childRows
     insert-rows q n t d =
-        after-split (editPlan version form ls owner txt (insert q n) c t) u (before c) front back refl (below .given) (λ x m. refl) (λ e. (front-later (before c) u, back-later (before c) u))
-        ∙ ap (λ (z : List Row). front ++ z) (due-same _ (not (skips q) && spine c) (before c) _ (elementRow n ∷ []) _ back
+        after-split (editPlan version form ls owner txt (insert q n) c t) u (beforePlace c) front back refl (below .given) (λ x m. refl) (λ e. (front-later (beforePlace c) u, back-later (beforePlace c) u))
+        ∙ ap (λ (z : List Row). front ++ z) (due-same _ (not (skips q) && spine c) (beforePlace c) _ (elementRow n ∷ []) _ back
         (and-named (not (skips q) && spine c) (elementNamed owner u) named) (filling-heads version (length form) form txt n d) (keep-all (λ r. true) back (λ x m. refl)))
 
     remove-rows : (q : Quantifier) (x : Bytes) (t : Members Bytes)
@@ -156,14 +156,14 @@ module _ (version : ℕ) (form : Form) (ls : List Line) (owner txt : Bytes) (u :
         → childrenAfter (editPlan version form ls owner txt (quantify r) c (el q x t)) u (front ++ back) ≡ front ++ childRows bytes nameOf (map elementRow) (quantify r) c (el q x t) back
     unfolding childRows refitRows
     quantify-rows q r x t d =
-        after-split (editPlan version form ls owner txt (quantify r) c (el q x t)) u (before c) front back refl (below .given)
+        after-split (editPlan version form ls owner txt (quantify r) c (el q x t)) u (beforePlace c) front back refl (below .given)
         (λ y m. and-none (spine c && cuts q r) (elementNamed owner u) (elementNamed x y && not (eqb (y .serial) k)) (ap (λ (z : Bool). z && not (eqb (y .serial) k)) (front-other x y m)))
-        (λ e. (front-later (before c) u, back-later (before c) u))
+        (λ e. (front-later (beforePlace c) u, back-later (beforePlace c) u))
         ∙ ap (λ (z : List Row). front ++ z) (
-        due-same _ ((spine c && gains q r) && not me) (before c) _ (elementRow x ∷ []) _ (elim (spine c && cuts q r) as (λ z. List Row) [ true ↦ firstRows bytes nameOf x back | false ↦ back ])
+        due-same _ ((spine c && gains q r) && not me) (beforePlace c) _ (elementRow x ∷ []) _ (elim (spine c && cuts q r) as (λ z. List Row) [ true ↦ firstRows bytes nameOf x back | false ↦ back ])
         (ap₂ (λ (a b : Bool). (spine c && gains q r) && (a && b)) named (ap isNone (seen-back (elementNamed x) (front-other x)) ∙ named-none x back elements))
         (filling-heads version (length form) form txt x d) (cut (spine c && cuts q r))
-        ∙ refit-cases (spine c) (cuts q r) (gains q r) me (before c) (elementRow x ∷ []) (firstRows bytes nameOf x back) back
+        ∙ refit-cases (spine c) (cuts q r) (gains q r) me (beforePlace c) (elementRow x ∷ []) (firstRows bytes nameOf x back) back
         (λ e. first-none x back (λ m. false≢true (sym e ∙ member-in bytes x (map nameOf back) m))))
       where
         k : ℕ
@@ -184,15 +184,15 @@ module _ (version : ℕ) (form : Form) (ls : List Line) (owner txt : Bytes) (u :
         → childrenAfter (editPlan version form ls owner txt (quantify r) c (group q j ms t)) u (front ++ back) ≡ front ++ childRows bytes nameOf (map elementRow) (quantify r) c (group q j ms t) back
     unfolding childRows refitGroupRows
     group-rows q r j ms t d =
-        after-split (editPlan version form ls owner txt (quantify r) c (group q j ms t)) u (before c) front back refl (below .given) (λ y m. refl)
-        (λ e. (front-later (before c) u, back-later (before c) u))
+        after-split (editPlan version form ls owner txt (quantify r) c (group q j ms t)) u (beforePlace c) front back refl (below .given) (λ y m. refl)
+        (λ e. (front-later (beforePlace c) u, back-later (beforePlace c) u))
         ∙ ap (λ (z : List Row). front ++ z) (
-        due-same _ ((spine c && gains q r) && not me) (before c) _ (map elementRow (groupFilling r j ms)) _ back
+        due-same _ ((spine c && gains q r) && not me) (beforePlace c) _ (map elementRow (groupFilling r j ms)) _ back
         (ap₂ (λ (a b : Bool). (spine c && gains q r) && (a && b)) named
         (ap isNone (seen-back (elementAmong (names ms)) (λ y m. not-element (y .sort) (member bytes (y .name) (names ms)) (attributes y m)))
         ∙ among-none (names ms) back elements))
         (each-heads version (length form) form txt (groupFilling r j ms) (all-test (λ m. deep (length form) form m) (groupFilling r j ms) .1 d)) (keep-all (λ r. true) back (λ x m. refl))
-        ∙ group-cases (spine c) (gains q r) me (before c) (map elementRow (groupFilling r j ms)) back)
+        ∙ group-cases (spine c) (gains q r) me (beforePlace c) (map elementRow (groupFilling r j ms)) back)
       where
         me : Bool
         me = anyOf bytes (names ms) (map nameOf back)
@@ -212,7 +212,7 @@ module _ (version : ℕ) (form : Form) (ls : List Line) (owner txt : Bytes) (u :
     edit-rows flatten t d = keeping-rows
 
 -- ---- other rows
-and-no : (a b : Bool) → b ≡ false → (a && b) ≡ false
+pub and-no : (a b : Bool) → b ≡ false → (a && b) ≡ false
 and-no true b e = e
 and-no false b e = refl
 

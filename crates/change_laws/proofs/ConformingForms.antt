@@ -17,9 +17,7 @@ use Rattle.rules.specs.Conforming.{nameOf, ContentRows, ElementRows, RowConform
 use Rattle.rules.specs.Filling.{attributeRow}
 use Rattle.rules.specs.Lines.{elementNamed, attributeNamed}
 use Rattle.rules.specs.Decode.{groupOf, sortOf}
-use Rattle.rules.specs.Change.{createDefinition, destroyDefinition, convertToGroup, flattenGroup, addAttribute, destroyAttribute, definitionAt, nameAtIndex}
-use Rattle.rules.specs.Change.{Owned, attributeAt, inModel, withAttributes, editFound, editAt, lacking, newAttribute, formAfter, Plan, keeping, taking, making}
-use Rattle.rules.specs.Change.{dropPlan, plan, changed, docsAfter}
+use Rattle.rules.specs.Change.{createDefinition, destroyDefinition, convertToGroup, flattenGroup, addAttribute, destroyAttribute, definitionAt, nameAtIndex, Owned, attributeAt, inModel, withAttributes, editFound, editAt, lacking, newAttribute, formAfter, Plan, keeping, taking, making, dropPlan, plan, changed, docsAfter}
 use Rattle.rules.specs.Passing.{GoodSerials}
 use Rattle.rules.proofs.Words.{and-both, and-split}
 use Rattle.rules.proofs.Letters.{letters}
@@ -29,16 +27,16 @@ use Rattle.rules.proofs.TestLaws.{any-test, member-test}
 use Rattle.rules.proofs.WellFormedLaws.{lookup-member, definition-good}
 use Rattle.rules.proofs.SerialLaws.{every-row}
 use Rattle.rules.proofs.ConformingLaws.{row-is}
-use Rattle.history.proofs.RowEdits.{keep, plantRows, revalued, childrenAfter}
-use Rattle.history.proofs.ModelAfter.{Placed, place-of}
-use Rattle.history.proofs.Rowwise.{Standing}
-use Rattle.history.proofs.StandingLaws.{standing-every, standing-parent}
-use Rattle.history.proofs.Untouched.{keep-in, keep-alike, map-same, children-left, children-cut, same-row, same-child, children-kept}
-use Rattle.history.proofs.DefinitionEdits.{added-absent, added-present, definition-lacking}
-use Rattle.history.proofs.ConformingAfter.{conforming-elements, Replaced, Within, conforming-replaced}
+use Rattle.change_laws.proofs.RowEdits.{keep, plantRows, revalued, childrenAfter}
+use Rattle.change_laws.proofs.ModelAfter.{Placed, place-of}
+use Rattle.change_laws.proofs.Rowwise.{Standing}
+use Rattle.change_laws.proofs.StandingLaws.{standing-every, standing-parent}
+use Rattle.change_laws.proofs.Untouched.{keep-in, keep-alike, map-same, children-left, children-cut, same-row, same-child, children-kept}
+use Rattle.change_laws.proofs.DefinitionEdits.{added-absent, added-present, definition-lacking}
+use Rattle.change_laws.proofs.ConformingAfter.{conforming-elements, Replaced, Within, conforming-replaced}
 
 -- ---- an element row's name is a root's or a member's
-content-named : (c : Content) (rows : List Row) → ContentRows c rows → (r : Row) → List·Memᴰ r rows → r .sort ≡ element → List·Memᴰ (r .name) (names (modelOf c))
+pub content-named : (c : Content) (rows : List Row) → ContentRows c rows → (r : Row) → List·Memᴰ r rows → r .sort ≡ element → List·Memᴰ (r .name) (names (modelOf c))
 content-named empty rows e r m s = absurd (List·Memᴰ·not-nil (rw e at m))
 content-named pcdata rows (t, e, q) r m s =
     let z : r ≡ t = List·Memᴰ·eq-of-singleton (rw e at m) in

@@ -15,11 +15,13 @@ use Rattle.rules.specs.Lines.{ground, elementNamed}
 use Rattle.rules.specs.Change.{definitionAt, update, Plan, changed}
 use Rattle.rules.specs.Passing.{GoodSerials}
 use Rattle.rules.proofs.Words.{and-both, and-split}
-use Rattle.history.proofs.RowEdits.{keep, plantRows, revalued, childrenAfter}
-use Rattle.history.proofs.FormLaws.{definition-found, update-other, update-this}
-use Rattle.history.proofs.Rowwise.{Standing, roots-changed, every-changed}
-use Rattle.history.proofs.Untouched.{children-cut, same-row, children-kept}
-use Rattle.history.proofs.Numbered.{mapped-elements}
+use Rattle.change_laws.proofs.RowEdits.{keep, plantRows, revalued, childrenAfter}
+use Rattle.change_laws.proofs.FormLaws.{definition-found, update-other, update-this}
+use Rattle.change_laws.proofs.Rowwise.{Standing, roots-changed, every-changed}
+use Rattle.change_laws.proofs.Untouched.{children-cut, same-row, children-kept}
+use Rattle.change_laws.proofs.Numbered.{mapped-elements}
+use Rattle.rules.proofs.ConformingLaws.{is-element}
+use Rattle.rules.proofs.BooleanLaws.{none-nil}
 
 -- ---- the documents' own rows
 all-both : (test : Row → Bool) (a b : List Row) → all test a ≡ true → all test b ≡ true → all test (a ++ b) ≡ true
@@ -80,15 +82,6 @@ fits-other version form r rows = by (r .sort) refl
     by attribute q h = rw q
     by text q h = rw q
 
-pub is-element : (s : RowSort) → isElement s ≡ true → s ≡ element
-is-element element e = refl
-is-element attribute e = absurd (false≢true e)
-is-element text e = absurd (false≢true e)
-
-none-is : (rows : List Row) → isNone rows ≡ true → rows ≡ []
-none-is [] e = refl
-none-is (r ∷ rows) e = absurd (false≢true e)
-
 kept-nothing : (p : Plan) (r : Row) → map (revalued p) (keep (λ s. not (p .takes r s)) []) ≡ []
 unfolding keep
 kept-nothing p r = refl
@@ -116,7 +109,7 @@ module _ (version : ℕ) (form form′ : Form) (next : ℕ) (docs : Forest Row) 
               let s : r .sort ≡ element = is-element (r .sort) q in
               fits-element version form′ r (childrenAfter p r (heads b)) s ∙ found r b i s (lookup (r .name) form) refl (sym (fits-element version form r (heads b) s) ∙ h)
           by false q =
-              let z : heads b ≡ [] = none-is (heads b) (sym (fits-other version form r (heads b) q) ∙ h) in
+              let z : heads b ≡ [] = none-nil (heads b) (sym (fits-other version form r (heads b) q) ∙ h) in
               let f : p .fills (revalued p r) ≡ false = ap (p .fills) (same-row next docs serials p none-set r b i) ∙ apart r b i q in
               fits-other version form′ r (childrenAfter p r (heads b)) q ∙ ap isNone (ap (childrenAfter p r) z ∙ children-cut p r [] f ∙ kept-nothing p r)
 

@@ -11,23 +11,21 @@ use Rattle.rules.specs.Layout.{valueWidth, indexOf, flat}
 use Rattle.rules.specs.WellFormed.{definitionName, isThere, isValue, withinCeilings, wellFormed}
 use Rattle.rules.specs.Conforming.{everyRow, conforming}
 use Rattle.rules.specs.Lines.{elementNamed}
-use Rattle.rules.specs.Change.{Call, createDefinition, destroyDefinition, insertElement, removeElement, changeQuantifier, convertToGroup, flattenGroup}
-use Rattle.rules.specs.Change.{changeGroupQuantifier, addAttribute, destroyAttribute, addDocument, addElement, destroyElement, setAttribute}
-use Rattle.rules.specs.Change.{destroyAttributeRow, setText, nameAtIndex, Owned, attributeAt, update, inModel, withAttributes, editAt, lacking, newAttribute}
-use Rattle.rules.specs.Change.{formAfter, docsAfter, after}
+use Rattle.rules.specs.Change.{Call, createDefinition, destroyDefinition, insertElement, removeElement, changeQuantifier, convertToGroup, flattenGroup, changeGroupQuantifier, addAttribute, destroyAttribute, addDocument, addElement, destroyElement, setAttribute, destroyAttributeRow, setText, nameAtIndex, Owned, attributeAt, update, inModel, withAttributes, editAt, lacking, newAttribute, formAfter, docsAfter, after}
 use Rattle.rules.specs.Passing.{knownVersion, laidRow, GoodSerials, goodSerials, good}
 use Rattle.rules.specs.Refusal.{isOther, conditions, refusal}
 use Rattle.rules.proofs.Words.{and-split, or-split}
 use Rattle.rules.proofs.SerialLaws.{good-serials}
 use Rattle.rules.proofs.WellFormedLaws.{well-formed}
-use Rattle.history.proofs.Conditions.{not-false, not-past, unmet}
-use Rattle.history.proofs.FormLaws.{definition-found, lookup-old, without-other, owner-at, owner-below}
-use Rattle.history.proofs.AcceptedEdits.{editsModel}
-use Rattle.history.proofs.Numbered.{conforming-number}
-use Rattle.history.proofs.ConformingAfter.{Replaced, replaced-at}
-use Rattle.history.proofs.ConformingForms.{conforming-1, conforming-2, conforming-9, conforming-10}
-use Rattle.history.proofs.ConformingRows.{conforming-11, conforming-checked, conforming-16}
-use Rattle.history.proofs.LaidAfter.{givenValue, laid-after}
+use Rattle.change_laws.proofs.Conditions.{not-past, unmet}
+use Rattle.change_laws.proofs.FormLaws.{definition-found, lookup-old, without-other, owner-at, owner-below}
+use Rattle.change_laws.proofs.AcceptedEdits.{editsModel}
+use Rattle.change_laws.proofs.Numbered.{conforming-number}
+use Rattle.change_laws.proofs.ConformingAfter.{Replaced, replaced-at}
+use Rattle.change_laws.proofs.ConformingForms.{conforming-1, conforming-2, conforming-9, conforming-10}
+use Rattle.change_laws.proofs.ConformingRows.{conforming-11, conforming-checked, conforming-16}
+use Rattle.change_laws.proofs.LaidAfter.{givenValue, laid-after}
+use borrow.Author.Tests.{not-false}
 
 -- what `good` says of the form and the rows, as tests
 pub record GoodTests (s : Store) : Type 0 where

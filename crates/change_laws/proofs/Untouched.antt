@@ -9,17 +9,13 @@ use Rattle.rules.specs.Store.{Row, Forest, heads}
 use Rattle.rules.specs.Change.{Plan}
 use Rattle.rules.specs.Passing.{GoodSerials}
 use Rattle.rules.proofs.Apart.{differs}
-use Rattle.history.proofs.RowEdits.{keep, plantRows, revalued, childrenAfter}
-use Rattle.history.proofs.Rowwise.{Standing}
-use Rattle.history.proofs.StandingLaws.{standing-child, no-zero}
+use Rattle.change_laws.proofs.RowEdits.{keep, plantRows, revalued, childrenAfter}
+use Rattle.change_laws.proofs.Rowwise.{Standing}
+use Rattle.change_laws.proofs.StandingLaws.{standing-child, no-zero}
+use Rattle.change_laws.proofs.InstanceRows.{keep-all, plant-not}
 
 pub revalued-other : (p : Plan) (r : Row) → (r .serial ≡ p .set → ⊥) → revalued p r ≡ r
 revalued-other p r f = rw (differs numbers (r .serial) (p .set) f)
-
-pub keep-all : (test : Row → Bool) (rows : List Row) → ((r : Row) → List·Memᴰ r rows → test r ≡ true) → keep test rows ≡ rows
-unfolding keep
-keep-all test [] f = refl
-keep-all test (r ∷ rows) f = rw (f r (List·Memᴰ·head refl), keep) (ap (λ (z : List Row). r ∷ z) (keep-all test rows (λ s m. f s (List·Memᴰ·tail m))))
 
 pub keep-in : (test : Row → Bool) (rows : List Row) (r : Row) → List·Memᴰ r (keep test rows) → List·Memᴰ r rows
 unfolding keep
@@ -39,11 +35,6 @@ pub map-same : (w : Row → Row) (rows : List Row) → ((r : Row) → List·Mem�
 map-same w [] f = refl
 map-same w (r ∷ rows) f = ap₂ (λ (x : Row) (z : List Row). x ∷ z) (f r (List·Memᴰ·head refl)) (map-same w rows (λ s m. f s (List·Memᴰ·tail m)))
 
-pub plant-none : (p : Plan) (u : Row) (rows : List Row) → plantRows p u false rows ≡ rows
-unfolding plantRows
-plant-none p u [] = refl
-plant-none p u (r ∷ rows) = ap (λ (z : List Row). r ∷ z) (plant-none p u rows)
-
 module _ (p : Plan) (u : Row) (rows : List Row) where
   -- nothing is taken
   pub children-left : ((r : Row) → List·Memᴰ r rows → p .takes u r ≡ false) → childrenAfter p u rows ≡ plantRows p (revalued p u) (p .fills (revalued p u)) (map (revalued p) rows)
@@ -53,7 +44,7 @@ module _ (p : Plan) (u : Row) (rows : List Row) where
   -- nothing is filled
   pub children-cut : p .fills (revalued p u) ≡ false → childrenAfter p u rows ≡ map (revalued p) (keep (λ r. not (p .takes u r)) rows)
   unfolding childrenAfter
-  children-cut e = let z : List Row = map (revalued p) (keep (λ r. not (p .takes u r)) rows) in ap (λ (b : Bool). plantRows p (revalued p u) b z) e ∙ plant-none p (revalued p u) z
+  children-cut e = let z : List Row = map (revalued p) (keep (λ r. not (p .takes u r)) rows) in ap (λ (b : Bool). plantRows p (revalued p u) b z) e ∙ plant-not p (revalued p u) z
 
   -- nothing is done
   pub children-same : ((r : Row) → List·Memᴰ r rows → p .takes u r ≡ false) → p .fills (revalued p u) ≡ false → ((r : Row) → List·Memᴰ r rows → revalued p r ≡ r) → childrenAfter p u rows ≡ rows

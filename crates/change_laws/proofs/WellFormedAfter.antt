@@ -14,20 +14,18 @@ use Rattle.rules.specs.Store.{Content, empty, pcdata, complex, Attribute, Defin
 use Rattle.rules.specs.Layout.{valueWidth, indexOf}
 use Rattle.rules.specs.Decode.{quantifierOf, groupOf, contentOf, sortOf}
 use Rattle.rules.specs.WellFormed.{attributeName, givenName, storedName, isValue, isFill, isAttributeOf, isThere, known, reachesIn, Reaches, directly, through, GoodDefinition, wellFormed}
-use Rattle.rules.specs.Change.{Call, createDefinition, destroyDefinition, insertElement, removeElement, changeQuantifier, convertToGroup, flattenGroup}
-use Rattle.rules.specs.Change.{changeGroupQuantifier, addAttribute, destroyAttribute, addDocument, addElement, destroyElement, setAttribute}
-use Rattle.rules.specs.Change.{destroyAttributeRow, setText, definitionAt, nameAtIndex, Owned, attributeAt, update, inContent, inModel, withAttributes, editAt}
-use Rattle.rules.specs.Change.{editFound, editModel, lacking, dropOwned, newAttribute, formAfter}
+use Rattle.rules.specs.Change.{Call, createDefinition, destroyDefinition, insertElement, removeElement, changeQuantifier, convertToGroup, flattenGroup, changeGroupQuantifier, addAttribute, destroyAttribute, addDocument, addElement, destroyElement, setAttribute, destroyAttributeRow, setText, definitionAt, nameAtIndex, Owned, attributeAt, update, inContent, inModel, withAttributes, editAt, editFound, editModel, lacking, dropOwned, newAttribute, formAfter}
 use Rattle.rules.specs.Refusal.{past, wrongDefault, conditions, refusal}
 use Rattle.rules.proofs.Words.{and-both, or-split}
 use Rattle.rules.proofs.Children.{Sound}
 use Rattle.rules.proofs.TestLaws.{any-test, member-test}
 use Rattle.rules.proofs.Height.{reaches-test}
 use Rattle.rules.proofs.WellFormedLaws.{well-formed}
-use Rattle.history.proofs.Conditions.{not-false, not-past, unmet}
-use Rattle.history.proofs.FormLaws.{definition-found, owner-below}
-use Rattle.history.proofs.ModelAfter.{brings, Placed, placed-sound, placed-names, placed-insert, placed-remove, placed-quantify, placed-quantify-group, placed-convert, placed-flatten}
-use Rattle.history.proofs.Replacing.{distinct-last, Joins, old-good, old-joins, replaced, removed, added}
+use Rattle.change_laws.proofs.Conditions.{not-past, unmet}
+use Rattle.change_laws.proofs.FormLaws.{definition-found, owner-below}
+use Rattle.change_laws.proofs.ModelAfter.{brings, Placed, placed-sound, placed-names, placed-insert, placed-remove, placed-quantify, placed-quantify-group, placed-convert, placed-flatten}
+use Rattle.change_laws.proofs.Replacing.{distinct-last, Joins, old-good, old-joins, replaced, removed, added}
+use borrow.Author.Tests.{not-false}
 
 false-not : (b : Bool) → b ≡ false → b ≡ true → ⊥
 false-not b e t = false≢true (sym e ∙ t)

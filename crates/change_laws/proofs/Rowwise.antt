@@ -8,16 +8,13 @@ use Rattle.rules.specs.Conforming.{everyRow}
 use Rattle.rules.specs.Lines.{ground}
 use Rattle.rules.specs.Change.{Plan, prune, eachRow, plant, changed}
 use Rattle.rules.proofs.Words.{and-both, and-split}
-use Rattle.history.proofs.RowEdits.{keep, plantRows, revalued, childrenAfter}
+use Rattle.change_laws.proofs.RowEdits.{keep, plantRows, revalued, childrenAfter}
+use Rattle.rules.proofs.FillingLaws.{heads-beside}
 
 -- row r stands in the forest, with b below it
 abbrev pub Standing : Forest Row → Row → Forest Row → Type 0
 Standing bare r b = ⊥
 Standing (tree s c t) r b = ((s ≡ r) × (c ≡ b)) ⊎ (Standing c r b ⊎ Standing t r b)
-
-pub heads-beside : (f g : Forest Row) → heads (f ⧺ g) ≡ heads f ++ heads g
-heads-beside bare g = refl
-heads-beside (tree r b t) g = ap (λ (z : List Row). r ∷ z) (heads-beside t g)
 
 pub every-beside : (q : Row → List Row → Bool) (f g : Forest Row) → everyRow q f ≡ true → everyRow q g ≡ true → everyRow q (f ⧺ g) ≡ true
 every-beside q bare g x y = y

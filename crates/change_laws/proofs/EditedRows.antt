@@ -16,12 +16,12 @@ use Rattle.rules.specs.Change.{Call, Plan, definitionAt, nameAtIndex, inContent
 use Rattle.rules.specs.Refusal.{instanceExists}
 use Rattle.rules.proofs.Words.{and-both, and-split}
 use Rattle.rules.proofs.WellFormedLaws.{well-formed}
-use Rattle.history.proofs.RowEdits.{childrenAfter}
-use Rattle.history.proofs.InstanceEdits.{editPlan, Below, edit-others}
-use Rattle.history.proofs.FormLaws.{update-this, update-other}
-use Rattle.history.proofs.EditFillings.{fits-alike, filling-fits-in}
-use Rattle.history.proofs.InstanceFits.{editedDefinition, instance-fits}
-use Rattle.history.proofs.AcceptedEdits.{Accepted}
+use Rattle.change_laws.proofs.RowEdits.{childrenAfter}
+use Rattle.change_laws.proofs.InstanceEdits.{editPlan, Below, edit-others}
+use Rattle.change_laws.proofs.FormLaws.{update-this, update-other}
+use Rattle.change_laws.proofs.EditFillings.{fits-alike, filling-fits-in}
+use Rattle.change_laws.proofs.InstanceFits.{editedDefinition, instance-fits}
+use Rattle.change_laws.proofs.AcceptedEdits.{Accepted}
 
 fits-element : (version : ℕ) (form : Form) (u : Row) (d : Definition) (rows : List Row) → isElement (u .sort) ≡ true → lookup (u .name) form ≡ some d
     → fitsRow version form u rows ≡ fitsDefinition version (some d) rows

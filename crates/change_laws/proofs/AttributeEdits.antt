@@ -15,18 +15,17 @@ use Rattle.rules.specs.Lines.{attributeNamed}
 use Rattle.rules.specs.Change.{Plan, lacking}
 use Rattle.rules.proofs.Words.{and-both, and-split}
 use Rattle.rules.proofs.Apart.{differs}
-use Rattle.rules.proofs.ConformingLaws.{headAttribute, begins, begins-none, begins-other, begins-this, strip-past, strip-take}
-use Rattle.history.proofs.RowEdits.{keep, plantRows}
-use Rattle.history.proofs.Untouched.{keep-all, keep-in, plant-none}
+use Rattle.rules.proofs.ConformingLaws.{headAttribute, begins, begins-none, begins-other, begins-this, strip-past, strip-take, none-some, is-attribute}
+use Rattle.change_laws.proofs.RowEdits.{keep, plantRows}
+use Rattle.change_laws.proofs.Untouched.{keep-in}
+use borrow.Author.Tests.{not-true}
+use Rattle.change_laws.proofs.InstanceRows.{keep-all, plant-not}
 
 -- ---- one entry of the table, when the rest is known
 pub data Step (version : ℕ) (a : Attribute) (table : List Attribute) (rows rest : List Row) : Type 0 where
   took : (r : Row) (more : List Row) → rows ≡ r ∷ more → begins (a .name) (r ∷ more) ≡ true → allows (a .sort) (a .value) (r .value) ≡ true → strip version table more ≡ some rest
       → Step version a table rows rest
   passed : begins (a .name) rows ≡ false → mustBePresent version (a .sort) ≡ false → strip version table rows ≡ some rest → Step version a table rows rest
-
-none-some : {A : Type 0} {x : A} → none ≡ some x → ⊥
-none-some e = let z : false ≡ true = cc e in false≢true z
 
 pub strip-step : (version : ℕ) (a : Attribute) (table : List Attribute) (rows rest : List Row) → strip version (a ∷ table) rows ≡ some rest → Step version a table rows rest
 unfolding strip begins
@@ -72,10 +71,6 @@ content-plain pcdata (r ∷ []) e = and-both (text-plain (r .sort) (and-split (i
 content-plain pcdata (r ∷ (s ∷ rows)) e = absurd (false≢true (and-split (isText (r .sort)) false e .1))
 content-plain (complex ms) rows e = elements-plain rows (and-split (all (λ (r : Row). isElement (r .sort)) rows) (accepts bytes ms (map nameOf rows)) e .0)
 
-not-true : (b : Bool) → not b ≡ true → b ≡ false
-not-true true e = sym e
-not-true false e = refl
-
 plain-head : (rows : List Row) → all noAttribute rows ≡ true → headAttribute rows ≡ false
 unfolding headAttribute
 plain-head [] e = refl
@@ -104,11 +99,6 @@ pub strip-added : (version : ℕ) (a : Attribute) (table : List Attribute) (rows
 unfolding strip
 strip-added version a table rows rest m n e = strip-more version table (a ∷ []) rows rest e ∙ strip-past version a [] rest (begins-none (a .name) rest (plain-head rest n)) m
 
-is-attribute : (s : RowSort) → isAttribute s ≡ true → s ≡ attribute
-is-attribute element e = absurd (false≢true e)
-is-attribute attribute e = refl
-is-attribute text e = absurd (false≢true e)
-
 -- ---- an attribute row put before the first row that is no attribute
 begins-attribute : (n : Bytes) (r : Row) (rows : List Row) → begins n (r ∷ rows) ≡ true → (r .sort ≡ attribute) × (n ≡ r .name)
 unfolding begins
@@ -118,7 +108,7 @@ module _ (version : ℕ) (p : Plan) (u : Row) (later : (r : Row) → p .later u 
   planted-none : (rows : List Row) → headAttribute rows ≡ false → plantRows p u true rows ≡ x ∷ rows
   unfolding plantRows headAttribute
   planted-none [] h = one
-  planted-none (r ∷ rows) h = rw (later r ∙ ap not h, plantRows) (ap (λ (z : List Row). z ++ (r ∷ plantRows p u false rows)) one ∙ ap (λ (z : List Row). x ∷ (r ∷ z)) (plant-none p u rows))
+  planted-none (r ∷ rows) h = rw (later r ∙ ap not h, plantRows) (ap (λ (z : List Row). z ++ (r ∷ plantRows p u false rows)) one ∙ ap (λ (z : List Row). x ∷ (r ∷ z)) (plant-not p u rows))
 
   planted-past : (r : Row) (rows : List Row) → isAttribute (r .sort) ≡ true → plantRows p u true (r ∷ rows) ≡ r ∷ plantRows p u true rows
   unfolding plantRows

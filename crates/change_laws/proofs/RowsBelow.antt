@@ -6,22 +6,21 @@ use mathlib.Core.Logic.{_⊎_, inl, inr, ⊎-elim}
 use mathlib.Core.Bool.{Bool, true, false≢true}
 use mathlib.Core.Option.{Option, some}
 use mathlib.Core.List.{List, [], _∷_, map, List·Memᴰ, List·Memᴰ·head, List·Memᴰ·tail, List·Memᴰ·not-nil, List·Memᴰ·cases-cons, List·Memᴰ·append-cases, Memᴰ·map}
-use Rattle.rules.specs.declared.GroupKind.the-variants.{Sequence}
 use Rattle.rules.specs.Bytes.{Bytes, same, same-eq}
 use Rattle.rules.specs.Model.{Distinct, names}
-use Rattle.rules.specs.Store.{Content, empty, pcdata, complex, Definition, Form, RowSort, element, attribute, text, Row, Forest, bare, tree, heads, modelOf, members}
+use Rattle.rules.specs.Store.{Content, empty, pcdata, complex, Definition, Form, RowSort, element, attribute, text, Row, Forest, bare, tree, heads, members}
 use Rattle.rules.specs.WellFormed.{attributeName, lookup, namesIn, membersOf, Reaches, directly, WellFormed}
 use Rattle.rules.specs.Conforming.{nameOf, isElement, isAttribute, isText, InOrder, ContentRows, ElementRows, RowConforms, Conforming}
 use Rattle.rules.specs.Passing.{GoodSerials}
 use Rattle.rules.specs.Lines.{Line, lines, isTextRow, elementNamed, attributeNamed}
 use Rattle.rules.specs.MadeTakenGiven.{IsRemoved, IsTaken, itself, beneath}
 use Rattle.rules.proofs.Words.{and-split}
-use Rattle.rules.proofs.Letters.{letters}
 use Rattle.rules.proofs.Height.{lookup-member, reaches-then}
 use Rattle.rules.proofs.PlanLaws.{AtMostOne}
-use Rattle.history.proofs.Rowwise.{Standing}
-use Rattle.history.proofs.StandingLaws.{standing-every, one-row, no-zero}
+use Rattle.change_laws.proofs.Rowwise.{Standing}
+use Rattle.change_laws.proofs.StandingLaws.{standing-every, one-row, no-zero}
 use Rattle.rules.proofs.ConformingLaws.{is-attribute, is-element, is-text}
+use Rattle.change_laws.proofs.ConformingForms.{content-named}
 
 -- ---- lines and the rows that stand
 line-stands : (up : ℕ) (f : Forest Row) (l : Line) → List·Memᴰ l (lines up f) → (c : Forest Row) × Standing f (l .row) c
@@ -87,12 +86,6 @@ module _ {version : ℕ} (d : Definition) (rows : List Row) (e : ElementRows ver
       only r i ∙ sym (only s j)
   one-text (complex ms) back (c, w) r s i j t = absurd (false≢true (ap isText (sym (c r i) ∙ t)))
 
-  element-named : (k : Content) (back : List Row) → ContentRows k back → (r : Row) → List·Memᴰ r back → r .sort ≡ element → List·Memᴰ (r .name) (names (modelOf k))
-  element-named empty back c r i s = absurd (List·Memᴰ·not-nil (subst (λ (z : List Row). List·Memᴰ r z) c i))
-  element-named pcdata back (x, q, t) r i s =
-      absurd (⊎-elim (λ h. false≢true (ap isElement (sym t ∙ ap (λ (z : Row). z .sort) (sym h) ∙ s))) (λ j. List·Memᴰ·not-nil j) (List·Memᴰ·cases-cons (subst (λ (z : List Row). List·Memᴰ r z) q i)))
-  element-named (complex ms) back (c, w) r i s = letters Sequence ms .inside (map nameOf back) w (r .name) (Memᴰ·map nameOf i)
-
   one-attribute : Distinct (map attributeName (d .attributes)) → (r s : Row) → List·Memᴰ r rows → List·Memᴰ s rows → r .sort ≡ attribute → s .sort ≡ attribute → r .name ≡ s .name → r ≡ s
   one-attribute once r s i j a b q =
       named-once (e .front) (each-once (map nameOf (e .front)) (map attributeName (d .attributes)) (e .attributes .owned) once) r s (front r i a) (front s j b) q
@@ -108,7 +101,7 @@ module _ {version : ℕ} (d : Definition) (rows : List Row) (e : ElementRows ver
 
   member-named : (r : Row) → List·Memᴰ r rows → r .sort ≡ element → List·Memᴰ (r .name) (names (members d))
   member-named r i a =
-      ⊎-elim (λ f. absurd (false≢true (ap isElement (sym (e .attributes .sorts r f) ∙ a)))) (λ n. element-named (d .content) (e .back) (e .content) r n a) (parted r i)
+      ⊎-elim (λ f. absurd (false≢true (ap isElement (sym (e .attributes .sorts r f) ∙ a)))) (λ n. content-named (d .content) (e .back) (e .content) r n a) (parted r i)
 
 -- ---- documents that conform
 -- what is said of a row, by its sort

@@ -15,18 +15,18 @@ use Rattle.rules.specs.Change.{Plan, revalue}
 use Rattle.rules.proofs.Apart.{differs}
 use Rattle.rules.proofs.Children.{anyOf}
 use Rattle.rules.proofs.ChildRows.{eraseRows, placeRows, firstRows}
-use Rattle.history.proofs.RowEdits.{keep, plantRows, revalued, childrenAfter}
+use Rattle.change_laws.proofs.RowEdits.{keep, plantRows, revalued, childrenAfter}
 
 abbrev pub rowSerial : Row → ℕ
 rowSerial r = r .serial
 
 -- ---- rows that pass a test
 module _ (p : Row → Bool) where
-  keep-yes : (r : Row) (rs : List Row) → p r ≡ true → keep p (r ∷ rs) ≡ r ∷ keep p rs
+  pub keep-yes : (r : Row) (rs : List Row) → p r ≡ true → keep p (r ∷ rs) ≡ r ∷ keep p rs
   unfolding keep
   keep-yes r rs e = rw (e, keep)
 
-  keep-no : (r : Row) (rs : List Row) → p r ≡ false → keep p (r ∷ rs) ≡ keep p rs
+  pub keep-no : (r : Row) (rs : List Row) → p r ≡ false → keep p (r ∷ rs) ≡ keep p rs
   unfolding keep
   keep-no r rs e = rw (e, keep)
 
@@ -71,7 +71,7 @@ revalued-same p z (r ∷ rs) f =
 
 -- ---- new rows among the rows of an instance
 module _ (p : Plan) (u : Row) where
-  plant-not : (rs : List Row) → plantRows p u false rs ≡ rs
+  pub plant-not : (rs : List Row) → plantRows p u false rs ≡ rs
   unfolding plantRows
   plant-not [] = refl
   plant-not (r ∷ rs) = ap (λ (z : List Row). r ∷ z) (plant-not rs)

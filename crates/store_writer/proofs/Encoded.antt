@@ -2,7 +2,7 @@
 use Prim.Native.Nat.{ℕ, _+_, _*_, _≤_}
 use mathlib.Core.Path.{_≡_, refl, sym, ap, ap₂, _∙_}
 use mathlib.Core.Bool.{true}
-use mathlib.Core.List.{List, [], _∷_, _++_, append-assoc}
+use mathlib.Core.List.{_++_}
 use lib.ListN.{length, take, drop}
 use lib.Seq.{drop-drop, take-append-seam, drop-append-seam}
 use Rattle.rules.specs.Bytes.{Bytes}
@@ -16,11 +16,11 @@ use Rattle.rules.proofs.DecodeLaws.{GoodParts, good-parts}
 use Rattle.layout.specs.Bodies.{widthOf, shapeOf, attributesStart, definitionBody, particleBody, attributeBody, definitionsIn, particlesIn, attributesIn}
 use Rattle.layout.specs.Header.{contents, headed}
 use Rattle.lookup.specs.Bodies.{bodiesOf}
-use Rattle.lookup.proofs.Laws.{length-many}
 use Rattle.store_writer.specs.Stores.{storeIn}
 use Rattle.store_writer.proofs.StoreLaws.{Holds, holds}
 use Rattle.store_writer.proofs.FormBytesLaws.{whole}
 use Rattle.store_writer.proofs.FormLaws.{within, good-bodies, counted-definitions, counted-particles, counted-attributes}
+use Rattle.codec.proofs.Records.{length-many}
 
 -- f: the bodies
 pub record Encoded (bs : Bytes) (f : FlatStore) : Type 0 where
@@ -121,7 +121,3 @@ module _ {bs : Bytes} {f : FlatStore} (x : Encoded bs f) where
       (ap (λ (k : ℕ). attributeSize w * k) (x .attributes) ∙ sym (length-each (attributeBytes w) (attributeSize w) (length-attribute w) (f .attributes)))
       rest-at
       ∙ take-append-seam (each (attributeBytes w) (f .attributes)) (each (rowBytes w) (f .rows))
-
-pub each-append : {A : Type 0} (g : A → Bytes) (xs ys : List A) → each g (xs ++ ys) ≡ each g xs ++ each g ys
-each-append g [] ys = refl
-each-append g (x ∷ xs) ys = ap (λ (l : Bytes). g x ++ l) (each-append g xs ys) ∙ sym (append-assoc (g x) (each g xs) (each g ys))

@@ -9,7 +9,7 @@ use Rattle.rules.specs.Bytes.{Bytes, same, bytes}
 use Rattle.rules.specs.Model.{Members, done, el, group, names, skips, member}
 use Rattle.rules.specs.Language.{Conforms}
 use Rattle.rules.specs.Quantifiers.{gains, cuts}
-use Rattle.rules.specs.Place.{Context, spine, before, Found}
+use Rattle.rules.specs.Place.{Context, spine, beforePlace, Found}
 use Rattle.rules.specs.Edit.{Edit, insert, remove, quantify, convert, flatten, placeOf, modelAfter}
 use Rattle.rules.specs.Automaton.{accepts}
 use Rattle.rules.specs.Store.{complex, Definition, Form, element, Row}
@@ -25,10 +25,10 @@ use Rattle.rules.proofs.Correct.{accepts-conforms}
 use Rattle.rules.proofs.Whole.{change-sound, change-accepts}
 use Rattle.rules.proofs.WellFormedLaws.{definition-good, definition-deep}
 use Rattle.rules.proofs.ConformingLaws.{element-is}
-use Rattle.history.proofs.RowEdits.{childrenAfter}
-use Rattle.history.proofs.InstanceEdits.{editPlan, Below, edit-rows}
-use Rattle.history.proofs.EditFillings.{Insertable, filled-outside}
-use Rattle.history.proofs.ModelAfter.{place-of}
+use Rattle.change_laws.proofs.RowEdits.{childrenAfter}
+use Rattle.change_laws.proofs.InstanceEdits.{editPlan, Below, edit-rows}
+use Rattle.change_laws.proofs.EditFillings.{Insertable, filled-outside}
+use Rattle.change_laws.proofs.ModelAfter.{place-of}
 
 -- ---- where the edited rows come from
 erase-in : (x : Bytes) (rs : List Row) (y : Row) → List·Memᴰ y (eraseRows bytes nameOf x rs) → List·Memᴰ y rs
@@ -72,7 +72,7 @@ module _ (P : Row → Type 0) (fill : List Bytes → List Row) (new : (ns : List
 
   pub each-child : (e : Edit Bytes) (c : Context Bytes) (t : Members Bytes) (rs : List Row) → Each rs → Each (childRows bytes nameOf fill e c t rs)
   unfolding childRows refitRows refitGroupRows
-  each-child (insert q n) c t rs f = each-if (not (skips q) && spine c) _ _ (each-placed (before c) (n ∷ []) rs f) f
+  each-child (insert q n) c t rs f = each-if (not (skips q) && spine c) _ _ (each-placed (beforePlace c) (n ∷ []) rs f) f
   each-child remove c done rs f = f
   each-child remove c (el q x t) rs f = λ y m. f y (erase-in x rs y m)
   each-child remove c (group q k ms t) rs f = f
@@ -80,10 +80,10 @@ module _ (P : Row → Type 0) (fill : List Bytes → List Row) (new : (ns : List
   each-child (quantify r) c (el q x t) rs f =
       each-if (spine c) _ _
       (each-if (member bytes x (map nameOf rs)) _ _ (each-if (cuts q r) _ _ (λ y m. f y (first-in x rs y m)) f)
-      (each-if (gains q r) _ _ (each-placed (before c) (x ∷ []) rs f) f))
+      (each-if (gains q r) _ _ (each-placed (beforePlace c) (x ∷ []) rs f) f))
       f
   each-child (quantify r) c (group q k ms t) rs f =
-      each-if (spine c) _ _ (each-if (gains q r) _ _ (each-if (anyOf bytes (names ms) (map nameOf rs)) _ _ f (each-placed (before c) (groupFilling r k ms) rs f)) f) f
+      each-if (spine c) _ _ (each-if (gains q r) _ _ (each-if (anyOf bytes (names ms) (map nameOf rs)) _ _ f (each-placed (beforePlace c) (groupFilling r k ms) rs f)) f) f
   each-child (convert j n) c t rs f = f
   each-child flatten c t rs f = f
 

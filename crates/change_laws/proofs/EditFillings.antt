@@ -11,7 +11,7 @@ use lib.Dec.{leb}
 use lib.ListN.{length}
 use Rattle.rules.specs.Bytes.{Bytes, same, bytes, isNone}
 use Rattle.rules.specs.Model.{Members, done, el, group, Distinct, names, skips, nothing, unless, filling}
-use Rattle.rules.specs.Place.{Context, plug, before, after, Found}
+use Rattle.rules.specs.Place.{Context, plug, beforePlace, afterPlace, Found}
 use Rattle.rules.specs.Edit.{Edit, insert, remove, quantify, convert, flatten, place, placeOf}
 use Rattle.rules.specs.Store.{Content, complex, Definition, Form, RowSort, element, attribute, text, Row, Forest, bare, tree, modelOf, members}
 use Rattle.rules.specs.WellFormed.{definitionName, lookup, known, membersOf, Reaches, directly, through, GoodDefinition, wellFormed}
@@ -25,10 +25,10 @@ use Rattle.rules.proofs.Places.{found-gap, found-nth}
 use Rattle.rules.proofs.SerialLaws.{every-row}
 use Rattle.rules.proofs.WellFormedLaws.{definition-good, no-circle, definition-deep}
 use Rattle.rules.proofs.FillingLaws.{in-filling, every-each, every-filled, filling-fits}
-use Rattle.history.proofs.FormLaws.{update-other}
-use Rattle.history.proofs.ModelAfter.{place-right}
-use Rattle.history.proofs.Replacing.{Joins}
-use Rattle.history.proofs.InstanceEdits.{editPlan, filled}
+use Rattle.change_laws.proofs.FormLaws.{update-other}
+use Rattle.change_laws.proofs.ModelAfter.{place-right}
+use Rattle.change_laws.proofs.Replacing.{Joins}
+use Rattle.change_laws.proofs.InstanceEdits.{editPlan, filled}
 
 -- ---- a place that is there
 -- ---- the names that an edit fills
@@ -111,9 +111,9 @@ module _ (w : ℕ) (form : Form) (ok : wellFormed w form ≡ true) (d : Definiti
   module _ (ms : Members Bytes) (is : d .content ≡ complex ms) (e : Edit Bytes) (p : List ℕ) (f : Found Bytes) (found : placeOf e p ms ≡ some f) where
     pub filled-outside : Insertable form (d .name) e → (m : Bytes) → List·Memᴰ m (filled e (f .picked)) → Joins form (d .name) m
     filled-outside i m k =
-        ⊎-elim (λ o. o) (λ j. member-outside m (rw own-names (Memᴰ·append-right (before (f .context)) (Memᴰ·append-left (after (f .context)) j)))) (filled-from form (d .name) e (f .picked) i m k)
+        ⊎-elim (λ o. o) (λ j. member-outside m (rw own-names (Memᴰ·append-right (beforePlace (f .context)) (Memᴰ·append-left (afterPlace (f .context)) j)))) (filled-from form (d .name) e (f .picked) i m k)
       where
-        own-names : names (members d) ≡ before (f .context) ++ (names (f .picked) ++ after (f .context))
+        own-names : names (members d) ≡ beforePlace (f .context) ++ (names (f .picked) ++ afterPlace (f .context))
         own-names = ap (λ (z : Content). names (modelOf z)) is ∙ sym (ap names (place-right e p ms f found)) ∙ names-plug (f .context) (f .picked)
 
     module _ (version : ℕ) (ls : List Line) (txt : Bytes) (i : Insertable form (d .name) e) where

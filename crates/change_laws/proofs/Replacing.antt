@@ -14,7 +14,7 @@ use Rattle.rules.specs.WellFormed.{definitionName, attributeName, lookup, isThe
 use Rattle.rules.specs.Change.{definitionAt, update, without}
 use Rattle.rules.proofs.Height.{reaches-then}
 use Rattle.rules.proofs.WellFormedLaws.{well-formed, lookup-member, lookup-distinct, definition-good, no-circle}
-use Rattle.history.proofs.FormLaws.{same-or, known-named, definition-found, update-names, update-other, update-this, update-known, lookup-old, lookup-new, without-other, without-this}
+use Rattle.change_laws.proofs.FormLaws.{same-or, known-named, definition-found, update-names, update-other, update-this, update-known, lookup-old, lookup-new, without-other, without-this}
 
 -- ---- lists without an entry twice
 module _ {A : Type 0} where

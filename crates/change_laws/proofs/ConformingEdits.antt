@@ -15,14 +15,14 @@ use Rattle.rules.specs.Conforming.{fitsRow, conforming}
 use Rattle.rules.specs.Passing.{GoodSerials}
 use Rattle.rules.specs.Lines.{Line, lines, ground, elementNamed}
 use Rattle.rules.specs.Change.{Call, Plan, nameAtIndex, formAfter, plan, docsAfter}
-use Rattle.history.proofs.RowEdits.{revalued, childrenAfter}
-use Rattle.history.proofs.Rowwise.{Standing}
-use Rattle.history.proofs.StandingLaws.{standing-line, children-are, children-once, children-given}
-use Rattle.history.proofs.Untouched.{same-row}
-use Rattle.history.proofs.ConformingAfter.{conforming-changed}
-use Rattle.history.proofs.InstanceEdits.{editPlan}
-use Rattle.history.proofs.AcceptedEdits.{Accepted}
-use Rattle.history.proofs.EditedRows.{row-fits-after, filling-fits-after}
+use Rattle.change_laws.proofs.RowEdits.{revalued, childrenAfter}
+use Rattle.change_laws.proofs.Rowwise.{Standing}
+use Rattle.change_laws.proofs.StandingLaws.{standing-line, children-are, children-once, children-given}
+use Rattle.change_laws.proofs.Untouched.{same-row}
+use Rattle.change_laws.proofs.ConformingAfter.{conforming-changed}
+use Rattle.change_laws.proofs.InstanceEdits.{editPlan}
+use Rattle.change_laws.proofs.AcceptedEdits.{Accepted}
+use Rattle.change_laws.proofs.EditedRows.{row-fits-after, filling-fits-after}
 
 -- such a plan sets no value, and makes no document
 record Inside (p : Plan) : Type 0 where

@@ -18,12 +18,13 @@ use Rattle.rules.proofs.Apart.{differs}
 use Rattle.rules.proofs.Height.{deep}
 use Rattle.rules.proofs.WellFormedLaws.{definition-good, definition-deep}
 use Rattle.rules.proofs.FillingLaws.{filling-heads, filling-fits}
-use Rattle.history.proofs.RowEdits.{revalued, childrenAfter}
-use Rattle.history.proofs.Rowwise.{Standing}
-use Rattle.history.proofs.StandingLaws.{standing-child, no-zero, first-child}
-use Rattle.history.proofs.Untouched.{keep-all, children-cut, children-kept, revalued-other}
-use Rattle.history.proofs.Numbered.{mapped-row, conforming-number}
-use Rattle.history.proofs.ConformingAfter.{conforming-changed, conforming-elements}
+use Rattle.change_laws.proofs.RowEdits.{revalued, childrenAfter}
+use Rattle.change_laws.proofs.Rowwise.{Standing}
+use Rattle.change_laws.proofs.StandingLaws.{standing-child, no-zero, first-child}
+use Rattle.change_laws.proofs.Untouched.{children-cut, children-kept, revalued-other}
+use Rattle.change_laws.proofs.Numbered.{mapped-row, conforming-number}
+use Rattle.change_laws.proofs.ConformingAfter.{conforming-changed, conforming-elements}
+use Rattle.change_laws.proofs.InstanceRows.{keep-all}
 
 -- 12 to 15: condition 15 says it of the numbered rows
 pub conforming-checked : (c : Call) (s : Store) → not (conforming (s .version) (s .form) (after c s .docs)) ≡ false → conforming (s .version) (s .form) (docsAfter c s) ≡ true

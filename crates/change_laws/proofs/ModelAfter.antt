@@ -10,7 +10,7 @@ use lib.ListN.{length}
 use Rattle.rules.specs.declared.Quantifier.{Quantifier}
 use Rattle.rules.specs.Bytes.{Bytes, bytes}
 use Rattle.rules.specs.Model.{Members, done, el, group, Equality, names}
-use Rattle.rules.specs.Place.{Context, plug, before, after, Found}
+use Rattle.rules.specs.Place.{Context, plug, beforePlace, afterPlace, Found}
 use Rattle.rules.specs.Edit.{Edit, insert, remove, quantify, convert, flatten, firstMembers, laterMembers, hasMembers, edited, place, placeOf, modelAfter, removeLast, groupUnlike}
 use Rattle.rules.specs.Store.{Store, members}
 use Rattle.rules.specs.Decode.{quantifierOf, groupOf}
@@ -22,7 +22,8 @@ use Rattle.rules.proofs.Spine.{names-append}
 use Rattle.rules.proofs.Children.{misplaced, Sound}
 use Rattle.rules.proofs.Places.{found-gap, found-nth}
 use Rattle.rules.proofs.Whole.{change-sound}
-use Rattle.history.proofs.Conditions.{unmet}
+use Rattle.change_laws.proofs.Conditions.{unmet}
+use Rattle.change_laws.proofs.EditConditions.{remove-placed, flatten-placed}
 
 module _ {A : Type 0} where
   -- ---- names
@@ -58,12 +59,12 @@ module _ {A : Type 0} where
   plug-names : (c : Context A) (t t′ : Members A) (more : List A) → ((m : A) → List·Memᴰ m (names t′) → List·Memᴰ m (names t) ⊎ List·Memᴰ m more) → (m : A)
       → List·Memᴰ m (names (plug c t′)) → List·Memᴰ m (names (plug c t)) ⊎ List·Memᴰ m more
   plug-names c t t′ more f m i =
-      let j : List·Memᴰ m (before c ++ (names t′ ++ after c)) = rw (names-plug c t′) at i in
+      let j : List·Memᴰ m (beforePlace c ++ (names t′ ++ afterPlace c)) = rw (names-plug c t′) at i in
       either (λ k. rw (names-plug c t) k) (λ k. k)
-      (⊎-elim (λ k. inl (Memᴰ·append-left (names t ++ after c) k))
-      (λ k. ⊎-elim (λ h. either (λ g. Memᴰ·append-right (before c) (Memᴰ·append-left (after c) g)) (λ g. g) (f m h))
-      (λ h. inl (Memᴰ·append-right (before c) (Memᴰ·append-right (names t) h))) (List·Memᴰ·append-cases (names t′) k))
-      (List·Memᴰ·append-cases (before c) j))
+      (⊎-elim (λ k. inl (Memᴰ·append-left (names t ++ afterPlace c) k))
+      (λ k. ⊎-elim (λ h. either (λ g. Memᴰ·append-right (beforePlace c) (Memᴰ·append-left (afterPlace c) g)) (λ g. g) (f m h))
+      (λ h. inl (Memᴰ·append-right (beforePlace c) (Memᴰ·append-right (names t) h))) (List·Memᴰ·append-cases (names t′) k))
+      (List·Memᴰ·append-cases (beforePlace c) j))
 
   -- ---- at a place
   pub place-of : (e : Edit A) (p : List ℕ) (ms : Members A) (f : Found A) → placeOf e p ms ≡ some f → place e p ms ≡ some f
@@ -110,24 +111,12 @@ placed e p ms P absent fit h = by (placeOf e p ms) refl h
     by none q x = absurd (absent x)
     by (some f) q x = record { found = f; at = q; fits = fit f (place-right e p ms f q) x }
 
-fit-remove : (c : Context Bytes) (t : Members Bytes) → onElement true (λ q. false) t ≡ false → removeLast c (tailOf t) ≡ false → misplaced bytes remove c t ≡ false
-unfolding misplaced
-fit-remove c done h g = absurd (false≢true (sym h))
-fit-remove c (el q x t) h g = g
-fit-remove c (group q k ms t) h g = absurd (false≢true (sym h))
-
 fit-quantify : (r : Quantifier) (c : Context Bytes) (t : Members Bytes) → (onElement true (λ q. false) t ≡ false) ⊎ (onGroup true (λ q. false) t ≡ false) → misplaced bytes (quantify r) c t ≡ false
 unfolding misplaced
 fit-quantify r c done (inl h) = h
 fit-quantify r c done (inr h) = h
 fit-quantify r c (el q x t) h = refl
 fit-quantify r c (group q k ms t) h = refl
-
-fit-flatten : (c : Context Bytes) (t : Members Bytes) → onGroup true (λ q. false) t ≡ false → flattenUnlike c t ≡ false → misplaced bytes flatten c t ≡ false
-unfolding misplaced
-fit-flatten c done h g = absurd (false≢true (sym h))
-fit-flatten c (el q x t) h g = absurd (false≢true (sym h))
-fit-flatten c (group q k ms t) h g = g
 
 both-false : {a b : Bool} → a ≡ false → b ≡ false → (a || b) ≡ false
 both-false e h = rw (e, h)
@@ -147,7 +136,7 @@ module _ (room : ℕ) (s : Store) (o : ℕ) (p : List ℕ) where
   placed-remove a =
       let (known, (there, (last, more))) = unmet room (removeElement o p) s a in
       placed remove p owned (λ x. (noElementAt x ≡ false) × (atPlace (λ c x. removeLast c (tailOf x)) x ≡ false)) (λ h. false≢true (sym (h .0)))
-      (λ f e h. fit-remove (f .context) (f .picked) (h .0) (h .1)) (there, last)
+      (λ f e h. remove-placed (f .context) (f .picked) (h .0) (h .1)) (there, last)
 
   pub placed-quantify : (q : ℕ) (t : Bytes) → refusal room (changeQuantifier o p q t) s ≡ 0 → Placed bytes (quantify (quantifierOf q)) p owned
   unfolding conditions
@@ -175,4 +164,4 @@ module _ (room : ℕ) (s : Store) (o : ℕ) (p : List ℕ) where
   placed-flatten a =
       let (known, (there, (alike, end))) = unmet room (flattenGroup o p) s a in
       placed flatten p owned (λ x. (noGroupAt x ≡ false) × (atPlace flattenUnlike x ≡ false)) (λ h. false≢true (sym (h .0)))
-      (λ f e h. fit-flatten (f .context) (f .picked) (h .0) (h .1)) (there, alike)
+      (λ f e h. flatten-placed (f .context) (f .picked) (h .0) (h .1)) (there, alike)

@@ -17,8 +17,8 @@ use Rattle.rules.specs.Passing.{serials, GoodSerials}
 use Rattle.rules.proofs.Words.{or-left, or-right, or-cases, and-split, either}
 use Rattle.rules.proofs.Correct.{distinct-left, distinct-right, distinct-apart}
 use Rattle.rules.proofs.Apart.{differs}
-use Rattle.history.proofs.RowEdits.{keep}
-use Rattle.history.proofs.Rowwise.{Standing}
+use Rattle.change_laws.proofs.RowEdits.{keep}
+use Rattle.change_laws.proofs.Rowwise.{Standing}
 
 abbrev pub serialOf : Row → ℕ
 serialOf r = r .serial

@@ -17,8 +17,8 @@ use Rattle.rules.specs.Change.{inContent, inModel, withAttributes, lacking, Pla
 use Rattle.rules.proofs.Words.{and-both, and-split}
 use Rattle.rules.proofs.ConformingLaws.{begins-this, strip-take}
 use Rattle.rules.proofs.FillingLaws.{created-allows}
-use Rattle.history.proofs.RowEdits.{keep, plantRows}
-use Rattle.history.proofs.AttributeEdits.{noAttribute, content-plain, strip-more, strip-added, strip-planted, strip-lacking}
+use Rattle.change_laws.proofs.RowEdits.{keep, plantRows}
+use Rattle.change_laws.proofs.AttributeEdits.{noAttribute, content-plain, strip-more, strip-added, strip-planted, strip-lacking}
 
 -- what a definition that fits leaves behind its attribute rows
 pub record Stripped (version : ℕ) (d : Definition) (rows : List Row) : Type 0 where

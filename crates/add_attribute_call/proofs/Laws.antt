@@ -78,17 +78,20 @@ module _ (bs : Bytes) (o : ℕ) (n : Bytes) (k : ℕ) (v : Bytes) (x : Addable b
       let f : FlatStore = bodiesOf bs in
       let i : ℕ = attributesTo o (f .attributes) in
       let c : FlatAttribute = newEntry o n k v in
-      let over : withinCeilings (bareForm (attributeAdded i c f)) ≡ false = added-ceiling i f (good-bodies kept) (within kept) c ∙ lt-leb (suc (length (f .attributes))) 64 (omega (arith, count-attributes bs e)) in
+      let over : withinCeilings (bareForm (attributeAdded i c f)) ≡ false =
+      added-ceiling i f (good-bodies kept) (within kept) c ∙ lt-leb (suc (length (f .attributes))) 64 (omega (arith, count-attributes bs e)) in
       let a : Answers (limited room (added o n k v f)) out 16 0 out = form-ceiling (attributeAdded i c f) over (addAttributePlan (f .version) o i k) v f room in
       record { number-is = n-is ∙ a .number-is; length-is = l-is ∙ a .length-is; buffer-is = a .buffer-is }
 
-  module _ {d p a i version r : ℕ} {q : Plan} {buffer left : Bytes} (cd : Number (definitionCount bs) d) (cp : Number (particleCount bs) p) (ca : Number (attributeCount bs) a) (few : a < 64) (to : To o (bodiesOf bs .attributes) i)
+  module _ {d p a i version r : ℕ} {q : Plan} {buffer left : Bytes} (cd : Number (definitionCount bs) d) (cp : Number (particleCount bs) p)
+      (ca : Number (attributeCount bs) a) (few : a < 64) (to : To o (bodiesOf bs .attributes) i)
       (at : Number (numberAt 0 4 bs) version) (same : q ≡ addAttributePlan version o i k)
       (long : length buffer ≡ 9728) (y : Laid (formBytes (widthOf bs) (attributeAdded i (newEntry o n k v) (bodiesOf bs))) buffer 0 r left) where
     of-bytes : {form : Bytes} → form ≡ formBytes (widthOf bs) (attributeAdded i (newEntry o n k v) (bodiesOf bs))
         → FormOf (widthOf bs) (attributeAdded i (newEntry o n k v) (bodiesOf bs)) form d p (a + 1)
     of-bytes e =
-        added-form i (bodiesOf bs) (good-bodies kept) (within kept) (newEntry o n k v) (good-attribute (widthOf bs) o n k v (x .name) (x .value)) (omega (arith, count-attributes bs ca)) e (count-definitions bs cd)
+        added-form i (bodiesOf bs) (good-bodies kept) (within kept) (newEntry o n k v) (good-attribute (widthOf bs) o n k v (x .name) (x .value))
+        (omega (arith, count-attributes bs ca)) e (count-definitions bs cd)
         (count-particles bs cp) (omega (arith, count-attributes bs ca))
 
     room-for : length (formBytes (widthOf bs) (attributeAdded i (newEntry o n k v) (bodiesOf bs))) ≤ 9728
@@ -107,7 +110,11 @@ module _ (bs : Bytes) (o : ℕ) (n : Bytes) (k : ℕ) (v : Bytes) (x : Addable b
     added-asks = (
       x .passes,
       x .value,
-      subst Sized (sym same) (record { moves = record { definitions = record { more = omega arith }; attributes = record { more = omega arith } }; filling = omega (arith, to .most, count-attributes bs ca) }),
+      subst Sized (sym same)
+          (record {
+            moves = record { definitions = record { more = omega arith }; attributes = record { more = omega arith } };
+            filling = omega (arith, to .most, count-attributes bs ca);
+          }),
       forms-of of,
     )
 

@@ -1,4 +1,5 @@
-//! Change 9: an attribute added. The call is the check, the first refusal that applies, the new form and the plan of the change.
+//! Change 9: an attribute added. The call is the check, the first refusal
+//! that applies, the new form and the plan of the change.
 use store_writer::Answer;
 ghost use lib.ListN.{length};
 ghost use Rattle.rules.specs.Change.{addAttribute};
@@ -10,7 +11,8 @@ ghost use Rattle.add_attribute_call.specs.Added.{added};
 
 const MOST_ATTRIBUTES: usize = 64;
 
-// The bytes of a form at its ceilings and of the widest values: 64 definitions, 256 particles, 64 attributes of 116 bytes.
+// The bytes of a form at its ceilings and of the widest values: 64
+// definitions, 256 particles, 64 attributes of 116 bytes.
 const MOST_FORM: usize = 9728;
 
 // The store with a new attribute, the last of its owner.
@@ -23,7 +25,8 @@ fn write_added(
     out: &mut [u8],
 ) -> Answer
     requires { ⌜ Addable (now store) owner (now name) sort (now value) ⌝ }
-    ensures { λ r. ⌜ Answers (limited (length (now (out .entry))) (added owner (now (name .entry)) sort (now (value .entry)) (bodiesOf (now (store .entry))))) (now (out .entry)) (r .number) (r .length) (now (out .exit)) ⌝ }
+    ensures { λ r. ⌜ Answers (limited (length (now (out .entry))) (added owner (now (name .entry)) sort (now (value .entry)) (bodiesOf (now (store .entry)))))
+        (now (out .entry)) (r .number) (r .length) (now (out .exit)) ⌝ }
 {
     let d = layout::definition_count(store);
     let p = layout::particle_count(store);
@@ -48,7 +51,8 @@ pub fn add_attribute(
     value: &[u8],
     out: &mut [u8],
 ) -> Answer
-    ensures { λ r. ⌜ Answers (outcome (addAttribute owner (now (name .entry)) sort (now (value .entry))) (now (store .entry)) (length (now (out .entry)))) (now (out .entry)) (r .number) (r .length) (now (out .exit)) ⌝ }
+    ensures { λ r. ⌜ Answers (outcome (addAttribute owner (now (name .entry)) sort (now (value .entry))) (now (store .entry)) (length (now (out .entry))))
+        (now (out .entry)) (r .number) (r .length) (now (out .exit)) ⌝ }
 {
     if !store_check::passes(store) {
         return store_writer::refused(1);

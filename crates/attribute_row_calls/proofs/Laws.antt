@@ -30,7 +30,11 @@ use Rattle.call_laws.proofs.Calls.{unmoved-small, Asks}
 
 -- an attribute that is known has a small index
 attribute-few : (bs : Bytes) (k a : ℕ) → passes bs ≡ true → unknownAttribute k a (storeIn bs) ≡ false → a < 65536
-attribute-few bs k a q known = ⊎-elim (λ (l : a < attributeCount bs). omega (arith, w .fewAttributes)) (λ (l : attributeCount bs ≤ a). absurd (false≢true (sym known ∙ ap (λ (o : Option Owned). isOther o (findRow (elementWith k) (rowsOf (storeIn bs)))) (unowned bs w a l)))) (below-or a (attributeCount bs))
+attribute-few bs k a q known =
+    ⊎-elim (λ (l : a < attributeCount bs). omega (arith, w .fewAttributes))
+    (λ (l : attributeCount bs ≤ a). absurd
+    (false≢true (sym known ∙ ap (λ (o : Option Owned). isOther o (findRow (elementWith k) (rowsOf (storeIn bs)))) (unowned bs w a l))))
+    (below-or a (attributeCount bs))
   where
     w : Whole bs
     w = whole bs q
@@ -49,7 +53,8 @@ module _ (bs : Bytes) {b : Bool} {m : ℕ} (h : not b ≡ false) (e : b ≡ pass
       let (value, (known, (there, more))) = none-holds (setAttribute k a v) (storeIn bs) (sym f ∙ z) in
       (passed bs h e, record { is = rw (known, there) })
 
-  pub set-attribute-asks : (k a : ℕ) (v : Bytes) {q : Plan} → m ≡ first (conditions (setAttribute k a v) (storeIn bs)) → m ≡ 0 → q ≡ setAttributePlan k a (attributeSerial k a (storeIn bs)) → Asks bs v q
+  pub set-attribute-asks : (k a : ℕ) (v : Bytes) {q : Plan} → m ≡ first (conditions (setAttribute k a v) (storeIn bs)) → m ≡ 0
+      → q ≡ setAttributePlan k a (attributeSerial k a (storeIn bs)) → Asks bs v q
   unfolding conditions
   set-attribute-asks k a v {q} f z same =
       let (value, (known, more)) = none-holds (setAttribute k a v) (storeIn bs) (sym f ∙ z) in

@@ -19,7 +19,10 @@ pub fn put_added(
     out: &mut [u8],
 ) -> usize
     requires { ⌜ Addable (now store) owner (now name) sort (now value) × (i ≤ length (bodiesOf (now store) .attributes)) × (i ≤ 64) ⌝ }
-    ensures { λ r. ⌜ Laid (formBytes (widthOf (now (store .entry))) (attributeAdded i (newEntry owner (now (name .entry)) sort (now (value .entry))) (bodiesOf (now (store .entry))))) (now (out .entry)) 0 r (now (out .exit)) ⌝ }
+    ensures { λ r. ⌜ Laid
+        (formBytes (widthOf (now (store .entry)))
+        (attributeAdded i (newEntry owner (now (name .entry)) sort (now (value .entry))) (bodiesOf (now (store .entry)))))
+        (now (out .entry)) 0 r (now (out .exit)) ⌝ }
 {
     let form = attribute_form::form_of(store);
     let place = attribute_form::place_of(store, i);

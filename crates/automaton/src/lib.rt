@@ -118,8 +118,8 @@ fn first_facts(t: &[u8], d: usize, x: usize, y: usize) -> Facts
     }
 }
 
-/// The facts of the members of depth d that s begins with, in a group of a kind. What is deeper belongs to them; the first that is
-/// less deep ends them.
+/// The facts of the members of depth d that s begins with, in a group of a kind. What is deeper belongs to them; the
+/// first that is less deep ends them.
 pub fn facts_from(s: &[u8], d: usize, kind: GroupKind, x: usize, y: usize) -> Facts
     requires { ⌜ d ≤ 256 ⌝ }
     ensures { λ r. ⌜ r ≡ facts numbers kind (membersFrom d (now (s .entry))) x y ⌝ }

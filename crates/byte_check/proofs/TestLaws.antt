@@ -37,7 +37,10 @@ module _ (p : ℕ → Bool) where
   all-cut i bs = ap (all p) (sym (take-append-drop i bs)) ∙ all-join (take i bs) (drop i bs)
 
   pub eight-of : (bs : Bytes) (i : ℕ) → i + 8 ≤ length bs
-      → (p (getD bs i 0) && (p (getD bs (i + 1) 0) && (p (getD bs (i + 2) 0) && (p (getD bs (i + 3) 0) && (p (getD bs (i + 4) 0) && (p (getD bs (i + 5) 0) && (p (getD bs (i + 6) 0) && p (getD bs (i + 7) 0))))))))
+      → (p (getD bs i 0)
+      && (p (getD bs (i + 1) 0)
+      && (p (getD bs (i + 2) 0)
+      && (p (getD bs (i + 3) 0) && (p (getD bs (i + 4) 0) && (p (getD bs (i + 5) 0) && (p (getD bs (i + 6) 0) && p (getD bs (i + 7) 0))))))))
       ≡ all p (take 8 (drop i bs))
   eight-of bs i h = rw (eight-taken bs i h) (rw and-true)
 

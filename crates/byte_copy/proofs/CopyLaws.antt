@@ -19,7 +19,16 @@ eight-taken s i h =
     let e6 : i + 6 ≡ suc (suc (suc (suc (suc (suc i))))) = omega arith in
     let e7 : i + 7 ≡ suc (suc (suc (suc (suc (suc (suc i)))))) = omega arith in
     rw (e1, e2, e3, e4, e5, e6, e7)
-    (rw (drop-cons s i 0 (omega arith), drop-cons s (suc i) 0 (omega arith), drop-cons s (suc (suc i)) 0 (omega arith), drop-cons s (suc (suc (suc i))) 0 (omega arith), drop-cons s (suc (suc (suc (suc i)))) 0 (omega arith), drop-cons s (suc (suc (suc (suc (suc i))))) 0 (omega arith), drop-cons s (suc (suc (suc (suc (suc (suc i)))))) 0 (omega arith), drop-cons s (suc (suc (suc (suc (suc (suc (suc i))))))) 0 (omega arith)))
+    (rw (
+      drop-cons s i 0 (omega arith),
+      drop-cons s (suc i) 0 (omega arith),
+      drop-cons s (suc (suc i)) 0 (omega arith),
+      drop-cons s (suc (suc (suc i))) 0 (omega arith),
+      drop-cons s (suc (suc (suc (suc i)))) 0 (omega arith),
+      drop-cons s (suc (suc (suc (suc (suc i))))) 0 (omega arith),
+      drop-cons s (suc (suc (suc (suc (suc (suc i)))))) 0 (omega arith),
+      drop-cons s (suc (suc (suc (suc (suc (suc (suc i))))))) 0 (omega arith),
+    ))
 
 -- one byte more is copied
 pub copy-more : (src out : List ℕ) (i : ℕ) → i < length src → i < length out → set (take i src ++ drop i out) i (getD src i 0) ≡ take (suc i) src ++ drop (suc i) out
@@ -30,7 +39,14 @@ copy-more (x ∷ xs) (y ∷ ys) (suc i) h k = ap (λ (l : List ℕ). x ∷ l) (c
 
 -- eight stores, one after the other
 pub eight-stored : (src out : List ℕ) (i : ℕ) → i + 8 ≤ length src
-    → set (set (set (set (set (set (set (set out i (getD src i 0)) (i + 1) (getD src (i + 1) 0)) (i + 2) (getD src (i + 2) 0)) (i + 3) (getD src (i + 3) 0)) (i + 4) (getD src (i + 4) 0)) (i + 5) (getD src (i + 5) 0)) (i + 6) (getD src (i + 6) 0)) (i + 7) (getD src (i + 7) 0)
+    → set
+    (set
+    (set
+    (set (set (set (set (set out i (getD src i 0)) (i + 1) (getD src (i + 1) 0)) (i + 2) (getD src (i + 2) 0)) (i + 3) (getD src (i + 3) 0)) (i + 4)
+    (getD src (i + 4) 0))
+    (i + 5) (getD src (i + 5) 0))
+    (i + 6) (getD src (i + 6) 0))
+    (i + 7) (getD src (i + 7) 0)
     ≡ sets out i (take 8 (drop i src))
 eight-stored src out i h =
     let e1 : i + 1 ≡ suc i = omega arith in

@@ -15,7 +15,10 @@ use Rattle.rules.specs.Store.{complex, Store, members}
 use Rattle.rules.specs.Decode.{quantifierOf, groupOf}
 use Rattle.rules.specs.WellFormed.{lookup, isThere, reachesIn, wellFormed}
 use Rattle.rules.specs.Lines.{Line}
-use Rattle.rules.specs.Change.{Call, createDefinition, destroyDefinition, insertElement, removeElement, changeQuantifier, convertToGroup, flattenGroup, changeGroupQuantifier, addAttribute, destroyAttribute, addDocument, addElement, destroyElement, setAttribute, destroyAttributeRow, setText, definitionAt, nameAtIndex, editModel, formAfter, insertPlan, removePlan, quantifyPlan, pickedPlan, plan}
+use Rattle.rules.specs.Change.{Call, createDefinition, destroyDefinition, insertElement, removeElement, changeQuantifier, convertToGroup, flattenGroup}
+use Rattle.rules.specs.Change.{changeGroupQuantifier, addAttribute, destroyAttribute, addDocument, addElement, destroyElement, setAttribute}
+use Rattle.rules.specs.Change.{destroyAttributeRow, setText, definitionAt, nameAtIndex, editModel, formAfter, insertPlan, removePlan, quantifyPlan, pickedPlan}
+use Rattle.rules.specs.Change.{plan}
 use Rattle.rules.specs.Refusal.{past as beyond, instanceExists, atPlace, noPlace, onElement, onGroup, noElementAt, noGroupAt, tailOf, flattenUnlike, isComplex, conditions}
 use Rattle.rules.proofs.Children.{misplaced, unfit}
 use Rattle.rules.proofs.Height.{reaches-test}
@@ -23,7 +26,8 @@ use Rattle.rules.proofs.WellFormedLaws.{well-formed}
 use Rattle.rules.proofs.Words.{or-split}
 use Rattle.change_laws.proofs.InstanceEdits.{editPlan}
 use Rattle.change_laws.proofs.Conditions.{Unmet, not-past}
-use Rattle.change_laws.proofs.EditConditions.{or-both, and-false, complex-content, picked-complex, element-some, group-some, has-some, remove-placed, remove-fits, quantify-placed, element-fits, group-fits, flatten-placed}
+use Rattle.change_laws.proofs.EditConditions.{or-both, and-false, complex-content, picked-complex, element-some, group-some, has-some, remove-placed}
+use Rattle.change_laws.proofs.EditConditions.{remove-fits, quantify-placed, element-fits, group-fits, flatten-placed}
 use Rattle.change_laws.proofs.FormLaws.{definition-found}
 use Rattle.change_laws.proofs.ModelAfter.{place-right}
 use Rattle.change_laws.proofs.Replacing.{Joins}

@@ -11,7 +11,9 @@ use Rattle.rules.specs.Bytes.{all}
 use Rattle.rules.specs.Store.{Store}
 use Rattle.rules.specs.Layout.{flat, encode}
 use Rattle.rules.specs.WellFormed.{withinCeilings, highestNumber}
-use Rattle.rules.specs.Change.{Call, createDefinition, destroyDefinition, insertElement, removeElement, changeQuantifier, convertToGroup, flattenGroup, changeGroupQuantifier, addAttribute, destroyAttribute, addDocument, addElement, destroyElement, setAttribute, destroyAttributeRow, setText, after}
+use Rattle.rules.specs.Change.{Call, createDefinition, destroyDefinition, insertElement, removeElement, changeQuantifier, convertToGroup, flattenGroup}
+use Rattle.rules.specs.Change.{changeGroupQuantifier, addAttribute, destroyAttribute, addDocument, addElement, destroyElement, setAttribute}
+use Rattle.rules.specs.Change.{destroyAttributeRow, setText, after}
 use Rattle.rules.specs.Refusal.{Condition, _if_, first, past, conditions, limits, refusal}
 use Rattle.rules.proofs.Words.{and-split}
 

@@ -17,7 +17,9 @@ use Rattle.rules.specs.Conforming.{nameOf, ContentRows, ElementRows, RowConform
 use Rattle.rules.specs.Filling.{attributeRow}
 use Rattle.rules.specs.Lines.{elementNamed, attributeNamed}
 use Rattle.rules.specs.Decode.{groupOf, sortOf}
-use Rattle.rules.specs.Change.{createDefinition, destroyDefinition, convertToGroup, flattenGroup, addAttribute, destroyAttribute, definitionAt, nameAtIndex, Owned, attributeAt, inModel, withAttributes, editFound, editAt, lacking, newAttribute, formAfter, Plan, keeping, taking, making, dropPlan, plan, changed, docsAfter}
+use Rattle.rules.specs.Change.{createDefinition, destroyDefinition, convertToGroup, flattenGroup, addAttribute, destroyAttribute, definitionAt, nameAtIndex}
+use Rattle.rules.specs.Change.{Owned, attributeAt, inModel, withAttributes, editFound, editAt, lacking, newAttribute, formAfter, Plan, keeping, taking, making}
+use Rattle.rules.specs.Change.{dropPlan, plan, changed, docsAfter}
 use Rattle.rules.specs.Passing.{GoodSerials}
 use Rattle.rules.proofs.Words.{and-both, and-split}
 use Rattle.rules.proofs.Letters.{letters}

@@ -11,7 +11,10 @@ use Rattle.rules.specs.Layout.{valueWidth, indexOf, flat}
 use Rattle.rules.specs.WellFormed.{definitionName, isThere, isValue, withinCeilings, wellFormed}
 use Rattle.rules.specs.Conforming.{everyRow, conforming}
 use Rattle.rules.specs.Lines.{elementNamed}
-use Rattle.rules.specs.Change.{Call, createDefinition, destroyDefinition, insertElement, removeElement, changeQuantifier, convertToGroup, flattenGroup, changeGroupQuantifier, addAttribute, destroyAttribute, addDocument, addElement, destroyElement, setAttribute, destroyAttributeRow, setText, nameAtIndex, Owned, attributeAt, update, inModel, withAttributes, editAt, lacking, newAttribute, formAfter, docsAfter, after}
+use Rattle.rules.specs.Change.{Call, createDefinition, destroyDefinition, insertElement, removeElement, changeQuantifier, convertToGroup, flattenGroup}
+use Rattle.rules.specs.Change.{changeGroupQuantifier, addAttribute, destroyAttribute, addDocument, addElement, destroyElement, setAttribute}
+use Rattle.rules.specs.Change.{destroyAttributeRow, setText, nameAtIndex, Owned, attributeAt, update, inModel, withAttributes, editAt, lacking, newAttribute}
+use Rattle.rules.specs.Change.{formAfter, docsAfter, after}
 use Rattle.rules.specs.Passing.{knownVersion, laidRow, GoodSerials, goodSerials, good}
 use Rattle.rules.specs.Refusal.{isOther, conditions, refusal}
 use Rattle.rules.proofs.Words.{and-split, or-split}

@@ -111,7 +111,8 @@ module _ (w : ℕ) (form : Form) (ok : wellFormed w form ≡ true) (d : Definiti
   module _ (ms : Members Bytes) (is : d .content ≡ complex ms) (e : Edit Bytes) (p : List ℕ) (f : Found Bytes) (found : placeOf e p ms ≡ some f) where
     pub filled-outside : Insertable form (d .name) e → (m : Bytes) → List·Memᴰ m (filled e (f .picked)) → Joins form (d .name) m
     filled-outside i m k =
-        ⊎-elim (λ o. o) (λ j. member-outside m (rw own-names (Memᴰ·append-right (beforePlace (f .context)) (Memᴰ·append-left (afterPlace (f .context)) j)))) (filled-from form (d .name) e (f .picked) i m k)
+        ⊎-elim (λ o. o) (λ j. member-outside m (rw own-names (Memᴰ·append-right (beforePlace (f .context)) (Memᴰ·append-left (afterPlace (f .context)) j))))
+        (filled-from form (d .name) e (f .picked) i m k)
       where
         own-names : names (members d) ≡ beforePlace (f .context) ++ (names (f .picked) ++ afterPlace (f .context))
         own-names = ap (λ (z : Content). names (modelOf z)) is ∙ sym (ap names (place-right e p ms f found)) ∙ names-plug (f .context) (f .picked)

@@ -140,7 +140,8 @@ module _ (version : ℕ) (form : Form) (ls : List Line) (owner txt : Bytes) (u :
         → childrenAfter (editPlan version form ls owner txt (insert q n) c t) u (front ++ back) ≡ front ++ childRows bytes nameOf (map elementRow) (insert q n) c t back
     unfolding childRows
     insert-rows q n t d =
-        after-split (editPlan version form ls owner txt (insert q n) c t) u (beforePlace c) front back refl (below .given) (λ x m. refl) (λ e. (front-later (beforePlace c) u, back-later (beforePlace c) u))
+        after-split (editPlan version form ls owner txt (insert q n) c t) u (beforePlace c) front back refl (below .given) (λ x m. refl)
+        (λ e. (front-later (beforePlace c) u, back-later (beforePlace c) u))
         ∙ ap (λ (z : List Row). front ++ z) (due-same _ (not (skips q) && spine c) (beforePlace c) _ (elementRow n ∷ []) _ back
         (and-named (not (skips q) && spine c) (elementNamed owner u) named) (filling-heads version (length form) form txt n d) (keep-all (λ r. true) back (λ x m. refl)))
 

@@ -17,7 +17,10 @@ use Rattle.rules.specs.Conforming.{isElement, isAttribute, isText, everyRow}
 use Rattle.rules.specs.Filling.{fillEach, fillDefinition}
 use Rattle.rules.specs.Lines.{Line, lines, isTextRow, elementNamed, attributeNamed, elementWith, childrenOf, serialAt}
 use Rattle.rules.specs.Decode.{quantifierOf}
-use Rattle.rules.specs.Change.{Call, createDefinition, destroyDefinition, insertElement, removeElement, changeQuantifier, convertToGroup, flattenGroup, changeGroupQuantifier, addAttribute, destroyAttribute, addDocument, addElement, destroyElement, setAttribute, destroyAttributeRow, setText, definitionAt, nameAtIndex, Owned, attributeAt, Plan, keeping, insertPlan, removePlan, groupFilling, quantifyPlan, pickedPlan, setAt, setPlan, dropPlan, plan, changed, docsAfter, after}
+use Rattle.rules.specs.Change.{Call, createDefinition, destroyDefinition, insertElement, removeElement, changeQuantifier, convertToGroup, flattenGroup}
+use Rattle.rules.specs.Change.{changeGroupQuantifier, addAttribute, destroyAttribute, addDocument, addElement, destroyElement, setAttribute}
+use Rattle.rules.specs.Change.{destroyAttributeRow, setText, definitionAt, nameAtIndex, Owned, attributeAt, Plan, keeping, insertPlan, removePlan, groupFilling}
+use Rattle.rules.specs.Change.{quantifyPlan, pickedPlan, setAt, setPlan, dropPlan, plan, changed, docsAfter, after}
 use Rattle.rules.specs.Passing.{laidRow, GoodSerials}
 use Rattle.rules.proofs.Words.{and-both, and-split}
 use Rattle.rules.proofs.WellFormedLaws.{definition-good}

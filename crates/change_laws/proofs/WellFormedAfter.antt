@@ -14,7 +14,10 @@ use Rattle.rules.specs.Store.{Content, empty, pcdata, complex, Attribute, Defin
 use Rattle.rules.specs.Layout.{valueWidth, indexOf}
 use Rattle.rules.specs.Decode.{quantifierOf, groupOf, contentOf, sortOf}
 use Rattle.rules.specs.WellFormed.{attributeName, givenName, storedName, isValue, isFill, isAttributeOf, isThere, known, reachesIn, Reaches, directly, through, GoodDefinition, wellFormed}
-use Rattle.rules.specs.Change.{Call, createDefinition, destroyDefinition, insertElement, removeElement, changeQuantifier, convertToGroup, flattenGroup, changeGroupQuantifier, addAttribute, destroyAttribute, addDocument, addElement, destroyElement, setAttribute, destroyAttributeRow, setText, definitionAt, nameAtIndex, Owned, attributeAt, update, inContent, inModel, withAttributes, editAt, editFound, editModel, lacking, dropOwned, newAttribute, formAfter}
+use Rattle.rules.specs.Change.{Call, createDefinition, destroyDefinition, insertElement, removeElement, changeQuantifier, convertToGroup, flattenGroup}
+use Rattle.rules.specs.Change.{changeGroupQuantifier, addAttribute, destroyAttribute, addDocument, addElement, destroyElement, setAttribute}
+use Rattle.rules.specs.Change.{destroyAttributeRow, setText, definitionAt, nameAtIndex, Owned, attributeAt, update, inContent, inModel, withAttributes, editAt}
+use Rattle.rules.specs.Change.{editFound, editModel, lacking, dropOwned, newAttribute, formAfter}
 use Rattle.rules.specs.Refusal.{past, wrongDefault, conditions, refusal}
 use Rattle.rules.proofs.Words.{and-both, or-split}
 use Rattle.rules.proofs.Children.{Sound}

@@ -36,7 +36,8 @@ pub record Answered (w : Bytes) (number len : ℕ) (left : Bytes) : Type 0 where
   pub number-is : eqb number 0 ≡ true
   pub holds : BufferHolds w len left
 
-pub answered : {call : Bytes → ℕ → Outcome} {s w store out left : Bytes} {number len : ℕ} → Gives call s w → Reads s store out → Answers (call store (length out)) out number len left → Answered w number len left
+pub answered : {call : Bytes → ℕ → Outcome} {s w store out left : Bytes} {number len : ℕ} → Gives call s w → Reads s store out
+    → Answers (call store (length out)) out number len left → Answered w number len left
 answered {call} {s} {w} {store} {out} {left} {number} {len} g r a =
     let o : call store (length out) ≡ wrote w = ap₂ (λ (b : Bytes) (k : ℕ). call b k) (r .store-is) (r .room) ∙ g .writes in
     let x : Writes w out number len left = written o a in

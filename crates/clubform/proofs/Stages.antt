@@ -48,7 +48,9 @@ pub record Accepted : Type 0 where
   pub next-is : numberAt 4 4 (stage 13) ≡ 9
 
 pub accepted : Accepted
-unfolding valueWidth names nothing filling member full distinct facts continues accepts plug kindAt spine beforePlace around afterMembers find _⊕_ edited place placeOf goodDefinition wellFormed strip fitsRow conforming goodSerials good fillAttributes fillEach fillContent fillWithin findRow childrenOf attributeAt formAfter plan prune eachRow plant newRows given number after conditions refusal confirm outcome printed printOutcome step run history stage lastText
+unfolding valueWidth names nothing filling member full distinct facts continues accepts plug kindAt spine beforePlace around afterMembers find _⊕_ edited place
+    placeOf goodDefinition wellFormed strip fitsRow conforming goodSerials good fillAttributes fillEach fillContent fillWithin findRow childrenOf attributeAt
+    formAfter plan prune eachRow plant newRows given number after conditions refusal confirm outcome printed printOutcome step run history stage lastText
 accepted =
     record {
       create-race = record { writes = refl; fits = refl };

@@ -45,7 +45,8 @@ pub tail-sets : (l ys w : List ℕ) (at : ℕ) → at ≤ length l → ys ≡ se
 tail-sets l ys w at h e = tail-back l ys at ∙ rw (e, tail-seen l at) (sets-tail l w at h)
 
 -- .. where the callee copied w, which has room there, to its front
-pub tail-copied : (l ys w : List ℕ) (at : ℕ) → at + length w ≤ length l → ys ≡ w ++ drop (length w) (take (length l - at) (drop at l)) → take at l ++ (ys ++ drop (length l - at) (drop at l)) ≡ sets l at w
+pub tail-copied : (l ys w : List ℕ) (at : ℕ) → at + length w ≤ length l → ys ≡ w ++ drop (length w) (take (length l - at) (drop at l))
+    → take at l ++ (ys ++ drop (length l - at) (drop at l)) ≡ sets l at w
 tail-copied l ys w at h e =
     let room : 0 + length w ≤ length (take (length l - at) (drop at l)) = rw (tail-seen l at) (omega (arith, length-drop at l)) in
     tail-sets l ys w at (omega arith) (e ∙ sym (sets-eq w (take (length l - at) (drop at l)) 0 room ∙ rw zero-add))

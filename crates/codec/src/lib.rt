@@ -117,7 +117,8 @@ pub fn lay(src: &[u8], out: &mut [u8])
     }
 }
 
-// The writers below write as far as out goes and say where the next bytes go, so that writing into an empty buffer measures.
+// The writers below write as far as out goes and say where the next
+// bytes go, so that writing into an empty buffer measures.
 
 /// Writes src from `at` on. The free tail of out is lent on.
 pub fn put(src: &[u8], out: &mut [u8], at: usize) -> usize

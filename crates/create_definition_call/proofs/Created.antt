@@ -33,7 +33,12 @@ unmoved-particle : (x : Deep FlatParticle) → movedParticle stays x ≡ x
 unfolding movedParticle
 unmoved-particle x = by (eqb (x .row .sort) 0)
   where
-    by : (b : Bool) → record { depth = x .depth; row = record { sort = x .row .sort; quantifier = x .row .quantifier; index = elim b as (λ z. ℕ) [ true ↦ x .row .index | false ↦ x .row .index ] } } ≡ x
+    by : (b : Bool)
+        → record {
+          depth = x .depth;
+          row = record { sort = x .row .sort; quantifier = x .row .quantifier; index = elim b as (λ z. ℕ) [ true ↦ x .row .index | false ↦ x .row .index ] };
+        }
+        ≡ x
     by true = refl
     by false = refl
 
@@ -41,7 +46,17 @@ unmoved-row : (x : Deep FlatRow) → movedRow stays stays x ≡ x
 unfolding movedRow
 unmoved-row x = by (eqb (x .row .sort) 1) (eqb (x .row .sort) 2)
   where
-    by : (b c : Bool) → record { depth = x .depth; row = record { sort = x .row .sort; index = elim b as (λ z. ℕ) [ true ↦ x .row .index | false ↦ elim c as (λ z. ℕ) [ true ↦ x .row .index | false ↦ x .row .index ] ]; serial = x .row .serial; value = x .row .value } } ≡ x
+    by : (b c : Bool)
+        → record {
+          depth = x .depth;
+          row = record {
+            sort = x .row .sort;
+            index = elim b as (λ z. ℕ) [ true ↦ x .row .index | false ↦ elim c as (λ z. ℕ) [ true ↦ x .row .index | false ↦ x .row .index ] ];
+            serial = x .row .serial;
+            value = x .row .value;
+          };
+        }
+        ≡ x
     by true c = refl
     by false true = refl
     by false false = refl
@@ -104,7 +119,8 @@ module _ (n : Bytes) (k : ℕ) (low : k ≤ 2) where
     parts = good-parts s g
 
     names-ok : Every (λ d. (m : Bytes) → List·Memᴰ m (names (members d)) → Ok m) form
-    names-ok = every-map (λ d. all (known form) (names (members d)) ≡ true) (λ d. (m : Bytes) → List·Memᴰ m (names (members d)) → Ok m) form (λ d e m i. all-in (known form) m (names (members d)) e i) (good-known s g)
+    names-ok = every-map (λ d. all (known form) (names (members d)) ≡ true) (λ d. (m : Bytes) → List·Memᴰ m (names (members d)) → Ok m) form
+        (λ d e m i. all-in (known form) m (names (members d)) e i) (good-known s g)
 
     elements : (m : Bytes) → Ok m → indexOf m grown ≡ stays (indexOf m form)
     elements m e = index-old m form (added ∷ []) e
@@ -115,7 +131,9 @@ module _ (n : Bytes) (k : ℕ) (low : k ≤ 2) where
         ∙ ap₂ (λ (x : List FlatDefinition) (y : FlatDefinition). x ++ y ∷ []) (moved-definitions form grown stays Ok elements form names-ok) (flat-added grown .1)
 
     particles-are : allParticles grown grown ≡ allParticles form form
-    particles-are = particles-more grown form added (flat-added grown .0) ∙ moved-models form grown stays Ok elements form names-ok ∙ map-same (movedParticle stays) unmoved-particle (allParticles form form)
+    particles-are =
+        particles-more grown form added (flat-added grown .0) ∙ moved-models form grown stays Ok elements form names-ok
+        ∙ map-same (movedParticle stays) unmoved-particle (allParticles form form)
 
     rows-are : flat (record { version = s .version; next = s .next; form = grown; docs = s .docs }) .rows ≡ flat s .rows
     rows-are =

@@ -181,7 +181,8 @@ module _ (bs : Bytes) (p : passes bs ≡ true) (i : ℕ) (h : i < definitionCoun
       let n : ℕ = attributesUpTo (suc i) (f .attributes) - attributesUpTo i (f .attributes) in
       omega (arith, length-map (cutOut a n (f .attributes)) (movedAttribute (lowered (suc i) 1)), cut-most a n (f .attributes), x .fewAttributes)
 
-  pub header-left : {d m n : ℕ} {out out₁ : Bytes} {at : ℕ} → Number (definitionCount bs) d → CountWithin (length (destroyed i f .particles)) 256 m → CountWithin (length (destroyed i f .attributes)) 64 n
+  pub header-left : {d m n : ℕ} {out out₁ : Bytes} {at : ℕ} → Number (definitionCount bs) d → CountWithin (length (destroyed i f .particles)) 256 m
+      → CountWithin (length (destroyed i f .attributes)) 64 n
       → Laid (headed (widthOf bs) (numberAt 4 4 bs) (d - 1) m n (rowCount bs) bs) out 0 at out₁ → Laid (headerLeft i bs) out 0 at out₁
   header-left ed em en l =
       laid-as (λ j. headed (widthOf bs) (numberAt 4 4 bs) ((definitions-left ∙ ap (λ (k : ℕ). k - 1) (sym (ed .value))) j) (sym (em .is) j) (sym (en .is) j) (rows-left j) bs) l

@@ -10,7 +10,8 @@ use Rattle.rules.specs.Bytes.{Bytes}
 use Rattle.rules.specs.Model.{Members, done, el, group, names}
 use Rattle.rules.specs.Store.{Content, empty, pcdata, complex, Definition, Form, RowSort, element, attribute, text, Row, Forest, bare, tree, modelOf, members, heads}
 use Rattle.rules.specs.Preorder.{Deep, flatten}
-use Rattle.rules.specs.Layout.{FlatDefinition, FlatParticle, FlatRow, indexOf, attributeIndex, particles, contentParticles, flatDefinition, allParticles, rowCode, rowIndex, indexed, quantifierCode, groupCode, kindCode, howMany}
+use Rattle.rules.specs.Layout.{FlatDefinition, FlatParticle, FlatRow, indexOf, attributeIndex, particles, contentParticles, flatDefinition, allParticles}
+use Rattle.rules.specs.Layout.{rowCode, rowIndex, indexed, quantifierCode, groupCode, kindCode, howMany}
 use Rattle.rules.specs.Conforming.{EveryRow, isElement}
 use Rattle.rules.proofs.BooleanLaws.{Every, every-in}
 use Rattle.definition_writer.specs.Bodies.{rowMoved, movedRow, movedParticle}

@@ -8,7 +8,8 @@ ghost use Rattle.model.specs.Members.{particlesOf};
 ghost use Rattle.model_writer.specs.Writing.{editOf, shift, depthsWithin};
 ghost use Rattle.model_writer.specs.PartAfter.{moved, partAfter};
 
-// Whether no particle is deeper than 4 once those of the first n members of depth d, and the deeper ones before them, are one deeper.
+// Whether no particle is deeper than 4 once those of the first n members of
+// depth d, and the deeper ones before them, are one deeper.
 fn moved_within(ys: &[u8], d: usize, n: usize) -> bool
     requires { ⌜ depthsWithin (particlesOf (now ys)) ≡ true ⌝ }
     ensures { λ r. ⌜ r ≡ depthsWithin (moved (shift true) d n (particlesOf (now (ys .entry)))) ⌝ }

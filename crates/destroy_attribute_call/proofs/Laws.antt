@@ -48,7 +48,10 @@ module _ (bs : Bytes) {b : Bool} {m : ℕ} (h : not b ≡ false) (e : b ≡ pass
   droppable a f z =
       let (there, end) = none-holds (destroyAttribute a) (storeIn bs) (sym f ∙ z) in
       let w : Whole bs = whole bs (passed bs h e) in
-      let l : a < attributeCount bs = ⊎-elim (λ (x : a < attributeCount bs). x) (λ (x : attributeCount bs ≤ a). absurd (false≢true (sym there ∙ ap (λ (o : Option Owned). isOther o none) (unowned bs w a x)))) (below-or a (attributeCount bs)) in
+      let l : a < attributeCount bs =
+      ⊎-elim (λ (x : a < attributeCount bs). x)
+      (λ (x : attributeCount bs ≤ a). absurd (false≢true (sym there ∙ ap (λ (o : Option Owned). isOther o none) (unowned bs w a x))))
+      (below-or a (attributeCount bs)) in
       record { passes = passed bs h e; inside = omega (arith, counted-attributes bs); small = omega (arith, w .fewAttributes) }
 
 module _ (bs : Bytes) (q : passes bs ≡ true) where
@@ -61,7 +64,8 @@ module _ (bs : Bytes) (a : ℕ) (x : Droppable bs a) where
   stays : Holds bs
   stays = holds bs (x .passes)
 
-  module _ {d p count o r : ℕ} {q : Plan} {buffer left : Bytes} (cd : Number (definitionCount bs) d) (cp : Number (particleCount bs) p) (ca : Number (attributeCount bs) count) (own : o ≡ ownerAt a (bodiesOf bs .attributes)) (same : q ≡ destroyAttributePlan o a)
+  module _ {d p count o r : ℕ} {q : Plan} {buffer left : Bytes} (cd : Number (definitionCount bs) d) (cp : Number (particleCount bs) p)
+      (ca : Number (attributeCount bs) count) (own : o ≡ ownerAt a (bodiesOf bs .attributes)) (same : q ≡ destroyAttributePlan o a)
       (long : length buffer ≡ 9728) (y : Laid (formBytes (widthOf bs) (attributeDropped a (bodiesOf bs))) buffer 0 r left) where
     without-bytes : {form : Bytes} → form ≡ formBytes (widthOf bs) (attributeDropped a (bodiesOf bs)) → FormOf (widthOf bs) (attributeDropped a (bodiesOf bs)) form d p (count - 1)
     without-bytes e =

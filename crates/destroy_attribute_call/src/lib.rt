@@ -1,4 +1,5 @@
-//! Change 10: an attribute destroyed. The call is the check, the first refusal that applies, the new form and the plan of the change.
+//! Change 10: an attribute destroyed. The call is the check, the first refusal
+//! that applies, the new form and the plan of the change.
 use store_writer::Answer;
 ghost use mathlib.Core.Path.{_≡_};
 ghost use mathlib.Core.List.{[]};
@@ -11,7 +12,8 @@ ghost use Rattle.plans.specs.AttributeCalls.{ownerAt};
 ghost use Rattle.attribute_writer.specs.Attributes.{Droppable};
 ghost use Rattle.destroy_attribute_call.specs.Dropped.{dropped};
 
-// The bytes of a form at its ceilings and of the widest values: 64 definitions, 256 particles, 64 attributes of 116 bytes.
+// The bytes of a form at its ceilings and of the widest values: 64
+// definitions, 256 particles, 64 attributes of 116 bytes.
 const MOST_FORM: usize = 9728;
 
 fn owner_of(store: &[u8], attribute: usize) -> usize

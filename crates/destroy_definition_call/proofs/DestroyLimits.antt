@@ -35,7 +35,8 @@ all-moved : {A : Type 0} (t : A → Bool) (m : A → A) → ((x : A) → t (m x)
 unfolding cutOut
 all-moved t m e a n xs h =
     all-map t m e (take a xs ++ drop (a + n) xs)
-    ∙ all-append t (take a xs) (drop (a + n) xs) (all-left t (take a xs) (drop a xs) (ap (all t) (take-append-drop a xs) ∙ h)) (all-right t (take (a + n) xs) (drop (a + n) xs) (ap (all t) (take-append-drop (a + n) xs) ∙ h))
+    ∙ all-append t (take a xs) (drop (a + n) xs) (all-left t (take a xs) (drop a xs) (ap (all t) (take-append-drop a xs) ∙ h))
+    (all-right t (take (a + n) xs) (drop (a + n) xs) (ap (all t) (take-append-drop (a + n) xs) ∙ h))
 
 module _ (bs : Bytes) (p : passes bs ≡ true) (i : ℕ) (h : i < definitionCount bs) where
   abbrev f : FlatStore
@@ -46,10 +47,12 @@ module _ (bs : Bytes) (p : passes bs ≡ true) (i : ℕ) (h : i < definitionCoun
 
   kept-deep : all (λ (q : Deep FlatParticle). leb (q .depth) 4) (destroyed i f .particles) ≡ true
   unfolding destroyed movedParticle
-  kept-deep = all-moved (λ (q : Deep FlatParticle). leb (q .depth) 4) (movedParticle (lowered (suc i) 1)) (λ q. refl) (particlesUpTo i (f .definitions)) (particlesUpTo (suc i) (f .definitions) - particlesUpTo i (f .definitions)) (f .particles) deep
+  kept-deep = all-moved (λ (q : Deep FlatParticle). leb (q .depth) 4) (movedParticle (lowered (suc i) 1)) (λ q. refl) (particlesUpTo i (f .definitions))
+      (particlesUpTo (suc i) (f .definitions) - particlesUpTo i (f .definitions)) (f .particles) deep
     where
       deep : all (λ (q : Deep FlatParticle). leb (q .depth) 4) (f .particles) ≡ true
-      deep = and-split (all (λ (q : Deep FlatParticle). leb (q .depth) 4) (f .particles)) _ (and-split (leb (length (f .particles)) 256) _ (and-split (leb (length (f .definitions)) 64) _ (x .ceilings) .1) .1) .0
+      deep = and-split (all (λ (q : Deep FlatParticle). leb (q .depth) 4) (f .particles)) _
+          (and-split (leb (length (f .particles)) 256) _ (and-split (leb (length (f .definitions)) 64) _ (x .ceilings) .1) .1) .0
 
   -- m, n: how many particles and attributes are left
   module _ (m n : ℕ) (cm : CountWithin (length (destroyed i f .particles)) 256 m) (cn : CountWithin (length (destroyed i f .attributes)) 64 n) (room : ℕ) where
@@ -58,7 +61,8 @@ module _ (bs : Bytes) (p : passes bs ≡ true) (i : ℕ) (h : i < definitionCoun
         and-both (le-leb (length (destroyed i f .definitions)) 64 (omega (arith, definitions-left bs p i h, x .definitions, x .fewDefinitions)))
         (and-both (le-leb (length (destroyed i f .particles)) 256 (omega (arith, cm .is, cm .most)))
         (and-both kept-deep
-        (and-both (le-leb (length (destroyed i f .attributes)) 64 (omega (arith, cn .is, cn .most))) (le-leb (length (destroyed i f .rows)) 4096 (omega (arith, rows-left bs p i h, x .rows, x .fewRows))))))
+        (and-both (le-leb (length (destroyed i f .attributes)) 64 (omega (arith, cn .is, cn .most)))
+        (le-leb (length (destroyed i f .rows)) 4096 (omega (arith, rows-left bs p i h, x .rows, x .fewRows))))))
 
     next-left : destroyed i f .next ≤ highestNumber
     unfolding destroyed

@@ -214,7 +214,8 @@ module _ (bs : Bytes) (w : Whole bs) (a : ℕ) where
     refused-other l f h = let (o, at) = owned bs w a l in refused (gives-hit (unknown-is o at f ∙ ap not (not-mine o at f h)))
 
     pub refused-not : {i : ℕ} → a < attributeCount bs → Element bs k i → attributeIn (widthOf bs) (attributesIn bs) a .owner ≡ rowIn bs i .row .index → AttributeRefused k a (storeIn bs) 0
-    refused-not l f h = let (o, at) = owned bs w a l in refused (gives-next (unknown-is o at f ∙ ap not (bytes .same← (o .owner .name) (f .row .name) (mine o at f h))) (gives-next (f .there) gives-none))
+    refused-not l f h = let (o, at) = owned bs w a l in
+        refused (gives-next (unknown-is o at f ∙ ap not (bytes .same← (o .owner .name) (f .row .name) (mine o at f h))) (gives-next (f .there) gives-none))
 
     -- ---- none of them holds
     module _ {n : ℕ} (x : AttributeRefused k a (storeIn bs) n) (h : n ≡ 0) where

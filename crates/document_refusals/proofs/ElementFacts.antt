@@ -93,7 +93,9 @@ pub record Element (bs : Bytes) (k i : ℕ) : Type 0 where
   pub found : findRow (elementWith k) (rowsOf (storeIn bs)) ≡ some row
   pub there : noElement k (storeIn bs) ≡ false
   pub here : rowAt (widthOf bs) (treeRowsIn bs) i ≡ record { depth = depth; row = rowWritten (formIn bs) owner row }
-  pub children-are : (s : ℕ) → children s (suc depth) (rowsFrom (widthOf bs) (treeRowsIn bs) (rowCount bs) (i + 1)) ≡ map (rowWritten (formIn bs) (row .name)) (keep (ofSort (formIn bs) s) (heads below))
+  pub children-are : (s : ℕ)
+      → children s (suc depth) (rowsFrom (widthOf bs) (treeRowsIn bs) (rowCount bs) (i + 1))
+      ≡ map (rowWritten (formIn bs) (row .name)) (keep (ofSort (formIn bs) s) (heads below))
 
 pub record NoElement (bs : Bytes) (k : ℕ) : Type 0 where
   pub found : findRow (elementWith k) (rowsOf (storeIn bs)) ≡ none

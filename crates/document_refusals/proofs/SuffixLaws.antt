@@ -94,7 +94,8 @@ module _ (w s d : ℕ) (rows : Bytes) (count start i : ℕ) (t : Stepping w s d 
         onward = omega (arith, t .onward);
       }
 
-  pub step-hit : i < count → d ≤ rowAt w rows i .depth → (eqb (rowAt w rows i .depth) d && eqb (rowAt w rows i .row .sort) s) ≡ true → Begins w rows count i (nextChild s d (rowsFrom w rows count start))
+  pub step-hit : i < count → d ≤ rowAt w rows i .depth → (eqb (rowAt w rows i .depth) d && eqb (rowAt w rows i .row .sort) s) ≡ true
+      → Begins w rows count i (nextChild s d (rowsFrom w rows count start))
   step-hit h l e =
       record {
         from = from-step readRow (rowSize w) rows count i h

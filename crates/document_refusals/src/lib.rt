@@ -18,7 +18,9 @@ ghost use Rattle.plans.specs.CallPlans.{attributeSerial};
 ghost use Rattle.model.specs.Members.{allMembers};
 ghost use Rattle.model.specs.Steps.{steps, finishes, runs};
 ghost use Rattle.next_children.specs.Line.{NextsLine};
-ghost use Rattle.document_refusals.specs.Finding.{Begins, ElementRowAt, ParentAt, AttributeRefused, RowOf, childrenAt, definitionKindAt, modelAt, fitsAt, hasPlace, Child, children, elementRowWith, isThis, isParent, seek, serialIn, serialOfIndex, newName, keptName, word, NamesStepped};
+ghost use Rattle.document_refusals.specs.Finding.{Begins, ElementRowAt, ParentAt, AttributeRefused, RowOf, childrenAt, definitionKindAt, modelAt, fitsAt};
+ghost use Rattle.document_refusals.specs.Finding.{hasPlace, Child, children, elementRowWith, isThis, isParent, seek, serialIn, serialOfIndex, newName};
+ghost use Rattle.document_refusals.specs.Finding.{keptName, word, NamesStepped};
 ghost use Rattle.lookup.specs.Bodies.{rowsFrom};
 
 // Whether a row is the element row with a serial.

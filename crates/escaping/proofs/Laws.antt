@@ -68,10 +68,15 @@ pub record Escaping (v out₀ : Bytes) (at₀ : ℕ) (out : Bytes) (at i : ℕ) 
   pub inside : i ≤ length v
   pub long : length out ≡ length out₀
 
-pub escaping-on : (v : Bytes) {out₀ : Bytes} {at₀ : ℕ} {out : Bytes} {at i : ℕ} {at′ : ℕ} {out′ : Bytes} (x : ℕ) → Escaping v out₀ at₀ out at i → i < length v → x ≡ getD v i 0 → Laid (escapeByte x) out at at′ out′ → Escaping v out₀ at₀ out′ at′ (i + 1)
+pub escaping-on : (v : Bytes) {out₀ : Bytes} {at₀ : ℕ} {out : Bytes} {at i : ℕ} {at′ : ℕ} {out′ : Bytes} (x : ℕ) → Escaping v out₀ at₀ out at i → i < length v
+    → x ≡ getD v i 0 → Laid (escapeByte x) out at at′ out′ → Escaping v out₀ at₀ out′ at′ (i + 1)
 escaping-on v {i = i} x s h e l =
     record {
-      goes = λ r o m. s .goes r o (laid-as (ap escape (drop-cons v i 0 h) ∙ ap (λ (z : ℕ). escapeByte z ++ escape (drop (suc i) v)) (sym e) ∙ ap (λ (k : ℕ). escapeByte x ++ escape (drop k v)) (sym (add-one i))) (laid-then l m));
+      goes = λ r o m. s .goes r o
+          (laid-as
+          (ap escape (drop-cons v i 0 h) ∙ ap (λ (z : ℕ). escapeByte z ++ escape (drop (suc i) v)) (sym e)
+          ∙ ap (λ (k : ℕ). escapeByte x ++ escape (drop k v)) (sym (add-one i)))
+          (laid-then l m));
       small = omega (arith, s .small, l .next, escape-one x);
       inside = omega arith;
       long = laid-long l ∙ s .long;

@@ -6,7 +6,8 @@ ghost use Rattle.rules.specs.Bytes.{same, any};
 ghost use Rattle.rules.specs.Layout.{definitionSize, particleSize, attributeSize};
 ghost use Rattle.layout.specs.Bodies.{Width};
 ghost use Rattle.form_check.specs.FormTests.{clashes, definitionsApart, modelFits, modelsFit, ownersRise, attributesApart, bodiesFit};
-ghost use Rattle.form_check.specs.Bodies.{Body, definitionRecordAt, particleRecordAt, attributeRecordAt, definitions, particlesRead, attributes, Bodies, formOfBodies, sameName, sameElement, countFits, countBeside, stands};
+ghost use Rattle.form_check.specs.Bodies.{Body, definitionRecordAt, particleRecordAt, attributeRecordAt, definitions, particlesRead, attributes, Bodies};
+ghost use Rattle.form_check.specs.Bodies.{formOfBodies, sameName, sameElement, countFits, countBeside, stands};
 
 // the sort of a particle that is an element; the others are groups
 const ELEMENT: usize = 0;

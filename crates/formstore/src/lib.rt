@@ -1,11 +1,13 @@
-//! The public calls, forwarded to the crates that hold them. Each stands beside an exported function of the same promise;
-//! include/formstore.h declares those.
+//! The public calls, forwarded to the crates that hold them. Each stands beside an exported function of the same
+//! promise; include/formstore.h declares those.
 pub use reading_calls::Found;
 pub use store_writer::Answer;
 ghost use mathlib.Core.Path.{_≡_};
 ghost use Rattle.rules.specs.Passing.{passes};
 ghost use Rattle.rules.specs.LookUp.{lookUp};
-ghost use Rattle.rules.specs.Change.{createDefinition, destroyDefinition, insertElement, removeElement, changeQuantifier, convertToGroup, flattenGroup, changeGroupQuantifier, addAttribute, destroyAttribute, addDocument, addElement, destroyElement, setAttribute, destroyAttributeRow, setText};
+ghost use Rattle.rules.specs.Change.{createDefinition, destroyDefinition, insertElement, removeElement, changeQuantifier, convertToGroup, flattenGroup};
+ghost use Rattle.rules.specs.Change.{changeGroupQuantifier, addAttribute, destroyAttribute, addDocument, addElement, destroyElement, setAttribute};
+ghost use Rattle.rules.specs.Change.{destroyAttributeRow, setText};
 ghost use Rattle.rules.specs.Outcome.{Promise, Answers};
 ghost use Rattle.rules.specs.Print.{printOutcome};
 ghost use lib.ListN.{length};
@@ -26,8 +28,8 @@ pub extern "C" fn formstore_check(store: &[u8]) -> u32
     reading_calls::check(store)
 }
 
-/// The part of the store that is the value of the attribute or text row with a serial, and 0; on a bad store 1, on any other
-/// serial 7, with an empty part.
+/// The part of the store that is the value of the attribute or text row with a serial, and 0; on a bad store 1, on any
+/// other serial 7, with an empty part.
 pub fn look_up<'a>(store: &'a [u8], serial: u32, number: &mut u32) -> &'a [u8]
     ensures { λ r. ⌜ Hands (lookUp (now (store .entry)) serial) (now (store .entry)) (now r) (now (number .exit)) ⌝ }
 {

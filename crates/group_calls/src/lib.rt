@@ -1,5 +1,5 @@
-//! Changes 6 and 7: members converted into a group, and a group flattened. Each call is the check, the first refusal that applies
-//! or the place, and an edit of the owner's model there; all rows stay.
+//! Changes 6 and 7: members converted into a group, and a group flattened. Each call is the check, the first refusal
+//! that applies or the place, and an edit of the owner's model there; all rows stay.
 use model_writer::Edit;
 use store_writer::Answer;
 ghost use mathlib.Core.Path.{_≡_};
@@ -16,7 +16,8 @@ pub fn convert_to_group(
     sort: u32,
     out: &mut [u8],
 ) -> Answer
-    ensures { λ r. ⌜ Answers (outcome (convertToGroup owner (now (place .entry)) count sort) (now (store .entry)) (length (now (out .entry)))) (now (out .entry)) (r .number) (r .length) (now (out .exit)) ⌝ }
+    ensures { λ r. ⌜ Answers (outcome (convertToGroup owner (now (place .entry)) count sort) (now (store .entry)) (length (now (out .entry)))) (now (out .entry))
+        (r .number) (r .length) (now (out .exit)) ⌝ }
 {
     if !store_check::passes(store) {
         return store_writer::refused(1);

@@ -86,7 +86,8 @@ pub fn convert_to_group_refusal(
     sort: u32,
 ) -> Located
     requires { ⌜ passes (now store) ≡ true ⌝ }
-    ensures { λ r. ⌜ (r .number ≡ first (conditions (convertToGroup owner (now (place .entry)) count sort) (storeIn (now (store .entry))))) × Finds (now (store .entry)) owner false (now (place .entry)) r ⌝ }
+    ensures { λ r. ⌜ (r .number ≡ first (conditions (convertToGroup owner (now (place .entry)) count sort) (storeIn (now (store .entry)))))
+        × Finds (now (store .entry)) owner false (now (place .entry)) r ⌝ }
 {
     if !((sort == 1) | (sort == 2)) {
         return model_places::refused(4);

@@ -46,7 +46,8 @@ fn is_sized(w: usize, store: &[u8]) -> bool
     store.len() == layout::through_rows(w, n, p, a, layout::row_count(store))
 }
 
-/// Whether a header stands at the front of a string: a known version, a next serial, counts and offsets that the length agrees with.
+/// Whether a header stands at the front of a string: a known version, a next
+/// serial, counts and offsets that the length agrees with.
 pub fn header_fits(w: usize, store: &[u8]) -> bool
     requires { ⌜ Width w ⌝ }
     ensures { λ r. ⌜ r ≡ headerFits w (now (store .entry)) ⌝ }

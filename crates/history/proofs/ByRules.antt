@@ -19,7 +19,10 @@ use Rattle.rules.specs.Decode.{quantifierOf}
 use Rattle.rules.specs.Conforming.{isElement}
 use Rattle.rules.specs.Passing.{good, Good}
 use Rattle.rules.specs.Lines.{Line, lines, ground, elementNamed, attributeNamed, elementWith, childrenOf}
-use Rattle.rules.specs.Change.{Call, createDefinition, destroyDefinition, insertElement, removeElement, changeQuantifier, convertToGroup, flattenGroup, changeGroupQuantifier, addAttribute, destroyAttribute, addDocument, addElement, destroyElement, setAttribute, destroyAttributeRow, setText, nameAtIndex, Owned, attributeAt, Plan, plan, insertPlan, removePlan, quantifyPlan, pickedPlan, setAt, setPlan, dropPlan, revalue, newRows}
+use Rattle.rules.specs.Change.{Call, createDefinition, destroyDefinition, insertElement, removeElement, changeQuantifier, convertToGroup, flattenGroup}
+use Rattle.rules.specs.Change.{changeGroupQuantifier, addAttribute, destroyAttribute, addDocument, addElement, destroyElement, setAttribute}
+use Rattle.rules.specs.Change.{destroyAttributeRow, setText, nameAtIndex, Owned, attributeAt, Plan, plan, insertPlan, removePlan, quantifyPlan, pickedPlan}
+use Rattle.rules.specs.Change.{setAt, setPlan, dropPlan, revalue, newRows}
 use Rattle.rules.specs.Refusal.{conditions, refusal, noElement}
 use Rattle.rules.specs.Book.{Entry, Book, untaken, expand, spotCount, marks, note}
 use Rattle.rules.specs.MadeTakenGiven.{HasLine, foundIn, OfElement, AtElement, IsCut, NamedBy, IsTaken, itself, beneath, valueIf, valueAfter, MakesBelow, rowsMade, linesMade}

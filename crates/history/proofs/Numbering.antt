@@ -21,7 +21,8 @@ use Rattle.rules.specs.Filling.{fillDefinition}
 use Rattle.rules.specs.Passing.{serials}
 use Rattle.rules.specs.Lines.{Line, lines, elementNamed, attributeNamed, elementWith, childrenOf}
 use Rattle.rules.specs.Change
-use Rattle.rules.specs.Change.{Call, definitionAt, nameAtIndex, Owned, attributeAt, Plan, insertPlan, removePlan, groupFilling, quantifyPlan, pickedPlan, setAt, setPlan, dropPlan, plan, isNew, newRows, given, number}
+use Rattle.rules.specs.Change.{Call, definitionAt, nameAtIndex, Owned, attributeAt, Plan, insertPlan, removePlan, groupFilling, quantifyPlan, pickedPlan, setAt}
+use Rattle.rules.specs.Change.{setPlan, dropPlan, plan, isNew, newRows, given, number}
 use Rattle.rules.proofs.FillingLaws.{every-each, filling-serials}
 use Rattle.history.specs.History.{serialOf}
 use Rattle.history.proofs.NumberTests.{ones, times, times-in, times-out, distinct-times, range, range-append, range-below, range-above, range-once}

@@ -16,7 +16,8 @@ use Rattle.rules.specs.Outcome.{outcome}
 use Rattle.rules.specs.Book.{Entry, stands, taken, untaken}
 use Rattle.rules.specs.Run.{Asked, isAccepted, Moment, step, run}
 use Rattle.rules.specs.MadeTakenGiven.{valueAfter, rowsMade, linesMade}
-use Rattle.history.specs.History.{rowsIn, serialOf, lineOf, entrySerials, everMade, takenSerials, serialsIn, SameLine, Keeps, none-left, made, kept, took, gone, entriesFrom, entriesBelow, ByTheRules, IsAccepted, MadeBy, TakenBy, SomeCall, withValue, lineAfter, lineThen}
+use Rattle.history.specs.History.{rowsIn, serialOf, lineOf, entrySerials, everMade, takenSerials, serialsIn, SameLine, Keeps, none-left, made, kept, took}
+use Rattle.history.specs.History.{gone, entriesFrom, entriesBelow, ByTheRules, IsAccepted, MadeBy, TakenBy, SomeCall, withValue, lineAfter, lineThen}
 use Rattle.history.proofs.Making.{standing, untaken-standing}
 use Rattle.history.proofs.Stable.{lineSerials, standing-serials, keeps-in, untaken-in}
 use Rattle.history.proofs.TakenLines.{line-serial, serial-line, either, not-both, distinct-untaken, same-serial}

@@ -70,7 +70,8 @@ insert-fits bs q o p i k t e =
           suits = refl;
         }
 
--- no condition holds: definition i with quantifier k goes to the place p of definition o's model, its filling has the text t
+-- no condition holds: definition i with quantifier k goes to the place p
+-- of definition o's model, its filling has the text t
 pub record Insertion (bs : Bytes) (o : ℕ) (p : List ℕ) (i k : ℕ) (t : Bytes) : Type 0 where
   pub fits : Fits bs o p (insert (quantifierOf k) (nameAtIndex i (storeIn bs .form)))
   pub text : isValue (widthOf bs) t ≡ true

@@ -1,5 +1,5 @@
-//! Change 3, which inserts an element into a model. The call is the check, the first refusal that applies or the place, and an edit
-//! of the owner's model there with the plan of the change.
+//! Change 3, which inserts an element into a model. The call is the check, the first refusal that applies or the place,
+//! and an edit of the owner's model there with the plan of the change.
 use model_writer::Edit;
 use row_walk::Plan;
 use store_writer::Answer;
@@ -40,7 +40,9 @@ pub fn insert_element(
     text: &[u8],
     out: &mut [u8],
 ) -> Answer
-    ensures { λ r. ⌜ Answers (outcome (insertElement owner (now (place .entry)) definition quantifier (now (text .entry))) (now (store .entry)) (length (now (out .entry)))) (now (out .entry)) (r .number) (r .length) (now (out .exit)) ⌝ }
+    ensures { λ r. ⌜ Answers
+        (outcome (insertElement owner (now (place .entry)) definition quantifier (now (text .entry))) (now (store .entry)) (length (now (out .entry))))
+        (now (out .entry)) (r .number) (r .length) (now (out .exit)) ⌝ }
 {
     if !store_check::passes(store) {
         return store_writer::refused(1);

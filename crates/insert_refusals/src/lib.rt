@@ -65,7 +65,9 @@ fn place_refusal(
     unfilled: bool,
 ) -> Located
     requires { ⌜ (passes (now store) ≡ true) × (o < definitionCount (now store)) × (i < definitionCount (now store)) ⌝ }
-    ensures { λ r. ⌜ (r .number ≡ first (placeConditions (foundBy true (now (place .entry)) (modelIn (now (store .entry)) o)) o i needed unfilled (storeIn (now (store .entry))))) × Finds (now (store .entry)) o true (now (place .entry)) r ⌝ }
+    ensures { λ r. ⌜ (r .number
+        ≡ first (placeConditions (foundBy true (now (place .entry)) (modelIn (now (store .entry)) o)) o i needed unfilled (storeIn (now (store .entry)))))
+        × Finds (now (store .entry)) o true (now (place .entry)) r ⌝ }
 {
     let found = place_lookup::find(model_places::own_part(store, o), place, true);
     match found {
@@ -95,7 +97,9 @@ pub fn insert_element_refusal(
     text: &[u8],
 ) -> Located
     requires { ⌜ passes (now store) ≡ true ⌝ }
-    ensures { λ r. ⌜ (r .number ≡ first (conditions (insertElement owner (now (place .entry)) definition quantifier (now (text .entry))) (storeIn (now (store .entry))))) × Finds (now (store .entry)) owner true (now (place .entry)) r ⌝ }
+    ensures { λ r. ⌜ (r .number
+        ≡ first (conditions (insertElement owner (now (place .entry)) definition quantifier (now (text .entry))) (storeIn (now (store .entry)))))
+        × Finds (now (store .entry)) owner true (now (place .entry)) r ⌝ }
 {
     let w = layout::width_in(store);
     if !records::is_value(w, text) {

@@ -32,7 +32,8 @@ pub place-as : (n : ℕ) {at r : ℕ} {out out′ : Bytes} {k next : ℕ} → Pl
 place-as n q l = laid-as (ap (λ (z : ℕ). entry z n) (sym (q .value))) l
 
 module _ (w d p a r : ℕ) {out out₁ out₂ out₃ out₄ : Bytes} {at at₁ at₂ at₃ at₄ : ℕ} where
-  pub contents-laid : Laid (entry headerSize d) out at at₁ out₁ → Laid (entry (headerSize + definitionSize * d) p) out₁ at₁ at₂ out₂ → Laid (entry (headerSize + definitionSize * d + particleSize * p) a) out₂ at₂ at₃ out₃
+  pub contents-laid : Laid (entry headerSize d) out at at₁ out₁ → Laid (entry (headerSize + definitionSize * d) p) out₁ at₁ at₂ out₂
+      → Laid (entry (headerSize + definitionSize * d + particleSize * p) a) out₂ at₂ at₃ out₃
       → Laid (entry (headerSize + definitionSize * d + particleSize * p + attributeSize w * a) r) out₃ at₃ at₄ out₄ → Laid (contents w d p a r) out at at₄ out₄
   unfolding contents
   contents-laid x y z u = laid-then x (laid-then y (laid-then z u))
@@ -41,7 +42,8 @@ pub headed-short : (w next d p a r : ℕ) (bs : Bytes) → length (headed w next
 unfolding headed contents
 headed-short w next d p a r bs = omega (arith, length-append (take 4 bs) (le 4 next ++ contents w d p a r), length-take 4 bs)
 
-pub header-laid : (w next d p a r : ℕ) (bs : Bytes) {v out out₁ out₂ out₃ : Bytes} {at₁ at₂ at₃ : ℕ} → v ≡ take 4 bs → Laid v out 0 at₁ out₁ → Laid (le 4 next) out₁ at₁ at₂ out₂ → Laid (contents w d p a r) out₂ at₂ at₃ out₃
+pub header-laid : (w next d p a r : ℕ) (bs : Bytes) {v out out₁ out₂ out₃ : Bytes} {at₁ at₂ at₃ : ℕ} → v ≡ take 4 bs → Laid v out 0 at₁ out₁
+    → Laid (le 4 next) out₁ at₁ at₂ out₂ → Laid (contents w d p a r) out₂ at₂ at₃ out₃
     → Laid (headed w next d p a r bs) out 0 at₃ out₃
 unfolding headed
 header-laid w next d p a r bs e x y z = laid-as (ap (λ (l : Bytes). l ++ (le 4 next ++ contents w d p a r)) (sym e)) (laid-then x (laid-then y z))

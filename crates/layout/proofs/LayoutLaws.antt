@@ -18,7 +18,8 @@ use Rattle.rules.proofs.DecodeLaws.{width-bound, width-most, good-flat}
 use Rattle.codec.proofs.Records.{many-at, many-within, drop-take}
 use Rattle.layout.specs.declared.Shape.{Shape}
 use Rattle.layout.specs.Fields.{rowUnusedAt, rowValueAt, unusedFit}
-use Rattle.layout.specs.Bodies.{windowOf, Product, recordAt, widthOf, WidthIn, Number, ShapeFits, shapeOf, ShapeOf, attributesStart, rowsStart, Place, definitionBody, particleBody, attributeBody, rowBody, attributeBytesIn}
+use Rattle.layout.specs.Bodies.{windowOf, Product, recordAt, widthOf, WidthIn, Number, ShapeFits, shapeOf, ShapeOf, attributesStart, rowsStart, Place}
+use Rattle.layout.specs.Bodies.{definitionBody, particleBody, attributeBody, rowBody, attributeBytesIn}
 
 -- ---- products
 pub product : (size n : ℕ) → size < 65536 → n < 4294967296 → Product size n (size * n)
@@ -99,7 +100,8 @@ unfolding unusedFit
 unused-of w bs x y z p q r = λ i. eqb (p i) 0 && (eqb (q i) 0 && eqb (r i) 0)
 
 -- ---- the shape
-pub shaped : {bs : Bytes} {v w d p a r : ℕ} → v ≡ numberAt 0 4 bs → w ≡ valueWidth v → Number (definitionCount bs) d → Number (particleCount bs) p → Number (attributeCount bs) a → Number (rowCount bs) r
+pub shaped : {bs : Bytes} {v w d p a r : ℕ} → v ≡ numberAt 0 4 bs → w ≡ valueWidth v → Number (definitionCount bs) d → Number (particleCount bs) p
+    → Number (attributeCount bs) a → Number (rowCount bs) r
     → ShapeOf bs (record { version = v; width = w; definitions = d; particles = p; attributes = a; rows = r })
 unfolding shapeOf widthOf
 shaped {v = v} e g d p a r =

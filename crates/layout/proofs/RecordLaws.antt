@@ -24,24 +24,29 @@ field-is (suc w) [] h = let e : suc w - 0 ≡ suc (w - 0) = omega arith in rw e 
 field-is (suc w) (x ∷ v) h = let e : suc w - suc (length v) ≡ w - length v = omega arith in rw e (ap (λ (l : Bytes). x ∷ l) (field-is w v (le-of-suc-le-suc h)))
 
 -- ---- records
-pub definition-laid : (name : Bytes) (kind particles : ℕ) {out out₁ out₂ out₃ : Bytes} {at at₁ at₂ at₃ : ℕ} → Laid (length name ∷ field nameWidth name) out at at₁ out₁ → Laid (kind ∷ []) out₁ at₁ at₂ out₂ → Laid (le 2 particles) out₂ at₂ at₃ out₃
+pub definition-laid : (name : Bytes) (kind particles : ℕ) {out out₁ out₂ out₃ : Bytes} {at at₁ at₂ at₃ : ℕ}
+    → Laid (length name ∷ field nameWidth name) out at at₁ out₁ → Laid (kind ∷ []) out₁ at₁ at₂ out₂ → Laid (le 2 particles) out₂ at₂ at₃ out₃
     → Laid (definitionBytes (definitionOf name kind particles)) out at at₃ out₃
 definition-laid name kind particles a b c = laid-then a (laid-then b c)
 
-pub value-laid : (w : ℕ) (value : Bytes) {out out₁ out₂ : Bytes} {at at₁ at₂ : ℕ} → Laid (length value ∷ []) out at at₁ out₁ → Laid (field w value) out₁ at₁ at₂ out₂ → Laid (length value ∷ field w value) out at at₂ out₂
+pub value-laid : (w : ℕ) (value : Bytes) {out out₁ out₂ : Bytes} {at at₁ at₂ : ℕ} → Laid (length value ∷ []) out at at₁ out₁
+    → Laid (field w value) out₁ at₁ at₂ out₂ → Laid (length value ∷ field w value) out at at₂ out₂
 value-laid w value a b = laid-then a b
 
-pub attribute-laid : (w owner : ℕ) (name : Bytes) (sort : ℕ) (value : Bytes) {out out₁ out₂ out₃ out₄ : Bytes} {at at₁ at₂ at₃ at₄ : ℕ} → Laid (owner ∷ []) out at at₁ out₁ → Laid (length name ∷ field nameWidth name) out₁ at₁ at₂ out₂
+pub attribute-laid : (w owner : ℕ) (name : Bytes) (sort : ℕ) (value : Bytes) {out out₁ out₂ out₃ out₄ : Bytes} {at at₁ at₂ at₃ at₄ : ℕ}
+    → Laid (owner ∷ []) out at at₁ out₁ → Laid (length name ∷ field nameWidth name) out₁ at₁ at₂ out₂
     → Laid (sort ∷ []) out₂ at₂ at₃ out₃ → Laid (length value ∷ field w value) out₃ at₃ at₄ out₄ → Laid (attributeBytes w (attributeOf owner name sort value)) out at at₄ out₄
 attribute-laid w owner name sort value a b c d = laid-then a (laid-then b (laid-then c d))
 
 -- ---- an old record
-pub indexed-laid : (rec : Bytes) (index depth : ℕ) {u out out₁ out₂ out₃ : Bytes} {at at₁ at₂ at₃ : ℕ} → depth ≡ readParticle rec .depth → u ≡ take 2 rec → Laid u out at at₁ out₁ → Laid (index ∷ []) out₁ at₁ at₂ out₂ → Laid (depth ∷ []) out₂ at₂ at₃ out₃
+pub indexed-laid : (rec : Bytes) (index depth : ℕ) {u out out₁ out₂ out₃ : Bytes} {at at₁ at₂ at₃ : ℕ} → depth ≡ readParticle rec .depth → u ≡ take 2 rec
+    → Laid u out at at₁ out₁ → Laid (index ∷ []) out₁ at₁ at₂ out₂ → Laid (depth ∷ []) out₂ at₂ at₃ out₃
     → Laid (indexedBytes index rec) out at at₃ out₃
 unfolding indexedBytes
 indexed-laid rec index depth e g a b c = laid-as (λ j. sym g j ++ (index ∷ sym e j ∷ [])) (laid-then a (laid-then b c))
 
-pub owned-laid : (w : ℕ) (rec : Bytes) (owner : ℕ) {u out out₁ out₂ : Bytes} {at at₁ at₂ : ℕ} → length rec ≤ attributeSize w → u ≡ windowOf 1 (20 + w) rec → Laid (owner ∷ []) out at at₁ out₁ → Laid u out₁ at₁ at₂ out₂
+pub owned-laid : (w : ℕ) (rec : Bytes) (owner : ℕ) {u out out₁ out₂ : Bytes} {at at₁ at₂ : ℕ} → length rec ≤ attributeSize w → u ≡ windowOf 1 (20 + w) rec
+    → Laid (owner ∷ []) out at at₁ out₁ → Laid u out₁ at₁ at₂ out₂
     → Laid (ownedBytes owner rec) out at at₂ out₂
 unfolding ownedBytes
 owned-laid w rec owner h g a b = laid-as (ap (λ (l : Bytes). owner ∷ l) (sym (g ∙ take-all (20 + w) (drop 1 rec) (omega (arith, length-drop 1 rec))))) (laid-then a b)

@@ -24,7 +24,8 @@ zeros-step out goal i n h inv =
     rw add-one (rw (e, add-one) at inv)
 
 -- .. and nothing is left where it, or the list, is at its end
-pub zeros-laid : (out out′ : List ℕ) (at n i : ℕ) → min (at + n) (length out′) ≤ i → sets out′ i (replicate (at + n - i) 0) ≡ sets out at (replicate (at + n - at) 0) → Laid (replicate n 0) out at (at + n) out′
+pub zeros-laid : (out out′ : List ℕ) (at n i : ℕ) → min (at + n) (length out′) ≤ i
+    → sets out′ i (replicate (at + n - i) 0) ≡ sets out at (replicate (at + n - at) 0) → Laid (replicate n 0) out at (at + n) out′
 zeros-laid out out′ at n i h inv =
     let e : at + n - at ≡ n = omega arith in
     record { next = ap (λ (k : ℕ). at + k) (sym (length-replicate n 0)); stored = by (at + n - i) refl ∙ ap (λ (k : ℕ). sets out at (replicate k 0)) e }
@@ -107,7 +108,8 @@ module _ {w : ℕ} {row : Bytes} (o : WholeRow w row) where
             ap (λ (s : Bytes). (take 2 s ++ le 2 index) ++ drop 4 s) (o .written)
             ∙ ap (λ (s : Bytes). (take 2 row ++ le 2 index) ++ s) (sym (take-all (12 + w - 4) (drop 4 row) (omega (arith, length-drop 4 row, row-length))))
 
-    pub valued-laid : (value : Bytes) {b r : ℕ} {out₂ out′ : Bytes} → Laid (take 4 (drop 4 row)) out₁ a b out₂ → Laid (rowEnd w value) out₂ b r out′ → RowLaid w (valuedRow index value row) out at r out′
+    pub valued-laid : (value : Bytes) {b r : ℕ} {out₂ out′ : Bytes} → Laid (take 4 (drop 4 row)) out₁ a b out₂ → Laid (rowEnd w value) out₂ b r out′
+        → RowLaid w (valuedRow index value row) out at r out′
     valued-laid value q s = laid-row {w = w} {x = valuedRow index value row} (laid-as bytes (laid-then (laid-then p q) s))
       where
         bytes : rowBytes w (valuedRow index value row) ≡ ((take 2 row ++ le 2 index) ++ take 4 (drop 4 row)) ++ rowEnd w value

@@ -1,4 +1,5 @@
--- Where the numbers of the header stand, where the fields of a record stand in its bytes, and the bytes that are no field.
+-- Where the numbers of the header stand, where the fields of a record
+-- stand in its bytes, and the bytes that are no field.
 use Prim.Native.Nat.{ℕ, _+_}
 use mathlib.Core.Bool.{Bool, _&&_}
 use lib.Dec.{eqb}

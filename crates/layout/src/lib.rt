@@ -1,4 +1,5 @@
-// The layout of a store, said once for every width of a value: its shape, its bodies, the records of a body, the fields of a record.
+// The layout of a store, said once for every width of a value: its shape,
+// its bodies, the records of a body, the fields of a record.
 ghost use mathlib.Core.Path.{_≡_};
 ghost use Prim.Native.Nat.{_+_, _*_, _<_};
 ghost use lib.ListN.{take, drop};
@@ -6,7 +7,9 @@ ghost use Rattle.rules.specs.Layout.{valueWidth, headerSize, definitionSize, pa
 ghost use Rattle.rules.specs.Decode.{numberAt, readDefinition, readParticle, readAttribute, readRow, definitionCount, particleCount, attributeCount, rowCount};
 ghost use Rattle.codec.specs.Part.{partOf};
 ghost use Rattle.layout.specs.Fields.{attributeLength, rowLength, unusedFit};
-ghost use Rattle.layout.specs.Bodies.{Width, windowOf, Product, recordAt, Number, WidthIn, ShapeFits, ShapeOf, attributesStart, rowsStart, Place, definitionBody, particleBody, attributeBody, rowBody, definitionsIn, particlesIn, attributesIn, treeRowsIn, attributeBytesIn, ValueAt};
+ghost use Rattle.layout.specs.Bodies.{Width, windowOf, Product, recordAt, Number, WidthIn, ShapeFits, ShapeOf, attributesStart, rowsStart, Place};
+ghost use Rattle.layout.specs.Bodies.{definitionBody, particleBody, attributeBody, rowBody, definitionsIn, particlesIn, attributesIn, treeRowsIn};
+ghost use Rattle.layout.specs.Bodies.{attributeBytesIn, ValueAt};
 
 pub const HEADER_SIZE: usize = 40;
 
@@ -16,7 +19,8 @@ pub const PARTICLE_SIZE: usize = 4;
 
 pub const NAME_WIDTH: usize = 16;
 
-// Where a name's length stands in its record, right before the name; where the others stand that are not read by a call below.
+// Where a name's length stands in its record, right before the name;
+// where the others stand that are not read by a call below.
 
 pub const DEFINITION_NAME: usize = 0;
 

@@ -104,10 +104,17 @@ pub record Seeking (bs : Bytes) (k count i : ℕ) : Type 0 where
 
 pub seek-start : (bs : Bytes) (k count : ℕ) → count ≡ rowCount bs → Seeking bs k count 0
 unfolding bodiesOf fromRows
-seek-start bs k count e = record { counts = e; rest = ap (rowWith k 0) (from-all readRow (rowSize (widthOf bs)) (fromRows bs) count 0 ∙ ap (λ (n : ℕ). readMany readRow (rowSize (widthOf bs)) n (fromRows bs)) e) }
+seek-start bs k count e =
+    record {
+      counts = e;
+      rest = ap (rowWith k 0)
+          (from-all readRow (rowSize (widthOf bs)) (fromRows bs) count 0 ∙ ap (λ (n : ℕ). readMany readRow (rowSize (widthOf bs)) n (fromRows bs)) e);
+    }
 
 module _ (bs : Bytes) (k count i : ℕ) (s : Seeking bs k count i) where
-  step : i < count → rowWith k i (recordsFrom readRow (rowSize (widthOf bs)) (fromRows bs) count i) ≡ rowWith k i (readRow (rowPart bs i) ∷ recordsFrom readRow (rowSize (widthOf bs)) (fromRows bs) count (i + 1))
+  step : i < count
+      → rowWith k i (recordsFrom readRow (rowSize (widthOf bs)) (fromRows bs) count i)
+      ≡ rowWith k i (readRow (rowPart bs i) ∷ recordsFrom readRow (rowSize (widthOf bs)) (fromRows bs) count (i + 1))
   unfolding rowPart
   step h = ap (rowWith k i) (from-step readRow (rowSize (widthOf bs)) (fromRows bs) count i h)
 
@@ -177,7 +184,8 @@ row-first w t = let e : rowSize w * 0 ≡ 0 = omega arith in rw e
 
 row-next : (w : ℕ) (t : Bytes) (j : ℕ) → rowAt w (drop (rowSize w) t) j ≡ rowAt w t (suc j)
 unfolding rowAt
-row-next w t j = let e : rowSize w + rowSize w * j ≡ rowSize w * suc j = omega (arith, mul-suc (rowSize w) j) in ap (λ (l : Bytes). readRow (take (rowSize w) l) .row) (drop-drop ((rowSize w) * j) (rowSize w) t ∙ ap (λ (n : ℕ). drop n t) e)
+row-next w t j = let e : rowSize w + rowSize w * j ≡ rowSize w * suc j = omega (arith, mul-suc (rowSize w) j) in
+    ap (λ (l : Bytes). readRow (take (rowSize w) l) .row) (drop-drop ((rowSize w) * j) (rowSize w) t ∙ ap (λ (n : ℕ). drop n t) e)
 
 found-where : (w k i m : ℕ) (t : Bytes) (n : Numbered) → rowWith k i (readMany readRow (rowSize w) m t) ≡ some n → (j : ℕ) × (n .at ≡ i + j) × (n .row ≡ rowAt w t j)
 found-where w k i zero t n h = let z : _≡_ {A = ℕ} 0 1 = cc (row-none k i) in absurd (omega arith)
@@ -187,7 +195,8 @@ found-where w k i (suc m) t n h = by (eqb (readRow (take (rowSize w) t) .row .se
         → (rowWith k (i + 1) (readMany readRow (rowSize w) m (drop (rowSize w) t)) ≡ some n → (j : ℕ) × (n .at ≡ i + 1 + j) × (n .row ≡ rowAt w (drop (rowSize w) t) j))
         → (j : ℕ) × (n .at ≡ i + j) × (n .row ≡ rowAt w t j)
     by true e later =
-        let q : n ≡ record { at = i; row = readRow (take (rowSize w) t) .row } = some-same (sym h ∙ row-this k i (readRow (take (rowSize w) t)) (readMany readRow (rowSize w) m (drop (rowSize w) t)) (eqb-true _ _ e)) in
+        let q : n ≡ record { at = i; row = readRow (take (rowSize w) t) .row } =
+        some-same (sym h ∙ row-this k i (readRow (take (rowSize w) t)) (readMany readRow (rowSize w) m (drop (rowSize w) t)) (eqb-true _ _ e)) in
         (0, ap (λ (x : Numbered). x .at) q ∙ sym (add-zero i), ap (λ (x : Numbered). x .row) q ∙ row-first w t)
     by false e later =
         let (j, p, q) = later (sym (row-other k i (readRow (take (rowSize w) t)) (readMany readRow (rowSize w) m (drop (rowSize w) t)) (λ g. false≢true (sym e ∙ eq-eqb _ _ g))) ∙ h) in

@@ -75,7 +75,8 @@ module _ (h : Holder) (p : ℕ) (s : Bytes) (x : Particle) (l : particleSize * p
   pub enter-element : (i : ℕ) → x .what ≡ Element i → Outside ≡ enteredAt h (particlesOf s) (Member p)
   enter-element i w = rw (here, w)
 
-  pub enter-group : (k : GroupKind) (n size : ℕ) (b : Bool) → x .what ≡ Group k n → size ≡ spanOf (h .depth) (particlesOf (take (length s - particleSize * (p + 1)) (drop (particleSize * (p + 1)) s))) → b ≡ plain (x .quantifier) k
+  pub enter-group : (k : GroupKind) (n size : ℕ) (b : Bool) → x .what ≡ Group k n
+      → size ≡ spanOf (h .depth) (particlesOf (take (length s - particleSize * (p + 1)) (drop (particleSize * (p + 1)) s))) → b ≡ plain (x .quantifier) k
       → Inside (record { start = h .start + (p + 1); depth = h .depth + 1; kind = k; spine = h .spine && b }) (p + 1) size ≡ enteredAt h (particlesOf s) (Member p)
   enter-group k n size b w m c =
       let t : size ≡ spanOf (h .depth) (drop (p + 1) (particlesOf s)) = m ∙ rw (tail-seen s (particleSize * (p + 1)), particles-drop (p + 1) s (omega arith)) in

@@ -146,7 +146,8 @@ module _ (d : ℕ) (k : GroupKind) (x y : ℕ) (s : Bytes) where
         by zero = refl
         by (suc n) = refl
 
--- ---- the loop over members beside one another: f are the facts of those before t, so that with those from t on they are the whole's
+-- ---- the loop over members beside one another: f are the facts of those
+-- before t, so that with those from t on they are the whole's
 pub record Joining (k : GroupKind) (d x y : ℕ) (s t : Bytes) (f : Facts) : Type 0 where
   pub short : length t ≤ length s
   pub is : join k f (facts numbers k (membersFrom d t) x y) ≡ facts numbers k (membersFrom d s) x y

@@ -26,7 +26,8 @@ use Rattle.model.specs.declared.place.Found.{Found}
 use Rattle.model.specs.declared.place.Found.the-variants.{At, Absent}
 use Rattle.model.specs.Particle.{whatOf, particleOf}
 use Rattle.model.specs.Members.{indexMember, indexMembers, particlesOf, membersFrom, allMembers}
-use Rattle.model.specs.Places.{Particles, onward, ended, reach, spanOf, atMember, atGap, lastOf, enterGroup, noParticle, enteredAt, enteredOf, goOn, spotOf, top, placeIn, PlaceTold, told, shown, lastBy}
+use Rattle.model.specs.Places.{Particles, onward, ended, reach, spanOf, atMember, atGap, lastOf, enterGroup, noParticle, enteredAt, enteredOf, goOn}
+use Rattle.model.specs.Places.{spotOf, top, placeIn, PlaceTold, told, shown, lastBy}
 use Rattle.model.proofs.ParticleLaws.{Bounded, reach-bounded, span-bounded}
 
 -- the members of depth d that particles begin with
@@ -149,7 +150,9 @@ module _ (k : GroupKind) (b : Bool) (go : Members ℕ → Option (Spot ℕ)) (d 
     where
       by : (deeper : Bool) → ltb d (x .depth) ≡ deeper → (same : Bool) → eqb d (x .depth) ≡ same → Passes xs (told k b (afterMembers go (suc n) (membersIn d xs))) (reach d (suc n) xs)
           → Passes xs (told k b (afterMembers go n (membersIn d xs))) (reach d n xs) → Passes (x ∷ xs) (told k b (afterMembers go (suc n) (membersIn d (x ∷ xs)))) (reach d (suc n) (x ∷ xs))
-      by true e same f h g = passes-as (x ∷ xs) _ _ _ _ (ap (λ (ms : Members ℕ). told k b (afterMembers go (suc n) ms)) (in-deeper x xs d e)) (reach-deeper x xs d (suc n) e) (passes-on x xs _ (reach d (suc n) xs) h)
+      by true e same f h g =
+          passes-as (x ∷ xs) _ _ _ _ (ap (λ (ms : Members ℕ). told k b (afterMembers go (suc n) ms)) (in-deeper x xs d e)) (reach-deeper x xs d (suc n) e)
+          (passes-on x xs _ (reach d (suc n) xs) h)
       by false e true f h g =
           passes-as (x ∷ xs) _ _ _ _
           (ap (λ (ms : Members ℕ). told k b (afterMembers go (suc n) ms)) (in-here x xs d e f) ∙ told-member k b go n (x .row) (x .row .sort) (membersIn (suc d) xs) (membersIn d xs))
@@ -163,7 +166,8 @@ present-member : (k : GroupKind) (b : Bool) (x : FlatParticle) (sort : ℕ) (bel
 present-member k b x zero below rest = told-right k b (indexMember x zero below rest)
 present-member k b x (suc j) below rest = told-right k b (indexMember x (suc j) below rest)
 
--- The whole of the particles, and those of a list h in them: from each of its particles on they hold the same members, however deep.
+-- The whole of the particles, and those of a list h in them: from each of
+-- its particles on they hold the same members, however deep.
 pub record Seen (whole : Particles) (h : Holder) (xs : Particles) : Type 0 where
   pub same : (e p : ℕ) → h .depth ≤ e → p ≤ length xs → build (drop (h .start + p) whole) e ≡ build (drop p xs) e
 
@@ -201,7 +205,9 @@ module _ (whole : Particles) (h : Holder) (xs : Particles) (v : Seen whole h xs)
 
 -- ---- a number that picks a group
 abbrev pub Finds : Bool → List ℕ → Type 0
-Finds insert place = (whole : Particles) (h : Holder) (xs : Particles) → Seen whole h xs → shown whole (spotOf insert place h xs) ≡ told (h .kind) (h .spine) (find (lastBy insert) place (membersIn (h .depth) xs))
+Finds insert place =
+    (whole : Particles) (h : Holder) (xs : Particles) → Seen whole h xs
+    → shown whole (spotOf insert place h xs) ≡ told (h .kind) (h .spine) (find (lastBy insert) place (membersIn (h .depth) xs))
 
 module _ (insert : Bool) (m : ℕ) (ns : List ℕ) (ih : Finds insert (m ∷ ns)) (whole : Particles) (h : Holder) (xs : Particles) (v : Seen whole h xs) where
   abbrev onward-in : Members ℕ → Option (Spot ℕ)
@@ -233,7 +239,9 @@ module _ (insert : Bool) (m : ℕ) (ns : List ℕ) (ih : Finds insert (m ∷ ns)
   members-in p =
       let e : h .depth + 1 ≡ suc (h .depth) = omega arith in
       let f : p + 1 ≡ suc p = omega arith in
-      ap indexMembers (ap (λ (z : ℕ). build (partAt p) z) e ∙ part-same (drop (p + 1) xs) (h .depth) (suc (h .depth)) 0 (omega arith) (omega arith) ∙ ap (λ (z : ℕ). build (drop z xs) (suc (h .depth))) f)
+      ap indexMembers
+      (ap (λ (z : ℕ). build (partAt p) z) e ∙ part-same (drop (p + 1) xs) (h .depth) (suc (h .depth)) 0 (omega arith) (omega arith)
+      ∙ ap (λ (z : ℕ). build (drop z xs) (suc (h .depth))) f)
 
   abbrev gone : ℕ → Quantifier → ℕ → ℕ → Found
   gone p q sort i = goOn (enterGroup h p xs q (whatOf sort i)) (λ g from size. spotOf insert (m ∷ ns) g (take size (drop from xs)))
@@ -246,13 +254,18 @@ module _ (insert : Bool) (m : ℕ) (ns : List ℕ) (ih : Finds insert (m ∷ ns)
       ∙ ap (λ (z : Members ℕ). told (groupOf (suc k)) (h .spine && plain (quantifierOf (x .quantifier)) (groupOf (suc k))) (onward-in z)) (members-in p)
       ∙ sym (told-into (h .kind) (h .spine) (quantifierOf (x .quantifier)) (groupOf (suc k)) rest (onward-in (membersIn (suc (h .depth)) (drop (suc p) xs))))
 
-  group-found : (n : ℕ) → shown whole (goOn (enteredOf n h xs) (λ g from size. spotOf insert (m ∷ ns) g (take size (drop from xs)))) ≡ told (h .kind) (h .spine) (find (lastBy insert) (n ∷ m ∷ ns) (membersIn (h .depth) xs))
+  group-found : (n : ℕ)
+      → shown whole (goOn (enteredOf n h xs) (λ g from size. spotOf insert (m ∷ ns) g (take size (drop from xs))))
+      ≡ told (h .kind) (h .spine) (find (lastBy insert) (n ∷ m ∷ ns) (membersIn (h .depth) xs))
   unfolding find particleOf
   group-found zero = refl
   group-found (suc n) = by (reach (h .depth) n xs) (reach-bounded (h .depth) n xs) (passes (h .kind) (h .spine) (inside onward-in) (h .depth) n xs)
     where
-      by : (r : Reached) → Bounded r (length xs) → Passes (h .kind) (h .spine) (inside onward-in) (h .depth) xs (told (h .kind) (h .spine) (afterMembers (inside onward-in) n (membersIn (h .depth) xs))) r
-          → shown whole (goOn (enteredAt h xs r) (λ g from size. spotOf insert (m ∷ ns) g (take size (drop from xs)))) ≡ told (h .kind) (h .spine) (afterMembers (inside onward-in) n (membersIn (h .depth) xs))
+      by : (r : Reached) → Bounded r (length xs)
+          → Passes (h .kind) (h .spine) (inside onward-in) (h .depth) xs
+          (told (h .kind) (h .spine) (afterMembers (inside onward-in) n (membersIn (h .depth) xs))) r
+          → shown whole (goOn (enteredAt h xs r) (λ g from size. spotOf insert (m ∷ ns) g (take size (drop from xs))))
+          ≡ told (h .kind) (h .spine) (afterMembers (inside onward-in) n (membersIn (h .depth) xs))
       by (Member p) l (e, f) =
           at-particle p (getD xs p noParticle .row) (getD xs p noParticle .row .sort) (membersIn (h .depth) (drop (suc p) xs)) l
           ∙ sym (e ∙ ap (λ (z : Members ℕ). told (h .kind) (h .spine) (inside onward-in z)) f)

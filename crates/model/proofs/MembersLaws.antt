@@ -52,16 +52,30 @@ module _ (d : ℕ) (s : Bytes) where
     members-more : membersFrom d s
         ≡ elim (ltb d (readParticle s .depth)) [
           | true ↦ membersFrom d (drop particleSize s)
-          | false ↦ elim (eqb d (readParticle s .depth)) [ true ↦ indexMember (readParticle s .row) (readParticle s .row .sort) (membersFrom (suc d) (drop particleSize s)) (membersFrom d (drop particleSize s)) | false ↦ done ]
+          | false ↦ elim (eqb d (readParticle s .depth)) [
+            | true ↦ indexMember (readParticle s .row) (readParticle s .row .sort) (membersFrom (suc d) (drop particleSize s))
+                (membersFrom d (drop particleSize s))
+            | false ↦ done
+          ]
         ]
     unfolding membersFrom
     members-more = ap (λ (l : List (Deep FlatParticle)). indexMembers (build l d)) (particles-more s h) ∙ by (ltb d (readParticle s .depth)) (eqb d (readParticle s .depth))
       where
         by : (deeper same : Bool)
-            → indexMembers (elim deeper [ true ↦ build (particlesOf (drop particleSize s)) d | false ↦ elim same [ true ↦ tree (readParticle s .row) (build (particlesOf (drop particleSize s)) (suc d)) (build (particlesOf (drop particleSize s)) d) | false ↦ bare ] ])
+            → indexMembers (elim deeper [
+              | true ↦ build (particlesOf (drop particleSize s)) d
+              | false ↦ elim same [
+                | true ↦ tree (readParticle s .row) (build (particlesOf (drop particleSize s)) (suc d)) (build (particlesOf (drop particleSize s)) d)
+                | false ↦ bare
+              ]
+            ])
             ≡ elim deeper [
               | true ↦ indexMembers (build (particlesOf (drop particleSize s)) d)
-              | false ↦ elim same [ true ↦ indexMember (readParticle s .row) (readParticle s .row .sort) (indexMembers (build (particlesOf (drop particleSize s)) (suc d))) (indexMembers (build (particlesOf (drop particleSize s)) d)) | false ↦ done ]
+              | false ↦ elim same [
+                | true ↦ indexMember (readParticle s .row) (readParticle s .row .sort) (indexMembers (build (particlesOf (drop particleSize s)) (suc d)))
+                    (indexMembers (build (particlesOf (drop particleSize s)) d))
+                | false ↦ done
+              ]
             ]
         by true b = refl
         by false true = refl
@@ -75,5 +89,7 @@ module _ (d : ℕ) (s : Bytes) where
         let n : d ≡ readParticle s .depth → ⊥ = λ q. omega arith in
         rw (le-ltb d (readParticle s .depth) (omega arith), ne-eqb d (readParticle s .depth) n) at members-more
 
-    pub members-here : readParticle s .depth ≡ d → membersFrom d s ≡ indexMember (readParticle s .row) (readParticle s .row .sort) (membersFrom (suc d) (drop particleSize s)) (membersFrom d (drop particleSize s))
+    pub members-here : readParticle s .depth ≡ d
+        → membersFrom d s
+        ≡ indexMember (readParticle s .row) (readParticle s .row .sort) (membersFrom (suc d) (drop particleSize s)) (membersFrom d (drop particleSize s))
     members-here e = rw (le-ltb d (readParticle s .depth) (omega arith), eq-eqb d (readParticle s .depth) (omega arith)) at members-more

@@ -1,4 +1,5 @@
--- The particles of a byte string: how many, which stands where, and those of a part. Bounds on what is passed and measured.
+-- The particles of a byte string: how many, which stands where, and
+-- those of a part. Bounds on what is passed and measured.
 use mathlib.Core.Path.{_≡_, refl, sym, ap, _∙_}
 use mathlib.Core.Bool.{Bool, true, false}
 use mathlib.Core.List.{List, [], _∷_}
@@ -54,8 +55,8 @@ particles-part at n s h =
     rw (part-there (particleSize * at) (particleSize * n) s h, particles-take n (drop (particleSize * at) s) (omega (arith, length-drop (particleSize * at) s)), particles-drop at s (omega arith))
 
 -- ---- a definition's part of the particle body
--- The n particles from number m on, of a body that has `count`: the form's model of them is that of their bytes, each index as the
--- name that it stands for.
+-- The n particles from number m on, of a body that has `count`: the form's model of them is that of their bytes, each
+-- index as the name that it stands for.
 pub model-read : (ns : List Bytes) (m n count : ℕ) (body : Bytes) → m + n ≤ count → particleSize * count ≤ length body
     → readMembers ns (build (take n (drop m (readMany readParticle particleSize count body))) 0) ≡ rename (λ i. nameAt i ns) (allMembers (take (particleSize * n) (drop (particleSize * m) body)))
 unfolding particlesOf membersFrom
@@ -64,7 +65,8 @@ model-read ns m n count body h l =
     let size : length part ≡ particleSize * n = length-take-le (particleSize * n) (drop (particleSize * m) body) (omega (arith, length-drop (particleSize * m) body)) in
     let whole : length part / particleSize ≡ n = omega arith in
     members-named ns (build (take n (drop m (readMany readParticle particleSize count body))) 0)
-    ∙ ap (λ (l : Particles). rename (λ i. nameAt i ns) (indexMembers (build l 0))) (many-part readParticle particleSize m n count body h ∙ ap (λ (k : ℕ). readMany readParticle particleSize k part) (sym whole))
+    ∙ ap (λ (l : Particles). rename (λ i. nameAt i ns) (indexMembers (build l 0)))
+    (many-part readParticle particleSize m n count body h ∙ ap (λ (k : ℕ). readMany readParticle particleSize k part) (sym whole))
 
 -- ---- bounds
 abbrev pub Bounded : Reached → ℕ → Type 0

@@ -69,7 +69,8 @@ module _ (goal : Reached) (bound d : ℕ) (t : Bytes) (p : ℕ) where
         let f : suc n - 1 ≡ n = omega arith in
         rw (tail-seen t particleSize, f)
         (record {
-          gives = sym (onward-then p (reach d n (particlesOf (drop particleSize t)))) ∙ (rw (particles-more t h, le-ltb d (readParticle t .depth) (omega arith), eq-eqb d (readParticle t .depth) (omega arith), reach) at (l .gives));
+          gives = sym (onward-then p (reach d n (particlesOf (drop particleSize t))))
+              ∙ (rw (particles-more t h, le-ltb d (readParticle t .depth) (omega arith), eq-eqb d (readParticle t .depth) (omega arith), reach) at (l .gives));
           sum = omega (arith, l .sum, length-drop particleSize t);
         })
 

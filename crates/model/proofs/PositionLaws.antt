@@ -263,8 +263,10 @@ module _ (insert : Bool) (m : ℕ) (ns : List ℕ) (ih : Placed insert (m ∷ ns
       → take (spanOf (h .depth) (drop (p + 1) xs)) (drop (p + 1) xs) ≡ spread (h .depth + 1) ins
   part-is p q k ins rest e =
       let d : h .depth + 1 ≡ suc (h .depth) = omega arith in
-      let f : drop (p + 1) xs ≡ spread (suc (h .depth)) ins ++ spread (h .depth) rest = rest-of xs p (groupParticle (h .depth) q k (howMany ins)) (spread (suc (h .depth)) ins ++ spread (h .depth) rest) e in
-      let n : spanOf (h .depth) (spread (suc (h .depth)) ins ++ spread (h .depth) rest) ≡ count ins = omega (arith, span-skip (h .depth) (suc (h .depth)) ins (spread (h .depth) rest) (omega arith), span-none (h .depth) rest) in
+      let f : drop (p + 1) xs ≡ spread (suc (h .depth)) ins ++ spread (h .depth) rest =
+      rest-of xs p (groupParticle (h .depth) q k (howMany ins)) (spread (suc (h .depth)) ins ++ spread (h .depth) rest) e in
+      let n : spanOf (h .depth) (spread (suc (h .depth)) ins ++ spread (h .depth) rest) ≡ count ins =
+      omega (arith, span-skip (h .depth) (suc (h .depth)) ins (spread (h .depth) rest) (omega arith), span-none (h .depth) rest) in
       rw (f, n, d) (take-at (spread (suc (h .depth)) ins) (spread (h .depth) rest) (count ins) (length-spread (suc (h .depth)) ins))
 
   -- what the group's members give, seen from the list around it
@@ -274,7 +276,8 @@ module _ (insert : Bool) (m : ℕ) (ns : List ℕ) (ih : Placed insert (m ∷ ns
   around F p n q k ins rest w (some f) =
       let z : 0 + p ≡ p = omega arith in
       let e : h .start + (p + 1) + offset (f .context) ≡ h .start + offset (F (into q k (f .context) rest)) = omega (arith, w .moved (into q k (f .context) rest)) in
-      let g : holder (listOf p q k) 0 (f .context) ≡ holder h 0 (F (into q k (f .context) rest)) = sym (w .held h 0 (into q k (f .context) rest) ∙ ap (λ (i : ℕ). holder h i (into q k (f .context) rest)) z) in
+      let g : holder (listOf p q k) 0 (f .context) ≡ holder h 0 (F (into q k (f .context) rest)) =
+      sym (w .held h 0 (into q k (f .context) rest) ∙ ap (λ (i : ℕ). holder h i (into q k (f .context) rest)) z) in
       ap₂ (λ (l : Holder) (i : ℕ). At l i) g e
 
   entered : (F : Context ℕ → Context ℕ) (p n : ℕ) (t : Members ℕ) → Passed (h .depth) n ms F p t → goOn (enteredAt h xs (standing t p)) onFrom ≡ spotIn h (within F (inside goes t))

@@ -49,7 +49,8 @@ abbrev pub spotIn : Holder → Option (Spot ℕ) → Found
 spotIn h none = Absent
 spotIn h (some f) = At (holder h 0 (f .context)) (h .start + offset (f .context))
 
--- ---- the particles before a place, at a depth of d around it, where the members t stand there; those after t; and t's own depth
+-- ---- the particles before a place, at a depth of d around it, where the
+-- members t stand there; those after t; and t's own depth
 abbrev pub leading : ℕ → Context ℕ → Members ℕ → Particles
 leading d here t = []
 leading d (past q i c) t = elementParticle d q i ∷ leading d c t

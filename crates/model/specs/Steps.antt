@@ -1,5 +1,5 @@
--- The automaton of a model, step by step over a row's children. The state is 0 before the first child, and after a child its
--- definition index and 1.
+-- The automaton of a model, step by step over a row's children. The state is 0 before the first child, and after a
+-- child its definition index and 1.
 use Prim.Native.Nat.{ℕ, zero, suc}
 use mathlib.Core.Bool.{Bool, _&&_}
 use mathlib.Core.List.{List, [], _∷_}

@@ -121,7 +121,10 @@ pub fn edit_model(
     out: &mut [u8],
 ) -> Answer
     requires { ⌜ Edits (now store) owner (editOf edit) holder at × (isValue (widthOf (now store)) (now text) ≡ true) × Sized plan ⌝ }
-    ensures { λ r. ⌜ Answers (limited (length (now (out .entry))) (plannedIn (formEdited (now (store .entry)) owner (editOf edit) holder at) plan (now (text .entry)) (bodiesOf (now (store .entry))))) (now (out .entry)) (r .number) (r .length) (now (out .exit)) ⌝ }
+    ensures { λ r. ⌜ Answers
+        (limited (length (now (out .entry)))
+        (plannedIn (formEdited (now (store .entry)) owner (editOf edit) holder at) plan (now (text .entry)) (bodiesOf (now (store .entry)))))
+        (now (out .entry)) (r .number) (r .length) (now (out .exit)) ⌝ }
 {
     let p = all_after(store, owner, edit);
     if !keeps_within(store, owner, edit, holder, at, p) {

@@ -48,7 +48,8 @@ leads false place ms = find nth place ms
 unfoldable pub foundBy : {A : Type 0} → Bool → List ℕ → Members A → Option (Spot A)
 foundBy insert place ms = elim (leb (length place) 5) [ true ↦ leads insert place ms | false ↦ none ]
 
--- THE PLACE: in the part of definition o the code finds the list h and the particle p in it, the rules `found` in its model
+-- THE PLACE: in the part of definition o the code finds the list h and
+-- the particle p in it, the rules `found` in its model
 pub record Placed (bs : Bytes) (o : ℕ) (insert : Bool) (place : List ℕ) (h : Holder) (p : ℕ) : Type 0 where
   pub at : placeIn insert place (partIn bs o) ≡ At h p
   pub found : Spot Bytes

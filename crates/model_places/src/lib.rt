@@ -16,15 +16,16 @@ ghost use Rattle.model.specs.Members.{membersFrom};
 ghost use Rattle.model.specs.Particle.{particleOf};
 ghost use Rattle.model_places.specs.Placing.{partIn, locatedAt, pickOf, Picking, oneIf};
 
-/// What a place leads to in a model: an element or a group with its kind and its number of members. Each with the list that
-/// holds it, its particle and its quantifier.
+/// What a place leads to in a model: an element or a group with its kind and its number of members. Each with the list
+/// that holds it, its particle and its quantifier.
 pub enum Picked {
     Element(Holder, usize, Quantifier),
     Group(Holder, usize, Quantifier, GroupKind, usize),
     Absent,
 }
 
-/// The number of the first refusal that applies to a change of a model; if it is 0, the list that holds the place and its particle.
+/// The number of the first refusal that applies to a change of a model; if it
+/// is 0, the list that holds the place and its particle.
 pub struct Located {
     pub number: u32,
     pub holder: Holder,
@@ -68,7 +69,9 @@ pub fn own_part(store: &[u8], owner: usize) -> &[u8]
 // What stands at particle p of the list h.
 fn pick_at(part: &[u8], h: Holder, p: usize) -> Picked
     requires { ⌜ p ≤ 256 ⌝ }
-    ensures { λ r. ⌜ r ≡ pickOf h p (particleOf (readParticle (drop (particleSize * p) (now (part .entry)))) .quantifier) (particleOf (readParticle (drop (particleSize * p) (now (part .entry)))) .what) ⌝ }
+    ensures { λ r. ⌜ r
+        ≡ pickOf h p (particleOf (readParticle (drop (particleSize * p) (now (part .entry)))) .quantifier)
+        (particleOf (readParticle (drop (particleSize * p) (now (part .entry)))) .what) ⌝ }
 {
     let x = model::read_particle(layout::particles_from(part, p), 0);
     let what = x.what;

@@ -25,12 +25,16 @@ unfolding moved
 length-moved g d n [] = refl
 length-moved g d zero (x ∷ xs) = by (ltb d (x .depth)) (length-moved g d zero xs)
   where
-    by : (b : Bool) → length (moved g d zero xs) ≡ length xs → length {A = Deep FlatParticle} (elim b as (λ z. Particles) [ true ↦ record { depth = g (x .depth); row = x .row } ∷ moved g d zero xs | false ↦ x ∷ xs ]) ≡ suc (length xs)
+    by : (b : Bool) → length (moved g d zero xs) ≡ length xs
+        → length {A = Deep FlatParticle}
+        (elim b as (λ z. Particles) [ true ↦ record { depth = g (x .depth); row = x .row } ∷ moved g d zero xs | false ↦ x ∷ xs ])
+        ≡ suc (length xs)
     by true h = ap suc h
     by false h = refl
 length-moved g d (suc n) (x ∷ xs) = ap suc (by (ltb d (x .depth)) (length-moved g d (suc n) xs) (length-moved g d n xs))
   where
-    by : (b : Bool) → length (moved g d (suc n) xs) ≡ length xs → length (moved g d n xs) ≡ length xs → length {A = Deep FlatParticle} (elim b as (λ z. Particles) [ true ↦ moved g d (suc n) xs | false ↦ moved g d n xs ]) ≡ length xs
+    by : (b : Bool) → length (moved g d (suc n) xs) ≡ length xs → length (moved g d n xs) ≡ length xs
+        → length {A = Deep FlatParticle} (elim b as (λ z. Particles) [ true ↦ moved g d (suc n) xs | false ↦ moved g d n xs ]) ≡ length xs
     by true h k = h
     by false h k = k
 
@@ -47,7 +51,8 @@ length-both : (e : Edit ℕ) (h : Holder) (n : ℕ) (xs : Particles) → n ≤ l
 unfolding partAfter
 length-both e h n xs l =
     length-append (recounted (countAfter e (drop n xs)) (h .start) (take n xs)) (tailAfter e (h .depth) (drop n xs))
-    ∙ ap₂ (λ (i j : ℕ). i + j) (length-recounted (countAfter e (drop n xs)) (h .start) (take n xs) ∙ length-take-le n xs l) (length-tail e (h .depth) (drop n xs) ∙ ap (lengthAfter e) (length-drop n xs))
+    ∙ ap₂ (λ (i j : ℕ). i + j) (length-recounted (countAfter e (drop n xs)) (h .start) (take n xs) ∙ length-take-le n xs l)
+    (length-tail e (h .depth) (drop n xs) ∙ ap (lengthAfter e) (length-drop n xs))
 
 -- HOW MANY PARTICLES the model has after an edit
 pub length-after : (e : Edit ℕ) (h : Holder) (n : ℕ) (xs : Particles) → n ≤ length xs → (inserts e ≡ false → n < length xs) → length (partAfter e h n xs) ≡ lengthAfter e (length xs)

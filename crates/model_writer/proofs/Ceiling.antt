@@ -99,7 +99,11 @@ module _ {goal : Bool} {d : ℕ} {t : Bytes} {m : ℕ} (v : Deepening goal d t m
     still-rest = and-right (leb (readParticle t .depth) 4) (depthsWithin (particlesOf (drop particleSize t))) (sym (ap depthsWithin (particles-more t l)) ∙ v .still)
 
     pub deep-over : (eqb m 0 && not b) ≡ false → 4 ≤ readParticle t .depth → false ≡ goal
-    deep-over f h = sym (deep-first f ∙ ap (λ (z : Bool). z && depthsWithin (moved (shift true) d (passing b m) (particlesOf (drop particleSize t)))) (lt-leb (suc (readParticle t .depth)) 4 (omega arith)))
+    deep-over f h =
+        sym
+        (deep-first f
+        ∙ ap (λ (z : Bool). z && depthsWithin (moved (shift true) d (passing b m) (particlesOf (drop particleSize t))))
+        (lt-leb (suc (readParticle t .depth)) 4 (omega arith)))
 
     pub deep-step : (eqb m 0 && not b) ≡ false → readParticle t .depth < 4 → {m′ : ℕ} → m′ ≡ passing b m → Deepening goal d (take (length t - particleSize) (drop particleSize t)) m′
     deep-step f h {m′} p =

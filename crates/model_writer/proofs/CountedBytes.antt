@@ -26,7 +26,8 @@ pub counted-bytes : (o n : ℕ) (ds : List FlatDefinition) → o < length ds →
 counted-bytes o n [] l = absurd (omega arith)
 counted-bytes zero n (d ∷ ds) l =
     let rest : Bytes = each definitionBytes ds in
-    let split : definitionBytes d ++ rest ≡ front d ++ (le 2 (d .particles) ++ rest) = ap (λ (s : Bytes). s ++ rest) (front-then d (d .particles)) ∙ append-assoc (front d) (le 2 (d .particles)) rest in
+    let split : definitionBytes d ++ rest ≡ front d ++ (le 2 (d .particles) ++ rest) =
+    ap (λ (s : Bytes). s ++ rest) (front-then d (d .particles)) ∙ append-assoc (front d) (le 2 (d .particles)) rest in
     let a : definitionSize * 0 + definitionParticlesAt ≡ definitionParticlesAt = omega arith in
     let b : definitionSize * 0 + definitionSize ≡ definitionSize = omega arith in
     ap (λ (s : Bytes). s ++ rest) (front-then d n)

@@ -131,7 +131,8 @@ module _ (s : Store) (o : ℕ) (p : List ℕ) (e : Edit Bytes) (x : Spot Bytes) 
     own-long =
         ap length own-bytes
         ∙ length-bytes (spread 0 (rename index (members (definitionAt o (s .form)))))
-        ∙ ap (λ (ms : Members ℕ). particleSize * length (spread 0 ms)) (ap (rename index) (sym (place-right e p (members (definitionAt o (s .form))) x found)) ∙ plug-rename index (x .context) (x .picked))
+        ∙ ap (λ (ms : Members ℕ). particleSize * length (spread 0 ms))
+        (ap (rename index) (sym (place-right e p (members (definitionAt o (s .form))) x found)) ∙ plug-rename index (x .context) (x .picked))
 
     -- HOW MANY PARTICLES the owner has then
     pub edit-length : length (partAfter (renameEdit index e) h n (particlesOf own)) ≡ lengthAfter (renameEdit index e) many
@@ -159,6 +160,7 @@ module _ (s : Store) (o : ℕ) (p : List ℕ) (e : Edit Bytes) (x : Spot Bytes) 
                 inside = omega (arith, own-long, stands, offset-inside context (rename index (x .picked)));
                 fitting =
                     every-front SmallParticle new (drop (first + many) (flat s .particles))
-                    (every-back SmallParticle (take first (flat s .particles)) (new ++ drop (first + many) (flat s .particles)) (subst (λ (xs : Particles). Every SmallParticle xs) (ap (λ (z : FlatStore). z .particles) edit-flat) small));
+                    (every-back SmallParticle (take first (flat s .particles)) (new ++ drop (first + many) (flat s .particles))
+                    (subst (λ (xs : Particles). Every SmallParticle xs) (ap (λ (z : FlatStore). z .particles) edit-flat) small));
               };
         }

@@ -13,7 +13,8 @@ use Rattle.rules.specs.Place.{Found}
 use Rattle.rules.specs.Edit.{Edit, placeOf, modelAfter}
 use Rattle.rules.specs.Store.{Content, empty, pcdata, complex, Form, RowSort, element, attribute, text, Row, Forest, bare, tree, Store, members}
 use Rattle.rules.specs.Preorder.{flatten}
-use Rattle.rules.specs.Layout.{FlatDefinition, FlatAttribute, indexOf, indexIn, attributeIndex, howMany, particles, contentParticles, flatDefinition, allParticles, ownAttributes, allAttributes, indexed, flat, quantifierCode, groupCode, kindCode, rowCode}
+use Rattle.rules.specs.Layout.{FlatDefinition, FlatAttribute, indexOf, indexIn, attributeIndex, howMany, particles, contentParticles, flatDefinition}
+use Rattle.rules.specs.Layout.{allParticles, ownAttributes, allAttributes, indexed, flat, quantifierCode, groupCode, kindCode, rowCode}
 use Rattle.rules.specs.Change.{definitionAt, update, inContent, inModel, editFound, editAt, editModel}
 use Rattle.model.specs.Places.{Particles}
 use Rattle.model.specs.Positions.{spread}

@@ -158,7 +158,9 @@ module _ (g : ℕ → ℕ) where
       where
         by : (m : ℕ) → opened c ≡ m → leading (suc d) c u ≡ recounted g m (leading (suc d) c t)
             → groupParticle d q k (howMany (plug c u)) ∷ leading (suc d) c u ≡ recounted g (suc m) (groupParticle d q k (howMany (plug c t)) ∷ leading (suc d) c t)
-        by zero e ih = ap₂ (λ (n : ℕ) (l : Particles). groupParticle d q k n ∷ l) (sym (none-more (howMany (plug c t)) (howMany (plug c u)) (many-open c e 0))) (ih ∙ recounted-none (leading (suc d) c t))
+        by zero e ih =
+            ap₂ (λ (n : ℕ) (l : Particles). groupParticle d q k n ∷ l) (sym (none-more (howMany (plug c t)) (howMany (plug c u)) (many-open c e 0)))
+            (ih ∙ recounted-none (leading (suc d) c t))
         by (suc m) e ih = ap₂ (λ (n : ℕ) (l : Particles). groupParticle d q k n ∷ l) (sym (many-shut c (λ z. absurd (omega (arith, e, z))))) ih
 
 -- ---- how many members the list has then

@@ -86,7 +86,8 @@ read-first : (x : Deep FlatParticle) (s : Bytes) → readParticle (take particle
 read-first x s = refl
 
 -- particle i of a part
-particle-at : (i : ℕ) (part : Bytes) → length part % particleSize ≡ 0 → i < length (particlesOf part) → readParticle (take particleSize (drop (particleSize * i) part)) ≡ getD (particlesOf part) i noParticle
+particle-at : (i : ℕ) (part : Bytes) → length part % particleSize ≡ 0 → i < length (particlesOf part)
+    → readParticle (take particleSize (drop (particleSize * i) part)) ≡ getD (particlesOf part) i noParticle
 particle-at i part h l =
     let xs : Particles = particlesOf part in
     ap (λ (s : Bytes). readParticle (take particleSize (drop (particleSize * i) s))) (sym (whole part h))
@@ -108,22 +109,28 @@ module _ {e : Edit ℕ} {first n : ℕ} {part : Bytes} {at : ℕ} (v : Head e fi
 
   -- no group holds the place
   pub head-top : first ≡ 0 → each particleBytes headAfter ≡ take (particleSize * n) (drop 0 part)
-  head-top z = ap (λ (k : ℕ). each particleBytes (recounted newCount k (take n (particlesOf part)))) z ∙ ap (each particleBytes) (recounted-none newCount (take n (particlesOf part))) ∙ take-bytes n part (v .whole)
+  head-top z = ap (λ (k : ℕ). each particleBytes (recounted newCount k (take n (particlesOf part)))) z
+      ∙ ap (each particleBytes) (recounted-none newCount (take n (particlesOf part))) ∙ take-bytes n part (v .whole)
 
   long : n ≤ length (particlesOf part)
   long = omega (arith, length-part part (v .whole), v .inside)
 
   head-is : 0 < first
-      → headAfter ≡ take (first - 1) (particlesOf part) ++ (recount newCount (readParticle (take particleSize (drop (particleSize * (first - 1)) part))) ∷ take (n - first) (drop first (particlesOf part)))
+      → headAfter
+      ≡ take (first - 1) (particlesOf part)
+      ++ (recount newCount (readParticle (take particleSize (drop (particleSize * (first - 1)) part))) ∷ take (n - first) (drop first (particlesOf part)))
   head-is l =
       let z : first ≡ suc (first - 1) = omega arith in
       ap (λ (k : ℕ). recounted newCount k (take n (particlesOf part))) z
       ∙ recounted-at newCount (first - 1) n (particlesOf part) (omega (arith, v .after)) long
-      ∙ (λ i. take (first - 1) (particlesOf part) ++ (recount newCount (sym (particle-at (first - 1) part (v .whole) (omega (arith, long, v .after))) i) ∷ take (n - sym z i) (drop (sym z i) (particlesOf part))))
+      ∙ (λ i. take (first - 1) (particlesOf part) ++ (recount newCount (sym (particle-at (first - 1) part (v .whole) (omega (arith, long, v .after))) i)
+      ∷ take (n - sym z i) (drop (sym z i) (particlesOf part))))
 
   pub head-split : 0 < first
       → each particleBytes headAfter
-      ≡ take (particleSize * (first - 1)) (drop 0 part) ++ (particleBytes (recount newCount (readParticle (take particleSize (drop (particleSize * (first - 1)) part)))) ++ take (particleSize * n - particleSize * first) (drop (particleSize * (first - 1) + particleSize) part))
+      ≡ take (particleSize * (first - 1)) (drop 0 part)
+      ++ (particleBytes (recount newCount (readParticle (take particleSize (drop (particleSize * (first - 1)) part))))
+      ++ take (particleSize * n - particleSize * first) (drop (particleSize * (first - 1) + particleSize) part))
   head-split l =
       let x : Deep FlatParticle = recount newCount (readParticle (take particleSize (drop (particleSize * (first - 1)) part))) in
       let p : particleSize * first ≡ particleSize * (first - 1) + particleSize = omega arith in
@@ -153,7 +160,8 @@ module _ {e : Edit ℕ} {first n : ℕ} {part : Bytes} {at : ℕ} (v : Head e fi
       subst (λ (k : ℕ). k < 256) (sym (λ i. same-count i (getD (p i) 2 0))) (head-count l),
     )
 
-    pub head-group : particleBytes (recount newCount (readParticle (take particleSize (drop (particleSize * (first - 1)) part)))) ≡ particleBytes (recount (countAfter e (particlesOf ys)) (readParticle x))
+    pub head-group : particleBytes (recount newCount (readParticle (take particleSize (drop (particleSize * (first - 1)) part))))
+        ≡ particleBytes (recount (countAfter e (particlesOf ys)) (readParticle x))
     head-group = λ i. particleBytes (recount (sym same-count i) (readParticle (sym p i)))
 
 -- ---- the whole part
@@ -169,13 +177,23 @@ module _ {e : Edit ℕ} {h : Holder} {n : ℕ} {part : Bytes} (v : Part e h n pa
         fitting = every-front SmallParticle (recounted (countAfter e (drop n (particlesOf part))) (h .start) (take n (particlesOf part))) _ (v .fitting);
       }
 
-  pub part-tail : {at : ℕ} → at + 2 * length part < 4611686018427387904 → {out : Bytes} {r : ℕ} {out′ : Bytes} → Laid (each particleBytes (recounted (countAfter e (drop n (particlesOf part))) (h .start) (take n (particlesOf part)))) out at r out′
+  pub part-tail : {at : ℕ} → at + 2 * length part < 4611686018427387904 → {out : Bytes} {r : ℕ} {out′ : Bytes}
+      → Laid (each particleBytes (recounted (countAfter e (drop n (particlesOf part))) (h .start) (take n (particlesOf part)))) out at r out′
       → Tail e (h .depth) (drop (particleSize * n) part) r
   unfolding partAfter Fitting
   part-tail few x =
       record {
         whole = omega (arith, v .whole, v .inside, length-drop (particleSize * n) part);
-        room = omega (arith, few, x .next, length-drop (particleSize * n) part, length-bytes front, length-recounted g (h .start) (take n (particlesOf part)), length-take n (particlesOf part), length-part part (v .whole));
+        room = omega (
+          arith,
+          few,
+          x .next,
+          length-drop (particleSize * n) part,
+          length-bytes front,
+          length-recounted g (h .start) (take n (particlesOf part)),
+          length-take n (particlesOf part),
+          length-part part (v .whole),
+        );
         fitting = rw (particles-past n part) (every-back SmallParticle front _ (v .fitting));
       }
     where
@@ -186,8 +204,12 @@ module _ {e : Edit ℕ} {h : Holder} {n : ℕ} {part : Bytes} (v : Part e h n pa
       front = recounted g (h .start) (take n (particlesOf part))
 
   pub part-bytes : each particleBytes (partAfter e h n (particlesOf part))
-      ≡ each particleBytes (recounted (countAfter e (drop n (particlesOf part))) (h .start) (take n (particlesOf part))) ++ each particleBytes (tailAfter e (h .depth) (particlesOf (drop (particleSize * n) part)))
+      ≡ each particleBytes (recounted (countAfter e (drop n (particlesOf part))) (h .start) (take n (particlesOf part)))
+      ++ each particleBytes (tailAfter e (h .depth) (particlesOf (drop (particleSize * n) part)))
   unfolding partAfter
   part-bytes =
       each-append (recounted (countAfter e (drop n (particlesOf part))) (h .start) (take n (particlesOf part))) (tailAfter e (h .depth) (drop n (particlesOf part)))
-      ∙ ap (λ (xs : Particles). each particleBytes (recounted (countAfter e (drop n (particlesOf part))) (h .start) (take n (particlesOf part))) ++ each particleBytes (tailAfter e (h .depth) xs)) (sym (particles-past n part))
+      ∙ ap
+      (λ (xs : Particles). each particleBytes (recounted (countAfter e (drop n (particlesOf part))) (h .start) (take n (particlesOf part)))
+      ++ each particleBytes (tailAfter e (h .depth) xs))
+      (sym (particles-past n part))

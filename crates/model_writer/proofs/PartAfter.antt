@@ -133,7 +133,8 @@ module _ (f : Bytes → ℕ) where
   place-here e p ms x at = place-written (inserts e) p (rename f ms) ∙ by (leb (length p) 5) refl
     where
       by : (b : Bool) → leb (length p) 5 ≡ b
-          → _≡_ {A = Found} (elim (leb (length p) 5) [ true ↦ spotIn top (find (lastBy (inserts e)) p (rename f ms)) | false ↦ Absent ]) (At (holder top 0 (renameAround f (x .context))) (offset (renameAround f (x .context))))
+          → _≡_ {A = Found} (elim (leb (length p) 5) [ true ↦ spotIn top (find (lastBy (inserts e)) p (rename f ms)) | false ↦ Absent ])
+          (At (holder top 0 (renameAround f (x .context))) (offset (renameAround f (x .context))))
       by true q =
           let z : 0 + offset (renameAround f (x .context)) ≡ offset (renameAround f (x .context)) = omega arith in
           rw q (ap (spotIn top) (spot-named e p ms ∙ ap (renameFound f) (place-of e p ms x at)) ∙ ap (λ (n : ℕ). At (holder top 0 (renameAround f (x .context))) n) z)

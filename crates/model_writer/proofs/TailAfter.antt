@@ -107,7 +107,8 @@ unfolding _⊕_
 spread-beside d done t = refl
 spread-beside d (el q i s) t = ap (λ (r : Particles). elementParticle d q i ∷ r) (spread-beside d s t)
 spread-beside d (group q k ms s) t =
-    ap (λ (r : Particles). groupParticle d q k (howMany ms) ∷ r) (ap (λ (r : Particles). spread (suc d) ms ++ r) (spread-beside d s t) ∙ sym (append-assoc (spread (suc d) ms) (spread d s) (spread d t)))
+    ap (λ (r : Particles). groupParticle d q k (howMany ms) ∷ r)
+    (ap (λ (r : Particles). spread (suc d) ms ++ r) (spread-beside d s t) ∙ sym (append-assoc (spread (suc d) ms) (spread d s) (spread d t)))
 
 -- FROM THE PLACE ON
 pub tail-after : (e : Edit ℕ) (d : ℕ) (t : Members ℕ) (zs : Particles) → suits e t ≡ true → Stops d zs → spread d (edited e t) ++ zs ≡ tailAfter e d (spread d t ++ zs)

@@ -44,7 +44,8 @@ pub record Tail (e : Edit ℕ) (d : ℕ) (ys : Bytes) (at : ℕ) : Type 0 where
   pub room : at + length ys < 4611686018427387904
   pub fitting : Fitting (tailAfter e d (particlesOf ys))
 
--- the first n particles after an edit can be written from `at` on, where the members of the list start at particle `first`
+-- the first n particles after an edit can be written from `at` on,
+-- where the members of the list start at particle `first`
 pub record Head (e : Edit ℕ) (first n : ℕ) (part : Bytes) (at : ℕ) : Type 0 where
   pub whole : length part % particleSize ≡ 0
   pub room : at + length part < 4611686018427387904

@@ -75,7 +75,8 @@ fn put_shifted(t: &[u8], deeper: bool, out: &mut [u8], at: usize) -> usize
     )
 }
 
-// The particles of the first n members of depth d and the deeper ones before them go one deeper or less deep, the others stay.
+// The particles of the first n members of depth d and the deeper ones
+// before them go one deeper or less deep, the others stay.
 fn put_moved(s: &[u8], d: usize, n: usize, deeper: bool, out: &mut [u8], start: usize) -> usize
     requires { ⌜ (length (now s) % particleSize ≡ 0) × (start + length (now s) < 9223372036854775808) × Fitting (moved (shift deeper) d n (particlesOf (now s))) ⌝ }
     ensures { λ r. ⌜ Laid (each particleBytes (moved (shift deeper) d n (particlesOf (now (s .entry))))) (now (out .entry)) start r (now (out .exit)) ⌝ }
@@ -206,7 +207,9 @@ fn put_recounted(x: &[u8], ys: &[u8], edit: Edit, out: &mut [u8], at: usize) -> 
 // The first n particles, where the members of the list start at particle `first`.
 fn put_head(part: &[u8], edit: Edit, first: usize, n: usize, out: &mut [u8], at: usize) -> usize
     requires { ⌜ Head (editOf edit) first n (now part) at ⌝ }
-    ensures { λ r. ⌜ Laid (each particleBytes (recounted (countAfter (editOf edit) (drop n (particlesOf (now (part .entry))))) first (take n (particlesOf (now (part .entry)))))) (now (out .entry)) at r (now (out .exit)) ⌝ }
+    ensures { λ r. ⌜ Laid
+        (each particleBytes (recounted (countAfter (editOf edit) (drop n (particlesOf (now (part .entry))))) first (take n (particlesOf (now (part .entry))))))
+        (now (out .entry)) at r (now (out .exit)) ⌝ }
 {
     if first == 0 {
         return codec::put(layout::window(part, 0, PARTICLE_SIZE * n), out, at);
@@ -244,7 +247,8 @@ pub fn put_part(
     put_tail(past(part, n), edit, holder.depth, out, next)
 }
 
-/// Writes all particles of a form, those of one definition (k of them, from number `first` on) after an edit of its model.
+/// Writes all particles of a form, those of one definition (k of them,
+/// from number `first` on) after an edit of its model.
 pub fn put_particles(
     parts: &[u8],
     first: usize,
@@ -256,7 +260,10 @@ pub fn put_particles(
     at: usize,
 ) -> usize
     requires { ⌜ EditPart (editOf edit) holder n first k (now parts) × (at + particleSize * length (now parts) < 2305843009213693952) ⌝ }
-    ensures { λ r. ⌜ Laid (each particleBytes (spliced first k (partAfter (editOf edit) holder n (particlesOf (particleRange first k (now (parts .entry))))) (particlesOf (now (parts .entry))))) (now (out .entry)) at r (now (out .exit)) ⌝ }
+    ensures { λ r. ⌜ Laid
+        (each particleBytes
+        (spliced first k (partAfter (editOf edit) holder n (particlesOf (particleRange first k (now (parts .entry))))) (particlesOf (now (parts .entry)))))
+        (now (out .entry)) at r (now (out .exit)) ⌝ }
 {
     let next = codec::put(layout::window(parts, 0, PARTICLE_SIZE * first), out, at);
     let own = layout::window(parts, PARTICLE_SIZE * first, PARTICLE_SIZE * k);

@@ -64,7 +64,8 @@ never-first x s differs rest d y = by (readParticle s .row .sort) refl
 
     by : (sort : ℕ) → readParticle s .row .sort ≡ sort
         → Never (particleFacts (record { what = whatOf sort (readParticle s .row .index); quantifier = particleOf (readParticle s) .quantifier }) (below sort) x y)
-    by zero e = never-quantify (particleOf (readParticle s) .quantifier) (single numbers (readParticle s .row .index) x y) (record { last-not = ne-eqb x (readParticle s .row .index) (λ q. differs e (sym q)); follow-not = refl })
+    by zero e = never-quantify (particleOf (readParticle s) .quantifier) (single numbers (readParticle s .row .index) x y)
+        (record { last-not = ne-eqb x (readParticle s .row .index) (λ q. differs e (sym q)); follow-not = refl })
     by (suc n) e = never-quantify (particleOf (readParticle s) .quantifier) (below (suc n)) (rest (kindIn (whatOf (suc n) (readParticle s .row .index))) (suc d) y)
 
 pub absent-on : (x : ℕ) (s : Bytes) → particleSize ≤ length s → (readParticle s .row .sort ≡ 0 → readParticle s .row .index ≡ x → ⊥) → Absent x (drop particleSize s) → Absent x s
@@ -94,7 +95,8 @@ pub record Naming (s t : Bytes) (r : ℕ) : Type 0 where
 pub naming-starts : (s : Bytes) → Naming s s 0
 naming-starts s = record { absent = λ x h f a. a }
 
-pub naming-on : (s t : Bytes) (r : ℕ) → Naming s t r → particleSize ≤ length t → (first r′ : ℕ) → FirstName t first → r′ ≡ union r first → Naming s (take (length t - particleSize) (drop particleSize t)) r′
+pub naming-on : (s t : Bytes) (r : ℕ) → Naming s t r → particleSize ≤ length t → (first r′ : ℕ) → FirstName t first → r′ ≡ union r first
+    → Naming s (take (length t - particleSize) (drop particleSize t)) r′
 naming-on s t r n h first r′ f e =
     record {
       absent =

@@ -87,8 +87,11 @@ module _ (d x : ℕ) (s : Bytes) (p : Particle) (ep : p ≡ particleOf (readPart
   pub told-group : (j : GroupKind) (n : ℕ) (below r : Nexts) → p .what ≡ Group j n → Told below (λ y. facts numbers j (membersFrom (d + 1) (take (length s - particleSize) (drop particleSize s))) x y)
       → r ≡ nextsQuantify (p .quantifier) below → Told r (λ y. firstFacts d s x y)
   told-group j n below r w t er =
-      told-as (nextsQuantify (p .quantifier) below) r (λ y. quantify (p .quantifier) (facts numbers j (membersFrom (d + 1) (take (length s - particleSize) (drop particleSize s))) x y)) (λ y. firstFacts d s x y) er
-      (λ y. first-group d x y s p ep j n _ _ w refl refl) (told-quantify (p .quantifier) below (λ y. facts numbers j (membersFrom (d + 1) (take (length s - particleSize) (drop particleSize s))) x y) t)
+      told-as (nextsQuantify (p .quantifier) below) r
+      (λ y. quantify (p .quantifier) (facts numbers j (membersFrom (d + 1) (take (length s - particleSize) (drop particleSize s))) x y))
+      (λ y. firstFacts d s x y) er
+      (λ y. first-group d x y s p ep j n _ _ w refl refl)
+      (told-quantify (p .quantifier) below (λ y. facts numbers j (membersFrom (d + 1) (take (length s - particleSize) (drop particleSize s))) x y) t)
 
 -- ---- the loop over members beside one another: r tells the facts of those before t
 pub record Telling (k : GroupKind) (d x : ℕ) (s t : Bytes) (r : Nexts) : Type 0 where

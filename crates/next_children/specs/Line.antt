@@ -9,7 +9,8 @@ use Rattle.rules.specs.Model.{Members}
 use Rattle.sets.specs.Sets.{has}
 use Rattle.model.specs.Steps.{steps, finishes}
 
--- For each last child below n, and none (0: none, else 1 and its index): those that may come next, and whether no child is owed.
+-- For each last child below n, and none (0: none, else 1 and its index):
+-- those that may come next, and whether no child is owed.
 pub record NextsLine (n : ℕ) (ms : Members ℕ) (at : ℕ) (t : List ℕ) : Type 0 where
   pub next-is : (last y : ℕ) → last ≤ n → y < 64 → has (getD t (at + last) 0) y ≡ steps ms last y
   pub ends-is : (x : ℕ) → x < n → has (getD t (at + 65) 0) x ≡ finishes ms (suc x)

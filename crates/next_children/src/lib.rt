@@ -1,5 +1,6 @@
-// What may come after a child, for all children at once: the facts of a model and a last child x, with a set of definition indices
-// where `automaton` has the truth of one. And a table of these sets, so that a model is folded once and looked up afterwards.
+// What may come after a child, for all children at once: the facts of a model and a last child x, with a set of
+// definition indices where `automaton` has the truth of one. And a table of these
+// sets, so that a model is folded once and looked up afterwards.
 use layout::PARTICLE_SIZE;
 use model::What;
 use model::read_particle;
@@ -18,8 +19,8 @@ ghost use Rattle.next_children.specs.Nexts.{nextsSingle, nextsEmpty, nex
 ghost use Rattle.next_children.specs.Names.{FirstName, NamesIn, After};
 ghost use Rattle.next_children.specs.Line.{NextsLaid, Filled};
 
-/// Of a part of a model and a last child x: whether it accepts nothing, what can be a word's first, whether x can be a word's
-/// last, and what can follow x directly.
+/// Of a part of a model and a last child x: whether it accepts nothing, what can be a word's first, whether x can be a
+/// word's last, and what can follow x directly.
 pub struct Nexts {
     pub nothing: bool,
     pub first: u64,
@@ -133,8 +134,8 @@ fn first_nexts(t: &[u8], d: usize, x: usize) -> Nexts
     }
 }
 
-/// Of the members of depth d that s begins with, in a group of a kind. What is deeper belongs to them; the first that is less deep
-/// ends them.
+/// Of the members of depth d that s begins with, in a group of a kind. What is deeper belongs to them; the first that
+/// is less deep ends them.
 pub fn nexts_from(s: &[u8], d: usize, kind: GroupKind, x: usize) -> Nexts
     requires { ⌜ d ≤ 256 ⌝ }
     ensures { λ r. ⌜ Told r (λ y. facts numbers kind (membersFrom d (now (s .entry))) x y) ⌝ }
@@ -214,8 +215,8 @@ fn fill_after(ms: &[u8], n: usize, at: usize, t: &mut [u64]) -> u64
     ends
 }
 
-/// Writes a model's line of the table, 67 sets from `at` on: those that may come first, those that may follow each child below n,
-/// at 65 those after which no child is owed, at 66 whether none is owed at all.
+/// Writes a model's line of the table, 67 sets from `at` on: those that may come first, those that may follow each
+/// child below n, at 65 those after which no child is owed, at 66 whether none is owed at all.
 pub fn fill(ms: &[u8], n: usize, at: usize, t: &mut [u64])
     requires { ⌜ (n ≤ 64) × (at + 67 ≤ length (now t)) ⌝ }
     ensures { λ _. ⌜ Filled n (allMembers (now (ms .entry))) (now (t .entry)) at (now (t .exit)) ⌝ }

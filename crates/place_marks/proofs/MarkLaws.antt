@@ -181,7 +181,8 @@ module _ {bs : Bytes} {o : ℕ} {i : Bool} {place : List ℕ} {h : Holder} {p : 
         particles-drop (p + 1) (partIn bs o) room ∙ sym (drop-drop 1 p (particlesOf (partIn bs o))) ∙ ap (λ (l : Particles). drop 1 l) group-next in
         ap₂ (λ (d : ℕ) (l : Particles). spanOf d l) depth after-front ∙ span-group (around x) (rename (indexOfName bs) ms) (rename (indexOfName bs) rest)
 
-    pub group-marked : Marked (storeIn bs .form) (beforePlace (x .found .context)) (names ms) (marksAt (1 + spanOf (h .depth) (particlesOf (drop (particleSize * (p + 1)) (partIn bs o)))) p (partIn bs o))
+    pub group-marked : Marked (storeIn bs .form) (beforePlace (x .found .context)) (names ms)
+        (marksAt (1 + spanOf (h .depth) (particlesOf (drop (particleSize * (p + 1)) (partIn bs o)))) p (partIn bs o))
     unfolding rename names
     group-marked =
         let size : 1 + spanOf (h .depth) (particlesOf (drop (particleSize * (p + 1)) (partIn bs o))) ≡ suc (count (rename (indexOfName bs) ms) + 0) = omega (arith, group-span) in

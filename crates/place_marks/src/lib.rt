@@ -1,4 +1,5 @@
-//! Marks of the definitions around a place of a model: new rows stand after the children that belong to earlier particles.
+//! Marks of the definitions around a place of a model: new rows stand
+//! after the children that belong to earlier particles.
 ghost use mathlib.Core.Path.{_≡_};
 ghost use Prim.Native.Nat.{_≤_};
 ghost use Rattle.circle_check.specs.Members.{elementsOf};

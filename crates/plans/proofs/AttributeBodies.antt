@@ -12,7 +12,8 @@ use Rattle.rules.specs.Bytes.{Bytes, same, bytes}
 use Rattle.rules.specs.Model.{Members, done, el, group}
 use Rattle.rules.specs.Store.{Content, empty, pcdata, complex, Attribute, Definition, Form, Forest, tree, bare}
 use Rattle.rules.specs.Preorder.{Deep, flatten}
-use Rattle.rules.specs.Layout.{FlatDefinition, FlatParticle, FlatAttribute, indexOf, indexIn, sortCode, quantifierCode, groupCode, kindCode, howMany, particles, contentParticles, flatDefinition, allParticles, ownAttributes, allAttributes}
+use Rattle.rules.specs.Layout.{FlatDefinition, FlatParticle, FlatAttribute, indexOf, indexIn, sortCode, quantifierCode, groupCode, kindCode, howMany, particles}
+use Rattle.rules.specs.Layout.{contentParticles, flatDefinition, allParticles, ownAttributes, allAttributes}
 use Rattle.rules.specs.WellFormed.{attributeName}
 use Rattle.rules.specs.Change.{definitionAt, update, withAttributes, lacking}
 use Rattle.rules.proofs.DecodeLaws.{length-own}

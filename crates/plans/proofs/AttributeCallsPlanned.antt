@@ -22,7 +22,8 @@ use Rattle.rules.specs.Filling.{attributeRow}
 use Rattle.rules.specs.Lines.{elementNamed, attributeNamed}
 use Rattle.rules.specs.Passing.{good}
 use Rattle.rules.specs.Refusal.{first, conditions}
-use Rattle.rules.specs.Change.{addAttribute, destroyAttribute, definitionAt, nameAtIndex, Owned, attributeAt, update, withAttributes, lacking, dropOwned, newAttribute, formAfter, making, taking, dropPlan, plan, changed, docsAfter, after}
+use Rattle.rules.specs.Change.{addAttribute, destroyAttribute, definitionAt, nameAtIndex, Owned, attributeAt, update, withAttributes, lacking, dropOwned}
+use Rattle.rules.specs.Change.{newAttribute, formAfter, making, taking, dropPlan, plan, changed, docsAfter, after}
 use Rattle.rules.specs.Change as change
 use Rattle.rules.proofs.Words.{and-both, and-split}
 use Rattle.rules.proofs.TestLaws.{member-test}

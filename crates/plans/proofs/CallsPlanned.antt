@@ -22,7 +22,8 @@ use Rattle.row_walk.specs.declared.Plan.{Plan}
 use Rattle.row_walk.specs.Walk.{matches}
 use Rattle.store_writer.specs.Planned.{planned}
 use Rattle.plans.specs.Following.{Does}
-use Rattle.plans.specs.CallPlans.{childSerial, attributeSerial, textSerial, fillingPlan, settingPlan, addDocumentPlan, addElementPlan, destroyElementPlan, setAttributePlan, destroyAttributeRowPlan, setTextPlan}
+use Rattle.plans.specs.CallPlans.{childSerial, attributeSerial, textSerial, fillingPlan, settingPlan, addDocumentPlan, addElementPlan, destroyElementPlan}
+use Rattle.plans.specs.CallPlans.{setAttributePlan, destroyAttributeRowPlan, setTextPlan}
 use Rattle.plans.proofs.TreeWalk.{Clear, apart, everywhere, none-of, none-apart}
 use Rattle.plans.proofs.Planned.{flat-planned}
 use Rattle.plans.proofs.ApartLaws.{apart-serial}

@@ -18,7 +18,8 @@ use Rattle.rules.specs.WellFormed.{definitionName, known}
 use Rattle.rules.specs.Filling.{fillDefinition}
 use Rattle.rules.specs.Lines.{elementNamed}
 use Rattle.rules.specs.Passing.{good}
-use Rattle.rules.specs.Change.{insertElement, removeElement, definitionAt, nameAtIndex, update, inModel, editAt, formAfter, taking, making, laterThan, insertPlan, removePlan, pickedPlan, plan, changed}
+use Rattle.rules.specs.Change.{insertElement, removeElement, definitionAt, nameAtIndex, update, inModel, editAt, formAfter, taking, making, laterThan}
+use Rattle.rules.specs.Change.{insertPlan, removePlan, pickedPlan, plan, changed}
 use Rattle.rules.specs.Change as change
 use Rattle.rules.proofs.PassingLaws.{good-is}
 use Rattle.change_laws.proofs.Rowwise.{Standing}

@@ -47,14 +47,16 @@ known-element s g r b i e = by (every-standing (λ u rows. RowConforms (s .versi
     by x = let (d, q, y) = rw (is-element (r .sort) e) at x in ap isThere q
 
 -- a name in a model is one of a definition: the names around a place, and at it
-pub names-around : (e : Edit Bytes) (p : List ℕ) (ms : Members Bytes) (f : Found Bytes) → placeOf e p ms ≡ some f → names ms ≡ beforePlace (f .context) ++ (names (f .picked) ++ afterPlace (f .context))
+pub names-around : (e : Edit Bytes) (p : List ℕ) (ms : Members Bytes) (f : Found Bytes) → placeOf e p ms ≡ some f
+    → names ms ≡ beforePlace (f .context) ++ (names (f .picked) ++ afterPlace (f .context))
 names-around e p ms f at = sym (ap names (place-right e p ms f at)) ∙ names-plug (f .context) (f .picked)
 
 pub picked-known : (s : Store) → good s ≡ true → (o : ℕ) → o < length (s .form) → (e : Edit Bytes) (p : List ℕ) (f : Found Bytes) → placeOf e p (members (definitionAt o (s .form))) ≡ some f
     → (n : Bytes) → List·Memᴰ n (names (f .picked)) → known (s .form) n ≡ true
 picked-known s g o l e p f at n m =
     good-is s .0 g .form .definitions (definitionAt o (s .form)) (definition-in (s .form) o l) .inRange n
-    (subst (λ (ns : List Bytes). List·Memᴰ n ns) (sym (names-around e p (members (definitionAt o (s .form))) f at)) (Memᴰ·append-right (beforePlace (f .context)) (Memᴰ·append-left (afterPlace (f .context)) m)))
+    (subst (λ (ns : List Bytes). List·Memᴰ n ns) (sym (names-around e p (members (definitionAt o (s .form))) f at))
+    (Memᴰ·append-right (beforePlace (f .context)) (Memᴰ·append-left (afterPlace (f .context)) m)))
 
 -- ---- elements by the index of their name
 module _ (form : Form) (once : Distinct (map definitionName form)) where

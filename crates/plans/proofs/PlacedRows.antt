@@ -147,7 +147,8 @@ module _ (s : Store) (g : good s ≡ true) (o : ℕ) (l : o < length (s .form)) 
   content : d .content ≡ complex (members d)
   content = complex-content (d .content) (picked-complex (d .content) c (one ⊕ rest) right there)
 
-  pub instance-rows : (r : Row) (b : Forest Row) → Standing (s .docs) r b → elementNamed (nameAtIndex o (s .form)) r ≡ true → NoneAt (names one) (heads b) ⊎ FirstAt (beforePlace c) (names one) (heads b)
+  pub instance-rows : (r : Row) (b : Forest Row) → Standing (s .docs) r b → elementNamed (nameAtIndex o (s .form)) r ≡ true
+      → NoneAt (names one) (heads b) ⊎ FirstAt (beforePlace c) (names one) (heads b)
   instance-rows r b i n =
       let (is, called) = and-split (isElement (r .sort)) (same (d .name) (r .name)) n in
       let (k, q, x) = rw (is-element (r .sort) is) at (every-standing (λ u rows. RowConforms (s .version) (s .form) u rows) (s .docs) (good-is s .0 g .docs .rows) r b i) in

@@ -59,7 +59,8 @@ owed-twice false false w = refl
 module _ (s : Store) (g : good s ≡ true) (o : ℕ) (l : o < length (s .form)) (c : Context Bytes) (ns : List Bytes) (marks : Bytes) (cut gain : Bool) (x : ℕ)
     (n : Bytes) (what : Filling) (v : Bytes) (rows : Forest Row) (test : Row → Bool)
     (marked : (cut || gain) ≡ true → Marked (s .form) (beforePlace c) ns marks)
-    (instances : (cut || gain) ≡ true → (r : Row) (b : Forest Row) → Standing (s .docs) r b → elementNamed (nameAtIndex o (s .form)) r ≡ true → NoneAt ns (heads b) ⊎ FirstAt (beforePlace c) ns (heads b))
+    (instances : (cut || gain) ≡ true → (r : Row) (b : Forest Row) → Standing (s .docs) r b → elementNamed (nameAtIndex o (s .form)) r ≡ true
+    → NoneAt ns (heads b) ⊎ FirstAt (beforePlace c) ns (heads b))
     (tests : (r : Row) → test r ≡ elementAmong ns r)
     (takes : cut ≡ true → (m : Bytes) (r : Row) → matches (Elements x) (rowWritten (s .form) m r) ≡ elementNamed n r)
     (alone : cut ≡ true → (r : Row) → elementNamed n r ≡ elementAmong ns r)

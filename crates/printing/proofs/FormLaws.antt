@@ -18,7 +18,8 @@ use Rattle.rules.specs.Preorder.{Deep, build}
 use Rattle.layout.specs.Bodies.{widthOf}
 use Rattle.layout.proofs.LayoutLaws.{width-small}
 use Rattle.rules.specs.Layout.{definitionSize, particleSize, attributeSize, rowSize, FlatParticle, FlatAttribute, FlatDefinition, FlatRow, FlatStore}
-use Rattle.rules.specs.Decode.{nameAt, groupOf, sortOf, contentOf, memberOf, readMembers, ofOwner, readAttribute, readDefinition, readParticle, readRow, readRows, readForm, readMany, unflat, attributeCount, definitionCount, particleCount, rowCount}
+use Rattle.rules.specs.Decode.{nameAt, groupOf, sortOf, contentOf, memberOf, readMembers, ofOwner, readAttribute, readDefinition, readParticle, readRow}
+use Rattle.rules.specs.Decode.{readRows, readForm, readMany, unflat, attributeCount, definitionCount, particleCount, rowCount}
 use Rattle.rules.specs.Print.{escape, defaultTokens, memberTokens, modelTokens, contentTokens, attributeLines, formLines, documentLines, printed}
 use Rattle.codec.specs.Laid.{Laid}
 use Rattle.codec.proofs.Writers.{laid-none, laid-then, laid-as}
@@ -27,8 +28,10 @@ use Rattle.lookup.proofs.Laws.{from-none, from-all, bodies-flat}
 use Rattle.rules.proofs.DecodeLaws.{read-good, unflat-flat, good-known, good-found, GoodParts, good-parts}
 use Rattle.rules.specs.Passing.{readStore}
 use Rattle.printing.specs.Walking.{Passed}
-use Rattle.printing.specs.Parts.{Named, Within, definitionPart, attributePart, fromDefinitions, fromParticles, fromAttributes, definitionsFrom, particlesFrom, attributesFrom, namesOf, attributeNamesOf}
-use Rattle.printing.specs.Texts.{LaidWithin, attributeRead, defaultText, attributeLineText, attributesText, isTree, membersText, contentText, definitionText, declarationsText, formText, documentsText, textOf}
+use Rattle.printing.specs.Parts.{Named, Within, definitionPart, attributePart, fromDefinitions, fromParticles, fromAttributes, definitionsFrom}
+use Rattle.printing.specs.Parts.{particlesFrom, attributesFrom, namesOf, attributeNamesOf}
+use Rattle.printing.specs.Texts.{LaidWithin, attributeRead, defaultText, attributeLineText, attributesText, isTree, membersText, contentText}
+use Rattle.printing.specs.Texts.{definitionText, declarationsText, formText, documentsText, textOf}
 use Rattle.printing.proofs.TextLaws.{concat-append}
 use Rattle.escaping.proofs.Laws.{laid-long, escape-length}
 use Rattle.printing.proofs.PartLaws.{attribute-step, attribute-name, definition-name, definition-step, value-short}
@@ -84,8 +87,10 @@ module _ (bs : Bytes) (i : ℕ) (p : Bytes) (at-i : p ≡ attributePart bs i) (s
       }
 
 -- ---- the line of an attribute
-pub attribute-line : (bs : Bytes) (i : ℕ) (owner w : Bytes) {out o₁ o₂ o₃ o₄ o₅ o₆ o : Bytes} {at a₁ a₂ a₃ a₄ a₅ a₆ r : ℕ} → i < attributeCount bs → length owner ≤ 300 → Named (nameAt i (attributeNamesOf bs)) w
-    → Laid (ascii "<!ATTLIST ") out at a₁ o₁ → Laid owner o₁ a₁ a₂ o₂ → Laid (ascii " ") o₂ a₂ a₃ o₃ → Laid w o₃ a₃ a₄ o₄ → Laid (ascii " CDATA ") o₄ a₄ a₅ o₅ → LaidWithin 2000 (defaultText (readAttribute (attributePart bs i))) o₅ a₅ a₆ o₆ → Laid (ascii ">\n") o₆ a₆ r o
+pub attribute-line : (bs : Bytes) (i : ℕ) (owner w : Bytes) {out o₁ o₂ o₃ o₄ o₅ o₆ o : Bytes} {at a₁ a₂ a₃ a₄ a₅ a₆ r : ℕ} → i < attributeCount bs
+    → length owner ≤ 300 → Named (nameAt i (attributeNamesOf bs)) w
+    → Laid (ascii "<!ATTLIST ") out at a₁ o₁ → Laid owner o₁ a₁ a₂ o₂ → Laid (ascii " ") o₂ a₂ a₃ o₃ → Laid w o₃ a₃ a₄ o₄ → Laid (ascii " CDATA ") o₄ a₄ a₅ o₅
+    → LaidWithin 2000 (defaultText (readAttribute (attributePart bs i))) o₅ a₅ a₆ o₆ → Laid (ascii ">\n") o₆ a₆ r o
     → LaidWithin 3000 (attributeLineText owner (readAttribute (attributePart bs i))) out at r o
 unfolding attributeLineText defaultText
 attribute-line bs i owner w h short n a b c d e f g =
@@ -129,7 +134,12 @@ module _ (bs owner : Bytes) (o count : ℕ) {goal out₀ : Bytes} {at₀ : ℕ} 
       record {
         counts = w .counts;
         upto = omega arith;
-        goes = λ r q m. w .goes r q (laid-as (ap (λ (xs : List FlatAttribute). attributesText owner (ofOwner o xs)) (attribute-step bs count i h) ∙ ap (attributesText owner) (owner-this o next (attributesFrom bs count (i + 1)) e) ∙ lines-more owner next (ofOwner o (attributesFrom bs count (i + 1)))) (laid-then (l .laid) m));
+        goes = λ r q m. w .goes r q
+            (laid-as
+            (ap (λ (xs : List FlatAttribute). attributesText owner (ofOwner o xs)) (attribute-step bs count i h)
+            ∙ ap (attributesText owner) (owner-this o next (attributesFrom bs count (i + 1)) e)
+            ∙ lines-more owner next (ofOwner o (attributesFrom bs count (i + 1))))
+            (laid-then (l .laid) m));
         small = omega (arith, w .small, l .small);
         long = laid-long (l .laid) ∙ w .long;
       }
@@ -139,18 +149,32 @@ module _ (bs owner : Bytes) (o count : ℕ) {goal out₀ : Bytes} {at₀ : ℕ} 
       record {
         counts = w .counts;
         upto = omega arith;
-        goes = λ r q m. w .goes r q (laid-as (ap (λ (xs : List FlatAttribute). attributesText owner (ofOwner o xs)) (attribute-step bs count i h) ∙ ap (attributesText owner) (owner-other o next (attributesFrom bs count (i + 1)) e)) m);
+        goes = λ r q m. w .goes r q
+            (laid-as
+            (ap (λ (xs : List FlatAttribute). attributesText owner (ofOwner o xs)) (attribute-step bs count i h)
+            ∙ ap (attributesText owner) (owner-other o next (attributesFrom bs count (i + 1)) e))
+            m);
         small = omega (arith, w .small);
         long = w .long;
       }
 
-pub listing-start : (bs owner : Bytes) (o count at : ℕ) (out : Bytes) → count ≡ attributeCount bs → Listing bs owner o count (attributesText owner (ofOwner o (attributesFrom bs (attributeCount bs) 0))) out at out at 0
+pub listing-start : (bs owner : Bytes) (o count at : ℕ) (out : Bytes) → count ≡ attributeCount bs
+    → Listing bs owner o count (attributesText owner (ofOwner o (attributesFrom bs (attributeCount bs) 0))) out at out at 0
 listing-start bs owner o count at out e =
     record { counts = e; upto = omega arith; goes = λ r q l. laid-as (ap (λ (n : ℕ). attributesText owner (ofOwner o (attributesFrom bs n 0))) (sym e)) l; small = omega arith; long = refl }
 
-pub listing-done : (bs owner : Bytes) (o count : ℕ) {goal out₀ : Bytes} {at₀ : ℕ} {out : Bytes} {at i : ℕ} → Listing bs owner o count goal out₀ at₀ out at i → count ≤ i → at ≤ at₀ + 192000 → LaidWithin 192000 goal out₀ at₀ at out
+pub listing-done : (bs owner : Bytes) (o count : ℕ) {goal out₀ : Bytes} {at₀ : ℕ} {out : Bytes} {at i : ℕ} → Listing bs owner o count goal out₀ at₀ out at i
+    → count ≤ i → at ≤ at₀ + 192000 → LaidWithin 192000 goal out₀ at₀ at out
 unfolding attributesText
-listing-done bs owner o count {at = at} {i = i} w h k = record { laid = w .goes at _ (laid-as (ap (λ (xs : List FlatAttribute). attributesText owner (ofOwner o xs)) (from-none readAttribute (attributeSize (widthOf bs)) (fromAttributes bs) count i h)) laid-none); small = k }
+listing-done bs owner o count {at = at} {i = i} w h k =
+    record {
+      laid = w .goes at _
+          (laid-as
+          (ap (λ (xs : List FlatAttribute). attributesText owner (ofOwner o xs))
+          (from-none readAttribute (attributeSize (widthOf bs)) (fromAttributes bs) count i h))
+          laid-none);
+      small = k;
+    }
 
 -- ---- content
 content-none : (ns : List Bytes) (kind : ℕ) (f : Forest FlatParticle) → (kind ≡ 0 → ⊥) → (kind ≡ 1 → ⊥) → false ≡ isTree f → contentText ns kind f ≡ ascii "EMPTY" ++ []
@@ -160,11 +184,13 @@ content-none ns (suc zero) f a b e = absurd (b refl)
 content-none ns (suc (suc k)) bare a b e = refl
 content-none ns (suc (suc k)) (tree p q t) a b e = absurd (false≢true e)
 
-model-some : (ns : List Bytes) (p : FlatParticle) (s : ℕ) (b t : Members Bytes) → concat (modelTokens (memberOf ns p s b t)) ≡ ascii "(" ++ (concat (memberTokens Sequence [] (memberOf ns p s b t)) ++ (ascii ")" ++ []))
+model-some : (ns : List Bytes) (p : FlatParticle) (s : ℕ) (b t : Members Bytes)
+    → concat (modelTokens (memberOf ns p s b t)) ≡ ascii "(" ++ (concat (memberTokens Sequence [] (memberOf ns p s b t)) ++ (ascii ")" ++ []))
 model-some ns p zero b t = ap (λ (l : Bytes). ascii "(" ++ l) (concat-append (memberTokens Sequence [] (memberOf ns p zero b t)) (ascii ")" ∷ []))
 model-some ns p (suc s) b t = ap (λ (l : Bytes). ascii "(" ++ l) (concat-append (memberTokens Sequence [] (memberOf ns p (suc s) b t)) (ascii ")" ∷ []))
 
-content-some : (ns : List Bytes) (kind : ℕ) (f : Forest FlatParticle) → (kind ≡ 0 → ⊥) → (kind ≡ 1 → ⊥) → true ≡ isTree f → contentText ns kind f ≡ ascii "(" ++ (membersText ns Sequence true f ++ (ascii ")" ++ []))
+content-some : (ns : List Bytes) (kind : ℕ) (f : Forest FlatParticle) → (kind ≡ 0 → ⊥) → (kind ≡ 1 → ⊥) → true ≡ isTree f
+    → contentText ns kind f ≡ ascii "(" ++ (membersText ns Sequence true f ++ (ascii ")" ++ []))
 unfolding contentText membersText
 content-some ns zero f a b e = absurd (a refl)
 content-some ns (suc zero) f a b e = absurd (b refl)
@@ -183,10 +209,12 @@ module _ (ns : List Bytes) (kind : ℕ) (f : Forest FlatParticle) {out : Bytes} 
   unfolding contentText
   content-pcdata-laid e l = content-laid (ap (λ (k : ℕ). concat (contentTokens (contentOf k (readMembers ns f)))) e) (omega arith) l
 
-  pub content-none-laid : {o : Bytes} {r : ℕ} (b : Bool) → (kind ≡ 0 → ⊥) → (kind ≡ 1 → ⊥) → b ≡ isTree f → b ≡ false → Laid (ascii "EMPTY") out at r o → LaidWithin 640100 (contentText ns kind f) out at r o
+  pub content-none-laid : {o : Bytes} {r : ℕ} (b : Bool) → (kind ≡ 0 → ⊥) → (kind ≡ 1 → ⊥) → b ≡ isTree f → b ≡ false → Laid (ascii "EMPTY") out at r o
+      → LaidWithin 640100 (contentText ns kind f) out at r o
   content-none-laid b x y e g l = content-laid (content-none ns kind f x y (sym g ∙ e)) (omega arith) l
 
-pub content-some-laid : (bs : Bytes) (kind end from : ℕ) {out o₁ o₂ o : Bytes} {at a₁ a₂ next r : ℕ} (b : Bool) → end ≤ 256 → (kind ≡ 0 → ⊥) → (kind ≡ 1 → ⊥) → b ≡ isTree (build (particlesFrom bs end from) 0) → b ≡ true
+pub content-some-laid : (bs : Bytes) (kind end from : ℕ) {out o₁ o₂ o : Bytes} {at a₁ a₂ next r : ℕ} (b : Bool) → end ≤ 256 → (kind ≡ 0 → ⊥) → (kind ≡ 1 → ⊥)
+    → b ≡ isTree (build (particlesFrom bs end from) 0) → b ≡ true
     → Laid (ascii "(") out at a₁ o₁ → Passed (particlesFrom bs end) (membersText (namesOf bs) (groupOf 1) true) end from 0 a₁ o₁ next a₂ o₂ → Laid (ascii ")") o₂ a₂ r o
     → LaidWithin 640100 (contentText (namesOf bs) kind (build (particlesFrom bs end from) 0)) out at r o
 content-some-laid bs kind end from b h x y e g l m n =
@@ -210,7 +238,9 @@ definition-laid bs o end from d at-o h kind kind-is {w} a n b c e g =
     kind-here : readDefinition (definitionPart bs o) .kind ≡ kind
     kind-here = sym (kind-is ∙ ap (λ (l : Bytes). readDefinition l .kind) at-o)
 
-    same : ascii "<!ELEMENT " ++ (readDefinition (definitionPart bs o) .name ++ (ascii " " ++ (contentText (namesOf bs) (readDefinition (definitionPart bs o) .kind) (build (particlesFrom bs end from) 0) ++ (ascii ">\n" ++ []))))
+    same : ascii "<!ELEMENT "
+        ++ (readDefinition (definitionPart bs o) .name
+        ++ (ascii " " ++ (contentText (namesOf bs) (readDefinition (definitionPart bs o) .kind) (build (particlesFrom bs end from) 0) ++ (ascii ">\n" ++ []))))
         ≡ ascii "<!ELEMENT " ++ (w ++ (ascii " " ++ (contentText (namesOf bs) kind (build (particlesFrom bs end from) 0) ++ (ascii ">\n" ++ []))))
     same =
         ap₂ (λ (z : Bytes) (k : ℕ). ascii "<!ELEMENT " ++ (z ++ (ascii " " ++ (contentText (namesOf bs) k (build (particlesFrom bs end from) 0) ++ (ascii ">\n" ++ [])))))
@@ -257,7 +287,9 @@ form-step : (ns : List Bytes) (o : ℕ) (d : FlatDefinition) (ds : List FlatDefi
     → formText ns o (d ∷ ds) ps cs ≡ declarationsText ns o d ps cs ++ formText ns (o + 1) ds (drop (d .particles) ps) cs
 unfolding formText declarationsText definitionText contentText attributesText
 form-step ns o d ds ps cs =
-    ap₂ _++_ (ap (λ (l : Bytes). ascii "<!ELEMENT " ++ (d .name ++ (ascii " " ++ l))) (concat-append (contentTokens (contentOf (d .kind) (readMembers ns (build (take (d .particles) ps) 0)))) (ascii ">\n" ∷ [])))
+    ap₂ _++_
+    (ap (λ (l : Bytes). ascii "<!ELEMENT " ++ (d .name ++ (ascii " " ++ l)))
+    (concat-append (contentTokens (contentOf (d .kind) (readMembers ns (build (take (d .particles) ps) 0)))) (ascii ">\n" ∷ [])))
     (lines-append (attributeLines (d .name) (ofOwner o cs)) (formLines (readForm ns (suc o) ds (drop (d .particles) ps) cs)))
     ∙ sym (append-assoc (definitionText ns d (take (d .particles) ps)) (attributesText (d .name) (ofOwner o cs)) (formText ns (suc o) ds (drop (d .particles) ps) cs))
     ∙ ap (λ (k : ℕ). declarationsText ns o d ps cs ++ formText ns k ds (drop (d .particles) ps) cs) (sym (add-one o))
@@ -267,8 +299,11 @@ unfolding formText
 form-none ns o ps cs = refl
 
 -- the declarations of one definition, written
-pub declarations-laid : (bs : Bytes) (o from : ℕ) (p : Bytes) → p ≡ definitionPart bs o → o < definitionCount bs → (n end : ℕ) → n ≡ readDefinition p .particles → take n (particlesFrom bs (particleCount bs) from) ≡ particlesFrom bs end from
-    → {w out o₁ o₂ : Bytes} {at a₁ r : ℕ} → LaidWithin 641000 (definitionText (namesOf bs) (readDefinition (definitionPart bs o)) (particlesFrom bs end from)) out at a₁ o₁ → Named (nameAt o (namesOf bs)) w
+pub declarations-laid : (bs : Bytes) (o from : ℕ) (p : Bytes) → p ≡ definitionPart bs o → o < definitionCount bs → (n end : ℕ) → n ≡ readDefinition p .particles
+    → take n (particlesFrom bs (particleCount bs) from) ≡ particlesFrom bs end from
+    → {w out o₁ o₂ : Bytes} {at a₁ r : ℕ}
+    → LaidWithin 641000 (definitionText (namesOf bs) (readDefinition (definitionPart bs o)) (particlesFrom bs end from)) out at a₁ o₁
+    → Named (nameAt o (namesOf bs)) w
     → LaidWithin 192000 (attributesText w (ofOwner o (attributesFrom bs (attributeCount bs) 0))) o₁ a₁ r o₂
     → LaidWithin 840000 (declarationsText (namesOf bs) o (readDefinition (definitionPart bs o)) (particlesFrom bs (particleCount bs) from) (attributesFrom bs (attributeCount bs) 0)) out at r o₂
 unfolding declarationsText
@@ -276,7 +311,9 @@ declarations-laid bs o from p at-o h n end n-is e {w} d m a =
     record {
       laid =
           laid-as
-          (ap₂ (λ (xs : List (Deep FlatParticle)) (z : Bytes). definitionText (namesOf bs) (readDefinition (definitionPart bs o)) xs ++ attributesText z (ofOwner o (attributesFrom bs (attributeCount bs) 0)))
+          (ap₂
+          (λ (xs : List (Deep FlatParticle)) (z : Bytes). definitionText (namesOf bs) (readDefinition (definitionPart bs o)) xs
+          ++ attributesText z (ofOwner o (attributesFrom bs (attributeCount bs) 0)))
           (ap (λ (k : ℕ). take k (particlesFrom bs (particleCount bs) from)) (particles-here bs o p at-o n n-is) ∙ e) (sym (m .name-is ∙ definition-name bs o h)))
           (laid-then (d .laid) (a .laid));
       small = omega (arith, d .small, a .small);
@@ -289,12 +326,18 @@ declarations-laid bs o from p at-o h n end n-is e {w} d m a =
 pub record Declaring (bs : Bytes) (count : ℕ) (goal out₀ : Bytes) (at₀ : ℕ) (out : Bytes) (at o from : ℕ) : Type 0 where
   pub counts : count ≡ definitionCount bs
   pub upto : o ≤ count
-  pub goes : (r : ℕ) (out″ : Bytes) → Laid (formText (namesOf bs) o (definitionsFrom bs count o) (particlesFrom bs (particleCount bs) from) (attributesFrom bs (attributeCount bs) 0)) out at r out″ → Laid goal out₀ at₀ r out″
+  pub goes : (r : ℕ) (out″ : Bytes)
+      → Laid (formText (namesOf bs) o (definitionsFrom bs count o) (particlesFrom bs (particleCount bs) from) (attributesFrom bs (attributeCount bs) 0)) out at
+      r out″
+      → Laid goal out₀ at₀ r out″
   pub small : at ≤ at₀ + 840000 * o
   pub few : from ≤ 4294967296 * o
   pub long : length out ≡ length out₀
 
-pub declaring-start : (bs : Bytes) (count at : ℕ) (out : Bytes) → count ≡ definitionCount bs → Declaring bs count (formText (namesOf bs) 0 (definitionsFrom bs (definitionCount bs) 0) (particlesFrom bs (particleCount bs) 0) (attributesFrom bs (attributeCount bs) 0)) out at out at 0 0
+pub declaring-start : (bs : Bytes) (count at : ℕ) (out : Bytes) → count ≡ definitionCount bs
+    → Declaring bs count
+    (formText (namesOf bs) 0 (definitionsFrom bs (definitionCount bs) 0) (particlesFrom bs (particleCount bs) 0) (attributesFrom bs (attributeCount bs) 0)) out
+    at out at 0 0
 declaring-start bs count at out e =
     record {
       counts = e;
@@ -339,13 +382,15 @@ declaring-on bs count {o = o} {from = from} w h p at-o n n-is small l =
     particles : readDefinition (definitionPart bs o) .particles ≡ n
     particles = sym (n-is ∙ ap (λ (l : Bytes). readDefinition l .particles) at-o)
 
-pub declaring-done : (bs : Bytes) (count : ℕ) {goal out₀ : Bytes} {at₀ : ℕ} {out : Bytes} {at o from : ℕ} → Declaring bs count goal out₀ at₀ out at o from → count ≤ o → definitionCount bs ≤ 64 → LaidWithin 53760000 goal out₀ at₀ at out
+pub declaring-done : (bs : Bytes) (count : ℕ) {goal out₀ : Bytes} {at₀ : ℕ} {out : Bytes} {at o from : ℕ} → Declaring bs count goal out₀ at₀ out at o from
+    → count ≤ o → definitionCount bs ≤ 64 → LaidWithin 53760000 goal out₀ at₀ at out
 declaring-done bs count {at = at} {o = o} {from = from} w h k =
     record {
       laid =
           w .goes at _
           (laid-as
-          (ap (λ (ds : List FlatDefinition). formText (namesOf bs) o ds (particlesFrom bs (particleCount bs) from) (attributesFrom bs (attributeCount bs) 0)) (from-none readDefinition definitionSize (fromDefinitions bs) count o h)
+          (ap (λ (ds : List FlatDefinition). formText (namesOf bs) o ds (particlesFrom bs (particleCount bs) from) (attributesFrom bs (attributeCount bs) 0))
+          (from-none readDefinition definitionSize (fromDefinitions bs) count o h)
           ∙ form-none (namesOf bs) o (particlesFrom bs (particleCount bs) from) (attributesFrom bs (attributeCount bs) 0))
           laid-none);
       small = omega (arith, w .small, w .upto, w .counts);
@@ -353,14 +398,22 @@ declaring-done bs count {at = at} {o = o} {from = from} w h k =
 
 -- ---- the whole text
 pub text-parts : {bs rows : Bytes} {w f : ℕ} → RowsOf bs w rows → f ≡ rowCount bs
-    → textOf bs ≡ formText (namesOf bs) 0 (definitionsFrom bs (definitionCount bs) 0) (particlesFrom bs (particleCount bs) 0) (attributesFrom bs (attributeCount bs) 0) ++ documentsText (namesOf bs) (attributeNamesOf bs) (build (rowsFrom w rows f 0) 0)
+    → textOf bs
+    ≡ formText (namesOf bs) 0 (definitionsFrom bs (definitionCount bs) 0) (particlesFrom bs (particleCount bs) 0) (attributesFrom bs (attributeCount bs) 0)
+    ++ documentsText (namesOf bs) (attributeNamesOf bs) (build (rowsFrom w rows f 0) 0)
 unfolding textOf printed formText documentsText namesOf attributeNamesOf bodiesOf fromDefinitions fromParticles fromAttributes fromRows
 text-parts {bs} {rows} {w} {f} h e =
     lines-append (formLines (unflat (bodiesOf bs) .form)) (documentLines (unflat (bodiesOf bs) .docs))
     ∙ sym
     (ap₂ _++_
-    (λ i. concat (map concat (formLines (readForm (namesOf bs) 0 (from-all readDefinition definitionSize (fromDefinitions bs) (definitionCount bs) 0 i) (from-all readParticle particleSize (fromParticles bs) (particleCount bs) 0 i) (from-all readAttribute (attributeSize (widthOf bs)) (fromAttributes bs) (attributeCount bs) 0 i)))))
-    (ap (λ (xs : List (Deep FlatRow)). concat (map concat (documentLines (readRows (namesOf bs) (attributeNamesOf bs) (build xs 0))))) (from-all readRow (rowSize w) rows f 0 ∙ (λ i. readMany readRow (rowSize (h .width .value i)) (e i) (h .body i)))))
+    (λ i. concat
+    (map concat
+    (formLines
+    (readForm (namesOf bs) 0 (from-all readDefinition definitionSize (fromDefinitions bs) (definitionCount bs) 0 i)
+    (from-all readParticle particleSize (fromParticles bs) (particleCount bs) 0 i)
+    (from-all readAttribute (attributeSize (widthOf bs)) (fromAttributes bs) (attributeCount bs) 0 i)))))
+    (ap (λ (xs : List (Deep FlatRow)). concat (map concat (documentLines (readRows (namesOf bs) (attributeNamesOf bs) (build xs 0)))))
+    (from-all readRow (rowSize w) rows f 0 ∙ (λ i. readMany readRow (rowSize (h .width .value i)) (e i) (h .body i)))))
 
 -- on a store that passes
 pub text-is : (bs : Bytes) (s : Store) → readStore bs ≡ some s → textOf bs ≡ printed s

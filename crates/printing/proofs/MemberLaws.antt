@@ -56,12 +56,14 @@ module _ (bs : Bytes) (end i depth kind : ℕ) (first : Bool) (p : Bytes) (at-i 
   mark-here : q ≡ here .quantifier
   mark-here = q-is ∙ ap (λ (l : Bytes). readParticle l .row .quantifier) at-i
 
-  pub element-stepped : (index : ℕ) {w : Bytes} {a₂ a₃ : ℕ} {o₂ o₃ : Bytes} → sort ≡ 0 → index ≡ readParticle p .row .index → Named (nameAt index (namesOf bs)) w → Laid w o₁ a₁ a₂ o₂ → Laid (markOf (quantifierOf q)) o₂ a₂ a₃ o₃
+  pub element-stepped : (index : ℕ) {w : Bytes} {a₂ a₃ : ℕ} {o₂ o₃ : Bytes} → sort ≡ 0 → index ≡ readParticle p .row .index
+      → Named (nameAt index (namesOf bs)) w → Laid w o₁ a₁ a₂ o₂ → Laid (markOf (quantifierOf q)) o₂ a₂ a₃ o₃
       → Stepped (particlesFrom bs end) (memberText (namesOf bs) (groupOf kind) first here below) end i depth at out (i + 1) a₃ o₃
   unfolding memberText
   element-stepped index {w} z e n l m =
       record {
-        laid = laid-as (ap (λ (b : Bytes). signText (groupOf kind) first ++ b) (body-element (namesOf bs) (here .sort) here below (sym sort-here ∙ z) ∙ same)) (laid-then signed (laid-then l (laid-then m laid-none)));
+        laid = laid-as (ap (λ (b : Bytes). signText (groupOf kind) first ++ b) (body-element (namesOf bs) (here .sort) here below (sym sort-here ∙ z) ∙ same))
+            (laid-then signed (laid-then l (laid-then m laid-none)));
         skips = λ j g. refl;
         onward = omega arith;
         small = omega (arith, signed .next, l .next, m .next, n .short, sign-short (groupOf kind) first, mark-short q);
@@ -72,13 +74,16 @@ module _ (bs : Bytes) (end i depth kind : ℕ) (first : Bool) (p : Bytes) (at-i 
           ap₂ (λ (a : Bytes) (k : ℕ). a ++ (markOf (quantifierOf k) ++ []))
           (sym (n .name-is ∙ ap (λ (k : ℕ). nameAt k (namesOf bs)) (e ∙ ap (λ (l : Bytes). readParticle l .row .index) at-i))) (sym mark-here)
 
-  pub group-stepped : {a₂ a₃ a₄ a₅ next : ℕ} {o₂ o₃ o₄ o₅ : Bytes} → (sort ≡ 0 → ⊥) → Laid (ascii "(") o₁ a₁ a₂ o₂ → Passed (particlesFrom bs end) (membersText (namesOf bs) (groupOf sort) true) end (i + 1) (depth + 1) a₂ o₂ next a₃ o₃
+  pub group-stepped : {a₂ a₃ a₄ a₅ next : ℕ} {o₂ o₃ o₄ o₅ : Bytes} → (sort ≡ 0 → ⊥) → Laid (ascii "(") o₁ a₁ a₂ o₂
+      → Passed (particlesFrom bs end) (membersText (namesOf bs) (groupOf sort) true) end (i + 1) (depth + 1) a₂ o₂ next a₃ o₃
       → Laid (ascii ")") o₃ a₃ a₄ o₄ → Laid (markOf (quantifierOf q)) o₄ a₄ a₅ o₅
       → Stepped (particlesFrom bs end) (memberText (namesOf bs) (groupOf kind) first here below) end i depth at out next a₅ o₅
   unfolding memberText
   group-stepped z l b r m =
       record {
-        laid = laid-as (ap (λ (w : Bytes). signText (groupOf kind) first ++ w) (body-group (namesOf bs) (here .sort) here below (λ e. z (sort-here ∙ e)) ∙ same)) (laid-then signed (laid-then l (laid-then (b .laid) (laid-then r (laid-then m laid-none)))));
+        laid = laid-as
+            (ap (λ (w : Bytes). signText (groupOf kind) first ++ w) (body-group (namesOf bs) (here .sort) here below (λ e. z (sort-here ∙ e)) ∙ same))
+            (laid-then signed (laid-then l (laid-then (b .laid) (laid-then r (laid-then m laid-none)))));
         skips = λ j g. b .skips j (omega arith);
         onward = omega (arith, b .onward);
         small = omega (arith, signed .next, l .next, b .small, r .next, m .next, sign-short (groupOf kind) first, mark-short q);
@@ -87,4 +92,6 @@ module _ (bs : Bytes) (end i depth kind : ℕ) (first : Bool) (p : Bytes) (at-i 
       same : ascii "(" ++ (membersText (namesOf bs) (groupOf (here .sort)) true below ++ (ascii ")" ++ (markOf (quantifierOf (here .quantifier)) ++ [])))
           ≡ ascii "(" ++ (membersText (namesOf bs) (groupOf sort) true (build (particlesFrom bs end (i + 1)) (depth + 1)) ++ (ascii ")" ++ (markOf (quantifierOf q) ++ [])))
       same =
-          λ k. ascii "(" ++ (membersText (namesOf bs) (groupOf (sym sort-here k)) true (build (particlesFrom bs end (i + 1)) (sym (add-one depth) k)) ++ (ascii ")" ++ (markOf (quantifierOf (sym mark-here k)) ++ [])))
+          λ k. ascii "("
+          ++ (membersText (namesOf bs) (groupOf (sym sort-here k)) true (build (particlesFrom bs end (i + 1)) (sym (add-one depth) k))
+          ++ (ascii ")" ++ (markOf (quantifierOf (sym mark-here k)) ++ [])))

@@ -13,7 +13,8 @@ use Rattle.layout.specs.Bodies.{recordAt, widthOf, attributeBytesIn}
 use Rattle.layout.proofs.LayoutLaws.{width-small, definition-name-short, attribute-name-short, attribute-value-short}
 use Rattle.rules.specs.Layout.{headerSize, definitionSize, particleSize, attributeSize, rowSize}
 use Rattle.lookup.proofs.Laws.{from-step}
-use Rattle.printing.specs.Parts.{fromDefinitions, fromParticles, fromAttributes, definitionPart, particlePart, attributePart, namesOf, attributeNamesOf, definitionsFrom, particlesFrom, attributesFrom}
+use Rattle.printing.specs.Parts.{fromDefinitions, fromParticles, fromAttributes, definitionPart, particlePart, attributePart, namesOf, attributeNamesOf}
+use Rattle.printing.specs.Parts.{definitionsFrom, particlesFrom, attributesFrom}
 
 -- ---- their places
 pub definition-place : (bs : Bytes) (i : ℕ) → take definitionSize (drop (headerSize + definitionSize * i) bs) ≡ definitionPart bs i
@@ -75,7 +76,9 @@ module _ (bs : Bytes) (i : ℕ) where
 
   pub attribute-name : i < attributeCount bs → nameAt i (attributeNamesOf bs) ≡ readAttribute (attributePart bs i) .name
   unfolding attributeNamesOf bodiesOf attributePart fromAttributes
-  attribute-name h = name-there flatAttributeName readAttribute (attributeSize (widthOf bs)) (attributeCount bs) i (drop (particleSize * particleCount bs) (drop (definitionSize * definitionCount bs) (drop headerSize bs))) h
+  attribute-name h =
+      name-there flatAttributeName readAttribute (attributeSize (widthOf bs)) (attributeCount bs) i
+      (drop (particleSize * particleCount bs) (drop (definitionSize * definitionCount bs) (drop headerSize bs))) h
 
   attribute-long : length (attributePart bs i) ≤ attributeSize (widthOf bs)
   unfolding attributePart
@@ -86,7 +89,9 @@ module _ (bs : Bytes) (i : ℕ) where
 
   pub attribute-none : attributeCount bs ≤ i → nameAt i (attributeNamesOf bs) ≡ []
   unfolding attributeNamesOf bodiesOf
-  attribute-none h = name-past flatAttributeName readAttribute (attributeSize (widthOf bs)) (attributeCount bs) i (drop (particleSize * particleCount bs) (drop (definitionSize * definitionCount bs) (drop headerSize bs))) h
+  attribute-none h =
+      name-past flatAttributeName readAttribute (attributeSize (widthOf bs)) (attributeCount bs) i
+      (drop (particleSize * particleCount bs) (drop (definitionSize * definitionCount bs) (drop headerSize bs))) h
 
   pub value-short : length (readAttribute (attributePart bs i) .value) ≤ 255
   value-short = omega (arith, attribute-value-short (attributePart bs i) (widthOf bs) attribute-long, width-small bs)

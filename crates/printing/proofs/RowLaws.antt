@@ -55,7 +55,12 @@ unfolding elementText
 element-enclosed bs rows width count i depth w short l n b e m g =
     record {
       laid =
-          laid-as (ap (λ (d : ℕ). ascii "<" ++ (w ++ (rowsText (namesOf bs) (attributeNamesOf bs) true (build (rowsFrom width rows count (i + 1)) d) ++ (ascii "</" ++ (w ++ (ascii ">" ++ [])))))) (sym (add-one depth)))
+          laid-as
+          (ap
+          (λ (d : ℕ). ascii "<"
+          ++ (w
+          ++ (rowsText (namesOf bs) (attributeNamesOf bs) true (build (rowsFrom width rows count (i + 1)) d) ++ (ascii "</" ++ (w ++ (ascii ">" ++ []))))))
+          (sym (add-one depth)))
           (laid-then l (laid-then n (laid-then (b .laid) (laid-then e (laid-then m (laid-then g laid-none))))));
       skips = λ j h. b .skips j (omega arith);
       onward = omega (arith, b .onward);
@@ -88,7 +93,10 @@ module _ (bs rows : Bytes) (width count i depth : ℕ) (opened : Bool) (p : Byte
       → Stepped (rowsFrom width rows count) (rowText (namesOf bs) (attributeNamesOf bs) opened here below) count i depth at out (i + 1) r o
   attribute-stepped {w} {v} z n k l =
       record {
-        laid = laid-as (by-sort attribute (ap rowSortOf (sym sort-here ∙ z)) ∙ ap₂ attributeText (sym (n .name-is ∙ ap (λ (j : ℕ). nameAt j (attributeNamesOf bs)) index-here)) (sym (k .name-is ∙ value-here))) l;
+        laid = laid-as
+            (by-sort attribute (ap rowSortOf (sym sort-here ∙ z))
+            ∙ ap₂ attributeText (sym (n .name-is ∙ ap (λ (j : ℕ). nameAt j (attributeNamesOf bs)) index-here)) (sym (k .name-is ∙ value-here)))
+            l;
         skips = λ j g. refl;
         onward = omega arith;
         small = omega (arith, l .next, attribute-long w v (n .short) (k .short));
@@ -99,7 +107,11 @@ module _ (bs rows : Bytes) (width count i depth : ℕ) (opened : Bool) (p : Byte
       → Stepped (rowsFrom width rows count) (rowText (namesOf bs) (attributeNamesOf bs) opened here below) count i depth at out next r o
   row-element-stepped {w} z l n e =
       record {
-        laid = laid-as (by-sort element (ap rowSortOf (sym sort-here ∙ z)) ∙ ap (λ (x : Bytes). endText opened ++ elementText (namesOf bs) (attributeNamesOf bs) x below) (sym (n .name-is ∙ ap (λ (j : ℕ). nameAt j (namesOf bs)) index-here))) (laid-then l (e .laid));
+        laid = laid-as
+            (by-sort element (ap rowSortOf (sym sort-here ∙ z))
+            ∙ ap (λ (x : Bytes). endText opened ++ elementText (namesOf bs) (attributeNamesOf bs) x below)
+            (sym (n .name-is ∙ ap (λ (j : ℕ). nameAt j (namesOf bs)) index-here)))
+            (laid-then l (e .laid));
         skips = e .skips;
         onward = e .onward;
         small = omega (arith, l .next, e .small, end-short opened);
@@ -109,25 +121,32 @@ module _ (bs rows : Bytes) (width count i depth : ℕ) (opened : Bool) (p : Byte
       → Stepped (rowsFrom width rows count) (rowText (namesOf bs) (attributeNamesOf bs) opened here below) count i depth at out (i + 1) r o
   text-stepped {v} y z l k m =
       record {
-        laid = laid-as (by-sort text (sort-text (here .sort) (λ e. y (sort-here ∙ e)) (λ e. z (sort-here ∙ e))) ∙ ap (λ (x : Bytes). endText opened ++ escape x) (sym (k .name-is ∙ value-here))) (laid-then l m);
+        laid = laid-as
+            (by-sort text (sort-text (here .sort) (λ e. y (sort-here ∙ e)) (λ e. z (sort-here ∙ e)))
+            ∙ ap (λ (x : Bytes). endText opened ++ escape x) (sym (k .name-is ∙ value-here)))
+            (laid-then l m);
         skips = λ j g. refl;
         onward = omega arith;
         small = omega (arith, l .next, m .next, end-short opened, escape-length v, k .short);
       }
 
 -- ---- a document
-pub documents-step : (bs : Bytes) (x : FlatRow) (b t : Forest FlatRow) → documentsText (namesOf bs) (attributeNamesOf bs) (tree x b t) ≡ documentText bs x b ++ documentsText (namesOf bs) (attributeNamesOf bs) t
+pub documents-step : (bs : Bytes) (x : FlatRow) (b t : Forest FlatRow)
+    → documentsText (namesOf bs) (attributeNamesOf bs) (tree x b t) ≡ documentText bs x b ++ documentsText (namesOf bs) (attributeNamesOf bs) t
 unfolding documentText
 documents-step bs x b t = documents-tree (namesOf bs) (attributeNamesOf bs) x b t
 
-pub document-stepped : (bs rows : Bytes) (width count i : ℕ) (p : Bytes) → p ≡ recordAt (rowSize width) i rows → i < count → {sort index : ℕ} → sort ≡ readRow p .row .sort → index ≡ readRow p .row .index
+pub document-stepped : (bs rows : Bytes) (width count i : ℕ) (p : Bytes) → p ≡ recordAt (rowSize width) i rows → i < count → {sort index : ℕ}
+    → sort ≡ readRow p .row .sort → index ≡ readRow p .row .index
     → {w out : Bytes} {at a₁ r next : ℕ} {o₁ o : Bytes} → Named (rowName (namesOf bs) (attributeNamesOf bs) (rowSortOf sort) index) w
     → Enclosed (rowsFrom width rows count) (elementText (namesOf bs) (attributeNamesOf bs) w (build (rowsFrom width rows count (i + 1)) 1)) count i 0 at out next a₁ o₁ → Laid (ascii "\n") o₁ a₁ r o
     → Stepped (rowsFrom width rows count) (documentText bs (readRow (recordAt (rowSize width) i rows) .row) (build (rowsFrom width rows count (i + 1)) 1)) count i 0 at out next r o
 unfolding documentText
 document-stepped bs rows width count i p at-i h {sort} {index} sort-is index-is {w} n e l =
     record {
-      laid = laid-as (ap (λ (x : Bytes). elementText (namesOf bs) (attributeNamesOf bs) x (build (rowsFrom width rows count (i + 1)) 1) ++ (ascii "\n" ++ [])) name) (laid-then (e .laid) (laid-then l laid-none));
+      laid = laid-as
+          (ap (λ (x : Bytes). elementText (namesOf bs) (attributeNamesOf bs) x (build (rowsFrom width rows count (i + 1)) 1) ++ (ascii "\n" ++ [])) name)
+          (laid-then (e .laid) (laid-then l laid-none));
       skips = e .skips;
       onward = e .onward;
       small = omega (arith, e .small, l .next);
@@ -135,5 +154,6 @@ document-stepped bs rows width count i p at-i h {sort} {index} sort-is index-is 
   where
     name : rowName (namesOf bs) (attributeNamesOf bs) (rowSortOf (readRow (recordAt (rowSize width) i rows) .row .sort)) (readRow (recordAt (rowSize width) i rows) .row .index) ≡ w
     name =
-        ap₂ (λ (s k : ℕ). rowName (namesOf bs) (attributeNamesOf bs) (rowSortOf s) k) (sym (sort-is ∙ ap (λ (l : Bytes). readRow l .row .sort) at-i)) (sym (index-is ∙ ap (λ (l : Bytes). readRow l .row .index) at-i))
+        ap₂ (λ (s k : ℕ). rowName (namesOf bs) (attributeNamesOf bs) (rowSortOf s) k) (sym (sort-is ∙ ap (λ (l : Bytes). readRow l .row .sort) at-i))
+        (sym (index-is ∙ ap (λ (l : Bytes). readRow l .row .index) at-i))
         ∙ sym (n .name-is)

@@ -22,7 +22,8 @@ unfolding membersText
 members-step ns k first p b t zero = simp (append-assoc, append-nil)
 members-step ns k first p b t (suc s) = simp (concat-append, append-assoc, append-nil)
 
-pub members-tree : (ns : List Bytes) (k : GroupKind) (first : Bool) (p : FlatParticle) (b t : Forest FlatParticle) → membersText ns k first (tree p b t) ≡ memberText ns k first p b ++ membersText ns k false t
+pub members-tree : (ns : List Bytes) (k : GroupKind) (first : Bool) (p : FlatParticle) (b t : Forest FlatParticle)
+    → membersText ns k first (tree p b t) ≡ memberText ns k first p b ++ membersText ns k false t
 unfolding memberText membersText
 members-tree ns k first p b t = members-step ns k first p b t (p .sort)
 
@@ -32,13 +33,16 @@ members-bare ns k first = refl
 
 -- ---- documents
 rows-step : (ns cs : List Bytes) (opened : Bool) (x : FlatRow) (b t : Forest FlatRow) (s : RowSort)
-    → concat (rowTokens (endText opened) (tree (record { serial = x .serial; sort = s; name = rowName ns cs s (x .index); value = x .value }) (readRows ns cs b) (readRows ns cs t))) ≡ rowBodyText ns cs s opened x b ++ rowsText ns cs (stays s opened) t
+    → concat (rowTokens (endText opened)
+    (tree (record { serial = x .serial; sort = s; name = rowName ns cs s (x .index); value = x .value }) (readRows ns cs b) (readRows ns cs t)))
+    ≡ rowBodyText ns cs s opened x b ++ rowsText ns cs (stays s opened) t
 unfolding rowsText elementText
 rows-step ns cs opened x b t element = simp (concat-append, append-assoc, append-nil)
 rows-step ns cs opened x b t attribute = simp (append-assoc, append-nil)
 rows-step ns cs opened x b t text = simp (append-assoc, append-nil)
 
-pub rows-tree : (ns cs : List Bytes) (opened : Bool) (x : FlatRow) (b t : Forest FlatRow) → rowsText ns cs opened (tree x b t) ≡ rowText ns cs opened x b ++ rowsText ns cs (stays (rowSortOf (x .sort)) opened) t
+pub rows-tree : (ns cs : List Bytes) (opened : Bool) (x : FlatRow) (b t : Forest FlatRow)
+    → rowsText ns cs opened (tree x b t) ≡ rowText ns cs opened x b ++ rowsText ns cs (stays (rowSortOf (x .sort)) opened) t
 unfolding rowText rowsText
 rows-tree ns cs opened x b t = rows-step ns cs opened x b t (rowSortOf (x .sort))
 
@@ -46,7 +50,9 @@ pub rows-bare : (ns cs : List Bytes) (opened : Bool) → rowsText ns cs opened b
 unfolding rowsText
 rows-bare ns cs opened = append-nil (endText opened)
 
-document-line : (n rest : Bytes) (below : Tokens) → concat (ascii "<" ∷ n ∷ below ++ (ascii "</" ∷ n ∷ ascii ">\n" ∷ [])) ++ rest ≡ ((ascii "<" ++ (n ++ (concat below ++ (ascii "</" ++ (n ++ (ascii ">" ++ [])))))) ++ ascii "\n") ++ rest
+document-line : (n rest : Bytes) (below : Tokens)
+    → concat (ascii "<" ∷ n ∷ below ++ (ascii "</" ∷ n ∷ ascii ">\n" ∷ [])) ++ rest
+    ≡ ((ascii "<" ++ (n ++ (concat below ++ (ascii "</" ++ (n ++ (ascii ">" ++ [])))))) ++ ascii "\n") ++ rest
 document-line n rest below =
     ap (λ (l : Bytes). (ascii "<" ++ (n ++ l)) ++ rest) (concat-append below (ascii "</" ∷ n ∷ ascii ">\n" ∷ []))
     ∙ ap (λ (l : Bytes). (ascii "<" ++ (n ++ (concat below ++ (ascii "</" ++ l)))) ++ rest) (sym (append-assoc n (ascii ">") (ascii "\n")))

@@ -38,7 +38,8 @@ module _ {A : Type 0} {records : ℕ → List (Deep A)} {text : Bool → Forest 
   pub walk-start : (end i depth at : ℕ) (q : Bool) (out : Bytes) → Walk records text (text q (build (records i) depth)) end i depth at out i at q out
   walk-start end i depth at q out = record { goes = λ r o l. l; skips = λ j h. refl; onward = omega arith; small = omega arith; long = refl }
 
-  pub walk-as : {goal : Bytes} {end i₀ depth at₀ : ℕ} {out₀ : Bytes} {i at : ℕ} {q q′ : Bool} {out : Bytes} → q′ ≡ q → Walk records text goal end i₀ depth at₀ out₀ i at q out → Walk records text goal end i₀ depth at₀ out₀ i at q′ out
+  pub walk-as : {goal : Bytes} {end i₀ depth at₀ : ℕ} {out₀ : Bytes} {i at : ℕ} {q q′ : Bool} {out : Bytes} → q′ ≡ q
+      → Walk records text goal end i₀ depth at₀ out₀ i at q out → Walk records text goal end i₀ depth at₀ out₀ i at q′ out
   walk-as e w = rw e w
 
   module _ {goal : Bytes} {end i₀ depth at₀ : ℕ} {out₀ : Bytes} {i at : ℕ} {q : Bool} {out : Bytes} (w : Walk records text goal end i₀ depth at₀ out₀ i at q out) where
@@ -60,7 +61,11 @@ module _ {A : Type 0} {records : ℕ → List (Deep A)} {text : Bool → Forest 
         → Walk records text goal end i₀ depth at₀ out₀ next at′ q′ out′
     walk-here x q′ w′ {next} {at′} {out′} e d h law s =
         record {
-          goes = λ r o l. w .goes r o (laid-as (ap (λ (xs : List (Deep A)). text q (build xs depth)) e ∙ ap (text q) (build-here x (records (i + 1)) depth d) ∙ law (build (records (i + 1)) depth) ∙ ap (λ (f : Forest A). w′ ++ text q′ f) (after depth (omega arith))) (laid-then (s .laid) l));
+          goes = λ r o l. w .goes r o
+              (laid-as
+              (ap (λ (xs : List (Deep A)). text q (build xs depth)) e ∙ ap (text q) (build-here x (records (i + 1)) depth d)
+              ∙ law (build (records (i + 1)) depth) ∙ ap (λ (f : Forest A). w′ ++ text q′ f) (after depth (omega arith)))
+              (laid-then (s .laid) l));
           skips = λ j g. w .skips j g ∙ ap (λ (xs : List (Deep A)). build xs j) e ∙ build-deeper x (records (i + 1)) j (omega arith) ∙ after j (omega arith);
           onward = omega (arith, w .onward, s .onward);
           small = omega (arith, w .small, s .small);
@@ -78,7 +83,8 @@ module _ {A : Type 0} {records : ℕ → List (Deep A)} {text : Bool → Forest 
     pub walk-all : records i ≡ [] → text q bare ≡ [] → Laid goal out₀ at₀ at out
     walk-all e b = ended (ap (λ (xs : List (Deep A)). build xs depth) e) [] b laid-none
 
-  module _ {text₀ : Forest A → Bytes} {end i₀ depth at₀ : ℕ} {out₀ : Bytes} {i at : ℕ} {q : Bool} {out : Bytes} (w : Walk records text (text₀ (build (records i₀) depth)) end i₀ depth at₀ out₀ i at q out) where
+  module _ {text₀ : Forest A → Bytes} {end i₀ depth at₀ : ℕ} {out₀ : Bytes} {i at : ℕ} {q : Bool} {out : Bytes}
+      (w : Walk records text (text₀ (build (records i₀) depth)) end i₀ depth at₀ out₀ i at q out) where
     -- a record that is not as deep ends the text
     pub walk-stops : (x : Deep A) (w′ : Bytes) {r : ℕ} {out′ : Bytes} → records i ≡ x ∷ records (i + 1) → x .depth < depth → text q bare ≡ w′ → length w′ ≤ 1 → Laid w′ out at r out′
         → Passed records text₀ end i₀ depth at₀ out₀ i r out′

@@ -12,7 +12,9 @@ ghost use Rattle.printing.specs.Parts.{Named, Ends, Within, definitionPa
 ghost use Rattle.rules.specs.Layout.{rowSize};
 ghost use Rattle.layout.specs.Bodies.{Width, recordAt};
 ghost use Rattle.printing.specs.Walking.{TextRoom, Passed, Stepped, Enclosed};
-ghost use Rattle.printing.specs.Texts.{signText, endText, memberText, membersText, stays, attributeText, elementText, rowText, rowsText, documentText, documentsText, LaidWithin, defaultText, attributeLineText, attributesText, isTree, contentText, definitionText, declarationsText, formText, textOf};
+ghost use Rattle.printing.specs.Texts.{signText, endText, memberText, membersText, stays, attributeText, elementText, rowText, rowsText, documentText};
+ghost use Rattle.printing.specs.Texts.{documentsText, LaidWithin, defaultText, attributeLineText, attributesText, isTree, contentText, definitionText};
+ghost use Rattle.printing.specs.Texts.{declarationsText, formText, textOf};
 ghost use Rattle.lookup.specs.Bodies.{rowsFrom};
 
 // ---- records
@@ -121,7 +123,10 @@ fn put_member(
     at: usize,
 ) -> Walked
     requires { ⌜ TextRoom end i depth at × (i < end) × (depth < 256) ⌝ }
-    ensures { λ r. ⌜ Stepped (particlesFrom (now (store .entry)) end) (memberText (namesOf (now (store .entry))) (groupOf kind) first (readParticle (particlePart (now (store .entry)) i) .row) (build (particlesFrom (now (store .entry)) end (i + 1)) (suc depth))) end i depth at (now (out .entry)) (r .next) (r .at) (now (out .exit)) ⌝ }
+    ensures { λ r. ⌜ Stepped (particlesFrom (now (store .entry)) end)
+        (memberText (namesOf (now (store .entry))) (groupOf kind) first (readParticle (particlePart (now (store .entry)) i) .row)
+        (build (particlesFrom (now (store .entry)) end (i + 1)) (suc depth)))
+        end i depth at (now (out .entry)) (r .next) (r .at) (now (out .exit)) ⌝ }
 {
     let bytes = particle(store, i);
     let sort = layout::particle_sort(bytes);
@@ -155,7 +160,8 @@ fn put_members(
     start: usize,
 ) -> Walked
     requires { ⌜ TextRoom end from depth start ⌝ }
-    ensures { λ r. ⌜ Passed (particlesFrom (now (store .entry)) end) (membersText (namesOf (now (store .entry))) (groupOf kind) true) end from depth start (now (out .entry)) (r .next) (r .at) (now (out .exit)) ⌝ }
+    ensures { λ r. ⌜ Passed (particlesFrom (now (store .entry)) end) (membersText (namesOf (now (store .entry))) (groupOf kind) true) end from depth start
+        (now (out .entry)) (r .next) (r .at) (now (out .exit)) ⌝ }
 {
     let mut at = start;
     let mut i = from;
@@ -232,7 +238,10 @@ fn put_element(
     at: usize,
 ) -> Walked
     requires { ⌜ TextRoom count (i + 1) depth (at + 1000) × (i < count) × (depth < 256) × (length (now name) ≤ 300) × Width w ⌝ }
-    ensures { λ r. ⌜ Enclosed (rowsFrom w (now (rows .entry)) count) (elementText (namesOf (now (store .entry))) (attributeNamesOf (now (store .entry))) (now (name .entry)) (build (rowsFrom w (now (rows .entry)) count (i + 1)) (suc depth))) count i depth at (now (out .entry)) (r .next) (r .at) (now (out .exit)) ⌝ }
+    ensures { λ r. ⌜ Enclosed (rowsFrom w (now (rows .entry)) count)
+        (elementText (namesOf (now (store .entry))) (attributeNamesOf (now (store .entry))) (now (name .entry))
+        (build (rowsFrom w (now (rows .entry)) count (i + 1)) (suc depth)))
+        count i depth at (now (out .entry)) (r .next) (r .at) (now (out .exit)) ⌝ }
 {
     let signed = codec::put_u8(out, at, b'<');
     let named = codec::put(name, out, signed);
@@ -258,7 +267,10 @@ fn put_row(
     at: usize,
 ) -> Walked
     requires { ⌜ TextRoom count i depth at × (i < count) × (depth < 256) × Width w ⌝ }
-    ensures { λ r. ⌜ Stepped (rowsFrom w (now (rows .entry)) count) (rowText (namesOf (now (store .entry))) (attributeNamesOf (now (store .entry))) opened (readRow (recordAt (rowSize w) i (now (rows .entry))) .row) (build (rowsFrom w (now (rows .entry)) count (i + 1)) (suc depth))) count i depth at (now (out .entry)) (r .next) (r .at) (now (out .exit)) ⌝ }
+    ensures { λ r. ⌜ Stepped (rowsFrom w (now (rows .entry)) count)
+        (rowText (namesOf (now (store .entry))) (attributeNamesOf (now (store .entry))) opened (readRow (recordAt (rowSize w) i (now (rows .entry))) .row)
+        (build (rowsFrom w (now (rows .entry)) count (i + 1)) (suc depth)))
+        count i depth at (now (out .entry)) (r .next) (r .at) (now (out .exit)) ⌝ }
 {
     let bytes = layout::row_at(w, rows, i);
     let sort = layout::row_sort(bytes);
@@ -303,7 +315,8 @@ fn put_rows(
     start: usize,
 ) -> Walked
     requires { ⌜ TextRoom count from depth start × Width w ⌝ }
-    ensures { λ r. ⌜ Passed (rowsFrom w (now (rows .entry)) count) (rowsText (namesOf (now (store .entry))) (attributeNamesOf (now (store .entry))) behind) count from depth start (now (out .entry)) (r .next) (r .at) (now (out .exit)) ⌝ }
+    ensures { λ r. ⌜ Passed (rowsFrom w (now (rows .entry)) count) (rowsText (namesOf (now (store .entry))) (attributeNamesOf (now (store .entry))) behind) count
+        from depth start (now (out .entry)) (r .next) (r .at) (now (out .exit)) ⌝ }
 {
     let mut at = start;
     let mut i = from;
@@ -343,7 +356,9 @@ fn put_document(
     at: usize,
 ) -> Walked
     requires { ⌜ TextRoom count i 0 at × (i < count) × Width w ⌝ }
-    ensures { λ r. ⌜ Stepped (rowsFrom w (now (rows .entry)) count) (documentText (now (store .entry)) (readRow (recordAt (rowSize w) i (now (rows .entry))) .row) (build (rowsFrom w (now (rows .entry)) count (i + 1)) 1)) count i 0 at (now (out .entry)) (r .next) (r .at) (now (out .exit)) ⌝ }
+    ensures { λ r. ⌜ Stepped (rowsFrom w (now (rows .entry)) count)
+        (documentText (now (store .entry)) (readRow (recordAt (rowSize w) i (now (rows .entry))) .row) (build (rowsFrom w (now (rows .entry)) count (i + 1)) 1))
+        count i 0 at (now (out .entry)) (r .next) (r .at) (now (out .exit)) ⌝ }
 {
     let bytes = layout::row_at(w, rows, i);
     let sort = layout::row_sort(bytes);
@@ -375,7 +390,9 @@ fn put_documents(
     start: usize,
 ) -> usize
     requires { ⌜ TextRoom count 0 0 start × Width w ⌝ }
-    ensures { λ r. ⌜ Laid (documentsText (namesOf (now (store .entry))) (attributeNamesOf (now (store .entry))) (build (rowsFrom w (now (rows .entry)) count 0) 0)) (now (out .entry)) start r (now (out .exit)) ⌝ }
+    ensures { λ r. ⌜ Laid
+        (documentsText (namesOf (now (store .entry))) (attributeNamesOf (now (store .entry))) (build (rowsFrom w (now (rows .entry)) count 0) 0))
+        (now (out .entry)) start r (now (out .exit)) ⌝ }
 {
     let mut at = start;
     let mut i = 0;
@@ -429,7 +446,9 @@ fn put_attribute_line(store: &[u8], i: usize, owner: &[u8], out: &mut [u8], at: 
 /// Writes the lines of the attributes of definition o, which has this name.
 fn put_attributes(store: &[u8], o: usize, owner: &[u8], out: &mut [u8], start: usize) -> usize
     requires { ⌜ (attributeCount (now store) ≤ 64) × (start < 1152921504606846976) × (length (now owner) ≤ 300) ⌝ }
-    ensures { λ r. ⌜ LaidWithin 192000 (attributesText (now (owner .entry)) (ofOwner o (attributesFrom (now (store .entry)) (attributeCount (now (store .entry))) 0))) (now (out .entry)) start r (now (out .exit)) ⌝ }
+    ensures { λ r. ⌜ LaidWithin 192000
+        (attributesText (now (owner .entry)) (ofOwner o (attributesFrom (now (store .entry)) (attributeCount (now (store .entry))) 0))) (now (out .entry)) start
+        r (now (out .exit)) ⌝ }
 {
     let count = layout::attribute_count(store);
     let mut at = start;
@@ -489,7 +508,9 @@ fn put_definition(
     at: usize,
 ) -> usize
     requires { ⌜ (o < definitionCount (now store)) × (end ≤ 256) × (at < 1152921504606846976) × (definitionCount (now store) ≤ 64) ⌝ }
-    ensures { λ r. ⌜ LaidWithin 641000 (definitionText (namesOf (now (store .entry))) (readDefinition (definitionPart (now (store .entry)) o)) (particlesFrom (now (store .entry)) end from)) (now (out .entry)) at r (now (out .exit)) ⌝ }
+    ensures { λ r. ⌜ LaidWithin 641000
+        (definitionText (namesOf (now (store .entry))) (readDefinition (definitionPart (now (store .entry)) o)) (particlesFrom (now (store .entry)) end from))
+        (now (out .entry)) at r (now (out .exit)) ⌝ }
 {
     let kind = layout::definition_kind(definition(store, o));
     let signed = codec::put(b"<!ELEMENT ", out, at);
@@ -512,7 +533,11 @@ fn model_end(store: &[u8], from: usize, n: usize) -> usize
 /// Writes the lines of definition o and of its attributes; its particles begin at number `from`.
 fn put_declarations(store: &[u8], o: usize, from: usize, out: &mut [u8], at: usize) -> usize
     requires { ⌜ Within (now store) × (o < definitionCount (now store)) × (from < 1099511627776) × (at < 576460752303423488) ⌝ }
-    ensures { λ r. ⌜ LaidWithin 840000 (declarationsText (namesOf (now (store .entry))) o (readDefinition (definitionPart (now (store .entry)) o)) (particlesFrom (now (store .entry)) (particleCount (now (store .entry))) from) (attributesFrom (now (store .entry)) (attributeCount (now (store .entry))) 0)) (now (out .entry)) at r (now (out .exit)) ⌝ }
+    ensures { λ r. ⌜ LaidWithin 840000
+        (declarationsText (namesOf (now (store .entry))) o (readDefinition (definitionPart (now (store .entry)) o))
+        (particlesFrom (now (store .entry)) (particleCount (now (store .entry))) from)
+        (attributesFrom (now (store .entry)) (attributeCount (now (store .entry))) 0))
+        (now (out .entry)) at r (now (out .exit)) ⌝ }
 {
     let n = layout::definition_particles(definition(store, o)) as usize;
     let end = model_end(store, from, n);
@@ -523,7 +548,11 @@ fn put_declarations(store: &[u8], o: usize, from: usize, out: &mut [u8], at: usi
 /// Writes the declarations of the form.
 fn put_form(store: &[u8], out: &mut [u8], start: usize) -> usize
     requires { ⌜ Within (now store) × (start < 288230376151711744) ⌝ }
-    ensures { λ r. ⌜ LaidWithin 53760000 (formText (namesOf (now (store .entry))) 0 (definitionsFrom (now (store .entry)) (definitionCount (now (store .entry))) 0) (particlesFrom (now (store .entry)) (particleCount (now (store .entry))) 0) (attributesFrom (now (store .entry)) (attributeCount (now (store .entry))) 0)) (now (out .entry)) start r (now (out .exit)) ⌝ }
+    ensures { λ r. ⌜ LaidWithin 53760000
+        (formText (namesOf (now (store .entry))) 0 (definitionsFrom (now (store .entry)) (definitionCount (now (store .entry))) 0)
+        (particlesFrom (now (store .entry)) (particleCount (now (store .entry))) 0)
+        (attributesFrom (now (store .entry)) (attributeCount (now (store .entry))) 0))
+        (now (out .entry)) start r (now (out .exit)) ⌝ }
 {
     let count = layout::definition_count(store);
     let mut at = start;

@@ -1,4 +1,5 @@
--- Where no condition of change 5 or 8 holds, its edit fits at an element or at a group; and what the first conditions leave.
+-- Where no condition of change 5 or 8 holds, its edit fits at an element
+-- or at a group; and what the first conditions leave.
 use Prim.Native.Nat.{ℕ, _≤_}
 use mathlib.Core.Path.{_≡_, refl, sym, ap, _∙_}
 use mathlib.Core.Bool.{true, false, false≢true}

@@ -49,7 +49,10 @@ module _ {bs : Bytes} {o : ℕ} {p : List ℕ} {e : Edit Bytes} (x : Fits bs o p
 
   -- the particles from the place on, where the members t stand
   from-found : (t : Members Bytes) → x .found .picked ≡ t → drop n (particlesOf (partIn bs o)) ≡ spread (level 0 (around y)) (rename (indexOfName bs) t) ++ trailing 0 (around y)
-  from-found t is = from-there y ∙ ap (λ (u : Members Bytes). spread (level 0 (around y)) (rename (indexOfName bs) u) ++ trailing 0 (around y)) (ap (λ (w : Spot Bytes). w .picked) (same-found x y) ∙ is)
+  from-found t is =
+      from-there y
+      ∙ ap (λ (u : Members Bytes). spread (level 0 (around y)) (rename (indexOfName bs) u) ++ trailing 0 (around y))
+      (ap (λ (w : Spot Bytes). w .picked) (same-found x y) ∙ is)
 
   module _ {z : Deep FlatParticle} {zs : Particles} (from : drop n (particlesOf (partIn bs o)) ≡ z ∷ zs) where
     stands : Stands (partIn bs o) h n

@@ -1,5 +1,5 @@
-//! Changes 5 and 8: the quantifier of an element, and of a group. Each call is the check, the first refusal that applies or the
-//! place, and an edit of the owner's model there with the plan of the change.
+//! Changes 5 and 8: the quantifier of an element, and of a group. Each call is the check, the first refusal that
+//! applies or the place, and an edit of the owner's model there with the plan of the change.
 use model_writer::Edit;
 use store_writer::Answer;
 ghost use mathlib.Core.Path.{_≡_};
@@ -16,7 +16,9 @@ pub fn change_quantifier(
     text: &[u8],
     out: &mut [u8],
 ) -> Answer
-    ensures { λ r. ⌜ Answers (outcome (changeQuantifier owner (now (place .entry)) quantifier (now (text .entry))) (now (store .entry)) (length (now (out .entry)))) (now (out .entry)) (r .number) (r .length) (now (out .exit)) ⌝ }
+    ensures { λ r. ⌜ Answers
+        (outcome (changeQuantifier owner (now (place .entry)) quantifier (now (text .entry))) (now (store .entry)) (length (now (out .entry))))
+        (now (out .entry)) (r .number) (r .length) (now (out .exit)) ⌝ }
 {
     if !store_check::passes(store) {
         return store_writer::refused(1);
@@ -49,7 +51,9 @@ pub fn change_group_quantifier(
     text: &[u8],
     out: &mut [u8],
 ) -> Answer
-    ensures { λ r. ⌜ Answers (outcome (changeGroupQuantifier owner (now (place .entry)) quantifier (now (text .entry))) (now (store .entry)) (length (now (out .entry)))) (now (out .entry)) (r .number) (r .length) (now (out .exit)) ⌝ }
+    ensures { λ r. ⌜ Answers
+        (outcome (changeGroupQuantifier owner (now (place .entry)) quantifier (now (text .entry))) (now (store .entry)) (length (now (out .entry))))
+        (now (out .entry)) (r .number) (r .length) (now (out .exit)) ⌝ }
 {
     if !store_check::passes(store) {
         return store_writer::refused(1);

@@ -97,7 +97,8 @@ fn requantify_refusal(
     group: bool,
 ) -> Located
     requires { ⌜ passes (now store) ≡ true ⌝ }
-    ensures { λ r. ⌜ (r .number ≡ first (conditions (requantify group owner (now (place .entry)) quantifier (now (text .entry))) (storeIn (now (store .entry))))) × Finds (now (store .entry)) owner false (now (place .entry)) r ⌝ }
+    ensures { λ r. ⌜ (r .number ≡ first (conditions (requantify group owner (now (place .entry)) quantifier (now (text .entry))) (storeIn (now (store .entry)))))
+        × Finds (now (store .entry)) owner false (now (place .entry)) r ⌝ }
 {
     let early = early_refusal(store, owner, quantifier, text);
     if early != 0 {
@@ -133,7 +134,8 @@ pub fn change_quantifier_refusal(
     text: &[u8],
 ) -> Located
     requires { ⌜ passes (now store) ≡ true ⌝ }
-    ensures { λ r. ⌜ (r .number ≡ first (conditions (changeQuantifier owner (now (place .entry)) quantifier (now (text .entry))) (storeIn (now (store .entry))))) × Finds (now (store .entry)) owner false (now (place .entry)) r ⌝ }
+    ensures { λ r. ⌜ (r .number ≡ first (conditions (changeQuantifier owner (now (place .entry)) quantifier (now (text .entry))) (storeIn (now (store .entry)))))
+        × Finds (now (store .entry)) owner false (now (place .entry)) r ⌝ }
 {
     requantify_refusal(store, owner, place, quantifier, text, false)
 }
@@ -147,7 +149,9 @@ pub fn change_group_quantifier_refusal(
     text: &[u8],
 ) -> Located
     requires { ⌜ passes (now store) ≡ true ⌝ }
-    ensures { λ r. ⌜ (r .number ≡ first (conditions (changeGroupQuantifier owner (now (place .entry)) quantifier (now (text .entry))) (storeIn (now (store .entry))))) × Finds (now (store .entry)) owner false (now (place .entry)) r ⌝ }
+    ensures { λ r. ⌜ (r .number
+        ≡ first (conditions (changeGroupQuantifier owner (now (place .entry)) quantifier (now (text .entry))) (storeIn (now (store .entry)))))
+        × Finds (now (store .entry)) owner false (now (place .entry)) r ⌝ }
 {
     requantify_refusal(store, owner, place, quantifier, text, true)
 }

@@ -109,7 +109,8 @@ print-short room w h = ap (λ (b : Bool). unlessRefused (elim b [ true ↦ 18 | 
 print-fits : (room : ℕ) (w : Bytes) → length w ≤ room → unlessRefused (tooLong room w) w ≡ wrote w
 print-fits room w h = ap (λ (b : Bool). unlessRefused (elim b [ true ↦ 18 | false ↦ 0 ]) w) (ltb-no room (length w) h)
 
-pub prints-short : (bs out : Bytes) {r : Bool} {n : ℕ} {small small′ : Bytes} → not r ≡ false → r ≡ passes bs → Laid (textOf bs) small 0 n small′ → length out < n → Answers (printOutcome bs (length out)) out 18 0 out
+pub prints-short : (bs out : Bytes) {r : Bool} {n : ℕ} {small small′ : Bytes} → not r ≡ false → r ≡ passes bs → Laid (textOf bs) small 0 n small′
+    → length out < n → Answers (printOutcome bs (length out)) out 18 0 out
 prints-short bs out left e laid h =
     rw (print-good bs (length out) (shown bs left e) ∙ print-short (length out) (textOf bs) (omega (arith, laid .next))) (record { number-is = refl; length-is = refl; buffer-is = refl })
 
@@ -117,4 +118,9 @@ pub prints-all : (bs out : Bytes) {r : Bool} {n m : ℕ} {small small′ out′ 
     → Answers (printOutcome bs (length out)) out 0 n out′
 prints-all bs out left e measured h laid =
     rw (print-good bs (length out) (shown bs left e) ∙ print-fits (length out) (textOf bs) (omega (arith, measured .next)))
-    (record { number-is = refl; length-is = measured .next ∙ zero-add (length (textOf bs)); buffer-is = laid .stored ∙ sets-eq (textOf bs) out 0 (omega (arith, measured .next)) ∙ ap (λ (k : ℕ). textOf bs ++ drop k out) (zero-add (length (textOf bs))) })
+    (record {
+      number-is = refl;
+      length-is = measured .next ∙ zero-add (length (textOf bs));
+      buffer-is =
+          laid .stored ∙ sets-eq (textOf bs) out 0 (omega (arith, measured .next)) ∙ ap (λ (k : ℕ). textOf bs ++ drop k out) (zero-add (length (textOf bs)));
+    })

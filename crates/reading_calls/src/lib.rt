@@ -16,8 +16,8 @@ pub fn check(store: &[u8]) -> u32
     if store_check::passes(store) { 0 } else { 1 }
 }
 
-/// The part of the store that is the value of the attribute or text row with a serial, and 0; on a bad store 1, on any other
-/// serial 7, with an empty part.
+/// The part of the store that is the value of the attribute or text row with a serial, and 0; on a bad store 1, on any
+/// other serial 7, with an empty part.
 pub fn look_up<'a>(store: &'a [u8], serial: u32, number: &mut u32) -> &'a [u8]
     ensures { λ r. ⌜ Hands (lookUp (now (store .entry)) serial) (now (store .entry)) (now r) (now (number .exit)) ⌝ }
 {

@@ -17,7 +17,8 @@ use Rattle.rules.specs.Decode.{numberAt, readDefinition, readAttribute, readRow
 use Rattle.rules.specs.Passing.{knownVersion}
 use Rattle.codec.proofs.Writers.{tail-seen}
 use Rattle.byte_check.specs.Zeros.{zeros}
-use Rattle.layout.specs.Fields.{definitionEntryAt, particleEntryAt, attributeEntryAt, rowEntryAt, versionAt, nextAt, definitionNameAt, attributeNameAt, attributeValueAt, attributeLength, rowValueAt, rowLength, unusedFit}
+use Rattle.layout.specs.Fields.{definitionEntryAt, particleEntryAt, attributeEntryAt, rowEntryAt, versionAt, nextAt, definitionNameAt, attributeNameAt}
+use Rattle.layout.specs.Fields.{attributeValueAt, attributeLength, rowValueAt, rowLength, unusedFit}
 use Rattle.layout.specs.Bodies.{Place}
 use Rattle.records.specs.Records.{used, filled, nameFits, valueFits, definitionFits, attributeFits, rowFits, eachFits, countsFit, offsetsFit, headerFits}
 use Rattle.records.proofs.RecordLaws.{drop-take}
@@ -56,16 +57,19 @@ fill-any zero v f g = absurd (f refl)
 fill-any (suc zero) v f g = absurd (g refl)
 fill-any (suc (suc k)) v f g = refl
 
-pub filled-of : (bs : Bytes) (at l width : ℕ) (rest field tail : Bytes) {b : Bool} → l ≤ width → rest ≡ drop at bs → field ≡ take width rest → tail ≡ drop l field → b ≡ zeros tail → b ≡ filled bs at l width
+pub filled-of : (bs : Bytes) (at l width : ℕ) (rest field tail : Bytes) {b : Bool} → l ≤ width → rest ≡ drop at bs → field ≡ take width rest
+    → tail ≡ drop l field → b ≡ zeros tail → b ≡ filled bs at l width
 filled-of bs at l width rest field tail h r f t z = z ∙ ap zeros (t ∙ ap (drop l) (f ∙ ap (take width) r)) ∙ sym (filled-narrow bs at l width h)
 
-pub name-fits-of : (bs : Bytes) (at l : ℕ) (rest part : Bytes) {a b : Bool} → l ≡ getD bs at 0 → rest ≡ drop (at + 1) bs → part ≡ take l rest → a ≡ storedName part → b ≡ filled bs (at + 1) l nameWidth → (a && b) ≡ nameFits bs at
+pub name-fits-of : (bs : Bytes) (at l : ℕ) (rest part : Bytes) {a b : Bool} → l ≡ getD bs at 0 → rest ≡ drop (at + 1) bs → part ≡ take l rest
+    → a ≡ storedName part → b ≡ filled bs (at + 1) l nameWidth → (a && b) ≡ nameFits bs at
 unfolding nameFits
 name-fits-of bs at l rest part e r p a b =
     ap₂ (λ (x y : Bool). x && y) (a ∙ ap storedName (p ∙ ap (take l) r)) b
     ∙ ap₂ (λ (k n : ℕ). storedName (used bs k n) && filled bs k n nameWidth) (add-one at) e
 
-pub value-fits-of : (w : ℕ) (bs : Bytes) (at l : ℕ) (rest part : Bytes) {a b : Bool} → rest ≡ drop at bs → part ≡ take l rest → a ≡ isValue w part → b ≡ filled bs at l w → (a && b) ≡ valueFits w bs at l
+pub value-fits-of : (w : ℕ) (bs : Bytes) (at l : ℕ) (rest part : Bytes) {a b : Bool} → rest ≡ drop at bs → part ≡ take l rest → a ≡ isValue w part
+    → b ≡ filled bs at l w → (a && b) ≡ valueFits w bs at l
 unfolding valueFits
 value-fits-of w bs at l rest part r p a b = ap₂ (λ (x y : Bool). x && y) (a ∙ ap (isValue w) (p ∙ ap (take l) r)) b
 
@@ -74,21 +78,24 @@ pub definition-of : (bs : Bytes) (kind particles : ℕ) {a : Bool} → kind ≡ 
 unfolding definitionFits
 definition-of bs kind particles k p a = λ i. a i && (leb (k i) 2 && (eqb (k i) 2 || eqb (p i) 0))
 
-pub attribute-of : (w n : ℕ) (bs : Bytes) (owner sort l : ℕ) (value : Bytes) {a b c : Bool} → owner ≡ readAttribute bs .owner → sort ≡ readAttribute bs .sort → l ≡ attributeLength bs → value ≡ readAttribute bs .value
+pub attribute-of : (w n : ℕ) (bs : Bytes) (owner sort l : ℕ) (value : Bytes) {a b c : Bool} → owner ≡ readAttribute bs .owner → sort ≡ readAttribute bs .sort
+    → l ≡ attributeLength bs → value ≡ readAttribute bs .value
     → a ≡ nameFits bs attributeNameAt → b ≡ valueFits w bs attributeValueAt l → c ≡ isFill (sortOf sort) value → (ltb owner n && (a && (leb sort 2 && (b && c)))) ≡ attributeFits w n bs
 unfolding attributeFits
 attribute-of w n bs owner sort l value o s u v a b c =
     (λ i. ltb owner n && (a i && (leb sort 2 && (b i && c i))))
     ∙ (λ i. ltb (o i) n && (nameFits bs attributeNameAt && (leb (s i) 2 && (valueFits w bs attributeValueAt (u i) && isFill (sortOf (s i)) (v i)))))
 
-pub row-of : (w : ℕ) (bs : Bytes) (sort l index : ℕ) {b u : Bool} → sort ≡ readRow bs .row .sort → l ≡ rowLength bs → index ≡ readRow bs .row .index → b ≡ valueFits w bs rowValueAt l → u ≡ unusedFit w bs
+pub row-of : (w : ℕ) (bs : Bytes) (sort l index : ℕ) {b u : Bool} → sort ≡ readRow bs .row .sort → l ≡ rowLength bs → index ≡ readRow bs .row .index
+    → b ≡ valueFits w bs rowValueAt l → u ≡ unusedFit w bs
     → ((leb 1 sort && leb sort 3) && (b && ((not (eqb sort 1) || eqb l 0) && ((not (eqb sort 3) || eqb index 0) && u)))) ≡ rowFits w bs
 unfolding rowFits
 row-of w bs sort l index s e n b u =
     ap₂ (λ (y z : Bool). (leb 1 sort && leb sort 3) && (y && ((not (eqb sort 1) || eqb l 0) && ((not (eqb sort 3) || eqb index 0) && z)))) b u
     ∙ (λ i. (leb 1 (s i) && leb (s i) 3) && (valueFits w bs rowValueAt (e i) && ((not (eqb (s i) 1) || eqb (e i) 0) && ((not (eqb (s i) 3) || eqb (n i) 0) && unusedFit w bs))))
 
-pub counts-of : (bs : Bytes) (d p a r : ℕ) → d ≡ definitionCount bs → p ≡ particleCount bs → a ≡ attributeCount bs → r ≡ rowCount bs → (leb d 64 && (leb p 256 && (leb a 64 && leb r 4096))) ≡ countsFit bs
+pub counts-of : (bs : Bytes) (d p a r : ℕ) → d ≡ definitionCount bs → p ≡ particleCount bs → a ≡ attributeCount bs → r ≡ rowCount bs
+    → (leb d 64 && (leb p 256 && (leb a 64 && leb r 4096))) ≡ countsFit bs
 unfolding countsFit
 counts-of bs d p a r e f g h = λ i. leb (e i) 64 && (leb (f i) 256 && (leb (g i) 64 && leb (h i) 4096))
 
@@ -110,7 +117,8 @@ module _ (w : ℕ) (bs : Bytes) (d p a : ℕ) (e : d ≡ definitionCount bs) (f 
   pub sized-of : (r n : ℕ) → r ≡ rowCount bs → n ≡ headerSize + (definitionSize * d + (particleSize * p + (attributeSize w * a + rowSize w * r))) → eqb (length bs) n ≡ sized w bs
   sized-of r n h q = ap (eqb (length bs)) q ∙ (λ i. eqb (length bs) (headerSize + (definitionSize * e i + (particleSize * f i + (attributeSize w * g i + rowSize w * h i)))))
 
-pub header-of : (w : ℕ) (bs : Bytes) (h version next : ℕ) {c o s : Bool} → h ≡ headerSize → version ≡ numberAt versionAt 4 bs → next ≡ numberAt nextAt 4 bs → c ≡ countsFit bs → o ≡ offsetsFit w bs → s ≡ sized w bs
+pub header-of : (w : ℕ) (bs : Bytes) (h version next : ℕ) {c o s : Bool} → h ≡ headerSize → version ≡ numberAt versionAt 4 bs → next ≡ numberAt nextAt 4 bs
+    → c ≡ countsFit bs → o ≡ offsetsFit w bs → s ≡ sized w bs
     → (leb h (length bs) && (knownVersion version && (c && (o && (s && leb 1 next))))) ≡ headerFits w bs
 unfolding headerFits
 header-of w bs h version next q v n c o s = λ i. leb (q i) (length bs) && (knownVersion (v i) && (c i && (o i && (s i && leb 1 (n i)))))
@@ -135,7 +143,8 @@ module _ (p : Bytes → Bool) (size left : ℕ) (rest : Bytes) {b : Bool} (inv :
       by zero l = absurd (omega arith)
       by (suc k) l = let e : k ≡ suc k - 1 = omega arith in ap (λ (n : ℕ). p (take size rest) && eachFits p size n (drop size rest)) e
 
-  pub each-on : (rec : Bytes) (n : ℕ) {t : Bool} → 0 < left → rec ≡ take size rest → t ≡ p rec → t ≡ true → n ≡ min size (length rest) → b ≡ eachFits p size (left - 1) (take (length rest - n) (drop n rest))
+  pub each-on : (rec : Bytes) (n : ℕ) {t : Bool} → 0 < left → rec ≡ take size rest → t ≡ p rec → t ≡ true → n ≡ min size (length rest)
+      → b ≡ eachFits p size (left - 1) (take (length rest - n) (drop n rest))
   each-on rec n h r t e m =
       inv
       ∙ each-here h

@@ -1,4 +1,5 @@
--- A record that fits is what its reading is written as, and what is written of good fields fits, whatever the width of a value.
+-- A record that fits is what its reading is written as, and what is
+-- written of good fields fits, whatever the width of a value.
 use Prim.Native.Nat.{ℕ, zero, suc, _+_, _*_, _-_, _/_, _%_, _^_, _≤_, _<_}
 use native.Mathlib.Nat.{pow-suc, sub-add-cancel, le-of-suc-le-suc, mul-suc, mul-zero}
 use native.Mathlib.Omega.{arith}
@@ -12,14 +13,17 @@ use lib.Seq.{getD-at, take-take, take-nil, take-at, drop-at, drop-cons, drop-dro
 use borrow.Author.Tests.{leb-true, ltb-true, eqb-true, le-leb, lt-ltb, eq-eqb}
 use Rattle.rules.specs.Bytes.{Bytes, all}
 use Rattle.rules.specs.Preorder.{Deep}
-use Rattle.rules.specs.Layout.{le, field, nameWidth, FlatDefinition, FlatAttribute, FlatRow, definitionSize, particleSize, attributeSize, rowSize, definitionBytes, particleBytes, attributeBytes, rowBytes, each}
+use Rattle.rules.specs.Layout.{le, field, nameWidth, FlatDefinition, FlatAttribute, FlatRow, definitionSize, particleSize, attributeSize, rowSize}
+use Rattle.rules.specs.Layout.{definitionBytes, particleBytes, attributeBytes, rowBytes, each}
 use Rattle.rules.specs.Decode.{unle, numberAt, readDefinition, readParticle, readAttribute, readRow, readMany, sortOf}
 use Rattle.rules.specs.WellFormed.{startsName, inName, storedName, isValue, isFill}
 use Rattle.rules.proofs.Words.{and-both, and-split}
 use Rattle.rules.proofs.BooleanLaws.{Every}
 use Rattle.rules.proofs.LayoutLaws.{Small, unle-le, length-field, take-field}
 use Rattle.byte_check.specs.Zeros.{zeros}
-use Rattle.layout.specs.Fields.{definitionNameAt, definitionKindAt, definitionParticlesAt, particleSortAt, particleQuantifierAt, particleIndexAt, particleDepthAt, attributeOwnerAt, attributeNameAt, attributeSortAt, attributeLengthAt, attributeValueAt, attributeLength, rowSortAt, rowDepthAt, rowIndexAt, rowSerialAt, rowLengthAt, rowUnusedAt, rowValueAt, rowLength, unusedFit}
+use Rattle.layout.specs.Fields.{definitionNameAt, definitionKindAt, definitionParticlesAt, particleSortAt, particleQuantifierAt, particleIndexAt}
+use Rattle.layout.specs.Fields.{particleDepthAt, attributeOwnerAt, attributeNameAt, attributeSortAt, attributeLengthAt, attributeValueAt, attributeLength}
+use Rattle.layout.specs.Fields.{rowSortAt, rowDepthAt, rowIndexAt, rowSerialAt, rowLengthAt, rowUnusedAt, rowValueAt, rowLength, unusedFit}
 use Rattle.records.specs.Records.{used, filled, nameFits, valueFits, definitionFits, attributeFits, rowFits, eachFits}
 use Rattle.rules.proofs.DecodeLaws.{value-width}
 
@@ -163,7 +167,12 @@ abbrev definitionAt : Bytes → FlatDefinition
 definitionAt bs = record { name = used bs (suc definitionNameAt) (getD bs definitionNameAt 0); kind = getD bs definitionKindAt 0; particles = numberAt definitionParticlesAt 2 bs }
 
 definition-at : (bs : Bytes) → readDefinition bs ≡ definitionAt bs
-definition-at bs = λ i. record { name = used bs (suc definitionNameAt) (getD bs definitionNameAt 0); kind = getD-drop definitionKindAt bs 0 0 i; particles = unle (take 2 (drop-drop 1 definitionKindAt bs i)) }
+definition-at bs =
+    λ i. record {
+      name = used bs (suc definitionNameAt) (getD bs definitionNameAt 0);
+      kind = getD-drop definitionKindAt bs 0 0 i;
+      particles = unle (take 2 (drop-drop 1 definitionKindAt bs i));
+    }
 
 -- the test by them
 definition-tests : (bs : Bytes) → definitionFits bs ≡ (nameFits bs definitionNameAt && (leb (definitionAt bs .kind) 2 && (eqb (definitionAt bs .kind) 2 || eqb (definitionAt bs .particles) 0)))
@@ -176,9 +185,11 @@ definition-canonical bs a e h =
     let (n, h₁) = and-split (nameFits bs definitionNameAt) _ h in
     let (s, f) = and-split (storedName (used bs (suc definitionNameAt) (getD bs definitionNameAt 0))) _ n in
     ap definitionBytes (definition-at bs)
-    ∙ byte-then bs definitionNameAt (suc definitionNameAt) (length (used bs (suc definitionNameAt) (getD bs definitionNameAt 0))) (length-used bs (suc definitionNameAt) (getD bs definitionNameAt 0) nameWidth f (omega arith)) refl (omega arith)
+    ∙ byte-then bs definitionNameAt (suc definitionNameAt) (length (used bs (suc definitionNameAt) (getD bs definitionNameAt 0)))
+    (length-used bs (suc definitionNameAt) (getD bs definitionNameAt 0) nameWidth f (omega arith)) refl (omega arith)
     (field-then bs (suc definitionNameAt) (getD bs definitionNameAt 0) nameWidth f (omega arith)
-    (byte-then bs definitionKindAt definitionParticlesAt (getD bs definitionKindAt 0) refl refl (omega arith) (number-then bs definitionParticlesAt 2 (numberAt definitionParticlesAt 2 bs) a refl (omega arith) (all-read bs definitionSize (omega arith)))))
+    (byte-then bs definitionKindAt definitionParticlesAt (getD bs definitionKindAt 0) refl refl (omega arith)
+    (number-then bs definitionParticlesAt 2 (numberAt definitionParticlesAt 2 bs) a refl (omega arith) (all-read bs definitionSize (omega arith)))))
 
 pub number-bound : (k : ℕ) (bs : Bytes) (at : ℕ) → Small bs → at + k ≤ length bs → numberAt at k bs < 256 ^ k
 number-bound k bs at a h = rw (length-part bs at k h) at (unle-bound (take k (drop at bs)) (small-take k (small-drop at a) .small))
@@ -189,7 +200,12 @@ definition-fields bs a e h =
     let (n, h₁) = and-split (nameFits bs definitionNameAt) _ (sym (definition-tests bs) ∙ h) in
     let (k, z) = and-split (leb (getD bs definitionKindAt 0) 2) (eqb (getD bs definitionKindAt 0) 2 || eqb (numberAt definitionParticlesAt 2 bs) 0) h₁ in
     subst (λ (d : FlatDefinition). FittingDefinition d) (sym (definition-at bs))
-    (record { name = and-split (storedName (used bs (suc definitionNameAt) (getD bs definitionNameAt 0))) _ n .0; kind = leb-true _ _ k; none = z; particles = number-bound 2 bs definitionParticlesAt a (omega arith) })
+    (record {
+      name = and-split (storedName (used bs (suc definitionNameAt) (getD bs definitionNameAt 0))) _ n .0;
+      kind = leb-true _ _ k;
+      none = z;
+      particles = number-bound 2 bs definitionParticlesAt a (omega arith);
+    })
 
 pub definition-fits : (d : FlatDefinition) → FittingDefinition d → definitionFits (definitionBytes d) ≡ true
 definition-fits d f =
@@ -227,10 +243,22 @@ pub record FittingAttribute (w n : ℕ) (a : FlatAttribute) : Type 0 where
   pub fill : isFill (sortOf (a .sort)) (a .value) ≡ true
 
 abbrev attributeAt : Bytes → FlatAttribute
-attributeAt bs = record { owner = getD bs attributeOwnerAt 0; name = used bs (suc attributeNameAt) (getD bs attributeNameAt 0); sort = getD bs attributeSortAt 0; value = used bs attributeValueAt (attributeLength bs) }
+attributeAt bs =
+    record {
+      owner = getD bs attributeOwnerAt 0;
+      name = used bs (suc attributeNameAt) (getD bs attributeNameAt 0);
+      sort = getD bs attributeSortAt 0;
+      value = used bs attributeValueAt (attributeLength bs);
+    }
 
 attribute-at : (bs : Bytes) → readAttribute bs ≡ attributeAt bs
-attribute-at bs = λ i. record { owner = getD bs attributeOwnerAt 0; name = used bs (suc attributeNameAt) (getD bs attributeNameAt 0); sort = getD-drop attributeSortAt bs 0 0 i; value = take (getD-drop attributeSortAt bs 1 0 i) (drop-drop 2 attributeSortAt bs i) }
+attribute-at bs =
+    λ i. record {
+      owner = getD bs attributeOwnerAt 0;
+      name = used bs (suc attributeNameAt) (getD bs attributeNameAt 0);
+      sort = getD-drop attributeSortAt bs 0 0 i;
+      value = take (getD-drop attributeSortAt bs 1 0 i) (drop-drop 2 attributeSortAt bs i);
+    }
 
 -- the test by them
 attribute-tests : (w n : ℕ) (bs : Bytes)
@@ -270,11 +298,14 @@ attribute-canonical w n bs e h =
     let p : AttributeParts w n bs = attribute-parts w n bs h in
     ap (attributeBytes w) (attribute-at bs)
     ∙ byte-then bs attributeOwnerAt attributeNameAt (getD bs attributeOwnerAt 0) refl refl (omega arith)
-    (byte-then bs attributeNameAt (suc attributeNameAt) (length (used bs (suc attributeNameAt) (getD bs attributeNameAt 0))) (length-used bs (suc attributeNameAt) (getD bs attributeNameAt 0) nameWidth (p .nameFill) (omega arith)) refl (omega arith)
+    (byte-then bs attributeNameAt (suc attributeNameAt) (length (used bs (suc attributeNameAt) (getD bs attributeNameAt 0)))
+    (length-used bs (suc attributeNameAt) (getD bs attributeNameAt 0) nameWidth (p .nameFill) (omega arith)) refl (omega arith)
     (field-then bs (suc attributeNameAt) (getD bs attributeNameAt 0) nameWidth (p .nameFill) (omega arith)
     (byte-then bs attributeSortAt attributeLengthAt (getD bs attributeSortAt 0) refl refl (omega arith)
-    (byte-then bs attributeLengthAt attributeValueAt (length (used bs attributeValueAt (attributeLength bs))) (length-used bs attributeValueAt (attributeLength bs) w (p .valueFill) (omega arith)) refl (omega arith)
-    (sym (append-nil (field w (used bs attributeValueAt (attributeLength bs)))) ∙ field-then bs attributeValueAt (attributeLength bs) w (p .valueFill) (omega arith) (all-read bs (attributeSize w) (omega arith)))))))
+    (byte-then bs attributeLengthAt attributeValueAt (length (used bs attributeValueAt (attributeLength bs)))
+    (length-used bs attributeValueAt (attributeLength bs) w (p .valueFill) (omega arith)) refl (omega arith)
+    (sym (append-nil (field w (used bs attributeValueAt (attributeLength bs))))
+    ∙ field-then bs attributeValueAt (attributeLength bs) w (p .valueFill) (omega arith) (all-read bs (attributeSize w) (omega arith)))))))
 
 pub attribute-fields : (w n : ℕ) (bs : Bytes) → attributeFits w n bs ≡ true → FittingAttribute w n (readAttribute bs)
 attribute-fields w n bs h =
@@ -425,7 +456,8 @@ unfolding eachFits
 each-fits-cut p size zero n bs h = refl
 each-fits-cut p size (suc count) n bs h =
     let l : size ≤ n = omega (arith, mul-suc size count) in
-    ap₂ (λ (a b : Bool). a && b) (ap p (take-take size n bs l)) (ap (eachFits p size count) (drop-take size n bs l) ∙ each-fits-cut p size count (n - size) (drop size bs) (omega (arith, mul-suc size count)))
+    ap₂ (λ (a b : Bool). a && b) (ap p (take-take size n bs l))
+    (ap (eachFits p size count) (drop-take size n bs l) ∙ each-fits-cut p size count (n - size) (drop size bs) (omega (arith, mul-suc size count)))
 
 module _ {A : Type 0} (f : Bytes → A) (g : A → Bytes) (p : Bytes → Bool) (size : ℕ) where
   -- the records that fit, and what follows them
@@ -450,7 +482,8 @@ module _ {A : Type 0} (f : Bytes → A) (g : A → Bytes) (p : Bytes → Bool) (
       ∙ body-then canonical count bs a (omega arith) fit
 
   -- what a test says of each record holds of all
-  pub body-fields : (P : A → Type 0) → ((x : Bytes) → Small x → length x ≡ size → p x ≡ true → P (f x)) → (count : ℕ) (bs : Bytes) → Small bs → size * count ≤ length bs → eachFits p size count bs ≡ true
+  pub body-fields : (P : A → Type 0) → ((x : Bytes) → Small x → length x ≡ size → p x ≡ true → P (f x)) → (count : ℕ) (bs : Bytes) → Small bs
+      → size * count ≤ length bs → eachFits p size count bs ≡ true
       → Every P (readMany f size count bs)
   unfolding eachFits
   body-fields P says zero bs a h fit = tt

@@ -1,4 +1,5 @@
--- A byte string whose header and records fit is what its reading is written as, and a store that passes is written so that they fit.
+-- A byte string whose header and records fit is what its reading is written
+-- as, and a store that passes is written so that they fit.
 use Prim.Native.Nat.{ℕ, zero, suc, _+_, _*_, _≤_, _<_}
 use native.Mathlib.Nat.{mul-le-mul}
 use native.Mathlib.Omega.{arith}
@@ -13,18 +14,24 @@ use borrow.Author.Tests.{leb-true, eqb-true, le-leb, eq-eqb}
 use Rattle.rules.specs.Bytes.{Bytes, isNone}
 use Rattle.rules.specs.Preorder.{Deep, flatten}
 use Rattle.rules.specs.Store.{Content, empty, pcdata, complex, Attribute, AttributeSort, implied, required, fixed, Form, RowSort, element, attribute, text, Row, Forest, bare, tree, Store}
-use Rattle.rules.specs.Layout.{valueWidth, le, FlatRow, FlatStore, headerSize, definitionSize, particleSize, attributeSize, rowSize, definitionBytes, particleBytes, attributeBytes, rowBytes, each, entry, flatBytes, kindCode, sortCode, rowCode, contentParticles, flatDefinition, ownAttributes, allAttributes, rowIndex, indexed, flat, encode}
+use Rattle.rules.specs.Layout.{valueWidth, le, FlatRow, FlatStore, headerSize, definitionSize, particleSize, attributeSize, rowSize, definitionBytes}
+use Rattle.rules.specs.Layout.{particleBytes, attributeBytes, rowBytes, each, entry, flatBytes, kindCode, sortCode, rowCode, contentParticles, flatDefinition}
+use Rattle.rules.specs.Layout.{ownAttributes, allAttributes, rowIndex, indexed, flat, encode}
 use Rattle.rules.specs.Decode.{numberAt, readDefinition, readParticle, readAttribute, readRow, definitionCount, particleCount, attributeCount, rowCount, readFlat, sized, sortOf}
 use Rattle.rules.specs.WellFormed.{storedName, isValue, isFill, isAttributeOf}
 use Rattle.rules.specs.Conforming.{EveryRow}
 use Rattle.rules.specs.Passing.{knownVersion, laidRow, good}
 use Rattle.rules.proofs.Words.{and-both, and-split}
 use Rattle.rules.proofs.BooleanLaws.{Every, every-map, every-append, every-zip, none-nil}
-use Rattle.rules.proofs.LayoutLaws.{Small, unle-le, GoodFlatDefinition, GoodFlatAttribute, GoodFlatRow, GoodFlat, length-definition, length-particle, length-attribute, length-row, length-each, length-flatBytes, sized-bytes}
+use Rattle.rules.proofs.LayoutLaws.{Small, unle-le, GoodFlatDefinition, GoodFlatAttribute, GoodFlatRow, GoodFlat, length-definition, length-particle}
+use Rattle.rules.proofs.LayoutLaws.{length-attribute, length-row, length-each, length-flatBytes, sized-bytes}
 use Rattle.rules.proofs.DecodeLaws.{version-bound, width-bound, GoodParts, good-parts, DefinitionParts, every-definition, good-flat, value-width}
 use Rattle.layout.specs.Fields.{definitionEntryAt, particleEntryAt, attributeEntryAt, rowEntryAt, versionAt, nextAt}
 use Rattle.records.specs.Records.{definitionFits, attributeFits, rowFits, eachFits, atParticles, atAttributes, atRows, recordsFit, countsFit, offsetsFit, headerFits}
-use Rattle.records.proofs.RecordLaws.{small-drop, number-then, number-bound, name-length, FittingDefinition, definition-canonical, definition-fields, definition-fits, particle-canonical, FittingAttribute, attribute-canonical, attribute-fields, attribute-fits, FittingRow, row-canonical, row-fields, row-fits, body-then, body-canonical, body-fields, body-fits, body-fits-whole}
+use Rattle.records.proofs.RecordLaws.{small-drop, number-then, number-bound, name-length, FittingDefinition, definition-canonical, definition-fields}
+use Rattle.records.proofs.RecordLaws.{definition-fits, particle-canonical, FittingAttribute, attribute-canonical, attribute-fields, attribute-fits}
+use Rattle.records.proofs.RecordLaws.{FittingRow, row-canonical, row-fields, row-fits, body-then, body-canonical, body-fields, body-fits}
+use Rattle.records.proofs.RecordLaws.{body-fits-whole}
 use Rattle.codec.proofs.Records.{length-many}
 
 -- ---- the header
@@ -150,19 +157,24 @@ module _ (w : ℕ) (bs : Bytes) where
     length-bodies : definitionSize * definitionCount bs ≤ length (drop headerSize bs)
     length-bodies = omega (arith, length-drop headerSize bs)
 
-    bodies-canonical : each definitionBytes (readFlat w bs .definitions) ++ (each particleBytes (readFlat w bs .particles) ++ (each (attributeBytes w) (readFlat w bs .attributes) ++ each (rowBytes w) (readFlat w bs .rows))) ≡ drop headerSize bs
+    bodies-canonical : each definitionBytes (readFlat w bs .definitions)
+        ++ (each particleBytes (readFlat w bs .particles) ++ (each (attributeBytes w) (readFlat w bs .attributes) ++ each (rowBytes w) (readFlat w bs .rows)))
+        ≡ drop headerSize bs
     bodies-canonical =
         ap (λ (ys : Bytes). each definitionBytes (readFlat w bs .definitions) ++ ys)
         (ap (λ (ys : Bytes). each particleBytes (readFlat w bs .particles) ++ ys)
         (ap (λ (ys : Bytes). each (attributeBytes w) (readFlat w bs .attributes) ++ ys)
         (body-canonical readRow (rowBytes w) (rowFits w) (rowSize w) (row-canonical w) (rowCount bs) fromRows small-rows length-rows fit-rows)
-        ∙ body-then readAttribute (attributeBytes w) (attributeFits w (definitionCount bs)) (attributeSize w) (λ x a. attribute-canonical w (definitionCount bs) x) (attributeCount bs) fromAttributes small-attributes length-attributes fit-attributes)
-        ∙ body-then readParticle particleBytes (λ x. true) particleSize (λ x a l h. particle-canonical x l) (particleCount bs) fromParticles small-particles length-particles (any-particle (particleCount bs) fromParticles))
+        ∙ body-then readAttribute (attributeBytes w) (attributeFits w (definitionCount bs)) (attributeSize w)
+        (λ x a. attribute-canonical w (definitionCount bs) x) (attributeCount bs) fromAttributes small-attributes length-attributes fit-attributes)
+        ∙ body-then readParticle particleBytes (λ x. true) particleSize (λ x a l h. particle-canonical x l) (particleCount bs) fromParticles small-particles
+        length-particles (any-particle (particleCount bs) fromParticles))
         ∙ body-then readDefinition definitionBytes definitionFits definitionSize definition-canonical (definitionCount bs) (drop headerSize bs) small-bodies length-bodies (parts .definitions)
 
     counted : flatBytes w (readFlat w bs) ≡ written w (numberAt versionAt 4 bs) (numberAt nextAt 4 bs) (definitionCount bs) (particleCount bs) (attributeCount bs) (rowCount bs) (drop headerSize bs)
     counted = λ i.
-        written w (numberAt versionAt 4 bs) (numberAt nextAt 4 bs) (length-many readDefinition definitionSize (definitionCount bs) (drop headerSize bs) i) (length-many readParticle particleSize (particleCount bs) fromParticles i)
+        written w (numberAt versionAt 4 bs) (numberAt nextAt 4 bs) (length-many readDefinition definitionSize (definitionCount bs) (drop headerSize bs) i)
+        (length-many readParticle particleSize (particleCount bs) fromParticles i)
         (length-many readAttribute (attributeSize w) (attributeCount bs) fromAttributes i) (length-many readRow (rowSize w) (rowCount bs) fromRows i) (bodies-canonical i)
 
     all-canonical : flatBytes w (readFlat w bs) ≡ bs
@@ -205,11 +217,14 @@ all-fields w bs a x p =
       fewParticles = omega (arith, length-many readParticle particleSize (particleCount bs) (fromParticles w bs));
       fewAttributes = omega (arith, length-many readAttribute (attributeSize w) (attributeCount bs) (fromAttributes w bs));
       fewRows = omega (arith, length-many readRow (rowSize w) (rowCount bs) (fromRows w bs));
-      definitions = body-fields readDefinition definitionBytes definitionFits definitionSize FittingDefinition definition-fields (definitionCount bs) (drop headerSize bs) (small-bodies w bs a x p) (length-bodies w bs a x p) (p .definitions);
+      definitions = body-fields readDefinition definitionBytes definitionFits definitionSize FittingDefinition definition-fields (definitionCount bs)
+          (drop headerSize bs) (small-bodies w bs a x p) (length-bodies w bs a x p) (p .definitions);
       attributes = subst (λ (n : ℕ). Every (FittingAttribute w n) (readFlat w bs .attributes)) (sym definitionsRead)
-          (body-fields readAttribute (attributeBytes w) (attributeFits w (definitionCount bs)) (attributeSize w) (FittingAttribute w (definitionCount bs)) (λ y s l. attribute-fields w (definitionCount bs) y) (attributeCount bs) (fromAttributes w bs)
+          (body-fields readAttribute (attributeBytes w) (attributeFits w (definitionCount bs)) (attributeSize w) (FittingAttribute w (definitionCount bs))
+          (λ y s l. attribute-fields w (definitionCount bs) y) (attributeCount bs) (fromAttributes w bs)
           (small-attributes w bs a x p) (length-attributes w bs a x p) (fit-attributes w bs a x p));
-      rows = body-fields readRow (rowBytes w) (rowFits w) (rowSize w) (FittingRow w) (row-fields w) (rowCount bs) (fromRows w bs) (small-rows w bs a x p) (omega (arith, length-rows w bs a x p)) (fit-rows w bs a x p);
+      rows = body-fields readRow (rowBytes w) (rowFits w) (rowSize w) (FittingRow w) (row-fields w) (rowCount bs) (fromRows w bs) (small-rows w bs a x p)
+          (omega (arith, length-rows w bs a x p)) (fit-rows w bs a x p);
     }
   where
     definitionsRead : length (readFlat w bs .definitions) ≡ definitionCount bs
@@ -229,7 +244,8 @@ fitting-good w f x =
       attributeCount = omega arith;
       rowCount = omega arith;
       definitions = every-map FittingDefinition GoodFlatDefinition (f .definitions) (λ d y. record { name = name-length (d .name) (y .name); particles = y .particles }) (x .definitions);
-      attributes = every-map (FittingAttribute w (length (f .definitions))) (GoodFlatAttribute w) (f .attributes) (λ a y. record { name = name-length (a .name) (y .name); value = value-width w (a .value) (y .value) }) (x .attributes);
+      attributes = every-map (FittingAttribute w (length (f .definitions))) (GoodFlatAttribute w) (f .attributes)
+          (λ a y. record { name = name-length (a .name) (y .name); value = value-width w (a .value) (y .value) }) (x .attributes);
       rows = every-map (FittingRow w) (GoodFlatRow w) (f .rows) (λ r y. record { index = y .index; serial = y .serial; value = value-width w (r .row .value) (y .value) }) (x .rows);
     }
 
@@ -258,7 +274,8 @@ module _ (w : ℕ) (f : FlatStore) (x : FittingFlat w f) where
   counts-fit : countsFit (flatBytes w f) ≡ true
   unfolding countsFit
   counts-fit =
-      and-both (within definitions-counted (x .fewDefinitions)) (and-both (within particles-counted (x .fewParticles)) (and-both (within attributes-counted (x .fewAttributes)) (within rows-counted (x .fewRows))))
+      and-both (within definitions-counted (x .fewDefinitions))
+      (and-both (within particles-counted (x .fewParticles)) (and-both (within attributes-counted (x .fewAttributes)) (within rows-counted (x .fewRows))))
     where
       within : {m n k : ℕ} → m ≡ n → n ≤ k → leb m k ≡ true
       within {m} {n} {k} e h = le-leb m k (omega arith)
@@ -271,7 +288,8 @@ module _ (w : ℕ) (f : FlatStore) (x : FittingFlat w f) where
       (and-both (eq-eqb _ _ (unle-le 4 (headerSize + definitionSize * d) (omega arith) ∙ sym (ap (λ (m : ℕ). headerSize + definitionSize * m) definitions-counted)))
       (and-both
       (eq-eqb _ _
-      (unle-le 4 (headerSize + definitionSize * d + particleSize * p) (omega arith) ∙ sym (ap₂ (λ (m n : ℕ). headerSize + definitionSize * m + particleSize * n) definitions-counted particles-counted)))
+      (unle-le 4 (headerSize + definitionSize * d + particleSize * p) (omega arith)
+      ∙ sym (ap₂ (λ (m n : ℕ). headerSize + definitionSize * m + particleSize * n) definitions-counted particles-counted)))
       (eq-eqb _ _
       (unle-le 4 (headerSize + definitionSize * d + particleSize * p + attributeSize w * a) (omega arith)
       ∙ sym (λ i. headerSize + definitionSize * definitions-counted i + particleSize * particles-counted i + attributeSize w * attributes-counted i)))))
@@ -281,7 +299,8 @@ module _ (w : ℕ) (f : FlatStore) (x : FittingFlat w f) where
   header-fits narrow =
       and-both (le-leb headerSize (length (flatBytes w f)) (omega (arith, length-flatBytes w f)))
       (and-both (ap knownVersion (unle-le 4 (f .version) (fitting-good w f x .version)) ∙ x .version)
-      (and-both counts-fit (and-both (offsets-fit narrow) (and-both (sized-bytes w f (fitting-good w f x)) (le-leb 1 (numberAt nextAt 4 (flatBytes w f)) (omega (arith, unle-le 4 (f .next) (x .most))))))))
+      (and-both counts-fit (and-both (offsets-fit narrow)
+      (and-both (sized-bytes w f (fitting-good w f x)) (le-leb 1 (numberAt nextAt 4 (flatBytes w f)) (omega (arith, unle-le 4 (f .next) (x .most))))))))
 
   -- the string, and its bodies one after another
   abbrev string : Bytes
@@ -301,7 +320,8 @@ module _ (w : ℕ) (f : FlatStore) (x : FittingFlat w f) where
       sym (from-attributes w string)
       ∙ ap₂ (λ (m n : ℕ). drop (particleSize * n) (drop (definitionSize * m) (drop headerSize string))) definitions-counted particles-counted
       ∙ ap (λ (ys : Bytes). drop (particleSize * p) ys)
-      (drop-at (each definitionBytes (f .definitions)) (particleBody ++ (attributeBody ++ rowBody)) (definitionSize * d) (length-each definitionBytes definitionSize length-definition (f .definitions)))
+      (drop-at (each definitionBytes (f .definitions)) (particleBody ++ (attributeBody ++ rowBody)) (definitionSize * d)
+      (length-each definitionBytes definitionSize length-definition (f .definitions)))
       ∙ drop-at particleBody (attributeBody ++ rowBody) (particleSize * p) (length-each particleBytes particleSize length-particle (f .particles))
 
   rows-from : drop (atRows w string) string ≡ rowBody
@@ -368,7 +388,8 @@ own-attributes w n o (c ∷ cs) l a =
 store-attributes : (w : ℕ) (form : Form) (n o : ℕ) (fs : Form) → o + length fs ≤ n → Every (DefinitionParts w form) fs → Every (FittingAttribute w n) (allAttributes o fs)
 store-attributes w form n o [] l a = tt
 store-attributes w form n o (d ∷ fs) l a =
-    every-append (FittingAttribute w n) (ownAttributes o (d .attributes)) (allAttributes (suc o) fs) (own-attributes w n o (d .attributes) (omega arith) (a .0 .attributes)) (store-attributes w form n (suc o) fs (omega arith) (a .1))
+    every-append (FittingAttribute w n) (ownAttributes o (d .attributes)) (allAttributes (suc o) fs)
+    (own-attributes w n o (d .attributes) (omega arith) (a .0 .attributes)) (store-attributes w form n (suc o) fs (omega arith) (a .1))
 
 -- what the value and the sort of a row say
 record LaidRow (w : ℕ) (r : Deep FlatRow) : Type 0 where
@@ -378,7 +399,8 @@ record LaidRow (w : ℕ) (r : Deep FlatRow) : Type 0 where
   element : r .row .sort ≡ 1 → r .row .value ≡ []
   text : r .row .sort ≡ 3 → r .row .index ≡ 0
 
-row-laid : (w : ℕ) (form : Form) (owner : Bytes) (depth : ℕ) (r : Row) → laidRow w r ≡ true → LaidRow w (record { depth = depth; row = record { sort = rowCode (r .sort); index = rowIndex form owner r; serial = r .serial; value = r .value } })
+row-laid : (w : ℕ) (form : Form) (owner : Bytes) (depth : ℕ) (r : Row) → laidRow w r ≡ true
+    → LaidRow w (record { depth = depth; row = record { sort = rowCode (r .sort); index = rowIndex form owner r; serial = r .serial; value = r .value } })
 row-laid w form owner depth r h = by (r .sort) refl
   where
     Goal : Type 0
@@ -394,13 +416,20 @@ row-laid w form owner depth r h = by (r .sort) refl
         record { least = omega arith; most = omega arith; value = rw (q, laidRow) at h; element = λ e. absurd (omega arith); text = λ e. absurd (omega arith) }
     by text q =
         let c : rowCode (r .sort) ≡ 3 = ap rowCode q in
-        record { least = omega arith; most = omega arith; value = and-split (isValue w (r .value)) (isNone (r .name)) (rw (q, laidRow) at h) .0; element = λ e. absurd (omega arith); text = λ e. rw q refl }
+        record {
+          least = omega arith;
+          most = omega arith;
+          value = and-split (isValue w (r .value)) (isNone (r .name)) (rw (q, laidRow) at h) .0;
+          element = λ e. absurd (omega arith);
+          text = λ e. rw q refl;
+        }
 
 store-rows : (w : ℕ) (form : Form) (owner : Bytes) (depth : ℕ) (f : Forest Row) → EveryRow (λ r below. laidRow w r ≡ true) f → Every (LaidRow w) (flatten depth (indexed form owner f))
 store-rows w form owner depth bare h = tt
 store-rows w form owner depth (tree r b t) h = (
   row-laid w form owner depth r (h .0),
-  every-append (LaidRow w) (flatten (suc depth) (indexed form (r .name) b)) (flatten depth (indexed form owner t)) (store-rows w form (r .name) (suc depth) b (h .1)) (store-rows w form owner depth t (h .2)),
+  every-append (LaidRow w) (flatten (suc depth) (indexed form (r .name) b)) (flatten depth (indexed form owner t))
+      (store-rows w form (r .name) (suc depth) b (h .1)) (store-rows w form owner depth t (h .2)),
 )
 
 pub store-fields : (s : Store) → good s ≡ true → FittingFlat (valueWidth (s .version)) (flat s)
@@ -417,9 +446,19 @@ store-fields s g = of (good-parts s g) (good-flat s g)
           fewAttributes = p .attributeCount;
           fewRows = p .rowCount;
           definitions = store-definitions (valueWidth (s .version)) (s .form) (s .form) (every-definition s g) (f .definitions);
-          attributes = store-attributes (valueWidth (s .version)) (s .form) (length (flat s .definitions)) 0 (s .form) (omega (arith, length-map (s .form) (flatDefinition (s .form)))) (every-definition s g);
+          attributes = store-attributes (valueWidth (s .version)) (s .form) (length (flat s .definitions)) 0 (s .form)
+              (omega (arith, length-map (s .form) (flatDefinition (s .form)))) (every-definition s g);
           rows = every-zip (LaidRow (valueWidth (s .version))) (GoodFlatRow (valueWidth (s .version))) (FittingRow (valueWidth (s .version))) (flat s .rows)
-              (λ r a b. record { least = a .least; most = a .most; value = a .value; element = a .element; text = a .text; index = b .index; serial = b .serial }) (store-rows (valueWidth (s .version)) (s .form) [] 0 (s .docs) (p .values)) (f .rows);
+              (λ r a b. record {
+                least = a .least;
+                most = a .most;
+                value = a .value;
+                element = a .element;
+                text = a .text;
+                index = b .index;
+                serial = b .serial;
+              })
+              (store-rows (valueWidth (s .version)) (s .form) [] 0 (s .docs) (p .values)) (f .rows);
         }
 
 -- all that the laws use of the width of a value

@@ -9,7 +9,8 @@ use Rattle.rules.specs.Decode.{numberAt, readDefinition, readAttribute, readRow
 use Rattle.rules.specs.WellFormed.{storedName, isValue, isFill}
 use Rattle.rules.specs.Passing.{knownVersion}
 use Rattle.byte_check.specs.Zeros.{zeros}
-use Rattle.layout.specs.Fields.{definitionEntryAt, particleEntryAt, attributeEntryAt, rowEntryAt, versionAt, nextAt, definitionNameAt, attributeNameAt, attributeValueAt, attributeLength, rowValueAt, rowLength, unusedFit}
+use Rattle.layout.specs.Fields.{definitionEntryAt, particleEntryAt, attributeEntryAt, rowEntryAt, versionAt, nextAt, definitionNameAt, attributeNameAt}
+use Rattle.layout.specs.Fields.{attributeValueAt, attributeLength, rowValueAt, rowLength, unusedFit}
 
 -- a field of `width` bytes at `at`, of which the first `used` are used and the others zero
 abbrev pub used : Bytes → ℕ → ℕ → Bytes
@@ -73,7 +74,10 @@ unfoldable pub countsFit : Bytes → Bool
 countsFit bs = leb (definitionCount bs) 64 && (leb (particleCount bs) 256 && (leb (attributeCount bs) 64 && leb (rowCount bs) 4096))
 
 unfoldable pub offsetsFit : ℕ → Bytes → Bool
-offsetsFit w bs = eqb (numberAt definitionEntryAt 4 bs) headerSize && (eqb (numberAt particleEntryAt 4 bs) (atParticles bs) && (eqb (numberAt attributeEntryAt 4 bs) (atAttributes bs) && eqb (numberAt rowEntryAt 4 bs) (atRows w bs)))
+offsetsFit w bs =
+    eqb (numberAt definitionEntryAt 4 bs) headerSize
+    && (eqb (numberAt particleEntryAt 4 bs) (atParticles bs)
+    && (eqb (numberAt attributeEntryAt 4 bs) (atAttributes bs) && eqb (numberAt rowEntryAt 4 bs) (atRows w bs)))
 
 unfoldable pub headerFits : ℕ → Bytes → Bool
 headerFits w bs = leb headerSize (length bs) && (knownVersion (numberAt versionAt 4 bs) && (countsFit bs && (offsetsFit w bs && (sized w bs && leb 1 (numberAt nextAt 4 bs)))))

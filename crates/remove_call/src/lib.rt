@@ -1,5 +1,5 @@
-//! Change 4, which removes an element. The call is the check, the first refusal that applies or the place, and an edit of the owner's
-//! model there with the plan of the change.
+//! Change 4, which removes an element. The call is the check, the first refusal that applies or the place, and an edit
+//! of the owner's model there with the plan of the change.
 use model_writer::Edit;
 use row_walk::Plan;
 use row_walk::Which;

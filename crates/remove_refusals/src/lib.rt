@@ -27,7 +27,8 @@ fn accepts_nothing(s: &[u8], d: usize) -> bool
     f.nothing
 }
 
-// Whether the inner CHOICE whose members start at a particle accepts nothing without the element at particle p, of depth d.
+// Whether the inner CHOICE whose members start at a particle accepts
+// nothing without the element at particle p, of depth d.
 fn choice_left(part: &[u8], start: usize, p: usize, d: usize) -> bool
     requires { ⌜ (1 ≤ start) × (start ≤ p) × (p ≤ 256) × (d ≤ 256) ⌝ }
     ensures { λ r. ⌜ r ≡ choiceLeft (now (part .entry)) start p d ⌝ }

@@ -72,7 +72,8 @@ module _ {A : Type 0} {h : List A → List A} (H : Spread h) where
   carry-plug k (over q j ms c) t t′ f g x =
       carry-joined H k (carry-repeated H (relaxes-same q) (carry-kept j ms (λ y m. f y (Memᴰ·append-left (beforePlace c) m)))) (carry-plug k c t t′ (λ y m. f y (Memᴰ·append-right (names ms) m)) g x)
   carry-plug k (into q j c rest) t t′ f g x =
-      carry-joined H k (carry-repeated H (relaxes-same q) (carry-plug j c t t′ f (λ y m. g y (Memᴰ·append-left (names rest) m)) x)) (carry-kept k rest (λ y m. g y (Memᴰ·append-right (afterPlace c) m)))
+      carry-joined H k (carry-repeated H (relaxes-same q) (carry-plug j c t t′ f (λ y m. g y (Memᴰ·append-left (names rest) m)) x))
+      (carry-kept k rest (λ y m. g y (Memᴰ·append-right (afterPlace c) m)))
 
 -- ---- words unchanged
 infix 20 _⊑_

@@ -12,7 +12,8 @@ use Rattle.rules.specs.declared.GroupKind.the-variants.{Sequence, Choice
 use Rattle.rules.specs.Model.{Members, done, el, group, Equality, names, Distinct, Full, skips, nothing, unless, filling, member, full, distinct}
 use Rattle.rules.specs.Quantifiers.{many, gains, cuts, relaxes}
 use Rattle.rules.specs.Place.{Context, here, past, over, into, plug, kindAt, spine, beforePlace}
-use Rattle.rules.specs.Edit.{_⊕_, lone, sameKind, Edit, insert, remove, quantify, convert, flatten, firstMembers, hasMembers, isOne, insertOff, removeLast, removeUnmatched, quantifyOff, quantifyGroupOff, groupUnlike}
+use Rattle.rules.specs.Edit.{_⊕_, lone, sameKind, Edit, insert, remove, quantify, convert, flatten, firstMembers, hasMembers, isOne, insertOff}
+use Rattle.rules.specs.Edit.{removeLast, removeUnmatched, quantifyOff, quantifyGroupOff, groupUnlike}
 
 -- a word without a name
 unfoldable pub erase : {A : Type 0} → Equality A → A → List A → List A

@@ -19,7 +19,8 @@ use Rattle.rules.specs.Filling.{fillAttributes, fillEach, fillContent, f
 use Rattle.rules.specs.Place.{plug, kindAt, spine, beforePlace, around, afterMembers, find}
 use Rattle.rules.specs.Edit.{_⊕_, edited, place, placeOf}
 use Rattle.rules.specs.Lines.{Line, lines, findRow, childrenOf}
-use Rattle.rules.specs.Change.{Call, createDefinition, insertElement, changeQuantifier, addDocument, addElement, setText, attributeAt, formAfter, plan, prune, eachRow, plant, newRows, given, number, after}
+use Rattle.rules.specs.Change.{Call, createDefinition, insertElement, changeQuantifier, addDocument, addElement, setText, attributeAt, formAfter, plan}
+use Rattle.rules.specs.Change.{prune, eachRow, plant, newRows, given, number, after}
 use Rattle.rules.specs.Refusal.{conditions, refusal}
 use Rattle.rules.specs.Outcome.{Outcome, wrote, outcome}
 use Rattle.rules.specs.Print.{printed, printOutcome}

@@ -10,7 +10,8 @@ use Rattle.rules.specs.Model.{names, Distinct}
 use Rattle.rules.specs.Automaton.{accepts}
 use Rattle.rules.specs.Store.{Content, empty, pcdata, complex, Attribute, Definition, Form, RowSort, element, attribute, text, Row, Forest, modelOf, members, heads}
 use Rattle.rules.specs.WellFormed.{lookup, attributeName}
-use Rattle.rules.specs.Conforming.{nameOf, Sorted, InOrder, AttributeRows, ContentRows, ElementRows, RowConforms, EveryRow, Conforming, isElement, isAttribute, isText, everyRow, mustBePresent, allows, strip, fits, fitsStripped, fitsDefinition, fitsRow, conforming}
+use Rattle.rules.specs.Conforming.{nameOf, Sorted, InOrder, AttributeRows, ContentRows, ElementRows, RowConforms, EveryRow, Conforming, isElement}
+use Rattle.rules.specs.Conforming.{isAttribute, isText, everyRow, mustBePresent, allows, strip, fits, fitsStripped, fitsDefinition, fitsRow, conforming}
 use Rattle.rules.proofs.Words.{and-both, and-split}
 use Rattle.rules.proofs.Apart.{differs}
 use Rattle.rules.proofs.Correct.{accepts-conforms}
@@ -128,7 +129,8 @@ unfolding strip begins
 strip-past version a table [] h m = rw (m, strip)
 strip-past version a table (r ∷ rows) h m = rw (h, strip) (rw m)
 
-pub strip-lacks : (version : ℕ) (a : Attribute) (table : List Attribute) (rows : List Row) → begins (a .name) rows ≡ false → mustBePresent version (a .sort) ≡ true → strip version (a ∷ table) rows ≡ none
+pub strip-lacks : (version : ℕ) (a : Attribute) (table : List Attribute) (rows : List Row) → begins (a .name) rows ≡ false
+    → mustBePresent version (a .sort) ≡ true → strip version (a ∷ table) rows ≡ none
 unfolding strip begins
 strip-lacks version a table [] h m = rw (m, strip)
 strip-lacks version a table (r ∷ rows) h m = rw (h, strip) (rw m)

@@ -19,11 +19,16 @@ use Rattle.rules.specs.declared.GroupKind.the-variants.{Sequence, Choice
 use Rattle.rules.specs.Bytes.{Bytes, same, all, any, between, bytes, numbers, isNone, and-left, and-right, same-eq, same-refl}
 use Rattle.rules.specs.Model.{Members, done, el, group, names, distinct, full}
 use Rattle.rules.specs.Automaton.{accepts}
-use Rattle.rules.specs.Store.{Content, empty, pcdata, complex, AttributeSort, implied, required, fixed, Attribute, Definition, Form, RowSort, element, attribute, text, Row, Forest, bare, tree, Store, modelOf, members, heads}
+use Rattle.rules.specs.Store.{Content, empty, pcdata, complex, AttributeSort, implied, required, fixed, Attribute, Definition, Form, RowSort, element}
+use Rattle.rules.specs.Store.{attribute, text, Row, Forest, bare, tree, Store, modelOf, members, heads}
 use Rattle.rules.specs.Preorder.{Deep, flatten, build}
-use Rattle.rules.specs.Layout.{baseVersion, valueWidth, nameWidth, FlatParticle, FlatAttribute, headerSize, definitionSize, particleSize, attributeSize, rowSize, indexOf, indexIn, attributeIndex, quantifierCode, kindCode, sortCode, rowCode, particles, contentParticles, flatDefinition, allParticles, ownAttributes, allAttributes, rowIndex, indexed, flat, encode}
-use Rattle.rules.specs.Decode.{numberAt, readFlat, sized, nameAt, quantifierOf, contentOf, sortOf, rowSortOf, readMembers, ofOwner, readForm, rowName, readRows, flatName, flatAttributeName, unflat, confirm, decode}
-use Rattle.rules.specs.WellFormed.{startsName, inName, isName, storedName, isValue, highestNumber, withinCeilings, definitionName, attributeName, lookup, isThere, known, reachesIn, isFill, isAttributeOf, goodDefinition, wellFormed}
+use Rattle.rules.specs.Layout.{baseVersion, valueWidth, nameWidth, FlatParticle, FlatAttribute, headerSize, definitionSize, particleSize, attributeSize}
+use Rattle.rules.specs.Layout.{rowSize, indexOf, indexIn, attributeIndex, quantifierCode, kindCode, sortCode, rowCode, particles, contentParticles}
+use Rattle.rules.specs.Layout.{flatDefinition, allParticles, ownAttributes, allAttributes, rowIndex, indexed, flat, encode}
+use Rattle.rules.specs.Decode.{numberAt, readFlat, sized, nameAt, quantifierOf, contentOf, sortOf, rowSortOf, readMembers, ofOwner, readForm, rowName}
+use Rattle.rules.specs.Decode.{readRows, flatName, flatAttributeName, unflat, confirm, decode}
+use Rattle.rules.specs.WellFormed.{startsName, inName, isName, storedName, isValue, highestNumber, withinCeilings, definitionName, attributeName, lookup}
+use Rattle.rules.specs.WellFormed.{isThere, known, reachesIn, isFill, isAttributeOf, goodDefinition, wellFormed}
 use Rattle.rules.specs.Conforming.{nameOf, EveryRow, isElement, isAttribute, isText, everyRow, mustBePresent, allows, strip, fits, fitsStripped, fitsDefinition, fitsRow, conforming}
 use Rattle.rules.specs.Passing.{knownVersion, laidRow, serials, goodSerials, good, goodRead, readStore, isRead, passes}
 use Rattle.rules.proofs.Words.{or-left, or-right, and-split, and-both}

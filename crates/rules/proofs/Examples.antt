@@ -22,7 +22,9 @@ use Rattle.rules.specs.Filling.{fillAttributes, fillEach, fillContent, f
 use Rattle.rules.specs.Place.{plug, kindAt, spine, beforePlace, around, afterMembers, find}
 use Rattle.rules.specs.Edit.{_⊕_, edited, place, placeOf}
 use Rattle.rules.specs.Lines.{findRow, childrenOf}
-use Rattle.rules.specs.Change.{Call, destroyDefinition, insertElement, removeElement, changeQuantifier, convertToGroup, changeGroupQuantifier, setAttribute, destroyAttributeRow, definitionAt, attributeAt, formAfter, plan, prune, eachRow, plant, newRows, given, number, after}
+use Rattle.rules.specs.Change.{Call, destroyDefinition, insertElement, removeElement, changeQuantifier, convertToGroup, changeGroupQuantifier}
+use Rattle.rules.specs.Change.{setAttribute, destroyAttributeRow, definitionAt, attributeAt, formAfter, plan, prune, eachRow, plant, newRows, given}
+use Rattle.rules.specs.Change.{number, after}
 use Rattle.rules.specs.Refusal.{conditions, refusal}
 use Rattle.rules.specs.Outcome.{wrote, outcome}
 use Rattle.rules.specs.Print.{printed, printOutcome}

@@ -30,7 +30,8 @@ module _ {A : Type 0} (E : Equality A) (c : Context A) (s : spine c ≡ true) wh
   insert-needed q n t d w m =
       let p = split c t s d w m in
       let e : placed E (beforePlace c) (n ∷ []) w ≡ p .left ++ ((n ∷ p .mid) ++ p .right) =
-      ap (placed E (beforePlace c) (n ∷ [])) (sym (p .whole)) ∙ placed-at E (beforePlace c) (n ∷ []) (p .left) (p .mid ++ p .right) (p .left-in) (later c t w p (p .mid) (p .right) (p .mid-in) (p .right-in)) in
+      ap (placed E (beforePlace c) (n ∷ [])) (sym (p .whole))
+      ∙ placed-at E (beforePlace c) (n ∷ []) (p .left) (p .mid ++ p .right) (p .left-in) (later c t w p (p .mid) (p .right) (p .mid-in) (p .right-in)) in
       rw e (put c (el q n t) s (p .left) (n ∷ p .mid) (p .right) (p .ahead-is) (n ∷ [], p .mid, refl, (1, allowed-one q, (n ∷ [], [], refl, refl, refl)), p .mid-is) (p .behind-is))
 
   -- 5: AN ELEMENT'S QUANTIFIER ON THE SPINE, all sixteen pairs

@@ -19,7 +19,8 @@ use Rattle.rules.specs.Filling.{fillAttributes, fillEach, fillContent, f
 use Rattle.rules.specs.Place.{plug, kindAt, spine, beforePlace, around, afterMembers, find}
 use Rattle.rules.specs.Edit.{_⊕_, edited, place, placeOf}
 use Rattle.rules.specs.Lines.{Line, findRow, childrenOf}
-use Rattle.rules.specs.Change.{Call, createDefinition, insertElement, changeQuantifier, addAttribute, addDocument, addElement, destroyElement, setAttribute, setText, attributeAt, formAfter, Plan, plan, prune, eachRow, plant, newRows, given, number, after}
+use Rattle.rules.specs.Change.{Call, createDefinition, insertElement, changeQuantifier, addAttribute, addDocument, addElement, destroyElement}
+use Rattle.rules.specs.Change.{setAttribute, setText, attributeAt, formAfter, Plan, plan, prune, eachRow, plant, newRows, given, number, after}
 use Rattle.rules.specs.Refusal.{conditions, refusal}
 use Rattle.rules.specs.Outcome.{outcome}
 use Rattle.rules.specs.Book.{Entry, stands, taken, Book, untaken, rowBySerial, falls, mark, old, spot, putSpot, spots, expand, spotCount, marks, note}

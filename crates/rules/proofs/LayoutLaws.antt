@@ -11,7 +11,8 @@ use lib.Seq.{take-at, drop-at}
 use borrow.Author.Tests.{eq-eqb}
 use Rattle.rules.specs.Bytes.{Bytes}
 use Rattle.rules.specs.Preorder.{Deep}
-use Rattle.rules.specs.Layout.{le, field, nameWidth, FlatDefinition, FlatParticle, FlatAttribute, FlatRow, FlatStore, headerSize, definitionSize, particleSize, attributeSize, rowSize, definitionBytes, particleBytes, attributeBytes, rowBytes, each, entry, flatBytes}
+use Rattle.rules.specs.Layout.{le, field, nameWidth, FlatDefinition, FlatParticle, FlatAttribute, FlatRow, FlatStore, headerSize, definitionSize}
+use Rattle.rules.specs.Layout.{particleSize, attributeSize, rowSize, definitionBytes, particleBytes, attributeBytes, rowBytes, each, entry, flatBytes}
 use Rattle.rules.specs.Decode.{unle, readDefinition, readParticle, readAttribute, readRow, readMany, readBodies, readFlat, sized}
 use Rattle.rules.proofs.BooleanLaws.{Every, every-map, every-append, every-any}
 

@@ -8,7 +8,9 @@ use mathlib.Core.List.{List, [], _∷_, _++_, map, List·Memᴰ, List·Memᴰ·h
 use lib.Dec.{eqb, leb, leb→le, le→leb}
 use Rattle.rules.specs.Bytes.{all, of-T, to-T, eqb-eq}
 use Rattle.rules.specs.Store.{Store}
-use Rattle.rules.specs.Change.{Call, createDefinition, destroyDefinition, insertElement, removeElement, changeQuantifier, convertToGroup, flattenGroup, changeGroupQuantifier, addAttribute, destroyAttribute, addDocument, addElement, destroyElement, setAttribute, destroyAttributeRow, setText}
+use Rattle.rules.specs.Change.{Call, createDefinition, destroyDefinition, insertElement, removeElement, changeQuantifier, convertToGroup, flattenGroup}
+use Rattle.rules.specs.Change.{changeGroupQuantifier, addAttribute, destroyAttribute, addDocument, addElement, destroyElement, setAttribute}
+use Rattle.rules.specs.Change.{destroyAttributeRow, setText}
 use Rattle.rules.specs.Refusal.{Condition, first, conditions, refusal}
 use Rattle.rules.specs.Lowest.{refusalOrder, inOrder, rank, asked, numbersOf, Lowest}
 use Rattle.rules.proofs.Words.{and-split}

@@ -19,9 +19,13 @@ use Rattle.rules.specs.Decode.{quantifierOf, sortOf}
 use Rattle.rules.specs.Conforming.{isElement, mustBePresent}
 use Rattle.rules.specs.Filling.{fillDefinition}
 use Rattle.rules.specs.Lines.{Line, ground, isTextRow, elementNamed, elementAmong, attributeNamed, elementWith, childrenOf, serialAt}
-use Rattle.rules.specs.Change.{Call, createDefinition, destroyDefinition, insertElement, removeElement, changeQuantifier, convertToGroup, flattenGroup, changeGroupQuantifier, addAttribute, destroyAttribute, addDocument, addElement, destroyElement, setAttribute, destroyAttributeRow, setText, nameAtIndex, Owned, attributeAt, Plan, plan, pickedPlan, quantifyPlan, removePlan, insertPlan, dropPlan, setPlan, setAt}
+use Rattle.rules.specs.Change.{Call, createDefinition, destroyDefinition, insertElement, removeElement, changeQuantifier, convertToGroup, flattenGroup}
+use Rattle.rules.specs.Change.{changeGroupQuantifier, addAttribute, destroyAttribute, addDocument, addElement, destroyElement, setAttribute}
+use Rattle.rules.specs.Change.{destroyAttributeRow, setText, nameAtIndex, Owned, attributeAt, Plan, plan, pickedPlan, quantifyPlan, removePlan}
+use Rattle.rules.specs.Change.{insertPlan, dropPlan, setPlan, setAt}
 use Rattle.rules.specs.Refusal.{noElementAt, noGroupAt}
-use Rattle.rules.specs.MadeTakenGiven.{HasLine, StandsBelow, IsFirst, foundIn, AtPlace, OfElement, AtElement, OfGroup, AtGroup, OfAttribute, IsRemoved, IsCut, IsDropped, NamedBy, valueIf, isRowOf, valueAfter, MakesBelow, setRow, fillingOf, fillingAt, rowsMade}
+use Rattle.rules.specs.MadeTakenGiven.{HasLine, StandsBelow, IsFirst, foundIn, AtPlace, OfElement, AtElement, OfGroup, AtGroup, OfAttribute, IsRemoved}
+use Rattle.rules.specs.MadeTakenGiven.{IsCut, IsDropped, NamedBy, valueIf, isRowOf, valueAfter, MakesBelow, setRow, fillingOf, fillingAt, rowsMade}
 use Rattle.rules.proofs.Words.{and-both, and-split}
 use borrow.Author.Tests.{not-true}
 use Rattle.rules.proofs.BooleanLaws.{none-nil}

@@ -117,7 +117,8 @@ module _ {A : Type 0} (E : Equality A) (x : A) (q : Quantifier) (t : Members A) 
   removed b k (past r n c) f g e w m =
       gone-past H _ _ _ k b (carry-repeated H (relaxes-same r) (carry-single H n (f n (List·Memᴰ·head refl)))) (removed b k c (λ y z. f y (List·Memᴰ·tail z)) g e) w m
   removed b k (over r j ms c) f g e w m =
-      gone-past H _ _ _ k b (carry-repeated H (relaxes-same r) (carry-kept H j ms (λ y z. f y (Memᴰ·append-left (beforePlace c) z)))) (removed b k c (λ y z. f y (Memᴰ·append-right (names ms) z)) g e) w m
+      gone-past H _ _ _ k b (carry-repeated H (relaxes-same r) (carry-kept H j ms (λ y z. f y (Memᴰ·append-left (beforePlace c) z))))
+      (removed b k c (λ y z. f y (Memᴰ·append-right (names ms) z)) g e) w m
   removed b k (into r j c rest) f g e w m =
       inl (carry-joined H k
       (repeated-gone H (Matches j (plug c (el q x t))) (Matches j (plug c t)) r (nothing j (plug c t)) (nothing→ j (plug c t))

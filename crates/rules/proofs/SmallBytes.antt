@@ -17,9 +17,11 @@ use Rattle.rules.specs.Bytes.{Bytes, same, all, between, bytes, isNone, 
 use Rattle.rules.specs.Model.{Members, done, el, group, names, distinct}
 use Rattle.rules.specs.Language.{Conforms}
 use Rattle.rules.specs.Automaton.{accepts}
-use Rattle.rules.specs.Store.{Content, empty, pcdata, complex, AttributeSort, implied, required, fixed, Attribute, Definition, Form, RowSort, element, attribute, text, Row, Forest, bare, tree, Store, modelOf, members, heads}
+use Rattle.rules.specs.Store.{Content, empty, pcdata, complex, AttributeSort, implied, required, fixed, Attribute, Definition, Form, RowSort, element}
+use Rattle.rules.specs.Store.{attribute, text, Row, Forest, bare, tree, Store, modelOf, members, heads}
 use Rattle.rules.specs.Preorder.{Deep, flatten}
-use Rattle.rules.specs.Layout.{valueWidth, nameWidth, FlatParticle, quantifierCode, kindCode, sortCode, rowCode, particles, contentParticles, flatDefinition, allParticles, ownAttributes, allAttributes, indexed, flat, encode, howMany, groupCode, FlatRow}
+use Rattle.rules.specs.Layout.{valueWidth, nameWidth, FlatParticle, quantifierCode, kindCode, sortCode, rowCode, particles, contentParticles}
+use Rattle.rules.specs.Layout.{flatDefinition, allParticles, ownAttributes, allAttributes, indexed, flat, encode, howMany, groupCode, FlatRow}
 use Rattle.rules.specs.WellFormed.{startsName, inName, isName, storedName, isValue, withinCeilings, lookup, known, isFill, isAttributeOf, wellFormed}
 use Rattle.rules.specs.Conforming.{nameOf, EveryRow, isElement, isText, fits, fitsDefinition, fitsRow}
 use Rattle.rules.specs.Passing.{knownVersion, laidRow, good, passes}
@@ -31,7 +33,8 @@ use Rattle.rules.proofs.Height.{deep}
 use Rattle.rules.proofs.BooleanLaws.{Every, every-of, every-map, every-append, every-zip, every-in, all-in, none-nil}
 use Rattle.rules.proofs.LayoutLaws.{Small, SmallDefinition, SmallParticle, SmallAttribute, SmallRow, SmallFlat, small-bytes}
 use Rattle.rules.proofs.WellFormedLaws.{definition-deep}
-use Rattle.rules.proofs.DecodeLaws.{DefinitionParts, GoodParts, good-parts, every-definition, element-not, fits-known, index-bound, laid-value, name-width, strip-every, value-width, width-bound}
+use Rattle.rules.proofs.DecodeLaws.{DefinitionParts, GoodParts, good-parts, every-definition, element-not, fits-known, index-bound, laid-value}
+use Rattle.rules.proofs.DecodeLaws.{name-width, strip-every, value-width, width-bound}
 
 either-small : (a b : Bool) {x : ℕ} → (a ≡ true → x < 256) → (b ≡ true → x < 256) → (a || b) ≡ true → x < 256
 either-small a b f g h = ⊎-elim f g (or-cases a b h)

@@ -28,7 +28,8 @@ module _ {A : Type 0} (c : Context A) (t : Members A) (w : List A) (p r : Split 
 
   pub split-unique : (p .left ≡ r .left) × (p .mid ≡ r .mid) × (p .right ≡ r .right)
   split-unique =
-      let (a, b) = parts (λ y. List·Memᴰ y (beforePlace c)) (p .left) (p .mid ++ p .right) (r .left) (r .mid ++ r .right) (p .left-in) (rest-of p) (r .left-in) (rest-of r) (p .whole ∙ sym (r .whole)) in
+      let (a, b) = parts (λ y. List·Memᴰ y (beforePlace c)) (p .left) (p .mid ++ p .right) (r .left) (r .mid ++ r .right) (p .left-in) (rest-of p) (r .left-in)
+      (rest-of r) (p .whole ∙ sym (r .whole)) in
       let (d, e) = parts (λ y. List·Memᴰ y (names t)) (p .mid) (p .right) (r .mid) (r .right) (p .mid-in) (λ y m i. p .apart-right y i (p .right-in y m))
       (r .mid-in) (λ y m i. r .apart-right y i (r .right-in y m)) b in
       (a, d, e)

@@ -9,7 +9,8 @@ use lib.ListN.{length}
 use Rattle.rules.specs.Bytes.{Bytes, bytes, all}
 use Rattle.rules.specs.Model.{names, Distinct, distinct, full}
 use Rattle.rules.specs.Store.{Definition, Form, members}
-use Rattle.rules.specs.WellFormed.{definitionName, attributeName, lookup, known, namesIn, membersOf, Reaches, reachesIn, storedName, isAttributeOf, GoodDefinition, WellFormed, goodDefinition, wellFormed, isValue}
+use Rattle.rules.specs.WellFormed.{definitionName, attributeName, lookup, known, namesIn, membersOf, Reaches, reachesIn, storedName, isAttributeOf}
+use Rattle.rules.specs.WellFormed.{GoodDefinition, WellFormed, goodDefinition, wellFormed, isValue}
 use Rattle.rules.proofs.Words.{and-both, and-split}
 use Rattle.rules.proofs.Apart.{differs}
 use Rattle.rules.proofs.Children.{Sound, sound}

@@ -10,7 +10,8 @@ use Rattle.rules.specs.Bytes.{Bytes, same, bytes, all, isNone}
 use Rattle.rules.specs.Model.{Members, Distinct}
 use Rattle.rules.specs.Language.{Conforms}
 use Rattle.rules.specs.Automaton.{accepts}
-use Rattle.rules.specs.Store.{Content, empty, pcdata, complex, AttributeSort, implied, required, fixed, Attribute, Definition, Form, RowSort, element, attribute, text, Row, Forest, bare, tree, heads}
+use Rattle.rules.specs.Store.{Content, empty, pcdata, complex, AttributeSort, implied, required, fixed, Attribute, Definition, Form, RowSort, element}
+use Rattle.rules.specs.Store.{attribute, text, Row, Forest, bare, tree, heads}
 use Rattle.rules.specs.WellFormed.{lookup, attributeName}
 
 abbrev pub nameOf : Row → Bytes

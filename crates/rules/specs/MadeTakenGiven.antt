@@ -18,7 +18,9 @@ use Rattle.rules.specs.Decode.{quantifierOf, sortOf}
 use Rattle.rules.specs.Conforming.{mustBePresent}
 use Rattle.rules.specs.Filling.{createdValue, fillEach, fillDefinition}
 use Rattle.rules.specs.Lines.{Line, lines, isTextRow, elementNamed, elementAmong, attributeNamed, elementWith, childrenOf, serialAt}
-use Rattle.rules.specs.Change.{Call, createDefinition, destroyDefinition, insertElement, removeElement, changeQuantifier, convertToGroup, flattenGroup, changeGroupQuantifier, addAttribute, destroyAttribute, addDocument, addElement, destroyElement, setAttribute, destroyAttributeRow, setText, definitionAt, nameAtIndex, Owned, attributeAt, groupFilling, newRows, number}
+use Rattle.rules.specs.Change.{Call, createDefinition, destroyDefinition, insertElement, removeElement, changeQuantifier, convertToGroup, flattenGroup}
+use Rattle.rules.specs.Change.{changeGroupQuantifier, addAttribute, destroyAttribute, addDocument, addElement, destroyElement, setAttribute}
+use Rattle.rules.specs.Change.{destroyAttributeRow, setText, definitionAt, nameAtIndex, Owned, attributeAt, groupFilling, newRows, number}
 
 -- ---- words
 -- a line with this serial is there, and its row passes a test

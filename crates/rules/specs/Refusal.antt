@@ -13,14 +13,17 @@ use Rattle.rules.specs.Bytes.{Bytes, same, bytes, any, isNone}
 use Rattle.rules.specs.Model.{Members, done, el, group, names, skips, member}
 use Rattle.rules.specs.Quantifiers.{gains}
 use Rattle.rules.specs.Place.{Context, Found}
-use Rattle.rules.specs.Edit.{Edit, insert, remove, quantify, convert, flatten, placeOf, firstMembers, hasMembers, isOne, insertOff, removeLast, removeUnmatched, quantifyOff, quantifyGroupOff, groupUnlike}
+use Rattle.rules.specs.Edit.{Edit, insert, remove, quantify, convert, flatten, placeOf, firstMembers, hasMembers, isOne, insertOff, removeLast}
+use Rattle.rules.specs.Edit.{removeUnmatched, quantifyOff, quantifyGroupOff, groupUnlike}
 use Rattle.rules.specs.Store.{Content, empty, pcdata, complex, Attribute, Definition, Form, Row, Store, members, heads}
 use Rattle.rules.specs.Layout.{valueWidth, flat, encode}
 use Rattle.rules.specs.Decode.{quantifierOf, groupOf, sortOf}
 use Rattle.rules.specs.WellFormed.{givenName, isValue, highestNumber, withinCeilings, lookup, known, reachesIn, attributeName}
 use Rattle.rules.specs.Conforming.{isElement, mustBePresent, conforming}
 use Rattle.rules.specs.Lines.{Line, lines, isElementRow, elementNamed, attributeNamed, elementWith, findRow, childrenOf}
-use Rattle.rules.specs.Change.{Call, createDefinition, destroyDefinition, insertElement, removeElement, changeQuantifier, convertToGroup, flattenGroup, changeGroupQuantifier, addAttribute, destroyAttribute, addDocument, addElement, destroyElement, setAttribute, destroyAttributeRow, setText, definitionAt, nameAtIndex, Owned, attributeAt, after}
+use Rattle.rules.specs.Change.{Call, createDefinition, destroyDefinition, insertElement, removeElement, changeQuantifier, convertToGroup, flattenGroup}
+use Rattle.rules.specs.Change.{changeGroupQuantifier, addAttribute, destroyAttribute, addDocument, addElement, destroyElement, setAttribute}
+use Rattle.rules.specs.Change.{destroyAttributeRow, setText, definitionAt, nameAtIndex, Owned, attributeAt, after}
 
 -- a number of the table, and whether its condition holds
 pub record Condition : Type 0 where

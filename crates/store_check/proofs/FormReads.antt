@@ -44,7 +44,12 @@ every-index P (d ∷ form) f = (f 0 (omega arith), every-index P form (λ i l. f
 
 -- definition i, as it is read
 abbrev pub readAt : List Bytes → ℕ → ℕ → List FlatDefinition → List (Deep FlatParticle) → List FlatAttribute → Definition
-readAt ns o i ds ps cs = record { name = getD ds i noFlatDefinition .name; content = contentOf (getD ds i noFlatDefinition .kind) (readMembers ns (build (partAt i ds ps) 0)); attributes = ofOwner (o + i) cs }
+readAt ns o i ds ps cs =
+    record {
+      name = getD ds i noFlatDefinition .name;
+      content = contentOf (getD ds i noFlatDefinition .kind) (readMembers ns (build (partAt i ds ps) 0));
+      attributes = ofOwner (o + i) cs;
+    }
 
 pub definition-at : (ns : List Bytes) (o i : ℕ) (ds : List FlatDefinition) (ps : List (Deep FlatParticle)) (cs : List FlatAttribute) → i < length ds
     → definitionAt i (readForm ns o ds ps cs) ≡ readAt ns o i ds ps cs
@@ -201,7 +206,8 @@ module _ (w : ℕ) (f : FlatStore) (fit : FieldsFit w f) (bodies : bodiesFit f �
         (fits .filled .most)
 
     pub members-at : members (definitionAt i (formOf f)) ≡ readMembers (namesOf (formOf f)) (build (partAt i (f .definitions) (f .particles)) 0)
-    members-at = ap (λ (d : Definition). members d) read-at ∙ members-read (namesOf (formOf f)) (getD (f .definitions) i noFlatDefinition .kind) (partAt i (f .definitions) (f .particles)) (fits .filled)
+    members-at = ap (λ (d : Definition). members d) read-at
+        ∙ members-read (namesOf (formOf f)) (getD (f .definitions) i noFlatDefinition .kind) (partAt i (f .definitions) (f .particles)) (fits .filled)
 
     -- the model is the one over indices, with names for the indices
     pub model-renamed : members (definitionAt i (formOf f)) ≡ rename (λ j. nameAt j (namesOf (formOf f))) (indexMembers (build (partAt i (f .definitions) (f .particles)) 0))

@@ -175,7 +175,8 @@ module _ {bs : Bytes} (h : Headed bs) where
       ∙ each-fits-cut (attributeFits (widthOf bs) (definitionCount bs)) (attributeSize (widthOf bs)) (attributeCount bs)
       (attributeSize (widthOf bs) * attributeCount bs) (drop (atAttributes bs) bs) (omega arith)
 
-  rows-each : eachFits (rowFits (widthOf bs)) (rowSize (widthOf bs)) (rowCount bs) (treeRowsIn bs) ≡ eachFits (rowFits (widthOf bs)) (rowSize (widthOf bs)) (rowCount bs) (drop (atRows (widthOf bs) bs) bs)
+  rows-each : eachFits (rowFits (widthOf bs)) (rowSize (widthOf bs)) (rowCount bs) (treeRowsIn bs)
+      ≡ eachFits (rowFits (widthOf bs)) (rowSize (widthOf bs)) (rowCount bs) (drop (atRows (widthOf bs) bs) bs)
   rows-each =
       ap (eachFits (rowFits (widthOf bs)) (rowSize (widthOf bs)) (rowCount bs)) rows-cut
       ∙ each-fits-cut (rowFits (widthOf bs)) (rowSize (widthOf bs)) (rowCount bs) (rowSize (widthOf bs) * rowCount bs) (drop (atRows (widthOf bs) bs) bs) (omega arith)

@@ -34,7 +34,9 @@ pub record RowsPass (w : ℕ) (F : IndexForm) (count : ℕ) (rows : Bytes) : Typ
 
 -- of a byte string
 pub record RowsIn (bs : Bytes) : Type 0 where
-  pub passes : RowsPass (widthOf bs) (indexForm (numberAt 0 4 bs) (widthOf bs) (definitionCount bs) (definitionsIn bs) (particlesIn bs) (attributesIn bs) (attributeCount bs)) (rowCount bs) (treeRowsIn bs)
+  pub passes : RowsPass (widthOf bs)
+      (indexForm (numberAt 0 4 bs) (widthOf bs) (definitionCount bs) (definitionsIn bs) (particlesIn bs) (attributesIn bs) (attributeCount bs)) (rowCount bs)
+      (treeRowsIn bs)
 
 pub record SerialsIn (bs : Bytes) : Type 0 where
   pub fits : fitting (numberAt 4 4 bs) (serialsOf (widthOf bs) (rowCount bs) (treeRowsIn bs)) ≡ true

@@ -1,4 +1,5 @@
-//! Change 16: the text of an element set. The call is the check, the first refusal that applies, and the plan of the change.
+//! Change 16: the text of an element set. The call is the check, the
+//! first refusal that applies, and the plan of the change.
 use store_writer::Answer;
 ghost use lib.ListN.{length};
 ghost use Rattle.rules.specs.Change.{setText};

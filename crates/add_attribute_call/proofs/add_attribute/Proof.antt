@@ -17,27 +17,56 @@ refused-requires : tie.Need-refused-requires
 refused-requires c κs = search needs
 
 returns : tie.Need-returns
-returns c = bad (addAttribute (c .before .before .before .before .before .before .before .args .owner) (c .before .before .before .before .before .before .before .args .name .now) (c .before .before .before .before .before .before .before .args .sort) (c .before .before .before .before .before .before .before .args .value .now)) (c .before .before .before .before .before .before .before .args .store .now) (length (c .before .before .before .before .before .before .before .args .out .now)) (c .before .before .before .before .before .before .before .args .out .now) (c .before .if1 .taken) (c .before .before .passes .ensures) (c .refused .ensures)
+returns c =
+    let at-passes = c .before .before in
+    let start = at-passes .before .before .before .before .before in
+    bad (addAttribute (start .args .owner) (start .args .name .now) (start .args .sort) (start .args .value .now)) (start .args .store .now)
+    (length (start .args .out .now)) (start .args .out .now) (c .before .if1 .taken) (at-passes .passes .ensures) (c .refused .ensures)
 
 add-attribute-refusal-requires : tie.Need-add-attribute-refusal-requires
-add-attribute-refusal-requires c κs = passed (c .before .before .before .before .before .before .args .store .now) (c .if1 .left) (c .before .passes .ensures)
+add-attribute-refusal-requires c κs =
+    let start = c .before .before .before .before .before .before in
+    passed (start .args .store .now) (c .if1 .left) (c .before .passes .ensures)
 
 refused-requires-2 : tie.Need-refused-requires-2
 refused-requires-2 c κs = search needs
 
 returns-2 : tie.Need-returns-2
-returns-2 c = turned-away (addAttribute (c .before .before .before .before .before .before .before .before .before .args .owner) (c .before .before .before .before .before .before .before .before .before .args .name .now) (c .before .before .before .before .before .before .before .before .before .args .sort) (c .before .before .before .before .before .before .before .before .before .args .value .now)) (c .before .before .before .before .before .before .before .before .before .args .store .now) (length (c .before .before .before .before .before .before .before .before .before .args .out .now)) (c .before .before .before .before .before .before .before .before .before .args .out .now) (c .before .before .before .if1 .left) (c .before .before .before .before .passes .ensures) (c .before .before .add-attribute-refusal .ensures) (c .before .if2 .taken) (c .refused2 .ensures)
+returns-2 c =
+    let at-add-attribute-refusal = c .before .before in
+    let at-if1 = at-add-attribute-refusal .before in
+    let at-passes = at-if1 .before in
+    let start = at-passes .before .before .before .before .before in
+    turned-away (addAttribute (start .args .owner) (start .args .name .now) (start .args .sort) (start .args .value .now)) (start .args .store .now)
+    (length (start .args .out .now)) (start .args .out .now) (at-if1 .if1 .left) (at-passes .passes .ensures)
+    (at-add-attribute-refusal .add-attribute-refusal .ensures) (c .before .if2 .taken) (c .refused2 .ensures)
 
 write-added-requires : tie.Need-write-added-requires
-write-added-requires c κs = addable (c .before .before .before .before .before .before .before .before .before .args .store .now) (c .before .before .before .if1 .left) (c .before .before .before .before .passes .ensures) (c .before .before .before .before .before .before .before .before .before .args .owner) (c .before .before .before .before .before .before .before .before .before .args .name .now) (c .before .before .before .before .before .before .before .before .before .args .sort) (c .before .before .before .before .before .before .before .before .before .args .value .now) (c .before .before .add-attribute-refusal .ensures) (c .before .if2 .left)
+write-added-requires c κs =
+    let at-add-attribute-refusal = c .before .before in
+    let at-if1 = at-add-attribute-refusal .before in
+    let at-passes = at-if1 .before in
+    let start = at-passes .before .before .before .before .before in
+    addable (start .args .store .now) (at-if1 .if1 .left) (at-passes .passes .ensures) (start .args .owner) (start .args .name .now) (start .args .sort)
+    (start .args .value .now) (at-add-attribute-refusal .add-attribute-refusal .ensures) (c .before .if2 .left)
 
 same-length : tie.Need-same-length
 same-length c = search needs
 
 returns-3 : tie.Need-returns-3
 returns-3 c =
-    let start = c .before .before .before .before .before .before .before .before .before .before .before .before in
-    made (addAttribute (start .args .owner) (start .args .name .now) (start .args .sort) (start .args .value .now)) (start .args .store .now) (length (start .args .out .now)) (start .args .out .now) (added (start .args .owner) (start .args .name .now) (start .args .sort) (start .args .value .now) (bodiesOf (start .args .store .now))) (c .before .before .before .before .before .before .if1 .left) (c .before .before .before .before .before .before .before .passes .ensures) (c .before .before .before .before .before .add-attribute-refusal .ensures) (c .before .before .before .before .if2 .left) (λ p z. add-leaves (start .args .store .now) p (start .args .owner) (start .args .name .now) (start .args .sort) (start .args .value .now) z) (c .before .before .write-added .ensures)
+    let at-write-added = c .before .before in
+    let at-if2 = at-write-added .before .before in
+    let at-add-attribute-refusal = at-if2 .before in
+    let at-if1 = at-add-attribute-refusal .before in
+    let at-passes = at-if1 .before in
+    let start = at-passes .before .before .before .before .before in
+    made (addAttribute (start .args .owner) (start .args .name .now) (start .args .sort) (start .args .value .now)) (start .args .store .now)
+    (length (start .args .out .now)) (start .args .out .now)
+    (added (start .args .owner) (start .args .name .now) (start .args .sort) (start .args .value .now) (bodiesOf (start .args .store .now)))
+    (at-if1 .if1 .left) (at-passes .passes .ensures) (at-add-attribute-refusal .add-attribute-refusal .ensures) (at-if2 .if2 .left)
+    (λ p z. add-leaves (start .args .store .now) p (start .args .owner) (start .args .name .now) (start .args .sort) (start .args .value .now) z)
+    (at-write-added .write-added .ensures)
 
 pub add-attribute-spec : {M : Type 1} → statement M
 add-attribute-spec =

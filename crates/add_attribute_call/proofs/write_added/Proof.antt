@@ -115,7 +115,8 @@ returns-2 c =
     let start = at-definition-count .before .before .before .before .before in
     added-answers (start .args .store .now) (start .args .owner) (start .args .name .now) (start .args .sort) (start .args .value .now) (start .pre)
     (at-definition-count .definition-count .ensures) (at-particle-count .particle-count .ensures) (at-attribute-count .attribute-count .ensures) (omega arith)
-    (at-attributes-to .attributes-to .ensures) (at-version-in .version-in .ensures) (at-add-attribute-plan .add-attribute-plan .ensures) zeros-long (at-put-added .put-added .ensures) (length (start .args .out .now))
+    (at-attributes-to .attributes-to .ensures) (at-version-in .version-in .ensures) (at-add-attribute-plan .add-attribute-plan .ensures) zeros-long
+    (at-put-added .put-added .ensures) (length (start .args .out .now))
     (at-edit-form .edit-form .ensures)
 
 pub write-added-spec : {M : Type 1} → statement M

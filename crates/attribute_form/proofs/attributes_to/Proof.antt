@@ -23,19 +23,27 @@ attributes-of-requires : tie.Need-attributes-of-requires Inv-loop μ-loop
 attributes-of-requires c κs = search needs
 
 loop-holds : tie.Need-loop-holds Inv-loop μ-loop
-loop-holds c = counting-start _ (c .before .before .before .before .args .owner) _ (c .before .attribute-count .ensures .small)
+loop-holds c =
+    let start = c .before .before .before .before in
+    counting-start _ (start .args .owner) _ (c .before .attribute-count .ensures .small)
 
 attribute-at-requires : tie.Need-attribute-at-requires Inv-loop μ-loop
-attribute-at-requires c κs = (c .before .before .before .before .width-in .ensures .small, omega (arith, c .before .loop .inv .bound))
+attribute-at-requires c κs =
+    let at-width-in = c .before .before .before .before in
+    (at-width-in .width-in .ensures .small, omega (arith, c .before .loop .inv .bound))
 
 is-up-to-requires : tie.Need-is-up-to-requires Inv-loop μ-loop
 is-up-to-requires c κs = search needs
 
 add-sum : tie.Need-add-sum Inv-loop μ-loop
-add-sum c = omega (arith, c .before .before .before .loop .inv .small, c .before .before .before .loop .inv .bound, c .is-up-to .ensures .most)
+add-sum c =
+    let at-loop = c .before .before .before in
+    omega (arith, at-loop .loop .inv .small, at-loop .loop .inv .bound, c .is-up-to .ensures .most)
 
 add-i : tie.Need-add-i Inv-loop μ-loop
-add-i c = omega (arith, c .before .before .before .loop .inv .bound)
+add-i c =
+    let at-loop = c .before .before .before in
+    omega (arith, at-loop .loop .inv .bound)
 
 loop-less : tie.Need-loop-less Inv-loop μ-loop
 loop-less c = search needs

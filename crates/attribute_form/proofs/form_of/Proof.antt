@@ -14,13 +14,18 @@ row-start-requires : tie.Need-row-start-requires
 row-start-requires c κs = search needs
 
 sub-window : tie.Need-sub-window
-sub-window c = omega (arith, start-within (holds _ (c .before .before .before .pre)) (c .row-start .ensures), c .before .header-size .ensures)
+sub-window c =
+    let start = c .before .before .before in
+    omega (arith, start-within (holds _ (start .pre)) (c .row-start .ensures), c .before .header-size .ensures)
 
 window-requires : tie.Need-window-requires
 window-requires c κs = search needs
 
 returns : tie.Need-returns
-returns c = form-at (c .before .before .before .before .pre) (c .before .before .header-size .ensures) (c .before .row-start .ensures) (c .window .ensures)
+returns c =
+    let at-header-size = c .before .before in
+    let start = at-header-size .before .before in
+    form-at (start .pre) (at-header-size .header-size .ensures) (c .before .row-start .ensures) (c .window .ensures)
 
 pub form-of-spec : {M : Type 1} → statement M
 form-of-spec =

@@ -12,10 +12,14 @@ cast-of : tie.Need-cast-of
 cast-of c = search needs
 
 returns : tie.Need-returns
-returns c = up-to (c .before .before .before .args .owner) (c .before .before .before .args .rec .now) (c .before .owner-byte .ensures) (omega arith)
+returns c =
+    let start = c .before .before .before in
+    up-to (start .args .owner) (start .args .rec .now) (c .before .owner-byte .ensures) (omega arith)
 
 returns-2 : tie.Need-returns-2
-returns-2 c = past-it (c .before .before .before .args .owner) (c .before .before .before .args .rec .now) (c .before .owner-byte .ensures) (omega arith)
+returns-2 c =
+    let start = c .before .before .before in
+    past-it (start .args .owner) (start .args .rec .now) (c .before .owner-byte .ensures) (omega arith)
 
 pub is-up-to-spec : {M : Type 1} → statement M
 is-up-to-spec =

@@ -29,27 +29,31 @@ loop-holds : tie.Need-loop-holds Inv-loop μ-loop
 loop-holds c =
     let attrs = c .before in
     let width = attrs .before in
-    let a = width .before .before .before .args in
+    let start = width .before .before .before in
+    let a = start .args in
     (c .attribute-count .ensures .small, searching-start readAttribute (attributeSize (width .width-in .result)) (ownNamed (a .owner) (a .name .now)) (attrs .attributes-of .result .now) _)
 
 attribute-at-requires : tie.Need-attribute-at-requires Inv-loop μ-loop
 attribute-at-requires c κs =
-    let l = c .before in
-    (l .before .before .before .width-in .ensures .small, omega (arith, l .loop .inv .0))
+    let at-loop = c .before in
+    let at-width-in = at-loop .before .before .before in
+    (at-width-in .width-in .ensures .small, omega (arith, at-loop .loop .inv .0))
 
 is-own-requires : tie.Need-is-own-requires Inv-loop μ-loop
 is-own-requires c κs = search needs
 
 returns : tie.Need-returns Inv-loop μ-loop
 returns c =
-    let l = c .before .before .before .before in
-    let count = l .before in
+    let at-attribute-at = c .before .before in
+    let at-loop = at-attribute-at .before .before in
+    let count = at-loop .before in
     let attrs = count .before in
     let width = attrs .before in
-    let a = width .before .before .before .args in
+    let start = width .before .before .before in
+    let a = start .args in
     attributes-any (a .store .now) (a .name .now) (a .owner) (width .width-in .ensures) (attrs .attributes-of .ensures) (count .attribute-count .ensures)
-    (searching-hit readAttribute (attributeSize (width .width-in .result)) (ownNamed (a .owner) (a .name .now)) (attrs .attributes-of .result .now) _ _ (l .loop .inv .1) (omega arith)
-    (own-at (a .owner) (a .name .now) (c .before .is-own .ensures) (c .before .before .attribute-at .ensures)) (c .if1 .taken))
+    (searching-hit readAttribute (attributeSize (width .width-in .result)) (ownNamed (a .owner) (a .name .now)) (attrs .attributes-of .result .now) _ _ (at-loop .loop .inv .1) (omega arith)
+    (own-at (a .owner) (a .name .now) (c .before .is-own .ensures) (at-attribute-at .attribute-at .ensures)) (c .if1 .taken))
 
 add-i : tie.Need-add-i Inv-loop μ-loop
 add-i c = search needs
@@ -59,24 +63,27 @@ loop-less c = search needs
 
 loop-again : tie.Need-loop-again Inv-loop μ-loop
 loop-again c =
-    let l = c .before .before .before .before in
-    let attrs = l .before .before in
+    let at-attribute-at = c .before .before in
+    let at-loop = at-attribute-at .before .before in
+    let attrs = at-loop .before .before in
     let width = attrs .before in
-    let a = width .before .before .before .args in (
-      l .loop .inv .0,
-      searching-on readAttribute (attributeSize (width .width-in .result)) (ownNamed (a .owner) (a .name .now)) (attrs .attributes-of .result .now) _ _ (l .loop .inv .1) (omega arith)
-          (own-at (a .owner) (a .name .now) (c .before .is-own .ensures) (c .before .before .attribute-at .ensures)) (c .if1 .left),
+    let start = width .before .before .before in
+    let a = start .args in (
+      at-loop .loop .inv .0,
+      searching-on readAttribute (attributeSize (width .width-in .result)) (ownNamed (a .owner) (a .name .now)) (attrs .attributes-of .result .now) _ _ (at-loop .loop .inv .1) (omega arith)
+          (own-at (a .owner) (a .name .now) (c .before .is-own .ensures) (at-attribute-at .attribute-at .ensures)) (c .if1 .left),
     )
 
 returns-2 : tie.Need-returns-2 Inv-loop μ-loop
 returns-2 c =
-    let l = c .before in
-    let count = l .before in
+    let at-loop = c .before in
+    let count = at-loop .before in
     let attrs = count .before in
     let width = attrs .before in
-    let a = width .before .before .before .args in
+    let start = width .before .before .before in
+    let a = start .args in
     attributes-any (a .store .now) (a .name .now) (a .owner) (width .width-in .ensures) (attrs .attributes-of .ensures) (count .attribute-count .ensures)
-    (searching-end readAttribute (attributeSize (width .width-in .result)) (ownNamed (a .owner) (a .name .now)) (attrs .attributes-of .result .now) _ _ (l .loop .inv .1) (omega arith))
+    (searching-end readAttribute (attributeSize (width .width-in .result)) (ownNamed (a .owner) (a .name .now)) (attrs .attributes-of .result .now) _ _ (at-loop .loop .inv .1) (omega arith))
 
 pub has-attribute-spec : {M : Type 1} → statement M
 has-attribute-spec =

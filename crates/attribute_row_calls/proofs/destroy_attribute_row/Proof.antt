@@ -21,16 +21,29 @@ refused-requires : tie.Need-refused-requires
 refused-requires c κs = search needs
 
 returns : tie.Need-returns
-returns c = bad (destroyAttributeRow (c .before .before .before .before .before .args .element) (c .before .before .before .before .before .args .attribute)) (c .before .before .before .before .before .args .store .now) (length (c .before .before .before .before .before .args .out .now)) (c .before .before .before .before .before .args .out .now) (c .before .if1 .taken) (c .before .before .passes .ensures) (c .refused .ensures)
+returns c =
+    let at-passes = c .before .before in
+    let start = at-passes .before .before .before in
+    bad (destroyAttributeRow (start .args .element) (start .args .attribute)) (start .args .store .now) (length (start .args .out .now)) (start .args .out .now)
+    (c .before .if1 .taken) (at-passes .passes .ensures) (c .refused .ensures)
 
 destroy-attribute-row-refusal-requires : tie.Need-destroy-attribute-row-refusal-requires
-destroy-attribute-row-refusal-requires c κs = passed (c .before .before .before .before .args .store .now) (c .if1 .left) (c .before .passes .ensures)
+destroy-attribute-row-refusal-requires c κs =
+    let start = c .before .before .before .before in
+    passed (start .args .store .now) (c .if1 .left) (c .before .passes .ensures)
 
 refused-requires-2 : tie.Need-refused-requires-2
 refused-requires-2 c κs = search needs
 
 returns-2 : tie.Need-returns-2
-returns-2 c = turned-away (destroyAttributeRow (c .before .before .before .before .before .before .before .args .element) (c .before .before .before .before .before .before .before .args .attribute)) (c .before .before .before .before .before .before .before .args .store .now) (length (c .before .before .before .before .before .before .before .args .out .now)) (c .before .before .before .before .before .before .before .args .out .now) (c .before .before .before .if1 .left) (c .before .before .before .before .passes .ensures) (c .before .before .destroy-attribute-row-refusal .ensures) (c .before .if2 .taken) (c .refused2 .ensures)
+returns-2 c =
+    let at-destroy-attribute-row-refusal = c .before .before in
+    let at-if1 = at-destroy-attribute-row-refusal .before in
+    let at-passes = at-if1 .before in
+    let start = at-passes .before .before .before in
+    turned-away (destroyAttributeRow (start .args .element) (start .args .attribute)) (start .args .store .now) (length (start .args .out .now))
+    (start .args .out .now) (at-if1 .if1 .left) (at-passes .passes .ensures) (at-destroy-attribute-row-refusal .destroy-attribute-row-refusal .ensures)
+    (c .before .if2 .taken) (c .refused2 .ensures)
 
 taking-plan-requires : tie.Need-taking-plan-requires
 taking-plan-requires c κs = search needs
@@ -39,13 +52,34 @@ slice-aggregate-edit : tie.Need-slice-aggregate-edit
 slice-aggregate-edit c = search needs
 
 edit-requires : tie.Need-edit-requires
-edit-requires c κs = takes-asks (c .before .before .before .before .before .before .before .before .before .args .store .now) (c .before .before .before .before .before .if1 .left) (c .before .before .before .before .before .before .passes .ensures) (destroyAttributeRow (c .before .before .before .before .before .before .before .before .before .args .element) (c .before .before .before .before .before .before .before .before .before .args .attribute)) (Serial (c .before .before .before .before .before .before .before .before .before .args .element)) (Attributes (c .before .before .before .before .before .before .before .before .before .args .attribute)) (c .before .before .before .before .destroy-attribute-row-refusal .ensures) (c .before .before .before .if2 .left) (c .before .before .taking-plan .ensures)
+edit-requires c κs =
+    let at-taking-plan = c .before .before in
+    let at-if2 = at-taking-plan .before in
+    let at-destroy-attribute-row-refusal = at-if2 .before in
+    let at-if1 = at-destroy-attribute-row-refusal .before in
+    let at-passes = at-if1 .before in
+    let start = at-passes .before .before .before in
+    takes-asks (start .args .store .now) (at-if1 .if1 .left) (at-passes .passes .ensures) (destroyAttributeRow (start .args .element) (start .args .attribute))
+    (Serial (start .args .element)) (Attributes (start .args .attribute)) (at-destroy-attribute-row-refusal .destroy-attribute-row-refusal .ensures)
+    (at-if2 .if2 .left) (at-taking-plan .taking-plan .ensures)
 
 same-length : tie.Need-same-length
 same-length c = search needs
 
 returns-3 : tie.Need-returns-3
-returns-3 c = made-planned (destroyAttributeRow (c .before .before .before .before .before .before .before .before .before .before .before .before .args .element) (c .before .before .before .before .before .before .before .before .before .before .before .before .args .attribute)) (c .before .before .before .before .before .before .before .before .before .before .before .before .args .store .now) (length (c .before .before .before .before .before .before .before .before .before .before .before .before .args .out .now)) (c .before .before .before .before .before .before .before .before .before .before .before .before .args .out .now) (destroyAttributeRowPlan (c .before .before .before .before .before .before .before .before .before .before .before .before .args .element) (c .before .before .before .before .before .before .before .before .before .before .before .before .args .attribute)) _ [] (c .before .before .before .before .before .before .before .before .if1 .left) (c .before .before .before .before .before .before .before .before .before .passes .ensures) (c .before .before .before .before .before .before .before .destroy-attribute-row-refusal .ensures) (c .before .before .before .before .before .before .if2 .left) (c .before .before .before .before .before .taking-plan .ensures) (λ g e. destroy-attribute-row-planned (storeIn (c .before .before .before .before .before .before .before .before .before .before .before .before .args .store .now)) g (c .before .before .before .before .before .before .before .before .before .before .before .before .args .element) (c .before .before .before .before .before .before .before .before .before .before .before .before .args .attribute) [] e) (c .before .before .edit .ensures)
+returns-3 c =
+    let at-edit = c .before .before in
+    let at-taking-plan = at-edit .before .before .before in
+    let at-if2 = at-taking-plan .before in
+    let at-destroy-attribute-row-refusal = at-if2 .before in
+    let at-if1 = at-destroy-attribute-row-refusal .before in
+    let at-passes = at-if1 .before in
+    let start = at-passes .before .before .before in
+    made-planned (destroyAttributeRow (start .args .element) (start .args .attribute)) (start .args .store .now) (length (start .args .out .now))
+    (start .args .out .now) (destroyAttributeRowPlan (start .args .element) (start .args .attribute)) _ [] (at-if1 .if1 .left) (at-passes .passes .ensures)
+    (at-destroy-attribute-row-refusal .destroy-attribute-row-refusal .ensures) (at-if2 .if2 .left) (at-taking-plan .taking-plan .ensures)
+    (λ g e. destroy-attribute-row-planned (storeIn (start .args .store .now)) g (start .args .element) (start .args .attribute) [] e)
+    (at-edit .edit .ensures)
 
 pub destroy-attribute-row-spec : {M : Type 1} → statement M
 destroy-attribute-row-spec =

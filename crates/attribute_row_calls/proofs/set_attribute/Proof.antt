@@ -21,31 +21,77 @@ refused-requires : tie.Need-refused-requires
 refused-requires c κs = search needs
 
 returns : tie.Need-returns
-returns c = bad (setAttribute (c .before .before .before .before .before .before .args .element) (c .before .before .before .before .before .before .args .attribute) (c .before .before .before .before .before .before .args .value .now)) (c .before .before .before .before .before .before .args .store .now) (length (c .before .before .before .before .before .before .args .out .now)) (c .before .before .before .before .before .before .args .out .now) (c .before .if1 .taken) (c .before .before .passes .ensures) (c .refused .ensures)
+returns c =
+    let at-passes = c .before .before in
+    let start = at-passes .before .before .before .before in
+    bad (setAttribute (start .args .element) (start .args .attribute) (start .args .value .now)) (start .args .store .now) (length (start .args .out .now))
+    (start .args .out .now) (c .before .if1 .taken) (at-passes .passes .ensures) (c .refused .ensures)
 
 set-attribute-refusal-requires : tie.Need-set-attribute-refusal-requires
-set-attribute-refusal-requires c κs = passed (c .before .before .before .before .before .args .store .now) (c .if1 .left) (c .before .passes .ensures)
+set-attribute-refusal-requires c κs =
+    let start = c .before .before .before .before .before in
+    passed (start .args .store .now) (c .if1 .left) (c .before .passes .ensures)
 
 refused-requires-2 : tie.Need-refused-requires-2
 refused-requires-2 c κs = search needs
 
 returns-2 : tie.Need-returns-2
-returns-2 c = turned-away (setAttribute (c .before .before .before .before .before .before .before .before .args .element) (c .before .before .before .before .before .before .before .before .args .attribute) (c .before .before .before .before .before .before .before .before .args .value .now)) (c .before .before .before .before .before .before .before .before .args .store .now) (length (c .before .before .before .before .before .before .before .before .args .out .now)) (c .before .before .before .before .before .before .before .before .args .out .now) (c .before .before .before .if1 .left) (c .before .before .before .before .passes .ensures) (c .before .before .set-attribute-refusal .ensures) (c .before .if2 .taken) (c .refused2 .ensures)
+returns-2 c =
+    let at-set-attribute-refusal = c .before .before in
+    let at-if1 = at-set-attribute-refusal .before in
+    let at-passes = at-if1 .before in
+    let start = at-passes .before .before .before .before in
+    turned-away (setAttribute (start .args .element) (start .args .attribute) (start .args .value .now)) (start .args .store .now)
+    (length (start .args .out .now)) (start .args .out .now) (at-if1 .if1 .left) (at-passes .passes .ensures)
+    (at-set-attribute-refusal .set-attribute-refusal .ensures) (c .before .if2 .taken) (c .refused2 .ensures)
 
 attribute-serial-requires : tie.Need-attribute-serial-requires
-attribute-serial-requires c κs = set-attribute-there (c .before .before .before .before .before .before .before .args .store .now) (c .before .before .if1 .left) (c .before .before .before .passes .ensures) (c .before .before .before .before .before .before .before .args .element) (c .before .before .before .before .before .before .before .args .attribute) (c .before .before .before .before .before .before .before .args .value .now) (c .before .set-attribute-refusal .ensures) (c .if2 .left)
+attribute-serial-requires c κs =
+    let at-if1 = c .before .before in
+    let at-passes = at-if1 .before in
+    let start = at-passes .before .before .before .before in
+    set-attribute-there (start .args .store .now) (at-if1 .if1 .left) (at-passes .passes .ensures) (start .args .element) (start .args .attribute)
+    (start .args .value .now) (c .before .set-attribute-refusal .ensures) (c .if2 .left)
 
 set-attribute-plan-requires : tie.Need-set-attribute-plan-requires
 set-attribute-plan-requires c κs = search needs
 
 edit-requires : tie.Need-edit-requires
-edit-requires c κs = set-attribute-asks (c .before .before .before .before .before .before .before .before .before .before .args .store .now) (c .before .before .before .before .before .if1 .left) (c .before .before .before .before .before .before .passes .ensures) (c .before .before .before .before .before .before .before .before .before .before .args .element) (c .before .before .before .before .before .before .before .before .before .before .args .attribute) (c .before .before .before .before .before .before .before .before .before .before .args .value .now) (c .before .before .before .before .set-attribute-refusal .ensures) (c .before .before .before .if2 .left) (c .before .set-attribute-plan .ensures ∙ ap (λ (x : ℕ). setAttributePlan (c .before .before .before .before .before .before .before .before .before .before .args .element) (c .before .before .before .before .before .before .before .before .before .before .args .attribute) x) (c .before .before .attribute-serial .ensures))
+edit-requires c κs =
+    let at-attribute-serial = c .before .before in
+    let at-if2 = at-attribute-serial .before in
+    let at-set-attribute-refusal = at-if2 .before in
+    let at-if1 = at-set-attribute-refusal .before in
+    let at-passes = at-if1 .before in
+    let start = at-passes .before .before .before .before in
+    set-attribute-asks (start .args .store .now) (at-if1 .if1 .left) (at-passes .passes .ensures) (start .args .element) (start .args .attribute)
+    (start .args .value .now) (at-set-attribute-refusal .set-attribute-refusal .ensures) (at-if2 .if2 .left)
+    (c .before .set-attribute-plan .ensures
+    ∙ ap (λ (x : ℕ). setAttributePlan (start .args .element) (start .args .attribute) x) (at-attribute-serial .attribute-serial .ensures))
 
 same-length : tie.Need-same-length
 same-length c = search needs
 
 returns-3 : tie.Need-returns-3
-returns-3 c = made-planned (setAttribute (c .before .before .before .before .before .before .before .before .before .before .before .before .before .args .element) (c .before .before .before .before .before .before .before .before .before .before .before .before .before .args .attribute) (c .before .before .before .before .before .before .before .before .before .before .before .before .before .args .value .now)) (c .before .before .before .before .before .before .before .before .before .before .before .before .before .args .store .now) (length (c .before .before .before .before .before .before .before .before .before .before .before .before .before .args .out .now)) (c .before .before .before .before .before .before .before .before .before .before .before .before .before .args .out .now) (setAttributePlan (c .before .before .before .before .before .before .before .before .before .before .before .before .before .args .element) (c .before .before .before .before .before .before .before .before .before .before .before .before .before .args .attribute) (attributeSerial (c .before .before .before .before .before .before .before .before .before .before .before .before .before .args .element) (c .before .before .before .before .before .before .before .before .before .before .before .before .before .args .attribute) (storeIn (c .before .before .before .before .before .before .before .before .before .before .before .before .before .args .store .now)))) _ (c .before .before .before .before .before .before .before .before .before .before .before .before .before .args .value .now) (c .before .before .before .before .before .before .before .before .if1 .left) (c .before .before .before .before .before .before .before .before .before .passes .ensures) (c .before .before .before .before .before .before .before .set-attribute-refusal .ensures) (c .before .before .before .before .before .before .if2 .left) (c .before .before .before .before .set-attribute-plan .ensures ∙ ap (λ (x : ℕ). setAttributePlan (c .before .before .before .before .before .before .before .before .before .before .before .before .before .args .element) (c .before .before .before .before .before .before .before .before .before .before .before .before .before .args .attribute) x) (c .before .before .before .before .before .attribute-serial .ensures)) (λ g e. set-attribute-planned (storeIn (c .before .before .before .before .before .before .before .before .before .before .before .before .before .args .store .now)) g (c .before .before .before .before .before .before .before .before .before .before .before .before .before .args .element) (c .before .before .before .before .before .before .before .before .before .before .before .before .before .args .attribute) (c .before .before .before .before .before .before .before .before .before .before .before .before .before .args .value .now) e) (c .before .before .edit .ensures)
+returns-3 c =
+    let at-edit = c .before .before in
+    let at-set-attribute-plan = at-edit .before .before in
+    let at-attribute-serial = at-set-attribute-plan .before in
+    let at-if2 = at-attribute-serial .before in
+    let at-set-attribute-refusal = at-if2 .before in
+    let at-if1 = at-set-attribute-refusal .before in
+    let at-passes = at-if1 .before in
+    let start = at-passes .before .before .before .before in
+    made-planned (setAttribute (start .args .element) (start .args .attribute) (start .args .value .now)) (start .args .store .now)
+    (length (start .args .out .now)) (start .args .out .now)
+    (setAttributePlan (start .args .element) (start .args .attribute)
+    (attributeSerial (start .args .element) (start .args .attribute) (storeIn (start .args .store .now))))
+    _ (start .args .value .now) (at-if1 .if1 .left) (at-passes .passes .ensures) (at-set-attribute-refusal .set-attribute-refusal .ensures)
+    (at-if2 .if2 .left)
+    (at-set-attribute-plan .set-attribute-plan .ensures
+    ∙ ap (λ (x : ℕ). setAttributePlan (start .args .element) (start .args .attribute) x) (at-attribute-serial .attribute-serial .ensures))
+    (λ g e. set-attribute-planned (storeIn (start .args .store .now)) g (start .args .element) (start .args .attribute) (start .args .value .now) e)
+    (at-edit .edit .ensures)
 
 pub set-attribute-spec : {M : Type 1} → statement M
 set-attribute-spec =

@@ -9,13 +9,17 @@ filling-plan-requires : tie.Need-filling-plan-requires
 filling-plan-requires c κs = search needs
 
 returns : tie.Need-returns
-returns c = c .filling-plan .ensures ∙ set-plan-none (c .before .before .args .element) (c .before .before .args .attribute) (c .before .before .args .row) (c .before .if1 .taken)
+returns c =
+    let start = c .before .before in
+    c .filling-plan .ensures ∙ set-plan-none (start .args .element) (start .args .attribute) (start .args .row) (c .before .if1 .taken)
 
 setting-plan-requires : tie.Need-setting-plan-requires
 setting-plan-requires c κs = search needs
 
 returns-2 : tie.Need-returns-2
-returns-2 c = c .setting-plan .ensures ∙ set-plan-some (c .before .before .args .element) (c .before .before .args .attribute) (c .before .before .args .row) (c .before .if1 .left)
+returns-2 c =
+    let start = c .before .before in
+    c .setting-plan .ensures ∙ set-plan-some (start .args .element) (start .args .attribute) (start .args .row) (c .before .if1 .left)
 
 pub set-attribute-plan-spec : {M : Type 1} → statement M
 set-attribute-plan-spec =

@@ -11,7 +11,9 @@ use Rattle.attribute_writer.proofs.put_added.Statement.{statement}
 use Rattle.attribute_writer.proofs.put_added.Tie as tie
 
 form-of-requires : tie.Need-form-of-requires
-form-of-requires c κs = c .before .before .before .before .pre .0 .passes
+form-of-requires c κs =
+    let start = c .before .before .before .before in
+    start .pre .0 .passes
 
 place-of-requires : tie.Need-place-of-requires
 place-of-requires c κs = search needs
@@ -26,10 +28,14 @@ put-requires : tie.Need-put-requires
 put-requires c κs = search needs
 
 cast-put-attribute : tie.Need-cast-put-attribute
-cast-put-attribute c = omega (arith, c .before .before .before .before .before .before .before .before .before .before .before .before .pre .0 .owner)
+cast-put-attribute c =
+    let start = c .before .before .before .before .before .before .before .before .before .before .before .before in
+    omega (arith, start .pre .0 .owner)
 
 cast-put-attribute-2 : tie.Need-cast-put-attribute-2
-cast-put-attribute-2 c = omega (arith, c .before .before .before .before .before .before .before .before .before .before .before .before .pre .0 .sort)
+cast-put-attribute-2 c =
+    let start = c .before .before .before .before .before .before .before .before .before .before .before .before in
+    omega (arith, start .pre .0 .sort)
 
 put-attribute-requires : tie.Need-put-attribute-requires
 put-attribute-requires c κs =

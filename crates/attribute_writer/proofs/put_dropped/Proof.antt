@@ -8,16 +8,24 @@ use Rattle.attribute_writer.proofs.put_dropped.Statement.{statement}
 use Rattle.attribute_writer.proofs.put_dropped.Tie as tie
 
 form-of-requires : tie.Need-form-of-requires
-form-of-requires c κs = c .before .before .pre .passes
+form-of-requires c κs =
+    let start = c .before .before in
+    start .pre .passes
 
 place-of-requires : tie.Need-place-of-requires
-place-of-requires c κs = omega (arith, c .before .before .before .pre .small)
+place-of-requires c κs =
+    let start = c .before .before .before in
+    omega (arith, start .pre .small)
 
 add-place-of : tie.Need-add-place-of
-add-place-of c = omega (arith, c .before .before .before .before .pre .small)
+add-place-of c =
+    let start = c .before .before .before .before in
+    omega (arith, start .pre .small)
 
 place-of-requires-2 : tie.Need-place-of-requires-2
-place-of-requires-2 c κs = omega (arith, c .before .before .before .before .pre .small)
+place-of-requires-2 c κs =
+    let start = c .before .before .before .before in
+    omega (arith, start .pre .small)
 
 first-requires : tie.Need-first-requires
 first-requires c κs = search needs

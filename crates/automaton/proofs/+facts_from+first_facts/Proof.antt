@@ -53,7 +53,16 @@ abbrev facts-from-μ-loop : facts-from-lts.MeasureT-loop
 facts-from-μ-loop s d kind x y f₀ t₀ f t = length t
 
 abbrev facts-from-calls : ℕ → facts-from-lts.Claims
-facts-from-calls t = (no-members-reads.Asked, no-members-reads.Learnt, particle-depth-reads.Asked, particle-depth-reads.Learnt, first-facts-below t, first-facts.Post, joined-reads.Asked, joined-reads.Learnt)
+facts-from-calls t = (
+  no-members-reads.Asked,
+  no-members-reads.Learnt,
+  particle-depth-reads.Asked,
+  particle-depth-reads.Learnt,
+  first-facts-below t,
+  first-facts.Post,
+  joined-reads.Asked,
+  joined-reads.Learnt,
+)
 
 abbrev first-facts-calls : ℕ → first-facts-lts.Claims
 first-facts-calls t =
@@ -63,7 +72,10 @@ facts-from-no-members-requires : (t : ℕ) → facts-from-lts.Need-no-members-re
 facts-from-no-members-requires t c κs = search needs
 
 facts-from-loop-holds : (t : ℕ) → facts-from-lts.Need-loop-holds (facts-from-calls t) (facts-from-at t) facts-from.Post facts-from-Inv-loop facts-from-μ-loop
-facts-from-loop-holds t c = let a = c .before .before .args in joining-starts (a .kind) (a .d) (a .x) (a .y) (a .s .now) _ (c .no-members .ensures)
+facts-from-loop-holds t c =
+    let start = c .before .before in
+    let a = start .args in
+    joining-starts (a .kind) (a .d) (a .x) (a .y) (a .s .now) _ (c .no-members .ensures)
 
 facts-from-particle-depth-requires : (t : ℕ) → facts-from-lts.Need-particle-depth-requires (facts-from-calls t) (facts-from-at t) facts-from.Post facts-from-Inv-loop facts-from-μ-loop
 facts-from-particle-depth-requires t c κs = search needs
@@ -73,8 +85,9 @@ facts-from-cast-depth t c = search needs
 
 facts-from-returns : (t : ℕ) → facts-from-lts.Need-returns (facts-from-calls t) (facts-from-at t) facts-from.Post facts-from-Inv-loop facts-from-μ-loop
 facts-from-returns t c =
-    let a = c .before .before .before .before .before .before .args in
     let at-loop = c .before .before .before in
+    let start = at-loop .before .before .before in
+    let a = start .args in
     joining-stop (a .kind) (a .d) (a .x) (a .y) (a .s .now) (at-loop .loop .t .now) _ (at-loop .loop .inv) _ (omega arith) (c .before .particle-depth .ensures) (omega arith)
 
 facts-from-sub-t : (t : ℕ) → facts-from-lts.Need-sub-t (facts-from-calls t) (facts-from-at t) facts-from.Post facts-from-Inv-loop facts-from-μ-loop
@@ -87,17 +100,24 @@ facts-from-part-t-end : (t : ℕ) → facts-from-lts.Need-part-t-end (facts-from
 facts-from-part-t-end t c = search needs
 
 facts-from-loop-less : (t : ℕ) → facts-from-lts.Need-loop-less (facts-from-calls t) (facts-from-at t) facts-from.Post facts-from-Inv-loop facts-from-μ-loop
-facts-from-loop-less t c = let t = c .before .before .before .before .before .loop .t .now in omega (arith, length-take (length t - particleSize) (drop particleSize t), length-drop particleSize t)
+facts-from-loop-less t c =
+    let at-loop = c .before .before .before .before .before in
+    let t = at-loop .loop .t .now in
+    omega (arith, length-take (length t - particleSize) (drop particleSize t), length-drop particleSize t)
 
 facts-from-loop-again : (t : ℕ) → facts-from-lts.Need-loop-again (facts-from-calls t) (facts-from-at t) facts-from.Post facts-from-Inv-loop facts-from-μ-loop
 facts-from-loop-again t c =
-    let a = c .before .before .before .before .before .before .before .before .args in
-    let at-loop = c .before .before .before .before .before in
-    joining-deeper (a .kind) (a .d) (a .x) (a .y) (a .s .now) (at-loop .loop .t .now) _ (at-loop .loop .inv) _ (omega arith) (c .before .before .before .particle-depth .ensures)
+    let at-particle-depth = c .before .before .before in
+    let at-loop = at-particle-depth .before .before in
+    let start = at-loop .before .before .before in
+    let a = start .args in
+    joining-deeper (a .kind) (a .d) (a .x) (a .y) (a .s .now) (at-loop .loop .t .now) _ (at-loop .loop .inv) _ (omega arith) (at-particle-depth .particle-depth .ensures)
     (omega arith)
 
 facts-from-first-facts-requires : (t : ℕ) → facts-from-lts.Need-first-facts-requires (facts-from-calls t) (facts-from-at t) facts-from.Post facts-from-Inv-loop facts-from-μ-loop
-facts-from-first-facts-requires t c κs = (omega (arith, c .before .before .before .before .loop .inv .short), (omega arith, omega arith))
+facts-from-first-facts-requires t c κs =
+    let at-loop = c .before .before .before .before in
+    (omega (arith, at-loop .loop .inv .short), (omega arith, omega arith))
 
 facts-from-joined-requires : (t : ℕ) → facts-from-lts.Need-joined-requires (facts-from-calls t) (facts-from-at t) facts-from.Post facts-from-Inv-loop facts-from-μ-loop
 facts-from-joined-requires t c κs = search needs
@@ -112,17 +132,26 @@ facts-from-part-t-end-2 : (t : ℕ) → facts-from-lts.Need-part-t-end-2 (facts-
 facts-from-part-t-end-2 t c = search needs
 
 facts-from-loop-less-2 : (t : ℕ) → facts-from-lts.Need-loop-less-2 (facts-from-calls t) (facts-from-at t) facts-from.Post facts-from-Inv-loop facts-from-μ-loop
-facts-from-loop-less-2 t c = let t = c .before .before .before .before .before .before .before .loop .t .now in omega (arith, length-take (length t - particleSize) (drop particleSize t), length-drop particleSize t)
+facts-from-loop-less-2 t c =
+    let at-loop = c .before .before .before .before .before .before .before in
+    let t = at-loop .loop .t .now in
+    omega (arith, length-take (length t - particleSize) (drop particleSize t), length-drop particleSize t)
 
 facts-from-loop-again-2 : (t : ℕ) → facts-from-lts.Need-loop-again-2 (facts-from-calls t) (facts-from-at t) facts-from.Post facts-from-Inv-loop facts-from-μ-loop
 facts-from-loop-again-2 t c =
-    let a = c .before .before .before .before .before .before .before .before .before .before .args in
-    let at-loop = c .before .before .before .before .before .before .before in
+    let at-first-facts = c .before .before in
+    let at-particle-depth = at-first-facts .before .before .before in
+    let at-loop = at-particle-depth .before .before in
+    let start = at-loop .before .before .before in
+    let a = start .args in
     joining-on (a .kind) (a .d) (a .x) (a .y) (a .s .now) (at-loop .loop .t .now) _ (at-loop .loop .inv) _ (omega arith)
-    (c .before .before .before .before .before .particle-depth .ensures) (omega arith) (omega arith) _ _ (c .before .before .first-facts .ensures) (c .before .joined .ensures)
+    (at-particle-depth .particle-depth .ensures) (omega arith) (omega arith) _ _ (at-first-facts .first-facts .ensures) (c .before .joined .ensures)
 
 facts-from-returns-2 : (t : ℕ) → facts-from-lts.Need-returns-2 (facts-from-calls t) (facts-from-at t) facts-from.Post facts-from-Inv-loop facts-from-μ-loop
-facts-from-returns-2 t c = let a = c .before .before .before .before .args in joining-few (a .kind) (a .d) (a .x) (a .y) (a .s .now) _ _ (c .before .loop .inv) (omega arith)
+facts-from-returns-2 t c =
+    let start = c .before .before .before .before in
+    let a = start .args in
+    joining-few (a .kind) (a .d) (a .x) (a .y) (a .s .now) _ _ (c .before .loop .inv) (omega arith)
 
 first-facts-read-particle-requires : (t : ℕ) → first-facts-lts.Need-read-particle-requires (first-facts-calls t) (first-facts-at t) first-facts.Post
 first-facts-read-particle-requires t c κs = search needs
@@ -153,7 +182,8 @@ first-facts-add-facts-from t c = search needs
 
 first-facts-facts-from-requires : (t : ℕ) → first-facts-lts.Need-facts-from-requires (first-facts-calls t) (first-facts-at t) first-facts.Post
 first-facts-facts-from-requires t c κs =
-    let t = c .before .before .before .before .before .before .args .t .now in
+    let start = c .before .before .before .before .before .before in
+    let t = start .args .t .now in
     (omega (arith, length-take (length t - particleSize) (drop particleSize t), length-drop particleSize t), omega arith)
 
 first-facts-quantified-requires-2 : (t : ℕ) → first-facts-lts.Need-quantified-requires-2 (first-facts-calls t) (first-facts-at t) first-facts.Post
@@ -161,15 +191,21 @@ first-facts-quantified-requires-2 t c κs = search needs
 
 first-facts-returns : (t : ℕ) → first-facts-lts.Need-returns (first-facts-calls t) (first-facts-at t) first-facts.Post
 first-facts-returns t c =
-    let a = c .before .before .before .before .before .before .before .args in
-    first-element (a .d) (a .x) (a .y) (a .t .now) _ (c .before .before .before .before .before .read-particle .ensures) _ _ (c .before .before .before .what .given .1)
+    let at-what = c .before .before .before in
+    let at-read-particle = at-what .before .before in
+    let start = at-read-particle .before .before in
+    let a = start .args in
+    first-element (a .d) (a .x) (a .y) (a .t .now) _ (at-read-particle .read-particle .ensures) _ _ (at-what .what .given .1)
     (rw (← (c .before .one-element .ensures)) (c .quantified .ensures))
 
 first-facts-returns-2 : (t : ℕ) → first-facts-lts.Need-returns-2 (first-facts-calls t) (first-facts-at t) first-facts.Post
 first-facts-returns-2 t c =
-    let a = c .before .before .before .before .before .before .before .before .args in
-    first-group (a .d) (a .x) (a .y) (a .t .now) _ (c .before .before .before .before .before .before .read-particle .ensures) _ _ _ _
-    (c .before .before .before .before .what2 .given .1) (c .before .facts-from .ensures) (c .quantified2 .ensures)
+    let at-what2 = c .before .before .before .before in
+    let at-read-particle = at-what2 .before .before in
+    let start = at-read-particle .before .before in
+    let a = start .args in
+    first-group (a .d) (a .x) (a .y) (a .t .now) _ (at-read-particle .read-particle .ensures) _ _ _ _
+    (at-what2 .what2 .given .1) (c .before .facts-from .ensures) (c .quantified2 .ensures)
 
 pub +facts-from+first-facts-spec : {M : Type 1} → statement M
 +facts-from+first-facts-spec = close μ-facts-from μ-first-facts (λ t. facts-from-lts.spec (facts-from-calls t)

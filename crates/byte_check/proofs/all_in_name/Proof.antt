@@ -13,6 +13,7 @@ use Rattle.byte_check.proofs.all_in_name.Reads as reads
 use Rattle.byte_check.proofs.all_in_name.Lts as lts
 use Rattle.byte_check.proofs.in_name.Reads as in-name-reads
 
+-- The loop's invariant: all bytes are those of a name if and only if those from i on are.
 abbrev Inv-loop : tie.InvT-loop
 Inv-loop s i₀ i = all inName s ≡ all inName (drop i s)
 
@@ -29,7 +30,10 @@ in-name-requires : tie.Need-in-name-requires Inv-loop μ-loop
 in-name-requires c κs = search needs
 
 returns : tie.Need-returns Inv-loop μ-loop
-returns c = all-off inName (c .before .before .before .before .before .before .args .s .now) (c .before .before .before .before .loop .i) (c .before .before .before .before .loop .inv) (omega arith) (sym (c .before .in-name .ensures) ∙ not-true _ (c .if1 .taken))
+returns c =
+    let at-loop = c .before .before .before .before in
+    let start = at-loop .before .before in
+    all-off inName (start .args .s .now) (at-loop .loop .i) (at-loop .loop .inv) (omega arith) (sym (c .before .in-name .ensures) ∙ not-true _ (c .if1 .taken))
 
 add-i : tie.Need-add-i Inv-loop μ-loop
 add-i c = search needs
@@ -38,10 +42,15 @@ loop-less : tie.Need-loop-less Inv-loop μ-loop
 loop-less c = search needs
 
 loop-again : tie.Need-loop-again Inv-loop μ-loop
-loop-again c = all-on inName (c .before .before .before .before .before .before .args .s .now) (c .before .before .before .before .loop .i) (c .before .before .before .before .loop .inv) (omega arith) (sym (c .before .in-name .ensures) ∙ not-false _ (c .if1 .left))
+loop-again c =
+    let at-loop = c .before .before .before .before in
+    let start = at-loop .before .before in
+    all-on inName (start .args .s .now) (at-loop .loop .i) (at-loop .loop .inv) (omega arith) (sym (c .before .in-name .ensures) ∙ not-false _ (c .if1 .left))
 
 returns-2 : tie.Need-returns-2 Inv-loop μ-loop
-returns-2 c = all-end inName (c .before .before .before .args .s .now) (c .before .loop .i) (c .before .loop .inv) (omega arith)
+returns-2 c =
+    let start = c .before .before .before in
+    all-end inName (start .args .s .now) (c .before .loop .i) (c .before .loop .inv) (omega arith)
 
 pub all-in-name-spec : {M : Type 1} → statement M
 all-in-name-spec =

@@ -38,9 +38,10 @@ eight-printable-requires c κs = omega arith
 
 returns-2 : tie.Need-returns-2 Inv-loop μ-loop
 returns-2 c =
-    let l = c .before .before .before in
-    let a = l .before .before .before .args in
-    part-off (between 0x20 0x7E) (a .s .now) (l .loop .i) (l .loop .inv) 8 (c .before .eight-printable .ensures) (not-true _ (c .if2 .taken))
+    let at-loop = c .before .before .before in
+    let start = at-loop .before .before .before in
+    let a = start .args in
+    part-off (between 0x20 0x7E) (a .s .now) (at-loop .loop .i) (at-loop .loop .inv) 8 (c .before .eight-printable .ensures) (not-true _ (c .if2 .taken))
 
 add-i : tie.Need-add-i Inv-loop μ-loop
 add-i c = omega arith
@@ -50,18 +51,20 @@ loop-less c = omega arith
 
 loop-again : tie.Need-loop-again Inv-loop μ-loop
 loop-again c =
-    let l = c .before .before .before in
-    let a = l .before .before .before .args in
-    part-on (between 0x20 0x7E) (a .s .now) (l .loop .i) (l .loop .inv) 8 (c .before .eight-printable .ensures) (not-false _ (c .if2 .left))
+    let at-loop = c .before .before .before in
+    let start = at-loop .before .before .before in
+    let a = start .args in
+    part-on (between 0x20 0x7E) (a .s .now) (at-loop .loop .i) (at-loop .loop .inv) 8 (c .before .eight-printable .ensures) (not-false _ (c .if2 .left))
 
 eight-printable-requires-2 : tie.Need-eight-printable-requires-2 Inv-loop μ-loop
 eight-printable-requires-2 c κs = omega arith
 
 returns-3 : tie.Need-returns-3 Inv-loop μ-loop
 returns-3 c =
-    let l = c .before .before in
-    let a = l .before .before .before .args in
-    part-end (between 0x20 0x7E) (a .s .now) (l .loop .i) (l .loop .inv) (length (a .s .now) - 8) 8 (omega arith) (omega arith) (c .eight-printable2 .ensures)
+    let at-loop = c .before .before in
+    let start = at-loop .before .before .before in
+    let a = start .args in
+    part-end (between 0x20 0x7E) (a .s .now) (at-loop .loop .i) (at-loop .loop .inv) (length (a .s .now) - 8) 8 (omega arith) (omega arith) (c .eight-printable2 .ensures)
 
 pub all-printable-spec : {M : Type 1} → statement M
 all-printable-spec =

@@ -81,15 +81,23 @@ printable-requires-8 c κs = search needs
 
 returns : tie.Need-returns
 returns c =
-    let a = c .before .before .before .before .before .before .before .before .before .before .before .before .before .before .before .before .before .args in
+    let at-printable7 = c .before .before in
+    let at-printable6 = at-printable7 .before .before in
+    let at-printable5 = at-printable6 .before .before in
+    let at-printable4 = at-printable5 .before .before in
+    let at-printable3 = at-printable4 .before .before in
+    let at-printable2 = at-printable3 .before .before in
+    let at-printable = at-printable2 .before .before in
+    let start = at-printable .before .before .before in
+    let a = start .args in
     (λ j.
-    c .before .before .before .before .before .before .before .before .before .before .before .before .before .before .printable .ensures j
-    && (c .before .before .before .before .before .before .before .before .before .before .before .before .printable2 .ensures j
-    && (c .before .before .before .before .before .before .before .before .before .before .printable3 .ensures j
-    && (c .before .before .before .before .before .before .before .before .printable4 .ensures j
-    && (c .before .before .before .before .before .before .printable5 .ensures j
-    && (c .before .before .before .before .printable6 .ensures j
-    && (c .before .before .printable7 .ensures j
+    at-printable .printable .ensures j
+    && (at-printable2 .printable2 .ensures j
+    && (at-printable3 .printable3 .ensures j
+    && (at-printable4 .printable4 .ensures j
+    && (at-printable5 .printable5 .ensures j
+    && (at-printable6 .printable6 .ensures j
+    && (at-printable7 .printable7 .ensures j
     && c .printable8 .ensures j)))))))
     ∙ eight-of (between 0x20 0x7E) (a .s .now) (a .i) (omega arith)
 

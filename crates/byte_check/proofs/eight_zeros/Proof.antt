@@ -54,7 +54,10 @@ shared-slice-read-h : tie.Need-shared-slice-read-h
 shared-slice-read-h c = search needs
 
 returns : tie.Need-returns
-returns c = let a = c .before .before .before .before .before .before .before .before .args in eight-of (λ (x : ℕ). eqb x 0) (a .s .now) (a .i) (omega arith)
+returns c =
+    let start = c .before .before .before .before .before .before .before .before in
+    let a = start .args in
+    eight-of (λ (x : ℕ). eqb x 0) (a .s .now) (a .i) (omega arith)
 
 pub eight-zeros-spec : {M : Type 1} → statement M
 eight-zeros-spec =

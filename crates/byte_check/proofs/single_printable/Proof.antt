@@ -12,6 +12,7 @@ use Rattle.byte_check.proofs.single_printable.Reads as reads
 use Rattle.byte_check.proofs.single_printable.Lts as lts
 use Rattle.byte_check.proofs.printable.Reads as printable-reads
 
+-- The loop's invariant: all bytes are printable if and only if those from i on are.
 abbrev Inv-loop : tie.InvT-loop
 Inv-loop s i₀ i = all (between 0x20 0x7E) s ≡ all (between 0x20 0x7E) (drop i s)
 
@@ -28,7 +29,10 @@ printable-requires : tie.Need-printable-requires Inv-loop μ-loop
 printable-requires c κs = search needs
 
 returns : tie.Need-returns Inv-loop μ-loop
-returns c = all-off (between 0x20 0x7E) (c .before .before .before .before .before .before .args .s .now) (c .before .before .before .before .loop .i) (c .before .before .before .before .loop .inv) (omega arith) (sym (c .before .printable .ensures) ∙ not-true _ (c .if1 .taken))
+returns c =
+    let at-loop = c .before .before .before .before in
+    let start = at-loop .before .before in
+    all-off (between 0x20 0x7E) (start .args .s .now) (at-loop .loop .i) (at-loop .loop .inv) (omega arith) (sym (c .before .printable .ensures) ∙ not-true _ (c .if1 .taken))
 
 add-i : tie.Need-add-i Inv-loop μ-loop
 add-i c = search needs
@@ -37,10 +41,15 @@ loop-less : tie.Need-loop-less Inv-loop μ-loop
 loop-less c = search needs
 
 loop-again : tie.Need-loop-again Inv-loop μ-loop
-loop-again c = all-on (between 0x20 0x7E) (c .before .before .before .before .before .before .args .s .now) (c .before .before .before .before .loop .i) (c .before .before .before .before .loop .inv) (omega arith) (sym (c .before .printable .ensures) ∙ not-false _ (c .if1 .left))
+loop-again c =
+    let at-loop = c .before .before .before .before in
+    let start = at-loop .before .before in
+    all-on (between 0x20 0x7E) (start .args .s .now) (at-loop .loop .i) (at-loop .loop .inv) (omega arith) (sym (c .before .printable .ensures) ∙ not-false _ (c .if1 .left))
 
 returns-2 : tie.Need-returns-2 Inv-loop μ-loop
-returns-2 c = all-end (between 0x20 0x7E) (c .before .before .before .args .s .now) (c .before .loop .i) (c .before .loop .inv) (omega arith)
+returns-2 c =
+    let start = c .before .before .before in
+    all-end (between 0x20 0x7E) (start .args .s .now) (c .before .loop .i) (c .before .loop .inv) (omega arith)
 
 pub single-printable-spec : {M : Type 1} → statement M
 single-printable-spec =

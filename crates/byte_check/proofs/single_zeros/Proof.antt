@@ -12,6 +12,7 @@ use Rattle.byte_check.proofs.single_zeros.Tie as tie
 use Rattle.byte_check.proofs.single_zeros.Reads as reads
 use Rattle.byte_check.proofs.single_zeros.Lts as lts
 
+-- The loop's invariant: all bytes are zeros if and only if those from i on are.
 abbrev Inv-loop : tie.InvT-loop
 Inv-loop s i₀ i = zeros s ≡ zeros (drop i s)
 
@@ -25,7 +26,10 @@ shared-slice-read-if1 : tie.Need-shared-slice-read-if1 Inv-loop μ-loop
 shared-slice-read-if1 c = search needs
 
 returns : tie.Need-returns Inv-loop μ-loop
-returns c = all-off (λ (x : ℕ). eqb x 0) (c .before .before .before .before .args .s .now) (c .before .before .before .loop .i) (c .before .before .before .loop .inv) (omega arith) (ne-eqb _ _ (c .if1 .taken))
+returns c =
+    let at-loop = c .before .before .before in
+    let start = at-loop .before in
+    all-off (λ (x : ℕ). eqb x 0) (start .args .s .now) (at-loop .loop .i) (at-loop .loop .inv) (omega arith) (ne-eqb _ _ (c .if1 .taken))
 
 add-i : tie.Need-add-i Inv-loop μ-loop
 add-i c = search needs
@@ -34,10 +38,15 @@ loop-less : tie.Need-loop-less Inv-loop μ-loop
 loop-less c = search needs
 
 loop-again : tie.Need-loop-again Inv-loop μ-loop
-loop-again c = all-on (λ (x : ℕ). eqb x 0) (c .before .before .before .before .args .s .now) (c .before .before .before .loop .i) (c .before .before .before .loop .inv) (omega arith) (eq-eqb _ _ (c .if1 .left))
+loop-again c =
+    let at-loop = c .before .before .before in
+    let start = at-loop .before in
+    all-on (λ (x : ℕ). eqb x 0) (start .args .s .now) (at-loop .loop .i) (at-loop .loop .inv) (omega arith) (eq-eqb _ _ (c .if1 .left))
 
 returns-2 : tie.Need-returns-2 Inv-loop μ-loop
-returns-2 c = all-end (λ (x : ℕ). eqb x 0) (c .before .before .args .s .now) (c .before .loop .i) (c .before .loop .inv) (omega arith)
+returns-2 c =
+    let start = c .before .before in
+    all-end (λ (x : ℕ). eqb x 0) (start .args .s .now) (c .before .loop .i) (c .before .loop .inv) (omega arith)
 
 pub single-zeros-spec : {M : Type 1} → statement M
 single-zeros-spec =

@@ -39,9 +39,10 @@ eight-zeros-requires c κs = omega arith
 
 returns-2 : tie.Need-returns-2 Inv-loop μ-loop
 returns-2 c =
-    let l = c .before .before .before in
-    let a = l .before .before .before .args in
-    part-off (λ (x : ℕ). eqb x 0) (a .s .now) (l .loop .i) (l .loop .inv) 8 (c .before .eight-zeros .ensures) (not-true _ (c .if2 .taken))
+    let at-loop = c .before .before .before in
+    let start = at-loop .before .before .before in
+    let a = start .args in
+    part-off (λ (x : ℕ). eqb x 0) (a .s .now) (at-loop .loop .i) (at-loop .loop .inv) 8 (c .before .eight-zeros .ensures) (not-true _ (c .if2 .taken))
 
 add-i : tie.Need-add-i Inv-loop μ-loop
 add-i c = omega arith
@@ -51,18 +52,20 @@ loop-less c = omega arith
 
 loop-again : tie.Need-loop-again Inv-loop μ-loop
 loop-again c =
-    let l = c .before .before .before in
-    let a = l .before .before .before .args in
-    part-on (λ (x : ℕ). eqb x 0) (a .s .now) (l .loop .i) (l .loop .inv) 8 (c .before .eight-zeros .ensures) (not-false _ (c .if2 .left))
+    let at-loop = c .before .before .before in
+    let start = at-loop .before .before .before in
+    let a = start .args in
+    part-on (λ (x : ℕ). eqb x 0) (a .s .now) (at-loop .loop .i) (at-loop .loop .inv) 8 (c .before .eight-zeros .ensures) (not-false _ (c .if2 .left))
 
 eight-zeros-requires-2 : tie.Need-eight-zeros-requires-2 Inv-loop μ-loop
 eight-zeros-requires-2 c κs = omega arith
 
 returns-3 : tie.Need-returns-3 Inv-loop μ-loop
 returns-3 c =
-    let l = c .before .before in
-    let a = l .before .before .before .args in
-    part-end (λ (x : ℕ). eqb x 0) (a .s .now) (l .loop .i) (l .loop .inv) (length (a .s .now) - 8) 8 (omega arith) (omega arith) (c .eight-zeros2 .ensures)
+    let at-loop = c .before .before in
+    let start = at-loop .before .before .before in
+    let a = start .args in
+    part-end (λ (x : ℕ). eqb x 0) (a .s .now) (at-loop .loop .i) (at-loop .loop .inv) (length (a .s .now) - 8) 8 (omega arith) (omega arith) (c .eight-zeros2 .ensures)
 
 pub zeros-spec : {M : Type 1} → statement M
 zeros-spec =

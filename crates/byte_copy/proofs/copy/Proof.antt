@@ -14,6 +14,7 @@ use Rattle.byte_copy.proofs.copy.Lts as lts
 use Rattle.byte_copy.proofs.copy_eight.Reads as copy-eight-reads
 use Rattle.byte_copy.proofs.copy_singly.Reads as copy-singly-reads
 
+-- The loop's invariant: the first i bytes of `out` are those of `src`; the others are as they were.
 abbrev Inv-loop : tie.InvT-loop
 Inv-loop src out₀ n last i₀ out i = (i ≤ length src) × (out ≡ take i src ++ drop i out₀) × (length out ≡ length out₀)
 
@@ -24,10 +25,14 @@ copy-singly-requires : tie.Need-copy-singly-requires Inv-loop μ-loop
 copy-singly-requires c κs = search needs
 
 same-length : tie.Need-same-length Inv-loop μ-loop
-same-length c = c .before .before .copy-singly .kept .1 .0
+same-length c =
+    let at-copy-singly = c .before .before in
+    at-copy-singly .copy-singly .kept .1 .0
 
 returns : tie.Need-returns Inv-loop μ-loop
-returns c = (refl, c .before .before .copy-singly .ensures)
+returns c =
+    let at-copy-singly = c .before .before in
+    (refl, at-copy-singly .copy-singly .ensures)
 
 loop-holds : tie.Need-loop-holds Inv-loop μ-loop
 loop-holds c = (zero-le, refl, refl)
@@ -43,30 +48,37 @@ loop-less c = omega arith
 
 loop-again : tie.Need-loop-again Inv-loop μ-loop
 loop-again c =
-    let l = c .before .before .before .before .before in
-    let s = l .before .before .before .before .args in (
+    let at-copy-eight = c .before .before in
+    let at-loop = at-copy-eight .before .before .before in
+    let start = at-loop .before .before .before .before in
+    let s = start .args in (
       omega arith,
-      c .before .before .copy-eight .ensures
-          ∙ ap (λ (o : List ℕ). sets o (l .loop .i) (take 8 (drop (l .loop .i) (s .src .now)))) (l .loop .inv .1)
-          ∙ copy-part (s .src .now) (s .out .now) (l .loop .i) (l .loop .i) 8 (omega arith) (omega arith) (omega arith) (omega arith),
-      c .before .before .copy-eight .kept .1 .0 ∙ l .loop .inv .2,
+      at-copy-eight .copy-eight .ensures
+          ∙ ap (λ (o : List ℕ). sets o (at-loop .loop .i) (take 8 (drop (at-loop .loop .i) (s .src .now)))) (at-loop .loop .inv .1)
+          ∙ copy-part (s .src .now) (s .out .now) (at-loop .loop .i) (at-loop .loop .i) 8 (omega arith) (omega arith) (omega arith) (omega arith),
+      at-copy-eight .copy-eight .kept .1 .0 ∙ at-loop .loop .inv .2,
     )
 
 copy-eight-requires-2 : tie.Need-copy-eight-requires-2 Inv-loop μ-loop
 copy-eight-requires-2 c κs = (omega arith, omega arith)
 
 same-length-2 : tie.Need-same-length-2 Inv-loop μ-loop
-same-length-2 c = c .before .before .copy-eight2 .kept .1 .0 ∙ c .before .before .before .before .before .loop .inv .2
+same-length-2 c =
+    let at-copy-eight2 = c .before .before in
+    let at-loop = at-copy-eight2 .before .before .before in
+    at-copy-eight2 .copy-eight2 .kept .1 .0 ∙ at-loop .loop .inv .2
 
 returns-2 : tie.Need-returns-2 Inv-loop μ-loop
 returns-2 c =
-    let l = c .before .before .before .before .before in
-    let s = l .before .before .before .before .args in
+    let at-copy-eight2 = c .before .before in
+    let at-loop = at-copy-eight2 .before .before .before in
+    let start = at-loop .before .before .before .before in
+    let s = start .args in
     let e : length (s .src .now) - 8 + 8 ≡ length (s .src .now) = omega arith in (
       refl,
-      c .before .before .copy-eight2 .ensures
-          ∙ ap (λ (o : List ℕ). sets o (length (s .src .now) - 8) (take 8 (drop (length (s .src .now) - 8) (s .src .now)))) (l .loop .inv .1)
-          ∙ copy-part (s .src .now) (s .out .now) (l .loop .i) (length (s .src .now) - 8) 8 (omega arith) (omega arith) (omega arith) (omega arith)
+      at-copy-eight2 .copy-eight2 .ensures
+          ∙ ap (λ (o : List ℕ). sets o (length (s .src .now) - 8) (take 8 (drop (length (s .src .now) - 8) (s .src .now)))) (at-loop .loop .inv .1)
+          ∙ copy-part (s .src .now) (s .out .now) (at-loop .loop .i) (length (s .src .now) - 8) 8 (omega arith) (omega arith) (omega arith) (omega arith)
           ∙ rw (e, take-length),
     )
 

@@ -103,7 +103,10 @@ same-length : tie.Need-same-length
 same-length c = simp length-set refl
 
 returns : tie.Need-returns
-returns c = let s = c .before .before .before .before .before .before .before .before .args in eight-stored (s .src .now) (s .out .now) (s .i) (omega arith)
+returns c =
+    let start = c .before .before .before .before .before .before .before .before in
+    let s = start .args in
+    eight-stored (s .src .now) (s .out .now) (s .i) (omega arith)
 
 pub copy-eight-spec : {M : Type 1} → statement M
 copy-eight-spec =

@@ -10,6 +10,7 @@ use Rattle.byte_copy.proofs.CopyLaws.{copy-more}
 use Rattle.byte_copy.proofs.copy_singly.Statement.{statement}
 use Rattle.byte_copy.proofs.copy_singly.Tie as tie
 
+-- The loop's invariant: the first i bytes of `out` are those of `src`; the others are as they were.
 abbrev Inv-loop : tie.InvT-loop
 Inv-loop src out₀ i₀ out i = (i ≤ length src) × (out ≡ take i src ++ drop i out₀) × (length out ≡ length out₀)
 
@@ -33,18 +34,22 @@ loop-less c = omega arith
 
 loop-again : tie.Need-loop-again Inv-loop μ-loop
 loop-again c =
-    let l = c .before .before in
-    let i = l .loop .i in
-    let src = l .before .args .src .now in
+    let at-loop = c .before .before in
+    let start = at-loop .before in
+    let i = at-loop .loop .i in
+    let src = start .args .src .now in
     let h : i < length src = omega arith in
-    let g : i < length (l .before .args .out .now) = omega arith in
-    (omega arith, rw (l .loop .inv .1, add-one) (copy-more src _ i h g), simp length-set (l .loop .inv .2))
+    let g : i < length (start .args .out .now) = omega arith in
+    (omega arith, rw (at-loop .loop .inv .1, add-one) (copy-more src _ i h g), simp length-set (at-loop .loop .inv .2))
 
 same-length : tie.Need-same-length Inv-loop μ-loop
 same-length c = c .before .loop .inv .2
 
 returns : tie.Need-returns Inv-loop μ-loop
-returns c = let e : c .before .loop .i ≡ length (c .before .before .args .src .now) = omega arith in c .before .loop .inv .1 ∙ rw (e, take-length)
+returns c =
+    let start = c .before .before in
+    let e : c .before .loop .i ≡ length (start .args .src .now) = omega arith in
+    c .before .loop .inv .1 ∙ rw (e, take-length)
 
 pub copy-singly-spec : {M : Type 1} → statement M
 copy-singly-spec =

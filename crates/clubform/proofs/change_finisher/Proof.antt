@@ -8,7 +8,9 @@ slice-reshare-prefix-create-club : tie.Need-slice-reshare-prefix-create-club
 slice-reshare-prefix-create-club c = search needs
 
 slice-aggregate-create-club : tie.Need-slice-aggregate-create-club
-slice-aggregate-create-club c = front (c .before .before .before .pre .0)
+slice-aggregate-create-club c =
+    let start = c .before .before .before in
+    front (start .pre .0)
 
 create-club-requires : tie.Need-create-club-requires
 create-club-requires c κs = search needs
@@ -17,7 +19,9 @@ slice-reshare-prefix-insert-club : tie.Need-slice-reshare-prefix-insert-club
 slice-reshare-prefix-insert-club c = search needs
 
 slice-aggregate-insert-club : tie.Need-slice-aggregate-insert-club
-slice-aggregate-insert-club c = front (c .before .before .before .create-club .ensures)
+slice-aggregate-insert-club c =
+    let at-create-club = c .before .before .before in
+    front (at-create-club .create-club .ensures)
 
 insert-club-requires : tie.Need-insert-club-requires
 insert-club-requires c κs = search needs
@@ -26,7 +30,9 @@ slice-reshare-prefix-make-time-optional : tie.Need-slice-reshare-prefix-make-tim
 slice-reshare-prefix-make-time-optional c = search needs
 
 slice-aggregate-make-time-optional : tie.Need-slice-aggregate-make-time-optional
-slice-aggregate-make-time-optional c = front (c .before .before .before .insert-club .ensures)
+slice-aggregate-make-time-optional c =
+    let at-insert-club = c .before .before .before in
+    front (at-insert-club .insert-club .ensures)
 
 make-time-optional-requires : tie.Need-make-time-optional-requires
 make-time-optional-requires c κs = search needs

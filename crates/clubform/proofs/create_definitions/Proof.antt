@@ -17,7 +17,9 @@ slice-reshare-prefix-create-finisher : tie.Need-slice-reshare-prefix-create-fini
 slice-reshare-prefix-create-finisher c = search needs
 
 slice-aggregate-create-finisher : tie.Need-slice-aggregate-create-finisher
-slice-aggregate-create-finisher c = front (c .before .before .before .create-race .ensures)
+slice-aggregate-create-finisher c =
+    let at-create-race = c .before .before .before in
+    front (at-create-race .create-race .ensures)
 
 create-finisher-requires : tie.Need-create-finisher-requires
 create-finisher-requires c κs = search needs
@@ -26,7 +28,9 @@ slice-reshare-prefix-create-bib : tie.Need-slice-reshare-prefix-create-bib
 slice-reshare-prefix-create-bib c = search needs
 
 slice-aggregate-create-bib : tie.Need-slice-aggregate-create-bib
-slice-aggregate-create-bib c = front (c .before .before .before .create-finisher .ensures)
+slice-aggregate-create-bib c =
+    let at-create-finisher = c .before .before .before in
+    front (at-create-finisher .create-finisher .ensures)
 
 create-bib-requires : tie.Need-create-bib-requires
 create-bib-requires c κs = search needs
@@ -35,7 +39,9 @@ slice-reshare-prefix-create-time : tie.Need-slice-reshare-prefix-create-time
 slice-reshare-prefix-create-time c = search needs
 
 slice-aggregate-create-time : tie.Need-slice-aggregate-create-time
-slice-aggregate-create-time c = front (c .before .before .before .create-bib .ensures)
+slice-aggregate-create-time c =
+    let at-create-bib = c .before .before .before in
+    front (at-create-bib .create-bib .ensures)
 
 create-time-requires : tie.Need-create-time-requires
 create-time-requires c κs = search needs

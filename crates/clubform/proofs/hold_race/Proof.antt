@@ -8,7 +8,9 @@ slice-reshare-prefix-new-race : tie.Need-slice-reshare-prefix-new-race
 slice-reshare-prefix-new-race c = search needs
 
 slice-aggregate-new-race : tie.Need-slice-aggregate-new-race
-slice-aggregate-new-race c = front (c .before .before .before .pre .0)
+slice-aggregate-new-race c =
+    let start = c .before .before .before in
+    front (start .pre .0)
 
 new-race-requires : tie.Need-new-race-requires
 new-race-requires c κs = search needs
@@ -17,7 +19,9 @@ slice-reshare-prefix-add-finisher : tie.Need-slice-reshare-prefix-add-finisher
 slice-reshare-prefix-add-finisher c = search needs
 
 slice-aggregate-add-finisher : tie.Need-slice-aggregate-add-finisher
-slice-aggregate-add-finisher c = front (c .before .before .before .new-race .ensures)
+slice-aggregate-add-finisher c =
+    let at-new-race = c .before .before .before in
+    front (at-new-race .new-race .ensures)
 
 add-finisher-requires : tie.Need-add-finisher-requires
 add-finisher-requires c κs = search needs
@@ -26,7 +30,9 @@ slice-reshare-prefix-set-time : tie.Need-slice-reshare-prefix-set-time
 slice-reshare-prefix-set-time c = search needs
 
 slice-aggregate-set-time : tie.Need-slice-aggregate-set-time
-slice-aggregate-set-time c = front (c .before .before .before .add-finisher .ensures)
+slice-aggregate-set-time c =
+    let at-add-finisher = c .before .before .before in
+    front (at-add-finisher .add-finisher .ensures)
 
 set-time-requires : tie.Need-set-time-requires
 set-time-requires c κs = search needs

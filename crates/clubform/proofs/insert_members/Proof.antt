@@ -8,7 +8,9 @@ slice-reshare-prefix-insert-finisher : tie.Need-slice-reshare-prefix-insert-fini
 slice-reshare-prefix-insert-finisher c = search needs
 
 slice-aggregate-insert-finisher : tie.Need-slice-aggregate-insert-finisher
-slice-aggregate-insert-finisher c = front (c .before .before .before .pre .0)
+slice-aggregate-insert-finisher c =
+    let start = c .before .before .before in
+    front (start .pre .0)
 
 insert-finisher-requires : tie.Need-insert-finisher-requires
 insert-finisher-requires c κs = search needs
@@ -17,7 +19,9 @@ slice-reshare-prefix-insert-bib : tie.Need-slice-reshare-prefix-insert-bib
 slice-reshare-prefix-insert-bib c = search needs
 
 slice-aggregate-insert-bib : tie.Need-slice-aggregate-insert-bib
-slice-aggregate-insert-bib c = front (c .before .before .before .insert-finisher .ensures)
+slice-aggregate-insert-bib c =
+    let at-insert-finisher = c .before .before .before in
+    front (at-insert-finisher .insert-finisher .ensures)
 
 insert-bib-requires : tie.Need-insert-bib-requires
 insert-bib-requires c κs = search needs
@@ -26,7 +30,9 @@ slice-reshare-prefix-insert-time : tie.Need-slice-reshare-prefix-insert-time
 slice-reshare-prefix-insert-time c = search needs
 
 slice-aggregate-insert-time : tie.Need-slice-aggregate-insert-time
-slice-aggregate-insert-time c = front (c .before .before .before .insert-bib .ensures)
+slice-aggregate-insert-time c =
+    let at-insert-bib = c .before .before .before in
+    front (at-insert-bib .insert-bib .ensures)
 
 insert-time-requires : tie.Need-insert-time-requires
 insert-time-requires c κs = search needs

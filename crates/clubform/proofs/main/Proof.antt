@@ -41,7 +41,9 @@ change-finisher-requires : tie.Need-change-finisher-requires
 change-finisher-requires c κs = search needs
 
 expect-requires : tie.Need-expect-requires
-expect-requires c κs = last-length (c .before .before .change-finisher .ensures)
+expect-requires c κs =
+    let at-change-finisher = c .before .before in
+    last-length (at-change-finisher .change-finisher .ensures)
 
 slice-aggregate-get-u32 : tie.Need-slice-aggregate-get-u32
 slice-aggregate-get-u32 c = search needs
@@ -50,7 +52,9 @@ get-u32-requires : tie.Need-get-u32-requires
 get-u32-requires c κs = search needs
 
 expect-requires-2 : tie.Need-expect-requires-2
-expect-requires-2 c κs = last-next (c .before .before .before .before .before .change-finisher .ensures) (c .get-u32 .ensures)
+expect-requires-2 c κs =
+    let at-change-finisher = c .before .before .before .before .before in
+    last-next (at-change-finisher .change-finisher .ensures) (c .get-u32 .ensures)
 
 slice-aggregate-put-text : tie.Need-slice-aggregate-put-text
 slice-aggregate-put-text c = search needs
@@ -59,13 +63,17 @@ slice-aggregate-put-text-2 : tie.Need-slice-aggregate-put-text-2
 slice-aggregate-put-text-2 c = search needs
 
 put-text-requires : tie.Need-put-text-requires
-put-text-requires c κs = record { store-is = whole (c .before .before .before .before .before .before .before .before .change-finisher .ensures); room = search needs }
+put-text-requires c κs =
+    let at-change-finisher = c .before .before .before .before .before .before .before .before in
+    record { store-is = whole (at-change-finisher .change-finisher .ensures); room = search needs }
 
 array-share-prefix-two : tie.Need-array-share-prefix-two
 array-share-prefix-two c = search needs
 
 slice-aggregate-write-all : tie.Need-slice-aggregate-write-all
-slice-aggregate-write-all c = front (c .before .before .put-text .ensures)
+slice-aggregate-write-all c =
+    let at-put-text = c .before .before in
+    front (at-put-text .put-text .ensures)
 
 write-all-requires : tie.Need-write-all-requires
 write-all-requires c κs = search needs

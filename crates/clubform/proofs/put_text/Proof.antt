@@ -9,13 +9,19 @@ print-requires : tie.Need-print-requires
 print-requires c κs = search needs
 
 expect-requires : tie.Need-expect-requires
-expect-requires c κs = answered (accepted .print) (c .before .before .before .before .before .before .before .pre) (c .before .before .before .print .ensures) .number-is
+expect-requires c κs =
+    let at-print = c .before .before .before in
+    let start = at-print .before .before .before .before in
+    answered (accepted .print) (start .pre) (at-print .print .ensures) .number-is
 
 same-length : tie.Need-same-length
 same-length c = search needs
 
 returns : tie.Need-returns
-returns c = answered (accepted .print) (c .before .before .before .before .before .before .before .before .pre) (c .before .before .before .before .print .ensures) .holds
+returns c =
+    let at-print = c .before .before .before .before in
+    let start = at-print .before .before .before .before in
+    answered (accepted .print) (start .pre) (at-print .print .ensures) .holds
 
 pub put-text-spec : {M : Type 1} → statement M
 put-text-spec = tie.close (tie.spec print-requires expect-requires same-length returns)

@@ -13,7 +13,10 @@ use Rattle.codec.proofs.two.Reads as two-reads
 use Rattle.codec.proofs.wide.Reads as wide-reads
 
 returns : tie.Need-returns
-returns c = let a = c .before .before .args in sym (number-past 2 (a .s .now) (a .at) (omega arith))
+returns c =
+    let start = c .before .before in
+    let a = start .args in
+    sym (number-past 2 (a .s .now) (a .at) (omega arith))
 
 sub-if2 : tie.Need-sub-if2
 sub-if2 c = search needs
@@ -31,7 +34,10 @@ two-requires : tie.Need-two-requires
 two-requires c κs = search needs
 
 returns-2 : tie.Need-returns-2
-returns-2 c = let a = c .before .before .before .before .before .before .args in omega (arith, number-two (a .s .now) (a .at))
+returns-2 c =
+    let start = c .before .before .before .before .before .before in
+    let a = start .args in
+    omega (arith, number-two (a .s .now) (a .at))
 
 shared-slice-read-wide : tie.Need-shared-slice-read-wide
 shared-slice-read-wide c = search needs
@@ -41,7 +47,8 @@ wide-requires c κs = search needs
 
 returns-3 : tie.Need-returns-3
 returns-3 c =
-    let a = c .before .before .before .before .before .args in
+    let start = c .before .before .before .before .before in
+    let a = start .args in
     let past : length (a .s .now) ≤ a .at + 1 = omega arith in
     omega (arith, number-two (a .s .now) (a .at), List·getD-eq-default (a .s .now) 0 past)
 

@@ -11,7 +11,10 @@ use Rattle.codec.proofs.byte.Reads as byte-reads
 use Rattle.codec.proofs.four.Reads as four-reads
 
 returns : tie.Need-returns
-returns c = let a = c .before .before .args in sym (number-past 4 (a .s .now) (a .at) (omega arith))
+returns c =
+    let start = c .before .before in
+    let a = start .args in
+    sym (number-past 4 (a .s .now) (a .at) (omega arith))
 
 sub-if2 : tie.Need-sub-if2
 sub-if2 c = search needs
@@ -41,7 +44,10 @@ four-requires : tie.Need-four-requires
 four-requires c κs = search needs
 
 returns-2 : tie.Need-returns-2
-returns-2 c = let a = c .before .before .before .before .before .before .before .before .args in omega (arith, number-four (a .s .now) (a .at))
+returns-2 c =
+    let start = c .before .before .before .before .before .before .before .before in
+    let a = start .args in
+    omega (arith, number-four (a .s .now) (a .at))
 
 byte-requires : tie.Need-byte-requires
 byte-requires c κs = search needs
@@ -68,7 +74,10 @@ four-requires-2 : tie.Need-four-requires-2
 four-requires-2 c κs = search needs
 
 returns-3 : tie.Need-returns-3
-returns-3 c = let a = c .before .before .before .before .before .before .before .before .args in omega (arith, number-four (a .s .now) (a .at))
+returns-3 c =
+    let start = c .before .before .before .before .before .before .before .before in
+    let a = start .args in
+    omega (arith, number-four (a .s .now) (a .at))
 
 pub get-u32-spec : {M : Type 1} → statement M
 get-u32-spec =

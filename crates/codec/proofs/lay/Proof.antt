@@ -10,6 +10,8 @@ use lib.Seq.{sets}
 use Rattle.codec.proofs.lay.Statement.{statement}
 use Rattle.codec.proofs.lay.Tie as tie
 
+-- The loop's invariant: the bytes of `src` from i on, laid over `out` from i on, give all of `src` laid over the first
+-- `out`.
 abbrev Inv-loop : tie.InvT-loop
 Inv-loop src out₀ i₀ out i = (i ≤ length src) × (sets out i (drop i src) ≡ sets out₀ 0 src) × (length out ≡ length out₀)
 
@@ -33,14 +35,23 @@ loop-less c = omega arith
 
 loop-again : tie.Need-loop-again Inv-loop μ-loop
 loop-again c =
-    let b = c .before .before .before .before .before .before in
-    (omega arith, lay-step (b .before .before .before .args .src .now) (b .loop .out) (c .before .before .store .last .0) _ (b .loop .i) _ (omega arith) (cc) (c .before .before .store .ensures) (b .loop .inv .1), c .before .before .store .kept .0 ∙ b .loop .inv .2)
+    let at-store = c .before .before in
+    let at-loop = at-store .before .before .before .before in
+    let start = at-loop .before .before .before in (
+      omega arith,
+      lay-step (start .args .src .now) (at-loop .loop .out) (at-store .store .last .0) _ (at-loop .loop .i) _ (omega arith) (cc) (at-store .store .ensures)
+          (at-loop .loop .inv .1),
+      at-store .store .kept .0 ∙ at-loop .loop .inv .2,
+    )
 
 same-length : tie.Need-same-length Inv-loop μ-loop
 same-length c = c .before .loop .inv .2
 
 returns : tie.Need-returns Inv-loop μ-loop
-returns c = let e : drop (c .before .loop .i) (c .before .before .before .before .args .src .now) ≡ [] = drop-of-length-le _ {i = c .before .loop .i} (omega arith) in rw e at (c .before .loop .inv .1)
+returns c =
+    let start = c .before .before .before .before in
+    let e : drop (c .before .loop .i) (start .args .src .now) ≡ [] = drop-of-length-le _ {i = c .before .loop .i} (omega arith) in
+    rw e at (c .before .loop .inv .1)
 
 pub lay-spec : {M : Type 1} → statement M
 lay-spec =

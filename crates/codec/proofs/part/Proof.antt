@@ -12,7 +12,9 @@ slice-aggregate-result : tie.Need-slice-aggregate-result
 slice-aggregate-result c = search needs
 
 returns : tie.Need-returns
-returns c = sym (part-short (c .before .before .args .at) (c .before .before .args .n) (c .before .before .args .s .now) (omega arith))
+returns c =
+    let start = c .before .before in
+    sym (part-short (start .args .at) (start .args .n) (start .args .s .now) (omega arith))
 
 sub-if2 : tie.Need-sub-if2
 sub-if2 c = search needs
@@ -21,7 +23,9 @@ slice-aggregate-result-2 : tie.Need-slice-aggregate-result-2
 slice-aggregate-result-2 c = search needs
 
 returns-2 : tie.Need-returns-2
-returns-2 c = sym (part-short (c .before .before .before .args .at) (c .before .before .before .args .n) (c .before .before .before .args .s .now) (omega arith))
+returns-2 c =
+    let start = c .before .before .before in
+    sym (part-short (start .args .at) (start .args .n) (start .args .s .now) (omega arith))
 
 add-end : tie.Need-add-end
 add-end c = search needs
@@ -36,7 +40,9 @@ part-result-end : tie.Need-part-result-end
 part-result-end c = search needs
 
 returns-3 : tie.Need-returns-3
-returns-3 c = let a = c .before .before .before .args in
+returns-3 c =
+    let start = c .before .before .before in
+    let a = start .args in
     let e : a .at + a .n - a .at ≡ a .n = omega arith in
     ap (λ (k : ℕ). take k (drop (a .at) (a .s .now))) e ∙ sym (part-there (a .at) (a .n) (a .s .now) (omega arith))
 

@@ -29,7 +29,10 @@ same-length : tie.Need-same-length
 same-length c = search needs
 
 returns : tie.Need-returns
-returns c = let s = c .before .before .before .before .before .before .before .args in record { next = refl; stored = tail-copied (s .out .now) _ (s .src .now) (s .at) (omega arith) (c .before .before .copy .ensures .1) }
+returns c =
+    let at-copy = c .before .before in
+    let start = at-copy .before .before .before .before .before in
+    let s = start .args in record { next = refl; stored = tail-copied (s .out .now) _ (s .src .now) (s .at) (omega arith) (at-copy .copy .ensures .1) }
 
 sub-lay : tie.Need-sub-lay
 sub-lay c = search needs
@@ -47,10 +50,15 @@ same-length-2 : tie.Need-same-length-2
 same-length-2 c = search needs
 
 returns-2 : tie.Need-returns-2
-returns-2 c = let s = c .before .before .before .before .before .before .before .before .args in record { next = refl; stored = tail-sets (s .out .now) _ (s .src .now) (s .at) (omega arith) (c .before .before .lay .ensures) }
+returns-2 c =
+    let at-lay = c .before .before in
+    let start = at-lay .before .before .before .before .before .before in
+    let s = start .args in record { next = refl; stored = tail-sets (s .out .now) _ (s .src .now) (s .at) (omega arith) (at-lay .lay .ensures) }
 
 returns-3 : tie.Need-returns-3
-returns-3 c = let s = c .before .before .before .before .args in record { next = refl; stored = sym (sets-past (s .src .now) (s .out .now) (s .at) (omega arith)) }
+returns-3 c =
+    let start = c .before .before .before .before in
+    let s = start .args in record { next = refl; stored = sym (sets-past (s .src .now) (s .out .now) (s .at) (omega arith)) }
 
 pub put-spec : {M : Type 1} → statement M
 put-spec =

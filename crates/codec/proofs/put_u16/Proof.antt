@@ -20,7 +20,10 @@ same-length : tie.Need-same-length
 same-length c = search needs
 
 returns : tie.Need-returns
-returns c = laid-then (c .before .before .before .before .before .before .put-u8 .ensures) (c .before .before .put-u82 .ensures)
+returns c =
+    let at-put-u82 = c .before .before in
+    let at-put-u8 = at-put-u82 .before .before .before .before in
+    laid-then (at-put-u8 .put-u8 .ensures) (at-put-u82 .put-u82 .ensures)
 
 pub put-u16-spec : {M : Type 1} → statement M
 put-u16-spec =

@@ -15,7 +15,11 @@ same-length : tie.Need-same-length
 same-length c = search needs
 
 returns : tie.Need-returns
-returns c = laid-as (le-four (c .before .before .before .before .before .before .before .before .before .args .x)) (laid-then (c .before .before .before .before .before .before .put-u16 .ensures) (c .before .before .put-u162 .ensures))
+returns c =
+    let at-put-u162 = c .before .before in
+    let at-put-u16 = at-put-u162 .before .before .before .before in
+    let start = at-put-u16 .before .before .before in
+    laid-as (le-four (start .args .x)) (laid-then (at-put-u16 .put-u16 .ensures) (at-put-u162 .put-u162 .ensures))
 
 pub put-u32-spec : {M : Type 1} → statement M
 put-u32-spec = tie.close (tie.spec put-u16-requires put-u16-requires-2 same-length returns)

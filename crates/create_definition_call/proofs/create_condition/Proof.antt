@@ -10,19 +10,34 @@ stored-name-requires : tie.Need-stored-name-requires
 stored-name-requires c κs = search needs
 
 returns : tie.Need-returns
-returns c = bad-name (c .before .before .before .before .args .store .now) (c .before .before .before .before .args .name .now) (c .before .before .before .before .args .kind) (c .before .before .before .before .pre) (c .before .stored-name .ensures) (not-true _ (c .if1 .taken))
+returns c =
+    let start = c .before .before .before .before in
+    bad-name (start .args .store .now) (start .args .name .now) (start .args .kind) (start .pre) (c .before .stored-name .ensures) (not-true _ (c .if1 .taken))
 
 returns-2 : tie.Need-returns-2
-returns-2 c = bad-code (c .before .before .before .before .before .args .store .now) (c .before .before .before .before .before .args .name .now) (c .before .before .before .before .before .args .kind) (c .before .before .before .before .before .pre) (c .before .before .stored-name .ensures) (not-false _ (c .before .if1 .left)) (omega arith)
+returns-2 c =
+    let at-stored-name = c .before .before in
+    let start = at-stored-name .before .before .before in
+    bad-code (start .args .store .now) (start .args .name .now) (start .args .kind) (start .pre) (at-stored-name .stored-name .ensures) (not-false _ (c .before .if1 .left)) (omega arith)
 
 is-taken-requires : tie.Need-is-taken-requires
 is-taken-requires c κs = search needs
 
 returns-3 : tie.Need-returns-3
-returns-3 c = name-taken (c .before .before .before .before .before .before .before .args .store .now) (c .before .before .before .before .before .before .before .args .name .now) (c .before .before .before .before .before .before .before .args .kind) (c .before .before .before .before .before .before .before .pre) (c .before .before .before .before .stored-name .ensures) (not-false _ (c .before .before .before .if1 .left)) (omega arith) (c .before .is-taken .ensures) (c .if3 .taken)
+returns-3 c =
+    let at-if1 = c .before .before .before in
+    let at-stored-name = at-if1 .before in
+    let start = at-stored-name .before .before .before in
+    name-taken (start .args .store .now) (start .args .name .now) (start .args .kind) (start .pre) (at-stored-name .stored-name .ensures)
+    (not-false _ (at-if1 .if1 .left)) (omega arith) (c .before .is-taken .ensures) (c .if3 .taken)
 
 returns-4 : tie.Need-returns-4
-returns-4 c = name-free (c .before .before .before .before .before .before .before .args .store .now) (c .before .before .before .before .before .before .before .args .name .now) (c .before .before .before .before .before .before .before .args .kind) (c .before .before .before .before .before .before .before .pre) (c .before .before .before .before .stored-name .ensures) (not-false _ (c .before .before .before .if1 .left)) (omega arith) (c .before .is-taken .ensures) (c .if3 .left)
+returns-4 c =
+    let at-if1 = c .before .before .before in
+    let at-stored-name = at-if1 .before in
+    let start = at-stored-name .before .before .before in
+    name-free (start .args .store .now) (start .args .name .now) (start .args .kind) (start .pre) (at-stored-name .stored-name .ensures)
+    (not-false _ (at-if1 .if1 .left)) (omega arith) (c .before .is-taken .ensures) (c .if3 .left)
 
 pub create-condition-spec : {M : Type 1} → statement M
 create-condition-spec =

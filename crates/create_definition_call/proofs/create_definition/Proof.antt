@@ -35,7 +35,10 @@ returns-2 c =
     (sym (at-passes .passes .ensures) ∙ not-false _ (at-if1 .if1 .left)) _ (at-create-condition .create-condition .ensures) (c .if2 .taken)
 
 create-limit-requires : tie.Need-create-limit-requires
-create-limit-requires c κs = sym (c .before .before .before .passes .ensures) ∙ not-false _ (c .before .before .if1 .left)
+create-limit-requires c κs =
+    let at-if1 = c .before .before in
+    let at-passes = at-if1 .before in
+    sym (at-passes .passes .ensures) ∙ not-false _ (at-if1 .if1 .left)
 
 returns-3 : tie.Need-returns-3
 returns-3 c =

@@ -16,7 +16,8 @@ attribute-start-requires c κs = search needs
 add-attribute-start : tie.Need-add-attribute-start
 add-attribute-start c =
     let start = c .before .before in
-    let x = encoded (start .args .store .now) (start .pre .good) in omega (arith, start .pre .there, x .definitions, x .fewDefinitions)
+    let x = encoded (start .args .store .now) (start .pre .good) in
+    omega (arith, start .pre .there, x .definitions, x .fewDefinitions)
 
 attribute-start-requires-2 : tie.Need-attribute-start-requires-2
 attribute-start-requires-2 c κs = search needs
@@ -37,7 +38,8 @@ sub-result c =
 sub-result-2 : tie.Need-sub-result-2
 sub-result-2 c =
     let start = c .before .before .before .before in
-    let a = start .args in omega (arith, c .before .attribute-start2 .ensures .most, c .attribute-count .ensures .value)
+    let a = start .args in
+    omega (arith, c .before .attribute-start2 .ensures .most, c .attribute-count .ensures .value)
 
 returns : tie.Need-returns
 returns c =

@@ -12,7 +12,8 @@ definitions-of-requires c κs = search needs
 particles-before-requires : tie.Need-particles-before-requires
 particles-before-requires c κs =
     let start = c .before .before in
-    let x = encoded (start .args .store .now) (start .pre .0) in omega (arith, start .pre .1, x .definitions, x .fewDefinitions)
+    let x = encoded (start .args .store .now) (start .pre .0) in
+    omega (arith, start .pre .1, x .definitions, x .fewDefinitions)
 
 returns : tie.Need-returns
 returns c =

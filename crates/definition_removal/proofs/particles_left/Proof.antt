@@ -16,7 +16,8 @@ model-start-requires c κs = search needs
 add-model-start : tie.Need-add-model-start
 add-model-start c =
     let start = c .before .before in
-    let x = encoded (start .args .store .now) (start .pre .good) in omega (arith, start .pre .there, x .definitions, x .fewDefinitions)
+    let x = encoded (start .args .store .now) (start .pre .good) in
+    omega (arith, start .pre .there, x .definitions, x .fewDefinitions)
 
 model-start-requires-2 : tie.Need-model-start-requires-2
 model-start-requires-2 c κs = search needs
@@ -37,7 +38,8 @@ sub-result c =
 sub-result-2 : tie.Need-sub-result-2
 sub-result-2 c =
     let start = c .before .before .before .before in
-    let a = start .args in omega (arith, c .before .model-start2 .ensures .most, c .particle-count .ensures .value)
+    let a = start .args in
+    omega (arith, c .before .model-start2 .ensures .most, c .particle-count .ensures .value)
 
 returns : tie.Need-returns
 returns c =

@@ -63,7 +63,8 @@ returns : tie.Need-returns Inv-loop μ-loop
 returns c =
     let at-loop = c .before in
     let start = at-loop .before .before .before in
-    let a = start .args in going-end (attributeRecord (lowered (suc (a .definition)) 1)) (attributeSize (a .w)) (a .body .now) (a .count) (at-loop .loop .inv) (omega arith)
+    let a = start .args in
+    going-end (attributeRecord (lowered (suc (a .definition)) 1)) (attributeSize (a .w)) (a .body .now) (a .count) (at-loop .loop .inv) (omega arith)
 
 pub put-attributes-spec : {M : Type 1} → statement M
 put-attributes-spec =

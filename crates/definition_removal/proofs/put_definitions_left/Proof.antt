@@ -24,7 +24,8 @@ add-definitions-from c = search needs
 definitions-from-requires : tie.Need-definitions-from-requires
 definitions-from-requires c κs =
     let start = c .before .before .before .before .before .before .before .before in
-    let x = encoded (start .args .store .now) (start .pre .0 .good) in omega (arith, start .pre .0 .there, x .definitions, x .fewDefinitions)
+    let x = encoded (start .args .store .now) (start .pre .0 .good) in
+    omega (arith, start .pre .0 .there, x .definitions, x .fewDefinitions)
 
 put-requires-2 : tie.Need-put-requires-2
 put-requires-2 c κs =

@@ -52,7 +52,8 @@ same-length c = c .before .loop .inv .long
 returns : tie.Need-returns Inv-loop μ-loop
 returns c =
     let start = c .before .before .before .before in
-    let a = start .args in going-end (particleRecord (lowered (suc (a .definition)) 1)) particleSize (a .body .now) (a .count) (c .before .loop .inv) (omega arith)
+    let a = start .args in
+    going-end (particleRecord (lowered (suc (a .definition)) 1)) particleSize (a .body .now) (a .count) (c .before .loop .inv) (omega arith)
 
 pub put-particles-spec : {M : Type 1} → statement M
 put-particles-spec =

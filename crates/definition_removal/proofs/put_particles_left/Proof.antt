@@ -19,7 +19,8 @@ model-start-requires c κs = search needs
 add-model-start : tie.Need-add-model-start
 add-model-start c =
     let start = c .before .before .before in
-    let x = encoded (start .args .store .now) (start .pre .0 .good) in omega (arith, start .pre .0 .there, x .definitions, x .fewDefinitions)
+    let x = encoded (start .args .store .now) (start .pre .0 .good) in
+    omega (arith, start .pre .0 .there, x .definitions, x .fewDefinitions)
 
 model-start-requires-2 : tie.Need-model-start-requires-2
 model-start-requires-2 c κs = search needs

@@ -24,7 +24,8 @@ attribute-start-requires c κs = search needs
 add-attribute-start : tie.Need-add-attribute-start
 add-attribute-start c =
     let start = c .before .before .before in
-    let x = encoded (start .args .store .now) (start .pre .0 .good) in omega (arith, start .pre .0 .there, x .definitions, x .fewDefinitions)
+    let x = encoded (start .args .store .now) (start .pre .0 .good) in
+    omega (arith, start .pre .0 .there, x .definitions, x .fewDefinitions)
 
 attribute-start-requires-2 : tie.Need-attribute-start-requires-2
 attribute-start-requires-2 c κs = search needs

@@ -26,34 +26,53 @@ enum-known-edit : tie.Need-enum-known-edit
 enum-known-edit c = search needs
 
 past-requires : tie.Need-past-requires
-past-requires c κs = c .before .before .before .before .before .pre .1
+past-requires c κs =
+    let start = c .before .before .before .before .before in
+    start .pre .1
 
 moved-within-requires : tie.Need-moved-within-requires
-moved-within-requires c κs = let a = c .before .before .before .before .before .before in
-    ap (λ (s : Bytes). depthsWithin (particlesOf s)) (c .past .ensures) ∙ ap depthsWithin (particles-past (a .args .n) (a .args .part .now)) ∙ within-drop (a .args .n) (particlesOf (a .args .part .now)) (a .pre .0)
+moved-within-requires c κs =
+    let start = c .before .before .before .before .before .before in
+    ap (λ (s : Bytes). depthsWithin (particlesOf s)) (c .past .ensures) ∙ ap depthsWithin (particles-past (start .args .n) (start .args .part .now))
+    ∙ within-drop (start .args .n) (particlesOf (start .args .part .now)) (start .pre .0)
 
 enum-told-4 : tie.Need-enum-told-4
 enum-told-4 c = search needs
 
 returns : tie.Need-returns
-returns c = let a = c .before .before .before .before in inserted-within (a .args .holder) (a .args .n) (particlesOf (a .args .part .now)) (a .pre .0) _ _ ∙ within-case (a .args .holder) (a .args .n) (particlesOf (a .args .part .now)) (c .before .enum-told .given .1)
+returns c =
+    let start = c .before .before .before .before in
+    inserted-within (start .args .holder) (start .args .n) (particlesOf (start .args .part .now)) (start .pre .0) _ _
+    ∙ within-case (start .args .holder) (start .args .n) (particlesOf (start .args .part .now)) (c .before .enum-told .given .1)
 
 returns-2 : tie.Need-returns-2
-returns-2 c = let a = c .before .before .before in removed-within (a .args .holder) (a .args .n) (particlesOf (a .args .part .now)) (a .pre .0) ∙ within-case (a .args .holder) (a .args .n) (particlesOf (a .args .part .now)) (c .enum-told2 .given .1)
+returns-2 c =
+    let start = c .before .before .before in
+    removed-within (start .args .holder) (start .args .n) (particlesOf (start .args .part .now)) (start .pre .0)
+    ∙ within-case (start .args .holder) (start .args .n) (particlesOf (start .args .part .now)) (c .enum-told2 .given .1)
 
 returns-3 : tie.Need-returns-3
-returns-3 c = let a = c .before .before .before in requantified-within (a .args .holder) (a .args .n) (particlesOf (a .args .part .now)) (a .pre .0) _ ∙ within-case (a .args .holder) (a .args .n) (particlesOf (a .args .part .now)) (c .enum-told3 .given .1)
+returns-3 c =
+    let start = c .before .before .before in
+    requantified-within (start .args .holder) (start .args .n) (particlesOf (start .args .part .now)) (start .pre .0) _
+    ∙ within-case (start .args .holder) (start .args .n) (particlesOf (start .args .part .now)) (c .enum-told3 .given .1)
 
 returns-4 : tie.Need-returns-4
-returns-4 c = let a = c .before .before .before .before .before .before .before in
-    ap (λ (b : Bool). leb (a .args .holder .depth) 4 && b)
+returns-4 c =
+    let at-edit = c .before .before .before .before in
+    let start = at-edit .before .before .before in
+    ap (λ (b : Bool). leb (start .args .holder .depth) 4 && b)
     (c .moved-within .ensures
-    ∙ ap (λ (ys : Particles). depthsWithin (moved (shift true) (a .args .holder .depth) (c .before .before .before .before .edit .given .0 .1 .0) ys)) (ap particlesOf (c .before .past .ensures) ∙ particles-past (a .args .n) (a .args .part .now)))
-    ∙ grouped-within (a .args .holder) (a .args .n) (particlesOf (a .args .part .now)) (a .pre .0) _ _
-    ∙ within-case (a .args .holder) (a .args .n) (particlesOf (a .args .part .now)) (c .before .before .before .before .edit .given .1)
+    ∙ ap (λ (ys : Particles). depthsWithin (moved (shift true) (start .args .holder .depth) (at-edit .edit .given .0 .1 .0) ys))
+    (ap particlesOf (c .before .past .ensures) ∙ particles-past (start .args .n) (start .args .part .now)))
+    ∙ grouped-within (start .args .holder) (start .args .n) (particlesOf (start .args .part .now)) (start .pre .0) _ _
+    ∙ within-case (start .args .holder) (start .args .n) (particlesOf (start .args .part .now)) (at-edit .edit .given .1)
 
 returns-5 : tie.Need-returns-5
-returns-5 c = let a = c .before .before .before in flattened-within (a .args .holder) (a .args .n) (particlesOf (a .args .part .now)) (a .pre .0) ∙ within-case (a .args .holder) (a .args .n) (particlesOf (a .args .part .now)) (c .enum-told4 .given .1)
+returns-5 c =
+    let start = c .before .before .before in
+    flattened-within (start .args .holder) (start .args .n) (particlesOf (start .args .part .now)) (start .pre .0)
+    ∙ within-case (start .args .holder) (start .args .n) (particlesOf (start .args .part .now)) (c .enum-told4 .given .1)
 
 pub is-within-spec : {M : Type 1} → statement M
 is-within-spec =

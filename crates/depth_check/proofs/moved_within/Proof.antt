@@ -14,6 +14,8 @@ use Rattle.depth_check.proofs.moved_within.Statement.{statement}
 use Rattle.depth_check.proofs.moved_within.Tie as tie
 use Rattle.rules.specs.Layout.{particleSize}
 
+-- The loop's invariant: with its first m members one deeper, what is left, t, stays within the ceiling if and only if
+-- all does.
 abbrev Inv-loop : tie.InvT-loop
 Inv-loop ys d n t₀ m₀ t m = Deepening (depthsWithin (moved (shift true) d n (particlesOf ys))) d t m
 
@@ -30,10 +32,18 @@ cast-depth : tie.Need-cast-depth Inv-loop μ-loop
 cast-depth c = search needs
 
 returns : tie.Need-returns Inv-loop μ-loop
-returns c = deep-stop (c .before .before .before .loop .inv) (omega arith) _ (ap (λ (z : ℕ). ltb (c .before .before .before .before .before .args .d) z) (sym (c .before .particle-depth .ensures))) (c .if1 .taken)
+returns c =
+    let at-loop = c .before .before .before in
+    let start = at-loop .before .before in
+    deep-stop (at-loop .loop .inv) (omega arith) _ (ap (λ (z : ℕ). ltb (start .args .d) z) (sym (c .before .particle-depth .ensures))) (c .if1 .taken)
 
 returns-2 : tie.Need-returns-2 Inv-loop μ-loop
-returns-2 c = deep-over (c .before .before .before .before .loop .inv) (omega arith) _ (ap (λ (z : ℕ). ltb (c .before .before .before .before .before .before .args .d) z) (sym (c .before .before .particle-depth .ensures))) (c .before .if1 .left) (omega (arith, c .before .before .particle-depth .ensures))
+returns-2 c =
+    let at-particle-depth = c .before .before in
+    let at-loop = at-particle-depth .before .before in
+    let start = at-loop .before .before in
+    deep-over (at-loop .loop .inv) (omega arith) _ (ap (λ (z : ℕ). ltb (start .args .d) z) (sym (at-particle-depth .particle-depth .ensures)))
+    (c .before .if1 .left) (omega (arith, at-particle-depth .particle-depth .ensures))
 
 left-requires : tie.Need-left-requires Inv-loop μ-loop
 left-requires c κs = search needs
@@ -48,10 +58,19 @@ part-t-end : tie.Need-part-t-end Inv-loop μ-loop
 part-t-end c = search needs
 
 loop-less : tie.Need-loop-less Inv-loop μ-loop
-loop-less c = let t = c .before .before .before .before .before .before .loop .t .now in omega (arith, length-take (length t - particleSize) (drop particleSize t), length-drop particleSize t)
+loop-less c =
+    let at-loop = c .before .before .before .before .before .before in
+    let t = at-loop .loop .t .now in
+    omega (arith, length-take (length t - particleSize) (drop particleSize t), length-drop particleSize t)
 
 loop-again : tie.Need-loop-again Inv-loop μ-loop
-loop-again c = deep-step (c .before .before .before .before .before .before .loop .inv) (omega arith) _ (ap (λ (z : ℕ). ltb (c .before .before .before .before .before .before .before .before .args .d) z) (sym (c .before .before .before .before .particle-depth .ensures))) (c .before .before .before .if1 .left) (omega (arith, c .before .before .before .before .particle-depth .ensures)) (c .before .left .ensures)
+loop-again c =
+    let at-if1 = c .before .before .before in
+    let at-particle-depth = at-if1 .before in
+    let at-loop = at-particle-depth .before .before in
+    let start = at-loop .before .before in
+    deep-step (at-loop .loop .inv) (omega arith) _ (ap (λ (z : ℕ). ltb (start .args .d) z) (sym (at-particle-depth .particle-depth .ensures)))
+    (at-if1 .if1 .left) (omega (arith, at-particle-depth .particle-depth .ensures)) (c .before .left .ensures)
 
 returns-3 : tie.Need-returns-3 Inv-loop μ-loop
 returns-3 c = deep-done (c .before .loop .inv) (omega arith)

@@ -12,7 +12,9 @@ attributes-of-requires : tie.Need-attributes-of-requires
 attributes-of-requires c κs = search needs
 
 attribute-at-requires : tie.Need-attribute-at-requires
-attribute-at-requires c κs = (c .before .width-in .ensures .small, omega (arith, c .before .before .before .pre .small))
+attribute-at-requires c κs =
+    let start = c .before .before .before in
+    (c .before .width-in .ensures .small, omega (arith, start .pre .small))
 
 attribute-owner-requires : tie.Need-attribute-owner-requires
 attribute-owner-requires c κs = search needs

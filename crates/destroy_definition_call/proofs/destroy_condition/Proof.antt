@@ -9,7 +9,9 @@ definition-count-requires : tie.Need-definition-count-requires
 definition-count-requires c κs = search needs
 
 returns : tie.Need-returns
-returns c = unknown (c .before .before .before .args .store .now) (c .before .before .before .args .i) (c .before .before .before .pre) (omega (arith, c .before .definition-count .ensures .value))
+returns c =
+    let start = c .before .before .before in
+    unknown (start .args .store .now) (start .args .i) (start .pre) (omega (arith, c .before .definition-count .ensures .value))
 
 width-in-requires : tie.Need-width-in-requires
 width-in-requires c κs = search needs

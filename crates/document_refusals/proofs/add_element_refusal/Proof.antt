@@ -17,7 +17,8 @@ add-document-refusal-requires c κs = search needs
 returns : tie.Need-returns
 returns c =
     let start = c .before .before .before .before in
-    let a = start .args in add-early (a .store .now) (whole _ (start .pre)) (a .parent) (a .child) (a .definition) (a .text .now) (c .before .add-document-refusal .ensures) (c .if1 .taken) .is
+    let a = start .args in
+    add-early (a .store .now) (whole _ (start .pre)) (a .parent) (a .child) (a .definition) (a .text .now) (c .before .add-document-refusal .ensures) (c .if1 .taken) .is
 
 find-element-requires : tie.Need-find-element-requires
 find-element-requires c κs = search needs
@@ -31,7 +32,8 @@ returns-2 c =
     let at-if1 = at-find-element .before in
     let at-add-document-refusal = at-if1 .before in
     let start = at-add-document-refusal .before .before .before in
-    let a = start .args in let w : Whole (a .store .now) = whole _ (start .pre) in
+    let a = start .args in
+    let w : Whole (a .store .now) = whole _ (start .pre) in
     add-7 (a .store .now) w (a .parent) (a .child) (a .definition) (a .text .now) (at-add-document-refusal .add-document-refusal .ensures) (at-if1 .if1 .left)
     (unseen _ w (at-find-element .find-element .ensures) (c .before .row-count .ensures) (omega arith)) .is
 
@@ -48,7 +50,8 @@ returns-3 c =
     let at-if1 = at-find-element .before in
     let at-add-document-refusal = at-if1 .before in
     let start = at-add-document-refusal .before .before .before in
-    let a = start .args in let w : Whole (a .store .now) = whole _ (start .pre) in
+    let a = start .args in
+    let w : Whole (a .store .now) = whole _ (start .pre) in
     add-8 (a .store .now) w (a .parent) (a .child) (a .definition) (a .text .now) (at-add-document-refusal .add-document-refusal .ensures) (at-if1 .if1 .left)
     (seen _ w (at-find-element .find-element .ensures) (at-row-count .row-count .ensures) (omega arith)) (c .before .has-place .ensures) (c .if3 .taken) .is
 
@@ -68,7 +71,8 @@ returns-4 c =
     let at-if1 = at-find-element .before in
     let at-add-document-refusal = at-if1 .before in
     let start = at-add-document-refusal .before .before .before in
-    let a = start .args in let w : Whole (a .store .now) = whole _ (start .pre) in
+    let a = start .args in
+    let w : Whole (a .store .now) = whole _ (start .pre) in
     let e = seen _ w (at-find-element .find-element .ensures) (at-row-count .row-count .ensures) (omega arith) in
     add-15 (a .store .now) w (a .parent) (a .child) (a .definition) (a .text .now) (at-add-document-refusal .add-document-refusal .ensures) (at-if1 .if1 .left)
     e (at-has-place .has-place .ensures) (at-if3 .if3 .left)
@@ -101,7 +105,8 @@ returns-5 c =
     let at-if1 = at-find-element .before in
     let at-add-document-refusal = at-if1 .before in
     let start = at-add-document-refusal .before .before .before in
-    let a = start .args in let w : Whole (a .store .now) = whole _ (start .pre) in
+    let a = start .args in
+    let w : Whole (a .store .now) = whole _ (start .pre) in
     let e = seen _ w (at-find-element .find-element .ensures) (at-row-count .row-count .ensures) (omega arith) in
     add-15 (a .store .now) w (a .parent) (a .child) (a .definition) (a .text .now) (at-add-document-refusal .add-document-refusal .ensures) (at-if1 .if1 .left)
     e (at-has-place .has-place .ensures) (at-if3 .if3 .left)
@@ -119,7 +124,8 @@ returns-6 c =
     let at-if1 = at-find-element .before in
     let at-add-document-refusal = at-if1 .before in
     let start = at-add-document-refusal .before .before .before in
-    let a = start .args in let w : Whole (a .store .now) = whole _ (start .pre) in
+    let a = start .args in
+    let w : Whole (a .store .now) = whole _ (start .pre) in
     let e = seen _ w (at-find-element .find-element .ensures) (at-row-count .row-count .ensures) (omega arith) in
     add-0 (a .store .now) w (a .parent) (a .child) (a .definition) (a .text .now) (at-add-document-refusal .add-document-refusal .ensures) (at-if1 .if1 .left) e
     (at-has-place .has-place .ensures) (at-if3 .if3 .left)

@@ -13,7 +13,8 @@ attribute-count-requires c κs = search needs
 returns : tie.Need-returns
 returns c =
     let start = c .before .before .before in
-    let w : Whole (start .args .store .now) = whole _ (start .pre) in refused-past _ w (start .args .attribute) (omega (arith, c .before .attribute-count .ensures .value))
+    let w : Whole (start .args .store .now) = whole _ (start .pre) in
+    refused-past _ w (start .args .attribute) (omega (arith, c .before .attribute-count .ensures .value))
 
 find-element-requires : tie.Need-find-element-requires
 find-element-requires c κs = search needs
@@ -34,7 +35,8 @@ owner-of-requires : tie.Need-owner-of-requires
 owner-of-requires c κs =
     let at-attribute-count = c .before .before .before .before in
     let start = at-attribute-count .before .before in
-    let w : Whole (start .args .store .now) = whole _ (start .pre) in omega (arith, w .fewAttributes, at-attribute-count .attribute-count .ensures .value)
+    let w : Whole (start .args .store .now) = whole _ (start .pre) in
+    omega (arith, w .fewAttributes, at-attribute-count .attribute-count .ensures .value)
 
 definition-at-requires : tie.Need-definition-at-requires
 definition-at-requires c κs = search needs

@@ -14,13 +14,15 @@ find-element-requires c κs = search needs
 attribute-at-requires : tie.Need-attribute-at-requires
 attribute-at-requires c κs =
     let start = c .before .before in
-    let a = start .args in let w : Whole (a .store .now) = whole _ (start .pre .0) in
+    let a = start .args in
+    let w : Whole (a .store .now) = whole _ (start .pre .0) in
     row-of _ w (c .find-element .ensures) (there _ w (c .find-element .ensures) (both _ w (a .attribute) (start .pre .1) refl .1))
 
 returns : tie.Need-returns
 returns c =
     let start = c .before .before .before in
-    let a = start .args in let w : Whole (a .store .now) = whole _ (start .pre .0) in
+    let a = start .args in
+    let w : Whole (a .store .now) = whole _ (start .pre .0) in
     let y = known-of _ w (a .attribute) (start .pre .1) refl in
     let f = element-there _ w _ _ (c .before .find-element .ensures .begins) (there _ w (c .before .find-element .ensures) (both _ w (a .attribute) (start .pre .1) refl .1)) in
     serial-is _ w (a .attribute) (y .owned) (y .at) f (same-row _ w (a .attribute) y f) (c .attribute-at .ensures)

@@ -15,7 +15,8 @@ attribute-refusal-requires c κs = search needs
 returns : tie.Need-returns
 returns c =
     let start = c .before .before .before in
-    let a = start .args in drop-early (a .store .now) (whole _ (start .pre)) (a .attribute) (a .element) (c .before .attribute-refusal .ensures) (c .if1 .taken) .is
+    let a = start .args in
+    drop-early (a .store .now) (whole _ (start .pre)) (a .attribute) (a .element) (c .before .attribute-refusal .ensures) (c .if1 .taken) .is
 
 find-element-requires : tie.Need-find-element-requires
 find-element-requires c κs = search needs
@@ -24,7 +25,8 @@ attribute-at-requires : tie.Need-attribute-at-requires
 attribute-at-requires c κs =
     let at-attribute-refusal = c .before .before in
     let start = at-attribute-refusal .before .before in
-    let a = start .args in let w : Whole (a .store .now) = whole _ (start .pre) in
+    let a = start .args in
+    let w : Whole (a .store .now) = whole _ (start .pre) in
     row-of _ w (c .find-element .ensures) (there _ w (c .find-element .ensures) (both _ w (a .attribute) (at-attribute-refusal .attribute-refusal .ensures) (c .before .if1 .left) .1))
 
 returns-2 : tie.Need-returns-2
@@ -33,7 +35,8 @@ returns-2 c =
     let at-if1 = at-find-element .before in
     let at-attribute-refusal = at-if1 .before in
     let start = at-attribute-refusal .before .before in
-    let a = start .args in let w : Whole (a .store .now) = whole _ (start .pre) in
+    let a = start .args in
+    let w : Whole (a .store .now) = whole _ (start .pre) in
     let z = both _ w (a .attribute) (at-attribute-refusal .attribute-refusal .ensures) (at-if1 .if1 .left) .1 in
     drop-7 (a .store .now) w (a .attribute) (a .element) (at-attribute-refusal .attribute-refusal .ensures) (at-if1 .if1 .left)
     (element-there _ w _ _ (at-find-element .find-element .ensures .begins) (there _ w (at-find-element .find-element .ensures) z))
@@ -57,7 +60,8 @@ needs-requires c κs =
     let at-if1 = at-width-in .before .before .before .before .before in
     let at-attribute-refusal = at-if1 .before in
     let start = at-attribute-refusal .before .before in
-    let a = start .args in let w : Whole (a .store .now) = whole _ (start .pre) in (
+    let a = start .args in
+    let w : Whole (a .store .now) = whole _ (start .pre) in (
       at-width-in .width-in .ensures .small,
       omega (
         arith,
@@ -78,7 +82,8 @@ returns-3 c =
     let at-if1 = at-find-element .before in
     let at-attribute-refusal = at-if1 .before in
     let start = at-attribute-refusal .before .before in
-    let a = start .args in let w : Whole (a .store .now) = whole _ (start .pre) in
+    let a = start .args in
+    let w : Whole (a .store .now) = whole _ (start .pre) in
     let z = both _ w (a .attribute) (at-attribute-refusal .attribute-refusal .ensures) (at-if1 .if1 .left) .1 in
     drop-15 (a .store .now) w (a .attribute) (a .element) (at-attribute-refusal .attribute-refusal .ensures) (at-if1 .if1 .left)
     (element-there _ w _ _ (at-find-element .find-element .ensures .begins) (there _ w (at-find-element .find-element .ensures) z))
@@ -100,7 +105,8 @@ returns-4 c =
     let at-if1 = at-find-element .before in
     let at-attribute-refusal = at-if1 .before in
     let start = at-attribute-refusal .before .before in
-    let a = start .args in let w : Whole (a .store .now) = whole _ (start .pre) in
+    let a = start .args in
+    let w : Whole (a .store .now) = whole _ (start .pre) in
     let z = both _ w (a .attribute) (at-attribute-refusal .attribute-refusal .ensures) (at-if1 .if1 .left) .1 in
     drop-0 (a .store .now) w (a .attribute) (a .element) (at-attribute-refusal .attribute-refusal .ensures) (at-if1 .if1 .left)
     (element-there _ w _ _ (at-find-element .find-element .ensures .begins) (there _ w (at-find-element .find-element .ensures) z))

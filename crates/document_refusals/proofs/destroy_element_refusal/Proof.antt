@@ -16,7 +16,8 @@ returns : tie.Need-returns
 returns c =
     let at-row-count = c .before .before in
     let start = at-row-count .before .before in
-    let w : Whole (start .args .store .now) = whole _ (start .pre) in destroy-7 _ w (unseen _ w (c .before .find-element .ensures) (at-row-count .row-count .ensures) (omega arith)) .is
+    let w : Whole (start .args .store .now) = whole _ (start .pre) in
+    destroy-7 _ w (unseen _ w (c .before .find-element .ensures) (at-row-count .row-count .ensures) (omega arith)) .is
 
 find-parent-requires : tie.Need-find-parent-requires
 find-parent-requires c κs = search needs

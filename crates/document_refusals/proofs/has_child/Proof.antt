@@ -71,7 +71,8 @@ returns-2 : tie.Need-returns-2 Inv-loop μ-loop
 returns-2 c =
     let at-loop = c .before in
     let start = at-loop .before .before .before in
-    let a = start .args in look-none (a .w) 1 (a .depth) (a .rows .now) (a .count) (any (elementRowWith (a .element))) _ (at-loop .loop .i) (at-loop .loop .inv) (omega arith)
+    let a = start .args in
+    look-none (a .w) 1 (a .depth) (a .rows .now) (a .count) (any (elementRowWith (a .element))) _ (at-loop .loop .i) (at-loop .loop .inv) (omega arith)
 
 pub has-child-spec : {M : Type 1} → statement M
 has-child-spec =

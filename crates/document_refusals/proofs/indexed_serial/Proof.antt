@@ -77,7 +77,8 @@ returns-2 : tie.Need-returns-2 Inv-loop μ-loop
 returns-2 c =
     let at-loop = c .before in
     let start = at-loop .before .before .before in
-    let a = start .args in look-none (a .w) 2 (a .depth) (a .rows .now) (a .count) (serialOfIndex (a .attribute)) _ (at-loop .loop .i) (at-loop .loop .inv) (omega arith)
+    let a = start .args in
+    look-none (a .w) 2 (a .depth) (a .rows .now) (a .count) (serialOfIndex (a .attribute)) _ (at-loop .loop .i) (at-loop .loop .inv) (omega arith)
 
 pub indexed-serial-spec : {M : Type 1} → statement M
 indexed-serial-spec =

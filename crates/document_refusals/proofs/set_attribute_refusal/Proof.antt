@@ -16,7 +16,8 @@ returns : tie.Need-returns
 returns c =
     let at-width-in = c .before .before in
     let start = at-width-in .before .before .before in
-    let a = start .args in set-3 (a .store .now) (whole _ (start .pre)) (a .attribute) (a .element) (a .value .now) (at-width-in .width-in .ensures) (c .before .is-value .ensures) (c .if1 .taken) .is
+    let a = start .args in
+    set-3 (a .store .now) (whole _ (start .pre)) (a .attribute) (a .element) (a .value .now) (at-width-in .width-in .ensures) (c .before .is-value .ensures) (c .if1 .taken) .is
 
 attribute-refusal-requires : tie.Need-attribute-refusal-requires
 attribute-refusal-requires c κs = search needs
@@ -39,7 +40,8 @@ value-may-requires c κs =
     let at-attribute-refusal = c .before .before in
     let begin = at-attribute-refusal .before .before .before in
     let start = begin .before .before .before in
-    let a = start .args in let w : Whole (a .store .now) = whole _ (start .pre) in (
+    let a = start .args in
+    let w : Whole (a .store .now) = whole _ (start .pre) in (
       begin .width-in .ensures .small,
       omega (
         arith,

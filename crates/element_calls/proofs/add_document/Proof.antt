@@ -19,28 +19,59 @@ refused-requires : tie.Need-refused-requires
 refused-requires c κs = search needs
 
 returns : tie.Need-returns
-returns c = bad (addDocument (c .before .before .before .before .before .before .args .definition) (c .before .before .before .before .before .before .args .text .now)) (c .before .before .before .before .before .before .args .store .now) (length (c .before .before .before .before .before .before .args .out .now)) (c .before .before .before .before .before .before .args .out .now) (c .before .if1 .taken) (c .before .before .passes .ensures) (c .refused .ensures)
+returns c =
+    let at-passes = c .before .before in
+    let start = at-passes .before .before .before .before in
+    bad (addDocument (start .args .definition) (start .args .text .now)) (start .args .store .now) (length (start .args .out .now)) (start .args .out .now)
+    (c .before .if1 .taken) (at-passes .passes .ensures) (c .refused .ensures)
 
 add-document-refusal-requires : tie.Need-add-document-refusal-requires
-add-document-refusal-requires c κs = passed (c .before .before .before .before .before .args .store .now) (c .if1 .left) (c .before .passes .ensures)
+add-document-refusal-requires c κs =
+    let start = c .before .before .before .before .before in
+    passed (start .args .store .now) (c .if1 .left) (c .before .passes .ensures)
 
 refused-requires-2 : tie.Need-refused-requires-2
 refused-requires-2 c κs = search needs
 
 returns-2 : tie.Need-returns-2
-returns-2 c = turned-away (addDocument (c .before .before .before .before .before .before .before .before .args .definition) (c .before .before .before .before .before .before .before .before .args .text .now)) (c .before .before .before .before .before .before .before .before .args .store .now) (length (c .before .before .before .before .before .before .before .before .args .out .now)) (c .before .before .before .before .before .before .before .before .args .out .now) (c .before .before .before .if1 .left) (c .before .before .before .before .passes .ensures) (c .before .before .add-document-refusal .ensures) (c .before .if2 .taken) (c .refused2 .ensures)
+returns-2 c =
+    let at-add-document-refusal = c .before .before in
+    let at-if1 = at-add-document-refusal .before in
+    let at-passes = at-if1 .before in
+    let start = at-passes .before .before .before .before in
+    turned-away (addDocument (start .args .definition) (start .args .text .now)) (start .args .store .now) (length (start .args .out .now))
+    (start .args .out .now) (at-if1 .if1 .left) (at-passes .passes .ensures) (at-add-document-refusal .add-document-refusal .ensures)
+    (c .before .if2 .taken) (c .refused2 .ensures)
 
 filling-plan-requires : tie.Need-filling-plan-requires
 filling-plan-requires c κs = search needs
 
 edit-requires : tie.Need-edit-requires
-edit-requires c κs = add-document-asks (c .before .before .before .before .before .before .before .before .before .args .store .now) (c .before .before .before .before .if1 .left) (c .before .before .before .before .before .passes .ensures) (c .before .before .before .before .before .before .before .before .before .args .definition) (c .before .before .before .before .before .before .before .before .before .args .text .now) (c .before .before .before .add-document-refusal .ensures) (c .before .before .if2 .left) (c .before .filling-plan .ensures)
+edit-requires c κs =
+    let at-if2 = c .before .before in
+    let at-add-document-refusal = at-if2 .before in
+    let at-if1 = at-add-document-refusal .before in
+    let at-passes = at-if1 .before in
+    let start = at-passes .before .before .before .before in
+    add-document-asks (start .args .store .now) (at-if1 .if1 .left) (at-passes .passes .ensures) (start .args .definition) (start .args .text .now)
+    (at-add-document-refusal .add-document-refusal .ensures) (at-if2 .if2 .left) (c .before .filling-plan .ensures)
 
 same-length : tie.Need-same-length
 same-length c = search needs
 
 returns-3 : tie.Need-returns-3
-returns-3 c = made-planned (addDocument (c .before .before .before .before .before .before .before .before .before .before .before .before .args .definition) (c .before .before .before .before .before .before .before .before .before .before .before .before .args .text .now)) (c .before .before .before .before .before .before .before .before .before .before .before .before .args .store .now) (length (c .before .before .before .before .before .before .before .before .before .before .before .before .args .out .now)) (c .before .before .before .before .before .before .before .before .before .before .before .before .args .out .now) (addDocumentPlan (c .before .before .before .before .before .before .before .before .before .before .before .before .args .definition)) _ (c .before .before .before .before .before .before .before .before .before .before .before .before .args .text .now) (c .before .before .before .before .before .before .before .if1 .left) (c .before .before .before .before .before .before .before .before .passes .ensures) (c .before .before .before .before .before .before .add-document-refusal .ensures) (c .before .before .before .before .before .if2 .left) (c .before .before .before .before .filling-plan .ensures) (λ g e. add-document-planned (storeIn (c .before .before .before .before .before .before .before .before .before .before .before .before .args .store .now)) g (c .before .before .before .before .before .before .before .before .before .before .before .before .args .definition) (c .before .before .before .before .before .before .before .before .before .before .before .before .args .text .now) e) (c .before .before .edit .ensures)
+returns-3 c =
+    let at-edit = c .before .before in
+    let at-filling-plan = at-edit .before .before in
+    let at-if2 = at-filling-plan .before in
+    let at-add-document-refusal = at-if2 .before in
+    let at-if1 = at-add-document-refusal .before in
+    let at-passes = at-if1 .before in
+    let start = at-passes .before .before .before .before in
+    made-planned (addDocument (start .args .definition) (start .args .text .now)) (start .args .store .now) (length (start .args .out .now))
+    (start .args .out .now) (addDocumentPlan (start .args .definition)) _ (start .args .text .now) (at-if1 .if1 .left) (at-passes .passes .ensures)
+    (at-add-document-refusal .add-document-refusal .ensures) (at-if2 .if2 .left) (at-filling-plan .filling-plan .ensures)
+    (λ g e. add-document-planned (storeIn (start .args .store .now)) g (start .args .definition) (start .args .text .now) e) (at-edit .edit .ensures)
 
 pub add-document-spec : {M : Type 1} → statement M
 add-document-spec =

@@ -21,31 +21,77 @@ refused-requires : tie.Need-refused-requires
 refused-requires c κs = search needs
 
 returns : tie.Need-returns
-returns c = bad (addElement (c .before .before .before .before .before .before .args .parent) (c .before .before .before .before .before .before .args .child) (c .before .before .before .before .before .before .args .definition) (c .before .before .before .before .before .before .args .text .now)) (c .before .before .before .before .before .before .args .store .now) (length (c .before .before .before .before .before .before .args .out .now)) (c .before .before .before .before .before .before .args .out .now) (c .before .if1 .taken) (c .before .before .passes .ensures) (c .refused .ensures)
+returns c =
+    let at-passes = c .before .before in
+    let start = at-passes .before .before .before .before in
+    bad (addElement (start .args .parent) (start .args .child) (start .args .definition) (start .args .text .now)) (start .args .store .now)
+    (length (start .args .out .now)) (start .args .out .now) (c .before .if1 .taken) (at-passes .passes .ensures) (c .refused .ensures)
 
 add-element-refusal-requires : tie.Need-add-element-refusal-requires
-add-element-refusal-requires c κs = passed (c .before .before .before .before .before .args .store .now) (c .if1 .left) (c .before .passes .ensures)
+add-element-refusal-requires c κs =
+    let start = c .before .before .before .before .before in
+    passed (start .args .store .now) (c .if1 .left) (c .before .passes .ensures)
 
 refused-requires-2 : tie.Need-refused-requires-2
 refused-requires-2 c κs = search needs
 
 returns-2 : tie.Need-returns-2
-returns-2 c = turned-away (addElement (c .before .before .before .before .before .before .before .before .args .parent) (c .before .before .before .before .before .before .before .before .args .child) (c .before .before .before .before .before .before .before .before .args .definition) (c .before .before .before .before .before .before .before .before .args .text .now)) (c .before .before .before .before .before .before .before .before .args .store .now) (length (c .before .before .before .before .before .before .before .before .args .out .now)) (c .before .before .before .before .before .before .before .before .args .out .now) (c .before .before .before .if1 .left) (c .before .before .before .before .passes .ensures) (c .before .before .add-element-refusal .ensures) (c .before .if2 .taken) (c .refused2 .ensures)
+returns-2 c =
+    let at-add-element-refusal = c .before .before in
+    let at-if1 = at-add-element-refusal .before in
+    let at-passes = at-if1 .before in
+    let start = at-passes .before .before .before .before in
+    turned-away (addElement (start .args .parent) (start .args .child) (start .args .definition) (start .args .text .now)) (start .args .store .now)
+    (length (start .args .out .now)) (start .args .out .now) (at-if1 .if1 .left) (at-passes .passes .ensures)
+    (at-add-element-refusal .add-element-refusal .ensures) (c .before .if2 .taken) (c .refused2 .ensures)
 
 child-serial-requires : tie.Need-child-serial-requires
-child-serial-requires c κs = add-element-there (c .before .before .before .before .before .before .before .args .store .now) (c .before .before .if1 .left) (c .before .before .before .passes .ensures) (c .before .before .before .before .before .before .before .args .parent) (c .before .before .before .before .before .before .before .args .child) (c .before .before .before .before .before .before .before .args .definition) (c .before .before .before .before .before .before .before .args .text .now) (c .before .add-element-refusal .ensures) (c .if2 .left)
+child-serial-requires c κs =
+    let at-if1 = c .before .before in
+    let at-passes = at-if1 .before in
+    let start = at-passes .before .before .before .before in
+    add-element-there (start .args .store .now) (at-if1 .if1 .left) (at-passes .passes .ensures) (start .args .parent) (start .args .child)
+    (start .args .definition) (start .args .text .now) (c .before .add-element-refusal .ensures) (c .if2 .left)
 
 filling-plan-requires : tie.Need-filling-plan-requires
 filling-plan-requires c κs = search needs
 
 edit-requires : tie.Need-edit-requires
-edit-requires c κs = add-element-asks (c .before .before .before .before .before .before .before .before .before .before .args .store .now) (c .before .before .before .before .before .if1 .left) (c .before .before .before .before .before .before .passes .ensures) (c .before .before .before .before .before .before .before .before .before .before .args .parent) (c .before .before .before .before .before .before .before .before .before .before .args .child) (c .before .before .before .before .before .before .before .before .before .before .args .definition) (c .before .before .before .before .before .before .before .before .before .before .args .text .now) (c .before .before .before .before .add-element-refusal .ensures) (c .before .before .before .if2 .left) (c .before .filling-plan .ensures ∙ ap (λ (x : ℕ). addElementPlan (c .before .before .before .before .before .before .before .before .before .before .args .parent) x (c .before .before .before .before .before .before .before .before .before .before .args .definition)) (c .before .before .child-serial .ensures))
+edit-requires c κs =
+    let at-child-serial = c .before .before in
+    let at-if2 = at-child-serial .before in
+    let at-add-element-refusal = at-if2 .before in
+    let at-if1 = at-add-element-refusal .before in
+    let at-passes = at-if1 .before in
+    let start = at-passes .before .before .before .before in
+    add-element-asks (start .args .store .now) (at-if1 .if1 .left) (at-passes .passes .ensures) (start .args .parent) (start .args .child)
+    (start .args .definition) (start .args .text .now) (at-add-element-refusal .add-element-refusal .ensures) (at-if2 .if2 .left)
+    (c .before .filling-plan .ensures
+    ∙ ap (λ (x : ℕ). addElementPlan (start .args .parent) x (start .args .definition)) (at-child-serial .child-serial .ensures))
 
 same-length : tie.Need-same-length
 same-length c = search needs
 
 returns-3 : tie.Need-returns-3
-returns-3 c = made-planned (addElement (c .before .before .before .before .before .before .before .before .before .before .before .before .before .args .parent) (c .before .before .before .before .before .before .before .before .before .before .before .before .before .args .child) (c .before .before .before .before .before .before .before .before .before .before .before .before .before .args .definition) (c .before .before .before .before .before .before .before .before .before .before .before .before .before .args .text .now)) (c .before .before .before .before .before .before .before .before .before .before .before .before .before .args .store .now) (length (c .before .before .before .before .before .before .before .before .before .before .before .before .before .args .out .now)) (c .before .before .before .before .before .before .before .before .before .before .before .before .before .args .out .now) (addElementPlan (c .before .before .before .before .before .before .before .before .before .before .before .before .before .args .parent) (childSerial (c .before .before .before .before .before .before .before .before .before .before .before .before .before .args .parent) (c .before .before .before .before .before .before .before .before .before .before .before .before .before .args .child) (storeIn (c .before .before .before .before .before .before .before .before .before .before .before .before .before .args .store .now))) (c .before .before .before .before .before .before .before .before .before .before .before .before .before .args .definition)) _ (c .before .before .before .before .before .before .before .before .before .before .before .before .before .args .text .now) (c .before .before .before .before .before .before .before .before .if1 .left) (c .before .before .before .before .before .before .before .before .before .passes .ensures) (c .before .before .before .before .before .before .before .add-element-refusal .ensures) (c .before .before .before .before .before .before .if2 .left) (c .before .before .before .before .filling-plan .ensures ∙ ap (λ (x : ℕ). addElementPlan (c .before .before .before .before .before .before .before .before .before .before .before .before .before .args .parent) x (c .before .before .before .before .before .before .before .before .before .before .before .before .before .args .definition)) (c .before .before .before .before .before .child-serial .ensures)) (λ g e. add-element-planned (storeIn (c .before .before .before .before .before .before .before .before .before .before .before .before .before .args .store .now)) g (c .before .before .before .before .before .before .before .before .before .before .before .before .before .args .parent) (c .before .before .before .before .before .before .before .before .before .before .before .before .before .args .child) (c .before .before .before .before .before .before .before .before .before .before .before .before .before .args .definition) (c .before .before .before .before .before .before .before .before .before .before .before .before .before .args .text .now) e) (c .before .before .edit .ensures)
+returns-3 c =
+    let at-edit = c .before .before in
+    let at-filling-plan = at-edit .before .before in
+    let at-child-serial = at-filling-plan .before in
+    let at-if2 = at-child-serial .before in
+    let at-add-element-refusal = at-if2 .before in
+    let at-if1 = at-add-element-refusal .before in
+    let at-passes = at-if1 .before in
+    let start = at-passes .before .before .before .before in
+    made-planned (addElement (start .args .parent) (start .args .child) (start .args .definition) (start .args .text .now)) (start .args .store .now)
+    (length (start .args .out .now)) (start .args .out .now)
+    (addElementPlan (start .args .parent) (childSerial (start .args .parent) (start .args .child) (storeIn (start .args .store .now)))
+    (start .args .definition))
+    _ (start .args .text .now) (at-if1 .if1 .left) (at-passes .passes .ensures) (at-add-element-refusal .add-element-refusal .ensures) (at-if2 .if2 .left)
+    (at-filling-plan .filling-plan .ensures
+    ∙ ap (λ (x : ℕ). addElementPlan (start .args .parent) x (start .args .definition)) (at-child-serial .child-serial .ensures))
+    (λ g e. add-element-planned (storeIn (start .args .store .now)) g (start .args .parent) (start .args .child) (start .args .definition)
+    (start .args .text .now) e)
+    (at-edit .edit .ensures)
 
 pub add-element-spec : {M : Type 1} → statement M
 add-element-spec =

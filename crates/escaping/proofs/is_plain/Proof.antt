@@ -32,10 +32,15 @@ loop-less : tie.Need-loop-less Inv-loop μ-loop
 loop-less c = omega arith
 
 loop-again : tie.Need-loop-again Inv-loop μ-loop
-loop-again c = let l = c .before .before .before in plain-on (l .before .args .value .now) (l .loop .i) (omega arith) (c .if1 .left) (l .loop .inv)
+loop-again c =
+    let at-loop = c .before .before .before in
+    let start = at-loop .before in
+    plain-on (start .args .value .now) (at-loop .loop .i) (omega arith) (c .if1 .left) (at-loop .loop .inv)
 
 returns-2 : tie.Need-returns-2 Inv-loop μ-loop
-returns-2 c = λ e. plain-end (c .before .before .args .value .now) (c .before .loop .i) (omega arith) (c .before .loop .inv)
+returns-2 c =
+    let start = c .before .before in
+    λ e. plain-end (start .args .value .now) (c .before .loop .i) (omega arith) (c .before .loop .inv)
 
 pub is-plain-spec : {M : Type 1} → statement M
 is-plain-spec =

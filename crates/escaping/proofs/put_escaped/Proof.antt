@@ -23,10 +23,16 @@ put-requires : tie.Need-put-requires Inv-loop μ-loop
 put-requires c κs = omega arith
 
 same-length : tie.Need-same-length Inv-loop μ-loop
-same-length c = laid-long (c .before .before .put .ensures)
+same-length c =
+    let at-put = c .before .before in
+    laid-long (at-put .put .ensures)
 
 returns : tie.Need-returns Inv-loop μ-loop
-returns c = laid-as (c .before .before .before .before .before .is-plain .ensures (c .before .before .before .before .if1 .taken)) (c .before .before .put .ensures)
+returns c =
+    let at-put = c .before .before in
+    let at-if1 = at-put .before .before in
+    let at-is-plain = at-if1 .before in
+    laid-as (at-is-plain .is-plain .ensures (at-if1 .if1 .taken)) (at-put .put .ensures)
 
 loop-holds : tie.Need-loop-holds Inv-loop μ-loop
 loop-holds c = record { goes = λ r o l. l; small = omega arith; inside = omega arith; long = refl }
@@ -44,8 +50,12 @@ loop-less : tie.Need-loop-less Inv-loop μ-loop
 loop-less c = search needs
 
 loop-again : tie.Need-loop-again Inv-loop μ-loop
-loop-again c = let l = c .before .before .before .before .before .before in
-    escaping-on (l .before .before .before .before .before .args .value .now) _ (l .loop .inv) (omega arith) (c .before .before .before .before .byte .ensures) (c .before .before .put-escaped-byte .ensures)
+loop-again c =
+    let at-put-escaped-byte = c .before .before in
+    let at-byte = at-put-escaped-byte .before .before in
+    let at-loop = at-byte .before .before in
+    let start = at-loop .before .before .before .before .before in
+    escaping-on (start .args .value .now) _ (at-loop .loop .inv) (omega arith) (at-byte .byte .ensures) (at-put-escaped-byte .put-escaped-byte .ensures)
 
 same-length-2 : tie.Need-same-length-2 Inv-loop μ-loop
 same-length-2 c = c .before .loop .inv .long

@@ -38,31 +38,47 @@ same-length : tie.Need-same-length
 same-length c = search needs
 
 returns : tie.Need-returns
-returns c = laid-as (ap escapeByte (c .before .before .before .before .before .match .keys1)) (c .before .before .put .ensures)
+returns c =
+    let at-put = c .before .before in
+    let at-match = at-put .before .before .before in
+    laid-as (ap escapeByte (at-match .match .keys1)) (at-put .put .ensures)
 
 same-length-2 : tie.Need-same-length-2
 same-length-2 c = search needs
 
 returns-2 : tie.Need-returns-2
-returns-2 c = laid-as (ap escapeByte (c .before .before .before .before .before .match .keys2)) (c .before .before .put2 .ensures)
+returns-2 c =
+    let at-put2 = c .before .before in
+    let at-match = at-put2 .before .before .before in
+    laid-as (ap escapeByte (at-match .match .keys2)) (at-put2 .put2 .ensures)
 
 same-length-3 : tie.Need-same-length-3
 same-length-3 c = search needs
 
 returns-3 : tie.Need-returns-3
-returns-3 c = laid-as (ap escapeByte (c .before .before .before .before .before .match .keys3)) (c .before .before .put3 .ensures)
+returns-3 c =
+    let at-put3 = c .before .before in
+    let at-match = at-put3 .before .before .before in
+    laid-as (ap escapeByte (at-match .match .keys3)) (at-put3 .put3 .ensures)
 
 same-length-4 : tie.Need-same-length-4
 same-length-4 c = search needs
 
 returns-4 : tie.Need-returns-4
-returns-4 c = laid-as (ap escapeByte (c .before .before .before .before .before .match .keys4)) (c .before .before .put4 .ensures)
+returns-4 c =
+    let at-put4 = c .before .before in
+    let at-match = at-put4 .before .before .before in
+    laid-as (ap escapeByte (at-match .match .keys4)) (at-put4 .put4 .ensures)
 
 same-length-5 : tie.Need-same-length-5
 same-length-5 c = search needs
 
 returns-5 : tie.Need-returns-5
-returns-5 c = let m = c .before .before .before .before .match .rest in laid-as (escape-other _ (m .0 .0 .0 .1) (m .0 .0 .1) (m .0 .1) (m .1)) (c .before .before .put-u8 .ensures)
+returns-5 c =
+    let at-put-u8 = c .before .before in
+    let at-match = at-put-u8 .before .before in
+    let m = at-match .match .rest in
+    laid-as (escape-other _ (m .0 .0 .0 .1) (m .0 .0 .1) (m .0 .1) (m .1)) (at-put-u8 .put-u8 .ensures)
 
 pub put-escaped-byte-spec : {M : Type 1} → statement M
 put-escaped-byte-spec =

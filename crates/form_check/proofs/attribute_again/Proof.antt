@@ -14,7 +14,10 @@ use Rattle.form_check.proofs.attribute_again.Statement.{statement}
 use Rattle.form_check.proofs.attribute_again.Tie as tie
 
 abbrev Inv-loop : tie.InvT-loop
-Inv-loop w a attrs i j₀ j = (j < a) × (any (clashes (attributeRecordAt w i attrs)) (drop (j + 1) (attributes w a attrs)) ≡ any (clashes (attributeRecordAt w i attrs)) (drop (i + 1) (attributes w a attrs)))
+Inv-loop w a attrs i j₀ j =
+    (j < a)
+    × (any (clashes (attributeRecordAt w i attrs)) (drop (j + 1) (attributes w a attrs))
+    ≡ any (clashes (attributeRecordAt w i attrs)) (drop (i + 1) (attributes w a attrs)))
 
 abbrev μ-loop : tie.MeasureT-loop
 μ-loop w a attrs i j₀ j = a - j

@@ -14,7 +14,8 @@ attribute-name-requires c κs = search needs
 returns : tie.Need-returns
 returns c =
     let start = c .before .before .before in
-    let a = start .args in attribute-name (a .w) (a .i) (a .attrs .now) (c .before .attribute-at .ensures) (c .attribute-name .ensures)
+    let a = start .args in
+    attribute-name (a .w) (a .i) (a .attrs .now) (c .before .attribute-at .ensures) (c .attribute-name .ensures)
 
 pub attribute-name-spec : {M : Type 1} → statement M
 attribute-name-spec = tie.close (tie.spec attribute-at-requires attribute-name-requires returns)

@@ -13,7 +13,10 @@ use Rattle.form_check.proofs.element_again.Statement.{statement}
 use Rattle.form_check.proofs.element_again.Tie as tie
 
 abbrev Inv-loop : tie.InvT-loop
-Inv-loop m parts i j₀ j = (j < m) × (any (sameElement (particleRecordAt i parts)) (drop (j + 1) (particlesRead m parts)) ≡ any (sameElement (particleRecordAt i parts)) (drop (i + 1) (particlesRead m parts)))
+Inv-loop m parts i j₀ j =
+    (j < m)
+    × (any (sameElement (particleRecordAt i parts)) (drop (j + 1) (particlesRead m parts))
+    ≡ any (sameElement (particleRecordAt i parts)) (drop (i + 1) (particlesRead m parts)))
 
 abbrev μ-loop : tie.MeasureT-loop
 μ-loop m parts i j₀ j = m - j

@@ -68,7 +68,8 @@ returns-2 : tie.Need-returns-2 Inv-loop μ-loop
 returns-2 c =
     let start = c .before .before .before in
     let a = start .args in
-    sym (walks-end (a .n) (c .before .loop .d) (particles-end (c .before .loop .i) (a .m) (a .parts .now) (omega arith))) ∙ c .before .loop .inv ∙ walks-model (a .n) (particlesRead (a .m) (a .parts .now))
+    sym (walks-end (a .n) (c .before .loop .d) (particles-end (c .before .loop .i) (a .m) (a .parts .now) (omega arith))) ∙ c .before .loop .inv
+    ∙ walks-model (a .n) (particlesRead (a .m) (a .parts .now))
 
 pub model-fits-spec : {M : Type 1} → statement M
 model-fits-spec =

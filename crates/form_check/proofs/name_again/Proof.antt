@@ -13,7 +13,10 @@ use Rattle.form_check.proofs.name_again.Statement.{statement}
 use Rattle.form_check.proofs.name_again.Tie as tie
 
 abbrev Inv-loop : tie.InvT-loop
-Inv-loop n defs i name j₀ j = (j < n) × (any (sameName (definitionRecordAt i defs)) (drop (j + 1) (definitions n defs)) ≡ any (sameName (definitionRecordAt i defs)) (drop (i + 1) (definitions n defs)))
+Inv-loop n defs i name j₀ j =
+    (j < n)
+    × (any (sameName (definitionRecordAt i defs)) (drop (j + 1) (definitions n defs))
+    ≡ any (sameName (definitionRecordAt i defs)) (drop (i + 1) (definitions n defs)))
 
 abbrev μ-loop : tie.MeasureT-loop
 μ-loop n defs i name j₀ j = n - j

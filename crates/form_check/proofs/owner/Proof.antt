@@ -14,7 +14,8 @@ attribute-owner-requires c κs = search needs
 returns : tie.Need-returns
 returns c =
     let start = c .before .before .before in
-    let a = start .args in attribute-owner (a .w) (a .i) (a .attrs .now) (c .before .attribute-at .ensures) (c .attribute-owner .ensures)
+    let a = start .args in
+    attribute-owner (a .w) (a .i) (a .attrs .now) (c .before .attribute-at .ensures) (c .attribute-owner .ensures)
 
 pub owner-spec : {M : Type 1} → statement M
 owner-spec = tie.close (tie.spec attribute-at-requires attribute-owner-requires returns)

@@ -22,7 +22,8 @@ returns-2 c =
     let at-particle-depth-at = c .before .before in
     let start = at-particle-depth-at .before .before in
     let a = start .args in
-    sym (stands-far (a .n) (a .d) (particleRecordAt (a .i) (a .parts .now)) (drop (a .i + 1) (particlesRead (a .m) (a .parts .now))) (at-particle-depth-at .particle-depth-at .ensures) (c .before .if1 .left)
+    sym (stands-far (a .n) (a .d) (particleRecordAt (a .i) (a .parts .now)) (drop (a .i + 1) (particlesRead (a .m) (a .parts .now)))
+    (at-particle-depth-at .particle-depth-at .ensures) (c .before .if1 .left)
     (c .if2 .taken))
 
 add-members : tie.Need-add-members

@@ -18,7 +18,12 @@ row-count-requires : tie.Need-row-count-requires
 row-count-requires c κs = search needs
 
 returns : tie.Need-returns
-returns c = counts-of (c .before .before .before .before .before .args .store .now) _ _ _ _ (c .before .before .before .definition-count .ensures .value) (c .before .before .particle-count .ensures .value) (c .before .attribute-count .ensures .value) (c .row-count .ensures .value)
+returns c =
+    let at-particle-count = c .before .before in
+    let at-definition-count = at-particle-count .before in
+    let start = at-definition-count .before .before in
+    counts-of (start .args .store .now) _ _ _ _ (at-definition-count .definition-count .ensures .value) (at-particle-count .particle-count .ensures .value)
+    (c .before .attribute-count .ensures .value) (c .row-count .ensures .value)
 
 pub counts-fit-spec : {M : Type 1} → statement M
 counts-fit-spec =

@@ -28,9 +28,14 @@ is-sized-requires c κs = search needs
 
 returns : tie.Need-returns
 returns c =
-    let a = c .before .before .before .before .before .before .before .args in
-    header-of (a .w) (a .store .now) _ _ _ (c .before .before .before .through-definitions .ensures .value) (c .before .before .before .before .before .version-in .ensures .value) (c .before .before .before .before .next-serial .ensures .value)
-    (c .before .before .counts-fit .ensures) (c .before .offsets-fit .ensures) (c .is-sized .ensures)
+    let at-counts-fit = c .before .before in
+    let at-through-definitions = at-counts-fit .before in
+    let at-next-serial = at-through-definitions .before in
+    let at-version-in = at-next-serial .before in
+    let start = at-version-in .before .before in
+    let a = start .args in
+    header-of (a .w) (a .store .now) _ _ _ (at-through-definitions .through-definitions .ensures .value) (at-version-in .version-in .ensures .value) (at-next-serial .next-serial .ensures .value)
+    (at-counts-fit .counts-fit .ensures) (c .before .offsets-fit .ensures) (c .is-sized .ensures)
 
 pub header-fits-spec : {M : Type 1} → statement M
 header-fits-spec =

@@ -22,8 +22,13 @@ through-rows-requires c κs = search needs
 
 returns : tie.Need-returns
 returns c =
-    let a = c .before .before .before .before .before .before .args in
-    sized-of (a .w) (a .store .now) _ _ _ (c .before .before .before .before .definition-count .ensures .value) (c .before .before .before .particle-count .ensures .value) (c .before .before .attribute-count .ensures .value) _ _
+    let at-attribute-count = c .before .before in
+    let at-particle-count = at-attribute-count .before in
+    let at-definition-count = at-particle-count .before in
+    let start = at-definition-count .before .before in
+    let a = start .args in
+    sized-of (a .w) (a .store .now) _ _ _ (at-definition-count .definition-count .ensures .value) (at-particle-count .particle-count .ensures .value)
+    (at-attribute-count .attribute-count .ensures .value) _ _
     (c .before .row-count .ensures .value) (c .through-rows .ensures)
 
 pub is-sized-spec : {M : Type 1} → statement M

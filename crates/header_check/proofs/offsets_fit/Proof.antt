@@ -40,10 +40,22 @@ through-definitions-requires-2 c κs = search needs
 
 returns : tie.Need-returns
 returns c =
-    let a = c .before .before .before .before .before .before .before .before .before .before .before .before .args in
-    offsets-of (a .w) (a .store .now) _ _ _ (c .before .before .before .before .before .before .before .before .before .before .definition-count .ensures .value) (c .before .before .before .before .before .before .before .before .before .particle-count .ensures .value) (c .before .before .before .before .before .before .attribute-count .ensures .value)
-    (c .through-definitions2 .ensures) (c .before .before .before .before .before .before .before .before .through-definitions .ensures) (c .before .before .before .before .before .before .before .through-particles .ensures) (c .before .before .before .before .before .through-attributes .ensures)
-    _ _ _ _ (c .before .before .before .before .definition-offset .ensures .value) (c .before .before .before .particle-offset .ensures .value) (c .before .before .attribute-offset .ensures .value) (c .before .row-offset .ensures .value)
+    let at-attribute-offset = c .before .before in
+    let at-particle-offset = at-attribute-offset .before in
+    let at-definition-offset = at-particle-offset .before in
+    let at-through-attributes = at-definition-offset .before in
+    let at-attribute-count = at-through-attributes .before in
+    let at-through-particles = at-attribute-count .before in
+    let at-through-definitions = at-through-particles .before in
+    let at-particle-count = at-through-definitions .before in
+    let at-definition-count = at-particle-count .before in
+    let start = at-definition-count .before .before in
+    let a = start .args in
+    offsets-of (a .w) (a .store .now) _ _ _ (at-definition-count .definition-count .ensures .value) (at-particle-count .particle-count .ensures .value)
+    (at-attribute-count .attribute-count .ensures .value)
+    (c .through-definitions2 .ensures) (at-through-definitions .through-definitions .ensures) (at-through-particles .through-particles .ensures) (at-through-attributes .through-attributes .ensures)
+    _ _ _ _ (at-definition-offset .definition-offset .ensures .value) (at-particle-offset .particle-offset .ensures .value)
+    (at-attribute-offset .attribute-offset .ensures .value) (c .before .row-offset .ensures .value)
 
 pub offsets-fit-spec : {M : Type 1} → statement M
 offsets-fit-spec =

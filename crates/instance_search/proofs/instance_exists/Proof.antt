@@ -29,12 +29,14 @@ loop-holds : tie.Need-loop-holds Inv-loop μ-loop
 loop-holds c =
     let rows = c .before in
     let width = rows .before in
-    (c .row-count .ensures .small, searching-start readRow (rowSize (width .width-in .result)) (instanceRow (width .before .before .args .definition)) (rows .rows-of .result .now) _)
+    let start = width .before .before in
+    (c .row-count .ensures .small, searching-start readRow (rowSize (width .width-in .result)) (instanceRow (start .args .definition)) (rows .rows-of .result .now) _)
 
 row-at-requires : tie.Need-row-at-requires Inv-loop μ-loop
 row-at-requires c κs =
-    let l = c .before in
-    (l .before .before .before .width-in .ensures .small, omega (arith, l .loop .inv .0))
+    let at-loop = c .before in
+    let at-width-in = at-loop .before .before .before in
+    (at-width-in .width-in .ensures .small, omega (arith, at-loop .loop .inv .0))
 
 row-sort-requires : tie.Need-row-sort-requires Inv-loop μ-loop
 row-sort-requires c κs = search needs
@@ -44,14 +46,17 @@ row-index-requires c κs = search needs
 
 returns : tie.Need-returns Inv-loop μ-loop
 returns c =
-    let l = c .before .before .before .before .before in
-    let count = l .before in
+    let at-row-sort = c .before .before in
+    let at-row-at = at-row-sort .before in
+    let at-loop = at-row-at .before .before in
+    let count = at-loop .before in
     let rows = count .before in
     let width = rows .before in
-    let a = width .before .before .args in
+    let start = width .before .before in
+    let a = start .args in
     instances-any (a .store .now) (a .definition) (width .width-in .ensures) (count .row-count .ensures) (rows .rows-of .ensures)
-    (searching-hit readRow (rowSize (width .width-in .result)) (instanceRow (a .definition)) (rows .rows-of .result .now) _ _ (l .loop .inv .1) (omega arith)
-    (instance-row (a .definition) _ (c .before .before .before .row-at .ensures) (c .before .before .row-sort .ensures) (c .before .row-index .ensures)) (c .if1 .taken))
+    (searching-hit readRow (rowSize (width .width-in .result)) (instanceRow (a .definition)) (rows .rows-of .result .now) _ _ (at-loop .loop .inv .1) (omega arith)
+    (instance-row (a .definition) _ (at-row-at .row-at .ensures) (at-row-sort .row-sort .ensures) (c .before .row-index .ensures)) (c .if1 .taken))
 
 add-i : tie.Need-add-i Inv-loop μ-loop
 add-i c = search needs
@@ -61,24 +66,28 @@ loop-less c = search needs
 
 loop-again : tie.Need-loop-again Inv-loop μ-loop
 loop-again c =
-    let l = c .before .before .before .before .before in
-    let rows = l .before .before in
+    let at-row-sort = c .before .before in
+    let at-row-at = at-row-sort .before in
+    let at-loop = at-row-at .before .before in
+    let rows = at-loop .before .before in
     let width = rows .before in
-    let a = width .before .before .args in (
-      l .loop .inv .0,
-      searching-on readRow (rowSize (width .width-in .result)) (instanceRow (a .definition)) (rows .rows-of .result .now) _ _ (l .loop .inv .1) (omega arith)
-          (instance-row (a .definition) _ (c .before .before .before .row-at .ensures) (c .before .before .row-sort .ensures) (c .before .row-index .ensures)) (c .if1 .left),
+    let start = width .before .before in
+    let a = start .args in (
+      at-loop .loop .inv .0,
+      searching-on readRow (rowSize (width .width-in .result)) (instanceRow (a .definition)) (rows .rows-of .result .now) _ _ (at-loop .loop .inv .1) (omega arith)
+          (instance-row (a .definition) _ (at-row-at .row-at .ensures) (at-row-sort .row-sort .ensures) (c .before .row-index .ensures)) (c .if1 .left),
     )
 
 returns-2 : tie.Need-returns-2 Inv-loop μ-loop
 returns-2 c =
-    let l = c .before in
-    let count = l .before in
+    let at-loop = c .before in
+    let count = at-loop .before in
     let rows = count .before in
     let width = rows .before in
-    let a = width .before .before .args in
+    let start = width .before .before in
+    let a = start .args in
     instances-any (a .store .now) (a .definition) (width .width-in .ensures) (count .row-count .ensures) (rows .rows-of .ensures)
-    (searching-end readRow (rowSize (width .width-in .result)) (instanceRow (a .definition)) (rows .rows-of .result .now) _ _ (l .loop .inv .1) (omega arith))
+    (searching-end readRow (rowSize (width .width-in .result)) (instanceRow (a .definition)) (rows .rows-of .result .now) _ _ (at-loop .loop .inv .1) (omega arith))
 
 pub instance-exists-spec : {M : Type 1} → statement M
 instance-exists-spec =

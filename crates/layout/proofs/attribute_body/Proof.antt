@@ -26,7 +26,11 @@ window-requires c κs = search needs
 
 -- src/lib.rt:193:1
 returns : tie.Need-returns
-returns c = let a = c .before .before .before .before .before .args in attributes-window (a .s) (a .store .now) _ _ _ (c .before .before .before .attributes-start .ensures) (c .before .times .ensures) (c .window .ensures)
+returns c =
+    let at-attributes-start = c .before .before .before in
+    let start = at-attributes-start .before .before in
+    let a = start .args in
+    attributes-window (a .s) (a .store .now) _ _ _ (at-attributes-start .attributes-start .ensures) (c .before .times .ensures) (c .window .ensures)
 
 pub attribute-body-spec : {M : Type 1} → statement M
 attribute-body-spec =

@@ -23,7 +23,11 @@ window-requires c κs = search needs
 
 -- src/lib.rt:111:1
 returns : tie.Need-returns
-returns c = let s = c .before .before .before .before .args .rec .now in window-by s _ 2 _ _ (getD s 1 0) (c .before .before .byte .ensures) (c .before .wide .ensures) (c .window .ensures)
+returns c =
+    let at-byte = c .before .before in
+    let start = at-byte .before .before in
+    let s = start .args .rec .now in
+    window-by s _ 2 _ _ (getD s 1 0) (at-byte .byte .ensures) (c .before .wide .ensures) (c .window .ensures)
 
 pub attribute-name-spec : {M : Type 1} → statement M
 attribute-name-spec = tie.close (tie.spec byte-requires wide-requires window-requires returns)

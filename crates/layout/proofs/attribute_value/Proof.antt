@@ -22,7 +22,10 @@ window-requires c κs = search needs
 
 -- src/lib.rt:123:1
 returns : tie.Need-returns
-returns c = attribute-value-by (c .before .before .before .before .args .rec .now) _ _ _ (c .before .before .byte .ensures) (c .before .wide .ensures) (c .window .ensures)
+returns c =
+    let at-byte = c .before .before in
+    let start = at-byte .before .before in
+    attribute-value-by (start .args .rec .now) _ _ _ (at-byte .byte .ensures) (c .before .wide .ensures) (c .window .ensures)
 
 pub attribute-value-spec : {M : Type 1} → statement M
 attribute-value-spec = tie.close (tie.spec byte-requires wide-requires window-requires returns)

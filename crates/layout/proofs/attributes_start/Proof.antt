@@ -23,7 +23,9 @@ add-result-2 c = search needs
 
 -- src/lib.rt:168:1
 returns : tie.Need-returns
-returns c = attributes-place (c .before .before .args .s) (c .before .before .pre)
+returns c =
+    let start = c .before .before in
+    attributes-place (start .args .s) (start .pre)
 
 pub attributes-start-spec : {M : Type 1} → statement M
 attributes-start-spec =

@@ -13,7 +13,9 @@ get-u16-requires c κs = search needs
 
 -- src/lib.rt:79:1
 returns : tie.Need-returns
-returns c = c .get-u16 .ensures ∙ sym (number-after 17 1 2 (c .before .before .args .rec .now))
+returns c =
+    let start = c .before .before in
+    c .get-u16 .ensures ∙ sym (number-after 17 1 2 (start .args .rec .now))
 
 pub definition-particles-spec : {M : Type 1} → statement M
 definition-particles-spec = tie.close (tie.spec get-u16-requires returns)

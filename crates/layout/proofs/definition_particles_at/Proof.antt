@@ -17,7 +17,10 @@ get-u16-requires : tie.Need-get-u16-requires
 get-u16-requires c κs = search needs
 
 returns : tie.Need-returns
-returns c = let a = c .before .before .args in c .get-u16 .ensures ∙ particles-at (a .i) (a .defs .now)
+returns c =
+    let start = c .before .before in
+    let a = start .args in
+    c .get-u16 .ensures ∙ particles-at (a .i) (a .defs .now)
 
 pub definition-particles-at-spec : {M : Type 1} → statement M
 definition-particles-at-spec =

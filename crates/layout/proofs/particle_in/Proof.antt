@@ -28,7 +28,9 @@ window-requires : tie.Need-window-requires
 window-requires c κs = search needs
 
 returns : tie.Need-returns
-returns c = let a = c .before .before .before .args in
+returns c =
+    let start = c .before .before .before in
+    let a = start .args in
     c .window .ensures ∙ ap (λ (d : ℕ). windowOf (40 + 20 * d + 4 * a .i) 4 (a .store .now)) (c .before .definition-count .ensures .value)
 
 pub particle-in-spec : {M : Type 1} → statement M

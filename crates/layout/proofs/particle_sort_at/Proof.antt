@@ -19,7 +19,10 @@ wide-requires : tie.Need-wide-requires
 wide-requires c κs = search needs
 
 returns : tie.Need-returns
-returns c = let a = c .before .before .before .args in first-field-by particleSize (a .i) (a .parts .now) (omega arith) (c .before .byte .ensures) (c .wide .ensures)
+returns c =
+    let start = c .before .before .before in
+    let a = start .args in
+    first-field-by particleSize (a .i) (a .parts .now) (omega arith) (c .before .byte .ensures) (c .wide .ensures)
 
 pub particle-sort-at-spec : {M : Type 1} → statement M
 particle-sort-at-spec = tie.close (tie.spec mul-byte byte-requires wide-requires returns)

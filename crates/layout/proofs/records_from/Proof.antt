@@ -11,7 +11,9 @@ window-requires : tie.Need-window-requires
 window-requires c κs = search needs
 
 returns : tie.Need-returns
-returns c = records-rest (c .before .before .before .args .s .now) _ (c .before .before .before .args .size) (c .before .before .before .args .i) (c .before .times .result) (c .before .times .ensures) (c .window .ensures)
+returns c =
+    let start = c .before .before .before in
+    records-rest (start .args .s .now) _ (start .args .size) (start .args .i) (c .before .times .result) (c .before .times .ensures) (c .window .ensures)
 
 pub records-from-spec : {M : Type 1} → statement M
 records-from-spec = tie.close (tie.spec times-requires window-requires returns)

@@ -26,7 +26,11 @@ window-requires c κs = search needs
 
 -- src/lib.rt:202:1
 returns : tie.Need-returns
-returns c = let a = c .before .before .before .before .before .args in rows-window (a .s) (a .store .now) _ _ _ (c .before .before .before .rows-start .ensures) (c .before .times .ensures) (c .window .ensures)
+returns c =
+    let at-rows-start = c .before .before .before in
+    let start = at-rows-start .before .before in
+    let a = start .args in
+    rows-window (a .s) (a .store .now) _ _ _ (at-rows-start .rows-start .ensures) (c .before .times .ensures) (c .window .ensures)
 
 pub row-body-spec : {M : Type 1} → statement M
 row-body-spec =

@@ -17,7 +17,10 @@ get-u32-requires : tie.Need-get-u32-requires
 get-u32-requires c κs = search needs
 
 returns : tie.Need-returns
-returns c = let a = c .before .before .before .args in serial-placed (a .w) (a .i) _ (a .rows .now) (c .before .times .ensures) (c .get-u32 .ensures)
+returns c =
+    let start = c .before .before .before in
+    let a = start .args in
+    serial-placed (a .w) (a .i) _ (a .rows .now) (c .before .times .ensures) (c .get-u32 .ensures)
 
 pub row-serial-at-spec : {M : Type 1} → statement M
 row-serial-at-spec =

@@ -23,7 +23,11 @@ window-requires c κs = search needs
 
 -- src/lib.rt:89:1
 returns : tie.Need-returns
-returns c = let s = c .before .before .before .before .args .row .now in window-by s _ 10 _ _ (getD s 8 0) (c .before .before .byte .ensures) (c .before .wide .ensures) (c .window .ensures)
+returns c =
+    let at-byte = c .before .before in
+    let start = at-byte .before .before in
+    let s = start .args .row .now in
+    window-by s _ 10 _ _ (getD s 8 0) (at-byte .byte .ensures) (c .before .wide .ensures) (c .window .ensures)
 
 pub row-value-spec : {M : Type 1} → statement M
 row-value-spec = tie.close (tie.spec byte-requires wide-requires window-requires returns)

@@ -25,7 +25,10 @@ add-result c = search needs
 
 -- src/lib.rt:184:1
 returns : tie.Need-returns
-returns c = rows-place (c .before .before .before .args .s) _ _ (c .before .before .before .pre) (c .before .before .attributes-start .ensures) (c .times .ensures)
+returns c =
+    let at-attributes-start = c .before .before in
+    let start = at-attributes-start .before in
+    rows-place (start .args .s) _ _ (start .pre) (at-attributes-start .attributes-start .ensures) (c .times .ensures)
 
 pub rows-start-spec : {M : Type 1} → statement M
 rows-start-spec =

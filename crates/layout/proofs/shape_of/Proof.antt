@@ -37,7 +37,13 @@ row-count-requires c κs = search needs
 
 -- src/lib.rt:155:1
 returns : tie.Need-returns
-returns c = shaped (c .before .before .before .before .before .get-u32 .ensures) (c .before .before .before .before .width-of .ensures) (c .before .before .before .definition-count .ensures) (c .before .before .particle-count .ensures) (c .before .attribute-count .ensures) (c .row-count .ensures)
+returns c =
+    let at-particle-count = c .before .before in
+    let at-definition-count = at-particle-count .before in
+    let at-width-of = at-definition-count .before in
+    let at-get-u32 = at-width-of .before in
+    shaped (at-get-u32 .get-u32 .ensures) (at-width-of .width-of .ensures) (at-definition-count .definition-count .ensures)
+    (at-particle-count .particle-count .ensures) (c .before .attribute-count .ensures) (c .row-count .ensures)
 
 pub shape-of-spec : {M : Type 1} → statement M
 shape-of-spec =

@@ -22,7 +22,11 @@ add-result : tie.Need-add-result
 add-result c = search needs
 
 returns : tie.Need-returns
-returns c = let a = c .before .before .before .args in attributes-through (a .w) (a .n) (a .p) (a .a) _ _ _ (omega arith) (omega arith) (c .before .attribute-size .ensures) (c .before .before .through-particles .ensures) (c .times .ensures)
+returns c =
+    let at-through-particles = c .before .before in
+    let start = at-through-particles .before in
+    let a = start .args in
+    attributes-through (a .w) (a .n) (a .p) (a .a) _ _ _ (omega arith) (omega arith) (c .before .attribute-size .ensures) (at-through-particles .through-particles .ensures) (c .times .ensures)
 
 pub through-attributes-spec : {M : Type 1} → statement M
 through-attributes-spec =

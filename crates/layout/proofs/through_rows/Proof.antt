@@ -21,7 +21,11 @@ add-result : tie.Need-add-result
 add-result c = search needs
 
 returns : tie.Need-returns
-returns c = let a = c .before .before .before .args in rows-through (a .w) (a .n) (a .p) (a .a) _ _ _ (a .m) (c .before .row-size .ensures) (c .before .before .through-attributes .ensures) (c .times .ensures)
+returns c =
+    let at-through-attributes = c .before .before in
+    let start = at-through-attributes .before in
+    let a = start .args in
+    rows-through (a .w) (a .n) (a .p) (a .a) _ _ _ (a .m) (c .before .row-size .ensures) (at-through-attributes .through-attributes .ensures) (c .times .ensures)
 
 pub through-rows-spec : {M : Type 1} → statement M
 through-rows-spec =

@@ -22,7 +22,10 @@ byte-requires-3 : tie.Need-byte-requires-3
 byte-requires-3 c κs = search needs
 
 returns : tie.Need-returns
-returns c = unused-of (c .before .before .before .before .args .w) (c .before .before .before .before .args .rec .now) _ _ _ (c .before .before .byte .ensures) (c .before .byte2 .ensures) (c .byte3 .ensures)
+returns c =
+    let at-byte = c .before .before in
+    let start = at-byte .before .before in
+    unused-of (start .args .w) (start .args .rec .now) _ _ _ (at-byte .byte .ensures) (c .before .byte2 .ensures) (c .byte3 .ensures)
 
 pub unused-fit-spec : {M : Type 1} → statement M
 unused-fit-spec =

@@ -12,7 +12,10 @@ slice-aggregate-result c = search needs
 
 -- src/lib.rt:14:9
 returns : tie.Need-returns
-returns c = let a = c .before .before .args in window-past (a .s .now) (a .at) (a .n) (omega arith)
+returns c =
+    let start = c .before .before in
+    let a = start .args in
+    window-past (a .s .now) (a .at) (a .n) (omega arith)
 
 -- src/lib.rt:16:8
 sub-if2 : tie.Need-sub-if2
@@ -32,7 +35,10 @@ part-result-end c = search needs
 
 -- src/lib.rt:17:9
 returns-2 : tie.Need-returns-2
-returns-2 c = let a = c .before .before .before .args in window-short (a .s .now) (a .at) (a .n) (omega arith)
+returns-2 c =
+    let start = c .before .before .before in
+    let a = start .args in
+    window-short (a .s .now) (a .at) (a .n) (omega arith)
 
 -- src/lib.rt:19:15
 add-end : tie.Need-add-end
@@ -52,7 +58,10 @@ part-result-end-2 c = search needs
 
 -- src/lib.rt:10:1
 returns-3 : tie.Need-returns-3
-returns-3 c = let a = c .before .before .before .args in window-whole (a .s .now) (a .at) (a .n)
+returns-3 c =
+    let start = c .before .before .before in
+    let a = start .args in
+    window-whole (a .s .now) (a .at) (a .n)
 
 pub window-spec : {M : Type 1} → statement M
 window-spec =

@@ -15,13 +15,19 @@ put-row-start-requires : tie.Need-put-row-start-requires
 put-row-start-requires c κs = search needs
 
 put-row-end-requires : tie.Need-put-row-end-requires
-put-row-end-requires c κs = (c .before .before .before .before .before .before .before .pre .0, omega (arith, after-start _ _ _ _ (c .before .before .before .put-row-start .ensures)), omega arith)
+put-row-end-requires c κs =
+    let at-put-row-start = c .before .before .before in
+    let start = at-put-row-start .before .before .before .before in
+    (start .pre .0, omega (arith, after-start _ _ _ _ (at-put-row-start .put-row-start .ensures)), omega arith)
 
 same-length : tie.Need-same-length
 same-length c = search needs
 
 returns : tie.Need-returns
-returns c = row-laid (c .before .before .before .before .before .before .put-row-start .ensures) (c .before .before .put-row-end .ensures)
+returns c =
+    let at-put-row-end = c .before .before in
+    let at-put-row-start = at-put-row-end .before .before .before .before in
+    row-laid (at-put-row-start .put-row-start .ensures) (at-put-row-end .put-row-end .ensures)
 
 pub put-row-spec : {M : Type 1} → statement M
 put-row-spec =

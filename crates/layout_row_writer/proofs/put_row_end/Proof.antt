@@ -25,13 +25,23 @@ sub-put-zeros : tie.Need-sub-put-zeros
 sub-put-zeros c = search needs
 
 put-zeros-requires : tie.Need-put-zeros-requires
-put-zeros-requires c κs = omega (arith, c .before .before .before .put .ensures .next)
+put-zeros-requires c κs =
+    let at-put = c .before .before .before in
+    omega (arith, at-put .put .ensures .next)
 
 same-length : tie.Need-same-length
 same-length c = search needs
 
 returns : tie.Need-returns
-returns c = let a = c .before .before .before .before .before .before .before .before .before .before .before .before .before .before .before .before .before .before .args in laid-as (end-is (a .w) (a .value .now) (omega arith)) (laid-then (laid-then (laid-then (c .before .before .before .before .before .before .before .before .before .before .before .before .before .before .put-u8 .ensures) (c .before .before .before .before .before .before .before .before .before .before .put-u82 .ensures)) (c .before .before .before .before .before .before .put .ensures)) (c .before .before .put-zeros .ensures))
+returns c =
+    let at-put-zeros = c .before .before in
+    let at-put = at-put-zeros .before .before .before .before in
+    let at-put-u82 = at-put .before .before .before .before in
+    let at-put-u8 = at-put-u82 .before .before .before .before in
+    let start = at-put-u8 .before .before .before .before in
+    let a = start .args in
+    laid-as (end-is (a .w) (a .value .now) (omega arith))
+    (laid-then (laid-then (laid-then (at-put-u8 .put-u8 .ensures) (at-put-u82 .put-u82 .ensures)) (at-put .put .ensures)) (at-put-zeros .put-zeros .ensures))
 
 pub put-row-end-spec : {M : Type 1} → statement M
 put-row-end-spec =

@@ -25,10 +25,17 @@ same-length : tie.Need-same-length
 same-length c = search needs
 
 returns : tie.Need-returns
-returns c = let s = c .before .before .before .before .before .before .before .before in kept-laid (s .pre .1) (s .args .index) (sym (c .before .before .before .before .before .row-index .ensures) ∙ c .before .before .before .before .if1 .taken) (c .before .before .put .ensures)
+returns c =
+    let at-put = c .before .before in
+    let at-if1 = at-put .before .before in
+    let at-row-index = at-if1 .before in
+    let start = at-row-index .before .before .before in
+    kept-laid (start .pre .1) (start .args .index) (sym (at-row-index .row-index .ensures) ∙ at-if1 .if1 .taken) (at-put .put .ensures)
 
 put-row-index-requires : tie.Need-put-row-index-requires
-put-row-index-requires c κs = (omega arith, omega arith, omega (arith, row-length (c .before .before .before .before .before .pre .1)))
+put-row-index-requires c κs =
+    let start = c .before .before .before .before .before in
+    (omega arith, omega arith, omega (arith, row-length (start .pre .1)))
 
 add-end : tie.Need-add-end
 add-end c = search needs
@@ -40,18 +47,25 @@ part-put-start : tie.Need-part-put-start
 part-put-start c = search needs
 
 part-put-end : tie.Need-part-put-end
-part-put-end c = omega (arith, row-length (c .before .before .before .before .before .before .before .before .pre .1))
+part-put-end c =
+    let start = c .before .before .before .before .before .before .before .before in
+    omega (arith, row-length (start .pre .1))
 
 put-requires-2 : tie.Need-put-requires-2
 put-requires-2 c κs =
-    let s = c .before .before .before .before .before .before .before .before .before .before in
-    omega (arith, after-index (s .pre .1) (s .args .index) (c .before .before .before .before .put-row-index .ensures), part-length (s .pre .1) 4 (12 + s .args .w - 4) (omega arith))
+    let at-put-row-index = c .before .before .before .before in
+    let start = at-put-row-index .before .before .before .before .before .before in
+    omega (arith, after-index (start .pre .1) (start .args .index) (at-put-row-index .put-row-index .ensures), part-length (start .pre .1) 4 (12 + start .args .w - 4) (omega arith))
 
 same-length-2 : tie.Need-same-length-2
 same-length-2 c = search needs
 
 returns-2 : tie.Need-returns-2
-returns-2 c = let s = c .before .before .before .before .before .before .before .before .before .before .before .before .before in moved-laid (s .pre .1) (s .args .index) (c .before .before .before .before .before .before .before .put-row-index .ensures) (c .before .before .put2 .ensures)
+returns-2 c =
+    let at-put2 = c .before .before in
+    let at-put-row-index = at-put2 .before .before .before .before .before in
+    let start = at-put-row-index .before .before .before .before .before .before in
+    moved-laid (start .pre .1) (start .args .index) (at-put-row-index .put-row-index .ensures) (at-put2 .put2 .ensures)
 
 pub put-row-moved-spec : {M : Type 1} → statement M
 put-row-moved-spec =

@@ -24,7 +24,16 @@ same-length : tie.Need-same-length
 same-length c = search needs
 
 returns : tie.Need-returns
-returns c = let a = c .before .before .before .before .before .before .before .before .before .before .before .before .before .before .before .before .before .args in laid-as (start-is (a .sort) (a .depth) (a .index) (a .serial)) (laid-then (laid-then (laid-then (c .before .before .before .before .before .before .before .before .before .before .before .before .before .before .put-u8 .ensures) (c .before .before .before .before .before .before .before .before .before .before .put-u82 .ensures)) (c .before .before .before .before .before .before .put-u16 .ensures)) (c .before .before .put-u32 .ensures))
+returns c =
+    let at-put-u32 = c .before .before in
+    let at-put-u16 = at-put-u32 .before .before .before .before in
+    let at-put-u82 = at-put-u16 .before .before .before .before in
+    let at-put-u8 = at-put-u82 .before .before .before .before in
+    let start = at-put-u8 .before .before .before in
+    let a = start .args in
+    laid-as (start-is (a .sort) (a .depth) (a .index) (a .serial))
+    (laid-then (laid-then (laid-then (at-put-u8 .put-u8 .ensures) (at-put-u82 .put-u82 .ensures)) (at-put-u16 .put-u16 .ensures))
+    (at-put-u32 .put-u32 .ensures))
 
 pub put-row-start-spec : {M : Type 1} → statement M
 put-row-start-spec =

@@ -35,13 +35,19 @@ loop-less : tie.Need-loop-less Inv-loop μ-loop
 loop-less c = omega arith
 
 loop-again : tie.Need-loop-again Inv-loop μ-loop
-loop-again c = let l = c .before in (zeros-step (l .loop .out) _ (l .loop .i) _ (omega arith) (l .loop .inv .0), simp length-set (l .loop .inv .1))
+loop-again c =
+    let at-loop = c .before in
+    (zeros-step (at-loop .loop .out) _ (at-loop .loop .i) _ (omega arith) (at-loop .loop .inv .0), simp length-set (at-loop .loop .inv .1))
 
 same-length : tie.Need-same-length Inv-loop μ-loop
 same-length c = c .before .loop .inv .1
 
 returns : tie.Need-returns Inv-loop μ-loop
-returns c = let l = c .before in let a = l .before .before .before .args in zeros-laid (a .out .now) (l .loop .out) (a .at) (a .n) (l .loop .i) (omega arith) (l .loop .inv .0)
+returns c =
+    let at-loop = c .before in
+    let start = at-loop .before .before .before in
+    let a = start .args in
+    zeros-laid (a .out .now) (at-loop .loop .out) (a .at) (a .n) (at-loop .loop .i) (omega arith) (at-loop .loop .inv .0)
 
 pub put-zeros-spec : {M : Type 1} → statement M
 put-zeros-spec =

@@ -13,16 +13,41 @@ put-value-requires : tie.Need-put-value-requires
 put-value-requires c κs = search needs
 
 put-u8-requires-2 : tie.Need-put-u8-requires-2
-put-u8-requires-2 c κs = omega (arith, c .before .before .before .before .before .before .before .put-u8 .ensures .next, c .before .before .before .put-value .ensures .next, length-field 16 (c .before .before .before .before .before .before .before .before .before .before .before .before .args .name .now))
+put-u8-requires-2 c κs =
+    let at-put-value = c .before .before .before in
+    let at-put-u8 = at-put-value .before .before .before .before in
+    let start = at-put-u8 .before .before .before .before .before in
+    omega (arith, at-put-u8 .put-u8 .ensures .next, at-put-value .put-value .ensures .next, length-field 16 (start .args .name .now))
 
 put-value-requires-2 : tie.Need-put-value-requires-2
-put-value-requires-2 c κs = (c .before .before .before .before .before .before .before .before .before .before .before .before .before .before .before .before .pre .0, c .before .before .before .before .before .before .before .before .before .before .before .before .before .before .before .before .pre .2, omega (arith, c .before .before .before .before .before .before .before .before .before .before .before .put-u8 .ensures .next, c .before .before .before .before .before .before .before .put-value .ensures .next, c .before .before .before .put-u82 .ensures .next, length-field 16 (c .before .before .before .before .before .before .before .before .before .before .before .before .before .before .before .before .args .name .now)))
+put-value-requires-2 c κs =
+    let at-put-u82 = c .before .before .before in
+    let at-put-value = at-put-u82 .before .before .before .before in
+    let at-put-u8 = at-put-value .before .before .before .before in
+    let start = at-put-u8 .before .before .before .before .before in (
+      start .pre .0,
+      start .pre .2,
+      omega (
+        arith,
+        at-put-u8 .put-u8 .ensures .next,
+        at-put-value .put-value .ensures .next,
+        at-put-u82 .put-u82 .ensures .next,
+        length-field 16 (start .args .name .now),
+      ),
+    )
 
 same-length : tie.Need-same-length
 same-length c = search needs
 
 returns : tie.Need-returns
-returns c = attribute-laid (c .before .before .before .before .before .before .before .before .before .before .before .before .before .before .before .before .before .before .before .args .w) (c .before .before .before .before .before .before .before .before .before .before .before .before .before .before .before .before .before .before .before .args .owner) (c .before .before .before .before .before .before .before .before .before .before .before .before .before .before .before .before .before .before .before .args .name .now) (c .before .before .before .before .before .before .before .before .before .before .before .before .before .before .before .before .before .before .before .args .sort) (c .before .before .before .before .before .before .before .before .before .before .before .before .before .before .before .before .before .before .before .args .value .now) (c .before .before .before .before .before .before .before .before .before .before .before .before .before .before .put-u8 .ensures) (c .before .before .before .before .before .before .before .before .before .before .put-value .ensures) (c .before .before .before .before .before .before .put-u82 .ensures) (c .before .before .put-value2 .ensures)
+returns c =
+    let at-put-value2 = c .before .before in
+    let at-put-u82 = at-put-value2 .before .before .before .before in
+    let at-put-value = at-put-u82 .before .before .before .before in
+    let at-put-u8 = at-put-value .before .before .before .before in
+    let start = at-put-u8 .before .before .before .before .before in
+    attribute-laid (start .args .w) (start .args .owner) (start .args .name .now) (start .args .sort) (start .args .value .now) (at-put-u8 .put-u8 .ensures)
+    (at-put-value .put-value .ensures) (at-put-u82 .put-u82 .ensures) (at-put-value2 .put-value2 .ensures)
 
 pub put-attribute-spec : {M : Type 1} → statement M
 put-attribute-spec =

@@ -21,7 +21,13 @@ same-length : tie.Need-same-length
 same-length c = search needs
 
 returns : tie.Need-returns
-returns c = let a = c .before .before .before .before .before .before .before .before .before .before .before .args in owned-laid (a .w) (a .rec .now) (a .owner) (omega arith) (c .before .before .before .before .window .ensures) (c .before .before .before .before .before .before .before .put-u8 .ensures) (c .before .before .put .ensures)
+returns c =
+    let at-put = c .before .before in
+    let at-window = at-put .before .before in
+    let at-put-u8 = at-window .before .before .before in
+    let start = at-put-u8 .before .before .before .before in
+    let a = start .args in
+    owned-laid (a .w) (a .rec .now) (a .owner) (omega arith) (at-window .window .ensures) (at-put-u8 .put-u8 .ensures) (at-put .put .ensures)
 
 pub put-attribute-moved-spec : {M : Type 1} → statement M
 put-attribute-moved-spec =

@@ -24,26 +24,40 @@ put-entry-requires-3 : tie.Need-put-entry-requires-3
 put-entry-requires-3 c κs = search needs
 
 put-entry-requires-4 : tie.Need-put-entry-requires-4
-put-entry-requires-4 c κs = let start = c .before .before .before .before .before .before .before .before .before .before .before .before .before .before .before .before .before in
+put-entry-requires-4 c κs =
+    let at-put-entry3 = c .before .before .before in
+    let at-put-entry2 = at-put-entry3 .before .before .before .before in
+    let at-put-entry = at-put-entry2 .before .before .before .before in
+    let at-through-attributes = at-put-entry .before .before in
+    let start = at-through-attributes .before .before .before .before in
     let a = start .args in
-    let low = place-low (a .w) (a .d) (a .p) (a .a) (start .pre .0) (start .pre .1) (start .pre .2) (start .pre .3) (c .before .before .before .before .before .before .before .before .before .before .before .before .before .through-attributes .ensures) in
-    (low, start .pre .4, omega (arith, c .before .before .before .before .before .before .before .before .before .before .before .put-entry .ensures .next, c .before .before .before .before .before .before .before .put-entry2 .ensures .next, c .before .before .before .put-entry3 .ensures .next))
+    let low = place-low (a .w) (a .d) (a .p) (a .a) (start .pre .0) (start .pre .1) (start .pre .2) (start .pre .3) (at-through-attributes .through-attributes .ensures) in
+    (low, start .pre .4, omega (arith, at-put-entry .put-entry .ensures .next, at-put-entry2 .put-entry2 .ensures .next, at-put-entry3 .put-entry3 .ensures .next))
 
 same-length : tie.Need-same-length
 same-length c = search needs
 
 returns : tie.Need-returns
-returns c = let a = c .before .before .before .before .before .before .before .before .before .before .before .before .before .before .before .before .before .before .before .before .args in
+returns c =
+    let at-put-entry4 = c .before .before in
+    let at-put-entry3 = at-put-entry4 .before .before .before .before in
+    let at-put-entry2 = at-put-entry3 .before .before .before .before in
+    let at-put-entry = at-put-entry2 .before .before .before .before in
+    let at-through-attributes = at-put-entry .before .before in
+    let at-through-particles = at-through-attributes .before in
+    let at-through-definitions = at-through-particles .before in
+    let start = at-through-definitions .before .before in
+    let a = start .args in
     contents-laid
     (a .w)
     (a .d)
     (a .p)
     (a .a)
     (a .r)
-    (c .before .before .before .before .before .before .before .before .before .before .before .before .before .before .put-entry .ensures)
-    (place-as (a .p) (c .before .before .before .before .before .before .before .before .before .before .before .before .before .before .before .before .before .before .through-definitions .ensures) (c .before .before .before .before .before .before .before .before .before .before .put-entry2 .ensures))
-    (place-as (a .a) (c .before .before .before .before .before .before .before .before .before .before .before .before .before .before .before .before .before .through-particles .ensures) (c .before .before .before .before .before .before .put-entry3 .ensures))
-    (place-as (a .r) (c .before .before .before .before .before .before .before .before .before .before .before .before .before .before .before .before .through-attributes .ensures) (c .before .before .put-entry4 .ensures))
+    (at-put-entry .put-entry .ensures)
+    (place-as (a .p) (at-through-definitions .through-definitions .ensures) (at-put-entry2 .put-entry2 .ensures))
+    (place-as (a .a) (at-through-particles .through-particles .ensures) (at-put-entry3 .put-entry3 .ensures))
+    (place-as (a .r) (at-through-attributes .through-attributes .ensures) (at-put-entry4 .put-entry4 .ensures))
 
 pub put-contents-spec : {M : Type 1} → statement M
 put-contents-spec =

@@ -32,14 +32,35 @@ window-requires-2 : tie.Need-window-requires-2
 window-requires-2 c κs = search needs
 
 put-requires-2 : tie.Need-put-requires-2
-put-requires-2 c κs = let a = c .before .before .before .before .before .before .before .before .before .before .before .before .before in omega (arith, a .pre .0, a .pre .1, c .before .before .before .before .before .before .before .before .put .ensures .next, c .before .before .before .before .put-u16 .ensures .next, length-cut (a .args .defs .now) _ 0 (20 * a .args .o + 18) (c .before .before .before .before .before .before .before .before .before .before .window .ensures), length-cut (a .args .defs .now) _ (20 * a .args .o + 18 + 2) (length (a .args .defs .now)) (c .before .window2 .ensures))
+put-requires-2 c κs =
+    let at-put-u16 = c .before .before .before .before in
+    let at-put = at-put-u16 .before .before .before .before in
+    let at-window = at-put .before .before in
+    let start = at-window .before .before .before in
+    omega (
+      arith,
+      start .pre .0,
+      start .pre .1,
+      at-put .put .ensures .next,
+      at-put-u16 .put-u16 .ensures .next,
+      length-cut (start .args .defs .now) _ 0 (20 * start .args .o + 18) (at-window .window .ensures),
+      length-cut (start .args .defs .now) _ (20 * start .args .o + 18 + 2) (length (start .args .defs .now)) (c .before .window2 .ensures),
+    )
 
 same-length : tie.Need-same-length
 same-length c = search needs
 
 returns : tie.Need-returns
-returns c = let a = c .before .before .before .before .before .before .before .before .before .before .before .before .before .before .before .before .args in
-    laid-then (laid-as (sym (c .before .before .before .before .before .before .before .before .before .before .before .before .before .window .ensures)) (c .before .before .before .before .before .before .before .before .before .before .before .put .ensures)) (laid-then (c .before .before .before .before .before .before .before .put-u16 .ensures) (laid-as (rest-counted (a .o) (a .defs .now) (c .before .before .before .before .window2 .ensures)) (c .before .before .put2 .ensures)))
+returns c =
+    let at-put2 = c .before .before in
+    let at-window2 = at-put2 .before .before in
+    let at-put-u16 = at-window2 .before .before .before in
+    let at-put = at-put-u16 .before .before .before .before in
+    let at-window = at-put .before .before in
+    let start = at-window .before .before .before in
+    let a = start .args in
+    laid-then (laid-as (sym (at-window .window .ensures)) (at-put .put .ensures))
+    (laid-then (at-put-u16 .put-u16 .ensures) (laid-as (rest-counted (a .o) (a .defs .now) (at-window2 .window2 .ensures)) (at-put2 .put2 .ensures)))
 
 pub put-counted-spec : {M : Type 1} → statement M
 put-counted-spec =

@@ -10,16 +10,28 @@ put-value-requires : tie.Need-put-value-requires
 put-value-requires c κs = search needs
 
 put-u8-requires : tie.Need-put-u8-requires
-put-u8-requires c κs = omega (arith, c .before .before .before .put-value .ensures .next, length-field 16 (c .before .before .before .before .before .before .before .args .name .now))
+put-u8-requires c κs =
+    let at-put-value = c .before .before .before in
+    let start = at-put-value .before .before .before .before in
+    omega (arith, at-put-value .put-value .ensures .next, length-field 16 (start .args .name .now))
 
 put-u16-requires : tie.Need-put-u16-requires
-put-u16-requires c κs = omega (arith, c .before .before .before .before .before .before .before .put-value .ensures .next, length-field 16 (c .before .before .before .before .before .before .before .before .before .before .before .args .name .now), c .before .before .before .put-u8 .ensures .next)
+put-u16-requires c κs =
+    let at-put-u8 = c .before .before .before in
+    let at-put-value = at-put-u8 .before .before .before .before in
+    let start = at-put-value .before .before .before .before in
+    omega (arith, at-put-value .put-value .ensures .next, length-field 16 (start .args .name .now), at-put-u8 .put-u8 .ensures .next)
 
 same-length : tie.Need-same-length
 same-length c = search needs
 
 returns : tie.Need-returns
-returns c = definition-laid (c .before .before .before .before .before .before .before .before .before .before .before .before .before .before .args .name .now) (c .before .before .before .before .before .before .before .before .before .before .before .before .before .before .args .kind) (c .before .before .before .before .before .before .before .before .before .before .before .before .before .before .args .particles) (c .before .before .before .before .before .before .before .before .before .before .put-value .ensures) (c .before .before .before .before .before .before .put-u8 .ensures) (c .before .before .put-u16 .ensures)
+returns c =
+    let at-put-u16 = c .before .before in
+    let at-put-u8 = at-put-u16 .before .before .before .before in
+    let at-put-value = at-put-u8 .before .before .before .before in
+    let start = at-put-value .before .before .before .before in
+    definition-laid (start .args .name .now) (start .args .kind) (start .args .particles) (at-put-value .put-value .ensures) (at-put-u8 .put-u8 .ensures) (at-put-u16 .put-u16 .ensures)
 
 pub put-definition-spec : {M : Type 1} → statement M
 put-definition-spec =

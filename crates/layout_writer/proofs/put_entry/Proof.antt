@@ -19,7 +19,10 @@ same-length : tie.Need-same-length
 same-length c = search needs
 
 returns : tie.Need-returns
-returns c = laid-then (c .before .before .before .before .before .before .put-u32 .ensures) (c .before .before .put-u322 .ensures)
+returns c =
+    let at-put-u322 = c .before .before in
+    let at-put-u32 = at-put-u322 .before .before .before .before in
+    laid-then (at-put-u32 .put-u32 .ensures) (at-put-u322 .put-u322 .ensures)
 
 pub put-entry-spec : {M : Type 1} → statement M
 put-entry-spec = tie.close (tie.spec cast-put-u32 put-u32-requires cast-put-u32-2 put-u32-requires-2 same-length returns)

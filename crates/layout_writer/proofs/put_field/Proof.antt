@@ -19,7 +19,12 @@ same-length : tie.Need-same-length
 same-length c = search needs
 
 returns : tie.Need-returns
-returns c = let a = c .before .before .before .before .before .before .before .before .before .before .args in laid-as (field-is (a .width) (a .s .now) (omega arith)) (laid-then (c .before .before .before .before .before .before .put .ensures) (c .before .before .put-zeros .ensures))
+returns c =
+    let at-put-zeros = c .before .before in
+    let at-put = at-put-zeros .before .before .before .before in
+    let start = at-put .before .before .before .before in
+    let a = start .args in
+    laid-as (field-is (a .width) (a .s .now) (omega arith)) (laid-then (at-put .put .ensures) (at-put-zeros .put-zeros .ensures))
 
 pub put-field-spec : {M : Type 1} → statement M
 put-field-spec =

@@ -20,14 +20,36 @@ put-u32-requires : tie.Need-put-u32-requires
 put-u32-requires c κs = search needs
 
 put-contents-requires : tie.Need-put-contents-requires
-put-contents-requires c κs = let start = c .before .before .before .before .before .before .before .before .before .before .before .before in
-    (start .pre .0, start .pre .2, start .pre .3, start .pre .4, start .pre .5, omega (arith, c .before .before .before .put-u32 .ensures .next, c .before .before .before .before .before .before .before .put .ensures .next, ap length (c .before .before .before .before .before .before .before .before .before .window .ensures), length-take 4 (start .args .store .now)))
+put-contents-requires c κs =
+    let at-put-u32 = c .before .before .before in
+    let at-put = at-put-u32 .before .before .before .before in
+    let at-window = at-put .before .before in
+    let start = at-window .before .before .before in (
+      start .pre .0,
+      start .pre .2,
+      start .pre .3,
+      start .pre .4,
+      start .pre .5,
+      omega (
+        arith,
+        at-put-u32 .put-u32 .ensures .next,
+        at-put .put .ensures .next,
+        ap length (at-window .window .ensures),
+        length-take 4 (start .args .store .now),
+      ),
+    )
 
 same-length : tie.Need-same-length
 same-length c = search needs
 
 returns : tie.Need-returns
-returns c = let a = c .before .before .before .before .before .before .before .before .before .before .before .before .before .before .before .args in
+returns c =
+    let at-put-contents = c .before .before in
+    let at-put-u32 = at-put-contents .before .before .before .before in
+    let at-put = at-put-u32 .before .before .before .before in
+    let at-window = at-put .before .before in
+    let start = at-window .before .before .before in
+    let a = start .args in
     header-laid
     (a .w)
     (a .next)
@@ -36,10 +58,10 @@ returns c = let a = c .before .before .before .before .before .before .before .b
     (a .a)
     (a .r)
     (a .store .now)
-    (c .before .before .before .before .before .before .before .before .before .before .before .before .window .ensures)
-    (c .before .before .before .before .before .before .before .before .before .before .put .ensures)
-    (c .before .before .before .before .before .before .put-u32 .ensures)
-    (c .before .before .put-contents .ensures)
+    (at-window .window .ensures)
+    (at-put .put .ensures)
+    (at-put-u32 .put-u32 .ensures)
+    (at-put-contents .put-contents .ensures)
 
 pub put-header-spec : {M : Type 1} → statement M
 put-header-spec =

@@ -20,7 +20,12 @@ same-length : tie.Need-same-length
 same-length c = search needs
 
 returns : tie.Need-returns
-returns c = laid-then (laid-then (laid-then (c .before .before .before .before .before .before .before .before .before .before .before .before .before .before .put-u8 .ensures) (c .before .before .before .before .before .before .before .before .before .before .put-u82 .ensures)) (c .before .before .before .before .before .before .put-u83 .ensures)) (c .before .before .put-u84 .ensures)
+returns c =
+    let at-put-u84 = c .before .before in
+    let at-put-u83 = at-put-u84 .before .before .before .before in
+    let at-put-u82 = at-put-u83 .before .before .before .before in
+    let at-put-u8 = at-put-u82 .before .before .before .before in
+    laid-then (laid-then (laid-then (at-put-u8 .put-u8 .ensures) (at-put-u82 .put-u82 .ensures)) (at-put-u83 .put-u83 .ensures)) (at-put-u84 .put-u84 .ensures)
 
 pub put-particle-spec : {M : Type 1} → statement M
 put-particle-spec =

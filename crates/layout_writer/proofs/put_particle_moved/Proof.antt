@@ -23,7 +23,15 @@ same-length : tie.Need-same-length
 same-length c = search needs
 
 returns : tie.Need-returns
-returns c = indexed-laid (c .before .before .before .before .before .before .before .before .before .before .before .before .before .before .before .before .args .rec .now) (c .before .before .before .before .before .before .before .before .before .before .before .before .before .before .before .before .args .index) (c .before .before .before .before .before .before .before .before .before .before .before .before .before .particle-depth .result) (c .before .before .before .before .before .before .before .before .before .before .before .before .before .particle-depth .ensures) (c .before .before .before .before .before .before .before .before .before .before .before .before .window .ensures) (c .before .before .before .before .before .before .before .before .before .before .put .ensures) (c .before .before .before .before .before .before .put-u8 .ensures) (c .before .before .put-u82 .ensures)
+returns c =
+    let at-put-u82 = c .before .before in
+    let at-put-u8 = at-put-u82 .before .before .before .before in
+    let at-put = at-put-u8 .before .before .before .before in
+    let at-window = at-put .before .before in
+    let at-particle-depth = at-window .before in
+    let start = at-particle-depth .before .before .before in
+    indexed-laid (start .args .rec .now) (start .args .index) (at-particle-depth .particle-depth .result) (at-particle-depth .particle-depth .ensures)
+    (at-window .window .ensures) (at-put .put .ensures) (at-put-u8 .put-u8 .ensures) (at-put-u82 .put-u82 .ensures)
 
 pub put-particle-moved-spec : {M : Type 1} → statement M
 put-particle-moved-spec =

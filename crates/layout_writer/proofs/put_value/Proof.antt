@@ -17,7 +17,11 @@ same-length : tie.Need-same-length
 same-length c = search needs
 
 returns : tie.Need-returns
-returns c = value-laid (c .before .before .before .before .before .before .before .before .before .before .args .width) (c .before .before .before .before .before .before .before .before .before .before .args .s .now) (c .before .before .before .before .before .before .put-u8 .ensures) (c .before .before .put-field .ensures)
+returns c =
+    let at-put-field = c .before .before in
+    let at-put-u8 = at-put-field .before .before .before .before in
+    let start = at-put-u8 .before .before .before .before in
+    value-laid (start .args .width) (start .args .s .now) (at-put-u8 .put-u8 .ensures) (at-put-field .put-field .ensures)
 
 pub put-value-spec : {M : Type 1} → statement M
 put-value-spec =

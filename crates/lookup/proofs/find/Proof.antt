@@ -36,7 +36,9 @@ row-count-requires : tie.Need-row-count-requires Inv-loop μ-loop
 row-count-requires c κs = search needs
 
 loop-holds : tie.Need-loop-holds Inv-loop μ-loop
-loop-holds c = (seek-start _ _ _ (c .row-count .ensures .value), record { width = c .before .before .width-in .ensures; body = c .before .rows-of .ensures }, c .row-count .ensures .small)
+loop-holds c =
+    let at-width-in = c .before .before in
+    (seek-start _ _ _ (c .row-count .ensures .value), record { width = at-width-in .width-in .ensures; body = c .before .rows-of .ensures }, c .row-count .ensures .small)
 
 row-at-requires : tie.Need-row-at-requires Inv-loop μ-loop
 row-at-requires c κs = let at-loop = c .before in (at-loop .loop .inv .1 .width .small, omega (arith, at-loop .loop .inv .2))
@@ -45,13 +47,18 @@ row-serial-requires : tie.Need-row-serial-requires Inv-loop μ-loop
 row-serial-requires c κs = search needs
 
 found-at-requires : tie.Need-found-at-requires Inv-loop μ-loop
-found-at-requires c κs = let at-loop = c .before .before .before .before in omega (arith, at-loop .loop .inv .2)
+found-at-requires c κs = let at-loop = c .before .before .before .before in
+    omega (arith, at-loop .loop .inv .2)
 
 returns : tie.Need-returns Inv-loop μ-loop
-returns c = let at-loop = c .before .before .before .before .before in
-    let a = at-loop .before .before .before .before .before .args in
-    let row = row-of (at-loop .loop .i) (at-loop .loop .inv .1) (c .before .before .before .row-at .ensures) in
-    let e = c .before .before .row-serial .ensures ∙ ap (λ (b : List ℕ). readRow b .row .serial) row in
+returns c =
+    let at-row-serial = c .before .before in
+    let at-row-at = at-row-serial .before in
+    let at-loop = at-row-at .before .before in
+    let start = at-loop .before .before .before .before .before in
+    let a = start .args in
+    let row = row-of (at-loop .loop .i) (at-loop .loop .inv .1) (at-row-at .row-at .ensures) in
+    let e = at-row-serial .row-serial .ensures ∙ ap (λ (b : List ℕ). readRow b .row .serial) row in
     subst (λ (f : ValueFound). Looks f (c .found-at .result .number) (c .found-at .result .start) (c .found-at .result .length))
     (seek-hit (a .store .now) (a .serial) _ (at-loop .loop .i) (at-loop .loop .inv .0) (omega arith) (sym e ∙ c .before .if1 .taken))
     (c .found-at .ensures)
@@ -63,9 +70,12 @@ loop-less : tie.Need-loop-less Inv-loop μ-loop
 loop-less c = search needs
 
 loop-again : tie.Need-loop-again Inv-loop μ-loop
-loop-again c = let at-loop = c .before .before .before .before in
-    let a = at-loop .before .before .before .before .before .args in
-    let row = row-of (at-loop .loop .i) (at-loop .loop .inv .1) (c .before .before .row-at .ensures) in
+loop-again c =
+    let at-row-at = c .before .before in
+    let at-loop = at-row-at .before .before in
+    let start = at-loop .before .before .before .before .before in
+    let a = start .args in
+    let row = row-of (at-loop .loop .i) (at-loop .loop .inv .1) (at-row-at .row-at .ensures) in
     let e = c .before .row-serial .ensures ∙ ap (λ (b : List ℕ). readRow b .row .serial) row in
     (seek-past (a .store .now) (a .serial) _ (at-loop .loop .i) (at-loop .loop .inv .0) (omega arith) (λ g. c .if1 .left (e ∙ g)), at-loop .loop .inv .1, at-loop .loop .inv .2)
 

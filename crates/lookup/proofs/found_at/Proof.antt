@@ -24,8 +24,10 @@ row-sort-requires : tie.Need-row-sort-requires
 row-sort-requires c κs = search needs
 
 returns : tie.Need-returns
-returns c = let a = c .before .before .before .before .args in
+returns c =
     let at-row = c .before .before in
+    let start = at-row .before .before in
+    let a = start .args in
     let sort : c .before .row-sort .result ≡ readRow (rowPart (a .store .now) (a .i)) .row .sort = c .before .row-sort .ensures ∙ ap (λ (l : List ℕ). readRow l .row .sort) (at-row .row .ensures) in
     found-element (a .store .now) (a .i) (sym sort ∙ c .if1 .taken)
 
@@ -39,14 +41,19 @@ value-place-requires : tie.Need-value-place-requires
 value-place-requires c κs = omega (arith, c .row-place .ensures .small)
 
 returns-2 : tie.Need-returns-2
-returns-2 c = let at-sort = c .before .before .before .before in
-    let a = at-sort .before .before .before .args in
-    let part = at-sort .before .row .ensures in
+returns-2 c =
+    let at-row-value = c .before .before in
+    let at-if1 = at-row-value .before in
+    let at-sort = at-if1 .before in
+    let at-row = at-sort .before in
+    let start = at-row .before .before in
+    let a = start .args in
+    let part = at-row .row .ensures in
     let sort : at-sort .row-sort .result ≡ readRow (rowPart (a .store .now) (a .i)) .row .sort = at-sort .row-sort .ensures ∙ ap (λ (l : List ℕ). readRow l .row .sort) part in
     looks-as
     (c .value-place .ensures .value ∙ ap (λ (k : ℕ). k + rowValueAt) (c .before .row-place .ensures .value))
-    (ap length (c .before .before .row-value .ensures ∙ ap (λ (l : List ℕ). readRow l .row .value) part))
-    (found-value (a .store .now) (a .i) (λ g. c .before .before .before .if1 .left (sort ∙ g)))
+    (ap length (at-row-value .row-value .ensures ∙ ap (λ (l : List ℕ). readRow l .row .value) part))
+    (found-value (a .store .now) (a .i) (λ g. at-if1 .if1 .left (sort ∙ g)))
 
 pub found-at-spec : {M : Type 1} → statement M
 found-at-spec =

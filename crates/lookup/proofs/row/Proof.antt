@@ -26,7 +26,10 @@ window-requires c κs = search needs
 
 -- src/lib.rt:40:1
 returns : tie.Need-returns
-returns c = row-window _ _ _ _ _ _ (c .before .before .before .width-in .ensures) (c .before .row-size .ensures) (c .before .before .row-place .ensures) (c .window .ensures)
+returns c =
+    let at-row-place = c .before .before in
+    let at-width-in = at-row-place .before in
+    row-window _ _ _ _ _ _ (at-width-in .width-in .ensures) (c .before .row-size .ensures) (at-row-place .row-place .ensures) (c .window .ensures)
 
 pub row-spec : {M : Type 1} → statement M
 row-spec =

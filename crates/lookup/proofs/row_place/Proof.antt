@@ -30,7 +30,10 @@ add-result c = search needs
 
 -- src/lib.rt:30:1
 returns : tie.Need-returns
-returns c = row-placed _ _ _ _ _ _ (c .before .before .before .width-in .ensures) (c .before .before .row-size .ensures) (c .before .times .ensures) (c .row-start .ensures)
+returns c =
+    let at-row-size = c .before .before in
+    let at-width-in = at-row-size .before in
+    row-placed _ _ _ _ _ _ (at-width-in .width-in .ensures) (at-row-size .row-size .ensures) (c .before .times .ensures) (c .row-start .ensures)
 
 pub row-place-spec : {M : Type 1} → statement M
 row-place-spec =

@@ -12,8 +12,10 @@ window-requires : tie.Need-window-requires
 window-requires c κs = search needs
 
 returns : tie.Need-returns
-returns c = let f = c .before .find .ensures in
-    record { part-is = c .window .ensures ∙ ap₂ (λ (n k : ℕ). take n (drop k (c .before .before .before .args .store .now))) (f .length-is) (f .start-is); number-is = f .number-is }
+returns c =
+    let start = c .before .before .before in
+    let f = c .before .find .ensures in
+    record { part-is = c .window .ensures ∙ ap₂ (λ (n k : ℕ). take n (drop k (start .args .store .now))) (f .length-is) (f .start-is); number-is = f .number-is }
 
 pub value-of-spec : {M : Type 1} → statement M
 value-of-spec = tie.close (tie.spec find-requires window-requires returns)

@@ -33,10 +33,13 @@ read-quantifier-requires c κs = search needs
 
 returns : tie.Need-returns
 returns c =
-    let sorted = c .before .before .before in
+    let at-read-what = c .before .before in
+    let sorted = at-read-what .before in
     let indexed = sorted .before in
-    let a = indexed .before .before .before .args in
-    particle-read (a .s .now) (a .at) _ _ _ _ _ (sorted .particle-sort .ensures) (indexed .particle-index .ensures) (c .before .particle-quantifier .ensures) (c .before .before .read-what .ensures) (c .read-quantifier .ensures)
+    let start = indexed .before .before .before in
+    let a = start .args in
+    particle-read (a .s .now) (a .at) _ _ _ _ _ (sorted .particle-sort .ensures) (indexed .particle-index .ensures) (c .before .particle-quantifier .ensures)
+    (at-read-what .read-what .ensures) (c .read-quantifier .ensures)
 
 pub read-particle-spec : {M : Type 1} → statement M
 read-particle-spec =

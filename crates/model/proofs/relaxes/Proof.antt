@@ -40,16 +40,25 @@ quantifier-code-requires-2 : tie.Need-quantifier-code-requires-2
 quantifier-code-requires-2 c κs = search needs
 
 mul-result : tie.Need-mul-result
-mul-result c = omega (arith, c .before .quantifier-code .ensures, code-small (c .before .before .args .old))
+mul-result c =
+    let start = c .before .before in
+    omega (arith, c .before .quantifier-code .ensures, code-small (start .args .old))
 
 index-1-result : tie.Need-index-1-result
-index-1-result c = omega (arith, c .before .quantifier-code .ensures, code-small (c .before .before .args .old))
+index-1-result c =
+    let start = c .before .before in
+    omega (arith, c .before .quantifier-code .ensures, code-small (start .args .old))
 
 index-2-result : tie.Need-index-2-result
-index-2-result c = omega (arith, c .quantifier-code2 .ensures, code-small (c .before .before .args .new))
+index-2-result c =
+    let start = c .before .before in
+    omega (arith, c .quantifier-code2 .ensures, code-small (start .args .new))
 
 returns : tie.Need-returns
-returns c = rw (c .before .before .quantifier-code .ensures, c .before .quantifier-code2 .ensures) (right (c .before .before .before .args .old) (c .before .before .before .args .new))
+returns c =
+    let at-quantifier-code = c .before .before in
+    let start = at-quantifier-code .before in
+    rw (at-quantifier-code .quantifier-code .ensures, c .before .quantifier-code2 .ensures) (right (start .args .old) (start .args .new))
 
 pub relaxes-spec : {M : Type 1} → statement M
 relaxes-spec =

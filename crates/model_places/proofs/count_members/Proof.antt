@@ -8,6 +8,7 @@ use Rattle.model_places.proofs.CountLaws.{Counting, counting-all, count
 use Rattle.model_places.proofs.count_members.Statement.{statement}
 use Rattle.model_places.proofs.count_members.Tie as tie
 
+-- The loop's invariant: n members are counted; with those of what is left, t, they make up the members of s.
 abbrev Inv-loop : tie.InvT-loop
 Inv-loop s d size t₀ n₀ t n = Counting (howMany (membersFrom d s)) (length s) d t n
 
@@ -28,17 +29,21 @@ cast-depth c = search needs
 
 returns : tie.Need-returns Inv-loop μ-loop
 returns c =
-    let l = c .before .before .before in
-    counting-stop _ _ _ (l .loop .t .now) _ (l .loop .inv) (c .before .particle-depth .result) (omega (arith, l .before .particle-size .ensures)) (c .before .particle-depth .ensures) (omega arith)
+    let at-loop = c .before .before .before in
+    let at-particle-size = at-loop .before in
+    counting-stop _ _ _ (at-loop .loop .t .now) _ (at-loop .loop .inv) (c .before .particle-depth .result)
+    (omega (arith, at-particle-size .particle-size .ensures)) (c .before .particle-depth .ensures) (omega arith)
 
 one-if-requires : tie.Need-one-if-requires Inv-loop μ-loop
 one-if-requires c κs = search needs
 
 add-n : tie.Need-add-n Inv-loop μ-loop
 add-n c =
-    let l = c .before .before .before .before in
-    let read = c .before .before .particle-depth in
-    omega (arith, counting-small _ _ _ (l .loop .t .now) _ (l .loop .inv) (read .result) (omega (arith, l .before .particle-size .ensures)) (read .ensures) (c .one-if .ensures))
+    let at-particle-depth = c .before .before in
+    let at-loop = at-particle-depth .before .before in
+    let at-particle-size = at-loop .before in
+    let read = at-particle-depth .particle-depth in
+    omega (arith, counting-small _ _ _ (at-loop .loop .t .now) _ (at-loop .loop .inv) (read .result) (omega (arith, at-particle-size .particle-size .ensures)) (read .ensures) (c .one-if .ensures))
 
 sub-t : tie.Need-sub-t Inv-loop μ-loop
 sub-t c = search needs
@@ -51,19 +56,25 @@ part-t-end c = search needs
 
 loop-less : tie.Need-loop-less Inv-loop μ-loop
 loop-less c =
-    let l = c .before .before .before .before .before in
-    let size = l .before .particle-size .result in
-    omega (arith, l .before .particle-size .ensures, length-take (length (l .loop .t .now) - size) (drop size (l .loop .t .now)), length-drop size (l .loop .t .now))
+    let at-loop = c .before .before .before .before .before in
+    let at-particle-size = at-loop .before in
+    let size = at-particle-size .particle-size .result in
+    omega (arith, at-particle-size .particle-size .ensures, length-take (length (at-loop .loop .t .now) - size) (drop size (at-loop .loop .t .now)), length-drop size (at-loop .loop .t .now))
 
 loop-again : tie.Need-loop-again Inv-loop μ-loop
 loop-again c =
-    let l = c .before .before .before .before .before in
-    let read = c .before .before .before .particle-depth in
-    let z = l .before .particle-size .ensures in
-    counting-on _ _ _ (l .loop .t .now) _ (l .loop .inv) (read .result) (omega (arith, z)) (read .ensures) (omega arith) (c .before .one-if .ensures) z
+    let at-particle-depth = c .before .before .before in
+    let at-loop = at-particle-depth .before .before in
+    let at-particle-size = at-loop .before in
+    let read = at-particle-depth .particle-depth in
+    let z = at-particle-size .particle-size .ensures in
+    counting-on _ _ _ (at-loop .loop .t .now) _ (at-loop .loop .inv) (read .result) (omega (arith, z)) (read .ensures) (omega arith) (c .before .one-if .ensures) z
 
 returns-2 : tie.Need-returns-2 Inv-loop μ-loop
-returns-2 c = let l = c .before in counting-few _ _ _ (l .loop .t .now) _ (l .loop .inv) (omega (arith, l .before .particle-size .ensures))
+returns-2 c =
+    let at-loop = c .before in
+    let at-particle-size = at-loop .before in
+    counting-few _ _ _ (at-loop .loop .t .now) _ (at-loop .loop .inv) (omega (arith, at-particle-size .particle-size .ensures))
 
 pub count-members-spec : {M : Type 1} → statement M
 count-members-spec =

@@ -37,10 +37,13 @@ cast-if1 c = search needs
 
 returns : tie.Need-returns Inv-loop μ-loop
 returns c =
-    let l = c .before .before .before .before in
-    let i = l .before .before .before .args .i in
-    settle-no (λ j. not (eqb i j)) _ (l .loop .t .now) _ (l .before .particle-size .ensures) (l .loop .inv) (omega arith) _
-    (other-first (l .loop .t .now) i (c .before .before .particle-sort .ensures) (c .before .particle-index .ensures)) (ap not (c .if1 .taken))
+    let at-particle-sort = c .before .before in
+    let at-loop = at-particle-sort .before .before in
+    let at-particle-size = at-loop .before in
+    let start = at-particle-size .before .before in
+    let i = start .args .i in
+    settle-no (λ j. not (eqb i j)) _ (at-loop .loop .t .now) _ (at-particle-size .particle-size .ensures) (at-loop .loop .inv) (omega arith) _
+    (other-first (at-loop .loop .t .now) i (at-particle-sort .particle-sort .ensures) (c .before .particle-index .ensures)) (ap not (c .if1 .taken))
 
 sub-t : tie.Need-sub-t Inv-loop μ-loop
 sub-t c = search needs
@@ -53,21 +56,28 @@ part-t-end c = search needs
 
 loop-less : tie.Need-loop-less Inv-loop μ-loop
 loop-less c =
-    let l = c .before .before .before .before .before in
-    let size = l .before .particle-size .result in
-    omega (arith, l .before .particle-size .ensures, length-take (length (l .loop .t .now) - size) (drop size (l .loop .t .now)), length-drop size (l .loop .t .now))
+    let at-loop = c .before .before .before .before .before in
+    let at-particle-size = at-loop .before in
+    let size = at-particle-size .particle-size .result in
+    omega (arith, at-particle-size .particle-size .ensures, length-take (length (at-loop .loop .t .now) - size) (drop size (at-loop .loop .t .now)), length-drop size (at-loop .loop .t .now))
 
 loop-again : tie.Need-loop-again Inv-loop μ-loop
 loop-again c =
-    let l = c .before .before .before .before .before in
-    let i = l .before .before .before .args .i in
-    settle-on (λ j. not (eqb i j)) _ (l .loop .t .now) _ (l .before .particle-size .ensures) (l .loop .inv) (omega arith) _
-    (other-first (l .loop .t .now) i (c .before .before .before .particle-sort .ensures) (c .before .before .particle-index .ensures)) (ap not (c .before .if1 .left))
+    let at-particle-index = c .before .before in
+    let at-particle-sort = at-particle-index .before in
+    let at-loop = at-particle-sort .before .before in
+    let at-particle-size = at-loop .before in
+    let start = at-particle-size .before .before in
+    let i = start .args .i in
+    settle-on (λ j. not (eqb i j)) _ (at-loop .loop .t .now) _ (at-particle-size .particle-size .ensures) (at-loop .loop .inv) (omega arith) _
+    (other-first (at-loop .loop .t .now) i (at-particle-sort .particle-sort .ensures) (at-particle-index .particle-index .ensures)) (ap not (c .before .if1 .left))
 
 returns-2 : tie.Need-returns-2 Inv-loop μ-loop
 returns-2 c =
-    let l = c .before in
-    settle-ends (λ j. not (eqb (l .before .before .before .args .i) j)) _ (l .loop .t .now) _ (l .before .particle-size .ensures) (l .loop .inv) (omega arith)
+    let at-loop = c .before in
+    let at-particle-size = at-loop .before in
+    let start = at-particle-size .before .before in
+    settle-ends (λ j. not (eqb (start .args .i) j)) _ (at-loop .loop .t .now) _ (at-particle-size .particle-size .ensures) (at-loop .loop .inv) (omega arith)
 
 pub lacks-spec : {M : Type 1} → statement M
 lacks-spec =

@@ -46,19 +46,32 @@ less-requires-3 : tie.Need-less-requires-3
 less-requires-3 c κs = search needs
 
 returns : tie.Need-returns
-returns c = count-case _ (c .before .before .before .args .n) (c .enum-told .given .1)
+returns c =
+    let start = c .before .before .before in
+    count-case _ (start .args .n) (c .enum-told .given .1)
 
 returns-2 : tie.Need-returns-2
-returns-2 c = c .less .ensures ∙ count-case _ (c .before .before .before .before .args .n) (c .before .enum-told2 .given .1)
+returns-2 c =
+    let start = c .before .before .before .before in
+    c .less .ensures ∙ count-case _ (start .args .n) (c .before .enum-told2 .given .1)
 
 returns-3 : tie.Need-returns-3
-returns-3 c = count-case _ (c .before .before .before .args .n) (c .enum-told3 .given .1)
+returns-3 c =
+    let start = c .before .before .before in
+    count-case _ (start .args .n) (c .enum-told3 .given .1)
 
 returns-4 : tie.Need-returns-4
-returns-4 c = c .less2 .ensures ∙ count-case _ (c .before .before .before .before .before .args .n) (c .before .before .edit .given .1)
+returns-4 c =
+    let at-edit = c .before .before in
+    let start = at-edit .before .before .before in
+    c .less2 .ensures ∙ count-case _ (start .args .n) (at-edit .edit .given .1)
 
 returns-5 : tie.Need-returns-5
-returns-5 c = c .less3 .ensures ∙ ap (λ (k : ℕ). c .before .before .before .before .before .args .n + k - 1) (c .before .particle-index .ensures ∙ sym (first-index (c .before .before .before .before .before .args .ys .now) (c .before .before .before .before .before .pre .0))) ∙ count-case _ (c .before .before .before .before .before .args .n) (c .before .before .enum-told4 .given .1)
+returns-5 c =
+    let at-enum-told4 = c .before .before in
+    let start = at-enum-told4 .before .before .before in
+    c .less3 .ensures ∙ ap (λ (k : ℕ). start .args .n + k - 1) (c .before .particle-index .ensures ∙ sym (first-index (start .args .ys .now) (start .pre .0)))
+    ∙ count-case _ (start .args .n) (at-enum-told4 .enum-told4 .given .1)
 
 pub count-after-spec : {M : Type 1} → statement M
 count-after-spec =

@@ -10,13 +10,17 @@ returns : tie.Need-returns
 returns c = search needs
 
 returns-2 : tie.Need-returns-2
-returns-2 c = omega (arith, passing-member (c .before .before .args .inner) (c .before .before .args .n) (c .before .if1 .left))
+returns-2 c =
+    let start = c .before .before in
+    omega (arith, passing-member (start .args .inner) (start .args .n) (c .before .if1 .left))
 
 sub-result : tie.Need-sub-result
 sub-result c = search needs
 
 returns-3 : tie.Need-returns-3
-returns-3 c = sym (passing-member (c .before .before .args .inner) (c .before .before .args .n) (c .before .if1 .left))
+returns-3 c =
+    let start = c .before .before in
+    sym (passing-member (start .args .inner) (start .args .n) (c .before .if1 .left))
 
 pub left-spec : {M : Type 1} → statement M
 left-spec = tie.close (tie.spec returns returns-2 sub-result returns-3)

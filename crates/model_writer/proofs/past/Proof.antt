@@ -14,7 +14,9 @@ window-requires : tie.Need-window-requires
 window-requires c κs = search needs
 
 returns : tie.Need-returns
-returns c = c .window .ensures ∙ cut-past (c .before .before .args .s .now) (particleSize * c .before .before .args .n)
+returns c =
+    let start = c .before .before in
+    c .window .ensures ∙ cut-past (start .args .s .now) (particleSize * start .args .n)
 
 pub past-spec : {M : Type 1} → statement M
 past-spec = tie.close (tie.spec mul-window window-requires returns)

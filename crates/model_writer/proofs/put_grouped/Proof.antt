@@ -12,22 +12,38 @@ group-code-requires : tie.Need-group-code-requires
 group-code-requires c κs = search needs
 
 cast-put-particle : tie.Need-cast-put-particle
-cast-put-particle c = omega (arith, grouped-index (c .before .before .before .pre))
+cast-put-particle c =
+    let start = c .before .before .before in
+    omega (arith, grouped-index (start .pre))
 
 cast-put-particle-2 : tie.Need-cast-put-particle-2
-cast-put-particle-2 c = omega (arith, grouped-depth (c .before .before .before .pre))
+cast-put-particle-2 c =
+    let start = c .before .before .before in
+    omega (arith, grouped-depth (start .pre))
 
 put-particle-requires : tie.Need-put-particle-requires
-put-particle-requires c κs = omega (arith, c .before .before .before .before .pre .room)
+put-particle-requires c κs =
+    let start = c .before .before .before .before in
+    omega (arith, start .pre .room)
 
 put-moved-requires : tie.Need-put-moved-requires
-put-moved-requires c κs = let p = c .before .before .before .before .before .before .before .before .pre in (p .whole, omega (arith, p .room, c .before .before .before .put-particle .ensures .next), grouped-fits p)
+put-moved-requires c κs =
+    let at-put-particle = c .before .before .before in
+    let start = at-put-particle .before .before .before .before .before in
+    let p = start .pre in (p .whole, omega (arith, p .room, at-put-particle .put-particle .ensures .next), grouped-fits p)
 
 same-length : tie.Need-same-length
 same-length c = search needs
 
 returns : tie.Need-returns
-returns c = laid-as (grouped-bytes (c .before .before .before .before .before .before .before .before .before .before .before .pre)) (laid-then (laid-as (particle-same (c .before .before .before .before .before .before .before .before .group-code .ensures) refl refl refl) (c .before .before .before .before .before .before .put-particle .ensures)) (c .before .before .put-moved .ensures))
+returns c =
+    let at-put-moved = c .before .before in
+    let at-put-particle = at-put-moved .before .before .before .before in
+    let at-group-code = at-put-particle .before .before in
+    let start = at-group-code .before .before .before in
+    laid-as (grouped-bytes (start .pre))
+    (laid-then (laid-as (particle-same (at-group-code .group-code .ensures) refl refl refl) (at-put-particle .put-particle .ensures))
+    (at-put-moved .put-moved .ensures))
 
 pub put-grouped-spec : {M : Type 1} → statement M
 put-grouped-spec =

@@ -23,7 +23,12 @@ same-length : tie.Need-same-length
 same-length c = search needs
 
 returns : tie.Need-returns
-returns c = laid-as (head-top (c .before .before .before .before .before .before .before .before .pre) (c .before .before .before .before .before .if1 .taken) ∙ sym (c .before .before .before .before .window .ensures)) (c .before .before .put .ensures)
+returns c =
+    let at-put = c .before .before in
+    let at-window = at-put .before .before in
+    let at-if1 = at-window .before in
+    let start = at-if1 .before .before .before in
+    laid-as (head-top (start .pre) (at-if1 .if1 .taken) ∙ sym (at-window .window .ensures)) (at-put .put .ensures)
 
 sub-held : tie.Need-sub-held
 sub-held c = search needs
@@ -41,10 +46,27 @@ window-requires-3 : tie.Need-window-requires-3
 window-requires-3 c κs = search needs
 
 past-requires : tie.Need-past-requires
-past-requires c κs = omega (arith, c .before .before .before .before .before .before .before .before .before .pre .inside, c .before .before .before .before .before .before .before .before .before .pre .room)
+past-requires c κs =
+    let start = c .before .before .before .before .before .before .before .before .before in
+    omega (arith, start .pre .inside, start .pre .room)
 
 put-recounted-requires : tie.Need-put-recounted-requires
-put-recounted-requires c κs = let v = c .before .before .before .before .before .before .before .before .before .before .before .pre in let w = head-fits v (omega arith) (c .before .before .window3 .ensures) (c .before .past .ensures) in (w .0, w .1, omega (arith, v .room, c .before .before .before .before .before .put2 .ensures .next, length-cut (c .before .before .before .before .before .before .before .before .before .before .before .args .part .now) _ 0 (particleSize * (c .before .before .before .before .before .before .before .before .before .before .before .args .first - 1)) (c .before .before .before .before .before .before .before .window2 .ensures)))
+put-recounted-requires c κs =
+    let at-window3 = c .before .before in
+    let at-put2 = at-window3 .before .before .before in
+    let at-window2 = at-put2 .before .before in
+    let start = at-window2 .before .before .before .before in
+    let v = start .pre in
+    let w = head-fits v (omega arith) (at-window3 .window3 .ensures) (c .before .past .ensures) in (
+      w .0,
+      w .1,
+      omega (
+        arith,
+        v .room,
+        at-put2 .put2 .ensures .next,
+        length-cut (start .args .part .now) _ 0 (particleSize * (start .args .first - 1)) (at-window2 .window2 .ensures),
+      ),
+    )
 
 add-window : tie.Need-add-window
 add-window c = search needs
@@ -62,16 +84,39 @@ window-requires-4 : tie.Need-window-requires-4
 window-requires-4 c κs = search needs
 
 put-requires-3 : tie.Need-put-requires-3
-put-requires-3 c κs = let a = c .before .before .before .before .before .before .before .before .before .before .before .before .before .before .before .before in omega (arith, a .pre .room, c .before .before .before .before .before .before .before .before .before .before .put2 .ensures .next, c .before .before .before .before .put-recounted .ensures .next, length-cut (a .args .part .now) _ 0 (particleSize * (a .args .first - 1)) (c .before .before .before .before .before .before .before .before .before .before .before .before .window2 .ensures), length-cut (a .args .part .now) _ (particleSize * (a .args .first - 1) + particleSize) (particleSize * a .args .n - particleSize * a .args .first) (c .before .window4 .ensures))
+put-requires-3 c κs =
+    let at-put-recounted = c .before .before .before .before in
+    let at-put2 = at-put-recounted .before .before .before .before .before .before in
+    let at-window2 = at-put2 .before .before in
+    let start = at-window2 .before .before .before .before in
+    omega (
+      arith,
+      start .pre .room,
+      at-put2 .put2 .ensures .next,
+      at-put-recounted .put-recounted .ensures .next,
+      length-cut (start .args .part .now) _ 0 (particleSize * (start .args .first - 1)) (at-window2 .window2 .ensures),
+      length-cut (start .args .part .now) _ (particleSize * (start .args .first - 1) + particleSize)
+          (particleSize * start .args .n - particleSize * start .args .first) (c .before .window4 .ensures),
+    )
 
 same-length-2 : tie.Need-same-length-2
 same-length-2 c = search needs
 
 returns-2 : tie.Need-returns-2
-returns-2 c = let v = c .before .before .before .before .before .before .before .before .before .before .before .before .before .before .before .before .before .before .before .pre in
+returns-2 c =
+    let at-put3 = c .before .before in
+    let at-window4 = at-put3 .before .before in
+    let at-put-recounted = at-window4 .before .before .before in
+    let at-past = at-put-recounted .before .before in
+    let at-window3 = at-past .before in
+    let at-put2 = at-window3 .before .before .before in
+    let at-window2 = at-put2 .before .before in
+    let start = at-window2 .before .before .before .before in
+    let v = start .pre in
     laid-as (head-split v (omega arith))
-    (laid-then (laid-as (sym (c .before .before .before .before .before .before .before .before .before .before .before .before .before .before .before .window2 .ensures)) (c .before .before .before .before .before .before .before .before .before .before .before .before .before .put2 .ensures))
-    (laid-then (laid-as (head-group v (omega arith) (c .before .before .before .before .before .before .before .before .before .before .window3 .ensures) (c .before .before .before .before .before .before .before .before .before .past .ensures)) (c .before .before .before .before .before .before .before .put-recounted .ensures)) (laid-as (sym (c .before .before .before .before .window4 .ensures)) (c .before .before .put3 .ensures))))
+    (laid-then (laid-as (sym (at-window2 .window2 .ensures)) (at-put2 .put2 .ensures))
+    (laid-then (laid-as (head-group v (omega arith) (at-window3 .window3 .ensures) (at-past .past .ensures)) (at-put-recounted .put-recounted .ensures))
+    (laid-as (sym (at-window4 .window4 .ensures)) (at-put3 .put3 .ensures))))
 
 pub put-head-spec : {M : Type 1} → statement M
 put-head-spec =

@@ -13,25 +13,43 @@ quantifier-code-requires : tie.Need-quantifier-code-requires
 quantifier-code-requires c κs = search needs
 
 cast-code : tie.Need-cast-code
-cast-code c = omega (arith, code-small (c .before .before .before .args .q), c .quantifier-code .ensures)
+cast-code c =
+    let start = c .before .before .before in
+    omega (arith, code-small (start .args .q), c .quantifier-code .ensures)
 
 cast-put-particle : tie.Need-cast-put-particle
-cast-put-particle c = omega (arith, inserted-index (c .before .before .before .pre))
+cast-put-particle c =
+    let start = c .before .before .before in
+    omega (arith, inserted-index (start .pre))
 
 cast-put-particle-2 : tie.Need-cast-put-particle-2
-cast-put-particle-2 c = omega (arith, inserted-depth (c .before .before .before .pre))
+cast-put-particle-2 c =
+    let start = c .before .before .before in
+    omega (arith, inserted-depth (start .pre))
 
 put-particle-requires : tie.Need-put-particle-requires
-put-particle-requires c κs = omega (arith, c .before .before .before .before .pre .room)
+put-particle-requires c κs =
+    let start = c .before .before .before .before in
+    omega (arith, start .pre .room)
 
 put-requires : tie.Need-put-requires
-put-requires c κs = omega (arith, c .before .before .before .before .before .before .before .before .pre .room, c .before .before .before .put-particle .ensures .next)
+put-requires c κs =
+    let at-put-particle = c .before .before .before in
+    let start = at-put-particle .before .before .before .before .before in
+    omega (arith, start .pre .room, at-put-particle .put-particle .ensures .next)
 
 same-length : tie.Need-same-length
 same-length c = search needs
 
 returns : tie.Need-returns
-returns c = laid-as (inserted-bytes (c .before .before .before .before .before .before .before .before .before .before .before .pre)) (laid-then (laid-as (particle-same refl (c .before .before .before .before .before .before .before .before .quantifier-code .ensures) refl refl) (c .before .before .before .before .before .before .put-particle .ensures)) (c .before .before .put .ensures))
+returns c =
+    let at-put = c .before .before in
+    let at-put-particle = at-put .before .before .before .before in
+    let at-quantifier-code = at-put-particle .before .before in
+    let start = at-quantifier-code .before .before .before in
+    laid-as (inserted-bytes (start .pre))
+    (laid-then (laid-as (particle-same refl (at-quantifier-code .quantifier-code .ensures) refl refl) (at-put-particle .put-particle .ensures))
+    (at-put .put .ensures))
 
 pub put-inserted-spec : {M : Type 1} → statement M
 put-inserted-spec =

@@ -13,6 +13,8 @@ use Rattle.model_writer.proofs.WritingLaws.{Going, going-all, going-don
 use Rattle.model_writer.proofs.put_moved.Statement.{statement}
 use Rattle.model_writer.proofs.put_moved.Tie as tie
 
+-- The loop's invariant: what is left, t, with its first m members moved, written from `at` on completes what s gives
+-- from `start` on, and there is room for it.
 abbrev Inv-loop : tie.InvT-loop
 Inv-loop s d n deeper out₀ start t₀ m₀ at₀ out t m at = Going (each particleBytes (moved (shift deeper) d n (particlesOf s))) out₀ start 9223372036854775808 (shift deeper) d t m out at
 
@@ -20,7 +22,9 @@ abbrev μ-loop : tie.MeasureT-loop
 μ-loop s d n deeper out₀ start t₀ m₀ at₀ out t m at = length t
 
 loop-holds : tie.Need-loop-holds Inv-loop μ-loop
-loop-holds c = let a = c .before .before in going-all _ _ _ _ _ _ _ (a .pre .0) (a .pre .1) (a .pre .2)
+loop-holds c =
+    let start = c .before .before in
+    going-all _ _ _ _ _ _ _ (start .pre .0) (start .pre .1) (start .pre .2)
 
 particle-depth-requires : tie.Need-particle-depth-requires Inv-loop μ-loop
 particle-depth-requires c κs = search needs
@@ -29,16 +33,36 @@ cast-inner : tie.Need-cast-inner Inv-loop μ-loop
 cast-inner c = search needs
 
 put-requires : tie.Need-put-requires Inv-loop μ-loop
-put-requires c κs = let v = c .before .before .before .before .loop .inv in omega (arith, v .room)
+put-requires c κs =
+    let at-loop = c .before .before .before .before in
+    let v = at-loop .loop .inv in
+    omega (arith, v .room)
 
 same-length : tie.Need-same-length Inv-loop μ-loop
-same-length c = c .before .before .put .kept .1 .0 ∙ c .before .before .before .before .before .before .before .loop .inv .long
+same-length c =
+    let at-put = c .before .before in
+    let at-loop = at-put .before .before .before .before .before in
+    at-put .put .kept .1 .0 ∙ at-loop .loop .inv .long
 
 returns : tie.Need-returns Inv-loop μ-loop
-returns c = going-rest (c .before .before .before .before .before .before .before .loop .inv) (omega arith) _ (ap (λ (z : ℕ). ltb (c .before .before .before .before .before .before .before .before .before .before .args .d) z) (sym (c .before .before .before .before .before .particle-depth .ensures))) (c .before .before .before .before .if1 .taken) (c .before .before .put .ensures)
+returns c =
+    let at-put = c .before .before in
+    let at-if1 = at-put .before .before in
+    let at-particle-depth = at-if1 .before in
+    let at-loop = at-particle-depth .before .before in
+    let start = at-loop .before .before .before in
+    going-rest (at-loop .loop .inv) (omega arith) _ (ap (λ (z : ℕ). ltb (start .args .d) z) (sym (at-particle-depth .particle-depth .ensures))) (at-if1 .if1 .taken) (at-put .put .ensures)
 
 put-shifted-requires : tie.Need-put-shifted-requires Inv-loop μ-loop
-put-shifted-requires c κs = let l = c .before .before .before .before .loop in (going-fits (l .inv) (omega arith) _ (ap (λ (z : ℕ). ltb (c .before .before .before .before .before .before .before .args .d) z) (sym (c .before .before .particle-depth .ensures))) (c .before .if1 .left), omega (arith, l .inv .room))
+put-shifted-requires c κs =
+    let at-particle-depth = c .before .before in
+    let at-loop = at-particle-depth .before .before in
+    let start = at-loop .before .before .before in
+    let l = at-loop .loop in (
+      going-fits (l .inv) (omega arith) _ (ap (λ (z : ℕ). ltb (start .args .d) z) (sym (at-particle-depth .particle-depth .ensures)))
+          (c .before .if1 .left),
+      omega (arith, l .inv .room),
+    )
 
 left-requires : tie.Need-left-requires Inv-loop μ-loop
 left-requires c κs = search needs
@@ -53,10 +77,20 @@ part-t-end : tie.Need-part-t-end Inv-loop μ-loop
 part-t-end c = search needs
 
 loop-less : tie.Need-loop-less Inv-loop μ-loop
-loop-less c = let t = c .before .before .before .before .before .before .before .before .before .loop .t .now in omega (arith, length-take (length t - particleSize) (drop particleSize t), length-drop particleSize t)
+loop-less c =
+    let at-loop = c .before .before .before .before .before .before .before .before .before in
+    let t = at-loop .loop .t .now in
+    omega (arith, length-take (length t - particleSize) (drop particleSize t), length-drop particleSize t)
 
 loop-again : tie.Need-loop-again Inv-loop μ-loop
-loop-again c = going-step (c .before .before .before .before .before .before .before .before .before .loop .inv) (omega arith) _ (ap (λ (z : ℕ). ltb (c .before .before .before .before .before .before .before .before .before .before .before .before .args .d) z) (sym (c .before .before .before .before .before .before .before .particle-depth .ensures))) (c .before .before .before .before .before .before .if1 .left) (c .before .left .ensures) (c .before .before .before .before .put-shifted .kept .1 .1 .0) (c .before .before .before .before .put-shifted .ensures)
+loop-again c =
+    let at-put-shifted = c .before .before .before .before in
+    let at-if1 = at-put-shifted .before .before in
+    let at-particle-depth = at-if1 .before in
+    let at-loop = at-particle-depth .before .before in
+    let start = at-loop .before .before .before in
+    going-step (at-loop .loop .inv) (omega arith) _ (ap (λ (z : ℕ). ltb (start .args .d) z) (sym (at-particle-depth .particle-depth .ensures)))
+    (at-if1 .if1 .left) (c .before .left .ensures) (at-put-shifted .put-shifted .kept .1 .1 .0) (at-put-shifted .put-shifted .ensures)
 
 same-length-2 : tie.Need-same-length-2 Inv-loop μ-loop
 same-length-2 c = c .before .loop .inv .long

@@ -7,19 +7,31 @@ use Rattle.model_writer.proofs.put_part.Statement.{statement}
 use Rattle.model_writer.proofs.put_part.Tie as tie
 
 put-head-requires : tie.Need-put-head-requires
-put-head-requires c κs = part-head (c .before .before .before .pre .0) (c .before .before .before .pre .1)
+put-head-requires c κs =
+    let start = c .before .before .before in
+    part-head (start .pre .0) (start .pre .1)
 
 past-requires : tie.Need-past-requires
-past-requires c κs = omega (arith, c .before .before .before .before .before .before .pre .0 .inside, c .before .before .before .before .before .before .pre .1)
+past-requires c κs =
+    let start = c .before .before .before .before .before .before in
+    omega (arith, start .pre .0 .inside, start .pre .1)
 
 put-tail-requires : tie.Need-put-tail-requires
-put-tail-requires c κs = rw (c .before .past .ensures) (part-tail (c .before .before .before .before .before .before .before .before .pre .0) (c .before .before .before .before .before .before .before .before .pre .1) (c .before .before .before .before .put-head .ensures))
+put-tail-requires c κs =
+    let at-put-head = c .before .before .before .before in
+    let start = at-put-head .before .before .before .before in
+    rw (c .before .past .ensures) (part-tail (start .pre .0) (start .pre .1) (at-put-head .put-head .ensures))
 
 same-length : tie.Need-same-length
 same-length c = search needs
 
 returns : tie.Need-returns
-returns c = laid-as (part-bytes (c .before .before .before .before .before .before .before .before .before .before .before .pre .0)) (laid-then (c .before .before .before .before .before .before .before .put-head .ensures) (rw (c .before .before .before .before .past .ensures) at (c .before .before .put-tail .ensures)))
+returns c =
+    let at-put-tail = c .before .before in
+    let at-past = at-put-tail .before .before in
+    let at-put-head = at-past .before .before .before in
+    let start = at-put-head .before .before .before .before in
+    laid-as (part-bytes (start .pre .0)) (laid-then (at-put-head .put-head .ensures) (rw (at-past .past .ensures) at (at-put-tail .put-tail .ensures)))
 
 pub put-part-spec : {M : Type 1} → statement M
 put-part-spec =

@@ -31,7 +31,19 @@ window-requires-2 : tie.Need-window-requires-2
 window-requires-2 c κs = search needs
 
 put-part-requires : tie.Need-put-part-requires
-put-part-requires c κs = let a = c .before .before .before .before .before .before .before .before .before in (body-part (a .pre .0) (c .before .window2 .ensures), omega (arith, a .pre .1, c .before .before .before .before .put .ensures .next, length-cut (a .args .parts .now) _ 0 (particleSize * a .args .first) (c .before .before .before .before .before .before .window .ensures), length-cut (a .args .parts .now) _ (particleSize * a .args .first) (particleSize * a .args .k) (c .before .window2 .ensures)))
+put-part-requires c κs =
+    let at-put = c .before .before .before .before in
+    let at-window = at-put .before .before in
+    let start = at-window .before .before .before in (
+      body-part (start .pre .0) (c .before .window2 .ensures),
+      omega (
+        arith,
+        start .pre .1,
+        at-put .put .ensures .next,
+        length-cut (start .args .parts .now) _ 0 (particleSize * start .args .first) (at-window .window .ensures),
+        length-cut (start .args .parts .now) _ (particleSize * start .args .first) (particleSize * start .args .k) (c .before .window2 .ensures),
+      ),
+    )
 
 add-past : tie.Need-add-past
 add-past c = search needs
@@ -40,15 +52,39 @@ past-requires : tie.Need-past-requires
 past-requires c κs = search needs
 
 put-requires-2 : tie.Need-put-requires-2
-put-requires-2 c κs = let a = c .before .before .before .before .before .before .before .before .before .before .before .before .before .before in omega (arith, a .pre .1, c .before .before .before .before .before .before .before .before .before .put .ensures .next, c .before .before .before .before .put-part .ensures .next, length-few (body-part (a .pre .0) (c .before .before .before .before .before .before .window2 .ensures)), length-cut (a .args .parts .now) _ 0 (particleSize * a .args .first) (c .before .before .before .before .before .before .before .before .before .before .before .window .ensures), length-cut (a .args .parts .now) _ (particleSize * a .args .first) (particleSize * a .args .k) (c .before .before .before .before .before .before .window2 .ensures), ap (λ (s : Bytes). length s) (c .before .past .ensures), length-drop (particleSize * (a .args .first + a .args .k)) (a .args .parts .now))
+put-requires-2 c κs =
+    let at-put-part = c .before .before .before .before in
+    let at-window2 = at-put-part .before .before in
+    let at-put = at-window2 .before .before .before in
+    let at-window = at-put .before .before in
+    let start = at-window .before .before .before in
+    omega (
+      arith,
+      start .pre .1,
+      at-put .put .ensures .next,
+      at-put-part .put-part .ensures .next,
+      length-few (body-part (start .pre .0) (at-window2 .window2 .ensures)),
+      length-cut (start .args .parts .now) _ 0 (particleSize * start .args .first) (at-window .window .ensures),
+      length-cut (start .args .parts .now) _ (particleSize * start .args .first) (particleSize * start .args .k) (at-window2 .window2 .ensures),
+      ap (λ (s : Bytes). length s) (c .before .past .ensures),
+      length-drop (particleSize * (start .args .first + start .args .k)) (start .args .parts .now),
+    )
 
 same-length : tie.Need-same-length
 same-length c = search needs
 
 returns : tie.Need-returns
-returns c = let a = c .before .before .before .before .before .before .before .before .before .before .before .before .before .before .before .before .before in
-    laid-as (body-bytes (a .pre .0))
-    (laid-then (laid-as (sym (c .before .before .before .before .before .before .before .before .before .before .before .before .before .before .window .ensures)) (c .before .before .before .before .before .before .before .before .before .before .before .before .put .ensures)) (laid-then (rw (c .before .before .before .before .before .before .before .before .before .window2 .ensures) at (c .before .before .before .before .before .before .before .put-part .ensures)) (laid-as (sym (c .before .before .before .before .past .ensures)) (c .before .before .put2 .ensures))))
+returns c =
+    let at-put2 = c .before .before in
+    let at-past = at-put2 .before .before in
+    let at-put-part = at-past .before .before .before in
+    let at-window2 = at-put-part .before .before in
+    let at-put = at-window2 .before .before .before in
+    let at-window = at-put .before .before in
+    let start = at-window .before .before .before in
+    laid-as (body-bytes (start .pre .0))
+    (laid-then (laid-as (sym (at-window .window .ensures)) (at-put .put .ensures))
+    (laid-then (rw (at-window2 .window2 .ensures) at (at-put-part .put-part .ensures)) (laid-as (sym (at-past .past .ensures)) (at-put2 .put2 .ensures))))
 
 pub put-particles-spec : {M : Type 1} → statement M
 put-particles-spec =

@@ -26,7 +26,11 @@ particle-quantifier-requires : tie.Need-particle-quantifier-requires
 particle-quantifier-requires c κs = search needs
 
 cast-put-particle : tie.Need-cast-put-particle
-cast-put-particle c = omega (arith, c .before .before .before .before .before .before .before .pre .1, c .before .before .count-after .ensures, ap (countAfter (editOf (c .before .before .before .before .before .before .before .args .edit)) (particlesOf (c .before .before .before .before .before .before .before .args .ys .now))) (c .before .before .before .particle-index .ensures))
+cast-put-particle c =
+    let at-count-after = c .before .before in
+    let at-particle-index = at-count-after .before in
+    let start = at-particle-index .before .before .before .before in
+    omega (arith, start .pre .1, at-count-after .count-after .ensures, ap (countAfter (editOf (start .args .edit)) (particlesOf (start .args .ys .now))) (at-particle-index .particle-index .ensures))
 
 particle-depth-requires : tie.Need-particle-depth-requires
 particle-depth-requires c κs = search needs
@@ -38,7 +42,20 @@ same-length : tie.Need-same-length
 same-length c = search needs
 
 returns : tie.Need-returns
-returns c = laid-as (particle-same (c .before .before .before .before .before .before .particle-sort .ensures) (c .before .before .before .before .before .particle-quantifier .ensures) (c .before .before .before .before .before .before .before .count-after .ensures ∙ ap (countAfter (editOf (c .before .before .before .before .before .before .before .before .before .before .before .before .args .edit)) (particlesOf (c .before .before .before .before .before .before .before .before .before .before .before .before .args .ys .now))) (c .before .before .before .before .before .before .before .before .particle-index .ensures)) (c .before .before .before .before .particle-depth .ensures)) (c .before .before .put-particle .ensures)
+returns c =
+    let at-put-particle = c .before .before in
+    let at-particle-depth = at-put-particle .before .before in
+    let at-particle-quantifier = at-particle-depth .before in
+    let at-particle-sort = at-particle-quantifier .before in
+    let at-count-after = at-particle-sort .before in
+    let at-particle-index = at-count-after .before in
+    let start = at-particle-index .before .before .before .before in
+    laid-as
+    (particle-same (at-particle-sort .particle-sort .ensures) (at-particle-quantifier .particle-quantifier .ensures)
+    (at-count-after .count-after .ensures
+    ∙ ap (countAfter (editOf (start .args .edit)) (particlesOf (start .args .ys .now))) (at-particle-index .particle-index .ensures))
+    (at-particle-depth .particle-depth .ensures))
+    (at-put-particle .put-particle .ensures)
 
 pub put-recounted-spec : {M : Type 1} → statement M
 put-recounted-spec =

@@ -13,13 +13,17 @@ use Rattle.model_writer.proofs.put_requantified.Tie as tie
 use Rattle.model.proofs.Codes.{code-small}
 
 returns : tie.Need-returns
-returns c = laid-as (requantified-none (c .before .before .before .pre) (omega arith)) laid-none
+returns c =
+    let start = c .before .before .before in
+    laid-as (requantified-none (start .pre) (omega arith)) laid-none
 
 quantifier-code-requires : tie.Need-quantifier-code-requires
 quantifier-code-requires c κs = search needs
 
 cast-code : tie.Need-cast-code
-cast-code c = omega (arith, code-small (c .before .before .before .before .args .q), c .quantifier-code .ensures)
+cast-code c =
+    let start = c .before .before .before .before in
+    omega (arith, code-small (start .args .q), c .quantifier-code .ensures)
 
 particle-sort-requires : tie.Need-particle-sort-requires
 particle-sort-requires c κs = search needs
@@ -31,19 +35,39 @@ particle-depth-requires : tie.Need-particle-depth-requires
 particle-depth-requires c κs = search needs
 
 put-particle-requires : tie.Need-put-particle-requires
-put-particle-requires c κs = omega (arith, c .before .before .before .before .before .before .before .before .pre .room)
+put-particle-requires c κs =
+    let start = c .before .before .before .before .before .before .before .before in
+    omega (arith, start .pre .room)
 
 past-requires : tie.Need-past-requires
 past-requires c κs = search needs
 
 put-requires : tie.Need-put-requires
-put-requires c κs = let p = c .before .before .before .before .before .before .before .before .before .before .before .before .before in omega (arith, p .pre .room, c .before .before .before .before .put-particle .ensures .next, ap (λ (s : Bytes). length s) (c .before .past .ensures), length-drop particleSize (p .args .ys .now))
+put-requires c κs =
+    let at-put-particle = c .before .before .before .before in
+    let start = at-put-particle .before .before .before .before .before .before .before .before .before in
+    omega (arith, start .pre .room, at-put-particle .put-particle .ensures .next, ap (λ (s : Bytes). length s) (c .before .past .ensures), length-drop particleSize (start .args .ys .now))
 
 same-length : tie.Need-same-length
 same-length c = search needs
 
 returns-2 : tie.Need-returns-2
-returns-2 c = laid-as (requantified-bytes (c .before .before .before .before .before .before .before .before .before .before .before .before .before .before .before .before .pre) (omega arith)) (laid-then (laid-as (particle-same (c .before .before .before .before .before .before .before .before .before .before .before .particle-sort .ensures) (c .before .before .before .before .before .before .before .before .before .before .before .before .quantifier-code .ensures) (c .before .before .before .before .before .before .before .before .before .before .particle-index .ensures) (c .before .before .before .before .before .before .before .before .before .particle-depth .ensures)) (c .before .before .before .before .before .before .before .put-particle .ensures)) (laid-as (sym (c .before .before .before .before .past .ensures)) (c .before .before .put .ensures)))
+returns-2 c =
+    let at-put = c .before .before in
+    let at-past = at-put .before .before in
+    let at-put-particle = at-past .before .before .before in
+    let at-particle-depth = at-put-particle .before .before in
+    let at-particle-index = at-particle-depth .before in
+    let at-particle-sort = at-particle-index .before in
+    let at-quantifier-code = at-particle-sort .before in
+    let start = at-quantifier-code .before .before .before .before in
+    laid-as (requantified-bytes (start .pre) (omega arith))
+    (laid-then
+    (laid-as
+    (particle-same (at-particle-sort .particle-sort .ensures) (at-quantifier-code .quantifier-code .ensures) (at-particle-index .particle-index .ensures)
+    (at-particle-depth .particle-depth .ensures))
+    (at-put-particle .put-particle .ensures))
+    (laid-as (sym (at-past .past .ensures)) (at-put .put .ensures)))
 
 pub put-requantified-spec : {M : Type 1} → statement M
 put-requantified-spec =

@@ -12,7 +12,9 @@ particle-depth-requires : tie.Need-particle-depth-requires
 particle-depth-requires c κs = search needs
 
 shifted-requires : tie.Need-shifted-requires
-shifted-requires c κs = rw (c .particle-depth .ensures) (c .before .before .before .pre .0)
+shifted-requires c κs =
+    let start = c .before .before .before in
+    rw (c .particle-depth .ensures) (start .pre .0)
 
 particle-sort-requires : tie.Need-particle-sort-requires
 particle-sort-requires c κs = search needs
@@ -30,7 +32,19 @@ same-length : tie.Need-same-length
 same-length c = search needs
 
 returns : tie.Need-returns
-returns c = laid-as (particle-same (c .before .before .before .before .before .before .particle-sort .ensures) (c .before .before .before .before .before .particle-quantifier .ensures) (c .before .before .before .before .particle-index .ensures) (c .before .before .before .before .before .before .before .shifted .ensures ∙ ap (λ (n : ℕ). shift (c .before .before .before .before .before .before .before .before .before .before .before .args .deeper) n) (c .before .before .before .before .before .before .before .before .particle-depth .ensures))) (c .before .before .put-particle .ensures)
+returns c =
+    let at-put-particle = c .before .before in
+    let at-particle-index = at-put-particle .before .before in
+    let at-particle-quantifier = at-particle-index .before in
+    let at-particle-sort = at-particle-quantifier .before in
+    let at-shifted = at-particle-sort .before in
+    let at-particle-depth = at-shifted .before in
+    let start = at-particle-depth .before .before .before in
+    laid-as
+    (particle-same (at-particle-sort .particle-sort .ensures) (at-particle-quantifier .particle-quantifier .ensures)
+    (at-particle-index .particle-index .ensures)
+    (at-shifted .shifted .ensures ∙ ap (λ (n : ℕ). shift (start .args .deeper) n) (at-particle-depth .particle-depth .ensures)))
+    (at-put-particle .put-particle .ensures)
 
 pub put-shifted-spec : {M : Type 1} → statement M
 put-shifted-spec =

@@ -13,13 +13,17 @@ returns : tie.Need-returns
 returns c = sym (shift-deeper (c .before .args .deeper) (c .before .args .depth) (c .if1 .taken))
 
 returns-2 : tie.Need-returns-2
-returns-2 c = omega (arith, shift-raised (c .before .before .args .deeper) (c .before .before .args .depth) (c .before .if1 .left))
+returns-2 c =
+    let start = c .before .before in
+    omega (arith, shift-raised (start .args .deeper) (start .args .depth) (c .before .if1 .left))
 
 sub-result : tie.Need-sub-result
 sub-result c = search needs
 
 returns-3 : tie.Need-returns-3
-returns-3 c = sym (shift-raised (c .before .before .args .deeper) (c .before .before .args .depth) (c .before .if1 .left))
+returns-3 c =
+    let start = c .before .before in
+    sym (shift-raised (start .args .deeper) (start .args .depth) (c .before .if1 .left))
 
 pub shifted-spec : {M : Type 1} → statement M
 shifted-spec = tie.close (tie.spec add-result returns returns-2 sub-result returns-3)

@@ -50,7 +50,16 @@ first-nexts-calls t =
     (read-particle-reads.Asked, read-particle-reads.Learnt, one-element-reads.Asked, one-element-reads.Learnt, quantified-reads.Asked, quantified-reads.Learnt, nexts-from-below t, nexts-from.Post)
 
 abbrev nexts-from-calls : ℕ → nexts-from-lts.Claims
-nexts-from-calls t = (no-members-reads.Asked, no-members-reads.Learnt, particle-depth-reads.Asked, particle-depth-reads.Learnt, first-nexts-below t, first-nexts.Post, joined-reads.Asked, joined-reads.Learnt)
+nexts-from-calls t = (
+  no-members-reads.Asked,
+  no-members-reads.Learnt,
+  particle-depth-reads.Asked,
+  particle-depth-reads.Learnt,
+  first-nexts-below t,
+  first-nexts.Post,
+  joined-reads.Asked,
+  joined-reads.Learnt,
+)
 
 first-nexts-read-particle-requires : (t : ℕ) → first-nexts-lts.Need-read-particle-requires (first-nexts-calls t) (first-nexts-at t) first-nexts.Post
 first-nexts-read-particle-requires t c κs = search needs
@@ -81,7 +90,8 @@ first-nexts-add-nexts-from t c = search needs
 
 first-nexts-nexts-from-requires : (t : ℕ) → first-nexts-lts.Need-nexts-from-requires (first-nexts-calls t) (first-nexts-at t) first-nexts.Post
 first-nexts-nexts-from-requires t c κs =
-    let t = c .before .before .before .before .before .before .args .t .now in
+    let start = c .before .before .before .before .before .before in
+    let t = start .args .t .now in
     (omega (arith, length-take (length t - particleSize) (drop particleSize t), length-drop particleSize t), omega arith)
 
 first-nexts-quantified-requires-2 : (t : ℕ) → first-nexts-lts.Need-quantified-requires-2 (first-nexts-calls t) (first-nexts-at t) first-nexts.Post
@@ -89,15 +99,21 @@ first-nexts-quantified-requires-2 t c κs = search needs
 
 first-nexts-returns : (t : ℕ) → first-nexts-lts.Need-returns (first-nexts-calls t) (first-nexts-at t) first-nexts.Post
 first-nexts-returns t c =
-    let a = c .before .before .before .before .before .before .before .args in
-    told-element (a .d) (a .x) (a .t .now) _ (c .before .before .before .before .before .read-particle .ensures) _ _ _ (c .before .before .before .what .given .1)
+    let at-what = c .before .before .before in
+    let at-read-particle = at-what .before .before in
+    let start = at-read-particle .before .before in
+    let a = start .args in
+    told-element (a .d) (a .x) (a .t .now) _ (at-read-particle .read-particle .ensures) _ _ _ (at-what .what .given .1)
     (c .before .one-element .ensures) (c .quantified .ensures)
 
 first-nexts-returns-2 : (t : ℕ) → first-nexts-lts.Need-returns-2 (first-nexts-calls t) (first-nexts-at t) first-nexts.Post
 first-nexts-returns-2 t c =
-    let a = c .before .before .before .before .before .before .before .before .args in
-    told-group (a .d) (a .x) (a .t .now) _ (c .before .before .before .before .before .before .read-particle .ensures) _ _ _ _
-    (c .before .before .before .before .what2 .given .1) (c .before .nexts-from .ensures) (c .quantified2 .ensures)
+    let at-what2 = c .before .before .before .before in
+    let at-read-particle = at-what2 .before .before in
+    let start = at-read-particle .before .before in
+    let a = start .args in
+    told-group (a .d) (a .x) (a .t .now) _ (at-read-particle .read-particle .ensures) _ _ _ _
+    (at-what2 .what2 .given .1) (c .before .nexts-from .ensures) (c .quantified2 .ensures)
 
 -- f tells the facts of the members before t
 abbrev nexts-from-Inv-loop : nexts-from-lts.InvT-loop
@@ -110,7 +126,10 @@ nexts-from-no-members-requires : (t : ℕ) → nexts-from-lts.Need-no-members-re
 nexts-from-no-members-requires t c κs = search needs
 
 nexts-from-loop-holds : (t : ℕ) → nexts-from-lts.Need-loop-holds (nexts-from-calls t) (nexts-from-at t) nexts-from.Post nexts-from-Inv-loop nexts-from-μ-loop
-nexts-from-loop-holds t c = let a = c .before .before .args in telling-starts (a .kind) (a .d) (a .x) (a .s .now) _ (c .no-members .ensures)
+nexts-from-loop-holds t c =
+    let start = c .before .before in
+    let a = start .args in
+    telling-starts (a .kind) (a .d) (a .x) (a .s .now) _ (c .no-members .ensures)
 
 nexts-from-particle-depth-requires : (t : ℕ) → nexts-from-lts.Need-particle-depth-requires (nexts-from-calls t) (nexts-from-at t) nexts-from.Post nexts-from-Inv-loop nexts-from-μ-loop
 nexts-from-particle-depth-requires t c κs = search needs
@@ -120,8 +139,9 @@ nexts-from-cast-depth t c = search needs
 
 nexts-from-returns : (t : ℕ) → nexts-from-lts.Need-returns (nexts-from-calls t) (nexts-from-at t) nexts-from.Post nexts-from-Inv-loop nexts-from-μ-loop
 nexts-from-returns t c =
-    let a = c .before .before .before .before .before .before .args in
     let at-loop = c .before .before .before in
+    let start = at-loop .before .before .before in
+    let a = start .args in
     telling-stop (a .kind) (a .d) (a .x) (a .s .now) (at-loop .loop .t .now) _ (at-loop .loop .inv) _ (omega arith) (c .before .particle-depth .ensures) (omega arith)
 
 nexts-from-sub-t : (t : ℕ) → nexts-from-lts.Need-sub-t (nexts-from-calls t) (nexts-from-at t) nexts-from.Post nexts-from-Inv-loop nexts-from-μ-loop
@@ -134,17 +154,24 @@ nexts-from-part-t-end : (t : ℕ) → nexts-from-lts.Need-part-t-end (nexts-from
 nexts-from-part-t-end t c = search needs
 
 nexts-from-loop-less : (t : ℕ) → nexts-from-lts.Need-loop-less (nexts-from-calls t) (nexts-from-at t) nexts-from.Post nexts-from-Inv-loop nexts-from-μ-loop
-nexts-from-loop-less t c = let t = c .before .before .before .before .before .loop .t .now in omega (arith, length-take (length t - particleSize) (drop particleSize t), length-drop particleSize t)
+nexts-from-loop-less t c =
+    let at-loop = c .before .before .before .before .before in
+    let t = at-loop .loop .t .now in
+    omega (arith, length-take (length t - particleSize) (drop particleSize t), length-drop particleSize t)
 
 nexts-from-loop-again : (t : ℕ) → nexts-from-lts.Need-loop-again (nexts-from-calls t) (nexts-from-at t) nexts-from.Post nexts-from-Inv-loop nexts-from-μ-loop
 nexts-from-loop-again t c =
-    let a = c .before .before .before .before .before .before .before .before .args in
-    let at-loop = c .before .before .before .before .before in
-    telling-deeper (a .kind) (a .d) (a .x) (a .s .now) (at-loop .loop .t .now) _ (at-loop .loop .inv) _ (omega arith) (c .before .before .before .particle-depth .ensures)
+    let at-particle-depth = c .before .before .before in
+    let at-loop = at-particle-depth .before .before in
+    let start = at-loop .before .before .before in
+    let a = start .args in
+    telling-deeper (a .kind) (a .d) (a .x) (a .s .now) (at-loop .loop .t .now) _ (at-loop .loop .inv) _ (omega arith) (at-particle-depth .particle-depth .ensures)
     (omega arith)
 
 nexts-from-first-nexts-requires : (t : ℕ) → nexts-from-lts.Need-first-nexts-requires (nexts-from-calls t) (nexts-from-at t) nexts-from.Post nexts-from-Inv-loop nexts-from-μ-loop
-nexts-from-first-nexts-requires t c κs = (omega (arith, c .before .before .before .before .loop .inv .short), (omega arith, omega arith))
+nexts-from-first-nexts-requires t c κs =
+    let at-loop = c .before .before .before .before in
+    (omega (arith, at-loop .loop .inv .short), (omega arith, omega arith))
 
 nexts-from-joined-requires : (t : ℕ) → nexts-from-lts.Need-joined-requires (nexts-from-calls t) (nexts-from-at t) nexts-from.Post nexts-from-Inv-loop nexts-from-μ-loop
 nexts-from-joined-requires t c κs = search needs
@@ -159,17 +186,26 @@ nexts-from-part-t-end-2 : (t : ℕ) → nexts-from-lts.Need-part-t-end-2 (nexts-
 nexts-from-part-t-end-2 t c = search needs
 
 nexts-from-loop-less-2 : (t : ℕ) → nexts-from-lts.Need-loop-less-2 (nexts-from-calls t) (nexts-from-at t) nexts-from.Post nexts-from-Inv-loop nexts-from-μ-loop
-nexts-from-loop-less-2 t c = let t = c .before .before .before .before .before .before .before .loop .t .now in omega (arith, length-take (length t - particleSize) (drop particleSize t), length-drop particleSize t)
+nexts-from-loop-less-2 t c =
+    let at-loop = c .before .before .before .before .before .before .before in
+    let t = at-loop .loop .t .now in
+    omega (arith, length-take (length t - particleSize) (drop particleSize t), length-drop particleSize t)
 
 nexts-from-loop-again-2 : (t : ℕ) → nexts-from-lts.Need-loop-again-2 (nexts-from-calls t) (nexts-from-at t) nexts-from.Post nexts-from-Inv-loop nexts-from-μ-loop
 nexts-from-loop-again-2 t c =
-    let a = c .before .before .before .before .before .before .before .before .before .before .args in
-    let at-loop = c .before .before .before .before .before .before .before in
+    let at-first-nexts = c .before .before in
+    let at-particle-depth = at-first-nexts .before .before .before in
+    let at-loop = at-particle-depth .before .before in
+    let start = at-loop .before .before .before in
+    let a = start .args in
     telling-on (a .kind) (a .d) (a .x) (a .s .now) (at-loop .loop .t .now) _ (at-loop .loop .inv) _ (omega arith)
-    (c .before .before .before .before .before .particle-depth .ensures) (omega arith) (omega arith) _ _ (c .before .before .first-nexts .ensures) (c .before .joined .ensures)
+    (at-particle-depth .particle-depth .ensures) (omega arith) (omega arith) _ _ (at-first-nexts .first-nexts .ensures) (c .before .joined .ensures)
 
 nexts-from-returns-2 : (t : ℕ) → nexts-from-lts.Need-returns-2 (nexts-from-calls t) (nexts-from-at t) nexts-from.Post nexts-from-Inv-loop nexts-from-μ-loop
-nexts-from-returns-2 t c = let a = c .before .before .before .before .args in telling-few (a .kind) (a .d) (a .x) (a .s .now) _ _ (c .before .loop .inv) (omega arith)
+nexts-from-returns-2 t c =
+    let start = c .before .before .before .before in
+    let a = start .args in
+    telling-few (a .kind) (a .d) (a .x) (a .s .now) _ _ (c .before .loop .inv) (omega arith)
 
 pub +first-nexts+nexts-from-spec : {M : Type 1} → statement M
 +first-nexts+nexts-from-spec = close μ-first-nexts μ-nexts-from (λ t. first-nexts-lts.spec (first-nexts-calls t)

@@ -19,7 +19,9 @@ no-members-requires c κs = search needs
 
 returns-2 : tie.Need-returns-2
 returns-2 c =
-    after-other _ _ _ _ _ (c .before .before .before .before .pre .1) (c .before .before .before .before .pre .0) (c .before .before .contains .ensures)
+    let at-contains = c .before .before in
+    let start = at-contains .before .before in
+    after-other _ _ _ _ _ (start .pre .1) (start .pre .0) (at-contains .contains .ensures)
     (c .before .if1 .left) (c .no-members .ensures)
 
 pub after-child-spec : {M : Type 1} → statement M

@@ -45,10 +45,13 @@ same-length c = search needs
 
 returns : tie.Need-returns
 returns c =
-    let a = c .before .before .before .before .before .before .before .before .args in
-    line-filled (a .n) (allMembers (a .ms .now)) (a .t .now) (a .at) _ _ (c .before .before .before .fill-after .ensures)
-    (c .before .before .before .fill-after .kept .1 .1 .1 .0) (c .before .before .before .before .before .before .before .before .pre .0)
-    (c .before .before .before .before .before .before .before .before .pre .1) _ (c .before .before .before .before .before .nexts-of .ensures) _ (c .given .ensures)
+    let at-fill-after = c .before .before .before in
+    let at-nexts-of = at-fill-after .before .before in
+    let start = at-nexts-of .before .before .before in
+    let a = start .args in
+    line-filled (a .n) (allMembers (a .ms .now)) (a .t .now) (a .at) _ _ (at-fill-after .fill-after .ensures)
+    (at-fill-after .fill-after .kept .1 .1 .1 .0) (start .pre .0)
+    (start .pre .1) _ (at-nexts-of .nexts-of .ensures) _ (c .given .ensures)
 
 pub fill-spec : {M : Type 1} → statement M
 fill-spec =

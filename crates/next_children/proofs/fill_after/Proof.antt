@@ -18,22 +18,33 @@ names-in-requires : tie.Need-names-in-requires Inv-loop μ-loop
 names-in-requires c κs = search needs
 
 loop-holds : tie.Need-loop-holds Inv-loop μ-loop
-loop-holds c = let a = c .before .before .before .args in filling-starts (a .n) (allMembers (a .ms .now)) (a .t .now) (a .at)
+loop-holds c =
+    let start = c .before .before .before in
+    let a = start .args in
+    filling-starts (a .n) (allMembers (a .ms .now)) (a .t .now) (a .at)
 
 after-child-requires : tie.Need-after-child-requires Inv-loop μ-loop
-after-child-requires c κs = (omega arith, c .before .before .names-in .ensures)
+after-child-requires c κs =
+    let at-names-in = c .before .before in
+    (omega arith, at-names-in .names-in .ensures)
 
 add-t : tie.Need-add-t Inv-loop μ-loop
 add-t c = search needs
 
 add-t-2 : tie.Need-add-t-2 Inv-loop μ-loop
-add-t-2 c = omega (arith, c .before .before .loop .inv .long, c .before .before .before .before .before .before .pre .1)
+add-t-2 c =
+    let at-loop = c .before .before in
+    let start = at-loop .before .before .before .before in
+    omega (arith, at-loop .loop .inv .long, start .pre .1)
 
 mul-t : tie.Need-mul-t Inv-loop μ-loop
 mul-t c = search needs
 
 slice-write-t : tie.Need-slice-write-t Inv-loop μ-loop
-slice-write-t c = omega (arith, c .before .before .loop .inv .long, c .before .before .before .before .before .before .pre .1)
+slice-write-t c =
+    let at-loop = c .before .before in
+    let start = at-loop .before .before .before .before in
+    omega (arith, at-loop .loop .inv .long, start .pre .1)
 
 bit-requires : tie.Need-bit-requires Inv-loop μ-loop
 bit-requires c κs = search needs
@@ -52,21 +63,25 @@ loop-less c = search needs
 
 loop-again : tie.Need-loop-again Inv-loop μ-loop
 loop-again c =
-    let a = c .before .before .before .before .before .before .before .before .before .args in
-    let at-loop = c .before .before .before .before .before in
+    let at-bit = c .before .before in
+    let at-after-child = at-bit .before in
+    let at-loop = at-after-child .before .before in
+    let start = at-loop .before .before .before .before in
+    let a = start .args in
     filling-on (a .n) (allMembers (a .ms .now)) (a .t .now) (a .at) _ _ _ (at-loop .loop .inv)
-    (c .before .before .before .before .before .before .before .before .before .pre .0)
-    (c .before .before .before .before .before .before .before .before .before .pre .1) (omega arith) _ (c .before .before .before .after-child .ensures) _ _ _
-    (c .before .before .bit .ensures) (c .before .given .ensures) (c .union .ensures)
+    (start .pre .0)
+    (start .pre .1) (omega arith) _ (at-after-child .after-child .ensures) _ _ _
+    (at-bit .bit .ensures) (c .before .given .ensures) (c .union .ensures)
 
 same-length : tie.Need-same-length Inv-loop μ-loop
 same-length c = c .before .loop .inv .long
 
 returns : tie.Need-returns Inv-loop μ-loop
 returns c =
-    let a = c .before .before .before .before .before .args in
-    filling-ends (a .n) (allMembers (a .ms .now)) (a .t .now) (a .at) _ _ _ (c .before .loop .inv) (c .before .before .before .before .before .pre .0)
-    (c .before .before .before .before .before .pre .1) (omega arith)
+    let start = c .before .before .before .before .before in
+    let a = start .args in
+    filling-ends (a .n) (allMembers (a .ms .now)) (a .t .now) (a .at) _ _ _ (c .before .loop .inv) (start .pre .0)
+    (start .pre .1) (omega arith)
 
 pub fill-after-spec : {M : Type 1} → statement M
 fill-after-spec =

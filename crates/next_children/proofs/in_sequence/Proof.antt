@@ -12,7 +12,10 @@ given-requires-2 c κs = search needs
 
 returns : tie.Need-returns
 unfolding union
-returns c = rw (c .before .before .before .before .before .before .before .before .before .given .ensures, c .before .before .before .before .before .before .before .before .given2 .ensures)
+returns c =
+    let at-given2 = c .before .before .before .before .before .before .before .before in
+    let at-given = at-given2 .before in
+    rw (at-given .given .ensures, at-given2 .given2 .ensures)
 
 pub in-sequence-spec : {M : Type 1} → statement M
 in-sequence-spec = tie.close (tie.spec given-requires given-requires-2 returns)

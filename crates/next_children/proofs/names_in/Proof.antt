@@ -34,10 +34,16 @@ part-t-end : tie.Need-part-t-end Inv-loop μ-loop
 part-t-end c = search needs
 
 loop-less : tie.Need-loop-less Inv-loop μ-loop
-loop-less c = let t = c .before .before .before .before .loop .t .now in omega (arith, length-take (length t - particleSize) (drop particleSize t), length-drop particleSize t)
+loop-less c =
+    let at-loop = c .before .before .before .before in
+    let t = at-loop .loop .t .now in
+    omega (arith, length-take (length t - particleSize) (drop particleSize t), length-drop particleSize t)
 
 loop-again : tie.Need-loop-again Inv-loop μ-loop
-loop-again c = naming-on _ _ _ (c .before .before .before .before .loop .inv) (omega arith) _ _ (c .before .before .first-name .ensures) (c .before .union .ensures)
+loop-again c =
+    let at-first-name = c .before .before in
+    let at-loop = at-first-name .before .before in
+    naming-on _ _ _ (at-loop .loop .inv) (omega arith) _ _ (at-first-name .first-name .ensures) (c .before .union .ensures)
 
 returns : tie.Need-returns Inv-loop μ-loop
 returns c = naming-ends _ _ _ (c .before .loop .inv) (omega arith)

@@ -27,11 +27,15 @@ returns-2 c = rw (c .enum-told2 .given .1)
 
 returns-3 : tie.Need-returns-3
 unfolding union
-returns-3 c = rw (c .enum-told3 .given .1, c .before .before .before .given .ensures)
+returns-3 c =
+    let at-given = c .before .before .before in
+    rw (c .enum-told3 .given .1, at-given .given .ensures)
 
 returns-4 : tie.Need-returns-4
 unfolding union
-returns-4 c = rw (c .enum-told4 .given .1, c .before .before .before .given .ensures)
+returns-4 c =
+    let at-given = c .before .before .before in
+    rw (c .enum-told4 .given .1, at-given .given .ensures)
 
 pub quantified-spec : {M : Type 1} → statement M
 quantified-spec =

@@ -34,7 +34,9 @@ abbrev find-in-calls : ℕ → find-in-lts.Claims
 find-in-calls t = (last-of-reads.Asked, last-of-reads.Learnt, enter-reads.Asked, enter-reads.Learnt, part-reads.Asked, part-reads.Learnt, find-in-below t, find-in.Post)
 
 find-in-returns : (t : ℕ) → find-in-lts.Need-returns (find-in-calls t) (find-in-at t) find-in.Post
-find-in-returns t c = place-none _ _ _ (c .before .before .before .args .place .now) (c .if1 .taken)
+find-in-returns t c =
+    let start = c .before .before .before in
+    place-none _ _ _ (start .args .place .now) (c .if1 .taken)
 
 find-in-shared-slice-read-n : (t : ℕ) → find-in-lts.Need-shared-slice-read-n (find-in-calls t) (find-in-at t) find-in.Post
 find-in-shared-slice-read-n t c = search needs
@@ -46,7 +48,9 @@ find-in-last-of-requires : (t : ℕ) → find-in-lts.Need-last-of-requires (find
 find-in-last-of-requires t c κs = search needs
 
 find-in-returns-2 : (t : ℕ) → find-in-lts.Need-returns-2 (find-in-calls t) (find-in-at t) find-in.Post
-find-in-returns-2 t c = place-last _ _ _ (c .before .before .before .before .before .before .args .place .now) _ (c .before .if2 .taken) (c .last-of .ensures)
+find-in-returns-2 t c =
+    let start = c .before .before .before .before .before .before in
+    place-last _ _ _ (start .args .place .now) _ (c .before .if2 .taken) (c .last-of .ensures)
 
 find-in-enter-requires : (t : ℕ) → find-in-lts.Need-enter-requires (find-in-calls t) (find-in-at t) find-in.Post
 find-in-enter-requires t c κs = search needs
@@ -58,10 +62,20 @@ find-in-enum-known-e : (t : ℕ) → find-in-lts.Need-enum-known-e (find-in-call
 find-in-enum-known-e t c = search needs
 
 find-in-mul-part : (t : ℕ) → find-in-lts.Need-mul-part (find-in-calls t) (find-in-at t) find-in.Post
-find-in-mul-part t c = let a = c .before .before .before .before .before .before .before .before .before .args in let q = entered-part (a .h) (a .s .now) (getD (a .place .now) 0 0) _ _ _ _ (c .before .before .before .enter .ensures) (c .before .e .given .1) in omega (arith, q .room)
+find-in-mul-part t c =
+    let at-enter = c .before .before .before in
+    let start = at-enter .before .before .before .before .before .before in
+    let a = start .args in
+    let q = entered-part (a .h) (a .s .now) (getD (a .place .now) 0 0) _ _ _ _ (at-enter .enter .ensures) (c .before .e .given .1) in
+    omega (arith, q .room)
 
 find-in-mul-part-2 : (t : ℕ) → find-in-lts.Need-mul-part-2 (find-in-calls t) (find-in-at t) find-in.Post
-find-in-mul-part-2 t c = let a = c .before .before .before .before .before .before .before .before .before .args in let q = entered-part (a .h) (a .s .now) (getD (a .place .now) 0 0) _ _ _ _ (c .before .before .before .enter .ensures) (c .before .e .given .1) in omega (arith, q .room)
+find-in-mul-part-2 t c =
+    let at-enter = c .before .before .before in
+    let start = at-enter .before .before .before .before .before .before in
+    let a = start .args in
+    let q = entered-part (a .h) (a .s .now) (getD (a .place .now) 0 0) _ _ _ _ (at-enter .enter .ensures) (c .before .e .given .1) in
+    omega (arith, q .room)
 
 find-in-part-requires : (t : ℕ) → find-in-lts.Need-part-requires (find-in-calls t) (find-in-at t) find-in.Post
 find-in-part-requires t c κs = search needs
@@ -76,18 +90,37 @@ find-in-part-find-in-end : (t : ℕ) → find-in-lts.Need-part-find-in-end (find
 find-in-part-find-in-end t c = search needs
 
 find-in-find-in-requires : (t : ℕ) → find-in-lts.Need-find-in-requires (find-in-calls t) (find-in-at t) find-in.Post
-find-in-find-in-requires t c κs = let a = c .before .before .before .before .before .before .before .before .before .before .before .args in
-    let q = entered-part (a .h) (a .s .now) (getD (a .place .now) 0 0) _ _ _ _ (c .before .before .before .before .before .enter .ensures) (c .before .before .before .e .given .1) in
-    let l = part-length (particleSize * (c .before .before .before .e .given .0 .1 .0)) (particleSize * (c .before .before .before .e .given .0 .1 .1 .0)) (a .s .now) _ (q .room) (c .before .part .ensures) in
-    omega (arith, q .start, q .deep, q .room, l, length-take (length (a .place .now) - 1) (drop 1 (a .place .now)), length-drop 1 (a .place .now), c .before .before .before .before .before .before .before .before .if1 .left)
+find-in-find-in-requires t c κs =
+    let e = c .before .before .before .e in
+    let enter = c .before .before .before .before .before .enter in
+    let if1 = c .before .before .before .before .before .before .before .before .if1 in
+    let a = c .before .before .before .before .before .before .before .before .before .before .before .args in
+    let q = entered-part (a .h) (a .s .now) (getD (a .place .now) 0 0) _ _ _ _ (enter .ensures) (e .given .1) in
+    let l = part-length (particleSize * (e .given .0 .1 .0)) (particleSize * (e .given .0 .1 .1 .0)) (a .s .now) _ (q .room) (c .before .part .ensures) in
+    omega (arith, q .start, q .deep, q .room, l, length-take (length (a .place .now) - 1) (drop 1 (a .place .now)), length-drop 1 (a .place .now), if1 .left)
 
 find-in-returns-3 : (t : ℕ) → find-in-lts.Need-returns-3 (find-in-calls t) (find-in-at t) find-in.Post
-find-in-returns-3 t c = place-out _ _ _ _ (c .before .before .before .before .before .before .before .before .args .place .now) (c .before .before .before .before .before .if1 .left) (c .before .before .before .if2 .left) (c .before .before .enter .ensures) (c .enum-told .given .1)
+find-in-returns-3 t c =
+    let at-enter = c .before .before in
+    let at-if2 = at-enter .before in
+    let at-if1 = at-if2 .before .before in
+    let start = at-if1 .before .before .before in
+    place-out _ _ _ _ (start .args .place .now) (at-if1 .if1 .left) (at-if2 .if2 .left) (at-enter .enter .ensures) (c .enum-told .given .1)
 
 find-in-returns-4 : (t : ℕ) → find-in-lts.Need-returns-4 (find-in-calls t) (find-in-at t) find-in.Post
-find-in-returns-4 t c = let a = c .before .before .before .before .before .before .before .before .before .before .before .before .args in
-    let q = entered-part (a .h) (a .s .now) (getD (a .place .now) 0 0) _ _ _ _ (c .before .before .before .before .before .before .enter .ensures) (c .before .before .before .before .e .given .1) in
-    place-in _ _ _ _ (a .place .now) _ _ _ _ (c .before .before .before .before .before .before .before .before .before .if1 .left) (c .before .before .before .before .before .before .before .if2 .left) (c .before .before .before .before .before .before .enter .ensures) (c .before .before .before .before .e .given .1) (c .find-in .ensures ∙ ap (λ (xs : Particles). spotOf (a .insert) (take (length (a .place .now) - 1) (drop 1 (a .place .now))) (c .before .before .before .before .e .given .0 .0) xs) (ap particlesOf (c .before .before .part .ensures) ∙ particles-part _ _ (a .s .now) (q .room)))
+find-in-returns-4 t c =
+    let at-part = c .before .before in
+    let at-e = at-part .before .before in
+    let at-enter = at-e .before .before in
+    let at-if2 = at-enter .before in
+    let at-if1 = at-if2 .before .before in
+    let start = at-if1 .before .before .before in
+    let a = start .args in
+    let q = entered-part (a .h) (a .s .now) (getD (a .place .now) 0 0) _ _ _ _ (at-enter .enter .ensures) (at-e .e .given .1) in
+    place-in _ _ _ _ (a .place .now) _ _ _ _ (at-if1 .if1 .left) (at-if2 .if2 .left) (at-enter .enter .ensures) (at-e .e .given .1)
+    (c .find-in .ensures
+    ∙ ap (λ (xs : Particles). spotOf (a .insert) (take (length (a .place .now) - 1) (drop 1 (a .place .now))) (at-e .e .given .0 .0) xs)
+    (ap particlesOf (at-part .part .ensures) ∙ particles-part _ _ (a .s .now) (q .room)))
 
 pub +find-in-spec : {M : Type 1} → statement M
 +find-in-spec = close μ-find-in λ t. find-in-lts.spec (find-in-calls t)

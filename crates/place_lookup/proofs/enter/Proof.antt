@@ -19,7 +19,10 @@ enum-known-r : tie.Need-enum-known-r
 enum-known-r c = search needs
 
 enter-at-requires : tie.Need-enter-at-requires
-enter-at-requires c κs = (member-bounded _ _ (c .before .before .before .before .before .before .args .s .now) _ _ (c .before .before .before .reach .ensures) (c .before .r .given .1), c .before .before .before .before .before .before .pre .0, c .before .before .before .before .before .before .pre .1)
+enter-at-requires c κs =
+    let at-reach = c .before .before .before in
+    let start = at-reach .before .before .before in
+    (member-bounded _ _ (start .args .s .now) _ _ (at-reach .reach .ensures) (c .before .r .given .1), start .pre .0, start .pre .1)
 
 enum-told : tie.Need-enum-told
 enum-told c = search needs
@@ -28,13 +31,26 @@ enum-told-2 : tie.Need-enum-told-2
 enum-told-2 c = search needs
 
 returns-2 : tie.Need-returns-2
-returns-2 c = enter-some (c .before .before .before .before .before .before .before .args .h) (particlesOf (c .before .before .before .before .before .before .before .args .s .now)) _ _ _ (c .before .before .before .before .before .if1 .left) (c .before .before .before .before .reach .ensures) (rw (c .before .before .r .given .1) (c .enter-at .ensures))
+returns-2 c =
+    let at-r = c .before .before in
+    let at-reach = at-r .before .before in
+    let at-if1 = at-reach .before in
+    let start = at-if1 .before .before in
+    enter-some (start .args .h) (particlesOf (start .args .s .now)) _ _ _ (at-if1 .if1 .left) (at-reach .reach .ensures) (rw (at-r .r .given .1) (c .enter-at .ensures))
 
 returns-3 : tie.Need-returns-3
-returns-3 c = enter-some (c .before .before .before .before .before .args .h) (particlesOf (c .before .before .before .before .before .args .s .now)) _ _ _ (c .before .before .before .if1 .left) (c .before .before .reach .ensures) (rw (c .enum-told .given .1))
+returns-3 c =
+    let at-reach = c .before .before in
+    let at-if1 = at-reach .before in
+    let start = at-if1 .before .before in
+    enter-some (start .args .h) (particlesOf (start .args .s .now)) _ _ _ (at-if1 .if1 .left) (at-reach .reach .ensures) (rw (c .enum-told .given .1))
 
 returns-4 : tie.Need-returns-4
-returns-4 c = enter-some (c .before .before .before .before .before .args .h) (particlesOf (c .before .before .before .before .before .args .s .now)) _ _ _ (c .before .before .before .if1 .left) (c .before .before .reach .ensures) (rw (c .enum-told2 .given .1))
+returns-4 c =
+    let at-reach = c .before .before in
+    let at-if1 = at-reach .before in
+    let start = at-if1 .before .before in
+    enter-some (start .args .h) (particlesOf (start .args .s .now)) _ _ _ (at-if1 .if1 .left) (at-reach .reach .ensures) (rw (c .enum-told2 .given .1))
 
 pub enter-spec : {M : Type 1} → statement M
 enter-spec =

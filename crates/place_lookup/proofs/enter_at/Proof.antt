@@ -45,10 +45,19 @@ plain-requires : tie.Need-plain-requires
 plain-requires c κs = search needs
 
 returns : tie.Need-returns
-returns c = enter-element (c .before .before .before .before .args .h) (c .before .before .before .before .args .p) (c .before .before .before .before .args .s .now) _ (omega arith) (c .before .before .read-particle .ensures) _ (c .enum-told .given .1)
+returns c =
+    let at-read-particle = c .before .before in
+    let start = at-read-particle .before .before in
+    enter-element (start .args .h) (start .args .p) (start .args .s .now) _ (omega arith) (at-read-particle .read-particle .ensures) _ (c .enum-told .given .1)
 
 returns-2 : tie.Need-returns-2
-returns-2 c = enter-group (c .before .before .before .before .before .before .before .before .before .before .before .args .h) (c .before .before .before .before .before .before .before .before .before .before .before .args .p) (c .before .before .before .before .before .before .before .before .before .before .before .args .s .now) _ (omega arith) (c .before .before .before .before .before .before .before .before .before .read-particle .ensures) _ _ _ _ (c .before .before .before .before .before .before .before .what .given .1) (c .before .before .before .before .span .ensures) (c .before .plain .ensures)
+returns-2 c =
+    let at-span = c .before .before .before .before in
+    let at-what = at-span .before .before .before in
+    let at-read-particle = at-what .before .before in
+    let start = at-read-particle .before .before in
+    enter-group (start .args .h) (start .args .p) (start .args .s .now) _ (omega arith) (at-read-particle .read-particle .ensures) _ _ _ _
+    (at-what .what .given .1) (at-span .span .ensures) (c .before .plain .ensures)
 
 pub enter-at-spec : {M : Type 1} → statement M
 enter-at-spec =

@@ -13,25 +13,44 @@ enum-known-r : tie.Need-enum-known-r
 enum-known-r c = search needs
 
 add-t8 : tie.Need-add-t8
-add-t8 c = omega (arith, member-bounded _ _ (c .before .before .before .before .before .before .args .s .now) _ (c .before .before .r .given .0 .0) (c .before .before .before .before .reach .ensures) (c .before .before .r .given .1))
+add-t8 c =
+    let at-r = c .before .before in
+    let at-reach = at-r .before .before in
+    let start = at-reach .before .before in
+    omega (arith, member-bounded _ _ (start .args .s .now) _ (at-r .r .given .0 .0) (at-reach .reach .ensures) (at-r .r .given .1))
 
 enum-known-r-2 : tie.Need-enum-known-r-2
 enum-known-r-2 c = search needs
 
 add-t9 : tie.Need-add-t9
-add-t9 c = omega (arith, end-bounded _ _ (c .before .before .before .before .before .before .args .s .now) _ (c .before .before .r2 .given .0 .0) (c .before .before .before .before .reach .ensures) (c .before .before .r2 .given .1))
+add-t9 c =
+    let at-r2 = c .before .before in
+    let at-reach = at-r2 .before .before in
+    let start = at-reach .before .before in
+    omega (arith, end-bounded _ _ (start .args .s .now) _ (at-r2 .r2 .given .0 .0) (at-reach .reach .ensures) (at-r2 .r2 .given .1))
 
 enum-told : tie.Need-enum-told
 enum-told c = search needs
 
 returns : tie.Need-returns
-returns c = gap-member (c .before .before .before .before .before .before .args .h) _ _ (c .before .before .before .before .reach .ensures) _ (c .before .before .r .given .1)
+returns c =
+    let at-r = c .before .before in
+    let at-reach = at-r .before .before in
+    let start = at-reach .before .before in
+    gap-member (start .args .h) _ _ (at-reach .reach .ensures) _ (at-r .r .given .1)
 
 returns-2 : tie.Need-returns-2
-returns-2 c = gap-end (c .before .before .before .before .before .before .args .h) _ _ (c .before .before .before .before .reach .ensures) _ (c .before .before .r2 .given .1)
+returns-2 c =
+    let at-r2 = c .before .before in
+    let at-reach = at-r2 .before .before in
+    let start = at-reach .before .before in
+    gap-end (start .args .h) _ _ (at-reach .reach .ensures) _ (at-r2 .r2 .given .1)
 
 returns-3 : tie.Need-returns-3
-returns-3 c = gap-few (c .before .before .before .before .args .h) _ _ (c .before .before .reach .ensures) (c .enum-told .given .1)
+returns-3 c =
+    let at-reach = c .before .before in
+    let start = at-reach .before .before in
+    gap-few (start .args .h) _ _ (at-reach .reach .ensures) (c .enum-told .given .1)
 
 pub gap-after-spec : {M : Type 1} → statement M
 gap-after-spec =

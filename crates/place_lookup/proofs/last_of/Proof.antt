@@ -20,7 +20,9 @@ member-after-requires : tie.Need-member-after-requires
 member-after-requires c κs = search needs
 
 returns-3 : tie.Need-returns-3
-returns-3 c = rw (c .before .before .if1 .left) (last-member _ _ _ _ (c .before .if2 .left) (c .member-after .ensures))
+returns-3 c =
+    let at-if1 = c .before .before in
+    rw (at-if1 .if1 .left) (last-member _ _ _ _ (c .before .if2 .left) (c .member-after .ensures))
 
 pub last-of-spec : {M : Type 1} → statement M
 last-of-spec =

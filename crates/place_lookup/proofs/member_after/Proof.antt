@@ -13,7 +13,11 @@ enum-known-r : tie.Need-enum-known-r
 enum-known-r c = search needs
 
 add-t7 : tie.Need-add-t7
-add-t7 c = omega (arith, member-bounded _ _ (c .before .before .before .before .before .before .args .s .now) _ (c .before .before .r .given .0 .0) (c .before .before .before .before .reach .ensures) (c .before .before .r .given .1))
+add-t7 c =
+    let at-r = c .before .before in
+    let at-reach = at-r .before .before in
+    let start = at-reach .before .before in
+    omega (arith, member-bounded _ _ (start .args .s .now) _ (at-r .r .given .0 .0) (at-reach .reach .ensures) (at-r .r .given .1))
 
 enum-told : tie.Need-enum-told
 enum-told c = search needs
@@ -22,13 +26,23 @@ enum-told-2 : tie.Need-enum-told-2
 enum-told-2 c = search needs
 
 returns : tie.Need-returns
-returns c = member-member (c .before .before .before .before .before .before .args .h) _ _ (c .before .before .before .before .reach .ensures) _ (c .before .before .r .given .1)
+returns c =
+    let at-r = c .before .before in
+    let at-reach = at-r .before .before in
+    let start = at-reach .before .before in
+    member-member (start .args .h) _ _ (at-reach .reach .ensures) _ (at-r .r .given .1)
 
 returns-2 : tie.Need-returns-2
-returns-2 c = member-end (c .before .before .before .before .args .h) _ _ (c .before .before .reach .ensures) _ (c .enum-told .given .1)
+returns-2 c =
+    let at-reach = c .before .before in
+    let start = at-reach .before .before in
+    member-end (start .args .h) _ _ (at-reach .reach .ensures) _ (c .enum-told .given .1)
 
 returns-3 : tie.Need-returns-3
-returns-3 c = member-few (c .before .before .before .before .args .h) _ _ (c .before .before .reach .ensures) (c .enum-told2 .given .1)
+returns-3 c =
+    let at-reach = c .before .before in
+    let start = at-reach .before .before in
+    member-few (start .args .h) _ _ (at-reach .reach .ensures) (c .enum-told2 .given .1)
 
 pub member-after-spec : {M : Type 1} → statement M
 member-after-spec =

@@ -10,6 +10,8 @@ use Rattle.place_lookup.proofs.span.Statement.{statement}
 use Rattle.place_lookup.proofs.span.Tie as tie
 use Rattle.rules.specs.Layout.{particleSize}
 
+-- The loop's invariant: n deeper particles are passed; with those that what is left, t, begins with they make up the
+-- span.
 abbrev Inv-loop : tie.InvT-loop
 Inv-loop s d t₀ n₀ t n = Deeper (spanOf d (particlesOf s)) (length s) d t n
 
@@ -26,7 +28,10 @@ cast-depth : tie.Need-cast-depth Inv-loop μ-loop
 cast-depth c = search needs
 
 returns : tie.Need-returns Inv-loop μ-loop
-returns c = let l = c .before .before .before .loop in deeper-stop _ _ _ (l .t .now) _ (l .inv) (c .before .particle-depth .result) (omega arith) (c .before .particle-depth .ensures) (omega arith)
+returns c =
+    let at-loop = c .before .before .before in
+    let l = at-loop .loop in
+    deeper-stop _ _ _ (l .t .now) _ (l .inv) (c .before .particle-depth .result) (omega arith) (c .before .particle-depth .ensures) (omega arith)
 
 add-n : tie.Need-add-n Inv-loop μ-loop
 add-n c = omega arith
@@ -41,10 +46,17 @@ part-t-end : tie.Need-part-t-end Inv-loop μ-loop
 part-t-end c = search needs
 
 loop-less : tie.Need-loop-less Inv-loop μ-loop
-loop-less c = let t = c .before .before .before .before .loop .t .now in omega (arith, length-take (length t - particleSize) (drop particleSize t), length-drop particleSize t)
+loop-less c =
+    let at-loop = c .before .before .before .before in
+    let t = at-loop .loop .t .now in
+    omega (arith, length-take (length t - particleSize) (drop particleSize t), length-drop particleSize t)
 
 loop-again : tie.Need-loop-again Inv-loop μ-loop
-loop-again c = let l = c .before .before .before .before .loop in deeper-on _ _ _ (l .t .now) _ (l .inv) (c .before .before .particle-depth .result) (omega arith) (c .before .before .particle-depth .ensures) (omega arith)
+loop-again c =
+    let at-particle-depth = c .before .before in
+    let at-loop = at-particle-depth .before .before in
+    let l = at-loop .loop in
+    deeper-on _ _ _ (l .t .now) _ (l .inv) (at-particle-depth .particle-depth .result) (omega arith) (at-particle-depth .particle-depth .ensures) (omega arith)
 
 returns-2 : tie.Need-returns-2 Inv-loop μ-loop
 returns-2 c = let l = c .before .loop in deeper-few _ _ _ (l .t .now) _ (l .inv) (omega arith)

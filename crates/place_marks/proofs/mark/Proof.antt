@@ -7,6 +7,7 @@ use Rattle.place_marks.proofs.WriteLaws.{Marking, marking-starts, marki
 use Rattle.place_marks.proofs.mark.Statement.{statement}
 use Rattle.place_marks.proofs.mark.Tie as tie
 
+-- The loop's invariant: marking the elements of what is left, t, completes the marks of all particles.
 abbrev Inv-loop : tie.InvT-loop
 Inv-loop particles value marks₀ size t₀ marks t = Marking value particles marks₀ t marks
 
@@ -33,20 +34,25 @@ part-t-end c = search needs
 
 loop-less : tie.Need-loop-less Inv-loop μ-loop
 loop-less c =
-    let l = c .before .before .before .before .before .before in
-    let size = l .before .particle-size .result in
-    omega (arith, l .before .particle-size .ensures, length-take (length (l .loop .t .now) - size) (drop size (l .loop .t .now)), length-drop size (l .loop .t .now))
+    let at-loop = c .before .before .before .before .before .before in
+    let at-particle-size = at-loop .before in
+    let size = at-particle-size .particle-size .result in
+    omega (arith, at-particle-size .particle-size .ensures, length-take (length (at-loop .loop .t .now) - size) (drop size (at-loop .loop .t .now)), length-drop size (at-loop .loop .t .now))
 
 loop-again : tie.Need-loop-again Inv-loop μ-loop
 loop-again c =
-    let l = c .before .before .before .before .before .before in
-    marking-on (l .loop .inv) (l .before .particle-size .ensures) (omega arith) (c .before .before .before .mark-first .ensures) (c .before .before .before .mark-first .kept .1 .1 .0)
+    let at-mark-first = c .before .before .before in
+    let at-loop = at-mark-first .before .before .before in
+    let at-particle-size = at-loop .before in
+    marking-on (at-loop .loop .inv) (at-particle-size .particle-size .ensures) (omega arith) (at-mark-first .mark-first .ensures) (at-mark-first .mark-first .kept .1 .1 .0)
 
 same-length : tie.Need-same-length Inv-loop μ-loop
 same-length c = c .before .loop .inv .size
 
 returns : tie.Need-returns Inv-loop μ-loop
-returns c = marking-ends (c .before .loop .inv) (omega (arith, c .before .before .particle-size .ensures))
+returns c =
+    let at-particle-size = c .before .before in
+    marking-ends (c .before .loop .inv) (omega (arith, at-particle-size .particle-size .ensures))
 
 pub mark-spec : {M : Type 1} → statement M
 mark-spec =

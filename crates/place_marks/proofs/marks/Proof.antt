@@ -41,7 +41,8 @@ returns c =
     let at-times2 = at-window .before in
     let at-times = at-times2 .before in
     let at-particle-size = at-times .before in
-    let a = at-particle-size .before .before .args in
+    let start = at-particle-size .before .before in
+    let a = start .args in
     marks-laid (a .n) (a .p) (a .part .now) (at-particle-size .particle-size .ensures) (at-times .times .ensures) (at-times2 .times2 .ensures)
     (at-window .window .ensures) (at-mark .mark .ensures) (at-window2 .window2 .ensures) (at-mark2 .mark2 .ensures)
 

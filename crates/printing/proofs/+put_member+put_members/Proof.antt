@@ -60,7 +60,28 @@ put-members-below t =
     and 2 put-members-kinds.ps (falls 2 put-members-kinds.ps _<_ μ-put-members t) put-members.Pre
 
 abbrev put-member-calls : ℕ → put-member-lts.Claims
-put-member-calls t = (particle-reads.Asked, particle-reads.Learnt, particle-sort-reads.Asked, particle-sort-reads.Learnt, particle-quantifier-reads.Asked, particle-quantifier-reads.Learnt, put-sign-reads.Asked, put-sign-reads.Learnt, particle-index-reads.Asked, particle-index-reads.Learnt, name-of-reads.Asked, name-of-reads.Learnt, put-reads.Asked, put-reads.Learnt, put-mark-reads.Asked, put-mark-reads.Learnt, put-u8-reads.Asked, put-u8-reads.Learnt, put-members-below t, put-members.Post)
+put-member-calls t = (
+  particle-reads.Asked,
+  particle-reads.Learnt,
+  particle-sort-reads.Asked,
+  particle-sort-reads.Learnt,
+  particle-quantifier-reads.Asked,
+  particle-quantifier-reads.Learnt,
+  put-sign-reads.Asked,
+  put-sign-reads.Learnt,
+  particle-index-reads.Asked,
+  particle-index-reads.Learnt,
+  name-of-reads.Asked,
+  name-of-reads.Learnt,
+  put-reads.Asked,
+  put-reads.Learnt,
+  put-mark-reads.Asked,
+  put-mark-reads.Learnt,
+  put-u8-reads.Asked,
+  put-u8-reads.Learnt,
+  put-members-below t,
+  put-members.Post,
+)
 
 abbrev put-members-calls : ℕ → put-members-lts.Claims
 put-members-calls t = (particle-reads.Asked, particle-reads.Learnt, particle-depth-reads.Asked, particle-depth-reads.Learnt, put-member-below t, put-member.Post)
@@ -87,10 +108,14 @@ put-member-name-of-requires : (t : ℕ) → put-member-lts.Need-name-of-requires
 put-member-name-of-requires t c κs = search needs
 
 put-member-put-requires : (t : ℕ) → put-member-lts.Need-put-requires (put-member-calls t) (put-member-at t) put-member.Post
-put-member-put-requires t c κs = omega (arith, sign-short (groupOf (c .before .before .before .before .before .before .before .before .before .before .before .before .before .args .kind)) (c .before .before .before .before .before .before .before .before .before .before .before .before .before .args .first))
+put-member-put-requires t c κs =
+    let start = c .before .before .before .before .before .before .before .before .before .before .before .before .before in
+    omega (arith, sign-short (groupOf (start .args .kind)) (start .args .first))
 
 put-member-put-mark-requires : (t : ℕ) → put-member-lts.Need-put-mark-requires (put-member-calls t) (put-member-at t) put-member.Post
-put-member-put-mark-requires t c κs = omega (arith, sign-short (groupOf (c .before .before .before .before .before .before .before .before .before .before .before .before .before .before .before .before .before .args .kind)) (c .before .before .before .before .before .before .before .before .before .before .before .before .before .before .before .before .before .args .first))
+put-member-put-mark-requires t c κs =
+    let start = c .before .before .before .before .before .before .before .before .before .before .before .before .before .before .before .before .before in
+    omega (arith, sign-short (groupOf (start .args .kind)) (start .args .first))
 
 put-member-add-t28 : (t : ℕ) → put-member-lts.Need-add-t28 (put-member-calls t) (put-member-at t) put-member.Post
 put-member-add-t28 t c = search needs
@@ -99,11 +124,26 @@ put-member-same-length : (t : ℕ) → put-member-lts.Need-same-length (put-memb
 put-member-same-length t c = search needs
 
 put-member-returns : (t : ℕ) → put-member-lts.Need-returns (put-member-calls t) (put-member-at t) put-member.Post
-put-member-returns t c = let a = c .before .before .before .before .before .before .before .before .before .before .before .before .before .before .before .before .before .before .before .before .args in
-    element-stepped (a .store .now) (a .end) (a .i) (a .depth) (a .kind) (a .first) _ (c .before .before .before .before .before .before .before .before .before .before .before .before .before .before .before .before .before .particle .ensures) (omega arith) (c .before .before .before .before .before .before .before .before .before .before .before .before .before .before .before .before .particle-sort .ensures) (c .before .before .before .before .before .before .before .before .before .before .before .before .before .before .before .particle-quantifier .ensures) (c .before .before .before .before .before .before .before .before .before .before .before .before .before .put-sign .ensures) _ (c .before .before .before .before .before .before .before .before .before .before .if1 .taken) (c .before .before .before .before .before .before .before .before .before .particle-index .ensures) (c .before .before .before .before .before .before .before .before .name-of .ensures) (c .before .before .before .before .before .before .put .ensures) (c .before .before .put-mark .ensures)
+put-member-returns t c =
+    let at-put-mark = c .before .before in
+    let at-put = at-put-mark .before .before .before .before in
+    let at-name-of = at-put .before .before in
+    let at-particle-index = at-name-of .before in
+    let at-if1 = at-particle-index .before in
+    let at-put-sign = at-if1 .before .before .before in
+    let at-particle-quantifier = at-put-sign .before .before in
+    let at-particle-sort = at-particle-quantifier .before in
+    let at-particle = at-particle-sort .before in
+    let start = at-particle .before .before .before in
+    let a = start .args in
+    element-stepped (a .store .now) (a .end) (a .i) (a .depth) (a .kind) (a .first) _ (at-particle .particle .ensures) (omega arith)
+    (at-particle-sort .particle-sort .ensures) (at-particle-quantifier .particle-quantifier .ensures) (at-put-sign .put-sign .ensures) _
+    (at-if1 .if1 .taken) (at-particle-index .particle-index .ensures) (at-name-of .name-of .ensures) (at-put .put .ensures) (at-put-mark .put-mark .ensures)
 
 put-member-put-u8-requires : (t : ℕ) → put-member-lts.Need-put-u8-requires (put-member-calls t) (put-member-at t) put-member.Post
-put-member-put-u8-requires t c κs = omega (arith, sign-short (groupOf (c .before .before .before .before .before .before .before .before .before .before .before .args .kind)) (c .before .before .before .before .before .before .before .before .before .before .before .args .first))
+put-member-put-u8-requires t c κs =
+    let start = c .before .before .before .before .before .before .before .before .before .before .before in
+    omega (arith, sign-short (groupOf (start .args .kind)) (start .args .first))
 
 put-member-add-put-members : (t : ℕ) → put-member-lts.Need-add-put-members (put-member-calls t) (put-member-at t) put-member.Post
 put-member-add-put-members t c = search needs
@@ -112,23 +152,67 @@ put-member-add-put-members-2 : (t : ℕ) → put-member-lts.Need-add-put-members
 put-member-add-put-members-2 t c = search needs
 
 put-member-put-members-requires : (t : ℕ) → put-member-lts.Need-put-members-requires (put-member-calls t) (put-member-at t) put-member.Post
-put-member-put-members-requires t c κs = (omega arith, record { few = omega arith; deep = omega arith; room = omega (arith, sign-short (groupOf (c .before .before .before .before .before .before .before .before .before .before .before .before .before .before .before .args .kind)) (c .before .before .before .before .before .before .before .before .before .before .before .before .before .before .before .args .first)) })
+put-member-put-members-requires t c κs =
+    let start = c .before .before .before .before .before .before .before .before .before .before .before .before .before .before .before in
+    (omega arith, record { few = omega arith; deep = omega arith; room = omega (arith, sign-short (groupOf (start .args .kind)) (start .args .first)) })
 
 put-member-put-u8-requires-2 : (t : ℕ) → put-member-lts.Need-put-u8-requires-2 (put-member-calls t) (put-member-at t) put-member.Post
-put-member-put-u8-requires-2 t c κs = omega (arith, sign-short (groupOf (c .before .before .before .before .before .before .before .before .before .before .before .before .before .before .before .before .before .before .before .args .kind)) (c .before .before .before .before .before .before .before .before .before .before .before .before .before .before .before .before .before .before .before .args .first), c .before .before .before .put-members .ensures .small)
+put-member-put-u8-requires-2 t c κs =
+    omega (
+      arith,
+      sign-short
+          (groupOf
+          (c .before .before .before .before .before .before .before .before .before .before .before .before .before .before .before .before .before .before
+          .before .args .kind))
+          (c .before .before .before .before .before .before .before .before .before .before .before .before .before .before .before .before .before .before
+          .before .args .first),
+      c .before .before .before .put-members .ensures .small,
+    )
 
 put-member-put-mark-requires-2 : (t : ℕ) → put-member-lts.Need-put-mark-requires-2 (put-member-calls t) (put-member-at t) put-member.Post
-put-member-put-mark-requires-2 t c κs = omega (arith, sign-short (groupOf (c .before .before .before .before .before .before .before .before .before .before .before .before .before .before .before .before .before .before .before .before .before .before .before .args .kind)) (c .before .before .before .before .before .before .before .before .before .before .before .before .before .before .before .before .before .before .before .before .before .before .before .args .first), c .before .before .before .before .before .before .before .put-members .ensures .small, c .before .before .before .put-u82 .ensures .next, c .before .before .before .before .before .before .before .before .before .before .before .put-u8 .ensures .next, c .before .before .before .before .before .before .before .before .before .before .before .before .before .before .before .before .put-sign .ensures .next, c .before .before .before .before .before .before .before .before .before .before .before .before .before .before .before .before .before .before .before .before .before .before .before .pre .1 .0 .room, c .before .before .before .before .before .before .before .before .before .before .before .before .before .before .before .before .before .before .before .before .before .before .before .pre .1 .1)
+put-member-put-mark-requires-2 t c κs =
+    let at-put-u82 = c .before .before .before in
+    let at-put-members = at-put-u82 .before .before .before .before in
+    let at-put-u8 = at-put-members .before .before .before .before in
+    let at-put-sign = at-put-u8 .before .before .before .before .before in
+    let start = at-put-sign .before .before .before .before .before .before .before in
+    omega (
+      arith,
+      sign-short (groupOf (start .args .kind)) (start .args .first),
+      at-put-members .put-members .ensures .small,
+      at-put-u82 .put-u82 .ensures .next,
+      at-put-u8 .put-u8 .ensures .next,
+      at-put-sign .put-sign .ensures .next,
+      start .pre .1 .0 .room,
+      start .pre .1 .1,
+    )
 
 put-member-same-length-2 : (t : ℕ) → put-member-lts.Need-same-length-2 (put-member-calls t) (put-member-at t) put-member.Post
 put-member-same-length-2 t c = search needs
 
 put-member-returns-2 : (t : ℕ) → put-member-lts.Need-returns-2 (put-member-calls t) (put-member-at t) put-member.Post
-put-member-returns-2 t c = let a = c .before .before .before .before .before .before .before .before .before .before .before .before .before .before .before .before .before .before .before .before .before .before .before .before .before .before .args in
-    group-stepped (a .store .now) (a .end) (a .i) (a .depth) (a .kind) (a .first) _ (c .before .before .before .before .before .before .before .before .before .before .before .before .before .before .before .before .before .before .before .before .before .before .before .particle .ensures) (c .before .before .before .before .before .before .before .before .before .before .before .before .before .before .before .before .before .before .before .before .before .before .before .before .before .before .pre .1 .1) (c .before .before .before .before .before .before .before .before .before .before .before .before .before .before .before .before .before .before .before .before .before .before .particle-sort .ensures) (c .before .before .before .before .before .before .before .before .before .before .before .before .before .before .before .before .before .before .before .before .before .particle-quantifier .ensures) (c .before .before .before .before .before .before .before .before .before .before .before .before .before .before .before .before .before .before .before .put-sign .ensures) (c .before .before .before .before .before .before .before .before .before .before .before .before .before .before .before .before .if1 .left) (c .before .before .before .before .before .before .before .before .before .before .before .before .before .before .put-u8 .ensures) (c .before .before .before .before .before .before .before .before .before .before .put-members .ensures) (c .before .before .before .before .before .before .put-u82 .ensures) (c .before .before .put-mark2 .ensures)
+put-member-returns-2 t c =
+    let at-put-mark2 = c .before .before in
+    let at-put-u82 = at-put-mark2 .before .before .before .before in
+    let at-put-members = at-put-u82 .before .before .before .before in
+    let at-put-u8 = at-put-members .before .before .before .before in
+    let at-if1 = at-put-u8 .before .before in
+    let at-put-sign = at-if1 .before .before .before in
+    let at-particle-quantifier = at-put-sign .before .before in
+    let at-particle-sort = at-particle-quantifier .before in
+    let at-particle = at-particle-sort .before in
+    let start = at-particle .before .before .before in
+    let a = start .args in
+    group-stepped (a .store .now) (a .end) (a .i) (a .depth) (a .kind) (a .first) _ (at-particle .particle .ensures) (start .pre .1 .1)
+    (at-particle-sort .particle-sort .ensures) (at-particle-quantifier .particle-quantifier .ensures) (at-put-sign .put-sign .ensures) (at-if1 .if1 .left)
+    (at-put-u8 .put-u8 .ensures) (at-put-members .put-members .ensures) (at-put-u82 .put-u82 .ensures) (at-put-mark2 .put-mark2 .ensures)
 
+-- The loop's invariant: the text of the members from particle i on, written from `at` on, completes that of those from
+-- `from` on; `first`: no member is written yet.
 abbrev put-members-Inv-loop : put-members-lts.InvT-loop
-put-members-Inv-loop store end from depth kind out₀ start at₀ i₀ first₀ out at i first = Walk (particlesFrom store end) (membersText (namesOf store) (groupOf kind)) (membersText (namesOf store) (groupOf kind) true (build (particlesFrom store end from) depth)) end from depth start out₀ i at first out
+put-members-Inv-loop store end from depth kind out₀ start at₀ i₀ first₀ out at i first =
+    Walk (particlesFrom store end) (membersText (namesOf store) (groupOf kind))
+    (membersText (namesOf store) (groupOf kind) true (build (particlesFrom store end from) depth)) end from depth start out₀ i at first out
 
 abbrev put-members-μ-loop : put-members-lts.MeasureT-loop
 put-members-μ-loop store end from depth kind out₀ start at₀ i₀ first₀ out at i first = end - i
@@ -146,23 +230,48 @@ put-members-cast-d : (t : ℕ) → put-members-lts.Need-cast-d (put-members-call
 put-members-cast-d t c = search needs
 
 put-members-same-length : (t : ℕ) → put-members-lts.Need-same-length (put-members-calls t) (put-members-at t) put-members.Post put-members-Inv-loop put-members-μ-loop
-put-members-same-length t c = c .before .before .before .before .loop .inv .long
+put-members-same-length t c =
+    let at-loop = c .before .before .before .before in
+    at-loop .loop .inv .long
 
 put-members-returns : (t : ℕ) → put-members-lts.Need-returns (put-members-calls t) (put-members-at t) put-members.Post put-members-Inv-loop put-members-μ-loop
-put-members-returns t c = let l = c .before .before .before .before in let a = l .before .before .before .args in
-    let d : c .before .particle-depth .result ≡ readParticle (particlePart (a .store .now) (l .loop .i)) .depth = c .before .particle-depth .ensures ∙ ap (λ (b : List ℕ). readParticle b .depth) (c .before .before .particle .ensures) in
-    walk-stops (l .loop .inv) (readParticle (particlePart (a .store .now) (l .loop .i))) [] (particle-step (a .store .now) (a .end) (l .loop .i) (omega arith)) (omega arith) (members-bare (namesOf (a .store .now)) (groupOf (a .kind)) (l .loop .first)) (omega arith) laid-none
+put-members-returns t c =
+    let at-particle = c .before .before in
+    let at-loop = at-particle .before .before in
+    let start = at-loop .before .before .before in
+    let a = start .args in
+    let d : c .before .particle-depth .result ≡ readParticle (particlePart (a .store .now) (at-loop .loop .i)) .depth =
+    c .before .particle-depth .ensures ∙ ap (λ (b : List ℕ). readParticle b .depth) (at-particle .particle .ensures) in
+    walk-stops (at-loop .loop .inv) (readParticle (particlePart (a .store .now) (at-loop .loop .i))) []
+    (particle-step (a .store .now) (a .end) (at-loop .loop .i) (omega arith)) (omega arith)
+    (members-bare (namesOf (a .store .now)) (groupOf (a .kind)) (at-loop .loop .first)) (omega arith) laid-none
 
 put-members-put-member-requires : (t : ℕ) → put-members-lts.Need-put-member-requires (put-members-calls t) (put-members-at t) put-members.Post put-members-Inv-loop put-members-μ-loop
-put-members-put-member-requires t c κs = (omega (arith, c .before .before .before .before .before .before .loop .inv .onward), (record { few = omega arith; deep = omega arith; room = omega (arith, c .before .before .before .before .before .before .loop .inv .small) }, omega arith, omega arith))
+put-members-put-member-requires t c κs =
+    let at-loop = c .before .before .before .before .before .before in
+    (omega (arith, at-loop .loop .inv .onward), (record { few = omega arith; deep = omega arith; room = omega (arith, at-loop .loop .inv .small) }, omega arith, omega arith))
 
 put-members-loop-less : (t : ℕ) → put-members-lts.Need-loop-less (put-members-calls t) (put-members-at t) put-members.Post put-members-Inv-loop put-members-μ-loop
-put-members-loop-less t c = omega (arith, c .before .before .put-member .ensures .onward)
+put-members-loop-less t c =
+    let at-put-member = c .before .before in
+    omega (arith, at-put-member .put-member .ensures .onward)
 
 put-members-loop-again : (t : ℕ) → put-members-lts.Need-loop-again (put-members-calls t) (put-members-at t) put-members.Post put-members-Inv-loop put-members-μ-loop
-put-members-loop-again t c = let l = c .before .before .before .before .before .before .before .before .before in let a = l .before .before .before .args in
-    let d : c .before .before .before .before .before .before .particle-depth .result ≡ readParticle (particlePart (a .store .now) (l .loop .i)) .depth = c .before .before .before .before .before .before .particle-depth .ensures ∙ ap (λ (b : List ℕ). readParticle b .depth) (c .before .before .before .before .before .before .before .particle .ensures) in
-    walk-here (l .loop .inv) (readParticle (particlePart (a .store .now) (l .loop .i))) false _ (particle-step (a .store .now) (a .end) (l .loop .i) (omega arith)) (omega arith) (omega arith) (λ t. members-tree (namesOf (a .store .now)) (groupOf (a .kind)) (l .loop .first) ((readParticle (particlePart (a .store .now) (l .loop .i))) .row) (build (particlesFrom (a .store .now) (a .end) (l .loop .i + 1)) (suc (a .depth))) t) (c .before .before .put-member .ensures)
+put-members-loop-again t c =
+    let at-put-member = c .before .before in
+    let at-particle-depth = at-put-member .before .before .before .before in
+    let at-particle = at-particle-depth .before in
+    let at-loop = at-particle .before .before in
+    let start = at-loop .before .before .before in
+    let a = start .args in
+    let d : at-particle-depth .particle-depth .result ≡ readParticle (particlePart (a .store .now) (at-loop .loop .i)) .depth =
+    at-particle-depth .particle-depth .ensures ∙ ap (λ (b : List ℕ). readParticle b .depth) (at-particle .particle .ensures) in
+    walk-here (at-loop .loop .inv) (readParticle (particlePart (a .store .now) (at-loop .loop .i))) false _
+    (particle-step (a .store .now) (a .end) (at-loop .loop .i) (omega arith)) (omega arith) (omega arith)
+    (λ t. members-tree (namesOf (a .store .now)) (groupOf (a .kind)) (at-loop .loop .first)
+    ((readParticle (particlePart (a .store .now) (at-loop .loop .i))) .row)
+    (build (particlesFrom (a .store .now) (a .end) (at-loop .loop .i + 1)) (suc (a .depth))) t)
+    (at-put-member .put-member .ensures)
 
 put-members-add-i : (t : ℕ) → put-members-lts.Need-add-i (put-members-calls t) (put-members-at t) put-members.Post put-members-Inv-loop put-members-μ-loop
 put-members-add-i t c = search needs
@@ -171,16 +280,26 @@ put-members-loop-less-2 : (t : ℕ) → put-members-lts.Need-loop-less-2 (put-me
 put-members-loop-less-2 t c = search needs
 
 put-members-loop-again-2 : (t : ℕ) → put-members-lts.Need-loop-again-2 (put-members-calls t) (put-members-at t) put-members.Post put-members-Inv-loop put-members-μ-loop
-put-members-loop-again-2 t c = let l = c .before .before .before .before .before in let a = l .before .before .before .args in
-    let d : c .before .before .particle-depth .result ≡ readParticle (particlePart (a .store .now) (l .loop .i)) .depth = c .before .before .particle-depth .ensures ∙ ap (λ (b : List ℕ). readParticle b .depth) (c .before .before .before .particle .ensures) in
-    walk-deeper (l .loop .inv) (readParticle (particlePart (a .store .now) (l .loop .i))) (particle-step (a .store .now) (a .end) (l .loop .i) (omega arith)) (omega arith)
+put-members-loop-again-2 t c =
+    let at-particle-depth = c .before .before in
+    let at-particle = at-particle-depth .before in
+    let at-loop = at-particle .before .before in
+    let start = at-loop .before .before .before in
+    let a = start .args in
+    let d : at-particle-depth .particle-depth .result ≡ readParticle (particlePart (a .store .now) (at-loop .loop .i)) .depth =
+    at-particle-depth .particle-depth .ensures ∙ ap (λ (b : List ℕ). readParticle b .depth) (at-particle .particle .ensures) in
+    walk-deeper (at-loop .loop .inv) (readParticle (particlePart (a .store .now) (at-loop .loop .i))) (particle-step (a .store .now) (a .end) (at-loop .loop .i) (omega arith)) (omega arith)
 
 put-members-same-length-2 : (t : ℕ) → put-members-lts.Need-same-length-2 (put-members-calls t) (put-members-at t) put-members.Post put-members-Inv-loop put-members-μ-loop
 put-members-same-length-2 t c = c .before .loop .inv .long
 
 put-members-returns-2 : (t : ℕ) → put-members-lts.Need-returns-2 (put-members-calls t) (put-members-at t) put-members.Post put-members-Inv-loop put-members-μ-loop
-put-members-returns-2 t c = let l = c .before in let a = l .before .before .before .args in
-    walk-ends (l .loop .inv) [] (from-none readParticle particleSize _ (a .end) (l .loop .i) (omega arith)) (members-bare (namesOf (a .store .now)) (groupOf (a .kind)) (l .loop .first)) (omega arith) laid-none
+put-members-returns-2 t c =
+    let at-loop = c .before in
+    let start = at-loop .before .before .before in
+    let a = start .args in
+    walk-ends (at-loop .loop .inv) [] (from-none readParticle particleSize _ (a .end) (at-loop .loop .i) (omega arith))
+    (members-bare (namesOf (a .store .now)) (groupOf (a .kind)) (at-loop .loop .first)) (omega arith) laid-none
 
 pub +put-member+put-members-spec : {M : Type 1} → statement M
 +put-member+put-members-spec = close μ-put-member μ-put-members (λ t. put-member-lts.spec (put-member-calls t)

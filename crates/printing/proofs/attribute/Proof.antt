@@ -8,7 +8,10 @@ attribute-in-requires : tie.Need-attribute-in-requires
 attribute-in-requires c κs = search needs
 
 returns : tie.Need-returns
-returns c = let a = c .before .before .args in c .attribute-in .ensures ∙ attribute-place (a .store .now) (a .i)
+returns c =
+    let start = c .before .before in
+    let a = start .args in
+    c .attribute-in .ensures ∙ attribute-place (a .store .now) (a .i)
 
 pub attribute-spec : {M : Type 1} → statement M
 attribute-spec = tie.close (tie.spec attribute-in-requires returns)

@@ -16,8 +16,11 @@ slice-aggregate-result : tie.Need-slice-aggregate-result
 slice-aggregate-result c = search needs
 
 returns : tie.Need-returns
-returns c = let a = c .before .before .before .before .args in
-    record { name-is = sym (attribute-none (a .store .now) (a .i) (omega (arith, c .before .before .attribute-count .ensures .value))); short = omega arith }
+returns c =
+    let at-attribute-count = c .before .before in
+    let start = at-attribute-count .before .before in
+    let a = start .args in
+    record { name-is = sym (attribute-none (a .store .now) (a .i) (omega (arith, at-attribute-count .attribute-count .ensures .value))); short = omega arith }
 
 attribute-requires : tie.Need-attribute-requires
 attribute-requires c κs = search needs
@@ -26,10 +29,13 @@ attribute-name-requires : tie.Need-attribute-name-requires
 attribute-name-requires c κs = search needs
 
 returns-2 : tie.Need-returns-2
-returns-2 c = let a = c .before .before .before .before .before .args in
+returns-2 c =
+    let at-attribute-count = c .before .before .before in
+    let start = at-attribute-count .before .before in
+    let a = start .args in
     let e = c .attribute-name .ensures ∙ ap (λ (l : List ℕ). readAttribute l .name) (c .before .attribute .ensures) in
     record {
-      name-is = e ∙ sym (attribute-name (a .store .now) (a .i) (omega (arith, c .before .before .before .attribute-count .ensures .value)));
+      name-is = e ∙ sym (attribute-name (a .store .now) (a .i) (omega (arith, at-attribute-count .attribute-count .ensures .value)));
       short = subst (λ (l : List ℕ). length l ≤ 300) (sym e) (attribute-short (a .store .now) (a .i));
     }
 

@@ -8,7 +8,10 @@ definition-in-requires : tie.Need-definition-in-requires
 definition-in-requires c κs = search needs
 
 returns : tie.Need-returns
-returns c = let a = c .before .before .args in c .definition-in .ensures ∙ definition-place (a .store .now) (a .i)
+returns c =
+    let start = c .before .before in
+    let a = start .args in
+    c .definition-in .ensures ∙ definition-place (a .store .now) (a .i)
 
 pub definition-spec : {M : Type 1} → statement M
 definition-spec = tie.close (tie.spec definition-in-requires returns)

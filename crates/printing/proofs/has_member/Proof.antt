@@ -14,6 +14,8 @@ use Rattle.printing.proofs.WalkLaws.{build-here, build-deeper}
 use Rattle.printing.proofs.has_member.Statement.{statement}
 use Rattle.printing.proofs.has_member.Tie as tie
 
+-- The loop's invariant: there is a member among the particles from i on if and only if there is one among those from
+-- `from` on.
 abbrev Inv-loop : tie.InvT-loop
 Inv-loop store from end i₀ i = isTree (build (particlesFrom store end i) 0) ≡ isTree (build (particlesFrom store end from) 0)
 
@@ -30,11 +32,20 @@ particle-depth-requires : tie.Need-particle-depth-requires Inv-loop μ-loop
 particle-depth-requires c κs = search needs
 
 returns : tie.Need-returns Inv-loop μ-loop
-returns c = let l = c .before .before .before .before in let a = l .before .before .args in
-    let d : c .before .particle-depth .result ≡ readParticle (particlePart (a .store .now) (l .loop .i)) .depth =
-    c .before .particle-depth .ensures ∙ ap (λ (b : List ℕ). readParticle b .depth) (c .before .before .particle .ensures) in
-    let e = ap (λ (xs : List (Deep FlatParticle)). build xs 0) (particle-step (a .store .now) (a .end) (l .loop .i) (omega arith)) in
-    sym (ap isTree (e ∙ build-here (readParticle (particlePart (a .store .now) (l .loop .i))) (particlesFrom (a .store .now) (a .end) (l .loop .i + 1)) 0 (sym d ∙ c .if1 .taken))) ∙ l .loop .inv
+returns c =
+    let at-particle = c .before .before in
+    let at-loop = at-particle .before .before in
+    let start = at-loop .before .before in
+    let a = start .args in
+    let d : c .before .particle-depth .result ≡ readParticle (particlePart (a .store .now) (at-loop .loop .i)) .depth =
+    c .before .particle-depth .ensures ∙ ap (λ (b : List ℕ). readParticle b .depth) (at-particle .particle .ensures) in
+    let e = ap (λ (xs : List (Deep FlatParticle)). build xs 0) (particle-step (a .store .now) (a .end) (at-loop .loop .i) (omega arith)) in
+    sym
+    (ap isTree
+    (e
+    ∙ build-here (readParticle (particlePart (a .store .now) (at-loop .loop .i))) (particlesFrom (a .store .now) (a .end) (at-loop .loop .i + 1)) 0
+    (sym d ∙ c .if1 .taken)))
+    ∙ at-loop .loop .inv
 
 add-i : tie.Need-add-i Inv-loop μ-loop
 add-i c = search needs
@@ -43,15 +54,25 @@ loop-less : tie.Need-loop-less Inv-loop μ-loop
 loop-less c = search needs
 
 loop-again : tie.Need-loop-again Inv-loop μ-loop
-loop-again c = let l = c .before .before .before .before in let a = l .before .before .args in
-    let d : c .before .particle-depth .result ≡ readParticle (particlePart (a .store .now) (l .loop .i)) .depth =
-    c .before .particle-depth .ensures ∙ ap (λ (b : List ℕ). readParticle b .depth) (c .before .before .particle .ensures) in
-    let e = ap (λ (xs : List (Deep FlatParticle)). build xs 0) (particle-step (a .store .now) (a .end) (l .loop .i) (omega arith)) in
-    sym (ap isTree (e ∙ build-deeper (readParticle (particlePart (a .store .now) (l .loop .i))) (particlesFrom (a .store .now) (a .end) (l .loop .i + 1)) 0 (omega (arith, c .if1 .left)))) ∙ l .loop .inv
+loop-again c =
+    let at-particle = c .before .before in
+    let at-loop = at-particle .before .before in
+    let start = at-loop .before .before in
+    let a = start .args in
+    let d : c .before .particle-depth .result ≡ readParticle (particlePart (a .store .now) (at-loop .loop .i)) .depth =
+    c .before .particle-depth .ensures ∙ ap (λ (b : List ℕ). readParticle b .depth) (at-particle .particle .ensures) in
+    let e = ap (λ (xs : List (Deep FlatParticle)). build xs 0) (particle-step (a .store .now) (a .end) (at-loop .loop .i) (omega arith)) in
+    sym (ap isTree (e
+    ∙ build-deeper (readParticle (particlePart (a .store .now) (at-loop .loop .i))) (particlesFrom (a .store .now) (a .end) (at-loop .loop .i + 1)) 0
+    (omega (arith, c .if1 .left))))
+    ∙ at-loop .loop .inv
 
 returns-2 : tie.Need-returns-2 Inv-loop μ-loop
-returns-2 c = let l = c .before in let a = l .before .before .args in
-    sym (ap (λ (xs : List (Deep FlatParticle)). isTree (build xs 0)) (from-none readParticle particleSize _ (a .end) (l .loop .i) (omega arith))) ∙ l .loop .inv
+returns-2 c =
+    let at-loop = c .before in
+    let start = at-loop .before .before in
+    let a = start .args in
+    sym (ap (λ (xs : List (Deep FlatParticle)). isTree (build xs 0)) (from-none readParticle particleSize _ (a .end) (at-loop .loop .i) (omega arith))) ∙ at-loop .loop .inv
 
 pub has-member-spec : {M : Type 1} → statement M
 has-member-spec =

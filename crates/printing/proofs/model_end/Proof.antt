@@ -16,12 +16,22 @@ add-end : tie.Need-add-end
 add-end c = search needs
 
 returns : tie.Need-returns
-returns c = let a = c .before .before .before .args in let e : c .before .particle-count .result ≡ particleCount (a .store .now) = c .before .particle-count .ensures .value in
+returns c =
+    let start = c .before .before .before in
+    let a = start .args in
+    let e : c .before .particle-count .result ≡ particleCount (a .store .now) = c .before .particle-count .ensures .value in
     record { taken = from-take readParticle particleSize (fromParticles (a .store .now)) (particleCount (a .store .now)) (a .from) (a .n) (omega arith); upto = omega arith }
 
 returns-2 : tie.Need-returns-2
-returns-2 c = let a = c .before .before .before .args in let e : c .before .particle-count .result ≡ particleCount (a .store .now) = c .before .particle-count .ensures .value in
-    record { taken = from-take-all readParticle particleSize (fromParticles (a .store .now)) (particleCount (a .store .now)) (a .from) (a .n) (omega arith) ∙ ap (λ (k : ℕ). particlesFrom (a .store .now) k (a .from)) (sym e); upto = omega arith }
+returns-2 c =
+    let start = c .before .before .before in
+    let a = start .args in
+    let e : c .before .particle-count .result ≡ particleCount (a .store .now) = c .before .particle-count .ensures .value in
+    record {
+      taken = from-take-all readParticle particleSize (fromParticles (a .store .now)) (particleCount (a .store .now)) (a .from) (a .n) (omega arith)
+          ∙ ap (λ (k : ℕ). particlesFrom (a .store .now) k (a .from)) (sym e);
+      upto = omega arith;
+    }
 
 pub model-end-spec : {M : Type 1} → statement M
 model-end-spec = tie.close (tie.spec particle-count-requires add-end returns returns-2)

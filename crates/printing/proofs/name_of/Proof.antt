@@ -16,8 +16,11 @@ slice-aggregate-result : tie.Need-slice-aggregate-result
 slice-aggregate-result c = search needs
 
 returns : tie.Need-returns
-returns c = let a = c .before .before .before .before .args in
-    record { name-is = sym (definition-none (a .store .now) (a .i) (omega (arith, c .before .before .definition-count .ensures .value))); short = omega arith }
+returns c =
+    let at-definition-count = c .before .before in
+    let start = at-definition-count .before .before in
+    let a = start .args in
+    record { name-is = sym (definition-none (a .store .now) (a .i) (omega (arith, at-definition-count .definition-count .ensures .value))); short = omega arith }
 
 definition-requires : tie.Need-definition-requires
 definition-requires c κs = search needs
@@ -26,10 +29,13 @@ definition-name-requires : tie.Need-definition-name-requires
 definition-name-requires c κs = search needs
 
 returns-2 : tie.Need-returns-2
-returns-2 c = let a = c .before .before .before .before .before .args in
+returns-2 c =
+    let at-definition-count = c .before .before .before in
+    let start = at-definition-count .before .before in
+    let a = start .args in
     let e = c .definition-name .ensures ∙ ap (λ (l : List ℕ). readDefinition l .name) (c .before .definition .ensures) in
     record {
-      name-is = e ∙ sym (definition-name (a .store .now) (a .i) (omega (arith, c .before .before .before .definition-count .ensures .value)));
+      name-is = e ∙ sym (definition-name (a .store .now) (a .i) (omega (arith, at-definition-count .definition-count .ensures .value)));
       short = subst (λ (l : List ℕ). length l ≤ 300) (sym e) (definition-short (a .store .now) (a .i));
     }
 

@@ -8,7 +8,10 @@ particle-in-requires : tie.Need-particle-in-requires
 particle-in-requires c κs = search needs
 
 returns : tie.Need-returns
-returns c = let a = c .before .before .args in c .particle-in .ensures ∙ particle-place (a .store .now) (a .i)
+returns c =
+    let start = c .before .before in
+    let a = start .args in
+    c .particle-in .ensures ∙ particle-place (a .store .now) (a .i)
 
 pub particle-spec : {M : Type 1} → statement M
 particle-spec = tie.close (tie.spec particle-in-requires returns)

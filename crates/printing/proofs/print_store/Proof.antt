@@ -24,10 +24,15 @@ same-length : tie.Need-same-length
 same-length c = search needs
 
 returns : tie.Need-returns
-returns c = let at-documents = c .before .before in
+returns c =
+    let at-documents = c .before .before in
     let at-form = at-documents .before .before .before .before in
     let at-count = at-form .before .before in
-    let store-rows : RowsOf (at-count .before .before .before .before .before .args .store .now) (at-count .before .before .width-in .result) (at-count .before .rows-of .result .now) = record { width = at-count .before .before .width-in .ensures; body = at-count .before .rows-of .ensures } in
+    let at-rows-of = at-count .before in
+    let at-width-in = at-rows-of .before in
+    let start = at-width-in .before .before .before in
+    let store-rows : RowsOf (start .args .store .now) (at-width-in .width-in .result) (at-rows-of .rows-of .result .now) =
+    record { width = at-width-in .width-in .ensures; body = at-rows-of .rows-of .ensures } in
     laid-as (text-parts store-rows (at-count .row-count .ensures .value)) (laid-then (at-form .put-form .ensures .laid) (at-documents .put-documents .ensures))
 
 pub print-store-spec : {M : Type 1} → statement M

@@ -18,16 +18,45 @@ put-requires-2 : tie.Need-put-requires-2
 put-requires-2 c κs = search needs
 
 put-escaped-requires : tie.Need-put-escaped-requires
-put-escaped-requires c κs = omega (arith, c .before .before .before .put2 .ensures .next, c .before .before .before .before .before .before .before .before .put .ensures .next, c .before .before .before .before .before .before .before .before .before .before .before .before .put-u8 .ensures .next, c .before .before .before .before .before .before .before .before .before .before .before .before .before .before .before .before .before .pre .0, c .before .before .before .before .before .before .before .before .before .before .before .before .before .before .before .before .before .pre .1, c .before .before .before .before .before .before .before .before .before .before .before .before .before .before .before .before .before .pre .2)
+put-escaped-requires c κs =
+    let at-put2 = c .before .before .before in
+    let at-put = at-put2 .before .before .before .before .before in
+    let at-put-u8 = at-put .before .before .before .before in
+    let start = at-put-u8 .before .before .before .before .before in
+    omega (arith, at-put2 .put2 .ensures .next, at-put .put .ensures .next, at-put-u8 .put-u8 .ensures .next, start .pre .0, start .pre .1, start .pre .2)
 
 put-u8-requires-2 : tie.Need-put-u8-requires-2
-put-u8-requires-2 c κs = omega (arith, escape-length (c .before .before .before .before .before .before .before .before .before .before .before .before .before .before .before .before .before .before .before .before .before .args .value .now), c .before .before .before .put-escaped .ensures .next, c .before .before .before .before .before .before .before .put2 .ensures .next, c .before .before .before .before .before .before .before .before .before .before .before .before .put .ensures .next, c .before .before .before .before .before .before .before .before .before .before .before .before .before .before .before .before .put-u8 .ensures .next, c .before .before .before .before .before .before .before .before .before .before .before .before .before .before .before .before .before .before .before .before .before .pre .0, c .before .before .before .before .before .before .before .before .before .before .before .before .before .before .before .before .before .before .before .before .before .pre .1, c .before .before .before .before .before .before .before .before .before .before .before .before .before .before .before .before .before .before .before .before .before .pre .2)
+put-u8-requires-2 c κs =
+    let at-put-escaped = c .before .before .before in
+    let at-put2 = at-put-escaped .before .before .before .before in
+    let at-put = at-put2 .before .before .before .before .before in
+    let at-put-u8 = at-put .before .before .before .before in
+    let start = at-put-u8 .before .before .before .before .before in
+    omega (
+      arith,
+      escape-length (start .args .value .now),
+      at-put-escaped .put-escaped .ensures .next,
+      at-put2 .put2 .ensures .next,
+      at-put .put .ensures .next,
+      at-put-u8 .put-u8 .ensures .next,
+      start .pre .0,
+      start .pre .1,
+      start .pre .2,
+    )
 
 same-length : tie.Need-same-length
 same-length c = search needs
 
 returns : tie.Need-returns
-returns c = laid-then (c .before .before .before .before .before .before .before .before .before .before .before .before .before .before .before .before .before .before .before .put-u8 .ensures) (laid-then (c .before .before .before .before .before .before .before .before .before .before .before .before .before .before .before .put .ensures) (laid-then (c .before .before .before .before .before .before .before .before .before .before .put2 .ensures) (laid-then (c .before .before .before .before .before .before .put-escaped .ensures) (laid-then (c .before .before .put-u82 .ensures) laid-none))))
+returns c =
+    let at-put-u82 = c .before .before in
+    let at-put-escaped = at-put-u82 .before .before .before .before in
+    let at-put2 = at-put-escaped .before .before .before .before in
+    let at-put = at-put2 .before .before .before .before .before in
+    let at-put-u8 = at-put .before .before .before .before in
+    laid-then (at-put-u8 .put-u8 .ensures)
+    (laid-then (at-put .put .ensures)
+    (laid-then (at-put2 .put2 .ensures) (laid-then (at-put-escaped .put-escaped .ensures) (laid-then (at-put-u82 .put-u82 .ensures) laid-none))))
 
 pub put-attribute-spec : {M : Type 1} → statement M
 put-attribute-spec =

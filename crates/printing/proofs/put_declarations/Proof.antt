@@ -28,8 +28,18 @@ same-length : tie.Need-same-length
 same-length c = search needs
 
 returns : tie.Need-returns
-returns c = let a = c .before .before .before .before .before .before .before .before .before .before .before .before .before .before .args in
-    declarations-laid (a .store .now) (a .o) (a .from) _ (c .before .before .before .before .before .before .before .before .before .before .before .definition .ensures) (c .before .before .before .before .before .before .before .before .before .before .before .before .before .before .pre .1) _ _ (c .before .before .before .before .before .before .before .before .before .before .definition-particles .ensures) (c .before .before .before .before .before .before .before .before .before .model-end .ensures .taken) (c .before .before .before .before .before .before .before .put-definition .ensures) (c .before .before .before .before .name-of .ensures) (c .before .before .put-attributes .ensures)
+returns c =
+    let at-put-attributes = c .before .before in
+    let at-name-of = at-put-attributes .before .before in
+    let at-put-definition = at-name-of .before .before .before in
+    let at-model-end = at-put-definition .before .before in
+    let at-definition-particles = at-model-end .before in
+    let at-definition = at-definition-particles .before in
+    let start = at-definition .before .before .before in
+    let a = start .args in
+    declarations-laid (a .store .now) (a .o) (a .from) _ (at-definition .definition .ensures) (start .pre .1) _ _
+    (at-definition-particles .definition-particles .ensures) (at-model-end .model-end .ensures .taken) (at-put-definition .put-definition .ensures)
+    (at-name-of .name-of .ensures) (at-put-attributes .put-attributes .ensures)
 
 pub put-declarations-spec : {M : Type 1} → statement M
 put-declarations-spec =

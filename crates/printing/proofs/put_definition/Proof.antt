@@ -5,7 +5,9 @@ use Rattle.printing.proofs.put_definition.Statement.{statement}
 use Rattle.printing.proofs.put_definition.Tie as tie
 
 definition-requires : tie.Need-definition-requires
-definition-requires c κs = omega (arith, c .before .before .pre .0, c .before .before .pre .3)
+definition-requires c κs =
+    let start = c .before .before in
+    omega (arith, start .pre .0, start .pre .3)
 
 definition-kind-requires : tie.Need-definition-kind-requires
 definition-kind-requires c κs = search needs
@@ -38,8 +40,20 @@ same-length : tie.Need-same-length
 same-length c = search needs
 
 returns : tie.Need-returns
-returns c = let a = c .before .before .before .before .before .before .before .before .before .before .before .before .before .before .before .before .before .before .before .before .before .before .before .before .before .before .before .args in
-    definition-laid (a .store .now) (a .o) (a .end) (a .from) _ (c .before .before .before .before .before .before .before .before .before .before .before .before .before .before .before .before .before .before .before .before .before .before .before .before .definition .ensures) (c .before .before .before .before .before .before .before .before .before .before .before .before .before .before .before .before .before .before .before .before .before .before .before .before .before .before .before .pre .0) _ (c .before .before .before .before .before .before .before .before .before .before .before .before .before .before .before .before .before .before .before .before .before .before .before .definition-kind .ensures) (c .before .before .before .before .before .before .before .before .before .before .before .before .before .before .before .before .before .before .before .before .put .ensures) (c .before .before .before .before .before .before .before .before .before .before .before .before .before .before .before .before .before .name-of .ensures) (c .before .before .before .before .before .before .before .before .before .before .before .before .before .before .before .put2 .ensures) (c .before .before .before .before .before .before .before .before .before .before .before .put-u8 .ensures) (c .before .before .before .before .before .before .before .put-content .ensures) (c .before .before .put3 .ensures)
+returns c =
+    let at-put3 = c .before .before in
+    let at-put-content = at-put3 .before .before .before .before .before in
+    let at-put-u8 = at-put-content .before .before .before .before in
+    let at-put2 = at-put-u8 .before .before .before .before in
+    let at-name-of = at-put2 .before .before in
+    let at-put = at-name-of .before .before .before in
+    let at-definition-kind = at-put .before .before .before in
+    let at-definition = at-definition-kind .before in
+    let start = at-definition .before .before .before in
+    let a = start .args in
+    definition-laid (a .store .now) (a .o) (a .end) (a .from) _ (at-definition .definition .ensures) (start .pre .0) _
+    (at-definition-kind .definition-kind .ensures) (at-put .put .ensures) (at-name-of .name-of .ensures) (at-put2 .put2 .ensures)
+    (at-put-u8 .put-u8 .ensures) (at-put-content .put-content .ensures) (at-put3 .put3 .ensures)
 
 pub put-definition-spec : {M : Type 1} → statement M
 put-definition-spec =

@@ -28,8 +28,17 @@ same-length : tie.Need-same-length
 same-length c = search needs
 
 returns : tie.Need-returns
-returns c = let a = c .before .before .before .before .before .before .before .before .before .before .before .before .before .before .before .args in
-    document-stepped (a .store .now) (a .rows .now) (a .w) (a .count) (a .i) _ (c .before .before .before .before .before .before .before .before .before .before .before .row-at .ensures) (c .before .before .before .before .before .before .before .before .before .before .before .before .before .before .before .pre .1) (c .before .before .before .before .before .before .before .before .before .before .row-sort .ensures) (c .before .before .before .before .before .before .before .before .before .row-index .ensures) (c .before .before .before .before .before .before .before .before .row-name-of .ensures) (c .before .before .before .before .before .before .put-element .ensures) (c .before .before .put-u8 .ensures)
+returns c =
+    let at-put-u8 = c .before .before in
+    let at-put-element = at-put-u8 .before .before .before .before in
+    let at-row-name-of = at-put-element .before .before in
+    let at-row-index = at-row-name-of .before in
+    let at-row-sort = at-row-index .before in
+    let at-row-at = at-row-sort .before in
+    let start = at-row-at .before .before .before .before in
+    let a = start .args in
+    document-stepped (a .store .now) (a .rows .now) (a .w) (a .count) (a .i) _ (at-row-at .row-at .ensures) (start .pre .1) (at-row-sort .row-sort .ensures)
+    (at-row-index .row-index .ensures) (at-row-name-of .row-name-of .ensures) (at-put-element .put-element .ensures) (at-put-u8 .put-u8 .ensures)
 
 pub put-document-spec : {M : Type 1} → statement M
 put-document-spec =

@@ -12,7 +12,10 @@ same-length : tie.Need-same-length
 same-length c = search needs
 
 returns : tie.Need-returns
-returns c = laid-as (ap endText (c .before .before .before .before .if1 .taken)) (c .before .before .put-u8 .ensures)
+returns c =
+    let at-put-u8 = c .before .before in
+    let at-if1 = at-put-u8 .before .before in
+    laid-as (ap endText (at-if1 .if1 .taken)) (at-put-u8 .put-u8 .ensures)
 
 returns-2 : tie.Need-returns-2
 returns-2 c = laid-as (ap endText (c .if1 .left)) laid-none

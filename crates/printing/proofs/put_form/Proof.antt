@@ -8,8 +8,14 @@ use Rattle.printing.proofs.FormLaws.{Declaring, declaring-start, declar
 use Rattle.printing.proofs.put_form.Statement.{statement}
 use Rattle.printing.proofs.put_form.Tie as tie
 
+-- The loop's invariant: the declarations of the definitions from o on, whose particles start at `from`, written from
+-- `at` on complete the form's text.
 abbrev Inv-loop : tie.InvT-loop
-Inv-loop store out₀ start count at₀ from₀ o₀ out at from o = Declaring store count (formText (namesOf store) 0 (definitionsFrom store (definitionCount store) 0) (particlesFrom store (particleCount store) 0) (attributesFrom store (attributeCount store) 0)) out₀ start out at o from
+Inv-loop store out₀ start count at₀ from₀ o₀ out at from o =
+    Declaring store count
+    (formText (namesOf store) 0 (definitionsFrom store (definitionCount store) 0) (particlesFrom store (particleCount store) 0)
+    (attributesFrom store (attributeCount store) 0))
+    out₀ start out at o from
 
 abbrev μ-loop : tie.MeasureT-loop
 μ-loop store out₀ start count at₀ from₀ o₀ out at from o = count - o
@@ -21,10 +27,44 @@ loop-holds : tie.Need-loop-holds Inv-loop μ-loop
 loop-holds c = declaring-start _ _ _ _ (c .definition-count .ensures .value)
 
 put-declarations-requires : tie.Need-put-declarations-requires Inv-loop μ-loop
-put-declarations-requires c κs = (c .before .before .before .before .before .before .pre .0, omega (arith, c .before .before .before .before .before .before .pre .0 .definitions, c .before .before .before .before .before .before .pre .1, c .before .before .loop .inv .counts, c .before .before .loop .inv .upto, c .before .before .loop .inv .small, c .before .before .loop .inv .few), omega (arith, c .before .before .before .before .before .before .pre .0 .definitions, c .before .before .before .before .before .before .pre .1, c .before .before .loop .inv .counts, c .before .before .loop .inv .upto, c .before .before .loop .inv .small, c .before .before .loop .inv .few), omega (arith, c .before .before .before .before .before .before .pre .0 .definitions, c .before .before .before .before .before .before .pre .1, c .before .before .loop .inv .counts, c .before .before .loop .inv .upto, c .before .before .loop .inv .small, c .before .before .loop .inv .few))
+put-declarations-requires c κs =
+    let at-loop = c .before .before in
+    let start = at-loop .before .before .before .before in (
+      start .pre .0,
+      omega (
+        arith,
+        start .pre .0 .definitions,
+        start .pre .1,
+        at-loop .loop .inv .counts,
+        at-loop .loop .inv .upto,
+        at-loop .loop .inv .small,
+        at-loop .loop .inv .few,
+      ),
+      omega (
+        arith,
+        start .pre .0 .definitions,
+        start .pre .1,
+        at-loop .loop .inv .counts,
+        at-loop .loop .inv .upto,
+        at-loop .loop .inv .small,
+        at-loop .loop .inv .few,
+      ),
+      omega (
+        arith,
+        start .pre .0 .definitions,
+        start .pre .1,
+        at-loop .loop .inv .counts,
+        at-loop .loop .inv .upto,
+        at-loop .loop .inv .small,
+        at-loop .loop .inv .few,
+      ),
+    )
 
 definition-requires : tie.Need-definition-requires Inv-loop μ-loop
-definition-requires c κs = omega (arith, c .before .before .before .before .before .before .before .before .before .pre .0 .definitions, c .before .before .before .before .before .before .before .before .before .pre .1, c .before .before .before .before .before .loop .inv .counts, c .before .before .before .before .before .loop .inv .upto, c .before .before .before .before .before .loop .inv .small, c .before .before .before .before .before .loop .inv .few)
+definition-requires c κs =
+    let at-loop = c .before .before .before .before .before in
+    let start = at-loop .before .before .before .before in
+    omega (arith, start .pre .0 .definitions, start .pre .1, at-loop .loop .inv .counts, at-loop .loop .inv .upto, at-loop .loop .inv .small, at-loop .loop .inv .few)
 
 definition-particles-requires : tie.Need-definition-particles-requires Inv-loop μ-loop
 definition-particles-requires c κs = search needs
@@ -33,24 +73,37 @@ cast-from : tie.Need-cast-from Inv-loop μ-loop
 cast-from c = search needs
 
 add-from : tie.Need-add-from Inv-loop μ-loop
-add-from c = omega (arith, c .before .before .before .before .before .before .before .before .before .before .before .pre .0 .definitions, c .before .before .before .before .before .before .before .before .before .before .before .pre .1, c .before .before .before .before .before .before .before .loop .inv .counts, c .before .before .before .before .before .before .before .loop .inv .upto, c .before .before .before .before .before .before .before .loop .inv .small, c .before .before .before .before .before .before .before .loop .inv .few)
+add-from c =
+    let at-loop = c .before .before .before .before .before .before .before in
+    let start = at-loop .before .before .before .before in
+    omega (arith, start .pre .0 .definitions, start .pre .1, at-loop .loop .inv .counts, at-loop .loop .inv .upto, at-loop .loop .inv .small, at-loop .loop .inv .few)
 
 add-o : tie.Need-add-o Inv-loop μ-loop
-add-o c = omega (arith, c .before .before .before .before .before .before .before .before .before .before .before .pre .0 .definitions, c .before .before .before .before .before .before .before .before .before .before .before .pre .1, c .before .before .before .before .before .before .before .loop .inv .counts, c .before .before .before .before .before .before .before .loop .inv .upto, c .before .before .before .before .before .before .before .loop .inv .small, c .before .before .before .before .before .before .before .loop .inv .few)
+add-o c =
+    let at-loop = c .before .before .before .before .before .before .before in
+    let start = at-loop .before .before .before .before in
+    omega (arith, start .pre .0 .definitions, start .pre .1, at-loop .loop .inv .counts, at-loop .loop .inv .upto, at-loop .loop .inv .small, at-loop .loop .inv .few)
 
 loop-less : tie.Need-loop-less Inv-loop μ-loop
 loop-less c = search needs
 
 loop-again : tie.Need-loop-again Inv-loop μ-loop
-loop-again c = let l = c .before .before .before .before .before .before .before in let a = l .before .before .before .before .args in
-    declaring-on (a .store .now) _ (l .loop .inv) (omega arith) _ (c .before .definition .ensures) _ (c .definition-particles .ensures) (omega arith)
-    (c .before .before .before .before .put-declarations .ensures)
+loop-again c =
+    let at-put-declarations = c .before .before .before .before in
+    let at-loop = at-put-declarations .before .before .before in
+    let start = at-loop .before .before .before .before in
+    let a = start .args in
+    declaring-on (a .store .now) _ (at-loop .loop .inv) (omega arith) _ (c .before .definition .ensures) _ (c .definition-particles .ensures) (omega arith)
+    (at-put-declarations .put-declarations .ensures)
 
 same-length : tie.Need-same-length Inv-loop μ-loop
 same-length c = c .before .loop .inv .long
 
 returns : tie.Need-returns Inv-loop μ-loop
-returns c = let l = c .before in declaring-done (l .before .before .before .before .args .store .now) _ (l .loop .inv) (omega arith) (c .before .before .before .before .before .pre .0 .definitions)
+returns c =
+    let at-loop = c .before in
+    let start = at-loop .before .before .before .before in
+    declaring-done (start .args .store .now) _ (at-loop .loop .inv) (omega arith) (start .pre .0 .definitions)
 
 pub put-form-spec : {M : Type 1} → statement M
 put-form-spec =

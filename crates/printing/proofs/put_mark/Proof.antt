@@ -24,19 +24,29 @@ same-length : tie.Need-same-length
 same-length c = search needs
 
 returns-2 : tie.Need-returns-2
-returns-2 c = laid-as (ap (λ (q : ℕ). markOf (quantifierOf q)) (c .before .before .before .before .match .keys2)) (c .before .before .put-u8 .ensures)
+returns-2 c =
+    let at-put-u8 = c .before .before in
+    let at-match = at-put-u8 .before .before in
+    laid-as (ap (λ (q : ℕ). markOf (quantifierOf q)) (at-match .match .keys2)) (at-put-u8 .put-u8 .ensures)
 
 same-length-2 : tie.Need-same-length-2
 same-length-2 c = search needs
 
 returns-3 : tie.Need-returns-3
-returns-3 c = laid-as (ap (λ (q : ℕ). markOf (quantifierOf q)) (c .before .before .before .before .match .keys3)) (c .before .before .put-u82 .ensures)
+returns-3 c =
+    let at-put-u82 = c .before .before in
+    let at-match = at-put-u82 .before .before in
+    laid-as (ap (λ (q : ℕ). markOf (quantifierOf q)) (at-match .match .keys3)) (at-put-u82 .put-u82 .ensures)
 
 same-length-3 : tie.Need-same-length-3
 same-length-3 c = search needs
 
 returns-4 : tie.Need-returns-4
-returns-4 c = let m = c .before .before .before .before .match .rest in laid-as (ap markOf (plus-last _ (m .0 .0 .1) (m .0 .1) (m .1))) (c .before .before .put-u83 .ensures)
+returns-4 c =
+    let at-put-u83 = c .before .before in
+    let at-match = at-put-u83 .before .before in
+    let m = at-match .match .rest in
+    laid-as (ap markOf (plus-last _ (m .0 .0 .1) (m .0 .1) (m .1))) (at-put-u83 .put-u83 .ensures)
 
 pub put-mark-spec : {M : Type 1} → statement M
 put-mark-spec =

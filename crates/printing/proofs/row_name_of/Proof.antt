@@ -13,22 +13,41 @@ name-of-requires : tie.Need-name-of-requires
 name-of-requires c κs = search needs
 
 returns : tie.Need-returns
-returns c = let a = c .before .before .before .args in
-    record { name-is = c .name-of .ensures .name-is ∙ ap (λ (s : ℕ). rowName (namesOf (a .store .now)) (attributeNamesOf (a .store .now)) (rowSortOf s) (a .index)) (sym (c .before .if1 .taken)); short = c .name-of .ensures .short }
+returns c =
+    let start = c .before .before .before in
+    let a = start .args in
+    record {
+      name-is = c .name-of .ensures .name-is
+          ∙ ap (λ (s : ℕ). rowName (namesOf (a .store .now)) (attributeNamesOf (a .store .now)) (rowSortOf s) (a .index)) (sym (c .before .if1 .taken));
+      short = c .name-of .ensures .short;
+    }
 
 attribute-name-of-requires : tie.Need-attribute-name-of-requires
 attribute-name-of-requires c κs = search needs
 
 returns-2 : tie.Need-returns-2
-returns-2 c = let a = c .before .before .before .before .args in
-    record { name-is = c .attribute-name-of .ensures .name-is ∙ ap (λ (s : ℕ). rowName (namesOf (a .store .now)) (attributeNamesOf (a .store .now)) (rowSortOf s) (a .index)) (sym (c .before .if2 .taken)); short = c .attribute-name-of .ensures .short }
+returns-2 c =
+    let start = c .before .before .before .before in
+    let a = start .args in
+    record {
+      name-is = c .attribute-name-of .ensures .name-is
+          ∙ ap (λ (s : ℕ). rowName (namesOf (a .store .now)) (attributeNamesOf (a .store .now)) (rowSortOf s) (a .index)) (sym (c .before .if2 .taken));
+      short = c .attribute-name-of .ensures .short;
+    }
 
 slice-aggregate-result : tie.Need-slice-aggregate-result
 slice-aggregate-result c = search needs
 
 returns-3 : tie.Need-returns-3
-returns-3 c = let a = c .before .before .before .before .args in
-    record { name-is = ap (λ (s : RowSort). rowName (namesOf (a .store .now)) (attributeNamesOf (a .store .now)) s (a .index)) (sym (sort-text (a .sort) (c .before .before .if1 .left) (c .before .if2 .left))); short = omega arith }
+returns-3 c =
+    let at-if1 = c .before .before in
+    let start = at-if1 .before .before in
+    let a = start .args in
+    record {
+      name-is = ap (λ (s : RowSort). rowName (namesOf (a .store .now)) (attributeNamesOf (a .store .now)) s (a .index))
+          (sym (sort-text (a .sort) (at-if1 .if1 .left) (c .before .if2 .left)));
+      short = omega arith;
+    }
 
 pub row-name-of-spec : {M : Type 1} → statement M
 row-name-of-spec =

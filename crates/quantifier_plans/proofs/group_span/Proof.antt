@@ -23,10 +23,11 @@ add-result c =
     omega (arith, span-low (start .pre) (at-particles-from .particles-from .ensures) (c .span .ensures))
 
 returns : tie.Need-returns
-returns c = (
-  span-is (c .before .before .before .pre) (c .before .particles-from .ensures) (c .span .ensures),
-  omega (arith, span-low (c .before .before .before .pre) (c .before .particles-from .ensures) (c .span .ensures)),
-)
+returns c =
+    let start = c .before .before .before in (
+      span-is (start .pre) (c .before .particles-from .ensures) (c .span .ensures),
+      omega (arith, span-low (start .pre) (c .before .particles-from .ensures) (c .span .ensures)),
+    )
 
 pub group-span-spec : {M : Type 1} → statement M
 group-span-spec =

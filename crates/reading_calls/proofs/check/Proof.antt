@@ -8,10 +8,14 @@ passes-requires : tie.Need-passes-requires
 passes-requires c κs = search needs
 
 returns : tie.Need-returns
-returns c = check-yes (c .before .before .before .args .store .now) (c .if1 .taken) (c .before .passes .ensures)
+returns c =
+    let start = c .before .before .before in
+    check-yes (start .args .store .now) (c .if1 .taken) (c .before .passes .ensures)
 
 returns-2 : tie.Need-returns-2
-returns-2 c = check-no (c .before .before .before .args .store .now) (c .if1 .left) (c .before .passes .ensures)
+returns-2 c =
+    let start = c .before .before .before in
+    check-no (start .args .store .now) (c .if1 .left) (c .before .passes .ensures)
 
 pub check-spec : {M : Type 1} → statement M
 check-spec = tie.close (tie.spec passes-requires returns returns-2)

@@ -11,13 +11,18 @@ slice-aggregate-result : tie.Need-slice-aggregate-result
 slice-aggregate-result c = search needs
 
 returns : tie.Need-returns
-returns c = hands-bad _ _ (c .before .if1 .taken) (c .before .before .passes .ensures)
+returns c =
+    let at-passes = c .before .before in
+    hands-bad _ _ (c .before .if1 .taken) (at-passes .passes .ensures)
 
 value-of-requires : tie.Need-value-of-requires
 value-of-requires c κs = search needs
 
 returns-2 : tie.Need-returns-2
-returns-2 c = hands-good _ _ (c .before .before .if1 .left) (c .before .before .before .passes .ensures) (c .value-of .ensures)
+returns-2 c =
+    let at-if1 = c .before .before in
+    let at-passes = at-if1 .before in
+    hands-good _ _ (at-if1 .if1 .left) (at-passes .passes .ensures) (c .value-of .ensures)
 
 pub look-up-spec : {M : Type 1} → statement M
 look-up-spec =

@@ -14,7 +14,9 @@ find-requires : tie.Need-find-requires
 find-requires c κs = search needs
 
 returns-2 : tie.Need-returns-2
-returns-2 c = looks-good _ _ (c .before .if1 .left) (c .before .before .passes .ensures) (c .find .ensures)
+returns-2 c =
+    let at-passes = c .before .before in
+    looks-good _ _ (c .before .if1 .left) (at-passes .passes .ensures) (c .find .ensures)
 
 pub look-up-place-spec : {M : Type 1} → statement M
 look-up-place-spec = tie.close (tie.spec passes-requires returns find-requires returns-2)

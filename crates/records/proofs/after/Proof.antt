@@ -17,13 +17,17 @@ part-result-end : tie.Need-part-result-end
 part-result-end c = search needs
 
 returns : tie.Need-returns
-returns c = tail-seen (c .before .before .args .s .now) (c .before .before .args .n)
+returns c =
+    let start = c .before .before in
+    tail-seen (start .args .s .now) (start .args .n)
 
 slice-aggregate-result : tie.Need-slice-aggregate-result
 slice-aggregate-result c = search needs
 
 returns-2 : tie.Need-returns-2
-returns-2 c = sym (drop-of-length-le (c .before .before .args .s .now) (c .before .if1 .left))
+returns-2 c =
+    let start = c .before .before in
+    sym (drop-of-length-le (start .args .s .now) (c .before .if1 .left))
 
 pub after-spec : {M : Type 1} → statement M
 after-spec =

@@ -32,8 +32,10 @@ returns c =
     let sized = valued .before in
     let sorted = sized .before in
     let owned = sorted .before in
-    let a = owned .before .before .args in
-    attribute-of (a .w) (a .n) (a .rec .now) _ _ _ _ (owned .attribute-owner .ensures) (sorted .attribute-sort .ensures) (sized .attribute-length .ensures) (valued .attribute-value .ensures) (named .name-fits .ensures) (c .before .value-fits .ensures) (c .is-fill .ensures)
+    let start = owned .before .before in
+    let a = start .args in
+    attribute-of (a .w) (a .n) (a .rec .now) _ _ _ _ (owned .attribute-owner .ensures) (sorted .attribute-sort .ensures) (sized .attribute-length .ensures)
+    (valued .attribute-value .ensures) (named .name-fits .ensures) (c .before .value-fits .ensures) (c .is-fill .ensures)
 
 pub attribute-fits-spec : {M : Type 1} → statement M
 attribute-fits-spec =

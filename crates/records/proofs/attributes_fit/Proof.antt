@@ -15,6 +15,7 @@ use Rattle.records.proofs.attribute_fits.Reads as attribute-fits-reads
 use Rattle.records.proofs.first.Reads as first-reads
 use Rattle.records.proofs.least.Reads as least-reads
 
+-- The loop's invariant: all attribute records fit if and only if the `left` ones at the front of `rest` do.
 abbrev Inv-loop : tie.InvT-loop
 Inv-loop w body count n size₀ rest₀ left₀ rest left = eachFits (attributeFits w n) (attributeSize w) count body ≡ eachFits (attributeFits w n) (attributeSize w) left rest
 
@@ -34,7 +35,15 @@ attribute-fits-requires : tie.Need-attribute-fits-requires Inv-loop μ-loop
 attribute-fits-requires c κs = search needs
 
 returns : tie.Need-returns Inv-loop μ-loop
-returns c = each-off (attributeFits (c .before .before .before .before .before .before .before .args .w) (c .before .before .before .before .before .before .before .args .n)) (attributeSize (c .before .before .before .before .before .before .before .args .w)) (c .before .before .before .before .loop .left) (c .before .before .before .before .loop .rest .now) (c .before .before .before .before .loop .inv) _ (omega arith) (c .before .before .first .ensures ∙ ap (λ (k : ℕ). take k (c .before .before .before .before .loop .rest .now)) (c .before .before .before .before .before .attribute-size .ensures)) (c .before .attribute-fits .ensures) (not-true _ (c .if1 .taken))
+returns c =
+    let at-first = c .before .before in
+    let at-loop = at-first .before .before in
+    let at-attribute-size = at-loop .before in
+    let start = at-attribute-size .before .before in
+    each-off (attributeFits (start .args .w) (start .args .n)) (attributeSize (start .args .w)) (at-loop .loop .left) (at-loop .loop .rest .now)
+    (at-loop .loop .inv) _ (omega arith)
+    (at-first .first .ensures ∙ ap (λ (k : ℕ). take k (at-loop .loop .rest .now)) (at-attribute-size .attribute-size .ensures))
+    (c .before .attribute-fits .ensures) (not-true _ (c .if1 .taken))
 
 least-requires : tie.Need-least-requires Inv-loop μ-loop
 least-requires c κs = search needs
@@ -55,10 +64,23 @@ loop-less : tie.Need-loop-less Inv-loop μ-loop
 loop-less c = search needs
 
 loop-again : tie.Need-loop-again Inv-loop μ-loop
-loop-again c = each-on (attributeFits (c .before .before .before .before .before .before .before .before .before .args .w) (c .before .before .before .before .before .before .before .before .before .args .n)) (attributeSize (c .before .before .before .before .before .before .before .before .before .args .w)) (c .before .before .before .before .before .before .loop .left) (c .before .before .before .before .before .before .loop .rest .now) (c .before .before .before .before .before .before .loop .inv) _ _ (omega arith) (c .before .before .before .before .first .ensures ∙ ap (λ (k : ℕ). take k (c .before .before .before .before .before .before .loop .rest .now)) (c .before .before .before .before .before .before .before .attribute-size .ensures)) (c .before .before .before .attribute-fits .ensures) (not-false _ (c .before .before .if1 .left)) (c .before .least .ensures ∙ ap (λ (k : ℕ). min k (length (c .before .before .before .before .before .before .loop .rest .now))) (c .before .before .before .before .before .before .before .attribute-size .ensures))
+loop-again c =
+    let at-if1 = c .before .before in
+    let at-attribute-fits = at-if1 .before in
+    let at-first = at-attribute-fits .before in
+    let at-loop = at-first .before .before in
+    let at-attribute-size = at-loop .before in
+    let start = at-attribute-size .before .before in
+    each-on (attributeFits (start .args .w) (start .args .n)) (attributeSize (start .args .w)) (at-loop .loop .left) (at-loop .loop .rest .now)
+    (at-loop .loop .inv) _ _ (omega arith)
+    (at-first .first .ensures ∙ ap (λ (k : ℕ). take k (at-loop .loop .rest .now)) (at-attribute-size .attribute-size .ensures))
+    (at-attribute-fits .attribute-fits .ensures) (not-false _ (at-if1 .if1 .left))
+    (c .before .least .ensures ∙ ap (λ (k : ℕ). min k (length (at-loop .loop .rest .now))) (at-attribute-size .attribute-size .ensures))
 
 returns-2 : tie.Need-returns-2 Inv-loop μ-loop
-returns-2 c = each-end (attributeFits (c .before .before .before .before .args .w) (c .before .before .before .before .args .n)) (attributeSize (c .before .before .before .before .args .w)) (c .before .loop .left) (c .before .loop .rest .now) (c .before .loop .inv) (omega arith)
+returns-2 c =
+    let start = c .before .before .before .before in
+    each-end (attributeFits (start .args .w) (start .args .n)) (attributeSize (start .args .w)) (c .before .loop .left) (c .before .loop .rest .now) (c .before .loop .inv) (omega arith)
 
 pub attributes-fit-spec : {M : Type 1} → statement M
 attributes-fit-spec =

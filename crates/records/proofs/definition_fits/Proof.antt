@@ -14,7 +14,10 @@ name-fits-requires : tie.Need-name-fits-requires
 name-fits-requires c κs = search needs
 
 returns : tie.Need-returns
-returns c = definition-of (c .before .before .before .before .args .rec .now) _ _ (c .before .before .definition-kind .ensures) (c .before .definition-particles .ensures) (c .name-fits .ensures)
+returns c =
+    let at-definition-kind = c .before .before in
+    let start = at-definition-kind .before .before in
+    definition-of (start .args .rec .now) _ _ (at-definition-kind .definition-kind .ensures) (c .before .definition-particles .ensures) (c .name-fits .ensures)
 
 pub definition-fits-spec : {M : Type 1} → statement M
 definition-fits-spec =

@@ -13,6 +13,7 @@ use Rattle.records.proofs.definition_fits.Reads as definition-fits-read
 use Rattle.records.proofs.first.Reads as first-reads
 use Rattle.records.proofs.least.Reads as least-reads
 
+-- The loop's invariant: all definition records fit if and only if the `left` ones at the front of `rest` do.
 abbrev Inv-loop : tie.InvT-loop
 Inv-loop body count rest₀ left₀ rest left = eachFits definitionFits definitionSize count body ≡ eachFits definitionFits definitionSize left rest
 
@@ -29,7 +30,11 @@ definition-fits-requires : tie.Need-definition-fits-requires Inv-loop μ-loop
 definition-fits-requires c κs = search needs
 
 returns : tie.Need-returns Inv-loop μ-loop
-returns c = each-off definitionFits definitionSize (c .before .before .before .before .loop .left) (c .before .before .before .before .loop .rest .now) (c .before .before .before .before .loop .inv) _ (omega arith) (c .before .before .first .ensures) (c .before .definition-fits .ensures) (not-true _ (c .if1 .taken))
+returns c =
+    let at-first = c .before .before in
+    let at-loop = at-first .before .before in
+    each-off definitionFits definitionSize (at-loop .loop .left) (at-loop .loop .rest .now) (at-loop .loop .inv) _ (omega arith) (at-first .first .ensures)
+    (c .before .definition-fits .ensures) (not-true _ (c .if1 .taken))
 
 least-requires : tie.Need-least-requires Inv-loop μ-loop
 least-requires c κs = search needs
@@ -50,7 +55,13 @@ loop-less : tie.Need-loop-less Inv-loop μ-loop
 loop-less c = search needs
 
 loop-again : tie.Need-loop-again Inv-loop μ-loop
-loop-again c = each-on definitionFits definitionSize (c .before .before .before .before .before .before .loop .left) (c .before .before .before .before .before .before .loop .rest .now) (c .before .before .before .before .before .before .loop .inv) _ _ (omega arith) (c .before .before .before .before .first .ensures) (c .before .before .before .definition-fits .ensures) (not-false _ (c .before .before .if1 .left)) (c .before .least .ensures)
+loop-again c =
+    let at-if1 = c .before .before in
+    let at-definition-fits = at-if1 .before in
+    let at-first = at-definition-fits .before in
+    let at-loop = at-first .before .before in
+    each-on definitionFits definitionSize (at-loop .loop .left) (at-loop .loop .rest .now) (at-loop .loop .inv) _ _ (omega arith) (at-first .first .ensures)
+    (at-definition-fits .definition-fits .ensures) (not-false _ (at-if1 .if1 .left)) (c .before .least .ensures)
 
 returns-2 : tie.Need-returns-2 Inv-loop μ-loop
 returns-2 c = each-end definitionFits definitionSize (c .before .loop .left) (c .before .loop .rest .now) (c .before .loop .inv) (omega arith)

@@ -11,7 +11,10 @@ use Rattle.records.proofs.first.Reads as first-reads
 use Rattle.byte_check.proofs.zeros.Reads as zeros-reads
 
 returns : tie.Need-returns
-returns c = let a = c .before .before .args in sym (filled-wide (a .rec .now) (a .at) (a .used) (a .width) (c .if1 .taken))
+returns c =
+    let start = c .before .before in
+    let a = start .args in
+    sym (filled-wide (a .rec .now) (a .at) (a .used) (a .width) (c .if1 .taken))
 
 after-requires : tie.Need-after-requires
 after-requires c κs = search needs
@@ -26,7 +29,12 @@ zeros-requires : tie.Need-zeros-requires
 zeros-requires c κs = search needs
 
 returns-2 : tie.Need-returns-2
-returns-2 c = let a = c .before .before .before .before .before .before .args in filled-of (a .rec .now) (a .at) (a .used) (a .width) _ _ _ (omega arith) (c .before .before .before .after .ensures) (c .before .before .first .ensures) (c .before .after2 .ensures) (c .zeros .ensures)
+returns-2 c =
+    let at-first = c .before .before in
+    let at-after = at-first .before in
+    let start = at-after .before .before .before in
+    let a = start .args in
+    filled-of (a .rec .now) (a .at) (a .used) (a .width) _ _ _ (omega arith) (at-after .after .ensures) (at-first .first .ensures) (c .before .after2 .ensures) (c .zeros .ensures)
 
 pub filled-spec : {M : Type 1} → statement M
 filled-spec =

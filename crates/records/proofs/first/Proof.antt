@@ -8,7 +8,9 @@ use Rattle.records.proofs.first.Reads as reads
 use Rattle.records.proofs.first.Lts as lts
 
 slice-aggregate-result : tie.Need-slice-aggregate-result
-slice-aggregate-result c = sym (length-take-le (c .before .before .args .n) (c .before .before .args .s .now) (omega arith))
+slice-aggregate-result c =
+    let start = c .before .before in
+    sym (length-take-le (start .args .n) (start .args .s .now) (omega arith))
 
 returns : tie.Need-returns
 returns c = search needs

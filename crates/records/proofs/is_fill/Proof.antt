@@ -13,10 +13,15 @@ returns : tie.Need-returns
 returns c = let v = c .before .args .value .now in sym (ap (λ (k : ℕ). isFill (sortOf k) v) (c .if1 .taken) ∙ none-length v)
 
 returns-2 : tie.Need-returns-2
-returns-2 c = let v = c .before .before .args .value .now in sym (ap (λ (k : ℕ). isFill (sortOf k) v) (c .if2 .taken) ∙ ap not (none-length v))
+returns-2 c =
+    let start = c .before .before in
+    let v = start .args .value .now in
+    sym (ap (λ (k : ℕ). isFill (sortOf k) v) (c .if2 .taken) ∙ ap not (none-length v))
 
 returns-3 : tie.Need-returns-3
-returns-3 c = sym (fill-any (c .before .before .args .sort) (c .before .before .args .value .now) (c .before .if1 .left) (c .if2 .left))
+returns-3 c =
+    let start = c .before .before in
+    sym (fill-any (start .args .sort) (start .args .value .now) (c .before .if1 .left) (c .if2 .left))
 
 pub is-fill-spec : {M : Type 1} → statement M
 is-fill-spec = tie.close (tie.spec returns returns-2 returns-3)

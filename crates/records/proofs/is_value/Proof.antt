@@ -13,7 +13,9 @@ all-printable-requires : tie.Need-all-printable-requires
 all-printable-requires c κs = search needs
 
 returns : tie.Need-returns
-returns c = ap (λ (t : Bool). leb (length (c .before .before .args .s .now)) (c .before .before .args .w) && t) (c .all-printable .ensures)
+returns c =
+    let start = c .before .before in
+    ap (λ (t : Bool). leb (length (start .args .s .now)) (start .args .w) && t) (c .all-printable .ensures)
 
 pub is-value-spec : {M : Type 1} → statement M
 is-value-spec = tie.close (tie.spec all-printable-requires returns)

@@ -13,7 +13,9 @@ use Rattle.records.proofs.stored_name.Reads as stored-name-reads
 use Rattle.records.proofs.wide.Reads as wide-reads
 
 returns : tie.Need-returns
-returns c = sym (name-past (c .before .before .args .rec .now) (c .before .before .args .at) (c .if1 .taken))
+returns c =
+    let start = c .before .before in
+    sym (name-past (start .args .rec .now) (start .args .at) (c .if1 .taken))
 
 add-start : tie.Need-add-start
 add-start c = search needs
@@ -37,7 +39,15 @@ filled-requires : tie.Need-filled-requires
 filled-requires c κs = search needs
 
 returns-2 : tie.Need-returns-2
-returns-2 c = let a = c .before .before .before .before .before .before .before .before .args in name-fits-of (a .rec .now) (a .at) _ _ _ (c .before .before .before .before .wide .ensures ∙ c .before .before .before .before .before .byte .ensures) (c .before .before .before .after .ensures) (c .before .before .first .ensures) (c .before .stored-name .ensures) (c .filled .ensures)
+returns-2 c =
+    let at-first = c .before .before in
+    let at-after = at-first .before in
+    let at-wide = at-after .before in
+    let at-byte = at-wide .before in
+    let start = at-byte .before .before .before in
+    let a = start .args in
+    name-fits-of (a .rec .now) (a .at) _ _ _ (at-wide .wide .ensures ∙ at-byte .byte .ensures) (at-after .after .ensures) (at-first .first .ensures)
+    (c .before .stored-name .ensures) (c .filled .ensures)
 
 pub name-fits-spec : {M : Type 1} → statement M
 name-fits-spec =

@@ -24,7 +24,8 @@ returns c =
     let indexed = c .before .before in
     let sized = indexed .before in
     let sorted = sized .before in
-    let a = sorted .before .before .args in
+    let start = sorted .before .before in
+    let a = start .args in
     row-of (a .w) (a .rec .now) _ _ _ (sorted .row-sort .ensures) (sized .row-length .ensures) (indexed .row-index .ensures) (c .before .value-fits .ensures) (c .unused-fit .ensures)
 
 pub row-fits-spec : {M : Type 1} → statement M

@@ -10,7 +10,9 @@ use Rattle.byte_check.proofs.all_in_name.Reads as all-in-name-reads
 use Rattle.byte_check.proofs.starts_name.Reads as starts-name-reads
 
 returns : tie.Need-returns
-returns c = sym (name-none (c .before .before .args .s .now) (c .if1 .taken))
+returns c =
+    let start = c .before .before in
+    sym (name-none (start .args .s .now) (c .if1 .taken))
 
 shared-slice-read-starts-name : tie.Need-shared-slice-read-starts-name
 shared-slice-read-starts-name c = search needs
@@ -25,7 +27,11 @@ all-in-name-requires : tie.Need-all-in-name-requires
 all-in-name-requires c κs = search needs
 
 returns-2 : tie.Need-returns-2
-returns-2 c = name-of (c .before .before .before .before .before .before .args .s .now) _ (c .before .before .before .before .if1 .left) (c .before .before .starts-name .ensures) (c .before .after .ensures) (c .all-in-name .ensures)
+returns-2 c =
+    let at-starts-name = c .before .before in
+    let at-if1 = at-starts-name .before .before in
+    let start = at-if1 .before .before in
+    name-of (start .args .s .now) _ (at-if1 .if1 .left) (at-starts-name .starts-name .ensures) (c .before .after .ensures) (c .all-in-name .ensures)
 
 pub stored-name-spec : {M : Type 1} → statement M
 stored-name-spec =

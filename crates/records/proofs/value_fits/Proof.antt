@@ -22,7 +22,12 @@ filled-requires : tie.Need-filled-requires
 filled-requires c κs = search needs
 
 returns : tie.Need-returns
-returns c = let a = c .before .before .before .before .before .args in value-fits-of (a .w) (a .rec .now) (a .at) (a .used) _ _ (c .before .before .before .after .ensures) (c .before .before .first .ensures) (c .before .is-value .ensures) (c .filled .ensures)
+returns c =
+    let at-first = c .before .before in
+    let at-after = at-first .before in
+    let start = at-after .before .before in
+    let a = start .args in
+    value-fits-of (a .w) (a .rec .now) (a .at) (a .used) _ _ (at-after .after .ensures) (at-first .first .ensures) (c .before .is-value .ensures) (c .filled .ensures)
 
 pub value-fits-spec : {M : Type 1} → statement M
 value-fits-spec =

@@ -45,14 +45,20 @@ skips-requires c κs = search needs
 
 returns : tie.Need-returns
 returns c =
-    let at-window = c .before .before .before .before in
-    let at-times = at-window .before .before in
-    let at-particle = at-times .before .before in
-    let a = at-particle .before .before .before .args in
-    left-read (a .part .now) (a .start) (a .p) (a .d) (at-particle .before .particles-from .ensures) (at-particle .read-particle .ensures) (c .skips .ensures)
-    (at-times .before .particle-size .ensures) (at-times .times .ensures) (at-window .before .particles-from2 .ensures) (at-window .window .ensures)
-    (c .before .before .before .accepts-nothing .ensures)
-    (c .before .before .particles-from3 .ensures) (c .before .accepts-nothing2 .ensures)
+    let at-particles-from3 = c .before .before in
+    let at-accepts-nothing = at-particles-from3 .before in
+    let at-window = at-accepts-nothing .before in
+    let at-particles-from2 = at-window .before in
+    let at-times = at-particles-from2 .before in
+    let at-particle-size = at-times .before in
+    let at-particle = at-particle-size .before in
+    let at-particles-from = at-particle .before in
+    let start = at-particles-from .before .before in
+    let a = start .args in
+    left-read (a .part .now) (a .start) (a .p) (a .d) (at-particles-from .particles-from .ensures) (at-particle .read-particle .ensures) (c .skips .ensures)
+    (at-particle-size .particle-size .ensures) (at-times .times .ensures) (at-particles-from2 .particles-from2 .ensures) (at-window .window .ensures)
+    (at-accepts-nothing .accepts-nothing .ensures)
+    (at-particles-from3 .particles-from3 .ensures) (c .before .accepts-nothing2 .ensures)
 
 pub choice-left-spec : {M : Type 1} → statement M
 choice-left-spec =

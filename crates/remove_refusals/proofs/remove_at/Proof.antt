@@ -21,20 +21,27 @@ count-members-requires c κs = search needs
 returns : tie.Need-returns
 returns c =
     let at-count = c .before .before in
-    let a = at-count .before .before .before .before .before .args in
-    at-14 (hasInstance (a .store .now) (a .owner)) (a .part .now) (a .h) (a .p) (at-count .before .before .particles-from .ensures)
-    (at-count .before .particle-depth .ensures) (at-count .count-members .ensures) (c .if1 .taken)
+    let at-particle-depth = at-count .before in
+    let at-particles-from = at-particle-depth .before in
+    let start = at-particles-from .before .before .before in
+    let a = start .args in
+    at-14 (hasInstance (a .store .now) (a .owner)) (a .part .now) (a .h) (a .p) (at-particles-from .particles-from .ensures)
+    (at-particle-depth .particle-depth .ensures) (at-count .count-members .ensures) (c .if1 .taken)
 
 same-kind-requires : tie.Need-same-kind-requires
 same-kind-requires c κs = search needs
 
 returns-2 : tie.Need-returns-2
 returns-2 c =
-    let at-count = c .before .before .before .before in
-    let a = at-count .before .before .before .before .before .args in
-    at-list (hasInstance (a .store .now) (a .owner)) (a .part .now) (a .h) (a .p) (at-count .before .before .particles-from .ensures)
-    (at-count .before .particle-depth .ensures) (at-count .count-members .ensures)
-    (c .before .before .if1 .left) (c .before .same-kind .ensures) (c .if2 .taken)
+    let at-if1 = c .before .before in
+    let at-count = at-if1 .before .before in
+    let at-particle-depth = at-count .before in
+    let at-particles-from = at-particle-depth .before in
+    let start = at-particles-from .before .before .before in
+    let a = start .args in
+    at-list (hasInstance (a .store .now) (a .owner)) (a .part .now) (a .h) (a .p) (at-particles-from .particles-from .ensures)
+    (at-particle-depth .particle-depth .ensures) (at-count .count-members .ensures)
+    (at-if1 .if1 .left) (c .before .same-kind .ensures) (c .if2 .taken)
 
 choice-left-requires : tie.Need-choice-left-requires
 choice-left-requires c κs =
@@ -43,33 +50,54 @@ choice-left-requires c κs =
 
 returns-3 : tie.Need-returns-3
 returns-3 c =
-    let at-count = c .before .before .before .before .before .before in
-    let a = at-count .before .before .before .before .before .args in
-    at-left (hasInstance (a .store .now) (a .owner)) (a .part .now) (a .h) (a .p) (at-count .before .before .particles-from .ensures)
-    (at-count .before .particle-depth .ensures) (at-count .count-members .ensures)
-    (c .before .before .before .before .if1 .left) (c .before .before .before .same-kind .ensures) (c .before .choice-left .ensures) (c .if3 .taken)
+    let at-same-kind = c .before .before .before in
+    let at-if1 = at-same-kind .before in
+    let at-count = at-if1 .before .before in
+    let at-particle-depth = at-count .before in
+    let at-particles-from = at-particle-depth .before in
+    let start = at-particles-from .before .before .before in
+    let a = start .args in
+    at-left (hasInstance (a .store .now) (a .owner)) (a .part .now) (a .h) (a .p) (at-particles-from .particles-from .ensures)
+    (at-particle-depth .particle-depth .ensures) (at-count .count-members .ensures)
+    (at-if1 .if1 .left) (at-same-kind .same-kind .ensures) (c .before .choice-left .ensures) (c .if3 .taken)
 
 instance-exists-requires : tie.Need-instance-exists-requires
 instance-exists-requires c κs = search needs
 
 returns-4 : tie.Need-returns-4
 returns-4 c =
-    let at-count = c .before .before .before .before .before .before .before .before in
-    let a = at-count .before .before .before .before .before .args in
-    at-15 (hasInstance (a .store .now) (a .owner)) (a .part .now) (a .h) (a .p) (at-count .before .before .particles-from .ensures)
-    (at-count .before .particle-depth .ensures) (at-count .count-members .ensures)
-    (c .before .before .before .before .before .before .if1 .left) (c .before .before .before .before .before .same-kind .ensures)
-    (c .before .before .before .choice-left .ensures) (c .before .before .before .before .if2 .left) (c .before .before .if3 .left) (c .before .instance-exists .ensures)
+    let at-if3 = c .before .before in
+    let at-choice-left = at-if3 .before in
+    let at-if2 = at-choice-left .before in
+    let at-same-kind = at-if2 .before in
+    let at-if1 = at-same-kind .before in
+    let at-count = at-if1 .before .before in
+    let at-particle-depth = at-count .before in
+    let at-particles-from = at-particle-depth .before in
+    let start = at-particles-from .before .before .before in
+    let a = start .args in
+    at-15 (hasInstance (a .store .now) (a .owner)) (a .part .now) (a .h) (a .p) (at-particles-from .particles-from .ensures)
+    (at-particle-depth .particle-depth .ensures) (at-count .count-members .ensures)
+    (at-if1 .if1 .left) (at-same-kind .same-kind .ensures)
+    (at-choice-left .choice-left .ensures) (at-if2 .if2 .left) (at-if3 .if3 .left) (c .before .instance-exists .ensures)
     (c .if4 .taken)
 
 returns-5 : tie.Need-returns-5
 returns-5 c =
-    let at-count = c .before .before .before .before .before .before .before .before in
-    let a = at-count .before .before .before .before .before .args in
-    at-0 (hasInstance (a .store .now) (a .owner)) (a .part .now) (a .h) (a .p) (at-count .before .before .particles-from .ensures)
-    (at-count .before .particle-depth .ensures) (at-count .count-members .ensures)
-    (c .before .before .before .before .before .before .if1 .left) (c .before .before .before .before .before .same-kind .ensures)
-    (c .before .before .before .choice-left .ensures) (c .before .before .before .before .if2 .left) (c .before .before .if3 .left) (c .before .instance-exists .ensures)
+    let at-if3 = c .before .before in
+    let at-choice-left = at-if3 .before in
+    let at-if2 = at-choice-left .before in
+    let at-same-kind = at-if2 .before in
+    let at-if1 = at-same-kind .before in
+    let at-count = at-if1 .before .before in
+    let at-particle-depth = at-count .before in
+    let at-particles-from = at-particle-depth .before in
+    let start = at-particles-from .before .before .before in
+    let a = start .args in
+    at-0 (hasInstance (a .store .now) (a .owner)) (a .part .now) (a .h) (a .p) (at-particles-from .particles-from .ensures)
+    (at-particle-depth .particle-depth .ensures) (at-count .count-members .ensures)
+    (at-if1 .if1 .left) (at-same-kind .same-kind .ensures)
+    (at-choice-left .choice-left .ensures) (at-if2 .if2 .left) (at-if3 .if3 .left) (c .before .instance-exists .ensures)
     (c .if4 .left)
 
 pub remove-at-spec : {M : Type 1} → statement M

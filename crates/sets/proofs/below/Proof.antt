@@ -16,12 +16,14 @@ bit-requires c κs = search needs
 rem-result : tie.Need-rem-result
 rem-result c =
     let start = c .before .before in
-    let p = bit-pos (start .args .to) (omega arith) in omega (arith, p, c .bit .ensures)
+    let p = bit-pos (start .args .to) (omega arith) in
+    omega (arith, p, c .bit .ensures)
 
 returns-2 : tie.Need-returns-2
 returns-2 c =
     let start = c .before .before in
-    let a = start .args in ap (λ (n : ℕ). a .s % n) (c .bit .ensures ∙ bit-is (a .to) (omega arith))
+    let a = start .args in
+    ap (λ (n : ℕ). a .s % n) (c .bit .ensures ∙ bit-is (a .to) (omega arith))
 
 pub below-spec : {M : Type 1} → statement M
 below-spec = tie.close (tie.spec returns bit-requires rem-result returns-2)

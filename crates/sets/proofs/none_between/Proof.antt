@@ -9,13 +9,15 @@ below-requires : tie.Need-below-requires
 below-requires c κs = search needs
 
 returns : tie.Need-returns
-returns c = let start = c .before .before in none-past (start .args .s) (start .args .from) (start .args .to) (start .pre) (c .if1 .taken)
+returns c = let start = c .before .before in
+    none-past (start .args .s) (start .args .from) (start .args .to) (start .pre) (c .if1 .taken)
 
 shr-result : tie.Need-shr-result
 shr-result c = search needs
 
 returns-2 : tie.Need-returns-2
-returns-2 c = let start = c .before .before in none-between (start .args .s) (start .args .from) (start .args .to) _ (start .fits .s .fits) (c .before .below .ensures) (start .pre)
+returns-2 c = let start = c .before .before in
+    none-between (start .args .s) (start .args .from) (start .args .to) _ (start .fits .s .fits) (c .before .below .ensures) (start .pre)
 
 pub none-between-spec : {M : Type 1} → statement M
 none-between-spec = tie.close (tie.spec below-requires returns shr-result returns-2)

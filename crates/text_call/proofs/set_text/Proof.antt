@@ -21,31 +21,69 @@ refused-requires : tie.Need-refused-requires
 refused-requires c κs = search needs
 
 returns : tie.Need-returns
-returns c = bad (setText (c .before .before .before .before .before .before .args .element) (c .before .before .before .before .before .before .args .text .now)) (c .before .before .before .before .before .before .args .store .now) (length (c .before .before .before .before .before .before .args .out .now)) (c .before .before .before .before .before .before .args .out .now) (c .before .if1 .taken) (c .before .before .passes .ensures) (c .refused .ensures)
+returns c =
+    let at-passes = c .before .before in
+    let start = at-passes .before .before .before .before in
+    bad (setText (start .args .element) (start .args .text .now)) (start .args .store .now) (length (start .args .out .now)) (start .args .out .now)
+    (c .before .if1 .taken) (at-passes .passes .ensures) (c .refused .ensures)
 
 set-text-refusal-requires : tie.Need-set-text-refusal-requires
-set-text-refusal-requires c κs = passed (c .before .before .before .before .before .args .store .now) (c .if1 .left) (c .before .passes .ensures)
+set-text-refusal-requires c κs =
+    let start = c .before .before .before .before .before in
+    passed (start .args .store .now) (c .if1 .left) (c .before .passes .ensures)
 
 refused-requires-2 : tie.Need-refused-requires-2
 refused-requires-2 c κs = search needs
 
 returns-2 : tie.Need-returns-2
-returns-2 c = turned-away (setText (c .before .before .before .before .before .before .before .before .args .element) (c .before .before .before .before .before .before .before .before .args .text .now)) (c .before .before .before .before .before .before .before .before .args .store .now) (length (c .before .before .before .before .before .before .before .before .args .out .now)) (c .before .before .before .before .before .before .before .before .args .out .now) (c .before .before .before .if1 .left) (c .before .before .before .before .passes .ensures) (c .before .before .set-text-refusal .ensures) (c .before .if2 .taken) (c .refused2 .ensures)
+returns-2 c =
+    let at-set-text-refusal = c .before .before in
+    let at-if1 = at-set-text-refusal .before in
+    let at-passes = at-if1 .before in
+    let start = at-passes .before .before .before .before in
+    turned-away (setText (start .args .element) (start .args .text .now)) (start .args .store .now) (length (start .args .out .now)) (start .args .out .now)
+    (at-if1 .if1 .left) (at-passes .passes .ensures) (at-set-text-refusal .set-text-refusal .ensures) (c .before .if2 .taken) (c .refused2 .ensures)
 
 text-serial-requires : tie.Need-text-serial-requires
-text-serial-requires c κs = set-text-there (c .before .before .before .before .before .before .before .args .store .now) (c .before .before .if1 .left) (c .before .before .before .passes .ensures) (c .before .before .before .before .before .before .before .args .element) (c .before .before .before .before .before .before .before .args .text .now) (c .before .set-text-refusal .ensures) (c .if2 .left)
+text-serial-requires c κs =
+    let at-if1 = c .before .before in
+    let at-passes = at-if1 .before in
+    let start = at-passes .before .before .before .before in
+    set-text-there (start .args .store .now) (at-if1 .if1 .left) (at-passes .passes .ensures) (start .args .element) (start .args .text .now) (c .before .set-text-refusal .ensures) (c .if2 .left)
 
 setting-plan-requires : tie.Need-setting-plan-requires
 setting-plan-requires c κs = search needs
 
 edit-requires : tie.Need-edit-requires
-edit-requires c κs = set-text-asks (c .before .before .before .before .before .before .before .before .before .before .args .store .now) (c .before .before .before .before .before .if1 .left) (c .before .before .before .before .before .before .passes .ensures) (c .before .before .before .before .before .before .before .before .before .before .args .element) (c .before .before .before .before .before .before .before .before .before .before .args .text .now) (c .before .before .before .before .set-text-refusal .ensures) (c .before .before .before .if2 .left) (c .before .setting-plan .ensures ∙ ap (λ (x : ℕ). setTextPlan x) (c .before .before .text-serial .ensures))
+edit-requires c κs =
+    let at-text-serial = c .before .before in
+    let at-if2 = at-text-serial .before in
+    let at-set-text-refusal = at-if2 .before in
+    let at-if1 = at-set-text-refusal .before in
+    let at-passes = at-if1 .before in
+    let start = at-passes .before .before .before .before in
+    set-text-asks (start .args .store .now) (at-if1 .if1 .left) (at-passes .passes .ensures) (start .args .element) (start .args .text .now)
+    (at-set-text-refusal .set-text-refusal .ensures) (at-if2 .if2 .left)
+    (c .before .setting-plan .ensures ∙ ap (λ (x : ℕ). setTextPlan x) (at-text-serial .text-serial .ensures))
 
 same-length : tie.Need-same-length
 same-length c = search needs
 
 returns-3 : tie.Need-returns-3
-returns-3 c = made-planned (setText (c .before .before .before .before .before .before .before .before .before .before .before .before .before .args .element) (c .before .before .before .before .before .before .before .before .before .before .before .before .before .args .text .now)) (c .before .before .before .before .before .before .before .before .before .before .before .before .before .args .store .now) (length (c .before .before .before .before .before .before .before .before .before .before .before .before .before .args .out .now)) (c .before .before .before .before .before .before .before .before .before .before .before .before .before .args .out .now) (setTextPlan (textSerial (c .before .before .before .before .before .before .before .before .before .before .before .before .before .args .element) (storeIn (c .before .before .before .before .before .before .before .before .before .before .before .before .before .args .store .now)))) _ (c .before .before .before .before .before .before .before .before .before .before .before .before .before .args .text .now) (c .before .before .before .before .before .before .before .before .if1 .left) (c .before .before .before .before .before .before .before .before .before .passes .ensures) (c .before .before .before .before .before .before .before .set-text-refusal .ensures) (c .before .before .before .before .before .before .if2 .left) (c .before .before .before .before .setting-plan .ensures ∙ ap (λ (x : ℕ). setTextPlan x) (c .before .before .before .before .before .text-serial .ensures)) (λ g e. set-text-planned (storeIn (c .before .before .before .before .before .before .before .before .before .before .before .before .before .args .store .now)) g (c .before .before .before .before .before .before .before .before .before .before .before .before .before .args .element) (c .before .before .before .before .before .before .before .before .before .before .before .before .before .args .text .now)) (c .before .before .edit .ensures)
+returns-3 c =
+    let at-edit = c .before .before in
+    let at-setting-plan = at-edit .before .before in
+    let at-text-serial = at-setting-plan .before in
+    let at-if2 = at-text-serial .before in
+    let at-set-text-refusal = at-if2 .before in
+    let at-if1 = at-set-text-refusal .before in
+    let at-passes = at-if1 .before in
+    let start = at-passes .before .before .before .before in
+    made-planned (setText (start .args .element) (start .args .text .now)) (start .args .store .now) (length (start .args .out .now)) (start .args .out .now)
+    (setTextPlan (textSerial (start .args .element) (storeIn (start .args .store .now)))) _ (start .args .text .now) (at-if1 .if1 .left)
+    (at-passes .passes .ensures) (at-set-text-refusal .set-text-refusal .ensures) (at-if2 .if2 .left)
+    (at-setting-plan .setting-plan .ensures ∙ ap (λ (x : ℕ). setTextPlan x) (at-text-serial .text-serial .ensures))
+    (λ g e. set-text-planned (storeIn (start .args .store .now)) g (start .args .element) (start .args .text .now)) (at-edit .edit .ensures)
 
 pub set-text-spec : {M : Type 1} → statement M
 set-text-spec =

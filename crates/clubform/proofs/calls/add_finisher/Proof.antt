@@ -12,13 +12,19 @@ add-element-requires : tie.Need-add-element-requires
 add-element-requires c κs = search needs
 
 expect-requires : tie.Need-expect-requires
-expect-requires c κs = answered (accepted .add-finisher) (c .before .before .before .before .before .before .before .before .pre) (c .before .before .before .add-element .ensures) .number-is
+expect-requires c κs =
+    let at-add-element = c .before .before .before in
+    let start = at-add-element .before .before .before .before .before in
+    answered (accepted .add-finisher) (start .pre) (at-add-element .add-element .ensures) .number-is
 
 same-length : tie.Need-same-length
 same-length c = search needs
 
 returns : tie.Need-returns
-returns c = answered (accepted .add-finisher) (c .before .before .before .before .before .before .before .before .before .pre) (c .before .before .before .before .add-element .ensures) .holds
+returns c =
+    let at-add-element = c .before .before .before .before in
+    let start = at-add-element .before .before .before .before .before in
+    answered (accepted .add-finisher) (start .pre) (at-add-element .add-element .ensures) .holds
 
 pub add-finisher-spec : {M : Type 1} → statement M
 add-finisher-spec =

@@ -15,13 +15,19 @@ insert-element-requires : tie.Need-insert-element-requires
 insert-element-requires c κs = search needs
 
 expect-requires : tie.Need-expect-requires
-expect-requires c κs = answered (accepted .insert-finisher) (c .before .before .before .before .before .before .before .before .before .pre) (c .before .before .before .insert-element .ensures) .number-is
+expect-requires c κs =
+    let at-insert-element = c .before .before .before in
+    let start = at-insert-element .before .before .before .before .before .before in
+    answered (accepted .insert-finisher) (start .pre) (at-insert-element .insert-element .ensures) .number-is
 
 same-length : tie.Need-same-length
 same-length c = search needs
 
 returns : tie.Need-returns
-returns c = answered (accepted .insert-finisher) (c .before .before .before .before .before .before .before .before .before .before .pre) (c .before .before .before .before .insert-element .ensures) .holds
+returns c =
+    let at-insert-element = c .before .before .before .before in
+    let start = at-insert-element .before .before .before .before .before .before in
+    answered (accepted .insert-finisher) (start .pre) (at-insert-element .insert-element .ensures) .holds
 
 pub insert-finisher-spec : {M : Type 1} → statement M
 insert-finisher-spec =

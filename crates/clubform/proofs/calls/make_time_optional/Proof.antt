@@ -15,13 +15,19 @@ change-quantifier-requires : tie.Need-change-quantifier-requires
 change-quantifier-requires c κs = search needs
 
 expect-requires : tie.Need-expect-requires
-expect-requires c κs = answered (accepted .make-time-optional) (c .before .before .before .before .before .before .before .before .before .pre) (c .before .before .before .change-quantifier .ensures) .number-is
+expect-requires c κs =
+    let at-change-quantifier = c .before .before .before in
+    let start = at-change-quantifier .before .before .before .before .before .before in
+    answered (accepted .make-time-optional) (start .pre) (at-change-quantifier .change-quantifier .ensures) .number-is
 
 same-length : tie.Need-same-length
 same-length c = search needs
 
 returns : tie.Need-returns
-returns c = answered (accepted .make-time-optional) (c .before .before .before .before .before .before .before .before .before .before .pre) (c .before .before .before .before .change-quantifier .ensures) .holds
+returns c =
+    let at-change-quantifier = c .before .before .before .before in
+    let start = at-change-quantifier .before .before .before .before .before .before in
+    answered (accepted .make-time-optional) (start .pre) (at-change-quantifier .change-quantifier .ensures) .holds
 
 pub make-time-optional-spec : {M : Type 1} → statement M
 make-time-optional-spec =

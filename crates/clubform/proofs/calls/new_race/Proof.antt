@@ -12,13 +12,19 @@ add-document-requires : tie.Need-add-document-requires
 add-document-requires c κs = search needs
 
 expect-requires : tie.Need-expect-requires
-expect-requires c κs = answered (accepted .new-race) (c .before .before .before .before .before .before .before .before .pre) (c .before .before .before .add-document .ensures) .number-is
+expect-requires c κs =
+    let at-add-document = c .before .before .before in
+    let start = at-add-document .before .before .before .before .before in
+    answered (accepted .new-race) (start .pre) (at-add-document .add-document .ensures) .number-is
 
 same-length : tie.Need-same-length
 same-length c = search needs
 
 returns : tie.Need-returns
-returns c = answered (accepted .new-race) (c .before .before .before .before .before .before .before .before .before .pre) (c .before .before .before .before .add-document .ensures) .holds
+returns c =
+    let at-add-document = c .before .before .before .before in
+    let start = at-add-document .before .before .before .before .before in
+    answered (accepted .new-race) (start .pre) (at-add-document .add-document .ensures) .holds
 
 pub new-race-spec : {M : Type 1} → statement M
 new-race-spec =

@@ -12,13 +12,19 @@ set-text-requires : tie.Need-set-text-requires
 set-text-requires c κs = search needs
 
 expect-requires : tie.Need-expect-requires
-expect-requires c κs = answered (accepted .set-time) (c .before .before .before .before .before .before .before .before .pre) (c .before .before .before .set-text .ensures) .number-is
+expect-requires c κs =
+    let at-set-text = c .before .before .before in
+    let start = at-set-text .before .before .before .before .before in
+    answered (accepted .set-time) (start .pre) (at-set-text .set-text .ensures) .number-is
 
 same-length : tie.Need-same-length
 same-length c = search needs
 
 returns : tie.Need-returns
-returns c = answered (accepted .set-time) (c .before .before .before .before .before .before .before .before .before .pre) (c .before .before .before .before .set-text .ensures) .holds
+returns c =
+    let at-set-text = c .before .before .before .before in
+    let start = at-set-text .before .before .before .before .before in
+    answered (accepted .set-time) (start .pre) (at-set-text .set-text .ensures) .holds
 
 pub set-time-spec : {M : Type 1} → statement M
 set-time-spec =

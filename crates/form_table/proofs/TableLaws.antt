@@ -6,7 +6,7 @@ use mathlib.Core.Path.{_≡_, refl, sym, ap, subst, _∙_}
 use mathlib.Core.Logic.{_↔_}
 use mathlib.Core.Bool.{Bool, true, false, not, _&&_, _||_}
 use mathlib.Core.List.{List}
-use borrow.Author.Tests.{not-true, not-false, le-ltb, eqb-true, eqb-false, eq-eqb, ne-eqb, not-true as has-not}
+use borrow.Author.Tests.{not-true, not-false, le-ltb, eqb-true, eqb-false, ne-eqb, not-true as has-not}
 use lib.Dec.{eqb, ltb}
 use lib.ListN.{length, getD, set, length-set}
 use lib.Seq.{getD-set-same, getD-set-other}

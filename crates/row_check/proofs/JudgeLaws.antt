@@ -15,7 +15,7 @@ use Rattle.rules.specs.Layout.{FlatRow}
 use Rattle.rules.proofs.Words.{and-both, and-split}
 use Rattle.next_row.specs.declared.Level.{Level}
 use Rattle.form_index.specs.Indices.{IndexForm, Sort, Below, Everywhere, Documents}
-use Rattle.row_check.specs.Machine.{rowsRun, Fine, machine}
+use Rattle.row_step.specs.Machine.{rowsRun, Fine, machine}
 use Rattle.form_table.specs.Every.{every}
 use Rattle.next_row.specs.Judge.{spare, attributeMay, childMay, childrenEnd, rowMay, levelAfter, entered, groundLevel, judge}
 use Rattle.row_check.proofs.MachineLaws.{Within, accepted}

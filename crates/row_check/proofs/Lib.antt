@@ -3,6 +3,5 @@ pub mod MachineLaws
 pub mod Attributes
 pub mod Children
 pub mod JudgeLaws
-pub mod LevelLaws
-pub mod StepLaws
+pub mod WalkLaws
 pub mod PassLaws

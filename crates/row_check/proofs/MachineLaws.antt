@@ -1,5 +1,5 @@
 -- The one pass judges as the trees do.
-use Prim.Native.Nat.{ℕ, zero, suc, _-_, _≤_, _<_}
+use Prim.Native.Nat.{ℕ, suc, _≤_, _<_}
 use native.Mathlib.Omega.{arith}
 use mathlib.Core.Path.{_≡_, refl, ap, _∙_, sym, subst}
 use mathlib.Core.Logic.{_↔_}
@@ -14,7 +14,7 @@ use Rattle.rules.specs.Preorder.{Deep, flatten, build}
 use Rattle.rules.proofs.Words.{and-both, and-split}
 use Rattle.rules.proofs.PreorderLaws.{rising, build-flatten, flatten-build, build-less, build-more}
 use Rattle.next_row.specs.Automaton.{Automaton}
-use Rattle.row_check.specs.Machine.{rowsRun, Fine, levelsEnd, opened, machine}
+use Rattle.row_step.specs.Machine.{rowsRun, Fine, levelsEnd, opened, machine}
 use Rattle.form_table.proofs.Numbers.{Side, below, at, above, side, every→, every←}
 use Rattle.row_check.proofs.Depths.{build-same, flatten-rises}
 

@@ -16,13 +16,13 @@ use Rattle.layout.proofs.LayoutLaws.{room-rest}
 use Rattle.form_index.specs.Indices.{IndexForm, Documents}
 use Rattle.next_row.specs.declared.Level.{Level}
 use Rattle.next_row.specs.Judge.{groundLevel, judge}
-use Rattle.row_check.specs.Machine.{machine}
-use Rattle.row_check.specs.Verdict.{rowsRead, fieldsFit, judged, noLevels, verdict}
-use Rattle.row_check.specs.Steps.{State, mayStep, stepped, end, levelsOf, stateOf, StepMade}
+use Rattle.row_step.specs.Machine.{machine}
+use Rattle.row_check.specs.Verdict.{rowsRead, fieldsFit, judged, verdict}
+use Rattle.row_step.specs.Steps.{State, noLevels, mayStep, stepped, end, levelsOf, stateOf, StepMade}
 use Rattle.row_check.proofs.MachineLaws.{Within}
 use Rattle.row_check.proofs.JudgeLaws.{documents-judged}
-use Rattle.row_check.proofs.LevelLaws.{none-yet}
-use Rattle.row_check.proofs.StepLaws.{from, from-step, from-none}
+use Rattle.row_step.proofs.LevelLaws.{none-yet}
+use Rattle.row_check.proofs.WalkLaws.{from, from-step, from-none}
 
 -- ---- the loop
 -- what is left to judge gives the goal; there is a level for each depth, and room for the rows that are left

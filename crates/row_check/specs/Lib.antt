@@ -1,3 +1,1 @@
-pub mod Machine
 pub mod Verdict
-pub mod Steps

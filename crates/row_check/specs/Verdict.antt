@@ -2,7 +2,6 @@
 use Prim.Native.Nat.{ℕ}
 use mathlib.Core.Bool.{Bool, _&&_}
 use mathlib.Core.List.{List}
-use lib.ListN.{replicate}
 use Rattle.rules.specs.Bytes.{Bytes}
 use Rattle.rules.specs.Preorder.{Deep}
 use Rattle.rules.specs.Layout.{rowSize, FlatRow}
@@ -11,7 +10,8 @@ use Rattle.records.specs.Records.{rowFits, eachFits}
 use Rattle.form_index.specs.Indices.{IndexForm}
 use Rattle.next_row.specs.declared.Level.{Level}
 use Rattle.next_row.specs.Judge.{judge, groundLevel}
-use Rattle.row_check.specs.Machine.{machine}
+use Rattle.row_step.specs.Machine.{machine}
+use Rattle.row_step.specs.Steps.{noLevels}
 
 abbrev pub rowsRead : ℕ → ℕ → Bytes → List (Deep FlatRow)
 rowsRead w count bs = readMany readRow (rowSize w) count bs
@@ -22,10 +22,6 @@ fieldsFit w count bs = eachFits (rowFits w) (rowSize w) count bs
 -- of rows from here on, with `live` levels open
 abbrev pub judged : ℕ → IndexForm → List Level → ℕ → ℕ → Bytes → Bool
 judged w f l live count bs = fieldsFit w count bs && machine (judge f) groundLevel l live (rowsRead w count bs)
-
--- A depth is a byte, so 257 levels are enough.
-unfoldable pub noLevels : List Level
-noLevels = replicate 257 groundLevel
 
 unfoldable pub verdict : ℕ → IndexForm → ℕ → Bytes → Bool
 verdict w f count bs = judged w f noLevels 1 count bs

@@ -27,7 +27,7 @@ use Rattle.row_walk.specs.Walk.{matches, isEverything, isLater, spared, 
 use Rattle.row_walk.specs.Step.{rowOfHead, bare, rowRewritten, stepRows, stepOpen, Came, Ready, Near, WalkRow, Seen}
 
 -- ---- no test looks at a row's value
-matches-any : (w : Which) (h : Head) (u : Bytes) → matches w (rowOfHead h u .row) ≡ matches w (bare h .row)
+pub matches-any : (w : Which) (h : Head) (u : Bytes) → matches w (rowOfHead h u .row) ≡ matches w (bare h .row)
 matches-any Nothing h u = refl
 matches-any Everything h u = refl
 matches-any Ground h u = refl

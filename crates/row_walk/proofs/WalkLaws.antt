@@ -34,7 +34,7 @@ module _ (w : ℕ) where
   rows-rest zero t h x = absurd (omega arith)
   rows-rest (suc m) t h x = rw sub-one (x .1)
 
-  rows-step : (m : ℕ) (t : Bytes) → 0 < m → readMany readRow (rowSize w) m t ≡ readRow (take (rowSize w) t) ∷ readMany readRow (rowSize w) (m - 1) (drop (rowSize w) t)
+  pub rows-step : (m : ℕ) (t : Bytes) → 0 < m → readMany readRow (rowSize w) m t ≡ readRow (take (rowSize w) t) ∷ readMany readRow (rowSize w) (m - 1) (drop (rowSize w) t)
   rows-step zero t h = absurd (omega arith)
   rows-step (suc m) t h = rw sub-one
 
@@ -53,7 +53,7 @@ module _ (p : Plan) (v : Bytes) (fill : ℕ → List (Deep FlatRow)) where
       by true = refl
       by false = sym (append-assoc (owed (closes o x && o .due) (fill (rowDepth o))) (emitted p v fill (closed o x) x) (walked p v fill (nextOpen p v fill (closed o x) x) xs))
 
-  walked-none : (o : Open) → walked p v fill o [] ≡ owed (o .due) (fill (rowDepth o))
+  pub walked-none : (o : Open) → walked p v fill o [] ≡ owed (o .due) (fill (rowDepth o))
   unfolding walked
   walked-none o = refl
 

@@ -83,7 +83,8 @@ pub struct Head {
 
 // ---- rows
 
-fn read_head(row: &[u8]) -> Head
+/// What the walk reads of a row.
+pub fn read_head(row: &[u8]) -> Head
     ensures { λ r. ⌜ rowOfHead r (readRow (now (row .entry)) .row .value) ≡ readRow (now (row .entry)) ⌝ }
 {
     Head {
@@ -94,8 +95,8 @@ fn read_head(row: &[u8]) -> Head
     }
 }
 
-// Whether a row is one of them.
-fn matches(w: Which, h: Head) -> bool
+/// Whether a row is one of them.
+pub fn matches(w: Which, h: Head) -> bool
     ensures { λ r. ⌜ r ≡ matches w (bare h .row) ⌝ }
 {
     match w {
@@ -121,7 +122,7 @@ fn is_everything(w: Which) -> bool
     }
 }
 
-fn is_ground(w: Which) -> bool
+pub fn is_ground(w: Which) -> bool
     ensures { λ r. ⌜ r ≡ namesGround w ⌝ }
 {
     match w {

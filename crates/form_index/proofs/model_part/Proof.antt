@@ -20,7 +20,9 @@ window-requires : tie.Need-window-requires
 window-requires c κs = search needs
 
 returns : tie.Need-returns
-returns c = let a = c .before .before .before .before .before .args in c .window .ensures ∙ model-read (a .defs .now) (a .parts .now) (a .i) _ _ (c .before .before .particles-before .ensures .0) (c .before .particles-of .ensures .0)
+returns c =
+    let a = c .before .before .before .before .before .args in
+    c .window .ensures ∙ model-read (a .defs .now) (a .parts .now) (a .i) _ _ (c .before .before .particles-before .ensures .0) (c .before .particles-of .ensures .0)
 
 pub model-part-spec : {M : Type 1} → statement M
 model-part-spec =

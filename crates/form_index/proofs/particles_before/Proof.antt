@@ -27,7 +27,14 @@ loop-less : tie.Need-loop-less Inv-loop μ-loop
 loop-less c = search needs
 
 loop-again : tie.Need-loop-again Inv-loop μ-loop
-loop-again c = let v = c .before .before .loop .inv in record { is = before-more (c .before .before .before .before .args .defs .now) _ _ _ (v .is) (c .particles-of .ensures .0); low = omega arith; small = omega (arith, v .small, c .particles-of .ensures .1) }
+loop-again c =
+    let summed = c .before .before .loop .inv in
+    let more = c .particles-of in
+    record {
+      is = before-more (c .before .before .before .before .args .defs .now) _ _ _ (summed .is) (more .ensures .0);
+      low = omega arith;
+      small = omega (arith, summed .small, more .ensures .1);
+    }
 
 returns : tie.Need-returns Inv-loop μ-loop
 returns c = summed-ends (c .before .before .before .args .defs .now) (c .before .before .before .args .i) _ _ (c .before .loop .inv) (omega arith) (omega arith)

@@ -78,7 +78,8 @@ returns-3 c =
     let sort = c .before .before .before .before .before .attribute-sort in
     let present = c .before .before .before .before .must-be-present in
     need-put (a .version) (a .w) (a .n) (a .attrs .now) (a .j) (a .table .now) (owner .result) (present .result)
-    (λ i. needs-read (a .w) _ (a .attrs .now) (a .j) found (a .version) i _ _ _ (owner .ensures) (sort .ensures) (present .ensures)) (c .before .before .before .if1 .left) (omega arith) (start .pre .1) (start .pre .3) _ (c .with .ensures)
+    (λ i. needs-read (a .w) _ (a .attrs .now) (a .j) found (a .version) i _ _ _ (owner .ensures) (sort .ensures) (present .ensures))
+    (c .before .before .before .if1 .left) (omega arith) (start .pre .1) (start .pre .3) _ (c .with .ensures)
 
 pub lay-need-spec : {M : Type 1} → statement M
 lay-need-spec =

@@ -3,9 +3,9 @@ use native.Mathlib.Omega.{arith}
 use borrow.Author.Tests.{not-true, not-false}
 use borrow.Author.Needs.{needs}
 use Rattle.form_index.specs.Reading.{indexForm}
-use Rattle.row_check.proofs.LevelLaws.{Closing, closing-on, closing-no, closing-ends}
-use Rattle.row_check.proofs.closes.Statement.{statement}
-use Rattle.row_check.proofs.closes.Tie as tie
+use Rattle.row_step.proofs.LevelLaws.{Closing, closing-on, closing-no, closing-ends}
+use Rattle.row_step.proofs.closes.Statement.{statement}
+use Rattle.row_step.proofs.closes.Tie as tie
 
 -- of the levels from keep on those below k are left to be tested
 abbrev Inv-loop : tie.InvT-loop

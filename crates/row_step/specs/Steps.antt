@@ -5,21 +5,24 @@ use mathlib.Core.Bool.{Bool, true, false, _&&_}
 use mathlib.Core.List.{List, [], _∷_}
 use mathlib.Core.Option.{Option, none, some}
 use lib.Dec.{eqb, ltb}
-use lib.ListN.{length, getD, set, take, drop}
+use lib.ListN.{length, getD, set, take, drop, replicate}
 use Rattle.rules.specs.Bytes.{Bytes}
 use Rattle.rules.specs.Layout.{rowSize, FlatRow}
 use Rattle.rules.specs.Decode.{readRow}
 use Rattle.records.specs.Records.{rowFits}
 use Rattle.form_index.specs.Indices.{IndexForm}
 use Rattle.next_row.specs.declared.Level.{Level}
-use Rattle.row_check.specs.Machine.{levelsEnd, opened}
+use Rattle.row_step.specs.Machine.{levelsEnd, opened}
 use Rattle.next_row.specs.Judge.{levelAfter, entered, groundLevel, judge}
-use Rattle.row_check.specs.Verdict.{noLevels}
 
 -- a level for each depth, and how many are open
 pub record State : Type 0 where
   pub levels : List Level
   pub live : ℕ
+
+-- A depth is a byte, so 257 levels are enough.
+unfoldable pub noLevels : List Level
+noLevels = replicate 257 groundLevel
 
 -- no row yet: only the place of the documents is open
 unfoldable pub startState : State

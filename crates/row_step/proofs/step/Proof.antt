@@ -2,9 +2,9 @@ use native.Mathlib.Omega.{arith}
 use borrow.Author.Tests.{not-true, not-false}
 use borrow.Author.Needs.{needs}
 use Rattle.form_index.specs.Reading.{indexForm}
-use Rattle.row_check.proofs.StepLaws.{step-deep, step-owes, step-not, step-goes}
-use Rattle.row_check.proofs.step.Statement.{statement}
-use Rattle.row_check.proofs.step.Tie as tie
+use Rattle.row_step.proofs.StepLaws.{step-deep, step-owes, step-not, step-goes}
+use Rattle.row_step.proofs.step.Statement.{statement}
+use Rattle.row_step.proofs.step.Tie as tie
 
 row-depth-requires : tie.Need-row-depth-requires
 row-depth-requires c κs = search needs
@@ -72,9 +72,10 @@ returns-4 c =
     let level = c .before .before .before .before .level-at in
     let passed = c .before .before .before .row-passes in
     let opened = c .take-row in
+    let within = c .before .before .before .before .before .before .before .before .before .if1 .left in
     step-goes (a .w) form (a .levels .now) (a .live .now) (a .row .now) (start .pre .4) (start .pre .5)
     (depth .result) (depth .ensures) (closed .result) (closed .ensures) (level .result) (level .ensures) (passed .result) (passed .ensures)
-    (omega (arith, c .before .before .before .before .before .before .before .before .before .if1 .left)) (omega arith) (not-false _ (c .before .before .before .before .before .before .if2 .left)) (not-false _ (c .before .before .if3 .left)) _ (opened .ensures)
+    (omega (arith, within)) (omega arith) (not-false _ (c .before .before .before .before .before .before .if2 .left)) (not-false _ (c .before .before .if3 .left)) _ (opened .ensures)
 
 pub step-spec : {M : Type 1} → statement M
 step-spec =

@@ -14,8 +14,8 @@ use Rattle.form_index.specs.Indices.{IndexForm}
 use Rattle.form_table.proofs.Numbers.{Left, left-ends, left-on, left-no}
 use Rattle.next_row.specs.declared.Level.{Level}
 use Rattle.next_row.specs.Judge.{ends, levelAfter, entered, groundLevel, judge}
-use Rattle.row_check.specs.Machine.{levelsEnd}
-use Rattle.row_check.specs.Steps.{levelIn, levelsOf, Words, taken}
+use Rattle.row_step.specs.Machine.{levelsEnd}
+use Rattle.row_step.specs.Steps.{levelIn, levelsOf, Words, taken}
 
 -- level k is the three words from 3 * k on
 level-read : (n k : ℕ) (s : List ℕ) → k < n → getD (levelsOf n s) k groundLevel ≡ levelIn (drop (3 * k) s)

@@ -1,8 +1,8 @@
 use mathlib.Core.Bool.{Bool, _&&_}
 use mathlib.Core.Path.{ap₂}
 use borrow.Author.Needs.{needs}
-use Rattle.row_check.proofs.row_passes.Statement.{statement}
-use Rattle.row_check.proofs.row_passes.Tie as tie
+use Rattle.row_step.proofs.row_passes.Statement.{statement}
+use Rattle.row_step.proofs.row_passes.Tie as tie
 
 row-fits-requires : tie.Need-row-fits-requires
 row-fits-requires c κs = search needs

@@ -1,9 +1,9 @@
 use Rattle.rules.specs.Decode.{readRow}
-use Rattle.row_check.specs.Steps.{levelsOf}
-use Rattle.row_check.proofs.LevelLaws.{row-taken}
+use Rattle.row_step.specs.Steps.{levelsOf}
+use Rattle.row_step.proofs.LevelLaws.{row-taken}
 use borrow.Author.Needs.{needs}
-use Rattle.row_check.proofs.take_row.Statement.{statement}
-use Rattle.row_check.proofs.take_row.Tie as tie
+use Rattle.row_step.proofs.take_row.Statement.{statement}
+use Rattle.row_step.proofs.take_row.Tie as tie
 
 after-row-requires : tie.Need-after-row-requires
 after-row-requires c κs = search needs

@@ -1,7 +1,7 @@
-use Rattle.row_check.proofs.LevelLaws.{level-here}
+use Rattle.row_step.proofs.LevelLaws.{level-here}
 use borrow.Author.Needs.{needs}
-use Rattle.row_check.proofs.level_at.Statement.{statement}
-use Rattle.row_check.proofs.level_at.Tie as tie
+use Rattle.row_step.proofs.level_at.Statement.{statement}
+use Rattle.row_step.proofs.level_at.Tie as tie
 
 mul-at : tie.Need-mul-at
 mul-at c = search needs

@@ -1,7 +1,7 @@
-use Rattle.row_check.proofs.LevelLaws.{level-put}
+use Rattle.row_step.proofs.LevelLaws.{level-put}
 use borrow.Author.Needs.{needs}
-use Rattle.row_check.proofs.put_level.Statement.{statement}
-use Rattle.row_check.proofs.put_level.Tie as tie
+use Rattle.row_step.proofs.put_level.Statement.{statement}
+use Rattle.row_step.proofs.put_level.Tie as tie
 
 mul-at : tie.Need-mul-at
 mul-at c = search needs

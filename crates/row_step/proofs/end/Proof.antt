@@ -1,7 +1,7 @@
 use borrow.Author.Needs.{needs}
-use Rattle.row_check.specs.Steps.{end}
-use Rattle.row_check.proofs.end.Statement.{statement}
-use Rattle.row_check.proofs.end.Tie as tie
+use Rattle.row_step.specs.Steps.{end}
+use Rattle.row_step.proofs.end.Statement.{statement}
+use Rattle.row_step.proofs.end.Tie as tie
 
 closes-requires : tie.Need-closes-requires
 closes-requires c κs = search needs

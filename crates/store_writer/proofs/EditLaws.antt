@@ -1,20 +1,21 @@
 -- What an edit answers.
-use Prim.Native.Nat.{ℕ, _+_, _-_, _*_, _<_, _≤_}
+use Prim.Native.Nat.{ℕ, zero, suc, _+_, _-_, _*_, _<_, _≤_}
 use native.Mathlib.Omega.{arith}
 use mathlib.Core.Path.{_≡_, refl, ap, _∙_, sym}
-use mathlib.Core.Bool.{true}
+use mathlib.Core.Bool.{Bool, true, false, not}
 use mathlib.Core.List.{List, _++_}
-use lib.Dec.{leb}
-use lib.ListN.{length}
-use borrow.Author.Tests.{le-leb, lt-leb}
+use lib.Dec.{leb, ltb}
+use lib.ListN.{length, length-append}
+use borrow.Author.Tests.{lt-ltb, le-ltb, leb-true, leb-false}
 use Rattle.rules.specs.Bytes.{Bytes}
 use Rattle.rules.specs.Preorder.{Deep}
 use Rattle.rules.specs.Layout.{valueWidth, FlatRow, FlatStore, headerSize, rowSize, flatBytes, rowBytes, each}
 use Rattle.rules.specs.Decode.{numberAt}
 use Rattle.rules.specs.WellFormed.{withinCeilings, highestNumber}
-use Rattle.rules.specs.Outcome.{Answers}
+use Rattle.rules.specs.Outcome.{unlessRefused, Answers}
+use Rattle.rules.proofs.LayoutLaws.{length-row, length-each}
 use Rattle.codec.specs.Laid.{Laid}
-use Rattle.codec.proofs.Writers.{laid-then, laid-as}
+use Rattle.codec.proofs.Writers.{laid-as}
 use Rattle.lookup.specs.Bodies.{bodiesOf}
 use Rattle.layout.specs.Bodies.{widthOf, WidthIn}
 use Rattle.layout.specs.Header.{headed}
@@ -25,9 +26,10 @@ use Rattle.row_walk.specs.declared.Plan.{Plan}
 use Rattle.store_writer.specs.Stores.{limited}
 use Rattle.store_writer.specs.Planned.{rowsAfter, plannedIn}
 use Rattle.store_writer.specs.Forms.{formRead, Forms}
-use Rattle.store_writer.specs.Writing.{walkFrom, Counted}
+use Rattle.store_writer.specs.Writing.{walkFrom, limitOf}
 use Rattle.store_writer.proofs.StoreLaws.{Holds, width-of-bodies}
-use Rattle.store_writer.proofs.LimitLaws.{answers-refused, answers-wrote, limited-ceiling, limited-serials, limited-buffer, limited-none}
+use Rattle.store_writer.proofs.LimitLaws.{answers-refused, answers-wrote, limited-as, Within, as-limits, limit-within}
+use Rattle.store_writer.proofs.OrderLaws.{laid-before}
 use Rattle.store_writer.proofs.FormBytesLaws.{reformed, whole, ceilings-rows, reformed-length, reformed-bytes}
 
 pub next-of : (bs : Bytes) → bodiesOf bs .next ≡ numberAt 4 4 bs
@@ -79,38 +81,64 @@ module _ {bs : Bytes} (h : Holds bs) {form : Bytes} {d p a : ℕ} (x : Forms (wi
       ∙ reformed-bytes x f next (numbered (f .next) xs) (whole h)
       ∙ ap (λ (n : ℕ). (headed (widthOf bs) next d p a n bs ++ form) ++ each (rowBytes (widthOf bs)) (numbered (f .next) xs)) (length-numbered (f .next) xs)
 
-  -- ---- the rows were counted, to r
-  module _ {r : Cursor} (out : Bytes) (w : Counted xs (numberAt 4 4 bs) r) where
-    pub edit-ceiling : r .left ≡ 0 → Answers (limited (length out) after) out 16 0 out
-    edit-ceiling e = answers-refused 16 (limited-ceiling (length out) after (ceilings ∙ lt-leb (length xs) 4096 (omega (arith, w .left))))
+  -- the number of rows is past the ceiling
+  past : not (withinCeilings after) ≡ ltb 4096 (length xs)
+  past = ap not ceilings ∙ by (leb (length xs) 4096) refl
+    where
+      by : (b : Bool) → leb (length xs) 4096 ≡ b → not b ≡ ltb 4096 (length xs)
+      by true q = sym (le-ltb 4096 (length xs) (leb-true (length xs) 4096 q))
+      by false q = sym (lt-ltb 4096 (length xs) (leb-false (length xs) 4096 q))
 
-    module _ (more : r .left ≡ 0 → ⊥) where
-      all : 4097 ≡ r .left + length xs
-      all = omega (arith, w .left)
+  next-is : after .next ≡ numberAt 4 4 bs + newIn xs
+  next-is = next-after ∙ ap (λ (n : ℕ). n + newIn xs) (next-of bs)
 
-      few : withinCeilings after ≡ true
-      few = ceilings ∙ le-leb (length xs) 4096 (omega (arith, all))
+  module _ (out : Bytes) {number : ℕ} (e : number ≡ limitOf (widthOf bs) (length form) (length xs) (numberAt 4 4 bs + newIn xs) (length out)) where
+    limited-is : limited (length out) after ≡ unlessRefused number (flatBytes (valueWidth (after .version)) after)
+    limited-is =
+        limited-as (length out) after past (ap (ltb highestNumber) next-is) (ap (ltb (length out)) size)
+        (e ∙ as-limits (widthOf bs) (length form) (length xs) (numberAt 4 4 bs + newIn xs) (length out) refl refl refl)
 
-      next-is : r .serial ≡ next
-      next-is = w .serial (omega (arith, all)) ∙ ap (λ (n : ℕ). n + newIn xs) (sym (next-of bs))
+    pub edit-refused : (number ≡ 0 → ⊥) → Answers (limited (length out) after) out number 0 out
+    edit-refused n = by number limited-is n
+      where
+        by : (k : ℕ) → limited (length out) after ≡ unlessRefused k (flatBytes (valueWidth (after .version)) after) → (k ≡ 0 → ⊥) → Answers (limited (length out) after) out k 0 out
+        by zero q h = absurd (h refl)
+        by (suc k) q h = answers-refused (suc k) q
 
-      count-is : 4097 - r .left ≡ length xs
-      count-is = omega (arith, all)
+    module _ (none : number ≡ 0) where
+      pub within : Within (widthOf bs) (length form) (length xs) (numberAt 4 4 bs + newIn xs) (length out)
+      within = limit-within (widthOf bs) (length form) (length xs) (numberAt 4 4 bs + newIn xs) (length out) (sym e ∙ none)
 
-      pub edit-serials : highestNumber < r .serial → Answers (limited (length out) after) out 17 0 out
-      edit-serials e = answers-refused 17 (limited-serials (length out) after few (omega (arith, next-after, next-is)))
+      pub edit-written : {k : ℕ} {out′ : Bytes} → Laid (flatBytes (widthOf bs) after) out 0 k out′ → Answers (limited (length out) after) out 0 k out′
+      edit-written laid =
+          answers-wrote (limited-is ∙ ap (λ (n : ℕ). unlessRefused n (flatBytes (valueWidth (after .version)) after)) none)
+          (laid-as (ap (λ (w : ℕ). flatBytes w after) width-after) laid) (omega (arith, size, within .bytes))
 
-      -- k: the bytes of the rows, as the code counts them
-      module _ (fits : r .serial ≤ highestNumber) {k : ℕ} (bytes-are : k ≡ rowSize (widthOf bs) * (4097 - r .left)) where
-        rows-are : k ≡ rowSize (widthOf bs) * length xs
-        rows-are = bytes-are ∙ ap (λ (n : ℕ). rowSize (widthOf bs) * n) count-is
+  -- ---- the rows were written after the place of the header and the form, then these
+  module _ {room : ℕ} (i : Within (widthOf bs) (length form) (length xs) (numberAt 4 4 bs + newIn xs) room)
+      {start : ℕ} {out : Bytes} {r : Cursor} {out₁ : Bytes} (w : Written (widthOf bs) xs (walkFrom start bs) out r out₁) where
+    pub count-is : 4097 - r .left ≡ length xs
+    count-is = omega (arith, w .left, i .rows)
 
-        pub edit-buffer : length out < headerSize + length form + k → Answers (limited (length out) after) out 18 0 out
-        edit-buffer e = answers-refused 18 (limited-buffer (length out) after few (omega (arith, next-after, next-is)) (omega (arith, size, rows-are)))
+    pub serial-is : r .serial ≡ numberAt 4 4 bs + newIn xs
+    serial-is = w .fitted (omega (arith, i .rows)) .serial
 
-        pub edit-written : headerSize + length form + k ≤ length out → {wide at′ : ℕ} {r′ : Cursor} {out₁ out′ : Bytes} → WidthIn bs wide → Laid (headed wide (r .serial) d p a (4097 - r .left) bs ++ form) out 0 at′ out₁
-            → Written (widthOf bs) xs (walkFrom at′ bs) out₁ r′ out′ → Answers (limited (length out) after) out 0 (r′ .at) out′
-        edit-written e v laid w′ =
-            answers-wrote (limited-none (length out) after few (omega (arith, next-after, next-is)) (omega (arith, size, rows-are)))
-            (laid-as (bytes ∙ (λ i. (headed (sym (v .value) i) (sym next-is i) d p a (sym count-is i) bs ++ form) ++ rowsBytes (widthOf bs) (next-of bs i) xs)) (laid-then laid (written-fitting w′ (omega (arith, all)))))
-            (omega (arith, size, rows-are))
+    start-is : headerSize + length form ≡ length (headed (widthOf bs) next d p a (length xs) bs ++ form)
+    unfolding rowsBytes
+    start-is =
+        omega (
+          arith,
+          size,
+          ap length bytes,
+          length-append (headed (widthOf bs) next d p a (length xs) bs ++ form) (rowsBytes (widthOf bs) (f .next) xs),
+          length-each (rowBytes (widthOf bs)) (rowSize (widthOf bs)) (length-row (widthOf bs)) (numbered (f .next) xs),
+          ap (λ (n : ℕ). rowSize (widthOf bs) * n) (length-numbered (f .next) xs),
+        )
+
+    pub edited-laid : start ≡ headerSize + length form → {wide at′ : ℕ} {out′ : Bytes} → WidthIn bs wide → Laid (headed wide (r .serial) d p a (4097 - r .left) bs ++ form) out₁ 0 at′ out′
+        → Laid (flatBytes (widthOf bs) after) out 0 (r .at) out′
+    edited-laid s {wide = wide} v laid =
+        let front : headed (widthOf bs) next d p a (length xs) bs ++ form ≡ headed wide (r .serial) d p a (4097 - r .left) bs ++ form =
+        λ j. headed (sym (v .value) j) ((ap (λ (n : ℕ). n + newIn xs) (next-of bs) ∙ sym serial-is) j) d p a (sym count-is j) bs ++ form in
+        laid-as (ap (λ (w : ℕ). flatBytes w after) (sym width-after) ∙ bytes)
+        (laid-before (laid-as (λ j. rowsBytes (widthOf bs) (next-of bs j) xs) (written-fitting w (omega (arith, i .rows)))) (s ∙ start-is) (laid-as front laid))

@@ -7,6 +7,8 @@ pub mod RowBounds
 pub mod PartLaws
 pub mod WalkLaws
 pub mod StillLaws
+pub mod OrderLaws
+pub mod RefusalLaws
 pub mod EditLaws
 pub mod Encoded
 pub mod StoreFacts

@@ -1,33 +1,26 @@
--- A plan that takes no row and fills none in: the rows keep their number, and none is new.
-use Prim.Native.Nat.{ℕ, suc, _+_, _-_, _≤_}
-use native.Mathlib.Omega.{arith}
-use mathlib.Core.Path.{_≡_, refl, sym, ap, ap₂, _∙_, subst}
+-- A plan that takes no row and fills none in: each row is kept.
+use Prim.Native.Nat.{ℕ, suc}
+use mathlib.Core.Path.{_≡_, refl, ap, ap₂, _∙_}
 use mathlib.Core.Bool.{Bool, true, false, _&&_, _||_, not, and-false, false≢true}
 use mathlib.Core.List.{List, [], _∷_, _++_, map}
-use lib.ListN.{length, length-map}
-use borrow.Author.Tests.{ne-eqb}
 use Rattle.rules.specs.Bytes.{Bytes}
 use Rattle.rules.specs.Preorder.{Deep}
-use Rattle.rules.specs.Layout.{FlatRow, FlatStore, rowSize}
-use Rattle.rules.specs.Decode.{numberAt, readRow, rowCount}
-use Rattle.rules.specs.Passing.{passes}
-use Rattle.rules.proofs.BooleanLaws.{Every}
-use Rattle.rules.proofs.DecodeLaws.{good-parts}
-use Rattle.lookup.specs.Bodies.{bodiesOf}
-use Rattle.layout.specs.Bodies.{widthOf, Number}
-use Rattle.row_writer.specs.declared.Cursor.{Cursor}
-use Rattle.row_writer.specs.Written.{newIn, Written}
+use Rattle.rules.specs.Layout.{FlatRow, FlatStore}
 use Rattle.row_walk.specs.declared.Which.{Which}
 use Rattle.row_walk.specs.declared.Which.the-variants.{Nothing, Everything, Ground, Elements, Attributes, Serial}
 use Rattle.row_walk.specs.declared.Plan.{Plan}
 use Rattle.row_walk.specs.declared.Open.{Open}
 use Rattle.row_walk.specs.Walk.{matches, isEverything, namesGround, keptRow, closes, closed, isBelow, isTaken, isFilled, taken, kept, owed, rowDepth, emitted, nextOpen, walked, atFirst}
-use Rattle.store_writer.specs.Stores.{storeIn}
 use Rattle.store_writer.specs.Planned.{fillOf, rowsAfter}
-use Rattle.store_writer.specs.Writing.{walkFrom, Counted, isNothing}
-use Rattle.store_writer.proofs.StoreLaws.{holds}
-use Rattle.store_writer.proofs.RowBounds.{Bounded, rows-bounded}
-use Rattle.codec.proofs.Records.{length-many}
+
+-- whether no row is one of them
+abbrev isNothing : Which → Bool
+isNothing Nothing = true
+isNothing Everything = false
+isNothing Ground = false
+isNothing (Elements i) = false
+isNothing (Attributes j) = false
+isNothing (Serial k) = false
 
 matches-none : (w : Which) (r : FlatRow) → isNothing w ≡ true → matches w r ≡ false
 matches-none Nothing r e = refl
@@ -100,34 +93,3 @@ module _ (p : Plan) (v : Bytes) (none : isNothing (p .takes) ≡ true) (dry : p 
   pub rows-still : (f : FlatStore) → rowsAfter p v f ≡ map (keptRow p v) (f .rows)
   unfolding rowsAfter
   rows-still f = walked-still (fillOf p v f) (f .rows)
-
-  -- a row that has a serial keeps it
-  new-kept : (xs : List (Deep FlatRow)) → Every Bounded xs → newIn (map (keptRow p v) xs) ≡ 0
-  unfolding keptRow
-  new-kept [] b = refl
-  new-kept (x ∷ xs) b =
-      omega (arith, ap {B = ℕ} (λ (t : Bool). elim t as (λ z. ℕ) [ true ↦ 1 | false ↦ 0 ]) (ne-eqb (x .row .serial) 0 (λ e. omega (arith, b .0 .serial))), new-kept xs (b .1))
-
--- ---- a byte string that passes
-rows-counted : (bs : Bytes) → length (bodiesOf bs .rows) ≡ rowCount bs
-unfolding bodiesOf widthOf
-rows-counted bs = length-many readRow (rowSize (widthOf bs)) (rowCount bs) _
-
-module _ (bs : Bytes) (q : passes bs ≡ true) {count : ℕ} (k : Number (rowCount bs) count) where
-  bounded : Every Bounded (bodiesOf bs .rows)
-  bounded = subst (λ (f : FlatStore). Every Bounded (f .rows)) (sym (holds bs q .bodies)) (rows-bounded (storeIn bs) (holds bs q .good))
-
-  pub count-few : count ≤ 4096
-  count-few = omega (arith, k .value, rows-counted bs, ap (λ (f : FlatStore). length (f .rows)) (holds bs q .bodies), good-parts (storeIn bs) (holds bs q .good) .rowCount)
-
-  pub still-counted : (p : Plan) (v : Bytes) → isNothing (p .takes) ≡ true → p .fills ≡ false → {at next : ℕ} → Number (numberAt 4 4 bs) next
-      → Counted (rowsAfter p v (bodiesOf bs)) (numberAt 4 4 bs) (record { at = at; left = 4097 - count; serial = next })
-  still-counted p v none dry n =
-      let rows = rows-still p v none dry (bodiesOf bs) in
-      let long : length (rowsAfter p v (bodiesOf bs)) ≡ count = ap length rows ∙ length-map (bodiesOf bs .rows) (keptRow p v) ∙ rows-counted bs ∙ sym (k .value) in
-      let new : newIn (rowsAfter p v (bodiesOf bs)) ≡ 0 = ap newIn rows ∙ new-kept p v none dry (bodiesOf bs .rows) bounded in
-      record { left = omega (arith, long); serial = λ h. omega (arith, n .value, new) }
-
--- a walk counts
-pub walk-counted : (bs : Bytes) {w : ℕ} {xs : List (Deep FlatRow)} {at : ℕ} {out : Bytes} {r : Cursor} {out′ : Bytes} → Written w xs (walkFrom at bs) out r out′ → Counted xs (numberAt 4 4 bs) r
-walk-counted bs d = record { left = d .left; serial = λ h. d .fitted h .serial }

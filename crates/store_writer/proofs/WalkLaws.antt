@@ -16,7 +16,7 @@ use Rattle.rules.specs.Passing.{passes}
 use Rattle.rules.proofs.Words.{and-split}
 use Rattle.rules.proofs.BooleanLaws.{Every}
 use Rattle.rules.proofs.LayoutLaws.{Small}
-use Rattle.rules.proofs.DecodeLaws.{value-width}
+use Rattle.rules.proofs.DecodeLaws.{value-width, GoodParts, good-parts}
 use Rattle.rules.proofs.SmallBytes.{encode-small}
 use Rattle.records.specs.Records.{rowFits, eachFits}
 use Rattle.records.proofs.RecordLaws.{small-take, small-drop, row-canonical}
@@ -28,19 +28,21 @@ use Rattle.layout.specs.declared.Shape.{Shape}
 use Rattle.layout.specs.Bodies.{Width, widthOf, Number, shapeOf, ShapeOf, definitionBody, particleBody, attributeBody, rowBody, definitionsIn, particlesIn, attributesIn, treeRowsIn}
 use Rattle.layout.proofs.LayoutLaws.{width-small, by-shape}
 use Rattle.row_writer.specs.declared.Cursor.{Cursor}
-use Rattle.row_writer.specs.Written.{Written, Room}
+use Rattle.row_writer.specs.Written.{newIn, Written, Room}
 use Rattle.row_writer.proofs.WrittenLaws.{written-as}
 use Rattle.filling.specs.Fillings.{fillingRows}
 use Rattle.row_walk.specs.declared.Plan.{Plan}
 use Rattle.row_walk.specs.Walk.{walked, atFirst}
 use Rattle.filling.specs.Parts.{valueOf}
 use Rattle.row_walk.specs.Step.{planFilling, Ready, WalkRow, WalkRows}
+use Rattle.row_bound.specs.Bound.{Adds}
 use Rattle.store_writer.specs.Stores.{storeIn}
 use Rattle.store_writer.specs.Planned.{rowsAfter}
 use Rattle.store_writer.specs.Writing.{walkFrom, Sized}
 use Rattle.store_writer.proofs.StoreLaws.{Holds, holds}
 use Rattle.store_writer.proofs.PartLaws.{members-at}
 use Rattle.store_writer.proofs.RowBounds.{Bounded, rows-bounded}
+use Rattle.codec.proofs.Records.{length-many}
 
 -- ---- rows that fit and are bounded
 walk-rows : (w count : ℕ) (s : Bytes) → Small s → rowSize w * count ≤ length s → eachFits (rowFits w) (rowSize w) count s ≡ true → Every Bounded (readMany readRow (rowSize w) count s) → WalkRows w count s
@@ -124,6 +126,29 @@ module _ {bs : Bytes} (q : passes bs ≡ true) {version w n : ℕ} {defs parts :
       written-as (rows-after p v)
       (subst (λ (k : ℕ). Written k xs (walkFrom at bs) out r out′) (x .w-is)
       (subst (λ (k : ℕ). Written w xs (record { at = at; left = 4097; serial = k }) out r out′) (m .value) d))
+
+  -- .. and what is added to the rows of the store
+  pub rows-added : (p : Plan) (v : Bytes) {r : ℕ} → Adds (walked p v (planFilling version w n defs parts a attrs p v) (atFirst p) (bytes.rowsRead w count rows)) count r
+      → Adds (rowsAfter p v (bodiesOf bs)) (rowCount bs) r
+  rows-added p v y =
+      record {
+        few = y .few;
+        rows = λ h. omega (arith, y .rows h, ap length (rows-after p v), x .count-is);
+        new = λ h. omega (arith, y .new h, ap newIn (rows-after p v));
+      }
+
+  -- there are no more rows than the ceiling allows
+  pub rows-few : count ≤ 4096
+  unfolding bodiesOf widthOf
+  rows-few =
+      omega (
+        arith,
+        x .count-is,
+        length-many readRow (rowSize (widthOf bs)) (rowCount bs) (treeRowsIn bs),
+        ap (λ (ys : List (Deep FlatRow)). length ys) (read-rows h),
+        ap (λ (f : FlatStore). length (f .rows)) (holds bs q .bodies),
+        good-parts (storeIn bs) (holds bs q .good) .rowCount,
+      )
 
 pub walk-room : {w at n next : ℕ} → Width w → at < 549755813888 → Number n next → Room w (record { at = at; left = 4097; serial = next })
 walk-room h l m = record { places = omega arith; serials = omega (arith, m .small) }

@@ -1,18 +1,15 @@
--- What is written of a store: how large its header's numbers are, and from where the walk writes.
-use Prim.Native.Nat.{ℕ, _+_, _-_, _<_, _≤_}
-use mathlib.Core.Path.{_≡_}
-use mathlib.Core.Bool.{Bool, true, false}
-use mathlib.Core.List.{List}
+-- What is written of a store: how large its header's numbers are, from where the walk writes, and what is too much.
+use Prim.Native.Nat.{ℕ, _+_, _*_, _<_, _≤_}
+use mathlib.Core.List.{[], _∷_}
+use lib.Dec.{ltb}
 use lib.ListN.{length}
 use Rattle.rules.specs.Bytes.{Bytes}
-use Rattle.rules.specs.Preorder.{Deep}
-use Rattle.rules.specs.Layout.{FlatRow}
+use Rattle.rules.specs.Layout.{headerSize, rowSize}
 use Rattle.rules.specs.Decode.{numberAt}
+use Rattle.rules.specs.WellFormed.{highestNumber}
+use Rattle.rules.specs.Refusal.{_if_, first}
 use Rattle.row_writer.specs.declared.Cursor.{Cursor}
-use Rattle.row_writer.specs.Written.{newIn}
 use Rattle.filling.specs.Parts.{Indexed}
-use Rattle.row_walk.specs.declared.Which.{Which}
-use Rattle.row_walk.specs.declared.Which.the-variants.{Nothing, Everything, Ground, Elements, Attributes, Serial}
 use Rattle.row_walk.specs.declared.Plan.{Plan}
 use Rattle.row_walk.specs.Step.{Planned}
 
@@ -35,16 +32,7 @@ pub record Sized (p : Plan) : Type 0 where
   pub moves : Planned p
   pub filling : Indexed (p .filling)
 
--- the rows xs were counted, the new ones with serials from `next` on: as a walk counts, which says nothing of serials past its last row
-pub record Counted (xs : List (Deep FlatRow)) (next : ℕ) (r : Cursor) : Type 0 where
-  pub left : r .left ≡ 4097 - length xs
-  pub serial : length xs ≤ 4097 → r .serial ≡ next + newIn xs
-
--- the rows that a plan takes are none
-abbrev pub isNothing : Which → Bool
-isNothing Nothing = true
-isNothing Everything = false
-isNothing Ground = false
-isNothing (Elements i) = false
-isNothing (Attributes j) = false
-isNothing (Serial k) = false
+-- rows 16 to 18, as `limits` of the rules, of a store with so many rows, a form of so many bytes and a next serial, in a buffer
+-- of so many bytes
+unfoldable pub limitOf : ℕ → ℕ → ℕ → ℕ → ℕ → ℕ
+limitOf w form count next room = first (16 if ltb 4096 count ∷ 17 if ltb highestNumber next ∷ 18 if ltb room (headerSize + form + rowSize w * count) ∷ [])

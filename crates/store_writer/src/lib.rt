@@ -1,13 +1,13 @@
 // The store that a change leaves, written whole: the ceilings, the serials and the room first, then header, bodies and rows.
 use row_walk::Plan;
-use row_walk::Which;
 use row_writer::Cursor;
 ghost use mathlib.Core.Path.{_≡_};
 ghost use mathlib.Core.Bool.{true};
 ghost use mathlib.Core.List.{_++_};
-ghost use Prim.Native.Nat.{_<_};
+ghost use Prim.Native.Nat.{_+_, _<_, _≤_};
 ghost use lib.ListN.{length};
-ghost use Rattle.rules.specs.Decode.{numberAt};
+ghost use Rattle.rules.specs.Layout.{flatBytes};
+ghost use Rattle.rules.specs.Decode.{numberAt, rowCount};
 ghost use Rattle.rules.specs.Passing.{passes};
 ghost use Rattle.rules.specs.WellFormed.{isValue};
 ghost use Rattle.rules.specs.Outcome.{Answers};
@@ -15,11 +15,12 @@ ghost use Rattle.codec.specs.Laid.{Laid};
 ghost use Rattle.layout.specs.Bodies.{Width, widthOf};
 ghost use Rattle.layout.specs.Header.{headed};
 ghost use Rattle.lookup.specs.Bodies.{bodiesOf};
-ghost use Rattle.row_writer.specs.Written.{Written, Room};
+ghost use Rattle.row_writer.specs.Written.{Written, Room, newIn};
+ghost use Rattle.row_bound.specs.Bound.{Adds};
 ghost use Rattle.store_writer.specs.Stores.{limited};
 ghost use Rattle.store_writer.specs.Planned.{rowsAfter, planned, plannedIn};
 ghost use Rattle.store_writer.specs.Forms.{formRead, Forms};
-ghost use Rattle.store_writer.specs.Writing.{Heads, walkFrom, Sized, isNothing, Counted};
+ghost use Rattle.store_writer.specs.Writing.{Heads, walkFrom, Sized, limitOf};
 
 /// 0 and the length of what was written, or the number of a refusal and 0.
 #[repr(C)]
@@ -89,41 +90,93 @@ pub fn walk_rows(store: &[u8], plan: Plan, text: &[u8], at: usize, out: &mut [u8
     )
 }
 
-// Whether no row is one of them.
-fn is_nothing(w: Which) -> bool
-    ensures { λ r. ⌜ r ≡ isNothing w ⌝ }
+// The most rows that a plan adds to those of a store.
+fn most_added(store: &[u8], plan: Plan, text: &[u8]) -> usize
+    requires { ⌜ (passes (now store) ≡ true) × (isValue (widthOf (now store)) (now text) ≡ true) × Sized plan ⌝ }
+    ensures { λ r. ⌜ Adds (rowsAfter plan (now (text .entry)) (bodiesOf (now (store .entry)))) (rowCount (now (store .entry))) r ⌝ }
 {
-    match w {
-        Which::Nothing => true,
-        Which::Everything => false,
-        Which::Ground => false,
-        Which::Elements(_) => false,
-        Which::Attributes(_) => false,
-        Which::Serial(_) => false,
-    }
+    let s = layout::shape_of(store);
+    let defs = layout::definition_body(store, s);
+    let parts = layout::particle_body(store, s);
+    let attrs = layout::attribute_body(store, s);
+    let rows = layout::row_body(store, s);
+    row_bound::most_added(
+        s.version as usize,
+        s.width,
+        s.definitions,
+        defs,
+        parts,
+        s.attributes,
+        attrs,
+        rows,
+        s.rows,
+        plan,
+        text,
+    )
 }
 
-// How many rows may still come after those of a plan, and the serial after theirs. A plan that takes no row and fills none in leaves
-// the numbers of the header; else a first walk into a buffer of one byte counts.
-fn count_after(store: &[u8], plan: Plan, text: &[u8]) -> Cursor
-    requires { ⌜ (passes (now store) ≡ true) × (isValue (widthOf (now store)) (now text) ≡ true) × Sized plan ⌝ }
-    ensures { λ r. ⌜ Counted (rowsAfter plan (now (text .entry)) (bodiesOf (now (store .entry)))) (numberAt 4 4 (now (store .entry))) r ⌝ }
+// 16, 17 or 18 if a store of so many rows, with a form of so many bytes and a next serial, is past the ceiling, out of serials
+// or too long for the room; else 0.
+fn limit(w: usize, form: usize, count: usize, next: usize, room: usize) -> u32
+    requires { ⌜ Width w × (form ≤ 9728) ⌝ }
+    ensures { λ r. ⌜ r ≡ limitOf w form count next room ⌝ }
 {
-    let takes = plan.takes;
-    if is_nothing(takes) & !plan.fills {
-        let count = layout::row_count(store);
-        return Cursor {
-            at: 0,
-            left: MOST_ROWS - count,
-            serial: layout::next_serial(store),
-        };
+    if count >= MOST_ROWS {
+        return 16;
+    }
+    if next > 4294967295 {
+        return 17;
+    }
+    let rows = layout::times(layout::row_size(w), count);
+    if layout::header_size() + form + rows > room {
+        return 18;
+    }
+    0
+}
+
+// The refusal, or 0, of the store after a plan, with a form of so many bytes. Only where the most that the plan adds is too much
+// are the rows counted, by a walk into a buffer of one byte.
+fn refusal(store: &[u8], form: usize, plan: Plan, text: &[u8], room: usize) -> u32
+    requires { ⌜ (passes (now store) ≡ true) × (isValue (widthOf (now store)) (now text) ≡ true) × Sized plan × (form ≤ 9728) ⌝ }
+    ensures { λ r. ⌜ r ≡ limitOf (widthOf (now (store .entry))) form (length (rowsAfter plan (now (text .entry)) (bodiesOf (now (store .entry))))) (numberAt 4 4 (now (store .entry)) + newIn (rowsAfter plan (now (text .entry)) (bodiesOf (now (store .entry))))) room ⌝ }
+{
+    let w = layout::width_in(store);
+    let more = most_added(store, plan, text);
+    let count = layout::row_count(store);
+    let next = layout::next_serial(store);
+    if limit(w, form, count + more, next + more, room) == 0 {
+        return 0;
     }
     let mut clipped = [0; 1];
-    walk_rows(store, plan, text, 0, &mut clipped)
+    let counted = walk_rows(store, plan, text, 0, &mut clipped);
+    limit(w, form, MOST_ROWS - counted.left, counted.serial, room)
 }
 
-/// The store after a plan and with another form: `form` holds the bytes of its d definitions, p particles and a attributes. The rows
-/// are counted before any is written.
+// Writes the store after a plan, for which there is room: the rows at their place, then the header, which has their number,
+// and the form.
+fn put_edited(
+    store: &[u8],
+    form: &[u8],
+    d: usize,
+    p: usize,
+    a: usize,
+    plan: Plan,
+    text: &[u8],
+    out: &mut [u8],
+) -> usize
+    requires { ⌜ (passes (now store) ≡ true) × (isValue (widthOf (now store)) (now text) ≡ true) × Sized plan × Forms (widthOf (now store)) (now form) d p a × (limitOf (widthOf (now store)) (length (now form)) (length (rowsAfter plan (now text) (bodiesOf (now store)))) (numberAt 4 4 (now store) + newIn (rowsAfter plan (now text) (bodiesOf (now store)))) (length (now out)) ≡ 0) ⌝ }
+    ensures { λ r. ⌜ Laid (flatBytes (widthOf (now (store .entry))) (plannedIn (formRead (widthOf (now (store .entry))) (now (form .entry)) d p a) plan (now (text .entry)) (bodiesOf (now (store .entry))))) (now (out .entry)) 0 r (now (out .exit)) ⌝ }
+{
+    let w = layout::width_in(store);
+    let start = layout::header_size() + form.len();
+    let written = walk_rows(store, plan, text, start, out);
+    let count = MOST_ROWS - written.left;
+    put_form(w, store, form, written.serial, d, p, a, count, out);
+    written.at
+}
+
+/// The store after a plan and with another form: `form` holds the bytes of its d definitions, p particles and a attributes. Nothing is
+/// written before it is known that there is room.
 pub fn edit_form(
     store: &[u8],
     form: &[u8],
@@ -137,25 +190,12 @@ pub fn edit_form(
     requires { ⌜ (passes (now store) ≡ true) × (isValue (widthOf (now store)) (now text) ≡ true) × Sized plan × Forms (widthOf (now store)) (now form) d p a ⌝ }
     ensures { λ r. ⌜ Answers (limited (length (now (out .entry))) (plannedIn (formRead (widthOf (now (store .entry))) (now (form .entry)) d p a) plan (now (text .entry)) (bodiesOf (now (store .entry))))) (now (out .entry)) (r .number) (r .length) (now (out .exit)) ⌝ }
 {
-    let counted = count_after(store, plan, text);
-    if counted.left == 0 {
-        return refused(16);
+    let number = refusal(store, form.len(), plan, text, out.len());
+    if number != 0 {
+        return refused(number);
     }
-    if counted.serial > 4294967295 {
-        return refused(17);
-    }
-    let count = MOST_ROWS - counted.left;
-    let w = layout::width_in(store);
-    let rows = layout::times(layout::row_size(w), count);
-    if layout::header_size() + form.len() + rows > out.len() {
-        return refused(18);
-    }
-    let at = put_form(w, store, form, counted.serial, d, p, a, count, out);
-    let written = walk_rows(store, plan, text, at, out);
-    Answer {
-        number: 0,
-        length: written.at,
-    }
+    let length = put_edited(store, form, d, p, a, plan, text, out);
+    Answer { number: 0, length }
 }
 
 /// The store after a plan that leaves its form as it is.

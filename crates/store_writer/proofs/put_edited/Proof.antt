@@ -1,0 +1,63 @@
+-- `store_writer::put_edited` meets its contract.
+use native.Mathlib.Omega.{arith}
+use Rattle.layout.proofs.LayoutLaws.{width-within}
+use Rattle.store_writer.proofs.StoreLaws.{holds}
+use Rattle.store_writer.proofs.LimitLaws.{limit-within}
+use Rattle.store_writer.proofs.FormBytesLaws.{form-short, heads-of}
+use Rattle.store_writer.proofs.EditLaws.{count-is, serial-is, edited-laid}
+use borrow.Author.Needs.{needs}
+use Rattle.store_writer.proofs.put_edited.Statement.{statement}
+use Rattle.store_writer.proofs.put_edited.Tie as tie
+
+width-in-requires : tie.Need-width-in-requires
+width-in-requires c κs = search needs
+
+header-size-requires : tie.Need-header-size-requires
+header-size-requires c κs = search needs
+
+add-start : tie.Need-add-start
+add-start c = search needs
+
+walk-rows-requires : tie.Need-walk-rows-requires
+walk-rows-requires c κs = let start = c .before .before .before .before .before .before .before in
+    (start .pre .0, start .pre .1, start .pre .2, omega (arith, c .before .header-size .ensures, form-short (start .pre .3) (width-within (start .args .store .now))))
+
+sub-count : tie.Need-sub-count
+sub-count c = search needs
+
+put-form-requires : tie.Need-put-form-requires
+put-form-requires c κs = let start = c .before .before .before .before .before .before .before .before .before .before .before .before in
+    let a = start .args in
+    let h = holds (a .store .now) (start .pre .0) in
+    let within = limit-within _ _ _ _ _ (start .pre .4) in
+    let walked = c .before .before .before .before .walk-rows .ensures in
+    let serial = serial-is h (start .pre .3) (a .plan) (a .text .now) within walked in
+    let count = count-is h (start .pre .3) (a .plan) (a .text .now) within walked in (
+      c .before .before .before .before .before .before .before .width-in .ensures .small,
+      heads-of (start .pre .3) (width-within (a .store .now)) (omega (arith, serial, within .serials)) (omega (arith, count, within .rows)),
+    )
+
+same-length : tie.Need-same-length
+same-length c = search needs
+
+returns : tie.Need-returns
+returns c = let start = c .before .before .before .before .before .before .before .before .before .before .before .before .before .before .before in
+    let a = start .args in
+    let h = holds (a .store .now) (start .pre .0) in
+    let within = limit-within _ _ _ _ _ (start .pre .4) in
+    let walked = c .before .before .before .before .before .before .before .walk-rows .ensures in
+    let sized = c .before .before .before .before .before .before .before .before .before in
+    edited-laid h (start .pre .3) (a .plan) (a .text .now) within walked (omega (arith, sized .header-size .ensures)) (sized .before .width-in .ensures) (c .before .before .put-form .ensures)
+
+pub put-edited-spec : {M : Type 1} → statement M
+put-edited-spec =
+    tie.close
+    (tie.spec
+    width-in-requires
+    header-size-requires
+    add-start
+    walk-rows-requires
+    sub-count
+    put-form-requires
+    same-length
+    returns)

@@ -1,0 +1,73 @@
+-- `store_writer::refusal` meets its contract.
+use native.Mathlib.Omega.{arith}
+use Rattle.lookup.specs.Bodies.{bodiesOf}
+use Rattle.store_writer.specs.Planned.{rowsAfter}
+use Rattle.store_writer.proofs.RefusalLaws.{refusal-spared, refusal-counted}
+use borrow.Author.Needs.{needs}
+use Rattle.store_writer.proofs.refusal.Statement.{statement}
+use Rattle.store_writer.proofs.refusal.Tie as tie
+
+width-in-requires : tie.Need-width-in-requires
+width-in-requires c κs = search needs
+
+most-added-requires : tie.Need-most-added-requires
+most-added-requires c κs = search needs
+
+row-count-requires : tie.Need-row-count-requires
+row-count-requires c κs = search needs
+
+next-serial-requires : tie.Need-next-serial-requires
+next-serial-requires c κs = search needs
+
+add-limit : tie.Need-add-limit
+add-limit c = search needs
+
+add-limit-2 : tie.Need-add-limit-2
+add-limit-2 c = search needs
+
+limit-requires : tie.Need-limit-requires
+limit-requires c κs = search needs
+
+returns : tie.Need-returns
+returns c = let start = c .before .before .before .before .before .before .before .before in
+    let a = start .args in
+    let numbers = c .before .before in
+    refusal-spared (numbers .before .before .before .width-in .ensures) (a .form) (a .room) (rowsAfter (a .plan) (a .text .now) (bodiesOf (a .store .now)))
+    (numbers .before .row-count .ensures) (numbers .next-serial .ensures) (numbers .before .before .most-added .ensures) (c .before .limit .ensures) (c .if1 .taken)
+
+slice-aggregate-walk-rows : tie.Need-slice-aggregate-walk-rows
+slice-aggregate-walk-rows c = search needs
+
+walk-rows-requires : tie.Need-walk-rows-requires
+walk-rows-requires c κs = search needs
+
+sub-limit : tie.Need-sub-limit
+sub-limit c = search needs
+
+limit-requires-2 : tie.Need-limit-requires-2
+limit-requires-2 c κs = search needs
+
+returns-2 : tie.Need-returns-2
+returns-2 c = let start = c .before .before .before .before .before .before .before .before .before .before .before .before .before in
+    let a = start .args in
+    refusal-counted (c .before .before .before .before .before .before .before .before .before .before .width-in .ensures) (a .form) (a .room)
+    (rowsAfter (a .plan) (a .text .now) (bodiesOf (a .store .now)))
+    (c .before .before .before .walk-rows .ensures) (c .limit2 .ensures)
+
+pub refusal-spec : {M : Type 1} → statement M
+refusal-spec =
+    tie.close
+    (tie.spec
+    width-in-requires
+    most-added-requires
+    row-count-requires
+    next-serial-requires
+    add-limit
+    add-limit-2
+    limit-requires
+    returns
+    slice-aggregate-walk-rows
+    walk-rows-requires
+    sub-limit
+    limit-requires-2
+    returns-2)

@@ -109,7 +109,7 @@ partsIn fs = lentIn fs 1
 abbrev pub attrsIn : List (RefT Bytes) → Bytes
 attrsIn fs = lentIn fs 2
 
--- the width of a value, the number of attributes and the version, as they are lent
+-- the width of a value, the number of attributes, the version and the number of definitions, as they are lent
 abbrev pub widthIn : List ℕ → ℕ
 widthIn ks = getD ks 0 0
 
@@ -118,6 +118,9 @@ countIn ks = getD ks 1 0
 
 abbrev pub versionOfFilling : List ℕ → ℕ
 versionOfFilling ks = getD ks 2 0
+
+abbrev pub sizeIn : List ℕ → ℕ
+sizeIn ks = getD ks 3 0
 
 -- the rows of a definition, of members, of what stands below an element, and of what a change fills with
 module _ (ks : List ℕ) (fs : List (RefT Bytes)) (txt : Bytes) (h d : ℕ) where

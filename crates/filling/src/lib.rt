@@ -124,8 +124,8 @@ fn created_value(w: usize, attrs: &[u8], j: usize) -> &[u8]
 
 // ---- The writers of a filling call each other as deep as definitions and groups are nested. So that their frames on the stack stay
 // small, the form is lent as one array of slices (definitions, particles, attributes), the text by one reference, the width of a
-// value, the number of attributes and the version as one array of numbers, and the cursor as another (its place, what is left, its
-// serial).
+// value, the number of attributes, the version and the number of definitions as one array of numbers, and the cursor as another (its
+// place, what is left, its serial).
 
 // Writes one row.
 fn put_row(
@@ -197,7 +197,7 @@ fn put_group(
     kind: GroupKind,
     form: &[&[u8]; 3],
     text: &&[u8],
-    sizes: &[usize; 3],
+    sizes: &[usize; 4],
     h: usize,
     depth: usize,
     c: &mut [usize; 3],
@@ -237,7 +237,7 @@ fn put_member(
     d: usize,
     form: &[&[u8]; 3],
     text: &&[u8],
-    sizes: &[usize; 3],
+    sizes: &[usize; 4],
     h: usize,
     depth: usize,
     c: &mut [usize; 3],
@@ -269,7 +269,7 @@ fn put_definition(
     i: usize,
     form: &[&[u8]; 3],
     text: &&[u8],
-    sizes: &[usize; 3],
+    sizes: &[usize; 4],
     h: usize,
     depth: usize,
     c: &mut [usize; 3],
@@ -293,7 +293,7 @@ fn put_below(
     i: usize,
     form: &[&[u8]; 3],
     text: &&[u8],
-    sizes: &[usize; 3],
+    sizes: &[usize; 4],
     h: usize,
     depth: usize,
     c: &mut [usize; 3],
@@ -331,7 +331,7 @@ fn put_members(
     d: usize,
     form: &[&[u8]; 3],
     text: &&[u8],
-    sizes: &[usize; 3],
+    sizes: &[usize; 4],
     h: usize,
     depth: usize,
     c: &mut [usize; 3],
@@ -348,12 +348,12 @@ fn put_members(
     put_group(s, d, kind, form, text, sizes, h, depth, c, out)
 }
 
-// Writes what a change fills with.
-fn put_any(
+/// Writes what a change fills with, of a form that is lent; no definition is higher than h.
+pub fn put_any(
     what: Filling,
     form: &[&[u8]; 3],
     text: &&[u8],
-    sizes: &[usize; 3],
+    sizes: &[usize; 4],
     h: usize,
     depth: usize,
     c: &mut [usize; 3],
@@ -400,7 +400,7 @@ pub fn put_filling<'a>(
     ensures { λ r. ⌜ Written w (fillingRows (indexForm version w n (now (defs .entry)) (now (parts .entry)) (now (attrs .entry)) a) (λ j. valueIn w (now (attrs .entry)) j) (λ k d. membersReadAt (now (parts .entry)) k d) what (now (text .entry)) depth) c (now (out .entry)) r (now (out .exit)) ⌝ }
 {
     let form = [defs, parts, attrs];
-    let sizes = [w, a, version];
+    let sizes = [w, a, version, n];
     let mut r = [c.at, c.left, c.serial];
     put_any(what, &form, &text, &sizes, n, depth, &mut r, out);
     Cursor {

@@ -21,7 +21,7 @@ use Rattle.row_walk.specs.declared.Which.{Which}
 use Rattle.row_walk.specs.declared.Plan.{Plan}
 use Rattle.row_walk.specs.declared.Open.{Open}
 use Rattle.row_walk.specs.Walk.{matches, namesGround, keptRow, walked, atFirst}
-use Rattle.row_walk.specs.Step.{planFilling, WalkRows}
+use Rattle.walk_writer.specs.Step.{planFilling, WalkRows}
 use Rattle.row_bound.specs.Bound.{onlyIf, matchingIn, placesIn, countedTo, Adds}
 use Rattle.row_bound.proofs.DepthLaws.{length-filling}
 use Rattle.row_bound.proofs.WalkBound.{mostOf, size-walked}

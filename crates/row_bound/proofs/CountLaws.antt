@@ -15,8 +15,8 @@ use Rattle.row_walk.specs.declared.Which.{Which}
 use Rattle.row_walk.specs.declared.Head.{Head}
 use Rattle.row_walk.specs.Walk.{matches, namesGround}
 use Rattle.row_walk.specs.Step.{rowOfHead, bare}
-use Rattle.row_walk.proofs.StepLaws.{matches-any}
-use Rattle.row_walk.proofs.WalkLaws.{rows-step}
+use Rattle.walk_writer.proofs.StepLaws.{matches-any}
+use Rattle.walk_writer.proofs.WalkLaws.{rows-step}
 use Rattle.row_bound.specs.Bound.{onlyIf, matchingIn, placesIn}
 
 only-few : (b : Bool) → onlyIf b 1 ≤ 1

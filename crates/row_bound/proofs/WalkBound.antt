@@ -11,8 +11,8 @@ use Rattle.rules.proofs.BooleanLaws.{Every}
 use Rattle.row_walk.specs.declared.Plan.{Plan}
 use Rattle.row_walk.specs.declared.Open.{Open}
 use Rattle.row_walk.specs.Walk.{matches, isLater, spared, keptRow, gone, closes, closed, isBelow, isTaken, isFilled, taken, kept, owed, rowDepth, emitted, nextOpen, walked}
-use Rattle.row_walk.specs.Step.{stepRows, stepOpen}
-use Rattle.row_walk.proofs.WalkLaws.{walked-cons, walked-none}
+use Rattle.walk_writer.specs.Step.{stepRows, stepOpen}
+use Rattle.walk_writer.proofs.WalkLaws.{walked-cons, walked-none}
 use Rattle.row_bound.specs.Bound.{onlyIf}
 
 -- ---- what is due is due once

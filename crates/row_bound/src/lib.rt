@@ -1,5 +1,6 @@
 //! How many rows the walk with a plan adds at most: the rows of one filling at each place that may be filled.
 use filling::Filling;
+use row_walk::Head;
 use row_walk::Plan;
 use row_walk::Which;
 use row_writer::Cursor;
@@ -9,8 +10,9 @@ ghost use lib.ListN.{length};
 ghost use Rattle.rules.specs.Layout.{rowSize};
 ghost use Rattle.rules.specs.Decode.{readRow, readMany};
 ghost use Rattle.layout.specs.Bodies.{Width};
-ghost use Rattle.row_walk.specs.Walk.{walked, atFirst};
-ghost use Rattle.row_walk.specs.Step.{fillWith, planFilling, Ready, WalkRows};
+ghost use Rattle.row_walk.specs.Walk.{matches, namesGround, walked, atFirst};
+ghost use Rattle.row_walk.specs.Step.{bare};
+ghost use Rattle.walk_writer.specs.Step.{fillWith, planFilling, Ready, WalkRows};
 ghost use Rattle.filling.specs.Parts.{Asks, Indexed};
 ghost use Rattle.row_bound.specs.Bound.{onlyIf, matchingIn, placesIn, countedTo, Adds};
 
@@ -25,6 +27,34 @@ fn more(n: usize, b: bool) -> usize
     if b { n + 1 } else { n }
 }
 
+// Whether a row is one of them.
+fn matches(w: Which, h: Head) -> bool
+    ensures { λ r. ⌜ r ≡ matches w (bare h .row) ⌝ }
+{
+    match w {
+        Which::Nothing => false,
+        Which::Everything => true,
+        Which::Ground => false,
+        Which::Elements(i) => (h.sort == 1) & (h.index == i),
+        Which::Attributes(j) => (h.sort == 2) & (h.index == j),
+        Which::Serial(k) => (h.sort == 1) & (h.serial == k as usize),
+    }
+}
+
+// Whether they are all below the ground: the documents.
+fn is_ground(w: Which) -> bool
+    ensures { λ r. ⌜ r ≡ namesGround w ⌝ }
+{
+    match w {
+        Which::Nothing => false,
+        Which::Everything => false,
+        Which::Ground => true,
+        Which::Elements(_) => false,
+        Which::Attributes(_) => false,
+        Which::Serial(_) => false,
+    }
+}
+
 // How many of `count` rows are some of them.
 fn matching(w: usize, rows: &[u8], count: usize, which: Which) -> usize
     requires { ⌜ Width w × (rowSize w * count ≤ length (now rows)) × (count ≤ 4096) ⌝ }
@@ -36,7 +66,7 @@ fn matching(w: usize, rows: &[u8], count: usize, which: Which) -> usize
     let mut found = 0;
     while 0 < m {
         let row = &t[..size];
-        found = more(found, row_walk::matches(which, row_walk::read_head(row)));
+        found = more(found, matches(which, walk_writer::read_head(row)));
         t = &t[size..];
         m -= 1;
     }
@@ -49,7 +79,7 @@ fn places(w: usize, rows: &[u8], count: usize, above: Which) -> usize
     ensures { λ r. ⌜ (r ≡ placesIn above (readMany readRow (rowSize w) count (now (rows .entry)))) × (r ≤ 4097) ⌝ }
 {
     let below = matching(w, rows, count, above);
-    more(below, row_walk::is_ground(above))
+    more(below, is_ground(above))
 }
 
 // The rows of a filling, counted up to one past the ceiling.

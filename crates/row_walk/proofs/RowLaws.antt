@@ -1,18 +1,51 @@
 -- What the small functions answer of a row is what the walk says of it.
-use Prim.Native.Nat.{ℕ, suc, _+_, _-_, _≤_, _<_}
+use Prim.Native.Nat.{ℕ, zero, suc, _+_, _-_, _≤_, _<_}
 use native.Mathlib.Omega.{arith}
 use native.Mathlib.Numerals.{add-one}
 use mathlib.Core.Path.{_≡_, refl, ap, sym, _∙_}
 use mathlib.Core.Bool.{Bool, true, false, not, _&&_, _||_, false≢true}
 use borrow.Author.Tests.{le-leb, lt-leb, eq-eqb, ne-eqb}
-use Rattle.rules.specs.Bytes.{Bytes}
-use Rattle.rules.specs.Decode.{readRow}
+use lib.Dec.{eqb}
+use Rattle.row_walk.specs.declared.Which.the-variants.{Serial}
+use Rattle.row_walk.specs.declared.Later.the-variants.{Unmarked}
 use Rattle.row_walk.specs.declared.Shift.{Shift}
 use Rattle.row_walk.specs.declared.Plan.{Plan}
 use Rattle.row_walk.specs.declared.Open.{Open}
 use Rattle.row_walk.specs.declared.Head.{Head}
-use Rattle.row_walk.specs.Walk.{matches, isEverything, namesGround, isLater, spared, shifted, movedIndex, closes, closed, isBelow, isTaken, isFilled, taken, kept, atFirst}
-use Rattle.row_walk.specs.Step.{rowOfHead, bare, staysDue, Moves}
+use Rattle.row_walk.specs.Walk.{matches, isEverything, namesGround, isLater, spared, shifted, movedIndex, closes, closed, isBelow, isTaken, isFilled, taken, atFirst}
+use Rattle.row_walk.specs.Lent.{whichIn, laterIn}
+use Rattle.row_walk.specs.Step.{bare, keptWith, Moves}
+
+-- ---- by the number of a variant, k
+pub which-serial : (k n : ℕ) → (k ≡ 0 → ⊥) → (k ≡ 1 → ⊥) → (k ≡ 2 → ⊥) → (k ≡ 3 → ⊥) → (k ≡ 4 → ⊥) → whichIn k n ≡ Serial n
+which-serial zero n a b c d e = absurd (a refl)
+which-serial (suc zero) n a b c d e = absurd (b refl)
+which-serial (suc (suc zero)) n a b c d e = absurd (c refl)
+which-serial (suc (suc (suc zero))) n a b c d e = absurd (d refl)
+which-serial (suc (suc (suc (suc zero)))) n a b c d e = absurd (e refl)
+which-serial (suc (suc (suc (suc (suc k))))) n a b c d e = refl
+
+pub later-unmarked : (k n : ℕ) → (k ≡ 0 → ⊥) → (k ≡ 1 → ⊥) → (k ≡ 2 → ⊥) → laterIn k n ≡ Unmarked
+later-unmarked zero n a b c = absurd (a refl)
+later-unmarked (suc zero) n a b c = absurd (b refl)
+later-unmarked (suc (suc zero)) n a b c = absurd (c refl)
+later-unmarked (suc (suc (suc k))) n a b c = refl
+
+pub everything-is : (k n : ℕ) → eqb k 1 ≡ isEverything (whichIn k n)
+everything-is zero n = refl
+everything-is (suc zero) n = refl
+everything-is (suc (suc zero)) n = refl
+everything-is (suc (suc (suc zero))) n = refl
+everything-is (suc (suc (suc (suc zero)))) n = refl
+everything-is (suc (suc (suc (suc (suc k))))) n = ne-eqb (suc (suc (suc (suc (suc k))))) 1 (λ e. omega arith)
+
+ground-is : (k n : ℕ) → eqb k 2 ≡ namesGround (whichIn k n)
+ground-is zero n = refl
+ground-is (suc zero) n = refl
+ground-is (suc (suc zero)) n = refl
+ground-is (suc (suc (suc zero))) n = refl
+ground-is (suc (suc (suc (suc zero)))) n = refl
+ground-is (suc (suc (suc (suc (suc k))))) n = ne-eqb (suc (suc (suc (suc (suc k))))) 2 (λ e. omega arith)
 
 -- ---- renumbering
 module _ (s : Shift) (i : ℕ) (small : i ≤ 1000) where
@@ -33,12 +66,6 @@ module _ (p : Plan) (h : Head) (r : ℕ) where
   moved-text n m l = (rw (ne-eqb (h .sort) 1 n, ne-eqb (h .sort) 2 m, movedIndex), omega arith)
 
 -- ---- what is open
--- nothing is due right below
-pub due-still : (d b l : Bool) → (d && b) ≡ false → d ≡ (d && not (b && l))
-due-still false b l e = refl
-due-still true false l e = refl
-due-still true true l e = absurd (false≢true (sym e))
-
 module _ (o : Open) (h : Head) where
   pub taken-is : _≡_ {A = Open} (record { taking = h .depth + 1; below = o .below; due = o .due }) (taken o (bare h))
   taken-is = rw (add-one (h .depth))
@@ -50,12 +77,12 @@ module _ (o : Open) (h : Head) where
     pub closed-not : b ≡ false → _≡_ {A = Open} (record { taking = 0; below = o .below; due = o .due }) (closed o (bare h))
     closed-not t = let u : closes o (bare h) ≡ false = sym e ∙ t in rw (u, closed)
 
-  module _ (p : Plan) (b : Bool) (e : b ≡ matches (p .above) (bare h .row)) where
-    pub kept-opens : b ≡ true → _≡_ {A = Open} (record { taking = 0; below = h .depth + 2; due = p .fills }) (kept p o (bare h))
-    kept-opens t = let u : matches (p .above) (bare h .row) ≡ true = sym e ∙ t in let z : h .depth + 2 ≡ suc (suc (h .depth)) = omega arith in rw (u, z, kept)
+  module _ (p : Plan) (due : Bool) (b : Bool) (e : b ≡ matches (p .above) (bare h .row)) where
+    pub kept-opens : b ≡ true → _≡_ {A = Open} (record { taking = 0; below = h .depth + 2; due = p .fills }) (keptWith p due o (bare h))
+    kept-opens t = let u : matches (p .above) (bare h .row) ≡ true = sym e ∙ t in let z : h .depth + 2 ≡ suc (suc (h .depth)) = omega arith in rw (u, z, keptWith)
 
-    pub kept-on : (d : Bool) → b ≡ false → d ≡ staysDue p o (bare h) → _≡_ {A = Open} (record { taking = 0; below = o .below; due = d }) (kept p o (bare h))
-    kept-on d t ed = let u : matches (p .above) (bare h .row) ≡ false = sym e ∙ t in rw (u, ed, kept)
+    pub kept-on : b ≡ false → _≡_ {A = Open} (record { taking = 0; below = o .below; due = due }) (keptWith p due o (bare h))
+    kept-on t = let u : matches (p .above) (bare h .row) ≡ false = sym e ∙ t in rw (u, keptWith)
 
   pub taken-by : (p : Plan) (a b m : Bool) → a ≡ isEverything (p .above) → b ≡ isBelow o (bare h) → m ≡ matches (p .takes) (bare h .row)
       → (((a || b) && m) && not (p .keeps && o .due)) ≡ isTaken p o (bare h)
@@ -65,14 +92,9 @@ module _ (o : Open) (h : Head) where
       → ((o .due && b) && (l && not s)) ≡ isFilled p o (bare h)
   filled-by p b l s eb el es = rw (eb, el, es)
 
-module _ (p : Plan) (b : Bool) (e : b ≡ namesGround (p .above)) where
-  pub first-ground : b ≡ true → _≡_ {A = Open} (record { taking = 0; below = 1; due = p .fills }) (atFirst p)
-  first-ground t = let u : namesGround (p .above) ≡ true = sym e ∙ t in rw (u, atFirst)
+module _ (p : Plan) (k n : ℕ) (e : p .above ≡ whichIn k n) where
+  pub first-ground : k ≡ 2 → _≡_ {A = Open} (record { taking = 0; below = 1; due = p .fills }) (atFirst p)
+  first-ground t = let u : namesGround (p .above) ≡ true = ap namesGround e ∙ sym (ground-is k n) ∙ eq-eqb k 2 t in rw (u, atFirst)
 
-  pub first-other : b ≡ false → _≡_ {A = Open} (record { taking = 0; below = 0; due = false }) (atFirst p)
-  first-other t = let u : namesGround (p .above) ≡ false = sym e ∙ t in rw (u, atFirst)
-
--- ---- reading
-pub head-read : (row : Bytes) (d s i k : ℕ) → d ≡ readRow row .depth → s ≡ readRow row .row .sort → i ≡ readRow row .row .index → k ≡ readRow row .row .serial
-    → rowOfHead (record { depth = d; sort = s; index = i; serial = k }) (readRow row .row .value) ≡ readRow row
-head-read row d s i k ed es ei ek = rw (ed, es, ei, ek)
+  pub first-other : (k ≡ 2 → ⊥) → _≡_ {A = Open} (record { taking = 0; below = 0; due = false }) (atFirst p)
+  first-other t = let u : namesGround (p .above) ≡ false = ap namesGround e ∙ sym (ground-is k n) ∙ ne-eqb k 2 t in rw (u, atFirst)

@@ -34,7 +34,7 @@ use Rattle.filling.specs.Fillings.{fillingRows}
 use Rattle.row_walk.specs.declared.Plan.{Plan}
 use Rattle.row_walk.specs.Walk.{walked, atFirst}
 use Rattle.filling.specs.Parts.{valueOf}
-use Rattle.row_walk.specs.Step.{planFilling, Ready, WalkRow, WalkRows}
+use Rattle.walk_writer.specs.Step.{planFilling, Ready, WalkRow, WalkRows}
 use Rattle.row_bound.specs.Bound.{Adds}
 use Rattle.store_writer.specs.Stores.{storeIn}
 use Rattle.store_writer.specs.Planned.{rowsAfter}

@@ -73,7 +73,7 @@ pub fn walk_rows(store: &[u8], plan: Plan, text: &[u8], at: usize, out: &mut [u8
         left: MOST_ROWS,
         serial: layout::next_serial(store),
     };
-    row_walk::walk(
+    walk_writer::walk(
         s.version as usize,
         s.width,
         s.definitions,

@@ -1,16 +1,29 @@
+-- `row_walk::at_first` meets its contract.
 use Rattle.row_walk.proofs.RowLaws.{first-ground, first-other}
+use mathlib.Core.Path.{refl}
+use mathlib.Core.List.{[]}
+use Rattle.row_walk.specs.Lent.{planIn}
 use borrow.Author.Needs.{needs}
 use Rattle.row_walk.proofs.at_first.Statement.{statement}
 use Rattle.row_walk.proofs.at_first.Tie as tie
 
-is-ground-requires : tie.Need-is-ground-requires
-is-ground-requires c κs = search needs
+element-copy-out-if1 : tie.Need-element-copy-out-if1
+element-copy-out-if1 c = search needs
+
+element-copy-out-t8 : tie.Need-element-copy-out-t8
+element-copy-out-t8 c = search needs
 
 returns : tie.Need-returns
-returns c = first-ground (c .before .before .args .p) _ (c .before .is-ground .ensures) (c .if1 .taken)
+returns c =
+    let start = c .before .before .before in
+    let a = start .args in
+    first-ground (planIn (a .p .now) []) _ _ refl (c .before .if1 .taken)
 
 returns-2 : tie.Need-returns-2
-returns-2 c = first-other (c .before .before .args .p) _ (c .before .is-ground .ensures) (c .if1 .left)
+returns-2 c =
+    let start = c .before .before in
+    let a = start .args in
+    first-other (planIn (a .p .now) []) _ _ refl (c .if1 .left)
 
 pub at-first-spec : {M : Type 1} → statement M
-at-first-spec = tie.close (tie.spec is-ground-requires returns returns-2)
+at-first-spec = tie.close (tie.spec element-copy-out-if1 element-copy-out-t8 returns returns-2)

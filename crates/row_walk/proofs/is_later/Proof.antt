@@ -1,39 +1,44 @@
+-- `row_walk::is_later` meets its contract.
+use Rattle.row_walk.proofs.RowLaws.{later-unmarked}
 use borrow.Author.Needs.{needs}
 use Rattle.row_walk.proofs.is_later.Statement.{statement}
 use Rattle.row_walk.proofs.is_later.Tie as tie
 
-enum-told : tie.Need-enum-told
-enum-told c = search needs
+element-copy-out-match : tie.Need-element-copy-out-match
+element-copy-out-match c = search needs
 
-enum-known-l : tie.Need-enum-known-l
-enum-known-l c = search needs
+element-copy-out-result : tie.Need-element-copy-out-result
+element-copy-out-result c = search needs
 
-enum-known-l-2 : tie.Need-enum-known-l-2
-enum-known-l-2 c = search needs
+element-copy-out-result-2 : tie.Need-element-copy-out-result-2
+element-copy-out-result-2 c = search needs
 
-enum-told-2 : tie.Need-enum-told-2
-enum-told-2 c = search needs
+byte-requires : tie.Need-byte-requires
+byte-requires c κs = search needs
 
 returns : tie.Need-returns
-returns c = rw (c .enum-told .given .1)
+returns c = rw (c .match .keys1)
 
 returns-2 : tie.Need-returns-2
-returns-2 c = rw (c .before .before .l .given .1)
+returns-2 c = rw (c .before .before .match .keys2)
 
 returns-3 : tie.Need-returns-3
-returns-3 c = rw (c .before .before .before .l2 .given .1)
+returns-3 c = rw (c .before .before .before .match .keys3)
 
 returns-4 : tie.Need-returns-4
-returns-4 c = rw (c .before .enum-told2 .given .1, c .before .before .before .pre)
+returns-4 c =
+    let at-match = c .before .before in
+    let rest = at-match .match .rest in
+    rw (later-unmarked _ _ (rest .0 .0 .1) (rest .0 .1) (rest .1), c .byte .ensures)
 
 pub is-later-spec : {M : Type 1} → statement M
 is-later-spec =
     tie.close
     (tie.spec
-    enum-told
-    enum-known-l
-    enum-known-l-2
-    enum-told-2
+    element-copy-out-match
+    element-copy-out-result
+    element-copy-out-result-2
+    byte-requires
     returns
     returns-2
     returns-3

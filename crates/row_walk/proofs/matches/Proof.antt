@@ -1,24 +1,8 @@
+-- `row_walk::matches` meets its contract.
+use Rattle.row_walk.proofs.RowLaws.{which-serial}
 use borrow.Author.Needs.{needs}
 use Rattle.row_walk.proofs.matches.Statement.{statement}
 use Rattle.row_walk.proofs.matches.Tie as tie
-
-enum-told : tie.Need-enum-told
-enum-told c = search needs
-
-enum-told-2 : tie.Need-enum-told-2
-enum-told-2 c = search needs
-
-enum-told-3 : tie.Need-enum-told-3
-enum-told-3 c = search needs
-
-enum-known-w : tie.Need-enum-known-w
-enum-known-w c = search needs
-
-enum-known-w-2 : tie.Need-enum-known-w-2
-enum-known-w-2 c = search needs
-
-enum-known-w-3 : tie.Need-enum-known-w-3
-enum-known-w-3 c = search needs
 
 returns : tie.Need-returns
 returns c = search needs
@@ -30,27 +14,18 @@ returns-3 : tie.Need-returns-3
 returns-3 c = search needs
 
 returns-4 : tie.Need-returns-4
-returns-4 c = rw (c .before .before .before .w .given .1)
+returns-4 c = rw (c .before .before .match .keys4)
 
 returns-5 : tie.Need-returns-5
-returns-5 c = rw (c .before .before .before .w2 .given .1)
+returns-5 c = rw (c .before .before .match .keys5)
 
 returns-6 : tie.Need-returns-6
-returns-6 c = rw (c .before .before .before .w3 .given .1)
+returns-6 c =
+    let at-match = c .before .before in
+    let start = c .before .before .before in
+    let rest = at-match .match .rest in
+    let a = start .args in
+    rw (which-serial (a .variant) (a .number) (rest .0 .0 .0 .0 .1) (rest .0 .0 .0 .1) (rest .0 .0 .1) (rest .0 .1) (rest .1))
 
 pub matches-spec : {M : Type 1} → statement M
-matches-spec =
-    tie.close
-    (tie.spec
-    enum-told
-    enum-told-2
-    enum-told-3
-    enum-known-w
-    enum-known-w-2
-    enum-known-w-3
-    returns
-    returns-2
-    returns-3
-    returns-4
-    returns-5
-    returns-6)
+matches-spec = tie.close (tie.spec returns returns-2 returns-3 returns-4 returns-5 returns-6)

@@ -2,7 +2,7 @@
 use Prim.Native.Nat.{ℕ, suc, _+_, _-_, _≤_}
 use native.Mathlib.Omega.{arith}
 use mathlib.Core.Path.{_≡_, refl, ap, ap₂, sym, subst, _∙_}
-use mathlib.Core.Bool.{Bool, true, false, not, _&&_, _||_}
+use mathlib.Core.Bool.{Bool, true, false, not, _&&_, _||_, false≢true}
 use mathlib.Core.List.{List, [], _∷_, _++_}
 use lib.Dec.{eqb}
 use borrow.Author.Tests.{eq-eqb, ne-eqb}
@@ -15,16 +15,32 @@ use Rattle.layout.specs.RowBytes.{reindexedRow, valuedRow}
 use Rattle.row_writer.specs.Written.{Written, Room}
 use Rattle.row_writer.proofs.WrittenLaws.{written-none, written-then, written-as}
 use Rattle.filling.specs.Parts.{Asks}
 use Rattle.row_walk.specs.declared.Which.{Which}
 use Rattle.row_walk.specs.declared.Which.the-variants.{Nothing, Everything, Ground, Elements, Attributes, Serial}
 use Rattle.row_walk.specs.declared.Later.{Later}
 use Rattle.row_walk.specs.declared.Later.the-variants.{Never, Row, Past, Unmarked}
 use Rattle.row_walk.specs.declared.Plan.{Plan}
 use Rattle.row_walk.specs.declared.Open.{Open}
 use Rattle.row_walk.specs.declared.Head.{Head}
-use Rattle.row_walk.specs.declared.Stepped.{Stepped}
+use Rattle.walk_writer.specs.declared.Stepped.{Stepped}
 use Rattle.row_walk.specs.Walk.{matches, isEverything, isLater, spared, movedIndex, keptRow, gone, closes, closed, isBelow, isTaken, isFilled, taken, kept, owed, rowDepth, emitted, nextOpen}
-use Rattle.row_walk.specs.Step.{rowOfHead, bare, rowRewritten, stepRows, stepOpen, Came, Ready, Near, WalkRow, Seen}
+use Rattle.row_walk.specs.Step.{rowOfHead, bare, staysDue, keptWith}
+use Rattle.walk_writer.specs.Step.{rowRewritten, stepRows, stepOpen, Came, Ready, Near, WalkRow, Seen}
+
+-- ---- reading
+pub head-read : (row : Bytes) (d s i k : ℕ) → d ≡ readRow row .depth → s ≡ readRow row .row .sort → i ≡ readRow row .row .index → k ≡ readRow row .row .serial
+    → rowOfHead (record { depth = d; sort = s; index = i; serial = k }) (readRow row .row .value) ≡ readRow row
+head-read row d s i k ed es ei ek = rw (ed, es, ei, ek)
+
+-- ---- what is due after a row that opens nothing
+-- nothing is due right below
+pub due-still : (d b l : Bool) → (d && b) ≡ false → d ≡ (d && not (b && l))
+due-still false b l e = refl
+due-still true false l e = refl
+due-still true true l e = absurd (false≢true (sym e))
+
+pub kept-due : (p : Plan) (o : Open) (h : Head) {d : Bool} {k : Open} → k ≡ keptWith p d o (bare h) → d ≡ staysDue p o (bare h) → k ≡ kept p o (bare h)
+kept-due p o h e ed = e ∙ ap (λ (d : Bool). keptWith p d o (bare h)) ed
 
 -- ---- no test looks at a row's value
 pub matches-any : (w : Which) (h : Head) (u : Bytes) → matches w (rowOfHead h u .row) ≡ matches w (bare h .row)

@@ -1,8 +1,8 @@
--- `row_walk::read_head` meets its contract.
-use Rattle.row_walk.proofs.RowLaws.{head-read}
+-- `walk_writer::read_head` meets its contract.
+use Rattle.walk_writer.proofs.StepLaws.{head-read}
 use borrow.Author.Needs.{needs}
-use Rattle.row_walk.proofs.read_head.Statement.{statement}
-use Rattle.row_walk.proofs.read_head.Tie as tie
+use Rattle.walk_writer.proofs.read_head.Statement.{statement}
+use Rattle.walk_writer.proofs.read_head.Tie as tie
 
 row-depth-requires : tie.Need-row-depth-requires
 row-depth-requires c κs = search needs
@@ -22,6 +22,9 @@ cast-t6 c = search needs
 row-serial-requires : tie.Need-row-serial-requires
 row-serial-requires c κs = search needs
 
+cast-t8 : tie.Need-cast-t8
+cast-t8 c = search needs
+
 returns : tie.Need-returns
 returns c = head-read (c .before .before .before .before .before .args .row .now) _ _ _ _ (c .before .before .before .row-depth .ensures) (c .before .before .row-sort .ensures)
     (c .before .row-index .ensures) (c .row-serial .ensures)
@@ -29,4 +32,4 @@ returns c = head-read (c .before .before .before .before .before .args .row .now
 pub read-head-spec : {M : Type 1} → statement M
 read-head-spec =
     tie.close
-    (tie.spec row-depth-requires cast-t3 row-sort-requires row-index-requires cast-t6 row-serial-requires returns)
+    (tie.spec row-depth-requires cast-t3 row-sort-requires row-index-requires cast-t6 row-serial-requires cast-t8 returns)

@@ -1,8 +1,8 @@
--- `row_walk::put_row` meets its contract.
-use Rattle.row_walk.proofs.StepLaws.{with-value, with-own}
+-- `walk_writer::put_row` meets its contract.
+use Rattle.walk_writer.proofs.StepLaws.{with-value, with-own}
 use borrow.Author.Needs.{needs}
-use Rattle.row_walk.proofs.put_row.Statement.{statement}
-use Rattle.row_walk.proofs.put_row.Tie as tie
+use Rattle.walk_writer.proofs.put_row.Statement.{statement}
+use Rattle.walk_writer.proofs.put_row.Tie as tie
 
 put-valued-requires : tie.Need-put-valued-requires
 put-valued-requires c κs = search needs

@@ -15,12 +15,12 @@ use Rattle.layout.proofs.RowLaws.{size-more}
 use Rattle.row_writer.specs.declared.Cursor.{Cursor}
 use Rattle.row_writer.specs.Written.{Written, Room}
 use Rattle.row_writer.proofs.WrittenLaws.{written-stop, written-then, written-as}
 use Rattle.row_walk.specs.declared.Plan.{Plan}
 use Rattle.row_walk.specs.declared.Open.{Open}
-use Rattle.row_walk.specs.declared.Stepped.{Stepped}
+use Rattle.walk_writer.specs.declared.Stepped.{Stepped}
 use Rattle.row_walk.specs.Walk.{gone, closes, closed, owed, rowDepth, emitted, nextOpen, walked, atFirst, namesGround}
-use Rattle.row_walk.specs.Step.{stepRows, stepOpen, Came, Near, WalkRow, WalkRows}
-use Rattle.row_walk.proofs.StepLaws.{near-if, near-step}
+use Rattle.walk_writer.specs.Step.{stepRows, stepOpen, Came, Near, WalkRow, WalkRows}
+use Rattle.walk_writer.proofs.StepLaws.{near-if, near-step}
 
 -- ---- rows
 module _ (w : ℕ) where

@@ -1,0 +1,3 @@
+pub mod LentLaws
+pub mod StepLaws
+pub mod WalkLaws

@@ -1,0 +1,46 @@
+-- `walk_writer::filling_numbers` meets its contract.
+use mathlib.Core.Path.{sym, _∙_}
+use borrow.Author.Needs.{needs}
+use Rattle.walk_writer.proofs.filling_numbers.Statement.{statement}
+use Rattle.walk_writer.proofs.filling_numbers.Tie as tie
+
+enum-told : tie.Need-enum-told
+enum-told c = search needs
+
+enum-known-f : tie.Need-enum-known-f
+enum-known-f c = search needs
+
+enum-known-f-2 : tie.Need-enum-known-f-2
+enum-known-f-2 c = search needs
+
+enum-known-f-3 : tie.Need-enum-known-f-3
+enum-known-f-3 c = search needs
+
+group-numbers-requires : tie.Need-group-numbers-requires
+group-numbers-requires c κs = search needs
+
+returns : tie.Need-returns
+returns c = search needs
+
+returns-2 : tie.Need-returns-2
+returns-2 c = search needs
+
+returns-3 : tie.Need-returns-3
+returns-3 c = search needs
+
+returns-4 : tie.Need-returns-4
+returns-4 c = c .group-numbers .ensures ∙ sym (c .before .before .f3 .given .1)
+
+pub filling-numbers-spec : {M : Type 1} → statement M
+filling-numbers-spec =
+    tie.close
+    (tie.spec
+    enum-told
+    enum-known-f
+    enum-known-f-2
+    enum-known-f-3
+    group-numbers-requires
+    returns
+    returns-2
+    returns-3
+    returns-4)

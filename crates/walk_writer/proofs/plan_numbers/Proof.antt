@@ -1,0 +1,98 @@
+-- `walk_writer::plan_numbers` meets its contract.
+use lib.ListN.{getD}
+use Rattle.walk_writer.proofs.LentLaws.{plan-lent}
+use borrow.Author.Needs.{needs}
+use Rattle.walk_writer.proofs.plan_numbers.Statement.{statement}
+use Rattle.walk_writer.proofs.plan_numbers.Tie as tie
+
+which-numbers-requires : tie.Need-which-numbers-requires
+which-numbers-requires c κs = search needs
+
+which-numbers-requires-2 : tie.Need-which-numbers-requires-2
+which-numbers-requires-2 c κs = search needs
+
+later-numbers-requires : tie.Need-later-numbers-requires
+later-numbers-requires c κs = search needs
+
+filling-numbers-requires : tie.Need-filling-numbers-requires
+filling-numbers-requires c κs = search needs
+
+array-read-t16 : tie.Need-array-read-t16
+array-read-t16 c = search needs
+
+array-read-t19 : tie.Need-array-read-t19
+array-read-t19 c = search needs
+
+array-read-t22 : tie.Need-array-read-t22
+array-read-t22 c = search needs
+
+array-read-t25 : tie.Need-array-read-t25
+array-read-t25 c = search needs
+
+array-read-t28 : tie.Need-array-read-t28
+array-read-t28 c = search needs
+
+array-read-t31 : tie.Need-array-read-t31
+array-read-t31 c = search needs
+
+number-of-requires : tie.Need-number-of-requires
+number-of-requires c κs = search needs
+
+number-of-requires-2 : tie.Need-number-of-requires-2
+number-of-requires-2 c κs = search needs
+
+number-of-requires-3 : tie.Need-number-of-requires-3
+number-of-requires-3 c κs = search needs
+
+cast-t35 : tie.Need-cast-t35
+cast-t35 c = search needs
+
+array-read-t38 : tie.Need-array-read-t38
+array-read-t38 c = search needs
+
+array-read-t41 : tie.Need-array-read-t41
+array-read-t41 c = search needs
+
+array-read-t44 : tie.Need-array-read-t44
+array-read-t44 c = search needs
+
+returns : tie.Need-returns
+returns c =
+    let start = c .before .before .before .before .before .before .before .before .before .before in
+    let at-which-numbers = c .before .before .before .before .before .before .before in
+    let at-which-numbers2 = c .before .before .before .before .before .before in
+    let at-later-numbers = c .before .before .before .before .before in
+    let at-number-of = c .before .before .before in
+    let at-number-of2 = c .before .before in
+    let at-filling-numbers = c .before .before .before .before in
+    plan-lent (start .args .p) (getD (at-which-numbers .which-numbers .result) 0 0) (getD (at-which-numbers .which-numbers .result) 1 0)
+    (getD (at-which-numbers2 .which-numbers2 .result) 0 0) (getD (at-which-numbers2 .which-numbers2 .result) 1 0)
+    (getD (at-later-numbers .later-numbers .result) 0 0) (getD (at-later-numbers .later-numbers .result) 1 0)
+    (at-number-of .number-of .result) (at-number-of2 .number-of2 .result) (c .before .number-of3 .result)
+    (getD (at-filling-numbers .filling-numbers .result) 0 0) (getD (at-filling-numbers .filling-numbers .result) 1 0)
+    (getD (at-filling-numbers .filling-numbers .result) 2 0) (at-which-numbers .which-numbers .ensures)
+    (at-which-numbers2 .which-numbers2 .ensures) (at-later-numbers .later-numbers .ensures) (at-number-of .number-of .ensures)
+    (at-number-of2 .number-of2 .ensures) (c .before .number-of3 .ensures) (at-filling-numbers .filling-numbers .ensures)
+
+pub plan-numbers-spec : {M : Type 1} → statement M
+plan-numbers-spec =
+    tie.close
+    (tie.spec
+    which-numbers-requires
+    which-numbers-requires-2
+    later-numbers-requires
+    filling-numbers-requires
+    array-read-t16
+    array-read-t19
+    array-read-t22
+    array-read-t25
+    array-read-t28
+    array-read-t31
+    number-of-requires
+    number-of-requires-2
+    number-of-requires-3
+    cast-t35
+    array-read-t38
+    array-read-t41
+    array-read-t44
+    returns)

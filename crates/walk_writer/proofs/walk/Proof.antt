@@ -1,0 +1,40 @@
+-- `walk_writer::walk` meets its contract.
+use mathlib.Core.Path.{ap, sym, subst}
+use Rattle.rules.specs.Layout.{rowSize}
+use Rattle.rules.specs.Decode.{readRow, readMany}
+use Rattle.row_writer.proofs.WrittenLaws.{written-as}
+use Rattle.row_walk.specs.declared.Plan.{Plan}
+use Rattle.row_walk.specs.Walk.{walked, atFirst}
+use Rattle.walk_writer.specs.Step.{planFilling, Ready}
+use borrow.Author.Needs.{needs}
+use Rattle.walk_writer.proofs.walk.Statement.{statement}
+use Rattle.walk_writer.proofs.walk.Tie as tie
+
+plan-numbers-requires : tie.Need-plan-numbers-requires
+plan-numbers-requires c κs = search needs
+
+walk-lent-requires : tie.Need-walk-lent-requires
+walk-lent-requires c κs =
+    let start = c .before .before .before .before .before .before .before .before .before .before .before .before .before .before in
+    let at-plan-numbers = c .before .before .before .before .before .before .before in
+    let a = start .args in
+    let same = at-plan-numbers .plan-numbers .ensures in
+    (subst (λ (q : Plan). Ready (a .w) (a .n) (a .a) (a .text .now) q) (sym same) (start .pre .0), start .pre .1, start .pre .2, start .pre .3)
+
+same-length : tie.Need-same-length
+same-length c = search needs
+
+returns : tie.Need-returns
+returns c =
+    let start = c .before .before .before .before .before .before .before .before .before .before .before .before .before .before .before .before .before in
+    let at-plan-numbers = c .before .before .before .before .before .before .before .before .before .before in
+    let at-walk-lent = c .before .before in
+    let a = start .args in
+    let rows = readMany readRow (rowSize (a .w)) (a .count) (a .rows .now) in
+    let same = ap
+    (λ (q : Plan). walked q (a .text .now) (planFilling (a .version) (a .w) (a .n) (a .defs .now) (a .parts .now) (a .a) (a .attrs .now) q (a .text .now)) (atFirst q) rows)
+    (sym (at-plan-numbers .plan-numbers .ensures)) in
+    written-as same (at-walk-lent .walk-lent .ensures)
+
+pub walk-spec : {M : Type 1} → statement M
+walk-spec = tie.close (tie.spec plan-numbers-requires walk-lent-requires same-length returns)

@@ -1,0 +1,142 @@
+-- `walk_writer::walk_lent` meets its contract.
+use mathlib.Core.Path.{sym, _∙_}
+use native.Mathlib.Omega.{arith}
+use lib.Seq.{length-take-le}
+use borrow.Author.Needs.{needs}
+use Rattle.rules.specs.Layout.{rowSize}
+use Rattle.rules.specs.Decode.{readRow, readMany}
+use Rattle.filling.specs.Parts.{widthIn}
+use Rattle.row_walk.specs.Walk.{walked, atFirst}
+use Rattle.row_walk.specs.Lent.{planIn}
+use Rattle.walk_writer.specs.Step.{fillIn}
+use Rattle.walk_writer.proofs.StepLaws.{asks-of}
+use Rattle.walk_writer.proofs.WalkLaws.{Going, going-start, going-stop, going-first, going-row, going-step, going-end}
+use Rattle.walk_writer.proofs.walk_lent.Statement.{statement}
+use Rattle.walk_writer.proofs.walk_lent.Tie as tie
+
+-- whoever writes what comes of the rows that are left has written all
+abbrev Inv-loop : tie.InvT-loop
+Inv-loop form sizes p marks rows count text out₀ size t₀ m₀ at₀ o₀ out t m at o =
+    let plan = planIn p marks in
+    let fill = fillIn sizes form plan text in
+    Going (widthIn sizes) plan text fill (walked plan text fill (atFirst plan) (readMany readRow (rowSize (widthIn sizes)) count rows)) at₀ out₀ t m at o out
+
+abbrev μ-loop : tie.MeasureT-loop
+μ-loop form sizes p marks rows count text out₀ size t₀ m₀ at₀ o₀ out t m at o = m
+
+element-copy-out-row-size : tie.Need-element-copy-out-row-size Inv-loop μ-loop
+element-copy-out-row-size c = search needs
+
+row-size-requires : tie.Need-row-size-requires Inv-loop μ-loop
+row-size-requires c κs = c .before .before .before .before .before .pre .0 .width
+
+at-first-requires : tie.Need-at-first-requires Inv-loop μ-loop
+at-first-requires c κs = search needs
+
+loop-holds : tie.Need-loop-holds Inv-loop μ-loop
+loop-holds c =
+    let start = c .before .before .before .before .before .before .before in
+    going-start (start .pre .1) (start .pre .2) (start .pre .3) (c .at-first .ensures)
+
+same-length : tie.Need-same-length Inv-loop μ-loop
+same-length c = let at-loop = c .before .before .before in at-loop .loop .inv .long
+
+returns : tie.Need-returns Inv-loop μ-loop
+returns c = let at-loop = c .before .before .before in going-stop (at-loop .loop .inv) (c .if1 .taken)
+
+slice-aggregate-row : tie.Need-slice-aggregate-row Inv-loop μ-loop
+slice-aggregate-row c =
+    let at-loop = c .before .before .before .before in
+    let at-loop-test = c .before .before .before in
+    let at-row-size = c .before .before .before .before .before .before in
+    sym
+    (length-take-le _ (at-loop .loop .t .now) (omega (arith, going-first (at-loop .loop .inv) (at-loop-test .loop-test .taken), at-row-size .row-size .ensures)))
+
+step-requires : tie.Need-step-requires Inv-loop μ-loop
+step-requires c κs =
+    let at-loop = c .before .before .before .before .before in
+    let start = c .before .before .before .before .before .before .before .before .before .before .before .before .before in
+    let at-loop-test = c .before .before .before .before in
+    let at-row-size = c .before .before .before .before .before .before .before in
+    let going = at-loop .loop .inv in
+    (start .pre .0, going-row going (at-loop-test .loop-test .taken) _ (at-row-size .row-size .ensures), going .near, going .room)
+
+sub-t : tie.Need-sub-t Inv-loop μ-loop
+sub-t c =
+    let at-loop = c .before .before .before .before .before .before .before .before .before .before in
+    let at-loop-test = c .before .before .before .before .before .before .before .before .before in
+    let at-row-size = c .before .before .before .before .before .before .before .before .before .before .before .before in
+    omega (arith, going-first (at-loop .loop .inv) (at-loop-test .loop-test .taken), at-row-size .row-size .ensures)
+
+part-t-start : tie.Need-part-t-start Inv-loop μ-loop
+part-t-start c =
+    let at-loop = c .before .before .before .before .before .before .before .before .before .before in
+    let at-loop-test = c .before .before .before .before .before .before .before .before .before in
+    let at-row-size = c .before .before .before .before .before .before .before .before .before .before .before .before in
+    omega (arith, going-first (at-loop .loop .inv) (at-loop-test .loop-test .taken), at-row-size .row-size .ensures)
+
+part-t-end : tie.Need-part-t-end Inv-loop μ-loop
+part-t-end c = search needs
+
+sub-m : tie.Need-sub-m Inv-loop μ-loop
+sub-m c = search needs
+
+loop-less : tie.Need-loop-less Inv-loop μ-loop
+loop-less c = search needs
+
+loop-again : tie.Need-loop-again Inv-loop μ-loop
+loop-again c =
+    let at-loop = c .before .before .before .before .before .before .before .before .before .before .before in
+    let at-loop-test = c .before .before .before .before .before .before .before .before .before .before in
+    let at-row-size = c .before .before .before .before .before .before .before .before .before .before .before .before .before in
+    let at-step = c .before .before .before .before .before in
+    going-step (at-loop .loop .inv) (at-loop-test .loop-test .taken) _ (at-row-size .row-size .ensures) (at-step .step .ensures)
+
+minus-requires : tie.Need-minus-requires Inv-loop μ-loop
+minus-requires c κs = search needs
+
+put-owed-requires : tie.Need-put-owed-requires Inv-loop μ-loop
+put-owed-requires c κs =
+    let start = c .before .before .before .before .before .before .before .before .before .before .before in
+    let at-loop = c .before .before .before in
+    let ready = start .pre .0 in
+    let going = at-loop .loop .inv in
+    (ready .filling, asks-of ready (going .room) (omega (arith, going .near .below, c .before .minus .ensures)))
+
+same-length-2 : tie.Need-same-length-2 Inv-loop μ-loop
+same-length-2 c =
+    let at-put-owed = c .before .before in
+    let at-loop = c .before .before .before .before .before .before in
+    at-put-owed .put-owed .ensures .long ∙ at-loop .loop .inv .long
+
+returns-2 : tie.Need-returns-2 Inv-loop μ-loop
+returns-2 c =
+    let at-loop = c .before .before .before .before .before .before in
+    let at-minus = c .before .before .before .before in
+    let at-put-owed = c .before .before in
+    going-end (at-loop .loop .inv) (omega arith) _ (at-minus .minus .ensures) (at-put-owed .put-owed .ensures)
+
+pub walk-lent-spec : {M : Type 1} → statement M
+walk-lent-spec =
+    tie.close
+    (tie.spec
+    Inv-loop
+    μ-loop
+    element-copy-out-row-size
+    row-size-requires
+    at-first-requires
+    loop-holds
+    same-length
+    returns
+    slice-aggregate-row
+    step-requires
+    sub-t
+    part-t-start
+    part-t-end
+    sub-m
+    loop-less
+    loop-again
+    minus-requires
+    put-owed-requires
+    same-length-2
+    returns-2)

@@ -1,0 +1,342 @@
+// The one walk over the tree rows that all changes share: it keeps, takes with all below, gives a value, puts fillings in and renumbers, as a plan says.
+use filling::Filling;
+use row_walk::Head;
+use row_walk::Later;
+use row_walk::Open;
+use row_walk::Plan;
+use row_walk::Which;
+use row_writer::Cursor;
+use rules::GroupKind;
+ghost use mathlib.Core.Path.{_≡_};
+ghost use mathlib.Core.Bool.{false};
+ghost use mathlib.Core.List.{[], _∷_};
+ghost use Prim.Native.Nat.{_*_, _≤_};
+ghost use lib.Dec.{eqb};
+ghost use lib.ListN.{length, getD};
+ghost use Rattle.rules.specs.Layout.{rowSize};
+ghost use Rattle.rules.specs.Decode.{readRow, readMany};
+ghost use Rattle.layout.specs.Bodies.{Width};
+ghost use Rattle.row_writer.specs.Written.{Written, Room, OldRow};
+ghost use Rattle.filling.specs.Parts.{widthIn, countIn, sizeIn, Asks, Indexed};
+ghost use Rattle.row_walk.specs.Walk.{isTaken, owed, emitted, nextOpen, walked, atFirst};
+ghost use Rattle.row_walk.specs.Lent.{whichIn, laterIn, fillingIn, planIn};
+ghost use Rattle.row_walk.specs.Step.{rowOfHead, bare};
+ghost use Rattle.walk_writer.specs.Step.{rowRewritten, stepRows, stepOpen, Came, planFilling, fillIn, Ready, ReadyIn, Near, WalkRow, Seen, WalkRows};
+
+/// What has been written after a row, and what is open.
+pub struct Stepped {
+    pub cursor: Cursor,
+    pub opened: Open,
+}
+
+// ---- a plan as it is lent (see `row_walk`)
+
+fn which_numbers(w: Which) -> [usize; 2]
+    ensures { λ r. ⌜ whichIn (getD r 0 0) (getD r 1 0) ≡ w ⌝ }
+{
+    match w {
+        Which::Nothing => [0, 0],
+        Which::Everything => [1, 0],
+        Which::Ground => [2, 0],
+        Which::Elements(i) => [3, i],
+        Which::Attributes(j) => [4, j],
+        Which::Serial(k) => [5, k as usize],
+    }
+}
+
+fn later_numbers(l: Later) -> [usize; 2]
+    ensures { λ r. ⌜ laterIn (getD r 0 0) (getD r 1 0) ≡ l ⌝ }
+{
+    match l {
+        Later::Never => [0, 0],
+        Later::Row(k) => [1, k as usize],
+        Later::Past(j) => [2, j],
+        Later::Unmarked => [3, 0],
+    }
+}
+
+fn group_numbers(kind: GroupKind, first: usize, d: usize) -> [usize; 3]
+    ensures { λ r. ⌜ fillingIn (getD r 0 0) (getD r 1 0) (getD r 2 0) ≡ Filling.Particles kind first d ⌝ }
+{
+    match kind {
+        GroupKind::Sequence => [3, first, d],
+        GroupKind::Choice => [4, first, d],
+    }
+}
+
+fn filling_numbers(f: Filling) -> [usize; 3]
+    ensures { λ r. ⌜ fillingIn (getD r 0 0) (getD r 1 0) (getD r 2 0) ≡ f ⌝ }
+{
+    match f {
+        Filling::Nothing => [0, 0, 0],
+        Filling::Definition(i) => [1, i, 0],
+        Filling::Attribute(j) => [2, j, 0],
+        Filling::Particles(k, first, d) => group_numbers(k, first, d),
+    }
+}
+
+fn number_of(b: bool) -> usize
+    ensures { λ r. ⌜ eqb r 1 ≡ b ⌝ }
+{
+    if b { 1 } else { 0 }
+}
+
+fn plan_numbers(p: Plan) -> [usize; 19]
+    ensures { λ r. ⌜ planIn r (p .marks) ≡ p ⌝ }
+{
+    let above = p.above;
+    let takes = p.takes;
+    let later = p.later;
+    let what = p.filling;
+    let d = p.definitions;
+    let a = p.attributes;
+    let i = which_numbers(above);
+    let t = which_numbers(takes);
+    let l = later_numbers(later);
+    let f = filling_numbers(what);
+    [
+        i[0],
+        i[1],
+        t[0],
+        t[1],
+        l[0],
+        l[1],
+        number_of(p.fills),
+        number_of(p.keeps),
+        number_of(p.spares),
+        p.set as usize,
+        d.from,
+        d.more,
+        d.less,
+        a.from,
+        a.more,
+        a.less,
+        f[0],
+        f[1],
+        f[2],
+    ]
+}
+
+fn filling_of(p: &[usize; 19]) -> Filling
+    ensures { λ r. ⌜ r ≡ planIn (now (p .entry)) [] .filling ⌝ }
+{
+    match p[16] {
+        0 => Filling::Nothing,
+        1 => Filling::Definition(p[17]),
+        2 => Filling::Attribute(p[17]),
+        3 => Filling::Particles(GroupKind::Sequence, p[17], p[18]),
+        _ => Filling::Particles(GroupKind::Choice, p[17], p[18]),
+    }
+}
+
+// ---- rows
+
+/// What the walk reads of a row.
+pub fn read_head(row: &[u8]) -> Head
+    ensures { λ r. ⌜ rowOfHead r (readRow (now (row .entry)) .row .value) ≡ readRow (now (row .entry)) ⌝ }
+{
+    Head {
+        depth: layout::row_depth(row) as usize,
+        sort: layout::row_sort(row),
+        index: layout::row_index(row) as usize,
+        serial: layout::row_serial(row) as usize,
+    }
+}
+
+// A row that is kept, which gets the text if `valued`.
+fn put_row(
+    w: usize,
+    index: usize,
+    valued: bool,
+    text: &[u8],
+    row: &[u8],
+    c: Cursor,
+    out: &mut [u8],
+) -> Cursor
+    requires { ⌜ Width w × (index ≤ 2000) × (length (now text) ≤ w) × OldRow w (now row) × Room w c ⌝ }
+    ensures { λ r. ⌜ Written w (rowRewritten valued index (now (text .entry)) (now (row .entry)) ∷ []) c (now (out .entry)) r (now (out .exit)) ⌝ }
+{
+    if valued {
+        return row_writer::put_valued(w, row, index, text, c, out);
+    }
+    row_writer::put_kept(w, row, index, c, out)
+}
+
+// ---- The walk. As in `filling`, the form is lent as one array of slices (definitions, particles, attributes) and one of numbers (the width of a
+// value, the number of attributes, the version, the number of definitions).
+
+// The filling at a depth, if it is due.
+fn put_owed(
+    form: &[&[u8]; 3],
+    sizes: &[usize; 4],
+    p: &[usize; 19],
+    text: &[u8],
+    due: bool,
+    depth: usize,
+    c: Cursor,
+    out: &mut [u8],
+) -> Cursor
+    requires { ⌜ Indexed (planIn (now p) [] .filling) × Asks (widthIn (now sizes)) c (now text) (countIn (now sizes)) (sizeIn (now sizes)) depth ⌝ }
+    ensures { λ r. ⌜ Written (widthIn (now (sizes .entry))) (owed due (fillIn (now (sizes .entry)) (now (form .entry)) (planIn (now (p .entry)) []) (now (text .entry)) depth)) c (now (out .entry)) r (now (out .exit)) ⌝ }
+{
+    if due {
+        let what = filling_of(p);
+        let mut r = [c.at, c.left, c.serial];
+        filling::put_any(what, form, &text, sizes, sizes[3], depth, &mut r, out);
+        return Cursor {
+            at: r[0],
+            left: r[1],
+            serial: r[2],
+        };
+    }
+    c
+}
+
+// What comes of a row that is not taken, where a filling may come right before it.
+fn come_due(
+    form: &[&[u8]; 3],
+    sizes: &[usize; 4],
+    p: &[usize; 19],
+    marks: &[u8],
+    text: &[u8],
+    h: Head,
+    row: &[u8],
+    o: Open,
+    c: Cursor,
+    out: &mut [u8],
+) -> Stepped
+    requires { ⌜ ReadyIn (now sizes) (now text) (planIn (now p) (now marks)) × Seen (widthIn (now sizes)) h (now row) × Room (widthIn (now sizes)) c × (isTaken (planIn (now p) (now marks)) o (bare h) ≡ false) ⌝ }
+    ensures { λ r. ⌜ Came (widthIn (now (sizes .entry))) (emitted (planIn (now (p .entry)) (now (marks .entry))) (now (text .entry)) (fillIn (now (sizes .entry)) (now (form .entry)) (planIn (now (p .entry)) (now (marks .entry))) (now (text .entry))) o (readRow (now (row .entry)))) (nextOpen (planIn (now (p .entry)) (now (marks .entry))) (now (text .entry)) (fillIn (now (sizes .entry)) (now (form .entry)) (planIn (now (p .entry)) (now (marks .entry))) (now (text .entry))) o (readRow (now (row .entry)))) c (now (out .entry)) r (now (out .exit)) ⌝ }
+{
+    let filled = row_walk::is_filled(p, marks, o, h);
+    let at = put_owed(form, sizes, p, text, filled, h.depth, c, out);
+    let index = row_walk::moved_index(p, h);
+    let next = put_row(sizes[0], index, h.serial == p[9], text, row, at, out);
+    let due = o.due & !(row_walk::is_below(o, h) & row_walk::is_later(p, marks, h));
+    Stepped {
+        cursor: next,
+        opened: row_walk::kept(p, o, h, due),
+    }
+}
+
+// What comes of a row, where what it closes is closed.
+fn come(
+    form: &[&[u8]; 3],
+    sizes: &[usize; 4],
+    p: &[usize; 19],
+    marks: &[u8],
+    text: &[u8],
+    h: Head,
+    row: &[u8],
+    o: Open,
+    c: Cursor,
+    out: &mut [u8],
+) -> Stepped
+    requires { ⌜ ReadyIn (now sizes) (now text) (planIn (now p) (now marks)) × Seen (widthIn (now sizes)) h (now row) × Room (widthIn (now sizes)) c ⌝ }
+    ensures { λ r. ⌜ Came (widthIn (now (sizes .entry))) (emitted (planIn (now (p .entry)) (now (marks .entry))) (now (text .entry)) (fillIn (now (sizes .entry)) (now (form .entry)) (planIn (now (p .entry)) (now (marks .entry))) (now (text .entry))) o (readRow (now (row .entry)))) (nextOpen (planIn (now (p .entry)) (now (marks .entry))) (now (text .entry)) (fillIn (now (sizes .entry)) (now (form .entry)) (planIn (now (p .entry)) (now (marks .entry))) (now (text .entry))) o (readRow (now (row .entry)))) c (now (out .entry)) r (now (out .exit)) ⌝ }
+{
+    if row_walk::is_taken(p, o, h) {
+        return Stepped {
+            cursor: c,
+            opened: row_walk::taken(o, h),
+        };
+    }
+    if o.due & row_walk::is_below(o, h) {
+        return come_due(form, sizes, p, marks, text, h, row, o, c, out);
+    }
+    let index = row_walk::moved_index(p, h);
+    let next = put_row(sizes[0], index, h.serial == p[9], text, row, c, out);
+    Stepped {
+        cursor: next,
+        opened: row_walk::kept(p, o, h, o.due),
+    }
+}
+
+// One row.
+fn step(
+    form: &[&[u8]; 3],
+    sizes: &[usize; 4],
+    p: &[usize; 19],
+    marks: &[u8],
+    text: &[u8],
+    row: &[u8],
+    o: Open,
+    c: Cursor,
+    out: &mut [u8],
+) -> Stepped
+    requires { ⌜ ReadyIn (now sizes) (now text) (planIn (now p) (now marks)) × WalkRow (widthIn (now sizes)) (now row) × Near o × Room (widthIn (now sizes)) c ⌝ }
+    ensures { λ r. ⌜ Came (widthIn (now (sizes .entry))) (stepRows (planIn (now (p .entry)) (now (marks .entry))) (now (text .entry)) (fillIn (now (sizes .entry)) (now (form .entry)) (planIn (now (p .entry)) (now (marks .entry))) (now (text .entry))) o (readRow (now (row .entry)))) (stepOpen (planIn (now (p .entry)) (now (marks .entry))) (now (text .entry)) (fillIn (now (sizes .entry)) (now (form .entry)) (planIn (now (p .entry)) (now (marks .entry))) (now (text .entry))) o (readRow (now (row .entry)))) c (now (out .entry)) r (now (out .exit)) ⌝ }
+{
+    let h = read_head(row);
+    if row_walk::gone(o, h) {
+        return Stepped {
+            cursor: c,
+            opened: o,
+        };
+    }
+    let due = row_walk::closes(o, h) & o.due;
+    let depth = row_walk::minus(o.below, 1);
+    let at = put_owed(form, sizes, p, text, due, depth, c, out);
+    let q = row_walk::closed(o, h);
+    come(form, sizes, p, marks, text, h, row, q, at, out)
+}
+
+// The walk over `count` rows. It stops where no row may be written any more.
+fn walk_lent(
+    form: &[&[u8]; 3],
+    sizes: &[usize; 4],
+    p: &[usize; 19],
+    marks: &[u8],
+    rows: &[u8],
+    count: usize,
+    text: &[u8],
+    c: Cursor,
+    out: &mut [u8],
+) -> Cursor
+    requires { ⌜ ReadyIn (now sizes) (now text) (planIn (now p) (now marks)) × WalkRows (widthIn (now sizes)) count (now rows) × (rowSize (widthIn (now sizes)) * count ≤ length (now rows)) × Room (widthIn (now sizes)) c ⌝ }
+    ensures { λ r. ⌜ Written (widthIn (now (sizes .entry))) (walked (planIn (now (p .entry)) (now (marks .entry))) (now (text .entry)) (fillIn (now (sizes .entry)) (now (form .entry)) (planIn (now (p .entry)) (now (marks .entry))) (now (text .entry))) (atFirst (planIn (now (p .entry)) (now (marks .entry)))) (readMany readRow (rowSize (widthIn (now (sizes .entry)))) count (now (rows .entry)))) c (now (out .entry)) r (now (out .exit)) ⌝ }
+{
+    let size = layout::row_size(sizes[0]);
+    let mut t = rows;
+    let mut m = count;
+    let mut at = c;
+    let mut o = row_walk::at_first(p);
+    while 0 < m {
+        if at.left == 0 {
+            return at;
+        }
+        let row = &t[..size];
+        let s = step(form, sizes, p, marks, text, row, o, at, out);
+        at = s.cursor;
+        o = s.opened;
+        t = &t[size..];
+        m -= 1;
+    }
+    let depth = row_walk::minus(o.below, 1);
+    put_owed(form, sizes, p, text, o.due, depth, at, out)
+}
+
+/// The walk over `count` rows: n definitions, a attributes.
+pub fn walk<'a>(
+    version: usize,
+    w: usize,
+    n: usize,
+    defs: &'a [u8],
+    parts: &'a [u8],
+    a: usize,
+    attrs: &'a [u8],
+    rows: &[u8],
+    count: usize,
+    plan: Plan,
+    text: &[u8],
+    c: Cursor,
+    out: &mut [u8],
+) -> Cursor
+    requires { ⌜ Ready w n a (now text) plan × WalkRows w count (now rows) × (rowSize w * count ≤ length (now rows)) × Room w c ⌝ }
+    ensures { λ r. ⌜ Written w (walked plan (now (text .entry)) (planFilling version w n (now (defs .entry)) (now (parts .entry)) a (now (attrs .entry)) plan (now (text .entry))) (atFirst plan) (readMany readRow (rowSize w) count (now (rows .entry)))) c (now (out .entry)) r (now (out .exit)) ⌝ }
+{
+    let form = [defs, parts, attrs];
+    let sizes = [w, a, version, n];
+    let p = plan_numbers(plan);
+    walk_lent(&form, &sizes, &p, &plan.marks, rows, count, text, c, out)
+}

@@ -8,12 +8,11 @@ use mathlib.Core.Bool.{Bool, true, false, _&&_, _||_, not, false≢true}
 use mathlib.Core.List.{List, [], _∷_, _++_, append-assoc, append-nil}
 use lib.Dec.{eqb, ltb}
 use lib.ListN.{length, take, drop, getD, length-take, length-drop}
-use lib.Seq.{take-all}
 use Rattle.rules.specs.declared.GroupKind.{GroupKind}
 use Rattle.rules.specs.declared.GroupKind.the-variants.{Sequence, Choice}
 use Rattle.rules.specs.declared.Quantifier.{Quantifier}
 use Rattle.rules.specs.Bytes.{Bytes}
-use Rattle.rules.specs.Model.{Members, skips, both, neutral, nothing, unless, beside, filling}
+use Rattle.rules.specs.Model.{Members, done, el, group, skips, both, neutral, nothing, unless, beside, filling}
 use Rattle.rules.specs.Preorder.{Deep}
 use Rattle.rules.specs.Layout.{attributeSize, FlatRow}
 use Rattle.rules.specs.Decode.{quantifierOf, readParticle, readAttribute, sortOf}
@@ -565,19 +564,47 @@ module _ (version w n : ℕ) (defs parts attrs : Bytes) (a : ℕ) (what : Fillin
       (groupFilled g (membersReadAt parts k e)))
       p
 
--- s: the particles from number k on
-module _ (parts s : Bytes) (k e : ℕ) (t : s ≡ take (length parts) (drop (4 * k) parts)) (g : GroupKind) (b : Bool) (told : b ≡ nothing g (membersFrom e s)) where
-  here : membersFrom e s ≡ membersReadAt parts k e
+-- ---- a group's filling, where its quantifier needs it
+unless-both : (b r : Bool) (u v : List ℕ) → (b && r) ≡ true → (r ≡ true → v ≡ []) → unless b u ++ v ≡ []
+unless-both true r u v e f = f e
+unless-both false r u v e f = absurd (false≢true e)
+
+-- a LIST that accepts nothing fills with nothing
+list-nothing : (ms : Members ℕ) → nothing Sequence ms ≡ true → filling Sequence ms ≡ []
+unfolding nothing filling
+list-nothing done e = refl
+list-nothing (el q n rest) e = unless-both (skips q) (nothing Sequence rest) (n ∷ []) (filling Sequence rest) e (λ r. list-nothing rest r)
+list-nothing (group q j ms rest) e = unless-both (skips q || nothing j ms) (nothing Sequence rest) (filling j ms) (filling Sequence rest) e (λ r. list-nothing rest r)
+
+list-filled : (ms : Members ℕ) → groupFilled Sequence ms ≡ filling Sequence ms
+unfolding groupFilled
+list-filled ms = by (nothing Sequence ms) refl
+  where
+    by : (b : Bool) → nothing Sequence ms ≡ b → unless b (filling Sequence ms) ≡ filling Sequence ms
+    by true e = sym (list-nothing ms e)
+    by false e = refl
+
+module _ (k : GroupKind) (ms : Members ℕ) where
+  pub filled-list : k ≡ Sequence → groupFilled k ms ≡ unless false (filling k ms)
+  filled-list e = subst (λ (z : GroupKind). groupFilled z ms ≡ filling z ms) (sym e) (list-filled ms)
+
+  pub filled-choice : {b : Bool} → k ≡ Choice → b ≡ nothing Choice ms → groupFilled k ms ≡ unless b (filling k ms)
+  unfolding groupFilled
+  filled-choice {b} e t =
+      let told : nothing k ms ≡ b = ap (λ (z : GroupKind). nothing z ms) e ∙ sym t in
+      ap (λ (z : Bool). unless z (filling k ms)) told
+
+-- s: the particles from number k on; b: whether the group fills with nothing
+module _ (parts s : Bytes) (k e : ℕ) (t : s ≡ drop (4 * k) parts) (g : GroupKind) (b : Bool) (told : groupFilled g (membersFrom e s) ≡ unless b (filling g (membersFrom e s))) where
+  here : groupFilled g (membersReadAt parts k e) ≡ unless b (filling g (membersFrom e s))
   unfolding membersReadAt
-  here = ap (membersFrom e) (t ∙ take-all (length parts) (drop (4 * k) parts) (omega (arith, length-drop (4 * k) parts)))
+  here = ap (λ (u : Bytes). groupFilled g (membersFrom e u)) (sym t) ∙ told
 
   pub group-empty : b ≡ true → groupFilled g (membersReadAt parts k e) ≡ []
-  unfolding groupFilled
-  group-empty q = ap (λ (ms : Members ℕ). unless (nothing g ms) (filling g ms)) (sym here) ∙ ap (λ (z : Bool). unless z (filling g (membersFrom e s))) (sym told ∙ q)
+  group-empty q = here ∙ ap (λ (z : Bool). unless z (filling g (membersFrom e s))) q
 
   pub group-full : b ≡ false → groupFilled g (membersReadAt parts k e) ≡ filling g (membersFrom e s)
-  unfolding groupFilled
-  group-full q = ap (λ (ms : Members ℕ). unless (nothing g ms) (filling g ms)) (sym here) ∙ ap (λ (z : Bool). unless z (filling g (membersFrom e s))) (sym told ∙ q)
+  group-full q = here ∙ ap (λ (z : Bool). unless z (filling g (membersFrom e s))) q
 
 pub filled-particles : (what : Filling) (g : GroupKind) (k e : ℕ) → what ≡ Particles g k e → Indexed what → (k ≤ 256) × (e ≤ 256)
 filled-particles what g k e q x = subst Indexed q x

@@ -7,7 +7,7 @@ ghost use Prim.Native.Nat.{ℕ, _+_, _<_, _≤_};
 ghost use mathlib.Core.List.{[], _∷_};
 ghost use lib.ListN.{length, getD};
 ghost use Rattle.rules.specs.Decode.{quantifierOf};
-ghost use Rattle.rules.specs.Model.{skips, neutral, nothing, filling};
+ghost use Rattle.rules.specs.Model.{skips, neutral, nothing, unless, filling};
 ghost use Rattle.model.specs.Members.{membersFrom};
 ghost use Rattle.form_index.specs.Reading.{attributeIn, indexForm};
 ghost use Rattle.layout.specs.Bodies.{Width};
@@ -28,7 +28,7 @@ pub enum Filling {
 fn is_optional(t: &[u8]) -> bool
     ensures { λ r. ⌜ r ≡ skips (quantifierOf (getD (now (t .entry)) 1 0)) ⌝ }
 {
-    match codec::byte(t, 1) {
+    match layout::particle_quantifier(t) {
         1 => true,
         2 => true,
         _ => false,
@@ -81,7 +81,7 @@ fn member_accepts_nothing(t: &[u8], d: usize) -> bool
     if is_optional(t) {
         return true;
     }
-    match codec::byte(t, 0) {
+    match layout::particle_sort(t) {
         0 => false,
         1 => accepts_nothing(&t[4..], d + 1, GroupKind::Sequence),
         _ => accepts_nothing(&t[4..], d + 1, GroupKind::Choice),
@@ -95,7 +95,7 @@ fn accepts_nothing(s: &[u8], d: usize, kind: GroupKind) -> bool
 {
     let mut t = s;
     while t.len() >= 4 {
-        let own = codec::byte(t, 3) as usize;
+        let own = layout::particle_depth(t) as usize;
         if own < d {
             return nothing_of_none(kind);
         }
@@ -110,6 +110,18 @@ fn accepts_nothing(s: &[u8], d: usize, kind: GroupKind) -> bool
         }
     }
     nothing_of_none(kind)
+}
+
+// Whether a group fills with nothing though its first member may not: a CHOICE that accepts nothing. In a LIST that accepts nothing each
+// member fills with nothing, so that there is no need to go through the members before they are filled.
+fn fills_nothing(s: &[u8], d: usize, kind: GroupKind) -> bool
+    requires { ⌜ d ≤ 256 ⌝ }
+    ensures { λ r. ⌜ groupFilled kind (membersFrom d (now (s .entry))) ≡ unless r (filling kind (membersFrom d (now (s .entry)))) ⌝ }
+{
+    match kind {
+        GroupKind::Sequence => false,
+        GroupKind::Choice => accepts_nothing(s, d, GroupKind::Choice),
+    }
 }
 
 // The value that attribute j has in a created row, where it is one that must be present.
@@ -208,7 +220,7 @@ fn put_group(
 {
     let mut t = s;
     while t.len() >= 4 {
-        let own = codec::byte(t, 3) as usize;
+        let own = layout::particle_depth(t) as usize;
         if c[1] == 0 {
             return;
         }
@@ -340,9 +352,8 @@ fn put_members(
     requires { ⌜ (first ≤ 256) × (d ≤ 256) × Asks (widthIn (now sizes)) (cursorIn (now c)) (now (now text)) (countIn (now sizes)) h depth ⌝ }
     ensures { λ _. ⌜ Written (widthIn (now (sizes .entry))) (membersFilled (now (sizes .entry)) (now (form .entry)) (now (now (text .entry))) h depth (groupFilled kind (membersReadAt (partsIn (now (form .entry))) first d))) (cursorIn (now (c .entry))) (now (out .entry)) (cursorIn (now (c .exit))) (now (out .exit)) ⌝ }
 {
-    let parts = form[1];
-    let s = layout::window(parts, 4 * first, parts.len());
-    if accepts_nothing(s, d, kind) {
+    let s = layout::particles_from(form[1], first);
+    if fills_nothing(s, d, kind) {
         return;
     }
     put_group(s, d, kind, form, text, sizes, h, depth, c, out)

@@ -20,7 +20,6 @@ use Rattle.rules.proofs.DecodeLaws.{value-width, GoodParts, good-parts}
 use Rattle.rules.proofs.SmallBytes.{encode-small}
 use Rattle.records.specs.Records.{rowFits, eachFits}
 use Rattle.records.proofs.RecordLaws.{small-take, small-drop, row-canonical}
-use Rattle.form_index.specs.Reading as bytes
 use Rattle.store_check.proofs.StringChecks.{Headed, passes-header, laid-in, rows-whole, rows-small}
 use Rattle.store_check.proofs.BodiesRead.{rows-fit, read-form, read-attribute, read-rows}
 use Rattle.lookup.specs.Bodies.{bodiesOf}
@@ -111,24 +110,24 @@ module _ {bs : Bytes} (q : passes bs ≡ true) {version w n : ℕ} {defs parts :
       (walk-rows (widthOf bs) (rowCount bs) (treeRowsIn bs) (rows-small h) (omega (arith, rows-whole h)) (rows-fit h q) (subst (λ (ys : List (Deep FlatRow)). Every Bounded ys) (sym b) (rows-bounded (storeIn bs) (holds bs q .good))))))
 
   -- the rows that the walk leaves are those after the plan
-  rows-after : (p : Plan) (v : Bytes) → rowsAfter p v (bodiesOf bs) ≡ walked p v (planFilling version w n defs parts a attrs p v) (atFirst p) (bytes.rowsIn w count rows)
+  rows-after : (p : Plan) (v : Bytes) → rowsAfter p v (bodiesOf bs) ≡ walked p v (planFilling version w n defs parts a attrs p v) (atFirst p) (readMany readRow (rowSize w) count rows)
   unfolding rowsAfter bodiesOf widthOf
   rows-after p v =
       sym
-      ((λ i. walked p v (planFilling (x .version-is i) (x .w-is i) (x .n-is i) (x .defs-is i) (x .parts-is i) (x .a-is i) (x .attrs-is i) p v) (atFirst p) (bytes.rowsIn (x .w-is i) (x .count-is i) (x .rows-is i)))
+      ((λ i. walked p v (planFilling (x .version-is i) (x .w-is i) (x .n-is i) (x .defs-is i) (x .parts-is i) (x .a-is i) (x .attrs-is i) p v) (atFirst p) (readMany readRow (rowSize (x .w-is i)) (x .count-is i) (x .rows-is i)))
       ∙ (λ i. walked p v (λ d. fillingRows (read-form h q i) (λ j. valueOf (read-attribute h q j i)) (λ k e. members-at h k e i) (p .filling) v d) (atFirst p) (read-rows h i)))
 
   -- .. and written from the serials of the store on
-  pub walk-from : (p : Plan) (v : Bytes) {at next : ℕ} {out : Bytes} {r : Cursor} {out′ : Bytes} → Number (numberAt 4 4 bs) next → Written w (walked p v (planFilling version w n defs parts a attrs p v) (atFirst p) (bytes.rowsIn w count rows)) (record { at = at; left = 4097; serial = next }) out r out′
+  pub walk-from : (p : Plan) (v : Bytes) {at next : ℕ} {out : Bytes} {r : Cursor} {out′ : Bytes} → Number (numberAt 4 4 bs) next → Written w (walked p v (planFilling version w n defs parts a attrs p v) (atFirst p) (readMany readRow (rowSize w) count rows)) (record { at = at; left = 4097; serial = next }) out r out′
       → Written (widthOf bs) (rowsAfter p v (bodiesOf bs)) (walkFrom at bs) out r out′
   walk-from p v {at} {next} {out} {r} {out′} m d =
-      let xs : List (Deep FlatRow) = walked p v (planFilling version w n defs parts a attrs p v) (atFirst p) (bytes.rowsIn w count rows) in
+      let xs : List (Deep FlatRow) = walked p v (planFilling version w n defs parts a attrs p v) (atFirst p) (readMany readRow (rowSize w) count rows) in
       written-as (rows-after p v)
       (subst (λ (k : ℕ). Written k xs (walkFrom at bs) out r out′) (x .w-is)
       (subst (λ (k : ℕ). Written w xs (record { at = at; left = 4097; serial = k }) out r out′) (m .value) d))
 
   -- .. and what is added to the rows of the store
-  pub rows-added : (p : Plan) (v : Bytes) {r : ℕ} → Adds (walked p v (planFilling version w n defs parts a attrs p v) (atFirst p) (bytes.rowsRead w count rows)) count r
+  pub rows-added : (p : Plan) (v : Bytes) {r : ℕ} → Adds (walked p v (planFilling version w n defs parts a attrs p v) (atFirst p) (readMany readRow (rowSize w) count rows)) count r
       → Adds (rowsAfter p v (bodiesOf bs)) (rowCount bs) r
   rows-added p v y =
       record {

@@ -12,7 +12,8 @@ use Rattle.filling.proofs.+accepts_nothing+member_accepts_nothing.Lts-a
 use Rattle.filling.proofs.member_accepts_nothing.Reads as member-accepts-nothing
 use Rattle.filling.proofs.member_accepts_nothing.Kinds as member-accepts-nothing-kinds
 use Rattle.filling.proofs.+accepts_nothing+member_accepts_nothing.Lts-member_accepts_nothing as member-accepts-nothing-lts
-use Rattle.codec.proofs.byte.Reads as byte-reads
+use Rattle.layout.proofs.particle_depth.Reads as particle-depth-reads
+use Rattle.layout.proofs.particle_sort.Reads as particle-sort-reads
 use Rattle.filling.proofs.is_optional.Reads as is-optional-reads
 use Rattle.filling.proofs.is_passed.Reads as is-passed-reads
 use Rattle.filling.proofs.is_settled.Reads as is-settled-reads
@@ -67,8 +68,8 @@ accepts-nothing-μ-loop s d kind t₀ t = length t
 
 abbrev accepts-nothing-calls : ℕ → accepts-nothing-lts.Claims
 accepts-nothing-calls t = (
-  byte-reads.Asked,
-  byte-reads.Learnt,
+  particle-depth-reads.Asked,
+  particle-depth-reads.Learnt,
   nothing-of-none-reads.Asked,
   nothing-of-none-reads.Learnt,
   is-passed-reads.Asked,
@@ -80,13 +81,13 @@ accepts-nothing-calls t = (
 )
 
 abbrev member-accepts-nothing-calls : ℕ → member-accepts-nothing-lts.Claims
-member-accepts-nothing-calls t = (is-optional-reads.Asked, is-optional-reads.Learnt, byte-reads.Asked, byte-reads.Learnt, accepts-nothing-below t, accepts-nothing.Post)
+member-accepts-nothing-calls t = (is-optional-reads.Asked, is-optional-reads.Learnt, particle-sort-reads.Asked, particle-sort-reads.Learnt, accepts-nothing-below t, accepts-nothing.Post)
 
 accepts-nothing-loop-holds : (t : ℕ) → accepts-nothing-lts.Need-loop-holds (accepts-nothing-calls t) (accepts-nothing-at t) accepts-nothing.Post accepts-nothing-Inv-loop accepts-nothing-μ-loop
 accepts-nothing-loop-holds t c = let a = c .before .args in unsettled-starts (a .kind) (a .d) (a .s .now)
 
-accepts-nothing-byte-requires : (t : ℕ) → accepts-nothing-lts.Need-byte-requires (accepts-nothing-calls t) (accepts-nothing-at t) accepts-nothing.Post accepts-nothing-Inv-loop accepts-nothing-μ-loop
-accepts-nothing-byte-requires t c κs = search needs
+accepts-nothing-particle-depth-requires : (t : ℕ) → accepts-nothing-lts.Need-particle-depth-requires (accepts-nothing-calls t) (accepts-nothing-at t) accepts-nothing.Post accepts-nothing-Inv-loop accepts-nothing-μ-loop
+accepts-nothing-particle-depth-requires t c κs = search needs
 
 accepts-nothing-cast-own : (t : ℕ) → accepts-nothing-lts.Need-cast-own (accepts-nothing-calls t) (accepts-nothing-at t) accepts-nothing.Post accepts-nothing-Inv-loop accepts-nothing-μ-loop
 accepts-nothing-cast-own t c = search needs
@@ -96,7 +97,7 @@ accepts-nothing-nothing-of-none-requires :
 accepts-nothing-nothing-of-none-requires t c κs = search needs
 
 accepts-nothing-returns : (t : ℕ) → accepts-nothing-lts.Need-returns (accepts-nothing-calls t) (accepts-nothing-at t) accepts-nothing.Post accepts-nothing-Inv-loop accepts-nothing-μ-loop
-accepts-nothing-returns t c = unsettled-over (c .before .before .before .before .loop .inv) (omega arith) _ (c .before .before .byte .ensures) (omega arith) (c .nothing-of-none .ensures)
+accepts-nothing-returns t c = unsettled-over (c .before .before .before .before .loop .inv) (omega arith) _ (c .before .before .particle-depth .ensures) (omega arith) (c .nothing-of-none .ensures)
 
 accepts-nothing-is-passed-requires :
     (t : ℕ) → accepts-nothing-lts.Need-is-passed-requires (accepts-nothing-calls t) (accepts-nothing-at t) accepts-nothing.Post accepts-nothing-Inv-loop accepts-nothing-μ-loop
@@ -117,15 +118,15 @@ accepts-nothing-loop-less t c = let t = c .before .before .before .before .befor
 accepts-nothing-loop-again : (t : ℕ) → accepts-nothing-lts.Need-loop-again (accepts-nothing-calls t) (accepts-nothing-at t) accepts-nothing.Post accepts-nothing-Inv-loop accepts-nothing-μ-loop
 accepts-nothing-loop-again t c =
     let at-loop = c .before .before .before .before .before .before in
-    let at-byte = c .before .before .before .before in
-    unsettled-past (at-loop .loop .inv) (omega arith) _ (at-byte .byte .ensures) (omega arith) _ (c .before .before .is-passed .ensures) (c .before .if2 .taken)
+    let at-depth = c .before .before .before .before in
+    unsettled-past (at-loop .loop .inv) (omega arith) _ (at-depth .particle-depth .ensures) (omega arith) _ (c .before .before .is-passed .ensures) (c .before .if2 .taken)
 
 accepts-nothing-member-accepts-nothing-requires :
     (t : ℕ) → accepts-nothing-lts.Need-member-accepts-nothing-requires (accepts-nothing-calls t) (accepts-nothing-at t) accepts-nothing.Post accepts-nothing-Inv-loop accepts-nothing-μ-loop
 accepts-nothing-member-accepts-nothing-requires t c κs =
     let at-loop = c .before .before .before .before .before in
-    let at-byte = c .before .before .before in
-    let here = unsettled-here (at-loop .loop .inv) (omega arith) _ (at-byte .byte .ensures) (omega arith) _ (c .before .is-passed .ensures) (c .if2 .left) in
+    let at-depth = c .before .before .before in
+    let here = unsettled-here (at-loop .loop .inv) (omega arith) _ (at-depth .particle-depth .ensures) (omega arith) _ (c .before .is-passed .ensures) (c .if2 .left) in
     (omega (arith, at-loop .loop .inv .short), (omega (arith, here), omega arith))
 
 accepts-nothing-is-settled-requires :
@@ -135,12 +136,12 @@ accepts-nothing-is-settled-requires t c κs = search needs
 accepts-nothing-returns-2 : (t : ℕ) → accepts-nothing-lts.Need-returns-2 (accepts-nothing-calls t) (accepts-nothing-at t) accepts-nothing.Post accepts-nothing-Inv-loop accepts-nothing-μ-loop
 accepts-nothing-returns-2 t c =
     let at-loop = c .before .before .before .before .before .before .before .before in
-    let at-byte = c .before .before .before .before .before .before in
+    let at-depth = c .before .before .before .before .before .before in
     let at-passed = c .before .before .before .before in
     let at-else = c .before .before .before in
     let at-member = c .before .before in
     let at-settled = c .before in
-    unsettled-by (at-loop .loop .inv) (omega arith) _ (at-byte .byte .ensures) (omega arith) _ (at-passed .is-passed .ensures) (at-else .if2 .left)
+    unsettled-by (at-loop .loop .inv) (omega arith) _ (at-depth .particle-depth .ensures) (omega arith) _ (at-passed .is-passed .ensures) (at-else .if2 .left)
     _ (at-member .member-accepts-nothing .ensures) _ (at-settled .is-settled .ensures) (c .if3 .taken)
 
 accepts-nothing-sub-t-2 : (t : ℕ) → accepts-nothing-lts.Need-sub-t-2 (accepts-nothing-calls t) (accepts-nothing-at t) accepts-nothing.Post accepts-nothing-Inv-loop accepts-nothing-μ-loop
@@ -161,12 +162,12 @@ accepts-nothing-loop-less-2 t c =
 accepts-nothing-loop-again-2 : (t : ℕ) → accepts-nothing-lts.Need-loop-again-2 (accepts-nothing-calls t) (accepts-nothing-at t) accepts-nothing.Post accepts-nothing-Inv-loop accepts-nothing-μ-loop
 accepts-nothing-loop-again-2 t c =
     let at-loop = c .before .before .before .before .before .before .before .before .before in
-    let at-byte = c .before .before .before .before .before .before .before in
+    let at-depth = c .before .before .before .before .before .before .before in
     let at-passed = c .before .before .before .before .before in
     let at-else = c .before .before .before .before in
     let at-member = c .before .before .before in
     let at-settled = c .before .before in
-    unsettled-on (at-loop .loop .inv) (omega arith) _ (at-byte .byte .ensures) (omega arith) _ (at-passed .is-passed .ensures) (at-else .if2 .left)
+    unsettled-on (at-loop .loop .inv) (omega arith) _ (at-depth .particle-depth .ensures) (omega arith) _ (at-passed .is-passed .ensures) (at-else .if2 .left)
     _ (at-member .member-accepts-nothing .ensures) _ (at-settled .is-settled .ensures) (c .before .if3 .left)
 
 accepts-nothing-nothing-of-none-requires-2 :
@@ -183,8 +184,8 @@ member-accepts-nothing-is-optional-requires t c κs = search needs
 member-accepts-nothing-returns : (t : ℕ) → member-accepts-nothing-lts.Need-returns (member-accepts-nothing-calls t) (member-accepts-nothing-at t) member-accepts-nothing.Post
 member-accepts-nothing-returns t c = let a = c .before .before .before .args in absent-skips (a .d) (a .t .now) _ (c .before .is-optional .ensures) (c .if1 .taken)
 
-member-accepts-nothing-byte-requires : (t : ℕ) → member-accepts-nothing-lts.Need-byte-requires (member-accepts-nothing-calls t) (member-accepts-nothing-at t) member-accepts-nothing.Post
-member-accepts-nothing-byte-requires t c κs = search needs
+member-accepts-nothing-particle-sort-requires : (t : ℕ) → member-accepts-nothing-lts.Need-particle-sort-requires (member-accepts-nothing-calls t) (member-accepts-nothing-at t) member-accepts-nothing.Post
+member-accepts-nothing-particle-sort-requires t c κs = search needs
 
 member-accepts-nothing-sub-accepts-nothing :
     (t : ℕ) → member-accepts-nothing-lts.Need-sub-accepts-nothing (member-accepts-nothing-calls t) (member-accepts-nothing-at t) member-accepts-nothing.Post
@@ -234,20 +235,20 @@ member-accepts-nothing-returns-2 : (t : ℕ) → member-accepts-nothing-lts.Need
 member-accepts-nothing-returns-2 t c =
     let a = c .before .before .before .before .before .args in
     let at-optional = c .before .before .before in
-    absent-element (a .d) (a .t .now) _ (at-optional .is-optional .ensures) (c .before .before .if1 .left) _ (c .before .byte .ensures) (c .match .keys1)
+    absent-element (a .d) (a .t .now) _ (at-optional .is-optional .ensures) (c .before .before .if1 .left) _ (c .before .particle-sort .ensures) (c .match .keys1)
 
 member-accepts-nothing-returns-3 : (t : ℕ) → member-accepts-nothing-lts.Need-returns-3 (member-accepts-nothing-calls t) (member-accepts-nothing-at t) member-accepts-nothing.Post
 member-accepts-nothing-returns-3 t c =
     let a = c .before .before .before .before .before .before .before .args in
     let at-optional = c .before .before .before .before .before in
     absent-list (a .d) (a .t .now) _ (at-optional .is-optional .ensures) (c .before .before .before .before .if1 .left)
-    _ (c .before .before .before .byte .ensures) _ (c .before .before .match .keys2) (c .accepts-nothing .ensures)
+    _ (c .before .before .before .particle-sort .ensures) _ (c .before .before .match .keys2) (c .accepts-nothing .ensures)
 
 member-accepts-nothing-returns-4 : (t : ℕ) → member-accepts-nothing-lts.Need-returns-4 (member-accepts-nothing-calls t) (member-accepts-nothing-at t) member-accepts-nothing.Post
 member-accepts-nothing-returns-4 t c =
     let a = c .before .before .before .before .before .before .before .args in
     let at-optional = c .before .before .before .before .before in
-    absent-choice (a .d) (a .t .now) _ (at-optional .is-optional .ensures) (c .before .before .before .before .if1 .left) _ (c .before .before .before .byte .ensures) _
+    absent-choice (a .d) (a .t .now) _ (at-optional .is-optional .ensures) (c .before .before .before .before .if1 .left) _ (c .before .before .before .particle-sort .ensures) _
     (c .before .before .match .rest .0 .1) (c .before .before .match .rest .1) (c .accepts-nothing2 .ensures)
 
 pub +accepts-nothing+member-accepts-nothing-spec : {M : Type 1} → statement M
@@ -258,7 +259,7 @@ pub +accepts-nothing+member-accepts-nothing-spec : {M : Type 1} → statement M
     accepts-nothing-Inv-loop
     accepts-nothing-μ-loop
     (accepts-nothing-loop-holds t)
-    (accepts-nothing-byte-requires t)
+    (accepts-nothing-particle-depth-requires t)
     (accepts-nothing-cast-own t)
     (accepts-nothing-nothing-of-none-requires t)
     (accepts-nothing-returns t)
@@ -283,7 +284,7 @@ pub +accepts-nothing+member-accepts-nothing-spec : {M : Type 1} → statement M
     member-accepts-nothing.Post
     (member-accepts-nothing-is-optional-requires t)
     (member-accepts-nothing-returns t)
-    (member-accepts-nothing-byte-requires t)
+    (member-accepts-nothing-particle-sort-requires t)
     (member-accepts-nothing-sub-accepts-nothing t)
     (member-accepts-nothing-part-accepts-nothing-start t)
     (member-accepts-nothing-part-accepts-nothing-end t)

@@ -22,7 +22,7 @@ use Rattle.filling.proofs.+put_below+put_definition+put_group+put_membe
 use Rattle.filling.proofs.put_member.Reads as put-member
 use Rattle.filling.proofs.put_member.Kinds as put-member-kinds
 use Rattle.filling.proofs.+put_below+put_definition+put_group+put_member.Lts-put_member as put-member-lts
-use Rattle.codec.proofs.byte.Reads as byte-reads
+use Rattle.layout.proofs.particle_depth.Reads as particle-depth-reads
 use Rattle.filling.proofs.accepts_nothing.Reads as accepts-nothing-reads
 use Rattle.filling.proofs.is_passed.Reads as is-passed-reads
 use Rattle.filling.proofs.put_required.Reads as put-required-reads
@@ -91,7 +91,7 @@ abbrev put-definition-calls : ℕ → put-definition-lts.Claims
 put-definition-calls t = (put-row-reads.Asked, put-row-reads.Learnt, put-required-reads.Asked, put-required-reads.Learnt, put-below-below t, put-below.Post)
 
 abbrev put-group-calls : ℕ → put-group-lts.Claims
-put-group-calls t = (byte-reads.Asked, byte-reads.Learnt, is-passed-reads.Asked, is-passed-reads.Learnt, put-member-below t, put-member.Post)
+put-group-calls t = (particle-depth-reads.Asked, particle-depth-reads.Learnt, is-passed-reads.Asked, is-passed-reads.Learnt, put-member-below t, put-member.Post)
 
 abbrev put-member-calls : ℕ → put-member-lts.Claims
 put-member-calls t = (read-particle-reads.Asked, read-particle-reads.Learnt, skips-reads.Asked, skips-reads.Learnt, put-definition-below t, put-definition.Post, accepts-nothing-reads.Asked, accepts-nothing-reads.Learnt, put-group-below t, put-group.Post)
@@ -192,8 +192,8 @@ put-group-μ-loop s d kind form text sizes h depth c₀ out₀ t₀ c out t = le
 put-group-loop-holds : (t : ℕ) → put-group-lts.Need-loop-holds (put-group-calls t) (put-group-at t) put-group.Post put-group-Inv-loop put-group-μ-loop
 put-group-loop-holds t c = rest-starts (c .before .before .pre .1 .1 .room)
 
-put-group-byte-requires : (t : ℕ) → put-group-lts.Need-byte-requires (put-group-calls t) (put-group-at t) put-group.Post put-group-Inv-loop put-group-μ-loop
-put-group-byte-requires t c κs = search needs
+put-group-particle-depth-requires : (t : ℕ) → put-group-lts.Need-particle-depth-requires (put-group-calls t) (put-group-at t) put-group.Post put-group-Inv-loop put-group-μ-loop
+put-group-particle-depth-requires t c κs = search needs
 
 put-group-cast-own : (t : ℕ) → put-group-lts.Need-cast-own (put-group-calls t) (put-group-at t) put-group.Post put-group-Inv-loop put-group-μ-loop
 put-group-cast-own t c = search needs
@@ -211,7 +211,7 @@ put-group-same-length-2 : (t : ℕ) → put-group-lts.Need-same-length-2 (put-gr
 put-group-same-length-2 t c = c .before .before .before .before .before .loop .inv .long
 
 put-group-returns-2 : (t : ℕ) → put-group-lts.Need-returns-2 (put-group-calls t) (put-group-at t) put-group.Post put-group-Inv-loop put-group-μ-loop
-put-group-returns-2 t c = rest-over (c .before .before .before .before .before .loop .inv) (omega arith) _ (c .before .before .before .byte .ensures) (omega arith)
+put-group-returns-2 t c = rest-over (c .before .before .before .before .before .loop .inv) (omega arith) _ (c .before .before .before .particle-depth .ensures) (omega arith)
 
 put-group-is-passed-requires : (t : ℕ) → put-group-lts.Need-is-passed-requires (put-group-calls t) (put-group-at t) put-group.Post put-group-Inv-loop put-group-μ-loop
 put-group-is-passed-requires t c κs = search needs
@@ -231,19 +231,19 @@ put-group-loop-less t c = search needs
 put-group-loop-again : (t : ℕ) → put-group-lts.Need-loop-again (put-group-calls t) (put-group-at t) put-group.Post put-group-Inv-loop put-group-μ-loop
 put-group-loop-again t c =
     let at-loop = c .before .before .before .before .before .before .before .before in
-    let at-byte = c .before .before .before .before .before .before in
+    let at-depth = c .before .before .before .before .before .before in
     let at-passed = c .before .before in
-    rest-past (at-loop .loop .inv) (omega arith) _ (at-byte .byte .ensures) _ (at-passed .is-passed .ensures) (omega arith) (c .before .if3 .taken)
+    rest-past (at-loop .loop .inv) (omega arith) _ (at-depth .particle-depth .ensures) _ (at-passed .is-passed .ensures) (omega arith) (c .before .if3 .taken)
 
 put-group-put-member-requires : (t : ℕ) → put-group-lts.Need-put-member-requires (put-group-calls t) (put-group-at t) put-group.Post put-group-Inv-loop put-group-μ-loop
 put-group-put-member-requires t c κs =
     let a = c .before .before .before .before .before .before .before .before .before .before .before .before .args in
     let q = c .before .before .before .before .before .before .before .before .before .before .before .before .pre .1 .1 in
     let at-loop = c .before .before .before .before .before .before .before .before .before in
-    let at-byte = c .before .before .before .before .before .before .before in
+    let at-depth = c .before .before .before .before .before .before .before in
     let at-passed = c .before .before .before in
     let i = at-loop .loop .inv in
-    let here = rest-here (at-loop .loop .inv) (omega arith) _ (at-byte .byte .ensures) _ (at-passed .is-passed .ensures) (c .before .before .if3 .left) in
+    let here = rest-here (at-loop .loop .inv) (omega arith) _ (at-depth .particle-depth .ensures) _ (at-passed .is-passed .ensures) (c .before .before .if3 .left) in
     let fewer : 4 * length (at-loop .loop .t .now) < 4 * length (a .s .now) + 1 = omega (arith, i .short) in (
       omega (arith, rank-particles (a .h) (4 * length (at-loop .loop .t .now)) (4 * length (a .s .now) + 1) fewer),
       (omega (arith, here), omega arith, record { width = q .width; room = i .room; text = q .text; attributes = q .attributes; deep = q .deep }),
@@ -267,11 +267,11 @@ put-group-loop-less-2 t c = search needs
 put-group-loop-again-2 : (t : ℕ) → put-group-lts.Need-loop-again-2 (put-group-calls t) (put-group-at t) put-group.Post put-group-Inv-loop put-group-μ-loop
 put-group-loop-again-2 t c =
     let at-loop = c .before .before .before .before .before .before .before .before .before .before .before .before .before .before .before in
-    let at-byte = c .before .before .before .before .before .before .before .before .before .before .before .before .before in
+    let at-depth = c .before .before .before .before .before .before .before .before .before .before .before .before .before in
     let at-passed = c .before .before .before .before .before .before .before .before .before in
     let at-else = c .before .before .before .before .before .before .before .before in
-    let here = rest-here (at-loop .loop .inv) (omega arith) _ (at-byte .byte .ensures) _ (at-passed .is-passed .ensures) (at-else .if3 .left) in
-    rest-on (at-loop .loop .inv) (omega arith) _ (at-byte .byte .ensures) here (omega arith) (c .before .before .before .before .before .put-member .ensures) (c .before .enum-told .given .1)
+    let here = rest-here (at-loop .loop .inv) (omega arith) _ (at-depth .particle-depth .ensures) _ (at-passed .is-passed .ensures) (at-else .if3 .left) in
+    rest-on (at-loop .loop .inv) (omega arith) _ (at-depth .particle-depth .ensures) here (omega arith) (c .before .before .before .before .before .put-member .ensures) (c .before .enum-told .given .1)
 
 put-group-enum-told-2 : (t : ℕ) → put-group-lts.Need-enum-told-2 (put-group-calls t) (put-group-at t) put-group.Post put-group-Inv-loop put-group-μ-loop
 put-group-enum-told-2 t c = search needs
@@ -285,11 +285,11 @@ put-group-same-length-3 t c =
 put-group-returns-3 : (t : ℕ) → put-group-lts.Need-returns-3 (put-group-calls t) (put-group-at t) put-group.Post put-group-Inv-loop put-group-μ-loop
 put-group-returns-3 t c =
     let at-loop = c .before .before .before .before .before .before .before .before .before .before .before .before .before .before in
-    let at-byte = c .before .before .before .before .before .before .before .before .before .before .before .before in
+    let at-depth = c .before .before .before .before .before .before .before .before .before .before .before .before in
     let at-passed = c .before .before .before .before .before .before .before .before in
     let at-else = c .before .before .before .before .before .before .before in
-    let here = rest-here (at-loop .loop .inv) (omega arith) _ (at-byte .byte .ensures) _ (at-passed .is-passed .ensures) (at-else .if3 .left) in
-    rest-first (at-loop .loop .inv) (omega arith) _ (at-byte .byte .ensures) here (omega arith) (c .before .before .before .before .put-member .ensures) (c .enum-told2 .given .1)
+    let here = rest-here (at-loop .loop .inv) (omega arith) _ (at-depth .particle-depth .ensures) _ (at-passed .is-passed .ensures) (at-else .if3 .left) in
+    rest-first (at-loop .loop .inv) (omega arith) _ (at-depth .particle-depth .ensures) here (omega arith) (c .before .before .before .before .put-member .ensures) (c .enum-told2 .given .1)
 
 put-group-same-length-4 : (t : ℕ) → put-group-lts.Need-same-length-4 (put-group-calls t) (put-group-at t) put-group.Post put-group-Inv-loop put-group-μ-loop
 put-group-same-length-4 t c = c .before .loop .inv .long
@@ -392,7 +392,7 @@ pub +put-below+put-definition+put-group+put-member-spec : {M : Type 1} → state
     put-group-Inv-loop
     put-group-μ-loop
     (put-group-loop-holds t)
-    (put-group-byte-requires t)
+    (put-group-particle-depth-requires t)
     (put-group-cast-own t)
     (put-group-element-copy-out-if1 t)
     (put-group-same-length t)

@@ -3,17 +3,17 @@ use borrow.Author.Needs.{needs}
 use Rattle.filling.proofs.is_optional.Statement.{statement}
 use Rattle.filling.proofs.is_optional.Tie as tie
 
-byte-requires : tie.Need-byte-requires
-byte-requires c κs = search needs
+particle-quantifier-requires : tie.Need-particle-quantifier-requires
+particle-quantifier-requires c κs = search needs
 
 returns : tie.Need-returns
-returns c = optional-code _ _ (c .before .byte .ensures) (c .match .keys1)
+returns c = optional-code _ _ (c .before .particle-quantifier .ensures) (c .match .keys1)
 
 returns-2 : tie.Need-returns-2
-returns-2 c = optional-code-2 _ _ (c .before .byte .ensures) (c .match .keys2)
+returns-2 c = optional-code-2 _ _ (c .before .particle-quantifier .ensures) (c .match .keys2)
 
 returns-3 : tie.Need-returns-3
-returns-3 c = needed-code _ _ (c .before .byte .ensures) (c .match .rest .0 .1) (c .match .rest .1)
+returns-3 c = needed-code _ _ (c .before .particle-quantifier .ensures) (c .match .rest .0 .1) (c .match .rest .1)
 
 pub is-optional-spec : {M : Type 1} → statement M
-is-optional-spec = tie.close (tie.spec byte-requires returns returns-2 returns-3)
+is-optional-spec = tie.close (tie.spec particle-quantifier-requires returns returns-2 returns-3)

@@ -40,7 +40,7 @@ returns-5 : tie.Need-returns-5
 returns-5 c = rw (c .before .before .before .w2 .given .1)
 
 returns-6 : tie.Need-returns-6
-returns-6 c = rw (c .before .before .before .before .w3 .given .1)
+returns-6 c = rw (c .before .before .before .w3 .given .1)
 
 pub matches-spec : {M : Type 1} → statement M
 matches-spec =

@@ -35,7 +35,8 @@ use Rattle.row_writer.proofs.WrittenLaws.{written-none, written-then, written-a
 use Rattle.filling.specs.declared.Filling.{Filling}
 use Rattle.filling.specs.declared.Filling.the-variants.{Nothing, Definition, Attribute, Particles}
 use Rattle.filling.specs.Fillings.{newElement, newAttributeRow, requiredRows, fillingsOf, contentRows, fillIndex, groupFilled, fillingRows}
-use Rattle.filling.specs.Parts.{leftOut, passed, settled, sortNothing, memberNothing, whatFilling, memberFilling, valueIn, requiredAt, requiredIn, indexFormIn, definitionRows, memberRows, belowRows, membersReadAt, Indexed}
+use Rattle.filling.specs.Parts.{leftOut, passed, settled, sortNothing, memberNothing, whatFilling, memberFilling, valueIn, requiredAt, requiredIn}
+use Rattle.filling.specs.Parts.{indexFormIn, definitionRows, memberRows, belowRows, membersReadAt, Indexed}
 
 -- ---- readers
 -- a created value is no longer than the fill
@@ -87,7 +88,8 @@ module _ (F : IndexForm) (value : ℕ → Bytes) (d i : ℕ) where
       R = requiredRows F value d i (j + suc n) 1
 
       by : (b : Bool) → L ≡ M ++ R
-          → elim b as (λ z. List (Deep FlatRow)) [ true ↦ newAttributeRow d j (value j) ∷ L | false ↦ L ] ≡ (elim b as (λ z. List (Deep FlatRow)) [ true ↦ newAttributeRow d j (value j) ∷ M | false ↦ M ]) ++ R
+          → elim b as (λ z. List (Deep FlatRow)) [ true ↦ newAttributeRow d j (value j) ∷ L | false ↦ L ]
+          ≡ (elim b as (λ z. List (Deep FlatRow)) [ true ↦ newAttributeRow d j (value j) ∷ M | false ↦ M ]) ++ R
       by true e = ap (λ (z : List (Deep FlatRow)). newAttributeRow d j (value j) ∷ z) e
       by false e = e
 
@@ -96,18 +98,25 @@ module _ (version w : ℕ) (attrs : Bytes) (d i : ℕ) where
   rowIf true x = x ∷ []
   rowIf false x = []
 
-  required-at : (j : ℕ) {b : Bool} → b ≡ (eqb (attributeIn w attrs j .owner) i && mustBePresent version (sortOf (attributeIn w attrs j .sort))) → requiredAt version w attrs d i j ≡ rowIf b (newAttributeRow d j (valueIn w attrs j))
+  required-at : (j : ℕ) {b : Bool} → b ≡ (eqb (attributeIn w attrs j .owner) i && mustBePresent version (sortOf (attributeIn w attrs j .sort)))
+      → requiredAt version w attrs d i j ≡ rowIf b (newAttributeRow d j (valueIn w attrs j))
   unfolding requiredAt requiredRows
-  required-at j {b} e = by (eqb (attributeIn w attrs j .owner) i && mustBePresent version (sortOf (attributeIn w attrs j .sort))) ∙ ap (λ (z : Bool). rowIf z (newAttributeRow d j (valueIn w attrs j))) (sym e)
+  required-at j {b} e =
+      by (eqb (attributeIn w attrs j .owner) i && mustBePresent version (sortOf (attributeIn w attrs j .sort)))
+      ∙ ap (λ (z : Bool). rowIf z (newAttributeRow d j (valueIn w attrs j))) (sym e)
     where
       by : (c : Bool) → elim c as (λ z. List (Deep FlatRow)) [ true ↦ newAttributeRow d j (valueIn w attrs j) ∷ [] | false ↦ [] ] ≡ rowIf c (newAttributeRow d j (valueIn w attrs j))
       by true = refl
       by false = refl
 
-  pub spare-written : (j : ℕ) {b : Bool} {c : Cursor} {out : Bytes} → b ≡ (eqb (attributeIn w attrs j .owner) i && mustBePresent version (sortOf (attributeIn w attrs j .sort))) → b ≡ false → Written w (requiredAt version w attrs d i j) c out c out
+  pub spare-written : (j : ℕ) {b : Bool} {c : Cursor} {out : Bytes}
+      → b ≡ (eqb (attributeIn w attrs j .owner) i && mustBePresent version (sortOf (attributeIn w attrs j .sort))) → b ≡ false
+      → Written w (requiredAt version w attrs d i j) c out c out
   spare-written j e f = written-as (required-at j e ∙ ap (λ (z : Bool). rowIf z (newAttributeRow d j (valueIn w attrs j))) f) written-none
 
-  pub needed-written : (j : ℕ) {b : Bool} {v : Bytes} {c r : Cursor} {out out′ : Bytes} → b ≡ (eqb (attributeIn w attrs j .owner) i && mustBePresent version (sortOf (attributeIn w attrs j .sort))) → b ≡ true → v ≡ valueIn w attrs j → Written w (newRow 2 d j v ∷ []) c out r out′
+  pub needed-written : (j : ℕ) {b : Bool} {v : Bytes} {c r : Cursor} {out out′ : Bytes}
+      → b ≡ (eqb (attributeIn w attrs j .owner) i && mustBePresent version (sortOf (attributeIn w attrs j .sort))) → b ≡ true → v ≡ valueIn w attrs j
+      → Written w (newRow 2 d j v ∷ []) c out r out′
       → Written w (requiredAt version w attrs d i j) c out r out′
   needed-written j e t m p = written-as (required-at j e ∙ ap (λ (z : Bool). rowIf z (newAttributeRow d j (valueIn w attrs j))) t ∙ ap (λ (z : Bytes). newAttributeRow d j z ∷ []) (sym m)) p
 
@@ -115,7 +124,8 @@ module _ (version w : ℕ) (attrs : Bytes) (d i : ℕ) where
   unfolding requiredIn requiredRows
   required-none = written-none
 
-  pub required-on : (j : ℕ) {c r r′ : Cursor} {out out′ out″ : Bytes} → Written w (requiredIn version w attrs d i j) c out r out′ → Written w (requiredAt version w attrs d i j) r out′ r′ out″ → Written w (requiredIn version w attrs d i (j + 1)) c out r′ out″
+  pub required-on : (j : ℕ) {c r r′ : Cursor} {out out′ out″ : Bytes} → Written w (requiredIn version w attrs d i j) c out r out′
+      → Written w (requiredAt version w attrs d i j) r out′ r′ out″ → Written w (requiredIn version w attrs d i (j + 1)) c out r′ out″
   unfolding requiredIn requiredAt
   required-on j p q =
       let e : 0 + j ≡ j = omega arith in
@@ -337,15 +347,21 @@ module _ (d : ℕ) (s : Bytes) (p : Particle) (e : p ≡ particleOf (readParticl
 
 -- ---- definitions
 -- the attributes of a form do not depend on its definitions
-form-required : (version w n a b : ℕ) (defs parts attrs : Bytes) (value : ℕ → Bytes) (d i j k : ℕ) → requiredRows (indexForm version w n defs parts attrs a) value d i j k ≡ requiredRows (attributesOf version w attrs b) value d i j k
+form-required : (version w n a b : ℕ) (defs parts attrs : Bytes) (value : ℕ → Bytes) (d i j k : ℕ)
+    → requiredRows (indexForm version w n defs parts attrs a) value d i j k ≡ requiredRows (attributesOf version w attrs b) value d i j k
 unfolding requiredRows
 form-required version w n a b defs parts attrs value d i j zero = refl
 form-required version w n a b defs parts attrs value d i j (suc k) =
-    let e : requiredRows (indexForm version w n defs parts attrs a) value d i (suc j) k ≡ requiredRows (attributesOf version w attrs b) value d i (suc j) k = form-required version w n a b defs parts attrs value d i (suc j) k in
-    λ z. elim (eqb (attributeIn w attrs j .owner) i && mustBePresent version (sortOf (attributeIn w attrs j .sort))) as (λ x. List (Deep FlatRow)) [ true ↦ newAttributeRow d j (value j) ∷ e z | false ↦ e z ]
+    let e : requiredRows (indexForm version w n defs parts attrs a) value d i (suc j) k ≡ requiredRows (attributesOf version w attrs b) value d i (suc j) k =
+    form-required version w n a b defs parts attrs value d i (suc j) k in
+    λ z. elim (eqb (attributeIn w attrs j .owner) i && mustBePresent version (sortOf (attributeIn w attrs j .sort))) as (λ x. List (Deep FlatRow)) [
+      | true ↦ newAttributeRow d j (value j) ∷ e z
+      | false ↦ e z
+    ]
 
 -- nor fillings on the number of definitions
-form-fillings : (version w n m a : ℕ) (defs parts attrs : Bytes) (value : ℕ → Bytes) (f g : ℕ → List (Deep FlatRow)) → ((j : ℕ) → f j ≡ g j) → (is : List ℕ) → fillingsOf (indexForm version w n defs parts attrs a) value f is ≡ fillingsOf (indexForm version w m defs parts attrs a) value g is
+form-fillings : (version w n m a : ℕ) (defs parts attrs : Bytes) (value : ℕ → Bytes) (f g : ℕ → List (Deep FlatRow)) → ((j : ℕ) → f j ≡ g j) → (is : List ℕ)
+    → fillingsOf (indexForm version w n defs parts attrs a) value f is ≡ fillingsOf (indexForm version w m defs parts attrs a) value g is
 unfolding fillingsOf
 form-fillings version w n m a defs parts attrs value f g e [] = refl
 form-fillings version w n m a defs parts attrs value f g e (i ∷ is) = ap₂ (λ (u v : List (Deep FlatRow)). u ++ v) (e i) (form-fillings version w n m a defs parts attrs value f g e is)
@@ -363,17 +379,27 @@ module _ (version w : ℕ) (defs parts attrs : Bytes) (a : ℕ) (txt : Bytes) wh
   unfolding fillIndex
   sized n zero d i = refl
   sized n (suc h) d i =
-      ap₂ (λ (u v : List (Deep FlatRow)). newElement d i ∷ (u ++ v)) (form-required version w n a 0 defs parts attrs (valueIn w attrs) (suc d) i 0 a ∙ sym (form-required version w 0 a 0 defs parts attrs (valueIn w attrs) (suc d) i 0 a))
-      (form-content version w n 0 a defs parts attrs (valueIn w attrs) (λ j. fillIndex (indexForm version w n defs parts attrs a) (valueIn w attrs) h txt (suc d) j) (λ j. fillIndex (indexForm version w 0 defs parts attrs a) (valueIn w attrs) h txt (suc d) j) (λ j. sized n h (suc d) j) txt (suc d) (allMembers (modelPart defs parts i)) (definitionIn defs i .kind))
+      ap₂ (λ (u v : List (Deep FlatRow)). newElement d i ∷ (u ++ v))
+      (form-required version w n a 0 defs parts attrs (valueIn w attrs) (suc d) i 0 a
+      ∙ sym (form-required version w 0 a 0 defs parts attrs (valueIn w attrs) (suc d) i 0 a))
+      (form-content version w n 0 a defs parts attrs (valueIn w attrs)
+      (λ j. fillIndex (indexForm version w n defs parts attrs a) (valueIn w attrs) h txt (suc d) j)
+      (λ j. fillIndex (indexForm version w 0 defs parts attrs a) (valueIn w attrs) h txt (suc d) j) (λ j. sized n h (suc d) j) txt (suc d)
+      (allMembers (modelPart defs parts i)) (definitionIn defs i .kind))
 
-  pub definition-sized : (n d i : ℕ) {c r : Cursor} {out out′ : Bytes} → Written w (definitionRows version w defs parts attrs a txt n d i) c out r out′ → Written w (fillIndex (indexForm version w n defs parts attrs a) (valueIn w attrs) n txt d i) c out r out′
+  pub definition-sized : (n d i : ℕ) {c r : Cursor} {out out′ : Bytes} → Written w (definitionRows version w defs parts attrs a txt n d i) c out r out′
+      → Written w (fillIndex (indexForm version w n defs parts attrs a) (valueIn w attrs) n txt d i) c out r out′
   unfolding definitionRows
   definition-sized n d i p = written-as (sized n n d i) p
 
   module _ (h d : ℕ) where
-    definition-more : (i : ℕ) → definitionRows version w defs parts attrs a txt (suc h) d i ≡ newElement d i ∷ (requiredIn version w attrs (suc d) i a ++ belowRows version w defs parts attrs a txt h (suc d) i)
+    definition-more : (i : ℕ)
+        → definitionRows version w defs parts attrs a txt (suc h) d i
+        ≡ newElement d i ∷ (requiredIn version w attrs (suc d) i a ++ belowRows version w defs parts attrs a txt h (suc d) i)
     unfolding definitionRows belowRows requiredIn fillIndex
-    definition-more i = ap (λ (u : List (Deep FlatRow)). newElement d i ∷ (u ++ belowRows version w defs parts attrs a txt h (suc d) i)) (form-required version w 0 a 0 defs parts attrs (valueIn w attrs) (suc d) i 0 a)
+    definition-more i =
+        ap (λ (u : List (Deep FlatRow)). newElement d i ∷ (u ++ belowRows version w defs parts attrs a txt h (suc d) i))
+        (form-required version w 0 a 0 defs parts attrs (valueIn w attrs) (suc d) i 0 a)
 
   module _ (h d : ℕ) where
     -- ---- a definition
@@ -381,11 +407,14 @@ module _ (version w : ℕ) (defs parts attrs : Bytes) (a : ℕ) (txt : Bytes) wh
     unfolding definitionRows fillIndex
     definition-low i e = rw e written-none
 
-    pub definition-written : (i : ℕ) {c e r r′ : Cursor} {out out₁ out₂ out′ : Bytes} → (h ≡ 0 → ⊥) → Written w (newRow 1 d i [] ∷ []) c out e out₁ → Written w (requiredIn version w attrs (d + 1) i a) e out₁ r out₂
+    pub definition-written : (i : ℕ) {c e r r′ : Cursor} {out out₁ out₂ out′ : Bytes} → (h ≡ 0 → ⊥) → Written w (newRow 1 d i [] ∷ []) c out e out₁
+        → Written w (requiredIn version w attrs (d + 1) i a) e out₁ r out₂
         → Written w (belowRows version w defs parts attrs a txt (h - 1) (d + 1) i) r out₂ r′ out′ → Written w (definitionRows version w defs parts attrs a txt h d i) c out r′ out′
     definition-written i {c} {e} {r} {r′} {out} {out₁} {out₂} {out′} n p q s = written-as (by h n) (written-then p (written-then q s))
       where
-        by : (k : ℕ) → (k ≡ 0 → ⊥) → definitionRows version w defs parts attrs a txt k d i ≡ newElement d i ∷ (requiredIn version w attrs (d + 1) i a ++ belowRows version w defs parts attrs a txt (k - 1) (d + 1) i)
+        by : (k : ℕ) → (k ≡ 0 → ⊥)
+            → definitionRows version w defs parts attrs a txt k d i
+            ≡ newElement d i ∷ (requiredIn version w attrs (d + 1) i a ++ belowRows version w defs parts attrs a txt (k - 1) (d + 1) i)
         by zero x = absurd (x refl)
         by (suc k) x =
             let m : suc k - 1 ≡ k = omega arith in
@@ -393,9 +422,14 @@ module _ (version w : ℕ) (defs parts attrs : Bytes) (a : ℕ) (txt : Bytes) wh
 
     -- ---- what stands below an element of definition i, whose kind is k
     module _ (i k : ℕ) (e : k ≡ definitionIn defs i .kind) where
-      kind-told : belowRows version w defs parts attrs a txt h d i ≡ contentRows (indexFormIn version w defs parts attrs a) (valueIn w attrs) (λ j. definitionRows version w defs parts attrs a txt h d j) txt d (allMembers (modelPart defs parts i)) k
+      kind-told : belowRows version w defs parts attrs a txt h d i
+          ≡ contentRows (indexFormIn version w defs parts attrs a) (valueIn w attrs) (λ j. definitionRows version w defs parts attrs a txt h d j) txt d
+          (allMembers (modelPart defs parts i)) k
       unfolding belowRows
-      kind-told = ap (λ (z : ℕ). contentRows (indexFormIn version w defs parts attrs a) (valueIn w attrs) (λ j. definitionRows version w defs parts attrs a txt h d j) txt d (allMembers (modelPart defs parts i)) z) (sym e)
+      kind-told = ap
+          (λ (z : ℕ). contentRows (indexFormIn version w defs parts attrs a) (valueIn w attrs) (λ j. definitionRows version w defs parts attrs a txt h d j) txt
+          d (allMembers (modelPart defs parts i)) z)
+          (sym e)
 
       pub below-none : {c : Cursor} {out : Bytes} → k ≡ 0 → Written w (belowRows version w defs parts attrs a txt h d i) c out c out
       unfolding contentRows
@@ -405,7 +439,8 @@ module _ (version w : ℕ) (defs parts attrs : Bytes) (a : ℕ) (txt : Bytes) wh
       unfolding contentRows
       below-text z p = written-as (kind-told ∙ rw z) p
 
-      pub below-group : (s : Bytes) {c r : Cursor} {out out′ : Bytes} → (k ≡ 0 → ⊥) → (k ≡ 1 → ⊥) → s ≡ modelPart defs parts i → Written w (memberRows version w defs parts attrs a txt h d (filling Sequence (membersFrom 0 s))) c out r out′
+      pub below-group : (s : Bytes) {c r : Cursor} {out out′ : Bytes} → (k ≡ 0 → ⊥) → (k ≡ 1 → ⊥) → s ≡ modelPart defs parts i
+          → Written w (memberRows version w defs parts attrs a txt h d (filling Sequence (membersFrom 0 s))) c out r out′
           → Written w (belowRows version w defs parts attrs a txt h d i) c out r out′
       unfolding contentRows memberRows
       below-group s n m q p = written-as (kind-told ∙ by k n m ∙ ap (λ (z : Bytes). memberRows version w defs parts attrs a txt h d (filling Sequence (membersFrom 0 z))) (sym q)) p
@@ -430,20 +465,24 @@ module _ (version w : ℕ) (defs parts attrs : Bytes) (a : ℕ) (txt : Bytes) wh
       unfolding memberRows fillingsOf
       none-written e = rw e written-none
 
-      pub one-written : (i : ℕ) {c r : Cursor} {out out′ : Bytes} → f ≡ i ∷ [] → Written w (definitionRows version w defs parts attrs a txt h d i) c out r out′ → Written w (memberRows version w defs parts attrs a txt h d f) c out r out′
+      pub one-written : (i : ℕ) {c r : Cursor} {out out′ : Bytes} → f ≡ i ∷ [] → Written w (definitionRows version w defs parts attrs a txt h d i) c out r out′
+          → Written w (memberRows version w defs parts attrs a txt h d f) c out r out′
       unfolding memberRows fillingsOf
       one-written i e p = written-as (ap (λ (z : List ℕ). memberRows version w defs parts attrs a txt h d z) e ∙ append-nil (definitionRows version w defs parts attrs a txt h d i)) p
 
-      pub same-written : (g : List ℕ) {c r : Cursor} {out out′ : Bytes} → f ≡ g → Written w (memberRows version w defs parts attrs a txt h d g) c out r out′ → Written w (memberRows version w defs parts attrs a txt h d f) c out r out′
+      pub same-written : (g : List ℕ) {c r : Cursor} {out out′ : Bytes} → f ≡ g → Written w (memberRows version w defs parts attrs a txt h d g) c out r out′
+          → Written w (memberRows version w defs parts attrs a txt h d f) c out r out′
       same-written g e p = written-as (ap (λ (z : List ℕ). memberRows version w defs parts attrs a txt h d z) e) p
 
       -- of a group's first member, u, and of the others, v
       module _ (k : GroupKind) (u v : List ℕ) (e : f ≡ beside k u v) where
-        pub list-written : {c r r′ : Cursor} {out out′ out″ : Bytes} → k ≡ Sequence → Written w (memberRows version w defs parts attrs a txt h d u) c out r out′ → Written w (memberRows version w defs parts attrs a txt h d v) r out′ r′ out″
+        pub list-written : {c r r′ : Cursor} {out out′ out″ : Bytes} → k ≡ Sequence → Written w (memberRows version w defs parts attrs a txt h d u) c out r out′
+            → Written w (memberRows version w defs parts attrs a txt h d v) r out′ r′ out″
             → Written w (memberRows version w defs parts attrs a txt h d f) c out r′ out″
         list-written q p s = written-as (ap (λ (z : List ℕ). memberRows version w defs parts attrs a txt h d z) (e ∙ ap (λ (z : GroupKind). beside z u v) q) ∙ members-more u v) (written-then p s)
 
-        pub first-written : {c r : Cursor} {out out′ : Bytes} → k ≡ Choice → Written w (memberRows version w defs parts attrs a txt h d u) c out r out′ → Written w (memberRows version w defs parts attrs a txt h d f) c out r out′
+        pub first-written : {c r : Cursor} {out out′ : Bytes} → k ≡ Choice → Written w (memberRows version w defs parts attrs a txt h d u) c out r out′
+            → Written w (memberRows version w defs parts attrs a txt h d f) c out r out′
         first-written q p = same-written u (e ∙ ap (λ (z : GroupKind). beside z u v) q) p
 
 -- ---- the members of a group, one after the other
@@ -483,7 +522,9 @@ module _ {version w : ℕ} {defs parts attrs : Bytes} {a : ℕ} {txt : Bytes} {h
       pub rest-on : k ≡ Sequence → Rest version w defs parts attrs a txt h d k e s c out (take (length t - 4) (drop 4 t)) r′ out″
       rest-on q =
           record {
-            rest = λ x. i .rest (list-written version w defs parts attrs a txt h d (filling k (membersFrom e t)) k (memberFilling e t) (filling k (membersFrom e (take (length t - 4) (drop 4 t)))) (group-here e k t own l g m n) q p x);
+            rest = λ x. i .rest
+                (list-written version w defs parts attrs a txt h d (filling k (membersFrom e t)) k (memberFilling e t)
+                (filling k (membersFrom e (take (length t - 4) (drop 4 t)))) (group-here e k t own l g m n) q p x);
             room = written-room p (i .room);
             short = next-short;
             long = written-long p ∙ i .long;
@@ -491,14 +532,18 @@ module _ {version w : ℕ} {defs parts attrs : Bytes} {a : ℕ} {txt : Bytes} {h
 
       -- it is the first member of a CHOICE
       pub rest-first : k ≡ Choice → Written w (memberRows version w defs parts attrs a txt h d (filling k (membersFrom e s))) c out r′ out″
-      rest-first q = i .rest (first-written version w defs parts attrs a txt h d (filling k (membersFrom e t)) k (memberFilling e t) (filling k (membersFrom e (take (length t - 4) (drop 4 t)))) (group-here e k t own l g m n) q p)
+      rest-first q =
+          i .rest
+          (first-written version w defs parts attrs a txt h d (filling k (membersFrom e t)) k (memberFilling e t)
+          (filling k (membersFrom e (take (length t - 4) (drop 4 t)))) (group-here e k t own l g m n) q p)
 
     -- it stands outside the group
     pub rest-over : own < e → Written w (memberRows version w defs parts attrs a txt h d (filling k (membersFrom e s))) c out r out′
     rest-over m = i .rest (none-written version w defs parts attrs a txt h d (filling k (membersFrom e t)) (group-stop e k t own l g m))
 
   -- there is no particle more
-  pub rest-ends : {t : Bytes} {r : Cursor} {out′ : Bytes} → Rest version w defs parts attrs a txt h d k e s c out t r out′ → length t < 4 → Written w (memberRows version w defs parts attrs a txt h d (filling k (membersFrom e s))) c out r out′
+  pub rest-ends : {t : Bytes} {r : Cursor} {out′ : Bytes} → Rest version w defs parts attrs a txt h d k e s c out t r out′ → length t < 4
+      → Written w (memberRows version w defs parts attrs a txt h d (filling k (membersFrom e s))) c out r out′
   rest-ends {t} i l = i .rest (none-written version w defs parts attrs a txt h d (filling k (membersFrom e t)) (group-few e k t l))
 
 -- ---- an index in a particle is a byte
@@ -549,18 +594,22 @@ module _ (version w n : ℕ) (defs parts attrs : Bytes) (a : ℕ) (what : Fillin
   pub nothing-filled : {c : Cursor} {out : Bytes} → what ≡ Nothing → Written w (rowsFor what) c out c out
   nothing-filled e = written-as (ap (λ (x : Filling). rowsFor x) e) written-none
 
-  pub definition-filled : (i : ℕ) {c r : Cursor} {out out′ : Bytes} → what ≡ Definition i → Written w (definitionRows version w defs parts attrs a txt n d i) c out r out′ → Written w (rowsFor what) c out r out′
+  pub definition-filled : (i : ℕ) {c r : Cursor} {out out′ : Bytes} → what ≡ Definition i
+      → Written w (definitionRows version w defs parts attrs a txt n d i) c out r out′ → Written w (rowsFor what) c out r out′
   definition-filled i e p = written-as (ap (λ (x : Filling). rowsFor x) e) (definition-sized version w defs parts attrs a txt n d i p)
 
   pub attribute-filled : (j : ℕ) {c r : Cursor} {out out′ : Bytes} → what ≡ Attribute j → Written w (newRow 2 d j txt ∷ []) c out r out′ → Written w (rowsFor what) c out r out′
   attribute-filled j e p = written-as (ap (λ (x : Filling). rowsFor x) e) p
 
-  pub particles-filled : (g : GroupKind) (k e : ℕ) {c r : Cursor} {out out′ : Bytes} → what ≡ Particles g k e → Written w (memberRows version w defs parts attrs a txt n d (groupFilled g (membersReadAt parts k e))) c out r out′ → Written w (rowsFor what) c out r out′
+  pub particles-filled : (g : GroupKind) (k e : ℕ) {c r : Cursor} {out out′ : Bytes} → what ≡ Particles g k e
+      → Written w (memberRows version w defs parts attrs a txt n d (groupFilled g (membersReadAt parts k e))) c out r out′
+      → Written w (rowsFor what) c out r out′
   unfolding memberRows definitionRows
   particles-filled g k e q p =
       written-as
       (ap (λ (x : Filling). rowsFor x) q
-      ∙ form-fillings version w n 0 a defs parts attrs (valueIn w attrs) (λ i. fillIndex (indexForm version w n defs parts attrs a) (valueIn w attrs) n txt d i) (λ i. fillIndex (indexForm version w 0 defs parts attrs a) (valueIn w attrs) n txt d i) (λ i. sized version w defs parts attrs a txt n n d i)
+      ∙ form-fillings version w n 0 a defs parts attrs (valueIn w attrs) (λ i. fillIndex (indexForm version w n defs parts attrs a) (valueIn w attrs) n txt d i)
+      (λ i. fillIndex (indexForm version w 0 defs parts attrs a) (valueIn w attrs) n txt d i) (λ i. sized version w defs parts attrs a txt n n d i)
       (groupFilled g (membersReadAt parts k e)))
       p
 

@@ -1,4 +1,5 @@
--- 'Filling' by indices: the rows, with their depths and without serials, that the form of the rules' `fillWithin` has names for.
+-- 'Filling' by indices: the rows, with their depths and without serials,
+-- that the form of the rules' `fillWithin` has names for.
 use Prim.Native.Nat.{ℕ, zero, suc}
 use mathlib.Core.Bool.{Bool, true, false, _&&_}
 use mathlib.Core.List.{List, [], _∷_, _++_}
@@ -39,7 +40,8 @@ module _ (F : IndexForm) (value : ℕ → Bytes) where
   fillingsOf fill [] = []
   fillingsOf fill (i ∷ is) = fill i ++ fillingsOf fill is
 
-  -- 'then (PCDATA) a text row with the call's text, or (COMPLEX) the filling of the top list'; d: the depth of these rows
+  -- 'then (PCDATA) a text row with the call's text, or (COMPLEX) the
+  -- filling of the top list'; d: the depth of these rows
   unfoldable pub contentRows : (ℕ → List (Deep FlatRow)) → Bytes → ℕ → Members ℕ → ℕ → List (Deep FlatRow)
   contentRows fill txt d ms zero = []
   contentRows fill txt d ms (suc zero) = newText d txt ∷ []
@@ -50,7 +52,8 @@ module _ (F : IndexForm) (value : ℕ → Bytes) where
   fillIndex zero txt d i = []
   fillIndex (suc h) txt d i = newElement d i ∷ (requiredRows (suc d) i 0 (F .attributes) ++ contentRows (λ j. fillIndex h txt (suc d) j) txt (suc d) (F .model i) (F .kind i))
 
-  -- what a change fills with; no definition is higher than the form has definitions. `at k e`: the members of depth e from particle k on
+  -- what a change fills with; no definition is higher than the form has
+  -- definitions. `at k e`: the members of depth e from particle k on
   module _ (at : ℕ → ℕ → Members ℕ) where
     abbrev pub fillingRows : Filling → Bytes → ℕ → List (Deep FlatRow)
     fillingRows Nothing txt d = []

@@ -1,4 +1,5 @@
--- The filling of what the bytes of a form hold at the width `w` of a value: of particles, of definitions, of what a change fills with.
+-- The filling of what the bytes of a form hold at the width `w` of a value:
+-- of particles, of definitions, of what a change fills with.
 use Prim.Native.Nat.{ℕ, zero, suc, _+_, _*_, _<_, _≤_}
 use mathlib.Core.Bool.{Bool, false, not, _||_}
 use mathlib.Core.List.{List, [], _∷_}
@@ -135,7 +136,8 @@ module _ (ks : List ℕ) (fs : List (RefT Bytes)) (txt : Bytes) (h d : ℕ) wher
 
   abbrev pub changeFilled : Filling → List (Deep FlatRow)
   changeFilled what =
-      fillingRows (indexForm (versionOfFilling ks) (widthIn ks) h (defsIn fs) (partsIn fs) (attrsIn fs) (countIn ks)) (valueIn (widthIn ks) (attrsIn fs)) (λ k e. membersReadAt (partsIn fs) k e) what txt d
+      fillingRows (indexForm (versionOfFilling ks) (widthIn ks) h (defsIn fs) (partsIn fs) (attrsIn fs) (countIn ks)) (valueIn (widthIn ks) (attrsIn fs))
+      (λ k e. membersReadAt (partsIn fs) k e) what txt d
 
 -- a cursor as it is lent: where the next row goes, how many may still be written, the next serial
 abbrev pub cursorIn : List ℕ → Cursor

@@ -13,10 +13,11 @@ ghost use Rattle.form_index.specs.Reading.{attributeIn, indexForm};
 ghost use Rattle.layout.specs.Bodies.{Width};
 ghost use Rattle.row_writer.specs.Written.{Room, Written, newRow};
 ghost use Rattle.filling.specs.Fillings.{groupFilled, fillingRows};
-ghost use Rattle.filling.specs.Parts.{leftOut, passed, settled, memberNothing, memberFilling, valueIn, requiredAt, requiredIn, membersReadAt, partsIn, widthIn, countIn, definitionFilled, membersFilled, belowFilled, changeFilled, cursorIn, Asks, Indexed};
+ghost use Rattle.filling.specs.Parts.{leftOut, passed, settled, memberNothing, memberFilling, valueIn, requiredAt, requiredIn, membersReadAt, partsIn};
+ghost use Rattle.filling.specs.Parts.{widthIn, countIn, definitionFilled, membersFilled, belowFilled, changeFilled, cursorIn, Asks, Indexed};
 
-/// What a change fills with: nothing, a definition by its index, one row of an attribute by its index, or a group of a kind by the number
-/// of its first member in the particle body and the depth of its members.
+/// What a change fills with: nothing, a definition by its index, one row of an attribute by its index, or a group of a
+/// kind by the number of its first member in the particle body and the depth of its members.
 pub enum Filling {
     Nothing,
     Definition(usize),
@@ -88,7 +89,8 @@ fn member_accepts_nothing(t: &[u8], d: usize) -> bool
     }
 }
 
-// Whether a group of the members of depth d that s begins with accepts nothing. It looks no further than the member that settles it.
+// Whether a group of the members of depth d that s begins with accepts
+// nothing. It looks no further than the member that settles it.
 fn accepts_nothing(s: &[u8], d: usize, kind: GroupKind) -> bool
     requires { ⌜ d ≤ 256 ⌝ }
     ensures { λ r. ⌜ r ≡ nothing kind (membersFrom d (now (s .entry))) ⌝ }
@@ -112,8 +114,9 @@ fn accepts_nothing(s: &[u8], d: usize, kind: GroupKind) -> bool
     nothing_of_none(kind)
 }
 
-// Whether a group fills with nothing though its first member may not: a CHOICE that accepts nothing. In a LIST that accepts nothing each
-// member fills with nothing, so that there is no need to go through the members before they are filled.
+// Whether a group fills with nothing though its first member may not: a CHOICE that accepts nothing. In a LIST that
+// accepts nothing each member fills with nothing, so that there is no
+// need to go through the members before they are filled.
 fn fills_nothing(s: &[u8], d: usize, kind: GroupKind) -> bool
     requires { ⌜ d ≤ 256 ⌝ }
     ensures { λ r. ⌜ groupFilled kind (membersFrom d (now (s .entry))) ≡ unless r (filling kind (membersFrom d (now (s .entry)))) ⌝ }
@@ -134,10 +137,10 @@ fn created_value(w: usize, attrs: &[u8], j: usize) -> &[u8]
     records::created_value(sort, layout::attribute_value(record))
 }
 
-// ---- The writers of a filling call each other as deep as definitions and groups are nested. So that their frames on the stack stay
-// small, the form is lent as one array of slices (definitions, particles, attributes), the text by one reference, the width of a
-// value, the number of attributes, the version and the number of definitions as one array of numbers, and the cursor as another (its
-// place, what is left, its serial).
+// ---- The writers of a filling call each other as deep as definitions and groups are nested. So that their frames on
+// the stack stay small, the form is lent as one array of slices (definitions, particles, attributes), the text by one
+// reference, the width of a value, the number of attributes, the version and the number of definitions as one array of
+// numbers, and the cursor as another (its place, what is left, its serial).
 
 // Writes one row.
 fn put_row(
@@ -201,8 +204,9 @@ fn put_required(
     }
 }
 
-// Writes the filling of the members of depth d that s begins with, in a group of a kind. Their rows have the depth `depth`, and no
-// definition is higher than h. It stops where no row may be written any more, so that the work is bounded by the rows.
+// Writes the filling of the members of depth d that s begins with, in a group of a kind. Their rows have the depth
+// `depth`, and no definition is higher than h. It stops where no row may be
+// written any more, so that the work is bounded by the rows.
 fn put_group(
     s: &[u8],
     d: usize,
@@ -216,7 +220,9 @@ fn put_group(
     out: &mut [u8],
 )
     requires { ⌜ (d ≤ 256) × Asks (widthIn (now sizes)) (cursorIn (now c)) (now (now text)) (countIn (now sizes)) h depth ⌝ }
-    ensures { λ _. ⌜ Written (widthIn (now (sizes .entry))) (membersFilled (now (sizes .entry)) (now (form .entry)) (now (now (text .entry))) h depth (filling kind (membersFrom d (now (s .entry))))) (cursorIn (now (c .entry))) (now (out .entry)) (cursorIn (now (c .exit))) (now (out .exit)) ⌝ }
+    ensures { λ _. ⌜ Written (widthIn (now (sizes .entry)))
+        (membersFilled (now (sizes .entry)) (now (form .entry)) (now (now (text .entry))) h depth (filling kind (membersFrom d (now (s .entry)))))
+        (cursorIn (now (c .entry))) (now (out .entry)) (cursorIn (now (c .exit))) (now (out .exit)) ⌝ }
 {
     let mut t = s;
     while t.len() >= 4 {
@@ -256,7 +262,9 @@ fn put_member(
     out: &mut [u8],
 )
     requires { ⌜ (d < 256) × (4 ≤ length (now s)) × Asks (widthIn (now sizes)) (cursorIn (now c)) (now (now text)) (countIn (now sizes)) h depth ⌝ }
-    ensures { λ _. ⌜ Written (widthIn (now (sizes .entry))) (membersFilled (now (sizes .entry)) (now (form .entry)) (now (now (text .entry))) h depth (memberFilling d (now (s .entry)))) (cursorIn (now (c .entry))) (now (out .entry)) (cursorIn (now (c .exit))) (now (out .exit)) ⌝ }
+    ensures { λ _. ⌜ Written (widthIn (now (sizes .entry)))
+        (membersFilled (now (sizes .entry)) (now (form .entry)) (now (now (text .entry))) h depth (memberFilling d (now (s .entry))))
+        (cursorIn (now (c .entry))) (now (out .entry)) (cursorIn (now (c .exit))) (now (out .exit)) ⌝ }
 {
     let p = model::read_particle(s, 0);
     let q = p.quantifier;
@@ -288,7 +296,8 @@ fn put_definition(
     out: &mut [u8],
 )
     requires { ⌜ (i ≤ 256) × Asks (widthIn (now sizes)) (cursorIn (now c)) (now (now text)) (countIn (now sizes)) h depth ⌝ }
-    ensures { λ _. ⌜ Written (widthIn (now (sizes .entry))) (definitionFilled (now (sizes .entry)) (now (form .entry)) (now (now (text .entry))) h depth i) (cursorIn (now (c .entry))) (now (out .entry)) (cursorIn (now (c .exit))) (now (out .exit)) ⌝ }
+    ensures { λ _. ⌜ Written (widthIn (now (sizes .entry))) (definitionFilled (now (sizes .entry)) (now (form .entry)) (now (now (text .entry))) h depth i)
+        (cursorIn (now (c .entry))) (now (out .entry)) (cursorIn (now (c .exit))) (now (out .exit)) ⌝ }
 {
     if h == 0 {
         return;
@@ -312,7 +321,8 @@ fn put_below(
     out: &mut [u8],
 )
     requires { ⌜ (i ≤ 256) × Asks (widthIn (now sizes)) (cursorIn (now c)) (now (now text)) (countIn (now sizes)) h depth ⌝ }
-    ensures { λ _. ⌜ Written (widthIn (now (sizes .entry))) (belowFilled (now (sizes .entry)) (now (form .entry)) (now (now (text .entry))) h depth i) (cursorIn (now (c .entry))) (now (out .entry)) (cursorIn (now (c .exit))) (now (out .exit)) ⌝ }
+    ensures { λ _. ⌜ Written (widthIn (now (sizes .entry))) (belowFilled (now (sizes .entry)) (now (form .entry)) (now (now (text .entry))) h depth i)
+        (cursorIn (now (c .entry))) (now (out .entry)) (cursorIn (now (c .exit))) (now (out .exit)) ⌝ }
 {
     let k = form_index::kind_of(form[0], i);
     match k {
@@ -350,7 +360,10 @@ fn put_members(
     out: &mut [u8],
 )
     requires { ⌜ (first ≤ 256) × (d ≤ 256) × Asks (widthIn (now sizes)) (cursorIn (now c)) (now (now text)) (countIn (now sizes)) h depth ⌝ }
-    ensures { λ _. ⌜ Written (widthIn (now (sizes .entry))) (membersFilled (now (sizes .entry)) (now (form .entry)) (now (now (text .entry))) h depth (groupFilled kind (membersReadAt (partsIn (now (form .entry))) first d))) (cursorIn (now (c .entry))) (now (out .entry)) (cursorIn (now (c .exit))) (now (out .exit)) ⌝ }
+    ensures { λ _. ⌜ Written (widthIn (now (sizes .entry)))
+        (membersFilled (now (sizes .entry)) (now (form .entry)) (now (now (text .entry))) h depth
+        (groupFilled kind (membersReadAt (partsIn (now (form .entry))) first d)))
+        (cursorIn (now (c .entry))) (now (out .entry)) (cursorIn (now (c .exit))) (now (out .exit)) ⌝ }
 {
     let s = layout::particles_from(form[1], first);
     if fills_nothing(s, d, kind) {
@@ -371,7 +384,8 @@ pub fn put_any(
     out: &mut [u8],
 )
     requires { ⌜ Indexed what × Asks (widthIn (now sizes)) (cursorIn (now c)) (now (now text)) (countIn (now sizes)) h depth ⌝ }
-    ensures { λ _. ⌜ Written (widthIn (now (sizes .entry))) (changeFilled (now (sizes .entry)) (now (form .entry)) (now (now (text .entry))) h depth what) (cursorIn (now (c .entry))) (now (out .entry)) (cursorIn (now (c .exit))) (now (out .exit)) ⌝ }
+    ensures { λ _. ⌜ Written (widthIn (now (sizes .entry))) (changeFilled (now (sizes .entry)) (now (form .entry)) (now (now (text .entry))) h depth what)
+        (cursorIn (now (c .entry))) (now (out .entry)) (cursorIn (now (c .exit))) (now (out .exit)) ⌝ }
 {
     match what {
         Filling::Nothing => {}
@@ -408,7 +422,10 @@ pub fn put_filling<'a>(
     out: &mut [u8],
 ) -> Cursor
     requires { ⌜ Indexed what × Asks w c (now text) a n depth ⌝ }
-    ensures { λ r. ⌜ Written w (fillingRows (indexForm version w n (now (defs .entry)) (now (parts .entry)) (now (attrs .entry)) a) (λ j. valueIn w (now (attrs .entry)) j) (λ k d. membersReadAt (now (parts .entry)) k d) what (now (text .entry)) depth) c (now (out .entry)) r (now (out .exit)) ⌝ }
+    ensures { λ r. ⌜ Written w
+        (fillingRows (indexForm version w n (now (defs .entry)) (now (parts .entry)) (now (attrs .entry)) a) (λ j. valueIn w (now (attrs .entry)) j)
+        (λ k d. membersReadAt (now (parts .entry)) k d) what (now (text .entry)) depth)
+        c (now (out .entry)) r (now (out .exit)) ⌝ }
 {
     let form = [defs, parts, attrs];
     let sizes = [w, a, version, n];

@@ -11,8 +11,8 @@ use Rattle.rules.specs.Store.{Forest, bare, tree, heads}
 use Rattle.rules.specs.Preorder.{Deep, flatten}
 use Rattle.rules.specs.Layout.{FlatRow}
 
--- Definitions by index: how many, their kinds (0 EMPTY, 1 PCDATA, 2 COMPLEX) and models. Attributes by index: how many, whose, which
--- must be present, which values they may have.
+-- Definitions by index: how many, their kinds (0 EMPTY, 1 PCDATA, 2 COMPLEX) and models. Attributes by index: how many,
+-- whose, which must be present, which values they may have.
 pub record IndexForm : Type 0 where
   pub size : ℕ
   pub kind : ℕ → ℕ

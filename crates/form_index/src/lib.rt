@@ -1,4 +1,5 @@
-// A form by indices: definition i's kind and its part of the particles, which attributes it needs, which values they may have.
+// A form by indices: definition i's kind and its part of the particles,
+// which attributes it needs, which values they may have.
 ghost use mathlib.Core.Path.{_≡_};
 ghost use mathlib.Core.Bool.{_&&_};
 ghost use Prim.Native.Nat.{_*_, _<_, _≤_};

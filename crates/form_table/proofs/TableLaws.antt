@@ -152,7 +152,8 @@ module _ (version w n : ℕ) (attrs : Bytes) (a : ℕ) (t : List ℕ) where
     needing-ends h = let e : j ≡ a = omega (arith, l .low) in subst (λ (x : ℕ). Needs version w n attrs x t t₁) e (l .needs)
 
 -- ---- the whole table
-pub table-filled : (version w n : ℕ) (defs parts attrs : Bytes) (a : ℕ) (t t′ : List ℕ) → n ≤ 64 → Lined n defs parts n t → Needs version w n attrs a t t′ → 4352 ≤ length t′ → Tabled version w n defs parts attrs a t′
+pub table-filled : (version w n : ℕ) (defs parts attrs : Bytes) (a : ℕ) (t t′ : List ℕ) → n ≤ 64 → Lined n defs parts n t → Needs version w n attrs a t t′
+    → 4352 ≤ length t′ → Tabled version w n defs parts attrs a t′
 table-filled version w n defs parts attrs a t t′ small l f long =
     record {
       long = long;

@@ -74,7 +74,9 @@ module _ (kind k : ℕ) (e : k ≡ kind) (a : k ≡ 0 → ⊥) (b : k ≡ 1 → 
 
 -- ---- attribute rows
 attribute-opened : (f : IndexForm) (i seen : ℕ) (r : FlatRow) → (seen ≡ 0 → ⊥)
-    → attributeMay f i seen r ≡ (leb (seen - 1) (r .index) && (ltb (r .index) (f .attributes) && (eqb (f .owner (r .index)) i && (f .allows (r .index) (r .value) && every (spare f i) (r .index) (seen - 1)))))
+    → attributeMay f i seen r
+    ≡ (leb (seen - 1) (r .index)
+    && (ltb (r .index) (f .attributes) && (eqb (f .owner (r .index)) i && (f .allows (r .index) (r .value) && every (spare f i) (r .index) (seen - 1)))))
 attribute-opened f i zero r z = absurd (z refl)
 attribute-opened f i (suc a) r z = rw sub-one
 

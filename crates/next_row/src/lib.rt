@@ -10,8 +10,9 @@ ghost use Rattle.form_index.specs.Reading.{definitionIn, modelPart, attributesO
 ghost use Rattle.form_table.specs.Table.{Needed, Modelled, Tabled};
 ghost use Rattle.next_row.specs.Judge.{childMay, childrenEnd, attributeMay, rowMay, may, ends, levelAfter, entered};
 
-/// A place that is open. `holds`: 0 documents, 1 the rows below an element, 2 nothing. Of an element: its definition, 1 and the
-/// first attribute that may still come (0: none may), and 1 and its last child's index (0: no child yet). 12 bytes.
+/// A place that is open. `holds`: 0 documents, 1 the rows below an element, 2 nothing. Of an element: its definition, 1
+/// and the first attribute that may still come (0: none may), and 1 and
+/// its last child's index (0: no child yet). 12 bytes.
 pub struct Level {
     pub holds: u16,
     pub index: u16,
@@ -100,7 +101,9 @@ fn row_may(
     row: &[u8],
 ) -> bool
     requires { ⌜ Width w × (n ≤ 64) × (a ≤ 64) × Tabled version w n (now defs) (now parts) (now attrs) a (now table) × (l .index < n) ⌝ }
-    ensures { λ r. ⌜ r ≡ rowMay (indexForm version w 0 (now (defs .entry)) (now (parts .entry)) (now (attrs .entry)) a) (eqb (readRow (now (row .entry)) .row .sort) 2) l (readRow (now (row .entry)) .row) ⌝ }
+    ensures { λ r. ⌜ r
+        ≡ rowMay (indexForm version w 0 (now (defs .entry)) (now (parts .entry)) (now (attrs .entry)) a) (eqb (readRow (now (row .entry)) .row .sort) 2) l
+        (readRow (now (row .entry)) .row) ⌝ }
 {
     let i = l.index as usize;
     let seen = l.seen as usize;

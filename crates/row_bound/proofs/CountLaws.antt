@@ -70,5 +70,6 @@ module _ {w : ℕ} {which : Which} {count : ℕ} {rows t : Bytes} {m found : ℕ
   counting-end e = (omega (arith, g .all, matching-none w which m t e), omega (arith, g .few))
 
 -- .. and the ground
-pub places-of : (which : Which) (xs : List (Deep FlatRow)) {n : ℕ} {b : Bool} {r : ℕ} → (n ≡ matchingIn which xs) × (n ≤ 4096) → b ≡ namesGround which → r ≡ n + onlyIf b 1 → (r ≡ placesIn which xs) × (r ≤ 4097)
+pub places-of : (which : Which) (xs : List (Deep FlatRow)) {n : ℕ} {b : Bool} {r : ℕ} → (n ≡ matchingIn which xs) × (n ≤ 4096) → b ≡ namesGround which
+    → r ≡ n + onlyIf b 1 → (r ≡ placesIn which xs) × (r ≤ 4097)
 places-of which xs {b = b} (e, l) g q = (omega (arith, e, ap (λ (c : Bool). onlyIf c 1) g, q), omega (arith, q, only-few b))

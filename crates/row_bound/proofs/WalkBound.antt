@@ -1,4 +1,5 @@
--- What a walk adds at most, by any measure of rows that adds up: as much as a filling for what is due, and for each row that a filling may come below.
+-- What a walk adds at most, by any measure of rows that adds up: as much as a
+-- filling for what is due, and for each row that a filling may come below.
 use Prim.Native.Nat.{ℕ, zero, suc, _+_, _≤_}
 use native.Mathlib.Omega.{arith}
 use mathlib.Core.Path.{_≡_, refl, sym, ap, _∙_}
@@ -16,7 +17,10 @@ use Rattle.walk_writer.proofs.WalkLaws.{walked-cons, walked-none}
 use Rattle.row_bound.specs.Bound.{onlyIf}
 
 -- ---- what is due is due once
-due-closed : (c d : Bool) (F t b : ℕ) → onlyIf (c && d) F + onlyIf (elim c as (λ z. Open) [ true ↦ record { taking = 0; below = 0; due = false } | false ↦ record { taking = t; below = b; due = d } ] .due) F ≤ onlyIf d F
+due-closed : (c d : Bool) (F t b : ℕ)
+    → onlyIf (c && d) F
+    + onlyIf (elim c as (λ z. Open) [ true ↦ record { taking = 0; below = 0; due = false } | false ↦ record { taking = t; below = b; due = d } ] .due) F
+    ≤ onlyIf d F
 due-closed true d F t b = omega arith
 due-closed false d F t b = omega arith
 
@@ -53,7 +57,11 @@ module _ (p : Plan) (v : Bytes) (fill : ℕ → List (Deep FlatRow)) (size : Lis
 
         by : (m : Bool)
             → onlyIf (isFilled p o x) F
-            + onlyIf (elim m as (λ z. Open) [ true ↦ record { taking = 0; below = suc (suc (x .depth)); due = p .fills } | false ↦ record { taking = 0; below = o .below; due = o .due && not (isBelow o x && isLater (p .marks) (p .later) (x .row)) } ] .due) F
+            + onlyIf (elim m as (λ z. Open) [
+              | true ↦ record { taking = 0; below = suc (suc (x .depth)); due = p .fills }
+              | false ↦ record { taking = 0; below = o .below; due = o .due && not (isBelow o x && isLater (p .marks) (p .later) (x .row)) }
+            ] .due)
+            F
             ≤ onlyIf (o .due) F + onlyIf m G
         by true = omega (arith, fills, due-first (o .due) (isBelow o x) (isLater (p .marks) (p .later) (x .row) && not (spared p (x .row))) F)
         by false = omega (arith, due-filled (o .due) (isBelow o x) (isLater (p .marks) (p .later) (x .row)) (spared p (x .row)) F)
@@ -64,7 +72,8 @@ module _ (p : Plan) (v : Bytes) (fill : ℕ → List (Deep FlatRow)) (size : Lis
       size-emitted = by (isTaken p o x)
         where
           by : (t : Bool)
-              → size (elim t as (λ z. List (Deep FlatRow)) [ true ↦ [] | false ↦ owed (isFilled p o x) (fill (x .depth)) ++ keptRow p v x ∷ [] ]) + onlyIf (elim t as (λ z. Open) [ true ↦ taken o x | false ↦ kept p o x ] .due) F
+              → size (elim t as (λ z. List (Deep FlatRow)) [ true ↦ [] | false ↦ owed (isFilled p o x) (fill (x .depth)) ++ keptRow p v x ∷ [] ])
+              + onlyIf (elim t as (λ z. Open) [ true ↦ taken o x | false ↦ kept p o x ] .due) F
               ≤ onlyIf (o .due) F + (each + onlyIf (matches (p .above) (x .row)) G)
           by true = omega (arith, none)
           by false = omega (arith, plus (owed (isFilled p o x) (fill (x .depth))) (keptRow p v x ∷ []), size-owed (isFilled p o x) (x .depth), one, due-kept)

@@ -27,8 +27,8 @@ placesIn w xs = matchingIn w xs + onlyIf (namesGround w) 1
 abbrev pub countedTo : List (Deep FlatRow) → ℕ
 countedTo xs = 4097 - (4097 - length xs)
 
--- from `count` rows the rows xs came: if r keeps within the ceiling, there are at most r more, and at most r new ones; and r is
--- at most 4,097 rows at 4,097 places
+-- from `count` rows the rows xs came: if r keeps within the ceiling, there are at most r more, and at most r new ones;
+-- and r is at most 4,097 rows at 4,097 places
 pub record Adds (xs : List (Deep FlatRow)) (count r : ℕ) : Type 0 where
   pub few : r ≤ 16785409
   pub rows : r ≤ 4096 → length xs ≤ count + r

@@ -135,7 +135,10 @@ pub fn most_added<'a>(
     text: &[u8],
 ) -> usize
     requires { ⌜ Ready w n a (now text) plan × WalkRows w count (now rows) × (rowSize w * count ≤ length (now rows)) × (count ≤ 4096) ⌝ }
-    ensures { λ r. ⌜ Adds (walked plan (now (text .entry)) (planFilling version w n (now (defs .entry)) (now (parts .entry)) a (now (attrs .entry)) plan (now (text .entry))) (atFirst plan) (readMany readRow (rowSize w) count (now (rows .entry)))) count r ⌝ }
+    ensures { λ r. ⌜ Adds
+        (walked plan (now (text .entry)) (planFilling version w n (now (defs .entry)) (now (parts .entry)) a (now (attrs .entry)) plan (now (text .entry)))
+        (atFirst plan) (readMany readRow (rowSize w) count (now (rows .entry))))
+        count r ⌝ }
 {
     if !plan.fills {
         return 0;

@@ -63,7 +63,8 @@ module _ (f : IndexForm) where
       past (r ∷ rs) last = rw known (by (eqb (r .sort) 2) refl (past rs (suc (r .index))))
         where
           by : (c : Bool) → eqb (r .sort) 2 ≡ c → rowsRun (judge f) (inside i 0 (suc (r .index))) rs ≡ walks (f .kind i) (f .model i) (suc (r .index)) rs
-              → (rowMay f c (inside i 0 last) r && rowsRun (judge f) (levelAfter c (inside i 0 last) (r .index)) rs) ≡ (childMay (f .kind i) (f .model i) last (r .sort) (r .index) && walks (f .kind i) (f .model i) (suc (r .index)) rs)
+              → (rowMay f c (inside i 0 last) r && rowsRun (judge f) (levelAfter c (inside i 0 last) (r .index)) rs)
+              ≡ (childMay (f .kind i) (f .model i) last (r .sort) (r .index) && walks (f .kind i) (f .model i) (suc (r .index)) rs)
           by true e h = rw (child-not (f .kind i) (f .model i) last (r .sort) (r .index) (eqb-true (r .sort) 2 e))
           by false e h = ap (λ (x : Bool). childMay (f .kind i) (f .model i) last (r .sort) (r .index) && x) h
 
@@ -112,7 +113,15 @@ module _ (f : IndexForm) where
         by true e =
             let p = parted→ i e rs 0 h in
             let (o, n) = taken→ f i (p .front) (p .taken) in
-            record { known = ltb-true i (f .size) e; front = p .front; back = p .back; split = p .split; owned = o; whole = n; content = content→ (f .model i) (sound i (ltb-true i (f .size) e)) (f .kind i) (p .back) (p .walked) }
+            record {
+              known = ltb-true i (f .size) e;
+              front = p .front;
+              back = p .back;
+              split = p .split;
+              owned = o;
+              whole = n;
+              content = content→ (f .model i) (sound i (ltb-true i (f .size) e)) (f .kind i) (p .back) (p .walked);
+            }
         by false e = absurd (false≢true (sym (unknown i rs 1 0 e) ∙ h))
 
     below← : (i : ℕ) (rs : List FlatRow) → Below f i rs → rowsRun (judge f) (inside i 1 0) rs ≡ true

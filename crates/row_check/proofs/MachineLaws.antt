@@ -135,8 +135,14 @@ module _ {A S : Type 0} (m : Automaton A S) (none : S) where
     unfolding machine rowsRun Fine
     machine→ [] l d h w e = (refl, λ k q. record { row = closed→ l (suc d) 0 e k (omega arith) q; fine = tt })
     machine→ (x ∷ xs) l d h (p, w) e =
-        let (e1, f1) = and-split (ltb (x .depth) (suc d)) (levelsEnd m none l (suc d) (suc (x .depth)) && (m .may (getD l (x .depth) none) (x .row) && machine m none (opened m none l (x .depth) (x .row)) (suc (suc (x .depth))) xs)) e in
-        let (e2, f2) = and-split (levelsEnd m none l (suc d) (suc (x .depth))) (m .may (getD l (x .depth) none) (x .row) && machine m none (opened m none l (x .depth) (x .row)) (suc (suc (x .depth))) xs) f1 in
+        let (e1, f1) =
+        and-split (ltb (x .depth) (suc d))
+        (levelsEnd m none l (suc d) (suc (x .depth))
+        && (m .may (getD l (x .depth) none) (x .row) && machine m none (opened m none l (x .depth) (x .row)) (suc (suc (x .depth))) xs))
+        e in
+        let (e2, f2) =
+        and-split (levelsEnd m none l (suc d) (suc (x .depth)))
+        (m .may (getD l (x .depth) none) (x .row) && machine m none (opened m none l (x .depth) (x .row)) (suc (suc (x .depth))) xs) f1 in
         let (e3, f3) = and-split (m .may (getD l (x .depth) none) (x .row)) (machine m none (opened m none l (x .depth) (x .row)) (suc (suc (x .depth))) xs) f2 in
         let (r, o) = machine→ xs (opened m none l (x .depth) (x .row)) (suc (x .depth)) (still x l h p) w f3 in
         let s : x .depth < suc d = ltb-true (x .depth) (suc d) e1 in
@@ -154,7 +160,8 @@ module _ {A S : Type 0} (m : Automaton A S) (none : S) where
         (and-both (of-may x l h p xs (o (x .depth) s))
         (machine← xs (opened m none l (x .depth) (x .row)) (suc (x .depth)) (still x l h p) w r (owed← x l h p xs (suc d) s o))))
 
-    -- THE PASS: it accepts exactly the rows of a forest whose first rows may stand beside one another and in which every row is fine
+    -- THE PASS: it accepts exactly the rows of a forest whose first rows may
+    -- stand beside one another and in which every row is fine
     pub accepted : (xs : List (Deep A)) (l : List S) → length l ≡ suc b → Within b xs
         → (machine m none l 1 xs ≡ true) ↔ ((f : Forest A) × (flatten 0 f ≡ xs) × (rowsRun m (getD l 0 none) (heads f) ≡ true) × Fine m f)
     accepted xs l h w = (

@@ -58,8 +58,8 @@ fn pass(
     row_step::end(version, w, n, defs, parts, a, attrs, table, &levels, live)
 }
 
-/// Whether the rows' fields fit and they are those of documents that conform to a form of n definitions and a attributes in which
-/// no model names an element twice.
+/// Whether the rows' fields fit and they are those of documents that conform to a form of n definitions and a
+/// attributes in which no model names an element twice.
 pub fn rows_pass(
     version: usize,
     w: usize,
@@ -71,8 +71,12 @@ pub fn rows_pass(
     rows: &[u8],
     count: usize,
 ) -> bool
-    requires { ⌜ Width w × (n ≤ 64) × (a ≤ 64) × (rowSize w * count ≤ length (now rows)) × ((i : ℕ) → i < n → Distinct (names (indexForm version w n (now defs) (now parts) (now attrs) a .model i))) ⌝ }
-    ensures { λ r. ⌜ (r ≡ true) ↔ ((eachFits (rowFits w) (rowSize w) count (now (rows .entry)) ≡ true) × Documents (indexForm version w n (now (defs .entry)) (now (parts .entry)) (now (attrs .entry)) a) (readMany readRow (rowSize w) count (now (rows .entry)))) ⌝ }
+    requires { ⌜ Width w × (n ≤ 64) × (a ≤ 64) × (rowSize w * count ≤ length (now rows))
+        × ((i : ℕ) → i < n → Distinct (names (indexForm version w n (now defs) (now parts) (now attrs) a .model i))) ⌝ }
+    ensures { λ r. ⌜ (r ≡ true)
+        ↔ ((eachFits (rowFits w) (rowSize w) count (now (rows .entry)) ≡ true)
+        × Documents (indexForm version w n (now (defs .entry)) (now (parts .entry)) (now (attrs .entry)) a)
+        (readMany readRow (rowSize w) count (now (rows .entry)))) ⌝ }
 {
     let mut table: [u64; form_table::TABLE] = [0; form_table::TABLE];
     form_table::fill_table(version, w, n, defs, parts, a, attrs, &mut table);

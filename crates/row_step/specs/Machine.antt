@@ -1,4 +1,5 @@
--- The rows of trees, judged in one pass: an automaton for what stands below a row, and a level for each row that is open.
+-- The rows of trees, judged in one pass: an automaton for what stands
+-- below a row, and a level for each row that is open.
 use Prim.Native.Nat.{ℕ, suc}
 use mathlib.Core.Path.{_≡_}
 use mathlib.Core.Bool.{Bool, true, _&&_}

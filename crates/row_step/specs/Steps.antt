@@ -28,7 +28,8 @@ noLevels = replicate 257 groundLevel
 unfoldable pub startState : State
 startState = record { levels = noLevels; live = 1 }
 
--- a row's fields fit, its depth is open, the levels deeper than its own are owed nothing, and it may come next at its own
+-- a row's fields fit, its depth is open, the levels deeper than its own
+-- are owed nothing, and it may come next at its own
 unfoldable pub mayStep : ℕ → IndexForm → State → Bytes → Bool
 mayStep w f s row =
     rowFits w row

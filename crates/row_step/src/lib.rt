@@ -1,4 +1,5 @@
-// The check of the tree rows, a row at a time: the state between two rows, the step that a row makes, and whether the rows may end.
+// The check of the tree rows, a row at a time: the state between two rows,
+// the step that a row makes, and whether the rows may end.
 use next_row::Level;
 ghost use mathlib.Core.Path.{_≡_};
 ghost use mathlib.Core.Bool.{_&&_};
@@ -101,7 +102,8 @@ fn take_row(levels: &mut [u32; 771], d: usize, l: Level, row: &[u8])
     put_level(levels, d + 1, next_row::below_row(row));
 }
 
-/// A row closes the levels deeper than its own, comes next at its own, and opens one more: whether it may, and the state after it.
+/// A row closes the levels deeper than its own, comes next at its own, and
+/// opens one more: whether it may, and the state after it.
 pub fn step(
     version: usize,
     w: usize,
@@ -116,7 +118,8 @@ pub fn step(
     row: &[u8],
 ) -> bool
     requires { ⌜ Width w × (n ≤ 64) × (a ≤ 64) × Tabled version w n (now defs) (now parts) (now attrs) a (now table) × (length (now levels) ≡ 771) × (now live ≤ 257) ⌝ }
-    ensures { λ r. ⌜ StepMade w (indexForm version w n (now (defs .entry)) (now (parts .entry)) (now (attrs .entry)) a) (now (levels .entry)) (now (live .entry)) (now (row .entry)) r (now (levels .exit)) (now (live .exit)) ⌝ }
+    ensures { λ r. ⌜ StepMade w (indexForm version w n (now (defs .entry)) (now (parts .entry)) (now (attrs .entry)) a) (now (levels .entry)) (now (live .entry))
+        (now (row .entry)) r (now (levels .exit)) (now (live .exit)) ⌝ }
 {
     let d = layout::row_depth(row) as usize;
     let open = *live;

@@ -1,4 +1,5 @@
-// What a change does to the tree rows: the plan that all changes share, and the tests of one row that the walk over the rows makes by it.
+// What a change does to the tree rows: the plan that all changes share, and the
+// tests of one row that the walk over the rows makes by it.
 use filling::Filling;
 ghost use mathlib.Core.Path.{_≡_};
 ghost use mathlib.Core.List.{[]};
@@ -7,8 +8,8 @@ ghost use Rattle.row_walk.specs.Walk.{matches, isLater, spared, shifted,
 ghost use Rattle.row_walk.specs.Lent.{whichIn, planIn};
 ghost use Rattle.row_walk.specs.Step.{bare, keptWith, Moves, Fair};
 
-/// Some rows: none; every row, and what stands above the documents; that alone; the elements of a definition; the rows of an attribute; the
-/// element with a serial.
+/// Some rows: none; every row, and what stands above the documents; that alone; the elements of a definition; the rows
+/// of an attribute; the element with a serial.
 pub enum Which {
     Nothing,
     Everything,
@@ -18,8 +19,8 @@ pub enum Which {
     Serial(u32),
 }
 
-/// The rows that a filling comes before: none; the row with a serial; all but the rows of attributes below a number; the elements of
-/// definitions that do not stand before a place in a model.
+/// The rows that a filling comes before: none; the row with a serial; all but the rows of attributes below a number;
+/// the elements of definitions that do not stand before a place in a model.
 pub enum Later {
     Never,
     Row(u32),
@@ -34,10 +35,11 @@ pub struct Shift {
     pub less: usize,
 }
 
-/// What a change does to the rows. Below the rows `above`: the rows `takes` are taken, each with all below it; and if `fills`, the filling
-/// comes before the first row that is later, else last. `marks`: of each definition, 1 if its name stands before a place in a model, 2 if
-/// it stands at the place, else 0. `spares`: where an element at the place is the first later row, no filling comes. `keeps`: no row
-/// is taken up to the first that is later. The row with serial `set` gets the call's value (0: none does).
+/// What a change does to the rows. Below the rows `above`: the rows `takes` are taken, each with all below it; and if
+/// `fills`, the filling comes before the first row that is later, else last. `marks`: of each definition, 1 if its name
+/// stands before a place in a model, 2 if it stands at the place, else 0. `spares`: where an element at the place is
+/// the first later row, no filling comes. `keeps`: no row is taken up to the first that is later. The row with serial
+/// `set` gets the call's value (0: none does).
 pub struct Plan {
     pub above: Which,
     pub takes: Which,
@@ -52,8 +54,8 @@ pub struct Plan {
     pub attributes: Shift,
 }
 
-/// What is open between two rows. `taking`: 0, or 1 and the depth of a row taken, whose deeper rows go. `below`: 0, or 1 and the depth of
-/// the rows right below the open row of `above`. `due`: its filling is still to come.
+/// What is open between two rows. `taking`: 0, or 1 and the depth of a row taken, whose deeper rows go. `below`: 0, or
+/// 1 and the depth of the rows right below the open row of `above`. `due`: its filling is still to come.
 pub struct Open {
     pub taking: usize,
     pub below: usize,
@@ -68,10 +70,10 @@ pub struct Head {
     pub serial: usize,
 }
 
-// ---- A struct cannot be lent, and a plan that is passed by value is copied for each test. So it is lent as numbers: of `above`, `takes` and
-// `later` the variant and what it holds (0 and 1, 2 and 3, 4 and 5), `fills`, `keeps` and `spares` (6 to 8, 1 if it is so), `set` (9), the fields
-// of `definitions` and of `attributes` (10 to 12, 13 to 15), the variant of the filling and what it holds (16 to 18). The marks are lent beside
-// it to the tests that look at them.
+// ---- A struct cannot be lent, and a plan that is passed by value is copied for each test. So it is lent as numbers:
+// of `above`, `takes` and `later` the variant and what it holds (0 and 1, 2 and 3, 4 and 5), `fills`, `keeps` and
+// `spares` (6 to 8, 1 if it is so), `set` (9), the fields of `definitions` and of `attributes` (10 to 12, 13 to 15),
+// the variant of the filling and what it holds (16 to 18). The marks are lent beside it to the tests that look at them.
 
 // Whether a row is one of those of a variant with a number.
 fn matches(variant: usize, number: usize, h: Head) -> bool

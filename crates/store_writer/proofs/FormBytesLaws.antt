@@ -9,7 +9,8 @@ use borrow.Author.Tests.{leb-true}
 use lib.ListN.{length, drop, length-append}
 use Rattle.rules.specs.Bytes.{Bytes, all}
 use Rattle.rules.specs.Preorder.{Deep}
-use Rattle.rules.specs.Layout.{valueWidth, headerSize, definitionSize, particleSize, attributeSize, rowSize, FlatParticle, FlatRow, FlatStore, definitionBytes, particleBytes, attributeBytes, rowBytes, each, flatBytes}
+use Rattle.rules.specs.Layout.{valueWidth, headerSize, definitionSize, particleSize, attributeSize, rowSize, FlatParticle, FlatRow, FlatStore, definitionBytes}
+use Rattle.rules.specs.Layout.{particleBytes, attributeBytes, rowBytes, each, flatBytes}
 use Rattle.rules.specs.Decode.{readDefinition, readParticle, readAttribute}
 use Rattle.rules.specs.WellFormed.{withinCeilings}
 use Rattle.rules.proofs.Words.{and-split}
@@ -36,7 +37,8 @@ length-form w g =
       length-each (attributeBytes w) (attributeSize w) (length-attribute w) (g .attributes),
     )
 
-pub form-then : (w : ℕ) (g : FlatStore) (rest : Bytes) → each definitionBytes (g .definitions) ++ (each particleBytes (g .particles) ++ (each (attributeBytes w) (g .attributes) ++ rest)) ≡ formBytes w g ++ rest
+pub form-then : (w : ℕ) (g : FlatStore) (rest : Bytes)
+    → each definitionBytes (g .definitions) ++ (each particleBytes (g .particles) ++ (each (attributeBytes w) (g .attributes) ++ rest)) ≡ formBytes w g ++ rest
 form-then w g rest =
     let d : Bytes = each definitionBytes (g .definitions) in
     let p : Bytes = each particleBytes (g .particles) in
@@ -99,7 +101,9 @@ module _ {w : ℕ} {form : Bytes} {d p a : ℕ} (x : Forms w form d p a) (f : Fl
   reformed-length = omega (arith, length-flatBytes w (reformed f g next rows), length-form w g, ap length (x .written))
 
   headed-bytes : flatBytes w (reformed f g next rows)
-      ≡ headed w next (length (g .definitions)) (length (g .particles)) (length (g .attributes)) (length rows) (flatBytes w f) ++ (each definitionBytes (g .definitions) ++ (each particleBytes (g .particles) ++ (each (attributeBytes w) (g .attributes) ++ each (rowBytes w) rows)))
+      ≡ headed w next (length (g .definitions)) (length (g .particles)) (length (g .attributes)) (length rows) (flatBytes w f)
+      ++ (each definitionBytes (g .definitions)
+      ++ (each particleBytes (g .particles) ++ (each (attributeBytes w) (g .attributes) ++ each (rowBytes w) rows)))
   unfolding headed contents
   headed-bytes = refl
 

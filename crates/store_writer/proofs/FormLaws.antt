@@ -66,7 +66,8 @@ module _ {w : ℕ} {g : FlatStore} {form : Bytes} {d p a : ℕ} (x : FormOf w g 
   read-again =
       sym
       (λ i.
-      readBodies w 0 0 (unle-le 4 (length (g .definitions)) (fine .definitionCount) i) (unle-le 4 (length (g .particles)) (fine .particleCount) i) (unle-le 4 (length (g .attributes)) (fine .attributeCount) i) 0
+      readBodies w 0 0 (unle-le 4 (length (g .definitions)) (fine .definitionCount) i) (unle-le 4 (length (g .particles)) (fine .particleCount) i)
+      (unle-le 4 (length (g .attributes)) (fine .attributeCount) i) 0
       (each definitionBytes (g .definitions) ++ (each particleBytes (g .particles) ++ append-nil (each (attributeBytes w) (g .attributes)) i)))
       ∙ read-bytes w (bareForm g) fine
 
@@ -82,7 +83,8 @@ module _ {w : ℕ} {g : FlatStore} {form : Bytes} {d p a : ℕ} (x : FormOf w g 
   unfolding plannedIn
   planned-of plan v f = ap (λ (z : FlatStore). plannedIn z plan v f) read-form
 
-  pub form-answers : (plan : Plan) (v : Bytes) (f : FlatStore) (room : ℕ) {out : Bytes} {number len : ℕ} {left : Bytes} → Answers (limited room (plannedIn (formRead w form d p a) plan v f)) out number len left
+  pub form-answers : (plan : Plan) (v : Bytes) (f : FlatStore) (room : ℕ) {out : Bytes} {number len : ℕ} {left : Bytes}
+      → Answers (limited room (plannedIn (formRead w form d p a) plan v f)) out number len left
       → Answers (limited room (plannedIn g plan v f)) out number len left
   form-answers plan v f room r = answers-as (ap (limited room) (sym (planned-of plan v f))) r
 
@@ -94,7 +96,8 @@ without-rows true true false d e h = refl
 without-rows true true true false e h = refl
 without-rows true true true true e h = absurd (false≢true (sym h))
 
-pub form-ceiling : (g : FlatStore) → withinCeilings (bareForm g) ≡ false → (plan : Plan) (v : Bytes) (f : FlatStore) (room : ℕ) {out : Bytes} → Answers (limited room (plannedIn g plan v f)) out 16 0 out
+pub form-ceiling : (g : FlatStore) → withinCeilings (bareForm g) ≡ false → (plan : Plan) (v : Bytes) (f : FlatStore) (room : ℕ) {out : Bytes}
+    → Answers (limited room (plannedIn g plan v f)) out 16 0 out
 unfolding plannedIn
 form-ceiling g h plan v f room =
     answers-refused 16
@@ -141,7 +144,8 @@ good-bodies {bs} h =
     (subst (λ (f : FlatStore). GoodFlat (valueWidth (f .version)) f) (sym (h .bodies)) (good-flat (storeIn bs) (h .good)))
 
 -- `head` and `start`: where the code finds that the form begins and ends
-pub own-form : {bs : Bytes} → Holds bs → {head start d p a : ℕ} → head ≡ headerSize → RowsBegin bs start → Number (definitionCount bs) d → Number (particleCount bs) p → Number (attributeCount bs) a → FormOf (widthOf bs) (bodiesOf bs) (take (start - head) (drop head bs)) d p a
+pub own-form : {bs : Bytes} → Holds bs → {head start d p a : ℕ} → head ≡ headerSize → RowsBegin bs start → Number (definitionCount bs) d
+    → Number (particleCount bs) p → Number (attributeCount bs) a → FormOf (widthOf bs) (bodiesOf bs) (take (start - head) (drop head bs)) d p a
 own-form {bs} h e b n m k =
     let w : GoodFlat (widthOf bs) (bodiesOf bs) = good-bodies h in
     record {
@@ -155,13 +159,18 @@ own-form {bs} h e b n m k =
     }
 
 pub start-within : {bs : Bytes} → Holds bs → {start : ℕ} → RowsBegin bs start → (headerSize ≤ start) × (start ≤ length bs)
-start-within {bs} h b = (omega (arith, b .start, start-is bs), omega (arith, b .start, start-is bs, ap length (whole h), length-form (widthOf bs) (bodiesOf bs), length-flatBytes (widthOf bs) (bodiesOf bs)))
+start-within {bs} h b = (
+  omega (arith, b .start, start-is bs),
+  omega (arith, b .start, start-is bs, ap length (whole h), length-form (widthOf bs) (bodiesOf bs), length-flatBytes (widthOf bs) (bodiesOf bs)),
+)
 
 pub planned-same : (plan : Plan) (v : Bytes) (f : FlatStore) → plannedIn f plan v f ≡ planned plan v f
 unfolding plannedIn planned
 planned-same plan v f = refl
 
 -- an edit that leaves the form as it is
-pub own-answers : {w : ℕ} {f : FlatStore} {form : Bytes} {d p a : ℕ} → FormOf w f form d p a → (plan : Plan) (v : Bytes) (room : ℕ) {out : Bytes} {number len : ℕ} {left : Bytes} → Answers (limited room (plannedIn (formRead w form d p a) plan v f)) out number len left
+pub own-answers : {w : ℕ} {f : FlatStore} {form : Bytes} {d p a : ℕ} → FormOf w f form d p a
+    → (plan : Plan) (v : Bytes) (room : ℕ) {out : Bytes} {number len : ℕ} {left : Bytes}
+    → Answers (limited room (plannedIn (formRead w form d p a) plan v f)) out number len left
     → Answers (limited room (planned plan v f)) out number len left
 own-answers {f} x plan v room r = answers-as (ap (limited room) (sym (planned-of x plan v f ∙ planned-same plan v f))) r

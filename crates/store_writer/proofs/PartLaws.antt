@@ -25,14 +25,16 @@ particles-from : (k : ℕ) (s : Bytes) → particlesOf (drop (particleSize * k) 
 particles-from zero s = refl
 particles-from (suc k) s = by (ltb (length s) particleSize) refl (particles-from k (drop particleSize s))
   where
-    by : (b : Bool) → ltb (length s) particleSize ≡ b → particlesOf (drop (particleSize * k) (drop particleSize s)) ≡ drop k (particlesOf (drop particleSize s)) → particlesOf (drop (particleSize * suc k) s) ≡ drop (suc k) (particlesOf s)
+    by : (b : Bool) → ltb (length s) particleSize ≡ b → particlesOf (drop (particleSize * k) (drop particleSize s)) ≡ drop k (particlesOf (drop particleSize s))
+        → particlesOf (drop (particleSize * suc k) s) ≡ drop (suc k) (particlesOf s)
     by true e f =
         let short : length s < particleSize = ltb-true (length s) particleSize e in
         particles-few (drop (particleSize * suc k) s) (omega (arith, length-drop (particleSize * suc k) s)) ∙ sym (ap (λ (l : List (Deep FlatParticle)). drop (suc k) l) (particles-few s short))
     by false e f =
         let long : particleSize ≤ length s = ltb-false (length s) particleSize e in
         let n : particleSize * suc k ≡ particleSize + particleSize * k = omega arith in
-        ap (λ (m : ℕ). particlesOf (drop m s)) n ∙ sym (ap particlesOf (drop-drop (particleSize * k) particleSize s)) ∙ f ∙ sym (ap (λ (l : List (Deep FlatParticle)). drop (suc k) l) (particles-more s long))
+        ap (λ (m : ℕ). particlesOf (drop m s)) n ∙ sym (ap particlesOf (drop-drop (particleSize * k) particleSize s)) ∙ f
+        ∙ sym (ap (λ (l : List (Deep FlatParticle)). drop (suc k) l) (particles-more s long))
 
 all-particles : {bs : Bytes} → Headed bs → particlesOf (particlesIn bs) ≡ particlesRead (particleCount bs) (particlesIn bs)
 unfolding particlesOf particlesRead
@@ -42,4 +44,6 @@ all-particles {bs} h =
 
 pub members-at : {bs : Bytes} → Headed bs → (k e : ℕ) → bytes.membersReadAt (particlesIn bs) k e ≡ membersAt (bodiesOf bs) k e
 unfolding bytes.membersReadAt membersAt membersFrom bodiesOf widthOf
-members-at {bs} h k e = ap (λ (l : List (Deep FlatParticle)). indexMembers (build l e)) (particles-from k (particlesIn bs) ∙ ap (λ (l : List (Deep FlatParticle)). drop k l) (all-particles h ∙ sym (same-particles h)))
+members-at {bs} h k e =
+    ap (λ (l : List (Deep FlatParticle)). indexMembers (build l e))
+    (particles-from k (particlesIn bs) ∙ ap (λ (l : List (Deep FlatParticle)). drop k l) (all-particles h ∙ sym (same-particles h)))

@@ -36,7 +36,8 @@ row-few form owner r h k = by (r .sort)
 abbrev Fields : Deep FlatRow → Type 0
 Fields x = (1 ≤ x .row .serial) × (x .row .index ≤ 64)
 
-fields : (form : Form) (next : ℕ) → length form ≤ 64 → length (allAttributes 0 form) ≤ 64 → (owner : Bytes) (depth : ℕ) (f : Forest Row) → all (λ k. leb 1 k && ltb k next) (serials f) ≡ true → Every Fields (flatten depth (indexed form owner f))
+fields : (form : Form) (next : ℕ) → length form ≤ 64 → length (allAttributes 0 form) ≤ 64 → (owner : Bytes) (depth : ℕ) (f : Forest Row)
+    → all (λ k. leb 1 k && ltb k next) (serials f) ≡ true → Every Fields (flatten depth (indexed form owner f))
 fields form next h k owner depth bare n = tt
 fields form next h k owner depth (tree r b t) n =
     let (n₀, n₁) = and-split (leb 1 (r .serial) && ltb (r .serial) next) _ n in (

@@ -58,7 +58,8 @@ module _ (p : Plan) (v : Bytes) (none : isNothing (p .takes) ≡ true) (dry : p 
   kept-calm b x = by (matches (p .above) (x .row))
     where
       by : (m : Bool)
-          → elim m as (λ z. Open) [ true ↦ record { taking = 0; below = suc (suc (x .depth)); due = p .fills } | false ↦ calm b ] ≡ calm (elim m as (λ z. ℕ) [ true ↦ suc (suc (x .depth)) | false ↦ b ])
+          → elim m as (λ z. Open) [ true ↦ record { taking = 0; below = suc (suc (x .depth)); due = p .fills } | false ↦ calm b ]
+          ≡ calm (elim m as (λ z. ℕ) [ true ↦ suc (suc (x .depth)) | false ↦ b ])
       by true = ap (λ (d : Bool). record { taking = 0; below = suc (suc (x .depth)); due = d }) dry
       by false = refl
 

@@ -44,14 +44,19 @@ use Rattle.store_writer.proofs.RowBounds.{Bounded, rows-bounded}
 use Rattle.codec.proofs.Records.{length-many}
 
 -- ---- rows that fit and are bounded
-walk-rows : (w count : ℕ) (s : Bytes) → Small s → rowSize w * count ≤ length s → eachFits (rowFits w) (rowSize w) count s ≡ true → Every Bounded (readMany readRow (rowSize w) count s) → WalkRows w count s
+walk-rows : (w count : ℕ) (s : Bytes) → Small s → rowSize w * count ≤ length s → eachFits (rowFits w) (rowSize w) count s ≡ true
+    → Every Bounded (readMany readRow (rowSize w) count s) → WalkRows w count s
 unfolding WalkRows eachFits
 walk-rows w zero s a l e b = tt
 walk-rows w (suc count) s a l e b =
     let (f, g) = and-split (rowFits w (take (rowSize w) s)) (eachFits (rowFits w) (rowSize w) count (drop (rowSize w) s)) e in
     let long : rowSize w + rowSize w * count ≤ length s = omega (arith, mul-suc (rowSize w) count) in
     let size : length (take (rowSize w) s) ≡ rowSize w = length-take-le (rowSize w) s (omega arith) in (
-      record { old = record { written = row-canonical w (take (rowSize w) s) (small-take (rowSize w) a) size f; old = b .0 .serial }; depth = omega (arith, b .0 .depth); index = omega (arith, b .0 .index) },
+      record {
+        old = record { written = row-canonical w (take (rowSize w) s) (small-take (rowSize w) a) size f; old = b .0 .serial };
+        depth = omega (arith, b .0 .depth);
+        index = omega (arith, b .0 .index);
+      },
       walk-rows w count (drop (rowSize w) s) (small-drop (rowSize w) a) (omega (arith, length-drop (rowSize w) s)) g (b .1),
     )
 
@@ -93,7 +98,14 @@ module _ {bs : Bytes} (q : passes bs ≡ true) {version w n : ℕ} {defs parts :
 
   pub walk-ready : {v : Bytes} {p : Plan} → isValue (widthOf bs) v ≡ true → Sized p → Ready w n a v p
   walk-ready {v} t p =
-      record { width = omega (arith, x .w-is, width-small bs); definitions = omega (arith, x .n-is, laid-in h .bodies .definitionBody .few); attributes = omega (arith, x .a-is, laid-in h .bodies .attributeBody .few); text = omega (arith, x .w-is, value-width (widthOf bs) v t); plan = p .moves; filling = p .filling }
+      record {
+        width = omega (arith, x .w-is, width-small bs);
+        definitions = omega (arith, x .n-is, laid-in h .bodies .definitionBody .few);
+        attributes = omega (arith, x .a-is, laid-in h .bodies .attributeBody .few);
+        text = omega (arith, x .w-is, value-width (widthOf bs) v t);
+        plan = p .moves;
+        filling = p .filling;
+      }
 
   pub walk-whole : rowSize w * count ≤ length rows
   walk-whole =
@@ -107,18 +119,22 @@ module _ {bs : Bytes} (q : passes bs ≡ true) {version w n : ℕ} {defs parts :
       subst (λ (s : Bytes). WalkRows w count s) (sym (x .rows-is))
       (subst (λ (k : ℕ). WalkRows w k (treeRowsIn bs)) (sym (x .count-is))
       (subst (λ (k : ℕ). WalkRows k (rowCount bs) (treeRowsIn bs)) (sym (x .w-is))
-      (walk-rows (widthOf bs) (rowCount bs) (treeRowsIn bs) (rows-small h) (omega (arith, rows-whole h)) (rows-fit h q) (subst (λ (ys : List (Deep FlatRow)). Every Bounded ys) (sym b) (rows-bounded (storeIn bs) (holds bs q .good))))))
+      (walk-rows (widthOf bs) (rowCount bs) (treeRowsIn bs) (rows-small h) (omega (arith, rows-whole h)) (rows-fit h q)
+      (subst (λ (ys : List (Deep FlatRow)). Every Bounded ys) (sym b) (rows-bounded (storeIn bs) (holds bs q .good))))))
 
   -- the rows that the walk leaves are those after the plan
   rows-after : (p : Plan) (v : Bytes) → rowsAfter p v (bodiesOf bs) ≡ walked p v (planFilling version w n defs parts a attrs p v) (atFirst p) (readMany readRow (rowSize w) count rows)
   unfolding rowsAfter bodiesOf widthOf
   rows-after p v =
       sym
-      ((λ i. walked p v (planFilling (x .version-is i) (x .w-is i) (x .n-is i) (x .defs-is i) (x .parts-is i) (x .a-is i) (x .attrs-is i) p v) (atFirst p) (readMany readRow (rowSize (x .w-is i)) (x .count-is i) (x .rows-is i)))
+      ((λ i. walked p v (planFilling (x .version-is i) (x .w-is i) (x .n-is i) (x .defs-is i) (x .parts-is i) (x .a-is i) (x .attrs-is i) p v) (atFirst p)
+      (readMany readRow (rowSize (x .w-is i)) (x .count-is i) (x .rows-is i)))
       ∙ (λ i. walked p v (λ d. fillingRows (read-form h q i) (λ j. valueOf (read-attribute h q j i)) (λ k e. members-at h k e i) (p .filling) v d) (atFirst p) (read-rows h i)))
 
   -- .. and written from the serials of the store on
-  pub walk-from : (p : Plan) (v : Bytes) {at next : ℕ} {out : Bytes} {r : Cursor} {out′ : Bytes} → Number (numberAt 4 4 bs) next → Written w (walked p v (planFilling version w n defs parts a attrs p v) (atFirst p) (readMany readRow (rowSize w) count rows)) (record { at = at; left = 4097; serial = next }) out r out′
+  pub walk-from : (p : Plan) (v : Bytes) {at next : ℕ} {out : Bytes} {r : Cursor} {out′ : Bytes} → Number (numberAt 4 4 bs) next
+      → Written w (walked p v (planFilling version w n defs parts a attrs p v) (atFirst p) (readMany readRow (rowSize w) count rows))
+      (record { at = at; left = 4097; serial = next }) out r out′
       → Written (widthOf bs) (rowsAfter p v (bodiesOf bs)) (walkFrom at bs) out r out′
   walk-from p v {at} {next} {out} {r} {out′} m d =
       let xs : List (Deep FlatRow) = walked p v (planFilling version w n defs parts a attrs p v) (atFirst p) (readMany readRow (rowSize w) count rows) in

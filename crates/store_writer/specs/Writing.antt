@@ -13,7 +13,8 @@ use Rattle.filling.specs.Parts.{Indexed}
 use Rattle.row_walk.specs.declared.Plan.{Plan}
 use Rattle.row_walk.specs.Step.{Planned}
 
--- a next serial and counts that their fields hold, of a form whose bytes are no more than the ceilings allow at the widest:
+-- a next serial and counts that their fields hold, of a form whose bytes
+-- are no more than the ceilings allow at the widest:
 -- 64 definitions, 256 particles and 64 attributes of a value of 96 bytes
 pub record Heads (form : Bytes) (next d p a r : ℕ) : Type 0 where
   pub serial : next < 4294967296
@@ -32,7 +33,7 @@ pub record Sized (p : Plan) : Type 0 where
   pub moves : Planned p
   pub filling : Indexed (p .filling)
 
--- rows 16 to 18, as `limits` of the rules, of a store with so many rows, a form of so many bytes and a next serial, in a buffer
--- of so many bytes
+-- rows 16 to 18, as `limits` of the rules, of a store with so many rows, a form of so many bytes and a next serial, in
+-- a buffer of so many bytes
 unfoldable pub limitOf : ℕ → ℕ → ℕ → ℕ → ℕ → ℕ
 limitOf w form count next room = first (16 if ltb 4096 count ∷ 17 if ltb highestNumber next ∷ 18 if ltb room (headerSize + form + rowSize w * count) ∷ [])

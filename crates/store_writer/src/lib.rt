@@ -1,4 +1,5 @@
-// The store that a change leaves, written whole: the ceilings, the serials and the room first, then header, bodies and rows.
+// The store that a change leaves, written whole: the ceilings, the
+// serials and the room first, then header, bodies and rows.
 use row_walk::Plan;
 use row_writer::Cursor;
 ghost use mathlib.Core.Path.{_≡_};
@@ -61,7 +62,8 @@ fn put_form(
 /// The walk over the rows of a store, which writes from `at` on.
 pub fn walk_rows(store: &[u8], plan: Plan, text: &[u8], at: usize, out: &mut [u8]) -> Cursor
     requires { ⌜ (passes (now store) ≡ true) × (isValue (widthOf (now store)) (now text) ≡ true) × Sized plan × (at < 549755813888) ⌝ }
-    ensures { λ r. ⌜ Written (widthOf (now (store .entry))) (rowsAfter plan (now (text .entry)) (bodiesOf (now (store .entry)))) (walkFrom at (now (store .entry))) (now (out .entry)) r (now (out .exit)) ⌝ }
+    ensures { λ r. ⌜ Written (widthOf (now (store .entry))) (rowsAfter plan (now (text .entry)) (bodiesOf (now (store .entry))))
+        (walkFrom at (now (store .entry))) (now (out .entry)) r (now (out .exit)) ⌝ }
 {
     let s = layout::shape_of(store);
     let defs = layout::definition_body(store, s);
@@ -115,8 +117,8 @@ fn most_added(store: &[u8], plan: Plan, text: &[u8]) -> usize
     )
 }
 
-// 16, 17 or 18 if a store of so many rows, with a form of so many bytes and a next serial, is past the ceiling, out of serials
-// or too long for the room; else 0.
+// 16, 17 or 18 if a store of so many rows, with a form of so many bytes and a next serial, is past the ceiling, out of
+// serials or too long for the room; else 0.
 fn limit(w: usize, form: usize, count: usize, next: usize, room: usize) -> u32
     requires { ⌜ Width w × (form ≤ 9728) ⌝ }
     ensures { λ r. ⌜ r ≡ limitOf w form count next room ⌝ }
@@ -134,11 +136,13 @@ fn limit(w: usize, form: usize, count: usize, next: usize, room: usize) -> u32
     0
 }
 
-// The refusal, or 0, of the store after a plan, with a form of so many bytes. Only where the most that the plan adds is too much
-// are the rows counted, by a walk into a buffer of one byte.
+// The refusal, or 0, of the store after a plan, with a form of so many bytes. Only where the most that the plan adds is
+// too much are the rows counted, by a walk into a buffer of one byte.
 fn refusal(store: &[u8], form: usize, plan: Plan, text: &[u8], room: usize) -> u32
     requires { ⌜ (passes (now store) ≡ true) × (isValue (widthOf (now store)) (now text) ≡ true) × Sized plan × (form ≤ 9728) ⌝ }
-    ensures { λ r. ⌜ r ≡ limitOf (widthOf (now (store .entry))) form (length (rowsAfter plan (now (text .entry)) (bodiesOf (now (store .entry))))) (numberAt 4 4 (now (store .entry)) + newIn (rowsAfter plan (now (text .entry)) (bodiesOf (now (store .entry))))) room ⌝ }
+    ensures { λ r. ⌜ r
+        ≡ limitOf (widthOf (now (store .entry))) form (length (rowsAfter plan (now (text .entry)) (bodiesOf (now (store .entry)))))
+        (numberAt 4 4 (now (store .entry)) + newIn (rowsAfter plan (now (text .entry)) (bodiesOf (now (store .entry))))) room ⌝ }
 {
     let w = layout::width_in(store);
     let more = most_added(store, plan, text);
@@ -152,8 +156,8 @@ fn refusal(store: &[u8], form: usize, plan: Plan, text: &[u8], room: usize) -> u
     limit(w, form, MOST_ROWS - counted.left, counted.serial, room)
 }
 
-// Writes the store after a plan, for which there is room: the rows at their place, then the header, which has their number,
-// and the form.
+// Writes the store after a plan, for which there is room: the rows at their place, then the header, which has their
+// number, and the form.
 fn put_edited(
     store: &[u8],
     form: &[u8],
@@ -164,8 +168,14 @@ fn put_edited(
     text: &[u8],
     out: &mut [u8],
 ) -> usize
-    requires { ⌜ (passes (now store) ≡ true) × (isValue (widthOf (now store)) (now text) ≡ true) × Sized plan × Forms (widthOf (now store)) (now form) d p a × (limitOf (widthOf (now store)) (length (now form)) (length (rowsAfter plan (now text) (bodiesOf (now store)))) (numberAt 4 4 (now store) + newIn (rowsAfter plan (now text) (bodiesOf (now store)))) (length (now out)) ≡ 0) ⌝ }
-    ensures { λ r. ⌜ Laid (flatBytes (widthOf (now (store .entry))) (plannedIn (formRead (widthOf (now (store .entry))) (now (form .entry)) d p a) plan (now (text .entry)) (bodiesOf (now (store .entry))))) (now (out .entry)) 0 r (now (out .exit)) ⌝ }
+    requires { ⌜ (passes (now store) ≡ true) × (isValue (widthOf (now store)) (now text) ≡ true) × Sized plan × Forms (widthOf (now store)) (now form) d p a
+        × (limitOf (widthOf (now store)) (length (now form)) (length (rowsAfter plan (now text) (bodiesOf (now store))))
+        (numberAt 4 4 (now store) + newIn (rowsAfter plan (now text) (bodiesOf (now store)))) (length (now out))
+        ≡ 0) ⌝ }
+    ensures { λ r. ⌜ Laid
+        (flatBytes (widthOf (now (store .entry)))
+        (plannedIn (formRead (widthOf (now (store .entry))) (now (form .entry)) d p a) plan (now (text .entry)) (bodiesOf (now (store .entry)))))
+        (now (out .entry)) 0 r (now (out .exit)) ⌝ }
 {
     let w = layout::width_in(store);
     let start = layout::header_size() + form.len();
@@ -175,8 +185,8 @@ fn put_edited(
     written.at
 }
 
-/// The store after a plan and with another form: `form` holds the bytes of its d definitions, p particles and a attributes. Nothing is
-/// written before it is known that there is room.
+/// The store after a plan and with another form: `form` holds the bytes of its d definitions, p particles and a
+/// attributes. Nothing is written before it is known that there is room.
 pub fn edit_form(
     store: &[u8],
     form: &[u8],
@@ -188,7 +198,10 @@ pub fn edit_form(
     out: &mut [u8],
 ) -> Answer
     requires { ⌜ (passes (now store) ≡ true) × (isValue (widthOf (now store)) (now text) ≡ true) × Sized plan × Forms (widthOf (now store)) (now form) d p a ⌝ }
-    ensures { λ r. ⌜ Answers (limited (length (now (out .entry))) (plannedIn (formRead (widthOf (now (store .entry))) (now (form .entry)) d p a) plan (now (text .entry)) (bodiesOf (now (store .entry))))) (now (out .entry)) (r .number) (r .length) (now (out .exit)) ⌝ }
+    ensures { λ r. ⌜ Answers
+        (limited (length (now (out .entry)))
+        (plannedIn (formRead (widthOf (now (store .entry))) (now (form .entry)) d p a) plan (now (text .entry)) (bodiesOf (now (store .entry)))))
+        (now (out .entry)) (r .number) (r .length) (now (out .exit)) ⌝ }
 {
     let number = refusal(store, form.len(), plan, text, out.len());
     if number != 0 {

@@ -58,8 +58,8 @@ module _ (p : Plan) (v : Bytes) (fill : ℕ → List (Deep FlatRow)) where
   walked-none o = refl
 
 -- ---- the loop
--- before each row: whoever writes what comes of the rows that are left has written all; they are rows of an old store, and there is room for what
--- may be written
+-- before each row: whoever writes what comes of the rows that are left has written all; they are rows of an old store,
+-- and there is room for what may be written
 pub record Going (w : ℕ) (p : Plan) (v : Bytes) (fill : ℕ → List (Deep FlatRow)) (whole : List (Deep FlatRow)) (c : Cursor) (out : Bytes) (t : Bytes) (m : ℕ) (at : Cursor) (o : Open)
     (out′ : Bytes) : Type 0 where
   pub goes : (r : Cursor) (out″ : Bytes) → Written w (walked p v fill o (readMany readRow (rowSize w) m t)) at out′ r out″ → Written w whole c out r out″

@@ -1,4 +1,5 @@
-// The one walk over the tree rows that all changes share: it keeps, takes with all below, gives a value, puts fillings in and renumbers, as a plan says.
+// The one walk over the tree rows that all changes share: it keeps, takes with all
+// below, gives a value, puts fillings in and renumbers, as a plan says.
 use filling::Filling;
 use row_walk::Head;
 use row_walk::Later;
@@ -162,8 +163,8 @@ fn put_row(
     row_writer::put_kept(w, row, index, c, out)
 }
 
-// ---- The walk. As in `filling`, the form is lent as one array of slices (definitions, particles, attributes) and one of numbers (the width of a
-// value, the number of attributes, the version, the number of definitions).
+// ---- The walk. As in `filling`, the form is lent as one array of slices (definitions, particles, attributes) and one
+// of numbers (the width of a value, the number of attributes, the version, the number of definitions).
 
 // The filling at a depth, if it is due.
 fn put_owed(
@@ -177,7 +178,9 @@ fn put_owed(
     out: &mut [u8],
 ) -> Cursor
     requires { ⌜ Indexed (planIn (now p) [] .filling) × Asks (widthIn (now sizes)) c (now text) (countIn (now sizes)) (sizeIn (now sizes)) depth ⌝ }
-    ensures { λ r. ⌜ Written (widthIn (now (sizes .entry))) (owed due (fillIn (now (sizes .entry)) (now (form .entry)) (planIn (now (p .entry)) []) (now (text .entry)) depth)) c (now (out .entry)) r (now (out .exit)) ⌝ }
+    ensures { λ r. ⌜ Written (widthIn (now (sizes .entry)))
+        (owed due (fillIn (now (sizes .entry)) (now (form .entry)) (planIn (now (p .entry)) []) (now (text .entry)) depth)) c (now (out .entry)) r
+        (now (out .exit)) ⌝ }
 {
     if due {
         let what = filling_of(p);
@@ -205,8 +208,14 @@ fn come_due(
     c: Cursor,
     out: &mut [u8],
 ) -> Stepped
-    requires { ⌜ ReadyIn (now sizes) (now text) (planIn (now p) (now marks)) × Seen (widthIn (now sizes)) h (now row) × Room (widthIn (now sizes)) c × (isTaken (planIn (now p) (now marks)) o (bare h) ≡ false) ⌝ }
-    ensures { λ r. ⌜ Came (widthIn (now (sizes .entry))) (emitted (planIn (now (p .entry)) (now (marks .entry))) (now (text .entry)) (fillIn (now (sizes .entry)) (now (form .entry)) (planIn (now (p .entry)) (now (marks .entry))) (now (text .entry))) o (readRow (now (row .entry)))) (nextOpen (planIn (now (p .entry)) (now (marks .entry))) (now (text .entry)) (fillIn (now (sizes .entry)) (now (form .entry)) (planIn (now (p .entry)) (now (marks .entry))) (now (text .entry))) o (readRow (now (row .entry)))) c (now (out .entry)) r (now (out .exit)) ⌝ }
+    requires { ⌜ ReadyIn (now sizes) (now text) (planIn (now p) (now marks)) × Seen (widthIn (now sizes)) h (now row) × Room (widthIn (now sizes)) c
+        × (isTaken (planIn (now p) (now marks)) o (bare h) ≡ false) ⌝ }
+    ensures { λ r. ⌜ Came (widthIn (now (sizes .entry)))
+        (emitted (planIn (now (p .entry)) (now (marks .entry))) (now (text .entry))
+        (fillIn (now (sizes .entry)) (now (form .entry)) (planIn (now (p .entry)) (now (marks .entry))) (now (text .entry))) o (readRow (now (row .entry))))
+        (nextOpen (planIn (now (p .entry)) (now (marks .entry))) (now (text .entry))
+        (fillIn (now (sizes .entry)) (now (form .entry)) (planIn (now (p .entry)) (now (marks .entry))) (now (text .entry))) o (readRow (now (row .entry))))
+        c (now (out .entry)) r (now (out .exit)) ⌝ }
 {
     let filled = row_walk::is_filled(p, marks, o, h);
     let at = put_owed(form, sizes, p, text, filled, h.depth, c, out);
@@ -233,7 +242,12 @@ fn come(
     out: &mut [u8],
 ) -> Stepped
     requires { ⌜ ReadyIn (now sizes) (now text) (planIn (now p) (now marks)) × Seen (widthIn (now sizes)) h (now row) × Room (widthIn (now sizes)) c ⌝ }
-    ensures { λ r. ⌜ Came (widthIn (now (sizes .entry))) (emitted (planIn (now (p .entry)) (now (marks .entry))) (now (text .entry)) (fillIn (now (sizes .entry)) (now (form .entry)) (planIn (now (p .entry)) (now (marks .entry))) (now (text .entry))) o (readRow (now (row .entry)))) (nextOpen (planIn (now (p .entry)) (now (marks .entry))) (now (text .entry)) (fillIn (now (sizes .entry)) (now (form .entry)) (planIn (now (p .entry)) (now (marks .entry))) (now (text .entry))) o (readRow (now (row .entry)))) c (now (out .entry)) r (now (out .exit)) ⌝ }
+    ensures { λ r. ⌜ Came (widthIn (now (sizes .entry)))
+        (emitted (planIn (now (p .entry)) (now (marks .entry))) (now (text .entry))
+        (fillIn (now (sizes .entry)) (now (form .entry)) (planIn (now (p .entry)) (now (marks .entry))) (now (text .entry))) o (readRow (now (row .entry))))
+        (nextOpen (planIn (now (p .entry)) (now (marks .entry))) (now (text .entry))
+        (fillIn (now (sizes .entry)) (now (form .entry)) (planIn (now (p .entry)) (now (marks .entry))) (now (text .entry))) o (readRow (now (row .entry))))
+        c (now (out .entry)) r (now (out .exit)) ⌝ }
 {
     if row_walk::is_taken(p, o, h) {
         return Stepped {
@@ -265,7 +279,12 @@ fn step(
     out: &mut [u8],
 ) -> Stepped
     requires { ⌜ ReadyIn (now sizes) (now text) (planIn (now p) (now marks)) × WalkRow (widthIn (now sizes)) (now row) × Near o × Room (widthIn (now sizes)) c ⌝ }
-    ensures { λ r. ⌜ Came (widthIn (now (sizes .entry))) (stepRows (planIn (now (p .entry)) (now (marks .entry))) (now (text .entry)) (fillIn (now (sizes .entry)) (now (form .entry)) (planIn (now (p .entry)) (now (marks .entry))) (now (text .entry))) o (readRow (now (row .entry)))) (stepOpen (planIn (now (p .entry)) (now (marks .entry))) (now (text .entry)) (fillIn (now (sizes .entry)) (now (form .entry)) (planIn (now (p .entry)) (now (marks .entry))) (now (text .entry))) o (readRow (now (row .entry)))) c (now (out .entry)) r (now (out .exit)) ⌝ }
+    ensures { λ r. ⌜ Came (widthIn (now (sizes .entry)))
+        (stepRows (planIn (now (p .entry)) (now (marks .entry))) (now (text .entry))
+        (fillIn (now (sizes .entry)) (now (form .entry)) (planIn (now (p .entry)) (now (marks .entry))) (now (text .entry))) o (readRow (now (row .entry))))
+        (stepOpen (planIn (now (p .entry)) (now (marks .entry))) (now (text .entry))
+        (fillIn (now (sizes .entry)) (now (form .entry)) (planIn (now (p .entry)) (now (marks .entry))) (now (text .entry))) o (readRow (now (row .entry))))
+        c (now (out .entry)) r (now (out .exit)) ⌝ }
 {
     let h = read_head(row);
     if row_walk::gone(o, h) {
@@ -293,8 +312,13 @@ fn walk_lent(
     c: Cursor,
     out: &mut [u8],
 ) -> Cursor
-    requires { ⌜ ReadyIn (now sizes) (now text) (planIn (now p) (now marks)) × WalkRows (widthIn (now sizes)) count (now rows) × (rowSize (widthIn (now sizes)) * count ≤ length (now rows)) × Room (widthIn (now sizes)) c ⌝ }
-    ensures { λ r. ⌜ Written (widthIn (now (sizes .entry))) (walked (planIn (now (p .entry)) (now (marks .entry))) (now (text .entry)) (fillIn (now (sizes .entry)) (now (form .entry)) (planIn (now (p .entry)) (now (marks .entry))) (now (text .entry))) (atFirst (planIn (now (p .entry)) (now (marks .entry)))) (readMany readRow (rowSize (widthIn (now (sizes .entry)))) count (now (rows .entry)))) c (now (out .entry)) r (now (out .exit)) ⌝ }
+    requires { ⌜ ReadyIn (now sizes) (now text) (planIn (now p) (now marks)) × WalkRows (widthIn (now sizes)) count (now rows)
+        × (rowSize (widthIn (now sizes)) * count ≤ length (now rows)) × Room (widthIn (now sizes)) c ⌝ }
+    ensures { λ r. ⌜ Written (widthIn (now (sizes .entry)))
+        (walked (planIn (now (p .entry)) (now (marks .entry))) (now (text .entry))
+        (fillIn (now (sizes .entry)) (now (form .entry)) (planIn (now (p .entry)) (now (marks .entry))) (now (text .entry)))
+        (atFirst (planIn (now (p .entry)) (now (marks .entry)))) (readMany readRow (rowSize (widthIn (now (sizes .entry)))) count (now (rows .entry))))
+        c (now (out .entry)) r (now (out .exit)) ⌝ }
 {
     let size = layout::row_size(sizes[0]);
     let mut t = rows;
@@ -333,7 +357,10 @@ pub fn walk<'a>(
     out: &mut [u8],
 ) -> Cursor
     requires { ⌜ Ready w n a (now text) plan × WalkRows w count (now rows) × (rowSize w * count ≤ length (now rows)) × Room w c ⌝ }
-    ensures { λ r. ⌜ Written w (walked plan (now (text .entry)) (planFilling version w n (now (defs .entry)) (now (parts .entry)) a (now (attrs .entry)) plan (now (text .entry))) (atFirst plan) (readMany readRow (rowSize w) count (now (rows .entry)))) c (now (out .entry)) r (now (out .exit)) ⌝ }
+    ensures { λ r. ⌜ Written w
+        (walked plan (now (text .entry)) (planFilling version w n (now (defs .entry)) (now (parts .entry)) a (now (attrs .entry)) plan (now (text .entry)))
+        (atFirst plan) (readMany readRow (rowSize w) count (now (rows .entry))))
+        c (now (out .entry)) r (now (out .exit)) ⌝ }
 {
     let form = [defs, parts, attrs];
     let sizes = [w, a, version, n];

@@ -2,7 +2,8 @@
 use native.Mathlib.Omega.{arith}
 use borrow.Author.Needs.{needs}
 use lib.ListN.{length, drop, length-take, length-drop}
-use Rattle.filling.proofs.FillingLaws.{Unsettled, unsettled-starts, unsettled-ends, unsettled-over, unsettled-past, unsettled-here, unsettled-by, unsettled-on, absent-skips, absent-element, absent-list, absent-choice}
+use Rattle.filling.proofs.FillingLaws.{Unsettled, unsettled-starts, unsettled-ends, unsettled-over, unsettled-past, unsettled-here, unsettled-by}
+use Rattle.filling.proofs.FillingLaws.{unsettled-on, absent-skips, absent-element, absent-list, absent-choice}
 use Prim.Native.Nat.{ℕ, _<_, _+_, _-_, _*_}
 use borrow.Fn.Kinds.{In}
 use borrow.Fn.PlainCycle.{Measures, is, falls, and}
@@ -86,7 +87,9 @@ member-accepts-nothing-calls t = (is-optional-reads.Asked, is-optional-reads.Lea
 accepts-nothing-loop-holds : (t : ℕ) → accepts-nothing-lts.Need-loop-holds (accepts-nothing-calls t) (accepts-nothing-at t) accepts-nothing.Post accepts-nothing-Inv-loop accepts-nothing-μ-loop
 accepts-nothing-loop-holds t c = let a = c .before .args in unsettled-starts (a .kind) (a .d) (a .s .now)
 
-accepts-nothing-particle-depth-requires : (t : ℕ) → accepts-nothing-lts.Need-particle-depth-requires (accepts-nothing-calls t) (accepts-nothing-at t) accepts-nothing.Post accepts-nothing-Inv-loop accepts-nothing-μ-loop
+accepts-nothing-particle-depth-requires : (t : ℕ)
+    → accepts-nothing-lts.Need-particle-depth-requires (accepts-nothing-calls t) (accepts-nothing-at t) accepts-nothing.Post accepts-nothing-Inv-loop
+    accepts-nothing-μ-loop
 accepts-nothing-particle-depth-requires t c κs = search needs
 
 accepts-nothing-cast-own : (t : ℕ) → accepts-nothing-lts.Need-cast-own (accepts-nothing-calls t) (accepts-nothing-at t) accepts-nothing.Post accepts-nothing-Inv-loop accepts-nothing-μ-loop
@@ -97,7 +100,10 @@ accepts-nothing-nothing-of-none-requires :
 accepts-nothing-nothing-of-none-requires t c κs = search needs
 
 accepts-nothing-returns : (t : ℕ) → accepts-nothing-lts.Need-returns (accepts-nothing-calls t) (accepts-nothing-at t) accepts-nothing.Post accepts-nothing-Inv-loop accepts-nothing-μ-loop
-accepts-nothing-returns t c = unsettled-over (c .before .before .before .before .loop .inv) (omega arith) _ (c .before .before .particle-depth .ensures) (omega arith) (c .nothing-of-none .ensures)
+accepts-nothing-returns t c =
+    let at-particle-depth = c .before .before in
+    let at-loop = at-particle-depth .before .before in
+    unsettled-over (at-loop .loop .inv) (omega arith) _ (at-particle-depth .particle-depth .ensures) (omega arith) (c .nothing-of-none .ensures)
 
 accepts-nothing-is-passed-requires :
     (t : ℕ) → accepts-nothing-lts.Need-is-passed-requires (accepts-nothing-calls t) (accepts-nothing-at t) accepts-nothing.Post accepts-nothing-Inv-loop accepts-nothing-μ-loop
@@ -113,19 +119,23 @@ accepts-nothing-part-t-end : (t : ℕ) → accepts-nothing-lts.Need-part-t-end (
 accepts-nothing-part-t-end t c = search needs
 
 accepts-nothing-loop-less : (t : ℕ) → accepts-nothing-lts.Need-loop-less (accepts-nothing-calls t) (accepts-nothing-at t) accepts-nothing.Post accepts-nothing-Inv-loop accepts-nothing-μ-loop
-accepts-nothing-loop-less t c = let t = c .before .before .before .before .before .before .loop .t .now in omega (arith, length-take (length t - 4) (drop 4 t), length-drop 4 t)
+accepts-nothing-loop-less t c =
+    let at-loop = c .before .before .before .before .before .before in
+    let t = at-loop .loop .t .now in
+    omega (arith, length-take (length t - 4) (drop 4 t), length-drop 4 t)
 
 accepts-nothing-loop-again : (t : ℕ) → accepts-nothing-lts.Need-loop-again (accepts-nothing-calls t) (accepts-nothing-at t) accepts-nothing.Post accepts-nothing-Inv-loop accepts-nothing-μ-loop
 accepts-nothing-loop-again t c =
-    let at-loop = c .before .before .before .before .before .before in
-    let at-depth = c .before .before .before .before in
-    unsettled-past (at-loop .loop .inv) (omega arith) _ (at-depth .particle-depth .ensures) (omega arith) _ (c .before .before .is-passed .ensures) (c .before .if2 .taken)
+    let at-is-passed = c .before .before in
+    let at-depth = at-is-passed .before .before in
+    let at-loop = at-depth .before .before in
+    unsettled-past (at-loop .loop .inv) (omega arith) _ (at-depth .particle-depth .ensures) (omega arith) _ (at-is-passed .is-passed .ensures) (c .before .if2 .taken)
 
 accepts-nothing-member-accepts-nothing-requires :
     (t : ℕ) → accepts-nothing-lts.Need-member-accepts-nothing-requires (accepts-nothing-calls t) (accepts-nothing-at t) accepts-nothing.Post accepts-nothing-Inv-loop accepts-nothing-μ-loop
 accepts-nothing-member-accepts-nothing-requires t c κs =
-    let at-loop = c .before .before .before .before .before in
     let at-depth = c .before .before .before in
+    let at-loop = at-depth .before .before in
     let here = unsettled-here (at-loop .loop .inv) (omega arith) _ (at-depth .particle-depth .ensures) (omega arith) _ (c .before .is-passed .ensures) (c .if2 .left) in
     (omega (arith, at-loop .loop .inv .short), (omega (arith, here), omega arith))
 
@@ -135,12 +145,12 @@ accepts-nothing-is-settled-requires t c κs = search needs
 
 accepts-nothing-returns-2 : (t : ℕ) → accepts-nothing-lts.Need-returns-2 (accepts-nothing-calls t) (accepts-nothing-at t) accepts-nothing.Post accepts-nothing-Inv-loop accepts-nothing-μ-loop
 accepts-nothing-returns-2 t c =
-    let at-loop = c .before .before .before .before .before .before .before .before in
-    let at-depth = c .before .before .before .before .before .before in
-    let at-passed = c .before .before .before .before in
-    let at-else = c .before .before .before in
-    let at-member = c .before .before in
     let at-settled = c .before in
+    let at-member = at-settled .before in
+    let at-else = at-member .before in
+    let at-passed = at-else .before in
+    let at-depth = at-passed .before .before in
+    let at-loop = at-depth .before .before in
     unsettled-by (at-loop .loop .inv) (omega arith) _ (at-depth .particle-depth .ensures) (omega arith) _ (at-passed .is-passed .ensures) (at-else .if2 .left)
     _ (at-member .member-accepts-nothing .ensures) _ (at-settled .is-settled .ensures) (c .if3 .taken)
 
@@ -156,17 +166,18 @@ accepts-nothing-part-t-end-2 t c = search needs
 
 accepts-nothing-loop-less-2 : (t : ℕ) → accepts-nothing-lts.Need-loop-less-2 (accepts-nothing-calls t) (accepts-nothing-at t) accepts-nothing.Post accepts-nothing-Inv-loop accepts-nothing-μ-loop
 accepts-nothing-loop-less-2 t c =
-    let t = c .before .before .before .before .before .before .before .before .before .loop .t .now in
+    let at-loop = c .before .before .before .before .before .before .before .before .before in
+    let t = at-loop .loop .t .now in
     omega (arith, length-take (length t - 4) (drop 4 t), length-drop 4 t)
 
 accepts-nothing-loop-again-2 : (t : ℕ) → accepts-nothing-lts.Need-loop-again-2 (accepts-nothing-calls t) (accepts-nothing-at t) accepts-nothing.Post accepts-nothing-Inv-loop accepts-nothing-μ-loop
 accepts-nothing-loop-again-2 t c =
-    let at-loop = c .before .before .before .before .before .before .before .before .before in
-    let at-depth = c .before .before .before .before .before .before .before in
-    let at-passed = c .before .before .before .before .before in
-    let at-else = c .before .before .before .before in
-    let at-member = c .before .before .before in
     let at-settled = c .before .before in
+    let at-member = at-settled .before in
+    let at-else = at-member .before in
+    let at-passed = at-else .before in
+    let at-depth = at-passed .before .before in
+    let at-loop = at-depth .before .before in
     unsettled-on (at-loop .loop .inv) (omega arith) _ (at-depth .particle-depth .ensures) (omega arith) _ (at-passed .is-passed .ensures) (at-else .if2 .left)
     _ (at-member .member-accepts-nothing .ensures) _ (at-settled .is-settled .ensures) (c .before .if3 .left)
 
@@ -175,16 +186,22 @@ accepts-nothing-nothing-of-none-requires-2 :
 accepts-nothing-nothing-of-none-requires-2 t c κs = search needs
 
 accepts-nothing-returns-3 : (t : ℕ) → accepts-nothing-lts.Need-returns-3 (accepts-nothing-calls t) (accepts-nothing-at t) accepts-nothing.Post accepts-nothing-Inv-loop accepts-nothing-μ-loop
-accepts-nothing-returns-3 t c = unsettled-ends (c .before .before .loop .inv) (omega arith) (c .nothing-of-none2 .ensures)
+accepts-nothing-returns-3 t c =
+    let at-loop = c .before .before in
+    unsettled-ends (at-loop .loop .inv) (omega arith) (c .nothing-of-none2 .ensures)
 
 member-accepts-nothing-is-optional-requires :
     (t : ℕ) → member-accepts-nothing-lts.Need-is-optional-requires (member-accepts-nothing-calls t) (member-accepts-nothing-at t) member-accepts-nothing.Post
 member-accepts-nothing-is-optional-requires t c κs = search needs
 
 member-accepts-nothing-returns : (t : ℕ) → member-accepts-nothing-lts.Need-returns (member-accepts-nothing-calls t) (member-accepts-nothing-at t) member-accepts-nothing.Post
-member-accepts-nothing-returns t c = let a = c .before .before .before .args in absent-skips (a .d) (a .t .now) _ (c .before .is-optional .ensures) (c .if1 .taken)
+member-accepts-nothing-returns t c =
+    let start = c .before .before .before in
+    let a = start .args in
+    absent-skips (a .d) (a .t .now) _ (c .before .is-optional .ensures) (c .if1 .taken)
 
-member-accepts-nothing-particle-sort-requires : (t : ℕ) → member-accepts-nothing-lts.Need-particle-sort-requires (member-accepts-nothing-calls t) (member-accepts-nothing-at t) member-accepts-nothing.Post
+member-accepts-nothing-particle-sort-requires : (t : ℕ)
+    → member-accepts-nothing-lts.Need-particle-sort-requires (member-accepts-nothing-calls t) (member-accepts-nothing-at t) member-accepts-nothing.Post
 member-accepts-nothing-particle-sort-requires t c κs = search needs
 
 member-accepts-nothing-sub-accepts-nothing :
@@ -206,7 +223,8 @@ member-accepts-nothing-add-accepts-nothing t c = search needs
 member-accepts-nothing-accepts-nothing-requires :
     (t : ℕ) → member-accepts-nothing-lts.Need-accepts-nothing-requires (member-accepts-nothing-calls t) (member-accepts-nothing-at t) member-accepts-nothing.Post
 member-accepts-nothing-accepts-nothing-requires t c κs =
-    let s = c .before .before .before .before .before .before .args .t .now in
+    let start = c .before .before .before .before .before .before in
+    let s = start .args .t .now in
     (omega (arith, length-take (length s - 4) (drop 4 s), length-drop 4 s), omega arith)
 
 member-accepts-nothing-sub-accepts-nothing-2 :
@@ -228,28 +246,39 @@ member-accepts-nothing-add-accepts-nothing-2 t c = search needs
 member-accepts-nothing-accepts-nothing-requires-2 :
     (t : ℕ) → member-accepts-nothing-lts.Need-accepts-nothing-requires-2 (member-accepts-nothing-calls t) (member-accepts-nothing-at t) member-accepts-nothing.Post
 member-accepts-nothing-accepts-nothing-requires-2 t c κs =
-    let s = c .before .before .before .before .before .before .args .t .now in
+    let start = c .before .before .before .before .before .before in
+    let s = start .args .t .now in
     (omega (arith, length-take (length s - 4) (drop 4 s), length-drop 4 s), omega arith)
 
 member-accepts-nothing-returns-2 : (t : ℕ) → member-accepts-nothing-lts.Need-returns-2 (member-accepts-nothing-calls t) (member-accepts-nothing-at t) member-accepts-nothing.Post
 member-accepts-nothing-returns-2 t c =
-    let a = c .before .before .before .before .before .args in
-    let at-optional = c .before .before .before in
-    absent-element (a .d) (a .t .now) _ (at-optional .is-optional .ensures) (c .before .before .if1 .left) _ (c .before .particle-sort .ensures) (c .match .keys1)
+    let at-if1 = c .before .before in
+    let at-optional = at-if1 .before in
+    let start = at-optional .before .before in
+    let a = start .args in
+    absent-element (a .d) (a .t .now) _ (at-optional .is-optional .ensures) (at-if1 .if1 .left) _ (c .before .particle-sort .ensures) (c .match .keys1)
 
 member-accepts-nothing-returns-3 : (t : ℕ) → member-accepts-nothing-lts.Need-returns-3 (member-accepts-nothing-calls t) (member-accepts-nothing-at t) member-accepts-nothing.Post
 member-accepts-nothing-returns-3 t c =
-    let a = c .before .before .before .before .before .before .before .args in
-    let at-optional = c .before .before .before .before .before in
-    absent-list (a .d) (a .t .now) _ (at-optional .is-optional .ensures) (c .before .before .before .before .if1 .left)
-    _ (c .before .before .before .particle-sort .ensures) _ (c .before .before .match .keys2) (c .accepts-nothing .ensures)
+    let at-match = c .before .before in
+    let at-particle-sort = at-match .before in
+    let at-if1 = at-particle-sort .before in
+    let at-optional = at-if1 .before in
+    let start = at-optional .before .before in
+    let a = start .args in
+    absent-list (a .d) (a .t .now) _ (at-optional .is-optional .ensures) (at-if1 .if1 .left)
+    _ (at-particle-sort .particle-sort .ensures) _ (at-match .match .keys2) (c .accepts-nothing .ensures)
 
 member-accepts-nothing-returns-4 : (t : ℕ) → member-accepts-nothing-lts.Need-returns-4 (member-accepts-nothing-calls t) (member-accepts-nothing-at t) member-accepts-nothing.Post
 member-accepts-nothing-returns-4 t c =
-    let a = c .before .before .before .before .before .before .before .args in
-    let at-optional = c .before .before .before .before .before in
-    absent-choice (a .d) (a .t .now) _ (at-optional .is-optional .ensures) (c .before .before .before .before .if1 .left) _ (c .before .before .before .particle-sort .ensures) _
-    (c .before .before .match .rest .0 .1) (c .before .before .match .rest .1) (c .accepts-nothing2 .ensures)
+    let at-match = c .before .before in
+    let at-particle-sort = at-match .before in
+    let at-if1 = at-particle-sort .before in
+    let at-optional = at-if1 .before in
+    let start = at-optional .before .before in
+    let a = start .args in
+    absent-choice (a .d) (a .t .now) _ (at-optional .is-optional .ensures) (at-if1 .if1 .left) _ (at-particle-sort .particle-sort .ensures) _
+    (at-match .match .rest .0 .1) (at-match .match .rest .1) (c .accepts-nothing2 .ensures)
 
 pub +accepts-nothing+member-accepts-nothing-spec : {M : Type 1} → statement M
 +accepts-nothing+member-accepts-nothing-spec =

@@ -4,7 +4,10 @@ use Rattle.rules.specs.Model.{filling}
 use Rattle.model.specs.Members.{membersFrom}
 use Rattle.row_writer.proofs.WrittenLaws.{written-stop, written-room, written-long}
 use Rattle.filling.specs.Parts.{defsIn, partsIn, attrsIn, widthIn, countIn, versionOfFilling, cursorIn}
-use Rattle.filling.proofs.FillingLaws.{Rest, rest-starts, rest-past, rest-here, rest-on, rest-first, rest-over, rest-ends, member-skips, member-element, member-nothing, member-group, definition-low, definition-written, below-none, below-text, below-group, none-written, one-written, same-written, index-small, top, rank, rank-particles, rank-part, rank-height, part-short}
+use Rattle.filling.proofs.FillingLaws.{Rest, rest-starts, rest-past, rest-here, rest-on, rest-first, rest-over, rest-ends, member-skips, member-element}
+use Rattle.filling.proofs.FillingLaws.{member-nothing, member-group, definition-low, definition-written, below-none, below-text, below-group}
+use Rattle.filling.proofs.FillingLaws.{none-written, one-written, same-written, index-small, top, rank, rank-particles, rank-part, rank-height}
+use Rattle.filling.proofs.FillingLaws.{part-short}
 use borrow.Author.Needs.{needs}
 use native.Mathlib.Omega.{arith}
 use Prim.Native.Nat.{ℕ, _<_, _+_, _-_, _*_}
@@ -94,7 +97,18 @@ abbrev put-group-calls : ℕ → put-group-lts.Claims
 put-group-calls t = (particle-depth-reads.Asked, particle-depth-reads.Learnt, is-passed-reads.Asked, is-passed-reads.Learnt, put-member-below t, put-member.Post)
 
 abbrev put-member-calls : ℕ → put-member-lts.Claims
-put-member-calls t = (read-particle-reads.Asked, read-particle-reads.Learnt, skips-reads.Asked, skips-reads.Learnt, put-definition-below t, put-definition.Post, accepts-nothing-reads.Asked, accepts-nothing-reads.Learnt, put-group-below t, put-group.Post)
+put-member-calls t = (
+  read-particle-reads.Asked,
+  read-particle-reads.Learnt,
+  skips-reads.Asked,
+  skips-reads.Learnt,
+  put-definition-below t,
+  put-definition.Post,
+  accepts-nothing-reads.Asked,
+  accepts-nothing-reads.Learnt,
+  put-group-below t,
+  put-group.Post,
+)
 
 put-below-element-copy-out-kind-of : (t : ℕ) → put-below-lts.Need-element-copy-out-kind-of (put-below-calls t) (put-below-at t) put-below.Post
 put-below-element-copy-out-kind-of t c = search needs
@@ -106,7 +120,9 @@ put-below-element-copy-out-put-row : (t : ℕ) → put-below-lts.Need-element-co
 put-below-element-copy-out-put-row t c = search needs
 
 put-below-put-row-requires : (t : ℕ) → put-below-lts.Need-put-row-requires (put-below-calls t) (put-below-at t) put-below.Post
-put-below-put-row-requires t c κs = let q = c .before .before .before .before .before .before .before .before .pre .1 .1 in (q .width, q .room, omega (arith, q .deep), omega arith, q .text)
+put-below-put-row-requires t c κs =
+    let start = c .before .before .before .before .before .before .before .before in
+    let q = start .pre .1 .1 in (q .width, q .room, omega (arith, q .deep), omega arith, q .text)
 
 put-below-element-copy-out-model-part : (t : ℕ) → put-below-lts.Need-element-copy-out-model-part (put-below-calls t) (put-below-at t) put-below.Post
 put-below-element-copy-out-model-part t c = search needs
@@ -119,25 +135,52 @@ put-below-model-part-requires : (t : ℕ) → put-below-lts.Need-model-part-requ
 put-below-model-part-requires t c κs = search needs
 
 put-below-put-group-requires : (t : ℕ) → put-below-lts.Need-put-group-requires (put-below-calls t) (put-below-at t) put-below.Post
-put-below-put-group-requires t c κs = let a = c .before .before .before .before .before .before .before .before .before .args in let q = c .before .before .before .before .before .before .before .before .before .pre .1 .1 in let short = part-short (defsIn (a .form .now)) (partsIn (a .form .now)) (a .i) (c .before .before .model-part .result .now) (c .before .before .model-part .ensures) in (omega (arith, rank-part (a .h) (length (c .before .before .model-part .result .now)) (omega arith)), (omega arith, q))
+put-below-put-group-requires t c κs =
+    let at-model-part = c .before .before in
+    let start = at-model-part .before .before .before .before .before .before .before in
+    let a = start .args in
+    let q = start .pre .1 .1 in
+    let short =
+    part-short (defsIn (a .form .now)) (partsIn (a .form .now)) (a .i) (at-model-part .model-part .result .now) (at-model-part .model-part .ensures) in
+    (omega (arith, rank-part (a .h) (length (at-model-part .model-part .result .now)) (omega arith)), (omega arith, q))
 
 put-below-returns : (t : ℕ) → put-below-lts.Need-returns (put-below-calls t) (put-below-at t) put-below.Post
-put-below-returns t c = let a = c .before .before .before .before .args in below-none (versionOfFilling (a .sizes .now)) (widthIn (a .sizes .now)) (defsIn (a .form .now)) (partsIn (a .form .now)) (attrsIn (a .form .now)) (countIn (a .sizes .now)) (a .text .now .now) (a .h) (a .depth) (a .i) _ (c .before .kind-of .ensures) (omega arith)
+put-below-returns t c =
+    let start = c .before .before .before .before in
+    let a = start .args in
+    below-none (versionOfFilling (a .sizes .now)) (widthIn (a .sizes .now)) (defsIn (a .form .now)) (partsIn (a .form .now)) (attrsIn (a .form .now))
+    (countIn (a .sizes .now)) (a .text .now .now) (a .h) (a .depth) (a .i) _ (c .before .kind-of .ensures) (omega arith)
 
 put-below-same-length : (t : ℕ) → put-below-lts.Need-same-length (put-below-calls t) (put-below-at t) put-below.Post
 put-below-same-length t c = search needs
 
 put-below-returns-2 : (t : ℕ) → put-below-lts.Need-returns-2 (put-below-calls t) (put-below-at t) put-below.Post
-put-below-returns-2 t c = let a = c .before .before .before .before .before .before .before .before .before .before .before .args in below-text (versionOfFilling (a .sizes .now)) (widthIn (a .sizes .now)) (defsIn (a .form .now)) (partsIn (a .form .now)) (attrsIn (a .form .now)) (countIn (a .sizes .now)) (a .text .now .now) (a .h) (a .depth) (a .i) _ (c .before .before .before .before .before .before .before .before .kind-of .ensures) (omega arith) (c .before .before .put-row .ensures)
+put-below-returns-2 t c =
+    let put-row = c .before .before .put-row in
+    let kind-of = c .before .before .before .before .before .before .before .before .kind-of in
+    let a = c .before .before .before .before .before .before .before .before .before .before .before .args in
+    below-text (versionOfFilling (a .sizes .now)) (widthIn (a .sizes .now)) (defsIn (a .form .now)) (partsIn (a .form .now)) (attrsIn (a .form .now))
+    (countIn (a .sizes .now)) (a .text .now .now) (a .h) (a .depth) (a .i) _ (kind-of .ensures) (omega arith) (put-row .ensures)
 
 put-below-same-length-2 : (t : ℕ) → put-below-lts.Need-same-length-2 (put-below-calls t) (put-below-at t) put-below.Post
 put-below-same-length-2 t c = search needs
 
 put-below-returns-3 : (t : ℕ) → put-below-lts.Need-returns-3 (put-below-calls t) (put-below-at t) put-below.Post
-put-below-returns-3 t c = let a = c .before .before .before .before .before .before .before .before .before .before .before .before .args in below-group (versionOfFilling (a .sizes .now)) (widthIn (a .sizes .now)) (defsIn (a .form .now)) (partsIn (a .form .now)) (attrsIn (a .form .now)) (countIn (a .sizes .now)) (a .text .now .now) (a .h) (a .depth) (a .i) _ (c .before .before .before .before .before .before .before .before .before .kind-of .ensures) _ (λ e. omega arith) (λ e. omega arith) (c .before .before .before .before .before .model-part .ensures) (c .before .before .put-group .ensures)
+put-below-returns-3 t c =
+    let the-put-group = c .before .before .put-group in
+    let model-part = c .before .before .before .before .before .model-part in
+    let kind-of = c .before .before .before .before .before .before .before .before .before .kind-of in
+    let a = c .before .before .before .before .before .before .before .before .before .before .before .before .args in
+    below-group (versionOfFilling (a .sizes .now)) (widthIn (a .sizes .now)) (defsIn (a .form .now)) (partsIn (a .form .now)) (attrsIn (a .form .now))
+    (countIn (a .sizes .now)) (a .text .now .now) (a .h) (a .depth) (a .i) _ (kind-of .ensures) _ (λ e. omega arith) (λ e. omega arith)
+    (model-part .ensures) (the-put-group .ensures)
 
 put-definition-returns : (t : ℕ) → put-definition-lts.Need-returns (put-definition-calls t) (put-definition-at t) put-definition.Post
-put-definition-returns t c = let a = c .before .before .args in definition-low (versionOfFilling (a .sizes .now)) (widthIn (a .sizes .now)) (defsIn (a .form .now)) (partsIn (a .form .now)) (attrsIn (a .form .now)) (countIn (a .sizes .now)) (a .text .now .now) (a .h) (a .depth) (a .i) (omega arith)
+put-definition-returns t c =
+    let start = c .before .before in
+    let a = start .args in
+    definition-low (versionOfFilling (a .sizes .now)) (widthIn (a .sizes .now)) (defsIn (a .form .now)) (partsIn (a .form .now)) (attrsIn (a .form .now))
+    (countIn (a .sizes .now)) (a .text .now .now) (a .h) (a .depth) (a .i) (omega arith)
 
 put-definition-element-copy-out-w : (t : ℕ) → put-definition-lts.Need-element-copy-out-w (put-definition-calls t) (put-definition-at t) put-definition.Post
 put-definition-element-copy-out-w t c = search needs
@@ -146,7 +189,9 @@ put-definition-slice-aggregate-put-row : (t : ℕ) → put-definition-lts.Need-s
 put-definition-slice-aggregate-put-row t c = search needs
 
 put-definition-put-row-requires : (t : ℕ) → put-definition-lts.Need-put-row-requires (put-definition-calls t) (put-definition-at t) put-definition.Post
-put-definition-put-row-requires t c κs = let q = c .before .before .before .before .before .before .before .pre .1 .1 in (q .width, q .room, omega (arith, q .deep), omega arith, omega arith)
+put-definition-put-row-requires t c κs =
+    let start = c .before .before .before .before .before .before .before in
+    let q = start .pre .1 .1 in (q .width, q .room, omega (arith, q .deep), omega arith, omega arith)
 
 put-definition-element-copy-out-put-required :
     (t : ℕ) → put-definition-lts.Need-element-copy-out-put-required (put-definition-calls t) (put-definition-at t) put-definition.Post
@@ -161,25 +206,60 @@ put-definition-element-copy-out-put-required-3 :
 put-definition-element-copy-out-put-required-3 t c = search needs
 
 put-definition-add-put-required : (t : ℕ) → put-definition-lts.Need-add-put-required (put-definition-calls t) (put-definition-at t) put-definition.Post
-put-definition-add-put-required t c = let q = c .before .before .before .before .before .before .before .before .before .before .before .before .before .pre .1 .1 in omega (arith, q .deep)
+put-definition-add-put-required t c =
+    let start = c .before .before .before .before .before .before .before .before .before .before .before .before .before in
+    let q = start .pre .1 .1 in
+    omega (arith, q .deep)
 
 put-definition-put-required-requires : (t : ℕ) → put-definition-lts.Need-put-required-requires (put-definition-calls t) (put-definition-at t) put-definition.Post
-put-definition-put-required-requires t c κs = let q = c .before .before .before .before .before .before .before .before .before .before .before .before .before .before .before .pre .1 .1 in (q .width, written-room (c .before .before .before .before .before .before .before .put-row .ensures) (q .room), q .attributes, omega (arith, q .deep))
+put-definition-put-required-requires t c κs =
+    let at-put-row = c .before .before .before .before .before .before .before in
+    let start = at-put-row .before .before .before .before .before .before .before .before in
+    let q = start .pre .1 .1 in (q .width, written-room (at-put-row .put-row .ensures) (q .room), q .attributes, omega (arith, q .deep))
 
 put-definition-sub-put-below : (t : ℕ) → put-definition-lts.Need-sub-put-below (put-definition-calls t) (put-definition-at t) put-definition.Post
 put-definition-sub-put-below t c = omega arith
 
 put-definition-add-put-below : (t : ℕ) → put-definition-lts.Need-add-put-below (put-definition-calls t) (put-definition-at t) put-definition.Post
-put-definition-add-put-below t c = let q = c .before .before .before .before .before .before .before .before .before .before .before .before .before .before .before .before .before .before .pre .1 .1 in omega (arith, q .deep)
+put-definition-add-put-below t c =
+    let start = c .before .before .before .before .before .before .before .before .before .before .before .before .before .before .before .before .before .before in
+    let q = start .pre .1 .1 in
+    omega (arith, q .deep)
 
 put-definition-put-below-requires : (t : ℕ) → put-definition-lts.Need-put-below-requires (put-definition-calls t) (put-definition-at t) put-definition.Post
-put-definition-put-below-requires t c κs = let a = c .before .before .before .before .before .before .before .before .before .before .before .before .before .before .before .before .before .before .before .before .args in let q = c .before .before .before .before .before .before .before .before .before .before .before .before .before .before .before .before .before .before .before .before .pre .1 .1 in (omega (arith, rank-height (a .h) (λ e. omega arith)), (omega arith, record { width = q .width; room = written-room (c .before .before .before .before .put-required .ensures) (written-room (c .before .before .before .before .before .before .before .before .before .before .before .before .put-row .ensures) (q .room)); text = q .text; attributes = q .attributes; deep = omega (arith, q .deep) }))
+put-definition-put-below-requires t c κs =
+    let a =
+    c .before .before .before .before .before .before .before .before .before .before .before .before .before .before .before .before .before .before .before
+    .before .args in
+    let q = c .before .before .before .before .before .before .before .before .before .before .before .before .before .before .before .before .before .before
+    .before .before .pre .1 .1 in (
+      omega (arith, rank-height (a .h) (λ e. omega arith)),
+      (
+        omega arith,
+        record {
+          width = q .width;
+          room = written-room (c .before .before .before .before .put-required .ensures)
+              (written-room (c .before .before .before .before .before .before .before .before .before .before .before .before .put-row .ensures)
+              (q .room));
+          text = q .text;
+          attributes = q .attributes;
+          deep = omega (arith, q .deep);
+        },
+      ),
+    )
 
 put-definition-same-length : (t : ℕ) → put-definition-lts.Need-same-length (put-definition-calls t) (put-definition-at t) put-definition.Post
 put-definition-same-length t c = search needs
 
 put-definition-returns-2 : (t : ℕ) → put-definition-lts.Need-returns-2 (put-definition-calls t) (put-definition-at t) put-definition.Post
-put-definition-returns-2 t c = let a = c .before .before .before .before .before .before .before .before .before .before .before .before .before .before .before .before .before .before .before .before .before .before .before .args in definition-written (versionOfFilling (a .sizes .now)) (widthIn (a .sizes .now)) (defsIn (a .form .now)) (partsIn (a .form .now)) (attrsIn (a .form .now)) (countIn (a .sizes .now)) (a .text .now .now) (a .h) (a .depth) (a .i) (λ e. omega arith) (c .before .before .before .before .before .before .before .before .before .before .before .before .before .before .before .put-row .ensures) (c .before .before .before .before .before .before .before .put-required .ensures) (c .before .before .put-below .ensures)
+put-definition-returns-2 t c =
+    let a =
+    c .before .before .before .before .before .before .before .before .before .before .before .before .before .before .before .before .before .before .before
+    .before .before .before .before .args in
+    definition-written (versionOfFilling (a .sizes .now)) (widthIn (a .sizes .now)) (defsIn (a .form .now)) (partsIn (a .form .now)) (attrsIn (a .form .now))
+    (countIn (a .sizes .now)) (a .text .now .now) (a .h) (a .depth) (a .i) (λ e. omega arith)
+    (c .before .before .before .before .before .before .before .before .before .before .before .before .before .before .before .put-row .ensures)
+    (c .before .before .before .before .before .before .before .put-required .ensures) (c .before .before .put-below .ensures)
 
 -- the members from t on are still to be written
 abbrev put-group-Inv-loop : put-group-lts.InvT-loop
@@ -190,7 +270,9 @@ abbrev put-group-μ-loop : put-group-lts.MeasureT-loop
 put-group-μ-loop s d kind form text sizes h depth c₀ out₀ t₀ c out t = length t
 
 put-group-loop-holds : (t : ℕ) → put-group-lts.Need-loop-holds (put-group-calls t) (put-group-at t) put-group.Post put-group-Inv-loop put-group-μ-loop
-put-group-loop-holds t c = rest-starts (c .before .before .pre .1 .1 .room)
+put-group-loop-holds t c =
+    let start = c .before .before in
+    rest-starts (start .pre .1 .1 .room)
 
 put-group-particle-depth-requires : (t : ℕ) → put-group-lts.Need-particle-depth-requires (put-group-calls t) (put-group-at t) put-group.Post put-group-Inv-loop put-group-μ-loop
 put-group-particle-depth-requires t c κs = search needs
@@ -202,16 +284,25 @@ put-group-element-copy-out-if1 : (t : ℕ) → put-group-lts.Need-element-copy-o
 put-group-element-copy-out-if1 t c = search needs
 
 put-group-same-length : (t : ℕ) → put-group-lts.Need-same-length (put-group-calls t) (put-group-at t) put-group.Post put-group-Inv-loop put-group-μ-loop
-put-group-same-length t c = c .before .before .before .before .loop .inv .long
+put-group-same-length t c =
+    let at-loop = c .before .before .before .before in
+    at-loop .loop .inv .long
 
 put-group-returns : (t : ℕ) → put-group-lts.Need-returns (put-group-calls t) (put-group-at t) put-group.Post put-group-Inv-loop put-group-μ-loop
-put-group-returns t c = c .before .before .before .before .loop .inv .rest (written-stop (omega arith))
+put-group-returns t c =
+    let at-loop = c .before .before .before .before in
+    at-loop .loop .inv .rest (written-stop (omega arith))
 
 put-group-same-length-2 : (t : ℕ) → put-group-lts.Need-same-length-2 (put-group-calls t) (put-group-at t) put-group.Post put-group-Inv-loop put-group-μ-loop
-put-group-same-length-2 t c = c .before .before .before .before .before .loop .inv .long
+put-group-same-length-2 t c =
+    let at-loop = c .before .before .before .before .before in
+    at-loop .loop .inv .long
 
 put-group-returns-2 : (t : ℕ) → put-group-lts.Need-returns-2 (put-group-calls t) (put-group-at t) put-group.Post put-group-Inv-loop put-group-μ-loop
-put-group-returns-2 t c = rest-over (c .before .before .before .before .before .loop .inv) (omega arith) _ (c .before .before .before .particle-depth .ensures) (omega arith)
+put-group-returns-2 t c =
+    let at-particle-depth = c .before .before .before in
+    let at-loop = at-particle-depth .before .before in
+    rest-over (at-loop .loop .inv) (omega arith) _ (at-particle-depth .particle-depth .ensures) (omega arith)
 
 put-group-is-passed-requires : (t : ℕ) → put-group-lts.Need-is-passed-requires (put-group-calls t) (put-group-at t) put-group.Post put-group-Inv-loop put-group-μ-loop
 put-group-is-passed-requires t c κs = search needs
@@ -230,20 +321,22 @@ put-group-loop-less t c = search needs
 
 put-group-loop-again : (t : ℕ) → put-group-lts.Need-loop-again (put-group-calls t) (put-group-at t) put-group.Post put-group-Inv-loop put-group-μ-loop
 put-group-loop-again t c =
-    let at-loop = c .before .before .before .before .before .before .before .before in
-    let at-depth = c .before .before .before .before .before .before in
     let at-passed = c .before .before in
+    let at-depth = at-passed .before .before .before .before in
+    let at-loop = at-depth .before .before in
     rest-past (at-loop .loop .inv) (omega arith) _ (at-depth .particle-depth .ensures) _ (at-passed .is-passed .ensures) (omega arith) (c .before .if3 .taken)
 
 put-group-put-member-requires : (t : ℕ) → put-group-lts.Need-put-member-requires (put-group-calls t) (put-group-at t) put-group.Post put-group-Inv-loop put-group-μ-loop
 put-group-put-member-requires t c κs =
-    let a = c .before .before .before .before .before .before .before .before .before .before .before .before .args in
-    let q = c .before .before .before .before .before .before .before .before .before .before .before .before .pre .1 .1 in
-    let at-loop = c .before .before .before .before .before .before .before .before .before in
-    let at-depth = c .before .before .before .before .before .before .before in
-    let at-passed = c .before .before .before in
+    let at-if3 = c .before .before in
+    let at-passed = at-if3 .before in
+    let at-depth = at-passed .before .before .before .before in
+    let at-loop = at-depth .before .before in
+    let start = at-loop .before .before .before in
+    let a = start .args in
+    let q = start .pre .1 .1 in
     let i = at-loop .loop .inv in
-    let here = rest-here (at-loop .loop .inv) (omega arith) _ (at-depth .particle-depth .ensures) _ (at-passed .is-passed .ensures) (c .before .before .if3 .left) in
+    let here = rest-here (at-loop .loop .inv) (omega arith) _ (at-depth .particle-depth .ensures) _ (at-passed .is-passed .ensures) (at-if3 .if3 .left) in
     let fewer : 4 * length (at-loop .loop .t .now) < 4 * length (a .s .now) + 1 = omega (arith, i .short) in (
       omega (arith, rank-particles (a .h) (4 * length (at-loop .loop .t .now)) (4 * length (a .s .now) + 1) fewer),
       (omega (arith, here), omega arith, record { width = q .width; room = i .room; text = q .text; attributes = q .attributes; deep = q .deep }),
@@ -266,30 +359,33 @@ put-group-loop-less-2 t c = search needs
 
 put-group-loop-again-2 : (t : ℕ) → put-group-lts.Need-loop-again-2 (put-group-calls t) (put-group-at t) put-group.Post put-group-Inv-loop put-group-μ-loop
 put-group-loop-again-2 t c =
-    let at-loop = c .before .before .before .before .before .before .before .before .before .before .before .before .before .before .before in
-    let at-depth = c .before .before .before .before .before .before .before .before .before .before .before .before .before in
-    let at-passed = c .before .before .before .before .before .before .before .before .before in
-    let at-else = c .before .before .before .before .before .before .before .before in
+    let at-put-member = c .before .before .before .before .before in
+    let at-else = at-put-member .before .before .before in
+    let at-passed = at-else .before in
+    let at-depth = at-passed .before .before .before .before in
+    let at-loop = at-depth .before .before in
     let here = rest-here (at-loop .loop .inv) (omega arith) _ (at-depth .particle-depth .ensures) _ (at-passed .is-passed .ensures) (at-else .if3 .left) in
-    rest-on (at-loop .loop .inv) (omega arith) _ (at-depth .particle-depth .ensures) here (omega arith) (c .before .before .before .before .before .put-member .ensures) (c .before .enum-told .given .1)
+    rest-on (at-loop .loop .inv) (omega arith) _ (at-depth .particle-depth .ensures) here (omega arith) (at-put-member .put-member .ensures) (c .before .enum-told .given .1)
 
 put-group-enum-told-2 : (t : ℕ) → put-group-lts.Need-enum-told-2 (put-group-calls t) (put-group-at t) put-group.Post put-group-Inv-loop put-group-μ-loop
 put-group-enum-told-2 t c = search needs
 
 put-group-same-length-3 : (t : ℕ) → put-group-lts.Need-same-length-3 (put-group-calls t) (put-group-at t) put-group.Post put-group-Inv-loop put-group-μ-loop
 put-group-same-length-3 t c =
-    let at-loop = c .before .before .before .before .before .before .before .before .before .before .before .before .before .before in
-    let l = written-long (c .before .before .before .before .put-member .ensures) in
+    let at-put-member = c .before .before .before .before in
+    let at-loop = at-put-member .before .before .before .before .before .before .before .before .before .before in
+    let l = written-long (at-put-member .put-member .ensures) in
     omega (arith, at-loop .loop .inv .long, l)
 
 put-group-returns-3 : (t : ℕ) → put-group-lts.Need-returns-3 (put-group-calls t) (put-group-at t) put-group.Post put-group-Inv-loop put-group-μ-loop
 put-group-returns-3 t c =
-    let at-loop = c .before .before .before .before .before .before .before .before .before .before .before .before .before .before in
-    let at-depth = c .before .before .before .before .before .before .before .before .before .before .before .before in
-    let at-passed = c .before .before .before .before .before .before .before .before in
-    let at-else = c .before .before .before .before .before .before .before in
+    let at-put-member = c .before .before .before .before in
+    let at-else = at-put-member .before .before .before in
+    let at-passed = at-else .before in
+    let at-depth = at-passed .before .before .before .before in
+    let at-loop = at-depth .before .before in
     let here = rest-here (at-loop .loop .inv) (omega arith) _ (at-depth .particle-depth .ensures) _ (at-passed .is-passed .ensures) (at-else .if3 .left) in
-    rest-first (at-loop .loop .inv) (omega arith) _ (at-depth .particle-depth .ensures) here (omega arith) (c .before .before .before .before .put-member .ensures) (c .enum-told2 .given .1)
+    rest-first (at-loop .loop .inv) (omega arith) _ (at-depth .particle-depth .ensures) here (omega arith) (at-put-member .put-member .ensures) (c .enum-told2 .given .1)
 
 put-group-same-length-4 : (t : ℕ) → put-group-lts.Need-same-length-4 (put-group-calls t) (put-group-at t) put-group.Post put-group-Inv-loop put-group-μ-loop
 put-group-same-length-4 t c = c .before .loop .inv .long
@@ -304,13 +400,28 @@ put-member-skips-requires : (t : ℕ) → put-member-lts.Need-skips-requires (pu
 put-member-skips-requires t c κs = search needs
 
 put-member-returns : (t : ℕ) → put-member-lts.Need-returns (put-member-calls t) (put-member-at t) put-member.Post
-put-member-returns t c = let a = c .before .before .before .before .before .args in none-written (versionOfFilling (a .sizes .now)) (widthIn (a .sizes .now)) (defsIn (a .form .now)) (partsIn (a .form .now)) (attrsIn (a .form .now)) (countIn (a .sizes .now)) (a .text .now .now) (a .h) (a .depth) _ (member-skips (a .d) (a .s .now) _ (c .before .before .read-particle .ensures) _ (c .before .skips .ensures) (c .if1 .taken))
+put-member-returns t c =
+    let at-read-particle = c .before .before in
+    let start = at-read-particle .before .before .before in
+    let a = start .args in
+    none-written (versionOfFilling (a .sizes .now)) (widthIn (a .sizes .now)) (defsIn (a .form .now)) (partsIn (a .form .now)) (attrsIn (a .form .now))
+    (countIn (a .sizes .now)) (a .text .now .now) (a .h) (a .depth) _
+    (member-skips (a .d) (a .s .now) _ (at-read-particle .read-particle .ensures) _ (c .before .skips .ensures) (c .if1 .taken))
 
 put-member-enum-known-what : (t : ℕ) → put-member-lts.Need-enum-known-what (put-member-calls t) (put-member-at t) put-member.Post
 put-member-enum-known-what t c = search needs
 
 put-member-put-definition-requires : (t : ℕ) → put-member-lts.Need-put-definition-requires (put-member-calls t) (put-member-at t) put-member.Post
-put-member-put-definition-requires t c κs = let a = c .before .before .before .before .before .before .before .before .before .before .args in let q = c .before .before .before .before .before .before .before .before .before .before .pre .1 .2 in let i = index-small (a .s .now) _ _ (c .before .before .before .before .before .before .before .read-particle .ensures) (c .before .before .before .what .given .1) (c .before .before .before .before .before .before .before .before .before .shared-slice-known .given 2 .fits) in (omega (arith, rank-particles (a .h) 0 (4 * length (a .s .now)) (omega arith)), (omega arith, q))
+put-member-put-definition-requires t c κs =
+    let at-what = c .before .before .before in
+    let at-read-particle = at-what .before .before .before .before in
+    let at-shared-slice-known = at-read-particle .before .before in
+    let start = at-shared-slice-known .before in
+    let a = start .args in
+    let q = start .pre .1 .2 in
+    let i = index-small (a .s .now) _ _ (at-read-particle .read-particle .ensures) (at-what .what .given .1)
+    (at-shared-slice-known .shared-slice-known .given 2 .fits) in
+    (omega (arith, rank-particles (a .h) 0 (4 * length (a .s .now)) (omega arith)), (omega arith, q))
 
 put-member-enum-known-what-2 : (t : ℕ) → put-member-lts.Need-enum-known-what-2 (put-member-calls t) (put-member-at t) put-member.Post
 put-member-enum-known-what-2 t c = search needs
@@ -331,25 +442,71 @@ put-member-accepts-nothing-requires : (t : ℕ) → put-member-lts.Need-accepts-
 put-member-accepts-nothing-requires t c κs = search needs
 
 put-member-returns-2 : (t : ℕ) → put-member-lts.Need-returns-2 (put-member-calls t) (put-member-at t) put-member.Post
-put-member-returns-2 t c = let a = c .before .before .before .before .before .before .before .before .before .before .before .args in none-written (versionOfFilling (a .sizes .now)) (widthIn (a .sizes .now)) (defsIn (a .form .now)) (partsIn (a .form .now)) (attrsIn (a .form .now)) (countIn (a .sizes .now)) (a .text .now .now) (a .h) (a .depth) _ (member-nothing (a .d) (a .s .now) _ (c .before .before .before .before .before .before .before .before .read-particle .ensures) _ (c .before .before .before .before .before .before .before .skips .ensures) (c .before .before .before .before .before .before .if1 .left) _ _ (c .before .before .before .before .what2 .given .1) _ refl _ (c .before .accepts-nothing .ensures) (c .if2 .taken))
+put-member-returns-2 t c =
+    let at-what2 = c .before .before .before .before in
+    let at-if1 = at-what2 .before .before in
+    let at-skips = at-if1 .before in
+    let at-read-particle = at-skips .before in
+    let start = at-read-particle .before .before .before in
+    let a = start .args in
+    none-written (versionOfFilling (a .sizes .now)) (widthIn (a .sizes .now)) (defsIn (a .form .now)) (partsIn (a .form .now)) (attrsIn (a .form .now))
+    (countIn (a .sizes .now)) (a .text .now .now) (a .h) (a .depth) _
+    (member-nothing (a .d) (a .s .now) _ (at-read-particle .read-particle .ensures) _ (at-skips .skips .ensures) (at-if1 .if1 .left) _ _
+    (at-what2 .what2 .given .1) _ refl _ (c .before .accepts-nothing .ensures) (c .if2 .taken))
 
 put-member-add-put-group : (t : ℕ) → put-member-lts.Need-add-put-group (put-member-calls t) (put-member-at t) put-member.Post
 put-member-add-put-group t c = search needs
 
 put-member-put-group-requires : (t : ℕ) → put-member-lts.Need-put-group-requires (put-member-calls t) (put-member-at t) put-member.Post
-put-member-put-group-requires t c κs = let a = c .before .before .before .before .before .before .before .before .before .before .before .before .before .args in let q = c .before .before .before .before .before .before .before .before .before .before .before .before .before .pre .1 .2 in (omega (arith, rank-particles (a .h) (4 * length (take (length (a .s .now) - 4) (drop 4 (a .s .now))) + 1) (4 * length (a .s .now)) (omega (arith, length-take (length (a .s .now) - 4) (drop 4 (a .s .now)), length-drop 4 (a .s .now)))), (omega arith, q))
+put-member-put-group-requires t c κs =
+    let start = c .before .before .before .before .before .before .before .before .before .before .before .before .before in
+    let a = start .args in
+    let q = start .pre .1 .2 in (
+      omega (
+        arith,
+        rank-particles (a .h) (4 * length (take (length (a .s .now) - 4) (drop 4 (a .s .now))) + 1) (4 * length (a .s .now))
+            (omega (arith, length-take (length (a .s .now) - 4) (drop 4 (a .s .now)), length-drop 4 (a .s .now))),
+      ),
+      (omega arith, q),
+    )
 
 put-member-same-length : (t : ℕ) → put-member-lts.Need-same-length (put-member-calls t) (put-member-at t) put-member.Post
 put-member-same-length t c = search needs
 
 put-member-returns-3 : (t : ℕ) → put-member-lts.Need-returns-3 (put-member-calls t) (put-member-at t) put-member.Post
-put-member-returns-3 t c = let a = c .before .before .before .before .before .before .before .before .before .before .before .before .before .args in one-written (versionOfFilling (a .sizes .now)) (widthIn (a .sizes .now)) (defsIn (a .form .now)) (partsIn (a .form .now)) (attrsIn (a .form .now)) (countIn (a .sizes .now)) (a .text .now .now) (a .h) (a .depth) _ _ (member-element (a .d) (a .s .now) _ (c .before .before .before .before .before .before .before .before .before .before .read-particle .ensures) _ (c .before .before .before .before .before .before .before .before .before .skips .ensures) (c .before .before .before .before .before .before .before .before .if1 .left) _ (c .before .before .before .before .before .before .what .given .1)) (c .before .before .put-definition .ensures)
+put-member-returns-3 t c =
+    let at-put-definition = c .before .before in
+    let at-what = at-put-definition .before .before .before .before in
+    let at-if1 = at-what .before .before in
+    let at-skips = at-if1 .before in
+    let at-read-particle = at-skips .before in
+    let start = at-read-particle .before .before .before in
+    let a = start .args in
+    one-written (versionOfFilling (a .sizes .now)) (widthIn (a .sizes .now)) (defsIn (a .form .now)) (partsIn (a .form .now)) (attrsIn (a .form .now))
+    (countIn (a .sizes .now)) (a .text .now .now) (a .h) (a .depth) _ _
+    (member-element (a .d) (a .s .now) _ (at-read-particle .read-particle .ensures) _ (at-skips .skips .ensures) (at-if1 .if1 .left) _
+    (at-what .what .given .1))
+    (at-put-definition .put-definition .ensures)
 
 put-member-same-length-2 : (t : ℕ) → put-member-lts.Need-same-length-2 (put-member-calls t) (put-member-at t) put-member.Post
 put-member-same-length-2 t c = search needs
 
 put-member-returns-4 : (t : ℕ) → put-member-lts.Need-returns-4 (put-member-calls t) (put-member-at t) put-member.Post
-put-member-returns-4 t c = let a = c .before .before .before .before .before .before .before .before .before .before .before .before .before .before .before .before .args in same-written (versionOfFilling (a .sizes .now)) (widthIn (a .sizes .now)) (defsIn (a .form .now)) (partsIn (a .form .now)) (attrsIn (a .form .now)) (countIn (a .sizes .now)) (a .text .now .now) (a .h) (a .depth) _ _ (member-group (a .d) (a .s .now) _ (c .before .before .before .before .before .before .before .before .before .before .before .before .before .read-particle .ensures) _ (c .before .before .before .before .before .before .before .before .before .before .before .before .skips .ensures) (c .before .before .before .before .before .before .before .before .before .before .before .if1 .left) _ _ (c .before .before .before .before .before .before .before .before .before .what2 .given .1) _ refl _ (c .before .before .before .before .before .before .accepts-nothing .ensures) (c .before .before .before .before .before .if2 .left)) (c .before .before .put-group .ensures)
+put-member-returns-4 t c =
+    let at-put-group = c .before .before in
+    let at-if2 = at-put-group .before .before .before in
+    let at-accepts-nothing = at-if2 .before in
+    let at-what2 = at-accepts-nothing .before .before .before in
+    let at-if1 = at-what2 .before .before in
+    let at-skips = at-if1 .before in
+    let at-read-particle = at-skips .before in
+    let start = at-read-particle .before .before .before in
+    let a = start .args in
+    same-written (versionOfFilling (a .sizes .now)) (widthIn (a .sizes .now)) (defsIn (a .form .now)) (partsIn (a .form .now)) (attrsIn (a .form .now))
+    (countIn (a .sizes .now)) (a .text .now .now) (a .h) (a .depth) _ _
+    (member-group (a .d) (a .s .now) _ (at-read-particle .read-particle .ensures) _ (at-skips .skips .ensures) (at-if1 .if1 .left) _ _
+    (at-what2 .what2 .given .1) _ refl _ (at-accepts-nothing .accepts-nothing .ensures) (at-if2 .if2 .left))
+    (at-put-group .put-group .ensures)
 
 pub +put-below+put-definition+put-group+put-member-spec : {M : Type 1} → statement M
 +put-below+put-definition+put-group+put-member-spec =

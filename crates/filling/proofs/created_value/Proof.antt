@@ -17,9 +17,12 @@ created-value-requires c κs = search needs
 
 returns : tie.Need-returns
 returns c =
-    let a = c .before .before .before .before .before .args in
-    let at-record = c .before .before .before .attribute-at in
-    let at-sort = c .before .before .attribute-sort in
+    let at-attribute-sort = c .before .before in
+    let at-attribute-at = at-attribute-sort .before in
+    let start = at-attribute-at .before .before in
+    let a = start .args in
+    let at-record = at-attribute-at .attribute-at in
+    let at-sort = at-attribute-sort .attribute-sort in
     created-told (a .w) (a .attrs .now) (a .j) _ _ _ _ (at-record .ensures) (at-sort .ensures) (c .before .attribute-value .ensures) (c .created-value .ensures)
 
 pub created-value-spec : {M : Type 1} → statement M

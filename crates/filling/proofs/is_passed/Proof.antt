@@ -9,7 +9,10 @@ is-left-out-requires : tie.Need-is-left-out-requires
 is-left-out-requires c κs = search needs
 
 returns : tie.Need-returns
-returns c = let a = c .before .before .args in ap (λ (z : Bool). ltb (a .d) (a .own) || z) (c .is-left-out .ensures)
+returns c =
+    let start = c .before .before in
+    let a = start .args in
+    ap (λ (z : Bool). ltb (a .d) (a .own) || z) (c .is-left-out .ensures)
 
 pub is-passed-spec : {M : Type 1} → statement M
 is-passed-spec = tie.close (tie.spec is-left-out-requires returns)

@@ -16,10 +16,21 @@ same-length : tie.Need-same-length
 same-length c = search needs
 
 returns : tie.Need-returns
-returns c = let a = c .before .before .before .before .before .before .before .before .before .before .args in needed-written (a .version) (a .w) (a .attrs .now) (a .depth) (a .i) (a .j) (c .before .before .before .before .before .before .before .needs .ensures) (c .before .before .before .before .before .before .if1 .taken) (c .before .before .before .before .before .created-value .ensures .0) (c .before .before .put-row .ensures)
+returns c =
+    let at-put-row = c .before .before in
+    let at-created-value = at-put-row .before .before .before in
+    let at-if1 = at-created-value .before in
+    let at-needs = at-if1 .before in
+    let start = at-needs .before .before .before in
+    let a = start .args in
+    needed-written (a .version) (a .w) (a .attrs .now) (a .depth) (a .i) (a .j) (at-needs .needs .ensures) (at-if1 .if1 .taken)
+    (at-created-value .created-value .ensures .0) (at-put-row .put-row .ensures)
 
 returns-2 : tie.Need-returns-2
-returns-2 c = let a = c .before .before .before .before .args in spare-written (a .version) (a .w) (a .attrs .now) (a .depth) (a .i) (a .j) (c .before .needs .ensures) (c .if1 .left)
+returns-2 c =
+    let start = c .before .before .before .before in
+    let a = start .args in
+    spare-written (a .version) (a .w) (a .attrs .now) (a .depth) (a .i) (a .j) (c .before .needs .ensures) (c .if1 .left)
 
 pub put-attribute-spec : {M : Type 1} → statement M
 put-attribute-spec =

@@ -17,8 +17,8 @@ fills-nothing-requires c κs = search needs
 
 returns : tie.Need-returns
 returns c =
-    let start = c .before .before .before .before .before in
     let at-particles-from = c .before .before in
+    let start = at-particles-from .before .before .before in
     let a = start .args in
     let s = a .sizes .now in
     let f = a .form .now in
@@ -34,11 +34,11 @@ same-length c = search needs
 
 returns-2 : tie.Need-returns-2
 returns-2 c =
-    let start = c .before .before .before .before .before .before .before .before .before .before in
-    let at-particles-from = c .before .before .before .before .before .before .before in
-    let at-fills-nothing = c .before .before .before .before .before .before in
-    let at-if1 = c .before .before .before .before .before in
     let at-put-group = c .before .before in
+    let at-if1 = at-put-group .before .before .before in
+    let at-fills-nothing = at-if1 .before in
+    let at-particles-from = at-fills-nothing .before in
+    let start = at-particles-from .before .before .before in
     let a = start .args in
     let s = a .sizes .now in
     let f = a .form .now in

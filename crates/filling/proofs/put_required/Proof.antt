@@ -16,10 +16,15 @@ abbrev μ-loop : tie.MeasureT-loop
 μ-loop version w i a attrs depth c₀ out₀ j₀ c out j = a - j
 
 loop-holds : tie.Need-loop-holds Inv-loop μ-loop
-loop-holds c = let a = c .before .before .args in record { written = required-none (a .version) (a .w) (a .attrs .now) (a .depth) (a .i); low = omega arith }
+loop-holds c =
+    let start = c .before .before in
+    let a = start .args in record { written = required-none (a .version) (a .w) (a .attrs .now) (a .depth) (a .i); low = omega arith }
 
 put-attribute-requires : tie.Need-put-attribute-requires Inv-loop μ-loop
-put-attribute-requires c κs = let p = c .before .before .before .before .before .before .pre in (p .0, written-room (c .before .before .before .loop .inv .written) (p .1), omega arith, omega arith)
+put-attribute-requires c κs =
+    let at-loop = c .before .before .before in
+    let start = at-loop .before .before .before in
+    let p = start .pre in (p .0, written-room (at-loop .loop .inv .written) (p .1), omega arith, omega arith)
 
 add-j : tie.Need-add-j Inv-loop μ-loop
 add-j c = search needs
@@ -28,13 +33,26 @@ loop-less : tie.Need-loop-less Inv-loop μ-loop
 loop-less c = search needs
 
 loop-again : tie.Need-loop-again Inv-loop μ-loop
-loop-again c = let a = c .before .before .before .before .before .before .before .before .before .args in record { written = required-on (a .version) (a .w) (a .attrs .now) (a .depth) (a .i) _ (c .before .before .before .before .before .before .loop .inv .written) (c .before .before .put-attribute .ensures); low = omega arith }
+loop-again c =
+    let at-put-attribute = c .before .before in
+    let at-loop = at-put-attribute .before .before .before .before in
+    let start = at-loop .before .before .before in
+    let a = start .args in
+    record {
+      written =
+          required-on (a .version) (a .w) (a .attrs .now) (a .depth) (a .i) _ (at-loop .loop .inv .written) (at-put-attribute .put-attribute .ensures);
+      low = omega arith;
+    }
 
 same-length : tie.Need-same-length Inv-loop μ-loop
 same-length c = written-long (c .before .loop .inv .written)
 
 returns : tie.Need-returns Inv-loop μ-loop
-returns c = let a = c .before .before .before .before .args in let e : a .a ≡ c .before .loop .j = omega (arith, c .before .loop .inv .low) in written-as (ap (λ (n : ℕ). requiredIn (a .version) (a .w) (a .attrs .now) (a .depth) (a .i) n) e) (c .before .loop .inv .written)
+returns c =
+    let start = c .before .before .before .before in
+    let a = start .args in
+    let e : a .a ≡ c .before .loop .j = omega (arith, c .before .loop .inv .low) in
+    written-as (ap (λ (n : ℕ). requiredIn (a .version) (a .w) (a .attrs .now) (a .depth) (a .i) n) e) (c .before .loop .inv .written)
 
 pub put-required-spec : {M : Type 1} → statement M
 put-required-spec =

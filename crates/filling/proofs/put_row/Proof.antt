@@ -18,7 +18,9 @@ same-length : tie.Need-same-length
 same-length c = search needs
 
 returns : tie.Need-returns
-returns c = c .before .before .before .put-new .ensures
+returns c =
+    let at-put-new = c .before .before .before in
+    at-put-new .put-new .ensures
 
 pub put-row-spec : {M : Type 1} → statement M
 put-row-spec =

@@ -10,7 +10,10 @@ definition-kind-requires : tie.Need-definition-kind-requires
 definition-kind-requires c κs = search needs
 
 returns : tie.Need-returns
-returns c = let a = c .before .before .before .args in kind-read _ (a .defs .now) (a .i) (c .before .definition-at .ensures) _ (c .definition-kind .ensures)
+returns c =
+    let start = c .before .before .before in
+    let a = start .args in
+    kind-read _ (a .defs .now) (a .i) (c .before .definition-at .ensures) _ (c .definition-kind .ensures)
 
 pub kind-of-spec : {M : Type 1} → statement M
 kind-of-spec = tie.close (tie.spec definition-at-requires definition-kind-requires returns)

@@ -21,8 +21,10 @@ window-requires c κs = search needs
 
 returns : tie.Need-returns
 returns c =
-    let a = c .before .before .before .before .before .args in
-    c .window .ensures ∙ model-read (a .defs .now) (a .parts .now) (a .i) _ _ (c .before .before .particles-before .ensures .0) (c .before .particles-of .ensures .0)
+    let at-particles-before = c .before .before in
+    let start = at-particles-before .before .before .before in
+    let a = start .args in
+    c .window .ensures ∙ model-read (a .defs .now) (a .parts .now) (a .i) _ _ (at-particles-before .particles-before .ensures .0) (c .before .particles-of .ensures .0)
 
 pub model-part-spec : {M : Type 1} → statement M
 model-part-spec =

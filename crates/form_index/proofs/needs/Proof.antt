@@ -17,9 +17,12 @@ must-be-present-requires c κs = search needs
 
 returns : tie.Need-returns
 returns c =
-    let a = c .before .before .before .before .before .args in
-    let record-at = c .before .before .before .attribute-at .ensures in
-    needs-read (a .w) _ (a .attrs .now) (a .j) record-at (a .version) (a .i) _ _ _ (c .before .attribute-owner .ensures) (c .before .before .attribute-sort .ensures) (c .must-be-present .ensures)
+    let at-attribute-sort = c .before .before in
+    let at-attribute-at = at-attribute-sort .before in
+    let start = at-attribute-at .before .before in
+    let a = start .args in
+    let record-at = at-attribute-at .attribute-at .ensures in
+    needs-read (a .w) _ (a .attrs .now) (a .j) record-at (a .version) (a .i) _ _ _ (c .before .attribute-owner .ensures) (at-attribute-sort .attribute-sort .ensures) (c .must-be-present .ensures)
 
 pub needs-spec : {M : Type 1} → statement M
 needs-spec =

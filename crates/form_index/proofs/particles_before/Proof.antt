@@ -5,6 +5,7 @@ use native.Mathlib.Omega.{arith}
 use Rattle.form_index.proofs.particles_before.Statement.{statement}
 use Rattle.form_index.proofs.particles_before.Tie as tie
 
+-- The loop's invariant: `sum` particles belong to the first j definitions.
 abbrev Inv-loop : tie.InvT-loop
 Inv-loop defs i sum₀ j₀ sum j = Summed defs i sum j
 
@@ -18,7 +19,9 @@ particles-of-requires : tie.Need-particles-of-requires Inv-loop μ-loop
 particles-of-requires c κs = search needs
 
 add-sum : tie.Need-add-sum Inv-loop μ-loop
-add-sum c = omega (arith, c .before .before .loop .inv .small, c .before .before .loop .inv .low, c .particles-of .ensures .1)
+add-sum c =
+    let at-loop = c .before .before in
+    omega (arith, at-loop .loop .inv .small, at-loop .loop .inv .low, c .particles-of .ensures .1)
 
 add-j : tie.Need-add-j Inv-loop μ-loop
 add-j c = search needs
@@ -28,16 +31,20 @@ loop-less c = search needs
 
 loop-again : tie.Need-loop-again Inv-loop μ-loop
 loop-again c =
-    let summed = c .before .before .loop .inv in
+    let at-loop = c .before .before in
+    let start = at-loop .before .before in
+    let summed = at-loop .loop .inv in
     let more = c .particles-of in
     record {
-      is = before-more (c .before .before .before .before .args .defs .now) _ _ _ (summed .is) (more .ensures .0);
+      is = before-more (start .args .defs .now) _ _ _ (summed .is) (more .ensures .0);
       low = omega arith;
       small = omega (arith, summed .small, more .ensures .1);
     }
 
 returns : tie.Need-returns Inv-loop μ-loop
-returns c = summed-ends (c .before .before .before .args .defs .now) (c .before .before .before .args .i) _ _ (c .before .loop .inv) (omega arith) (omega arith)
+returns c =
+    let start = c .before .before .before in
+    summed-ends (start .args .defs .now) (start .args .i) _ _ (c .before .loop .inv) (omega arith) (omega arith)
 
 pub particles-before-spec : {M : Type 1} → statement M
 particles-before-spec =

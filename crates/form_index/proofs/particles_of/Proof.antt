@@ -14,7 +14,9 @@ cast-result : tie.Need-cast-result
 cast-result c = search needs
 
 returns : tie.Need-returns
-returns c = let a = c .before .before .before .args in (particles-read _ (a .defs .now) (a .i) (c .before .definition-at .ensures) _ (c .definition-particles .ensures), omega arith)
+returns c =
+    let start = c .before .before .before in
+    let a = start .args in (particles-read _ (a .defs .now) (a .i) (c .before .definition-at .ensures) _ (c .definition-particles .ensures), omega arith)
 
 pub particles-of-spec : {M : Type 1} → statement M
 particles-of-spec = tie.close (tie.spec definition-at-requires definition-particles-requires cast-result returns)

@@ -17,9 +17,12 @@ value-allowed-requires c κs = search needs
 
 returns : tie.Need-returns
 returns c =
-    let a = c .before .before .before .before .before .before .args in
-    let record-at = c .before .before .before .attribute-at .ensures in
-    value-allowed (a .w) _ (a .attrs .now) (a .j) record-at _ _ (a .v .now) _ (c .before .before .attribute-sort .ensures) (c .before .attribute-value .ensures) (c .value-allowed .ensures)
+    let at-attribute-sort = c .before .before in
+    let at-attribute-at = at-attribute-sort .before in
+    let start = at-attribute-at .before .before .before in
+    let a = start .args in
+    let record-at = at-attribute-at .attribute-at .ensures in
+    value-allowed (a .w) _ (a .attrs .now) (a .j) record-at _ _ (a .v .now) _ (at-attribute-sort .attribute-sort .ensures) (c .before .attribute-value .ensures) (c .value-allowed .ensures)
 
 pub value-may-spec : {M : Type 1} → statement M
 value-may-spec =

@@ -15,10 +15,12 @@ same-length c = search needs
 
 returns : tie.Need-returns
 returns c =
-    let start = c .before .before .before .before .before .before .before .before .before .before .before .before in
+    let at-lay-needs = c .before .before in
+    let at-lay-models = at-lay-needs .before .before .before .before in
+    let start = at-lay-models .before .before .before .before .before .before in
     let a = start .args in
-    let models = c .before .before .before .before .before .before .lay-models in
-    let attributes = c .before .before .lay-needs in
+    let models = at-lay-models .lay-models in
+    let attributes = at-lay-needs .lay-needs in
     table-filled (a .version) (a .w) (a .n) (a .defs .now) (a .parts .now) (a .attrs .now) (a .a) _ _ (start .pre .1) (models .ensures) (attributes .ensures)
     (omega (arith, start .pre .3, models .kept .1 .1 .1 .0, attributes .kept .1 .1 .1 .1 .1 .0))
 

@@ -13,7 +13,10 @@ spares-requires : tie.Need-spares-requires
 spares-requires c κs = search needs
 
 returns-2 : tie.Need-returns-2
-returns-2 c = let a = c .before .before .args in freed-from (a .needed) (a .a) (a .seen) _ (c .before .if1 .left) (c .spares .ensures)
+returns-2 c =
+    let start = c .before .before in
+    let a = start .args in
+    freed-from (a .needed) (a .a) (a .seen) _ (c .before .if1 .left) (c .spares .ensures)
 
 pub is-freed-spec : {M : Type 1} → statement M
 is-freed-spec = tie.close (tie.spec returns sub-spares spares-requires returns-2)

@@ -13,7 +13,10 @@ abbrev μ-loop : tie.MeasureT-loop
 μ-loop n defs parts table₀ i₀ table i = n - i
 
 loop-holds : tie.Need-loop-holds Inv-loop μ-loop
-loop-holds c = let a = c .before .before .before .args in lining-starts (a .n) (a .defs .now) (a .parts .now) (a .table .now)
+loop-holds c =
+    let start = c .before .before .before in
+    let a = start .args in
+    lining-starts (a .n) (a .defs .now) (a .parts .now) (a .table .now)
 
 model-part-requires : tie.Need-model-part-requires Inv-loop μ-loop
 model-part-requires c κs = search needs
@@ -22,7 +25,10 @@ mul-fill : tie.Need-mul-fill Inv-loop μ-loop
 mul-fill c = search needs
 
 fill-requires : tie.Need-fill-requires Inv-loop μ-loop
-fill-requires c κs = let start = c .before .before .before .before .before .before .before in (start .pre .0, omega (arith, c .before .before .before .loop .inv .long, start .pre .1))
+fill-requires c κs =
+    let at-loop = c .before .before .before in
+    let start = at-loop .before .before .before .before in
+    (start .pre .0, omega (arith, at-loop .loop .inv .long, start .pre .1))
 
 mul-table : tie.Need-mul-table Inv-loop μ-loop
 mul-table c = search needs
@@ -35,9 +41,11 @@ mul-table-2 c = search needs
 
 slice-write-table : tie.Need-slice-write-table Inv-loop μ-loop
 slice-write-table c =
-    let start = c .before .before .before .before .before .before .before .before .before .before in
-    let filled = c .before .before .fill in
-    omega (arith, c .before .before .before .before .before .before .loop .inv .long, start .pre .1, filled .kept .1 .1 .1 .0)
+    let at-fill = c .before .before in
+    let at-loop = at-fill .before .before .before .before in
+    let start = at-loop .before .before .before .before in
+    let filled = at-fill .fill in
+    omega (arith, at-loop .loop .inv .long, start .pre .1, filled .kept .1 .1 .1 .0)
 
 add-i : tie.Need-add-i Inv-loop μ-loop
 add-i c = search needs
@@ -47,10 +55,13 @@ loop-less c = search needs
 
 loop-again : tie.Need-loop-again Inv-loop μ-loop
 loop-again c =
-    let start = c .before .before .before .before .before .before .before .before .before .before in
+    let at-fill = c .before .before in
+    let at-model-part = at-fill .before .before in
+    let at-loop = at-model-part .before .before in
+    let start = at-loop .before .before .before .before in
     let a = start .args in
-    lining-on (a .n) (a .defs .now) (a .parts .now) (a .table .now) _ _ (c .before .before .before .before .before .before .loop .inv) (start .pre .0) (start .pre .1)
-    (omega arith) _ _ (c .before .before .before .before .model-part .ensures) (c .before .before .fill .ensures) (c .before .before .fill .kept .1 .1 .1 .0)
+    lining-on (a .n) (a .defs .now) (a .parts .now) (a .table .now) _ _ (at-loop .loop .inv) (start .pre .0) (start .pre .1)
+    (omega arith) _ _ (at-model-part .model-part .ensures) (at-fill .fill .ensures) (at-fill .fill .kept .1 .1 .1 .0)
 
 same-length : tie.Need-same-length Inv-loop μ-loop
 same-length c = c .before .loop .inv .long

@@ -19,23 +19,30 @@ must-be-present-requires c κs = search needs
 
 returns : tie.Need-returns
 returns c =
-    let start = c .before .before .before .before .before .before .before in
+    let at-attribute-sort = c .before .before in
+    let at-attribute-owner = at-attribute-sort .before in
+    let at-attribute-at = at-attribute-owner .before in
+    let start = at-attribute-at .before .before .before in
     let a = start .args in
-    let found = c .before .before .before .before .attribute-at .ensures in
-    let owner = c .before .before .before .attribute-owner in
-    let sort = c .before .before .attribute-sort in
+    let found = at-attribute-at .attribute-at .ensures in
+    let owner = at-attribute-owner .attribute-owner in
+    let sort = at-attribute-sort .attribute-sort in
     let present = c .before .must-be-present in
     need-other (a .version) (a .w) (a .n) (a .attrs .now) (a .j) (a .table .now) (owner .result) (present .result)
     (λ i. needs-read (a .w) _ (a .attrs .now) (a .j) found (a .version) i _ _ _ (owner .ensures) (sort .ensures) (present .ensures)) (c .if1 .taken)
 
 returns-2 : tie.Need-returns-2
 returns-2 c =
-    let start = c .before .before .before .before .before .before .before .before in
+    let at-must-be-present = c .before .before in
+    let at-attribute-sort = at-must-be-present .before in
+    let at-attribute-owner = at-attribute-sort .before in
+    let at-attribute-at = at-attribute-owner .before in
+    let start = at-attribute-at .before .before .before in
     let a = start .args in
-    let found = c .before .before .before .before .before .attribute-at .ensures in
-    let owner = c .before .before .before .before .attribute-owner in
-    let sort = c .before .before .before .attribute-sort in
-    let present = c .before .before .must-be-present in
+    let found = at-attribute-at .attribute-at .ensures in
+    let owner = at-attribute-owner .attribute-owner in
+    let sort = at-attribute-sort .attribute-sort in
+    let present = at-must-be-present .must-be-present in
     need-past (a .version) (a .w) (a .n) (a .attrs .now) (a .j) (a .table .now) (owner .result) (present .result)
     (λ i. needs-read (a .w) _ (a .attrs .now) (a .j) found (a .version) i _ _ _ (owner .ensures) (sort .ensures) (present .ensures)) (omega arith)
 
@@ -71,15 +78,20 @@ same-length c = search needs
 
 returns-3 : tie.Need-returns-3
 returns-3 c =
-    let start = c .before .before .before .before .before .before .before .before .before .before in
+    let at-if1 = c .before .before .before in
+    let at-must-be-present = at-if1 .before in
+    let at-attribute-sort = at-must-be-present .before in
+    let at-attribute-owner = at-attribute-sort .before in
+    let at-attribute-at = at-attribute-owner .before in
+    let start = at-attribute-at .before .before .before in
     let a = start .args in
-    let found = c .before .before .before .before .before .before .before .attribute-at .ensures in
-    let owner = c .before .before .before .before .before .before .attribute-owner in
-    let sort = c .before .before .before .before .before .attribute-sort in
-    let present = c .before .before .before .before .must-be-present in
+    let found = at-attribute-at .attribute-at .ensures in
+    let owner = at-attribute-owner .attribute-owner in
+    let sort = at-attribute-sort .attribute-sort in
+    let present = at-must-be-present .must-be-present in
     need-put (a .version) (a .w) (a .n) (a .attrs .now) (a .j) (a .table .now) (owner .result) (present .result)
     (λ i. needs-read (a .w) _ (a .attrs .now) (a .j) found (a .version) i _ _ _ (owner .ensures) (sort .ensures) (present .ensures))
-    (c .before .before .before .if1 .left) (omega arith) (start .pre .1) (start .pre .3) _ (c .with .ensures)
+    (at-if1 .if1 .left) (omega arith) (start .pre .1) (start .pre .3) _ (c .with .ensures)
 
 pub lay-need-spec : {M : Type 1} → statement M
 lay-need-spec =

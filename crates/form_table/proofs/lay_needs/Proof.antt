@@ -13,10 +13,16 @@ abbrev μ-loop : tie.MeasureT-loop
 μ-loop version w n a attrs table₀ j₀ table j = a - j
 
 loop-holds : tie.Need-loop-holds Inv-loop μ-loop
-loop-holds c = let a = c .before .before .args in needing-starts (a .version) (a .w) (a .n) (a .attrs .now) (a .a) (a .table .now)
+loop-holds c =
+    let start = c .before .before in
+    let a = start .args in
+    needing-starts (a .version) (a .w) (a .n) (a .attrs .now) (a .a) (a .table .now)
 
 lay-need-requires : tie.Need-lay-need-requires Inv-loop μ-loop
-lay-need-requires c κs = let start = c .before .before .before .before .before in (start .pre .0, start .pre .1, omega arith, omega (arith, c .before .before .loop .inv .long, start .pre .3))
+lay-need-requires c κs =
+    let at-loop = c .before .before in
+    let start = at-loop .before .before .before in
+    (start .pre .0, start .pre .1, omega arith, omega (arith, at-loop .loop .inv .long, start .pre .3))
 
 add-j : tie.Need-add-j Inv-loop μ-loop
 add-j c = search needs
@@ -26,15 +32,21 @@ loop-less c = search needs
 
 loop-again : tie.Need-loop-again Inv-loop μ-loop
 loop-again c =
-    let a = c .before .before .before .before .before .before .before .before .args in
-    needing-on (a .version) (a .w) (a .n) (a .attrs .now) (a .a) (a .table .now) _ _ (c .before .before .before .before .before .loop .inv) (omega arith) _
-    (c .before .before .lay-need .ensures) (c .before .before .lay-need .kept .1 .1 .1 .1 .1 .0)
+    let at-lay-need = c .before .before in
+    let at-loop = at-lay-need .before .before .before in
+    let start = at-loop .before .before .before in
+    let a = start .args in
+    needing-on (a .version) (a .w) (a .n) (a .attrs .now) (a .a) (a .table .now) _ _ (at-loop .loop .inv) (omega arith) _
+    (at-lay-need .lay-need .ensures) (at-lay-need .lay-need .kept .1 .1 .1 .1 .1 .0)
 
 same-length : tie.Need-same-length Inv-loop μ-loop
 same-length c = c .before .loop .inv .long
 
 returns : tie.Need-returns Inv-loop μ-loop
-returns c = let a = c .before .before .before .before .args in needing-ends (a .version) (a .w) (a .n) (a .attrs .now) (a .a) (a .table .now) _ _ (c .before .loop .inv) (omega arith)
+returns c =
+    let start = c .before .before .before .before in
+    let a = start .args in
+    needing-ends (a .version) (a .w) (a .n) (a .attrs .now) (a .a) (a .table .now) _ _ (c .before .loop .inv) (omega arith)
 
 pub lay-needs-spec : {M : Type 1} → statement M
 lay-needs-spec =

@@ -25,9 +25,10 @@ contains-requires c κs = search needs
 
 returns : tie.Need-returns
 returns c =
-    let start = c .before .before .before .before .before .before in
+    let at-if1 = c .before .before in
+    let start = at-if1 .before .before .before .before in
     let a = start .args in
-    finish-none (a .n) (a .defs .now) (a .parts .now) (a .table .now) (start .pre .3) (a .i) (start .pre .1) (a .last) _ (c .before .before .if1 .taken) (c .contains .ensures)
+    finish-none (a .n) (a .defs .now) (a .parts .now) (a .table .now) (start .pre .3) (a .i) (start .pre .1) (a .last) _ (at-if1 .if1 .taken) (c .contains .ensures)
 
 mul-contains-3 : tie.Need-mul-contains-3
 mul-contains-3 c = search needs
@@ -49,9 +50,10 @@ contains-requires-2 c κs = search needs
 
 returns-2 : tie.Need-returns-2
 returns-2 c =
-    let start = c .before .before .before .before .before .before .before in
+    let at-if1 = c .before .before .before in
+    let start = at-if1 .before .before .before .before in
     let a = start .args in
-    finish-child (a .n) (a .defs .now) (a .parts .now) (a .table .now) (start .pre .3) (a .i) (start .pre .1) (a .last) _ (c .before .before .before .if1 .left)
+    finish-child (a .n) (a .defs .now) (a .parts .now) (a .table .now) (start .pre .3) (a .i) (start .pre .1) (a .last) _ (at-if1 .if1 .left)
     (omega arith) (c .contains2 .ensures)
 
 model-part-requires : tie.Need-model-part-requires
@@ -62,7 +64,8 @@ finishes-requires c κs = search needs
 
 returns-3 : tie.Need-returns-3
 returns-3 c =
-    let a = c .before .before .before .before .before .before .before .args in
+    let start = c .before .before .before .before .before .before .before in
+    let a = start .args in
     c .finishes .ensures ∙ ap (λ (s : Bytes). finishes (allMembers s) (a .last)) (c .before .model-part .ensures)
 
 pub may-finish-spec : {M : Type 1} → statement M

@@ -16,19 +16,22 @@ mul-contains c = search needs
 
 add-contains : tie.Need-add-contains
 add-contains c =
-    let a = c .before .before .before .before .args in
+    let start = c .before .before .before .before in
+    let a = start .args in
     let low = and-split (leb (a .last) (a .n)) (ltb (a .index) 64) (c .if1 .taken) in
     omega (arith, leb-true (a .last) (a .n) (low .0))
 
 mul-contains-2 : tie.Need-mul-contains-2
 mul-contains-2 c =
-    let a = c .before .before .before .before .args in
+    let start = c .before .before .before .before in
+    let a = start .args in
     let low = and-split (leb (a .last) (a .n)) (ltb (a .index) 64) (c .if1 .taken) in
     omega (arith, leb-true (a .last) (a .n) (low .0))
 
 shared-slice-read-contains : tie.Need-shared-slice-read-contains
 shared-slice-read-contains c =
-    let a = c .before .before .before .before .before .args in
+    let start = c .before .before .before .before .before in
+    let a = start .args in
     let low = and-split (leb (a .last) (a .n)) (ltb (a .index) 64) (c .before .if1 .taken) in
     omega (arith, leb-true (a .last) (a .n) (low .0))
 
@@ -37,9 +40,10 @@ contains-requires c κs = search needs
 
 returns : tie.Need-returns
 returns c =
-    let start = c .before .before .before .before .before .before in
+    let at-if1 = c .before .before in
+    let start = at-if1 .before .before .before .before in
     let a = start .args in
-    let low = and-split (leb (a .last) (a .n)) (ltb (a .index) 64) (c .before .before .if1 .taken) in
+    let low = and-split (leb (a .last) (a .n)) (ltb (a .index) 64) (at-if1 .if1 .taken) in
     follow-found (a .n) (a .defs .now) (a .parts .now) (a .table .now) (start .pre .3) (a .i) (start .pre .1) (a .last) _ (a .index) (leb-true (a .last) (a .n) (low .0))
     (ltb-true (a .index) 64 (low .1)) (c .contains .ensures)
 
@@ -50,7 +54,10 @@ steps-requires : tie.Need-steps-requires
 steps-requires c κs = search needs
 
 returns-2 : tie.Need-returns-2
-returns-2 c = let a = c .before .before .before .before .before .before .args in c .steps .ensures ∙ ap (λ (s : Bytes). steps (allMembers s) (a .last) (a .index)) (c .before .model-part .ensures)
+returns-2 c =
+    let start = c .before .before .before .before .before .before in
+    let a = start .args in
+    c .steps .ensures ∙ ap (λ (s : Bytes). steps (allMembers s) (a .last) (a .index)) (c .before .model-part .ensures)
 
 pub may-follow-spec : {M : Type 1} → statement M
 may-follow-spec =

@@ -16,13 +16,19 @@ add-t7 : tie.Need-add-t7
 add-t7 c = search needs
 
 returns : tie.Need-returns
-returns c = after-attribute (c .before .before .before .before .args .l) _ _ _ _ (c .before .row-sort .ensures) (c .before .before .row-index .ensures) (c .if1 .taken)
+returns c =
+    let at-row-index = c .before .before in
+    let start = at-row-index .before .before in
+    after-attribute (start .args .l) _ _ _ _ (c .before .row-sort .ensures) (at-row-index .row-index .ensures) (c .if1 .taken)
 
 add-t8 : tie.Need-add-t8
 add-t8 c = search needs
 
 returns-2 : tie.Need-returns-2
-returns-2 c = after-child (c .before .before .before .before .args .l) _ _ _ _ (c .before .row-sort .ensures) (c .before .before .row-index .ensures) (c .if1 .left)
+returns-2 c =
+    let at-row-index = c .before .before in
+    let start = at-row-index .before .before in
+    after-child (start .args .l) _ _ _ _ (c .before .row-sort .ensures) (at-row-index .row-index .ensures) (c .if1 .left)
 
 pub after-row-spec : {M : Type 1} → statement M
 after-row-spec =

@@ -21,15 +21,20 @@ sub-if2 c = search needs
 
 returns-2 : tie.Need-returns-2
 returns-2 c =
-    let a = c .before .before .before .before .before .args in
-    attribute-late (attributesOf (a .version) (a .w) (a .attrs .now) (a .a)) (a .i) (a .seen) (readRow (a .row .now) .row) _ (c .before .before .row-index .ensures)
+    let at-row-index = c .before .before in
+    let start = at-row-index .before .before .before in
+    let a = start .args in
+    attribute-late (attributesOf (a .version) (a .w) (a .attrs .now) (a .a)) (a .i) (a .seen) (readRow (a .row .now) .row) _ (at-row-index .row-index .ensures)
     (c .before .if1 .left) (omega arith)
 
 returns-3 : tie.Need-returns-3
 returns-3 c =
-    let a = c .before .before .before .before .before .before .args in
-    attribute-past (attributesOf (a .version) (a .w) (a .attrs .now) (a .a)) (a .i) (a .seen) (readRow (a .row .now) .row) _ (c .before .before .before .row-index .ensures)
-    (c .before .before .if1 .left) (omega arith) (omega arith)
+    let at-if1 = c .before .before in
+    let at-row-index = at-if1 .before in
+    let start = at-row-index .before .before .before in
+    let a = start .args in
+    attribute-past (attributesOf (a .version) (a .w) (a .attrs .now) (a .a)) (a .i) (a .seen) (readRow (a .row .now) .row) _ (at-row-index .row-index .ensures)
+    (at-if1 .if1 .left) (omega arith) (omega arith)
 
 attribute-at-requires : tie.Need-attribute-at-requires
 attribute-at-requires c κs = search needs
@@ -51,13 +56,18 @@ spares-requires c κs = search needs
 
 returns-4 : tie.Need-returns-4
 returns-4 c =
-    let start = c .before .before .before .before .before .before .before .before .before .before .before in
+    let at-row-value = c .before .before in
+    let at-attribute-owner = at-row-value .before in
+    let at-attribute-at = at-attribute-owner .before in
+    let at-if1 = at-attribute-at .before .before .before in
+    let at-row-index = at-if1 .before in
+    let start = at-row-index .before .before .before in
     let a = start .args in
-    let j = c .before .before .before .before .before .before .before .before .row-index in
+    let j = at-row-index .row-index in
     attribute-comes (attributesOf (a .version) (a .w) (a .attrs .now) (a .a)) (a .i) (a .seen) (readRow (a .row .now) .row) (j .result) (j .ensures)
-    (c .before .before .before .before .before .before .before .if1 .left) (omega arith) (omega arith) _ _ _
-    (owner-read (a .w) _ (a .attrs .now) (j .result) (c .before .before .before .before .attribute-at .ensures) _ (c .before .before .before .attribute-owner .ensures))
-    (value-read (attributesOf (a .version) (a .w) (a .attrs .now) (a .a)) (j .result) (a .row .now) _ _ (c .before .before .row-value .ensures) (c .before .value-may .ensures))
+    (at-if1 .if1 .left) (omega arith) (omega arith) _ _ _
+    (owner-read (a .w) _ (a .attrs .now) (j .result) (at-attribute-at .attribute-at .ensures) _ (at-attribute-owner .attribute-owner .ensures))
+    (value-read (attributesOf (a .version) (a .w) (a .attrs .now) (a .a)) (j .result) (a .row .now) _ _ (at-row-value .row-value .ensures) (c .before .value-may .ensures))
     (spares-read (a .version) (a .w) (a .attrs .now) (a .a) (a .i) (a .needed) (start .pre .2) (start .pre .1) _ _ _ (omega arith) (c .spares .ensures))
 
 pub attribute-may-spec : {M : Type 1} → statement M

@@ -10,7 +10,9 @@ row-index-requires : tie.Need-row-index-requires
 row-index-requires c κs = search needs
 
 returns : tie.Need-returns
-returns c = below-element _ _ _ (c .before .before .row-sort .ensures) (c .before .if1 .taken) _ (c .row-index .ensures)
+returns c =
+    let at-row-sort = c .before .before in
+    below-element _ _ _ (at-row-sort .row-sort .ensures) (c .before .if1 .taken) _ (c .row-index .ensures)
 
 returns-2 : tie.Need-returns-2
 returns-2 c = below-other _ _ _ (c .before .row-sort .ensures) (c .if1 .left)

@@ -10,15 +10,23 @@ may-follow-requires : tie.Need-may-follow-requires
 may-follow-requires c κs = search needs
 
 returns : tie.Need-returns
-returns c = let a = c .before .before .before .before .before .args in child-none _ _ (c .before .kind-of .ensures) _ (a .last) (a .sort) (a .index) (c .match .keys1)
+returns c =
+    let start = c .before .before .before .before .before in
+    let a = start .args in
+    child-none _ _ (c .before .kind-of .ensures) _ (a .last) (a .sort) (a .index) (c .match .keys1)
 
 returns-2 : tie.Need-returns-2
-returns-2 c = let a = c .before .before .before .before .before .args in child-text _ _ (c .before .kind-of .ensures) _ (a .last) (a .sort) (a .index) (c .match .keys2)
+returns-2 c =
+    let start = c .before .before .before .before .before in
+    let a = start .args in
+    child-text _ _ (c .before .kind-of .ensures) _ (a .last) (a .sort) (a .index) (c .match .keys2)
 
 returns-3 : tie.Need-returns-3
 returns-3 c =
-    let a = c .before .before .before .before .before .before .args in
-    child-word _ _ (c .before .before .kind-of .ensures) (c .before .match .rest .0 .1) (c .before .match .rest .1) _ (a .last) _ (a .sort) (a .index)
+    let at-kind-of = c .before .before in
+    let start = at-kind-of .before .before .before .before in
+    let a = start .args in
+    child-word _ _ (at-kind-of .kind-of .ensures) (c .before .match .rest .0 .1) (c .before .match .rest .1) _ (a .last) _ (a .sort) (a .index)
     (c .may-follow .ensures)
 
 pub child-may-spec : {M : Type 1} → statement M

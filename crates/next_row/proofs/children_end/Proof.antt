@@ -10,15 +10,23 @@ may-finish-requires : tie.Need-may-finish-requires
 may-finish-requires c κs = search needs
 
 returns : tie.Need-returns
-returns c = let a = c .before .before .before .before .before .args in end-empty _ _ (c .before .kind-of .ensures) _ (a .last) (c .match .keys1)
+returns c =
+    let start = c .before .before .before .before .before in
+    let a = start .args in
+    end-empty _ _ (c .before .kind-of .ensures) _ (a .last) (c .match .keys1)
 
 returns-2 : tie.Need-returns-2
-returns-2 c = let a = c .before .before .before .before .before .args in end-text _ _ (c .before .kind-of .ensures) _ (a .last) (c .match .keys2)
+returns-2 c =
+    let start = c .before .before .before .before .before in
+    let a = start .args in
+    end-text _ _ (c .before .kind-of .ensures) _ (a .last) (c .match .keys2)
 
 returns-3 : tie.Need-returns-3
 returns-3 c =
-    let a = c .before .before .before .before .before .before .args in
-    end-word _ _ (c .before .before .kind-of .ensures) (c .before .match .rest .0 .1) (c .before .match .rest .1) _ (a .last) _ (c .may-finish .ensures)
+    let at-kind-of = c .before .before in
+    let start = at-kind-of .before .before .before .before in
+    let a = start .args in
+    end-word _ _ (at-kind-of .kind-of .ensures) (c .before .match .rest .0 .1) (c .before .match .rest .1) _ (a .last) _ (c .may-finish .ensures)
 
 pub children-end-spec : {M : Type 1} → statement M
 children-end-spec =

@@ -11,13 +11,15 @@ row-sort-requires c κs = search needs
 
 returns : tie.Need-returns
 returns c =
-    let a = c .before .before .before .before .before .before .before .args in
+    let start = c .before .before .before .before .before .before .before in
+    let a = start .args in
     let form = indexForm (a .version) (a .w) (a .n) (a .defs .now) (a .parts .now) (a .attrs .now) (a .a) in
     may-root form (a .l) (readRow (a .row .now) .row) _ _ (c .before .if1 .taken) (c .row-sort .ensures)
 
 returns-2 : tie.Need-returns-2
 returns-2 c =
-    let a = c .before .before .before .before .before .before .before .args in
+    let start = c .before .before .before .before .before .before .before in
+    let a = start .args in
     let form = indexForm (a .version) (a .w) (a .n) (a .defs .now) (a .parts .now) (a .attrs .now) (a .a) in
     may-none form (a .l) (readRow (a .row .now) .row) _ (c .before .if1 .left) (c .if2 .taken)
 
@@ -26,18 +28,22 @@ cast-if3 c = search needs
 
 returns-3 : tie.Need-returns-3
 returns-3 c =
-    let a = c .before .before .before .before .before .before .before .before .before .args in
+    let at-if2 = c .before .before in
+    let start = at-if2 .before .before .before .before .before .before .before in
+    let a = start .args in
     let form = indexForm (a .version) (a .w) (a .n) (a .defs .now) (a .parts .now) (a .attrs .now) (a .a) in
-    may-unknown form (a .l) (readRow (a .row .now) .row) _ (c .before .before .if2 .left) (omega arith)
+    may-unknown form (a .l) (readRow (a .row .now) .row) _ (at-if2 .if2 .left) (omega arith)
 
 row-may-requires : tie.Need-row-may-requires
 row-may-requires c κs = search needs
 
 returns-4 : tie.Need-returns-4
 returns-4 c =
-    let a = c .before .before .before .before .before .before .before .before .before .before .args in
+    let at-if2 = c .before .before .before in
+    let start = at-if2 .before .before .before .before .before .before .before in
+    let a = start .args in
     let form = indexForm (a .version) (a .w) (a .n) (a .defs .now) (a .parts .now) (a .attrs .now) (a .a) in
-    may-known form (a .l) (readRow (a .row .now) .row) _ (c .before .before .before .if2 .left) (omega arith) _ (c .row-may .ensures)
+    may-known form (a .l) (readRow (a .row .now) .row) _ (at-if2 .if2 .left) (omega arith) _ (c .row-may .ensures)
 
 pub may-come-spec : {M : Type 1} → statement M
 may-come-spec =

@@ -10,12 +10,14 @@ cast-i c = search needs
 
 returns : tie.Need-returns
 returns c =
-    let a = c .before .before .before .before .before .before .before .args in
+    let start = c .before .before .before .before .before .before .before in
+    let a = start .args in
     ends-other (indexForm (a .version) (a .w) (a .n) (a .defs .now) (a .parts .now) (a .attrs .now) (a .a)) (a .l) _ (c .if1 .taken)
 
 returns-2 : tie.Need-returns-2
 returns-2 c =
-    let a = c .before .before .before .before .before .before .before .before .args in
+    let start = c .before .before .before .before .before .before .before .before in
+    let a = start .args in
     ends-unknown (indexForm (a .version) (a .w) (a .n) (a .defs .now) (a .parts .now) (a .attrs .now) (a .a)) (a .l) _ (c .before .if1 .left) (omega arith)
 
 mul-needed : tie.Need-mul-needed
@@ -44,10 +46,12 @@ children-end-requires c κs = search needs
 
 returns-3 : tie.Need-returns-3
 returns-3 c =
-    let start = c .before .before .before .before .before .before .before .before .before .before .before .before .before in
+    let at-is-freed = c .before .before in
+    let at-if1 = at-is-freed .before .before .before .before in
+    let start = at-if1 .before .before .before .before .before .before .before in
     let a = start .args in
-    ends-known (indexForm (a .version) (a .w) (a .n) (a .defs .now) (a .parts .now) (a .attrs .now) (a .a)) (a .l) _ (c .before .before .before .before .before .before .if1 .left) (omega arith) _ _
-    (freed-read (a .version) (a .w) (a .attrs .now) (a .a) (a .l .index) _ (start .pre .3 .needed (a .l .index) (omega arith)) (start .pre .2) (a .l .seen) _ (c .before .before .is-freed .ensures))
+    ends-known (indexForm (a .version) (a .w) (a .n) (a .defs .now) (a .parts .now) (a .attrs .now) (a .a)) (a .l) _ (at-if1 .if1 .left) (omega arith) _ _
+    (freed-read (a .version) (a .w) (a .attrs .now) (a .a) (a .l .index) _ (start .pre .3 .needed (a .l .index) (omega arith)) (start .pre .2) (a .l .seen) _ (at-is-freed .is-freed .ensures))
     (c .children-end .ensures)
 
 pub may-end-spec : {M : Type 1} → statement M

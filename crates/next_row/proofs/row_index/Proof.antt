@@ -8,7 +8,10 @@ row-index-requires : tie.Need-row-index-requires
 row-index-requires c κs = search needs
 
 cast-result : tie.Need-cast-result
-cast-result c = let a = c .before .before .args in omega (arith, c .row-index .ensures, number-small (a .row .now) 2 (λ i. omega (arith, c .before .shared-slice-known .given i)))
+cast-result c =
+    let start = c .before .before in
+    let a = start .args in
+    omega (arith, c .row-index .ensures, number-small (a .row .now) 2 (λ i. omega (arith, c .before .shared-slice-known .given i)))
 
 returns : tie.Need-returns
 returns c = search needs

@@ -36,8 +36,10 @@ attribute-may-requires c κs =
 
 returns : tie.Need-returns
 returns c =
-    let a = c .before .before .before .before .before .before .before .before .before .before .before .before .args in
-    row-attribute (indexForm (a .version) (a .w) 0 (a .defs .now) (a .parts .now) (a .attrs .now) (a .a)) (a .l) (readRow (a .row .now) .row) _ (c .before .before .row-sort .ensures)
+    let at-row-sort = c .before .before in
+    let start = at-row-sort .before .before .before .before .before .before .before .before .before .before in
+    let a = start .args in
+    row-attribute (indexForm (a .version) (a .w) 0 (a .defs .now) (a .parts .now) (a .attrs .now) (a .a)) (a .l) (readRow (a .row .now) .row) _ (at-row-sort .row-sort .ensures)
     (c .before .if1 .taken) _ (c .attribute-may .ensures)
 
 row-index-requires : tie.Need-row-index-requires
@@ -54,10 +56,13 @@ child-may-requires c κs = search needs
 
 returns-2 : tie.Need-returns-2
 returns-2 c =
-    let start = c .before .before .before .before .before .before .before .before .before .before .before .before .before .before in
+    let at-row-index = c .before .before in
+    let at-if1 = at-row-index .before in
+    let at-row-sort = at-if1 .before in
+    let start = at-row-sort .before .before .before .before .before .before .before .before .before .before in
     let a = start .args in
     row-child (indexForm (a .version) (a .w) 0 (a .defs .now) (a .parts .now) (a .attrs .now) (a .a)) (a .l) (readRow (a .row .now) .row) _
-    (c .before .before .before .before .row-sort .ensures) (c .before .before .before .if1 .left) _ _ _ (c .before .before .row-index .ensures)
+    (at-row-sort .row-sort .ensures) (at-if1 .if1 .left) _ _ _ (at-row-index .row-index .ensures)
     (freed-read (a .version) (a .w) (a .attrs .now) (a .a) (a .l .index) _ (start .pre .3 .needed (a .l .index) (start .pre .4)) (start .pre .2) (a .l .seen) _ (c .before .is-freed .ensures))
     (c .child-may .ensures)
 

@@ -34,13 +34,19 @@ returns-3 : tie.Need-returns-3
 returns-3 c = search needs
 
 returns-4 : tie.Need-returns-4
-returns-4 c = rw (c .before .before .before .w .given .1)
+returns-4 c =
+    let at-w = c .before .before .before in
+    rw (at-w .w .given .1)
 
 returns-5 : tie.Need-returns-5
-returns-5 c = rw (c .before .before .before .w2 .given .1)
+returns-5 c =
+    let at-w2 = c .before .before .before in
+    rw (at-w2 .w2 .given .1)
 
 returns-6 : tie.Need-returns-6
-returns-6 c = rw (c .before .before .before .w3 .given .1)
+returns-6 c =
+    let at-w3 = c .before .before .before in
+    rw (at-w3 .w3 .given .1)
 
 pub matches-spec : {M : Type 1} → statement M
 matches-spec =

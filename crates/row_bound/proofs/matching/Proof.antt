@@ -22,8 +22,10 @@ loop-holds c = let start = c .before .before in
     counting-start (start .args .w) (start .args .which) (start .args .count) (start .args .rows .now) (start .pre .1) (start .pre .2)
 
 slice-aggregate-row : tie.Need-slice-aggregate-row Inv-loop μ-loop
-slice-aggregate-row c = let at-loop = c .before .before in
-    sym (length-take-le _ (at-loop .loop .t .now) (omega (arith, counting-first (at-loop .loop .inv) (omega arith), at-loop .before .row-size .ensures)))
+slice-aggregate-row c =
+    let at-loop = c .before .before in
+    let at-row-size = at-loop .before in
+    sym (length-take-le _ (at-loop .loop .t .now) (omega (arith, counting-first (at-loop .loop .inv) (omega arith), at-row-size .row-size .ensures)))
 
 read-head-requires : tie.Need-read-head-requires Inv-loop μ-loop
 read-head-requires c κs = search needs
@@ -32,15 +34,21 @@ matches-requires : tie.Need-matches-requires Inv-loop μ-loop
 matches-requires c κs = search needs
 
 more-requires : tie.Need-more-requires Inv-loop μ-loop
-more-requires c κs = omega (arith, c .before .before .before .before .loop .inv .few)
+more-requires c κs =
+    let at-loop = c .before .before .before .before in
+    omega (arith, at-loop .loop .inv .few)
 
 sub-t : tie.Need-sub-t Inv-loop μ-loop
-sub-t c = let at-loop = c .before .before .before .before .before in
-    omega (arith, counting-first (at-loop .loop .inv) (omega arith), at-loop .before .row-size .ensures)
+sub-t c =
+    let at-loop = c .before .before .before .before .before in
+    let at-row-size = at-loop .before in
+    omega (arith, counting-first (at-loop .loop .inv) (omega arith), at-row-size .row-size .ensures)
 
 part-t-start : tie.Need-part-t-start Inv-loop μ-loop
-part-t-start c = let at-loop = c .before .before .before .before .before in
-    omega (arith, counting-first (at-loop .loop .inv) (omega arith), at-loop .before .row-size .ensures)
+part-t-start c =
+    let at-loop = c .before .before .before .before .before in
+    let at-row-size = at-loop .before in
+    omega (arith, counting-first (at-loop .loop .inv) (omega arith), at-row-size .row-size .ensures)
 
 part-t-end : tie.Need-part-t-end Inv-loop μ-loop
 part-t-end c = search needs
@@ -52,9 +60,13 @@ loop-less : tie.Need-loop-less Inv-loop μ-loop
 loop-less c = search needs
 
 loop-again : tie.Need-loop-again Inv-loop μ-loop
-loop-again c = let at-loop = c .before .before .before .before .before .before in
-    let head = c .before .before .before .read-head in
-    counting-step (at-loop .loop .inv) (omega arith) _ (at-loop .before .row-size .ensures) _ (head .ensures) (c .before .before .matches .ensures) (c .before .more .ensures)
+loop-again c =
+    let at-matches = c .before .before in
+    let at-read-head = at-matches .before in
+    let at-loop = at-read-head .before .before .before in
+    let at-row-size = at-loop .before in
+    let head = at-read-head .read-head in
+    counting-step (at-loop .loop .inv) (omega arith) _ (at-row-size .row-size .ensures) _ (head .ensures) (at-matches .matches .ensures) (c .before .more .ensures)
 
 returns : tie.Need-returns Inv-loop μ-loop
 returns c = counting-end (c .before .loop .inv) (omega arith)

@@ -25,12 +25,16 @@ places-requires : tie.Need-places-requires
 places-requires c κs = search needs
 
 mul-result : tie.Need-mul-result
-mul-result c = omega (arith, product-few (c .before .before .filling-rows .ensures .1) (c .places .ensures .1))
+mul-result c =
+    let at-filling-rows = c .before .before in
+    omega (arith, product-few (at-filling-rows .filling-rows .ensures .1) (c .places .ensures .1))
 
 returns-3 : tie.Need-returns-3
-returns-3 c = let start = c .before .before .before .before .before .before .before .before .before .before in
+returns-3 c =
+    let at-filling-rows = c .before .before in
+    let start = at-filling-rows .before .before .before .before .before .before .before .before in
     let a = start .args in
-    let counted = c .before .before .filling-rows .ensures in
+    let counted = at-filling-rows .filling-rows .ensures in
     adds-places (a .version) (a .w) (a .n) (a .defs .now) (a .parts .now) (a .a) (a .attrs .now) (a .rows .now) (a .count) (a .plan) (a .text .now) (start .pre .1)
     (counted .0) (counted .1) (c .places .ensures)
 

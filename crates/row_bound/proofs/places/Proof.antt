@@ -16,8 +16,11 @@ more-requires : tie.Need-more-requires
 more-requires c κs = search needs
 
 returns : tie.Need-returns
-returns c = let a = c .before .before .before .before .args in
-    places-of (a .above) (readMany readRow (rowSize (a .w)) (a .count) (a .rows .now)) (c .before .before .matching .ensures) (c .before .is-ground .ensures) (c .more .ensures)
+returns c =
+    let at-matching = c .before .before in
+    let start = at-matching .before .before in
+    let a = start .args in
+    places-of (a .above) (readMany readRow (rowSize (a .w)) (a .count) (a .rows .now)) (at-matching .matching .ensures) (c .before .is-ground .ensures) (c .more .ensures)
 
 pub places-spec : {M : Type 1} → statement M
 places-spec = tie.close (tie.spec matching-requires is-ground-requires more-requires returns)

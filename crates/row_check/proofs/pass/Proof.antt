@@ -28,8 +28,10 @@ loop-holds c = (c .row-size .ensures, pass-starts _ _ _ _ (omega arith))
 
 slice-aggregate-row : tie.Need-slice-aggregate-row Inv-loop μ-loop
 slice-aggregate-row c =
-    let at = c .before .before .loop in
-    let a = c .before .before .before .before .before .before .before .before .before .args in
+    let at-loop = c .before .before in
+    let start = at-loop .before .before .before .before .before .before .before in
+    let at = at-loop .loop in
+    let a = start .args in
     let room = room-first (rowSize (a .w)) (at .m) (length (at .t .now)) (λ e. omega arith) (at .inv .1 .room) in
     sym (length-take-le _ (at .t .now) (omega (arith, room, at .inv .0)))
 
@@ -38,24 +40,30 @@ step-requires c κs = search needs
 
 returns : tie.Need-returns Inv-loop μ-loop
 returns c =
-    let a = c .before .before .before .before .before .before .before .before .before .before .before .before .before .args in
+    let at-loop = c .before .before .before .before .before .before in
+    let start = at-loop .before .before .before .before .before .before .before in
+    let a = start .args in
     let form = indexForm (a .version) (a .w) (a .n) (a .defs .now) (a .parts .now) (a .attrs .now) (a .a) in
-    let at = c .before .before .before .before .before .before .loop in
+    let at = at-loop .loop in
     let made = c .before .step in
     pass-refuses (a .w) form _ (at .levels) (at .live) (at .t .now) (at .m) (at .inv .1)
     (omega arith) _ (at .inv .0) _ _ _ (made .ensures) (not-true _ (c .if1 .taken))
 
 sub-t : tie.Need-sub-t Inv-loop μ-loop
 sub-t c =
-    let at = c .before .before .before .before .before .before .loop in
-    let a = c .before .before .before .before .before .before .before .before .before .before .before .before .before .args in
+    let at-loop = c .before .before .before .before .before .before in
+    let start = at-loop .before .before .before .before .before .before .before in
+    let at = at-loop .loop in
+    let a = start .args in
     let room = room-first (rowSize (a .w)) (at .m) (length (at .t .now)) (λ e. omega arith) (at .inv .1 .room) in
     omega (arith, room, at .inv .0)
 
 part-t-start : tie.Need-part-t-start Inv-loop μ-loop
 part-t-start c =
-    let at = c .before .before .before .before .before .before .loop in
-    let a = c .before .before .before .before .before .before .before .before .before .before .before .before .before .args in
+    let at-loop = c .before .before .before .before .before .before in
+    let start = at-loop .before .before .before .before .before .before .before in
+    let at = at-loop .loop in
+    let a = start .args in
     let room = room-first (rowSize (a .w)) (at .m) (length (at .t .now)) (λ e. omega arith) (at .inv .1 .room) in
     omega (arith, room, at .inv .0)
 
@@ -70,10 +78,13 @@ loop-less c = search needs
 
 loop-again : tie.Need-loop-again Inv-loop μ-loop
 loop-again c =
-    let a = c .before .before .before .before .before .before .before .before .before .before .before .before .before .before .args in
+    let at-step = c .before .before in
+    let at-loop = at-step .before .before .before .before .before in
+    let start = at-loop .before .before .before .before .before .before .before in
+    let a = start .args in
     let form = indexForm (a .version) (a .w) (a .n) (a .defs .now) (a .parts .now) (a .attrs .now) (a .a) in
-    let at = c .before .before .before .before .before .before .before .loop in
-    let made = c .before .before .step in (
+    let at = at-loop .loop in
+    let made = at-step .step in (
       at .inv .0,
       pass-on (a .w) form _ (at .levels) (at .live) (at .t .now) (at .m) (at .inv .1)
           (omega arith) _ (at .inv .0) _ _ _ (made .ensures) (not-false _ (c .before .if1 .left)),
@@ -84,9 +95,11 @@ end-requires c κs = search needs
 
 returns-2 : tie.Need-returns-2 Inv-loop μ-loop
 returns-2 c =
-    let a = c .before .before .before .before .before .before .before .before .before .before .args in
+    let at-loop = c .before .before .before in
+    let start = at-loop .before .before .before .before .before .before .before in
+    let a = start .args in
     let form = indexForm (a .version) (a .w) (a .n) (a .defs .now) (a .parts .now) (a .attrs .now) (a .a) in
-    let at = c .before .before .before .loop in
+    let at = at-loop .loop in
     pass-ends (a .w) form _ (at .levels) (at .live) (at .t .now) (at .m) (at .inv .1) (omega arith) _ (c .end .ensures)
 
 pub pass-spec : {M : Type 1} → statement M

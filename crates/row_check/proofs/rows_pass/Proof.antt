@@ -18,10 +18,11 @@ pass-requires c κs = search needs
 
 returns : tie.Need-returns
 returns c =
-    let start = c .before .before .before .before .before .before .before .before .before in
+    let at-shared-slice-known4 = c .before .before .before .before .before in
+    let start = at-shared-slice-known4 .before .before .before .before in
     let a = start .args in
     verdict-says (a .w) (indexForm (a .version) (a .w) (a .n) (a .defs .now) (a .parts .now) (a .attrs .now) (a .a)) (a .count) (a .rows .now) _ (c .pass .ensures) (start .pre .4)
-    (λ i. c .before .before .before .before .before .shared-slice-known4 .given i .fits)
+    (λ i. at-shared-slice-known4 .shared-slice-known4 .given i .fits)
 
 pub rows-pass-spec : {M : Type 1} → statement M
 rows-pass-spec =

@@ -28,11 +28,13 @@ may-end-requires c κs = search needs
 
 returns : tie.Need-returns Inv-loop μ-loop
 returns c =
-    let entry = c .before .before .before .before .before .before .before .before .before in
+    let at-level-at = c .before .before in
+    let at-loop = at-level-at .before .before in
+    let entry = at-loop .before .before .before .before .before in
     let a = entry .args in
     let form = indexForm (a .version) (a .w) (a .n) (a .defs .now) (a .parts .now) (a .attrs .now) (a .a) in
-    let at = c .before .before .before .before .loop in
-    let level = c .before .before .level-at in
+    let at = at-loop .loop in
+    let level = at-level-at .level-at in
     closing-no form (a .levels .now) (a .keep) (a .live) (at .k) (at .inv) (omega arith)
     (level .result) (level .ensures) _ (c .before .may-end .ensures) (not-true _ (c .if1 .taken))
 
@@ -41,17 +43,20 @@ loop-less c = search needs
 
 loop-again : tie.Need-loop-again Inv-loop μ-loop
 loop-again c =
-    let entry = c .before .before .before .before .before .before .before .before .before in
+    let at-level-at = c .before .before in
+    let at-loop = at-level-at .before .before in
+    let entry = at-loop .before .before .before .before .before in
     let a = entry .args in
     let form = indexForm (a .version) (a .w) (a .n) (a .defs .now) (a .parts .now) (a .attrs .now) (a .a) in
-    let at = c .before .before .before .before .loop in
-    let level = c .before .before .level-at in
+    let at = at-loop .loop in
+    let level = at-level-at .level-at in
     closing-on form (a .levels .now) (a .keep) (a .live) (at .k) (at .inv) (omega arith)
     (level .result) (level .ensures) _ (c .before .may-end .ensures) (not-false _ (c .if1 .left))
 
 returns-2 : tie.Need-returns-2 Inv-loop μ-loop
 returns-2 c =
-    let a = c .before .before .before .before .before .before .args in
+    let start = c .before .before .before .before .before .before in
+    let a = start .args in
     let form = indexForm (a .version) (a .w) (a .n) (a .defs .now) (a .parts .now) (a .attrs .now) (a .a) in
     let at = c .before .loop in
     closing-ends form (a .levels .now) (a .keep) (a .live) (at .k) (at .inv) (omega arith)

@@ -37,7 +37,8 @@ element-copy-out-last : tie.Need-element-copy-out-last
 element-copy-out-last c = search needs
 
 returns : tie.Need-returns
-returns c = let start = c .before .before .before in level-here (start .args .k) (start .args .levels .now) (start .pre)
+returns c = let start = c .before .before .before in
+    level-here (start .args .k) (start .args .levels .now) (start .pre)
 
 pub level-at-spec : {M : Type 1} → statement M
 level-at-spec =

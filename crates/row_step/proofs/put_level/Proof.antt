@@ -43,7 +43,8 @@ element-write-levels-3 : tie.Need-element-write-levels-3
 element-write-levels-3 c = search needs
 
 returns : tie.Need-returns
-returns c = let start = c .before .before in level-put (start .args .k) (start .args .l) (start .args .levels .now) (start .pre .0) (start .pre .1) (search needs) (search needs)
+returns c = let start = c .before .before in
+    level-put (start .args .k) (start .args .l) (start .args .levels .now) (start .pre .0) (start .pre .1) (search needs) (search needs)
 
 pub put-level-spec : {M : Type 1} → statement M
 put-level-spec =

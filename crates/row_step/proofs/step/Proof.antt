@@ -14,10 +14,11 @@ cast-d c = search needs
 
 returns : tie.Need-returns
 returns c =
-    let start = c .before .before .before .before .before .before .before .before in
+    let at-row-depth = c .before .before in
+    let start = at-row-depth .before .before .before .before .before .before in
     let a = start .args in
     let form = indexForm (a .version) (a .w) (a .n) (a .defs .now) (a .parts .now) (a .attrs .now) (a .a) in
-    let depth = c .before .before .row-depth in
+    let depth = at-row-depth .row-depth in
     step-deep (a .w) form (a .levels .now) (a .live .now) (a .row .now) (start .pre .4) (start .pre .5)
     (depth .result) (depth .ensures) (omega arith)
 
@@ -29,10 +30,11 @@ closes-requires c κs = search needs
 
 returns-2 : tie.Need-returns-2
 returns-2 c =
-    let start = c .before .before .before .before .before .before .before .before .before .before .before in
+    let at-row-depth = c .before .before .before .before .before in
+    let start = at-row-depth .before .before .before .before .before .before in
     let a = start .args in
     let form = indexForm (a .version) (a .w) (a .n) (a .defs .now) (a .parts .now) (a .attrs .now) (a .a) in
-    let depth = c .before .before .before .before .before .row-depth in
+    let depth = at-row-depth .row-depth in
     let closed = c .before .closes in
     step-owes (a .w) form (a .levels .now) (a .live .now) (a .row .now) (start .pre .4) (start .pre .5)
     (depth .result) (depth .ensures) (closed .result) (closed .ensures) (not-true _ (c .if2 .taken))
@@ -45,12 +47,15 @@ row-passes-requires c κs = search needs
 
 returns-3 : tie.Need-returns-3
 returns-3 c =
-    let start = c .before .before .before .before .before .before .before .before .before .before .before .before .before .before .before in
+    let at-level-at = c .before .before in
+    let at-closes = at-level-at .before .before .before in
+    let at-row-depth = at-closes .before .before .before .before in
+    let start = at-row-depth .before .before .before .before .before .before in
     let a = start .args in
     let form = indexForm (a .version) (a .w) (a .n) (a .defs .now) (a .parts .now) (a .attrs .now) (a .a) in
-    let depth = c .before .before .before .before .before .before .before .before .before .row-depth in
-    let closed = c .before .before .before .before .before .closes in
-    let level = c .before .before .level-at in
+    let depth = at-row-depth .row-depth in
+    let closed = at-closes .closes in
+    let level = at-level-at .level-at in
     let passed = c .before .row-passes in
     step-not (a .w) form (a .levels .now) (a .live .now) (a .row .now) (start .pre .4) (start .pre .5)
     (depth .result) (depth .ensures) (closed .result) (closed .ensures) (level .result) (level .ensures) (passed .result) (passed .ensures)
@@ -64,18 +69,25 @@ add-live c = search needs
 
 returns-4 : tie.Need-returns-4
 returns-4 c =
-    let start = c .before .before .before .before .before .before .before .before .before .before .before .before .before .before .before .before .before in
+    let at-if3 = c .before .before in
+    let at-row-passes = at-if3 .before in
+    let at-level-at = at-row-passes .before in
+    let at-if2 = at-level-at .before .before in
+    let at-closes = at-if2 .before in
+    let at-if1 = at-closes .before .before in
+    let at-row-depth = at-if1 .before .before in
+    let start = at-row-depth .before .before .before .before .before .before in
     let a = start .args in
     let form = indexForm (a .version) (a .w) (a .n) (a .defs .now) (a .parts .now) (a .attrs .now) (a .a) in
-    let depth = c .before .before .before .before .before .before .before .before .before .before .before .row-depth in
-    let closed = c .before .before .before .before .before .before .before .closes in
-    let level = c .before .before .before .before .level-at in
-    let passed = c .before .before .before .row-passes in
+    let depth = at-row-depth .row-depth in
+    let closed = at-closes .closes in
+    let level = at-level-at .level-at in
+    let passed = at-row-passes .row-passes in
     let opened = c .take-row in
-    let within = c .before .before .before .before .before .before .before .before .before .if1 .left in
+    let within = at-if1 .if1 .left in
     step-goes (a .w) form (a .levels .now) (a .live .now) (a .row .now) (start .pre .4) (start .pre .5)
     (depth .result) (depth .ensures) (closed .result) (closed .ensures) (level .result) (level .ensures) (passed .result) (passed .ensures)
-    (omega (arith, within)) (omega arith) (not-false _ (c .before .before .before .before .before .before .if2 .left)) (not-false _ (c .before .before .if3 .left)) _ (opened .ensures)
+    (omega (arith, within)) (omega arith) (not-false _ (at-if2 .if2 .left)) (not-false _ (at-if3 .if3 .left)) _ (opened .ensures)
 
 pub step-spec : {M : Type 1} → statement M
 step-spec =

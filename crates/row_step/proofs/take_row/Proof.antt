@@ -22,10 +22,12 @@ put-level-requires-2 c κs = search needs
 
 returns : tie.Need-returns
 returns c =
-    let start = c .before .before .before .before .before .before .before in
+    let at-put-level = c .before .before .before in
+    let at-after-row = at-put-level .before in
+    let start = at-after-row .before .before .before in
     let a = start .args in
-    let own = c .before .before .before .put-level in
-    let after = c .before .before .before .before .after-row in
+    let own = at-put-level .put-level in
+    let after = at-after-row .after-row in
     row-taken (levelsOf 257 (a .levels .now)) _ _ (a .d) (a .l) _ _ (readRow (a .row .now) .row) (own .ensures) (c .put-level2 .ensures)
     (after .ensures) (c .before .below-row .ensures)
 

@@ -7,10 +7,14 @@ closes-requires : tie.Need-closes-requires
 closes-requires c κs = search needs
 
 returns : tie.Need-returns
-returns c = closed-all (c .before .before .args .o) (c .before .before .args .h) _ (c .before .closes .ensures) (c .if1 .taken)
+returns c =
+    let start = c .before .before in
+    closed-all (start .args .o) (start .args .h) _ (c .before .closes .ensures) (c .if1 .taken)
 
 returns-2 : tie.Need-returns-2
-returns-2 c = closed-not (c .before .before .args .o) (c .before .before .args .h) _ (c .before .closes .ensures) (c .if1 .left)
+returns-2 c =
+    let start = c .before .before in
+    closed-not (start .args .o) (start .args .h) _ (c .before .closes .ensures) (c .if1 .left)
 
 pub closed-spec : {M : Type 1} → statement M
 closed-spec = tie.close (tie.spec closes-requires returns returns-2)

@@ -16,8 +16,8 @@ spared-requires c κs = search needs
 
 returns : tie.Need-returns
 returns c =
-    let start = c .before .before .before .before .before in
     let at-is-below = c .before .before .before in
+    let start = at-is-below .before .before in
     let a = start .args in
     let p = planIn (a .p .now) (a .marks .now) in
     filled-by (a .o) (a .h) p _ _ _ (at-is-below .is-below .ensures) (c .before .is-later .ensures) (c .spared .ensures)

@@ -20,10 +20,14 @@ returns : tie.Need-returns
 returns c = rw (c .match .keys1)
 
 returns-2 : tie.Need-returns-2
-returns-2 c = rw (c .before .before .match .keys2)
+returns-2 c =
+    let at-match = c .before .before in
+    rw (at-match .match .keys2)
 
 returns-3 : tie.Need-returns-3
-returns-3 c = rw (c .before .before .before .match .keys3)
+returns-3 c =
+    let at-match = c .before .before .before in
+    rw (at-match .match .keys3)
 
 returns-4 : tie.Need-returns-4
 returns-4 c =

@@ -27,9 +27,9 @@ element-copy-out-result c = search needs
 
 returns : tie.Need-returns
 returns c =
-    let start = c .before .before .before .before .before .before .before in
-    let at-is-below = c .before .before .before .before .before in
     let at-matches = c .before .before in
+    let at-is-below = at-matches .before .before .before in
+    let start = at-is-below .before .before in
     let a = start .args in
     let all = everything-is (getD (a .p .now) 0 0) (getD (a .p .now) 1 0) in
     taken-by (a .o) (a .h) (planIn (a .p .now) []) _ _ _ all (at-is-below .is-below .ensures) (at-matches .matches .ensures)

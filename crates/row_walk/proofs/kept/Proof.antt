@@ -23,9 +23,9 @@ element-copy-out-t15 c = search needs
 
 returns : tie.Need-returns
 returns c =
-    let start = c .before .before .before .before .before .before in
-    let at-matches = c .before .before .before in
     let at-if1 = c .before .before in
+    let at-matches = at-if1 .before in
+    let start = at-matches .before .before .before in
     let a = start .args in
     kept-opens (a .o) (a .h) (planIn (a .p .now) []) (a .due) _ (at-matches .matches .ensures) (at-if1 .if1 .taken)
 

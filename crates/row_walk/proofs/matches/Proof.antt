@@ -14,15 +14,19 @@ returns-3 : tie.Need-returns-3
 returns-3 c = search needs
 
 returns-4 : tie.Need-returns-4
-returns-4 c = rw (c .before .before .match .keys4)
+returns-4 c =
+    let at-match = c .before .before in
+    rw (at-match .match .keys4)
 
 returns-5 : tie.Need-returns-5
-returns-5 c = rw (c .before .before .match .keys5)
+returns-5 c =
+    let at-match = c .before .before in
+    rw (at-match .match .keys5)
 
 returns-6 : tie.Need-returns-6
 returns-6 c =
     let at-match = c .before .before in
-    let start = c .before .before .before in
+    let start = at-match .before in
     let rest = at-match .match .rest in
     let a = start .args in
     rw (which-serial (a .variant) (a .number) (rest .0 .0 .0 .0 .1) (rest .0 .0 .0 .1) (rest .0 .0 .1) (rest .0 .1) (rest .1))

@@ -20,8 +20,8 @@ shifted-requires c κs = search needs
 
 returns : tie.Need-returns
 returns c =
-    let start = c .before .before .before .before .before .before in
     let at-if1 = c .before .before .before .before in
+    let start = at-if1 .before .before in
     let a = start .args in
     moved-element (planIn (a .p .now) []) (a .h) _ (at-if1 .if1 .taken) (c .shifted .ensures)
 
@@ -39,16 +39,16 @@ shifted-requires-2 c κs = search needs
 
 returns-2 : tie.Need-returns-2
 returns-2 c =
-    let start = c .before .before .before .before .before .before .before .before in
-    let at-if1 = c .before .before .before .before .before .before in
     let at-if2 = c .before .before .before .before in
+    let at-if1 = at-if2 .before .before in
+    let start = at-if1 .before .before in
     let a = start .args in
     moved-attribute (planIn (a .p .now) []) (a .h) _ (at-if1 .if1 .left) (at-if2 .if2 .taken) (c .shifted2 .ensures)
 
 returns-3 : tie.Need-returns-3
 returns-3 c =
-    let start = c .before .before .before .before in
     let at-if1 = c .before .before in
+    let start = at-if1 .before .before in
     let a = start .args in
     moved-text (planIn (a .p .now) []) (a .h) (a .h .index) (at-if1 .if1 .left) (c .if2 .left) (start .pre .2 .index)
 

@@ -11,10 +11,15 @@ minus-requires : tie.Need-minus-requires
 minus-requires c κs = search needs
 
 returns : tie.Need-returns
-returns c = let s = c .before .before .before .before in shifted-on (s .args .s) (s .args .i) (s .pre .0) (s .pre .1) (c .before .before .if1 .taken) _ _ refl (c .minus .ensures)
+returns c =
+    let at-if1 = c .before .before in
+    let start = at-if1 .before .before in
+    shifted-on (start .args .s) (start .args .i) (start .pre .0) (start .pre .1) (at-if1 .if1 .taken) _ _ refl (c .minus .ensures)
 
 returns-2 : tie.Need-returns-2
-returns-2 c = let s = c .before .before in shifted-not (s .args .s) (s .args .i) (s .pre .0) (c .if1 .left)
+returns-2 c =
+    let start = c .before .before in
+    shifted-not (start .args .s) (start .args .i) (start .pre .0) (c .if1 .left)
 
 pub shifted-spec : {M : Type 1} → statement M
 shifted-spec = tie.close (tie.spec add-minus minus-requires returns returns-2)

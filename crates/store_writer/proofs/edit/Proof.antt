@@ -23,25 +23,51 @@ row-start-requires : tie.Need-row-start-requires
 row-start-requires c κs = search needs
 
 sub-form : tie.Need-sub-form
-sub-form c = omega (arith, c .before .header-size .ensures, start-within (holds _ (c .before .before .before .before .before .before .before .before .pre .0)) (c .row-start .ensures))
+sub-form c =
+    let start = c .before .before .before .before .before .before .before .before in
+    omega (arith, c .before .header-size .ensures, start-within (holds _ (start .pre .0)) (c .row-start .ensures))
 
 part-form-start : tie.Need-part-form-start
-part-form-start c = omega (arith, c .before .header-size .ensures, start-within (holds _ (c .before .before .before .before .before .before .before .before .pre .0)) (c .row-start .ensures))
+part-form-start c =
+    let start = c .before .before .before .before .before .before .before .before in
+    omega (arith, c .before .header-size .ensures, start-within (holds _ (start .pre .0)) (c .row-start .ensures))
 
 part-form-end : tie.Need-part-form-end
-part-form-end c = omega (arith, c .before .header-size .ensures, start-within (holds _ (c .before .before .before .before .before .before .before .before .pre .0)) (c .row-start .ensures))
+part-form-end c =
+    let start = c .before .before .before .before .before .before .before .before in
+    omega (arith, c .before .header-size .ensures, start-within (holds _ (start .pre .0)) (c .row-start .ensures))
 
 edit-form-requires : tie.Need-edit-form-requires
-edit-form-requires c κs = let start = c .before .before .before .before .before .before .before .before .before .before in
-    (start .pre .0, start .pre .1, start .pre .2, forms-of (own-form (holds _ (start .pre .0)) (c .before .before .before .header-size .ensures) (c .before .before .row-start .ensures) (c .before .before .before .before .before .before .definition-count .ensures) (c .before .before .before .before .before .particle-count .ensures) (c .before .before .before .before .attribute-count .ensures)))
+edit-form-requires c κs =
+    let at-row-start = c .before .before in
+    let at-header-size = at-row-start .before in
+    let at-attribute-count = at-header-size .before in
+    let at-particle-count = at-attribute-count .before in
+    let at-definition-count = at-particle-count .before in
+    let start = at-definition-count .before .before .before .before in (
+      start .pre .0,
+      start .pre .1,
+      start .pre .2,
+      forms-of
+          (own-form (holds _ (start .pre .0)) (at-header-size .header-size .ensures) (at-row-start .row-start .ensures)
+          (at-definition-count .definition-count .ensures) (at-particle-count .particle-count .ensures) (at-attribute-count .attribute-count .ensures)),
+    )
 
 same-length : tie.Need-same-length
 same-length c = search needs
 
 returns : tie.Need-returns
-returns c = let start = c .before .before .before .before .before .before .before .before .before .before .before .before .before in
-    let own = own-form (holds _ (start .pre .0)) (c .before .before .before .before .before .before .header-size .ensures) (c .before .before .before .before .before .row-start .ensures) (c .before .before .before .before .before .before .before .before .before .definition-count .ensures) (c .before .before .before .before .before .before .before .before .particle-count .ensures) (c .before .before .before .before .before .before .before .attribute-count .ensures) in
-    own-answers own (start .args .plan) (start .args .text .now) (length (start .args .out .now)) (c .before .before .edit-form .ensures)
+returns c =
+    let at-edit-form = c .before .before in
+    let at-row-start = at-edit-form .before .before .before in
+    let at-header-size = at-row-start .before in
+    let at-attribute-count = at-header-size .before in
+    let at-particle-count = at-attribute-count .before in
+    let at-definition-count = at-particle-count .before in
+    let start = at-definition-count .before .before .before .before in
+    let own = own-form (holds _ (start .pre .0)) (at-header-size .header-size .ensures) (at-row-start .row-start .ensures)
+    (at-definition-count .definition-count .ensures) (at-particle-count .particle-count .ensures) (at-attribute-count .attribute-count .ensures) in
+    own-answers own (start .args .plan) (start .args .text .now) (length (start .args .out .now)) (at-edit-form .edit-form .ensures)
 
 pub edit-spec : {M : Type 1} → statement M
 edit-spec =

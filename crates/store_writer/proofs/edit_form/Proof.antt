@@ -16,10 +16,12 @@ refused-requires : tie.Need-refused-requires
 refused-requires c κs = search needs
 
 returns : tie.Need-returns
-returns c = let start = c .before .before .before .before .before .before .before in
+returns c =
+    let at-refusal = c .before .before in
+    let start = at-refusal .before .before .before .before .before in
     let a = start .args in
     let h = holds (a .store .now) (start .pre .0) in
-    answers-as (c .refused .ensures .0) (c .refused .ensures .1) (edit-refused h (start .pre .3) (a .plan) (a .text .now) (a .out .now) (c .before .before .refusal .ensures) (c .before .if1 .taken))
+    answers-as (c .refused .ensures .0) (c .refused .ensures .1) (edit-refused h (start .pre .3) (a .plan) (a .text .now) (a .out .now) (at-refusal .refusal .ensures) (c .before .if1 .taken))
 
 put-edited-requires : tie.Need-put-edited-requires
 put-edited-requires c κs = search needs
@@ -28,11 +30,15 @@ same-length : tie.Need-same-length
 same-length c = search needs
 
 returns-2 : tie.Need-returns-2
-returns-2 c = let start = c .before .before .before .before .before .before .before .before .before .before in
+returns-2 c =
+    let at-put-edited = c .before .before in
+    let at-if1 = at-put-edited .before .before in
+    let at-refusal = at-if1 .before in
+    let start = at-refusal .before .before .before .before .before in
     let a = start .args in
     let h = holds (a .store .now) (start .pre .0) in
-    edit-written h (start .pre .3) (a .plan) (a .text .now) (a .out .now) (c .before .before .before .before .before .refusal .ensures)
-    (c .before .before .before .before .if1 .left) (c .before .before .put-edited .ensures)
+    edit-written h (start .pre .3) (a .plan) (a .text .now) (a .out .now) (at-refusal .refusal .ensures)
+    (at-if1 .if1 .left) (at-put-edited .put-edited .ensures)
 
 pub edit-form-spec : {M : Type 1} → statement M
 edit-form-spec =

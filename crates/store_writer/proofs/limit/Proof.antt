@@ -12,7 +12,9 @@ returns c = let a = c .before .args in
     limit-ceiling (a .w) (a .form) (a .count) (a .next) (a .room) (omega (arith, c .if1 .taken))
 
 returns-2 : tie.Need-returns-2
-returns-2 c = let a = c .before .before .args in
+returns-2 c =
+    let start = c .before .before in
+    let a = start .args in
     limit-serials (a .w) (a .form) (a .count) (a .next) (a .room) (omega (arith, c .before .if1 .left)) (omega (arith, c .if2 .taken))
 
 row-size-requires : tie.Need-row-size-requires
@@ -31,22 +33,30 @@ add-if3-2 : tie.Need-add-if3-2
 add-if3-2 c = search needs
 
 returns-3 : tie.Need-returns-3
-returns-3 c = let start = c .before .before .before .before .before .before in
-    let a = start .args in
+returns-3 c =
     let sized = c .before .before in
-    let rows = sized .times .ensures .value ∙ ap (λ (n : ℕ). n * a .count) (sized .before .row-size .ensures) in
-    limit-buffer (a .w) (a .form) (a .count) (a .next) (a .room) (omega (arith, sized .before .before .before .if1 .left)) (omega (arith, sized .before .before .if2 .left))
+    let at-row-size = sized .before in
+    let at-if2 = at-row-size .before in
+    let at-if1 = at-if2 .before in
+    let start = at-if1 .before in
+    let a = start .args in
+    let rows = sized .times .ensures .value ∙ ap (λ (n : ℕ). n * a .count) (at-row-size .row-size .ensures) in
+    limit-buffer (a .w) (a .form) (a .count) (a .next) (a .room) (omega (arith, at-if1 .if1 .left)) (omega (arith, at-if2 .if2 .left))
     (omega (arith, c .if3 .taken, c .before .header-size .ensures, rows))
 
 returns-4 : tie.Need-returns-4
-returns-4 c = let start = c .before .before .before .before .before .before in
-    let a = start .args in
+returns-4 c =
     let sized = c .before .before in
-    let rows = sized .times .ensures .value ∙ ap (λ (n : ℕ). n * a .count) (sized .before .row-size .ensures) in
+    let at-row-size = sized .before in
+    let at-if2 = at-row-size .before in
+    let at-if1 = at-if2 .before in
+    let start = at-if1 .before in
+    let a = start .args in
+    let rows = sized .times .ensures .value ∙ ap (λ (n : ℕ). n * a .count) (at-row-size .row-size .ensures) in
     limit-none (a .w) (a .form) (a .count) (a .next) (a .room)
     (record {
-      rows = omega (arith, sized .before .before .before .if1 .left);
-      serials = omega (arith, sized .before .before .if2 .left);
+      rows = omega (arith, at-if1 .if1 .left);
+      serials = omega (arith, at-if2 .if2 .left);
       bytes = omega (arith, c .if3 .left, c .before .header-size .ensures, rows);
     })
 

@@ -23,18 +23,28 @@ cast-most-added : tie.Need-cast-most-added
 cast-most-added c = search needs
 
 most-added-requires : tie.Need-most-added-requires
-most-added-requires c κs = let start = c .before .before .before .before .before .before .before .before in
-    let q = start .pre .0 in
+most-added-requires c κs =
     let bodies = c .before in
-    let x = reads-of (bodies .before .before .before .before .shape-of .ensures) (bodies .before .before .before .definition-body .ensures) (bodies .before .before .particle-body .ensures)
-    (bodies .before .attribute-body .ensures) (bodies .row-body .ensures) in
+    let at-attribute-body = bodies .before in
+    let at-particle-body = at-attribute-body .before in
+    let at-definition-body = at-particle-body .before in
+    let at-shape-of = at-definition-body .before in
+    let start = at-shape-of .before .before .before in
+    let q = start .pre .0 in
+    let x = reads-of (at-shape-of .shape-of .ensures) (at-definition-body .definition-body .ensures) (at-particle-body .particle-body .ensures)
+    (at-attribute-body .attribute-body .ensures) (bodies .row-body .ensures) in
     (walk-ready q x (start .pre .1) (start .pre .2), walk-asked q x, walk-whole q x, rows-few q x)
 
 returns : tie.Need-returns
-returns c = let start = c .before .before .before .before .before .before .before .before .before in
+returns c =
     let bodies = c .before .before in
-    let x = reads-of (bodies .before .before .before .before .shape-of .ensures) (bodies .before .before .before .definition-body .ensures) (bodies .before .before .particle-body .ensures)
-    (bodies .before .attribute-body .ensures) (bodies .row-body .ensures) in
+    let at-attribute-body = bodies .before in
+    let at-particle-body = at-attribute-body .before in
+    let at-definition-body = at-particle-body .before in
+    let at-shape-of = at-definition-body .before in
+    let start = at-shape-of .before .before .before in
+    let x = reads-of (at-shape-of .shape-of .ensures) (at-definition-body .definition-body .ensures) (at-particle-body .particle-body .ensures)
+    (at-attribute-body .attribute-body .ensures) (bodies .row-body .ensures) in
     rows-added (start .pre .0) x (start .args .plan) (start .args .text .now) (c .most-added .ensures)
 
 pub most-added-spec : {M : Type 1} → statement M

@@ -26,14 +26,17 @@ sub-count : tie.Need-sub-count
 sub-count c = search needs
 
 put-form-requires : tie.Need-put-form-requires
-put-form-requires c κs = let start = c .before .before .before .before .before .before .before .before .before .before .before .before in
+put-form-requires c κs =
+    let at-walk-rows = c .before .before .before .before in
+    let at-width-in = at-walk-rows .before .before .before in
+    let start = at-width-in .before .before .before .before .before in
     let a = start .args in
     let h = holds (a .store .now) (start .pre .0) in
     let within = limit-within _ _ _ _ _ (start .pre .4) in
-    let walked = c .before .before .before .before .walk-rows .ensures in
+    let walked = at-walk-rows .walk-rows .ensures in
     let serial = serial-is h (start .pre .3) (a .plan) (a .text .now) within walked in
     let count = count-is h (start .pre .3) (a .plan) (a .text .now) within walked in (
-      c .before .before .before .before .before .before .before .width-in .ensures .small,
+      at-width-in .width-in .ensures .small,
       heads-of (start .pre .3) (width-within (a .store .now)) (omega (arith, serial, within .serials)) (omega (arith, count, within .rows)),
     )
 
@@ -41,13 +44,17 @@ same-length : tie.Need-same-length
 same-length c = search needs
 
 returns : tie.Need-returns
-returns c = let start = c .before .before .before .before .before .before .before .before .before .before .before .before .before .before .before in
+returns c =
+    let at-put-form = c .before .before in
+    let at-walk-rows = at-put-form .before .before .before .before .before in
+    let sized = at-walk-rows .before .before in
+    let at-width-in = sized .before in
+    let start = at-width-in .before .before .before .before .before in
     let a = start .args in
     let h = holds (a .store .now) (start .pre .0) in
     let within = limit-within _ _ _ _ _ (start .pre .4) in
-    let walked = c .before .before .before .before .before .before .before .walk-rows .ensures in
-    let sized = c .before .before .before .before .before .before .before .before .before in
-    edited-laid h (start .pre .3) (a .plan) (a .text .now) within walked (omega (arith, sized .header-size .ensures)) (sized .before .width-in .ensures) (c .before .before .put-form .ensures)
+    let walked = at-walk-rows .walk-rows .ensures in
+    edited-laid h (start .pre .3) (a .plan) (a .text .now) within walked (omega (arith, sized .header-size .ensures)) (at-width-in .width-in .ensures) (at-put-form .put-form .ensures)
 
 pub put-edited-spec : {M : Type 1} → statement M
 put-edited-spec =

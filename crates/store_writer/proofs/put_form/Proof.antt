@@ -10,15 +10,20 @@ put-header-requires : tie.Need-put-header-requires
 put-header-requires c κs = search needs
 
 put-requires : tie.Need-put-requires
-put-requires c κs = let start = c .before .before .before .before .before .before .before .before in
+put-requires c κs =
+    let at-put-header = c .before .before .before in
+    let start = at-put-header .before .before .before .before .before in
     let a = start .args in
-    omega (arith, c .before .before .before .put-header .ensures .next, headed-short (a .w) (a .next) (a .d) (a .p) (a .a) (a .r) (a .store .now), start .pre .1 .short)
+    omega (arith, at-put-header .put-header .ensures .next, headed-short (a .w) (a .next) (a .d) (a .p) (a .a) (a .r) (a .store .now), start .pre .1 .short)
 
 same-length : tie.Need-same-length
 same-length c = search needs
 
 returns : tie.Need-returns
-returns c = laid-then (c .before .before .before .before .before .before .put-header .ensures) (c .before .before .put .ensures)
+returns c =
+    let at-put = c .before .before in
+    let at-put-header = at-put .before .before .before .before in
+    laid-then (at-put-header .put-header .ensures) (at-put .put .ensures)
 
 pub put-form-spec : {M : Type 1} → statement M
 put-form-spec = tie.close (tie.spec put-header-requires put-requires same-length returns)

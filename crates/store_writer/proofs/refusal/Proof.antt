@@ -29,11 +29,15 @@ limit-requires : tie.Need-limit-requires
 limit-requires c κs = search needs
 
 returns : tie.Need-returns
-returns c = let start = c .before .before .before .before .before .before .before .before in
-    let a = start .args in
+returns c =
     let numbers = c .before .before in
-    refusal-spared (numbers .before .before .before .width-in .ensures) (a .form) (a .room) (rowsAfter (a .plan) (a .text .now) (bodiesOf (a .store .now)))
-    (numbers .before .row-count .ensures) (numbers .next-serial .ensures) (numbers .before .before .most-added .ensures) (c .before .limit .ensures) (c .if1 .taken)
+    let at-row-count = numbers .before in
+    let at-most-added = at-row-count .before in
+    let at-width-in = at-most-added .before in
+    let start = at-width-in .before .before .before in
+    let a = start .args in
+    refusal-spared (at-width-in .width-in .ensures) (a .form) (a .room) (rowsAfter (a .plan) (a .text .now) (bodiesOf (a .store .now)))
+    (at-row-count .row-count .ensures) (numbers .next-serial .ensures) (at-most-added .most-added .ensures) (c .before .limit .ensures) (c .if1 .taken)
 
 slice-aggregate-walk-rows : tie.Need-slice-aggregate-walk-rows
 slice-aggregate-walk-rows c = search needs
@@ -48,11 +52,14 @@ limit-requires-2 : tie.Need-limit-requires-2
 limit-requires-2 c κs = search needs
 
 returns-2 : tie.Need-returns-2
-returns-2 c = let start = c .before .before .before .before .before .before .before .before .before .before .before .before .before in
+returns-2 c =
+    let at-walk-rows = c .before .before .before in
+    let at-width-in = at-walk-rows .before .before .before .before .before .before .before in
+    let start = at-width-in .before .before .before in
     let a = start .args in
-    refusal-counted (c .before .before .before .before .before .before .before .before .before .before .width-in .ensures) (a .form) (a .room)
+    refusal-counted (at-width-in .width-in .ensures) (a .form) (a .room)
     (rowsAfter (a .plan) (a .text .now) (bodiesOf (a .store .now)))
-    (c .before .before .before .walk-rows .ensures) (c .limit2 .ensures)
+    (at-walk-rows .walk-rows .ensures) (c .limit2 .ensures)
 
 pub refusal-spec : {M : Type 1} → statement M
 refusal-spec =

@@ -26,18 +26,35 @@ cast-walk : tie.Need-cast-walk
 cast-walk c = search needs
 
 walk-requires : tie.Need-walk-requires
-walk-requires c κs = let start = c .before .before .before .before .before .before .before .before .before .before .before in
+walk-requires c κs =
+    let at-next-serial = c .before .before in
+    let at-row-body = at-next-serial .before in
+    let at-attribute-body = at-row-body .before in
+    let at-particle-body = at-attribute-body .before in
+    let at-definition-body = at-particle-body .before in
+    let at-shape-of = at-definition-body .before in
+    let start = at-shape-of .before .before .before .before in
     let q = start .pre .0 in
-    let x = reads-of (c .before .before .before .before .before .before .before .shape-of .ensures) (c .before .before .before .before .before .before .definition-body .ensures) (c .before .before .before .before .before .particle-body .ensures) (c .before .before .before .before .attribute-body .ensures) (c .before .before .before .row-body .ensures) in
-    (walk-ready q x (start .pre .1) (start .pre .2), walk-asked q x, walk-whole q x, walk-room (c .before .before .before .before .before .before .before .shape-of .ensures .sized .width) (start .pre .3) (c .before .before .next-serial .ensures))
+    let x = reads-of (at-shape-of .shape-of .ensures) (at-definition-body .definition-body .ensures) (at-particle-body .particle-body .ensures)
+    (at-attribute-body .attribute-body .ensures) (at-row-body .row-body .ensures) in
+    (walk-ready q x (start .pre .1) (start .pre .2), walk-asked q x, walk-whole q x, walk-room (at-shape-of .shape-of .ensures .sized .width) (start .pre .3) (at-next-serial .next-serial .ensures))
 
 same-length : tie.Need-same-length
 same-length c = search needs
 
 returns : tie.Need-returns
-returns c = let start = c .before .before .before .before .before .before .before .before .before .before .before .before .before .before in
-    let x = reads-of (c .before .before .before .before .before .before .before .before .before .before .shape-of .ensures) (c .before .before .before .before .before .before .before .before .before .definition-body .ensures) (c .before .before .before .before .before .before .before .before .particle-body .ensures) (c .before .before .before .before .before .before .before .attribute-body .ensures) (c .before .before .before .before .before .before .row-body .ensures) in
-    walk-from (start .pre .0) x (start .args .plan) (start .args .text .now) (c .before .before .before .before .before .next-serial .ensures) (c .before .before .walk .ensures)
+returns c =
+    let at-walk = c .before .before in
+    let at-next-serial = at-walk .before .before .before in
+    let at-row-body = at-next-serial .before in
+    let at-attribute-body = at-row-body .before in
+    let at-particle-body = at-attribute-body .before in
+    let at-definition-body = at-particle-body .before in
+    let at-shape-of = at-definition-body .before in
+    let start = at-shape-of .before .before .before .before in
+    let x = reads-of (at-shape-of .shape-of .ensures) (at-definition-body .definition-body .ensures) (at-particle-body .particle-body .ensures)
+    (at-attribute-body .attribute-body .ensures) (at-row-body .row-body .ensures) in
+    walk-from (start .pre .0) x (start .args .plan) (start .args .text .now) (at-next-serial .next-serial .ensures) (at-walk .walk .ensures)
 
 pub walk-rows-spec : {M : Type 1} → statement M
 walk-rows-spec =

@@ -16,8 +16,8 @@ taken-requires c κs = search needs
 
 returns : tie.Need-returns
 returns c =
-    let start = c .before .before .before .before .before .before .before in
     let at-is-taken = c .before .before in
+    let start = at-is-taken .before .before .before .before .before in
     let a = start .args in
     let p = planIn (a .p .now) (a .marks .now) in
     let fill = fillIn (a .sizes .now) (a .form .now) p (a .text .now) in
@@ -29,9 +29,9 @@ is-below-requires c κs = search needs
 
 come-due-requires : tie.Need-come-due-requires
 come-due-requires c κs =
-    let start = c .before .before .before .before .before .before .before .before .before .before in
-    let at-is-taken = c .before .before .before .before .before in
     let at-if1 = c .before .before .before .before in
+    let at-is-taken = at-if1 .before in
+    let start = at-is-taken .before .before .before .before .before in
     (start .pre .0, start .pre .1, start .pre .2, sym (at-is-taken .is-taken .ensures) ∙ at-if1 .if1 .left)
 
 same-length : tie.Need-same-length
@@ -63,13 +63,13 @@ same-length-2 c = search needs
 
 returns-3 : tie.Need-returns-3
 returns-3 c =
-    let start = c .before .before .before .before .before .before .before .before .before .before .before .before .before .before .before .before .before .before in
-    let at-is-below = c .before .before .before .before .before .before .before .before .before .before .before in
-    let at-if2 = c .before .before .before .before .before .before .before .before .before in
-    let at-moved-index = c .before .before .before .before .before .before .before .before in
     let at-put-row = c .before .before .before in
-    let at-is-taken = c .before .before .before .before .before .before .before .before .before .before .before .before .before in
-    let at-if1 = c .before .before .before .before .before .before .before .before .before .before .before .before in
+    let at-moved-index = at-put-row .before .before .before .before .before in
+    let at-if2 = at-moved-index .before in
+    let at-is-below = at-if2 .before .before in
+    let at-if1 = at-is-below .before in
+    let at-is-taken = at-if1 .before in
+    let start = at-is-taken .before .before .before .before .before in
     let a = start .args in
     let p = planIn (a .p .now) (a .marks .now) in
     let fill = fillIn (a .sizes .now) (a .form .now) p (a .text .now) in

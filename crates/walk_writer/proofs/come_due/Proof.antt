@@ -10,7 +10,8 @@ use Rattle.walk_writer.proofs.come_due.Statement.{statement}
 use Rattle.walk_writer.proofs.come_due.Tie as tie
 
 is-filled-requires : tie.Need-is-filled-requires
-is-filled-requires c κs = let start = c .before .before .before .before in start .pre .1 .fair
+is-filled-requires c κs = let start = c .before .before .before .before in
+    start .pre .1 .fair
 
 put-owed-requires : tie.Need-put-owed-requires
 put-owed-requires c κs =
@@ -31,9 +32,9 @@ element-copy-out-put-row-2 c = search needs
 
 put-row-requires : tie.Need-put-row-requires
 put-row-requires c κs =
-    let start = c .before .before .before .before .before .before .before .before .before .before .before .before .before .before in
     let at-moved-index = c .before .before .before .before in
-    let at-put-owed = c .before .before .before .before .before .before .before in
+    let at-put-owed = at-moved-index .before .before .before in
+    let start = at-put-owed .before .before .before .before .before .before .before in
     let ready = start .pre .0 in
     (ready .width, at-moved-index .moved-index .ensures .1, ready .text, start .pre .1 .old, at-put-owed .put-owed .ensures .room (start .pre .2))
 
@@ -55,14 +56,13 @@ same-length c = search needs
 
 returns : tie.Need-returns
 returns c =
-    let start = c .before .before .before .before .before .before .before .before .before .before .before .before .before .before .before .before .before .before .before .before .before
-    in
-    let at-moved-index = c .before .before .before .before .before .before .before .before .before .before .before in
-    let at-put-row = c .before .before .before .before .before .before in
-    let at-is-filled = c .before .before .before .before .before .before .before .before .before .before .before .before .before .before .before .before in
-    let at-put-owed = c .before .before .before .before .before .before .before .before .before .before .before .before .before .before in
-    let at-is-below = c .before .before .before in
     let at-is-later = c .before .before in
+    let at-is-below = at-is-later .before in
+    let at-put-row = at-is-below .before .before .before in
+    let at-moved-index = at-put-row .before .before .before .before .before in
+    let at-put-owed = at-moved-index .before .before .before in
+    let at-is-filled = at-put-owed .before .before in
+    let start = at-is-filled .before .before .before .before .before in
     let a = start .args in
     let p = planIn (a .p .now) (a .marks .now) in
     let fill = fillIn (a .sizes .now) (a .form .now) p (a .text .now) in

@@ -29,7 +29,9 @@ returns-3 : tie.Need-returns-3
 returns-3 c = search needs
 
 returns-4 : tie.Need-returns-4
-returns-4 c = c .group-numbers .ensures ∙ sym (c .before .before .f3 .given .1)
+returns-4 c =
+    let at-f3 = c .before .before in
+    c .group-numbers .ensures ∙ sym (at-f3 .f3 .given .1)
 
 pub filling-numbers-spec : {M : Type 1} → statement M
 filling-numbers-spec =

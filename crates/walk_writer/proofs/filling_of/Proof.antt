@@ -35,10 +35,15 @@ returns-3 : tie.Need-returns-3
 returns-3 c = rw (c .before .match .keys3)
 
 returns-4 : tie.Need-returns-4
-returns-4 c = rw (c .before .before .match .keys4)
+returns-4 c =
+    let at-match = c .before .before in
+    rw (at-match .match .keys4)
 
 returns-5 : tie.Need-returns-5
-returns-5 c = let rest = c .before .before .match .rest in filling-choice _ _ _ (rest .0 .0 .0 .1) (rest .0 .0 .1) (rest .0 .1) (rest .1)
+returns-5 c =
+    let at-match = c .before .before in
+    let rest = at-match .match .rest in
+    filling-choice _ _ _ (rest .0 .0 .0 .1) (rest .0 .0 .1) (rest .0 .1) (rest .1)
 
 pub filling-of-spec : {M : Type 1} → statement M
 filling-of-spec =

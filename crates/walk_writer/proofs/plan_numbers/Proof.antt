@@ -58,13 +58,13 @@ array-read-t44 c = search needs
 
 returns : tie.Need-returns
 returns c =
-    let start = c .before .before .before .before .before .before .before .before .before .before in
-    let at-which-numbers = c .before .before .before .before .before .before .before in
-    let at-which-numbers2 = c .before .before .before .before .before .before in
-    let at-later-numbers = c .before .before .before .before .before in
-    let at-number-of = c .before .before .before in
     let at-number-of2 = c .before .before in
-    let at-filling-numbers = c .before .before .before .before in
+    let at-number-of = at-number-of2 .before in
+    let at-filling-numbers = at-number-of .before in
+    let at-later-numbers = at-filling-numbers .before in
+    let at-which-numbers2 = at-later-numbers .before in
+    let at-which-numbers = at-which-numbers2 .before in
+    let start = at-which-numbers .before .before .before in
     plan-lent (start .args .p) (getD (at-which-numbers .which-numbers .result) 0 0) (getD (at-which-numbers .which-numbers .result) 1 0)
     (getD (at-which-numbers2 .which-numbers2 .result) 0 0) (getD (at-which-numbers2 .which-numbers2 .result) 1 0)
     (getD (at-later-numbers .later-numbers .result) 0 0) (getD (at-later-numbers .later-numbers .result) 1 0)

@@ -18,7 +18,7 @@ element-copy-out-put-any c = search needs
 put-any-requires : tie.Need-put-any-requires
 put-any-requires c κs =
     let at-filling-of = c .before .before .before .before in
-    let start = c .before .before .before .before .before .before .before .before in
+    let start = at-filling-of .before .before .before .before in
     (subst Indexed (sym (at-filling-of .filling-of .ensures)) (start .pre .0), start .pre .1)
 
 array-read-t17 : tie.Need-array-read-t17
@@ -35,10 +35,10 @@ same-length c = search needs
 
 returns : tie.Need-returns
 returns c =
-    let start = c .before .before .before .before .before .before .before .before .before .before .before in
-    let at-filling-of = c .before .before .before .before .before .before .before in
-    let at-if1 = c .before .before .before .before .before .before .before .before in
     let at-put-any = c .before .before in
+    let at-filling-of = at-put-any .before .before .before .before .before in
+    let at-if1 = at-filling-of .before in
+    let start = at-if1 .before .before .before in
     let a = start .args in
     let s = a .sizes .now in
     let f = a .form .now in

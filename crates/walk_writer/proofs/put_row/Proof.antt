@@ -12,8 +12,11 @@ same-length c = search needs
 
 returns : tie.Need-returns
 returns c =
-    let a = c .before .before .before .before .before .before .before .before .args in
-    with-value (a .index) (a .text .now) (a .row .now) (c .before .before .before .before .if1 .taken) (c .before .before .put-valued .ensures)
+    let at-put-valued = c .before .before in
+    let at-if1 = at-put-valued .before .before in
+    let start = at-if1 .before .before .before .before in
+    let a = start .args in
+    with-value (a .index) (a .text .now) (a .row .now) (at-if1 .if1 .taken) (at-put-valued .put-valued .ensures)
 
 put-kept-requires : tie.Need-put-kept-requires
 put-kept-requires c κs = search needs
@@ -23,8 +26,11 @@ same-length-2 c = search needs
 
 returns-2 : tie.Need-returns-2
 returns-2 c =
-    let a = c .before .before .before .before .before .before .before .before .args in
-    with-own (a .index) (a .text .now) (a .row .now) (c .before .before .before .before .if1 .left) (c .before .before .put-kept .ensures)
+    let at-put-kept = c .before .before in
+    let at-if1 = at-put-kept .before .before in
+    let start = at-if1 .before .before .before .before in
+    let a = start .args in
+    with-own (a .index) (a .text .now) (a .row .now) (at-if1 .if1 .left) (at-put-kept .put-kept .ensures)
 
 pub put-row-spec : {M : Type 1} → statement M
 put-row-spec =

@@ -26,7 +26,11 @@ cast-t8 : tie.Need-cast-t8
 cast-t8 c = search needs
 
 returns : tie.Need-returns
-returns c = head-read (c .before .before .before .before .before .args .row .now) _ _ _ _ (c .before .before .before .row-depth .ensures) (c .before .before .row-sort .ensures)
+returns c =
+    let at-row-sort = c .before .before in
+    let at-row-depth = at-row-sort .before in
+    let start = at-row-depth .before .before in
+    head-read (start .args .row .now) _ _ _ _ (at-row-depth .row-depth .ensures) (at-row-sort .row-sort .ensures)
     (c .before .row-index .ensures) (c .row-serial .ensures)
 
 pub read-head-spec : {M : Type 1} → statement M

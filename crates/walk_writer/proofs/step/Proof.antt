@@ -15,8 +15,8 @@ gone-requires c κs = search needs
 
 returns : tie.Need-returns
 returns c =
-    let start = c .before .before .before .before .before .before .before in
     let at-read-head = c .before .before in
+    let start = at-read-head .before .before .before .before .before in
     let a = start .args in
     let p = planIn (a .p .now) (a .marks .now) in
     let fill = fillIn (a .sizes .now) (a .form .now) p (a .text .now) in
@@ -25,8 +25,8 @@ returns c =
 
 closes-requires : tie.Need-closes-requires
 closes-requires c κs =
-    let start = c .before .before .before .before .before .before .before in
     let at-read-head = c .before .before in
+    let start = at-read-head .before .before .before .before .before in
     seen (start .pre .1) (at-read-head .read-head .ensures) .fair
 
 minus-requires : tie.Need-minus-requires
@@ -39,15 +39,15 @@ put-owed-requires c κs =
 
 closed-requires : tie.Need-closed-requires
 closed-requires c κs =
-    let start = c .before .before .before .before .before .before .before .before .before .before .before .before .before .before in
     let at-read-head = c .before .before .before .before .before .before .before .before .before in
+    let start = at-read-head .before .before .before .before .before in
     seen (start .pre .1) (at-read-head .read-head .ensures) .fair
 
 come-requires : tie.Need-come-requires
 come-requires c κs =
-    let start = c .before .before .before .before .before .before .before .before .before .before .before .before .before .before .before .before in
-    let at-read-head = c .before .before .before .before .before .before .before .before .before .before .before in
     let at-put-owed = c .before .before .before .before in
+    let at-read-head = at-put-owed .before .before .before .before .before .before .before in
+    let start = at-read-head .before .before .before .before .before in
     (start .pre .0, seen (start .pre .1) (at-read-head .read-head .ensures), at-put-owed .put-owed .ensures .room (start .pre .3))
 
 same-length : tie.Need-same-length
@@ -55,15 +55,15 @@ same-length c = search needs
 
 returns-2 : tie.Need-returns-2
 returns-2 c =
-    let start = c .before .before .before .before .before .before .before .before .before .before .before .before .before .before .before .before .before .before .before in
-    let at-read-head = c .before .before .before .before .before .before .before .before .before .before .before .before .before .before in
-    let at-gone = c .before .before .before .before .before .before .before .before .before .before .before .before .before in
-    let at-if1 = c .before .before .before .before .before .before .before .before .before .before .before .before in
-    let at-closes = c .before .before .before .before .before .before .before .before .before .before .before in
-    let at-minus = c .before .before .before .before .before .before .before .before .before in
-    let at-closed = c .before .before .before .before in
-    let at-put-owed = c .before .before .before .before .before .before .before in
     let at-come = c .before .before in
+    let at-closed = at-come .before .before in
+    let at-put-owed = at-closed .before .before .before in
+    let at-minus = at-put-owed .before .before in
+    let at-closes = at-minus .before .before in
+    let at-if1 = at-closes .before in
+    let at-gone = at-if1 .before in
+    let at-read-head = at-gone .before in
+    let start = at-read-head .before .before .before .before .before in
     let a = start .args in
     let p = planIn (a .p .now) (a .marks .now) in
     let fill = fillIn (a .sizes .now) (a .form .now) p (a .text .now) in

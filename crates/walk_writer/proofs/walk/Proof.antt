@@ -15,8 +15,8 @@ plan-numbers-requires c κs = search needs
 
 walk-lent-requires : tie.Need-walk-lent-requires
 walk-lent-requires c κs =
-    let start = c .before .before .before .before .before .before .before .before .before .before .before .before .before .before in
     let at-plan-numbers = c .before .before .before .before .before .before .before in
+    let start = at-plan-numbers .before .before .before .before .before .before .before in
     let a = start .args in
     let same = at-plan-numbers .plan-numbers .ensures in
     (subst (λ (q : Plan). Ready (a .w) (a .n) (a .a) (a .text .now) q) (sym same) (start .pre .0), start .pre .1, start .pre .2, start .pre .3)
@@ -26,9 +26,9 @@ same-length c = search needs
 
 returns : tie.Need-returns
 returns c =
-    let start = c .before .before .before .before .before .before .before .before .before .before .before .before .before .before .before .before .before in
-    let at-plan-numbers = c .before .before .before .before .before .before .before .before .before .before in
     let at-walk-lent = c .before .before in
+    let at-plan-numbers = at-walk-lent .before .before .before .before .before .before .before .before in
+    let start = at-plan-numbers .before .before .before .before .before .before .before in
     let a = start .args in
     let rows = readMany readRow (rowSize (a .w)) (a .count) (a .rows .now) in
     let same = ap

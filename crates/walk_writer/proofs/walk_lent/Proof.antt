@@ -28,7 +28,9 @@ element-copy-out-row-size : tie.Need-element-copy-out-row-size Inv-loop μ-loop
 element-copy-out-row-size c = search needs
 
 row-size-requires : tie.Need-row-size-requires Inv-loop μ-loop
-row-size-requires c κs = c .before .before .before .before .before .pre .0 .width
+row-size-requires c κs =
+    let start = c .before .before .before .before .before in
+    start .pre .0 .width
 
 at-first-requires : tie.Need-at-first-requires Inv-loop μ-loop
 at-first-requires c κs = search needs
@@ -39,40 +41,42 @@ loop-holds c =
     going-start (start .pre .1) (start .pre .2) (start .pre .3) (c .at-first .ensures)
 
 same-length : tie.Need-same-length Inv-loop μ-loop
-same-length c = let at-loop = c .before .before .before in at-loop .loop .inv .long
+same-length c = let at-loop = c .before .before .before in
+    at-loop .loop .inv .long
 
 returns : tie.Need-returns Inv-loop μ-loop
-returns c = let at-loop = c .before .before .before in going-stop (at-loop .loop .inv) (c .if1 .taken)
+returns c = let at-loop = c .before .before .before in
+    going-stop (at-loop .loop .inv) (c .if1 .taken)
 
 slice-aggregate-row : tie.Need-slice-aggregate-row Inv-loop μ-loop
 slice-aggregate-row c =
-    let at-loop = c .before .before .before .before in
     let at-loop-test = c .before .before .before in
-    let at-row-size = c .before .before .before .before .before .before in
+    let at-loop = at-loop-test .before in
+    let at-row-size = at-loop .before .before in
     sym
     (length-take-le _ (at-loop .loop .t .now) (omega (arith, going-first (at-loop .loop .inv) (at-loop-test .loop-test .taken), at-row-size .row-size .ensures)))
 
 step-requires : tie.Need-step-requires Inv-loop μ-loop
 step-requires c κs =
-    let at-loop = c .before .before .before .before .before in
-    let start = c .before .before .before .before .before .before .before .before .before .before .before .before .before in
     let at-loop-test = c .before .before .before .before in
-    let at-row-size = c .before .before .before .before .before .before .before in
+    let at-loop = at-loop-test .before in
+    let at-row-size = at-loop .before .before in
+    let start = at-row-size .before .before .before .before .before .before in
     let going = at-loop .loop .inv in
     (start .pre .0, going-row going (at-loop-test .loop-test .taken) _ (at-row-size .row-size .ensures), going .near, going .room)
 
 sub-t : tie.Need-sub-t Inv-loop μ-loop
 sub-t c =
-    let at-loop = c .before .before .before .before .before .before .before .before .before .before in
     let at-loop-test = c .before .before .before .before .before .before .before .before .before in
-    let at-row-size = c .before .before .before .before .before .before .before .before .before .before .before .before in
+    let at-loop = at-loop-test .before in
+    let at-row-size = at-loop .before .before in
     omega (arith, going-first (at-loop .loop .inv) (at-loop-test .loop-test .taken), at-row-size .row-size .ensures)
 
 part-t-start : tie.Need-part-t-start Inv-loop μ-loop
 part-t-start c =
-    let at-loop = c .before .before .before .before .before .before .before .before .before .before in
     let at-loop-test = c .before .before .before .before .before .before .before .before .before in
-    let at-row-size = c .before .before .before .before .before .before .before .before .before .before .before .before in
+    let at-loop = at-loop-test .before in
+    let at-row-size = at-loop .before .before in
     omega (arith, going-first (at-loop .loop .inv) (at-loop-test .loop-test .taken), at-row-size .row-size .ensures)
 
 part-t-end : tie.Need-part-t-end Inv-loop μ-loop
@@ -86,10 +90,10 @@ loop-less c = search needs
 
 loop-again : tie.Need-loop-again Inv-loop μ-loop
 loop-again c =
-    let at-loop = c .before .before .before .before .before .before .before .before .before .before .before in
-    let at-loop-test = c .before .before .before .before .before .before .before .before .before .before in
-    let at-row-size = c .before .before .before .before .before .before .before .before .before .before .before .before .before in
     let at-step = c .before .before .before .before .before in
+    let at-loop-test = at-step .before .before .before .before .before in
+    let at-loop = at-loop-test .before in
+    let at-row-size = at-loop .before .before in
     going-step (at-loop .loop .inv) (at-loop-test .loop-test .taken) _ (at-row-size .row-size .ensures) (at-step .step .ensures)
 
 minus-requires : tie.Need-minus-requires Inv-loop μ-loop
@@ -97,8 +101,8 @@ minus-requires c κs = search needs
 
 put-owed-requires : tie.Need-put-owed-requires Inv-loop μ-loop
 put-owed-requires c κs =
-    let start = c .before .before .before .before .before .before .before .before .before .before .before in
     let at-loop = c .before .before .before in
+    let start = at-loop .before .before .before .before .before .before .before .before in
     let ready = start .pre .0 in
     let going = at-loop .loop .inv in
     (ready .filling, asks-of ready (going .room) (omega (arith, going .near .below, c .before .minus .ensures)))
@@ -106,14 +110,14 @@ put-owed-requires c κs =
 same-length-2 : tie.Need-same-length-2 Inv-loop μ-loop
 same-length-2 c =
     let at-put-owed = c .before .before in
-    let at-loop = c .before .before .before .before .before .before in
+    let at-loop = at-put-owed .before .before .before .before in
     at-put-owed .put-owed .ensures .long ∙ at-loop .loop .inv .long
 
 returns-2 : tie.Need-returns-2 Inv-loop μ-loop
 returns-2 c =
-    let at-loop = c .before .before .before .before .before .before in
-    let at-minus = c .before .before .before .before in
     let at-put-owed = c .before .before in
+    let at-minus = at-put-owed .before .before in
+    let at-loop = at-minus .before .before in
     going-end (at-loop .loop .inv) (omega arith) _ (at-minus .minus .ensures) (at-put-owed .put-owed .ensures)
 
 pub walk-lent-spec : {M : Type 1} → statement M

@@ -57,7 +57,7 @@ pub fn add_attribute(
     if !store_check::passes(store) {
         return store_writer::refused(1);
     }
-    let number = form_refusals::add_attribute_refusal(store, owner, name, sort, value);
+    let number = attribute_refusals::add_attribute_refusal(store, owner, name, sort, value);
     if number != 0 {
         return store_writer::refused(number);
     }

@@ -46,7 +46,7 @@ pub fn destroy_attribute(store: &[u8], attribute: u32, out: &mut [u8]) -> Answer
     if !store_check::passes(store) {
         return store_writer::refused(1);
     }
-    let number = form_refusals::destroy_attribute_refusal(store, attribute);
+    let number = attribute_refusals::destroy_attribute_refusal(store, attribute);
     if number != 0 {
         return store_writer::refused(number);
     }

@@ -38,6 +38,7 @@ use Rattle.attribute_form.proofs.FormParts.{fits, front-laid}
 use Rattle.attribute_form.proofs.CountLaws.{count-definitions, count-particles, count-attributes}
 use Rattle.attribute_writer.specs.Attributes.{newEntry, Addable}
 use Rattle.add_attribute_call.specs.Added.{added}
+use Rattle.layout.specs.Fields.{versionAt}
 
 -- ---- no condition holds
 module _ (bs : Bytes) {b : Bool} {m : ℕ} (h : not b ≡ false) (e : b ≡ passes bs) where
@@ -63,7 +64,7 @@ module _ (bs : Bytes) (q : passes bs ≡ true) where
   add-leaves o n k v e = let kept : Holds bs = holds bs q in add-attribute-planned (storeIn bs) (kept .good) o n k v e ∙ sym (ap (added o n k v) (kept .bodies))
 
 -- ---- the store that is left
-version-of : (bs : Bytes) → numberAt 0 4 bs ≡ bodiesOf bs .version
+version-of : (bs : Bytes) → numberAt versionAt 4 bs ≡ bodiesOf bs .version
 unfolding bodiesOf
 version-of bs = refl
 
@@ -85,7 +86,7 @@ module _ (bs : Bytes) (o : ℕ) (n : Bytes) (k : ℕ) (v : Bytes) (x : Addable b
 
   module _ {d p a i version r : ℕ} {q : Plan} {buffer left : Bytes} (cd : Number (definitionCount bs) d) (cp : Number (particleCount bs) p)
       (ca : Number (attributeCount bs) a) (few : a < 64) (to : To o (bodiesOf bs .attributes) i)
-      (at : Number (numberAt 0 4 bs) version) (same : q ≡ addAttributePlan version o i k)
+      (at : Number (numberAt versionAt 4 bs) version) (same : q ≡ addAttributePlan version o i k)
       (long : length buffer ≡ 9728) (y : Laid (formBytes (widthOf bs) (attributeAdded i (newEntry o n k v) (bodiesOf bs))) buffer 0 r left) where
     of-bytes : {form : Bytes} → form ≡ formBytes (widthOf bs) (attributeAdded i (newEntry o n k v) (bodiesOf bs))
         → FormOf (widthOf bs) (attributeAdded i (newEntry o n k v) (bodiesOf bs)) form d p (a + 1)

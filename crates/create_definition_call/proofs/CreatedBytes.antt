@@ -18,6 +18,7 @@ use Rattle.layout.proofs.HeaderLaws.{attributes-few, headed-short}
 use Rattle.definition_writer.specs.Bodies.{newDefinition}
 use Rattle.store_writer.proofs.Encoded.{Encoded, length-is, bytes-are, others, definitions-at, others-at}
 use Rattle.create_definition_call.specs.Bodies.{created}
+use Rattle.layout.specs.Fields.{nextAt}
 
 module _ {bs : Bytes} {f : FlatStore} (n : Bytes) (k : ℕ) (x : Encoded bs f) where
   new-bytes : each definitionBytes (newDefinition n k ∷ []) ≡ definitionBytes (newDefinition n k)
@@ -25,7 +26,7 @@ module _ {bs : Bytes} {f : FlatStore} (n : Bytes) (k : ℕ) (x : Encoded bs f) w
 
   header-is : headed (widthOf bs) (created n k f .next) (length (created n k f .definitions)) (length (f .particles)) (length (f .attributes)) (length (f .rows))
       (flatBytes (widthOf bs) (created n k f))
-      ≡ headed (widthOf bs) (numberAt 4 4 bs) (definitionCount bs + 1) (particleCount bs) (attributeCount bs) (rowCount bs) bs
+      ≡ headed (widthOf bs) (numberAt nextAt 4 bs) (definitionCount bs + 1) (particleCount bs) (attributeCount bs) (rowCount bs) bs
   unfolding created headed
   header-is =
       λ i.
@@ -33,7 +34,7 @@ module _ {bs : Bytes} {f : FlatStore} (n : Bytes) (k : ℕ) (x : Encoded bs f) w
       (sym (x .attributes) i) (sym (x .rows) i) (x .written i)
 
   created-bytes : flatBytes (widthOf bs) (created n k f)
-      ≡ headed (widthOf bs) (numberAt 4 4 bs) (definitionCount bs + 1) (particleCount bs) (attributeCount bs)
+      ≡ headed (widthOf bs) (numberAt nextAt 4 bs) (definitionCount bs + 1) (particleCount bs) (attributeCount bs)
       (rowCount bs) bs ++ (definitionsIn bs ++ (definitionBytes (newDefinition n k) ++ drop (headerSize + definitionSize * definitionCount bs) bs))
   unfolding created
   created-bytes =
@@ -46,19 +47,19 @@ module _ {bs : Bytes} {f : FlatStore} (n : Bytes) (k : ℕ) (x : Encoded bs f) w
   -- what the writers wrote; the counts are the ones that they read
   pub created-laid : {d p a rest : ℕ} {u v out out₁ out₂ out₃ out₄ : Bytes} {at₁ at₂ at₃ at₄ : ℕ} → Number (definitionCount bs) d → Number (particleCount bs) p → Number (attributeCount bs) a
       → Place (headerSize + definitionSize * d) rest → u ≡ definitionsIn bs → v ≡ drop rest bs
-      → Laid (headed (widthOf bs) (numberAt 4 4 bs) (d + 1) p a (rowCount bs) bs) out 0 at₁ out₁ → Laid u out₁ at₁ at₂ out₂ → Laid (definitionBytes (newDefinition n k)) out₂ at₂ at₃ out₃
+      → Laid (headed (widthOf bs) (numberAt nextAt 4 bs) (d + 1) p a (rowCount bs) bs) out 0 at₁ out₁ → Laid u out₁ at₁ at₂ out₂ → Laid (definitionBytes (newDefinition n k)) out₂ at₂ at₃ out₃
       → Laid v out₃ at₃ at₄ out₄
       → Laid (flatBytes (widthOf bs) (created n k f)) out 0 at₄ out₄
   created-laid {u = u} {v = v} dd pp aa place eu ev header front new back =
       let e : drop (headerSize + definitionSize * definitionCount bs) bs ≡ v = sym (ev ∙ ap (λ (j : ℕ). drop j bs) (place .value ∙ ap (λ (j : ℕ). headerSize + definitionSize * j) (dd .value))) in
       laid-as
       (created-bytes
-      ∙ λ i. headed (widthOf bs) (numberAt 4 4 bs) (sym (dd .value) i + 1) (sym (pp .value) i) (sym (aa .value) i) (rowCount bs) bs ++ (sym eu i ++ (definitionBytes (newDefinition n k) ++ e i)))
+      ∙ λ i. headed (widthOf bs) (numberAt nextAt 4 bs) (sym (dd .value) i + 1) (sym (pp .value) i) (sym (aa .value) i) (rowCount bs) bs ++ (sym eu i ++ (definitionBytes (newDefinition n k) ++ e i)))
       (laid-then header (laid-then front (laid-then new back)))
 
   -- how far they have come
-  pub after-header : (d p a : ℕ) {out out₁ : Bytes} {at₁ : ℕ} → Laid (headed (widthOf bs) (numberAt 4 4 bs) d p a (rowCount bs) bs) out 0 at₁ out₁ → at₁ ≤ 40
-  after-header d p a header = omega (arith, header .next, headed-short (widthOf bs) (numberAt 4 4 bs) d p a (rowCount bs) bs)
+  pub after-header : (d p a : ℕ) {out out₁ : Bytes} {at₁ : ℕ} → Laid (headed (widthOf bs) (numberAt nextAt 4 bs) d p a (rowCount bs) bs) out 0 at₁ out₁ → at₁ ≤ 40
+  after-header d p a header = omega (arith, header .next, headed-short (widthOf bs) (numberAt nextAt 4 bs) d p a (rowCount bs) bs)
 
   pub front-short : {u : Bytes} → u ≡ definitionsIn bs → length u ≤ 1280
   front-short eu = omega (arith, ap length (eu ∙ definitions-at x), length-each definitionBytes definitionSize length-definition (f .definitions), x .fewDefinitions)

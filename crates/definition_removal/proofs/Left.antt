@@ -28,6 +28,7 @@ use Rattle.store_writer.proofs.StoreLaws.{holds}
 use Rattle.definition_writer.specs.Bodies.{movedParticle, movedRow}
 use Rattle.definition_removal.specs.Bodies.{lowered, cutOut, particlesUpTo, oneBelow, attributesUpTo, movedAttribute, CountWithin, destroyed, headerLeft}
 use Rattle.store_writer.proofs.Encoded.{Encoded, encoded}
+use Rattle.layout.specs.Fields.{nextAt}
 
 -- ---- the bodies, read
 module _ (bs : Bytes) where
@@ -183,6 +184,6 @@ module _ (bs : Bytes) (p : passes bs ≡ true) (i : ℕ) (h : i < definitionCoun
 
   pub header-left : {d m n : ℕ} {out out₁ : Bytes} {at : ℕ} → Number (definitionCount bs) d → CountWithin (length (destroyed i f .particles)) 256 m
       → CountWithin (length (destroyed i f .attributes)) 64 n
-      → Laid (headed (widthOf bs) (numberAt 4 4 bs) (d - 1) m n (rowCount bs) bs) out 0 at out₁ → Laid (headerLeft i bs) out 0 at out₁
+      → Laid (headed (widthOf bs) (numberAt nextAt 4 bs) (d - 1) m n (rowCount bs) bs) out 0 at out₁ → Laid (headerLeft i bs) out 0 at out₁
   header-left ed em en l =
-      laid-as (λ j. headed (widthOf bs) (numberAt 4 4 bs) ((definitions-left ∙ ap (λ (k : ℕ). k - 1) (sym (ed .value))) j) (sym (em .is) j) (sym (en .is) j) (rows-left j) bs) l
+      laid-as (λ j. headed (widthOf bs) (numberAt nextAt 4 bs) ((definitions-left ∙ ap (λ (k : ℕ). k - 1) (sym (ed .value))) j) (sym (em .is) j) (sym (en .is) j) (rows-left j) bs) l

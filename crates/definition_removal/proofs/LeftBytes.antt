@@ -36,6 +36,7 @@ use Rattle.definition_removal.proofs.Again.{each-drop, each-take, cut-a
 use Rattle.definition_removal.proofs.KeptRows.{Old, bytes-old, kept-rows, moved-old}
 use Rattle.definition_removal.proofs.Left.{definitions-left, rows-left, few-particles, few-attributes, particles-step, particles-within, attributes-step, attributes-most}
 use Rattle.store_writer.proofs.StillLaws.{rows-still}
+use Rattle.layout.specs.Fields.{nextAt}
 
 module _ (bs : Bytes) (p : passes bs ≡ true) (i : ℕ) (h : i < definitionCount bs) where
   abbrev f : FlatStore
@@ -130,7 +131,7 @@ module _ (bs : Bytes) (p : passes bs ≡ true) (i : ℕ) (h : i < definitionCoun
       → CountWithin (attributesUpTo (suc i) (f .attributes)) (attributeCount bs) b
       → q ≡ shifting (i + 1) b (b - a) → Written (widthOf bs) (rowsAfter q v f) (walkFrom at bs) out r out₁ → Laid (each (rowBytes (widthOf bs)) (destroyed i f .rows)) out at (r .at) out₁
   rows-laid {a} {b} {q} v ca cb e w =
-      laid-as (bytes-old (widthOf bs) (numberAt 4 4 bs) (destroyed i f .rows) rows-old)
+      laid-as (bytes-old (widthOf bs) (numberAt nextAt 4 bs) (destroyed i f .rows) rows-old)
       (written-fitting (written-as (rows-are a b v (ca .is) (cb .is) ∙ ap (λ (s : Plan). rowsAfter s v f) (sym e)) w) (omega (arith, rows-left bs p i h, x .rows, x .fewRows)))
 
   -- ---- all
@@ -157,7 +158,8 @@ module _ (bs : Bytes) (p : passes bs ≡ true) (i : ℕ) (h : i < definitionCoun
         omega (
           arith,
           l .next,
-          headed-short (widthOf bs) (numberAt 4 4 bs) (length (destroyed i f .definitions)) (length (destroyed i f .particles)) (length (destroyed i f .attributes)) (length (destroyed i f .rows)) bs,
+          headed-short (widthOf bs) (numberAt nextAt 4 bs) (length (destroyed i f .definitions)) (length (destroyed i f .particles))
+              (length (destroyed i f .attributes)) (length (destroyed i f .rows)) bs,
         )
 
     module _ {out₂ : Bytes} {at₂ : ℕ} (m : Laid (each definitionBytes (destroyed i f .definitions)) out₁ at₁ at₂ out₂) where

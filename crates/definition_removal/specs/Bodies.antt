@@ -15,6 +15,7 @@ use Rattle.layout.specs.RecordBytes.{indexedBytes, ownedBytes}
 use Rattle.layout.specs.Header.{headed}
 use Rattle.lookup.specs.Bodies.{bodiesOf}
 use Rattle.definition_writer.specs.Bodies.{memberMoved, movedParticle, movedRow}
+use Rattle.layout.specs.Fields.{nextAt}
 
 -- ---- what is left
 -- `less` entries before number `from` go: the numbers from there on fall
@@ -91,4 +92,4 @@ pub record Defined (bs : Bytes) (i : ℕ) : Type 0 where
 abbrev pub headerLeft : ℕ → Bytes → Bytes
 headerLeft i bs =
     let f : FlatStore = destroyed i (bodiesOf bs) in
-    headed (widthOf bs) (numberAt 4 4 bs) (length (f .definitions)) (length (f .particles)) (length (f .attributes)) (length (f .rows)) bs
+    headed (widthOf bs) (numberAt nextAt 4 bs) (length (f .definitions)) (length (f .particles)) (length (f .attributes)) (length (f .rows)) bs

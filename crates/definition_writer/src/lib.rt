@@ -7,11 +7,12 @@ ghost use Rattle.layout.specs.Bodies.{widthOf};
 ghost use Rattle.layout.specs.Header.{headed};
 ghost use Rattle.lookup.specs.Bodies.{bodiesOf};
 ghost use Rattle.definition_writer.specs.Bodies.{named};
+ghost use Rattle.layout.specs.Fields.{nextAt};
 
 /// Writes the header of a store with other counts of its form; version, next serial and rows are as the store has them.
 pub fn put_header(store: &[u8], d: usize, p: usize, a: usize, out: &mut [u8]) -> usize
     requires { ⌜ (d ≤ 65) × (p ≤ 256) × (a ≤ 64) ⌝ }
-    ensures { λ at. ⌜ Laid (headed (widthOf (now (store .entry))) (numberAt 4 4 (now (store .entry))) d p a (rowCount (now (store .entry))) (now (store .entry)))
+    ensures { λ at. ⌜ Laid (headed (widthOf (now (store .entry))) (numberAt nextAt 4 (now (store .entry))) d p a (rowCount (now (store .entry))) (now (store .entry)))
         (now (out .entry)) 0 at (now (out .exit)) ⌝ }
 {
     let w = layout::width_in(store);

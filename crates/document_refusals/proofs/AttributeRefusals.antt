@@ -48,6 +48,7 @@ use Rattle.store_writer.proofs.AttributeOwners.{owned, unowned}
 use Rattle.lookup.proofs.Laws.{some-same}
 use Rattle.change_laws.proofs.InstanceRows.{keep-no, keep-yes}
 use Rattle.rules.proofs.ConformingLaws.{is-element}
+use Rattle.layout.specs.Fields.{versionAt}
 
 serial-this : (a : ℕ) (r : FlatRow) (rs : List FlatRow) → eqb (r .index) a ≡ true → flat.serialOfIndex a (r ∷ rs) ≡ r .serial
 serial-this a r rs e = rw (e, flat.serialOfIndex)
@@ -87,7 +88,7 @@ module _ (bs : Bytes) {n : ℕ} {attrs : Bytes} (v : n ≡ widthOf bs) (e : attr
   pub allows-in : (t : Bytes) → allows (sortOf (attributeIn n attrs a .sort)) (attributeIn n attrs a .value) t ≡ byIndex bs .allows a t
   allows-in t = λ i. allows (sortOf (attributeIn (v i) (e i) a .sort)) (attributeIn (v i) (e i) a .value) t
 
-  pub needs-in : {version : ℕ} → version ≡ numberAt 0 4 bs → (i : ℕ) → (eqb (attributeIn n attrs a .owner) i && mustBePresent version (sortOf (attributeIn n attrs a .sort)))
+  pub needs-in : {version : ℕ} → version ≡ numberAt versionAt 4 bs → (i : ℕ) → (eqb (attributeIn n attrs a .owner) i && mustBePresent version (sortOf (attributeIn n attrs a .sort)))
       ≡ (eqb (attributeIn (widthOf bs) (attributesIn bs) a .owner) i && byIndex bs .needed a)
   needs-in u i = λ j. eqb (attributeIn (v j) (e j) a .owner) i && mustBePresent (u j) (sortOf (attributeIn (v j) (e j) a .sort))
 

@@ -37,6 +37,8 @@ use Rattle.filling.specs.declared.Filling.the-variants.{Nothing, Definit
 use Rattle.filling.specs.Fillings.{newElement, newAttributeRow, requiredRows, fillingsOf, contentRows, fillIndex, groupFilled, fillingRows}
 use Rattle.filling.specs.Parts.{leftOut, passed, settled, sortNothing, memberNothing, whatFilling, memberFilling, valueIn, requiredAt, requiredIn}
 use Rattle.filling.specs.Parts.{indexFormIn, definitionRows, memberRows, belowRows, membersReadAt, Indexed}
+use Rattle.layout.specs.Fields.{particleDepthAt, particleIndexAt, particleQuantifierAt, particleSortAt}
+use Rattle.rules.specs.Layout.{particleSize}
 
 -- ---- readers
 -- a created value is no longer than the fill
@@ -138,45 +140,51 @@ pub record Putting (version w : ℕ) (attrs : Bytes) (d i a : ℕ) (c : Cursor) 
 
 -- ---- the members of depth d that s begins with
 module _ (d : ℕ) (k : GroupKind) (s : Bytes) where
-  pub group-few : length s < 4 → filling k (membersFrom d s) ≡ []
+  pub group-few : length s < particleSize → filling k (membersFrom d s) ≡ []
   unfolding filling
   group-few h = rw (members-few d s h)
 
-  module _ (own : ℕ) (h : 4 ≤ length s) (g : own ≡ getD s 3 0) where
-    pub group-deeper : d < own → filling k (membersFrom d s) ≡ filling k (membersFrom d (take (length s - 4) (drop 4 s)))
-    group-deeper l = rw (tail-seen s 4, members-deeper d s h (omega arith))
+  module _ (own : ℕ) (h : particleSize ≤ length s) (g : own ≡ getD s particleDepthAt 0) where
+    pub group-deeper : d < own → filling k (membersFrom d s) ≡ filling k (membersFrom d (take (length s - particleSize) (drop particleSize s)))
+    group-deeper l = rw (tail-seen s particleSize, members-deeper d s h (omega arith))
 
     pub group-stop : own < d → filling k (membersFrom d s) ≡ []
     unfolding filling
     group-stop l = rw (members-stop d s h (omega arith))
 
-    pub group-here : own ≤ d → d ≤ own → filling k (membersFrom d s) ≡ beside k (memberFilling d s) (filling k (membersFrom d (take (length s - 4) (drop 4 s))))
+    pub group-here : own ≤ d → d ≤ own → filling k (membersFrom d s) ≡ beside k (memberFilling d s) (filling k (membersFrom d (take (length s - particleSize) (drop particleSize s))))
     unfolding filling memberFilling particleOf
-    group-here l m = rw (tail-seen s 4, members-here d s h (omega arith)) (by (getD s 0 0))
+    group-here l m = rw (tail-seen s particleSize, members-here d s h (omega arith)) (by (getD s particleSortAt 0))
       where
         by : (sort : ℕ)
-            → filling k (indexMember (readParticle s .row) sort (membersFrom (suc d) (drop 4 s)) (membersFrom d (drop 4 s)))
-            ≡ beside k (whatFilling (particleOf (readParticle s) .quantifier) (whatOf sort (getD s 2 0)) (membersFrom (suc d) (drop 4 s))) (filling k (membersFrom d (drop 4 s)))
+            → filling k (indexMember (readParticle s .row) sort (membersFrom (suc d) (drop particleSize s)) (membersFrom d (drop particleSize s)))
+            ≡ beside k
+            (whatFilling (particleOf (readParticle s) .quantifier) (whatOf sort (getD s particleIndexAt 0)) (membersFrom (suc d) (drop particleSize s)))
+            (filling k (membersFrom d (drop particleSize s)))
         by zero = refl
         by (suc n) = refl
 
-    left-out : own ≤ d → d ≤ own → leftOut k (quantifierOf (getD s 1 0)) ≡ true → filling k (membersFrom d s) ≡ filling k (membersFrom d (take (length s - 4) (drop 4 s)))
+    left-out : own ≤ d → d ≤ own → leftOut k (quantifierOf (getD s particleQuantifierAt 0)) ≡ true
+        → filling k (membersFrom d s) ≡ filling k (membersFrom d (take (length s - particleSize) (drop particleSize s)))
     unfolding memberFilling particleOf
-    left-out l m z = group-here l m ∙ by k (whatOf (getD s 0 0) (getD s 2 0)) z
+    left-out l m z = group-here l m ∙ by k (whatOf (getD s particleSortAt 0) (getD s particleIndexAt 0)) z
       where
         rest : List ℕ
-        rest = filling k (membersFrom d (take (length s - 4) (drop 4 s)))
+        rest = filling k (membersFrom d (take (length s - particleSize) (drop particleSize s)))
 
-        by : (j : GroupKind) (x : What) → leftOut j (quantifierOf (getD s 1 0)) ≡ true → beside j (whatFilling (quantifierOf (getD s 1 0)) x (membersFrom (suc d) (drop 4 s))) rest ≡ rest
+        by : (j : GroupKind) (x : What) → leftOut j (quantifierOf (getD s particleQuantifierAt 0)) ≡ true
+            → beside j (whatFilling (quantifierOf (getD s particleQuantifierAt 0)) x (membersFrom (suc d) (drop particleSize s))) rest ≡ rest
         by Sequence (Element i) z = rw z
         by Sequence (Group g n) z = rw z
         by Choice x z = absurd (false≢true z)
 
     -- the particle that s begins with is one that the group goes past
-    pub group-past : d ≤ own → passed d k own (quantifierOf (getD s 1 0)) ≡ true → filling k (membersFrom d s) ≡ filling k (membersFrom d (take (length s - 4) (drop 4 s)))
+    pub group-past : d ≤ own → passed d k own (quantifierOf (getD s particleQuantifierAt 0)) ≡ true
+        → filling k (membersFrom d s) ≡ filling k (membersFrom d (take (length s - particleSize) (drop particleSize s)))
     group-past m z = by (ltb d own) refl z
       where
-        by : (b : Bool) → ltb d own ≡ b → (b || leftOut k (quantifierOf (getD s 1 0))) ≡ true → filling k (membersFrom d s) ≡ filling k (membersFrom d (take (length s - 4) (drop 4 s)))
+        by : (b : Bool) → ltb d own ≡ b → (b || leftOut k (quantifierOf (getD s particleQuantifierAt 0))) ≡ true
+            → filling k (membersFrom d s) ≡ filling k (membersFrom d (take (length s - particleSize) (drop particleSize s)))
         by true q z = group-deeper (ltb-true d own q)
         by false q z = left-out (ltb-false d own q) m z
 
@@ -201,36 +209,40 @@ settled-later Sequence false x z = absurd (false≢true (sym z))
 settled-later Choice true x z = absurd (false≢true (sym z))
 settled-later Choice false x z = refl
 
-module _ (d : ℕ) (k : GroupKind) (s : Bytes) (own : ℕ) (h : 4 ≤ length s) (g : own ≡ getD s 3 0) where
-  nothing-here : own ≤ d → d ≤ own → nothing k (membersFrom d s) ≡ both k (memberNothing d s) (nothing k (membersFrom d (take (length s - 4) (drop 4 s))))
+module _ (d : ℕ) (k : GroupKind) (s : Bytes) (own : ℕ) (h : particleSize ≤ length s) (g : own ≡ getD s particleDepthAt 0) where
+  nothing-here : own ≤ d → d ≤ own → nothing k (membersFrom d s) ≡ both k (memberNothing d s) (nothing k (membersFrom d (take (length s - particleSize) (drop particleSize s))))
   unfolding nothing memberNothing
-  nothing-here l m = rw (tail-seen s 4, members-here d s h (omega arith)) (by (getD s 0 0))
+  nothing-here l m = rw (tail-seen s particleSize, members-here d s h (omega arith)) (by (getD s particleSortAt 0))
     where
       by : (sort : ℕ)
-          → nothing k (indexMember (readParticle s .row) sort (membersFrom (suc d) (drop 4 s)) (membersFrom d (drop 4 s)))
-          ≡ both k (sortNothing (quantifierOf (getD s 1 0)) sort (membersFrom (suc d) (drop 4 s))) (nothing k (membersFrom d (drop 4 s)))
+          → nothing k (indexMember (readParticle s .row) sort (membersFrom (suc d) (drop particleSize s)) (membersFrom d (drop particleSize s)))
+          ≡ both k (sortNothing (quantifierOf (getD s particleQuantifierAt 0)) sort (membersFrom (suc d) (drop particleSize s))) (nothing k (membersFrom d (drop particleSize s)))
       by zero = refl
       by (suc n) = refl
 
-  nothing-left-out : own ≤ d → d ≤ own → leftOut k (quantifierOf (getD s 1 0)) ≡ true → nothing k (membersFrom d s) ≡ nothing k (membersFrom d (take (length s - 4) (drop 4 s)))
+  nothing-left-out : own ≤ d → d ≤ own → leftOut k (quantifierOf (getD s particleQuantifierAt 0)) ≡ true
+      → nothing k (membersFrom d s) ≡ nothing k (membersFrom d (take (length s - particleSize) (drop particleSize s)))
   unfolding memberNothing
-  nothing-left-out l m z = nothing-here l m ∙ by k (getD s 0 0) z
+  nothing-left-out l m z = nothing-here l m ∙ by k (getD s particleSortAt 0) z
     where
       rest : Bool
-      rest = nothing k (membersFrom d (take (length s - 4) (drop 4 s)))
+      rest = nothing k (membersFrom d (take (length s - particleSize) (drop particleSize s)))
 
-      by : (j : GroupKind) (sort : ℕ) → leftOut j (quantifierOf (getD s 1 0)) ≡ true → both j (sortNothing (quantifierOf (getD s 1 0)) sort (membersFrom (suc d) (drop 4 s))) rest ≡ rest
+      by : (j : GroupKind) (sort : ℕ) → leftOut j (quantifierOf (getD s particleQuantifierAt 0)) ≡ true
+          → both j (sortNothing (quantifierOf (getD s particleQuantifierAt 0)) sort (membersFrom (suc d) (drop particleSize s))) rest ≡ rest
       by Sequence zero z = rw z
       by Sequence (suc n) z = rw z
       by Choice sort z = absurd (false≢true z)
 
-  nothing-past : d ≤ own → passed d k own (quantifierOf (getD s 1 0)) ≡ true → nothing k (membersFrom d s) ≡ nothing k (membersFrom d (take (length s - 4) (drop 4 s)))
+  nothing-past : d ≤ own → passed d k own (quantifierOf (getD s particleQuantifierAt 0)) ≡ true
+      → nothing k (membersFrom d s) ≡ nothing k (membersFrom d (take (length s - particleSize) (drop particleSize s)))
   nothing-past m z = by (ltb d own) refl z
     where
-      deeper : d < own → nothing k (membersFrom d s) ≡ nothing k (membersFrom d (take (length s - 4) (drop 4 s)))
-      deeper l = rw (tail-seen s 4, members-deeper d s h (omega arith))
+      deeper : d < own → nothing k (membersFrom d s) ≡ nothing k (membersFrom d (take (length s - particleSize) (drop particleSize s)))
+      deeper l = rw (tail-seen s particleSize, members-deeper d s h (omega arith))
 
-      by : (b : Bool) → ltb d own ≡ b → (b || leftOut k (quantifierOf (getD s 1 0))) ≡ true → nothing k (membersFrom d s) ≡ nothing k (membersFrom d (take (length s - 4) (drop 4 s)))
+      by : (b : Bool) → ltb d own ≡ b → (b || leftOut k (quantifierOf (getD s particleQuantifierAt 0))) ≡ true
+          → nothing k (membersFrom d s) ≡ nothing k (membersFrom d (take (length s - particleSize) (drop particleSize s)))
       by true q z = deeper (ltb-true d own q)
       by false q z = nothing-left-out (ltb-false d own q) m z
 
@@ -244,13 +256,13 @@ unsettled-starts k d s = record { same = refl; short = omega arith }
 
 module _ {k : GroupKind} {d : ℕ} {s t : Bytes} (i : Unsettled k d s t) where
   -- there is no particle more
-  pub unsettled-ends : {b : Bool} → length t < 4 → b ≡ neutral k → b ≡ nothing k (membersFrom d s)
+  pub unsettled-ends : {b : Bool} → length t < particleSize → b ≡ neutral k → b ≡ nothing k (membersFrom d s)
   unfolding nothing
   unsettled-ends l e = e ∙ sym (ap (λ (ms : Members ℕ). nothing k ms) (members-few d t l)) ∙ sym (i .same)
 
-  module _ (l : 4 ≤ length t) (own : ℕ) (g : own ≡ getD t 3 0) where
-    unsettled-next : length (take (length t - 4) (drop 4 t)) ≤ length s
-    unsettled-next = omega (arith, i .short, length-take (length t - 4) (drop 4 t), length-drop 4 t)
+  module _ (l : particleSize ≤ length t) (own : ℕ) (g : own ≡ getD t particleDepthAt 0) where
+    unsettled-next : length (take (length t - particleSize) (drop particleSize t)) ≤ length s
+    unsettled-next = omega (arith, i .short, length-take (length t - particleSize) (drop particleSize t), length-drop particleSize t)
 
     -- the particle that t begins with stands outside the group
     pub unsettled-over : {b : Bool} → own < d → b ≡ neutral k → b ≡ nothing k (membersFrom d s)
@@ -258,62 +270,70 @@ module _ {k : GroupKind} {d : ℕ} {s t : Bytes} (i : Unsettled k d s t) where
     unsettled-over m e = e ∙ sym (ap (λ (ms : Members ℕ). nothing k ms) (members-stop d t l (omega arith))) ∙ sym (i .same)
 
     -- u: the group goes past it
-    module _ (m : d ≤ own) (u : Bool) (o : u ≡ passed d k own (quantifierOf (getD t 1 0))) where
-      pub unsettled-past : u ≡ true → Unsettled k d s (take (length t - 4) (drop 4 t))
+    module _ (m : d ≤ own) (u : Bool) (o : u ≡ passed d k own (quantifierOf (getD t particleQuantifierAt 0))) where
+      pub unsettled-past : u ≡ true → Unsettled k d s (take (length t - particleSize) (drop particleSize t))
       unsettled-past y = record { same = i .same ∙ nothing-past d k t own l g m (sym o ∙ y); short = unsettled-next }
 
       pub unsettled-here : u ≡ false → own ≤ d
-      unsettled-here n = not-passed d k own (quantifierOf (getD t 1 0)) (sym o ∙ n)
+      unsettled-here n = not-passed d k own (quantifierOf (getD t particleQuantifierAt 0)) (sym o ∙ n)
 
       -- b: it is a member, and accepts nothing; z: it settles the group
       module _ (n : u ≡ false) (b : Bool) (e : b ≡ memberNothing d t) (z : Bool) (f : z ≡ settled k b) where
-        told-here : nothing k (membersFrom d t) ≡ both k b (nothing k (membersFrom d (take (length t - 4) (drop 4 t))))
-        told-here = nothing-here d k t own l g (unsettled-here n) m ∙ ap (λ (y : Bool). both k y (nothing k (membersFrom d (take (length t - 4) (drop 4 t))))) (sym e)
+        told-here : nothing k (membersFrom d t) ≡ both k b (nothing k (membersFrom d (take (length t - particleSize) (drop particleSize t))))
+        told-here = nothing-here d k t own l g (unsettled-here n) m ∙ ap (λ (y : Bool). both k y (nothing k (membersFrom d (take (length t - particleSize) (drop particleSize t))))) (sym e)
 
         pub unsettled-by : z ≡ true → b ≡ nothing k (membersFrom d s)
-        unsettled-by q = settled-by k b (nothing k (membersFrom d (take (length t - 4) (drop 4 t)))) (sym f ∙ q) ∙ sym told-here ∙ sym (i .same)
+        unsettled-by q = settled-by k b (nothing k (membersFrom d (take (length t - particleSize) (drop particleSize t)))) (sym f ∙ q) ∙ sym told-here ∙ sym (i .same)
 
-        pub unsettled-on : z ≡ false → Unsettled k d s (take (length t - 4) (drop 4 t))
-        unsettled-on q = record { same = i .same ∙ told-here ∙ settled-later k b (nothing k (membersFrom d (take (length t - 4) (drop 4 t)))) (sym f ∙ q); short = unsettled-next }
+        pub unsettled-on : z ≡ false → Unsettled k d s (take (length t - particleSize) (drop particleSize t))
+        unsettled-on q =
+            record {
+              same = i .same ∙ told-here ∙ settled-later k b (nothing k (membersFrom d (take (length t - particleSize) (drop particleSize t)))) (sym f ∙ q);
+              short = unsettled-next;
+            }
 
 -- the particle of depth d that s begins with; b: its quantifier lets it be absent, sort: its sort
-module _ (d : ℕ) (s : Bytes) (b : Bool) (e : b ≡ skips (quantifierOf (getD s 1 0))) where
+module _ (d : ℕ) (s : Bytes) (b : Bool) (e : b ≡ skips (quantifierOf (getD s particleQuantifierAt 0))) where
   pub absent-skips : b ≡ true → true ≡ memberNothing d s
   unfolding memberNothing
-  absent-skips q = let z : skips (quantifierOf (getD s 1 0)) ≡ true = sym e ∙ q in by (getD s 0 0) z
+  absent-skips q = let z : skips (quantifierOf (getD s particleQuantifierAt 0)) ≡ true = sym e ∙ q in by (getD s particleSortAt 0) z
     where
-      by : (sort : ℕ) → skips (quantifierOf (getD s 1 0)) ≡ true → true ≡ sortNothing (quantifierOf (getD s 1 0)) sort (membersFrom (suc d) (drop 4 s))
+      by : (sort : ℕ) → skips (quantifierOf (getD s particleQuantifierAt 0)) ≡ true → true ≡ sortNothing (quantifierOf (getD s particleQuantifierAt 0)) sort (membersFrom (suc d) (drop particleSize s))
       by zero z = sym z
       by (suc n) z = rw z
 
-  module _ (q : b ≡ false) (sort : ℕ) (t : sort ≡ getD s 0 0) where
-    by-sort : memberNothing d s ≡ sortNothing (quantifierOf (getD s 1 0)) sort (membersFrom (suc d) (drop 4 s))
+  module _ (q : b ≡ false) (sort : ℕ) (t : sort ≡ getD s particleSortAt 0) where
+    by-sort : memberNothing d s ≡ sortNothing (quantifierOf (getD s particleQuantifierAt 0)) sort (membersFrom (suc d) (drop particleSize s))
     unfolding memberNothing
-    by-sort = ap (λ (n : ℕ). sortNothing (quantifierOf (getD s 1 0)) n (membersFrom (suc d) (drop 4 s))) (sym t)
+    by-sort = ap (λ (n : ℕ). sortNothing (quantifierOf (getD s particleQuantifierAt 0)) n (membersFrom (suc d) (drop particleSize s))) (sym t)
 
     pub absent-element : sort ≡ 0 → false ≡ memberNothing d s
-    absent-element x = let z : skips (quantifierOf (getD s 1 0)) ≡ false = sym e ∙ q in sym (by-sort ∙ rw x z)
+    absent-element x = let z : skips (quantifierOf (getD s particleQuantifierAt 0)) ≡ false = sym e ∙ q in sym (by-sort ∙ rw x z)
 
     module _ (u : Bool) where
-      inside-told : (k : GroupKind) → u ≡ nothing k (membersFrom (d + 1) (take (length s - 4) (drop 4 s))) → u ≡ (skips (quantifierOf (getD s 1 0)) || nothing k (membersFrom (suc d) (drop 4 s)))
-      inside-told k x = let z : skips (quantifierOf (getD s 1 0)) ≡ false = sym e ∙ q in rw z (x ∙ ap₂ (λ (n : ℕ) (y : Bytes). nothing k (membersFrom n y)) (add-one d) (tail-seen s 4))
+      inside-told : (k : GroupKind) → u ≡ nothing k (membersFrom (d + 1) (take (length s - particleSize) (drop particleSize s)))
+          → u ≡ (skips (quantifierOf (getD s particleQuantifierAt 0)) || nothing k (membersFrom (suc d) (drop particleSize s)))
+      inside-told k x = let z : skips (quantifierOf (getD s particleQuantifierAt 0)) ≡ false = sym e ∙ q in
+          rw z (x ∙ ap₂ (λ (n : ℕ) (y : Bytes). nothing k (membersFrom n y)) (add-one d) (tail-seen s particleSize))
 
-      pub absent-list : sort ≡ 1 → u ≡ nothing Sequence (membersFrom (d + 1) (take (length s - 4) (drop 4 s))) → u ≡ memberNothing d s
+      pub absent-list : sort ≡ 1 → u ≡ nothing Sequence (membersFrom (d + 1) (take (length s - particleSize) (drop particleSize s))) → u ≡ memberNothing d s
       absent-list x y = inside-told Sequence y ∙ sym (by-sort ∙ rw x)
 
-      pub absent-choice : (sort ≡ 0 → ⊥) → (sort ≡ 1 → ⊥) → u ≡ nothing Choice (membersFrom (d + 1) (take (length s - 4) (drop 4 s))) → u ≡ memberNothing d s
+      pub absent-choice : (sort ≡ 0 → ⊥) → (sort ≡ 1 → ⊥) → u ≡ nothing Choice (membersFrom (d + 1) (take (length s - particleSize) (drop particleSize s))) → u ≡ memberNothing d s
       absent-choice x y p = by sort x y by-sort
         where
-          by : (n : ℕ) → (n ≡ 0 → ⊥) → (n ≡ 1 → ⊥) → memberNothing d s ≡ sortNothing (quantifierOf (getD s 1 0)) n (membersFrom (suc d) (drop 4 s)) → u ≡ memberNothing d s
+          by : (n : ℕ) → (n ≡ 0 → ⊥) → (n ≡ 1 → ⊥)
+              → memberNothing d s ≡ sortNothing (quantifierOf (getD s particleQuantifierAt 0)) n (membersFrom (suc d) (drop particleSize s))
+              → u ≡ memberNothing d s
           by zero x y r = absurd (x refl)
           by (suc zero) x y r = absurd (y refl)
           by (suc (suc n)) x y r = inside-told Choice p ∙ sym r
 
 -- ---- one particle, p, and its members
 module _ (d : ℕ) (s : Bytes) (p : Particle) (e : p ≡ particleOf (readParticle s)) where
-  told : memberFilling d s ≡ whatFilling (p .quantifier) (p .what) (membersFrom (suc d) (drop 4 s))
+  told : memberFilling d s ≡ whatFilling (p .quantifier) (p .what) (membersFrom (suc d) (drop particleSize s))
   unfolding memberFilling
-  told = ap (λ (z : Particle). whatFilling (z .quantifier) (z .what) (membersFrom (suc d) (drop 4 s))) (sym e)
+  told = ap (λ (z : Particle). whatFilling (z .quantifier) (z .what) (membersFrom (suc d) (drop particleSize s))) (sym e)
 
   module _ (b : Bool) (q : b ≡ skips (p .quantifier)) where
     pub member-skips : b ≡ true → memberFilling d s ≡ []
@@ -322,7 +342,7 @@ module _ (d : ℕ) (s : Bytes) (p : Particle) (e : p ≡ particleOf (readParticl
         z : skips (p .quantifier) ≡ true
         z = sym q ∙ t
 
-        by : (w : What) → whatFilling (p .quantifier) w (membersFrom (suc d) (drop 4 s)) ≡ []
+        by : (w : What) → whatFilling (p .quantifier) w (membersFrom (suc d) (drop particleSize s)) ≡ []
         by (Element i) = rw z
         by (Group k n) = rw z
 
@@ -330,9 +350,10 @@ module _ (d : ℕ) (s : Bytes) (p : Particle) (e : p ≡ particleOf (readParticl
       pub member-element : (i : ℕ) → p .what ≡ Element i → memberFilling d s ≡ i ∷ []
       member-element i w = let z : skips (p .quantifier) ≡ false = sym q ∙ f in told ∙ rw (w, z)
 
-      module _ (k : GroupKind) (n : ℕ) (w : p .what ≡ Group k n) (t : Bytes) (et : t ≡ take (length s - 4) (drop 4 s)) (u : Bool) (eu : u ≡ nothing k (membersFrom (d + 1) t)) where
-        at-tail : membersFrom (d + 1) t ≡ membersFrom (suc d) (drop 4 s)
-        at-tail = ap₂ (λ (x : ℕ) (y : Bytes). membersFrom x y) (add-one d) (et ∙ tail-seen s 4)
+      module _ (k : GroupKind) (n : ℕ) (w : p .what ≡ Group k n) (t : Bytes) (et : t ≡ take (length s - particleSize) (drop particleSize s)) (u : Bool)
+          (eu : u ≡ nothing k (membersFrom (d + 1) t)) where
+        at-tail : membersFrom (d + 1) t ≡ membersFrom (suc d) (drop particleSize s)
+        at-tail = ap₂ (λ (x : ℕ) (y : Bytes). membersFrom x y) (add-one d) (et ∙ tail-seen s particleSize)
 
         inside : memberFilling d s ≡ unless u (filling k (membersFrom (d + 1) t))
         inside =
@@ -499,13 +520,14 @@ module _ {version w : ℕ} {defs parts attrs : Bytes} {a : ℕ} {txt : Bytes} {h
   rest-starts m = record { rest = λ p. p; room = m; short = omega arith; long = refl }
 
   -- after the particle that t begins with, whose depth is own
-  module _ {t : Bytes} {r : Cursor} {out′ : Bytes} (i : Rest version w defs parts attrs a txt h d k e s c out t r out′) (l : 4 ≤ length t) (own : ℕ) (g : own ≡ getD t 3 0) where
-    next-short : length (take (length t - 4) (drop 4 t)) ≤ length s
-    next-short = omega (arith, i .short, length-take (length t - 4) (drop 4 t), length-drop 4 t)
+  module _ {t : Bytes} {r : Cursor} {out′ : Bytes} (i : Rest version w defs parts attrs a txt h d k e s c out t r out′) (l : particleSize ≤ length t) (own : ℕ)
+      (g : own ≡ getD t particleDepthAt 0) where
+    next-short : length (take (length t - particleSize) (drop particleSize t)) ≤ length s
+    next-short = omega (arith, i .short, length-take (length t - particleSize) (drop particleSize t), length-drop particleSize t)
 
     -- it is deeper, so it belongs to another member, or it is a member of a LIST that may be left out
-    module _ (b : Bool) (o : b ≡ passed e k own (quantifierOf (getD t 1 0))) where
-      pub rest-past : e ≤ own → b ≡ true → Rest version w defs parts attrs a txt h d k e s c out (take (length t - 4) (drop 4 t)) r out′
+    module _ (b : Bool) (o : b ≡ passed e k own (quantifierOf (getD t particleQuantifierAt 0))) where
+      pub rest-past : e ≤ own → b ≡ true → Rest version w defs parts attrs a txt h d k e s c out (take (length t - particleSize) (drop particleSize t)) r out′
       rest-past m y =
           record {
             rest = λ p. i .rest (same-written version w defs parts attrs a txt h d (filling k (membersFrom e t)) _ (group-past e k t own l g m (sym o ∙ y)) p);
@@ -515,16 +537,16 @@ module _ {version w : ℕ} {defs parts attrs : Bytes} {a : ℕ} {txt : Bytes} {h
           }
 
       pub rest-here : b ≡ false → own ≤ e
-      rest-here z = not-passed e k own (quantifierOf (getD t 1 0)) (sym o ∙ z)
+      rest-here z = not-passed e k own (quantifierOf (getD t particleQuantifierAt 0)) (sym o ∙ z)
 
     module _ (m : own ≤ e) (n : e ≤ own) {r′ : Cursor} {out″ : Bytes} (p : Written w (memberRows version w defs parts attrs a txt h d (memberFilling e t)) r out′ r′ out″) where
       -- it is a member of a LIST, and was written
-      pub rest-on : k ≡ Sequence → Rest version w defs parts attrs a txt h d k e s c out (take (length t - 4) (drop 4 t)) r′ out″
+      pub rest-on : k ≡ Sequence → Rest version w defs parts attrs a txt h d k e s c out (take (length t - particleSize) (drop particleSize t)) r′ out″
       rest-on q =
           record {
             rest = λ x. i .rest
                 (list-written version w defs parts attrs a txt h d (filling k (membersFrom e t)) k (memberFilling e t)
-                (filling k (membersFrom e (take (length t - 4) (drop 4 t)))) (group-here e k t own l g m n) q p x);
+                (filling k (membersFrom e (take (length t - particleSize) (drop particleSize t)))) (group-here e k t own l g m n) q p x);
             room = written-room p (i .room);
             short = next-short;
             long = written-long p ∙ i .long;
@@ -535,14 +557,14 @@ module _ {version w : ℕ} {defs parts attrs : Bytes} {a : ℕ} {txt : Bytes} {h
       rest-first q =
           i .rest
           (first-written version w defs parts attrs a txt h d (filling k (membersFrom e t)) k (memberFilling e t)
-          (filling k (membersFrom e (take (length t - 4) (drop 4 t)))) (group-here e k t own l g m n) q p)
+          (filling k (membersFrom e (take (length t - particleSize) (drop particleSize t)))) (group-here e k t own l g m n) q p)
 
     -- it stands outside the group
     pub rest-over : own < e → Written w (memberRows version w defs parts attrs a txt h d (filling k (membersFrom e s))) c out r out′
     rest-over m = i .rest (none-written version w defs parts attrs a txt h d (filling k (membersFrom e t)) (group-stop e k t own l g m))
 
   -- there is no particle more
-  pub rest-ends : {t : Bytes} {r : Cursor} {out′ : Bytes} → Rest version w defs parts attrs a txt h d k e s c out t r out′ → length t < 4
+  pub rest-ends : {t : Bytes} {r : Cursor} {out′ : Bytes} → Rest version w defs parts attrs a txt h d k e s c out t r out′ → length t < particleSize
       → Written w (memberRows version w defs parts attrs a txt h d (filling k (membersFrom e s))) c out r out′
   rest-ends {t} i l = i .rest (none-written version w defs parts attrs a txt h d (filling k (membersFrom e t)) (group-few e k t l))
 
@@ -551,11 +573,11 @@ abbrev elementIn : What → ℕ
 elementIn (Element i) = i
 elementIn (Group k n) = 0
 
-pub index-small : (s : Bytes) (p : Particle) (i : ℕ) → p ≡ particleOf (readParticle s) → p .what ≡ Element i → getD s 2 0 < 256 → i < 256
+pub index-small : (s : Bytes) (p : Particle) (i : ℕ) → p ≡ particleOf (readParticle s) → p .what ≡ Element i → getD s particleIndexAt 0 < 256 → i < 256
 unfolding particleOf
-index-small s p i e w l = by (getD s 0 0) (ap (λ (z : Particle). elementIn (z .what)) (sym e) ∙ ap elementIn w)
+index-small s p i e w l = by (getD s particleSortAt 0) (ap (λ (z : Particle). elementIn (z .what)) (sym e) ∙ ap elementIn w)
   where
-    by : (sort : ℕ) → elementIn (whatOf sort (getD s 2 0)) ≡ i → i < 256
+    by : (sort : ℕ) → elementIn (whatOf sort (getD s particleIndexAt 0)) ≡ i → i < 256
     by zero q = omega arith
     by (suc k) q = omega arith
 
@@ -644,7 +666,7 @@ module _ (k : GroupKind) (ms : Members ℕ) where
       ap (λ (z : Bool). unless z (filling k ms)) told
 
 -- s: the particles from number k on; b: whether the group fills with nothing
-module _ (parts s : Bytes) (k e : ℕ) (t : s ≡ drop (4 * k) parts) (g : GroupKind) (b : Bool) (told : groupFilled g (membersFrom e s) ≡ unless b (filling g (membersFrom e s))) where
+module _ (parts s : Bytes) (k e : ℕ) (t : s ≡ drop (particleSize * k) parts) (g : GroupKind) (b : Bool) (told : groupFilled g (membersFrom e s) ≡ unless b (filling g (membersFrom e s))) where
   here : groupFilled g (membersReadAt parts k e) ≡ unless b (filling g (membersFrom e s))
   unfolding membersReadAt
   here = ap (λ (u : Bytes). groupFilled g (membersFrom e u)) (sym t) ∙ told

@@ -27,6 +27,8 @@ use Rattle.row_writer.specs.Written.{Room}
 use Rattle.filling.specs.declared.Filling.{Filling}
 use Rattle.filling.specs.declared.Filling.the-variants.{Nothing, Definition, Attribute, Particles}
 use Rattle.filling.specs.Fillings.{requiredRows, fillingsOf, contentRows, fillIndex, fillingRows}
+use Rattle.layout.specs.Fields.{particleDepthAt, particleIndexAt, particleQuantifierAt, particleSortAt}
+use Rattle.rules.specs.Layout.{particleSize}
 
 -- ---- 'a particle that accepts nothing fills with nothing'
 -- a particle by what it is; `below` are its members
@@ -36,7 +38,7 @@ whatFilling q (Group k n) below = unless (skips q || nothing k below) (filling k
 
 -- the particle of depth d that s begins with
 unfoldable pub memberFilling : ℕ → Bytes → List ℕ
-memberFilling d s = whatFilling (particleOf (readParticle s) .quantifier) (particleOf (readParticle s) .what) (membersFrom (suc d) (drop 4 s))
+memberFilling d s = whatFilling (particleOf (readParticle s) .quantifier) (particleOf (readParticle s) .what) (membersFrom (suc d) (drop particleSize s))
 
 -- a member of a LIST whose quantifier lets it be absent fills with nothing; a CHOICE takes its first member as it is
 abbrev pub leftOut : GroupKind → Quantifier → Bool
@@ -60,11 +62,11 @@ sortNothing q (suc k) below = skips q || nothing (groupOf (suc k)) below
 
 -- the particle of depth d that s begins with
 unfoldable pub memberNothing : ℕ → Bytes → Bool
-memberNothing d s = sortNothing (quantifierOf (getD s 1 0)) (getD s 0 0) (membersFrom (suc d) (drop 4 s))
+memberNothing d s = sortNothing (quantifierOf (getD s particleQuantifierAt 0)) (getD s particleSortAt 0) (membersFrom (suc d) (drop particleSize s))
 
 -- the members of depth e from particle k on
 unfoldable pub membersReadAt : Bytes → ℕ → ℕ → Members ℕ
-membersReadAt parts k e = membersFrom e (drop (4 * k) parts)
+membersReadAt parts k e = membersFrom e (drop (particleSize * k) parts)
 
 -- ---- rows of depth d
 -- the value of a created row of an attribute, and of attribute j
@@ -112,16 +114,16 @@ attrsIn fs = lentIn fs 2
 
 -- the width of a value, the number of attributes, the version and the number of definitions, as they are lent
 abbrev pub widthIn : List ℕ → ℕ
-widthIn ks = getD ks 0 0
+widthIn ks = getD ks particleSortAt 0
 
 abbrev pub countIn : List ℕ → ℕ
-countIn ks = getD ks 1 0
+countIn ks = getD ks particleQuantifierAt 0
 
 abbrev pub versionOfFilling : List ℕ → ℕ
-versionOfFilling ks = getD ks 2 0
+versionOfFilling ks = getD ks particleIndexAt 0
 
 abbrev pub sizeIn : List ℕ → ℕ
-sizeIn ks = getD ks 3 0
+sizeIn ks = getD ks particleDepthAt 0
 
 -- the rows of a definition, of members, of what stands below an element, and of what a change fills with
 module _ (ks : List ℕ) (fs : List (RefT Bytes)) (txt : Bytes) (h d : ℕ) where
@@ -141,7 +143,7 @@ module _ (ks : List ℕ) (fs : List (RefT Bytes)) (txt : Bytes) (h d : ℕ) wher
 
 -- a cursor as it is lent: where the next row goes, how many may still be written, the next serial
 abbrev pub cursorIn : List ℕ → Cursor
-cursorIn l = record { at = getD l 0 0; left = getD l 1 0; serial = getD l 2 0 }
+cursorIn l = record { at = getD l particleSortAt 0; left = getD l particleQuantifierAt 0; serial = getD l particleIndexAt 0 }
 
 -- ---- what the writers ask
 pub record Asks (w : ℕ) (c : Cursor) (txt : Bytes) (a h d : ℕ) : Type 0 where

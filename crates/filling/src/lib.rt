@@ -1,4 +1,5 @@
 // The filling of a definition, and of an attribute: the rows that a change makes.
+use layout::PARTICLE_SIZE;
 use model::What;
 use row_writer::Cursor;
 use rules::GroupKind;
@@ -15,6 +16,8 @@ ghost use Rattle.row_writer.specs.Written.{Room, Written, newRow};
 ghost use Rattle.filling.specs.Fillings.{groupFilled, fillingRows};
 ghost use Rattle.filling.specs.Parts.{leftOut, passed, settled, memberNothing, memberFilling, valueIn, requiredAt, requiredIn, membersReadAt, partsIn};
 ghost use Rattle.filling.specs.Parts.{widthIn, countIn, definitionFilled, membersFilled, belowFilled, changeFilled, cursorIn, Asks, Indexed};
+ghost use Rattle.layout.specs.Fields.{particleQuantifierAt};
+ghost use Rattle.rules.specs.Layout.{particleSize};
 
 /// What a change fills with: nothing, a definition by its index, one row of an attribute by its index, or a group of a
 /// kind by the number of its first member in the particle body and the depth of its members.
@@ -27,7 +30,7 @@ pub enum Filling {
 
 // Whether the quantifier of the particle that t begins with lets it be absent.
 fn is_optional(t: &[u8]) -> bool
-    ensures { λ r. ⌜ r ≡ skips (quantifierOf (getD (now (t .entry)) 1 0)) ⌝ }
+    ensures { λ r. ⌜ r ≡ skips (quantifierOf (getD (now (t .entry)) particleQuantifierAt 0)) ⌝ }
 {
     match layout::particle_quantifier(t) {
         1 => true,
@@ -38,7 +41,7 @@ fn is_optional(t: &[u8]) -> bool
 
 // Whether the particle that t begins with may be left out of a group of a kind with no look at the members after it.
 fn is_left_out(t: &[u8], kind: GroupKind) -> bool
-    ensures { λ r. ⌜ r ≡ leftOut kind (quantifierOf (getD (now (t .entry)) 1 0)) ⌝ }
+    ensures { λ r. ⌜ r ≡ leftOut kind (quantifierOf (getD (now (t .entry)) particleQuantifierAt 0)) ⌝ }
 {
     match kind {
         GroupKind::Sequence => is_optional(t),
@@ -48,7 +51,7 @@ fn is_left_out(t: &[u8], kind: GroupKind) -> bool
 
 // Whether a group of a kind with members of depth d goes past the particle of depth `own` that t begins with.
 fn is_passed(t: &[u8], own: usize, d: usize, kind: GroupKind) -> bool
-    ensures { λ r. ⌜ r ≡ passed d kind own (quantifierOf (getD (now (t .entry)) 1 0)) ⌝ }
+    ensures { λ r. ⌜ r ≡ passed d kind own (quantifierOf (getD (now (t .entry)) particleQuantifierAt 0)) ⌝ }
 {
     let deeper = d < own;
     deeper | is_left_out(t, kind)
@@ -76,7 +79,7 @@ fn is_settled(kind: GroupKind, member: bool) -> bool
 
 // Whether the particle of depth d that t begins with accepts nothing.
 fn member_accepts_nothing(t: &[u8], d: usize) -> bool
-    requires { ⌜ (d < 256) × (4 ≤ length (now t)) ⌝ }
+    requires { ⌜ (d < 256) × (particleSize ≤ length (now t)) ⌝ }
     ensures { λ r. ⌜ r ≡ memberNothing d (now (t .entry)) ⌝ }
 {
     if is_optional(t) {
@@ -84,8 +87,8 @@ fn member_accepts_nothing(t: &[u8], d: usize) -> bool
     }
     match layout::particle_sort(t) {
         0 => false,
-        1 => accepts_nothing(&t[4..], d + 1, GroupKind::Sequence),
-        _ => accepts_nothing(&t[4..], d + 1, GroupKind::Choice),
+        1 => accepts_nothing(&t[PARTICLE_SIZE..], d + 1, GroupKind::Sequence),
+        _ => accepts_nothing(&t[PARTICLE_SIZE..], d + 1, GroupKind::Choice),
     }
 }
 
@@ -96,19 +99,19 @@ fn accepts_nothing(s: &[u8], d: usize, kind: GroupKind) -> bool
     ensures { λ r. ⌜ r ≡ nothing kind (membersFrom d (now (s .entry))) ⌝ }
 {
     let mut t = s;
-    while t.len() >= 4 {
+    while t.len() >= PARTICLE_SIZE {
         let own = layout::particle_depth(t) as usize;
         if own < d {
             return nothing_of_none(kind);
         }
         if is_passed(t, own, d, kind) {
-            t = &t[4..];
+            t = &t[PARTICLE_SIZE..];
         } else {
             let member = member_accepts_nothing(t, d);
             if is_settled(kind, member) {
                 return member;
             }
-            t = &t[4..];
+            t = &t[PARTICLE_SIZE..];
         }
     }
     nothing_of_none(kind)
@@ -225,7 +228,7 @@ fn put_group(
         (cursorIn (now (c .entry))) (now (out .entry)) (cursorIn (now (c .exit))) (now (out .exit)) ⌝ }
 {
     let mut t = s;
-    while t.len() >= 4 {
+    while t.len() >= PARTICLE_SIZE {
         let own = layout::particle_depth(t) as usize;
         if c[1] == 0 {
             return;
@@ -234,12 +237,12 @@ fn put_group(
             return;
         }
         if is_passed(t, own, d, kind) {
-            t = &t[4..];
+            t = &t[PARTICLE_SIZE..];
         } else {
             put_member(t, d, form, text, sizes, h, depth, c, out);
             match kind {
                 GroupKind::Sequence => {
-                    t = &t[4..];
+                    t = &t[PARTICLE_SIZE..];
                 }
                 GroupKind::Choice => {
                     return;
@@ -261,7 +264,7 @@ fn put_member(
     c: &mut [usize; 3],
     out: &mut [u8],
 )
-    requires { ⌜ (d < 256) × (4 ≤ length (now s)) × Asks (widthIn (now sizes)) (cursorIn (now c)) (now (now text)) (countIn (now sizes)) h depth ⌝ }
+    requires { ⌜ (d < 256) × (particleSize ≤ length (now s)) × Asks (widthIn (now sizes)) (cursorIn (now c)) (now (now text)) (countIn (now sizes)) h depth ⌝ }
     ensures { λ _. ⌜ Written (widthIn (now (sizes .entry)))
         (membersFilled (now (sizes .entry)) (now (form .entry)) (now (now (text .entry))) h depth (memberFilling d (now (s .entry))))
         (cursorIn (now (c .entry))) (now (out .entry)) (cursorIn (now (c .exit))) (now (out .exit)) ⌝ }
@@ -275,7 +278,7 @@ fn put_member(
     match what {
         What::Element(i) => put_definition(i, form, text, sizes, h, depth, c, out),
         What::Group(k, _) => {
-            let t = &s[4..];
+            let t = &s[PARTICLE_SIZE..];
             if accepts_nothing(t, d + 1, k) {
                 return;
             }

@@ -12,6 +12,7 @@ use Rattle.rules.specs.Decode.{sortOf, readDefinition, readAttribute}
 use Rattle.rules.specs.Conforming.{mustBePresent, allows}
 use Rattle.layout.specs.Bodies.{recordAt}
 use Rattle.form_index.specs.Reading.{definitionIn, attributeIn, particlesBefore, modelPart}
+use Rattle.rules.specs.Layout.{particleSize}
 
 -- ---- definitions
 module _ (record′ defs : Bytes) (i : ℕ) (e : record′ ≡ recordAt definitionSize i defs) where
@@ -25,7 +26,7 @@ pub before-more : (defs : Bytes) (j sum k : ℕ) → sum ≡ particlesBefore def
 unfolding particlesBefore
 before-more defs j sum k e h = rw (add-one j, e, h)
 
-pub model-read : (defs parts : Bytes) (i a b : ℕ) → a ≡ particlesBefore defs i → b ≡ definitionIn defs i .particles → take (4 * b) (drop (4 * a) parts) ≡ modelPart defs parts i
+pub model-read : (defs parts : Bytes) (i a b : ℕ) → a ≡ particlesBefore defs i → b ≡ definitionIn defs i .particles → take (particleSize * b) (drop (particleSize * a) parts) ≡ modelPart defs parts i
 unfolding modelPart
 model-read defs parts i a b e h = rw (e, h)
 

@@ -1,5 +1,6 @@
 // A form by indices: definition i's kind and its part of the particles,
 // which attributes it needs, which values they may have.
+use layout::PARTICLE_SIZE;
 ghost use mathlib.Core.Path.{_≡_};
 ghost use mathlib.Core.Bool.{_&&_};
 ghost use Prim.Native.Nat.{_*_, _<_, _≤_};
@@ -47,8 +48,8 @@ pub fn model_part<'a>(defs: &[u8], parts: &'a [u8], i: usize) -> &'a [u8]
 {
     layout::window(
         parts,
-        4 * particles_before(defs, i),
-        4 * particles_of(defs, i),
+        PARTICLE_SIZE * particles_before(defs, i),
+        PARTICLE_SIZE * particles_of(defs, i),
     )
 }
 

@@ -31,6 +31,7 @@ use Rattle.store_check.proofs.FormLaws.{Laid}
 use Rattle.store_check.proofs.IndexReads.{definition-in, attribute-in, model-in, index-agrees}
 use Rattle.store_check.proofs.StringChecks.{Headed, laid-in, formIn, same-definitions, same-particles, same-attributes, same-rows, passes-in}
 use Rattle.store_check.proofs.StoreReads.{flatOf}
+use Rattle.layout.specs.Fields.{versionAt}
 
 -- past the end of a body no byte is read
 record-past : (size i n : ℕ) (s : Bytes) → size * n ≡ length s → n ≤ i → recordAt size i s ≡ []
@@ -90,12 +91,12 @@ module _ {bs : Bytes} (h : Headed bs) where
   told : passes bs ≡ true
       → FormIn bs
       × RowsPass (widthOf bs)
-      (bytes.indexForm (numberAt 0 4 bs) (widthOf bs) (definitionCount bs) (definitionsIn bs) (particlesIn bs) (attributesIn bs) (attributeCount bs))
+      (bytes.indexForm (numberAt versionAt 4 bs) (widthOf bs) (definitionCount bs) (definitionsIn bs) (particlesIn bs) (attributesIn bs) (attributeCount bs))
       (rowCount bs) (treeRowsIn bs)
       × SerialsIn bs
   told = passes-in h
-      (bytes.indexForm (numberAt 0 4 bs) (widthOf bs) (definitionCount bs) (definitionsIn bs) (particlesIn bs) (attributesIn bs) (attributeCount bs))
-      (λ x. index-agrees (laid-in h) (x .passes) (numberAt 0 4 bs)) .0
+      (bytes.indexForm (numberAt versionAt 4 bs) (widthOf bs) (definitionCount bs) (definitionsIn bs) (particlesIn bs) (attributesIn bs) (attributeCount bs))
+      (λ x. index-agrees (laid-in h) (x .passes) (numberAt versionAt 4 bs)) .0
 
   pub form-in : passes bs ≡ true → FormIn bs
   form-in q = told q .0
@@ -105,11 +106,11 @@ module _ {bs : Bytes} (h : Headed bs) where
   rows-fit q = told q .1 .fields
 
   pub read-form : passes bs ≡ true
-      → bytes.indexForm (numberAt 0 4 bs) (widthOf bs) (definitionCount bs) (definitionsIn bs) (particlesIn bs) (attributesIn bs) (attributeCount bs)
+      → bytes.indexForm (numberAt versionAt 4 bs) (widthOf bs) (definitionCount bs) (definitionsIn bs) (particlesIn bs) (attributesIn bs) (attributeCount bs)
       ≡ flatIndexForm (flatOf bs)
   read-form q =
-      index-is (laid-in h) (form-in q .passes) (numberAt 0 4 bs)
-      ∙ (λ i. formAt (numberAt 0 4 bs) (record {
+      index-is (laid-in h) (form-in q .passes) (numberAt versionAt 4 bs)
+      ∙ (λ i. formAt (numberAt versionAt 4 bs) (record {
         version = 0;
         next = 0;
         definitions = sym (same-definitions h) i;

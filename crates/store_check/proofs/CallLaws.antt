@@ -30,6 +30,7 @@ use Rattle.store_check.specs.Check.{FormPasses, FormIn, RowsPass, RowsIn
 use Rattle.store_check.proofs.FormLaws.{Laid, circle-fit}
 use Rattle.store_check.proofs.StringChecks.{Headed, header, laid-in, rows-whole, passes-header, passes-in}
 use Rattle.store_check.proofs.IndexReads.{index-agrees, index-once}
+use Rattle.layout.specs.Fields.{nextAt, versionAt}
 
 -- ---- tests
 -- a test that fails
@@ -68,7 +69,7 @@ pub record Cut : Type 0 where
 
 abbrev pub cutOf : Bytes → Cut
 cutOf bs = record {
-  version = numberAt 0 4 bs;
+  version = numberAt versionAt 4 bs;
   w = widthOf bs;
   n = definitionCount bs;
   defs = definitionsIn bs;
@@ -157,9 +158,9 @@ module _ {bs : Bytes} (h : Headed bs) {count : ℕ} (u : count ≡ rowCount bs) 
   pub serials-asked : count ≤ 4096
   serials-asked = omega (arith, header h .fewRows)
 
-  pub serials-in : {w next : ℕ} {rows : Bytes} {r : Bool} → w ≡ widthOf bs → next ≡ numberAt 4 4 bs → rows ≡ treeRowsIn bs → r ≡ fitting next (serialsOf w count rows) → (r ≡ true) ↔ SerialsIn bs
+  pub serials-in : {w next : ℕ} {rows : Bytes} {r : Bool} → w ≡ widthOf bs → next ≡ numberAt nextAt 4 bs → rows ≡ treeRowsIn bs → r ≡ fitting next (serialsOf w count rows) → (r ≡ true) ↔ SerialsIn bs
   serials-in {w} {next} {rows} {r} v x y e =
-      let q : r ≡ fitting (numberAt 4 4 bs) (serialsOf (widthOf bs) (rowCount bs) (treeRowsIn bs)) = e ∙ (λ i. fitting (x i) (serialsOf (v i) (u i) (y i))) in
+      let q : r ≡ fitting (numberAt nextAt 4 bs) (serialsOf (widthOf bs) (rowCount bs) (treeRowsIn bs)) = e ∙ (λ i. fitting (x i) (serialsOf (v i) (u i) (y i))) in
       (λ z. record { fits = sym q ∙ z }, λ z. q ∙ z .fits)
 
 -- ---- all
@@ -174,11 +175,11 @@ module _ {bs : Bytes} (h : Headed bs) where
   all-in : (passes bs ≡ true)
       ↔ (FormIn bs
       × RowsPass (widthOf bs)
-      (indexForm (numberAt 0 4 bs) (widthOf bs) (definitionCount bs) (definitionsIn bs) (particlesIn bs) (attributesIn bs) (attributeCount bs)) (rowCount bs)
+      (indexForm (numberAt versionAt 4 bs) (widthOf bs) (definitionCount bs) (definitionsIn bs) (particlesIn bs) (attributesIn bs) (attributeCount bs)) (rowCount bs)
       (treeRowsIn bs)
       × SerialsIn bs)
-  all-in = passes-in h (indexForm (numberAt 0 4 bs) (widthOf bs) (definitionCount bs) (definitionsIn bs) (particlesIn bs) (attributesIn bs) (attributeCount bs))
-      (λ x. index-agrees (laid-in h) (x .passes) (numberAt 0 4 bs))
+  all-in = passes-in h (indexForm (numberAt versionAt 4 bs) (widthOf bs) (definitionCount bs) (definitionsIn bs) (particlesIn bs) (attributesIn bs) (attributeCount bs))
+      (λ x. index-agrees (laid-in h) (x .passes) (numberAt versionAt 4 bs))
 
   not-passed : (passes bs ≡ true → ⊥) → false ≡ passes bs
   not-passed f = by (passes bs) refl

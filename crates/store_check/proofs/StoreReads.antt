@@ -30,6 +30,7 @@ use Rattle.store_check.proofs.AttributeReads.{every-left, every-right}
 use Rattle.store_check.proofs.FormReads.{formOf, form-names, read-definitions, read-particles, read-attributes}
 use Rattle.store_check.proofs.FormGood.{form-good, form-agrees, good-bodies, good-fields}
 use Rattle.store_check.proofs.RowsRead.{docsRead, documents-read, documents-written}
+use Rattle.layout.specs.Fields.{versionAt}
 
 -- ---- the documents of a flat store, as they are read
 pub docs-read : (w : ℕ) (f : FlatStore) → FieldsFit w f → bodiesFit f ≡ true → docsRead (formOf f) (build (f .rows) 0) ≡ unflat f .docs
@@ -189,17 +190,17 @@ passes-flat bs = (
 
 -- the bodies that a byte string is read as
 abbrev pub flatOf : Bytes → FlatStore
-flatOf bs = readFlat (valueWidth (numberAt 0 4 bs)) bs
+flatOf bs = readFlat (valueWidth (numberAt versionAt 4 bs)) bs
 
 read-encoded : (s : Store) → good s ≡ true → flatOf (encode s) ≡ flat s
 read-encoded s g =
     ap (λ (v : ℕ). readFlat (valueWidth v) (encode s)) (unle-le 4 (s .version) (good-flat s g .version)) ∙ read-bytes (valueWidth (s .version)) (flat s) (good-flat s g)
 
 -- a byte string passes just where it is what its reading is written as, and its bodies pass
-pub passes-read : (bs : Bytes) → (passes bs ≡ true) ↔ ((flatBytes (valueWidth (numberAt 0 4 bs)) (flatOf bs) ≡ bs) × FlatPasses (flatOf bs))
+pub passes-read : (bs : Bytes) → (passes bs ≡ true) ↔ ((flatBytes (valueWidth (numberAt versionAt 4 bs)) (flatOf bs) ≡ bs) × FlatPasses (flatOf bs))
 passes-read bs = (to, λ (e, p). passes-flat bs .1 (flatOf bs, e, p))
   where
-    to : passes bs ≡ true → (flatBytes (valueWidth (numberAt 0 4 bs)) (flatOf bs) ≡ bs) × FlatPasses (flatOf bs)
+    to : passes bs ≡ true → (flatBytes (valueWidth (numberAt versionAt 4 bs)) (flatOf bs) ≡ bs) × FlatPasses (flatOf bs)
     to h =
         let (s, e, g) = passes-tests bs .0 h in
         let q : flatOf bs ≡ flat s = ap flatOf (sym e) ∙ read-encoded s g in

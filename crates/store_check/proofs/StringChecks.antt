@@ -39,6 +39,7 @@ use Rattle.store_check.proofs.FormGood.{form-agrees, ceilings-counted}
 use Rattle.store_check.proofs.StoreReads.{checks-read, flatOf, passes-read}
 use Rattle.store_check.proofs.FormLaws.{definition-told, attribute-told, Laid}
 use Rattle.store_check.proofs.RecordsTold.{EachFits, each-fits}
+use Rattle.layout.specs.Fields.{nextAt, versionAt}
 
 row-told : (w : ℕ) (x : Deep FlatRow) → FittingRow w x → RowFits w (x .row)
 row-told w x r = record { plain = record { low = r .least; high = r .most; text = r .text }; value = r .value; element = r .element }
@@ -182,17 +183,17 @@ module _ {bs : Bytes} (h : Headed bs) where
       ∙ each-fits-cut (rowFits (widthOf bs)) (rowSize (widthOf bs)) (rowCount bs) (rowSize (widthOf bs) * rowCount bs) (drop (atRows (widthOf bs) bs) bs) (omega arith)
 
   -- ---- the tests; F: the form by index
-  module _ (F : IndexForm) (agrees : FormIn bs → Agrees (numberAt 0 4 bs) F (unflat formIn .form)) where
+  module _ (F : IndexForm) (agrees : FormIn bs → Agrees (numberAt versionAt 4 bs) F (unflat formIn .form)) where
     abbrev Tests : Type 0
     Tests = FormIn bs × RowsPass (widthOf bs) F (rowCount bs) (treeRowsIn bs) × SerialsIn bs
 
-    checks-as : (G H : IndexForm) → FieldsFit (widthOf bs) (flatOf bs) → bodiesFit (flatOf bs) ≡ true → Agrees (numberAt 0 4 bs) G (unflat (flatOf bs) .form)
-        → Agrees (numberAt 0 4 bs) H (unflat (flatOf bs) .form) → Checks G (flatOf bs) → Checks H (flatOf bs)
+    checks-as : (G H : IndexForm) → FieldsFit (widthOf bs) (flatOf bs) → bodiesFit (flatOf bs) ≡ true → Agrees (numberAt versionAt 4 bs) G (unflat (flatOf bs) .form)
+        → Agrees (numberAt versionAt 4 bs) H (unflat (flatOf bs) .form) → Checks G (flatOf bs) → Checks H (flatOf bs)
     unfolding widthOf
     checks-as G H fields bodies x y c = checks-read (flatOf bs) fields bodies H y .0 (checks-read (flatOf bs) fields bodies G x .1 c)
 
-    agrees-read : FormIn bs → Agrees (numberAt 0 4 bs) F (unflat (flatOf bs) .form)
-    agrees-read x = subst (λ (z : Form). Agrees (numberAt 0 4 bs) F z) (sym same-form) (agrees x)
+    agrees-read : FormIn bs → Agrees (numberAt versionAt 4 bs) F (unflat (flatOf bs) .form)
+    agrees-read x = subst (λ (z : Form). Agrees (numberAt versionAt 4 bs) F z) (sym same-form) (agrees x)
 
     passes→ : passes bs ≡ true → Tests
     unfolding widthOf
@@ -209,14 +210,17 @@ module _ {bs : Bytes} (h : Headed bs) where
           };
         } in
         let c : Checks F (flatOf bs) =
-        checks-as (flatIndexForm (flatOf bs)) F (p .fields) (p .bodies) (form-agrees (widthOf bs) (flatOf bs) (p .fields) (p .bodies) (numberAt 0 4 bs))
+        checks-as (flatIndexForm (flatOf bs)) F (p .fields) (p .bodies) (form-agrees (widthOf bs) (flatOf bs) (p .fields) (p .bodies) (numberAt versionAt 4 bs))
         (agrees-read form) (p .checks) in (
           form,
           record { fields = rows-each ∙ each .rows; documents = subst (λ (xs : List (Deep FlatRow)). Documents F xs) same-rows (c .documents) },
-          record { fits = ap (fitting (numberAt 4 4 bs)) (sym same-serials) ∙ serials-told (numberAt 4 4 bs) (serialsOfRows (flatOf bs .rows)) (header .next) (next-most each) .0 (c .serials) },
+          record {
+            fits = ap (fitting (numberAt nextAt 4 bs)) (sym same-serials)
+                ∙ serials-told (numberAt nextAt 4 bs) (serialsOfRows (flatOf bs .rows)) (header .next) (next-most each) .0 (c .serials);
+          },
         )
       where
-        next-most : EachFits (widthOf bs) bs → numberAt 4 4 bs ≤ highestNumber
+        next-most : EachFits (widthOf bs) bs → numberAt nextAt 4 bs ≤ highestNumber
         next-most each = omega (arith, string-fields (widthOf bs) bs (h .small) (h .header) (each-fits (widthOf bs) bs .1 each) .most)
 
     passes← : Tests → passes bs ≡ true
@@ -247,7 +251,7 @@ module _ {bs : Bytes} (h : Headed bs) where
           circle = subst (λ (z : Form). (x : Bytes) → Reaches z x x → ⊥) (sym same-form) (form .passes .circle);
           rows = every-map (FittingRow (widthOf bs)) (λ x. RowFits (widthOf bs) (x .row)) (flatOf bs .rows) (row-told (widthOf bs)) (f .rows);
           documents = subst (λ (xs : List (Deep FlatRow)). Documents F xs) (sym same-rows) (rows .documents);
-          serials = serials-told (numberAt 4 4 bs) (serialsOfRows (flatOf bs .rows)) (header .next) (omega (arith, f .most)) .1 (ap (fitting (numberAt 4 4 bs)) same-serials ∙ serials .fits);
+          serials = serials-told (numberAt nextAt 4 bs) (serialsOfRows (flatOf bs .rows)) (header .next) (omega (arith, f .most)) .1 (ap (fitting (numberAt nextAt 4 bs)) same-serials ∙ serials .fits);
         } in
         passes-read bs .1 (
           string-canonical (widthOf bs) bs (h .small) (h .header) each,
@@ -255,7 +259,7 @@ module _ {bs : Bytes} (h : Headed bs) where
             fields = fields;
             bodies = bodies;
             checks = checks-as F (flatIndexForm (flatOf bs)) fields bodies (agrees-read form)
-                (form-agrees (widthOf bs) (flatOf bs) fields bodies (numberAt 0 4 bs)) c;
+                (form-agrees (widthOf bs) (flatOf bs) fields bodies (numberAt versionAt 4 bs)) c;
           },
         )
 

@@ -13,6 +13,7 @@ use Rattle.form_check.specs.Bodies.{formOfBodies}
 use Rattle.serial_check.specs.Serials.{serialsOf, fitting}
 use Rattle.form_index.specs.Indices.{IndexForm, Documents}
 use Rattle.form_index.specs.Reading.{indexForm}
+use Rattle.layout.specs.Fields.{nextAt, versionAt}
 
 -- ---- the form
 -- each record by itself, the records together, and no definition that reaches itself
@@ -35,8 +36,8 @@ pub record RowsPass (w : ℕ) (F : IndexForm) (count : ℕ) (rows : Bytes) : Typ
 -- of a byte string
 pub record RowsIn (bs : Bytes) : Type 0 where
   pub passes : RowsPass (widthOf bs)
-      (indexForm (numberAt 0 4 bs) (widthOf bs) (definitionCount bs) (definitionsIn bs) (particlesIn bs) (attributesIn bs) (attributeCount bs)) (rowCount bs)
+      (indexForm (numberAt versionAt 4 bs) (widthOf bs) (definitionCount bs) (definitionsIn bs) (particlesIn bs) (attributesIn bs) (attributeCount bs)) (rowCount bs)
       (treeRowsIn bs)
 
 pub record SerialsIn (bs : Bytes) : Type 0 where
-  pub fits : fitting (numberAt 4 4 bs) (serialsOf (widthOf bs) (rowCount bs) (treeRowsIn bs)) ≡ true
+  pub fits : fitting (numberAt nextAt 4 bs) (serialsOf (widthOf bs) (rowCount bs) (treeRowsIn bs)) ≡ true

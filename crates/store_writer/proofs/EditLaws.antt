@@ -31,8 +31,9 @@ use Rattle.store_writer.proofs.StoreLaws.{Holds, width-of-bodies}
 use Rattle.store_writer.proofs.LimitLaws.{answers-refused, answers-wrote, limited-as, Within, as-limits, limit-within}
 use Rattle.store_writer.proofs.OrderLaws.{laid-before}
 use Rattle.store_writer.proofs.FormBytesLaws.{reformed, whole, ceilings-rows, reformed-length, reformed-bytes}
+use Rattle.layout.specs.Fields.{nextAt}
 
-pub next-of : (bs : Bytes) → bodiesOf bs .next ≡ numberAt 4 4 bs
+pub next-of : (bs : Bytes) → bodiesOf bs .next ≡ numberAt nextAt 4 bs
 unfolding bodiesOf widthOf
 next-of bs = refl
 
@@ -89,14 +90,14 @@ module _ {bs : Bytes} (h : Holds bs) {form : Bytes} {d p a : ℕ} (x : Forms (wi
       by true q = sym (le-ltb 4096 (length xs) (leb-true (length xs) 4096 q))
       by false q = sym (lt-ltb 4096 (length xs) (leb-false (length xs) 4096 q))
 
-  next-is : after .next ≡ numberAt 4 4 bs + newIn xs
+  next-is : after .next ≡ numberAt nextAt 4 bs + newIn xs
   next-is = next-after ∙ ap (λ (n : ℕ). n + newIn xs) (next-of bs)
 
-  module _ (out : Bytes) {number : ℕ} (e : number ≡ limitOf (widthOf bs) (length form) (length xs) (numberAt 4 4 bs + newIn xs) (length out)) where
+  module _ (out : Bytes) {number : ℕ} (e : number ≡ limitOf (widthOf bs) (length form) (length xs) (numberAt nextAt 4 bs + newIn xs) (length out)) where
     limited-is : limited (length out) after ≡ unlessRefused number (flatBytes (valueWidth (after .version)) after)
     limited-is =
         limited-as (length out) after past (ap (ltb highestNumber) next-is) (ap (ltb (length out)) size)
-        (e ∙ as-limits (widthOf bs) (length form) (length xs) (numberAt 4 4 bs + newIn xs) (length out) refl refl refl)
+        (e ∙ as-limits (widthOf bs) (length form) (length xs) (numberAt nextAt 4 bs + newIn xs) (length out) refl refl refl)
 
     pub edit-refused : (number ≡ 0 → ⊥) → Answers (limited (length out) after) out number 0 out
     edit-refused n = by number limited-is n
@@ -106,8 +107,8 @@ module _ {bs : Bytes} (h : Holds bs) {form : Bytes} {d p a : ℕ} (x : Forms (wi
         by (suc k) q h = answers-refused (suc k) q
 
     module _ (none : number ≡ 0) where
-      pub within : Within (widthOf bs) (length form) (length xs) (numberAt 4 4 bs + newIn xs) (length out)
-      within = limit-within (widthOf bs) (length form) (length xs) (numberAt 4 4 bs + newIn xs) (length out) (sym e ∙ none)
+      pub within : Within (widthOf bs) (length form) (length xs) (numberAt nextAt 4 bs + newIn xs) (length out)
+      within = limit-within (widthOf bs) (length form) (length xs) (numberAt nextAt 4 bs + newIn xs) (length out) (sym e ∙ none)
 
       pub edit-written : {k : ℕ} {out′ : Bytes} → Laid (flatBytes (widthOf bs) after) out 0 k out′ → Answers (limited (length out) after) out 0 k out′
       edit-written laid =
@@ -115,12 +116,12 @@ module _ {bs : Bytes} (h : Holds bs) {form : Bytes} {d p a : ℕ} (x : Forms (wi
           (laid-as (ap (λ (w : ℕ). flatBytes w after) width-after) laid) (omega (arith, size, within .bytes))
 
   -- ---- the rows were written after the place of the header and the form, then these
-  module _ {room : ℕ} (i : Within (widthOf bs) (length form) (length xs) (numberAt 4 4 bs + newIn xs) room)
+  module _ {room : ℕ} (i : Within (widthOf bs) (length form) (length xs) (numberAt nextAt 4 bs + newIn xs) room)
       {start : ℕ} {out : Bytes} {r : Cursor} {out₁ : Bytes} (w : Written (widthOf bs) xs (walkFrom start bs) out r out₁) where
     pub count-is : 4097 - r .left ≡ length xs
     count-is = omega (arith, w .left, i .rows)
 
-    pub serial-is : r .serial ≡ numberAt 4 4 bs + newIn xs
+    pub serial-is : r .serial ≡ numberAt nextAt 4 bs + newIn xs
     serial-is = w .fitted (omega (arith, i .rows)) .serial
 
     start-is : headerSize + length form ≡ length (headed (widthOf bs) next d p a (length xs) bs ++ form)

@@ -21,11 +21,12 @@ use Rattle.store_writer.proofs.StoreLaws.{Holds, holds}
 use Rattle.store_writer.proofs.FormBytesLaws.{whole}
 use Rattle.store_writer.proofs.FormLaws.{within, good-bodies, counted-definitions, counted-particles, counted-attributes}
 use Rattle.codec.proofs.Records.{length-many}
+use Rattle.layout.specs.Fields.{nextAt}
 
 -- f: the bodies
 pub record Encoded (bs : Bytes) (f : FlatStore) : Type 0 where
   pub written : flatBytes (widthOf bs) f ≡ bs
-  pub serial : numberAt 4 4 bs ≡ f .next
+  pub serial : numberAt nextAt 4 bs ≡ f .next
   pub definitions : definitionCount bs ≡ length (f .definitions)
   pub particles : particleCount bs ≡ length (f .particles)
   pub attributes : attributeCount bs ≡ length (f .attributes)
@@ -43,7 +44,7 @@ module _ (bs : Bytes) where
   unfolding bodiesOf
   counted-rows = sym (length-many readRow (rowSize (widthOf bs)) (rowCount bs) _)
 
-  own-serial : numberAt 4 4 bs ≡ bodiesOf bs .next
+  own-serial : numberAt nextAt 4 bs ≡ bodiesOf bs .next
   unfolding bodiesOf
   own-serial = refl
 

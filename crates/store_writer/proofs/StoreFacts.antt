@@ -28,6 +28,7 @@ use Rattle.store_check.proofs.StringChecks.{Headed, header, laid-in, passes-hea
 use Rattle.store_check.proofs.IndexReads.{index-agrees}
 use Rattle.store_writer.specs.Stores.{storeIn}
 use Rattle.store_writer.proofs.StoreLaws.{Holds, holds}
+use Rattle.layout.specs.Fields.{versionAt}
 
 abbrev pub formIn : Bytes → Form
 formIn bs = storeIn bs .form
@@ -37,7 +38,7 @@ docsIn bs = storeIn bs .docs
 
 -- the form by index that the bytes say
 abbrev pub byIndex : Bytes → IndexForm
-byIndex bs = indexForm (numberAt 0 4 bs) (widthOf bs) (definitionCount bs) (definitionsIn bs) (particlesIn bs) (attributesIn bs) (attributeCount bs)
+byIndex bs = indexForm (numberAt versionAt 4 bs) (widthOf bs) (definitionCount bs) (definitionsIn bs) (particlesIn bs) (attributesIn bs) (attributeCount bs)
 
 -- the width that the string says is the one of its store's version
 pub width-of-store : (bs : Bytes) → widthOf bs ≡ valueWidth (storeIn bs .version)
@@ -62,7 +63,7 @@ unfolding storeIn bodiesOf widthOf
 whole bs q =
     let h : Holds bs = holds bs q in
     let d : Headed bs = record { small = subst Small (h .written) (encode-small (storeIn bs) (h .good)); header = passes-header bs q } in
-    let form = passes-in d (byIndex bs) (λ x. index-agrees (laid-in d) (x .passes) (numberAt 0 4 bs)) .0 q .0 in
+    let form = passes-in d (byIndex bs) (λ x. index-agrees (laid-in d) (x .passes) (numberAt versionAt 4 bs)) .0 q .0 in
     record {
       holds = h;
       good = good-is (storeIn bs) .0 (h .good);
@@ -70,7 +71,7 @@ whole bs q =
       few = header d .fewRows;
       fewDefinitions = header d .fewDefinitions;
       fewAttributes = header d .fewAttributes;
-      agrees = subst (λ (z : Form). Agrees (storeIn bs .version) (byIndex bs) z) (sym (same-form d)) (index-agrees (laid-in d) (form .passes) (numberAt 0 4 bs));
+      agrees = subst (λ (z : Form). Agrees (storeIn bs .version) (byIndex bs) z) (sym (same-form d)) (index-agrees (laid-in d) (form .passes) (numberAt versionAt 4 bs));
     }
 
 -- ---- a value that is given

@@ -42,6 +42,7 @@ use Rattle.store_writer.proofs.StoreLaws.{Holds, holds}
 use Rattle.store_writer.proofs.PartLaws.{members-at}
 use Rattle.store_writer.proofs.RowBounds.{Bounded, rows-bounded}
 use Rattle.codec.proofs.Records.{length-many}
+use Rattle.layout.specs.Fields.{nextAt, versionAt}
 
 -- ---- rows that fit and are bounded
 walk-rows : (w count : ℕ) (s : Bytes) → Small s → rowSize w * count ≤ length s → eachFits (rowFits w) (rowSize w) count s ≡ true
@@ -63,7 +64,7 @@ walk-rows w (suc count) s a l e b =
 -- ---- a byte string that passes
 -- the version, the width and the bodies that are read off it
 pub record Reads (bs : Bytes) (version w n : ℕ) (defs parts : Bytes) (a : ℕ) (attrs rows : Bytes) (count : ℕ) : Type 0 where
-  pub version-is : version ≡ numberAt 0 4 bs
+  pub version-is : version ≡ numberAt versionAt 4 bs
   pub w-is : w ≡ widthOf bs
   pub n-is : n ≡ definitionCount bs
   pub defs-is : defs ≡ definitionsIn bs
@@ -132,7 +133,7 @@ module _ {bs : Bytes} (q : passes bs ≡ true) {version w n : ℕ} {defs parts :
       ∙ (λ i. walked p v (λ d. fillingRows (read-form h q i) (λ j. valueOf (read-attribute h q j i)) (λ k e. members-at h k e i) (p .filling) v d) (atFirst p) (read-rows h i)))
 
   -- .. and written from the serials of the store on
-  pub walk-from : (p : Plan) (v : Bytes) {at next : ℕ} {out : Bytes} {r : Cursor} {out′ : Bytes} → Number (numberAt 4 4 bs) next
+  pub walk-from : (p : Plan) (v : Bytes) {at next : ℕ} {out : Bytes} {r : Cursor} {out′ : Bytes} → Number (numberAt nextAt 4 bs) next
       → Written w (walked p v (planFilling version w n defs parts a attrs p v) (atFirst p) (readMany readRow (rowSize w) count rows))
       (record { at = at; left = 4097; serial = next }) out r out′
       → Written (widthOf bs) (rowsAfter p v (bodiesOf bs)) (walkFrom at bs) out r out′

@@ -12,6 +12,7 @@ use Rattle.row_writer.specs.declared.Cursor.{Cursor}
 use Rattle.filling.specs.Parts.{Indexed}
 use Rattle.row_walk.specs.declared.Plan.{Plan}
 use Rattle.row_walk.specs.Step.{Planned}
+use Rattle.layout.specs.Fields.{nextAt}
 
 -- a next serial and counts that their fields hold, of a form whose bytes
 -- are no more than the ceilings allow at the widest:
@@ -26,7 +27,7 @@ pub record Heads (form : Bytes) (next d p a r : ℕ) : Type 0 where
 
 -- a walk writes from `at` on at most one row more than the ceiling, new rows with the serials of the store
 abbrev pub walkFrom : ℕ → Bytes → Cursor
-walkFrom at bs = record { at = at; left = 4097; serial = numberAt 4 4 bs }
+walkFrom at bs = record { at = at; left = 4097; serial = numberAt nextAt 4 bs }
 
 -- the numbers of a plan are small enough for the walk
 pub record Sized (p : Plan) : Type 0 where

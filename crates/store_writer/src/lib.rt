@@ -22,6 +22,7 @@ ghost use Rattle.store_writer.specs.Stores.{limited};
 ghost use Rattle.store_writer.specs.Planned.{rowsAfter, planned, plannedIn};
 ghost use Rattle.store_writer.specs.Forms.{formRead, Forms};
 ghost use Rattle.store_writer.specs.Writing.{Heads, walkFrom, Sized, limitOf};
+ghost use Rattle.layout.specs.Fields.{nextAt};
 
 /// 0 and the length of what was written, or the number of a refusal and 0.
 #[repr(C)]
@@ -142,7 +143,7 @@ fn refusal(store: &[u8], form: usize, plan: Plan, text: &[u8], room: usize) -> u
     requires { ⌜ (passes (now store) ≡ true) × (isValue (widthOf (now store)) (now text) ≡ true) × Sized plan × (form ≤ 9728) ⌝ }
     ensures { λ r. ⌜ r
         ≡ limitOf (widthOf (now (store .entry))) form (length (rowsAfter plan (now (text .entry)) (bodiesOf (now (store .entry)))))
-        (numberAt 4 4 (now (store .entry)) + newIn (rowsAfter plan (now (text .entry)) (bodiesOf (now (store .entry))))) room ⌝ }
+        (numberAt nextAt 4 (now (store .entry)) + newIn (rowsAfter plan (now (text .entry)) (bodiesOf (now (store .entry))))) room ⌝ }
 {
     let w = layout::width_in(store);
     let more = most_added(store, plan, text);
@@ -170,7 +171,7 @@ fn put_edited(
 ) -> usize
     requires { ⌜ (passes (now store) ≡ true) × (isValue (widthOf (now store)) (now text) ≡ true) × Sized plan × Forms (widthOf (now store)) (now form) d p a
         × (limitOf (widthOf (now store)) (length (now form)) (length (rowsAfter plan (now text) (bodiesOf (now store))))
-        (numberAt 4 4 (now store) + newIn (rowsAfter plan (now text) (bodiesOf (now store)))) (length (now out))
+        (numberAt nextAt 4 (now store) + newIn (rowsAfter plan (now text) (bodiesOf (now store)))) (length (now out))
         ≡ 0) ⌝ }
     ensures { λ r. ⌜ Laid
         (flatBytes (widthOf (now (store .entry)))

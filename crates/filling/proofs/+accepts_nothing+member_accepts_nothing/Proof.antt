@@ -21,6 +21,7 @@ use Rattle.filling.proofs.is_settled.Reads as is-settled-reads
 use Rattle.filling.proofs.nothing_of_none.Reads as nothing-of-none-reads
 use Rattle.filling.proofs.+accepts_nothing+member_accepts_nothing.{statement}
 use Rattle.filling.proofs.+accepts_nothing+member_accepts_nothing.Tie.{close}
+use Rattle.rules.specs.Layout.{particleSize}
 
 abbrev μ-accepts-nothing : Measures 1 accepts-nothing-kinds.ps ℕ
 μ-accepts-nothing κs a = 2 * length (a .0 .now) + 1
@@ -122,7 +123,7 @@ accepts-nothing-loop-less : (t : ℕ) → accepts-nothing-lts.Need-loop-less (ac
 accepts-nothing-loop-less t c =
     let at-loop = c .before .before .before .before .before .before in
     let t = at-loop .loop .t .now in
-    omega (arith, length-take (length t - 4) (drop 4 t), length-drop 4 t)
+    omega (arith, length-take (length t - particleSize) (drop particleSize t), length-drop particleSize t)
 
 accepts-nothing-loop-again : (t : ℕ) → accepts-nothing-lts.Need-loop-again (accepts-nothing-calls t) (accepts-nothing-at t) accepts-nothing.Post accepts-nothing-Inv-loop accepts-nothing-μ-loop
 accepts-nothing-loop-again t c =
@@ -168,7 +169,7 @@ accepts-nothing-loop-less-2 : (t : ℕ) → accepts-nothing-lts.Need-loop-less-2
 accepts-nothing-loop-less-2 t c =
     let at-loop = c .before .before .before .before .before .before .before .before .before in
     let t = at-loop .loop .t .now in
-    omega (arith, length-take (length t - 4) (drop 4 t), length-drop 4 t)
+    omega (arith, length-take (length t - particleSize) (drop particleSize t), length-drop particleSize t)
 
 accepts-nothing-loop-again-2 : (t : ℕ) → accepts-nothing-lts.Need-loop-again-2 (accepts-nothing-calls t) (accepts-nothing-at t) accepts-nothing.Post accepts-nothing-Inv-loop accepts-nothing-μ-loop
 accepts-nothing-loop-again-2 t c =
@@ -225,7 +226,7 @@ member-accepts-nothing-accepts-nothing-requires :
 member-accepts-nothing-accepts-nothing-requires t c κs =
     let start = c .before .before .before .before .before .before in
     let s = start .args .t .now in
-    (omega (arith, length-take (length s - 4) (drop 4 s), length-drop 4 s), omega arith)
+    (omega (arith, length-take (length s - particleSize) (drop particleSize s), length-drop particleSize s), omega arith)
 
 member-accepts-nothing-sub-accepts-nothing-2 :
     (t : ℕ) → member-accepts-nothing-lts.Need-sub-accepts-nothing-2 (member-accepts-nothing-calls t) (member-accepts-nothing-at t) member-accepts-nothing.Post
@@ -248,7 +249,7 @@ member-accepts-nothing-accepts-nothing-requires-2 :
 member-accepts-nothing-accepts-nothing-requires-2 t c κs =
     let start = c .before .before .before .before .before .before in
     let s = start .args .t .now in
-    (omega (arith, length-take (length s - 4) (drop 4 s), length-drop 4 s), omega arith)
+    (omega (arith, length-take (length s - particleSize) (drop particleSize s), length-drop particleSize s), omega arith)
 
 member-accepts-nothing-returns-2 : (t : ℕ) → member-accepts-nothing-lts.Need-returns-2 (member-accepts-nothing-calls t) (member-accepts-nothing-at t) member-accepts-nothing.Post
 member-accepts-nothing-returns-2 t c =

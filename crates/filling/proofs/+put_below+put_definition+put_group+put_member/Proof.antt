@@ -36,6 +36,7 @@ use Rattle.form_index.proofs.kind_of.Reads as kind-of-reads
 use Rattle.form_index.proofs.model_part.Reads as model-part-reads
 use Rattle.filling.proofs.+put_below+put_definition+put_group+put_member.{statement}
 use Rattle.filling.proofs.+put_below+put_definition+put_group+put_member.Tie.{close}
+use Rattle.rules.specs.Layout.{particleSize}
 
 abbrev μ-put-below : Measures 7 put-below-kinds.ps ℕ
 μ-put-below κs a = rank (a .1 .1 .1 .1 .0) top
@@ -464,8 +465,8 @@ put-member-put-group-requires t c κs =
     let q = start .pre .1 .2 in (
       omega (
         arith,
-        rank-particles (a .h) (4 * length (take (length (a .s .now) - 4) (drop 4 (a .s .now))) + 1) (4 * length (a .s .now))
-            (omega (arith, length-take (length (a .s .now) - 4) (drop 4 (a .s .now)), length-drop 4 (a .s .now))),
+        rank-particles (a .h) (4 * length (take (length (a .s .now) - particleSize) (drop particleSize (a .s .now))) + 1) (4 * length (a .s .now))
+            (omega (arith, length-take (length (a .s .now) - particleSize) (drop particleSize (a .s .now)), length-drop particleSize (a .s .now))),
       ),
       (omega arith, q),
     )

@@ -9,7 +9,7 @@ use Rattle.model.proofs.read_particle.Reads as read-particle-reads
 use Rattle.quantifier_refusals.proofs.gains.Reads as gains-reads
 use Rattle.plans.proofs.requantify_plan.Reads as requantify-plan-reads
 use Rattle.quantifier_plans.proofs.group_span.Reads as group-span-reads
-use Rattle.model.proofs.automaton.kind_in.Reads as kind-in-reads
+use Rattle.model.proofs.kind_in.Reads as kind-in-reads
 use Rattle.form_index.proofs.particles_before.Reads as particles-before-reads
 use Rattle.layout.proofs.definitions_of.Reads as definitions-of-reads
 

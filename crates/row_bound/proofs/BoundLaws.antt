@@ -15,6 +15,7 @@ use Rattle.rules.specs.Decode.{readRow, readMany}
 use Rattle.rules.proofs.BooleanLaws.{Every, every-map, every-any}
 use Rattle.form_index.specs.Reading.{indexForm}
 use Rattle.filling.specs.Parts.{valueIn, membersReadAt}
+use Rattle.filling.proofs.DepthLaws.{length-filling}
 use Rattle.row_writer.specs.Written.{isNewRow, newIn}
 use Rattle.row_writer.proofs.WrittenLaws.{new-append}
 use Rattle.row_walk.specs.declared.Which.{Which}
@@ -23,7 +24,6 @@ use Rattle.row_walk.specs.declared.Open.{Open}
 use Rattle.row_walk.specs.Walk.{matches, namesGround, keptRow, walked, atFirst}
 use Rattle.walk_writer.specs.Step.{planFilling, WalkRows}
 use Rattle.row_bound.specs.Bound.{onlyIf, matchingIn, placesIn, countedTo, Adds}
-use Rattle.row_bound.proofs.DepthLaws.{length-filling}
 use Rattle.row_bound.proofs.WalkBound.{mostOf, size-walked}
 use Rattle.codec.proofs.Records.{length-many}
 

@@ -1,4 +1,3 @@
 pub mod CountLaws
-pub mod DepthLaws
 pub mod WalkBound
 pub mod BoundLaws

@@ -1,3 +1,4 @@
 pub mod CountLaws
 pub mod WalkBound
 pub mod BoundLaws
+pub mod PlaceLaws

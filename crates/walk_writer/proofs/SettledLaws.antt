@@ -32,7 +32,7 @@ settled-nothing {ks} {fs} {v} what x n =
 
 -- the walk sees no filling but the rows that it is given
 module _ (p : Plan) (what : Filling) (v : Bytes) (fill : ℕ → List (Deep FlatRow)) where
-  walked-refilled : (o : Open) (xs : List (Deep FlatRow)) → walked (refilled p what) v fill o xs ≡ walked p v fill o xs
+  pub walked-refilled : (o : Open) (xs : List (Deep FlatRow)) → walked (refilled p what) v fill o xs ≡ walked p v fill o xs
   unfolding walked emitted nextOpen keptRow
   walked-refilled o [] = refl
   walked-refilled o (x ∷ xs) = λ i. elim (gone o x) [

@@ -34,7 +34,8 @@ returns c =
     let a = start .args in
     let times = times-of (a .store .now) (start .pre .0) (a .plan) (a .text .now) (at-each .one-row-each .ensures) in
     let filled = fillOf (a .plan) (a .text .now) (bodiesOf (a .store .now)) 0 in
-    filled-past (at-width .width-in .ensures) (a .form) (a .room) _ _ filled times (start .pre .5) (at-walk .walk-rows .ensures) (start .pre .4) (c .if1 .taken)
+    filled-past (at-width .width-in .ensures) (a .form) (a .room) _ _ filled times (start .pre .5)
+    (at-walk .walk-rows .ensures) (start .pre .4) (c .if1 .taken)
 
 sub-places : tie.Need-sub-places
 sub-places c =
@@ -46,7 +47,9 @@ sub-places c =
     let a = start .args in
     let times = times-of (a .store .now) (start .pre .0) (a .plan) (a .text .now) (at-each .one-row-each .ensures) in
     let filled = fillOf (a .plan) (a .text .now) (bodiesOf (a .store .now)) 0 in
-    omega (arith, places-are (at-width .width-in .ensures) (a .form) (a .room) _ _ filled times (start .pre .5) (at-walk .walk-rows .ensures) (c .before .if1 .left) (at-next .next-serial .ensures))
+    let are = places-are (at-width .width-in .ensures) (a .form) (a .room) _ _ filled times (start .pre .5)
+    (at-walk .walk-rows .ensures) (c .before .if1 .left) (at-next .next-serial .ensures) in
+    omega (arith, are)
 
 mul-new : tie.Need-mul-new
 mul-new c =
@@ -58,7 +61,9 @@ mul-new c =
     let a = start .args in
     let times = times-of (a .store .now) (start .pre .0) (a .plan) (a .text .now) (at-each .one-row-each .ensures) in
     let filled = fillOf (a .plan) (a .text .now) (bodiesOf (a .store .now)) 0 in
-    omega (arith, new-small (at-width .width-in .ensures) (a .form) (a .room) _ _ filled times (start .pre .5) (at-walk .walk-rows .ensures) (c .before .if1 .left) (at-next .next-serial .ensures))
+    let small = new-small (at-width .width-in .ensures) (a .form) (a .room) _ _ filled times (start .pre .5)
+    (at-walk .walk-rows .ensures) (c .before .if1 .left) (at-next .next-serial .ensures) in
+    omega (arith, small)
 
 sub-limit : tie.Need-sub-limit
 sub-limit c = search needs
@@ -73,7 +78,9 @@ sub-limit-2 c =
     let a = start .args in
     let times = times-of (a .store .now) (start .pre .0) (a .plan) (a .text .now) (at-each .one-row-each .ensures) in
     let filled = fillOf (a .plan) (a .text .now) (bodiesOf (a .store .now)) 0 in
-    omega (arith, places-within (at-width .width-in .ensures) (a .form) (a .room) _ _ filled times (start .pre .5) (at-walk .walk-rows .ensures) (c .before .before .if1 .left) (at-next .next-serial .ensures))
+    let within = places-within (at-width .width-in .ensures) (a .form) (a .room) _ _ filled times (start .pre .5)
+    (at-walk .walk-rows .ensures) (c .before .before .if1 .left) (at-next .next-serial .ensures) in
+    omega (arith, within)
 
 add-limit : tie.Need-add-limit
 add-limit c =
@@ -85,7 +92,9 @@ add-limit c =
     let a = start .args in
     let times = times-of (a .store .now) (start .pre .0) (a .plan) (a .text .now) (at-each .one-row-each .ensures) in
     let filled = fillOf (a .plan) (a .text .now) (bodiesOf (a .store .now)) 0 in
-    omega (arith, new-small (at-width .width-in .ensures) (a .form) (a .room) _ _ filled times (start .pre .5) (at-walk .walk-rows .ensures) (c .before .before .if1 .left) (at-next .next-serial .ensures))
+    let small = new-small (at-width .width-in .ensures) (a .form) (a .room) _ _ filled times (start .pre .5)
+    (at-walk .walk-rows .ensures) (c .before .before .if1 .left) (at-next .next-serial .ensures) in
+    omega (arith, small)
 
 add-limit-2 : tie.Need-add-limit-2
 add-limit-2 c =
@@ -97,7 +106,9 @@ add-limit-2 c =
     let a = start .args in
     let times = times-of (a .store .now) (start .pre .0) (a .plan) (a .text .now) (at-each .one-row-each .ensures) in
     let filled = fillOf (a .plan) (a .text .now) (bodiesOf (a .store .now)) 0 in
-    omega (arith, at-next .next-serial .ensures .small, new-small (at-width .width-in .ensures) (a .form) (a .room) _ _ filled times (start .pre .5) (at-walk .walk-rows .ensures) (c .before .before .if1 .left) (at-next .next-serial .ensures))
+    let small = new-small (at-width .width-in .ensures) (a .form) (a .room) _ _ filled times (start .pre .5)
+    (at-walk .walk-rows .ensures) (c .before .before .if1 .left) (at-next .next-serial .ensures) in
+    omega (arith, at-next .next-serial .ensures .small, small)
 
 limit-requires : tie.Need-limit-requires
 limit-requires c κs = search needs
@@ -112,7 +123,8 @@ returns-2 c =
     let a = start .args in
     let times = times-of (a .store .now) (start .pre .0) (a .plan) (a .text .now) (at-each .one-row-each .ensures) in
     let filled = fillOf (a .plan) (a .text .now) (bodiesOf (a .store .now)) 0 in
-    filled-counted (at-width .width-in .ensures) (a .form) (a .room) _ _ filled times (start .pre .5) (at-walk .walk-rows .ensures) (c .before .before .before .if1 .left) (at-next .next-serial .ensures) (c .limit .ensures)
+    filled-counted (at-width .width-in .ensures) (a .form) (a .room) _ _ filled times (start .pre .5)
+    (at-walk .walk-rows .ensures) (c .before .before .before .if1 .left) (at-next .next-serial .ensures) (c .limit .ensures)
 
 pub filled-refusal-spec : {M : Type 1} → statement M
 filled-refusal-spec =

@@ -53,8 +53,9 @@ abbrev end : Moment
 end = run clubform start
 
 abbrev pub printedText : Bytes
-printedText = ascii
-    "<!ELEMENT race (finisher*)>\n<!ELEMENT finisher (bib,club,time?)>\n<!ELEMENT bib (#PCDATA)>\n<!ELEMENT time (#PCDATA)>\n<!ELEMENT club (#PCDATA)>\n<race><finisher><bib>7</bib><club>none</club><time>19:04</time></finisher></race>\n"
+printedText =
+    ascii "<!ELEMENT race (finisher*)>\n<!ELEMENT finisher (bib,club,time?)>\n<!ELEMENT bib (#PCDATA)>\n<!ELEMENT time (#PCDATA)>\n<!ELEMENT club (#PCDATA)>\n"
+    ++ ascii "<race><finisher><bib>7</bib><club>none</club><time>19:04</time></finisher></race>\n"
 
 -- two lists of lines are equal, as a test that computes
 abbrev sameRow : Row → Row → Bool

@@ -8,13 +8,13 @@ use lib.ListN.{length, drop, length-append, length-drop}
 use Rattle.rules.specs.Bytes.{Bytes}
 use Rattle.rules.specs.Layout.{headerSize, definitionSize, rowSize, FlatStore, flatBytes, definitionBytes, each}
 use Rattle.rules.specs.Decode.{numberAt, definitionCount, particleCount, attributeCount, rowCount}
-use Rattle.rules.proofs.LayoutLaws.{length-definition, length-each, each-append}
+use Rattle.rules.proofs.LayoutLaws.{each-append}
 use Rattle.codec.specs.Laid.{Laid}
 use Rattle.codec.proofs.Writers.{laid-then, laid-as}
 use Rattle.layout.specs.Bodies.{widthOf, Number, Place, definitionsIn}
 use Rattle.layout.specs.Header.{headed}
 use Rattle.layout.proofs.LayoutLaws.{width-small}
-use Rattle.layout.proofs.HeaderLaws.{attributes-few, headed-short}
+use Rattle.layout.proofs.HeaderLaws.{attributes-few, headed-short, definition-table-short}
 use Rattle.definition_writer.specs.Bodies.{newDefinition}
 use Rattle.store_writer.proofs.Encoded.{Encoded, length-is, bytes-are, others, definitions-at, others-at}
 use Rattle.create_definition_call.specs.Bodies.{created}
@@ -62,7 +62,7 @@ module _ {bs : Bytes} {f : FlatStore} (n : Bytes) (k : ℕ) (x : Encoded bs f) w
   after-header d p a header = omega (arith, header .next, headed-short (widthOf bs) (numberAt nextAt 4 bs) d p a (rowCount bs) bs)
 
   pub front-short : {u : Bytes} → u ≡ definitionsIn bs → length u ≤ 1280
-  front-short eu = omega (arith, ap length (eu ∙ definitions-at x), length-each definitionBytes definitionSize length-definition (f .definitions), x .fewDefinitions)
+  front-short = definition-table-short bs (omega (arith, x .definitions, x .fewDefinitions))
 
   pub back-short : (rest : ℕ) {v : Bytes} → v ≡ drop rest bs → length v ≤ 2000000
   back-short rest e =

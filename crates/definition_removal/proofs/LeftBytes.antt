@@ -17,7 +17,7 @@ use Rattle.codec.proofs.Writers.{laid-then, laid-as}
 use Rattle.layout.specs.Bodies.{widthOf, WidthIn, Number, definitionsIn, particlesIn, attributesIn}
 use Rattle.layout.specs.Header.{headed}
 use Rattle.layout.proofs.LayoutLaws.{width-small}
-use Rattle.layout.proofs.HeaderLaws.{attributes-few, headed-short}
+use Rattle.layout.proofs.HeaderLaws.{attributes-few, headed-short, definition-table-short}
 use Rattle.lookup.specs.Bodies.{bodiesOf}
 use Rattle.row_writer.specs.declared.Cursor.{Cursor}
 use Rattle.row_writer.specs.Written.{Written}
@@ -70,7 +70,7 @@ module _ (bs : Bytes) (p : passes bs ≡ true) (i : ℕ) (h : i < definitionCoun
       laid-as (each-append definitionBytes (take i (f .definitions)) (drop (i + 1) (f .definitions)) ∙ ap₂ (λ (y z : Bytes). y ++ z) (sym front) (sym back)) (laid-then a b)
 
   pub definitions-short : {d : Bytes} → d ≡ definitionsIn bs → length d ≤ 1280
-  definitions-short e = omega (arith, ap length (e ∙ definitions-at x), length-each definitionBytes definitionSize length-definition (f .definitions), x .fewDefinitions)
+  definitions-short = definition-table-short bs (omega (arith, x .definitions, x .fewDefinitions))
 
   -- ---- models and attributes
   pub models-laid : {body : Bytes} {a b n : ℕ} {tail out out₁ out₂ : Bytes} {at at₁ at₂ : ℕ} → body ≡ particlesIn bs → Number (particleCount bs) n

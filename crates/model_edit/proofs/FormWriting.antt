@@ -26,7 +26,7 @@ use Rattle.model.proofs.ParticleLaws.{particles-part}
 use Rattle.form_index.specs.Reading.{definitionIn, particlesBefore}
 use Rattle.layout.specs.Bodies.{widthOf, Number, definitionsIn, particlesIn, attributesIn}
 use Rattle.layout.proofs.LayoutLaws.{width-within}
-use Rattle.layout.proofs.HeaderLaws.{attributes-short}
+use Rattle.layout.proofs.HeaderLaws.{attributes-short, definition-table-short}
 use Rattle.lookup.specs.Bodies.{bodiesOf}
 use Rattle.model_writer.specs.Spliced.{startOf, countOf, counted, spliced, splicedForm}
 use Rattle.model_writer.specs.PartAfter.{partAfter, lengthAfter}
@@ -187,7 +187,7 @@ module _ {bs : Bytes} {o : ℕ} {e : Edit ℕ} {h : Holder} {n : ℕ} (v : Edits
       laid-as (ap (each particleBytes) (particles-after ∙ (λ i. spliced (sym (ef ∙ start) i) (sym (em ∙ count) i) (part i) ((sym (ap particlesOf ep ∙ particles-are bs (v .good))) i)))) w
 
   pub table-short : {table : Bytes} → table ≡ definitionsIn bs → length table ≤ 1280
-  table-short t = omega (arith, ap (λ (z : Bytes). length z) (t ∙ definitions-at enc), length-each definitionBytes definitionSize length-definition (f .definitions), enc .fewDefinitions)
+  table-short = definition-table-short bs (omega (arith, enc .definitions, enc .fewDefinitions))
 
   -- what comes before the attributes, and they themselves
   module _ (w : withinCeilings (bareForm g) ≡ true) where

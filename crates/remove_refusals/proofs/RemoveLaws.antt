@@ -46,14 +46,14 @@ use Rattle.change_laws.proofs.FirstCondition.{gives-hit, gives-next, gives-none
 use Rattle.instance_search.specs.Instances.{hasInstance}
 use Rattle.model_places.specs.Placing.{indexOfName, modelIn, partIn, foundBy, ElementAt, GroupAt}
 use Rattle.remove_refusals.specs.Removing.{choiceLeft, Removable, removeTests}
-use Rattle.instance_search.proofs.TestLaws.{and-off, and-first}
+use Rattle.instance_search.proofs.TestLaws.{and-first}
 use Rattle.model_places.proofs.PlaceLaws.{found-remove}
 use Rattle.model_places.proofs.PickLaws.{around, from-there, one-there, read-there, part-few}
 use Rattle.instance_search.proofs.InstanceLaws.{instance-is}
 use Rattle.model_places.proofs.CountLaws.{done-many}
 use Rattle.remove_refusals.proofs.ContextViews.{Lead, Inner, View, outer, inner, view}
 use Rattle.remove_refusals.proofs.SpreadLaws.{members-spread}
-use Rattle.change_laws.proofs.EditConditions.{or-both}
+use Rattle.rules.proofs.Words.{or-both, and-off}
 use Rattle.rules.proofs.DecodeLaws.{quantifier-code}
 
 -- ---- words

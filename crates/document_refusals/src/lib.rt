@@ -18,7 +18,7 @@ ghost use Rattle.plans.specs.CallPlans.{attributeSerial};
 ghost use Rattle.model.specs.Members.{allMembers};
 ghost use Rattle.model.specs.Steps.{steps, finishes, runs};
 ghost use Rattle.next_children.specs.Line.{NextsLine};
-ghost use Rattle.document_refusals.specs.Finding.{Begins, ElementRowAt, ParentAt, AttributeRefused, RowOf, childrenAt, definitionKindAt, modelAt, fitsAt};
+ghost use Rattle.document_refusals.specs.Finding.{Begins, ElementRowAt, ParentAt, AttributeRefused, RowOf, childrenAt, rowDefinitionKind, modelAt, fitsAt};
 ghost use Rattle.document_refusals.specs.Finding.{hasPlace, Child, children, elementRowWith, isThis, isParent, seek, serialIn, serialOfIndex, newName};
 ghost use Rattle.document_refusals.specs.Finding.{keptName, word, NamesStepped};
 ghost use Rattle.lookup.specs.Bodies.{rowsFrom};
@@ -363,7 +363,7 @@ fn fits_at(store: &[u8], i: usize, place: usize, new: usize, skip: u32) -> bool
 // The code of the kind of row i's definition.
 fn kind_at(store: &[u8], i: usize) -> u8
     requires { ⌜ RowOf (now store) i ⌝ }
-    ensures { λ r. ⌜ r ≡ definitionKindAt (now (store .entry)) i ⌝ }
+    ensures { λ r. ⌜ r ≡ rowDefinitionKind (now (store .entry)) i ⌝ }
 {
     form_index::kind_of(layout::definitions_of(store), definition_at(store, i))
 }

@@ -7,7 +7,7 @@ use mathlib.Core.Bool.{true}
 use mathlib.Core.List.{[], _++_, map, append-nil}
 use lib.ListN.{length, take, drop}
 use Rattle.rules.specs.Bytes.{Bytes}
-use Rattle.rules.specs.Layout.{definitionSize, particleSize, attributeSize, FlatStore, flat, flatBytes, definitionBytes, particleBytes, attributeBytes, rowBytes, each}
+use Rattle.rules.specs.Layout.{headerSize, definitionSize, particleSize, attributeSize, FlatStore, flat, flatBytes, definitionBytes, particleBytes, attributeBytes, rowBytes, each}
 use Rattle.rules.specs.Decode.{numberAt, definitionCount, particleCount, attributeCount}
 use Rattle.rules.specs.Passing.{passes}
 use Rattle.rules.proofs.BooleanLaws.{Every, every-map}
@@ -69,7 +69,7 @@ module _ (bs : Bytes) (p : passes bs ≡ true) (i : ℕ) (h : i < definitionCoun
       in
       laid-as (each-append definitionBytes (take i (f .definitions)) (drop (i + 1) (f .definitions)) ∙ ap₂ (λ (y z : Bytes). y ++ z) (sym front) (sym back)) (laid-then a b)
 
-  pub definitions-short : {d : Bytes} → d ≡ definitionsIn bs → length d ≤ 1280
+  pub definitions-short : {d : Bytes} → d ≡ definitionsIn bs → length d ≤ definitionSize * 64
   definitions-short e = omega (arith, ap length (e ∙ definitions-at x), length-each definitionBytes definitionSize length-definition (f .definitions), x .fewDefinitions)
 
   -- ---- models and attributes
@@ -153,7 +153,7 @@ module _ (bs : Bytes) (p : passes bs ≡ true) (i : ℕ) (h : i < definitionCoun
   -- ---- how far the writers have come
   -- the places after the header, the definitions, the particles and the attributes
   module _ {out out₁ : Bytes} {at₁ : ℕ} (l : Laid (headerLeft i bs) out 0 at₁ out₁) where
-    pub after-header : at₁ ≤ 40
+    pub after-header : at₁ ≤ headerSize
     after-header =
         omega (
           arith,
@@ -163,7 +163,7 @@ module _ (bs : Bytes) (p : passes bs ≡ true) (i : ℕ) (h : i < definitionCoun
         )
 
     module _ {out₂ : Bytes} {at₂ : ℕ} (m : Laid (each definitionBytes (destroyed i f .definitions)) out₁ at₁ at₂ out₂) where
-      pub after-definitions : at₂ ≤ 1320
+      pub after-definitions : at₂ ≤ headerSize + definitionSize * 64
       after-definitions = omega (
         arith,
         m .next,
@@ -176,10 +176,11 @@ module _ (bs : Bytes) (p : passes bs ≡ true) (i : ℕ) (h : i < definitionCoun
       )
 
       module _ {out₃ : Bytes} {at₃ : ℕ} (n : Laid (each particleBytes (destroyed i f .particles)) out₂ at₂ at₃ out₃) where
-        pub after-particles : at₃ ≤ 2344
+        pub after-particles : at₃ ≤ headerSize + definitionSize * 64 + particleSize * 256
         after-particles = omega (arith, n .next, after-definitions, length-each particleBytes particleSize length-particle (destroyed i f .particles), few-particles bs p i h)
 
-        pub after-attributes : {out₄ : Bytes} {at₄ : ℕ} → Laid (each (attributeBytes (widthOf bs)) (destroyed i f .attributes)) out₃ at₃ at₄ out₄ → at₄ ≤ 20008
+        pub after-attributes : {out₄ : Bytes} {at₄ : ℕ} → Laid (each (attributeBytes (widthOf bs)) (destroyed i f .attributes)) out₃ at₃ at₄ out₄
+            → at₄ ≤ headerSize + definitionSize * 64 + particleSize * 256 + attributeSize 256 * 64
         after-attributes q =
             omega (
               arith,

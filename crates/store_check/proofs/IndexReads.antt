@@ -51,7 +51,7 @@ part-members p parts b c whole l =
   where
     count : length (take (particleSize * c) (drop (particleSize * b) parts)) / particleSize ≡ c
     count =
-        let e : length (take (particleSize * c) (drop (particleSize * b) parts)) ≡ 4 * c =
+        let e : length (take (particleSize * c) (drop (particleSize * b) parts)) ≡ particleSize * c =
         omega (arith, length-take (particleSize * c) (drop (particleSize * b) parts), length-drop (particleSize * b) parts) in
         omega arith
 

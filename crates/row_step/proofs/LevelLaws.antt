@@ -92,10 +92,7 @@ module _ (f : IndexForm) (s : List ℕ) (keep live k : ℕ) (p : Closing f s kee
   unfolding levelsEnd
   closing-ends h = left-ends (λ j. judge f .ends (getD (levelsOf 257 s) j groundLevel)) keep live k p h
 
-  module _ (h : keep < k) (l : Level) (el : l ≡ getD (levelsOf 257 s) (k - 1) groundLevel) (b : Bool) (eb : b ≡ ends f (l .holds) l) where
-    here : b ≡ judge f .ends (getD (levelsOf 257 s) (k - 1) groundLevel)
-    here = eb ∙ ap (λ (x : Level). ends f (x .holds) x) el
-
+  module _ (h : keep < k) (b : Bool) (here : b ≡ judge f .ends (getD (levelsOf 257 s) (k - 1) groundLevel)) where
     pub closing-on : b ≡ true → Closing f s keep live (k - 1)
     closing-on q = left-on (λ j. judge f .ends (getD (levelsOf 257 s) j groundLevel)) keep live k p h b here q
 

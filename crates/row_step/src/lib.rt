@@ -30,8 +30,10 @@ fn row_passes(
     requires { ⌜ Width w × (n ≤ 64) × (a ≤ 64) × Tabled version w n (now defs) (now parts) (now attrs) a (now table) ⌝ }
     ensures { λ r. ⌜ r ≡ (rowFits w (now (row .entry)) && judge (indexForm version w n (now (defs .entry)) (now (parts .entry)) (now (attrs .entry)) a) .may l (readRow (now (row .entry)) .row)) ⌝ }
 {
-    records::row_fits(w, row)
-        & next_row::may_come(version, w, n, defs, parts, a, attrs, table, l, row)
+    if !records::row_fits(w, row) {
+        return false;
+    }
+    next_row::may_come(version, w, n, defs, parts, a, attrs, table, l, row)
 }
 
 // ---- the state: three words for each level, 3,084 bytes in all, and how many levels are open
@@ -65,7 +67,28 @@ fn put_level(levels: &mut [u32; 771], k: usize, l: Level)
     levels[at + 2] = l.last;
 }
 
+// Whether level k is owed nothing.
+fn level_ends(
+    version: usize,
+    w: usize,
+    n: usize,
+    defs: &[u8],
+    parts: &[u8],
+    a: usize,
+    attrs: &[u8],
+    table: &[u64],
+    levels: &[u32; 771],
+    k: usize,
+) -> bool
+    requires { ⌜ Width w × (n ≤ 64) × (a ≤ 64) × Tabled version w n (now defs) (now parts) (now attrs) a (now table) × (k < 257) ⌝ }
+    ensures { λ r. ⌜ r ≡ judge (indexForm version w n (now (defs .entry)) (now (parts .entry)) (now (attrs .entry)) a) .ends (getD (levelsOf 257 (now (levels .entry))) k groundLevel) ⌝ }
+{
+    let l = level_at(levels, k);
+    next_row::may_end(version, w, n, defs, parts, a, attrs, table, l)
+}
+
 // Whether of the open levels those from `keep` on are owed nothing.
+// Called for each row and nowhere else, so that it is compiled into the pass over the rows.
 fn closes(
     version: usize,
     w: usize,
@@ -85,8 +108,7 @@ fn closes(
     let mut k = live;
     while keep < k {
         k -= 1;
-        let l = level_at(levels, k);
-        if !next_row::may_end(version, w, n, defs, parts, a, attrs, table, l) {
+        if !level_ends(version, w, n, defs, parts, a, attrs, table, levels, k) {
             return false;
         }
     }
@@ -155,5 +177,12 @@ pub fn end(
     requires { ⌜ Width w × (n ≤ 64) × (a ≤ 64) × Tabled version w n (now defs) (now parts) (now attrs) a (now table) × (live ≤ 257) ⌝ }
     ensures { λ r. ⌜ r ≡ end (indexForm version w n (now (defs .entry)) (now (parts .entry)) (now (attrs .entry)) a) (stateOf (now (levels .entry)) live) ⌝ }
 {
-    closes(version, w, n, defs, parts, a, attrs, table, levels, live, 0)
+    let mut k = live;
+    while 0 < k {
+        k -= 1;
+        if !level_ends(version, w, n, defs, parts, a, attrs, table, levels, k) {
+            return false;
+        }
+    }
+    true
 }

@@ -9,6 +9,9 @@ ghost use Rattle.lookup.specs.Bodies.{bodiesOf};
 ghost use Rattle.store_writer.specs.Forms.{formBytes};
 ghost use Rattle.attribute_form.specs.Attributes.{AttributeStands, UpTo, To};
 
+/// The bytes of the longest form: 64 definitions of 20 bytes, 256 particles of 4, 64 attributes of 20 and a value of 96.
+pub const MOST_FORM: usize = 9728;
+
 // 1 if the attribute is of one of the definitions up to `owner`.
 fn is_up_to(rec: &[u8], owner: u32) -> usize
     ensures { λ r. ⌜ UpTo owner (readAttribute (now (rec .entry))) r ⌝ }

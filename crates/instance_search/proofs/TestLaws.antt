@@ -18,9 +18,9 @@ pub and-off : (a b : Bool) → b ≡ false → (a && b) ≡ false
 and-off true b f = f
 and-off false b f = refl
 
-pub and-first : (a b : Bool) → a ≡ false → (a && b) ≡ false
-and-first true b f = absurd (false≢true (sym f))
-and-first false b f = refl
+pub and-held : (a b : Bool) → b ≡ true → (a && b) ≡ a
+and-held true b f = f
+and-held false b f = refl
 
 -- an empty text
 pub none-long : (v : Bytes) → eqb (length v) 0 ≡ isNone v

@@ -80,10 +80,7 @@ fn quantifier_at(
     if !is_off(spine, old, new, group) {
         return 0;
     }
-    if instance_search::instance_exists(store, owner) {
-        return 13;
-    }
-    0
+    instance_search::instance_refusal(store, owner, 13)
 }
 
 /// Refusals 3, 4, 6, 8, 12 and 13 of the change of the quantifier of a group, or else of an element; or the place.

@@ -25,7 +25,7 @@ use Rattle.plans.proofs.CallsPlanned.{none-holds}
 use Rattle.store_writer.proofs.StoreFacts.{value-given}
 use Rattle.model_places.specs.Placing.{modelIn}
 use Rattle.model_places.proofs.PlaceLaws.{found-quantify}
-use Rattle.model_edit.proofs.Fits.{Fits, Element, inside, some-content}
+use Rattle.model_edit.proofs.Fits.{Fits, Element, fits-at}
 use Rattle.quantifier_refusals.specs.Requantifying.{requantify}
 
 -- the edit e of definition o fits at the place p, where a group stands
@@ -78,16 +78,7 @@ module _ (bs : Bytes) (q : passes bs ≡ true) (o : ℕ) (p : List ℕ) (k : ℕ
       record {
         value = value-given bs t text;
         code = ltb-false 3 k code;
-        fits =
-            record {
-              good = q;
-              there = inside bs q o p l;
-              found = f;
-              content = some-content bs q o p (quantify (quantifierOf k)) f at there;
-              at = at;
-              by = sym (found-quantify (quantifierOf k) o p bs) ∙ at;
-              suits = member-suits (quantifierOf k) (f .picked) there;
-            };
+        fits = fits-at bs q o p (quantify (quantifierOf k)) f (found-quantify (quantifierOf k) o p bs) l at there (member-suits (quantifierOf k) (f .picked) there);
         holds = h;
       }
 

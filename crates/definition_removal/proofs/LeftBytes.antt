@@ -128,10 +128,12 @@ module _ (bs : Bytes) (p : passes bs ≡ true) (i : ℕ) (h : i < definitionCoun
 
   -- q: the plan that the code makes
   pub rows-laid : {s : Range} {q : Plan} (v : Bytes) {out out₁ : Bytes} {at : ℕ} {r : Cursor} → Between (λ (k : ℕ). attributesUpTo k (f .attributes)) i (attributeCount bs) s
-      → q ≡ shifting (i + 1) (s .end) (s .end - s .start) → Written (widthOf bs) (rowsAfter q v f) (walkFrom at bs) out r out₁ → Laid (each (rowBytes (widthOf bs)) (destroyed i f .rows)) out at (r .at) out₁
+      → q ≡ shifting (i + 1) (s .end) (s .end - s .start)
+      → Written (widthOf bs) (rowsAfter q v f) (walkFrom at bs) out r out₁ → Laid (each (rowBytes (widthOf bs)) (destroyed i f .rows)) out at (r .at) out₁
   rows-laid {s} {q} v c e w =
       laid-as (bytes-old (widthOf bs) (numberAt nextAt 4 bs) (destroyed i f .rows) rows-old)
-      (written-fitting (written-as (rows-are (s .start) (s .end) v (c .first .is) (c .past .is) ∙ ap (λ (z : Plan). rowsAfter z v f) (sym e)) w) (omega (arith, rows-left bs p i h, x .rows, x .fewRows)))
+      (written-fitting (written-as (rows-are (s .start) (s .end) v (c .first .is) (c .past .is) ∙ ap (λ (z : Plan). rowsAfter z v f) (sym e)) w)
+      (omega (arith, rows-left bs p i h, x .rows, x .fewRows)))
 
   -- ---- all
   header-is : flatBytes (widthOf bs) (destroyed i f) ≡ headerLeft i bs ++ (each definitionBytes (destroyed i f .definitions) ++ others (widthOf bs) (destroyed i f))

@@ -29,7 +29,8 @@ returns c =
     let start = at-attribute-start .before .before in
     let a = start .args in
     let xs = bodiesOf (a .store .now) .attributes in
-    between (λ (k : ℕ). attributesUpTo k xs) (a .i) (attributeCount (a .store .now)) (attributes-step (a .i) xs) (at-attribute-start .attribute-start .ensures) (at-attribute-start2 .attribute-start2 .ensures)
+    between (λ (k : ℕ). attributesUpTo k xs) (a .i) (attributeCount (a .store .now)) (attributes-step (a .i) xs)
+    (at-attribute-start .attribute-start .ensures) (at-attribute-start2 .attribute-start2 .ensures)
 
 pub attribute-range-spec : {M : Type 1} → statement M
 attribute-range-spec = tie.close (tie.spec attribute-start-requires add-attribute-start attribute-start-requires-2 returns)

@@ -66,7 +66,8 @@ returns-3 c =
     let a = start .args in
     set-last (a .store .now) (whole _ (start .pre)) (a .attribute) (a .element) (a .value .now) (at-width-in .width-in .ensures) (at-is-value .is-value .ensures)
     (at-if1 .if1 .left) (at-attribute-refusal .attribute-refusal .ensures) (at-if2 .if2 .left)
-    (at-value-may .value-may .ensures ∙ allows-in (a .store .now) (at-width-in .width-in .ensures .value) (at-attributes-of .attributes-of .ensures) (a .attribute) (a .value .now)) (c .number-if .ensures) .is
+    (at-value-may .value-may .ensures ∙ allows-in (a .store .now) (at-width-in .width-in .ensures .value) (at-attributes-of .attributes-of .ensures) (a .attribute) (a .value .now))
+    (c .number-if .ensures) .is
 
 pub set-attribute-refusal-spec : {M : Type 1} → statement M
 set-attribute-refusal-spec =

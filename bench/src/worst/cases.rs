@@ -27,7 +27,7 @@ const AT_THE_LAST: &[&str] = &[
     "set_text LAST x2d",
 ];
 
-pub const CASES: [Case; 21] = [
+pub const CASES: [Case; 22] = [
     Case {
         name: "children of one root",
         store: texts,
@@ -187,6 +187,12 @@ pub const CASES: [Case; 21] = [
     Case {
         name: "2,047 fillings of 62 members",
         store: group_of_one,
+        rows: FULL,
+        changes: &["change_group_quantifier 1 p1 0 x2d"],
+    },
+    Case {
+        name: "2,006 of 2,047 of 62 members",
+        store: group_of_one_there,
         rows: FULL,
         changes: &["change_group_quantifier 1 p1 0 x2d"],
     },

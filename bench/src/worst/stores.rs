@@ -170,6 +170,24 @@ pub fn group_of_one(rows: usize) -> Store {
     groups_missing((rows - 1) / 2, 1)
 }
 
+/// As many as can be, and a few of them have the group: the most that may come is over the ceiling, what comes is not.
+pub fn group_of_one_there(rows: usize) -> Store {
+    let mut store = groups_missing(rows / 2 - 1, 1);
+    let root = store.documents.last_mut().expect("a document");
+    for node in root.content.iter_mut().take(rows / 100) {
+        if let Node::Element(instance) = node {
+            instance.content.push(Node::Element(Element {
+                serial: store.next_serial,
+                definition: LAST,
+                attributes: Vec::new(),
+                content: Vec::new(),
+            }));
+            store.next_serial += 1;
+        }
+    }
+    store
+}
+
 pub fn group_of_three(rows: usize) -> Store {
     groups_missing((rows - 1) / 4, 3)
 }

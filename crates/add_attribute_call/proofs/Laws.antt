@@ -16,7 +16,7 @@ use Rattle.rules.specs.Outcome.{Answers}
 use Rattle.rules.proofs.DecodeLaws.{name-width, value-width}
 use Rattle.change_laws.proofs.Conditions.{not-past}
 use Rattle.codec.specs.Laid.{Laid}
-use Rattle.layout.specs.Bodies.{widthOf, Number}
+use Rattle.layout.specs.Bodies.{widthOf, Number, mostForm}
 use Rattle.layout.proofs.LayoutLaws.{width-within}
 use Rattle.lookup.specs.Bodies.{bodiesOf}
 use Rattle.row_walk.specs.declared.Plan.{Plan}
@@ -87,7 +87,7 @@ module _ (bs : Bytes) (o : ℕ) (n : Bytes) (k : ℕ) (v : Bytes) (x : Addable b
   module _ {d p a i version r : ℕ} {q : Plan} {buffer left : Bytes} (cd : Number (definitionCount bs) d) (cp : Number (particleCount bs) p)
       (ca : Number (attributeCount bs) a) (few : a < 64) (to : To o (bodiesOf bs .attributes) i)
       (at : Number (numberAt versionAt 4 bs) version) (same : q ≡ addAttributePlan version o i k)
-      (long : length buffer ≡ 9728) (y : Laid (formBytes (widthOf bs) (attributeAdded i (newEntry o n k v) (bodiesOf bs))) buffer 0 r left) where
+      (long : length buffer ≡ mostForm) (y : Laid (formBytes (widthOf bs) (attributeAdded i (newEntry o n k v) (bodiesOf bs))) buffer 0 r left) where
     of-bytes : {form : Bytes} → form ≡ formBytes (widthOf bs) (attributeAdded i (newEntry o n k v) (bodiesOf bs))
         → FormOf (widthOf bs) (attributeAdded i (newEntry o n k v) (bodiesOf bs)) form d p (a + 1)
     of-bytes e =
@@ -95,7 +95,7 @@ module _ (bs : Bytes) (o : ℕ) (n : Bytes) (k : ℕ) (v : Bytes) (x : Addable b
         (omega (arith, count-attributes bs ca)) e (count-definitions bs cd)
         (count-particles bs cp) (omega (arith, count-attributes bs ca))
 
-    room-for : length (formBytes (widthOf bs) (attributeAdded i (newEntry o n k v) (bodiesOf bs))) ≤ 9728
+    room-for : length (formBytes (widthOf bs) (attributeAdded i (newEntry o n k v) (bodiesOf bs))) ≤ mostForm
     room-for = form-short (forms-of (of-bytes refl)) (width-within bs)
 
     pub added-fits : r ≤ length left

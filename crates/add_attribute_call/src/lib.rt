@@ -11,10 +11,6 @@ ghost use Rattle.add_attribute_call.specs.Added.{added};
 
 const MOST_ATTRIBUTES: usize = 64;
 
-// The bytes of a form at its ceilings and of the widest values: 64
-// definitions, 256 particles, 64 attributes of 116 bytes.
-const MOST_FORM: usize = 9728;
-
 // The store with a new attribute, the last of its owner.
 fn write_added(
     store: &[u8],
@@ -37,7 +33,7 @@ fn write_added(
     let i = attribute_form::attributes_to(store, owner);
     let version = layout::version_in(store);
     let plan = plans::add_attribute_plan(version, owner as usize, i, sort as u8);
-    let mut form = [0; MOST_FORM];
+    let mut form = [0; layout::MOST_FORM];
     let length = attribute_writer::put_added(store, i, owner, name, sort, value, &mut form);
     store_writer::edit_form(store, &form[..length], d, p, a + 1, plan, value, out)
 }

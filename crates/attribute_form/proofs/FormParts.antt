@@ -12,7 +12,7 @@ use Rattle.rules.specs.Decode.{definitionCount, particleCount, attributeCount}
 use Rattle.rules.specs.Passing.{passes}
 use Rattle.rules.proofs.LayoutLaws.{length-definition, length-particle, length-attribute, length-each, each-append}
 use Rattle.codec.specs.Laid.{Laid}
-use Rattle.layout.specs.Bodies.{widthOf}
+use Rattle.layout.specs.Bodies.{widthOf, mostForm}
 use Rattle.layout.proofs.LayoutLaws.{width-within}
 use Rattle.lookup.specs.Bodies.{bodiesOf, RowsBegin}
 use Rattle.store_writer.specs.Forms.{formBytes}
@@ -33,7 +33,7 @@ form-at {bs} q h b e =
     (record { value = refl; small = omega (arith, counted-particles bs, few-particles x) }) (record { value = refl; small = omega (arith, counted-attributes bs, few-attributes x) }) .bytes
 
 module _ (bs : Bytes) {form : Bytes} (q : passes bs ≡ true) (e : form ≡ formBytes (widthOf bs) (bodiesOf bs)) where
-  form-small : length form ≤ 9728
+  form-small : length form ≤ mostForm
   form-small =
       let f : FlatStore = bodiesOf bs in
       let h : Holds bs = holds bs q in
@@ -49,10 +49,10 @@ module _ (bs : Bytes) {form : Bytes} (q : passes bs ≡ true) (e : form ≡ form
       } in
       form-short (forms-of x) (width-within bs)
 
-  pub before-small : (at : ℕ) {u : Bytes} → u ≡ take at form → length u ≤ 9728
+  pub before-small : (at : ℕ) {u : Bytes} → u ≡ take at form → length u ≤ mostForm
   before-small at w = omega (arith, ap length w, length-take at form, form-small)
 
-  pub rest-small : (at : ℕ) {u : Bytes} → u ≡ drop at form → length u ≤ 9728
+  pub rest-small : (at : ℕ) {u : Bytes} → u ≡ drop at form → length u ≤ mostForm
   rest-small at w = omega (arith, ap length w, length-drop at form, form-small)
 
 -- ---- the form, cut before attribute i
@@ -99,10 +99,10 @@ module _ {w : ℕ} (f : FlatStore) (i : ℕ) {form : Bytes} {at : ℕ} (same : f
   before-is h = u-is ∙ ap (take at) same ∙ form-before w f i at (s .place) h
 
 -- ---- a form in a buffer of its ceilings
-pub zeros-long : length (replicate {A = ℕ} 9728 0) ≡ 9728
-zeros-long = length-replicate {A = ℕ} 9728 0
+pub zeros-long : length (replicate {A = ℕ} mostForm 0) ≡ mostForm
+zeros-long = length-replicate {A = ℕ} mostForm 0
 
-pub fits : {w buffer left : Bytes} {r : ℕ} → length buffer ≡ 9728 → length w ≤ 9728 → Laid w buffer 0 r left → r ≤ length left
+pub fits : {w buffer left : Bytes} {r : ℕ} → length buffer ≡ mostForm → length w ≤ mostForm → Laid w buffer 0 r left → r ≤ length left
 fits {w} {buffer} long few y = omega (arith, y .next, long, few, ap length (y .stored), length-sets buffer 0 w)
 
 -- what a buffer begins with

@@ -4,7 +4,7 @@ use mathlib.Core.Path.{_≡_}
 use mathlib.Core.Bool.{true}
 use lib.ListN.{length}
 use Rattle.rules.specs.Bytes.{Bytes}
-use Rattle.rules.specs.Layout.{FlatAttribute}
+use Rattle.rules.specs.Layout.{nameWidth, FlatAttribute}
 use Rattle.rules.specs.WellFormed.{isName, isValue}
 use Rattle.rules.specs.Passing.{passes}
 use Rattle.layout.specs.Bodies.{widthOf}
@@ -19,7 +19,7 @@ pub record Addable (bs : Bytes) (o : ℕ) (n : Bytes) (k : ℕ) (v : Bytes) : Ty
   pub passes : passes bs ≡ true
   pub owner : o < 64
   pub name : isName n ≡ true
-  pub short : length n ≤ 16
+  pub short : length n ≤ nameWidth
   pub sort : k ≤ 2
   pub value : isValue (widthOf bs) v ≡ true
   pub few : length v ≤ widthOf bs

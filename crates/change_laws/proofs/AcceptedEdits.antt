@@ -23,10 +23,10 @@ use Rattle.rules.specs.Refusal.{past as beyond, instanceExists, atPlace, noPlac
 use Rattle.rules.proofs.Children.{misplaced, unfit}
 use Rattle.rules.proofs.Height.{reaches-test}
 use Rattle.rules.proofs.WellFormedLaws.{well-formed}
-use Rattle.rules.proofs.Words.{or-split}
+use Rattle.rules.proofs.Words.{or-split, or-both}
 use Rattle.change_laws.proofs.InstanceEdits.{editPlan}
 use Rattle.change_laws.proofs.Conditions.{Unmet, not-past}
-use Rattle.change_laws.proofs.EditConditions.{or-both, and-false, complex-content, picked-complex, element-some, group-some, has-some, remove-placed}
+use Rattle.change_laws.proofs.EditConditions.{and-second, complex-content, picked-complex, element-some, group-some, has-some, remove-placed}
 use Rattle.change_laws.proofs.EditConditions.{remove-fits, quantify-placed, element-fits, group-fits, flatten-placed}
 use Rattle.change_laws.proofs.FormLaws.{definition-found}
 use Rattle.change_laws.proofs.ModelAfter.{place-right}
@@ -112,7 +112,7 @@ module _ (w : ℕ) (s : Store) (ok : wellFormed w (s .form) ≡ true) (o : ℕ) 
       by (some f) at a b =
           accept (insertElement o p i q t) e t f (or-split (beyond o (s .form)) (beyond i (s .form)) c6 .0) at (not-false (isComplex (definitionAt o (s .form) .content)) c9)
           (ap (λ (z : Members Bytes). member bytes n (names z)) (place-right e p model f at) ∙ c10)
-          (λ x. and-false (instanceExists (nameAtIndex o (s .form)) s) (insertOff (f .context) (quantifierOf q)) b x) outside
+          (λ x. and-second (instanceExists (nameAtIndex o (s .form)) s) (insertOff (f .context) (quantifierOf q)) b x) outside
           (λ ls. ap (insertPlan (s .version) (s .form) (nameAtIndex o (s .form)) t (quantifierOf q) n) at) refl
 
   pub accepted-remove : Unmet (conditions (removeElement o p) s) → Accepted s (removeElement o p)
@@ -124,7 +124,7 @@ module _ (w : ℕ) (s : Store) (ok : wellFormed w (s .form) ≡ true) (o : ℕ) 
       by none at a b d = absurd (false≢true (sym a))
       by (some f) at a b d =
           accept (removeElement o p) remove [] f c6 at (some-complex remove f at (element-some (f .picked) a)) (remove-placed (f .context) (f .picked) a b)
-          (λ x. remove-fits (f .context) (f .picked) (and-false (instanceExists (nameAtIndex o (s .form)) s) (removeUnmatched (f .context) (tailOf (f .picked))) d x)) tt
+          (λ x. remove-fits (f .context) (f .picked) (and-second (instanceExists (nameAtIndex o (s .form)) s) (removeUnmatched (f .context) (tailOf (f .picked))) d x)) tt
           (λ ls. ap (pickedPlan (λ c t. removePlan (nameAtIndex o (s .form)) t)) at) refl
 
   -- the plans and the forms of 5 and 8 are the same
@@ -150,7 +150,7 @@ module _ (w : ℕ) (s : Store) (ok : wellFormed w (s .form) ≡ true) (o : ℕ) 
       by none at a d = absurd (false≢true (sym a))
       by (some f) at a d =
           quantified (changeQuantifier o p q t) r t (λ ls. refl) refl c6 f at (element-some (f .picked) a)
-          (λ x. element-fits (f .context) r (f .picked) a (and-false (instanceExists (nameAtIndex o (s .form)) s) (onElement false (λ old. quantifyOff (f .context) old r) (f .picked)) d x))
+          (λ x. element-fits (f .context) r (f .picked) a (and-second (instanceExists (nameAtIndex o (s .form)) s) (onElement false (λ old. quantifyOff (f .context) old r) (f .picked)) d x))
 
   pub accepted-quantify-group : (q : ℕ) (t : Bytes) → Unmet (conditions (changeGroupQuantifier o p q t) s) → Accepted s (changeGroupQuantifier o p q t)
   unfolding conditions plan formAfter
@@ -164,7 +164,7 @@ module _ (w : ℕ) (s : Store) (ok : wellFormed w (s .form) ≡ true) (o : ℕ) 
       by none at a d = absurd (false≢true (sym a))
       by (some f) at a d =
           quantified (changeGroupQuantifier o p q t) r t (λ ls. refl) refl c6 f at (group-some (f .picked) a)
-          (λ x. group-fits (f .context) r (f .picked) a (and-false (instanceExists (nameAtIndex o (s .form)) s) (onGroup false (λ old. quantifyGroupOff (f .context) old r) (f .picked)) d x))
+          (λ x. group-fits (f .context) r (f .picked) a (and-second (instanceExists (nameAtIndex o (s .form)) s) (onGroup false (λ old. quantifyGroupOff (f .context) old r) (f .picked)) d x))
 
   pub accepted-convert : (n k : ℕ) → Unmet (conditions (convertToGroup o p n k) s) → Accepted s (convertToGroup o p n k)
   unfolding conditions plan formAfter misplaced unfit

@@ -2,7 +2,7 @@
 -- tests `misplaced` and `unfit`; an owner with a member is COMPLEX.
 use Prim.Native.Nat.{ℕ, zero, suc}
 use mathlib.Core.Path.{_≡_, refl, sym, ap, _∙_}
-use mathlib.Core.Bool.{Bool, true, false, _&&_, not, _||_, false≢true}
+use mathlib.Core.Bool.{Bool, true, false, _&&_, not, false≢true}
 use Rattle.rules.specs.declared.Quantifier.{Quantifier}
 use Rattle.rules.specs.Bytes.{Bytes, bytes}
 use Rattle.rules.specs.Model.{Members, done, el, group, isDone}
@@ -13,12 +13,9 @@ use Rattle.rules.specs.Refusal.{onElement, onGroup, tailOf, flattenUnlike, isCo
 use Rattle.rules.proofs.Children.{misplaced, unfit}
 
 -- ---- tests
-pub or-both : (a b : Bool) → a ≡ false → b ≡ false → (a || b) ≡ false
-or-both a b e f = rw (e, f)
-
-pub and-false : (a b : Bool) → (a && b) ≡ false → a ≡ true → b ≡ false
-and-false true b e f = e
-and-false false b e f = absurd (false≢true f)
+pub and-second : (a b : Bool) → (a && b) ≡ false → a ≡ true → b ≡ false
+and-second true b e f = e
+and-second false b e f = absurd (false≢true f)
 
 -- ---- the owner is COMPLEX
 plug-done : {A : Type 0} (c : Context A) (t : Members A) → plug c t ≡ done → isDone t ≡ true

@@ -15,14 +15,7 @@ use Rattle.rules.specs.WellFormed.{definitionName, lookup, isThere, known}
 use Rattle.rules.specs.Change.{definitionAt, nameAtIndex, Owned, entryAt, attributeAt, update, without}
 use Rattle.rules.proofs.Apart.{differs}
 use Rattle.rules.proofs.Height.{known-found}
-use Rattle.rules.proofs.WellFormedLaws.{lookup-member, lookup-distinct}
-
--- ---- one step of a look-up
-pub lookup-here : (n : Bytes) (d : Definition) (form : Form) → n ≡ d .name → lookup n (d ∷ form) ≡ some d
-lookup-here n d form q = rw (bytes .same← n (d .name) q, lookup)
-
-pub lookup-there : (n : Bytes) (d : Definition) (form : Form) → (n ≡ d .name → ⊥) → lookup n (d ∷ form) ≡ lookup n form
-lookup-there n d form f = rw (differs bytes n (d .name) f, lookup)
+use Rattle.rules.proofs.WellFormedLaws.{lookup-member, lookup-distinct, lookup-here, lookup-there}
 
 -- a name is that name or not
 pub same-or : (n m : Bytes) → (n ≡ m) ⊎ (n ≡ m → ⊥)

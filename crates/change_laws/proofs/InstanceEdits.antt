@@ -19,6 +19,7 @@ use Rattle.rules.specs.Conforming.{nameOf, Sorted, isElement}
 use Rattle.rules.specs.Filling.{elementRow}
 use Rattle.rules.specs.Lines.{Line, elementNamed, elementAmong, childrenOf, serialAt}
 use Rattle.rules.specs.Change.{Plan, keeping, laterThan, insertPlan, removePlan, groupFilling, quantifyPlan}
+use Rattle.rules.proofs.Words.{and-off}
 use Rattle.rules.proofs.Apart.{differs}
 use Rattle.rules.proofs.Letters.{member-in}
 use Rattle.rules.proofs.Children.{anyOf}
@@ -63,11 +64,6 @@ not-element s b e = ap (λ (z : RowSort). isElement z && b) e
 
 is-element : (s : RowSort) (b : Bool) → s ≡ element → (isElement s && b) ≡ b
 is-element s b e = ap (λ (z : RowSort). isElement z && b) e
-
-and-none : (a b c : Bool) → c ≡ false → (a && (b && c)) ≡ false
-and-none true true c e = e
-and-none true false c e = refl
-and-none false b c e = refl
 
 distinct-right : (a b : List ℕ) → Distinct (a ++ b) → Distinct b
 distinct-right [] b d = d
@@ -158,7 +154,7 @@ module _ (version : ℕ) (form : Form) (ls : List Line) (owner txt : Bytes) (u :
     unfolding childRows refitRows
     quantify-rows q r x t d =
         after-split (editPlan version form ls owner txt (quantify r) c (el q x t)) u (beforePlace c) front back refl (below .given)
-        (λ y m. and-none (spine c && cuts q r) (elementNamed owner u) (elementNamed x y && not (eqb (y .serial) k)) (ap (λ (z : Bool). z && not (eqb (y .serial) k)) (front-other x y m)))
+        (λ y m. and-off (spine c && cuts q r) _ (and-off (elementNamed owner u) (elementNamed x y && not (eqb (y .serial) k)) (ap (λ (z : Bool). z && not (eqb (y .serial) k)) (front-other x y m))))
         (λ e. (front-later (beforePlace c) u, back-later (beforePlace c) u))
         ∙ ap (λ (z : List Row). front ++ z) (
         due-same _ ((spine c && gains q r) && not me) (beforePlace c) _ (elementRow x ∷ []) _ (elim (spine c && cuts q r) as (λ z. List Row) [ true ↦ firstRows bytes nameOf x back | false ↦ back ])
@@ -213,18 +209,14 @@ module _ (version : ℕ) (form : Form) (ls : List Line) (owner txt : Bytes) (u :
     edit-rows flatten t d = keeping-rows
 
 -- ---- other rows
-pub and-no : (a b : Bool) → b ≡ false → (a && b) ≡ false
-and-no true b e = e
-and-no false b e = refl
-
 no-and : (a b c : Bool) → b ≡ false → (a && (b && c)) ≡ false
-no-and a b c e = and-no a (b && c) (ap (λ (z : Bool). z && c) e)
+no-and a b c e = and-off a (b && c) (ap (λ (z : Bool). z && c) e)
 
 module _ (version : ℕ) (form : Form) (ls : List Line) (owner txt : Bytes) (u : Row) (rows : List Row) (other : elementNamed owner u ≡ false)
     (given : (x : Row) → List·Memᴰ x rows → x .serial ≡ 0 → ⊥) (c : Context Bytes) where
   -- what is no instance keeps the rows below it
   pub edit-others : (e : Edit Bytes) (t : Members Bytes) → childrenAfter (editPlan version form ls owner txt e c t) u rows ≡ rows
-  edit-others (insert q n) t = untouched (editPlan version form ls owner txt (insert q n) c t) u rows refl given (λ x m. refl) (and-no (not (skips q) && spine c) (elementNamed owner u) other)
+  edit-others (insert q n) t = untouched (editPlan version form ls owner txt (insert q n) c t) u rows refl given (λ x m. refl) (and-off (not (skips q) && spine c) (elementNamed owner u) other)
   edit-others remove done = untouched keeping u rows refl given (λ x m. refl) refl
   edit-others remove (el q x t) = untouched (editPlan version form ls owner txt remove c (el q x t)) u rows refl given (λ y m. ap (λ (z : Bool). z && elementNamed x y) other) refl
   edit-others remove (group q k ms t) = untouched keeping u rows refl given (λ x m. refl) refl

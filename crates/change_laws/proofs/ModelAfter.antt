@@ -2,7 +2,7 @@
 use Prim.Native.Nat.{ℕ, zero, suc}
 use mathlib.Core.Path.{_≡_, refl, sym, ap, _∙_}
 use mathlib.Core.Logic.{_⊎_, inl, inr, ⊎-elim}
-use mathlib.Core.Bool.{Bool, true, false, not, _||_, false≢true}
+use mathlib.Core.Bool.{Bool, true, false, not, false≢true}
 use mathlib.Core.Option.{Option, none, some}
 use mathlib.Core.List.{List, [], _∷_, _++_, append-assoc, List·Memᴰ, List·Memᴰ·cases-cons, List·Memᴰ·head, List·Memᴰ·tail, List·Memᴰ·append-cases, Memᴰ·append-left, Memᴰ·append-right}
 use lib.Dec.{leb}
@@ -16,7 +16,7 @@ use Rattle.rules.specs.Store.{Store, members}
 use Rattle.rules.specs.Decode.{quantifierOf, groupOf}
 use Rattle.rules.specs.Change.{insertElement, removeElement, changeQuantifier, convertToGroup, flattenGroup, changeGroupQuantifier, definitionAt, nameAtIndex}
 use Rattle.rules.specs.Refusal.{noPlace, noElementAt, noGroupAt, atPlace, onElement, onGroup, tailOf, flattenUnlike, conditions, refusal, foundAt}
-use Rattle.rules.proofs.Words.{either, or-split}
+use Rattle.rules.proofs.Words.{either, or-split, or-both}
 use Rattle.rules.proofs.Apart.{names-plug}
 use Rattle.rules.proofs.Spine.{names-append}
 use Rattle.rules.proofs.Children.{misplaced, Sound}
@@ -118,9 +118,6 @@ fit-quantify r c done (inr h) = h
 fit-quantify r c (el q x t) h = refl
 fit-quantify r c (group q k ms t) h = refl
 
-both-false : {a b : Bool} → a ≡ false → b ≡ false → (a || b) ≡ false
-both-false e h = rw (e, h)
-
 module _ (room : ℕ) (s : Store) (o : ℕ) (p : List ℕ) where
   abbrev owned : Members Bytes
   owned = members (definitionAt o (s .form))
@@ -157,7 +154,7 @@ module _ (room : ℕ) (s : Store) (o : ℕ) (p : List ℕ) where
       let (here, enough) = or-split (noPlace (foundAt (convert (groupOf k) n) o p s)) _ there in
       placed (convert (groupOf k) n) p owned
       (λ x. (noPlace x ≡ false) × (atPlace (λ c x. not (hasMembers n x)) x ≡ false) × (atPlace (λ c x. groupUnlike c (groupOf k) (firstMembers n x)) x ≡ false)) (λ h. false≢true (sym (h .0)))
-      (λ f e h. both-false (h .1) (h .2)) (here, enough, alike)
+      (λ f e h. or-both _ _ (h .1) (h .2)) (here, enough, alike)
 
   pub placed-flatten : refusal room (flattenGroup o p) s ≡ 0 → Placed bytes flatten p owned
   unfolding conditions

@@ -11,7 +11,8 @@ use borrow.Author.Tests.{eq-eqb, ne-eqb, eqb-true, eqb-false}
 use Rattle.rules.specs.Bytes.{Bytes, all}
 use Rattle.circle_check.specs.Deep.{hasHeight, raisedTo, Round}
 use Rattle.circle_check.specs.Avoiding.{membersAvoiding, Avoids}
-use Rattle.circle_check.proofs.RoundLaws.{zeros, Rounds, rounds-start, rounds-on, marked-is}
+use Rattle.codec.proofs.Numbers.{zeros-read}
+use Rattle.circle_check.proofs.RoundLaws.{Rounds, rounds-start, rounds-on, marked-is}
 
 set-none : (l : Bytes) (i : ℕ) → getD (set l i 0) i 0 ≡ 0
 set-none [] i = refl
@@ -25,7 +26,7 @@ pub record Avoiding (n : ℕ) (members : ℕ → List ℕ) (target : ℕ) (l : B
   pub past : getD l n 0 ≡ 0
 
 pub avoiding-starts : (n : ℕ) (members : ℕ → List ℕ) (target : ℕ) → Avoiding n members target (replicate 64 0) 0
-avoiding-starts n members target = record { rounds = rounds-start n (membersAvoiding n members target); gone = zeros 64 target; past = zeros 64 n }
+avoiding-starts n members target = record { rounds = rounds-start n (membersAvoiding n members target); gone = zeros-read 64 target; past = zeros-read 64 n }
 
 module _ {n : ℕ} {members : ℕ → List ℕ} {target : ℕ} {old : Bytes} {h : ℕ} (s : Avoiding n members target old h) (t : target < n) where
   unmarked : hasHeight old n ≡ false

@@ -10,13 +10,14 @@ use mathlib.Core.List.{List, [], _∷_, map, List·Memᴰ, List·Memᴰ·head, L
 use lib.Dec.{leb}
 use lib.ListN.{length, getD}
 use borrow.Author.Tests.{lt-ltb, le-leb, leb-true}
-use Rattle.rules.specs.Bytes.{Bytes, same, same-eq, same-refl, all, between}
+use Rattle.rules.specs.Bytes.{Bytes, same, same-eq, all, between}
 use Rattle.rules.specs.Model.{names, Distinct}
 use Rattle.rules.specs.Store.{Definition, Form, members}
 use Rattle.rules.specs.Decode.{nameAt}
 use Rattle.rules.specs.WellFormed.{definitionName, lookup, isThere, known, namesIn, membersOf, Reaches}
 use Rattle.rules.proofs.Words.{and-both, and-split}
 use Rattle.rules.proofs.Height.{deep, member-known, height}
+use Rattle.rules.proofs.WellFormedLaws.{lookup-here, lookup-there}
 use Rattle.circle_check.specs.declared.Heights.{Heights}
 use Rattle.circle_check.specs.Deep.{deepIndex, Ranked}
 use Rattle.circle_check.proofs.RoundLaws.{deep-index-member, deep-index-known}
@@ -69,28 +70,17 @@ name-member i [] l = absurd (not-suc-le-zero l)
 name-member zero (d ∷ form) l = List·Memᴰ·head refl
 name-member (suc i) (d ∷ form) l = List·Memᴰ·tail (name-member i form (le-of-suc-le-suc l))
 
--- a definition of one's own name is found first
-lookup-here : (d : Definition) (form : Form) → lookup (d .name) (d ∷ form) ≡ some d
-lookup-here d form = ap (λ (b : Bool). elim b [ true ↦ some d | false ↦ lookup (d .name) form ]) (same-refl (d .name))
-
-lookup-past : (n : Bytes) (d : Definition) (form : Form) → (n ≡ d .name → ⊥) → lookup n (d ∷ form) ≡ lookup n form
-lookup-past n d form f = by (same n (d .name)) refl
-  where
-    by : (b : Bool) → same n (d .name) ≡ b → elim b [ true ↦ some d | false ↦ lookup n form ] ≡ lookup n form
-    by true e = absurd (f (same-eq n (d .name) e))
-    by false e = refl
-
 module _ (ns : List Bytes) (indices : ℕ → List ℕ) where
   -- the definition with an index is the one that its name finds
   at-name : (o : ℕ) (form : Form) → Distinct (map definitionName form) → Models ns indices o form → (i : ℕ) → i < length form
       → (d : Definition) × (lookup (nameAt i (map definitionName form)) form ≡ some d) × (names (members d) ≡ map (λ j. nameAt j ns) (indices (o + i)))
   at-name o [] once ms i l = absurd (not-suc-le-zero l)
-  at-name o (c ∷ form) (fresh, once) (m, ms) zero l = (c, lookup-here c form, m ∙ ap (λ (k : ℕ). map (λ j. nameAt j ns) (indices k)) (let e : o ≡ o + 0 = omega arith in e))
+  at-name o (c ∷ form) (fresh, once) (m, ms) zero l = (c, lookup-here (c .name) c form refl, m ∙ ap (λ (k : ℕ). map (λ j. nameAt j ns) (indices k)) (let e : o ≡ o + 0 = omega arith in e))
   at-name o (c ∷ form) (fresh, once) (m, ms) (suc i) l =
       let k : i < length form = le-of-suc-le-suc l in
       let (d, e, q) = at-name (suc o) form once ms i k in (
         d,
-        lookup-past (nameAt i (map definitionName form)) c form (λ z. fresh (rw (sym z) (name-member i form k))) ∙ e,
+        lookup-there (nameAt i (map definitionName form)) c form (λ z. fresh (rw (sym z) (name-member i form k))) ∙ e,
         q ∙ ap (λ (x : ℕ). map (λ j. nameAt j ns) (indices x)) (let e : suc o + i ≡ o + suc i = omega arith in e),
       )
 

@@ -13,17 +13,13 @@ use lib.Seq.{getD-set-same, getD-set-other}
 use borrow.Author.Tests.{lt-ltb, le-ltb, le-leb, lt-leb, eq-eqb, ne-eqb, ltb-true, ltb-false, eqb-true, eqb-false}
 use Rattle.rules.specs.Bytes.{Bytes, all, between}
 use Rattle.codec.specs.Part.{partOf}
+use Rattle.codec.proofs.Numbers.{zeros-read}
 use Rattle.rules.proofs.Words.{and-both, and-split}
 use Rattle.rules.proofs.TestLaws.{all-test}
 use Rattle.rules.specs.Layout.{particleSize}
 use Rattle.circle_check.specs.Members.{elementsOf, membersIn, countAt}
 use Rattle.circle_check.specs.Deep.{deepIndex, hasHeight, raisedTo, Round, Ranked}
 use Rattle.circle_check.proofs.MemberLaws.{Starts, starts-none, starts-more, model-members}
-
-pub zeros : (n i : ℕ) → _≡_ {A = ℕ} (getD (replicate n 0) i 0) 0
-zeros zero i = refl
-zeros (suc n) zero = refl
-zeros (suc n) (suc i) = zeros n i
 
 -- ---- one definition in one round
 module _ (h was : ℕ) (s : Bool) where
@@ -45,7 +41,8 @@ pub record Rounding (n : ℕ) (defs parts : Bytes) (h : ℕ) (old new : Bytes) (
   pub low : i ≤ n
 
 pub rounding-starts : (n : ℕ) (defs parts : Bytes) (h : ℕ) (old : Bytes) → Rounding n defs parts h old (replicate 64 0) 0 0
-rounding-starts n defs parts h old = record { done = λ k l. absurd (not-suc-le-zero l); rest = λ k l. zeros 64 k; long = length-replicate {A = ℕ} 64 0; starts = starts-none defs; low = omega arith }
+rounding-starts n defs parts h old =
+    record { done = λ k l. absurd (not-suc-le-zero l); rest = λ k l. zeros-read 64 k; long = length-replicate {A = ℕ} 64 0; starts = starts-none defs; low = omega arith }
 
 module _ {n : ℕ} {defs parts : Bytes} {h : ℕ} {old new : Bytes} {start i : ℕ} (r : Rounding n defs parts h old new start i) where
   pub rounding-on : (c v : ℕ) (model : Bytes) → i < n → n ≤ 64 → c ≡ countAt defs i → c ≤ 4294967295 → model ≡ partOf (particleSize * start) (particleSize * c) parts
@@ -147,10 +144,10 @@ pub record Rounds (n : ℕ) (members : ℕ → List ℕ) (l : Bytes) (r : ℕ) :
 
 pub rounds-start : (n : ℕ) (members : ℕ → List ℕ) → Rounds n members (replicate 64 0) 0
 unfolding deepIndex
-rounds-start n members = record { is = λ i h l. is i h l; most = λ i. omega (arith, zeros 64 i); low = omega arith }
+rounds-start n members = record { is = λ i h l. is i h l; most = λ i. omega (arith, zeros-read 64 i); low = omega arith }
   where
     is : (i h : ℕ) → h ≤ 0 → deepIndex members n h i ≡ between 1 h (getD (replicate 64 0) i 0)
-    is i zero l = sym (between-none (getD (replicate 64 0) i 0) 0 (zeros 64 i))
+    is i zero l = sym (between-none (getD (replicate 64 0) i 0) 0 (zeros-read 64 i))
     is i (suc h) l = absurd (omega arith)
 
 all-same : (p q : ℕ → Bool) (xs : List ℕ) → ((i : ℕ) → p i ≡ q i) → all p xs ≡ all q xs

@@ -9,7 +9,7 @@ use lib.ListN.{length, take, drop, length-append, length-drop}
 use lib.Seq.{take-append-seam, take-all}
 use borrow.Author.Tests.{eq-eqb, leb-true}
 use Rattle.rules.specs.Bytes.{Bytes}
-use Rattle.rules.specs.Decode.{numberAt}
+use Rattle.rules.specs.Decode.{nextSerial}
 use Rattle.rules.specs.Outcome.{Outcome, wrote, numberOf, lengthOf, bufferOf, Answers}
 use Rattle.clubform.specs.History.{stage, Reads, BufferHolds}
 use Rattle.clubform.proofs.Stages.{Gives, accepted}
@@ -64,5 +64,5 @@ whole {buffer} {len} h = sym (take-all len buffer (omega (arith, h .room, h .len
 pub last-length : {buffer : Bytes} {len : ℕ} → BufferHolds (stage 13) len buffer → eqb len 508 ≡ true
 last-length {len = len} h = eq-eqb len 508 (h .length-is ∙ accepted .length-is)
 
-pub last-next : {buffer : Bytes} {len next : ℕ} → BufferHolds (stage 13) len buffer → next ≡ numberAt 4 4 buffer → eqb next 9 ≡ true
-last-next {next = next} h e = eq-eqb next 9 (e ∙ ap (λ (b : Bytes). numberAt 4 4 b) (whole h) ∙ accepted .next-is)
+pub last-next : {buffer : Bytes} {len next : ℕ} → BufferHolds (stage 13) len buffer → next ≡ nextSerial buffer → eqb next 9 ≡ true
+last-next {next = next} h e = eq-eqb next 9 (e ∙ ap nextSerial (whole h) ∙ accepted .next-is)

@@ -9,7 +9,7 @@ use Rattle.rules.specs.Layout.{valueWidth}
 use Rattle.rules.specs.Bytes.{Bytes, ascii}
 use Rattle.rules.specs.Model.{names, nothing, filling, member, full, distinct}
 use Rattle.rules.specs.Automaton.{accepts, continues, facts}
-use Rattle.rules.specs.Decode.{confirm, numberAt}
+use Rattle.rules.specs.Decode.{confirm, nextSerial}
 use Rattle.rules.specs.WellFormed.{goodDefinition, wellFormed}
 use Rattle.rules.specs.Conforming.{strip, fitsRow, conforming}
 use Rattle.rules.specs.Passing.{good, goodSerials}
@@ -45,7 +45,7 @@ pub record Accepted : Type 0 where
   pub make-time-optional : Gives (outcome (changeQuantifier 1 (3 ∷ []) 1 [])) (stage 12) (stage 13)
   pub print : Gives printOutcome (stage 13) lastText
   pub length-is : length (stage 13) ≡ 508
-  pub next-is : numberAt 4 4 (stage 13) ≡ 9
+  pub next-is : nextSerial (stage 13) ≡ 9
 
 pub accepted : Accepted
 unfolding valueWidth names nothing filling member full distinct facts continues accepts plug kindAt spine beforePlace around afterMembers find _⊕_ edited place

@@ -80,7 +80,7 @@ fn main() {
     let held = hold_race(&mut one, formed, &mut two);
     let changed = change_finisher(&mut two, held, &mut one);
     check::expect(changed == 508);
-    check::expect(codec::get_u32(&one, 4) == 9);
+    check::expect(layout::next_serial(&one) == 9);
     let written = put_text(&one, &mut two);
     io::write_all(1, &two[..written]);
 }

@@ -4,7 +4,7 @@ use mathlib.Core.List.{[], _∷_, _++_}
 use Prim.Native.Nat.{ℕ, zero, suc, _+_, _*_, _/_, _≤_}
 use native.Mathlib.Omega.{arith}
 use native.Mathlib.Numerals.{add-one}
-use lib.ListN.{length, getD, drop-of-length-le}
+use lib.ListN.{length, getD, replicate, drop-of-length-le}
 use lib.Seq.{take-nil}
 use Rattle.rules.specs.Bytes.{Bytes}
 use Rattle.rules.specs.Layout.{le}
@@ -31,6 +31,12 @@ number-four s at =
 -- past the end
 pub number-past : (k : ℕ) (s : Bytes) (at : ℕ) → length s ≤ at → numberAt at k s ≡ 0
 number-past k s at h = rw (drop-of-length-le s {i = at} h, take-nil)
+
+-- a string of zeros
+pub zeros-read : (n i : ℕ) → _≡_ {A = ℕ} (getD (replicate n 0) i 0) 0
+zeros-read zero i = refl
+zeros-read (suc n) zero = refl
+zeros-read (suc n) (suc i) = zeros-read n i
 
 -- four bytes are two and two
 pub le-four : (x : ℕ) → le 4 x ≡ le 2 x ++ le 2 (x / 65536)

@@ -1,7 +1,7 @@
 // Bytes and little-endian numbers in a byte string: read, written, compared.
 ghost use mathlib.Core.Path.{_≡_};
 ghost use mathlib.Core.List.{[], _∷_};
-ghost use Prim.Native.Nat.{_+_, _*_, _<_, _^_};
+ghost use Prim.Native.Nat.{_+_, _<_, _^_};
 ghost use lib.ListN.{length, getD, set};
 ghost use lib.Seq.{sets};
 ghost use Rattle.rules.specs.Bytes.{same};
@@ -17,24 +17,6 @@ pub fn byte(s: &[u8], i: usize) -> u8
     if i < s.len() { s[i] } else { 0 }
 }
 
-fn wide(x: u8) -> u32
-    ensures { λ r. ⌜ r ≡ x ⌝ }
-{
-    x as u32
-}
-
-fn two(a: u8, b: u8) -> u32
-    ensures { λ r. ⌜ r ≡ a + 256 * b ⌝ }
-{
-    wide(a) + 256 * wide(b)
-}
-
-fn four(a: u8, b: u8, c: u8, d: u8) -> u32
-    ensures { λ r. ⌜ r ≡ a + 256 * b + 65536 * c + 16777216 * d ⌝ }
-{
-    wide(a) + 256 * wide(b) + 65536 * wide(c) + 16777216 * wide(d)
-}
-
 /// The number of two bytes at `at`; bytes past the end count 0.
 pub fn get_u16(s: &[u8], at: usize) -> u32
     ensures { λ r. ⌜ r ≡ numberAt at 2 (now (s .entry)) ⌝ }
@@ -43,9 +25,9 @@ pub fn get_u16(s: &[u8], at: usize) -> u32
         return 0;
     }
     if 2 <= s.len() - at {
-        return two(s[at], s[at + 1]);
+        return little_endian::two(s[at], s[at + 1]);
     }
-    wide(s[at])
+    little_endian::wide(s[at])
 }
 
 /// The number of four bytes at `at`; bytes past the end count 0.
@@ -56,9 +38,9 @@ pub fn get_u32(s: &[u8], at: usize) -> u32
         return 0;
     }
     if 4 <= s.len() - at {
-        return four(s[at], s[at + 1], s[at + 2], s[at + 3]);
+        return little_endian::four(s[at], s[at + 1], s[at + 2], s[at + 3]);
     }
-    four(
+    little_endian::four(
         byte(s, at),
         byte(s, at + 1),
         byte(s, at + 2),

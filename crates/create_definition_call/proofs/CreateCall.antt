@@ -9,7 +9,7 @@ use lib.ListN.{length, length-append}
 use borrow.Author.Tests.{lt-ltb, le-ltb, le-leb, lt-leb, ltb-false}
 use Rattle.rules.specs.Bytes.{Bytes, all}
 use Rattle.rules.specs.Preorder.{Deep}
-use Rattle.rules.specs.Layout.{valueWidth, definitionSize, FlatParticle, FlatStore, flat, flatBytes}
+use Rattle.rules.specs.Layout.{valueWidth, nameWidth, definitionSize, FlatParticle, FlatStore, flat, flatBytes}
 use Rattle.rules.specs.Decode.{definitionCount}
 use Rattle.rules.specs.WellFormed.{storedName, known, withinCeilings, highestNumber}
 use Rattle.rules.specs.Passing.{passes}
@@ -65,7 +65,7 @@ module _ (bs n : Bytes) (k : ℕ) (p : passes bs ≡ true) where
 
   -- no condition holds
   pub record Fresh : Type 0 where
-    pub name : length n ≤ 16
+    pub name : length n ≤ nameWidth
     pub kind : k ≤ 2
 
   pub fresh : condition ≡ 0 → Fresh

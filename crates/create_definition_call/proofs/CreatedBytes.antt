@@ -8,13 +8,13 @@ use lib.ListN.{length, drop, length-append, length-drop}
 use Rattle.rules.specs.Bytes.{Bytes}
 use Rattle.rules.specs.Layout.{headerSize, definitionSize, rowSize, FlatStore, flatBytes, definitionBytes, each}
 use Rattle.rules.specs.Decode.{numberAt, definitionCount, particleCount, attributeCount, rowCount}
-use Rattle.rules.proofs.LayoutLaws.{length-definition, length-each, each-append}
+use Rattle.rules.proofs.LayoutLaws.{each-append}
 use Rattle.codec.specs.Laid.{Laid}
 use Rattle.codec.proofs.Writers.{laid-then, laid-as}
 use Rattle.layout.specs.Bodies.{widthOf, Number, Place, definitionsIn}
 use Rattle.layout.specs.Header.{headed}
 use Rattle.layout.proofs.LayoutLaws.{width-small}
-use Rattle.layout.proofs.HeaderLaws.{attributes-few, headed-short}
+use Rattle.layout.proofs.HeaderLaws.{attributes-few, headed-short, definition-table-short}
 use Rattle.definition_writer.specs.Bodies.{newDefinition}
 use Rattle.store_writer.proofs.Encoded.{Encoded, length-is, bytes-are, others, definitions-at, others-at}
 use Rattle.create_definition_call.specs.Bodies.{created}
@@ -58,11 +58,11 @@ module _ {bs : Bytes} {f : FlatStore} (n : Bytes) (k : ℕ) (x : Encoded bs f) w
       (laid-then header (laid-then front (laid-then new back)))
 
   -- how far they have come
-  pub after-header : (d p a : ℕ) {out out₁ : Bytes} {at₁ : ℕ} → Laid (headed (widthOf bs) (numberAt nextAt 4 bs) d p a (rowCount bs) bs) out 0 at₁ out₁ → at₁ ≤ 40
+  pub after-header : (d p a : ℕ) {out out₁ : Bytes} {at₁ : ℕ} → Laid (headed (widthOf bs) (numberAt nextAt 4 bs) d p a (rowCount bs) bs) out 0 at₁ out₁ → at₁ ≤ headerSize
   after-header d p a header = omega (arith, header .next, headed-short (widthOf bs) (numberAt nextAt 4 bs) d p a (rowCount bs) bs)
 
-  pub front-short : {u : Bytes} → u ≡ definitionsIn bs → length u ≤ 1280
-  front-short eu = omega (arith, ap length (eu ∙ definitions-at x), length-each definitionBytes definitionSize length-definition (f .definitions), x .fewDefinitions)
+  pub front-short : {u : Bytes} → u ≡ definitionsIn bs → length u ≤ definitionSize * 64
+  front-short = definition-table-short bs (omega (arith, x .definitions, x .fewDefinitions))
 
   pub back-short : (rest : ℕ) {v : Bytes} → v ≡ drop rest bs → length v ≤ 2000000
   back-short rest e =
@@ -76,5 +76,5 @@ module _ {bs : Bytes} {f : FlatStore} (n : Bytes) (k : ℕ) (x : Encoded bs f) w
         x .particles,
         x .fewParticles,
         attributes-few (widthOf bs) (attributeCount bs) (width-small bs) (omega (arith, x .attributes, x .fewAttributes)),
-        mul-le-mul {n₁ = rowSize (widthOf bs)} {m₁ = rowCount bs} {n₂ = 268} {m₂ = 4096} (omega (arith, width-small bs)) (omega (arith, x .rows, x .fewRows)),
+        mul-le-mul {n₁ = rowSize (widthOf bs)} {m₁ = rowCount bs} {n₂ = rowSize 256} {m₂ = 4096} (omega (arith, width-small bs)) (omega (arith, x .rows, x .fewRows)),
       )

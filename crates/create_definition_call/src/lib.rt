@@ -4,7 +4,7 @@ ghost use mathlib.Core.Path.{_≡_};
 ghost use mathlib.Core.Bool.{true};
 ghost use Prim.Native.Nat.{_≤_};
 ghost use lib.ListN.{length};
-ghost use Rattle.rules.specs.Layout.{flatBytes};
+ghost use Rattle.rules.specs.Layout.{nameWidth, flatBytes};
 ghost use Rattle.rules.specs.Passing.{passes};
 ghost use Rattle.rules.specs.Change.{createDefinition};
 ghost use Rattle.rules.specs.Refusal.{first, conditions};
@@ -49,7 +49,7 @@ fn create_limit(store: &[u8], name: &[u8], kind: u32, room: usize) -> u32
 
 // Writes the store with a definition more.
 fn put_created(store: &[u8], name: &[u8], kind: u32, out: &mut [u8]) -> usize
-    requires { ⌜ (passes (now store) ≡ true) × (length (now name) ≤ 16) × (kind ≤ 2) ⌝ }
+    requires { ⌜ (passes (now store) ≡ true) × (length (now name) ≤ nameWidth) × (kind ≤ 2) ⌝ }
     ensures { λ r. ⌜ Laid (flatBytes (widthOf (now (store .entry))) (created (now (name .entry)) kind (bodiesOf (now (store .entry))))) (now (out .entry)) 0 r (now (out .exit)) ⌝ }
 {
     let d = layout::definition_count(store);

@@ -14,17 +14,22 @@ use Rattle.rules.specs.Decode.{readParticle}
 use Rattle.rules.proofs.LayoutLaws.{length-each, each-append}
 use Rattle.codec.specs.Laid.{Laid}
 use Rattle.codec.proofs.Writers.{laid-none, laid-then, laid-as}
+use Rattle.layout.specs.Fields.{particleIndexAt, attributeNameAt}
 use Rattle.layout.specs.Bodies.{Width}
 use Rattle.layout.specs.RecordBytes.{indexedBytes, ownedBytes}
 use Rattle.definition_writer.specs.Bodies.{memberMoved, movedParticle}
 use Rattle.definition_removal.specs.Bodies.{eachRecord, particleRecord, attributeRecord, movedAttribute, cutOut}
 use Rattle.rules.proofs.RenamingPlaces.{map-append}
 
+-- no record of a form is longer, of whatever width that a byte holds
+abbrev pub longest : ℕ
+longest = attributeSize 256
+
 -- ---- the loop
 -- whoever writes what is left has written all
 pub record Going (g : Bytes → Bytes) (size : ℕ) (body : Bytes) (count : ℕ) (out₀ : Bytes) (at₀ : ℕ) (out : Bytes) (at i : ℕ) : Type 0 where
   pub goes : (r : ℕ) (out″ : Bytes) → Laid (eachRecord g size (count - i) (drop (size * i) body)) out at r out″ → Laid (eachRecord g size count body) out₀ at₀ r out″
-  pub small : at ≤ at₀ + 276 * i
+  pub small : at ≤ at₀ + longest * i
   pub inside : i ≤ count
   pub long : length out ≡ length out₀
 
@@ -46,7 +51,7 @@ module _ (g : Bytes → Bytes) (size : ℕ) (body : Bytes) (count : ℕ) {out₀
   going-start = record { goes = λ r o l. laid-as (start-is g size body count) l; small = omega arith; inside = omega arith; long = refl }
 
   module _ {out : Bytes} {at i : ℕ} (s : Going g size body count out₀ at₀ out at i) where
-    pub going-on : (rec : Bytes) {at′ : ℕ} {out′ : Bytes} → i < count → rec ≡ take size (drop (size * i) body) → Laid (g rec) out at at′ out′ → length (g rec) ≤ 276
+    pub going-on : (rec : Bytes) {at′ : ℕ} {out′ : Bytes} → i < count → rec ≡ take size (drop (size * i) body) → Laid (g rec) out at at′ out′ → length (g rec) ≤ longest
         → Going g size body count out₀ at₀ out′ at′ (i + 1)
     going-on rec h e l k =
         record {
@@ -62,7 +67,8 @@ module _ (g : Bytes → Bytes) (size : ℕ) (body : Bytes) (count : ℕ) {out₀
     unfolding eachRecord
     going-end h = let e : count - i ≡ 0 = omega arith in s .goes at out (laid-as (ap (λ (k : ℕ). eachRecord g size k (drop (size * i) body)) e) laid-none)
 
-pub records-short : (g : Bytes → Bytes) (size : ℕ) → ((rec : Bytes) → length rec ≤ size → length (g rec) ≤ 276) → (count : ℕ) (body : Bytes) → length (eachRecord g size count body) ≤ 276 * count
+pub records-short : (g : Bytes → Bytes) (size : ℕ) → ((rec : Bytes) → length rec ≤ size → length (g rec) ≤ longest) → (count : ℕ) (body : Bytes)
+    → length (eachRecord g size count body) ≤ longest * count
 unfolding eachRecord
 records-short g size h zero body = omega arith
 records-short g size h (suc count) body =
@@ -130,10 +136,15 @@ module _ (g : ℕ → ℕ) where
   unfolding attributeRecord ownedBytes movedAttribute
   attribute-again w x = refl
 
-  pub particle-short : (rec : Bytes) → length (particleRecord g rec) ≤ 276
+  pub particle-short : (rec : Bytes) → length (particleRecord g rec) ≤ longest
   unfolding particleRecord indexedBytes
-  particle-short rec = omega (arith, length-append (take 2 rec) (memberMoved g (readParticle rec .row .sort) (readParticle rec .row .index) ∷ readParticle rec .depth ∷ []), length-take 2 rec)
+  particle-short rec =
+      omega (
+        arith,
+        length-append (take particleIndexAt rec) (memberMoved g (readParticle rec .row .sort) (readParticle rec .row .index) ∷ readParticle rec .depth ∷ []),
+        length-take particleIndexAt rec,
+      )
 
-  pub attribute-short : (w : ℕ) (rec : Bytes) → Width w → length rec ≤ attributeSize w → length (attributeRecord g rec) ≤ 276
+  pub attribute-short : (w : ℕ) (rec : Bytes) → Width w → length rec ≤ attributeSize w → length (attributeRecord g rec) ≤ longest
   unfolding attributeRecord ownedBytes
-  attribute-short w rec h k = omega (arith, length-drop 1 rec)
+  attribute-short w rec h k = omega (arith, length-drop attributeNameAt rec)

@@ -26,9 +26,10 @@ use Rattle.layout.proofs.LayoutLaws as layout
 use Rattle.store_writer.specs.Stores.{storeIn}
 use Rattle.store_writer.proofs.StoreLaws.{holds}
 use Rattle.definition_writer.specs.Bodies.{movedParticle, movedRow}
-use Rattle.definition_removal.specs.Bodies.{lowered, cutOut, particlesUpTo, oneBelow, attributesUpTo, movedAttribute, CountWithin, destroyed, headerLeft}
+use Rattle.definition_removal.specs.Bodies.{lowered, cutOut, particlesUpTo, oneBelow, attributesUpTo, movedAttribute, CountWithin, Between, destroyed, headerLeft}
 use Rattle.store_writer.proofs.Encoded.{Encoded, encoded}
 use Rattle.layout.specs.Fields.{nextAt}
+use Rattle.definition_removal.specs.declared.Range.{Range}
 
 -- ---- the bodies, read
 module _ (bs : Bytes) where
@@ -117,9 +118,11 @@ attribute-starts bs i w e q c =
       most = omega (arith, c .most, e .value);
     }
 
--- a count at the next number
-pub next-counted : (P : ℕ → ℕ) (i n : ℕ) {r : ℕ} → CountWithin (P (i + 1)) n r → CountWithin (P (suc i)) n r
-next-counted P i n c = record { is = c .is ∙ ap P (add-one i); most = c .most }
+pub between : (P : ℕ → ℕ) (i all : ℕ) → P i ≤ P (suc i) → {a b : ℕ} → CountWithin (P i) all a → CountWithin (P (i + 1)) all b
+    → Between P i all (record { start = a; end = b })
+between P i all step c d =
+    let e = d .is ∙ ap P (add-one i) in
+    record { first = c; past = record { is = e; most = d .most }; order = omega (arith, c .is, e, step) }
 
 -- ---- lengths
 cut-most : {A : Type 0} (a n : ℕ) (xs : List A) → length (cutOut a n xs) ≤ length xs
@@ -129,6 +132,19 @@ cut-most a n xs = omega (arith, length-append (take a xs) (drop (a + n) xs), len
 length-cut : {A : Type 0} (a b : ℕ) (xs : List A) → a ≤ b → b ≤ length xs → length (cutOut a (b - a) xs) ≡ length xs - (b - a)
 unfolding cutOut
 length-cut a b xs h k = omega (arith, length-append (take a xs) (drop (a + (b - a)) xs), length-take-le a xs (omega arith), length-drop (a + (b - a)) xs)
+
+-- what is left of a body without a definition's records, each moved
+module _ {A : Type 0} (move : A → A) (xs : List A) (few : ℕ) (l : length xs ≤ few) where
+  left-counted : (P : ℕ → ℕ) (i : ℕ) {all n m : ℕ} {r : Range} → all ≡ length xs → Number all n → Between P i all r → m ≡ n - (r .end - r .start)
+      → CountWithin (length (map move (cutOut (P i) (P (suc i) - P i) xs))) few m
+  left-counted P i k e s w =
+      let z : length (map move (cutOut (P i) (P (suc i) - P i) xs)) ≡ length xs - (P (suc i) - P i) =
+      length-map (cutOut (P i) (P (suc i) - P i) xs) move
+      ∙ length-cut (P i) (P (suc i)) xs (omega (arith, s .order, s .first .is, s .past .is)) (omega (arith, s .past .is, s .past .most, k)) in
+      record { is = omega (arith, w, z, e .value, s .first .is, s .past .is, k); most = omega (arith, w, e .value, k, l) }
+
+  left-few : (a n : ℕ) → length (map move (cutOut a n xs)) ≤ few
+  left-few a n = omega (arith, length-map (cutOut a n xs) move, cut-most a n xs, l)
 
 module _ (bs : Bytes) (p : passes bs ≡ true) (i : ℕ) (h : i < definitionCount bs) where
   abbrev f : FlatStore
@@ -143,25 +159,15 @@ module _ (bs : Bytes) (p : passes bs ≡ true) (i : ℕ) (h : i < definitionCoun
       let e : suc i - i ≡ 1 = omega arith in
       ap (λ (k : ℕ). length (cutOut i k (f .definitions))) (sym e) ∙ length-cut i (suc i) (f .definitions) (omega arith) (omega (arith, x .definitions)) ∙ omega (arith, x .definitions)
 
-  pub models-left : {n a b : ℕ} → Number (particleCount bs) n → CountWithin (particlesUpTo i (f .definitions)) (particleCount bs) a
-      → CountWithin (particlesUpTo (suc i) (f .definitions)) (particleCount bs) b → CountWithin (length (destroyed i f .particles)) 256 (n - (b - a))
+  pub models-left : {n m : ℕ} {r : Range} → Number (particleCount bs) n → Between (λ (k : ℕ). particlesUpTo k (f .definitions)) i (particleCount bs) r
+      → m ≡ n - (r .end - r .start) → CountWithin (length (destroyed i f .particles)) 256 m
   unfolding destroyed
-  models-left e ca cb =
-      let z : length (destroyed i f .particles) ≡ length (f .particles) - (particlesUpTo (suc i) (f .definitions) - particlesUpTo i (f .definitions)) =
-      length-map (cutOut (particlesUpTo i (f .definitions)) (particlesUpTo (suc i) (f .definitions) - particlesUpTo i (f .definitions)) (f .particles)) (movedParticle (lowered (suc i) 1))
-      ∙ length-cut (particlesUpTo i (f .definitions)) (particlesUpTo (suc i) (f .definitions)) (f .particles) (particles-step i (f .definitions)) (particles-within bs p (suc i))
-      in
-      record { is = omega (arith, z, e .value, ca .is, cb .is, x .particles); most = omega (arith, e .value, x .particles, x .fewParticles) }
+  models-left e s w = left-counted (movedParticle (lowered (suc i) 1)) (f .particles) 256 (x .fewParticles) (λ (k : ℕ). particlesUpTo k (f .definitions)) i (x .particles) e s w
 
-  pub attributes-left : {n a b : ℕ} → Number (attributeCount bs) n → CountWithin (attributesUpTo i (f .attributes)) (attributeCount bs) a
-      → CountWithin (attributesUpTo (suc i) (f .attributes)) (attributeCount bs) b → CountWithin (length (destroyed i f .attributes)) 64 (n - (b - a))
+  pub attributes-left : {n m : ℕ} {r : Range} → Number (attributeCount bs) n → Between (λ (k : ℕ). attributesUpTo k (f .attributes)) i (attributeCount bs) r
+      → m ≡ n - (r .end - r .start) → CountWithin (length (destroyed i f .attributes)) 64 m
   unfolding destroyed
-  attributes-left e ca cb =
-      let z : length (destroyed i f .attributes) ≡ length (f .attributes) - (attributesUpTo (suc i) (f .attributes) - attributesUpTo i (f .attributes)) =
-      length-map (cutOut (attributesUpTo i (f .attributes)) (attributesUpTo (suc i) (f .attributes) - attributesUpTo i (f .attributes)) (f .attributes)) (movedAttribute (lowered (suc i) 1))
-      ∙ length-cut (attributesUpTo i (f .attributes)) (attributesUpTo (suc i) (f .attributes)) (f .attributes) (attributes-step i (f .attributes)) (attributes-most (suc i) (f .attributes))
-      in
-      record { is = omega (arith, z, e .value, ca .is, cb .is, x .attributes); most = omega (arith, e .value, x .attributes, x .fewAttributes) }
+  attributes-left e s w = left-counted (movedAttribute (lowered (suc i) 1)) (f .attributes) 64 (x .fewAttributes) (λ (k : ℕ). attributesUpTo k (f .attributes)) i (x .attributes) e s w
 
   pub rows-left : length (destroyed i f .rows) ≡ rowCount bs
   unfolding destroyed
@@ -170,17 +176,11 @@ module _ (bs : Bytes) (p : passes bs ≡ true) (i : ℕ) (h : i < definitionCoun
 
   pub few-particles : length (destroyed i f .particles) ≤ 256
   unfolding destroyed
-  few-particles =
-      let a : ℕ = particlesUpTo i (f .definitions) in
-      let n : ℕ = particlesUpTo (suc i) (f .definitions) - particlesUpTo i (f .definitions) in
-      omega (arith, length-map (cutOut a n (f .particles)) (movedParticle (lowered (suc i) 1)), cut-most a n (f .particles), x .fewParticles)
+  few-particles = left-few (movedParticle (lowered (suc i) 1)) (f .particles) 256 (x .fewParticles) _ _
 
   pub few-attributes : length (destroyed i f .attributes) ≤ 64
   unfolding destroyed
-  few-attributes =
-      let a : ℕ = attributesUpTo i (f .attributes) in
-      let n : ℕ = attributesUpTo (suc i) (f .attributes) - attributesUpTo i (f .attributes) in
-      omega (arith, length-map (cutOut a n (f .attributes)) (movedAttribute (lowered (suc i) 1)), cut-most a n (f .attributes), x .fewAttributes)
+  few-attributes = left-few (movedAttribute (lowered (suc i) 1)) (f .attributes) 64 (x .fewAttributes) _ _
 
   pub header-left : {d m n : ℕ} {out out₁ : Bytes} {at : ℕ} → Number (definitionCount bs) d → CountWithin (length (destroyed i f .particles)) 256 m
       → CountWithin (length (destroyed i f .attributes)) 64 n

@@ -4,10 +4,10 @@ use native.Mathlib.Omega.{arith}
 use native.Mathlib.Numerals.{add-one}
 use mathlib.Core.Path.{_≡_, sym, ap, ap₂, _∙_, refl}
 use mathlib.Core.Bool.{true}
-use mathlib.Core.List.{[], _++_, map, append-nil}
+use mathlib.Core.List.{List, [], _++_, map, append-nil}
 use lib.ListN.{length, take, drop}
 use Rattle.rules.specs.Bytes.{Bytes}
-use Rattle.rules.specs.Layout.{definitionSize, particleSize, attributeSize, FlatStore, flat, flatBytes, definitionBytes, particleBytes, attributeBytes, rowBytes, each}
+use Rattle.rules.specs.Layout.{headerSize, definitionSize, particleSize, attributeSize, FlatStore, flat, flatBytes, definitionBytes, particleBytes, attributeBytes, rowBytes, each}
 use Rattle.rules.specs.Decode.{numberAt, definitionCount, particleCount, attributeCount}
 use Rattle.rules.specs.Passing.{passes}
 use Rattle.rules.proofs.BooleanLaws.{Every, every-map}
@@ -17,7 +17,7 @@ use Rattle.codec.proofs.Writers.{laid-then, laid-as}
 use Rattle.layout.specs.Bodies.{widthOf, WidthIn, Number, definitionsIn, particlesIn, attributesIn}
 use Rattle.layout.specs.Header.{headed}
 use Rattle.layout.proofs.LayoutLaws.{width-small}
-use Rattle.layout.proofs.HeaderLaws.{attributes-few, headed-short}
+use Rattle.layout.proofs.HeaderLaws.{attributes-few, headed-short, definition-table-short}
 use Rattle.lookup.specs.Bodies.{bodiesOf}
 use Rattle.row_writer.specs.declared.Cursor.{Cursor}
 use Rattle.row_writer.specs.Written.{Written}
@@ -29,14 +29,30 @@ use Rattle.store_writer.specs.Writing.{walkFrom}
 use Rattle.store_writer.proofs.StoreLaws.{holds}
 use Rattle.store_writer.proofs.RowBounds.{Bounded, rows-bounded}
 use Rattle.definition_writer.specs.Bodies.{movedParticle, movedRow}
-use Rattle.definition_removal.specs.Bodies.{lowered, cutOut, particlesUpTo, attributesUpTo, eachRecord, particleRecord, attributeRecord, movedAttribute, CountWithin, destroyed, headerLeft}
+use Rattle.definition_removal.specs.Bodies.{lowered, cutOut, particlesUpTo, attributesUpTo, eachRecord, particleRecord, attributeRecord, movedAttribute, Between, destroyed, headerLeft}
 use Rattle.store_writer.proofs.Encoded.{Encoded, encoded, bytes-are, others, definitions-at, particles-at, attributes-at}
 use Rattle.definition_removal.specs.Shifting.{shifting}
 use Rattle.definition_removal.proofs.Again.{each-drop, each-take, cut-again, particle-again, attribute-again}
 use Rattle.definition_removal.proofs.KeptRows.{Old, bytes-old, kept-rows, moved-old}
-use Rattle.definition_removal.proofs.Left.{definitions-left, rows-left, few-particles, few-attributes, particles-step, particles-within, attributes-step, attributes-most}
+use Rattle.definition_removal.proofs.Left.{definitions-left, rows-left, few-particles, few-attributes}
 use Rattle.store_writer.proofs.StillLaws.{rows-still}
 use Rattle.layout.specs.Fields.{nextAt}
+use Rattle.definition_removal.specs.declared.Range.{Range}
+
+-- a body of records without those of definition i, each written again
+module _ {A : Type 0} (enc : A → Bytes) (size : ℕ) (sized : (y : A) → length (enc y) ≡ size) (record-of : Bytes → Bytes) (move : A → A) (again : (y : A) → record-of (enc y) ≡ enc (move y))
+    (P : ℕ → ℕ) (i : ℕ) (xs : List A) where
+  left-laid : {all n : ℕ} {r : Range} {body tail out out₁ out₂ : Bytes} {at at₁ at₂ : ℕ} → body ≡ each enc xs → all ≡ length xs → Number all n → Between P i all r
+      → tail ≡ drop (size * r .end) body → Laid (eachRecord record-of size (r .start) body) out at at₁ out₁ → Laid (eachRecord record-of size (n - r .end) tail) out₁ at₁ at₂ out₂
+      → Laid (each enc (map move (cutOut (P i) (P (suc i) - P i) xs))) out at at₂ out₂
+  left-laid {n = n} {r = r} {body = body} eb en ea s et u v =
+      let e : each enc xs ++ [] ≡ body = append-nil (each enc xs) ∙ sym eb in
+      let k : length xs ≡ n = sym (ea .value ∙ en) in
+      laid-as
+      (cut-again enc size sized record-of move again (P i) (P (suc i)) xs [] (omega (arith, s .order, s .first .is, s .past .is)) (omega (arith, s .past .is, s .past .most, en))
+      ∙ (λ j. eachRecord record-of size (sym (s .first .is) j) (e j) ++ eachRecord record-of size (k j - sym (s .past .is) j) (drop (size * sym (s .past .is) j) (e j)))
+      ∙ ap (λ (l : Bytes). eachRecord record-of size (r .start) body ++ eachRecord record-of size (n - r .end) l) (sym et))
+      (laid-then u v)
 
 module _ (bs : Bytes) (p : passes bs ≡ true) (i : ℕ) (h : i < definitionCount bs) where
   abbrev f : FlatStore
@@ -69,46 +85,30 @@ module _ (bs : Bytes) (p : passes bs ≡ true) (i : ℕ) (h : i < definitionCoun
       in
       laid-as (each-append definitionBytes (take i (f .definitions)) (drop (i + 1) (f .definitions)) ∙ ap₂ (λ (y z : Bytes). y ++ z) (sym front) (sym back)) (laid-then a b)
 
-  pub definitions-short : {d : Bytes} → d ≡ definitionsIn bs → length d ≤ 1280
-  definitions-short e = omega (arith, ap length (e ∙ definitions-at x), length-each definitionBytes definitionSize length-definition (f .definitions), x .fewDefinitions)
+  pub definitions-short : {d : Bytes} → d ≡ definitionsIn bs → length d ≤ definitionSize * 64
+  definitions-short = definition-table-short bs (omega (arith, x .definitions, x .fewDefinitions))
 
   -- ---- models and attributes
-  pub models-laid : {body : Bytes} {a b n : ℕ} {tail out out₁ out₂ : Bytes} {at at₁ at₂ : ℕ} → body ≡ particlesIn bs → Number (particleCount bs) n
-      → CountWithin (particlesUpTo i (f .definitions)) (particleCount bs) a → CountWithin (particlesUpTo (suc i) (f .definitions)) (particleCount bs) b → tail ≡ drop (particleSize * b) body
-      → Laid (eachRecord (particleRecord g) particleSize a body) out at at₁ out₁ → Laid (eachRecord (particleRecord g) particleSize (n - b) tail) out₁ at₁ at₂ out₂
+  pub models-laid : {body : Bytes} {n : ℕ} {r : Range} {tail out out₁ out₂ : Bytes} {at at₁ at₂ : ℕ} → body ≡ particlesIn bs → Number (particleCount bs) n
+      → Between (λ (k : ℕ). particlesUpTo k (f .definitions)) i (particleCount bs) r → tail ≡ drop (particleSize * r .end) body
+      → Laid (eachRecord (particleRecord g) particleSize (r .start) body) out at at₁ out₁ → Laid (eachRecord (particleRecord g) particleSize (n - r .end) tail) out₁ at₁ at₂ out₂
       → Laid (each particleBytes (destroyed i f .particles)) out at at₂ out₂
   unfolding destroyed
-  models-laid {body} {a} {b} {n} eb en ca cb et u v =
-      let e : each particleBytes (f .particles) ++ [] ≡ body = append-nil (each particleBytes (f .particles)) ∙ sym (eb ∙ particles-at x) in
-      let k : length (f .particles) ≡ n = sym (en .value ∙ x .particles) in
-      laid-as
-      (cut-again particleBytes particleSize length-particle (particleRecord g) (movedParticle g) (particle-again g) (particlesUpTo i (f .definitions)) (particlesUpTo (suc i) (f .definitions))
-      (f .particles)
-      [] (particles-step i (f .definitions)) (particles-within bs p (suc i))
-      ∙ (λ j. eachRecord (particleRecord g) particleSize (sym (ca .is) j) (e j) ++ eachRecord (particleRecord g) particleSize (k j - sym (cb .is) j) (drop (particleSize * sym (cb .is) j) (e j)))
-      ∙ ap (λ (l : Bytes). eachRecord (particleRecord g) particleSize a body ++ eachRecord (particleRecord g) particleSize (n - b) l) (sym et))
-      (laid-then u v)
+  models-laid eb en s et u v =
+      left-laid particleBytes particleSize length-particle (particleRecord g) (movedParticle g) (particle-again g) (λ (k : ℕ). particlesUpTo k (f .definitions)) i (f .particles)
+      (eb ∙ particles-at x) (x .particles) en s et u v
 
   -- w: the width as the code reads it
-  pub attributes-laid : {w : ℕ} {body : Bytes} {a b n : ℕ} {tail out out₁ out₂ : Bytes} {at at₁ at₂ : ℕ} → WidthIn bs w → body ≡ attributesIn bs → Number (attributeCount bs) n
-      → CountWithin (attributesUpTo i (f .attributes)) (attributeCount bs) a → CountWithin (attributesUpTo (suc i) (f .attributes)) (attributeCount bs) b → tail ≡ drop (attributeSize w * b) body
-      → Laid (eachRecord (attributeRecord g) (attributeSize w) a body) out at at₁ out₁ → Laid (eachRecord (attributeRecord g) (attributeSize w) (n - b) tail) out₁ at₁ at₂ out₂
+  pub attributes-laid : {w : ℕ} {body : Bytes} {n : ℕ} {r : Range} {tail out out₁ out₂ : Bytes} {at at₁ at₂ : ℕ} → WidthIn bs w → body ≡ attributesIn bs → Number (attributeCount bs) n
+      → Between (λ (k : ℕ). attributesUpTo k (f .attributes)) i (attributeCount bs) r → tail ≡ drop (attributeSize w * r .end) body
+      → Laid (eachRecord (attributeRecord g) (attributeSize w) (r .start) body) out at at₁ out₁ → Laid (eachRecord (attributeRecord g) (attributeSize w) (n - r .end) tail) out₁ at₁ at₂ out₂
       → Laid (each (attributeBytes (widthOf bs)) (destroyed i f .attributes)) out at at₂ out₂
   unfolding destroyed
-  attributes-laid {w} {body} {a} {b} {n} ew eb en ca cb et u v =
-      let e : each (attributeBytes w) (f .attributes) ++ [] ≡ body =
-      append-nil (each (attributeBytes w) (f .attributes)) ∙ ap (λ (z : ℕ). each (attributeBytes z) (f .attributes)) (ew .value) ∙ sym (eb ∙ attributes-at x)
-      in
-      let k : length (f .attributes) ≡ n = sym (en .value ∙ x .attributes) in
-      laid-as
-      (ap (λ (z : ℕ). each (attributeBytes z) (destroyed i f .attributes)) (sym (ew .value))
-      ∙ cut-again (attributeBytes w) (attributeSize w) (length-attribute w) (attributeRecord g) (movedAttribute g) (attribute-again g w) (attributesUpTo i (f .attributes))
-      (attributesUpTo (suc i) (f .attributes)) (f .attributes)
-      [] (attributes-step i (f .attributes)) (attributes-most (suc i) (f .attributes))
-      ∙ (λ j. eachRecord (attributeRecord g) (attributeSize w) (sym (ca .is) j) (e j) ++ eachRecord (attributeRecord g) (attributeSize w) (k j - sym (cb .is) j)
-      (drop (attributeSize w * sym (cb .is) j) (e j)))
-      ∙ ap (λ (l : Bytes). eachRecord (attributeRecord g) (attributeSize w) a body ++ eachRecord (attributeRecord g) (attributeSize w) (n - b) l) (sym et))
-      (laid-then u v)
+  attributes-laid {w} ew eb en s et u v =
+      let same : each (attributeBytes (widthOf bs)) (f .attributes) ≡ each (attributeBytes w) (f .attributes) = ap (λ (z : ℕ). each (attributeBytes z) (f .attributes)) (sym (ew .value)) in
+      laid-as (ap (λ (z : ℕ). each (attributeBytes z) (destroyed i f .attributes)) (sym (ew .value)))
+      (left-laid (attributeBytes w) (attributeSize w) (length-attribute w) (attributeRecord g) (movedAttribute g) (attribute-again g w) (λ (k : ℕ). attributesUpTo k (f .attributes)) i
+      (f .attributes) (eb ∙ attributes-at x ∙ same) (x .attributes) en s et u v)
 
   -- ---- rows
   old : Every Old (f .rows)
@@ -127,12 +127,13 @@ module _ (bs : Bytes) (p : passes bs ≡ true) (i : ℕ) (h : i < definitionCoun
       ∙ (λ j. map (movedRow (lowered (add-one i j) 1) (lowered (eb j) (eb j - ea j))) (f .rows)))
 
   -- q: the plan that the code makes
-  pub rows-laid : {a b : ℕ} {q : Plan} (v : Bytes) {out out₁ : Bytes} {at : ℕ} {r : Cursor} → CountWithin (attributesUpTo i (f .attributes)) (attributeCount bs) a
-      → CountWithin (attributesUpTo (suc i) (f .attributes)) (attributeCount bs) b
-      → q ≡ shifting (i + 1) b (b - a) → Written (widthOf bs) (rowsAfter q v f) (walkFrom at bs) out r out₁ → Laid (each (rowBytes (widthOf bs)) (destroyed i f .rows)) out at (r .at) out₁
-  rows-laid {a} {b} {q} v ca cb e w =
+  pub rows-laid : {s : Range} {q : Plan} (v : Bytes) {out out₁ : Bytes} {at : ℕ} {r : Cursor} → Between (λ (k : ℕ). attributesUpTo k (f .attributes)) i (attributeCount bs) s
+      → q ≡ shifting (i + 1) (s .end) (s .end - s .start) → Written (widthOf bs) (rowsAfter q v f) (walkFrom at bs) out r out₁
+      → Laid (each (rowBytes (widthOf bs)) (destroyed i f .rows)) out at (r .at) out₁
+  rows-laid {s} {q} v c e w =
       laid-as (bytes-old (widthOf bs) (numberAt nextAt 4 bs) (destroyed i f .rows) rows-old)
-      (written-fitting (written-as (rows-are a b v (ca .is) (cb .is) ∙ ap (λ (s : Plan). rowsAfter s v f) (sym e)) w) (omega (arith, rows-left bs p i h, x .rows, x .fewRows)))
+      (written-fitting (written-as (rows-are (s .start) (s .end) v (c .first .is) (c .past .is) ∙ ap (λ (z : Plan). rowsAfter z v f) (sym e)) w)
+      (omega (arith, rows-left bs p i h, x .rows, x .fewRows)))
 
   -- ---- all
   header-is : flatBytes (widthOf bs) (destroyed i f) ≡ headerLeft i bs ++ (each definitionBytes (destroyed i f .definitions) ++ others (widthOf bs) (destroyed i f))
@@ -153,7 +154,7 @@ module _ (bs : Bytes) (p : passes bs ≡ true) (i : ℕ) (h : i < definitionCoun
   -- ---- how far the writers have come
   -- the places after the header, the definitions, the particles and the attributes
   module _ {out out₁ : Bytes} {at₁ : ℕ} (l : Laid (headerLeft i bs) out 0 at₁ out₁) where
-    pub after-header : at₁ ≤ 40
+    pub after-header : at₁ ≤ headerSize
     after-header =
         omega (
           arith,
@@ -163,7 +164,7 @@ module _ (bs : Bytes) (p : passes bs ≡ true) (i : ℕ) (h : i < definitionCoun
         )
 
     module _ {out₂ : Bytes} {at₂ : ℕ} (m : Laid (each definitionBytes (destroyed i f .definitions)) out₁ at₁ at₂ out₂) where
-      pub after-definitions : at₂ ≤ 1320
+      pub after-definitions : at₂ ≤ headerSize + definitionSize * 64
       after-definitions = omega (
         arith,
         m .next,
@@ -176,10 +177,11 @@ module _ (bs : Bytes) (p : passes bs ≡ true) (i : ℕ) (h : i < definitionCoun
       )
 
       module _ {out₃ : Bytes} {at₃ : ℕ} (n : Laid (each particleBytes (destroyed i f .particles)) out₂ at₂ at₃ out₃) where
-        pub after-particles : at₃ ≤ 2344
+        pub after-particles : at₃ ≤ headerSize + definitionSize * 64 + particleSize * 256
         after-particles = omega (arith, n .next, after-definitions, length-each particleBytes particleSize length-particle (destroyed i f .particles), few-particles bs p i h)
 
-        pub after-attributes : {out₄ : Bytes} {at₄ : ℕ} → Laid (each (attributeBytes (widthOf bs)) (destroyed i f .attributes)) out₃ at₃ at₄ out₄ → at₄ ≤ 20008
+        pub after-attributes : {out₄ : Bytes} {at₄ : ℕ} → Laid (each (attributeBytes (widthOf bs)) (destroyed i f .attributes)) out₃ at₃ at₄ out₄
+            → at₄ ≤ headerSize + definitionSize * 64 + particleSize * 256 + attributeSize 256 * 64
         after-attributes q =
             omega (
               arith,

@@ -16,6 +16,7 @@ use Rattle.layout.specs.Header.{headed}
 use Rattle.lookup.specs.Bodies.{bodiesOf}
 use Rattle.definition_writer.specs.Bodies.{memberMoved, movedParticle, movedRow}
 use Rattle.layout.specs.Fields.{nextAt}
+use Rattle.definition_removal.specs.declared.Range.{Range}
 
 -- ---- what is left
 -- `less` entries before number `from` go: the numbers from there on fall
@@ -82,6 +83,12 @@ attributeRecord g rec = ownedBytes (g (readAttribute rec .owner)) rec
 pub record CountWithin (count all r : ℕ) : Type 0 where
   pub is : r ≡ count
   pub most : r ≤ all
+
+-- the records of definition i in a body of `all`, where the first k definitions have P k of them
+pub record Between (P : ℕ → ℕ) (i all : ℕ) (r : Range) : Type 0 where
+  pub first : CountWithin (P i) all (r .start)
+  pub past : CountWithin (P (suc i)) all (r .end)
+  pub order : r .start ≤ r .end
 
 -- definition i of a store that passes
 pub record Defined (bs : Bytes) (i : ℕ) : Type 0 where

@@ -6,7 +6,7 @@ use row_walk::Shift;
 use row_walk::Which;
 ghost use mathlib.Core.Path.{_≡_};
 ghost use mathlib.Core.Bool.{true};
-ghost use Prim.Native.Nat.{suc, _≤_, _<_};
+ghost use Prim.Native.Nat.{ℕ, suc, _-_, _≤_, _<_};
 ghost use lib.ListN.{length};
 ghost use Rattle.rules.specs.Bytes.{any};
 ghost use Rattle.rules.specs.Layout.{particleSize, attributeSize, rowSize, definitionBytes, particleBytes, attributeBytes, rowBytes, each, flatBytes};
@@ -17,7 +17,7 @@ ghost use Rattle.layout.specs.Bodies.{Width, widthOf};
 ghost use Rattle.lookup.specs.Bodies.{bodiesOf};
 ghost use Rattle.definition_writer.specs.Bodies.{memberMoved};
 ghost use Rattle.definition_removal.specs.Bodies.{lowered, particleRecord, attributeRecord, eachRecord, isMember, isRoot, oneBelow, particlesUpTo};
-ghost use Rattle.definition_removal.specs.Bodies.{attributesUpTo, CountWithin, Defined, destroyed, headerLeft};
+ghost use Rattle.definition_removal.specs.Bodies.{attributesUpTo, CountWithin, Between, Defined, destroyed, headerLeft};
 ghost use Rattle.definition_removal.specs.Shifting.{shifting};
 
 // ---- indices
@@ -178,6 +178,12 @@ fn attributes_below(w: usize, body: &[u8], count: usize, i: u32) -> usize
 
 // ---- the bodies of a store
 
+// The records of a body that are of one definition: from number `start` on, before number `end`.
+struct Range {
+    start: usize,
+    end: usize,
+}
+
 // How many particles the first i definitions have.
 fn model_start(store: &[u8], i: u32) -> usize
     requires { ⌜ (passes (now store) ≡ true) × (i ≤ definitionCount (now store)) ⌝ }
@@ -195,14 +201,41 @@ fn attribute_start(store: &[u8], i: u32) -> usize
     attributes_below(w, layout::attributes_of(store), count, i)
 }
 
+// The particles of definition i.
+fn model_range(store: &[u8], i: u32) -> Range
+    requires { ⌜ Defined (now store) i ⌝ }
+    ensures { λ r. ⌜ Between (λ (k : ℕ). particlesUpTo k (bodiesOf (now (store .entry)) .definitions)) i (particleCount (now (store .entry))) r ⌝ }
+{
+    let start = model_start(store, i);
+    let end = model_start(store, i + 1);
+    Range { start, end }
+}
+
+// The attributes of definition i.
+fn attribute_range(store: &[u8], i: u32) -> Range
+    requires { ⌜ Defined (now store) i ⌝ }
+    ensures { λ r. ⌜ Between (λ (k : ℕ). attributesUpTo k (bodiesOf (now (store .entry)) .attributes)) i (attributeCount (now (store .entry))) r ⌝ }
+{
+    let start = attribute_start(store, i);
+    let end = attribute_start(store, i + 1);
+    Range { start, end }
+}
+
+// How many of `all` records are left without those of a range.
+fn without(all: usize, range: Range) -> usize
+    requires { ⌜ (range .start ≤ range .end) × (range .end ≤ all) ⌝ }
+    ensures { λ r. ⌜ r ≡ all - (range .end - range .start) ⌝ }
+{
+    all - (range.end - range.start)
+}
+
 /// How many particles are left without definition i.
 pub fn particles_left(store: &[u8], i: u32) -> usize
     requires { ⌜ Defined (now store) i ⌝ }
     ensures { λ r. ⌜ CountWithin (length (destroyed i (bodiesOf (now (store .entry))) .particles)) 256 r ⌝ }
 {
-    let start = model_start(store, i);
-    let end = model_start(store, i + 1);
-    layout::particle_count(store) - (end - start)
+    let own = model_range(store, i);
+    without(layout::particle_count(store), own)
 }
 
 /// How many attributes are left without definition i.
@@ -210,9 +243,8 @@ pub fn attributes_left(store: &[u8], i: u32) -> usize
     requires { ⌜ Defined (now store) i ⌝ }
     ensures { λ r. ⌜ CountWithin (length (destroyed i (bodiesOf (now (store .entry))) .attributes)) 64 r ⌝ }
 {
-    let start = attribute_start(store, i);
-    let end = attribute_start(store, i + 1);
-    layout::attribute_count(store) - (end - start)
+    let own = attribute_range(store, i);
+    without(layout::attribute_count(store), own)
 }
 
 // ---- what is left of a store without definition i
@@ -241,12 +273,11 @@ fn put_particles_left(store: &[u8], i: u32, out: &mut [u8], at: usize) -> usize
     requires { ⌜ Defined (now store) i × (at < 16777216) ⌝ }
     ensures { λ r. ⌜ Laid (each particleBytes (destroyed i (bodiesOf (now (store .entry))) .particles)) (now (out .entry)) at r (now (out .exit)) ⌝ }
 {
-    let start = model_start(store, i);
-    let end = model_start(store, i + 1);
-    let left = layout::particle_count(store) - end;
+    let own = model_range(store, i);
+    let left = layout::particle_count(store) - own.end;
     let body = layout::particles_of(store);
-    let next = put_particles(body, start, i, out, at);
-    put_particles(layout::particles_from(body, end), left, i, out, next)
+    let next = put_particles(body, own.start, i, out, at);
+    put_particles(layout::particles_from(body, own.end), left, i, out, next)
 }
 
 fn put_attributes_left(store: &[u8], i: u32, out: &mut [u8], at: usize) -> usize
@@ -254,12 +285,18 @@ fn put_attributes_left(store: &[u8], i: u32, out: &mut [u8], at: usize) -> usize
     ensures { λ r. ⌜ Laid (each (attributeBytes (widthOf (now (store .entry)))) (destroyed i (bodiesOf (now (store .entry))) .attributes)) (now (out .entry)) at r (now (out .exit)) ⌝ }
 {
     let w = layout::width_in(store);
-    let start = attribute_start(store, i);
-    let end = attribute_start(store, i + 1);
-    let left = layout::attribute_count(store) - end;
+    let own = attribute_range(store, i);
+    let left = layout::attribute_count(store) - own.end;
     let body = layout::attributes_of(store);
-    let next = put_attributes(w, body, start, i, out, at);
-    put_attributes(w, layout::attributes_from(w, body, end), left, i, out, next)
+    let next = put_attributes(w, body, own.start, i, out, at);
+    put_attributes(
+        w,
+        layout::attributes_from(w, body, own.end),
+        left,
+        i,
+        out,
+        next,
+    )
 }
 
 // What happens to the rows: each is kept, its index moved.
@@ -294,9 +331,8 @@ fn put_rows_left(store: &[u8], i: u32, out: &mut [u8], at: usize) -> usize
     requires { ⌜ Defined (now store) i × (at < 16777216) ⌝ }
     ensures { λ r. ⌜ Laid (each (rowBytes (widthOf (now (store .entry)))) (destroyed i (bodiesOf (now (store .entry))) .rows)) (now (out .entry)) at r (now (out .exit)) ⌝ }
 {
-    let start = attribute_start(store, i);
-    let end = attribute_start(store, i + 1);
-    let plan = shifting(i as usize + 1, end, end - start);
+    let own = attribute_range(store, i);
+    let plan = shifting(i as usize + 1, own.end, own.end - own.start);
     let after = store_writer::walk_rows(store, plan, &store[..0], at, out);
     after.at
 }

@@ -16,7 +16,7 @@ use Rattle.rules.specs.Change.{destroyAttribute, Owned, after}
 use Rattle.rules.specs.Refusal.{first, conditions, isOther}
 use Rattle.rules.specs.Outcome.{Answers}
 use Rattle.codec.specs.Laid.{Laid}
-use Rattle.layout.specs.Bodies.{widthOf, Number}
+use Rattle.layout.specs.Bodies.{widthOf, Number, mostForm}
 use Rattle.layout.proofs.LayoutLaws.{width-within}
 use Rattle.lookup.specs.Bodies.{bodiesOf}
 use Rattle.store_check.proofs.AttributeBlocks.{below-or}
@@ -66,13 +66,13 @@ module _ (bs : Bytes) (a : ℕ) (x : Droppable bs a) where
 
   module _ {d p count o r : ℕ} {q : Plan} {buffer left : Bytes} (cd : Number (definitionCount bs) d) (cp : Number (particleCount bs) p)
       (ca : Number (attributeCount bs) count) (own : o ≡ ownerAt a (bodiesOf bs .attributes)) (same : q ≡ destroyAttributePlan o a)
-      (long : length buffer ≡ 9728) (y : Laid (formBytes (widthOf bs) (attributeDropped a (bodiesOf bs))) buffer 0 r left) where
+      (long : length buffer ≡ mostForm) (y : Laid (formBytes (widthOf bs) (attributeDropped a (bodiesOf bs))) buffer 0 r left) where
     without-bytes : {form : Bytes} → form ≡ formBytes (widthOf bs) (attributeDropped a (bodiesOf bs)) → FormOf (widthOf bs) (attributeDropped a (bodiesOf bs)) form d p (count - 1)
     without-bytes e =
         dropped-form a (bodiesOf bs) (good-bodies stays) (within stays) (x .inside) e (count-definitions bs cd) (count-particles bs cp)
         (omega (arith, count-attributes bs ca, x .inside))
 
-    less-room : length (formBytes (widthOf bs) (attributeDropped a (bodiesOf bs))) ≤ 9728
+    less-room : length (formBytes (widthOf bs) (attributeDropped a (bodiesOf bs))) ≤ mostForm
     less-room = form-short (forms-of (without-bytes refl)) (width-within bs)
 
     pub dropped-fits : r ≤ length left

@@ -12,10 +12,6 @@ ghost use Rattle.plans.specs.AttributeCalls.{ownerAt};
 ghost use Rattle.attribute_writer.specs.Attributes.{Droppable};
 ghost use Rattle.destroy_attribute_call.specs.Dropped.{dropped};
 
-// The bytes of a form at its ceilings and of the widest values: 64
-// definitions, 256 particles, 64 attributes of 116 bytes.
-const MOST_FORM: usize = 9728;
-
 fn owner_of(store: &[u8], attribute: usize) -> usize
     requires { ⌜ Droppable (now store) attribute ⌝ }
     ensures { λ r. ⌜ r ≡ ownerAt attribute (bodiesOf (now (store .entry)) .attributes) ⌝ }
@@ -34,7 +30,7 @@ fn write_dropped(store: &[u8], attribute: usize, out: &mut [u8]) -> Answer
     let p = layout::particle_count(store);
     let a = layout::attribute_count(store);
     let plan = plans::destroy_attribute_plan(owner_of(store, attribute), attribute);
-    let mut form = [0; MOST_FORM];
+    let mut form = [0; layout::MOST_FORM];
     let length = attribute_writer::put_dropped(store, attribute, &mut form);
     store_writer::edit_form(store, &form[..length], d, p, a - 1, plan, &store[..0], out)
 }

@@ -290,13 +290,11 @@ module _ (bs : Bytes) (w : Whole bs) (a : ℕ) where
       set-early f = gives-next (fine-text bs v u e h) (held (unknownAttribute k a (storeIn bs)) (noElement k (storeIn bs)) n _ (x .is) f)
 
       module _ (z : n ≡ 0) {r : Bool} (q : r ≡ byIndex bs .allows a v) where
-        pub set-15 : not r ≡ true → Gives 15 (conditions (setAttribute k a v) (storeIn bs))
+        pub set-last : {number : ℕ} → number ≡ first (15 if not r ∷ []) → Gives number (conditions (setAttribute k a v) (storeIn bs))
         unfolding conditions
-        set-15 g = gives-next (fine-text bs v u e h) (gives-next (both x z .0) (gives-next (both x z .1) (gives-hit (ap not (set-is (known-of x z) v ∙ sym q) ∙ g))))
-
-        pub set-0 : not r ≡ false → Gives 0 (conditions (setAttribute k a v) (storeIn bs))
-        unfolding conditions
-        set-0 g = gives-next (fine-text bs v u e h) (gives-next (both x z .0) (gives-next (both x z .1) (gives-next (ap not (set-is (known-of x z) v ∙ sym q) ∙ g) gives-none)))
+        set-last g =
+            gives-next (fine-text bs v u e h) (gives-next (both x z .0) (gives-next (both x z .1)
+            (record { is = g ∙ ap (λ (b : Bool). first (15 if not b ∷ [])) (q ∙ sym (set-is (known-of x z) v)) })))
 
   -- ---- 15
   module _ (k : ℕ) {n : ℕ} (x : AttributeRefused k a (storeIn bs) n) where
@@ -322,10 +320,6 @@ module _ (bs : Bytes) (w : Whole bs) (a : ℕ) where
         after-is : not (conforming (storeIn bs .version) (formIn bs) (after (destroyAttributeRow k a) (storeIn bs) .docs)) ≡ c
         after-is = ap not (drop-is (known-of x z)) ∙ Bool·not-not (byIndex bs .needed a) ∙ sym needed
 
-        pub drop-15 : c ≡ true → Gives 15 (conditions (destroyAttributeRow k a) (storeIn bs))
+        pub drop-last : {number : ℕ} → number ≡ first (15 if c ∷ []) → Gives number (conditions (destroyAttributeRow k a) (storeIn bs))
         unfolding conditions
-        drop-15 g = gives-next (both x z .0) (gives-next there (gives-hit (after-is ∙ g)))
-
-        pub drop-0 : c ≡ false → Gives 0 (conditions (destroyAttributeRow k a) (storeIn bs))
-        unfolding conditions
-        drop-0 g = gives-next (both x z .0) (gives-next there (gives-next (after-is ∙ g) gives-none))
+        drop-last e = gives-next (both x z .0) (gives-next there (record { is = e ∙ ap (λ (v : Bool). first (15 if v ∷ [])) (sym after-is) }))

@@ -11,7 +11,7 @@ use Rattle.rules.specs.Conforming.{isElement, everyRow, fitsRow, conforming}
 use Rattle.rules.specs.Passing.{GoodSerials}
 use Rattle.rules.specs.Lines.{ground}
 use Rattle.rules.specs.Change.{Plan, changed}
-use Rattle.rules.proofs.Words.{and-split}
+use Rattle.rules.proofs.Words.{and-split, same-truth}
 use Rattle.change_laws.proofs.RowEdits.{revalued, childrenAfter}
 use Rattle.change_laws.proofs.Rowwise.{Standing, below, under, below-taken, below-here, below-past, heads-changed}
 use Rattle.change_laws.proofs.StandingLaws.{one-row}
@@ -67,11 +67,6 @@ module _ (p : Plan) (q : Row → List Row → Bool) (r : Row) (b : Forest Row) w
       by (inr (inr j)) false g d h f k =
           let (m, n) = kept g d h in
           k m j others (parts m n .2)
-
-same-truth : (a b : Bool) → (a ≡ true → b ≡ true) → (b ≡ true → a ≡ true) → a ≡ b
-same-truth true b f g = sym (f refl)
-same-truth false true f g = g refl
-same-truth false false f g = refl
 
 -- a plan that puts nothing beside the documents, and below rows other than r leaves what fits
 pub conforming-local : (version : ℕ) (form : Form) (next : ℕ) (docs : Forest Row) → GoodSerials next docs → conforming version form docs ≡ true → (p : Plan)

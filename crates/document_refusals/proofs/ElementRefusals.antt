@@ -27,7 +27,7 @@ use Rattle.model.specs.Steps.{runs}
 use Rattle.store_check.proofs.AttributeBlocks.{below-or}
 use Rattle.store_check.proofs.IndexLaws.{name-of}
 use Rattle.store_writer.specs.Stores.{storeIn}
-use Rattle.document_refusals.specs.Finding.{ElementRowAt, ParentAt, childrenAt, modelAt, definitionKindAt, fitsAt, hasPlace, serialIn, word}
+use Rattle.document_refusals.specs.Finding.{ElementRowAt, ParentAt, childrenAt, modelAt, rowDefinitionKind, fitsAt, hasPlace, serialIn, word}
 use Rattle.change_laws.specs.FirstCondition.{Gives}
 use Rattle.store_writer.proofs.StoreFacts.{formIn, docsIn, byIndex, Whole}
 use Rattle.document_refusals.proofs.ElementFacts.{Element, NoElement, element-absent, Parent, parent-there, parent-absent, defined, elements-at, texts-at, serials-at}
@@ -237,7 +237,7 @@ module _ (bs : Bytes) (w : Whole bs) where
       by pcdata h = refl
       by (complex ms) h = absurd (h refl)
 
-  module _ {k i : ℕ} (f : Element bs k i) {c : ℕ} (e : c ≡ definitionKindAt bs i) (a : Bool) where
+  module _ {k i : ℕ} (f : Element bs k i) {c : ℕ} (e : c ≡ rowDefinitionKind bs i) (a : Bool) where
     pub other-kind : (c ≡ 2 → ⊥) → false ≡ (isComplex (d f .content) && a)
     other-kind h = sym (ap (λ (z : Bool). z && a) (not-complex (d f) (λ q. h (e ∙ kind-is bs w f ∙ q))))
 

@@ -14,7 +14,7 @@ use Rattle.rules.specs.Refusal.{conditions, isPcdata, pcdataElement}
 use Rattle.layout.specs.Bodies.{widthOf, WidthIn, Number, definitionsIn, treeRowsIn}
 use Rattle.form_index.specs.Reading.{definitionIn}
 use Rattle.store_writer.specs.Stores.{storeIn}
-use Rattle.document_refusals.specs.Finding.{ElementRowAt, ParentAt, RowOf, definitionKindAt}
+use Rattle.document_refusals.specs.Finding.{ElementRowAt, ParentAt, RowOf, rowDefinitionKind}
 use Rattle.change_laws.specs.FirstCondition.{Gives}
 use Rattle.document_refusals.proofs.SuffixLaws.{rowAt}
 use Rattle.store_writer.proofs.StoreFacts.{formIn, Whole, bad-text, fine-text, past-definitions, within-definitions}
@@ -54,7 +54,7 @@ module _ (bs : Bytes) (w : Whole bs) where
   pub parent-row : {k i : ℕ} → ParentAt bs k i → i < rowCount bs → RowOf bs i
   parent-row {k} {i} f l = record { small = l; few = f .few; index = kind-limit (parent-there bs w k i (f .begins) l .parent) }
 
-  pub kind-is : {k i : ℕ} (e : Element bs k i) → definitionKindAt bs i ≡ kindCode (defined bs w k i e .definition .content)
+  pub kind-is : {k i : ℕ} (e : Element bs k i) → rowDefinitionKind bs i ≡ kindCode (defined bs w k i e .definition .content)
   kind-is {k} {i} e =
       let d = defined bs w k i e in
       ap (λ (j : ℕ). definitionIn (definitionsIn bs) j .kind) (d .index)
@@ -92,7 +92,7 @@ module _ (bs : Bytes) (w : Whole bs) where
     unfolding conditions
     text-7 h f = gives-next (fine-text bs t v e h) (gives-hit (f .there))
 
-    module _ (h : not a ≡ false) {i : ℕ} (x : Element bs k i) {c : ℕ} (kind : c ≡ definitionKindAt bs i) where
+    module _ (h : not a ≡ false) {i : ℕ} (x : Element bs k i) {c : ℕ} (kind : c ≡ rowDefinitionKind bs i) where
       pub text-9 : (c ≡ 1 → ⊥) → Gives 9 (conditions (setText k t) (storeIn bs))
       unfolding conditions
       text-9 f = gives-next (fine-text bs t v e h) (gives-next (x .there) (gives-hit (ap not (pcdata-is x ∙ other-code (defined bs w k i x .definition) (λ z. f (kind ∙ kind-is x ∙ z))))))

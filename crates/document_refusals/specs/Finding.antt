@@ -98,8 +98,8 @@ unfoldable pub childrenAt : Bytes → ℕ → ℕ → List FlatRow
 childrenAt bs s i = children s (suc (rowIn bs i .depth)) (rowsFrom (widthOf bs) (treeRowsIn bs) (rowCount bs) (i + 1))
 
 -- its definition's kind and model
-abbrev pub definitionKindAt : Bytes → ℕ → ℕ
-definitionKindAt bs i = definitionIn (definitionsIn bs) (rowIn bs i .row .index) .kind
+abbrev pub rowDefinitionKind : Bytes → ℕ → ℕ
+rowDefinitionKind bs i = definitionIn (definitionsIn bs) (rowIn bs i .row .index) .kind
 
 abbrev pub modelAt : Bytes → ℕ → Members ℕ
 modelAt bs i = allMembers (modelPart (definitionsIn bs) (particlesIn bs) (rowIn bs i .row .index))

@@ -1,14 +1,14 @@
 // Which row of a store a change is about, and which refusal applies.
 ghost use mathlib.Core.Path.{_≡_};
 ghost use mathlib.Core.Bool.{true, false};
-ghost use mathlib.Core.List.{map};
+ghost use mathlib.Core.List.{[], _∷_, map};
 ghost use lib.ListN.{length};
 ghost use Prim.Native.Nat.{suc, _+_, _-_, _<_, _≤_};
 ghost use Rattle.rules.specs.Bytes.{any};
 ghost use Rattle.rules.specs.Lines.{serialAt, childrenOf, isElementRow, isTextRow};
 ghost use Rattle.rules.specs.Passing.{passes};
 ghost use Rattle.rules.specs.Change.{addDocument, addElement, destroyElement, setAttribute, destroyAttributeRow, setText};
-ghost use Rattle.rules.specs.Refusal.{first, conditions, noElement, rowsOf};
+ghost use Rattle.rules.specs.Refusal.{_if_, first, conditions, noElement, rowsOf};
 ghost use Rattle.rules.specs.Layout.{rowSize};
 ghost use Rattle.rules.specs.Decode.{readRow};
 ghost use Rattle.layout.specs.Bodies.{Width, widthOf, recordAt, attributesIn, treeRowsIn};
@@ -18,7 +18,7 @@ ghost use Rattle.plans.specs.CallPlans.{attributeSerial};
 ghost use Rattle.model.specs.Members.{allMembers};
 ghost use Rattle.model.specs.Steps.{steps, finishes, runs};
 ghost use Rattle.next_children.specs.Line.{NextsLine};
-ghost use Rattle.document_refusals.specs.Finding.{Begins, ElementRowAt, ParentAt, AttributeRefused, RowOf, childrenAt, definitionKindAt, modelAt, fitsAt};
+ghost use Rattle.document_refusals.specs.Finding.{Begins, ElementRowAt, ParentAt, AttributeRefused, RowOf, childrenAt, rowDefinitionKind, modelAt, fitsAt};
 ghost use Rattle.document_refusals.specs.Finding.{hasPlace, Child, children, elementRowWith, isThis, isParent, seek, serialIn, serialOfIndex, newName};
 ghost use Rattle.document_refusals.specs.Finding.{keptName, word, NamesStepped};
 ghost use Rattle.lookup.specs.Bodies.{rowsFrom};
@@ -363,7 +363,7 @@ fn fits_at(store: &[u8], i: usize, place: usize, new: usize, skip: u32) -> bool
 // The code of the kind of row i's definition.
 fn kind_at(store: &[u8], i: usize) -> u8
     requires { ⌜ RowOf (now store) i ⌝ }
-    ensures { λ r. ⌜ r ≡ definitionKindAt (now (store .entry)) i ⌝ }
+    ensures { λ r. ⌜ r ≡ rowDefinitionKind (now (store .entry)) i ⌝ }
 {
     form_index::kind_of(layout::definitions_of(store), definition_at(store, i))
 }
@@ -535,6 +535,13 @@ fn attribute_refusal(store: &[u8], element: u32, attribute: u32) -> u32
     0
 }
 
+// The number of a refusal that applies where `holds`, and 0 else.
+fn number_if(holds: bool, number: u32) -> u32
+    ensures { λ r. ⌜ r ≡ first (number if holds ∷ []) ⌝ }
+{
+    if holds { number } else { 0 }
+}
+
 /// Refusals 3, 6, 7 and 15 of the change that sets an attribute.
 pub fn set_attribute_refusal(store: &[u8], element: u32, attribute: u32, value: &[u8]) -> u32
     requires { ⌜ passes (now store) ≡ true ⌝ }
@@ -549,10 +556,8 @@ pub fn set_attribute_refusal(store: &[u8], element: u32, attribute: u32, value: 
         return refusal;
     }
     let attrs = layout::attributes_of(store);
-    if !form_index::value_may(w, attrs, attribute as usize, value) {
-        return 15;
-    }
-    0
+    let may = form_index::value_may(w, attrs, attribute as usize, value);
+    number_if(!may, 15)
 }
 
 /// Refusals 6, 7 and 15 of the change that destroys an attribute row.
@@ -571,16 +576,9 @@ pub fn destroy_attribute_row_refusal(store: &[u8], element: u32, attribute: u32)
     let version = layout::version_in(store);
     let w = layout::width_in(store);
     let attrs = layout::attributes_of(store);
-    if form_index::needs(
-        version,
-        w,
-        attrs,
-        definition_at(store, i),
-        attribute as usize,
-    ) {
-        return 15;
-    }
-    0
+    let d = definition_at(store, i);
+    let needed = form_index::needs(version, w, attrs, d, attribute as usize);
+    number_if(needed, 15)
 }
 
 /// The serial of the row of an attribute right below an element; 0 if there is none.

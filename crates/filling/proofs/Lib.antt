@@ -1,1 +1,3 @@
 pub mod FillingLaws
+pub mod DepthLaws
+pub mod NewLaws

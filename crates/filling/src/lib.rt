@@ -241,12 +241,8 @@ fn put_group(
         } else {
             put_member(t, d, form, text, sizes, h, depth, c, out);
             match kind {
-                GroupKind::Sequence => {
-                    t = &t[PARTICLE_SIZE..];
-                }
-                GroupKind::Choice => {
-                    return;
-                }
+                GroupKind::Sequence => t = &t[PARTICLE_SIZE..],
+                GroupKind::Choice => return,
             }
         }
     }

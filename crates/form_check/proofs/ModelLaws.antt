@@ -8,22 +8,17 @@ use mathlib.Core.List.{List, [], _∷_}
 use lib.Dec.{eqb, leb, ltb}
 use lib.ListN.{length, take, drop, length-drop}
 use lib.Seq.{drop-drop}
-use borrow.Author.Tests.{le-ltb, eq-eqb, ne-eqb, le-leb, lt-leb, leb-true, eqb-true, eqb-false, not-true, not-false}
+use borrow.Author.Tests.{eq-eqb, ne-eqb, le-leb, lt-leb, leb-true, eqb-true, eqb-false, not-true, not-false}
 use Rattle.rules.specs.Bytes.{Bytes, numbers, all, any, isNone, and-left, and-right}
 use Rattle.rules.specs.Model.{member, distinct}
-use Rattle.rules.specs.Store.{Forest, tree, heads}
+use Rattle.rules.specs.Store.{Forest, heads}
 use Rattle.rules.specs.Preorder.{Deep, build}
 use Rattle.rules.specs.Layout.{particleSize, FlatParticle, FlatDefinition}
-use Rattle.rules.proofs.PreorderLaws.{rising, build-less, build-more}
+use Rattle.rules.proofs.PreorderLaws.{rising, build-same, build-less, build-more}
 use Rattle.codec.specs.Part.{partOf}
 use Rattle.form_check.specs.FormTests.{particleFits, shaped, elementsIn, modelFits, modelsFit}
 use Rattle.form_check.specs.Bodies.{particlesRead, apart, sameElement, countFits, countBeside, stands, walks}
 use Rattle.form_check.proofs.Reading.{particles-part}
-
--- ---- build, at a row of depth k, at a deeper one, at one less deep
-module _ {A : Type 0} where
-  build-same : (x : Deep A) (xs : List (Deep A)) (k : ℕ) → x .depth ≡ k → build (x ∷ xs) k ≡ tree (x .row) (build xs (suc k)) (build xs k)
-  build-same x xs k h = rw (le-ltb k (x .depth) (omega arith), build) (rw (eq-eqb k (x .depth) (sym h)))
 
 -- ---- the scan that counts members
 module _ (k : ℕ) {l rest : List (Deep FlatParticle)} {p : Deep FlatParticle} (e : l ≡ p ∷ rest) where

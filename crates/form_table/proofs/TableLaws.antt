@@ -12,6 +12,7 @@ use lib.ListN.{length, getD, set, length-set}
 use lib.Seq.{getD-set-same, getD-set-other}
 use Rattle.rules.specs.Bytes.{Bytes}
 use Rattle.rules.specs.Model.{Members}
+use Rattle.rules.proofs.Words.{same-truth}
 use Rattle.sets.specs.Sets.{has, bit, union}
 use Rattle.sets.proofs.Laws.{has-none, has-with}
 use Rattle.model.specs.Members.{allMembers}
@@ -175,17 +176,12 @@ module _ (n : ℕ) (defs parts : Bytes) (t : List ℕ) (m : Modelled n defs part
       e ∙ m .line i h .ends-is (last - 1) (omega (arith, z)) ∙ ap (finishes (allMembers (modelPart defs parts i))) u
 
 -- ---- attributes, looked up
-pub both-ways : (a b : Bool) → (a ≡ true → b ≡ true) → (b ≡ true → a ≡ true) → a ≡ b
-both-ways true b f g = sym (f refl)
-both-ways false true f g = g refl
-both-ways false false f g = refl
-
 not-has : (b : Bool) → b ≡ false → not b ≡ true
 not-has b e = rw e
 
 pub none-spares : (s from to : ℕ) (b : Bool) → ((b ≡ true) ↔ ((k : ℕ) → from ≤ k → k < to → has s k ≡ false)) → b ≡ every (λ j. not (has s j)) to from
 none-spares s from to b e =
-    both-ways b (every (λ j. not (has s j)) to from) (λ z. every← (λ j. not (has s j)) to from (λ k h l. not-has (has s k) (e .0 z k h l)))
+    same-truth b (every (λ j. not (has s j)) to from) (λ z. every← (λ j. not (has s j)) to from (λ k h l. not-has (has s k) (e .0 z k h l)))
     (λ z. e .1 (λ k h l. has-not (has s k) (every→ (λ j. not (has s j)) to from z k h l)))
 
 pub freed-from : (s a seen : ℕ) (b : Bool) → (seen ≡ 0 → ⊥) → b ≡ every (λ j. not (has s j)) a (seen - 1) → b ≡ freedOf s a seen

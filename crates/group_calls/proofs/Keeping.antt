@@ -38,7 +38,7 @@ use Rattle.plans.proofs.TreeWalk.{apart, none-of, none-apart}
 use Rattle.model_places.specs.Placing.{indexOfName, Placed}
 use Rattle.model_places.proofs.PlaceLaws.{found-convert, found-flatten}
 use Rattle.model_edit.specs.Editing.{formEdited}
-use Rattle.model_edit.proofs.Fits.{Fits, inside, some-content, bodies-hold, edited-answers}
+use Rattle.model_edit.proofs.Fits.{Fits, fits-at, bodies-hold, edited-answers}
 use borrow.Author.Tests.{not-false}
 use Rattle.model_writer.proofs.FormAfter.{rows-kept}
 
@@ -95,17 +95,7 @@ module _ (bs : Bytes) (q : passes bs ≡ true) (o : ℕ) (p : List ℕ) where
       by : (f : Option (Spot Bytes)) → foundAt (convert (groupOf k) n) o p (storeIn bs) ≡ f → past o (storeIn bs .form) ≡ false
           → (noPlace f || atPlace (λ c x. not (hasMembers n x)) f) ≡ false → Fits bs o p (convert (groupOf k) n)
       by none at i h = absurd (false≢true (sym h))
-      by (some f) at i h =
-          let has : hasMembers n (f .picked) ≡ true = not-false (hasMembers n (f .picked)) h in
-          record {
-            good = q;
-            there = inside bs q o p i;
-            found = f;
-            content = some-content bs q o p (convert (groupOf k) n) f at (has-some n (f .picked) h);
-            at = at;
-            by = sym (found-convert (groupOf k) n o p bs) ∙ at;
-            suits = has;
-          }
+      by (some f) at i h = fits-at bs q o p (convert (groupOf k) n) f (found-convert (groupOf k) n o p bs) i at (has-some n (f .picked) h) (not-false (hasMembers n (f .picked)) h)
 
   pub flatten-fits : first (conditions (flattenGroup o p) (storeIn bs)) ≡ 0 → Fits bs o p ungroup
   unfolding conditions
@@ -113,13 +103,4 @@ module _ (bs : Bytes) (q : passes bs ≡ true) (o : ℕ) (p : List ℕ) where
     where
       by : (f : Option (Spot Bytes)) → foundAt ungroup o p (storeIn bs) ≡ f → past o (storeIn bs .form) ≡ false → noGroupAt f ≡ false → Fits bs o p ungroup
       by none at i h = absurd (false≢true (sym h))
-      by (some f) at i h =
-          record {
-            good = q;
-            there = inside bs q o p i;
-            found = f;
-            content = some-content bs q o p ungroup f at (group-some (f .picked) h);
-            at = at;
-            by = sym (found-flatten o p bs) ∙ at;
-            suits = suits-group (f .picked) h;
-          }
+      by (some f) at i h = fits-at bs q o p ungroup f (found-flatten o p bs) i at (group-some (f .picked) h) (suits-group (f .picked) h)

@@ -10,6 +10,7 @@ use Rattle.rules.specs.Bytes.{Bytes}
 use Rattle.rules.specs.Model.{Distinct, distinct}
 use Rattle.rules.specs.Store.{Store}
 use Rattle.rules.specs.Layout.{FlatStore, valueWidth, flat, encode}
+use Rattle.rules.specs.Decode.{versionIn, nextSerial}
 use Rattle.rules.specs.WellFormed.{wellFormed}
 use Rattle.rules.specs.Conforming.{conforming}
 use Rattle.rules.specs.Passing.{good, goodSerials, readStore}
@@ -22,7 +23,7 @@ use Rattle.rules.specs.Run.{Asked, emptyStore, leaves, isAccepted, Moment, star
 use Rattle.rules.proofs.LayoutLaws.{read-bytes}
 use Rattle.rules.proofs.DecodeLaws.{good-flat, read-encode, read-good}
 use Rattle.rules.proofs.PassingLaws.{good-is}
-use Rattle.history.specs.History.{linesIn, rowsIn, formOf, versionIn, serialOf, lineOf, everMade, takenSerials, nextSerial, GoodMoment, momentOf, Keeps, serialsIn, ByTheRules}
+use Rattle.history.specs.History.{linesIn, rowsIn, formOf, serialOf, lineOf, everMade, takenSerials, GoodMoment, momentOf, Keeps, serialsIn, ByTheRules}
 use Rattle.history.proofs.Agreement.{Agree, fresh-agree, bookOf-agree, bookOf-once}
 use Rattle.history.proofs.Stable.{Once, fresh-once, keeps-refl, keeps-trans}
 use Rattle.history.proofs.Together.{Together, plan-together}

@@ -4,12 +4,13 @@ use mathlib.Core.Path.{_≡_, sym, ap₂, _∙_, subst}
 use mathlib.Core.Bool.{true}
 use mathlib.Core.List.{List, _++_, map, List·Memᴰ}
 use Rattle.rules.specs.Store.{Store}
+use Rattle.rules.specs.Decode.{nextSerial}
 use Rattle.rules.specs.Passing.{good}
 use Rattle.rules.specs.Lines.{Line}
 use Rattle.rules.specs.Change.{Call, after}
 use Rattle.rules.specs.Refusal.{refusal}
 use Rattle.rules.specs.Run.{Asked, Moment, run}
-use Rattle.history.specs.History.{rowsIn, serialOf, nextSerial, GoodMoment, serialsIn, lineThen, Demand3}
+use Rattle.history.specs.History.{rowsIn, serialOf, GoodMoment, serialsIn, lineThen, Demand3}
 use Rattle.history.proofs.Stable.{shared, same-order}
 use Rattle.history.proofs.Order.{order-then}
 use Rattle.history.proofs.Moments.{Holds, Follows, step-on, run-on, run-append, rows-then, next-then, holds-good, good-holds, there-then, refused-same, accepted-by-rules}

@@ -12,7 +12,7 @@ use Rattle.rules.specs.Bytes.{Bytes}
 use Rattle.rules.specs.Model.{Distinct}
 use Rattle.rules.specs.Store.{Form, Store}
 use Rattle.rules.specs.Layout.{encode}
-use Rattle.rules.specs.Decode.{numberAt}
+use Rattle.rules.specs.Decode.{versionIn, nextSerial}
 use Rattle.rules.specs.Passing.{Passes, readStore}
 use Rattle.rules.specs.Lines.{Line, lines}
 use Rattle.rules.specs.Change.{Call, formAfter, newRows}
@@ -37,13 +37,6 @@ formOf (some s) = s .form
 -- the store's form: definitions, models and attributes
 abbrev pub formIn : Bytes → Form
 formIn bs = formOf (readStore bs)
-
--- 'Bytes 0–3 version', 'Bytes 4–7 the next serial'
-abbrev pub versionIn : Bytes → ℕ
-versionIn bs = numberAt 0 4 bs
-
-abbrev pub nextSerial : Bytes → ℕ
-nextSerial bs = numberAt 4 4 bs
 
 -- ---- serials
 abbrev pub serialOf : Line → ℕ

@@ -7,6 +7,7 @@ use mathlib.Core.List.{[], _∷_}
 use lib.Dec.{eqb}
 use lib.ListN.{length}
 use Rattle.rules.specs.Bytes.{Bytes, isNone}
+pub use Rattle.rules.proofs.Words.{and-off}
 
 pub test-is : {a b c : Bool} → a ≡ b → a ≡ c → b ≡ c
 test-is e h = sym e ∙ h
@@ -14,13 +15,9 @@ test-is e h = sym e ∙ h
 pub not-is : {a b c : Bool} → a ≡ b → not a ≡ c → not b ≡ c
 not-is e h = ap not (sym e) ∙ h
 
-pub and-off : (a b : Bool) → b ≡ false → (a && b) ≡ false
-and-off true b f = f
-and-off false b f = refl
-
-pub and-first : (a b : Bool) → a ≡ false → (a && b) ≡ false
-and-first true b f = absurd (false≢true (sym f))
-and-first false b f = refl
+pub and-held : (a b : Bool) → b ≡ true → (a && b) ≡ a
+and-held true b f = f
+and-held false b f = refl
 
 -- an empty text
 pub none-long : (v : Bytes) → eqb (length v) 0 ≡ isNone v

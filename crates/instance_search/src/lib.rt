@@ -1,5 +1,7 @@
 //! Whether an instance of a definition exists.
 ghost use mathlib.Core.Path.{_≡_};
+ghost use mathlib.Core.List.{[], _∷_};
+ghost use Rattle.rules.specs.Refusal.{_if_, first};
 ghost use Rattle.instance_search.specs.Instances.{hasInstance};
 
 // Whether an instance of a definition exists.
@@ -18,4 +20,14 @@ pub fn instance_exists(store: &[u8], definition: u32) -> bool
         i += 1;
     }
     false
+}
+
+/// The number of a refusal that applies where an instance of a definition exists; 0 where none does.
+pub fn instance_refusal(store: &[u8], definition: u32, number: u32) -> u32
+    ensures { λ r. ⌜ r ≡ first (number if hasInstance (now (store .entry)) definition ∷ []) ⌝ }
+{
+    if instance_exists(store, definition) {
+        return number;
+    }
+    0
 }

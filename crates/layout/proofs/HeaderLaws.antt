@@ -4,12 +4,13 @@ use mathlib.Core.List.{_++_}
 use Prim.Native.Nat.{ℕ, _+_, _*_, _<_, _≤_}
 use native.Mathlib.Omega.{arith}
 use native.Mathlib.Nat.{mul-le-mul}
-use lib.ListN.{length, take, length-append, length-take}
+use lib.ListN.{length, take, drop, length-append, length-take}
 use Rattle.rules.specs.Bytes.{Bytes}
 use Rattle.rules.specs.Layout.{le, entry, headerSize, definitionSize, particleSize, attributeSize, rowSize}
+use Rattle.rules.specs.Decode.{definitionCount}
 use Rattle.codec.specs.Laid.{Laid}
 use Rattle.codec.proofs.Writers.{laid-then, laid-as}
-use Rattle.layout.specs.Bodies.{Width, widthOf, WidthIn, Product, Place}
+use Rattle.layout.specs.Bodies.{Width, widthOf, WidthIn, Product, Place, shapeOf, definitionBody, definitionsIn}
 use Rattle.layout.specs.Header.{contents, headed}
 
 -- the attributes that the ceilings allow, at any width and at one that a version has
@@ -18,6 +19,11 @@ attributes-few w a h g = mul-le-mul {n₁ = attributeSize w} {m₁ = a} {n₂ = 
 
 pub attributes-short : (w a : ℕ) → w ≤ 96 → a ≤ 64 → attributeSize w * a ≤ 7424
 attributes-short w a h g = mul-le-mul {n₁ = attributeSize w} {m₁ = a} {n₂ = 116} {m₂ = 64} (omega arith) g
+
+-- the definitions that the ceilings allow
+pub definition-table-short : (bs : Bytes) {d : Bytes} → definitionCount bs ≤ 64 → d ≡ definitionsIn bs → length d ≤ definitionSize * 64
+unfolding definitionBody shapeOf
+definition-table-short bs h e = omega (arith, ap length e, length-take (definitionSize * definitionCount bs) (drop headerSize bs))
 
 -- bytes of n rows of a byte string, as the code counts them
 pub rows-take : {bs : Bytes} {w size n k : ℕ} → WidthIn bs w → size ≡ rowSize w → Product size n k → k ≡ rowSize (widthOf bs) * n

@@ -12,7 +12,7 @@ use Rattle.rules.specs.Bytes.{Bytes}
 use Rattle.rules.specs.Store.{Store}
 use Rattle.rules.specs.Layout.{valueWidth, headerSize, definitionSize, particleSize, attributeSize, rowSize, FlatStore, flat, encode}
 use Rattle.rules.specs.Passing.{good}
-use Rattle.rules.specs.Decode.{unle, numberAt, readDefinition, readParticle, readAttribute, readRow, readMany, definitionCount, particleCount, attributeCount, rowCount, readFlat}
+use Rattle.rules.specs.Decode.{unle, numberAt, versionIn, readDefinition, readParticle, readAttribute, readRow, readMany, definitionCount, particleCount, attributeCount, rowCount, readFlat}
 use Rattle.rules.proofs.LayoutLaws.{read-bytes}
 use Rattle.rules.proofs.DecodeLaws.{width-bound, width-most, good-flat}
 use Rattle.codec.proofs.Records.{many-at, many-within, drop-take}
@@ -100,7 +100,7 @@ unfolding unusedFit
 unused-of w bs x y z p q r = λ i. eqb (p i) 0 && (eqb (q i) 0 && eqb (r i) 0)
 
 -- ---- the shape
-pub shaped : {bs : Bytes} {v w d p a r : ℕ} → v ≡ numberAt 0 4 bs → w ≡ valueWidth v → Number (definitionCount bs) d → Number (particleCount bs) p
+pub shaped : {bs : Bytes} {v w d p a r : ℕ} → v ≡ versionIn bs → w ≡ valueWidth v → Number (definitionCount bs) d → Number (particleCount bs) p
     → Number (attributeCount bs) a → Number (rowCount bs) r
     → ShapeOf bs (record { version = v; width = w; definitions = d; particles = p; attributes = a; rows = r })
 unfolding shapeOf widthOf
@@ -112,14 +112,14 @@ shaped {v = v} e g d p a r =
 
 pub width-small : (bs : Bytes) → widthOf bs < 256
 unfolding widthOf
-width-small bs = width-bound (numberAt 0 4 bs)
+width-small bs = width-bound (versionIn bs)
 
 -- what the bytes of a form are bounded by
 pub width-within : (bs : Bytes) → widthOf bs ≤ 96
 unfolding widthOf
-width-within bs = width-most (numberAt 0 4 bs)
+width-within bs = width-most (versionIn bs)
 
-pub width-in : {bs : Bytes} {v r : ℕ} → v ≡ numberAt 0 4 bs → r ≡ valueWidth v → WidthIn bs r
+pub width-in : {bs : Bytes} {v r : ℕ} → v ≡ versionIn bs → r ≡ valueWidth v → WidthIn bs r
 unfolding widthOf
 width-in {v = v} e g = record { value = g ∙ ap valueWidth e; small = omega (arith, g, width-bound v) }
 

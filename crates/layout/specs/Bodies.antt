@@ -4,7 +4,7 @@ use mathlib.Core.Path.{_≡_}
 use lib.ListN.{take, drop}
 use Rattle.rules.specs.Bytes.{Bytes}
 use Rattle.rules.specs.Layout.{valueWidth, headerSize, definitionSize, particleSize, attributeSize, rowSize}
-use Rattle.rules.specs.Decode.{numberAt, definitionCount, particleCount, attributeCount, rowCount}
+use Rattle.rules.specs.Decode.{versionIn, definitionCount, particleCount, attributeCount, rowCount}
 use Rattle.layout.specs.declared.Shape.{Shape}
 use Rattle.layout.specs.Fields.{rowValueAt}
 
@@ -28,7 +28,7 @@ recordAt size i s = windowOf (size * i) size s
 -- ---- the header
 -- the width that a byte string's version says
 unfoldable pub widthOf : Bytes → ℕ
-widthOf bs = valueWidth (numberAt 0 4 bs)
+widthOf bs = valueWidth (versionIn bs)
 
 -- r is that width
 pub record WidthIn (bs : Bytes) (r : ℕ) : Type 0 where
@@ -52,7 +52,7 @@ pub record ShapeFits (s : Shape) : Type 0 where
 unfoldable pub shapeOf : Bytes → Shape
 shapeOf bs =
     record {
-      version = numberAt 0 4 bs;
+      version = versionIn bs;
       width = widthOf bs;
       definitions = definitionCount bs;
       particles = particleCount bs;
@@ -101,6 +101,10 @@ attributesIn bs = attributeBody (shapeOf bs) bs
 
 abbrev pub treeRowsIn : Bytes → Bytes
 treeRowsIn bs = rowBody (shapeOf bs) bs
+
+-- the most bytes of the three bodies of a form: as many records as the ceilings allow, of the widest value of a version
+abbrev pub mostForm : ℕ
+mostForm = definitionSize * 64 + particleSize * 256 + attributeSize 96 * 64
 
 -- attribute number i of a byte string, at the width that its version says
 unfoldable pub attributeBytesIn : Bytes → ℕ → Bytes

@@ -6,7 +6,7 @@ use lib.Dec.{eqb}
 use lib.ListN.{getD}
 use Rattle.rules.specs.Bytes.{Bytes}
 
--- ---- the header: version, next serial, and of each body its offset, right before its count
+-- ---- the header: version, next serial, and of each body its offset and its count
 abbrev pub versionAt : ℕ
 versionAt = 0
 
@@ -16,14 +16,26 @@ nextAt = 4
 abbrev pub definitionEntryAt : ℕ
 definitionEntryAt = 8
 
+abbrev pub definitionCountAt : ℕ
+definitionCountAt = 12
+
 abbrev pub particleEntryAt : ℕ
 particleEntryAt = 16
+
+abbrev pub particleCountAt : ℕ
+particleCountAt = 20
 
 abbrev pub attributeEntryAt : ℕ
 attributeEntryAt = 24
 
+abbrev pub attributeCountAt : ℕ
+attributeCountAt = 28
+
 abbrev pub rowEntryAt : ℕ
 rowEntryAt = 32
+
+abbrev pub rowCountAt : ℕ
+rowCountAt = 36
 
 -- ---- a definition: its name's length, right before its name; its kind; its number of particles
 abbrev pub definitionNameAt : ℕ

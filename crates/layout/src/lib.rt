@@ -4,9 +4,9 @@ ghost use mathlib.Core.Path.{_≡_};
 ghost use Prim.Native.Nat.{_+_, _*_, _<_};
 ghost use lib.ListN.{take, drop};
 ghost use Rattle.rules.specs.Layout.{valueWidth, headerSize, definitionSize, particleSize, attributeSize, rowSize};
-ghost use Rattle.rules.specs.Decode.{numberAt, readDefinition, readParticle, readAttribute, readRow, definitionCount, particleCount, attributeCount, rowCount};
+ghost use Rattle.rules.specs.Decode.{numberAt, versionIn, nextSerial, readDefinition, readParticle, readAttribute, readRow, definitionCount, particleCount, attributeCount, rowCount};
 ghost use Rattle.codec.specs.Part.{partOf};
-ghost use Rattle.layout.specs.Fields.{attributeLength, rowLength, unusedFit};
+ghost use Rattle.layout.specs.Fields.{definitionEntryAt, particleEntryAt, attributeEntryAt, rowEntryAt, attributeLength, rowLength, unusedFit};
 ghost use Rattle.layout.specs.Bodies.{Width, windowOf, Product, recordAt, Number, WidthIn, ShapeFits, ShapeOf, attributesStart, rowsStart, Place};
 ghost use Rattle.layout.specs.Bodies.{definitionBody, particleBody, attributeBody, rowBody, definitionsIn, particlesIn, attributesIn, treeRowsIn};
 ghost use Rattle.layout.specs.Bodies.{attributeBytesIn, ValueAt};
@@ -18,6 +18,9 @@ pub const DEFINITION_SIZE: usize = 20;
 pub const PARTICLE_SIZE: usize = 4;
 
 pub const NAME_WIDTH: usize = 16;
+
+/// The most bytes that a form has, of the widest values: 64 definitions, 256 particles, 64 attributes of 116 bytes.
+pub const MOST_FORM: usize = 9728;
 
 // Where a name's length stands in its record, right before the name;
 // where the others stand that are not read by a call below.
@@ -259,13 +262,13 @@ fn number(store: &[u8], at: usize) -> usize
 }
 
 pub fn version_in(store: &[u8]) -> usize
-    ensures { λ r. ⌜ Number (numberAt 0 4 (now (store .entry))) r ⌝ }
+    ensures { λ r. ⌜ Number (versionIn (now (store .entry))) r ⌝ }
 {
     number(store, 0)
 }
 
 pub fn next_serial(store: &[u8]) -> usize
-    ensures { λ r. ⌜ Number (numberAt 4 4 (now (store .entry))) r ⌝ }
+    ensures { λ r. ⌜ Number (nextSerial (now (store .entry))) r ⌝ }
 {
     number(store, 4)
 }
@@ -336,25 +339,25 @@ pub fn attribute_in(store: &[u8], i: usize) -> &[u8]
 // ---- the offsets in the header
 
 pub fn definition_offset(store: &[u8]) -> usize
-    ensures { λ r. ⌜ Number (numberAt 8 4 (now (store .entry))) r ⌝ }
+    ensures { λ r. ⌜ Number (numberAt definitionEntryAt 4 (now (store .entry))) r ⌝ }
 {
     number(store, 8)
 }
 
 pub fn particle_offset(store: &[u8]) -> usize
-    ensures { λ r. ⌜ Number (numberAt 16 4 (now (store .entry))) r ⌝ }
+    ensures { λ r. ⌜ Number (numberAt particleEntryAt 4 (now (store .entry))) r ⌝ }
 {
     number(store, 16)
 }
 
 pub fn attribute_offset(store: &[u8]) -> usize
-    ensures { λ r. ⌜ Number (numberAt 24 4 (now (store .entry))) r ⌝ }
+    ensures { λ r. ⌜ Number (numberAt attributeEntryAt 4 (now (store .entry))) r ⌝ }
 {
     number(store, 24)
 }
 
 pub fn row_offset(store: &[u8]) -> usize
-    ensures { λ r. ⌜ Number (numberAt 32 4 (now (store .entry))) r ⌝ }
+    ensures { λ r. ⌜ Number (numberAt rowEntryAt 4 (now (store .entry))) r ⌝ }
 {
     number(store, 32)
 }

@@ -22,7 +22,7 @@ use Rattle.rules.proofs.LayoutLaws.{read-bytes}
 use Rattle.rules.proofs.DecodeLaws.{good-flat, read-good}
 use Rattle.layout.specs.declared.Shape.{Shape}
 use Rattle.layout.specs.Bodies.{widthOf, windowOf, recordAt, shapeOf, ShapeOf, Place, rowsStart, attributesStart, WidthIn, Product}
-use Rattle.layout.specs.Fields.{rowValueAt}
+use Rattle.layout.specs.Fields.{rowValueAt, rowLength}
 use Rattle.layout.proofs.LayoutLaws.{version-read}
 use Rattle.lookup.specs.Bodies.{RowsBegin, RowPlace, RowsOf, recordsFrom, bodiesOf, rowsStartIn, fromRows, rowPart}
 use Rattle.lookup.specs.Finding.{Looks, foundOn, foundRowAt}
@@ -210,7 +210,7 @@ row-found bs k n h =
 
 value-there : (bs : Bytes) (i : ℕ) (v : Bytes) → v ≡ readRow (rowPart bs i) .row .value → take (length v) (drop (valueStart (widthOf bs) (bodiesOf bs) i) bs) ≡ v
 value-there bs i v e =
-    let n : ℕ = getD (rowPart bs i) 8 0 in
+    let n : ℕ = rowLength (rowPart bs i) in
     let x : Bytes = drop (rowsStartIn bs + rowSize (widthOf bs) * i) bs in
     let q : v ≡ take n (drop rowValueAt (take (rowSize (widthOf bs)) x)) = e ∙ ap (λ (l : Bytes). take n (drop rowValueAt l)) (sym (row-place bs i)) in
     let p : drop (valueStart (widthOf bs) (bodiesOf bs) i) bs ≡ drop rowValueAt x = ap (λ (k : ℕ). drop k bs) (value-start bs i) ∙ sym

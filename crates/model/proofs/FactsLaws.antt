@@ -1,6 +1,6 @@
 -- The facts of a part of the particle body, one particle on; and what the automaton's steps come to.
 use mathlib.Core.Path.{_≡_, refl, sym, ap, ap₂, _∙_}
-use mathlib.Core.Bool.{Bool, true, false, _&&_, _||_}
+use mathlib.Core.Bool.{Bool, true, false, _&&_, _||_, and-true, and-false, or-false, and-assoc, or-assoc}
 use mathlib.Core.List.{List, [], _∷_}
 use Prim.Native.Nat.{ℕ, zero, suc, _+_, _-_, _<_, _≤_}
 use native.Mathlib.Omega.{arith}
@@ -25,26 +25,9 @@ use Rattle.model.specs.Steps.{steps, finishes, runs}
 use Rattle.model.proofs.MembersLaws.{members-few, members-deeper, members-stop, members-here}
 
 -- ---- parts side by side: nothing beside a part, and three parts
-pub and-true : (a : Bool) → (a && true) ≡ a
-and-true true = refl
-and-true false = refl
-
-or-false : (a : Bool) → (a || false) ≡ a
-or-false true = refl
-or-false false = refl
-
 pub or-never : (a b : Bool) → (a || (b && false)) ≡ a
 or-never true b = refl
-or-never false true = refl
-or-never false false = refl
-
-and-assoc : (a b c : Bool) → ((a && b) && c) ≡ (a && (b && c))
-and-assoc true b c = refl
-and-assoc false b c = refl
-
-or-assoc : (a b c : Bool) → ((a || b) || c) ≡ (a || (b || c))
-or-assoc true b c = refl
-or-assoc false b c = refl
+or-never false b = and-false b
 
 first-assoc : (na nb a b c : Bool) → ((a || (na && b)) || ((na && nb) && c)) ≡ (a || (na && (b || (nb && c))))
 first-assoc na nb true b c = refl

@@ -35,19 +35,19 @@ abbrev pub membersIn : ℕ → Particles → Members ℕ
 membersIn d xs = indexMembers (build xs d)
 
 -- ---- one particle on
-build-more : (x : Deep FlatParticle) (xs : Particles) (d : ℕ)
+build-step : (x : Deep FlatParticle) (xs : Particles) (d : ℕ)
     → build (x ∷ xs) d ≡ elim (ltb d (x .depth)) [ true ↦ build xs d | false ↦ elim (eqb d (x .depth)) [ true ↦ tree (x .row) (build xs (suc d)) (build xs d) | false ↦ bare ] ]
-build-more x xs d = refl
+build-step x xs d = refl
 
 module _ (x : Deep FlatParticle) (xs : Particles) (d : ℕ) where
   in-deeper : ltb d (x .depth) ≡ true → membersIn d (x ∷ xs) ≡ membersIn d xs
-  in-deeper e = let g : build (x ∷ xs) d ≡ build xs d = build-more x xs d ∙ rw e in ap indexMembers g
+  in-deeper e = let g : build (x ∷ xs) d ≡ build xs d = build-step x xs d ∙ rw e in ap indexMembers g
 
   in-here : ltb d (x .depth) ≡ false → eqb d (x .depth) ≡ true → membersIn d (x ∷ xs) ≡ indexMember (x .row) (x .row .sort) (membersIn (suc d) xs) (membersIn d xs)
-  in-here e f = let g : build (x ∷ xs) d ≡ tree (x .row) (build xs (suc d)) (build xs d) = build-more x xs d ∙ rw (e, f) in ap indexMembers g
+  in-here e f = let g : build (x ∷ xs) d ≡ tree (x .row) (build xs (suc d)) (build xs d) = build-step x xs d ∙ rw (e, f) in ap indexMembers g
 
   in-stop : ltb d (x .depth) ≡ false → eqb d (x .depth) ≡ false → membersIn d (x ∷ xs) ≡ done
-  in-stop e f = let g : build (x ∷ xs) d ≡ bare = build-more x xs d ∙ rw (e, f) in ap indexMembers g
+  in-stop e f = let g : build (x ∷ xs) d ≡ bare = build-step x xs d ∙ rw (e, f) in ap indexMembers g
 
   pub reach-deeper : (n : ℕ) → ltb d (x .depth) ≡ true → reach d n (x ∷ xs) ≡ onward 1 (reach d n xs)
   unfolding reach
@@ -84,7 +84,7 @@ part-same (x ∷ t) d e q l h = by (ltb d (x .depth)) refl q h (λ e′ q′ l�
     by false c zero h f =
         let g : x .depth ≤ d = ltb-false d (x .depth) c in
         let n : e ≡ x .depth → ⊥ = λ z. omega arith in
-        sym (build-more x t e ∙ rw (le-ltb e (x .depth) (omega arith), ne-eqb e (x .depth) n))
+        sym (build-step x t e ∙ rw (le-ltb e (x .depth) (omega arith), ne-eqb e (x .depth) n))
     by false c (suc q) h f = absurd (omega arith)
 
 -- ---- what is told does not hang on the members passed

@@ -105,6 +105,11 @@ module _ (bs : Bytes) (q : passes bs ≡ true) (o : ℕ) (p : List ℕ) where
       complex-content (definitionAt o (storeIn bs .form) .content)
       (picked-complex (definitionAt o (storeIn bs .form) .content) (f .context) (f .picked) (place-right e p (modelIn bs o) f at) d)
 
+  -- a member is found there, where the edit suits it
+  abbrev pub fits-at : (e : Edit Bytes) (f : Spot Bytes) → placed e p (modelIn bs o) ≡ foundBy (inserts e) p (modelIn bs o) → past o (storeIn bs .form) ≡ false
+      → placed e p (modelIn bs o) ≡ some f → isDone (f .picked) ≡ false → suits e (f .picked) ≡ true → Fits bs o p e
+  fits-at e f same i at d s = record { good = q; there = inside i; found = f; content = some-content e f at d; at = at; by = sym same ∙ at; suits = s }
+
 -- ---- an edit that fits at an element
 pub record Element (bs : Bytes) (o : ℕ) (p : List ℕ) (e : Edit Bytes) : Type 0 where
   pub fits : Fits bs o p e

@@ -24,9 +24,9 @@ use Rattle.model.specs.Members.{particlesOf}
 use Rattle.model.specs.Places.{Particles}
 use Rattle.model.proofs.ParticleLaws.{particles-part}
 use Rattle.form_index.specs.Reading.{definitionIn, particlesBefore}
-use Rattle.layout.specs.Bodies.{widthOf, Number, definitionsIn, particlesIn, attributesIn}
+use Rattle.layout.specs.Bodies.{widthOf, Number, definitionsIn, particlesIn, attributesIn, mostForm}
 use Rattle.layout.proofs.LayoutLaws.{width-within}
-use Rattle.layout.proofs.HeaderLaws.{attributes-short}
+use Rattle.layout.proofs.HeaderLaws.{attributes-short, definition-table-short}
 use Rattle.lookup.specs.Bodies.{bodiesOf}
 use Rattle.model_writer.specs.Spliced.{startOf, countOf, counted, spliced, splicedForm}
 use Rattle.model_writer.specs.PartAfter.{partAfter, lengthAfter}
@@ -186,18 +186,18 @@ module _ {bs : Bytes} {o : ℕ} {e : Edit ℕ} {h : Holder} {n : ℕ} (v : Edits
       ap (λ (z : Bytes). partAfter e h n (particlesOf z)) (own-is bs (v .good) o ∙ (λ i. writing.particleRange (sym ef i) (sym em i) (sym ep i))) in
       laid-as (ap (each particleBytes) (particles-after ∙ (λ i. spliced (sym (ef ∙ start) i) (sym (em ∙ count) i) (part i) ((sym (ap particlesOf ep ∙ particles-are bs (v .good))) i)))) w
 
-  pub table-short : {table : Bytes} → table ≡ definitionsIn bs → length table ≤ 1280
-  table-short t = omega (arith, ap (λ (z : Bytes). length z) (t ∙ definitions-at enc), length-each definitionBytes definitionSize length-definition (f .definitions), enc .fewDefinitions)
+  pub table-short : {table : Bytes} → table ≡ definitionsIn bs → length table ≤ definitionSize * 64
+  table-short = definition-table-short bs (omega (arith, enc .definitions, enc .fewDefinitions))
 
   -- what comes before the attributes, and they themselves
   module _ (w : withinCeilings (bareForm g) ≡ true) where
-    pub particles-short : length (each particleBytes (g .particles)) ≤ 1024
+    pub particles-short : length (each particleBytes (g .particles)) ≤ particleSize * 256
     particles-short = omega (arith, length-each particleBytes particleSize length-particle (g .particles), few-particles (few-of (bareForm g) w))
 
     pub own-short : lengthAfter e (modelLength bs o) ≤ 256
     own-short = omega (arith, all-length, few-particles (few-of (bareForm g) w))
 
-    pub form-short : length (formBytes (widthOf bs) g) ≤ 9728
+    pub form-short : length (formBytes (widthOf bs) g) ≤ mostForm
     unfolding formEdited
     form-short = bytes.form-short (forms-of (spliced-form o (partEdited bs o e h n) f (enc .good) w refl refl refl refl)) (width-within bs)
 
@@ -212,8 +212,8 @@ module _ {bs : Bytes} {o : ℕ} {e : Edit ℕ} {h : Holder} {n : ℕ} (v : Edits
       (counted-bytes o (length (partEdited bs o e h n)) (f .definitions) l ∙ ap₂ (λ (c : ℕ) (t : Bytes). countedBytes o c t) m (sym (et ∙ definitions-at enc))) (sym (ea ∙ attributes-at enc)))
       (laid-then x (laid-then y z))
 
-  pub body-in : withinCeilings (bareForm g) ≡ true → {first many from : ℕ} {parts : Bytes} → first ≡ startIn bs o → many ≡ modelLength bs o → parts ≡ particlesIn bs → from ≤ 9728
-      → EditPart e h n first many parts × (from + 4 * length parts < 2305843009213693952)
+  pub body-in : withinCeilings (bareForm g) ≡ true → {first many from : ℕ} {parts : Bytes} → first ≡ startIn bs o → many ≡ modelLength bs o → parts ≡ particlesIn bs → from ≤ mostForm
+      → EditPart e h n first many parts × (from + particleSize * length parts < 2305843009213693952)
   body-in w {first} {many} {from} {parts} ef em ep l = (
     subst (λ (z : ℕ). EditPart e h n z many parts) (sym ef)
         (subst (λ (z : ℕ). EditPart e h n (startIn bs o) z parts) (sym em) (subst (λ (z : Bytes). EditPart e h n (startIn bs o) (modelLength bs o) z) (sym ep) (v .body w))),
@@ -221,7 +221,7 @@ module _ {bs : Bytes} {o : ℕ} {e : Edit ℕ} {h : Holder} {n : ℕ} (v : Edits
   )
 
   -- what stands before the attributes
-  pub counted-short : {count : ℕ} {table : Bytes} → count ≡ lengthAfter e (modelLength bs o) → table ≡ definitionsIn bs → length (countedBytes o count table) ≤ 1280
+  pub counted-short : {count : ℕ} {table : Bytes} → count ≡ lengthAfter e (modelLength bs o) → table ≡ definitionsIn bs → length (countedBytes o count table) ≤ definitionSize * 64
   counted-short {count} {table} ec et =
       let l : o < length (f .definitions) = omega (arith, v .there, enc .definitions) in
       omega (
@@ -233,7 +233,7 @@ module _ {bs : Bytes} {o : ℕ} {e : Edit ℕ} {h : Holder} {n : ℕ} (v : Edits
         enc .fewDefinitions,
       )
 
-  pub attrs-short : {attrs : Bytes} → attrs ≡ attributesIn bs → length attrs ≤ 7424
+  pub attrs-short : {attrs : Bytes} → attrs ≡ attributesIn bs → length attrs ≤ attributeSize 96 * 64
   attrs-short ea =
       omega (
         arith,

@@ -12,7 +12,7 @@ ghost use Rattle.rules.specs.Layout.{each, particleBytes};
 ghost use Rattle.rules.specs.WellFormed.{isValue, withinCeilings};
 ghost use Rattle.rules.specs.Outcome.{Answers};
 ghost use Rattle.codec.specs.Laid.{Laid};
-ghost use Rattle.layout.specs.Bodies.{widthOf};
+ghost use Rattle.layout.specs.Bodies.{widthOf, mostForm};
 ghost use Rattle.lookup.specs.Bodies.{bodiesOf};
 ghost use Rattle.model_writer.specs.PartAfter.{lengthAfter};
 ghost use Rattle.model_writer.specs.Writing.{editOf};
@@ -22,9 +22,6 @@ ghost use Rattle.store_writer.specs.Forms.{formBytes};
 ghost use Rattle.store_writer.specs.Writing.{Sized};
 ghost use Rattle.store_writer.proofs.FormLaws.{bareForm};
 ghost use Rattle.model_edit.specs.Editing.{formEdited, modelLength, Edits};
-
-/// The most bytes that a form has, of the widest values: 64 definitions, 256 particles, 64 attributes of 116 bytes.
-const FORM_SIZE: usize = 9728;
 
 // How many particles a model of n has after an edit.
 fn length_after(edit: Edit, n: usize) -> usize
@@ -80,7 +77,7 @@ fn put_own(
     out: &mut [u8],
     from: usize,
 ) -> usize
-    requires { ⌜ Edits (now store) owner (editOf edit) holder at × (withinCeilings (bareForm (formEdited (now store) owner (editOf edit) holder at)) ≡ true) × (from ≤ 9728) ⌝ }
+    requires { ⌜ Edits (now store) owner (editOf edit) holder at × (withinCeilings (bareForm (formEdited (now store) owner (editOf edit) holder at)) ≡ true) × (from ≤ mostForm) ⌝ }
     ensures { λ r. ⌜ Laid (each particleBytes (formEdited (now (store .entry)) owner (editOf edit) holder at .particles)) (now (out .entry)) from r (now (out .exit)) ⌝ }
 {
     let definitions = layout::definitions_of(store);
@@ -132,7 +129,7 @@ pub fn edit_model(
     }
     let d = layout::definition_count(store);
     let a = layout::attribute_count(store);
-    let mut form = [0; FORM_SIZE];
+    let mut form = [0; layout::MOST_FORM];
     let end = put_edited(store, owner, edit, holder, at, &mut form);
     store_writer::edit_form(store, &form[..end], d, p, a, plan, text, out)
 }

@@ -1,21 +1,20 @@
 -- The part of the particle body that a definition has, in a store that passes: the particles of its model.
 use Prim.Native.Nat.{ℕ, _+_, _*_, _/_, _<_, _≤_}
 use native.Mathlib.Omega.{arith}
-use mathlib.Core.Path.{_≡_, refl, sym, ap, ap₂, _∙_, subst}
+use mathlib.Core.Path.{_≡_, sym, ap, ap₂, _∙_, subst}
 use mathlib.Core.Bool.{true}
 use lib.ListN.{length, take, drop, getD}
 use Rattle.rules.specs.Bytes.{Bytes}
 use Rattle.rules.specs.Model.{Members, rename}
 use Rattle.rules.specs.Store.{Form, members}
 use Rattle.rules.specs.Preorder.{build}
-use Rattle.rules.specs.Layout.{particleSize, definitionSize, FlatDefinition, FlatStore, indexOf}
-use Rattle.rules.specs.Decode.{readDefinition, readParticle, readMany, readMembers, unflat, definitionCount}
+use Rattle.rules.specs.Layout.{particleSize, FlatDefinition, FlatStore, indexOf}
+use Rattle.rules.specs.Decode.{readParticle, readMany, readMembers, unflat, definitionCount}
 use Rattle.rules.specs.Change.{definitionAt}
 use Rattle.rules.specs.Passing.{passes}
 use Rattle.rules.proofs.LayoutLaws.{Small}
 use Rattle.rules.proofs.SmallBytes.{encode-small}
 use Rattle.codec.proofs.Strings.{part-there}
-use Rattle.codec.proofs.Records.{many-at}
 use Rattle.model.specs.Members.{particlesOf}
 use Rattle.model.specs.Places.{Particles}
 use Rattle.model.specs.Positions.{spread}
@@ -23,15 +22,15 @@ use Rattle.model.proofs.ParticleLaws.{particles-part}
 use Rattle.model.proofs.PositionLaws.{spread-named}
 use Rattle.form_check.specs.Bodies.{definitions, particlesRead, formOfBodies}
 use Rattle.form_check.proofs.Reading.{definitions-length}
-use Rattle.form_index.specs.Reading.{definitionIn, particlesBefore, modelPart}
+use Rattle.form_index.specs.Reading.{modelPart}
 use Rattle.store_check.specs.Reading.{FieldsFit, partAt, noFlatDefinition}
 use Rattle.store_check.specs.Check.{FormPasses}
 use Rattle.store_check.proofs.IndexLaws.{namesOf}
 use Rattle.store_check.proofs.ModelReads.{ModelRead}
 use Rattle.store_check.proofs.FormReads.{form-size, form-apart, model-at, members-at}
-use Rattle.store_check.proofs.Parts.{before, before-within, before-is, part-cut}
-use Rattle.store_check.proofs.FormLaws.{Laid, fields-fit, before-all}
-use Rattle.store_check.proofs.IndexReads.{index-agrees}
+use Rattle.store_check.proofs.Parts.{before, part-cut}
+use Rattle.store_check.proofs.FormLaws.{Laid, fields-fit}
+use Rattle.store_check.proofs.IndexReads.{definition-in, before-in, room-in, index-agrees}
 use Rattle.store_check.proofs.StringChecks.{Headed, laid-in, passes-header, passes-in, same-form}
 use Rattle.lookup.specs.Bodies.{bodiesOf}
 use Rattle.layout.specs.Bodies.{widthOf, definitionsIn, particlesIn}
@@ -46,20 +45,6 @@ module _ {w n : ℕ} {defs : Bytes} {p : ℕ} {parts : Bytes} {a : ℕ} {attrs :
   fields : FieldsFit w f
   fields = fields-fit laid (x .definitions) (x .attributes)
 
-  definition-in : (i : ℕ) → i < n → definitionIn defs i .particles ≡ getD (definitions n defs) i noFlatDefinition .particles
-  unfolding definitions
-  definition-in i l = ap (λ (d : FlatDefinition). d .particles) (sym (many-at readDefinition definitionSize i n defs noFlatDefinition l))
-
-  before-in : (i : ℕ) → i ≤ n → particlesBefore defs i ≡ before i (definitions n defs)
-  unfolding particlesBefore
-  before-in = before-is (particlesBefore defs) (λ i. definitionIn defs i .particles) n (definitions n defs) refl (λ i. refl) definition-in
-
-  room : (i : ℕ) → i < n → before i (definitions n defs) + getD (definitions n defs) i noFlatDefinition .particles ≤ p
-  room i l =
-      let e : before (length (definitions n defs)) (definitions n defs) ≡ p =
-      ap (λ (k : ℕ). before k (definitions n defs)) (definitions-length n defs) ∙ before-all laid (x .definitions) (x .attributes) (x .bodies) in
-      omega (arith, before-within i (definitions n defs) (omega (arith, definitions-length n defs)))
-
   all-particles : particlesOf parts ≡ particlesRead p parts
   unfolding particlesOf particlesRead
   all-particles = let e : length parts / particleSize ≡ p = omega (arith, laid .bodies .particleBody .whole) in ap (λ (k : ℕ). readMany readParticle particleSize k parts) e
@@ -69,8 +54,9 @@ module _ {w n : ℕ} {defs : Bytes} {p : ℕ} {parts : Bytes} {a : ℕ} {attrs :
   part-particles i l =
       let k : ℕ = getD (definitions n defs) i noFlatDefinition .particles in
       let b : ℕ = before i (definitions n defs) in
-      let fit : particleSize * b + particleSize * k ≤ length parts = omega (arith, room i l, laid .bodies .particleBody .whole) in
-      ap₂ (λ (u v : ℕ). particlesOf (take (particleSize * u) (drop (particleSize * v) parts))) (definition-in i l) (before-in i (omega arith))
+      let fit : particleSize * b + particleSize * k ≤ length parts = omega (arith, room-in laid x i l, laid .bodies .particleBody .whole) in
+      ap₂ (λ (u v : ℕ). particlesOf (take (particleSize * u) (drop (particleSize * v) parts)))
+      (ap (λ (d : FlatDefinition). d .particles) (definition-in laid x i l)) (before-in laid x i (omega arith))
       ∙ ap particlesOf (sym (part-there (particleSize * b) (particleSize * k) parts fit))
       ∙ particles-part b k parts fit
       ∙ ap (λ (l : Particles). take k (drop b l)) all-particles

@@ -70,7 +70,7 @@ one-more (convert j m) n = omega arith
 one-more flatten n = omega arith
 
 -- one particle more, at most
-pub length-few : {e : Edit ℕ} {h : Holder} {n : ℕ} {part : Bytes} → Part e h n part → length (each particleBytes (partAfter e h n (particlesOf part))) ≤ length part + 4
+pub length-few : {e : Edit ℕ} {h : Holder} {n : ℕ} {part : Bytes} → Part e h n part → length (each particleBytes (partAfter e h n (particlesOf part))) ≤ length part + particleSize
 length-few {e} {h} {n} {part} v =
     let xs : Particles = particlesOf part in
     let w : length part ≡ particleSize * length xs = length-part part (v .whole) in

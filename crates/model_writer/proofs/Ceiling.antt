@@ -2,7 +2,7 @@
 use Prim.Native.Nat.{ℕ, zero, suc, _-_, _<_, _≤_}
 use native.Mathlib.Omega.{arith}
 use mathlib.Core.Path.{_≡_, refl, sym, ap, _∙_}
-use mathlib.Core.Bool.{Bool, true, false, not, _&&_, false≢true}
+use mathlib.Core.Bool.{Bool, true, false, not, _&&_}
 use mathlib.Core.List.{[], _∷_, _++_}
 use borrow.Author.Tests.{le-leb, lt-leb, leb-true}
 use lib.Dec.{leb, ltb, eqb}
@@ -13,6 +13,7 @@ use Rattle.rules.specs.Bytes.{Bytes, all, and-left, and-right}
 use Rattle.rules.specs.Preorder.{Deep}
 use Rattle.rules.specs.Layout.{FlatParticle, particleSize}
 use Rattle.rules.specs.Edit.{Edit, insert, remove, quantify, convert, flatten}
+use Rattle.rules.proofs.Words.{and-both}
 use Rattle.rules.proofs.BooleanLaws.{all-left, all-right}
 use Rattle.rules.specs.Decode.{readParticle}
 use Rattle.codec.proofs.Writers.{tail-seen}
@@ -27,11 +28,6 @@ use Rattle.model_writer.proofs.WritingLaws.{moved-first, moved-none}
 
 abbrev low : Deep FlatParticle → Bool
 low x = leb (x .depth) 4
-
-true-both : (a b : Bool) → a ≡ true → b ≡ true → (a && b) ≡ true
-true-both true true e f = refl
-true-both true false e f = f
-true-both false b e f = absurd (false≢true e)
 
 within-take : (n : ℕ) (xs : Particles) → depthsWithin xs ≡ true → depthsWithin (take n xs) ≡ true
 unfolding depthsWithin
@@ -62,10 +58,10 @@ within-raised d n [] h = refl
 within-raised d zero (x ∷ xs) h = by (ltb d (x .depth)) (within-raised d zero xs (and-right (low x) (all low xs) h))
   where
     by : (b : Bool) → all low (moved lower d zero xs) ≡ true → all low (elim b as (λ z. Particles) [ true ↦ redeep lower x ∷ moved lower d zero xs | false ↦ x ∷ xs ]) ≡ true
-    by true f = true-both _ _ (low-lower (x .depth) (and-left (low x) (all low xs) h)) f
+    by true f = and-both (low-lower (x .depth) (and-left (low x) (all low xs) h)) f
     by false f = h
 within-raised d (suc n) (x ∷ xs) h =
-    true-both _ _ (low-lower (x .depth) (and-left (low x) (all low xs) h))
+    and-both (low-lower (x .depth) (and-left (low x) (all low xs) h))
     (by (ltb d (x .depth)) (within-raised d (suc n) xs (and-right (low x) (all low xs) h)) (within-raised d n xs (and-right (low x) (all low xs) h)))
   where
     by : (b : Bool) → all low (moved lower d (suc n) xs) ≡ true → all low (moved lower d n xs) ≡ true

@@ -144,7 +144,7 @@ module _ {e : Edit ℕ} {first n : ℕ} {part : Bytes} {at : ℕ} (v : Head e fi
       ∙ ap₂ (λ (s t : Bytes). s ++ (particleBytes x ++ t)) (take-bytes (first - 1) part (v .whole)) back
 
   -- the new count is a byte
-  pub head-count : 0 < first → newCount (getD (take particleSize (drop (particleSize * (first - 1)) part)) 2 0) < 256
+  pub head-count : 0 < first → newCount (readParticle (take particleSize (drop (particleSize * (first - 1)) part)) .row .index) < 256
   unfolding Fitting
   head-count l =
       every-back SmallParticle (take (first - 1) (particlesOf part)) _ (subst (λ (xs : Particles). Every SmallParticle xs) (head-is l) (v .fitting)) .0 .index
@@ -157,7 +157,7 @@ module _ {e : Edit ℕ} {first n : ℕ} {part : Bytes} {at : ℕ} (v : Head e fi
     pub head-fits : (length ys % particleSize ≡ 0) × (countAfter e (particlesOf ys) (readParticle x .row .index) < 256)
     head-fits = (
       omega (arith, v .whole, v .inside, ap (λ (s : Bytes). length s) q, length-drop (particleSize * n) part),
-      subst (λ (k : ℕ). k < 256) (sym (λ i. same-count i (getD (p i) 2 0))) (head-count l),
+      subst (λ (k : ℕ). k < 256) (sym (λ i. same-count i (readParticle (p i) .row .index))) (head-count l),
     )
 
     pub head-group : particleBytes (recount newCount (readParticle (take particleSize (drop (particleSize * (first - 1)) part))))

@@ -1,6 +1,6 @@
 -- A model's line, entry by entry: the sets of each last child are those that the automaton steps by.
 use mathlib.Core.Path.{_≡_, refl, sym, ap, ap₂, subst, _∙_}
-use mathlib.Core.Bool.{Bool, true, false, _&&_, _||_}
+use mathlib.Core.Bool.{Bool, true, false, _&&_, _||_, and-true, and-false}
 use mathlib.Core.List.{List}
 use Prim.Native.Nat.{ℕ, zero, suc, _+_, _<_, _≤_}
 use native.Mathlib.Omega.{arith}
@@ -20,7 +20,7 @@ use Rattle.rules.specs.Automaton.{single, join, quantify, facts}
 use Rattle.sets.specs.Sets.{has, bit, union, wholeIf}
 use Rattle.sets.proofs.Laws.{has-none, has-first, has-bit, has-union, has-given}
 use Rattle.model.specs.Steps.{steps, finishes}
-use Rattle.model.proofs.FactsLaws.{facts-nothing, and-true, or-never}
+use Rattle.model.proofs.FactsLaws.{facts-nothing, or-never}
 use Rattle.next_children.specs.declared.Nexts.{Nexts}
 use Rattle.next_children.specs.Nexts.{Told}
 use Rattle.next_children.specs.Names.{After}
@@ -85,10 +85,6 @@ filling-starts n ms t at =
           };
     }
 
-never : (b : Bool) → (b && false) ≡ false
-never true = refl
-never false = refl
-
 -- the set with x in it where b says so
 pub ends-more : (x last : ℕ) (old b : Bool) (f : ℕ → Bool) → b ≡ f x → old ≡ (ltb last x && f last) → (old || (b && eqb last x)) ≡ (ltb last (suc x) && f last)
 ends-more x last old b f eb eo = by (ltb last x) refl (eqb last x) refl
@@ -100,7 +96,7 @@ ends-more x last old b f eb eo = by (ltb last x) refl (eqb last x) refl
         rw (eo, e, q, lt-ltb last (suc x) (omega arith)) (and-true b ∙ eb ∙ ap f (sym z))
     by false e false q =
         let z : last ≡ x → ⊥ = eqb-false last x q in
-        rw (eo, e, q, le-ltb last (suc x) (omega (arith, ltb-false last x e, z))) (never b)
+        rw (eo, e, q, le-ltb last (suc x) (omega (arith, ltb-false last x e, z))) (and-false b)
 
 module _ (n : ℕ) (ms : Members ℕ) (t : List ℕ) (at x ends : ℕ) (t′ : List ℕ) (l : Filling n ms t at x ends t′) (small : n ≤ 64) (room : at + 67 ≤ length t) where
   pub filling-on : x < n → (r : Nexts) → After ms x r → (one more all : ℕ) → one ≡ bit x → more ≡ wholeIf (r .last) one → all ≡ union ends more

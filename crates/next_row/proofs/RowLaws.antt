@@ -105,9 +105,19 @@ module _ (f : IndexForm) (l : Level) (r : FlatRow) (s : ℕ) (e : s ≡ r .sort)
   pub row-attribute : s ≡ 2 → (b : Bool) → b ≡ attributeMay f (l .index) (l .seen) r → b ≡ rowMay f (eqb (r .sort) 2) l r
   row-attribute h b q = let t : eqb (r .sort) 2 ≡ true = eq-eqb (r .sort) 2 (sym e ∙ h) in rw t q
 
-  pub row-child : (s ≡ 2 → ⊥) → (index : ℕ) (a b : Bool) → index ≡ r .index → a ≡ freed f (l .index) (l .seen) → b ≡ childMay (f .kind (l .index)) (f .model (l .index)) (l .last) s index
+  row-both : (s ≡ 2 → ⊥) → (index : ℕ) (a b : Bool) → index ≡ r .index → a ≡ freed f (l .index) (l .seen) → b ≡ childMay (f .kind (l .index)) (f .model (l .index)) (l .last) s index
       → (a && b) ≡ rowMay f (eqb (r .sort) 2) l r
-  row-child h index a b ei ea eb = let t : eqb (r .sort) 2 ≡ false = ne-eqb (r .sort) 2 (λ z. h (e ∙ z)) in rw (t, ea, eb, e, ei)
+  row-both h index a b ei ea eb = let t : eqb (r .sort) 2 ≡ false = ne-eqb (r .sort) 2 (λ z. h (e ∙ z)) in rw (t, ea, eb, e, ei)
+
+  -- an attribute is owed
+  pub row-owed : (s ≡ 2 → ⊥) → (a : Bool) → a ≡ freed f (l .index) (l .seen) → a ≡ false → false ≡ rowMay f (eqb (r .sort) 2) l r
+  row-owed h a ea n =
+      ap (λ (x : Bool). x && childMay (f .kind (l .index)) (f .model (l .index)) (l .last) s (r .index)) (sym n)
+      ∙ row-both h (r .index) a (childMay (f .kind (l .index)) (f .model (l .index)) (l .last) s (r .index)) refl ea refl
+
+  pub row-child : (s ≡ 2 → ⊥) → (index : ℕ) (a b : Bool) → index ≡ r .index → a ≡ freed f (l .index) (l .seen) → a ≡ true
+      → b ≡ childMay (f .kind (l .index)) (f .model (l .index)) (l .last) s index → b ≡ rowMay f (eqb (r .sort) 2) l r
+  row-child h index a b ei ea y eb = ap (λ (x : Bool). x && b) (sym y) ∙ row-both h index a b ei ea eb
 
 -- ---- levels, by what they hold
 module _ (f : IndexForm) (l : Level) (r : FlatRow) where
@@ -134,8 +144,18 @@ module _ (f : IndexForm) (l : Level) where
   pub ends-unknown : (h : ℕ) → h ≡ 1 → f .size ≤ l .index → false ≡ ends f h l
   ends-unknown h e k = rw (e, le-ltb (l .index) (f .size) k)
 
-  pub ends-known : (h : ℕ) → h ≡ 1 → l .index < f .size → (a b : Bool) → a ≡ freed f (l .index) (l .seen) → b ≡ childrenEnd (f .kind (l .index)) (f .model (l .index)) (l .last) → (a && b) ≡ ends f h l
-  ends-known h e k a b p q = rw (e, lt-ltb (l .index) (f .size) k, p, q)
+  ends-both : (h : ℕ) → h ≡ 1 → l .index < f .size → (a b : Bool) → a ≡ freed f (l .index) (l .seen) → b ≡ childrenEnd (f .kind (l .index)) (f .model (l .index)) (l .last) → (a && b) ≡ ends f h l
+  ends-both h e k a b p q = rw (e, lt-ltb (l .index) (f .size) k, p, q)
+
+  module _ (h : ℕ) (e : h ≡ 1) (k : l .index < f .size) (a : Bool) (p : a ≡ freed f (l .index) (l .seen)) where
+    -- an attribute is owed
+    pub ends-owed : a ≡ false → false ≡ ends f h l
+    ends-owed n =
+        ap (λ (x : Bool). x && childrenEnd (f .kind (l .index)) (f .model (l .index)) (l .last)) (sym n)
+        ∙ ends-both h e k a (childrenEnd (f .kind (l .index)) (f .model (l .index)) (l .last)) p refl
+
+    pub ends-known : a ≡ true → (b : Bool) → b ≡ childrenEnd (f .kind (l .index)) (f .model (l .index)) (l .last) → b ≡ ends f h l
+    ends-known y b q = ap (λ (x : Bool). x && b) (sym y) ∙ ends-both h e k a b p q
 
 -- ---- the attributes that are needed, looked up
 module _ (version w : ℕ) (attrs : Bytes) (a i s : ℕ) (d : Needed version w attrs a i s) (small : a ≤ 64) where

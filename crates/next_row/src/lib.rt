@@ -113,8 +113,11 @@ fn row_may(
     if sort == 2 {
         return attribute_may(version, w, attrs, a, needed, i, seen, row);
     }
+    if !form_table::is_freed(needed, a, seen) {
+        return false;
+    }
     let index = layout::row_index(row) as usize;
-    form_table::is_freed(needed, a, seen) & child_may(n, defs, parts, table, i, last, sort, index)
+    child_may(n, defs, parts, table, i, last, sort, index)
 }
 
 // Whether a row may come next at a level.
@@ -169,8 +172,10 @@ pub fn may_end(
         return false;
     }
     let needed = table[68 * i + 67];
-    let free = form_table::is_freed(needed, a, l.seen as usize);
-    free & children_end(n, defs, parts, table, i, l.last as usize)
+    if !form_table::is_freed(needed, a, l.seen as usize) {
+        return false;
+    }
+    children_end(n, defs, parts, table, i, l.last as usize)
 }
 
 // The level after a row.

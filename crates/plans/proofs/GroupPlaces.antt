@@ -6,7 +6,6 @@ use mathlib.Core.Option.{some}
 use mathlib.Core.List.{List, [], _∷_, _++_, map, append-assoc}
 use lib.ListN.{length, drop}
 use lib.Seq.{drop-drop, drop-append-add}
-use borrow.Author.Tests.{le-ltb, eq-eqb}
 use Rattle.rules.specs.declared.Quantifier.{Quantifier}
 use Rattle.rules.specs.declared.GroupKind.{GroupKind}
 use Rattle.rules.specs.declared.GroupKind.the-variants.{Sequence, Choice}
@@ -14,9 +13,9 @@ use Rattle.rules.specs.Bytes.{Bytes}
 use Rattle.rules.specs.Model.{Members, done, el, group, rename}
 use Rattle.rules.specs.Place.{Context, here, past, over, into, plug, renameAround}
 use Rattle.rules.specs.Edit.{Edit, placeOf}
-use Rattle.rules.specs.Store.{Content, empty, pcdata, complex, Definition, Form, bare, tree, Store, members}
-use Rattle.rules.specs.Preorder.{Deep, build}
-use Rattle.rules.specs.Layout.{FlatParticle, groupCode, howMany, indexOf, contentParticles, flatDefinition, allParticles, flat}
+use Rattle.rules.specs.Store.{Content, empty, pcdata, complex, Definition, Form, bare, Store, members}
+use Rattle.rules.specs.Preorder.{build}
+use Rattle.rules.specs.Layout.{groupCode, howMany, indexOf, contentParticles, flatDefinition, allParticles, flat}
 use Rattle.rules.specs.Change.{definitionAt}
 use Rattle.rules.proofs.RenamingPlaces.{plug-rename}
 use Rattle.change_laws.proofs.ModelAfter.{place-right}
@@ -27,13 +26,10 @@ use Rattle.model.specs.Positions.{elementParticle, groupParticle, spread, offse
 use Rattle.model.proofs.PositionLaws.{spread-named, spread-plug, length-leading}
 use Rattle.model_writer.specs.Spliced.{startOf}
 use Rattle.store_writer.specs.Planned.{membersAt}
-use Rattle.rules.proofs.PreorderLaws.{build-less, build-more}
+use Rattle.rules.proofs.PreorderLaws.{build-same, build-less, build-more}
 use Rattle.rules.proofs.DecodeLaws.{quantifier-code}
 
 -- ---- a particle of depth d, a deeper one, one less deep
-build-same : (x : Deep FlatParticle) (xs : Particles) (d : ℕ) → d ≡ x .depth → build (x ∷ xs) d ≡ tree (x .row) (build xs (suc d)) (build xs d)
-build-same x xs d e = rw (le-ltb d (x .depth) (omega arith), build) (rw (eq-eqb d (x .depth) e))
-
 -- no particle comes next, or one less deep than d
 pub record Shallow (d : ℕ) (rest : Particles) : Type 0 where
   pub none : (k : ℕ) → d ≤ k → build rest k ≡ bare

@@ -55,7 +55,7 @@ pub fn show_after(play: Play) {
     tell(b"; now");
     tell_number(play.length as u64);
     tell(b" bytes, next serial");
-    tell_number(codec::get_u32(&bytes, 4) as u64);
+    tell_number(layout::next_serial(&bytes) as u64);
     tell(b"\n");
     show(play);
 }

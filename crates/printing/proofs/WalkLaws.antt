@@ -1,29 +1,18 @@
 -- Laws of the loops that follow the depths of records.
-use mathlib.Core.Path.{_≡_, refl, sym, ap, _∙_}
+use mathlib.Core.Path.{_≡_, refl, ap, _∙_}
 use mathlib.Core.Bool.{Bool}
 use mathlib.Core.List.{List, [], _∷_, _++_}
 use Prim.Native.Nat.{ℕ, suc, _+_, _-_, _*_, _<_, _≤_}
 use native.Mathlib.Omega.{arith}
-use borrow.Author.Tests.{lt-ltb, le-ltb, eq-eqb, ne-eqb}
 use lib.ListN.{length}
 use Rattle.rules.specs.Bytes.{Bytes}
 use Rattle.rules.specs.Store.{Forest, bare, tree}
 use Rattle.rules.specs.Preorder.{Deep, build}
+use Rattle.rules.proofs.PreorderLaws.{build-same, build-less, build-more}
 use Rattle.codec.specs.Laid.{Laid}
 use Rattle.codec.proofs.Writers.{laid-none, laid-then, laid-as}
 use Rattle.escaping.proofs.Laws.{laid-long}
 use Rattle.printing.specs.Walking.{Passed, Stepped}
-
--- ---- a record with its depth, and the records after it
-module _ {A : Type 0} (x : Deep A) (xs : List (Deep A)) (k : ℕ) where
-  pub build-deeper : k < x .depth → build (x ∷ xs) k ≡ build xs k
-  build-deeper h = rw (lt-ltb k (x .depth) h, build)
-
-  pub build-here : x .depth ≡ k → build (x ∷ xs) k ≡ tree (x .row) (build xs (suc k)) (build xs k)
-  build-here e = rw (le-ltb k (x .depth) (omega arith), eq-eqb k (x .depth) (sym e), build)
-
-  pub build-end : x .depth < k → build (x ∷ xs) k ≡ bare
-  build-end h = rw (le-ltb k (x .depth) (omega arith), ne-eqb k (x .depth) (λ e. omega arith), build)
 
 -- ---- the loop
 -- Whoever writes the text of what is left has written all; the bool is what the text before says of the text after.
@@ -47,8 +36,8 @@ module _ {A : Type 0} {records : ℕ → List (Deep A)} {text : Bool → Forest 
     pub walk-deeper : (x : Deep A) → records i ≡ x ∷ records (i + 1) → depth < x .depth → Walk records text goal end i₀ depth at₀ out₀ (i + 1) at q out
     walk-deeper x e h =
         record {
-          goes = λ r o l. w .goes r o (laid-as (ap (λ (xs : List (Deep A)). text q (build xs depth)) e ∙ ap (text q) (build-deeper x (records (i + 1)) depth h)) l);
-          skips = λ j g. w .skips j g ∙ ap (λ (xs : List (Deep A)). build xs j) e ∙ build-deeper x (records (i + 1)) j (omega arith);
+          goes = λ r o l. w .goes r o (laid-as (ap (λ (xs : List (Deep A)). text q (build xs depth)) e ∙ ap (text q) (build-less x (records (i + 1)) depth h)) l);
+          skips = λ j g. w .skips j g ∙ ap (λ (xs : List (Deep A)). build xs j) e ∙ build-less x (records (i + 1)) j (omega arith);
           onward = omega (arith, w .onward);
           small = omega (arith, w .small);
           long = w .long;
@@ -63,10 +52,10 @@ module _ {A : Type 0} {records : ℕ → List (Deep A)} {text : Bool → Forest 
         record {
           goes = λ r o l. w .goes r o
               (laid-as
-              (ap (λ (xs : List (Deep A)). text q (build xs depth)) e ∙ ap (text q) (build-here x (records (i + 1)) depth d)
+              (ap (λ (xs : List (Deep A)). text q (build xs depth)) e ∙ ap (text q) (build-same x (records (i + 1)) depth d)
               ∙ law (build (records (i + 1)) depth) ∙ ap (λ (f : Forest A). w′ ++ text q′ f) (after depth (omega arith)))
               (laid-then (s .laid) l));
-          skips = λ j g. w .skips j g ∙ ap (λ (xs : List (Deep A)). build xs j) e ∙ build-deeper x (records (i + 1)) j (omega arith) ∙ after j (omega arith);
+          skips = λ j g. w .skips j g ∙ ap (λ (xs : List (Deep A)). build xs j) e ∙ build-less x (records (i + 1)) j (omega arith) ∙ after j (omega arith);
           onward = omega (arith, w .onward, s .onward);
           small = omega (arith, w .small, s .small);
           long = laid-long (s .laid) ∙ w .long;
@@ -90,7 +79,7 @@ module _ {A : Type 0} {records : ℕ → List (Deep A)} {text : Bool → Forest 
         → Passed records text₀ end i₀ depth at₀ out₀ i r out′
     walk-stops x w′ e h b n l =
         record {
-          laid = ended w (ap (λ (xs : List (Deep A)). build xs depth) e ∙ build-end x (records (i + 1)) depth h) w′ b l;
+          laid = ended w (ap (λ (xs : List (Deep A)). build xs depth) e ∙ build-more x (records (i + 1)) depth h) w′ b l;
           skips = w .skips;
           onward = w .onward;
           small = omega (arith, w .small, l .next);

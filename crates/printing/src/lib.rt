@@ -277,24 +277,13 @@ fn put_row(
     let index = layout::row_index(bytes) as usize;
     if sort == 2 {
         let written = put_attribute(attribute_name_of(store, index), value_of(bytes), out, at);
-        return Walked {
-            at: written,
-            next: i + 1,
-        };
+        let next = i + 1;
+        return Walked { at: written, next };
     }
     let ended = put_end(opened, out, at);
     if sort == 1 {
-        return put_element(
-            w,
-            store,
-            rows,
-            count,
-            i,
-            depth,
-            name_of(store, index),
-            out,
-            ended,
-        );
+        let name = name_of(store, index);
+        return put_element(w, store, rows, count, i, depth, name, out, ended);
     }
     Walked {
         at: escaping::put_escaped(value_of(bytes), out, ended),
@@ -325,10 +314,8 @@ fn put_rows(
         let bytes = layout::row_at(w, rows, i);
         let d = layout::row_depth(bytes) as usize;
         if d < depth {
-            return Walked {
-                at: put_end(opened, out, at),
-                next: i,
-            };
+            let end = put_end(opened, out, at);
+            return Walked { at: end, next: i };
         }
         if d == depth {
             let row = put_row(w, store, rows, count, i, depth, opened, out, at);
@@ -339,10 +326,8 @@ fn put_rows(
             i += 1;
         }
     }
-    Walked {
-        at: put_end(opened, out, at),
-        next: i,
-    }
+    let end = put_end(opened, out, at);
+    Walked { at: end, next: i }
 }
 
 /// Writes the line of the document whose root is row i.

@@ -31,8 +31,8 @@ use Rattle.place_marks.proofs.MarkLaws.{element-marked}
 use Rattle.model_edit.specs.Editing.{formEdited}
 use Rattle.model_edit.proofs.OwnParts.{form-size}
 use Rattle.model_edit.proofs.Fits.{same-found, bodies-hold, Element, picked-at, index-there}
-use Rattle.quantifier_plans.specs.Quantifying.{Stands, elementPlan}
-use Rattle.quantifier_calls.proofs.Places.{spine-there, element-stands, element-quantifier}
+use Rattle.quantifier_plans.specs.Quantifying.{elementPlan}
+use Rattle.quantifier_calls.proofs.Places.{spine-there, element-quantifier}
 use Rattle.quantifier_calls.proofs.Answering.{sized, same-edit, answered}
 use Rattle.rules.proofs.DecodeLaws.{index-bound}
 
@@ -46,9 +46,6 @@ module _ {bs : Bytes} {o : ℕ} {p : List ℕ} (k : ℕ) (t : Bytes) (x : Elemen
       let same : y .found ≡ x .fits .found = same-found (x .fits) y in
       subst (λ (w : Spot Bytes). Marked (storeIn bs .form) (beforePlace (w .context)) (x .name ∷ []) (marksAt 1 n (partIn bs o))) same
       (element-marked (x .fits .good) (x .fits .there) y (x .quantifier) (x .name) (x .rest) (ap (λ (w : Spot Bytes). w .picked) same ∙ x .is))
-
-  pub element-inside : Stands part h n
-  element-inside = subst (λ (s : Bytes). Stands s h n) (sym own) (element-stands (x .fits) y (x .is))
 
   abbrev planned : Plan
   planned =

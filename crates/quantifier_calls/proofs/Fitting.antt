@@ -1,8 +1,7 @@
--- Where no condition of change 5 or 8 holds, its edit fits at an element
--- or at a group; and what the first conditions leave.
+-- Where no condition of change 5 or 8 holds, its edit fits at an element or at a group.
 use Prim.Native.Nat.{ℕ, _≤_}
 use mathlib.Core.Path.{_≡_, refl, sym, ap, _∙_}
-use mathlib.Core.Bool.{true, false, false≢true}
+use mathlib.Core.Bool.{Bool, true, false, false≢true}
 use mathlib.Core.Option.{Option, none, some}
 use mathlib.Core.List.{List}
 use lib.Dec.{ltb}
@@ -26,7 +25,8 @@ use Rattle.plans.proofs.CallsPlanned.{none-holds}
 use Rattle.store_writer.proofs.StoreFacts.{value-given}
 use Rattle.model_places.specs.Placing.{modelIn}
 use Rattle.model_places.proofs.PlaceLaws.{found-quantify}
-use Rattle.model_edit.proofs.Fits.{Fits, Element, inside, some-content}
+use Rattle.model_edit.proofs.Fits.{Fits, Element, fits-at}
+use Rattle.quantifier_refusals.specs.Requantifying.{requantify}
 
 -- the edit e of definition o fits at the place p, where a group stands
 pub record Group (bs : Bytes) (o : ℕ) (p : List ℕ) (e : Edit Bytes) : Type 0 where
@@ -46,72 +46,60 @@ member-suits r done h = absurd (false≢true (sym h))
 member-suits r (el q x rest) h = refl
 member-suits r (group q k ms rest) h = refl
 
--- the text is a value, and the number is that of a quantifier
-pub record Given (bs : Bytes) (k : ℕ) (t : Bytes) : Type 0 where
+-- change 5 asks for an element at the place, change 8 for a group
+abbrev misses : Bool → Option (Spot Bytes) → Bool
+misses false f = noElementAt f
+misses true f = noGroupAt f
+
+misses-none : (g : Bool) → misses g none ≡ true
+misses-none false = refl
+misses-none true = refl
+
+some-picked : (g : Bool) (f : Spot Bytes) → misses g (some f) ≡ false → isDone (f .picked) ≡ false
+some-picked false f h = element-some (f .picked) h
+some-picked true f h = group-some (f .picked) h
+
+-- what the conditions leave: the text is a value, the number is that of a quantifier, and the edit fits at the place
+pub record Given (g : Bool) (bs : Bytes) (o : ℕ) (p : List ℕ) (k : ℕ) (t : Bytes) : Type 0 where
   pub value : isValue (widthOf bs) t ≡ true
   pub code : k ≤ 3
+  pub fits : Fits bs o p (quantify (quantifierOf k))
+  pub holds : misses g (some (fits .found)) ≡ false
 
-given : (bs : Bytes) (k : ℕ) (t : Bytes) → badText (storeIn bs) t ≡ false → ltb 3 k ≡ false → Given bs k t
-given bs k t text code = record { value = value-given bs t text; code = ltb-false 3 k code }
-
-module _ (bs : Bytes) (o : ℕ) (p : List ℕ) (k : ℕ) (t : Bytes) where
-  pub element-given : first (conditions (changeQuantifier o p k t) (storeIn bs)) ≡ 0 → Given bs k t
-  unfolding conditions
-  element-given e = let (text, (code, more)) = none-holds (changeQuantifier o p k t) (storeIn bs) e in given bs k t text code
-
-  pub group-given : first (conditions (changeGroupQuantifier o p k t) (storeIn bs)) ≡ 0 → Given bs k t
-  unfolding conditions
-  group-given e = let (text, (code, more)) = none-holds (changeGroupQuantifier o p k t) (storeIn bs) e in given bs k t text code
+pub given-some : {g : Bool} {bs : Bytes} {o : ℕ} {p : List ℕ} {k : ℕ} {t : Bytes} (x : Given g bs o p k t) → isDone (x .fits .found .picked) ≡ false
+given-some {g} x = some-picked g (x .fits .found) (x .holds)
 
 module _ (bs : Bytes) (q : passes bs ≡ true) (o : ℕ) (p : List ℕ) (k : ℕ) (t : Bytes) where
-  pub quantify-fits : first (conditions (changeQuantifier o p k t) (storeIn bs)) ≡ 0 → Element bs o p (quantify (quantifierOf k))
+  given-at : (g : Bool) (f : Option (Spot Bytes)) → foundAt (quantify (quantifierOf k)) o p (storeIn bs) ≡ f
+      → badText (storeIn bs) t ≡ false → ltb 3 k ≡ false → past o (storeIn bs .form) ≡ false → misses g f ≡ false → Given g bs o p k t
+  given-at g none at text code l h = absurd (false≢true (sym h ∙ misses-none g))
+  given-at g (some f) at text code l h =
+      let there : isDone (f .picked) ≡ false = some-picked g f h in
+      record {
+        value = value-given bs t text;
+        code = ltb-false 3 k code;
+        fits = fits-at bs q o p (quantify (quantifierOf k)) f (found-quantify (quantifierOf k) o p bs) l at there (member-suits (quantifierOf k) (f .picked) there);
+        holds = h;
+      }
+
+  pub given : (g : Bool) → first (conditions (requantify g o p k t) (storeIn bs)) ≡ 0 → Given g bs o p k t
   unfolding conditions
-  quantify-fits e =
-      let (text, (code, (index, (place, more)))) = none-holds (changeQuantifier o p k t) (storeIn bs) e in by (foundAt (quantify (quantifierOf k)) o p (storeIn bs)) refl index place
+  given false e = let (text, (code, (index, (place, more)))) = none-holds (changeQuantifier o p k t) (storeIn bs) e in given-at false _ refl text code index place
+  given true e = let (text, (code, (index, (place, more)))) = none-holds (changeGroupQuantifier o p k t) (storeIn bs) e in given-at true _ refl text code index place
+
+module _ {bs : Bytes} {o : ℕ} {p : List ℕ} {k : ℕ} {t : Bytes} where
+  pub element-given : Given false bs o p k t → Element bs o p (quantify (quantifierOf k))
+  element-given x = by (x .fits .found .picked) refl
     where
-      by : (f : Option (Spot Bytes)) → foundAt (quantify (quantifierOf k)) o p (storeIn bs) ≡ f → past o (storeIn bs .form) ≡ false → noElementAt f ≡ false → Element bs o p (quantify (quantifierOf k))
-      by none at l h = absurd (false≢true (sym h))
-      by (some f) at l h = there (f .picked) refl
-        where
-          all : Fits bs o p (quantify (quantifierOf k))
-          all =
-              record {
-                good = q;
-                there = inside bs q o p l;
-                found = f;
-                content = some-content bs q o p (quantify (quantifierOf k)) f at (element-some (f .picked) h);
-                at = at;
-                by = sym (found-quantify (quantifierOf k) o p bs) ∙ at;
-                suits = member-suits (quantifierOf k) (f .picked) (element-some (f .picked) h);
-              }
+      by : (m : Members Bytes) → x .fits .found .picked ≡ m → Element bs o p (quantify (quantifierOf k))
+      by done e = absurd (false≢true (sym (x .holds) ∙ ap (onElement true (λ z. false)) e))
+      by (el j n rest) e = record { fits = x .fits; quantifier = j; name = n; rest = rest; is = e }
+      by (group j g ms rest) e = absurd (false≢true (sym (x .holds) ∙ ap (onElement true (λ z. false)) e))
 
-          there : (t : Members Bytes) → f .picked ≡ t → Element bs o p (quantify (quantifierOf k))
-          there done e = absurd (false≢true (sym (element-some (f .picked) h) ∙ ap isDone e))
-          there (el j n rest) e = record { fits = all; quantifier = j; name = n; rest = rest; is = e }
-          there (group j g ms rest) e = absurd (false≢true (sym h ∙ ap (onElement true (λ z. false)) e))
-
-  pub group-fits : first (conditions (changeGroupQuantifier o p k t) (storeIn bs)) ≡ 0 → Group bs o p (quantify (quantifierOf k))
-  unfolding conditions
-  group-fits e =
-      let (text, (code, (index, (place, more)))) = none-holds (changeGroupQuantifier o p k t) (storeIn bs) e in by (foundAt (quantify (quantifierOf k)) o p (storeIn bs)) refl index place
+  pub group-given : Given true bs o p k t → Group bs o p (quantify (quantifierOf k))
+  group-given x = by (x .fits .found .picked) refl
     where
-      by : (f : Option (Spot Bytes)) → foundAt (quantify (quantifierOf k)) o p (storeIn bs) ≡ f → past o (storeIn bs .form) ≡ false → noGroupAt f ≡ false → Group bs o p (quantify (quantifierOf k))
-      by none at l h = absurd (false≢true (sym h))
-      by (some f) at l h = there (f .picked) refl
-        where
-          all : Fits bs o p (quantify (quantifierOf k))
-          all =
-              record {
-                good = q;
-                there = inside bs q o p l;
-                found = f;
-                content = some-content bs q o p (quantify (quantifierOf k)) f at (group-some (f .picked) h);
-                at = at;
-                by = sym (found-quantify (quantifierOf k) o p bs) ∙ at;
-                suits = member-suits (quantifierOf k) (f .picked) (group-some (f .picked) h);
-              }
-
-          there : (t : Members Bytes) → f .picked ≡ t → Group bs o p (quantify (quantifierOf k))
-          there done e = absurd (false≢true (sym (group-some (f .picked) h) ∙ ap isDone e))
-          there (el j n rest) e = absurd (false≢true (sym h ∙ ap (onGroup true (λ z. false)) e))
-          there (group j g ms rest) e = record { fits = all; quantifier = j; kind = g; inner = ms; rest = rest; is = e }
+      by : (m : Members Bytes) → x .fits .found .picked ≡ m → Group bs o p (quantify (quantifierOf k))
+      by done e = absurd (false≢true (sym (x .holds) ∙ ap (onGroup true (λ z. false)) e))
+      by (el j n rest) e = absurd (false≢true (sym (x .holds) ∙ ap (onGroup true (λ z. false)) e))
+      by (group j g ms rest) e = record { fits = x .fits; quantifier = j; kind = g; inner = ms; rest = rest; is = e }

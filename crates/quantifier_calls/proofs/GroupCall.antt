@@ -38,7 +38,7 @@ use Rattle.model_edit.specs.Editing.{startIn, formEdited}
 use Rattle.model_edit.proofs.OwnParts.{start-is, form-size}
 use Rattle.model_edit.proofs.Fits.{same-found, bodies-hold}
 use Rattle.quantifier_plans.specs.Quantifying.{groupSpan, Stands, groupPlan}
-use Rattle.quantifier_calls.proofs.Places.{spine-there, level-there, group-stands, group-number, group-quantifier, group-kind}
+use Rattle.quantifier_calls.proofs.Places.{spine-there, level-there, member-stands, group-number, group-quantifier, group-kind}
 use Rattle.quantifier_calls.proofs.Fitting.{Group, group-picked}
 use Rattle.quantifier_calls.proofs.Answering.{sized, same-edit, answered}
 
@@ -52,9 +52,6 @@ module _ {bs : Bytes} {o : ℕ} {p : List ℕ} (k : ℕ) (t : Bytes) (x : Group 
       let same : y .found ≡ x .fits .found = same-found (x .fits) y in
       subst (λ (w : Spot Bytes). Marked (storeIn bs .form) (beforePlace (w .context)) (names (x .inner)) (marksAt (groupSpan (partIn bs o) h n) n (partIn bs o))) same
       (group-marked (x .fits .good) (x .fits .there) y (x .quantifier) (x .kind) (x .inner) (x .rest) (ap (λ (w : Spot Bytes). w .picked) same ∙ x .is))
-
-  pub group-inside : Stands part h n
-  group-inside = subst (λ (s : Bytes). Stands s h n) (sym own) (group-stands (x .fits) y (x .is))
 
   abbrev planned : Plan
   planned =
@@ -70,7 +67,7 @@ module _ {bs : Bytes} {o : ℕ} {p : List ℕ} (k : ℕ) (t : Bytes) (x : Group 
 
   pub group-sized : {q : Plan} → q ≡ groupPlan (startIn bs o) o part h n new → Sized q
   group-sized e =
-      let there : Stands (partIn bs o) h n = group-stands (x .fits) y (x .is) in
+      let there : Stands (partIn bs o) h n = member-stands (x .fits) y _ (x .is) refl in
       subst Sized (sym (e ∙ group-plan)) (sized o _ false 0 _ (Particles (x .kind) (startIn bs o + n + 1) (h .depth + 1))
       (group-number (x .fits) y (x .is), omega (arith, there .inside, there .short, there .deep)))
 

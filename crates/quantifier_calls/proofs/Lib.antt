@@ -3,3 +3,4 @@ pub mod Fitting
 pub mod Answering
 pub mod ElementCall
 pub mod GroupCall
+pub mod Requantified

@@ -2,13 +2,14 @@
 use Prim.Native.Nat.{ℕ, suc, _+_, _≤_}
 use native.Mathlib.Omega.{arith}
 use mathlib.Core.Path.{_≡_, refl, sym, ap, _∙_}
+use mathlib.Core.Bool.{false, false≢true}
 use mathlib.Core.List.{List, _∷_, _++_}
 use lib.ListN.{drop}
 use Rattle.rules.specs.declared.Quantifier.{Quantifier}
 use Rattle.rules.specs.declared.GroupKind.{GroupKind}
 use Rattle.rules.specs.declared.GroupKind.the-variants.{Sequence, Choice}
 use Rattle.rules.specs.Bytes.{Bytes}
-use Rattle.rules.specs.Model.{Members, el, group, rename}
+use Rattle.rules.specs.Model.{Members, done, el, group, isDone, rename}
 use Rattle.rules.specs.Place.{Context, here, past, over, into, Found as Spot, spine}
 use Rattle.rules.specs.Edit.{Edit}
 use Rattle.rules.specs.Preorder.{Deep}
@@ -68,22 +69,21 @@ module _ {bs : Bytes} {o : ℕ} {p : List ℕ} {e : Edit Bytes} (x : Fits bs o p
     number-low : startIn bs o + n + 1 ≤ 256
     number-low = omega (arith, one-there y z zs from, own-length bs o, own-inside bs (x .good) o (x .there), encoded bs (x .good) .particles, encoded bs (x .good) .fewParticles)
 
+  -- a member is at the place
+  pub member-stands : (t : Members Bytes) → x .found .picked ≡ t → isDone t ≡ false → Stands (partIn bs o) h n
+  unfolding rename
+  member-stands done is s = absurd (false≢true (sym s))
+  member-stands (el q m rest) is s = stands (from-found (el q m rest) is)
+  member-stands (group q k ms rest) is s = stands (from-found (group q k ms rest) is)
+
   -- ---- an element
   module _ {q : Quantifier} {m : Bytes} {rest : Members Bytes} (is : x .found .picked ≡ el q m rest) where
-    pub element-stands : Stands (partIn bs o) h n
-    unfolding rename
-    element-stands = stands (from-found (el q m rest) is)
-
     pub element-quantifier : particleAt (partIn bs o) n .quantifier ≡ q
     unfolding rename particleOf
     element-quantifier = ap (λ (z : Deep FlatParticle). particleOf z .quantifier) (read-there y _ _ (from-found (el q m rest) is)) ∙ quantifier-code q
 
   -- ---- a group
   module _ {q : Quantifier} {k : GroupKind} {ms rest : Members Bytes} (is : x .found .picked ≡ group q k ms rest) where
-    pub group-stands : Stands (partIn bs o) h n
-    unfolding rename
-    group-stands = stands (from-found (group q k ms rest) is)
-
     pub group-number : startIn bs o + n + 1 ≤ 256
     unfolding rename
     group-number = number-low (from-found (group q k ms rest) is)

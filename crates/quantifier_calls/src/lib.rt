@@ -1,4 +1,4 @@
-//! Changes 5 and 8: the quantifier of an element, and of a group. Each call is the check, the first refusal that
+//! Changes 5 and 8: the quantifier of an element, and of a group. Both are one call: the check, the first refusal that
 //! applies or the place, and an edit of the owner's model there with the plan of the change.
 use model_writer::Edit;
 use store_writer::Answer;
@@ -6,6 +6,45 @@ ghost use mathlib.Core.Path.{_≡_};
 ghost use lib.ListN.{length};
 ghost use Rattle.rules.specs.Change.{changeQuantifier, changeGroupQuantifier};
 ghost use Rattle.rules.specs.Outcome.{outcome, Answers};
+ghost use Rattle.quantifier_refusals.specs.Requantifying.{requantify};
+
+// Changes the quantifier of a group, or else of an element.
+fn requantify(
+    store: &[u8],
+    owner: u32,
+    place: &[u32],
+    quantifier: u32,
+    text: &[u8],
+    group: bool,
+    out: &mut [u8],
+) -> Answer
+    ensures { λ r. ⌜ Answers
+        (outcome (requantify group owner (now (place .entry)) quantifier (now (text .entry))) (now (store .entry)) (length (now (out .entry))))
+        (now (out .entry)) (r .number) (r .length) (now (out .exit)) ⌝ }
+{
+    if !store_check::passes(store) {
+        return store_writer::refused(1);
+    }
+    let found = quantifier_refusals::requantify_refusal(
+        store,
+        owner,
+        place,
+        quantifier,
+        text,
+        group,
+    );
+    let number = found.number;
+    if number != 0 {
+        return store_writer::refused(number);
+    }
+    let o = owner as usize;
+    let new = model::read_quantifier(quantifier as u8);
+    let part = model_places::own_part(store, o);
+    let h = found.holder;
+    let p = found.particle;
+    let plan = quantifier_plans::new_plan(store, part, o, h, p, new, group);
+    model_edit::edit_model(store, o, Edit::Quantify(new), h, p, plan, text, out)
+}
 
 /// 5: changes an element's quantifier.
 pub fn change_quantifier(
@@ -20,26 +59,7 @@ pub fn change_quantifier(
         (outcome (changeQuantifier owner (now (place .entry)) quantifier (now (text .entry))) (now (store .entry)) (length (now (out .entry))))
         (now (out .entry)) (r .number) (r .length) (now (out .exit)) ⌝ }
 {
-    if !store_check::passes(store) {
-        return store_writer::refused(1);
-    }
-    let element = quantifier_refusals::change_quantifier_refusal(
-        store,
-        owner,
-        place,
-        quantifier,
-        text,
-    );
-    let element_refusal = element.number;
-    if element_refusal != 0 {
-        return store_writer::refused(element_refusal);
-    }
-    let o = owner as usize;
-    let new = model::read_quantifier(quantifier as u8);
-    let h = element.holder;
-    let p = element.particle;
-    let plan = quantifier_plans::element_plan(model_places::own_part(store, o), o, h, p, new);
-    model_edit::edit_model(store, o, Edit::Quantify(new), h, p, plan, text, out)
+    requantify(store, owner, place, quantifier, text, false, out)
 }
 
 /// 8: changes a group's quantifier.
@@ -55,25 +75,5 @@ pub fn change_group_quantifier(
         (outcome (changeGroupQuantifier owner (now (place .entry)) quantifier (now (text .entry))) (now (store .entry)) (length (now (out .entry))))
         (now (out .entry)) (r .number) (r .length) (now (out .exit)) ⌝ }
 {
-    if !store_check::passes(store) {
-        return store_writer::refused(1);
-    }
-    let group = quantifier_refusals::change_group_quantifier_refusal(
-        store,
-        owner,
-        place,
-        quantifier,
-        text,
-    );
-    let group_refusal = group.number;
-    if group_refusal != 0 {
-        return store_writer::refused(group_refusal);
-    }
-    let o = owner as usize;
-    let new = model::read_quantifier(quantifier as u8);
-    let part = model_places::own_part(store, o);
-    let h = group.holder;
-    let p = group.particle;
-    let plan = quantifier_plans::group_plan(store, part, o, h, p, new);
-    model_edit::edit_model(store, o, Edit::Quantify(new), h, p, plan, text, out)
+    requantify(store, owner, place, quantifier, text, true, out)
 }

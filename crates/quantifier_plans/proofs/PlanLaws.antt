@@ -1,7 +1,7 @@
 -- The plans of changes 5 and 8 from what the code reads.
 use Prim.Native.Nat.{ℕ, _+_, _*_, _≤_}
 use native.Mathlib.Omega.{arith}
-use mathlib.Core.Path.{_≡_, ap, _∙_}
+use mathlib.Core.Path.{_≡_, sym, ap, _∙_}
 use mathlib.Core.Bool.{Bool, false, _&&_}
 use lib.ListN.{length, drop, length-drop}
 use Rattle.rules.specs.declared.Quantifier.{Quantifier}
@@ -23,7 +23,7 @@ use Rattle.row_walk.specs.declared.Plan.{Plan}
 use Rattle.plans.specs.ModelCalls.{requantifyPlan}
 use Rattle.place_marks.specs.Marking.{marksAt}
 use Rattle.model_edit.specs.Editing.{startIn}
-use Rattle.quantifier_plans.specs.Quantifying.{Stands, groupSpan, elementPlan, groupPlan}
+use Rattle.quantifier_plans.specs.Quantifying.{Stands, groupSpan, elementPlan, groupPlan, newPlan}
 
 module _ {part : Bytes} {h : Holder} {p : ℕ} {s : Bytes} {n : ℕ} (y : Stands part h p) (e : s ≡ drop (particleSize * (p + 1)) part) (f : n ≡ spanOf (h .depth) (particlesOf s)) where
   pub span-low : n ≤ 255
@@ -56,3 +56,7 @@ group-planned bs part o h p new f x g d b s m k w =
     let a = m ∙ ap (λ (n : ℕ). marksAt n p part) s in
     let l = k ∙ ap (λ (y : Particle). kindIn (y .what)) e in
     w ∙ (λ j. requantifyPlan o (a j) false 0 (h .spine && u j) (Particles (l j) (v j + p + 1) (h .depth + 1)))
+
+pub new-planned : (bs part : Bytes) (o : ℕ) (h : Holder) (p : ℕ) (new : Quantifier) {g b : Bool} {r : Plan} → g ≡ b → r ≡ newPlan b (startIn bs o) o part h p new
+    → r ≡ newPlan g (startIn bs o) o part h p new
+new-planned bs part o h p new e w = w ∙ ap (λ (b : Bool). newPlan b (startIn bs o) o part h p new) (sym e)

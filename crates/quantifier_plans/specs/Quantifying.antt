@@ -1,6 +1,6 @@
 -- The plans of changes 5 and 8, as the code reads them from the owner's part.
 use Prim.Native.Nat.{ℕ, _+_, _*_, _≤_}
-use mathlib.Core.Bool.{false, _&&_}
+use mathlib.Core.Bool.{Bool, true, false, _&&_}
 use lib.ListN.{length, drop}
 use Rattle.rules.specs.declared.Quantifier.{Quantifier}
 use Rattle.rules.specs.Bytes.{Bytes}
@@ -45,3 +45,8 @@ unfoldable pub groupPlan : ℕ → ℕ → Bytes → Holder → ℕ → Quantifi
 groupPlan before o part h p new =
     requantifyPlan o (marksAt (groupSpan part h p) p part) false 0 (h .spine && gains (particleAt part p .quantifier) new)
     (Particles (kindIn (particleAt part p .what)) (before + p + 1) (h .depth + 1))
+
+-- 5 or 8
+abbrev pub newPlan : Bool → ℕ → ℕ → Bytes → Holder → ℕ → Quantifier → Plan
+newPlan false before o part h p new = elementPlan o part h p new
+newPlan true before o part h p new = groupPlan before o part h p new

@@ -19,7 +19,6 @@ use Rattle.rules.specs.Place.{Context, Found as Spot, spine}
 use Rattle.rules.specs.Edit.{quantify, quantifyOff, quantifyGroupOff}
 use Rattle.rules.specs.Change.{nameAtIndex}
 use Rattle.rules.specs.Refusal.{_if_, Condition, first, conditions, badText, foundAt, noElementAt, noGroupAt, atPlace, onElement, onGroup, instanceExists}
-use Rattle.rules.proofs.Words.{and-both}
 use Rattle.model.specs.declared.place.Holder.{Holder}
 use Rattle.layout.specs.Bodies.{WidthIn, Number}
 use Rattle.store_writer.specs.Stores.{storeIn}
@@ -29,7 +28,7 @@ use Rattle.change_laws.proofs.FirstCondition.{gives-hit, gives-next, gives-none
 use Rattle.instance_search.specs.Instances.{hasInstance}
 use Rattle.model_places.specs.Placing.{modelIn, foundBy, ElementAt, GroupAt}
 use Rattle.quantifier_refusals.specs.Requantifying.{isOff, earlyTests, quantifierTests, requantify}
-use Rattle.instance_search.proofs.TestLaws.{and-off, and-first, none-long}
+use Rattle.instance_search.proofs.TestLaws.{and-off, and-held, none-long}
 use Rattle.model_places.proofs.PlaceLaws.{found-quantify}
 use Rattle.instance_search.proofs.InstanceLaws.{instance-is}
 
@@ -97,12 +96,8 @@ module _ (exists spine : Bool) (old new : Quantifier) (t : Bytes) (isGroup : Boo
         by true k = absurd (false≢true k)
         by false k = refl
 
-    module _ (k : not b ≡ false) {x : Bool} (i : x ≡ exists) where
-      pub at-13 : x ≡ true → Gives 13 (quantifierTests exists spine old new t isGroup)
-      at-13 w = gives-next (gain-is h) (gives-hit (and-both (sym i ∙ w) (sym f ∙ not-false b k)))
-
-      pub at-0 : x ≡ false → Gives 0 (quantifierTests exists spine old new t isGroup)
-      at-0 w = gives-next (gain-is h) (gives-next (and-first exists (isOff spine old new isGroup) (sym i ∙ w)) gives-none)
+    pub at-exists : not b ≡ false → {x : ℕ} → x ≡ first (13 if exists ∷ []) → Gives x (quantifierTests exists spine old new t isGroup)
+    at-exists k z = gives-next (gain-is h) (record { is = z ∙ ap (λ (v : Bool). first (13 if v ∷ [])) (sym (and-held exists _ (sym f ∙ not-false b k))) })
 
 pub gains-read : (old new : Quantifier) {a b : Bool} → a ≡ skips new → b ≡ skips old → (not a && b) ≡ gains old new
 gains-read old new e f = ap₂ (λ (x y : Bool). not x && y) e f

@@ -6,7 +6,6 @@ ghost use mathlib.Core.Path.{_≡_};
 ghost use mathlib.Core.Bool.{true, false};
 ghost use Rattle.rules.specs.Quantifiers.{many, gains, cuts};
 ghost use Rattle.rules.specs.Passing.{passes};
-ghost use Rattle.rules.specs.Change.{changeQuantifier, changeGroupQuantifier};
 ghost use Rattle.rules.specs.Refusal.{first, conditions};
 ghost use Rattle.store_writer.specs.Stores.{storeIn};
 ghost use Rattle.change_laws.specs.FirstCondition.{Gives};
@@ -81,14 +80,11 @@ fn quantifier_at(
     if !is_off(spine, old, new, group) {
         return 0;
     }
-    if instance_search::instance_exists(store, owner) {
-        return 13;
-    }
-    0
+    instance_search::instance_refusal(store, owner, 13)
 }
 
-// Refusals 3, 4, 6, 8, 12 and 13 of the change of the quantifier of a group, or else of an element; or the place.
-fn requantify_refusal(
+/// Refusals 3, 4, 6, 8, 12 and 13 of the change of the quantifier of a group, or else of an element; or the place.
+pub fn requantify_refusal(
     store: &[u8],
     owner: u32,
     place: &[u32],
@@ -123,35 +119,4 @@ fn requantify_refusal(
         }
         Picked::Absent => model_places::refused(8),
     }
-}
-
-/// Refusals 3, 4, 6, 8, 12 and 13 of the change of an element's quantifier, or the place.
-pub fn change_quantifier_refusal(
-    store: &[u8],
-    owner: u32,
-    place: &[u32],
-    quantifier: u32,
-    text: &[u8],
-) -> Located
-    requires { ⌜ passes (now store) ≡ true ⌝ }
-    ensures { λ r. ⌜ (r .number ≡ first (conditions (changeQuantifier owner (now (place .entry)) quantifier (now (text .entry))) (storeIn (now (store .entry)))))
-        × Finds (now (store .entry)) owner false (now (place .entry)) r ⌝ }
-{
-    requantify_refusal(store, owner, place, quantifier, text, false)
-}
-
-/// Refusals 3, 4, 6, 8, 12 and 13 of the change of a group's quantifier, or the place.
-pub fn change_group_quantifier_refusal(
-    store: &[u8],
-    owner: u32,
-    place: &[u32],
-    quantifier: u32,
-    text: &[u8],
-) -> Located
-    requires { ⌜ passes (now store) ≡ true ⌝ }
-    ensures { λ r. ⌜ (r .number
-        ≡ first (conditions (changeGroupQuantifier owner (now (place .entry)) quantifier (now (text .entry))) (storeIn (now (store .entry)))))
-        × Finds (now (store .entry)) owner false (now (place .entry)) r ⌝ }
-{
-    requantify_refusal(store, owner, place, quantifier, text, true)
 }

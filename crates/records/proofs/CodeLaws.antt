@@ -4,12 +4,12 @@ use native.Mathlib.Nat.{min-eq-left, min-eq-right}
 use native.Mathlib.Numerals.{add-one}
 use native.Mathlib.Omega.{arith}
 use mathlib.Core.Path.{_≡_, refl, sym, ap, ap₂, _∙_}
-use mathlib.Core.Bool.{Bool, true, false, _&&_, _||_, not}
+use mathlib.Core.Bool.{Bool, true, false, _&&_, _||_, not, false≢true}
 use mathlib.Core.List.{[], _∷_}
 use lib.Dec.{eqb, leb, ltb, eqb·suc-zero}
 use lib.ListN.{length, take, drop, getD, drop-of-length-le, List·getD-eq-default}
 use lib.Seq.{drop-drop}
-use borrow.Author.Tests.{le-leb, lt-leb, leb-true, leb-false}
+use borrow.Author.Tests.{le-leb, lt-leb, leb-true, leb-false, ne-eqb}
 use Rattle.rules.specs.Bytes.{Bytes, all, isNone}
 use Rattle.rules.specs.Layout.{nameWidth, headerSize, definitionSize, particleSize, attributeSize, rowSize}
 use Rattle.rules.specs.WellFormed.{startsName, inName, storedName, isValue, isFill}
@@ -86,13 +86,96 @@ attribute-of w n bs owner sort l value o s u v a b c =
     (λ i. ltb owner n && (a i && (leb sort 2 && (b i && c i))))
     ∙ (λ i. ltb (o i) n && (nameFits bs attributeNameAt && (leb (s i) 2 && (valueFits w bs attributeValueAt (u i) && isFill (sortOf (s i)) (v i)))))
 
-pub row-of : (w : ℕ) (bs : Bytes) (sort l index : ℕ) {b u : Bool} → sort ≡ readRow bs .row .sort → l ≡ rowLength bs → index ≡ readRow bs .row .index
-    → b ≡ valueFits w bs rowValueAt l → u ≡ unusedFit w bs
-    → ((leb 1 sort && leb sort 3) && (b && ((not (eqb sort 1) || eqb l 0) && ((not (eqb sort 3) || eqb index 0) && u)))) ≡ rowFits w bs
-unfolding rowFits
-row-of w bs sort l index s e n b u =
-    ap₂ (λ (y z : Bool). (leb 1 sort && leb sort 3) && (y && ((not (eqb sort 1) || eqb l 0) && ((not (eqb sort 3) || eqb index 0) && z)))) b u
-    ∙ (λ i. (leb 1 (s i) && leb (s i) 3) && (valueFits w bs rowValueAt (e i) && ((not (eqb (s i) 1) || eqb (e i) 0) && ((not (eqb (s i) 3) || eqb (n i) 0) && unusedFit w bs))))
+-- ---- a row's tests, in the code's order: by its sort, its value's length and its index; whether its value fits, and its unused bytes do
+abbrev rowTests : ℕ → ℕ → ℕ → Bool → Bool → Bool
+rowTests s l i v u = (leb 1 s && leb s 3) && (v && ((not (eqb s 1) || eqb l 0) && ((not (eqb s 3) || eqb i 0) && u)))
+
+-- an attribute's, or a text's with index 0
+abbrev pub bearsValue : ℕ → ℕ → Bool
+bearsValue s i = eqb s 2 || (eqb s 3 && eqb i 0)
+
+last-false : (a b c d : Bool) → false ≡ (a && (b && (c && (d && false))))
+last-false true true true true = refl
+last-false true true true false = refl
+last-false true true false d = refl
+last-false true false c d = refl
+last-false false b c d = refl
+
+element-long : (l i : ℕ) (v u : Bool) → (l ≡ 0 → ⊥) → false ≡ rowTests 1 l i v u
+element-long zero i v u h = absurd (h refl)
+element-long (suc l) i true u h = rw (eqb·suc-zero l)
+element-long (suc l) i false u h = refl
+
+element-none : (i : ℕ) (v : Bool) → v ≡ rowTests 1 0 i v true
+element-none i true = refl
+element-none i false = refl
+
+bears-none : (s l i : ℕ) (v u : Bool) → (s ≡ 1 → ⊥) → bearsValue s i ≡ false → false ≡ rowTests s l i v u
+bears-none zero l i v u h e = refl
+bears-none (suc zero) l i v u h e = absurd (h refl)
+bears-none (suc (suc zero)) l i v u h e = absurd (false≢true (sym e))
+bears-none (suc (suc (suc zero))) l i true u h e = rw e
+bears-none (suc (suc (suc zero))) l i false u h e = refl
+bears-none (suc (suc (suc (suc s)))) l i v u h e = rw (le-leb 1 (suc (suc (suc (suc s)))) (omega arith), lt-leb (suc (suc (suc (suc s)))) 3 (omega arith))
+
+bears-some : (s l i : ℕ) (v : Bool) → (s ≡ 1 → ⊥) → bearsValue s i ≡ true → v ≡ rowTests s l i v true
+bears-some zero l i v h e = absurd (false≢true e)
+bears-some (suc zero) l i v h e = absurd (h refl)
+bears-some (suc (suc zero)) l i true h e = refl
+bears-some (suc (suc zero)) l i false h e = refl
+bears-some (suc (suc (suc zero))) l i true h e = rw e
+bears-some (suc (suc (suc zero))) l i false h e = refl
+bears-some (suc (suc (suc (suc s)))) l i v h e =
+    let two : eqb (suc (suc (suc (suc s)))) 2 ≡ false = ne-eqb (suc (suc (suc (suc s)))) 2 (λ q. omega arith) in
+    let three : eqb (suc (suc (suc (suc s)))) 3 ≡ false = ne-eqb (suc (suc (suc (suc s)))) 3 (λ q. omega arith) in
+    absurd (false≢true (ap₂ (λ (x y : Bool). x || (y && eqb i 0)) (sym two) (sym three) ∙ e))
+
+module _ (w : ℕ) (bs : Bytes) {u : Bool} (unused : u ≡ unusedFit w bs) where
+  pub row-used : u ≡ false → false ≡ rowFits w bs
+  unfolding rowFits
+  row-used e =
+      last-false (leb 1 (readRow bs .row .sort) && leb (readRow bs .row .sort) 3) (valueFits w bs rowValueAt (rowLength bs)) (not (eqb (readRow bs .row .sort) 1) || eqb (rowLength bs) 0)
+      (not (eqb (readRow bs .row .sort) 3) || eqb (readRow bs .row .index) 0)
+      ∙ ap (λ (z : Bool). rowTests (readRow bs .row .sort) (rowLength bs) (readRow bs .row .index) (valueFits w bs rowValueAt (rowLength bs)) z) (sym e ∙ unused)
+
+  module _ (sort l : ℕ) (sorted : sort ≡ readRow bs .row .sort) (sized : l ≡ rowLength bs) where
+    tested : (index : ℕ) → index ≡ readRow bs .row .index → rowTests sort l index (valueFits w bs rowValueAt l) u ≡ rowFits w bs
+    unfolding rowFits
+    tested index e = λ i. rowTests (sorted i) (sized i) (e i) (valueFits w bs rowValueAt (sized i)) (unused i)
+
+    -- an element has no value
+    pub row-valued : sort ≡ 1 → (l ≡ 0 → ⊥) → false ≡ rowFits w bs
+    row-valued e h =
+        element-long l (readRow bs .row .index) (valueFits w bs rowValueAt l) u h
+        ∙ ap (λ (s : ℕ). rowTests s l (readRow bs .row .index) (valueFits w bs rowValueAt l) u) (sym e)
+        ∙ tested _ refl
+
+    pub row-bare : u ≡ true → sort ≡ 1 → l ≡ 0 → {b : Bool} → b ≡ filled bs rowValueAt 0 w → b ≡ rowFits w bs
+    unfolding valueFits
+    row-bare q e z f =
+        f
+        ∙ ap (λ (x : Bool). (x && true) && filled bs rowValueAt 0 w) (sym (le-leb 0 w (omega arith)))
+        ∙ element-none (readRow bs .row .index) (valueFits w bs rowValueAt 0)
+        ∙ (λ i. rowTests (sym e i) (sym z i) (readRow bs .row .index) (valueFits w bs rowValueAt (sym z i)) (sym q i))
+        ∙ tested _ refl
+
+    module _ (index : ℕ) (indexed : index ≡ readRow bs .row .index) (other : sort ≡ 1 → ⊥) where
+      pub row-neither : bearsValue sort index ≡ false → false ≡ rowFits w bs
+      row-neither e = bears-none sort l index (valueFits w bs rowValueAt l) u other e ∙ tested index indexed
+
+      module _ (q : u ≡ true) (e : bearsValue sort index ≡ true) (rest part : Bytes) {a : Bool} (r : rest ≡ drop rowValueAt bs) (p : part ≡ take l rest) (v : a ≡ isValue w part) where
+        valued : (b : Bool) → b ≡ filled bs rowValueAt l w → (a && b) ≡ rowFits w bs
+        valued b f =
+            value-fits-of w bs rowValueAt l rest part r p v f
+            ∙ bears-some sort l index (valueFits w bs rowValueAt l) other e
+            ∙ ap (rowTests sort l index (valueFits w bs rowValueAt l)) (sym q)
+            ∙ tested index indexed
+
+        pub row-no-value : a ≡ false → false ≡ rowFits w bs
+        row-no-value n = ap (λ (x : Bool). x && filled bs rowValueAt l w) (sym n) ∙ valued _ refl
+
+        pub row-value : a ≡ true → {b : Bool} → b ≡ filled bs rowValueAt l w → b ≡ rowFits w bs
+        row-value y {b} f = ap (λ (x : Bool). x && b) (sym y) ∙ valued b f
 
 pub counts-of : (bs : Bytes) (d p a r : ℕ) → d ≡ definitionCount bs → p ≡ particleCount bs → a ≡ attributeCount bs → r ≡ rowCount bs
     → (leb d 64 && (leb p 256 && (leb a 64 && leb r 4096))) ≡ countsFit bs

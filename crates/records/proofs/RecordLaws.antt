@@ -171,7 +171,7 @@ definition-at bs =
     λ i. record {
       name = used bs (suc definitionNameAt) (getD bs definitionNameAt 0);
       kind = getD-drop definitionKindAt bs 0 0 i;
-      particles = unle (take 2 (drop-drop 1 definitionKindAt bs i));
+      particles = unle (take 2 (drop-drop (definitionParticlesAt - definitionKindAt) definitionKindAt bs i));
     }
 
 -- the test by them
@@ -218,7 +218,8 @@ definition-fits d f =
 
     particlesAt : numberAt definitionParticlesAt 2 (definitionBytes d) ≡ d .particles
     particlesAt =
-        ap (λ (ys : Bytes). unle (take 2 ys)) (drop-past (field nameWidth (d .name)) (d .kind ∷ le 2 (d .particles)) nameWidth 1 (length-field nameWidth (d .name)))
+        ap (λ (ys : Bytes). unle (take 2 ys))
+        (drop-past (field nameWidth (d .name)) (d .kind ∷ le 2 (d .particles)) nameWidth (definitionParticlesAt - definitionKindAt) (length-field nameWidth (d .name)))
         ∙ unle-le 2 (d .particles) (f .particles)
 
 -- a record fits if and only if its fields are good and it is what they are written as
@@ -257,7 +258,7 @@ attribute-at bs =
       owner = getD bs attributeOwnerAt 0;
       name = used bs (suc attributeNameAt) (getD bs attributeNameAt 0);
       sort = getD-drop attributeSortAt bs 0 0 i;
-      value = take (getD-drop attributeSortAt bs 1 0 i) (drop-drop 2 attributeSortAt bs i);
+      value = take (getD-drop attributeSortAt bs (attributeLengthAt - attributeSortAt) 0 i) (drop-drop (attributeValueAt - attributeSortAt) attributeSortAt bs i);
     }
 
 -- the test by them

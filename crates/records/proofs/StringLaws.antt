@@ -26,7 +26,7 @@ use Rattle.rules.proofs.BooleanLaws.{Every, every-map, every-append, every-zip,
 use Rattle.rules.proofs.LayoutLaws.{Small, unle-le, GoodFlatDefinition, GoodFlatAttribute, GoodFlatRow, GoodFlat, length-definition, length-particle}
 use Rattle.rules.proofs.LayoutLaws.{length-attribute, length-row, length-each, length-flatBytes, sized-bytes}
 use Rattle.rules.proofs.DecodeLaws.{version-bound, width-bound, GoodParts, good-parts, DefinitionParts, every-definition, good-flat, value-width}
-use Rattle.layout.specs.Fields.{definitionEntryAt, particleEntryAt, attributeEntryAt, rowEntryAt, versionAt, nextAt}
+use Rattle.layout.specs.Fields.{versionAt, nextAt, definitionEntryAt, definitionCountAt, particleEntryAt, particleCountAt, attributeEntryAt, attributeCountAt, rowEntryAt, rowCountAt}
 use Rattle.records.specs.Records.{definitionFits, attributeFits, rowFits, eachFits, atParticles, atAttributes, atRows, recordsFit, countsFit, offsetsFit, headerFits}
 use Rattle.records.proofs.RecordLaws.{small-drop, number-then, number-bound, name-length, FittingDefinition, definition-canonical, definition-fields}
 use Rattle.records.proofs.RecordLaws.{definition-fits, particle-canonical, FittingAttribute, attribute-canonical, attribute-fields, attribute-fits}
@@ -183,13 +183,13 @@ module _ (w : ℕ) (bs : Bytes) where
         ∙ number-then bs versionAt 4 (numberAt versionAt 4 bs) small refl (omega arith)
         (number-then bs nextAt 4 (numberAt nextAt 4 bs) small refl (omega arith)
         (number-then bs definitionEntryAt 4 headerSize small (sym (header .definitionsAt)) (omega arith)
-        (number-then bs (definitionEntryAt + 4) 4 (definitionCount bs) small refl (omega arith)
+        (number-then bs definitionCountAt 4 (definitionCount bs) small refl (omega arith)
         (number-then bs particleEntryAt 4 (atParticles bs) small (sym (header .particlesAt)) (omega arith)
-        (number-then bs (particleEntryAt + 4) 4 (particleCount bs) small refl (omega arith)
+        (number-then bs particleCountAt 4 (particleCount bs) small refl (omega arith)
         (number-then bs attributeEntryAt 4 (atAttributes bs) small (sym (header .attributesAt)) (omega arith)
-        (number-then bs (attributeEntryAt + 4) 4 (attributeCount bs) small refl (omega arith)
+        (number-then bs attributeCountAt 4 (attributeCount bs) small refl (omega arith)
         (number-then bs rowEntryAt 4 (atRows w bs) small (sym (header .rowsAt)) (omega arith)
-        (number-then bs (rowEntryAt + 4) 4 (rowCount bs) small refl (omega arith) refl)))))))))
+        (number-then bs rowCountAt 4 (rowCount bs) small refl (omega arith) refl)))))))))
 
 pub string-canonical : (w : ℕ) (bs : Bytes) → Small bs → headerFits w bs ≡ true → recordsFit w bs ≡ true → flatBytes w (readFlat w bs) ≡ bs
 string-canonical w bs a h b = all-canonical w bs a (header-fields w bs h) (body-parts w bs b)
@@ -212,7 +212,7 @@ all-fields w bs a x p =
     record {
       version = x .version;
       least = x .next;
-      most = number-bound 4 bs 4 a (omega arith);
+      most = number-bound 4 bs nextAt a (omega arith);
       fewDefinitions = omega (arith, definitionsRead);
       fewParticles = omega (arith, length-many readParticle particleSize (particleCount bs) (fromParticles w bs));
       fewAttributes = omega (arith, length-many readAttribute (attributeSize w) (attributeCount bs) (fromAttributes w bs));
@@ -283,7 +283,7 @@ module _ (w : ℕ) (f : FlatStore) (x : FittingFlat w f) where
   offsets-fit : w < 256 → offsetsFit w (flatBytes w f) ≡ true
   unfolding offsetsFit
   offsets-fit narrow =
-      let k : attributeSize w * a ≤ 276 * 64 = mul-le-mul {n₁ = attributeSize w} {m₁ = a} {n₂ = 276} {m₂ = 64} (omega arith) (omega arith) in
+      let k : attributeSize w * a ≤ attributeSize 256 * 64 = mul-le-mul {n₁ = attributeSize w} {m₁ = a} {n₂ = attributeSize 256} {m₂ = 64} (omega arith) (omega arith) in
       and-both (eq-eqb _ _ (unle-le 4 headerSize (lit< tt)))
       (and-both (eq-eqb _ _ (unle-le 4 (headerSize + definitionSize * d) (omega arith) ∙ sym (ap (λ (m : ℕ). headerSize + definitionSize * m) definitions-counted)))
       (and-both

@@ -130,19 +130,30 @@ pub fn attribute_fits(w: usize, rec: &[u8], n: usize) -> bool
 }
 
 /// Whether a record is a row's, apart from its depth.
+// It is asked of every row: what is cheap comes first, and the field of an element is not read as a value.
 pub fn row_fits(w: usize, rec: &[u8]) -> bool
     requires { ⌜ Width w ⌝ }
     ensures { λ r. ⌜ r ≡ rowFits w (now (rec .entry)) ⌝ }
 {
+    if !layout::unused_fit(w, rec) {
+        return false;
+    }
     let sort = layout::row_sort(rec);
     let used = layout::row_length(rec);
+    if sort == 1 {
+        if used != 0 {
+            return false;
+        }
+        return filled(rec, layout::ROW_VALUE, 0, w);
+    }
     let index = layout::row_index(rec);
-    let known = (1 <= sort) & (sort <= 3);
-    let element = (sort != 1) | (used == 0);
-    let text = (sort != 3) | (index == 0);
-    known
-        & (value_fits(w, rec, layout::ROW_VALUE, used)
-            & (element & (text & layout::unused_fit(w, rec))))
+    if !((sort == 2) | ((sort == 3) & (index == 0))) {
+        return false;
+    }
+    if !is_value(w, first(after(rec, layout::ROW_VALUE), used)) {
+        return false;
+    }
+    filled(rec, layout::ROW_VALUE, used, w)
 }
 
 // ---- bodies

@@ -33,7 +33,7 @@ use Rattle.plans.proofs.ModelCallsPlanned.{remove-element-planned}
 use Rattle.model_places.specs.Placing.{indexOfName, partIn, Placed}
 use Rattle.model_places.proofs.PlaceLaws.{found-remove}
 use Rattle.model_edit.specs.Editing.{formEdited}
-use Rattle.model_edit.proofs.Fits.{Fits, Element, picked-at, index-there, inside, some-content, edited-answers, bodies-hold}
+use Rattle.model_edit.proofs.Fits.{Fits, Element, picked-at, index-there, fits-at, edited-answers, bodies-hold}
 
 element-suits : (t : Members Bytes) → onElement true (λ q. false) t ≡ false → suits {A = Bytes} remove t ≡ true
 element-suits done h = absurd (false≢true (sym h))
@@ -50,16 +50,7 @@ module _ (bs : Bytes) (q : passes bs ≡ true) (o : ℕ) (p : List ℕ) where
       by (some f) at i h = there (f .picked) refl
         where
           all : Fits bs o p remove
-          all =
-              record {
-                good = q;
-                there = inside bs q o p i;
-                found = f;
-                content = some-content bs q o p remove f at (element-some (f .picked) h);
-                at = at;
-                by = sym (found-remove o p bs) ∙ at;
-                suits = element-suits (f .picked) h;
-              }
+          all = fits-at bs q o p remove f (found-remove o p bs) i at (element-some (f .picked) h) (element-suits (f .picked) h)
 
           there : (t : Members Bytes) → f .picked ≡ t → Element bs o p remove
           there done e = absurd (false≢true (sym (element-some (f .picked) h) ∙ ap isDone e))

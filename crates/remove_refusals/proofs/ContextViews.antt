@@ -2,7 +2,7 @@
 use Prim.Native.Nat.{ℕ, suc, _+_, _<_}
 use native.Mathlib.Omega.{arith}
 use mathlib.Core.Path.{_≡_, refl, sym, ap, ap₂, _∙_}
-use mathlib.Core.Bool.{Bool, true, false, _&&_, _||_}
+use mathlib.Core.Bool.{Bool, true, false, _&&_, _||_, and-true, and-false}
 use mathlib.Core.List.{[], _∷_, _++_, append-assoc}
 use lib.ListN.{length, length-append}
 use Rattle.rules.specs.declared.Quantifier.{Quantifier}
@@ -46,24 +46,16 @@ pub data View (c : Context ℕ) : Type 0 where
   outer : (f : Members ℕ) → Outer c f → View c
   inner : (q : Quantifier) (k : GroupKind) (f : Members ℕ) (n : ℕ) → Inner c q k f n → View c
 
-and-false : (b : Bool) → false ≡ (b && false)
-and-false true = refl
-and-false false = refl
-
-and-true : (b : Bool) → b ≡ (b && true)
-and-true true = refl
-and-true false = refl
-
 pub view : (c : Context ℕ) → View c
 unfolding opens leaves plug _⊕_
-view here = outer done (record { opens = and-true; leaves = λ b k t. refl; plug = λ t. refl; leading = λ d t. refl; holder = λ h p. refl; level = λ d. refl })
+view here = outer done (record { opens = λ b. sym (and-true b); leaves = λ b k t. refl; plug = λ t. refl; leading = λ d t. refl; holder = λ h p. refl; level = λ d. refl })
 view (past q i c) = by (view c)
   where
     by : View c → View (past q i c)
     by (outer f v) =
         outer (el q i f)
         (record {
-          opens = λ b. v .opens false ∙ and-false b;
+          opens = λ b. v .opens false ∙ sym (and-false b);
           leaves = λ b k t. v .leaves b k t;
           plug = λ t. ap (el q i) (v .plug t);
           leading = λ d t. ap (λ (l : Particles). elementParticle d q i ∷ l) (v .leading d t);
@@ -88,7 +80,7 @@ view (over q j ms c) = by (view c)
     by (outer f v) =
         outer (group q j ms f)
         (record {
-          opens = λ b. v .opens false ∙ and-false b;
+          opens = λ b. v .opens false ∙ sym (and-false b);
           leaves = λ b k t. v .leaves b k t;
           plug = λ t. ap (group q j ms) (v .plug t);
           leading = λ d t. ap (λ (l : Particles). groupParticle d q j (howMany ms) ∷ (spread (suc d) ms ++ l)) (v .leading d t);

@@ -26,7 +26,7 @@ use Rattle.rules.specs.Edit.{_⊕_, sameKind, remove, removeLast, removeUnmatch
 use Rattle.rules.specs.Change.{removeElement}
 use Rattle.rules.specs.Refusal.{_if_, first, conditions, foundAt, noElementAt, atPlace, onElement, tailOf}
 use Rattle.rules.proofs.AroundLaws.{opens, leaves, unlessList, last-is, unmatched-is}
-use Rattle.rules.proofs.Words.{or-left, or-right, and-both}
+use Rattle.rules.proofs.Words.{or-left, or-right}
 use Rattle.rules.proofs.RenamingPlaces.{leaves-rename}
 use Rattle.model.specs.declared.place.Holder.{Holder}
 use Rattle.model.specs.declared.Particle.{Particle}
@@ -46,14 +46,14 @@ use Rattle.change_laws.proofs.FirstCondition.{gives-hit, gives-next, gives-none
 use Rattle.instance_search.specs.Instances.{hasInstance}
 use Rattle.model_places.specs.Placing.{indexOfName, modelIn, partIn, foundBy, ElementAt, GroupAt}
 use Rattle.remove_refusals.specs.Removing.{choiceLeft, Removable, removeTests}
-use Rattle.instance_search.proofs.TestLaws.{and-off, and-first}
+use Rattle.instance_search.proofs.TestLaws.{and-held}
 use Rattle.model_places.proofs.PlaceLaws.{found-remove}
 use Rattle.model_places.proofs.PickLaws.{around, from-there, one-there, read-there, part-few}
 use Rattle.instance_search.proofs.InstanceLaws.{instance-is}
 use Rattle.model_places.proofs.CountLaws.{done-many}
 use Rattle.remove_refusals.proofs.ContextViews.{Lead, Inner, View, outer, inner, view}
 use Rattle.remove_refusals.proofs.SpreadLaws.{members-spread}
-use Rattle.change_laws.proofs.EditConditions.{or-both}
+use Rattle.rules.proofs.Words.{or-both, and-off}
 use Rattle.rules.proofs.DecodeLaws.{quantifier-code}
 
 -- ---- words
@@ -339,12 +339,9 @@ module _ (exists : Bool) (s : Bytes) (h : Holder) (p : ℕ) {r : Bytes} {d n : �
       pub at-left : b ≡ true → Gives 0 (removeTests exists s h p)
       at-left z = fine (or-right (sameKind (h .kind) Sequence) (sym left-at ∙ z))
 
-      module _ (no : a ≡ false) (off : b ≡ false) {y : Bool} (i : y ≡ exists) where
+      module _ (no : a ≡ false) (off : b ≡ false) where
         unmatched : not (sameKind (h .kind) Sequence || choiceLeft s (h .start) p depth) ≡ true
         unmatched = ap not (or-both (sameKind (h .kind) Sequence) (choiceLeft s (h .start) p depth) (sym f ∙ no) (sym left-at ∙ off))
 
-        pub at-15 : y ≡ true → Gives 15 (removeTests exists s h p)
-        at-15 z = gives-next (last-read k) (gives-hit (and-both (sym i ∙ z) unmatched))
-
-        pub at-0 : y ≡ false → Gives 0 (removeTests exists s h p)
-        at-0 z = gives-next (last-read k) (gives-next (and-first exists (not (sameKind (h .kind) Sequence || choiceLeft s (h .start) p depth)) (sym i ∙ z)) gives-none)
+        pub at-exists : {x : ℕ} → x ≡ first (15 if exists ∷ []) → Gives x (removeTests exists s h p)
+        at-exists z = gives-next (last-read k) (record { is = z ∙ ap (λ (v : Bool). first (15 if v ∷ [])) (sym (and-held exists _ unmatched)) })

@@ -1,31 +1,20 @@
 -- The particles of members, read back at any depth.
 use Prim.Native.Nat.{ℕ, suc, _<_, _≤_}
 use native.Mathlib.Omega.{arith}
-use borrow.Author.Tests.{le-ltb, eq-eqb}
 use mathlib.Core.Path.{_≡_, refl, sym, ap, ap₂, _∙_}
-use mathlib.Core.Bool.{true, false}
-use mathlib.Core.List.{[], _∷_, _++_, append-assoc, append-nil}
-use lib.Dec.{ltb, eqb}
+use mathlib.Core.List.{[], _++_, append-assoc, append-nil}
 use Rattle.rules.specs.declared.Quantifier.{Quantifier}
 use Rattle.rules.specs.declared.GroupKind.{GroupKind}
 use Rattle.rules.specs.declared.GroupKind.the-variants.{Sequence, Choice}
 use Rattle.rules.specs.Model.{Members, done, el, group}
 use Rattle.rules.specs.Store.{bare, tree}
-use Rattle.rules.specs.Preorder.{Deep, build}
-use Rattle.rules.specs.Layout.{FlatParticle, howMany, groupCode}
+use Rattle.rules.specs.Preorder.{build}
+use Rattle.rules.specs.Layout.{howMany, groupCode}
 use Rattle.model.specs.Members.{indexMember, indexMembers}
 use Rattle.model.specs.Places.{Particles}
 use Rattle.model.specs.Positions.{elementParticle, groupParticle, spread}
-use Rattle.rules.proofs.PreorderLaws.{build-less, build-more as build-stop}
+use Rattle.rules.proofs.PreorderLaws.{build-same, build-less, build-more}
 use Rattle.rules.proofs.DecodeLaws.{quantifier-code}
-
-build-more : (x : Deep FlatParticle) (xs : Particles) (d : ℕ)
-    → build (x ∷ xs) d ≡ elim (ltb d (x .depth)) [ true ↦ build xs d | false ↦ elim (eqb d (x .depth)) [ true ↦ tree (x .row) (build xs (suc d)) (build xs d) | false ↦ bare ] ]
-build-more x xs d = refl
-
-module _ (x : Deep FlatParticle) (xs : Particles) (d : ℕ) where
-  build-here : x .depth ≡ d → build (x ∷ xs) d ≡ tree (x .row) (build xs (suc d)) (build xs d)
-  build-here e = build-more x xs d ∙ rw (le-ltb d (x .depth) (omega arith), eq-eqb d (x .depth) (omega arith))
 
 skip-deeper : (d e : ℕ) (ms : Members ℕ) (ys : Particles) → d < e → build (spread e ms ++ ys) d ≡ build ys d
 skip-deeper d e done ys l = refl
@@ -42,8 +31,8 @@ Low d ys = (e : ℕ) → d ≤ e → build ys e ≡ bare
 
 low-spread : (d : ℕ) (ms : Members ℕ) (ys : Particles) → Low d ys → Low (suc d) (spread d ms ++ ys)
 low-spread d done ys l e h = l e (omega arith)
-low-spread d (el q i rest) ys l e h = build-stop (elementParticle d q i) (spread d rest ++ ys) e (omega arith)
-low-spread d (group q k ms rest) ys l e h = build-stop (groupParticle d q k (howMany ms)) ((spread (suc d) ms ++ spread d rest) ++ ys) e (omega arith)
+low-spread d (el q i rest) ys l e h = build-more (elementParticle d q i) (spread d rest ++ ys) e (omega arith)
+low-spread d (group q k ms rest) ys l e h = build-more (groupParticle d q k (howMany ms)) ((spread (suc d) ms ++ spread d rest) ++ ys) e (omega arith)
 
 group-back : (d : ℕ) (q : Quantifier) (k : GroupKind) (n : ℕ) (ms rest : Members ℕ) → indexMember (groupParticle d q k n .row) (groupCode k) ms rest ≡ group q k ms rest
 group-back d q Sequence n ms rest = ap (λ (z : Quantifier). group z Sequence ms rest) (quantifier-code q)
@@ -52,11 +41,11 @@ group-back d q Choice n ms rest = ap (λ (z : Quantifier). group z Choice ms res
 members-low : (d : ℕ) (ms : Members ℕ) (ys : Particles) → Low d ys → indexMembers (build (spread d ms ++ ys) d) ≡ ms
 members-low d done ys l = ap indexMembers (l d (omega arith))
 members-low d (el q i rest) ys l =
-    ap indexMembers (build-here (elementParticle d q i) (spread d rest ++ ys) d refl)
+    ap indexMembers (build-same (elementParticle d q i) (spread d rest ++ ys) d refl)
     ∙ ap₂ (λ (z : Quantifier) (t : Members ℕ). el z i t) (quantifier-code q) (members-low d rest ys l)
 members-low d (group q k ms rest) ys l =
     ap indexMembers
-    (build-here (groupParticle d q k (howMany ms)) ((spread (suc d) ms ++ spread d rest) ++ ys) d refl
+    (build-same (groupParticle d q k (howMany ms)) ((spread (suc d) ms ++ spread d rest) ++ ys) d refl
     ∙ ap (λ (zs : Particles). tree (groupParticle d q k (howMany ms) .row) (build zs (suc d)) (build zs d)) (append-assoc (spread (suc d) ms) (spread d rest) ys))
     ∙ ap₂ (λ (u v : Members ℕ). indexMember (groupParticle d q k (howMany ms) .row) (groupCode k) u v)
     (members-low (suc d) ms (spread d rest ++ ys) (low-spread d rest ys l))

@@ -62,10 +62,7 @@ fn remove_at(store: &[u8], owner: u32, part: &[u8], h: Holder, p: usize) -> u32
     if choice_left(part, h.start, p, d) {
         return 0;
     }
-    if instance_search::instance_exists(store, owner) {
-        return 15;
-    }
-    0
+    instance_search::instance_refusal(store, owner, 15)
 }
 
 /// Refusals 6, 8, 14 and 15 of the change that removes an element, or the place.

@@ -15,6 +15,7 @@ use Rattle.rules.specs.Decode.{readRow, readMany}
 use Rattle.rules.proofs.BooleanLaws.{Every, every-map, every-any}
 use Rattle.form_index.specs.Reading.{indexForm}
 use Rattle.filling.specs.Parts.{valueIn, membersReadAt}
+use Rattle.filling.proofs.DepthLaws.{length-filling}
 use Rattle.row_writer.specs.Written.{isNewRow, newIn}
 use Rattle.row_writer.proofs.WrittenLaws.{new-append}
 use Rattle.row_walk.specs.declared.Which.{Which}
@@ -22,8 +23,7 @@ use Rattle.row_walk.specs.declared.Plan.{Plan}
 use Rattle.row_walk.specs.declared.Open.{Open}
 use Rattle.row_walk.specs.Walk.{matches, namesGround, keptRow, walked, atFirst}
 use Rattle.walk_writer.specs.Step.{planFilling, WalkRows}
-use Rattle.row_bound.specs.Bound.{onlyIf, matchingIn, placesIn, countedTo, Adds}
-use Rattle.row_bound.proofs.DepthLaws.{length-filling}
+use Rattle.row_bound.specs.Bound.{onlyIf, matchingIn, placesIn, countedTo, Adds, Bounds}
 use Rattle.row_bound.proofs.WalkBound.{mostOf, size-walked}
 use Rattle.codec.proofs.Records.{length-many}
 
@@ -47,7 +47,7 @@ new-one x = by (eqb (x .row .serial) 0)
     by true = omega arith
     by false = omega arith
 
-new-few : (xs : List (Deep FlatRow)) → newIn xs ≤ length xs
+pub new-few : (xs : List (Deep FlatRow)) → newIn xs ≤ length xs
 new-few [] = omega arith
 new-few (x ∷ xs) = omega (arith, new-one x, new-few xs)
 
@@ -133,10 +133,10 @@ module _ (version w n : ℕ) (defs parts : Bytes) (a : ℕ) (attrs s : Bytes) (c
   adds-count y = let n : length xs ≡ count = length-many readRow (rowSize w) count s in record { few = y .few; rows = λ h. omega (arith, y .rows h, n); new = y .new }
 
   -- a plan that fills nothing
-  pub adds-none : p .fills ≡ false → Adds (walked p v fill (atFirst p) xs) count 0
-  adds-none e =
+  pub bounds-none : p .fills ≡ false → Bounds (walked p v fill (atFirst p) xs) (fill 0) count (record { one = 0; all = 0 })
+  bounds-none e =
       let dry : onlyIf (p .fills) (length (fill 0)) ≤ 0 = omega (arith, ap (λ (b : Bool). onlyIf b (length (fill 0))) e) in
-      adds-count (walked-adds p v fill (length (fill 0)) 0 same dry xs (rows-old w count s x) (omega arith) (λ h. omega arith))
+      record { adds = adds-count (walked-adds p v fill (length (fill 0)) 0 same dry xs (rows-old w count s x) (omega arith) (λ h. omega arith)); one = λ h. absurd (omega arith) }
 
   module _ {one : ℕ} (counted : one ≡ countedTo (fill 0)) where
     adds-times : {r : ℕ} → r ≤ 16785409 → r ≡ one * placesIn (p .above) xs → Adds (walked p v fill (atFirst p) xs) count r
@@ -147,8 +147,9 @@ module _ (version w n : ℕ) (defs parts : Bytes) (a : ℕ) (attrs s : Bytes) (c
         (λ h. counted-times (length (fill 0)) (placesIn (p .above) xs) r is h))
 
     -- a filling of no rows
-    pub adds-empty : one ≡ 0 → Adds (walked p v fill (atFirst p) xs) count 0
-    adds-empty e = adds-times (omega arith) (sym (ap (λ (m : ℕ). m * placesIn (p .above) xs) e ∙ zero-mul (placesIn (p .above) xs)))
+    pub bounds-empty : one ≡ 0 → Bounds (walked p v fill (atFirst p) xs) (fill 0) count (record { one = 0; all = 0 })
+    bounds-empty e =
+        record { adds = adds-times (omega arith) (sym (ap (λ (m : ℕ). m * placesIn (p .above) xs) e ∙ zero-mul (placesIn (p .above) xs))); one = λ h. absurd (omega arith) }
 
-    pub adds-places : one ≤ 4097 → {k : ℕ} → (k ≡ placesIn (p .above) xs) × (k ≤ 4097) → Adds (walked p v fill (atFirst p) xs) count (one * k)
-    adds-places few (is, l) = adds-times (product-few few l) (ap (λ (m : ℕ). one * m) is)
+    pub bounds-places : one ≤ 4097 → {k : ℕ} → (k ≡ placesIn (p .above) xs) × (k ≤ 4097) → Bounds (walked p v fill (atFirst p) xs) (fill 0) count (record { one = one; all = one * k })
+    bounds-places few (is, l) = record { adds = adds-times (product-few few l) (ap (λ (m : ℕ). one * m) is); one = λ h. counted }

@@ -1,4 +1,4 @@
 pub mod CountLaws
-pub mod DepthLaws
 pub mod WalkBound
 pub mod BoundLaws
+pub mod PlaceLaws

@@ -1,5 +1,6 @@
 -- How many rows a walk adds at most.
 use Prim.Native.Nat.{ℕ, _+_, _-_, _≤_}
+use mathlib.Core.Path.{_≡_}
 use mathlib.Core.Bool.{Bool, true, false}
 use mathlib.Core.List.{List, [], _∷_}
 use lib.ListN.{length}
@@ -8,6 +9,7 @@ use Rattle.rules.specs.Layout.{FlatRow}
 use Rattle.row_writer.specs.Written.{newIn}
 use Rattle.row_walk.specs.declared.Which.{Which}
 use Rattle.row_walk.specs.Walk.{matches, namesGround}
+use Rattle.row_bound.specs.declared.Most.{Most}
 
 -- n if b
 abbrev pub onlyIf : Bool → ℕ → ℕ
@@ -33,3 +35,8 @@ pub record Adds (xs : List (Deep FlatRow)) (count r : ℕ) : Type 0 where
   pub few : r ≤ 16785409
   pub rows : r ≤ 4096 → length xs ≤ count + r
   pub new : r ≤ 4096 → newIn xs ≤ r
+
+-- .. and `one` is 0, or the number of rows of a filling as it is counted
+pub record Bounds (xs filled : List (Deep FlatRow)) (count : ℕ) (m : Most) : Type 0 where
+  pub adds : Adds xs count (m .all)
+  pub one : 1 ≤ m .one → m .one ≡ countedTo filled

@@ -14,7 +14,13 @@ ghost use Rattle.row_walk.specs.Walk.{matches, namesGround, walked, atFirst};
 ghost use Rattle.row_walk.specs.Step.{bare};
 ghost use Rattle.walk_writer.specs.Step.{fillWith, planFilling, Ready, WalkRows};
 ghost use Rattle.filling.specs.Parts.{Asks, Indexed};
-ghost use Rattle.row_bound.specs.Bound.{onlyIf, matchingIn, placesIn, countedTo, Adds};
+ghost use Rattle.row_bound.specs.Bound.{onlyIf, matchingIn, placesIn, countedTo, Bounds};
+
+/// The rows of one filling, counted up to one past the ceiling, or 0 if none is put in; and the most rows of all of them.
+pub struct Most {
+    pub one: usize,
+    pub all: usize,
+}
 
 /// The ceiling of tree rows, and one more: a filling is counted so far.
 const MOST_ROWS: usize = 4097;
@@ -133,21 +139,23 @@ pub fn most_added<'a>(
     count: usize,
     plan: Plan,
     text: &[u8],
-) -> usize
+) -> Most
     requires { ⌜ Ready w n a (now text) plan × WalkRows w count (now rows) × (rowSize w * count ≤ length (now rows)) × (count ≤ 4096) ⌝ }
-    ensures { λ r. ⌜ Adds
+    ensures { λ r. ⌜ Bounds
         (walked plan (now (text .entry)) (planFilling version w n (now (defs .entry)) (now (parts .entry)) a (now (attrs .entry)) plan (now (text .entry)))
         (atFirst plan) (readMany readRow (rowSize w) count (now (rows .entry))))
+        (planFilling version w n (now (defs .entry)) (now (parts .entry)) a (now (attrs .entry)) plan (now (text .entry)) 0)
         count r ⌝ }
 {
     if !plan.fills {
-        return 0;
+        return Most { one: 0, all: 0 };
     }
     let what = plan.filling;
     let one = filling_rows(version, w, n, defs, parts, a, attrs, what, text);
     if one == 0 {
-        return 0;
+        return Most { one: 0, all: 0 };
     }
     let above = plan.above;
-    one * places(w, rows, count, above)
+    let all = one * places(w, rows, count, above);
+    Most { one, all }
 }

@@ -15,7 +15,7 @@ use Rattle.form_table.proofs.Numbers.{Left, left-ends, left-on, left-no}
 use Rattle.next_row.specs.declared.Level.{Level}
 use Rattle.next_row.specs.Judge.{ends, levelAfter, entered, groundLevel, judge}
 use Rattle.row_step.specs.Machine.{levelsEnd}
-use Rattle.row_step.specs.Steps.{levelIn, levelsOf, Words, taken}
+use Rattle.row_step.specs.Steps.{levelIn, levelsOf, Words, levelsAfter}
 
 -- level k is the three words from 3 * k on
 level-read : (n k : ℕ) (s : List ℕ) → k < n → getD (levelsOf n s) k groundLevel ≡ levelIn (drop (3 * k) s)
@@ -70,7 +70,7 @@ level-put k l s h long high small =
 
 -- a row's two levels
 pub row-taken : (ls : List Level) (s₁ s₂ : List ℕ) (d : ℕ) (l x y : Level) (r : FlatRow) → Words (set ls d x) s₁ → Words (set (levelsOf 257 s₁) (d + 1) y) s₂
-    → x ≡ levelAfter (eqb (r .sort) 2) l (r .index) → y ≡ entered (eqb (r .sort) 1) (r .index) → Words (taken ls d l r) s₂
+    → x ≡ levelAfter (eqb (r .sort) 2) l (r .index) → y ≡ entered (eqb (r .sort) 1) (r .index) → Words (levelsAfter ls d l r) s₂
 row-taken ls s₁ s₂ d l x y r first second ex ey =
     record {
       are = second .are ∙ rw (add-one d, first .are, ex, ey);
@@ -92,10 +92,7 @@ module _ (f : IndexForm) (s : List ℕ) (keep live k : ℕ) (p : Closing f s kee
   unfolding levelsEnd
   closing-ends h = left-ends (λ j. judge f .ends (getD (levelsOf 257 s) j groundLevel)) keep live k p h
 
-  module _ (h : keep < k) (l : Level) (el : l ≡ getD (levelsOf 257 s) (k - 1) groundLevel) (b : Bool) (eb : b ≡ ends f (l .holds) l) where
-    here : b ≡ judge f .ends (getD (levelsOf 257 s) (k - 1) groundLevel)
-    here = eb ∙ ap (λ (x : Level). ends f (x .holds) x) el
-
+  module _ (h : keep < k) (b : Bool) (here : b ≡ judge f .ends (getD (levelsOf 257 s) (k - 1) groundLevel)) where
     pub closing-on : b ≡ true → Closing f s keep live (k - 1)
     closing-on q = left-on (λ j. judge f .ends (getD (levelsOf 257 s) j groundLevel)) keep live k p h b here q
 

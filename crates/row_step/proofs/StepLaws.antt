@@ -14,7 +14,7 @@ use Rattle.form_index.specs.Indices.{IndexForm}
 use Rattle.next_row.specs.declared.Level.{Level}
 use Rattle.next_row.specs.Judge.{judge, groundLevel}
 use Rattle.row_step.specs.Machine.{levelsEnd}
-use Rattle.row_step.specs.Steps.{mayStep, stepped, levelsOf, stateOf, Words, taken, StepMade}
+use Rattle.row_step.specs.Steps.{mayStep, stepped, levelsOf, stateOf, Words, levelsAfter, StepMade}
 
 none-deep : (fits deep closes may : Bool) → deep ≡ false → false ≡ (fits && (deep && (closes && may)))
 none-deep true deep closes may e = rw e
@@ -74,13 +74,13 @@ module _ (w : ℕ) (f : IndexForm) (s : List ℕ) (live : ℕ) (row : Bytes) (lo
       unfolding mayStep
       step-not q = refused (none-next (rowFits w row) deep closes comes (sym comes-is ∙ q))
 
-      pub step-goes : d < live → d < 256 → b ≡ true → r ≡ true → (s′ : List ℕ) → Words (taken (levelsOf 257 s) d l (readRow row .row)) s′ → StepMade w f s live row true s′ (d + 2)
+      pub step-goes : d < live → d < 256 → b ≡ true → r ≡ true → (s′ : List ℕ) → Words (levelsAfter (levelsOf 257 s) d l (readRow row .row)) s′ → StepMade w f s live row true s′ (d + 2)
       unfolding mayStep stepped
       step-goes h small q p s′ words =
           let two : d + 2 ≡ suc (suc (readRow row .depth)) = omega arith in
           record {
             is = all-pass (rowFits w row) deep closes comes (lt-ltb (readRow row .depth) live (omega arith)) (sym closes-is ∙ q) (sym comes-is ∙ p);
-            state = λ z i. record { levels = (words .are ∙ ap₂ (λ (k : ℕ) (x : Level). taken (levelsOf 257 s) k x (readRow row .row)) ed here) i; live = two i };
+            state = λ z i. record { levels = (words .are ∙ ap₂ (λ (k : ℕ) (x : Level). levelsAfter (levelsOf 257 s) k x (readRow row .row)) ed here) i; live = two i };
             long = words .long;
             low = omega arith;
           }

@@ -76,8 +76,8 @@ pub record Words (ls : List Level) (s : List ℕ) : Type 0 where
   pub long : length s ≡ 771
 
 -- the levels after a row of depth d that came at l
-abbrev pub taken : List Level → ℕ → Level → FlatRow → List Level
-taken ls d l r = set (set ls d (levelAfter (eqb (r .sort) 2) l (r .index))) (suc d) (entered (eqb (r .sort) 1) (r .index))
+abbrev pub levelsAfter : List Level → ℕ → Level → FlatRow → List Level
+levelsAfter ls d l r = set (set ls d (levelAfter (eqb (r .sort) 2) l (r .index))) (suc d) (entered (eqb (r .sort) 1) (r .index))
 
 -- the answer: whether the row may come; the state after it, where it may; and the next step may be made
 pub record StepMade (w : ℕ) (f : IndexForm) (s : List ℕ) (live : ℕ) (row : Bytes) (answer : Bool) (s′ : List ℕ) (live′ : ℕ) : Type 0 where

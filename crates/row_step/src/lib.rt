@@ -12,7 +12,7 @@ ghost use Rattle.form_index.specs.Reading.{indexForm};
 ghost use Rattle.form_table.specs.Table.{Tabled};
 ghost use Rattle.next_row.specs.Judge.{groundLevel, judge};
 ghost use Rattle.row_step.specs.Machine.{levelsEnd};
-ghost use Rattle.row_step.specs.Steps.{end, levelsOf, stateOf, Words, taken, StepMade};
+ghost use Rattle.row_step.specs.Steps.{end, levelsOf, stateOf, Words, levelsAfter, StepMade};
 
 // Whether a row's fields fit and it may come next at a level.
 fn row_passes(
@@ -30,8 +30,10 @@ fn row_passes(
     requires { ⌜ Width w × (n ≤ 64) × (a ≤ 64) × Tabled version w n (now defs) (now parts) (now attrs) a (now table) ⌝ }
     ensures { λ r. ⌜ r ≡ (rowFits w (now (row .entry)) && judge (indexForm version w n (now (defs .entry)) (now (parts .entry)) (now (attrs .entry)) a) .may l (readRow (now (row .entry)) .row)) ⌝ }
 {
-    records::row_fits(w, row)
-        & next_row::may_come(version, w, n, defs, parts, a, attrs, table, l, row)
+    if !records::row_fits(w, row) {
+        return false;
+    }
+    next_row::may_come(version, w, n, defs, parts, a, attrs, table, l, row)
 }
 
 // ---- the state: three words for each level, 3,084 bytes in all, and how many levels are open
@@ -65,7 +67,28 @@ fn put_level(levels: &mut [u32; 771], k: usize, l: Level)
     levels[at + 2] = l.last;
 }
 
+// Whether level k is owed nothing.
+fn level_ends(
+    version: usize,
+    w: usize,
+    n: usize,
+    defs: &[u8],
+    parts: &[u8],
+    a: usize,
+    attrs: &[u8],
+    table: &[u64],
+    levels: &[u32; 771],
+    k: usize,
+) -> bool
+    requires { ⌜ Width w × (n ≤ 64) × (a ≤ 64) × Tabled version w n (now defs) (now parts) (now attrs) a (now table) × (k < 257) ⌝ }
+    ensures { λ r. ⌜ r ≡ judge (indexForm version w n (now (defs .entry)) (now (parts .entry)) (now (attrs .entry)) a) .ends (getD (levelsOf 257 (now (levels .entry))) k groundLevel) ⌝ }
+{
+    let l = level_at(levels, k);
+    next_row::may_end(version, w, n, defs, parts, a, attrs, table, l)
+}
+
 // Whether of the open levels those from `keep` on are owed nothing.
+// Called for each row and nowhere else, so that it is compiled into the pass over the rows.
 fn closes(
     version: usize,
     w: usize,
@@ -85,8 +108,7 @@ fn closes(
     let mut k = live;
     while keep < k {
         k -= 1;
-        let l = level_at(levels, k);
-        if !next_row::may_end(version, w, n, defs, parts, a, attrs, table, l) {
+        if !level_ends(version, w, n, defs, parts, a, attrs, table, levels, k) {
             return false;
         }
     }
@@ -96,7 +118,7 @@ fn closes(
 // The levels after a row of depth d.
 fn take_row(levels: &mut [u32; 771], d: usize, l: Level, row: &[u8])
     requires { ⌜ (d < 256) × (length (now levels) ≡ 771) ⌝ }
-    ensures { λ _. ⌜ Words (taken (levelsOf 257 (now (levels .entry))) d l (readRow (now (row .entry)) .row)) (now (levels .exit)) ⌝ }
+    ensures { λ _. ⌜ Words (levelsAfter (levelsOf 257 (now (levels .entry))) d l (readRow (now (row .entry)) .row)) (now (levels .exit)) ⌝ }
 {
     put_level(levels, d, next_row::after_row(l, row));
     put_level(levels, d + 1, next_row::below_row(row));
@@ -155,5 +177,12 @@ pub fn end(
     requires { ⌜ Width w × (n ≤ 64) × (a ≤ 64) × Tabled version w n (now defs) (now parts) (now attrs) a (now table) × (live ≤ 257) ⌝ }
     ensures { λ r. ⌜ r ≡ end (indexForm version w n (now (defs .entry)) (now (parts .entry)) (now (attrs .entry)) a) (stateOf (now (levels .entry)) live) ⌝ }
 {
-    closes(version, w, n, defs, parts, a, attrs, table, levels, live, 0)
+    let mut k = live;
+    while 0 < k {
+        k -= 1;
+        if !level_ends(version, w, n, defs, parts, a, attrs, table, levels, k) {
+            return false;
+        }
+    }
+    true
 }

@@ -1,6 +1,6 @@
 -- The group directly around a place by recursion on its context: the tests of change 4 as proofs use them.
 use mathlib.Core.Path.{_≡_, refl, sym, ap, _∙_}
-use mathlib.Core.Bool.{Bool, true, false, not, _&&_, _||_}
+use mathlib.Core.Bool.{Bool, true, false, not, _&&_, _||_, and-false}
 use mathlib.Core.Option.{Option, none, some}
 use Rattle.rules.specs.declared.Quantifier.{Quantifier}
 use Rattle.rules.specs.declared.GroupKind.{GroupKind}
@@ -55,15 +55,11 @@ module _ {A : Type 0} (t : Members A) where
   last-inner q j b c none = refl
   last-inner q j b c (some g) = refl
 
-  and-false : (b : Bool) → false ≡ (b && false)
-  and-false true = refl
-  and-false false = refl
-
   last-around : (b : Bool) (c : Context A) → (opens b c && isDone t) ≡ lastBy (b && isDone (plug c t)) (around c)
   unfolding opens around plug
   last-around b here = refl
-  last-around b (past q n c) = last-around false c ∙ ap (λ (z : Bool). lastBy z (around c)) (and-false b)
-  last-around b (over q j ms c) = last-around false c ∙ ap (λ (z : Bool). lastBy z (around c)) (and-false b)
+  last-around b (past q n c) = last-around false c ∙ ap (λ (z : Bool). lastBy z (around c)) (sym (and-false b))
+  last-around b (over q j ms c) = last-around false c ∙ ap (λ (z : Bool). lastBy z (around c)) (sym (and-false b))
   last-around b (into q j c rest) = last-around true c ∙ last-inner q j (b && false) c (around c)
 
   pub last-is : (c : Context A) → removeLast c t ≡ (opens false c && isDone t)

@@ -11,7 +11,7 @@ use Rattle.rules.specs.Model.{names, nothing, filling, member, full, dis
 use Rattle.rules.specs.Automaton.{accepts, continues, facts}
 use Rattle.rules.specs.Store.{RowSort, element, attribute, text, Row, Store}
 use Rattle.rules.specs.Layout.{valueWidth, rowCode}
-use Rattle.rules.specs.Decode.{confirm, numberAt}
+use Rattle.rules.specs.Decode.{confirm, nextSerial}
 use Rattle.rules.specs.WellFormed.{goodDefinition, wellFormed}
 use Rattle.rules.specs.Conforming.{strip, fitsRow, conforming}
 use Rattle.rules.specs.Passing.{good, goodSerials, readStore, passes}
@@ -53,8 +53,9 @@ abbrev end : Moment
 end = run clubform start
 
 abbrev pub printedText : Bytes
-printedText = ascii
-    "<!ELEMENT race (finisher*)>\n<!ELEMENT finisher (bib,club,time?)>\n<!ELEMENT bib (#PCDATA)>\n<!ELEMENT time (#PCDATA)>\n<!ELEMENT club (#PCDATA)>\n<race><finisher><bib>7</bib><club>none</club><time>19:04</time></finisher></race>\n"
+printedText =
+    ascii "<!ELEMENT race (finisher*)>\n<!ELEMENT finisher (bib,club,time?)>\n<!ELEMENT bib (#PCDATA)>\n<!ELEMENT time (#PCDATA)>\n<!ELEMENT club (#PCDATA)>\n"
+    ++ ascii "<race><finisher><bib>7</bib><club>none</club><time>19:04</time></finisher></race>\n"
 
 -- two lists of lines are equal, as a test that computes
 abbrev sameRow : Row → Row → Bool
@@ -99,7 +100,7 @@ linesOf (some s) = lines 0 (s .docs)
 
 pub record Clubform : Type 0 where
   pub size : length (end .store) ≡ 508
-  pub next : numberAt 4 4 (end .store) ≡ 9
+  pub next : nextSerial (end .store) ≡ 9
   pub check : passes (end .store) ≡ true
   pub print : printOutcome (end .store) 1000 ≡ wrote printedText
   pub rows : sameLines (linesOf (readStore (end .store))) (untaken (end .book .entries)) ≡ true

@@ -25,7 +25,7 @@ use Rattle.rules.specs.Preorder.{Deep, flatten, build}
 use Rattle.rules.specs.Layout.{baseVersion, valueWidth, nameWidth, FlatParticle, FlatAttribute, headerSize, definitionSize, particleSize, attributeSize}
 use Rattle.rules.specs.Layout.{rowSize, indexOf, indexIn, attributeIndex, quantifierCode, kindCode, sortCode, rowCode, particles, contentParticles}
 use Rattle.rules.specs.Layout.{flatDefinition, allParticles, ownAttributes, allAttributes, rowIndex, indexed, flat, encode}
-use Rattle.rules.specs.Decode.{numberAt, readFlat, sized, nameAt, quantifierOf, contentOf, sortOf, rowSortOf, readMembers, ofOwner, readForm, rowName}
+use Rattle.rules.specs.Decode.{versionIn, readFlat, sized, nameAt, quantifierOf, contentOf, sortOf, rowSortOf, readMembers, ofOwner, readForm, rowName}
 use Rattle.rules.specs.Decode.{readRows, flatName, flatAttributeName, unflat, confirm, decode}
 use Rattle.rules.specs.WellFormed.{startsName, inName, isName, storedName, isValue, highestNumber, withinCeilings, definitionName, attributeName, lookup}
 use Rattle.rules.specs.WellFormed.{isThere, known, reachesIn, isFill, isAttributeOf, goodDefinition, wellFormed}
@@ -525,8 +525,8 @@ decode-encode s g =
 pub encode-decode : (bs : Bytes) (s : Store) → decode bs ≡ some s → encode s ≡ bs
 unfolding confirm
 encode-decode bs s h =
-    let t : Store = unflat (readFlat (valueWidth (numberAt 0 4 bs)) bs) in
-    let (z, c) = guard-some (sized (valueWidth (numberAt 0 4 bs)) bs) (confirm bs t) s h in
+    let t : Store = unflat (readFlat (valueWidth (versionIn bs)) bs) in
+    let (z, c) = guard-some (sized (valueWidth (versionIn bs)) bs) (confirm bs t) s h in
     let (e, p) = guard-some (same (encode t) bs) (some t) s c in
     let q : t ≡ s = cc in
     ap encode (sym q) ∙ same-eq (encode t) bs e

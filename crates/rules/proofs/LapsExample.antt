@@ -11,7 +11,7 @@ use Rattle.rules.specs.Model.{done, el, names, nothing, filling, member,
 use Rattle.rules.specs.Automaton.{accepts, continues, facts}
 use Rattle.rules.specs.Store.{empty, complex, Form, element, Store}
 use Rattle.rules.specs.Layout.{valueWidth, baseVersion}
-use Rattle.rules.specs.Decode.{confirm, numberAt}
+use Rattle.rules.specs.Decode.{confirm, nextSerial}
 use Rattle.rules.specs.WellFormed.{goodDefinition, wellFormed}
 use Rattle.rules.specs.Conforming.{strip, fitsRow, conforming}
 use Rattle.rules.specs.Passing.{good, goodSerials, serials, readStore}
@@ -98,7 +98,7 @@ pub record Laps : Type 0 where
   -- the refused calls leave all as it was
   pub lines-end : serialsOf (untaken (end .book .entries)) ≡ 1 ∷ 3 ∷ 4 ∷ 5 ∷ 9 ∷ 2 ∷ 11 ∷ 12 ∷ 13 ∷ 10 ∷ []
   pub next-book : end .book .next ≡ 14
-  pub next-store : numberAt 4 4 (end .store) ≡ 14
+  pub next-store : nextSerial (end .store) ≡ 14
 
 pub laps-end : Laps
 unfolding valueWidth names nothing filling member full distinct facts continues accepts plug kindAt spine beforePlace around afterMembers find _⊕_ edited place

@@ -16,8 +16,8 @@ module _ {A : Type 0} where
   ⧺-bare (tree r b t) = ap (λ (x : Forest A). tree r b x) (⧺-bare t)
 
   -- a row of depth k, a deeper one, one less deep
-  build-same : (d : ℕ) (r : A) (xs : List (Deep A)) → build (record { depth = d; row = r } ∷ xs) d ≡ tree r (build xs (suc d)) (build xs d)
-  build-same d r xs = rw (le-ltb d d (omega arith), build) (rw (eq-eqb d d refl))
+  pub build-same : (x : Deep A) (xs : List (Deep A)) (k : ℕ) → x .depth ≡ k → build (x ∷ xs) k ≡ tree (x .row) (build xs (suc k)) (build xs k)
+  build-same x xs k e = rw (le-ltb k (x .depth) (omega arith), build) (rw (eq-eqb k (x .depth) (sym e)))
 
   pub build-less : (x : Deep A) (xs : List (Deep A)) (k : ℕ) → k < x .depth → build (x ∷ xs) k ≡ build xs k
   build-less x xs k h = rw (lt-ltb k (x .depth) h, build)
@@ -44,7 +44,7 @@ module _ {A : Type 0} where
   unfolding Shallow
   build-at d bare rest h = refl
   build-at d (tree r b t) rest h =
-      build-same d r (flatten (suc d) b ++ flatten d t ++ rest)
+      build-same (record { depth = d; row = r }) (flatten (suc d) b ++ flatten d t ++ rest) d refl
       ∙ ap₂ (λ (x y : Forest A). tree r x y)
       (rw append-assoc
       (build-at (suc d) b (flatten d t ++ rest) (λ k l. shallow-flatten d t rest h k (omega arith))
@@ -90,7 +90,7 @@ module _ {A : Type 0} where
   under-all d (x ∷ xs) h =
       let g : x .depth ≤ d = leb-true (x .depth) d (and-left (leb (x .depth) d) (rising (suc (x .depth)) xs) h) in
       under-more (d - x .depth) x xs d (omega arith)
-      ∙ ap₂ (λ (f : Forest A) (l : List (Deep A)). flatten (x .depth) f ++ l) (build-same (x .depth) (x .row) xs) (under-less (x .depth) x xs (omega arith))
+      ∙ ap₂ (λ (f : Forest A) (l : List (Deep A)). flatten (x .depth) f ++ l) (build-same x xs (x .depth) refl) (under-less (x .depth) x xs (omega arith))
       ∙ ap (λ (l : List (Deep A)). x ∷ l)
       (append-assoc (flatten (suc (x .depth)) (build xs (suc (x .depth)))) (flatten (x .depth) (build xs (x .depth))) (under (x .depth) xs)
       ∙ under-all (suc (x .depth)) xs (and-right (leb (x .depth) d) (rising (suc (x .depth)) xs) h))

@@ -9,15 +9,10 @@ use Rattle.rules.specs.declared.GroupKind.the-variants.{Sequence, Choice
 use Rattle.rules.specs.Model.{Members, done, el, group, names, Equality, nothing, rename, filling}
 use Rattle.rules.specs.declared.Facts.{Facts}
 use Rattle.rules.specs.Automaton.{single, empty, join, quantify, facts, continues, accepts}
+use Rattle.rules.proofs.RenamingPlaces.{nothing-rename}
 
 module _ {A B : Type 0} (E : Equality A) (F : Equality B) (f : A → B) (P : A → Type 0)
     (same : (x y : A) → P x → P y → F .same (f x) (f y) ≡ E .same x y) where
-  rename-nothing : (k : GroupKind) (ms : Members A) → nothing k (rename f ms) ≡ nothing k ms
-  unfolding nothing rename
-  rename-nothing k done = refl
-  rename-nothing k (el q n rest) = rw (rename-nothing k rest)
-  rename-nothing k (group q j ms rest) = rw (rename-nothing j ms, rename-nothing k rest)
-
   rename-facts : (k : GroupKind) (ms : Members A) → ((n : A) → List·Memᴰ n (names ms) → P n) → (x y : A) → P x → P y → facts F k (rename f ms) (f x) (f y) ≡ facts E k ms x y
   unfolding facts rename names
   rename-facts k done p x y a b = refl
@@ -35,7 +30,7 @@ module _ {A B : Type 0} (E : Equality A) (F : Equality B) (f : A → B) (P : A �
 
     pub rename-accepts : (w : List A) → ((n : A) → List·Memᴰ n w → P n) → accepts F (rename f ms) (map f w) ≡ accepts E ms w
     unfolding accepts
-    rename-accepts [] b = rename-nothing Sequence ms
+    rename-accepts [] b = nothing-rename f Sequence ms
     rename-accepts (y ∷ w) b =
         ap₂ (λ (i j : Bool). i && j) (ap (λ (z : Facts). z .first) (rename-facts Sequence ms p y y (b y (List·Memᴰ·head refl)) (b y (List·Memᴰ·head refl))))
         (rename-continues y w (b y (List·Memᴰ·head refl)) (λ n i. b n (List·Memᴰ·tail i)))

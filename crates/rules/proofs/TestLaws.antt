@@ -5,11 +5,12 @@ use native.Mathlib.Omega.{arith}
 use mathlib.Core.Path.{_≡_, refl, sym, ap, _∙_}
 use mathlib.Core.Logic.{_⊎_, inl, inr, ⊎-elim, _↔_}
 use mathlib.Core.Bool.{Bool, true, false, not, false≢true}
-use mathlib.Core.List.{List, [], _∷_, List·Memᴰ, List·Memᴰ·head, List·Memᴰ·tail, List·Memᴰ·not-nil, List·Memᴰ·cases-cons, Memᴰ·cast}
+use mathlib.Core.List.{List, [], _∷_, List·Memᴰ, List·Memᴰ·head, List·Memᴰ·tail, List·Memᴰ·cases-cons, Memᴰ·cast}
 use lib.ListN.{length}
 use Rattle.rules.specs.Bytes.{all, any}
 use Rattle.rules.specs.Model.{Equality, Distinct, member, distinct}
-use Rattle.rules.proofs.Words.{or-left, or-right, or-cases, and-both, and-split, either}
+use Rattle.rules.proofs.Words.{or-cases, and-both, and-split, either}
+use Rattle.rules.proofs.BooleanLaws.{all-of, all-in, any-in}
 use Rattle.rules.proofs.Letters.{member-in}
 
 pub not-test : (b : Bool) → (not b ≡ true) ↔ (b ≡ true → ⊥)
@@ -17,18 +18,8 @@ not-test true = (λ e t. false≢true e, λ f. absurd (f refl))
 not-test false = (λ e t. false≢true t, λ f. refl)
 
 module _ {A : Type 0} (p : A → Bool) where
-  all→ : (xs : List A) → all p xs ≡ true → (x : A) → List·Memᴰ x xs → p x ≡ true
-  all→ [] e x m = absurd (List·Memᴰ·not-nil m)
-  all→ (y ∷ ys) e x m =
-      let (h, t) = and-split (p y) (all p ys) e in
-      ⊎-elim (λ q. ap p q ∙ h) (all→ ys t x) (List·Memᴰ·cases-cons m)
-
-  all← : (xs : List A) → ((x : A) → List·Memᴰ x xs → p x ≡ true) → all p xs ≡ true
-  all← [] f = refl
-  all← (y ∷ ys) f = and-both (f y (List·Memᴰ·head refl)) (all← ys (λ x m. f x (List·Memᴰ·tail m)))
-
   pub all-test : (xs : List A) → (all p xs ≡ true) ↔ ((x : A) → List·Memᴰ x xs → p x ≡ true)
-  all-test xs = (all→ xs, all← xs)
+  all-test xs = (λ e x m. all-in p x xs e m, all-of p xs)
 
   any→ : (xs : List A) → any p xs ≡ true → (x : A) × List·Memᴰ x xs × (p x ≡ true)
   any→ [] e = absurd (false≢true e)
@@ -38,12 +29,8 @@ module _ {A : Type 0} (p : A → Bool) where
       by k (inl h) = (y, List·Memᴰ·head refl, h)
       by k (inr h) = let (x, m, q) = k h in (x, List·Memᴰ·tail m, q)
 
-  any← : {x : A} {xs : List A} → List·Memᴰ x xs → p x ≡ true → any p xs ≡ true
-  any← (List·Memᴰ·head {xs = xs} e) q = or-left (any p xs) (ap p (sym e) ∙ q)
-  any← (List·Memᴰ·tail {x = x} m) q = or-right (p x) (any← m q)
-
   pub any-test : (xs : List A) → (any p xs ≡ true) ↔ ((x : A) × List·Memᴰ x xs × (p x ≡ true))
-  any-test xs = (any→ xs, λ (x, m, q). any← m q)
+  any-test xs = (any→ xs, λ (x, m, q). any-in p x xs m q)
 
 module _ {A : Type 0} where
   -- a list without one of its entries

@@ -1,6 +1,6 @@
 -- The test for well-formed decides it; what a well-formed form gives at a name.
 use Prim.Native.Nat.{ℕ}
-use mathlib.Core.Path.{_≡_, refl, sym, ap}
+use mathlib.Core.Path.{_≡_, refl, sym, ap, _∙_}
 use mathlib.Core.Logic.{_⊎_, inl, inr, _↔_}
 use mathlib.Core.Bool.{true, not}
 use mathlib.Core.Option.{Option, none, some}
@@ -64,14 +64,21 @@ well-formed w form = (
       and-both (distinct-test bytes (map definitionName form) .1 (f .names)) (all-test (goodDefinition w form) form .1 (λ d m. good-definition w form d .1 (f .definitions d m))),
 )
 
+-- one step of a look-up
+pub lookup-here : (n : Bytes) (d : Definition) (form : Form) → n ≡ d .name → lookup n (d ∷ form) ≡ some d
+lookup-here n d form q = rw (bytes .same← n (d .name) q, lookup)
+
+pub lookup-there : (n : Bytes) (d : Definition) (form : Form) → (n ≡ d .name → ⊥) → lookup n (d ∷ form) ≡ lookup n form
+lookup-there n d form f = rw (differs bytes n (d .name) f, lookup)
+
 -- names stand once: a definition is found under its own
 pub lookup-distinct : (form : Form) → Distinct (map definitionName form) → (d : Definition) → List·Memᴰ d form → lookup (d .name) form ≡ some d
 lookup-distinct [] u d m = absurd (List·Memᴰ·not-nil m)
 lookup-distinct (c ∷ form) (n, u) d m = by (List·Memᴰ·cases-cons m) (lookup-distinct form u d)
   where
     by : (d ≡ c) ⊎ List·Memᴰ d form → (List·Memᴰ d form → lookup (d .name) form ≡ some d) → lookup (d .name) (c ∷ form) ≡ some d
-    by (inl q) f = rw (bytes .same← (d .name) (c .name) (ap definitionName q), lookup) (ap (λ (z : Definition). some z) (sym q))
-    by (inr i) f = rw (differs bytes (d .name) (c .name) (λ q. n (Memᴰ·cast (sym q) (Memᴰ·map definitionName i))), lookup) (f i)
+    by (inl q) f = lookup-here (d .name) c form (ap definitionName q) ∙ ap (λ (z : Definition). some z) (sym q)
+    by (inr i) f = lookup-there (d .name) c form (λ q. n (Memᴰ·cast (sym q) (Memᴰ·map definitionName i))) ∙ f i
 
 module _ (w : ℕ) (form : Form) (ok : wellFormed w form ≡ true) where
   pub lookup-of : (d : Definition) → List·Memᴰ d form → lookup (d .name) form ≡ some d

@@ -42,6 +42,19 @@ pub or-split : (a b : Bool) → (a || b) ≡ false → (a ≡ false) × (b ≡ f
 or-split true b e = absurd (false≢true (sym e))
 or-split false b e = (refl, e)
 
+pub or-both : (a b : Bool) → a ≡ false → b ≡ false → (a || b) ≡ false
+or-both a b e f = rw (e, f)
+
+pub and-off : (a b : Bool) → b ≡ false → (a && b) ≡ false
+and-off true b e = e
+and-off false b e = refl
+
+-- two tests that hold in the same cases
+pub same-truth : (a b : Bool) → (a ≡ true → b ≡ true) → (b ≡ true → a ≡ true) → a ≡ b
+same-truth true b f g = sym (f refl)
+same-truth false true f g = g refl
+same-truth false false f g = refl
+
 pub either : {A B C D : Type 0} → (A → C) → (B → D) → A ⊎ B → C ⊎ D
 either f g (inl x) = inl (f x)
 either f g (inr y) = inr (g y)

@@ -43,6 +43,14 @@ readMany f size zero bs = []
 readMany f size (suc count) bs = f (take size bs) ∷ readMany f size count (drop size bs)
 
 -- ---- the string
+-- 'Bytes 0–3 version', 'Bytes 4–7 the next serial'
+abbrev pub versionIn : Bytes → ℕ
+versionIn bs = numberAt 0 4 bs
+
+abbrev pub nextSerial : Bytes → ℕ
+nextSerial bs = numberAt 4 4 bs
+
+-- the counts of the table of contents
 abbrev pub definitionCount : Bytes → ℕ
 definitionCount bs = numberAt 12 4 bs
 
@@ -67,7 +75,7 @@ readBodies w version next d p a r bs =
     }
 
 abbrev pub readFlat : ℕ → Bytes → FlatStore
-readFlat w bs = readBodies w (numberAt 0 4 bs) (numberAt 4 4 bs) (definitionCount bs) (particleCount bs) (attributeCount bs) (rowCount bs) (drop headerSize bs)
+readFlat w bs = readBodies w (versionIn bs) (nextSerial bs) (definitionCount bs) (particleCount bs) (attributeCount bs) (rowCount bs) (drop headerSize bs)
 
 -- the string is as long as its counts say
 abbrev pub sized : ℕ → Bytes → Bool
@@ -155,5 +163,5 @@ confirm bs s = elim (same (encode s) bs) [ true ↦ some s | false ↦ none ]
 
 abbrev pub decode : Bytes → Option Store
 decode bs =
-    let w : ℕ = valueWidth (numberAt 0 4 bs) in
+    let w : ℕ = valueWidth (versionIn bs) in
     elim (sized w bs) [ true ↦ confirm bs (unflat (readFlat w bs)) | false ↦ none ]

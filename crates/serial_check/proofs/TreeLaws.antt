@@ -1,7 +1,7 @@
 -- The walk over the rows: what a walk through a tree finds, and what the trees of the rows passed hold.
 use mathlib.Core.Path.{_≡_, refl, ap, _∙_, sym, subst}
 use mathlib.Core.Logic.{_⊎_, inl, inr}
-use Prim.Native.Nat.{ℕ, zero, suc, _+_, _*_, _/_, _%_, _-_, _≤_, _<_}
+use Prim.Native.Nat.{ℕ, suc, _+_, _*_, _/_, _%_, _-_, _≤_, _<_}
 use native.Mathlib.Omega.{arith}
 use native.Mathlib.Numerals.{add-one}
 use native.Mathlib.Nat.{not-suc-le-zero}
@@ -12,6 +12,7 @@ use lib.ListN.{length, getD, set, length-set, replicate, length-replicate}
 use lib.Seq.{getD-set-same, getD-set-other}
 use borrow.Author.Tests.{ltb-true, ltb-false, eqb-true, eqb-false}
 use Rattle.rules.specs.Bytes.{Bytes}
+use Rattle.codec.proofs.Numbers.{zeros-read}
 use Rattle.serial_check.specs.Serials.{serialAtRow, Ranged, Apart}
 use Rattle.serial_check.specs.Trees.{placeBelow, Met, here, there, Comes, last, later, Rising, Free, Sought, Trees, Put}
 
@@ -97,17 +98,12 @@ module _ {w : ℕ} {rows : Bytes} {below : List ℕ} {from s j q : ℕ} (k : See
       (record { on = λ i m. k .on i (there m); comes = λ p c. k .comes p (later c); rest = further; low = r .low (placeBelow j q) })
 
 -- ---- the rows passed
-zeros : (n i : ℕ) → _≡_ {A = ℕ} (getD (replicate n 0) i 0) 0
-zeros zero i = refl
-zeros (suc n) zero = refl
-zeros (suc n) (suc i) = zeros n i
-
 pub trees-start : (w : ℕ) (rows : Bytes) → Trees w rows (replicate 4096 0) (replicate 8192 0) 0
 trees-start w rows =
     record {
       distinct = record { apart = λ i k h g. absurd (not-suc-le-zero g) };
-      rising = record { low = λ p. omega (arith, zeros 8192 p); up = λ p h. absurd (omega (arith, zeros 8192 p)) };
-      low = λ b. omega (arith, zeros 4096 b);
+      rising = record { low = λ p. omega (arith, zeros-read 8192 p); up = λ p h. absurd (omega (arith, zeros-read 8192 p)) };
+      low = λ b. omega (arith, zeros-read 4096 b);
       covers = λ j h. absurd (not-suc-le-zero h);
       many = length-replicate {A = ℕ} 4096 0;
       long = length-replicate {A = ℕ} 8192 0;

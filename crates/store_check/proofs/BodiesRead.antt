@@ -17,7 +17,7 @@ use Rattle.rules.specs.Layout.{definitionSize, particleSize, attributeSize, row
 use Rattle.rules.specs.Decode.{numberAt, readRow, readMany, readDefinition, readAttribute, sortOf, definitionCount, particleCount, attributeCount, rowCount}
 use Rattle.rules.specs.Conforming.{mustBePresent, allows}
 use Rattle.rules.specs.Passing.{passes}
-use Rattle.model.specs.Members.{particlesOf, membersFrom, allMembers}
+use Rattle.model.specs.Members.{indexMembers, particlesOf, membersFrom, allMembers}
 use Rattle.records.specs.Records.{rowFits, eachFits}
 use Rattle.form_check.specs.Bodies.{definitions, particlesRead, attributes, formOfBodies}
 use Rattle.form_check.proofs.Reading.{definitions-length, attributes-length}
@@ -25,7 +25,7 @@ use Rattle.form_index.specs.Indices.{IndexForm}
 use Rattle.layout.specs.Bodies.{recordAt, widthOf, definitionsIn, particlesIn, attributesIn, treeRowsIn}
 use Rattle.form_index.specs.Reading.{definitionIn, attributeIn, modelPart}
 use Rattle.form_index.specs.Reading as bytes
-use Rattle.store_check.specs.Reading.{indexMembers, partAt, noFlatDefinition, noAttribute, entryOf, formAt, flatIndexForm}
+use Rattle.store_check.specs.Reading.{partAt, noFlatDefinition, noAttribute, entryOf, formAt, flatIndexForm}
 use Rattle.store_check.specs.Check.{FormPasses, FormIn, RowsPass, SerialsIn}
 use Rattle.store_check.proofs.FormLaws.{Laid}
 use Rattle.store_check.proofs.IndexReads.{definition-in, attribute-in, model-in, index-agrees}
@@ -66,7 +66,7 @@ module _ {w n : ℕ} {defs : Bytes} {p : ℕ} {parts : Bytes} {a : ℕ} {attrs :
       ∙ sym (List·getD-eq-default (attributes w a attrs) noAttribute {n = j} (omega (arith, attributes-length w a attrs))))
 
   model-past : (i : ℕ) → n ≤ i → allMembers (modelPart defs parts i) ≡ indexMembers (build (partAt i (definitions n defs) (particlesRead p parts)) 0)
-  unfolding modelPart membersFrom particlesOf indexMembers
+  unfolding modelPart membersFrom particlesOf
   model-past i l =
       ap (λ (d : FlatDefinition). allMembers (take (particleSize * d .particles) (drop (particleSize * bytes.particlesBefore defs i) parts))) (definition-past i l)
       ∙ sym (ap (λ (ps : List (Deep FlatParticle)). indexMembers (build ps 0)) (part-past i (definitions n defs) (particlesRead p parts) (omega (arith, definitions-length n defs))))

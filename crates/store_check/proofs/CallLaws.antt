@@ -13,6 +13,7 @@ use Rattle.rules.specs.Model.{Distinct, names}
 use Rattle.rules.specs.Layout.{definitionSize, attributeSize, rowSize}
 use Rattle.rules.specs.Decode.{numberAt, readRow, readMany, definitionCount, particleCount, attributeCount, rowCount}
 use Rattle.rules.specs.Passing.{passes}
+use Rattle.rules.proofs.Words.{same-truth}
 use Rattle.layout.specs.declared.Shape.{Shape}
 use Rattle.layout.specs.Bodies.{Width, widthOf, shapeOf, ShapeOf, definitionBody, particleBody, attributeBody, rowBody, definitionsIn, particlesIn, attributesIn, treeRowsIn}
 use Rattle.layout.proofs.LayoutLaws.{by-shape}
@@ -40,11 +41,6 @@ refused {b} {e} h q f = (λ z. absurd (false≢true z), λ x. sym (not-true b h)
 -- one that does not
 pub kept : {b e : Bool} → not b ≡ false → b ≡ e → e ≡ true
 kept {b} {e} h q = sym q ∙ not-false b h
-
-same-truth : {P : Type 0} (a b : Bool) → (a ≡ true) ↔ P → (b ≡ true) ↔ P → a ≡ b
-same-truth true b (f, g) (h, k) = sym (k (f refl))
-same-truth false true (f, g) (h, k) = g (h refl)
-same-truth false false (f, g) (h, k) = refl
 
 -- ---- the form
 pub laid-of : {w n : ℕ} {defs : Bytes} {p : ℕ} {parts : Bytes} {a : ℕ} {attrs : Bytes} → Bodies w n defs p parts a attrs → ((i : ℕ) → Fits w8 (getD defs i 0))
@@ -196,6 +192,4 @@ module _ {bs : Bytes} (h : Headed bs) where
 
   pub passed : {a b r : Bool} → not a ≡ false → (a ≡ true) ↔ FormIn bs → not b ≡ false → (b ≡ true) ↔ RowsIn bs → (r ≡ true) ↔ SerialsIn bs → r ≡ passes bs
   passed {a} {b} {r} s x t y z =
-      same-truth r (passes bs)
-      (λ e. (x .0 (not-false a s), y .0 (not-false b t) .passes, z .0 e), λ (u, v, w). z .1 w)
-      all-in
+      same-truth r (passes bs) (λ e. all-in .1 (x .0 (not-false a s), y .0 (not-false b t) .passes, z .0 e)) (λ e. z .1 (all-in .0 e .2))

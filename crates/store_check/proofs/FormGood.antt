@@ -23,8 +23,9 @@ use Rattle.rules.proofs.BooleanLaws.{Every, every-at, every-in, every-map, none
 use Rattle.rules.proofs.TestLaws.{distinct-test}
 use Rattle.rules.proofs.WellFormedLaws.{well-formed, no-circle}
 use Rattle.rules.proofs.PassingLaws.{good-is}
+use Rattle.model.specs.Members.{indexMembers}
 use Rattle.form_check.specs.FormTests.{definitionsApart, modelFits, modelsFit, bodiesFit}
-use Rattle.store_check.specs.Reading.{DefinitionFits, FieldsFit, indexMembers, partAt, noFlatDefinition, entryOf, formAt, Agrees}
+use Rattle.store_check.specs.Reading.{DefinitionFits, FieldsFit, partAt, noFlatDefinition, entryOf, formAt, Agrees}
 use Rattle.store_check.proofs.IndexLaws.{namesOf}
 use Rattle.store_check.proofs.ModelReads.{ModelRead}
 use Rattle.store_check.proofs.AttributeReads.{own-apart, own-good, all-rise, all-apart, all-fit}

@@ -23,6 +23,7 @@ use Rattle.rules.proofs.PreorderLaws.{rising}
 use Rattle.codec.proofs.Records.{many-at}
 use Rattle.records.specs.Records.{definitionFits, attributeFits, eachFits}
 use Rattle.records.proofs.RecordLaws.{FittingDefinition, definition-fields, FittingAttribute, attribute-fields, body-fields}
+use Rattle.model.specs.Members.{indexMembers}
 use Rattle.form_check.specs.FormTests.{elementsIn, shaped, modelFits, modelsFit, bodiesFit}
 use Rattle.form_check.specs.Bodies.{Bodies, definitions, particlesRead, attributes, formOfBodies}
 use Rattle.form_check.proofs.Reading.{definitions-length, particles-length}
@@ -32,7 +33,7 @@ use Rattle.circle_check.specs.Deep.{Ranked}
 use Rattle.circle_check.proofs.CircleLaws.{Indexed}
 use Rattle.circle_check.proofs.ReadLaws.{Leaves, AllShaped, modelAt, members-read, start-room, Within, Readable, form-read, fit-read}
 use Rattle.circle_check.proofs.ReadLaws as circle
-use Rattle.store_check.specs.Reading.{DefinitionFits, AttributeFits, FieldsFit, indexMembers, partAt, noFlatDefinition}
+use Rattle.store_check.specs.Reading.{DefinitionFits, AttributeFits, FieldsFit, partAt, noFlatDefinition}
 use Rattle.store_check.proofs.ModelReads.{Shaped, Single, Grouped, shaped-tree, ModelRead}
 use Rattle.store_check.proofs.FormReads.{bodies-of, form-size, form-apart, model-at}
 use Rattle.store_check.proofs.FormReads as reads

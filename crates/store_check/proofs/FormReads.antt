@@ -22,10 +22,12 @@ use Rattle.rules.proofs.Words.{and-split}
 use Rattle.rules.proofs.BooleanLaws.{Every, every-map, none-nil}
 use Rattle.rules.proofs.TestLaws.{distinct-test}
 use Rattle.rules.proofs.RenamingPlaces.{names-rename}
+use Rattle.model.specs.Members.{indexMembers}
+use Rattle.model.proofs.MembersLaws.{members-named}
 use Rattle.form_check.specs.FormTests.{definitionsApart, elementsIn, modelFits, modelsFit, ownersRise, attributesApart, bodiesFit}
-use Rattle.store_check.specs.Reading.{DefinitionFits, AttributeFits, FieldsFit, indexMembers, partAt, noFlatDefinition}
+use Rattle.store_check.specs.Reading.{DefinitionFits, AttributeFits, FieldsFit, partAt, noFlatDefinition}
 use Rattle.store_check.proofs.IndexLaws.{namesOf}
-use Rattle.store_check.proofs.ModelReads.{Fills, ModelRead, model-read, read-index, members-read, kind-back}
+use Rattle.store_check.proofs.ModelReads.{Fills, ModelRead, model-read, members-read, kind-back}
 use Rattle.store_check.proofs.AttributeReads.{attributes-back}
 
 -- ---- definition by definition
@@ -211,7 +213,7 @@ module _ (w : ℕ) (f : FlatStore) (fit : FieldsFit w f) (bodies : bodiesFit f �
 
     -- the model is the one over indices, with names for the indices
     pub model-renamed : members (definitionAt i (formOf f)) ≡ rename (λ j. nameAt j (namesOf (formOf f))) (indexMembers (build (partAt i (f .definitions) (f .particles)) 0))
-    model-renamed = members-at ∙ read-index (namesOf (formOf f)) (build (partAt i (f .definitions) (f .particles)) 0)
+    model-renamed = members-at ∙ members-named (namesOf (formOf f)) (build (partAt i (f .definitions) (f .particles)) 0)
 
     -- and so are its names
     pub names-at : names (members (definitionAt i (formOf f))) ≡ map (λ j. nameAt j (namesOf (formOf f))) (elementsIn (partAt i (f .definitions) (f .particles)))

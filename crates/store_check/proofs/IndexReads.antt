@@ -1,25 +1,23 @@
 -- The form by index that the one pass over the rows reads off the bytes says what the form that is read says.
-use Prim.Native.Nat.{ℕ, zero, suc, _+_, _*_, _/_, _<_, _≤_}
+use Prim.Native.Nat.{ℕ, _+_, _*_, _/_, _<_, _≤_}
 use native.Mathlib.Omega.{arith}
 use mathlib.Core.Path.{_≡_, refl, ap, ap₂, _∙_, sym, subst}
 use mathlib.Core.List.{List, List·Memᴰ}
 use lib.ListN.{length, take, drop, getD, length-take, length-drop}
 use Rattle.rules.specs.Bytes.{Bytes}
-use Rattle.rules.specs.Model.{Members, el, group, names, rename, Distinct}
-use Rattle.rules.specs.Store.{Forest, bare, tree}
+use Rattle.rules.specs.Model.{Members, names, rename, Distinct}
 use Rattle.rules.specs.Preorder.{Deep, build}
 use Rattle.rules.specs.Layout.{definitionSize, particleSize, attributeSize, FlatDefinition, FlatParticle, FlatAttribute, FlatStore, allAttributes}
-use Rattle.rules.specs.Decode.{nameAt, quantifierOf, groupOf, readDefinition, readParticle, readAttribute, readMany, sortOf, unflat}
+use Rattle.rules.specs.Decode.{nameAt, readDefinition, readParticle, readAttribute, readMany, sortOf, unflat}
 use Rattle.rules.specs.Conforming.{mustBePresent, allows}
 use Rattle.codec.proofs.Strings.{part-there}
 use Rattle.codec.proofs.Records.{many-at}
-use Rattle.model.specs.Members.{particlesOf, membersFrom, allMembers}
-use Rattle.model.specs.Members as model
+use Rattle.model.specs.Members.{indexMembers, particlesOf, membersFrom, allMembers}
 use Rattle.form_check.specs.Bodies.{definitions, particlesRead, attributes, formOfBodies}
 use Rattle.form_check.proofs.Reading.{definitions-length, attributes-length, particles-part}
 use Rattle.form_index.specs.Reading.{definitionIn, attributeIn, particlesBefore, modelPart}
 use Rattle.form_index.specs.Reading as bytes
-use Rattle.store_check.specs.Reading.{FieldsFit, indexMember, indexMembers, partAt, noFlatDefinition, noAttribute, entryOf, formAt, Agrees}
+use Rattle.store_check.specs.Reading.{FieldsFit, partAt, noFlatDefinition, noAttribute, entryOf, formAt, Agrees}
 use Rattle.store_check.specs.Check.{FormPasses}
 use Rattle.store_check.proofs.IndexLaws.{namesOf, distinct-unmap}
 use Rattle.store_check.proofs.ModelReads.{ModelRead, read-names}
@@ -29,29 +27,18 @@ use Rattle.store_check.proofs.Parts.{before, before-within, before-is, 
 use Rattle.store_check.proofs.FormLaws.{Laid, fields-fit, before-all}
 
 -- ---- models
-members-same : (t : Forest FlatParticle) → model.indexMembers t ≡ indexMembers t
-unfolding indexMembers
-members-same bare = refl
-members-same (tree p b t) = by (p .sort) (members-same b) (members-same t)
-  where
-    by : (s : ℕ) → model.indexMembers b ≡ indexMembers b → model.indexMembers t ≡ indexMembers t
-        → model.indexMember p s (model.indexMembers b) (model.indexMembers t) ≡ indexMember p s (indexMembers b) (indexMembers t)
-    by zero x y = ap (λ (z : Members ℕ). el (quantifierOf (p .quantifier)) (p .index) z) y
-    by (suc k) x y = ap₂ (λ (z u : Members ℕ). group (quantifierOf (p .quantifier)) (groupOf (suc k)) z u) x y
-
 -- of c particles after b others
 part-members : (p : ℕ) (parts : Bytes) (b c : ℕ) → particleSize * p ≡ length parts → b + c ≤ p
     → allMembers (take (particleSize * c) (drop (particleSize * b) parts)) ≡ indexMembers (build (take c (drop b (particlesRead p parts))) 0)
 unfolding membersFrom particlesOf particlesRead
 part-members p parts b c whole l =
-    ap (λ (k : ℕ). model.indexMembers (build (readMany readParticle particleSize k (take (particleSize * c) (drop (particleSize * b) parts))) 0)) count
-    ∙ ap (λ (s : Bytes). model.indexMembers (build (readMany readParticle particleSize c s) 0)) (sym (part-there (particleSize * b) (particleSize * c) parts (omega arith)))
-    ∙ ap (λ (ps : List (Deep FlatParticle)). model.indexMembers (build ps 0)) (particles-part b c p parts l whole)
-    ∙ members-same (build (take c (drop b (particlesRead p parts))) 0)
+    ap (λ (k : ℕ). indexMembers (build (readMany readParticle particleSize k (take (particleSize * c) (drop (particleSize * b) parts))) 0)) count
+    ∙ ap (λ (s : Bytes). indexMembers (build (readMany readParticle particleSize c s) 0)) (sym (part-there (particleSize * b) (particleSize * c) parts (omega arith)))
+    ∙ ap (λ (ps : List (Deep FlatParticle)). indexMembers (build ps 0)) (particles-part b c p parts l whole)
   where
     count : length (take (particleSize * c) (drop (particleSize * b) parts)) / particleSize ≡ c
     count =
-        let e : length (take (particleSize * c) (drop (particleSize * b) parts)) ≡ 4 * c =
+        let e : length (take (particleSize * c) (drop (particleSize * b) parts)) ≡ particleSize * c =
         omega (arith, length-take (particleSize * c) (drop (particleSize * b) parts), length-drop (particleSize * b) parts) in
         omega arith
 
@@ -73,9 +60,15 @@ module _ {w n : ℕ} {defs : Bytes} {p : ℕ} {parts : Bytes} {a : ℕ} {attrs :
   unfolding attributes
   attribute-in j l = sym (many-at readAttribute (attributeSize w) j a attrs noAttribute l)
 
-  before-in : (i : ℕ) → i ≤ n → particlesBefore defs i ≡ before i (definitions n defs)
+  pub before-in : (i : ℕ) → i ≤ n → particlesBefore defs i ≡ before i (definitions n defs)
   unfolding particlesBefore
   before-in = before-is (particlesBefore defs) (λ i. definitionIn defs i .particles) n (definitions n defs) refl (λ i. refl) (λ i l. ap (λ (d : FlatDefinition). d .particles) (definition-in i l))
+
+  pub room-in : (i : ℕ) → i < n → before i (definitions n defs) + getD (definitions n defs) i noFlatDefinition .particles ≤ p
+  room-in i l =
+      let e : before (length (definitions n defs)) (definitions n defs) ≡ p =
+      ap (λ (k : ℕ). before k (definitions n defs)) (definitions-length n defs) ∙ before-all laid (x .definitions) (x .attributes) (x .bodies) in
+      omega (arith, before-within i (definitions n defs) (omega (arith, definitions-length n defs)))
 
   pub model-in : (i : ℕ) → i < n → allMembers (modelPart defs parts i) ≡ indexMembers (build (partAt i (definitions n defs) (particlesRead p parts)) 0)
   unfolding modelPart
@@ -84,14 +77,8 @@ module _ {w n : ℕ} {defs : Bytes} {p : ℕ} {parts : Bytes} {a : ℕ} {attrs :
       let b : particlesBefore defs i ≡ before i (definitions n defs) = before-in i (omega arith) in
       ap₂ (λ (k m : ℕ). allMembers (take (particleSize * k) (drop (particleSize * m) parts))) c b
       ∙ part-members p parts (before i (definitions n defs)) (getD (definitions n defs) i noFlatDefinition .particles) (laid .bodies .particleBody .whole)
-      (room i l)
+      (room-in i l)
       ∙ ap (λ (ps : List (Deep FlatParticle)). indexMembers (build ps 0)) (sym (part-cut i (definitions n defs) (particlesRead p parts)))
-    where
-      room : (i : ℕ) → i < n → before i (definitions n defs) + getD (definitions n defs) i noFlatDefinition .particles ≤ p
-      room i l =
-          let e : before (length (definitions n defs)) (definitions n defs) ≡ p =
-          ap (λ (k : ℕ). before k (definitions n defs)) (definitions-length n defs) ∙ before-all laid (x .definitions) (x .attributes) (x .bodies) in
-          omega (arith, before-within i (definitions n defs) (omega (arith, definitions-length n defs)))
 
   form-count : length (unflat f .form) ≡ n
   form-count = form-size f ∙ definitions-length n defs

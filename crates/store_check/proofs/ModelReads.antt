@@ -10,7 +10,7 @@ use lib.Dec.{eqb, leb, ltb, eqb·suc-zero}
 use lib.ListN.{length, length-map}
 use borrow.Author.Tests.{eqb-true, leb-true, ltb-true, eq-eqb, ne-eqb, not-true}
 use Rattle.rules.specs.Bytes.{Bytes, all, isNone, numbers}
-use Rattle.rules.specs.Model.{Members, el, group, names, rename, Distinct, distinct, Some, Full}
+use Rattle.rules.specs.Model.{Members, names, Distinct, distinct, Some, Full}
 use Rattle.rules.specs.Store.{Form, Forest, bare, tree, heads, modelOf}
 use Rattle.rules.specs.Preorder.{Deep, flatten, build}
 use Rattle.rules.specs.Layout.{FlatParticle, quantifierCode, groupCode, kindCode, howMany, particles}
@@ -21,9 +21,10 @@ use Rattle.rules.proofs.BooleanLaws.{Every, every-append, every-at}
 use Rattle.rules.proofs.TestLaws.{distinct-test}
 use Rattle.rules.proofs.PreorderLaws.{flatten-build, rising}
 use Rattle.rules.proofs.RenamingPlaces.{names-rename}
+use Rattle.model.specs.Members.{indexMember, indexMembers}
+use Rattle.model.proofs.MembersLaws.{members-named}
 use Rattle.form_check.specs.FormTests.{particleFits, shaped, elementsIn, modelFits}
 use Rattle.circle_check.proofs.ReadLaws.{elements-append}
-use Rattle.store_check.specs.Reading.{indexMember, indexMembers}
 use Rattle.store_check.proofs.IndexLaws.{namesOf, index-name, name-once, known-at, distinct-map}
 
 -- ---- what the test of a particle says
@@ -69,18 +70,8 @@ shaped-tree n p b t h =
         inr (record { code = k; sort = q; most = omega arith; index = eqb-true (p .index) (length (heads b)) i; some = not-true (isNone (heads b)) l })
 
 -- ---- names for indices
-pub read-index : (ns : List Bytes) (t : Forest FlatParticle) → readMembers ns t ≡ rename (λ i. nameAt i ns) (indexMembers t)
-unfolding rename indexMembers
-read-index ns bare = refl
-read-index ns (tree p b t) = by (p .sort) (read-index ns b) (read-index ns t)
-  where
-    by : (s : ℕ) → readMembers ns b ≡ rename (λ i. nameAt i ns) (indexMembers b) → readMembers ns t ≡ rename (λ i. nameAt i ns) (indexMembers t)
-        → memberOf ns p s (readMembers ns b) (readMembers ns t) ≡ rename (λ i. nameAt i ns) (indexMember p s (indexMembers b) (indexMembers t))
-    by zero x y = ap (λ (z : Members Bytes). el (quantifierOf (p .quantifier)) (nameAt (p .index) ns) z) y
-    by (suc k) x y = ap₂ (λ (z u : Members Bytes). group (quantifierOf (p .quantifier)) (groupOf (suc k)) z u) x y
-
 pub read-names : (ns : List Bytes) (t : Forest FlatParticle) → names (readMembers ns t) ≡ map (λ i. nameAt i ns) (names (indexMembers t))
-read-names ns t = ap (λ (z : Members Bytes). names z) (read-index ns t) ∙ names-rename (λ i. nameAt i ns) (indexMembers t)
+read-names ns t = ap (λ (z : Members Bytes). names z) (members-named ns t) ∙ names-rename (λ i. nameAt i ns) (indexMembers t)
 
 -- ---- the names that stand in a part
 pub elements-here : (x : Deep FlatParticle) (xs : List (Deep FlatParticle)) → x .row .sort ≡ 0 → elementsIn (x ∷ xs) ≡ x .row .index ∷ elementsIn xs
@@ -93,7 +84,7 @@ elements-past x xs k e = rw (ne-eqb (x .row .sort) 0 (λ z. omega arith), elemen
 
 module _ (n : ℕ) where
   pub names-elements : (d : ℕ) (t : Forest FlatParticle) → shaped n t ≡ true → names (indexMembers t) ≡ elementsIn (flatten d t)
-  unfolding names indexMembers elementsIn
+  unfolding names elementsIn
   names-elements d bare h = refl
   names-elements d (tree p b t) h = let s : Shaped n p b t = shaped-tree n p b t h in by (s .particle) (names-elements (suc d) b (s .below)) (names-elements d t (s .beside))
     where
@@ -111,7 +102,7 @@ module _ (n : ℕ) where
           ∙ sym (elements-past (record { depth = d; row = p }) (flatten (suc d) b ++ flatten d t) (x .code) (x .sort))
 
   pub names-below : (t : Forest FlatParticle) → shaped n t ≡ true → Every (λ j. j < n) (names (indexMembers t))
-  unfolding names indexMembers
+  unfolding names
   names-below bare h = tt
   names-below (tree p b t) h = let s : Shaped n p b t = shaped-tree n p b t h in by (s .particle) (names-below b (s .below)) (names-below t (s .beside))
     where

@@ -7,16 +7,17 @@ use mathlib.Core.List.{List, [], _∷_, map, List·Memᴰ}
 use lib.Dec.{leb, ltb}
 use lib.ListN.{length, take, drop, getD}
 use Rattle.rules.specs.Bytes.{Bytes, numbers, all}
-use Rattle.rules.specs.Model.{Members, done, el, group, names, rename, distinct}
-use Rattle.rules.specs.Store.{Form, text, Row, Forest, bare, tree, members}
+use Rattle.rules.specs.Model.{names, rename, distinct}
+use Rattle.rules.specs.Store.{Form, text, Row, Forest, members}
 use Rattle.rules.specs.Preorder.{Deep, flatten, build}
 use Rattle.rules.specs.Layout.{valueWidth, FlatDefinition, FlatParticle, FlatAttribute, FlatRow, FlatStore, kindCode, allAttributes, indexed}
-use Rattle.rules.specs.Decode.{nameAt, quantifierOf, groupOf, sortOf, unflat}
+use Rattle.rules.specs.Decode.{nameAt, sortOf, unflat}
 use Rattle.rules.specs.WellFormed.{storedName, isValue, highestNumber, withinCeilings, definitionName, Reaches, isFill}
 use Rattle.rules.specs.Conforming.{EveryRow, Conforming, mustBePresent, allows}
 use Rattle.rules.specs.Passing.{knownVersion}
 use Rattle.rules.specs.Change.{definitionAt}
 use Rattle.rules.proofs.BooleanLaws.{Every}
+use Rattle.model.specs.Members.{indexMembers}
 use Rattle.form_check.specs.FormTests.{bodiesFit}
 use Rattle.form_index.specs.Indices.{IndexForm, Documents}
 
@@ -38,22 +39,13 @@ pub record FieldsFit (w : ℕ) (f : FlatStore) : Type 0 where
   pub definitions : Every DefinitionFits (f .definitions)
   pub attributes : Every (AttributeFits w (length (f .definitions))) (f .attributes)
 
--- ---- models by index
-abbrev pub indexMember : FlatParticle → ℕ → Members ℕ → Members ℕ → Members ℕ
-indexMember p zero below rest = el (quantifierOf (p .quantifier)) (p .index) rest
-indexMember p (suc k) below rest = group (quantifierOf (p .quantifier)) (groupOf (suc k)) below rest
-
-unfoldable pub indexMembers : Forest FlatParticle → Members ℕ
-indexMembers bare = done
-indexMembers (tree p b t) = indexMember p (p .sort) (indexMembers b) (indexMembers t)
-
+-- ---- the form by index
 -- the part of definition i in the particle body
 abbrev pub partAt : ℕ → List FlatDefinition → List (Deep FlatParticle) → List (Deep FlatParticle)
 partAt i [] ps = []
 partAt zero (d ∷ ds) ps = take (d .particles) ps
 partAt (suc i) (d ∷ ds) ps = partAt i ds (drop (d .particles) ps)
 
--- ---- the form by index
 abbrev pub noFlatDefinition : FlatDefinition
 noFlatDefinition = record { name = []; kind = 0; particles = 0 }
 

@@ -16,7 +16,7 @@ use Rattle.rules.specs.WellFormed.{withinCeilings}
 use Rattle.rules.proofs.Words.{and-split}
 use Rattle.rules.proofs.LayoutLaws.{length-definition, length-particle, length-attribute, length-each, length-flatBytes}
 use Rattle.codec.specs.Laid.{Laid}
-use Rattle.layout.specs.Bodies.{widthOf}
+use Rattle.layout.specs.Bodies.{widthOf, mostForm}
 use Rattle.layout.specs.Header.{contents, headed}
 use Rattle.layout.proofs.HeaderLaws.{attributes-short, headed-short}
 use Rattle.lookup.specs.Bodies.{bodiesOf}
@@ -122,7 +122,7 @@ module _ {w : ℕ} {form : Bytes} {d p a : ℕ} (x : Forms w form d p a) where
   few = few-of (formRead w form d p a) (x .ceilings)
 
   -- the widest value that a version has is 96 bytes long
-  pub form-short : w ≤ 96 → length form ≤ 9728
+  pub form-short : w ≤ 96 → length form ≤ mostForm
   form-short h =
       omega (
         arith,

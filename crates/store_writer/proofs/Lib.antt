@@ -9,6 +9,7 @@ pub mod WalkLaws
 pub mod StillLaws
 pub mod OrderLaws
 pub mod RefusalLaws
+pub mod FilledLaws
 pub mod EditLaws
 pub mod Encoded
 pub mod StoreFacts

@@ -34,9 +34,10 @@ use Rattle.row_walk.specs.declared.Plan.{Plan}
 use Rattle.row_walk.specs.Walk.{walked, atFirst}
 use Rattle.filling.specs.Parts.{valueOf}
 use Rattle.walk_writer.specs.Step.{planFilling, Ready, WalkRow, WalkRows}
-use Rattle.row_bound.specs.Bound.{Adds}
+use Rattle.row_bound.specs.declared.Most.{Most}
+use Rattle.row_bound.specs.Bound.{countedTo, Bounds}
 use Rattle.store_writer.specs.Stores.{storeIn}
-use Rattle.store_writer.specs.Planned.{rowsAfter}
+use Rattle.store_writer.specs.Planned.{fillOf, rowsAfter}
 use Rattle.store_writer.specs.Writing.{walkFrom, Sized}
 use Rattle.store_writer.proofs.StoreLaws.{Holds, holds}
 use Rattle.store_writer.proofs.PartLaws.{members-at}
@@ -143,14 +144,25 @@ module _ {bs : Bytes} (q : passes bs ≡ true) {version w n : ℕ} {defs parts :
       (subst (λ (k : ℕ). Written k xs (walkFrom at bs) out r out′) (x .w-is)
       (subst (λ (k : ℕ). Written w xs (record { at = at; left = 4097; serial = k }) out r out′) (m .value) d))
 
+  -- the filling of the walk is that of the plan
+  fill-after : (p : Plan) (v : Bytes) (d : ℕ) → planFilling version w n defs parts a attrs p v d ≡ fillOf p v (bodiesOf bs) d
+  unfolding bodiesOf widthOf
+  fill-after p v d =
+      (λ i. planFilling (x .version-is i) (x .w-is i) (x .n-is i) (x .defs-is i) (x .parts-is i) (x .a-is i) (x .attrs-is i) p v d)
+      ∙ (λ i. fillingRows (read-form h q i) (λ j. valueOf (read-attribute h q j i)) (λ k e. members-at h k e i) (p .filling) v d)
+
   -- .. and what is added to the rows of the store
-  pub rows-added : (p : Plan) (v : Bytes) {r : ℕ} → Adds (walked p v (planFilling version w n defs parts a attrs p v) (atFirst p) (readMany readRow (rowSize w) count rows)) count r
-      → Adds (rowsAfter p v (bodiesOf bs)) (rowCount bs) r
+  pub rows-added : (p : Plan) (v : Bytes) {m : Most}
+      → Bounds (walked p v (planFilling version w n defs parts a attrs p v) (atFirst p) (readMany readRow (rowSize w) count rows)) (planFilling version w n defs parts a attrs p v 0) count m
+      → Bounds (rowsAfter p v (bodiesOf bs)) (fillOf p v (bodiesOf bs) 0) (rowCount bs) m
   rows-added p v y =
       record {
-        few = y .few;
-        rows = λ h. omega (arith, y .rows h, ap length (rows-after p v), x .count-is);
-        new = λ h. omega (arith, y .new h, ap newIn (rows-after p v));
+        adds = record {
+          few = y .adds .few;
+          rows = λ h. omega (arith, y .adds .rows h, ap length (rows-after p v), x .count-is);
+          new = λ h. omega (arith, y .adds .new h, ap newIn (rows-after p v));
+        };
+        one = λ h. y .one h ∙ ap (λ (ys : List (Deep FlatRow)). countedTo ys) (fill-after p v 0);
       }
 
   -- there are no more rows than the ceiling allows

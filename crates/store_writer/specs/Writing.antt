@@ -4,6 +4,7 @@ use mathlib.Core.List.{[], _∷_}
 use lib.Dec.{ltb}
 use lib.ListN.{length}
 use Rattle.rules.specs.Bytes.{Bytes}
+use Rattle.layout.specs.Bodies.{mostForm}
 use Rattle.rules.specs.Layout.{headerSize, rowSize}
 use Rattle.rules.specs.Decode.{numberAt}
 use Rattle.rules.specs.WellFormed.{highestNumber}
@@ -23,7 +24,7 @@ pub record Heads (form : Bytes) (next d p a r : ℕ) : Type 0 where
   pub particles : p ≤ 256
   pub attributes : a ≤ 64
   pub rows : r ≤ 4096
-  pub short : length form ≤ 9728
+  pub short : length form ≤ mostForm
 
 -- a walk writes from `at` on at most one row more than the ceiling, new rows with the serials of the store
 abbrev pub walkFrom : ℕ → Bytes → Cursor

@@ -10,6 +10,7 @@ use Rattle.filling.specs.declared.Filling.{Filling}
 use Rattle.filling.specs.declared.Filling.the-variants.{Particles}
 use Rattle.row_walk.specs.declared.Plan.{Plan}
 use Rattle.row_walk.specs.Lent.{whichIn, laterIn, fillingIn, planIn}
+use Rattle.walk_writer.specs.Step.{refilled}
 
 -- the number of a variant is none of the others'
 pub filling-choice : (k n d : ℕ) → (k ≡ 0 → ⊥) → (k ≡ 1 → ⊥) → (k ≡ 2 → ⊥) → (k ≡ 3 → ⊥) → Particles Choice n d ≡ fillingIn k n d
@@ -20,8 +21,8 @@ filling-choice (suc (suc (suc zero))) n d a b c e = absurd (e refl)
 filling-choice (suc (suc (suc (suc k)))) n d a b c e = refl
 
 -- what each part of a plan is read back as
-pub plan-lent : (p : Plan) (a₀ a₁ t₀ t₁ l₀ l₁ f k s f₀ f₁ f₂ : ℕ) → whichIn a₀ a₁ ≡ p .above → whichIn t₀ t₁ ≡ p .takes → laterIn l₀ l₁ ≡ p .later
-    → eqb f 1 ≡ p .fills → eqb k 1 ≡ p .keeps → eqb s 1 ≡ p .spares → fillingIn f₀ f₁ f₂ ≡ p .filling
+pub plan-lent : (p : Plan) (what : Filling) (a₀ a₁ t₀ t₁ l₀ l₁ f k s f₀ f₁ f₂ : ℕ) → whichIn a₀ a₁ ≡ p .above → whichIn t₀ t₁ ≡ p .takes → laterIn l₀ l₁ ≡ p .later
+    → eqb f 1 ≡ p .fills → eqb k 1 ≡ p .keeps → eqb s 1 ≡ p .spares → fillingIn f₀ f₁ f₂ ≡ what
     → planIn
     (a₀
     ∷ a₁
@@ -43,8 +44,8 @@ pub plan-lent : (p : Plan) (a₀ a₁ t₀ t₁ l₀ l₁ f k s f₀ f₁ f₂ :
     ∷ f₁
     ∷ f₂
     ∷ [])
-    (p .marks) ≡ p
-plan-lent p a₀ a₁ t₀ t₁ l₀ l₁ f k s f₀ f₁ f₂ ea et el ef ek es eg =
+    (p .marks) ≡ refilled p what
+plan-lent p what a₀ a₁ t₀ t₁ l₀ l₁ f k s f₀ f₁ f₂ ea et el ef ek es eg =
     λ i. record {
       above = ea i;
       takes = et i;

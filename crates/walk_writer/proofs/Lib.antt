@@ -1,3 +1,4 @@
 pub mod LentLaws
 pub mod StepLaws
 pub mod WalkLaws
+pub mod SettledLaws

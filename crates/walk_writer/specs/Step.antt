@@ -41,15 +41,40 @@ pub record Came (w : ℕ) (xs : List (Deep FlatRow)) (o : Open) (c : Cursor) (ou
   pub written : Written w xs c out (r .cursor) out′
   pub opened : r .opened ≡ o
 
--- a filling at a depth, from the bytes of the form; that of a plan; and that of a form that is lent
+-- a filling at a depth, from the bytes of the form; that of a plan; and both of a form that is lent
 abbrev pub fillWith : ℕ → ℕ → ℕ → Bytes → Bytes → ℕ → Bytes → Filling → Bytes → ℕ → List (Deep FlatRow)
 fillWith version w n defs parts a attrs what text d = fillingRows (indexForm version w n defs parts attrs a) (λ j. valueIn w attrs j) (λ k e. membersReadAt parts k e) what text d
 
 abbrev pub planFilling : ℕ → ℕ → ℕ → Bytes → Bytes → ℕ → Bytes → Plan → Bytes → ℕ → List (Deep FlatRow)
 planFilling version w n defs parts a attrs p text d = fillWith version w n defs parts a attrs (p .filling) text d
 
+abbrev pub fillLent : List ℕ → List (RefT Bytes) → Filling → Bytes → ℕ → List (Deep FlatRow)
+fillLent ks fs what text d = fillWith (versionOfFilling ks) (widthIn ks) (sizeIn ks) (defsIn fs) (partsIn fs) (countIn ks) (attrsIn fs) what text d
+
 abbrev pub fillIn : List ℕ → List (RefT Bytes) → Plan → Bytes → ℕ → List (Deep FlatRow)
 fillIn ks fs p text d = planFilling (versionOfFilling ks) (widthIn ks) (sizeIn ks) (defsIn fs) (partsIn fs) (countIn ks) (attrsIn fs) p text d
+
+-- a plan with another filling
+abbrev pub refilled : Plan → Filling → Plan
+refilled p what =
+    record {
+      above = p .above;
+      takes = p .takes;
+      fills = p .fills;
+      later = p .later;
+      filling = what;
+      marks = p .marks;
+      keeps = p .keeps;
+      spares = p .spares;
+      set = p .set;
+      definitions = p .definitions;
+      attributes = p .attributes;
+    }
+
+-- a filling that may stand for another: at each depth it has the same rows
+pub record Settled (ks : List ℕ) (fs : List (RefT Bytes)) (text : Bytes) (what settled : Filling) : Type 0 where
+  pub same : (d : ℕ) → fillLent ks fs settled text d ≡ fillLent ks fs what text d
+  pub indexed : Indexed settled
 
 -- ---- how large the numbers are that the walk meets
 -- the form, the plan and the text of a call

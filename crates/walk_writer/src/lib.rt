@@ -22,7 +22,7 @@ ghost use Rattle.filling.specs.Parts.{widthIn, countIn, sizeIn, Asks, Indexed};
 ghost use Rattle.row_walk.specs.Walk.{isTaken, owed, emitted, nextOpen, walked, atFirst};
 ghost use Rattle.row_walk.specs.Lent.{whichIn, laterIn, fillingIn, planIn};
 ghost use Rattle.row_walk.specs.Step.{rowOfHead, bare};
-ghost use Rattle.walk_writer.specs.Step.{rowRewritten, stepRows, stepOpen, Came, planFilling, fillIn, Ready, ReadyIn, Near, WalkRow, Seen, WalkRows};
+ghost use Rattle.walk_writer.specs.Step.{rowRewritten, stepRows, stepOpen, Came, planFilling, fillIn, refilled, Settled, Ready, ReadyIn, Near, WalkRow, Seen, WalkRows};
 
 /// What has been written after a row, and what is open.
 pub struct Stepped {
@@ -82,13 +82,13 @@ fn number_of(b: bool) -> usize
     if b { 1 } else { 0 }
 }
 
-fn plan_numbers(p: Plan) -> [usize; 19]
-    ensures { λ r. ⌜ planIn r (p .marks) ≡ p ⌝ }
+// .. with another filling.
+fn plan_numbers(p: Plan, what: Filling) -> [usize; 19]
+    ensures { λ r. ⌜ planIn r (p .marks) ≡ refilled p what ⌝ }
 {
     let above = p.above;
     let takes = p.takes;
     let later = p.later;
-    let what = p.filling;
     let d = p.definitions;
     let a = p.attributes;
     let i = which_numbers(above);
@@ -165,6 +165,21 @@ fn put_row(
 
 // ---- The walk. As in `filling`, the form is lent as one array of slices (definitions, particles, attributes) and one
 // of numbers (the width of a value, the number of attributes, the version, the number of definitions).
+
+// The filling that the walk goes with: nothing, if that of the plan has no rows, so that the members of a group are not
+// gone through again at each place. It is written up to its first row, into a buffer of one byte.
+fn settled(form: &[&[u8]; 3], sizes: &[usize; 4], what: Filling, text: &[u8]) -> Filling
+    requires { ⌜ Indexed what × Asks (widthIn (now sizes)) (record { at = 0; left = 1; serial = 0 }) (now text) (countIn (now sizes)) (sizeIn (now sizes)) 0 ⌝ }
+    ensures { λ r. ⌜ Settled (now (sizes .entry)) (now (form .entry)) (now (text .entry)) what r ⌝ }
+{
+    let mut clipped = [0; 1];
+    let mut c = [0, 1, 0];
+    filling::put_any(what, form, &text, sizes, sizes[3], 0, &mut c, &mut clipped);
+    if c[1] == 0 {
+        return what;
+    }
+    Filling::Nothing
+}
 
 // The filling at a depth, if it is due.
 fn put_owed(
@@ -364,6 +379,7 @@ pub fn walk<'a>(
 {
     let form = [defs, parts, attrs];
     let sizes = [w, a, version, n];
-    let p = plan_numbers(plan);
+    let what = settled(&form, &sizes, plan.filling, text);
+    let p = plan_numbers(plan, what);
     walk_lent(&form, &sizes, &p, &plan.marks, rows, count, text, c, out)
 }

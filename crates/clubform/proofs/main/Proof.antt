@@ -45,16 +45,16 @@ expect-requires c κs =
     let at-change-finisher = c .before .before in
     last-length (at-change-finisher .change-finisher .ensures)
 
-slice-aggregate-get-u32 : tie.Need-slice-aggregate-get-u32
-slice-aggregate-get-u32 c = search needs
+slice-aggregate-next-serial : tie.Need-slice-aggregate-next-serial
+slice-aggregate-next-serial c = search needs
 
-get-u32-requires : tie.Need-get-u32-requires
-get-u32-requires c κs = search needs
+next-serial-requires : tie.Need-next-serial-requires
+next-serial-requires c κs = search needs
 
 expect-requires-2 : tie.Need-expect-requires-2
 expect-requires-2 c κs =
     let at-change-finisher = c .before .before .before .before .before in
-    last-next (at-change-finisher .change-finisher .ensures) (c .get-u32 .ensures)
+    last-next (at-change-finisher .change-finisher .ensures) (c .next-serial .ensures .value)
 
 slice-aggregate-put-text : tie.Need-slice-aggregate-put-text
 slice-aggregate-put-text c = search needs
@@ -98,8 +98,8 @@ main-spec =
     slice-aggregate-change-finisher-2
     change-finisher-requires
     expect-requires
-    slice-aggregate-get-u32
-    get-u32-requires
+    slice-aggregate-next-serial
+    next-serial-requires
     expect-requires-2
     slice-aggregate-put-text
     slice-aggregate-put-text-2

@@ -9,8 +9,6 @@ use Rattle.codec.proofs.get_u16.Statement.{statement}
 use Rattle.codec.proofs.get_u16.Tie as tie
 use Rattle.codec.proofs.get_u16.Reads as reads
 use Rattle.codec.proofs.get_u16.Lts as lts
-use Rattle.codec.proofs.two.Reads as two-reads
-use Rattle.codec.proofs.wide.Reads as wide-reads
 
 returns : tie.Need-returns
 returns c =

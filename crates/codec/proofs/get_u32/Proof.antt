@@ -8,7 +8,6 @@ use Rattle.codec.proofs.get_u32.Tie as tie
 use Rattle.codec.proofs.get_u32.Reads as reads
 use Rattle.codec.proofs.get_u32.Lts as lts
 use Rattle.codec.proofs.byte.Reads as byte-reads
-use Rattle.codec.proofs.four.Reads as four-reads
 
 returns : tie.Need-returns
 returns c =

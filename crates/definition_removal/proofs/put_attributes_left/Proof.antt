@@ -1,14 +1,11 @@
 -- `definition_removal::put_attributes_left` meets its contract.
 use Rattle.definition_removal.proofs.LeftBytes.{attributes-laid}
-use Rattle.definition_removal.proofs.Left.{next-counted}
 use Rattle.definition_removal.proofs.Again.{records-short, attribute-short}
 use Rattle.store_writer.proofs.Encoded.{encoded}
-use Rattle.definition_removal.specs.Bodies.{attributesUpTo, attributeRecord, lowered}
-use Rattle.lookup.specs.Bodies.{bodiesOf}
+use Rattle.definition_removal.specs.Bodies.{attributeRecord, lowered}
 use Rattle.rules.specs.Layout.{attributeSize}
-use Rattle.rules.specs.Decode.{attributeCount}
 use native.Mathlib.Omega.{arith}
-use Prim.Native.Nat.{ℕ, suc}
+use Prim.Native.Nat.{suc}
 use borrow.Author.Needs.{needs}
 use Rattle.definition_removal.proofs.put_attributes_left.Statement.{statement}
 use Rattle.definition_removal.proofs.put_attributes_left.Tie as tie
@@ -16,17 +13,8 @@ use Rattle.definition_removal.proofs.put_attributes_left.Tie as tie
 width-in-requires : tie.Need-width-in-requires
 width-in-requires c κs = search needs
 
-attribute-start-requires : tie.Need-attribute-start-requires
-attribute-start-requires c κs = search needs
-
-add-attribute-start : tie.Need-add-attribute-start
-add-attribute-start c =
-    let start = c .before .before .before .before in
-    let x = encoded (start .args .store .now) (start .pre .0 .good) in
-    omega (arith, start .pre .0 .there, x .definitions, x .fewDefinitions)
-
-attribute-start-requires-2 : tie.Need-attribute-start-requires-2
-attribute-start-requires-2 c κs = search needs
+attribute-range-requires : tie.Need-attribute-range-requires
+attribute-range-requires c κs = search needs
 
 attribute-count-requires : tie.Need-attribute-count-requires
 attribute-count-requires c κs = search needs
@@ -39,13 +27,13 @@ attributes-of-requires c κs = search needs
 
 put-attributes-requires : tie.Need-put-attributes-requires
 put-attributes-requires c κs =
-    let at-attribute-start = c .before .before .before .before in
-    let at-width-in = at-attribute-start .before in
+    let at-attribute-range = c .before .before .before .before in
+    let at-width-in = at-attribute-range .before in
     let start = at-width-in .before .before .before in
     let x = encoded (start .args .store .now) (start .pre .0 .good) in (
       at-width-in .width-in .ensures .small,
       omega (arith, start .pre .0 .there, x .definitions, x .fewDefinitions),
-      omega (arith, at-attribute-start .attribute-start .ensures .most, x .attributes, x .fewAttributes),
+      omega (arith, at-attribute-range .attribute-range .ensures .first .most, x .attributes, x .fewAttributes),
       omega (arith, start .pre .1),
     )
 
@@ -56,9 +44,9 @@ put-attributes-requires-2 : tie.Need-put-attributes-requires-2
 put-attributes-requires-2 c κs =
     let at-put-attributes = c .before .before .before .before in
     let at-attributes-of = at-put-attributes .before .before in
-    let at-attribute-count = at-attributes-of .before in
-    let at-attribute-start = at-attribute-count .before .before in
-    let at-width-in = at-attribute-start .before in
+    let at-attribute-count = at-attributes-of .before .before in
+    let at-attribute-range = at-attribute-count .before in
+    let at-width-in = at-attribute-range .before in
     let start = at-width-in .before .before .before in
     let x = encoded (start .args .store .now) (start .pre .0 .good) in
     let g = lowered (suc (start .args .i)) 1 in
@@ -69,11 +57,11 @@ put-attributes-requires-2 c κs =
       omega (
         arith,
         start .pre .1,
-        at-attribute-start .attribute-start .ensures .most,
+        at-attribute-range .attribute-range .ensures .first .most,
         x .attributes,
         x .fewAttributes,
         at-put-attributes .put-attributes .ensures .next,
-        records-short (attributeRecord g) (attributeSize w) (λ rec k. attribute-short g w rec (at-width-in .width-in .ensures .small) k) (at-attribute-start .attribute-start .result)
+        records-short (attributeRecord g) (attributeSize w) (λ rec k. attribute-short g w rec (at-width-in .width-in .ensures .small) k) (at-attribute-range .attribute-range .result .start)
             (at-attributes-of .attributes-of .result .now),
       ),
     )
@@ -87,15 +75,13 @@ returns c =
     let at-attributes-from = at-put-attributes2 .before .before in
     let at-put-attributes = at-attributes-from .before .before .before in
     let at-attributes-of = at-put-attributes .before .before in
-    let at-attribute-count = at-attributes-of .before in
-    let at-attribute-start2 = at-attribute-count .before in
-    let at-attribute-start = at-attribute-start2 .before in
-    let at-width-in = at-attribute-start .before in
+    let at-attribute-count = at-attributes-of .before .before in
+    let at-attribute-range = at-attribute-count .before in
+    let at-width-in = at-attribute-range .before in
     let start = at-width-in .before .before .before in
     let a = start .args in
     attributes-laid (a .store .now) (start .pre .0 .good) (a .i) (start .pre .0 .there) (at-width-in .width-in .ensures) (at-attributes-of .attributes-of .ensures)
-    (at-attribute-count .attribute-count .ensures) (at-attribute-start .attribute-start .ensures)
-    (next-counted (λ (k : ℕ). attributesUpTo k (bodiesOf (a .store .now) .attributes)) (a .i) (attributeCount (a .store .now)) (at-attribute-start2 .attribute-start2 .ensures))
+    (at-attribute-count .attribute-count .ensures) (at-attribute-range .attribute-range .ensures)
     (at-attributes-from .attributes-from .ensures) (at-put-attributes .put-attributes .ensures) (at-put-attributes2 .put-attributes2 .ensures)
 
 pub put-attributes-left-spec : {M : Type 1} → statement M
@@ -103,9 +89,7 @@ put-attributes-left-spec =
     tie.close
     (tie.spec
     width-in-requires
-    attribute-start-requires
-    add-attribute-start
-    attribute-start-requires-2
+    attribute-range-requires
     attribute-count-requires
     sub-left
     attributes-of-requires

@@ -4,6 +4,7 @@ use Rattle.store_writer.proofs.Encoded.{encoded}
 use lib.ListN.{length, length-take, length-drop}
 use mathlib.Core.Path.{ap}
 use native.Mathlib.Omega.{arith}
+use Rattle.rules.specs.Layout.{definitionSize}
 use Prim.Native.Nat.{_+_, _*_}
 use borrow.Author.Needs.{needs}
 use Rattle.definition_removal.proofs.put_definitions_left.Statement.{statement}
@@ -40,9 +41,9 @@ put-requires-2 c κs =
       start .pre .1,
       at-put .put .ensures .next,
       ap length (at-definitions-to .definitions-to .ensures),
-      length-take (20 * a .i) (at-definitions-of .definitions-of .result .now),
+      length-take (definitionSize * a .i) (at-definitions-of .definitions-of .result .now),
       ap length (at-definitions-from .definitions-from .ensures),
-      length-drop (20 * (a .i + 1)) (at-definitions-of .definitions-of .result .now),
+      length-drop (definitionSize * (a .i + 1)) (at-definitions-of .definitions-of .result .now),
       definitions-short (a .store .now) (start .pre .0 .good) (a .i) (start .pre .0 .there) (at-definitions-of .definitions-of .ensures),
     )
 

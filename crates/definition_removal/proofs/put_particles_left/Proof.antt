@@ -1,29 +1,17 @@
 -- `definition_removal::put_particles_left` meets its contract.
 use Rattle.definition_removal.proofs.LeftBytes.{models-laid}
-use Rattle.definition_removal.proofs.Left.{next-counted}
 use Rattle.definition_removal.proofs.Again.{records-short, particle-short}
 use Rattle.store_writer.proofs.Encoded.{encoded}
-use Rattle.definition_removal.specs.Bodies.{particlesUpTo, particleRecord, lowered}
-use Rattle.lookup.specs.Bodies.{bodiesOf}
+use Rattle.definition_removal.specs.Bodies.{particleRecord, lowered}
 use Rattle.rules.specs.Layout.{particleSize}
-use Rattle.rules.specs.Decode.{particleCount}
 use native.Mathlib.Omega.{arith}
-use Prim.Native.Nat.{ℕ, suc}
+use Prim.Native.Nat.{suc}
 use borrow.Author.Needs.{needs}
 use Rattle.definition_removal.proofs.put_particles_left.Statement.{statement}
 use Rattle.definition_removal.proofs.put_particles_left.Tie as tie
 
-model-start-requires : tie.Need-model-start-requires
-model-start-requires c κs = search needs
-
-add-model-start : tie.Need-add-model-start
-add-model-start c =
-    let start = c .before .before .before in
-    let x = encoded (start .args .store .now) (start .pre .0 .good) in
-    omega (arith, start .pre .0 .there, x .definitions, x .fewDefinitions)
-
-model-start-requires-2 : tie.Need-model-start-requires-2
-model-start-requires-2 c κs = search needs
+model-range-requires : tie.Need-model-range-requires
+model-range-requires c κs = search needs
 
 particle-count-requires : tie.Need-particle-count-requires
 particle-count-requires c κs = search needs
@@ -36,10 +24,10 @@ particles-of-requires c κs = search needs
 
 put-particles-requires : tie.Need-put-particles-requires
 put-particles-requires c κs =
-    let at-model-start = c .before .before .before .before in
-    let start = at-model-start .before .before .before in
+    let at-model-range = c .before .before .before .before in
+    let start = at-model-range .before .before .before in
     let x = encoded (start .args .store .now) (start .pre .0 .good) in
-    omega (arith, start .pre .0 .there, start .pre .1, x .definitions, x .fewDefinitions, at-model-start .model-start .ensures .most, x .particles, x .fewParticles)
+    omega (arith, start .pre .0 .there, start .pre .1, x .definitions, x .fewDefinitions, at-model-range .model-range .ensures .first .most, x .particles, x .fewParticles)
 
 particles-from-requires : tie.Need-particles-from-requires
 particles-from-requires c κs = search needs
@@ -48,9 +36,9 @@ put-particles-requires-2 : tie.Need-put-particles-requires-2
 put-particles-requires-2 c κs =
     let at-put-particles = c .before .before .before .before in
     let at-particles-of = at-put-particles .before .before in
-    let at-particle-count = at-particles-of .before in
-    let at-model-start = at-particle-count .before .before in
-    let start = at-model-start .before .before .before in
+    let at-particle-count = at-particles-of .before .before in
+    let at-model-range = at-particle-count .before in
+    let start = at-model-range .before .before .before in
     let x = encoded (start .args .store .now) (start .pre .0 .good) in
     let g = lowered (suc (start .args .i)) 1 in
     omega (
@@ -59,12 +47,12 @@ put-particles-requires-2 c κs =
       start .pre .1,
       x .definitions,
       x .fewDefinitions,
-      at-model-start .model-start .ensures .most,
+      at-model-range .model-range .ensures .first .most,
       at-particle-count .particle-count .ensures .value,
       x .particles,
       x .fewParticles,
       at-put-particles .put-particles .ensures .next,
-      records-short (particleRecord g) particleSize (λ rec k. particle-short g rec) (at-model-start .model-start .result) (at-particles-of .particles-of .result .now),
+      records-short (particleRecord g) particleSize (λ rec k. particle-short g rec) (at-model-range .model-range .result .start) (at-particles-of .particles-of .result .now),
     )
 
 same-length : tie.Need-same-length
@@ -76,23 +64,19 @@ returns c =
     let at-particles-from = at-put-particles2 .before .before in
     let at-put-particles = at-particles-from .before .before .before in
     let at-particles-of = at-put-particles .before .before in
-    let at-particle-count = at-particles-of .before in
-    let at-model-start2 = at-particle-count .before in
-    let at-model-start = at-model-start2 .before in
-    let start = at-model-start .before .before .before in
+    let at-particle-count = at-particles-of .before .before in
+    let at-model-range = at-particle-count .before in
+    let start = at-model-range .before .before .before in
     let a = start .args in
     models-laid (a .store .now) (start .pre .0 .good) (a .i) (start .pre .0 .there) (at-particles-of .particles-of .ensures) (at-particle-count .particle-count .ensures)
-    (at-model-start .model-start .ensures)
-    (next-counted (λ (k : ℕ). particlesUpTo k (bodiesOf (a .store .now) .definitions)) (a .i) (particleCount (a .store .now)) (at-model-start2 .model-start2 .ensures))
+    (at-model-range .model-range .ensures)
     (at-particles-from .particles-from .ensures) (at-put-particles .put-particles .ensures) (at-put-particles2 .put-particles2 .ensures)
 
 pub put-particles-left-spec : {M : Type 1} → statement M
 put-particles-left-spec =
     tie.close
     (tie.spec
-    model-start-requires
-    add-model-start
-    model-start-requires-2
+    model-range-requires
     particle-count-requires
     sub-left
     particles-of-requires

@@ -4,7 +4,7 @@ use Rattle.store_writer.proofs.StoreFacts.{Whole, whole}
 use Rattle.document_refusals.proofs.ElementFacts.{element-there}
 use Rattle.document_refusals.proofs.RefusalLaws.{row-of}
 use Rattle.document_refusals.proofs.ElementRefusals.{there}
-use Rattle.document_refusals.proofs.AttributeRefusals.{needs-in, drop-early, drop-7, drop-15, drop-0, both, known-of, inside}
+use Rattle.document_refusals.proofs.AttributeRefusals.{needs-in, drop-early, drop-7, drop-last, both, known-of, inside}
 use borrow.Author.Needs.{needs}
 use Rattle.document_refusals.proofs.destroy_attribute_row_refusal.Statement.{statement}
 use Rattle.document_refusals.proofs.destroy_attribute_row_refusal.Tie as tie
@@ -70,9 +70,13 @@ needs-requires c κs =
       ),
     )
 
+number-if-requires : tie.Need-number-if-requires
+number-if-requires c κs = search needs
+
 returns-3 : tie.Need-returns-3
 returns-3 c =
-    let at-definition-at = c .before .before in
+    let at-needs = c .before in
+    let at-definition-at = at-needs .before in
     let at-attributes-of = at-definition-at .before in
     let at-width-in = at-attributes-of .before in
     let at-version-in = at-width-in .before in
@@ -85,36 +89,13 @@ returns-3 c =
     let a = start .args in
     let w : Whole (a .store .now) = whole _ (start .pre) in
     let z = both _ w (a .attribute) (at-attribute-refusal .attribute-refusal .ensures) (at-if1 .if1 .left) .1 in
-    drop-15 (a .store .now) w (a .attribute) (a .element) (at-attribute-refusal .attribute-refusal .ensures) (at-if1 .if1 .left)
+    drop-last (a .store .now) w (a .attribute) (a .element) (at-attribute-refusal .attribute-refusal .ensures) (at-if1 .if1 .left)
     (element-there _ w _ _ (at-find-element .find-element .ensures .begins) (there _ w (at-find-element .find-element .ensures) z))
     (at-attribute-at .attribute-at .ensures) (at-if2 .if2 .left) (at-definition-at .definition-at .ensures)
-    (c .before .needs .ensures
+    (at-needs .needs .ensures
     ∙ needs-in (a .store .now) (at-width-in .width-in .ensures .value) (at-attributes-of .attributes-of .ensures) (a .attribute)
     (at-version-in .version-in .ensures .value) (at-definition-at .definition-at .result))
-    (c .if3 .taken) .is
-
-returns-4 : tie.Need-returns-4
-returns-4 c =
-    let at-definition-at = c .before .before in
-    let at-attributes-of = at-definition-at .before in
-    let at-width-in = at-attributes-of .before in
-    let at-version-in = at-width-in .before in
-    let at-if2 = at-version-in .before in
-    let at-attribute-at = at-if2 .before in
-    let at-find-element = at-attribute-at .before in
-    let at-if1 = at-find-element .before in
-    let at-attribute-refusal = at-if1 .before in
-    let start = at-attribute-refusal .before .before in
-    let a = start .args in
-    let w : Whole (a .store .now) = whole _ (start .pre) in
-    let z = both _ w (a .attribute) (at-attribute-refusal .attribute-refusal .ensures) (at-if1 .if1 .left) .1 in
-    drop-0 (a .store .now) w (a .attribute) (a .element) (at-attribute-refusal .attribute-refusal .ensures) (at-if1 .if1 .left)
-    (element-there _ w _ _ (at-find-element .find-element .ensures .begins) (there _ w (at-find-element .find-element .ensures) z))
-    (at-attribute-at .attribute-at .ensures) (at-if2 .if2 .left) (at-definition-at .definition-at .ensures)
-    (c .before .needs .ensures
-    ∙ needs-in (a .store .now) (at-width-in .width-in .ensures .value) (at-attributes-of .attributes-of .ensures) (a .attribute)
-    (at-version-in .version-in .ensures .value) (at-definition-at .definition-at .result))
-    (c .if3 .left) .is
+    (c .number-if .ensures) .is
 
 pub destroy-attribute-row-refusal-spec : {M : Type 1} → statement M
 destroy-attribute-row-refusal-spec =
@@ -130,5 +111,5 @@ destroy-attribute-row-refusal-spec =
     attributes-of-requires
     definition-at-requires
     needs-requires
-    returns-3
-    returns-4)
+    number-if-requires
+    returns-3)

@@ -1,7 +1,7 @@
 use mathlib.Core.Path.{_∙_}
 use native.Mathlib.Omega.{arith}
 use Rattle.store_writer.proofs.StoreFacts.{Whole, whole}
-use Rattle.document_refusals.proofs.AttributeRefusals.{allows-in, set-3, set-early, set-15, set-0, known-of, inside}
+use Rattle.document_refusals.proofs.AttributeRefusals.{allows-in, set-3, set-early, set-last, known-of, inside}
 use borrow.Author.Needs.{needs}
 use Rattle.document_refusals.proofs.set_attribute_refusal.Statement.{statement}
 use Rattle.document_refusals.proofs.set_attribute_refusal.Tie as tie
@@ -50,9 +50,13 @@ value-may-requires c κs =
       ),
     )
 
+number-if-requires : tie.Need-number-if-requires
+number-if-requires c κs = search needs
+
 returns-3 : tie.Need-returns-3
 returns-3 c =
-    let at-attributes-of = c .before .before in
+    let at-value-may = c .before in
+    let at-attributes-of = at-value-may .before in
     let at-if2 = at-attributes-of .before in
     let at-attribute-refusal = at-if2 .before in
     let at-if1 = at-attribute-refusal .before in
@@ -60,23 +64,10 @@ returns-3 c =
     let at-width-in = at-is-value .before in
     let start = at-width-in .before .before .before in
     let a = start .args in
-    set-15 (a .store .now) (whole _ (start .pre)) (a .attribute) (a .element) (a .value .now) (at-width-in .width-in .ensures) (at-is-value .is-value .ensures)
+    set-last (a .store .now) (whole _ (start .pre)) (a .attribute) (a .element) (a .value .now) (at-width-in .width-in .ensures) (at-is-value .is-value .ensures)
     (at-if1 .if1 .left) (at-attribute-refusal .attribute-refusal .ensures) (at-if2 .if2 .left)
-    (c .before .value-may .ensures ∙ allows-in (a .store .now) (at-width-in .width-in .ensures .value) (at-attributes-of .attributes-of .ensures) (a .attribute) (a .value .now)) (c .if3 .taken) .is
-
-returns-4 : tie.Need-returns-4
-returns-4 c =
-    let at-attributes-of = c .before .before in
-    let at-if2 = at-attributes-of .before in
-    let at-attribute-refusal = at-if2 .before in
-    let at-if1 = at-attribute-refusal .before in
-    let at-is-value = at-if1 .before in
-    let at-width-in = at-is-value .before in
-    let start = at-width-in .before .before .before in
-    let a = start .args in
-    set-0 (a .store .now) (whole _ (start .pre)) (a .attribute) (a .element) (a .value .now) (at-width-in .width-in .ensures) (at-is-value .is-value .ensures)
-    (at-if1 .if1 .left) (at-attribute-refusal .attribute-refusal .ensures) (at-if2 .if2 .left)
-    (c .before .value-may .ensures ∙ allows-in (a .store .now) (at-width-in .width-in .ensures .value) (at-attributes-of .attributes-of .ensures) (a .attribute) (a .value .now)) (c .if3 .left) .is
+    (at-value-may .value-may .ensures ∙ allows-in (a .store .now) (at-width-in .width-in .ensures .value) (at-attributes-of .attributes-of .ensures) (a .attribute) (a .value .now))
+    (c .number-if .ensures) .is
 
 pub set-attribute-refusal-spec : {M : Type 1} → statement M
 set-attribute-refusal-spec =
@@ -89,5 +80,5 @@ set-attribute-refusal-spec =
     returns-2
     attributes-of-requires
     value-may-requires
-    returns-3
-    returns-4)
+    number-if-requires
+    returns-3)

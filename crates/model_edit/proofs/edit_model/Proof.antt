@@ -3,6 +3,7 @@ use Prim.Native.Nat.{ℕ}
 use mathlib.Core.Path.{sym, _∙_}
 use lib.ListN.{length, length-replicate}
 use borrow.Author.Tests.{not-true, not-false}
+use Rattle.layout.specs.Bodies.{mostForm}
 use Rattle.lookup.specs.Bodies.{bodiesOf}
 use Rattle.store_writer.proofs.LimitLaws.{answers-as}
 use Rattle.store_writer.proofs.FormLaws.{forms-of, form-answers, form-ceiling}
@@ -55,7 +56,7 @@ array-share-prefix-form c =
     let at-if1 = at-put-edited .before .before .before .before in
     let at-keeps-within = at-if1 .before in
     let start = at-keeps-within .before .before .before .before .before in
-    (stored (at-put-edited .put-edited .ensures) (length-replicate {A = ℕ} 9728 0)
+    (stored (at-put-edited .put-edited .ensures) (length-replicate {A = ℕ} mostForm 0)
     (form-short (start .pre .0) (sym (at-keeps-within .keeps-within .ensures) ∙ not-false _ (at-if1 .if1 .left))))
     .inside
 
@@ -65,7 +66,7 @@ slice-aggregate-edit-form c =
     let at-if1 = at-put-edited .before .before .before .before in
     let at-keeps-within = at-if1 .before in
     let start = at-keeps-within .before .before .before .before .before in
-    (stored (at-put-edited .put-edited .ensures) (length-replicate {A = ℕ} 9728 0)
+    (stored (at-put-edited .put-edited .ensures) (length-replicate {A = ℕ} mostForm 0)
     (form-short (start .pre .0) (sym (at-keeps-within .keeps-within .ensures) ∙ not-false _ (at-if1 .if1 .left))))
     .count
 
@@ -84,7 +85,7 @@ edit-form-requires c κs =
       forms-of
           (form-of (start .pre .0) (sym (at-keeps-within .keeps-within .ensures) ∙ not-false _ (at-if1 .if1 .left)) (at-definition-count .definition-count .ensures)
           (as-many (start .pre .0) (at-all-after .all-after .ensures)) (at-attribute-count .attribute-count .ensures)
-          ((stored (at-put-edited .put-edited .ensures) (length-replicate {A = ℕ} 9728 0)
+          ((stored (at-put-edited .put-edited .ensures) (length-replicate {A = ℕ} mostForm 0)
           (form-short (start .pre .0) (sym (at-keeps-within .keeps-within .ensures) ∙ not-false _ (at-if1 .if1 .left))))
           .is)),
     )
@@ -105,7 +106,7 @@ returns-2 c =
     form-answers
     (form-of (start .pre .0) (sym (at-keeps-within .keeps-within .ensures) ∙ not-false _ (at-if1 .if1 .left)) (at-definition-count .definition-count .ensures)
     (as-many (start .pre .0) (at-all-after .all-after .ensures)) (at-attribute-count .attribute-count .ensures)
-    ((stored (at-put-edited .put-edited .ensures) (length-replicate {A = ℕ} 9728 0)
+    ((stored (at-put-edited .put-edited .ensures) (length-replicate {A = ℕ} mostForm 0)
     (form-short (start .pre .0) (sym (at-keeps-within .keeps-within .ensures) ∙ not-false _ (at-if1 .if1 .left))))
     .is))
     (start .args .plan) (start .args .text .now) (bodiesOf (start .args .store .now)) (length (start .args .out .now)) (at-edit-form .edit-form .ensures)

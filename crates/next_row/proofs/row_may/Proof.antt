@@ -1,6 +1,7 @@
 use Rattle.rules.specs.Decode.{readRow}
 use Rattle.form_index.specs.Reading.{indexForm}
-use Rattle.next_row.proofs.RowLaws.{row-attribute, row-child, freed-read}
+use Rattle.next_row.proofs.RowLaws.{row-attribute, row-owed, row-child, freed-read}
+use borrow.Author.Tests.{not-true, not-false}
 use borrow.Author.Needs.{needs}
 use Rattle.next_row.proofs.row_may.Statement.{statement}
 use Rattle.next_row.proofs.row_may.Tie as tie
@@ -42,29 +43,43 @@ returns c =
     row-attribute (indexForm (a .version) (a .w) 0 (a .defs .now) (a .parts .now) (a .attrs .now) (a .a)) (a .l) (readRow (a .row .now) .row) _ (at-row-sort .row-sort .ensures)
     (c .before .if1 .taken) _ (c .attribute-may .ensures)
 
+is-freed-requires : tie.Need-is-freed-requires
+is-freed-requires c κs = search needs
+
+returns-2 : tie.Need-returns-2
+returns-2 c =
+    let at-is-freed = c .before in
+    let at-if1 = at-is-freed .before in
+    let at-row-sort = at-if1 .before in
+    let start = at-row-sort .before .before .before .before .before .before .before .before .before .before in
+    let a = start .args in
+    row-owed (indexForm (a .version) (a .w) 0 (a .defs .now) (a .parts .now) (a .attrs .now) (a .a)) (a .l) (readRow (a .row .now) .row) _
+    (at-row-sort .row-sort .ensures) (at-if1 .if1 .left) _
+    (freed-read (a .version) (a .w) (a .attrs .now) (a .a) (a .l .index) _ (start .pre .3 .needed (a .l .index) (start .pre .4)) (start .pre .2) (a .l .seen) _ (at-is-freed .is-freed .ensures))
+    (not-true _ (c .if2 .taken))
+
 row-index-requires : tie.Need-row-index-requires
 row-index-requires c κs = search needs
 
 cast-index : tie.Need-cast-index
 cast-index c = search needs
 
-is-freed-requires : tie.Need-is-freed-requires
-is-freed-requires c κs = search needs
-
 child-may-requires : tie.Need-child-may-requires
 child-may-requires c κs = search needs
 
-returns-2 : tie.Need-returns-2
-returns-2 c =
-    let at-row-index = c .before .before in
-    let at-if1 = at-row-index .before in
+returns-3 : tie.Need-returns-3
+returns-3 c =
+    let at-row-index = c .before in
+    let at-if2 = at-row-index .before in
+    let at-is-freed = at-if2 .before in
+    let at-if1 = at-is-freed .before in
     let at-row-sort = at-if1 .before in
     let start = at-row-sort .before .before .before .before .before .before .before .before .before .before in
     let a = start .args in
     row-child (indexForm (a .version) (a .w) 0 (a .defs .now) (a .parts .now) (a .attrs .now) (a .a)) (a .l) (readRow (a .row .now) .row) _
     (at-row-sort .row-sort .ensures) (at-if1 .if1 .left) _ _ _ (at-row-index .row-index .ensures)
-    (freed-read (a .version) (a .w) (a .attrs .now) (a .a) (a .l .index) _ (start .pre .3 .needed (a .l .index) (start .pre .4)) (start .pre .2) (a .l .seen) _ (c .before .is-freed .ensures))
-    (c .child-may .ensures)
+    (freed-read (a .version) (a .w) (a .attrs .now) (a .a) (a .l .index) _ (start .pre .3 .needed (a .l .index) (start .pre .4)) (start .pre .2) (a .l .seen) _ (at-is-freed .is-freed .ensures))
+    (not-false _ (at-if2 .if2 .left)) (c .child-may .ensures)
 
 pub row-may-spec : {M : Type 1} → statement M
 row-may-spec =
@@ -80,8 +95,9 @@ row-may-spec =
     row-sort-requires
     attribute-may-requires
     returns
+    is-freed-requires
+    returns-2
     row-index-requires
     cast-index
-    is-freed-requires
     child-may-requires
-    returns-2)
+    returns-3)

@@ -265,8 +265,8 @@ put-row-put-attribute-requires t c κs =
     let start = at-attribute-name-of .before .before .before .before .before .before .before .before in
     (omega (arith, start .pre .1 .0 .room, start .pre .1 .0 .few, start .pre .1 .1, start .pre .1 .2), at-attribute-name-of .attribute-name-of .ensures .short, c .before .value-of .ensures .short)
 
-put-row-add-t21 : (t : ℕ) → put-row-lts.Need-add-t21 (put-row-calls t) (put-row-at t) put-row.Post
-put-row-add-t21 t c = search needs
+put-row-add-next : (t : ℕ) → put-row-lts.Need-add-next (put-row-calls t) (put-row-at t) put-row.Post
+put-row-add-next t c = search needs
 
 put-row-same-length : (t : ℕ) → put-row-lts.Need-same-length (put-row-calls t) (put-row-at t) put-row.Post
 put-row-same-length t c = search needs
@@ -543,7 +543,7 @@ pub +put-element+put-row+put-rows-spec : {M : Type 1} → statement M
     (put-row-attribute-name-of-requires t)
     (put-row-value-of-requires t)
     (put-row-put-attribute-requires t)
-    (put-row-add-t21 t)
+    (put-row-add-next t)
     (put-row-same-length t)
     (put-row-returns t)
     (put-row-put-end-requires t)

@@ -10,7 +10,7 @@ use Rattle.lookup.proofs.Laws.{from-none}
 use Rattle.printing.specs.Parts.{particlesFrom, particlePart}
 use Rattle.printing.specs.Texts.{isTree}
 use Rattle.printing.proofs.PartLaws.{particle-step}
-use Rattle.printing.proofs.WalkLaws.{build-here, build-deeper}
+use Rattle.rules.proofs.PreorderLaws.{build-same, build-less}
 use Rattle.printing.proofs.has_member.Statement.{statement}
 use Rattle.printing.proofs.has_member.Tie as tie
 
@@ -43,7 +43,7 @@ returns c =
     sym
     (ap isTree
     (e
-    ∙ build-here (readParticle (particlePart (a .store .now) (at-loop .loop .i))) (particlesFrom (a .store .now) (a .end) (at-loop .loop .i + 1)) 0
+    ∙ build-same (readParticle (particlePart (a .store .now) (at-loop .loop .i))) (particlesFrom (a .store .now) (a .end) (at-loop .loop .i + 1)) 0
     (sym d ∙ c .if1 .taken)))
     ∙ at-loop .loop .inv
 
@@ -63,7 +63,7 @@ loop-again c =
     c .before .particle-depth .ensures ∙ ap (λ (b : List ℕ). readParticle b .depth) (at-particle .particle .ensures) in
     let e = ap (λ (xs : List (Deep FlatParticle)). build xs 0) (particle-step (a .store .now) (a .end) (at-loop .loop .i) (omega arith)) in
     sym (ap isTree (e
-    ∙ build-deeper (readParticle (particlePart (a .store .now) (at-loop .loop .i))) (particlesFrom (a .store .now) (a .end) (at-loop .loop .i + 1)) 0
+    ∙ build-less (readParticle (particlePart (a .store .now) (at-loop .loop .i))) (particlesFrom (a .store .now) (a .end) (at-loop .loop .i + 1)) 0
     (omega (arith, c .if1 .left))))
     ∙ at-loop .loop .inv
 

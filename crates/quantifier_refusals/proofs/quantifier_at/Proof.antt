@@ -1,5 +1,5 @@
 use Rattle.instance_search.specs.Instances.{hasInstance}
-use Rattle.quantifier_refusals.proofs.QuantifierLaws.{at-12, at-fine, at-13, at-0}
+use Rattle.quantifier_refusals.proofs.QuantifierLaws.{at-12, at-fine, at-exists}
 use borrow.Author.Needs.{needs}
 use Rattle.quantifier_refusals.proofs.quantifier_at.Statement.{statement}
 use Rattle.quantifier_refusals.proofs.quantifier_at.Tie as tie
@@ -27,32 +27,19 @@ returns-2 c =
     at-fine (hasInstance (a .store .now) (a .owner)) (a .spine) (a .old) (a .new) (a .text .now) (a .group) (at-gains .gains .ensures) (at-if1 .if1 .left)
     (at-is-off .is-off .ensures) (c .if2 .taken)
 
-instance-exists-requires : tie.Need-instance-exists-requires
-instance-exists-requires c κs = search needs
+instance-refusal-requires : tie.Need-instance-refusal-requires
+instance-refusal-requires c κs = search needs
 
 returns-3 : tie.Need-returns-3
 returns-3 c =
-    let at-instance-exists = c .before in
-    let at-if2 = at-instance-exists .before in
+    let at-if2 = c .before in
     let at-is-off = at-if2 .before in
     let at-if1 = at-is-off .before in
     let at-gains = at-if1 .before in
     let start = at-gains .before .before .before in
     let a = start .args in
-    at-13 (hasInstance (a .store .now) (a .owner)) (a .spine) (a .old) (a .new) (a .text .now) (a .group) (at-gains .gains .ensures) (at-if1 .if1 .left)
-    (at-is-off .is-off .ensures) (at-if2 .if2 .left) (at-instance-exists .instance-exists .ensures) (c .if3 .taken)
-
-returns-4 : tie.Need-returns-4
-returns-4 c =
-    let at-instance-exists = c .before in
-    let at-if2 = at-instance-exists .before in
-    let at-is-off = at-if2 .before in
-    let at-if1 = at-is-off .before in
-    let at-gains = at-if1 .before in
-    let start = at-gains .before .before .before in
-    let a = start .args in
-    at-0 (hasInstance (a .store .now) (a .owner)) (a .spine) (a .old) (a .new) (a .text .now) (a .group) (at-gains .gains .ensures) (at-if1 .if1 .left)
-    (at-is-off .is-off .ensures) (at-if2 .if2 .left) (at-instance-exists .instance-exists .ensures) (c .if3 .left)
+    at-exists (hasInstance (a .store .now) (a .owner)) (a .spine) (a .old) (a .new) (a .text .now) (a .group) (at-gains .gains .ensures) (at-if1 .if1 .left)
+    (at-is-off .is-off .ensures) (at-if2 .if2 .left) (c .instance-refusal .ensures)
 
 pub quantifier-at-spec : {M : Type 1} → statement M
 quantifier-at-spec =
@@ -62,6 +49,5 @@ quantifier-at-spec =
     returns
     is-off-requires
     returns-2
-    instance-exists-requires
-    returns-3
-    returns-4)
+    instance-refusal-requires
+    returns-3)

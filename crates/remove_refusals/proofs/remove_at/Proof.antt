@@ -1,4 +1,4 @@
-use Rattle.remove_refusals.proofs.RemoveLaws.{at-14, at-list, at-left, at-15, at-0}
+use Rattle.remove_refusals.proofs.RemoveLaws.{at-14, at-list, at-left, at-exists}
 use Rattle.instance_search.specs.Instances.{hasInstance}
 use mathlib.Core.Path.{sym, _∙_}
 use native.Mathlib.Omega.{arith}
@@ -61,12 +61,12 @@ returns-3 c =
     (at-particle-depth .particle-depth .ensures) (at-count .count-members .ensures)
     (at-if1 .if1 .left) (at-same-kind .same-kind .ensures) (c .before .choice-left .ensures) (c .if3 .taken)
 
-instance-exists-requires : tie.Need-instance-exists-requires
-instance-exists-requires c κs = search needs
+instance-refusal-requires : tie.Need-instance-refusal-requires
+instance-refusal-requires c κs = search needs
 
 returns-4 : tie.Need-returns-4
 returns-4 c =
-    let at-if3 = c .before .before in
+    let at-if3 = c .before in
     let at-choice-left = at-if3 .before in
     let at-if2 = at-choice-left .before in
     let at-same-kind = at-if2 .before in
@@ -76,29 +76,10 @@ returns-4 c =
     let at-particles-from = at-particle-depth .before in
     let start = at-particles-from .before .before .before in
     let a = start .args in
-    at-15 (hasInstance (a .store .now) (a .owner)) (a .part .now) (a .h) (a .p) (at-particles-from .particles-from .ensures)
+    at-exists (hasInstance (a .store .now) (a .owner)) (a .part .now) (a .h) (a .p) (at-particles-from .particles-from .ensures)
     (at-particle-depth .particle-depth .ensures) (at-count .count-members .ensures)
     (at-if1 .if1 .left) (at-same-kind .same-kind .ensures)
-    (at-choice-left .choice-left .ensures) (at-if2 .if2 .left) (at-if3 .if3 .left) (c .before .instance-exists .ensures)
-    (c .if4 .taken)
-
-returns-5 : tie.Need-returns-5
-returns-5 c =
-    let at-if3 = c .before .before in
-    let at-choice-left = at-if3 .before in
-    let at-if2 = at-choice-left .before in
-    let at-same-kind = at-if2 .before in
-    let at-if1 = at-same-kind .before in
-    let at-count = at-if1 .before .before in
-    let at-particle-depth = at-count .before in
-    let at-particles-from = at-particle-depth .before in
-    let start = at-particles-from .before .before .before in
-    let a = start .args in
-    at-0 (hasInstance (a .store .now) (a .owner)) (a .part .now) (a .h) (a .p) (at-particles-from .particles-from .ensures)
-    (at-particle-depth .particle-depth .ensures) (at-count .count-members .ensures)
-    (at-if1 .if1 .left) (at-same-kind .same-kind .ensures)
-    (at-choice-left .choice-left .ensures) (at-if2 .if2 .left) (at-if3 .if3 .left) (c .before .instance-exists .ensures)
-    (c .if4 .left)
+    (at-choice-left .choice-left .ensures) (at-if2 .if2 .left) (at-if3 .if3 .left) (c .instance-refusal .ensures)
 
 pub remove-at-spec : {M : Type 1} → statement M
 remove-at-spec =
@@ -113,6 +94,5 @@ remove-at-spec =
     returns-2
     choice-left-requires
     returns-3
-    instance-exists-requires
-    returns-4
-    returns-5)
+    instance-refusal-requires
+    returns-4)

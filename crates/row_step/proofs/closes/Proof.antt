@@ -20,38 +20,33 @@ loop-holds c = record { is = refl; low = omega arith }
 sub-k : tie.Need-sub-k Inv-loop μ-loop
 sub-k c = search needs
 
-level-at-requires : tie.Need-level-at-requires Inv-loop μ-loop
-level-at-requires c κs = search needs
-
-may-end-requires : tie.Need-may-end-requires Inv-loop μ-loop
-may-end-requires c κs = search needs
+level-ends-requires : tie.Need-level-ends-requires Inv-loop μ-loop
+level-ends-requires c κs = search needs
 
 returns : tie.Need-returns Inv-loop μ-loop
 returns c =
-    let at-level-at = c .before .before in
-    let at-loop = at-level-at .before .before in
+    let ended = c .before .level-ends in
+    let at-loop = c .before .before .before in
     let entry = at-loop .before .before .before .before .before in
     let a = entry .args in
     let form = indexForm (a .version) (a .w) (a .n) (a .defs .now) (a .parts .now) (a .attrs .now) (a .a) in
     let at = at-loop .loop in
-    let level = at-level-at .level-at in
     closing-no form (a .levels .now) (a .keep) (a .live) (at .k) (at .inv) (omega arith)
-    (level .result) (level .ensures) _ (c .before .may-end .ensures) (not-true _ (c .if1 .taken))
+    (ended .result) (ended .ensures) (not-true _ (c .if1 .taken))
 
 loop-less : tie.Need-loop-less Inv-loop μ-loop
 loop-less c = search needs
 
 loop-again : tie.Need-loop-again Inv-loop μ-loop
 loop-again c =
-    let at-level-at = c .before .before in
-    let at-loop = at-level-at .before .before in
+    let ended = c .before .level-ends in
+    let at-loop = c .before .before .before in
     let entry = at-loop .before .before .before .before .before in
     let a = entry .args in
     let form = indexForm (a .version) (a .w) (a .n) (a .defs .now) (a .parts .now) (a .attrs .now) (a .a) in
     let at = at-loop .loop in
-    let level = at-level-at .level-at in
     closing-on form (a .levels .now) (a .keep) (a .live) (at .k) (at .inv) (omega arith)
-    (level .result) (level .ensures) _ (c .before .may-end .ensures) (not-false _ (c .if1 .left))
+    (ended .result) (ended .ensures) (not-false _ (c .if1 .left))
 
 returns-2 : tie.Need-returns-2 Inv-loop μ-loop
 returns-2 c =
@@ -69,8 +64,7 @@ closes-spec =
     μ-loop
     loop-holds
     sub-k
-    level-at-requires
-    may-end-requires
+    level-ends-requires
     returns
     loop-less
     loop-again

@@ -37,7 +37,16 @@ returns c =
     let start = at-width-in .before .before .before in
     let a = start .args in
     refusal-spared (at-width-in .width-in .ensures) (a .form) (a .room) (rowsAfter (a .plan) (a .text .now) (bodiesOf (a .store .now)))
-    (at-row-count .row-count .ensures) (numbers .next-serial .ensures) (at-most-added .most-added .ensures) (c .before .limit .ensures) (c .if1 .taken)
+    (at-row-count .row-count .ensures) (numbers .next-serial .ensures) (at-most-added .most-added .ensures .adds) (c .before .limit .ensures) (c .if1 .taken)
+
+filled-refusal-requires : tie.Need-filled-refusal-requires
+filled-refusal-requires c κs =
+    let at-most-added = c .before .before .before .before .before .before in
+    let start = at-most-added .before .before .before .before in
+    (start .pre .0, start .pre .1, start .pre .2, start .pre .3, omega (arith, c .if2 .taken), at-most-added .most-added .ensures .one (omega (arith, c .if2 .taken)))
+
+returns-2 : tie.Need-returns-2
+returns-2 c = c .filled-refusal .ensures
 
 slice-aggregate-walk-rows : tie.Need-slice-aggregate-walk-rows
 slice-aggregate-walk-rows c = search needs
@@ -51,10 +60,10 @@ sub-limit c = search needs
 limit-requires-2 : tie.Need-limit-requires-2
 limit-requires-2 c κs = search needs
 
-returns-2 : tie.Need-returns-2
-returns-2 c =
+returns-3 : tie.Need-returns-3
+returns-3 c =
     let at-walk-rows = c .before .before .before in
-    let at-width-in = at-walk-rows .before .before .before .before .before .before .before in
+    let at-width-in = at-walk-rows .before .before .before .before .before .before .before .before .before in
     let start = at-width-in .before .before .before in
     let a = start .args in
     refusal-counted (at-width-in .width-in .ensures) (a .form) (a .room)
@@ -73,8 +82,10 @@ refusal-spec =
     add-limit-2
     limit-requires
     returns
+    filled-refusal-requires
+    returns-2
     slice-aggregate-walk-rows
     walk-rows-requires
     sub-limit
     limit-requires-2
-    returns-2)
+    returns-3)

@@ -65,7 +65,7 @@ returns c =
     let at-which-numbers2 = at-later-numbers .before in
     let at-which-numbers = at-which-numbers2 .before in
     let start = at-which-numbers .before .before .before in
-    plan-lent (start .args .p) (getD (at-which-numbers .which-numbers .result) 0 0) (getD (at-which-numbers .which-numbers .result) 1 0)
+    plan-lent (start .args .p) (start .args .what) (getD (at-which-numbers .which-numbers .result) 0 0) (getD (at-which-numbers .which-numbers .result) 1 0)
     (getD (at-which-numbers2 .which-numbers2 .result) 0 0) (getD (at-which-numbers2 .which-numbers2 .result) 1 0)
     (getD (at-later-numbers .later-numbers .result) 0 0) (getD (at-later-numbers .later-numbers .result) 1 0)
     (at-number-of .number-of .result) (at-number-of2 .number-of2 .result) (c .before .number-of3 .result)

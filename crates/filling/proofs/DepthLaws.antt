@@ -60,3 +60,11 @@ module _ (F : IndexForm) (value : ℕ → Bytes) where
   length-filling at (Attribute j) txt d e = refl
   length-filling at (Particles g k n) txt d e =
       length-fillings (λ i. fillIndex F value (F .size) txt d i) (λ i. fillIndex F value (F .size) txt e i) (λ i. length-index (F .size) txt d e i) (groupFilled g (at k n))
+
+  -- one that has no rows at one depth has none at another
+  pub filling-empty : (at : ℕ → ℕ → Members ℕ) (what : Filling) (txt : Bytes) (d : ℕ) → length (fillingRows F value at what txt d) ≡ 0 → (e : ℕ) → [] ≡ fillingRows F value at what txt e
+  filling-empty at what txt d none e = by (fillingRows F value at what txt e) (length-filling at what txt e d ∙ none)
+    where
+      by : (xs : List (Deep FlatRow)) → length xs ≡ 0 → [] ≡ xs
+      by [] n = refl
+      by (x ∷ xs) n = absurd (omega (arith, n))

@@ -28,6 +28,7 @@ use Rattle.model.specs.Members.{indexMember, membersFrom, allMembers}
 use Rattle.model.proofs.MembersLaws.{members-few, members-deeper, members-stop, members-here}
 use Rattle.form_index.specs.Indices.{IndexForm}
 use Rattle.layout.specs.Bodies.{recordAt}
+use Rattle.layout.proofs.LayoutLaws.{attribute-value-short}
 use Rattle.form_index.specs.Reading.{definitionIn, attributeIn, particlesBefore, modelPart, attributesOf, indexForm}
 use Rattle.row_writer.specs.declared.Cursor.{Cursor}
 use Rattle.row_writer.specs.Written.{Written, Room, newRow}
@@ -49,9 +50,9 @@ created-short sort fill = omega arith
 pub created-told : (w : ℕ) (attrs : Bytes) (j : ℕ) (b : Bytes) (k : ℕ) (u v : Bytes) → b ≡ recordAt (attributeSize w) j attrs → k ≡ readAttribute b .sort → u ≡ readAttribute b .value
     → v ≡ createdValue (sortOf k) u → (v ≡ valueIn w attrs j) × (length v ≤ w)
 created-told w attrs j b k u v e s t x =
-    let long : length b ≤ 20 + w = omega (arith, ap length e, length-take (20 + w) (drop ((20 + w) * j) attrs)) in (
+    let long : length b ≤ attributeSize w = omega (arith, ap length e, length-take (attributeSize w) (drop (attributeSize w * j) attrs)) in (
       x ∙ ap₂ (λ (y : ℕ) (z : Bytes). createdValue (sortOf y) z) (s ∙ ap (λ (z : Bytes). readAttribute z .sort) e) (t ∙ ap (λ (z : Bytes). readAttribute z .value) e),
-      omega (arith, ap length x, created-short (sortOf k) u, ap length t, length-take (getD (drop 18 b) 1 0) (drop 2 (drop 18 b)), length-drop 2 (drop 18 b), length-drop 18 b),
+      omega (arith, ap length x, created-short (sortOf k) u, ap length t, attribute-value-short b w long),
     )
 
 -- ---- the code of a quantifier, b, read of n
@@ -604,8 +605,8 @@ rank-height (suc h) n = let e : suc h - 1 ≡ h = omega arith in rw e (omega ari
 pub part-short : (defs parts : Bytes) (i : ℕ) (s : Bytes) → s ≡ modelPart defs parts i → length s ≤ length parts
 unfolding modelPart
 part-short defs parts i s e =
-    let n : ℕ = 4 * definitionIn defs i .particles in
-    let m : ℕ = 4 * particlesBefore defs i in
+    let n : ℕ = particleSize * definitionIn defs i .particles in
+    let m : ℕ = particleSize * particlesBefore defs i in
     omega (arith, ap length e, length-take n (drop m parts), length-drop m parts)
 
 -- ---- what a change fills with

@@ -28,7 +28,7 @@ indexAt part p = readParticle (drop (particleSize * p) part) .row .index
 -- it is there, in the list h
 pub record Stands (part : Bytes) (h : Holder) (p : ℕ) : Type 0 where
   pub inside : particleSize * (p + 1) ≤ length part
-  pub short : length part ≤ 1024
+  pub short : length part ≤ particleSize * 256
   pub deep : h .depth ≤ p
 
 -- how many particles a group at particle p has, with its own

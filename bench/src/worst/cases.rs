@@ -4,19 +4,19 @@ use super::stores::*;
 use compare::worst::longest;
 use second::store::Store;
 
-/// Stores of one shape, about eight times as many rows in one as in the other, and changes as the vectors write them. LAST stands for the serial of the last
-/// element, CHILDREN for how many the first root has.
+/// Stores of one shape: two from which the growth is told, about eight times as many rows in one as in the other, and the largest; and changes as the vectors
+/// write them. LAST stands for the serial of the last element, CHILDREN for how many the first root has.
 pub struct Case {
     pub name: &'static str,
     pub store: fn(usize) -> Store,
-    pub rows: [usize; 2],
+    pub rows: [usize; 3],
     pub changes: &'static [&'static str],
 }
 
 /// As many rows as there can be, before the call or after it; with room for one more child; with room for some.
-const FULL: [usize; 2] = [512, 4096];
-const ROOM: [usize; 2] = [506, 4094];
-const SOME: [usize; 2] = [506, 4006];
+const FULL: [usize; 3] = [506, 4006, 4096];
+const ROOM: [usize; 3] = [506, 4006, 4094];
+const SOME: [usize; 3] = [506, 4006, 4006];
 
 const AT_THE_LAST: &[&str] = &[
     "add_document 0 x2d",
@@ -126,7 +126,7 @@ pub const CASES: [Case; 22] = [
     Case {
         name: "64 definitions nested",
         store: nested,
-        rows: [495, 3960],
+        rows: [495, 3960, 3960],
         changes: &[
             "insert_element 0 p1 63 0 x2d",
             "convert_to_group 62 p1 1 1",

@@ -5,7 +5,7 @@ use native.Mathlib.Omega.{arith}
 use mathlib.Core.Path.{_≡_, refl, sym, ap, ap₂, _∙_}
 use mathlib.Core.Bool.{Bool, true, false}
 use mathlib.Core.List.{List, [], _∷_, _++_}
-use lib.ListN.{length, drop, take, length-append}
+use lib.ListN.{length, length-append}
 use lib.Dec.{eqb}
 use borrow.Author.Tests.{ne-eqb}
 use Rattle.rules.specs.Bytes.{Bytes}
@@ -18,18 +18,16 @@ use Rattle.filling.specs.Parts.{valueIn, membersReadAt}
 use Rattle.filling.proofs.DepthLaws.{length-filling}
 use Rattle.row_writer.specs.Written.{isNewRow, newIn}
 use Rattle.row_writer.proofs.WrittenLaws.{new-append}
+use Rattle.row_writer.proofs.BlockLaws.{Old, each-old}
 use Rattle.row_walk.specs.declared.Which.{Which}
 use Rattle.row_walk.specs.declared.Plan.{Plan}
 use Rattle.row_walk.specs.declared.Open.{Open}
 use Rattle.row_walk.specs.Walk.{matches, namesGround, keptRow, walked, atFirst}
 use Rattle.walk_writer.specs.Step.{planFilling, WalkRows}
+use Rattle.walk_writer.proofs.WalkLaws.{rows-old}
 use Rattle.row_bound.specs.Bound.{onlyIf, matchingIn, placesIn, countedTo, Adds, Bounds}
 use Rattle.row_bound.proofs.WalkBound.{mostOf, size-walked}
 use Rattle.codec.proofs.Records.{length-many}
-
--- a row that has a serial
-abbrev pub Old : Deep FlatRow → Type 0
-Old x = 1 ≤ x .row .serial
 
 only-most : (b : Bool) (n : ℕ) → onlyIf b n ≤ n
 only-most true n = omega arith
@@ -110,11 +108,6 @@ counted-times F (suc k) r e h =
     omega (arith, ap (λ (n : ℕ). n * suc k) few)
 
 -- ---- the rows of a byte string
-rows-old : (w count : ℕ) (s : Bytes) → WalkRows w count s → Every Old (readMany readRow (rowSize w) count s)
-unfolding WalkRows
-rows-old w zero s x = tt
-rows-old w (suc count) s x = (x .0 .old .old, rows-old w count (drop (rowSize w) s) (x .1))
-
 -- 4,097 rows at 4,097 places
 pub product-few : {one k : ℕ} → one ≤ 4097 → k ≤ 4097 → one * k ≤ 16785409
 product-few {one} {k} a b = mul-le-mul {n₁ = one} {m₁ = k} {n₂ = 4097} {m₂ = 4097} a b
@@ -132,18 +125,21 @@ module _ (version w n : ℕ) (defs parts : Bytes) (a : ℕ) (attrs s : Bytes) (c
   adds-count : {r : ℕ} → Adds (walked p v fill (atFirst p) xs) (length xs) r → Adds (walked p v fill (atFirst p) xs) count r
   adds-count y = let n : length xs ≡ count = length-many readRow (rowSize w) count s in record { few = y .few; rows = λ h. omega (arith, y .rows h, n); new = y .new }
 
+  old : Every Old xs
+  old = each-old w count s (rows-old w count s x)
+
   -- a plan that fills nothing
   pub bounds-none : p .fills ≡ false → Bounds (walked p v fill (atFirst p) xs) (fill 0) count (record { one = 0; all = 0 })
   bounds-none e =
       let dry : onlyIf (p .fills) (length (fill 0)) ≤ 0 = omega (arith, ap (λ (b : Bool). onlyIf b (length (fill 0))) e) in
-      record { adds = adds-count (walked-adds p v fill (length (fill 0)) 0 same dry xs (rows-old w count s x) (omega arith) (λ h. omega arith)); one = λ h. absurd (omega arith) }
+      record { adds = adds-count (walked-adds p v fill (length (fill 0)) 0 same dry xs old (omega arith) (λ h. omega arith)); one = λ h. absurd (omega arith) }
 
   module _ {one : ℕ} (counted : one ≡ countedTo (fill 0)) where
     adds-times : {r : ℕ} → r ≤ 16785409 → r ≡ one * placesIn (p .above) xs → Adds (walked p v fill (atFirst p) xs) count r
     adds-times {r} few product =
         let all : onlyIf (p .fills) (length (fill 0)) ≤ length (fill 0) = only-most (p .fills) (length (fill 0)) in
         let is : r ≡ countedTo (fill 0) * placesIn (p .above) xs = product ∙ ap (λ (m : ℕ). m * placesIn (p .above) xs) counted in
-        adds-count (walked-adds p v fill (length (fill 0)) (length (fill 0)) same all xs (rows-old w count s x) few
+        adds-count (walked-adds p v fill (length (fill 0)) (length (fill 0)) same all xs old few
         (λ h. counted-times (length (fill 0)) (placesIn (p .above) xs) r is h))
 
     -- a filling of no rows

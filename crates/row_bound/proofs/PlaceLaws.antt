@@ -14,10 +14,10 @@ use Rattle.rules.specs.Layout.{FlatRow}
 use Rattle.rules.proofs.BooleanLaws.{Every}
 use Rattle.row_writer.specs.Written.{newIn}
 use Rattle.row_writer.proofs.WrittenLaws.{new-append}
+use Rattle.row_writer.proofs.BlockLaws.{Old}
 use Rattle.row_walk.specs.declared.Plan.{Plan}
 use Rattle.row_walk.specs.declared.Open.{Open}
 use Rattle.row_walk.specs.Walk.{keptRow, gone, closes, closed, isTaken, isFilled, taken, kept, owed, rowDepth, emitted, nextOpen, walked}
-use Rattle.row_bound.proofs.BoundLaws.{Old}
 
 -- for each new row of ys, xs has F new ones; the others are as many
 pub record Times (F : ℕ) (xs ys : List (Deep FlatRow)) : Type 0 where

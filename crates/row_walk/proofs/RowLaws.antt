@@ -12,9 +12,9 @@ use Rattle.row_walk.specs.declared.Shift.{Shift}
 use Rattle.row_walk.specs.declared.Plan.{Plan}
 use Rattle.row_walk.specs.declared.Open.{Open}
 use Rattle.row_walk.specs.declared.Head.{Head}
-use Rattle.row_walk.specs.Walk.{matches, isEverything, namesGround, isLater, spared, shifted, movedIndex, closes, closed, isBelow, isTaken, isFilled, taken, atFirst}
+use Rattle.row_walk.specs.Walk.{matches, isEverything, namesGround, isLater, spared, shifted, movedIndex, gone, closes, closed, isBelow, isTaken, isFilled, taken, atFirst}
 use Rattle.row_walk.specs.Lent.{whichIn, laterIn}
-use Rattle.row_walk.specs.Step.{bare, keptWith, Moves}
+use Rattle.row_walk.specs.Step.{bare, keptWith, endsDue, isPlain, Moves}
 
 -- ---- by the number of a variant, k
 pub which-serial : (k n : ℕ) → (k ≡ 0 → ⊥) → (k ≡ 1 → ⊥) → (k ≡ 2 → ⊥) → (k ≡ 3 → ⊥) → (k ≡ 4 → ⊥) → whichIn k n ≡ Serial n
@@ -91,6 +91,27 @@ module _ (o : Open) (h : Head) where
   pub filled-by : (p : Plan) (b l s : Bool) → b ≡ isBelow o (bare h) → l ≡ isLater (p .marks) (p .later) (bare h .row) → s ≡ spared p (bare h .row)
       → ((o .due && b) && (l && not s)) ≡ isFilled p o (bare h)
   filled-by p b l s eb el es = rw (eb, el, es)
+
+  module _ (p : Plan) (b : Bool) (e : b ≡ isBelow o (bare h)) where
+    ends-by : (d : Bool) → (o .due && b) ≡ d → (d && isLater (p .marks) (p .later) (bare h .row)) ≡ endsDue p o (bare h)
+    ends-by d t = ap (λ (z : Bool). z && isLater (p .marks) (p .later) (bare h .row)) (sym t ∙ ap (λ (z : Bool). o .due && z) e)
+
+    pub ends-at : (o .due && b) ≡ true → (l : Bool) → l ≡ isLater (p .marks) (p .later) (bare h .row) → l ≡ endsDue p o (bare h)
+    ends-at t l el = el ∙ ends-by true t
+
+    pub ends-not : (o .due && b) ≡ false → false ≡ endsDue p o (bare h)
+    ends-not t = ends-by false t
+
+  -- q: what is open once the row has closed what it closes
+  module _ (p : Plan) (q : Open) (eq : q ≡ closed o (bare h)) where
+    pub plain-by : (c e g t : Bool) (i : ℕ) → c ≡ closes o (bare h) → e ≡ endsDue p q (bare h)
+        → i ≡ movedIndex p (bare h .row) → g ≡ gone o (bare h) → t ≡ isTaken p q (bare h)
+        → ((not g && not ((c && o .due) || e)) && (not t && (eqb i (h .index) && not (eqb (h .serial) (p .set))))) ≡ isPlain p o (bare h)
+    unfolding isPlain
+    plain-by c e g t i ec ee ei eg et =
+        let ends = ee ∙ ap (λ (z : Open). endsDue p z (bare h)) eq in
+        let takes = et ∙ ap (λ (z : Open). isTaken p z (bare h)) eq in
+        λ j. (not (eg j) && not ((ec j && o .due) || ends j)) && (not (takes j) && (eqb (ei j) (h .index) && not (eqb (h .serial) (p .set))))
 
 module _ (p : Plan) (k n : ℕ) (e : p .above ≡ whichIn k n) where
   pub first-ground : k ≡ 2 → _≡_ {A = Open} (record { taking = 0; below = 1; due = p .fills }) (atFirst p)

@@ -1,7 +1,8 @@
 -- What the code reads of a row, and how large the numbers are that its tests meet.
 use Prim.Native.Nat.{ℕ, suc, _≤_}
-use mathlib.Core.Bool.{Bool, true, false, not, _&&_}
+use mathlib.Core.Bool.{Bool, true, false, not, _&&_, _||_}
 use mathlib.Core.List.{[]}
+use lib.Dec.{eqb}
 use Rattle.rules.specs.Bytes.{Bytes}
 use Rattle.rules.specs.Preorder.{Deep}
 use Rattle.rules.specs.Layout.{FlatRow}
@@ -9,7 +10,7 @@ use Rattle.row_walk.specs.declared.Plan.{Plan}
 use Rattle.row_walk.specs.declared.Shift.{Shift}
 use Rattle.row_walk.specs.declared.Open.{Open}
 use Rattle.row_walk.specs.declared.Head.{Head}
-use Rattle.row_walk.specs.Walk.{matches, isLater, isBelow}
+use Rattle.row_walk.specs.Walk.{matches, isLater, movedIndex, gone, closes, closed, isBelow, isTaken}
 
 -- a row with what was read of it, and a value
 abbrev pub rowOfHead : Head → Bytes → Deep FlatRow
@@ -29,6 +30,18 @@ keptWith p due o x =
       | true ↦ record { taking = 0; below = suc (suc (x .depth)); due = p .fills }
       | false ↦ record { taking = 0; below = o .below; due = due }
     ]
+
+-- what is due below the open row does not stay due after a row right below it: the filling comes before it, or the row
+-- is spared
+abbrev pub endsDue : Plan → Open → Deep FlatRow → Bool
+endsDue p o x = (o .due && isBelow o x) && isLater (p .marks) (p .later) (x .row)
+
+-- a row that stays as it is, and nothing comes before it: it stands below no row taken, what is due stays due, it is not
+-- taken, and it keeps its index and its value
+unfoldable pub isPlain : Plan → Open → Deep FlatRow → Bool
+isPlain p o x =
+    (not (gone o x) && not ((closes o x && o .due) || endsDue p (closed o x) x))
+    && (not (isTaken p (closed o x) x) && (eqb (movedIndex p (x .row)) (x .row .index) && not (eqb (x .row .serial) (p .set))))
 
 -- ---- how large the numbers are
 -- indices of at most 1,000 move up by at most 1,000; those of a store that passes are at most 64

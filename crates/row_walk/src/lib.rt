@@ -6,7 +6,7 @@ ghost use mathlib.Core.List.{[]};
 ghost use Prim.Native.Nat.{_+_, _-_, _≤_};
 ghost use Rattle.row_walk.specs.Walk.{matches, isLater, spared, shifted, movedIndex, gone, closes, closed, isBelow, isTaken, isFilled, taken, atFirst};
 ghost use Rattle.row_walk.specs.Lent.{whichIn, planIn};
-ghost use Rattle.row_walk.specs.Step.{bare, keptWith, Moves, Fair};
+ghost use Rattle.row_walk.specs.Step.{bare, keptWith, endsDue, isPlain, Moves, Fair};
 
 /// Some rows: none; every row, and what stands above the documents; that alone; the elements of a definition; the rows
 /// of an attribute; the element with a serial.
@@ -210,6 +210,28 @@ pub fn is_filled(p: &[usize; 19], marks: &[u8], o: Open, h: Head) -> bool
     ensures { λ r. ⌜ r ≡ isFilled (planIn (now (p .entry)) (now (marks .entry))) o (bare h) ⌝ }
 {
     (o.due & is_below(o, h)) & (is_later(p, marks, h) & !spared(p, marks, h))
+}
+
+// Whether what is due does not stay due after a row right below the open row.
+fn ends_due(p: &[usize; 19], marks: &[u8], o: Open, h: Head) -> bool
+    requires { ⌜ Fair h ⌝ }
+    ensures { λ r. ⌜ r ≡ endsDue (planIn (now (p .entry)) (now (marks .entry))) o (bare h) ⌝ }
+{
+    if o.due & is_below(o, h) {
+        return is_later(p, marks, h);
+    }
+    false
+}
+
+/// Whether a row stays as it is, and nothing comes before it.
+pub fn is_plain(p: &[usize; 19], marks: &[u8], o: Open, h: Head) -> bool
+    requires { ⌜ Moves (planIn (now p) [] .definitions) × Moves (planIn (now p) [] .attributes) × Fair h ⌝ }
+    ensures { λ r. ⌜ r ≡ isPlain (planIn (now (p .entry)) (now (marks .entry))) o (bare h) ⌝ }
+{
+    let q = closed(o, h);
+    let due = (closes(o, h) & o.due) | ends_due(p, marks, q, h);
+    let same = (moved_index(p, h) == h.index) & !(h.serial == p[9]);
+    (!gone(o, h) & !due) & (!is_taken(p, q, h) & same)
 }
 
 // ---- what is open after a row that is taken, after one that is kept, and before the first

@@ -1,11 +1,11 @@
 -- What a writer of rows leaves: where they all fit the rows with their serials,
 -- one after the other; and always how many more may be written.
-use Prim.Native.Nat.{ℕ, _+_, _-_, _*_, _<_, _≤_}
+use Prim.Native.Nat.{ℕ, zero, suc, _+_, _-_, _*_, _<_, _≤_}
 use mathlib.Core.Path.{_≡_}
 use mathlib.Core.Bool.{true, false}
 use mathlib.Core.List.{List, [], _∷_}
 use lib.Dec.{eqb}
-use lib.ListN.{length}
+use lib.ListN.{length, take, drop}
 use Rattle.rules.specs.Bytes.{Bytes}
 use Rattle.rules.specs.Preorder.{Deep}
 use Rattle.rules.specs.Layout.{FlatRow, rowSize, rowBytes, each}
@@ -62,3 +62,8 @@ newRow sort depth index value = rowOf sort depth index 0 value
 pub record OldRow (w : ℕ) (row : Bytes) : Type 0 where
   pub written : rowBytes w (readRow row) ≡ row
   pub old : 1 ≤ readRow row .row .serial
+
+-- count of them, one after the other
+unfoldable pub OldRows : ℕ → ℕ → Bytes → Type 0
+OldRows w zero bs = Unit
+OldRows w (suc count) bs = OldRow w (take (rowSize w) bs) × OldRows w count (drop (rowSize w) bs)

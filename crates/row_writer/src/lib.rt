@@ -1,10 +1,12 @@
 // Tree rows written one after the other: new ones, and old ones that are kept.
 ghost use mathlib.Core.List.{[], _∷_};
-ghost use Prim.Native.Nat.{_<_, _≤_};
+ghost use Prim.Native.Nat.{_*_, _<_, _≤_};
 ghost use lib.ListN.{length};
+ghost use Rattle.rules.specs.Layout.{rowSize};
+ghost use Rattle.rules.specs.Decode.{readRow, readMany};
 ghost use Rattle.layout.specs.Bodies.{Width};
 ghost use Rattle.layout.specs.RowBytes.{reindexedRow, valuedRow};
-ghost use Rattle.row_writer.specs.Written.{Written, Room, OldRow, newRow};
+ghost use Rattle.row_writer.specs.Written.{Written, Room, OldRow, OldRows, newRow};
 
 /// Where the next row goes, how many rows may still be written, and the serial that the next new row gets. Writing into
 /// a buffer of one byte with `left` one past the ceiling counts the rows, and stops past it.
@@ -73,6 +75,22 @@ pub fn put_valued(
     Cursor {
         at,
         left: c.left - 1,
+        serial: c.serial,
+    }
+}
+
+/// The first `count` of some old rows as they are, no more than may be written.
+pub fn put_block(w: usize, rows: &[u8], count: usize, c: Cursor, out: &mut [u8]) -> Cursor
+    requires { ⌜ Width w × Room w c × OldRows w count (now rows) × (rowSize w * count ≤ length (now rows)) × (count ≤ c .left) ⌝ }
+    ensures { λ r. ⌜ Written w (readMany readRow (rowSize w) count (now (rows .entry))) c (now (out .entry)) r (now (out .exit)) ⌝ }
+{
+    let size = layout::row_size(w);
+    let long = size * count;
+    let block = &rows[..long];
+    let at = codec::put(block, out, c.at);
+    Cursor {
+        at,
+        left: c.left - count,
         serial: c.serial,
     }
 }

@@ -20,6 +20,7 @@ use Rattle.lookup.specs.Bodies.{bodiesOf}
 use Rattle.store_check.specs.Reading.{flatIndexForm, entryOf}
 use Rattle.row_writer.specs.declared.Cursor.{Cursor}
 use Rattle.row_writer.specs.Written.{newIn, Written}
+use Rattle.row_writer.proofs.BlockLaws.{Old}
 use Rattle.filling.specs.declared.Filling.the-variants.{Attribute}
 use Rattle.filling.specs.Parts.{valueOf}
 use Rattle.filling.proofs.DepthLaws.{length-filling}
@@ -29,7 +30,7 @@ use Rattle.row_walk.specs.Walk.{walked, atFirst}
 use Rattle.walk_writer.specs.Step.{refilled}
 use Rattle.walk_writer.proofs.SettledLaws.{walked-refilled}
 use Rattle.row_bound.specs.Bound.{countedTo}
-use Rattle.row_bound.proofs.BoundLaws.{Old, new-few, product-few}
+use Rattle.row_bound.proofs.BoundLaws.{new-few, product-few}
 use Rattle.row_bound.proofs.PlaceLaws.{Times, times-walked}
 use Rattle.store_writer.specs.Stores.{storeIn}
 use Rattle.store_writer.specs.Planned.{membersAt, fillOf, rowsAfter}

@@ -1,4 +1,5 @@
 pub mod LentLaws
 pub mod StepLaws
 pub mod WalkLaws
+pub mod PlainLaws
 pub mod SettledLaws

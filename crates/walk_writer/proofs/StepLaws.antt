@@ -33,11 +33,15 @@ pub head-read : (row : Bytes) (d s i k : ℕ) → d ≡ readRow row .depth → s
 head-read row d s i k ed es ei ek = rw (ed, es, ei, ek)
 
 -- ---- what is due after a row that opens nothing
+pub due-stays : (d b l : Bool) → ((d && b) && l) ≡ false → d ≡ (d && not (b && l))
+due-stays false b l e = refl
+due-stays true false l e = refl
+due-stays true true false e = refl
+due-stays true true true e = absurd (false≢true (sym e))
+
 -- nothing is due right below
 pub due-still : (d b l : Bool) → (d && b) ≡ false → d ≡ (d && not (b && l))
-due-still false b l e = refl
-due-still true false l e = refl
-due-still true true l e = absurd (false≢true (sym e))
+due-still d b l e = due-stays d b l (ap (λ (z : Bool). z && l) e)
 
 pub kept-due : (p : Plan) (o : Open) (h : Head) {d : Bool} {k : Open} → k ≡ keptWith p d o (bare h) → d ≡ staysDue p o (bare h) → k ≡ kept p o (bare h)
 kept-due p o h e ed = e ∙ ap (λ (d : Bool). keptWith p d o (bare h)) ed
@@ -58,13 +62,13 @@ later-any m (Past j) h u = refl
 later-any m Unmarked h u = refl
 
 module _ (p : Plan) (o : Open) (h : Head) (u : Bytes) where
-  taken-any : isTaken p o (rowOfHead h u) ≡ isTaken p o (bare h)
+  pub taken-any : isTaken p o (rowOfHead h u) ≡ isTaken p o (bare h)
   taken-any = ap (λ (b : Bool). ((isEverything (p .above) || isBelow o (bare h)) && b) && not (p .keeps && o .due)) (matches-any (p .takes) h u)
 
-  filled-any : isFilled p o (rowOfHead h u) ≡ isFilled p o (bare h)
+  pub filled-any : isFilled p o (rowOfHead h u) ≡ isFilled p o (bare h)
   filled-any = ap (λ (b : Bool). (o .due && isBelow o (bare h)) && (b && not (spared p (bare h .row)))) (later-any (p .marks) (p .later) h u)
 
-  kept-any : kept p o (rowOfHead h u) ≡ kept p o (bare h)
+  pub kept-any : kept p o (rowOfHead h u) ≡ kept p o (bare h)
   kept-any = ap₂ opened (matches-any (p .above) h u) (later-any (p .marks) (p .later) h u)
     where
       opened : Bool → Bool → Open

@@ -1,5 +1,5 @@
 -- One step of the walk: what comes of a row, and what the walk asks of the store.
-use Prim.Native.Nat.{ℕ, zero, suc, _≤_}
+use Prim.Native.Nat.{ℕ, zero, suc, _*_, _-_, _<_, _≤_}
 use mathlib.Core.Path.{_≡_}
 use mathlib.Core.Bool.{Bool, true, false, _&&_}
 use mathlib.Core.List.{List, [], _++_}
@@ -8,21 +8,23 @@ use denote.Ref.{RefT}
 use Rattle.rules.specs.Bytes.{Bytes}
 use Rattle.rules.specs.Preorder.{Deep}
 use Rattle.rules.specs.Layout.{FlatRow, rowSize}
-use Rattle.rules.specs.Decode.{readRow}
+use Rattle.rules.specs.Decode.{readRow, readMany}
 use Rattle.form_index.specs.Reading.{indexForm}
 use Rattle.layout.specs.Bodies.{Width}
 use Rattle.layout.specs.RowBytes.{valuedRow}
 use Rattle.row_writer.specs.declared.Cursor.{Cursor}
-use Rattle.row_writer.specs.Written.{Written, OldRow}
+use Rattle.row_writer.specs.Written.{Written, Room, OldRow}
 use Rattle.filling.specs.declared.Filling.{Filling}
 use Rattle.filling.specs.Fillings.{fillingRows}
 use Rattle.filling.specs.Parts.{valueIn, membersReadAt, defsIn, partsIn, attrsIn, widthIn, countIn, versionOfFilling, sizeIn, Indexed}
 use Rattle.row_walk.specs.declared.Plan.{Plan}
 use Rattle.row_walk.specs.declared.Open.{Open}
 use Rattle.row_walk.specs.declared.Head.{Head}
-use Rattle.row_walk.specs.Walk.{gone, closes, closed, owed, rowDepth, emitted, nextOpen}
+use Rattle.row_walk.specs.Walk.{gone, closes, closed, owed, rowDepth, emitted, nextOpen, walked}
 use Rattle.row_walk.specs.Step.{rowOfHead, Planned, Fair}
 use Rattle.walk_writer.specs.declared.Stepped.{Stepped}
+use Rattle.walk_writer.specs.declared.PlainRun.{PlainRun}
+use Rattle.walk_writer.specs.declared.Passed.{Passed}
 
 -- an old row with another index, and with another value if b
 abbrev pub rowRewritten : Bool → ℕ → Bytes → Bytes → Deep FlatRow
@@ -109,3 +111,30 @@ pub record Seen (w : ℕ) (h : Head) (row : Bytes) : Type 0 where
 unfoldable pub WalkRows : ℕ → ℕ → Bytes → Type 0
 WalkRows w zero bs = Unit
 WalkRows w (suc count) bs = WalkRow w (take (rowSize w) bs) × WalkRows w count (drop (rowSize w) bs)
+
+-- ---- some rows
+-- The first rows of `most`, with o open before them, stay as they are, whatever the value and the filling; and what is
+-- open after them.
+pub record PlainRows (w : ℕ) (p : Plan) (rows : Bytes) (most : ℕ) (o : Open) (r : PlainRun) : Type 0 where
+  pub few : r .count ≤ most
+  pub near : Near (r .opened)
+  pub same : (v : Bytes) (fill : ℕ → List (Deep FlatRow)) (xs : List (Deep FlatRow)) → walked p v fill o (readMany readRow (rowSize w) (r .count) rows ++ xs)
+      ≡ readMany readRow (rowSize w) (r .count) rows ++ walked p v fill (r .opened) xs
+
+-- before a row: whoever writes what comes of the m rows that are left has written the whole; they are rows of an old
+-- store, and there is room for what may be written
+pub record Going (w : ℕ) (p : Plan) (v : Bytes) (fill : ℕ → List (Deep FlatRow)) (whole : List (Deep FlatRow)) (c : Cursor) (out : Bytes) (t : Bytes) (m : ℕ) (at : Cursor) (o : Open)
+    (out′ : Bytes) : Type 0 where
+  pub goes : (r : Cursor) (out″ : Bytes) → Written w (walked p v fill o (readMany readRow (rowSize w) m t)) at out′ r out″ → Written w whole c out r out″
+  pub near : Near o
+  pub room : Room w at
+  pub rows : WalkRows w m t
+  pub size : rowSize w * m ≤ length t
+  pub long : length out′ ≡ length out
+
+-- what comes of the first rows of m was written, of at least one and of no more than may be written
+pub record Passes (w : ℕ) (p : Plan) (v : Bytes) (fill : ℕ → List (Deep FlatRow)) (t : Bytes) (m : ℕ) (o : Open) (c : Cursor) (out : Bytes) (r : Passed) (out′ : Bytes) : Type 0 where
+  pub further : 0 < r .rows
+  pub few : r .rows ≤ m
+  pub within : r .rows ≤ c .left
+  pub going : Going w p v fill (walked p v fill o (readMany readRow (rowSize w) m t)) c out (drop (rowSize w * r .rows) t) (m - r .rows) (r .cursor) (r .opened) out′

@@ -11,7 +11,7 @@ use rules::GroupKind;
 ghost use mathlib.Core.Path.{_≡_};
 ghost use mathlib.Core.Bool.{false};
 ghost use mathlib.Core.List.{[], _∷_};
-ghost use Prim.Native.Nat.{_*_, _≤_};
+ghost use Prim.Native.Nat.{_*_, _<_, _≤_};
 ghost use lib.Dec.{eqb};
 ghost use lib.ListN.{length, getD};
 ghost use Rattle.rules.specs.Layout.{rowSize};
@@ -21,13 +21,26 @@ ghost use Rattle.row_writer.specs.Written.{Written, Room, OldRow};
 ghost use Rattle.filling.specs.Parts.{widthIn, countIn, sizeIn, Asks, Indexed};
 ghost use Rattle.row_walk.specs.Walk.{isTaken, owed, emitted, nextOpen, walked, atFirst};
 ghost use Rattle.row_walk.specs.Lent.{whichIn, laterIn, fillingIn, planIn};
-ghost use Rattle.row_walk.specs.Step.{rowOfHead, bare};
-ghost use Rattle.walk_writer.specs.Step.{rowRewritten, stepRows, stepOpen, Came, planFilling, fillIn, refilled, Settled, Ready, ReadyIn, Near, WalkRow, Seen, WalkRows};
+ghost use Rattle.row_walk.specs.Step.{rowOfHead, bare, Planned};
+ghost use Rattle.walk_writer.specs.Step.{rowRewritten, stepRows, stepOpen, Came, planFilling, fillIn, refilled, Settled, Ready, ReadyIn, Near, WalkRow, Seen, WalkRows, PlainRows, Passes};
 
 /// What has been written after a row, and what is open.
 pub struct Stepped {
     pub cursor: Cursor,
     pub opened: Open,
+}
+
+/// How many rows stay as they are, and what is open after them.
+pub struct PlainRun {
+    pub count: usize,
+    pub opened: Open,
+}
+
+/// What has been written after some rows, what is open, and how many rows they were.
+pub struct Passed {
+    pub cursor: Cursor,
+    pub opened: Open,
+    pub rows: usize,
 }
 
 // ---- a plan as it is lent (see `row_walk`)
@@ -315,6 +328,83 @@ fn step(
     come(form, sizes, p, marks, text, h, row, q, at, out)
 }
 
+// How many of the first rows of `most` stay as they are.
+fn plain_rows(
+    w: usize,
+    p: &[usize; 19],
+    marks: &[u8],
+    rows: &[u8],
+    most: usize,
+    o: Open,
+) -> PlainRun
+    requires { ⌜ Width w × Planned (planIn (now p) []) × WalkRows w most (now rows) × (rowSize w * most ≤ length (now rows)) × Near o ⌝ }
+    ensures { λ r. ⌜ PlainRows w (planIn (now (p .entry)) (now (marks .entry))) (now (rows .entry)) most o r ⌝ }
+{
+    let size = layout::row_size(w);
+    let mut t = rows;
+    let mut m = most;
+    let mut q = o;
+    while 0 < m {
+        let row = &t[..size];
+        let h = read_head(row);
+        if !row_walk::is_plain(p, marks, q, h) {
+            return PlainRun {
+                count: most - m,
+                opened: q,
+            };
+        }
+        let u = row_walk::closed(q, h);
+        q = row_walk::kept(p, u, h, u.due);
+        t = &t[size..];
+        m -= 1;
+    }
+    PlainRun {
+        count: most,
+        opened: q,
+    }
+}
+
+// The rows that stay as they are, as one block, and the row after them; no more rows than may be written.
+fn pass(
+    form: &[&[u8]; 3],
+    sizes: &[usize; 4],
+    p: &[usize; 19],
+    marks: &[u8],
+    text: &[u8],
+    rows: &[u8],
+    count: usize,
+    o: Open,
+    c: Cursor,
+    out: &mut [u8],
+) -> Passed
+    requires { ⌜ ReadyIn (now sizes) (now text) (planIn (now p) (now marks)) × WalkRows (widthIn (now sizes)) count (now rows)
+        × (rowSize (widthIn (now sizes)) * count ≤ length (now rows)) × Near o × Room (widthIn (now sizes)) c × (0 < count) × (0 < c .left) ⌝ }
+    ensures { λ r. ⌜ Passes (widthIn (now (sizes .entry))) (planIn (now (p .entry)) (now (marks .entry))) (now (text .entry))
+        (fillIn (now (sizes .entry)) (now (form .entry)) (planIn (now (p .entry)) (now (marks .entry))) (now (text .entry))) (now (rows .entry)) count o c (now (out .entry)) r (now (out .exit)) ⌝ }
+{
+    let most = count - row_walk::minus(count, c.left);
+    let run = plain_rows(sizes[0], p, marks, rows, most, o);
+    let q = run.opened;
+    let at = row_writer::put_block(sizes[0], rows, run.count, c, out);
+    if run.count == most {
+        return Passed {
+            cursor: at,
+            opened: q,
+            rows: most,
+        };
+    }
+    let size = layout::row_size(sizes[0]);
+    let row = layout::window(rows, size * run.count, size);
+    let s = step(form, sizes, p, marks, text, row, q, at, out);
+    let cursor = s.cursor;
+    let opened = s.opened;
+    Passed {
+        cursor,
+        opened,
+        rows: run.count + 1,
+    }
+}
+
 // The walk over `count` rows. It stops where no row may be written any more.
 fn walk_lent(
     form: &[&[u8]; 3],
@@ -344,12 +434,12 @@ fn walk_lent(
         if at.left == 0 {
             return at;
         }
-        let row = &t[..size];
-        let s = step(form, sizes, p, marks, text, row, o, at, out);
+        let s = pass(form, sizes, p, marks, text, t, m, o, at, out);
         at = s.cursor;
         o = s.opened;
-        t = &t[size..];
-        m -= 1;
+        let long = size * s.rows;
+        t = &t[long..];
+        m -= s.rows;
     }
     let depth = row_walk::minus(o.below, 1);
     put_owed(form, sizes, p, text, o.due, depth, at, out)

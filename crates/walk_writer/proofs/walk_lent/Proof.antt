@@ -1,16 +1,15 @@
 -- `walk_writer::walk_lent` meets its contract.
-use mathlib.Core.Path.{sym, _∙_}
+use mathlib.Core.Path.{refl, _∙_}
 use native.Mathlib.Omega.{arith}
-use lib.Seq.{length-take-le}
-use borrow.Author.Needs.{needs}
 use Rattle.rules.specs.Layout.{rowSize}
 use Rattle.rules.specs.Decode.{readRow, readMany}
 use Rattle.filling.specs.Parts.{widthIn}
 use Rattle.row_walk.specs.Walk.{walked, atFirst}
 use Rattle.row_walk.specs.Lent.{planIn}
-use Rattle.walk_writer.specs.Step.{fillIn}
+use Rattle.walk_writer.specs.Step.{fillIn, Going}
 use Rattle.walk_writer.proofs.StepLaws.{asks-of}
-use Rattle.walk_writer.proofs.WalkLaws.{Going, going-start, going-stop, going-first, going-row, going-step, going-end}
+use Rattle.walk_writer.proofs.WalkLaws.{going-start, going-stop, pass-long, pass-small, going-pass, going-end}
+use borrow.Author.Needs.{needs}
 use Rattle.walk_writer.proofs.walk_lent.Statement.{statement}
 use Rattle.walk_writer.proofs.walk_lent.Tie as tie
 
@@ -41,71 +40,76 @@ loop-holds c =
     going-start (start .pre .1) (start .pre .2) (start .pre .3) (c .at-first .ensures)
 
 same-length : tie.Need-same-length Inv-loop μ-loop
-same-length c = let at-loop = c .before .before .before in
+same-length c =
+    let at-loop = c .before .before .before in
     at-loop .loop .inv .long
 
 returns : tie.Need-returns Inv-loop μ-loop
-returns c = let at-loop = c .before .before .before in
+returns c =
+    let at-loop = c .before .before .before in
     going-stop (at-loop .loop .inv) (c .if1 .taken)
 
-slice-aggregate-row : tie.Need-slice-aggregate-row Inv-loop μ-loop
-slice-aggregate-row c =
-    let at-loop-test = c .before .before .before in
+pass-requires : tie.Need-pass-requires Inv-loop μ-loop
+pass-requires c κs =
+    let at-if1 = c .before in
+    let at-loop-test = at-if1 .before .before in
     let at-loop = at-loop-test .before in
-    let at-row-size = at-loop .before .before in
-    sym
-    (length-take-le _ (at-loop .loop .t .now) (omega (arith, going-first (at-loop .loop .inv) (at-loop-test .loop-test .taken), at-row-size .row-size .ensures)))
-
-step-requires : tie.Need-step-requires Inv-loop μ-loop
-step-requires c κs =
-    let at-loop-test = c .before .before .before .before in
-    let at-loop = at-loop-test .before in
-    let at-row-size = at-loop .before .before in
-    let start = at-row-size .before .before .before .before .before .before in
+    let start = at-loop .before .before .before .before .before .before .before .before in
     let going = at-loop .loop .inv in
-    (start .pre .0, going-row going (at-loop-test .loop-test .taken) _ (at-row-size .row-size .ensures), going .near, going .room)
+    (start .pre .0, going .rows, going .size, going .near, going .room, at-loop-test .loop-test .taken, omega (arith, at-if1 .if1 .left))
+
+mul-long : tie.Need-mul-long Inv-loop μ-loop
+mul-long c =
+    let at-pass = c .before .before .before .before .before in
+    let at-loop = at-pass .before .before .before .before .before in
+    let at-row-size = at-loop .before .before in
+    record { fits = omega (arith, pass-small (at-loop .loop .inv) (at-pass .pass .ensures) (at-row-size .row-size .ensures) refl) }
 
 sub-t : tie.Need-sub-t Inv-loop μ-loop
 sub-t c =
-    let at-loop-test = c .before .before .before .before .before .before .before .before .before in
-    let at-loop = at-loop-test .before in
+    let at-pass = c .before .before .before .before .before in
+    let at-loop = at-pass .before .before .before .before .before in
     let at-row-size = at-loop .before .before in
-    omega (arith, going-first (at-loop .loop .inv) (at-loop-test .loop-test .taken), at-row-size .row-size .ensures)
+    pass-long (at-loop .loop .inv) (at-pass .pass .ensures) (at-row-size .row-size .ensures) refl
 
 part-t-start : tie.Need-part-t-start Inv-loop μ-loop
 part-t-start c =
-    let at-loop-test = c .before .before .before .before .before .before .before .before .before in
-    let at-loop = at-loop-test .before in
+    let at-pass = c .before .before .before .before .before in
+    let at-loop = at-pass .before .before .before .before .before in
     let at-row-size = at-loop .before .before in
-    omega (arith, going-first (at-loop .loop .inv) (at-loop-test .loop-test .taken), at-row-size .row-size .ensures)
+    pass-long (at-loop .loop .inv) (at-pass .pass .ensures) (at-row-size .row-size .ensures) refl
 
 part-t-end : tie.Need-part-t-end Inv-loop μ-loop
 part-t-end c = search needs
 
 sub-m : tie.Need-sub-m Inv-loop μ-loop
-sub-m c = search needs
+sub-m c =
+    let at-pass = c .before .before .before .before .before .before .before in
+    omega (arith, at-pass .pass .ensures .few)
 
 loop-less : tie.Need-loop-less Inv-loop μ-loop
-loop-less c = search needs
+loop-less c =
+    let at-pass = c .before .before .before .before .before .before .before in
+    omega (arith, at-pass .pass .ensures .few, at-pass .pass .ensures .further)
 
 loop-again : tie.Need-loop-again Inv-loop μ-loop
 loop-again c =
-    let at-step = c .before .before .before .before .before in
-    let at-loop-test = at-step .before .before .before .before .before in
-    let at-loop = at-loop-test .before in
+    let at-pass = c .before .before .before .before .before .before .before in
+    let at-loop = at-pass .before .before .before .before .before in
     let at-row-size = at-loop .before .before in
-    going-step (at-loop .loop .inv) (at-loop-test .loop-test .taken) _ (at-row-size .row-size .ensures) (at-step .step .ensures)
+    going-pass (at-loop .loop .inv) (at-pass .pass .ensures) (at-row-size .row-size .ensures) refl
 
 minus-requires : tie.Need-minus-requires Inv-loop μ-loop
 minus-requires c κs = search needs
 
 put-owed-requires : tie.Need-put-owed-requires Inv-loop μ-loop
 put-owed-requires c κs =
-    let at-loop = c .before .before .before in
+    let at-minus = c .before in
+    let at-loop = at-minus .before .before in
     let start = at-loop .before .before .before .before .before .before .before .before in
     let ready = start .pre .0 in
     let going = at-loop .loop .inv in
-    (ready .filling, asks-of ready (going .room) (omega (arith, going .near .below, c .before .minus .ensures)))
+    (ready .filling, asks-of ready (going .room) (omega (arith, going .near .below, at-minus .minus .ensures)))
 
 same-length-2 : tie.Need-same-length-2 Inv-loop μ-loop
 same-length-2 c =
@@ -132,8 +136,8 @@ walk-lent-spec =
     loop-holds
     same-length
     returns
-    slice-aggregate-row
-    step-requires
+    pass-requires
+    mul-long
     sub-t
     part-t-start
     part-t-end

@@ -1,3 +1,1 @@
-pub mod Walking
-pub mod Parts
 pub mod Texts

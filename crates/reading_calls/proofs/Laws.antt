@@ -16,8 +16,7 @@ use Rattle.rules.specs.Outcome.{Outcome, refused, wrote, unlessRefused, onStore
 use Rattle.rules.specs.Print.{printed, tooLong, printOutcome}
 use Rattle.rules.specs.LookUp.{ValueFound, notFound, lookUpIn, lookUp, partFound}
 use Rattle.codec.specs.Laid.{Laid}
-use Rattle.printing.specs.Parts.{Within}
-use Rattle.printing.specs.Texts.{textOf}
+use Rattle.printing.specs.Texts.{Within, textOf}
 use Rattle.printing.proofs.FormLaws.{text-is, passing-within}
 use Rattle.lookup.specs.Finding.{foundOn, Looks, Hands}
 use Rattle.lookup.proofs.Laws.{look-up-is}

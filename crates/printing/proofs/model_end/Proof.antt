@@ -3,7 +3,7 @@ use Prim.Native.Nat.{ℕ}
 use native.Mathlib.Omega.{arith}
 use Rattle.rules.specs.Layout.{particleSize}
 use Rattle.rules.specs.Decode.{readParticle, particleCount}
-use Rattle.printing.specs.Parts.{fromParticles, particlesFrom}
+use Rattle.printing_parts.specs.Parts.{fromParticles, particlesFrom}
 use Rattle.printing.proofs.FormLaws.{from-take, from-take-all}
 use borrow.Author.Needs.{needs}
 use Rattle.printing.proofs.model_end.Statement.{statement}

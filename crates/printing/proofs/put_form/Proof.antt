@@ -2,7 +2,7 @@ use borrow.Author.Needs.{needs}
 use Prim.Native.Nat.{_-_}
 use native.Mathlib.Omega.{arith}
 use Rattle.rules.specs.Decode.{definitionCount, particleCount, attributeCount}
-use Rattle.printing.specs.Parts.{namesOf, definitionsFrom, particlesFrom, attributesFrom}
+use Rattle.printing_parts.specs.Parts.{namesOf, definitionsFrom, particlesFrom, attributesFrom}
 use Rattle.printing.specs.Texts.{formText}
 use Rattle.printing.proofs.FormLaws.{Declaring, declaring-start, declaring-on, declaring-done}
 use Rattle.printing.proofs.put_form.Statement.{statement}

@@ -1,0 +1,4 @@
+pub mod SignLaws
+pub mod MemberTexts
+pub mod MemberLaws
+pub mod LineLaws

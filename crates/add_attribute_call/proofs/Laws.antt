@@ -20,15 +20,17 @@ use Rattle.layout.specs.Bodies.{widthOf, Number, mostForm}
 use Rattle.layout.proofs.LayoutLaws.{width-within}
 use Rattle.lookup.specs.Bodies.{bodiesOf}
 use Rattle.row_walk.specs.declared.Plan.{Plan}
-use Rattle.store_writer.specs.Stores.{storeIn, limited}
-use Rattle.store_writer.specs.Planned.{plannedIn}
-use Rattle.store_writer.specs.Forms.{formBytes, formRead, Forms}
-use Rattle.store_writer.specs.Writing.{Sized}
-use Rattle.store_writer.proofs.StoreLaws.{Holds, holds}
+use Rattle.store_laws.specs.Stores.{storeIn}
+use Rattle.store_writer.specs.Writing.{limited}
+use Rattle.planned_rows.specs.Planned.{plannedIn}
+use Rattle.store_laws.specs.Forms.{formBytes, formRead, Forms}
+use Rattle.planned_rows.specs.Walking.{Sized}
+use Rattle.store_laws.proofs.StoreLaws.{Holds, holds}
 use Rattle.store_writer.proofs.CallLaws.{answers-as, passed}
-use Rattle.store_writer.proofs.FormBytesLaws.{form-short}
-use Rattle.store_writer.proofs.FormLaws.{bareForm, FormOf, forms-of, form-answers, form-ceiling, within, good-bodies}
-use Rattle.store_writer.proofs.StoreFacts.{Whole, whole, value-given}
+use Rattle.store_laws.proofs.FormBytesLaws.{form-short}
+use Rattle.store_laws.proofs.FormLaws.{bareForm, FormOf, forms-of, within, good-bodies}
+use Rattle.store_writer.proofs.FormAnswers.{form-answers, form-ceiling}
+use Rattle.store_check.proofs.StoreFacts.{Whole, whole, value-given}
 use Rattle.plans.specs.AttributeCalls.{attributesTo, addAttributePlan, attributeAdded}
 use Rattle.plans.proofs.CallsPlanned.{none-holds}
 use Rattle.plans.proofs.FormsAfter.{good-attribute, added-ceiling, added-form}

@@ -2,7 +2,7 @@
 use Prim.Native.Nat.{ℕ}
 use Rattle.rules.specs.Bytes.{Bytes}
 use Rattle.rules.specs.Layout.{FlatStore}
-use Rattle.store_writer.specs.Planned.{plannedIn}
+use Rattle.planned_rows.specs.Planned.{plannedIn}
 use Rattle.plans.specs.AttributeCalls.{attributesTo, addAttributePlan, attributeAdded}
 use Rattle.attribute_writer.specs.Attributes.{newEntry}
 

@@ -5,7 +5,7 @@ ghost use lib.ListN.{length};
 ghost use Rattle.rules.specs.Change.{addAttribute};
 ghost use Rattle.rules.specs.Outcome.{outcome, Answers};
 ghost use Rattle.lookup.specs.Bodies.{bodiesOf};
-ghost use Rattle.store_writer.specs.Stores.{limited};
+ghost use Rattle.store_writer.specs.Writing.{limited};
 ghost use Rattle.attribute_writer.specs.Attributes.{Addable};
 ghost use Rattle.add_attribute_call.specs.Added.{added};
 

@@ -15,7 +15,7 @@ use Rattle.layout.proofs.LayoutLaws.{record-read, attributes-read}
 use Rattle.lookup.specs.Bodies.{bodiesOf, recordsFrom}
 use Rattle.lookup.proofs.Laws.{from-step, from-none, from-all}
 use Rattle.store_check.specs.Reading.{noAttribute}
-use Rattle.store_writer.proofs.FormLaws.{counted-definitions, counted-particles, counted-attributes}
+use Rattle.store_laws.proofs.FormLaws.{counted-definitions, counted-particles, counted-attributes}
 use Rattle.plans.specs.AttributeCalls.{attributesTo, ownerAt}
 use Rattle.attribute_form.specs.Attributes.{AttributeStands, UpTo, To}
 

@@ -6,7 +6,7 @@ ghost use Rattle.rules.specs.Decode.{readAttribute};
 ghost use Rattle.rules.specs.Passing.{passes};
 ghost use Rattle.layout.specs.Bodies.{widthOf};
 ghost use Rattle.lookup.specs.Bodies.{bodiesOf};
-ghost use Rattle.store_writer.specs.Forms.{formBytes};
+ghost use Rattle.store_laws.specs.Forms.{formBytes};
 ghost use Rattle.attribute_form.specs.Attributes.{AttributeStands, UpTo, To};
 
 // 1 if the attribute is of one of the definitions up to `owner`.

@@ -23,8 +23,8 @@ use Rattle.layout.proofs.LayoutLaws.{attributes-read}
 use Rattle.rules.proofs.BooleanLaws.{any-append}
 use Rattle.rules.proofs.DecodeLaws.{length-own}
 use Rattle.store_check.proofs.AttributeBlocks.{below-or}
-use Rattle.store_writer.specs.Stores.{storeIn}
-use Rattle.store_writer.proofs.StoreFacts.{formIn, Whole}
+use Rattle.store_laws.specs.Stores.{storeIn}
+use Rattle.store_check.proofs.StoreFacts.{formIn, Whole}
 use Rattle.change_laws.specs.FirstCondition.{Gives}
 use Rattle.change_laws.proofs.FirstCondition.{gives-hit, gives-next, gives-none}
 use Rattle.instance_search.proofs.TestLaws.{none-long}

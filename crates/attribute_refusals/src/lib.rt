@@ -7,7 +7,7 @@ ghost use Rattle.rules.specs.Passing.{passes};
 ghost use Rattle.rules.specs.Change.{addAttribute, destroyAttribute};
 ghost use Rattle.rules.specs.Refusal.{first, conditions, wrongDefault};
 ghost use Rattle.lookup.specs.Bodies.{bodiesOf};
-ghost use Rattle.store_writer.specs.Stores.{storeIn};
+ghost use Rattle.store_laws.specs.Stores.{storeIn};
 ghost use Rattle.attribute_refusals.specs.OwnAttributes.{ownNamed};
 
 // Whether a record is that of an owner's attribute with a name.

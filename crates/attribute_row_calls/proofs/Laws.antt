@@ -17,13 +17,13 @@ use Rattle.filling.specs.declared.Filling.the-variants.{Attribute}
 use Rattle.row_walk.specs.declared.Which.the-variants.{Serial}
 use Rattle.row_walk.specs.declared.Later.the-variants.{Past}
 use Rattle.row_walk.specs.declared.Plan.{Plan}
-use Rattle.store_writer.specs.Stores.{storeIn}
-use Rattle.store_writer.specs.Writing.{Sized}
+use Rattle.store_laws.specs.Stores.{storeIn}
+use Rattle.planned_rows.specs.Walking.{Sized}
 use Rattle.store_writer.proofs.CallLaws.{passed}
 use Rattle.store_check.proofs.AttributeBlocks.{below-or}
 use Rattle.document_refusals.specs.Finding.{AttributeRefused}
-use Rattle.store_writer.proofs.StoreFacts.{value-given, Whole, whole}
-use Rattle.store_writer.proofs.AttributeOwners.{unowned}
+use Rattle.store_check.proofs.StoreFacts.{value-given, Whole, whole}
+use Rattle.store_check.proofs.AttributeOwners.{unowned}
 use Rattle.plans.specs.CallPlans.{fillingPlan, settingPlan, attributeSerial, setAttributePlan}
 use Rattle.plans.proofs.CallsPlanned.{none-holds}
 use Rattle.call_laws.proofs.Calls.{unmoved-small, Asks}

@@ -10,7 +10,7 @@ use Rattle.rules.specs.Layout.{definitionSize, particleSize, attributeSize, Fla
 use Rattle.codec.specs.Laid.{Laid}
 use Rattle.codec.proofs.Writers.{laid-then, laid-as}
 use Rattle.layout.specs.Bodies.{widthOf, WidthIn}
-use Rattle.store_writer.specs.Forms.{formBytes}
+use Rattle.store_laws.specs.Forms.{formBytes}
 use Rattle.plans.specs.AttributeCalls.{attributeAdded, attributeDropped}
 use Rattle.attribute_form.specs.Attributes.{AttributeStands}
 use Rattle.attribute_form.proofs.FormParts.{front-then, form-from, before-is}

@@ -4,7 +4,7 @@ ghost use lib.ListN.{length};
 ghost use Rattle.codec.specs.Laid.{Laid};
 ghost use Rattle.layout.specs.Bodies.{widthOf};
 ghost use Rattle.lookup.specs.Bodies.{bodiesOf};
-ghost use Rattle.store_writer.specs.Forms.{formBytes};
+ghost use Rattle.store_laws.specs.Forms.{formBytes};
 ghost use Rattle.plans.specs.AttributeCalls.{attributeAdded, attributeDropped};
 ghost use Rattle.attribute_writer.specs.Attributes.{newEntry, Addable, Droppable};
 

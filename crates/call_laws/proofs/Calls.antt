@@ -17,10 +17,11 @@ use Rattle.lookup.specs.Bodies.{bodiesOf}
 use Rattle.row_walk.specs.Step.{Planned}
 use Rattle.row_walk.specs.declared.Which.{Which}
 use Rattle.row_walk.specs.declared.Plan.{Plan}
-use Rattle.store_writer.specs.Stores.{storeIn, limited}
-use Rattle.store_writer.specs.Planned.{planned}
-use Rattle.store_writer.specs.Writing.{Sized}
-use Rattle.store_writer.proofs.StoreLaws.{Holds, holds}
+use Rattle.store_laws.specs.Stores.{storeIn}
+use Rattle.store_writer.specs.Writing.{limited}
+use Rattle.planned_rows.specs.Planned.{planned}
+use Rattle.planned_rows.specs.Walking.{Sized}
+use Rattle.store_laws.proofs.StoreLaws.{Holds, holds}
 use Rattle.store_writer.proofs.CallLaws.{answers-as, answers-written, passed}
 use Rattle.plans.specs.CallPlans.{takingPlan}
 use Rattle.rules.proofs.WellFormedLaws.{none-value}

@@ -12,7 +12,8 @@ use Rattle.rules.specs.Change.{Call, after}
 use Rattle.rules.specs.Refusal.{first, conditions}
 use Rattle.rules.specs.Outcome.{wrote, unlessRefused, outcome, Answers}
 use Rattle.codec.specs.Laid.{Laid}
-use Rattle.store_writer.specs.Stores.{storeIn, limited}
+use Rattle.store_laws.specs.Stores.{storeIn}
+use Rattle.store_writer.specs.Writing.{limited}
 use Rattle.store_writer.proofs.LimitLaws.{answers-refused, answers-wrote, limited-ceiling, limited-buffer, limited-none}
 use Rattle.store_writer.proofs.CallLaws.{answers-written}
 use Rattle.call_laws.specs.Limits.{Limit}

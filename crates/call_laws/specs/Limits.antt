@@ -4,7 +4,7 @@ use mathlib.Core.Path.{_≡_}
 use lib.ListN.{length}
 use Rattle.rules.specs.Layout.{FlatStore, flatBytes}
 use Rattle.rules.specs.Outcome.{unlessRefused}
-use Rattle.store_writer.specs.Stores.{limited}
+use Rattle.store_writer.specs.Writing.{limited}
 
 -- r is the number of the first of the rows 16 to 18 that holds of a store by its bodies, at its width, 0 if none does
 pub record Limit (w room : ℕ) (f : FlatStore) (r : ℕ) : Type 0 where

@@ -20,12 +20,12 @@ use Rattle.rules.proofs.DecodeLaws.{name-width}
 use Rattle.rules.proofs.LayoutLaws.{length-flatBytes}
 use Rattle.layout.specs.Bodies.{widthOf, Number}
 use Rattle.lookup.specs.Bodies.{bodiesOf}
-use Rattle.store_writer.specs.Stores.{storeIn}
-use Rattle.store_writer.proofs.StoreLaws.{holds, width-of-bodies}
+use Rattle.store_laws.specs.Stores.{storeIn}
+use Rattle.store_laws.proofs.StoreLaws.{holds, width-of-bodies}
 use Rattle.definition_writer.specs.Bodies.{newDefinition, named}
 use Rattle.call_laws.specs.Limits.{Limit}
 use Rattle.create_definition_call.specs.Bodies.{created}
-use Rattle.store_writer.proofs.Encoded.{Encoded, encoded}
+use Rattle.store_laws.proofs.Encoded.{Encoded, encoded}
 use Rattle.call_laws.proofs.Limits.{limit-ceiling, limit-room, limit-none}
 use Rattle.create_definition_call.proofs.Created.{known-named, flat-created}
 

@@ -16,7 +16,7 @@ use Rattle.layout.specs.Header.{headed}
 use Rattle.layout.proofs.LayoutLaws.{width-small}
 use Rattle.layout.proofs.HeaderLaws.{attributes-few, headed-short, definition-table-short}
 use Rattle.definition_writer.specs.Bodies.{newDefinition}
-use Rattle.store_writer.proofs.Encoded.{Encoded, length-is, bytes-are, others, definitions-at, others-at}
+use Rattle.store_laws.proofs.Encoded.{Encoded, length-is, bytes-are, others, definitions-at, others-at}
 use Rattle.create_definition_call.specs.Bodies.{created}
 use Rattle.layout.specs.Fields.{nextAt}
 

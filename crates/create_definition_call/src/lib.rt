@@ -12,7 +12,7 @@ ghost use Rattle.rules.specs.Outcome.{outcome, Answers};
 ghost use Rattle.codec.specs.Laid.{Laid};
 ghost use Rattle.layout.specs.Bodies.{widthOf};
 ghost use Rattle.lookup.specs.Bodies.{bodiesOf};
-ghost use Rattle.store_writer.specs.Stores.{storeIn};
+ghost use Rattle.store_laws.specs.Stores.{storeIn};
 ghost use Rattle.call_laws.specs.Limits.{Limit};
 ghost use Rattle.create_definition_call.specs.Bodies.{created};
 

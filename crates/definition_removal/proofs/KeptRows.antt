@@ -14,7 +14,7 @@ use Rattle.rules.proofs.BooleanLaws.{Every}
 use Rattle.row_writer.specs.Written.{isNewRow, numbered, rowsBytes}
 use Rattle.row_walk.specs.declared.Plan.{Plan}
 use Rattle.row_walk.specs.Walk.{shifted, keptRow}
-use Rattle.store_writer.specs.Writing.{Sized}
+use Rattle.planned_rows.specs.Walking.{Sized}
 use Rattle.definition_writer.specs.Bodies.{movedRow}
 use Rattle.definition_removal.specs.Bodies.{lowered}
 use Rattle.definition_removal.specs.Shifting.{shifting}

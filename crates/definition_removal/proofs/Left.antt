@@ -23,11 +23,11 @@ use Rattle.lookup.specs.Bodies.{bodiesOf}
 use Rattle.layout.specs.Bodies.{widthOf, WidthIn, Number, definitionsIn, particlesIn, attributesIn, treeRowsIn}
 use Rattle.layout.specs.Header.{headed}
 use Rattle.layout.proofs.LayoutLaws as layout
-use Rattle.store_writer.specs.Stores.{storeIn}
-use Rattle.store_writer.proofs.StoreLaws.{holds}
+use Rattle.store_laws.specs.Stores.{storeIn}
+use Rattle.store_laws.proofs.StoreLaws.{holds}
 use Rattle.definition_writer.specs.Bodies.{movedParticle, movedRow}
 use Rattle.definition_removal.specs.Bodies.{lowered, cutOut, particlesUpTo, oneBelow, attributesUpTo, movedAttribute, CountWithin, Between, destroyed, headerLeft}
-use Rattle.store_writer.proofs.Encoded.{Encoded, encoded}
+use Rattle.store_laws.proofs.Encoded.{Encoded, encoded}
 use Rattle.layout.specs.Fields.{nextAt}
 use Rattle.definition_removal.specs.declared.Range.{Range}
 

@@ -23,19 +23,19 @@ use Rattle.row_writer.specs.declared.Cursor.{Cursor}
 use Rattle.row_writer.specs.Written.{Written}
 use Rattle.row_writer.proofs.WrittenLaws.{written-as, written-fitting}
 use Rattle.row_walk.specs.declared.Plan.{Plan}
-use Rattle.store_writer.specs.Stores.{storeIn}
-use Rattle.store_writer.specs.Planned.{rowsAfter}
-use Rattle.store_writer.specs.Writing.{walkFrom}
-use Rattle.store_writer.proofs.StoreLaws.{holds}
-use Rattle.store_writer.proofs.RowBounds.{Bounded, rows-bounded}
+use Rattle.store_laws.specs.Stores.{storeIn}
+use Rattle.planned_rows.specs.Planned.{rowsAfter}
+use Rattle.planned_rows.specs.Walking.{walkFrom}
+use Rattle.store_laws.proofs.StoreLaws.{holds}
+use Rattle.store_laws.proofs.RowBounds.{Bounded, rows-bounded}
 use Rattle.definition_writer.specs.Bodies.{movedParticle, movedRow}
 use Rattle.definition_removal.specs.Bodies.{lowered, cutOut, particlesUpTo, attributesUpTo, eachRecord, particleRecord, attributeRecord, movedAttribute, Between, destroyed, headerLeft}
-use Rattle.store_writer.proofs.Encoded.{Encoded, encoded, bytes-are, others, definitions-at, particles-at, attributes-at}
+use Rattle.store_laws.proofs.Encoded.{Encoded, encoded, bytes-are, others, definitions-at, particles-at, attributes-at}
 use Rattle.definition_removal.specs.Shifting.{shifting}
 use Rattle.definition_removal.proofs.Again.{each-drop, each-take, cut-again, particle-again, attribute-again}
 use Rattle.definition_removal.proofs.KeptRows.{Old, bytes-old, kept-rows, moved-old}
 use Rattle.definition_removal.proofs.Left.{definitions-left, rows-left, few-particles, few-attributes}
-use Rattle.store_writer.proofs.StillLaws.{rows-still}
+use Rattle.planned_rows.proofs.StillLaws.{rows-still}
 use Rattle.layout.specs.Fields.{nextAt}
 use Rattle.definition_removal.specs.declared.Range.{Range}
 

@@ -21,16 +21,18 @@ use Rattle.layout.proofs.LayoutLaws.{width-within}
 use Rattle.lookup.specs.Bodies.{bodiesOf}
 use Rattle.store_check.proofs.AttributeBlocks.{below-or}
 use Rattle.row_walk.specs.declared.Plan.{Plan}
-use Rattle.store_writer.specs.Stores.{storeIn, limited}
-use Rattle.store_writer.specs.Planned.{plannedIn}
-use Rattle.store_writer.specs.Forms.{formBytes, formRead, Forms}
-use Rattle.store_writer.specs.Writing.{Sized}
-use Rattle.store_writer.proofs.StoreLaws.{Holds, holds}
+use Rattle.store_laws.specs.Stores.{storeIn}
+use Rattle.store_writer.specs.Writing.{limited}
+use Rattle.planned_rows.specs.Planned.{plannedIn}
+use Rattle.store_laws.specs.Forms.{formBytes, formRead, Forms}
+use Rattle.planned_rows.specs.Walking.{Sized}
+use Rattle.store_laws.proofs.StoreLaws.{Holds, holds}
 use Rattle.store_writer.proofs.CallLaws.{answers-as, passed}
-use Rattle.store_writer.proofs.FormBytesLaws.{form-short}
-use Rattle.store_writer.proofs.FormLaws.{FormOf, forms-of, form-answers, within, good-bodies, counted-attributes}
-use Rattle.store_writer.proofs.StoreFacts.{Whole, whole}
-use Rattle.store_writer.proofs.AttributeOwners.{unowned}
+use Rattle.store_laws.proofs.FormBytesLaws.{form-short}
+use Rattle.store_laws.proofs.FormLaws.{FormOf, forms-of, within, good-bodies, counted-attributes}
+use Rattle.store_writer.proofs.FormAnswers.{form-answers}
+use Rattle.store_check.proofs.StoreFacts.{Whole, whole}
+use Rattle.store_check.proofs.AttributeOwners.{unowned}
 use Rattle.plans.specs.AttributeCalls.{ownerAt, destroyAttributePlan, attributeDropped}
 use Rattle.plans.proofs.CallsPlanned.{none-holds}
 use Rattle.plans.proofs.FormsAfter.{dropped-form}

@@ -2,7 +2,7 @@
 use Prim.Native.Nat.{ℕ}
 use Rattle.rules.specs.Bytes.{Bytes}
 use Rattle.rules.specs.Layout.{FlatStore}
-use Rattle.store_writer.specs.Planned.{plannedIn}
+use Rattle.planned_rows.specs.Planned.{plannedIn}
 use Rattle.plans.specs.AttributeCalls.{ownerAt, destroyAttributePlan, attributeDropped}
 
 -- the bodies that change 10 leaves; any text, for none is used

@@ -7,7 +7,7 @@ ghost use lib.ListN.{length};
 ghost use Rattle.rules.specs.Change.{destroyAttribute};
 ghost use Rattle.rules.specs.Outcome.{outcome, Answers};
 ghost use Rattle.lookup.specs.Bodies.{bodiesOf};
-ghost use Rattle.store_writer.specs.Stores.{limited};
+ghost use Rattle.store_writer.specs.Writing.{limited};
 ghost use Rattle.plans.specs.AttributeCalls.{ownerAt};
 ghost use Rattle.attribute_writer.specs.Attributes.{Droppable};
 ghost use Rattle.destroy_attribute_call.specs.Dropped.{dropped};

@@ -20,10 +20,10 @@ use Rattle.rules.proofs.Words.{or-split}
 use Rattle.change_laws.proofs.Conditions.{first-append, conditions-numbered, not-past}
 use Rattle.layout.specs.Bodies.{WidthIn, Number, particlesIn, treeRowsIn}
 use Rattle.lookup.specs.Bodies.{bodiesOf}
-use Rattle.store_writer.specs.Stores.{storeIn}
-use Rattle.store_writer.proofs.StoreLaws.{holds}
+use Rattle.store_laws.specs.Stores.{storeIn}
+use Rattle.store_laws.proofs.StoreLaws.{holds}
 use Rattle.definition_removal.specs.Bodies.{isMember, isRoot, destroyed, Defined}
-use Rattle.store_writer.proofs.Encoded.{encoded}
+use Rattle.store_laws.proofs.Encoded.{encoded}
 use Rattle.definition_removal.proofs.Destroyed.{flat-destroyed}
 use Rattle.definition_removal.proofs.InUse.{used-in-models, used-as-root}
 use Rattle.definition_removal.proofs.Left.{particles-read, rows-read}

@@ -18,9 +18,9 @@ use Rattle.rules.proofs.BooleanLaws.{all-left, all-right}
 use Rattle.rules.proofs.LayoutLaws.{length-flatBytes}
 use Rattle.layout.specs.Bodies.{widthOf, WidthIn, Number}
 use Rattle.lookup.specs.Bodies.{bodiesOf}
-use Rattle.store_writer.proofs.StoreLaws.{width-of-bodies}
+use Rattle.store_laws.proofs.StoreLaws.{width-of-bodies}
 use Rattle.definition_writer.specs.Bodies.{movedParticle}
-use Rattle.store_writer.proofs.Encoded.{Encoded, encoded}
+use Rattle.store_laws.proofs.Encoded.{Encoded, encoded}
 use Rattle.definition_removal.specs.Bodies.{lowered, cutOut, particlesUpTo, CountWithin, destroyed}
 use Rattle.definition_removal.proofs.Left.{definitions-left, rows-left}
 use Rattle.call_laws.specs.Limits.{Limit}

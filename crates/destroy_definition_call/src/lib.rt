@@ -9,7 +9,7 @@ ghost use Rattle.rules.specs.Refusal.{first, conditions};
 ghost use Rattle.rules.specs.Outcome.{outcome, Answers};
 ghost use Rattle.layout.specs.Bodies.{widthOf};
 ghost use Rattle.lookup.specs.Bodies.{bodiesOf};
-ghost use Rattle.store_writer.specs.Stores.{storeIn};
+ghost use Rattle.store_laws.specs.Stores.{storeIn};
 ghost use Rattle.definition_removal.specs.Bodies.{Defined, destroyed};
 ghost use Rattle.call_laws.specs.Limits.{Limit};
 

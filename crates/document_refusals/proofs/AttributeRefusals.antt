@@ -32,19 +32,19 @@ use Rattle.store_check.proofs.IndexLaws.{known-index, index-once}
 use Rattle.store_check.proofs.AttributeBlocks.{Entry, Block, offset}
 use Rattle.store_check.proofs.AttributeRows.{rowWritten, index-written}
 use Rattle.store_check.proofs.ElementReads.{block}
-use Rattle.store_writer.specs.Stores.{storeIn}
+use Rattle.store_laws.specs.Stores.{storeIn}
 use Rattle.plans.proofs.AttributeIndices.{own-index, name-index}
 use Rattle.plans.specs.CallPlans.{attributeSerial}
 use Rattle.document_refusals.specs.Finding as flat
 use Rattle.document_refusals.specs.Finding.{AttributeRefused, rowIn, childrenAt}
 use Rattle.change_laws.specs.FirstCondition.{Gives}
 use Rattle.document_refusals.proofs.TreeLaws.{ofSort}
-use Rattle.store_writer.proofs.StoreFacts.{formIn, docsIn, byIndex, Whole, bad-text, fine-text}
+use Rattle.store_check.proofs.StoreFacts.{formIn, docsIn, byIndex, Whole, bad-text, fine-text}
 use Rattle.document_refusals.proofs.ElementFacts.{Element, NoElement, defined, children-at, any-found}
 use Rattle.document_refusals.proofs.ElementsAfter.{ok}
 use Rattle.document_refusals.proofs.AttributesAfter.{drop-conforms, set-conforms}
 use Rattle.change_laws.proofs.FirstCondition.{gives-hit, gives-next, gives-none}
-use Rattle.store_writer.proofs.AttributeOwners.{owned, unowned}
+use Rattle.store_check.proofs.AttributeOwners.{owned, unowned}
 use Rattle.lookup.proofs.Laws.{some-same}
 use Rattle.change_laws.proofs.InstanceRows.{keep-no, keep-yes}
 use Rattle.rules.proofs.ConformingLaws.{is-element}

@@ -30,11 +30,11 @@ use Rattle.lookup.proofs.Laws.{from-step, from-none, some-same}
 use Rattle.store_check.proofs.IndexLaws.{Indexed, known-index}
 use Rattle.store_check.proofs.AttributeBlocks.{below-or}
 use Rattle.store_check.proofs.AttributeRows.{rowWritten}
-use Rattle.store_writer.specs.Stores.{storeIn}
+use Rattle.store_laws.specs.Stores.{storeIn}
 use Rattle.document_refusals.specs.Finding.{Begins, ElementRowAt, ParentAt, children, elementRowWith, isThis, isParent, Test, seek, serialIn, childrenAt}
 use Rattle.document_refusals.proofs.SuffixLaws.{rowAt}
 use Rattle.document_refusals.proofs.TreeLaws.{ofSort, Located, located-children, seek-tree}
-use Rattle.store_writer.proofs.StoreFacts.{formIn, docsIn, Whole}
+use Rattle.store_check.proofs.StoreFacts.{formIn, docsIn, Whole}
 use Rattle.plans.proofs.FollowingLaws.{element-code}
 use Rattle.document_refusals.proofs.AttributeTests.{first-same, not-nil}
 use Rattle.rules.proofs.ConformingLaws.{is-element}

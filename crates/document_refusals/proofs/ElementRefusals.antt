@@ -26,10 +26,10 @@ use Rattle.change_laws.proofs.StandingLaws.{serialOf, standing-child, standing-
 use Rattle.model.specs.Steps.{runs}
 use Rattle.store_check.proofs.AttributeBlocks.{below-or}
 use Rattle.store_check.proofs.IndexLaws.{name-of}
-use Rattle.store_writer.specs.Stores.{storeIn}
+use Rattle.store_laws.specs.Stores.{storeIn}
 use Rattle.document_refusals.specs.Finding.{ElementRowAt, ParentAt, childrenAt, modelAt, rowDefinitionKind, fitsAt, hasPlace, serialIn, word}
 use Rattle.change_laws.specs.FirstCondition.{Gives}
-use Rattle.store_writer.proofs.StoreFacts.{formIn, docsIn, byIndex, Whole}
+use Rattle.store_check.proofs.StoreFacts.{formIn, docsIn, byIndex, Whole}
 use Rattle.document_refusals.proofs.ElementFacts.{Element, NoElement, element-absent, Parent, parent-there, parent-absent, defined, elements-at, texts-at, serials-at}
 use Rattle.document_refusals.proofs.ElementTests.{putAt}
 use Rattle.document_refusals.proofs.ElementsAfter.{ok, add-conforms, destroy-conforms, root-conforms}

@@ -13,11 +13,11 @@ use Rattle.rules.specs.Change.{addDocument, setText}
 use Rattle.rules.specs.Refusal.{conditions, isPcdata, pcdataElement}
 use Rattle.layout.specs.Bodies.{widthOf, WidthIn, Number, definitionsIn, treeRowsIn}
 use Rattle.form_index.specs.Reading.{definitionIn}
-use Rattle.store_writer.specs.Stores.{storeIn}
+use Rattle.store_laws.specs.Stores.{storeIn}
 use Rattle.document_refusals.specs.Finding.{ElementRowAt, ParentAt, RowOf, rowDefinitionKind}
 use Rattle.change_laws.specs.FirstCondition.{Gives}
 use Rattle.document_refusals.proofs.SuffixLaws.{rowAt}
-use Rattle.store_writer.proofs.StoreFacts.{formIn, Whole, bad-text, fine-text, past-definitions, within-definitions}
+use Rattle.store_check.proofs.StoreFacts.{formIn, Whole, bad-text, fine-text, past-definitions, within-definitions}
 use Rattle.document_refusals.proofs.ElementFacts.{Element, NoElement, element-there, element-absent, parent-there, defined}
 use Rattle.change_laws.proofs.FirstCondition.{gives-hit, gives-next, gives-none}
 

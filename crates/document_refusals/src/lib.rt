@@ -13,7 +13,7 @@ ghost use Rattle.rules.specs.Layout.{rowSize};
 ghost use Rattle.rules.specs.Decode.{readRow};
 ghost use Rattle.layout.specs.Bodies.{Width, widthOf, recordAt, attributesIn, treeRowsIn};
 ghost use Rattle.form_index.specs.Reading.{attributeIn};
-ghost use Rattle.store_writer.specs.Stores.{storeIn};
+ghost use Rattle.store_laws.specs.Stores.{storeIn};
 ghost use Rattle.plans.specs.CallPlans.{attributeSerial};
 ghost use Rattle.model.specs.Members.{allMembers};
 ghost use Rattle.model.specs.Steps.{steps, finishes, runs};

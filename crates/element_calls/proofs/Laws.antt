@@ -13,11 +13,11 @@ use Rattle.rules.specs.Refusal.{first, conditions, noElement}
 use Rattle.rules.proofs.DecodeLaws.{good-parts}
 use Rattle.change_laws.proofs.Conditions.{not-past}
 use Rattle.row_walk.specs.declared.Plan.{Plan}
-use Rattle.store_writer.specs.Stores.{storeIn}
-use Rattle.store_writer.specs.Writing.{Sized}
-use Rattle.store_writer.proofs.StoreLaws.{Holds, holds}
+use Rattle.store_laws.specs.Stores.{storeIn}
+use Rattle.planned_rows.specs.Walking.{Sized}
+use Rattle.store_laws.proofs.StoreLaws.{Holds, holds}
 use Rattle.store_writer.proofs.CallLaws.{passed}
-use Rattle.store_writer.proofs.StoreFacts.{value-given}
+use Rattle.store_check.proofs.StoreFacts.{value-given}
 use Rattle.plans.specs.CallPlans.{childSerial, addDocumentPlan, addElementPlan}
 use Rattle.plans.proofs.CallsPlanned.{none-holds}
 use Rattle.call_laws.proofs.Calls.{unmoved-small, Asks}

@@ -25,10 +25,11 @@ use Rattle.row_walk.specs.declared.Plan.{Plan}
 use Rattle.model_writer.specs.PartAfter.{suits, renameEdit, inserts}
 use Rattle.model_writer.specs.declared.Edit.{Edit as EditCode}
 use Rattle.model_writer.specs.Writing.{editOf}
-use Rattle.store_writer.specs.Stores.{storeIn, limited}
-use Rattle.store_writer.specs.Planned.{plannedIn}
-use Rattle.store_writer.specs.Writing.{Sized}
-use Rattle.store_writer.proofs.StoreLaws.{holds}
+use Rattle.store_laws.specs.Stores.{storeIn}
+use Rattle.store_writer.specs.Writing.{limited}
+use Rattle.planned_rows.specs.Planned.{plannedIn}
+use Rattle.planned_rows.specs.Walking.{Sized}
+use Rattle.store_laws.proofs.StoreLaws.{holds}
 use Rattle.store_writer.proofs.CallLaws.{answers-as}
 use Rattle.plans.specs.CallPlans.{settingPlan}
 use Rattle.plans.proofs.CallsPlanned.{none-holds}

@@ -26,8 +26,8 @@ use Rattle.model.specs.declared.place.Found.the-variants.{At, Absent}
 use Rattle.model.specs.Members.{membersFrom}
 use Rattle.model.specs.Places.{placeIn}
 use Rattle.model_writer.proofs.PartAfter.{has-named}
-use Rattle.store_writer.specs.Stores.{storeIn}
-use Rattle.store_writer.proofs.StoreFacts.{formIn}
+use Rattle.store_laws.specs.Stores.{storeIn}
+use Rattle.store_check.proofs.StoreFacts.{formIn}
 use Rattle.change_laws.specs.FirstCondition.{Gives}
 use Rattle.change_laws.proofs.FirstCondition.{gives-hit, gives-next, gives-none}
 use Rattle.model_places.specs.Placing.{indexOfName, partIn, Placed}

@@ -19,8 +19,8 @@ use Rattle.rules.specs.Edit.{lone, sameKind, isOne, flatten}
 use Rattle.rules.specs.Change.{flattenGroup}
 use Rattle.rules.specs.Refusal.{_if_, first, conditions, foundAt, noGroupAt, atPlace, onGroup, flattenUnlike}
 use Rattle.model.specs.declared.place.Holder.{Holder}
-use Rattle.store_writer.specs.Stores.{storeIn}
-use Rattle.store_writer.proofs.StoreFacts.{formIn}
+use Rattle.store_laws.specs.Stores.{storeIn}
+use Rattle.store_check.proofs.StoreFacts.{formIn}
 use Rattle.change_laws.specs.FirstCondition.{Gives}
 use Rattle.change_laws.proofs.FirstCondition.{gives-hit, gives-next}
 use Rattle.model_places.specs.Placing.{modelIn, foundBy, ElementAt, GroupAt}

@@ -17,7 +17,7 @@ ghost use Rattle.rules.specs.Passing.{passes};
 ghost use Rattle.rules.specs.Change.{convertToGroup, flattenGroup};
 ghost use Rattle.rules.specs.Refusal.{_if_, first, conditions};
 ghost use Rattle.model.specs.Members.{membersFrom};
-ghost use Rattle.store_writer.specs.Stores.{storeIn};
+ghost use Rattle.store_laws.specs.Stores.{storeIn};
 ghost use Rattle.change_laws.specs.FirstCondition.{Gives};
 ghost use Rattle.model_places.specs.Placing.{Finds};
 ghost use Rattle.group_refusals.specs.Grouping.{unlikeKind, convertTests};

@@ -30,16 +30,17 @@ use Rattle.store_check.proofs.IndexLaws.{name-index}
 use Rattle.model_writer.specs.PartAfter.{renameEdit}
 use Rattle.model_writer.specs.declared.Edit.the-variants.{Insert}
 use Rattle.model_writer.specs.Writing.{editOf}
-use Rattle.store_writer.specs.Stores.{storeIn, limited}
-use Rattle.store_writer.specs.Planned.{plannedIn}
-use Rattle.store_writer.specs.Writing.{Sized}
-use Rattle.store_writer.proofs.StoreLaws.{holds}
+use Rattle.store_laws.specs.Stores.{storeIn}
+use Rattle.store_writer.specs.Writing.{limited}
+use Rattle.planned_rows.specs.Planned.{plannedIn}
+use Rattle.planned_rows.specs.Walking.{Sized}
+use Rattle.store_laws.proofs.StoreLaws.{holds}
 use Rattle.store_writer.proofs.CallLaws.{answers-as}
 use Rattle.plans.specs.ModelCalls.{insertElementPlan}
 use Rattle.plans.proofs.CallsPlanned.{none-holds}
 use Rattle.plans.proofs.ModelCallsPlanned.{insert-element-planned}
 use Rattle.model_places.specs.Placing.{indexOfName, partIn, Placed}
-use Rattle.store_writer.proofs.StoreFacts.{value-given}
+use Rattle.store_check.proofs.StoreFacts.{value-given}
 use Rattle.model_places.proofs.PlaceLaws.{found-insert}
 use Rattle.place_marks.specs.Marking.{marksAt}
 use Rattle.place_marks.proofs.MarkLaws.{gap-marked}

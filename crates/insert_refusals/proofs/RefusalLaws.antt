@@ -27,8 +27,8 @@ use Rattle.model.specs.declared.place.Found.{Found}
 use Rattle.model.specs.declared.place.Found.the-variants.{At, Absent}
 use Rattle.model.specs.Places.{placeIn}
 use Rattle.form_index.specs.Reading.{definitionIn}
-use Rattle.store_writer.specs.Stores.{storeIn}
-use Rattle.store_writer.proofs.StoreFacts.{formIn, bad-text, fine-text, past-definitions, within-definitions}
+use Rattle.store_laws.specs.Stores.{storeIn}
+use Rattle.store_check.proofs.StoreFacts.{formIn, bad-text, fine-text, past-definitions, within-definitions}
 use Rattle.change_laws.specs.FirstCondition.{Gives}
 use Rattle.change_laws.proofs.FirstCondition.{gives-hit, gives-next, gives-none}
 use Rattle.instance_search.specs.Instances.{instanceRow}

@@ -13,7 +13,7 @@ ghost use Rattle.rules.specs.Passing.{passes};
 ghost use Rattle.rules.specs.Edit.{sameKind};
 ghost use Rattle.rules.specs.Change.{insertElement};
 ghost use Rattle.rules.specs.Refusal.{first, conditions};
-ghost use Rattle.store_writer.specs.Stores.{storeIn};
+ghost use Rattle.store_laws.specs.Stores.{storeIn};
 ghost use Rattle.model_places.specs.Placing.{modelIn, foundBy, Finds};
 ghost use Rattle.insert_refusals.specs.Inserting.{modelConditions, placeConditions};
 

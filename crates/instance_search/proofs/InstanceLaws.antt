@@ -21,8 +21,8 @@ use Rattle.layout.specs.Bodies.{widthOf, WidthIn, Number, treeRowsIn}
 use Rattle.lookup.proofs.Laws.{from-all}
 use Rattle.rules.proofs.BooleanLaws.{any-append}
 use Rattle.store_check.proofs.IndexLaws.{index-same}
-use Rattle.store_writer.specs.Stores.{storeIn}
-use Rattle.store_writer.proofs.StoreFacts.{formIn, docsIn, Whole}
+use Rattle.store_laws.specs.Stores.{storeIn}
+use Rattle.store_check.proofs.StoreFacts.{formIn, docsIn, Whole}
 use Rattle.instance_search.specs.Instances.{instanceRow}
 
 module _ (version : ℕ) (form : Form) (once : Distinct (map definitionName form)) (i : ℕ) (h : i < length form) where

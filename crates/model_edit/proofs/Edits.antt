@@ -31,11 +31,11 @@ use Rattle.model_writer.specs.Writing.{EditPart}
 use Rattle.model_writer.specs.Writing as writing
 use Rattle.model_writer.proofs.FormAfter.{reformed}
 use Rattle.model_writer.proofs.EditedStore.{edit-flat, edit-length, edit-body}
-use Rattle.store_writer.specs.Stores.{storeIn}
-use Rattle.store_writer.proofs.StoreLaws.{holds}
-use Rattle.store_writer.proofs.FormLaws.{bareForm}
-use Rattle.store_writer.proofs.FormBytesLaws.{Few, few-of, few-particles}
-use Rattle.store_writer.proofs.Encoded.{encoded}
+use Rattle.store_laws.specs.Stores.{storeIn}
+use Rattle.store_laws.proofs.StoreLaws.{holds}
+use Rattle.store_laws.proofs.FormLaws.{bareForm}
+use Rattle.store_laws.proofs.FormBytesLaws.{Few, few-of, few-particles}
+use Rattle.store_laws.proofs.Encoded.{encoded}
 use Rattle.model_places.specs.Placing.{indexOfName, modelIn, partIn}
 use Rattle.model_places.proofs.PlaceLaws.{present-at}
 use Rattle.model_edit.specs.Editing.{startIn, modelLength, partEdited, formEdited, Edits}

@@ -31,12 +31,13 @@ use Rattle.model_writer.specs.PartAfter.{suits, renameEdit, inserts}
 use Rattle.model_writer.specs.declared.Edit.{Edit as EditCode}
 use Rattle.model_writer.specs.Writing.{editOf}
 use Rattle.model_writer.proofs.FormAfter.{reformed}
-use Rattle.store_writer.specs.Stores.{storeIn, limited}
-use Rattle.store_writer.specs.Planned.{plannedIn}
-use Rattle.store_writer.proofs.StoreLaws.{holds}
+use Rattle.store_laws.specs.Stores.{storeIn}
+use Rattle.store_writer.specs.Writing.{limited}
+use Rattle.planned_rows.specs.Planned.{plannedIn}
+use Rattle.store_laws.proofs.StoreLaws.{holds}
 use Rattle.store_writer.proofs.CallLaws.{answers-as, answers-written}
 use Rattle.plans.specs.Bodies as plans
-use Rattle.store_writer.proofs.Encoded.{encoded}
+use Rattle.store_laws.proofs.Encoded.{encoded}
 use Rattle.model_places.specs.Placing.{indexOfName, modelIn, partIn, foundBy, Placed}
 use Rattle.model_places.proofs.PickLaws.{around, from-there, read-there}
 use Rattle.model_edit.specs.Editing.{formEdited, Edits}

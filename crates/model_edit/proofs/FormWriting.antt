@@ -35,12 +35,12 @@ use Rattle.model_writer.specs.Writing.{EditPart, depthsWithin}
 use Rattle.model_writer.specs.Writing as writing
 use Rattle.model_writer.specs.declared.Edit.{Edit as EditCode}
 use Rattle.model_writer.proofs.CountedBytes.{counted-bytes}
-use Rattle.store_writer.specs.Forms.{formBytes}
-use Rattle.store_writer.proofs.FormLaws.{bareForm, FormOf, forms-of}
-use Rattle.store_writer.proofs.FormBytesLaws.{Few, few-of, few-particles}
-use Rattle.store_writer.proofs.FormBytesLaws as bytes
+use Rattle.store_laws.specs.Forms.{formBytes}
+use Rattle.store_laws.proofs.FormLaws.{bareForm, FormOf, forms-of}
+use Rattle.store_laws.proofs.FormBytesLaws.{Few, few-of, few-particles}
+use Rattle.store_laws.proofs.FormBytesLaws as bytes
 use Rattle.plans.proofs.FormsAfter.{spliced-form, counted-length}
-use Rattle.store_writer.proofs.Encoded.{Encoded, encoded, definitions-at, attributes-at}
+use Rattle.store_laws.proofs.Encoded.{Encoded, encoded, definitions-at, attributes-at}
 use Rattle.model_places.specs.Placing.{partIn}
 use Rattle.model_edit.specs.Editing.{startIn, modelLength, partEdited, formEdited, Edits}
 use Rattle.model_edit.proofs.OwnParts.{start-is, count-is, own-is, parts-are, particles-are}

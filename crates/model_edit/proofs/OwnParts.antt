@@ -1,7 +1,7 @@
 -- The bodies of a store that passes, as the code reads them, and where a definition's particles stand in them.
 use Prim.Native.Nat.{ℕ, zero, suc, _+_, _*_, _/_, _<_, _≤_}
 use native.Mathlib.Omega.{arith}
-use mathlib.Core.Path.{_≡_, refl, sym, ap, _∙_, subst}
+use mathlib.Core.Path.{_≡_, refl, sym, ap, _∙_}
 use mathlib.Core.Bool.{true}
 use mathlib.Core.List.{List, [], _∷_}
 use lib.ListN.{length, drop, getD, length-map, length-take}
@@ -9,8 +9,6 @@ use Rattle.rules.specs.Bytes.{Bytes}
 use Rattle.rules.specs.Layout.{particleSize, FlatDefinition, FlatStore, definitionSize, flat, flatDefinition, particleBytes, each}
 use Rattle.rules.specs.Decode.{readMany, readDefinition, readParticle, definitionCount, particleCount}
 use Rattle.rules.specs.Passing.{passes}
-use Rattle.rules.proofs.LayoutLaws.{Small}
-use Rattle.rules.proofs.SmallBytes.{encode-small}
 use Rattle.codec.proofs.Records.{many-at}
 use Rattle.model.specs.Members.{particlesOf}
 use Rattle.form_check.specs.Bodies.{definitions, particlesRead}
@@ -18,14 +16,15 @@ use Rattle.form_index.specs.Reading.{particlesBefore, modelPart}
 use Rattle.store_check.specs.Reading.{noFlatDefinition}
 use Rattle.layout.specs.Bodies.{definitionsIn, particlesIn}
 use Rattle.store_check.proofs.Parts.{before, before-is}
-use Rattle.store_check.proofs.StringChecks.{Headed, laid-in, passes-header, same-definitions, same-particles}
+use Rattle.store_check.proofs.StringChecks.{Headed, laid-in, same-definitions, same-particles}
+use Rattle.store_check.proofs.StoreFacts.{headed-of}
 use Rattle.lookup.specs.Bodies.{bodiesOf}
 use Rattle.model_writer.specs.Spliced.{startOf, countOf}
 use Rattle.model_writer.specs.Writing as writing
 use Rattle.model_writer.proofs.WritingLaws.{whole}
-use Rattle.store_writer.specs.Stores.{storeIn}
-use Rattle.store_writer.proofs.StoreLaws.{Holds, holds}
-use Rattle.store_writer.proofs.Encoded.{Encoded, encoded}
+use Rattle.store_laws.specs.Stores.{storeIn}
+use Rattle.store_laws.proofs.StoreLaws.{holds}
+use Rattle.store_laws.proofs.Encoded.{Encoded, encoded}
 use Rattle.model_places.specs.Placing.{partIn}
 use Rattle.model_edit.specs.Editing.{startIn, modelLength}
 use Rattle.model_writer.proofs.EditedStore.{own-inside as within-all}
@@ -46,7 +45,7 @@ count-at (suc o) (d ∷ ds) = count-at o ds
 
 module _ (bs : Bytes) (q : passes bs ≡ true) where
   headed : Headed bs
-  headed = let h : Holds bs = holds bs q in record { small = subst Small (h .written) (encode-small (storeIn bs) (h .good)); header = passes-header bs q }
+  headed = headed-of q
 
   pub particles-are : particlesOf (particlesIn bs) ≡ bodiesOf bs .particles
   unfolding particlesOf particlesRead bodiesOf

@@ -16,11 +16,11 @@ ghost use Rattle.layout.specs.Bodies.{widthOf, mostForm};
 ghost use Rattle.lookup.specs.Bodies.{bodiesOf};
 ghost use Rattle.model_writer.specs.PartAfter.{lengthAfter};
 ghost use Rattle.model_writer.specs.Writing.{editOf};
-ghost use Rattle.store_writer.specs.Stores.{limited};
-ghost use Rattle.store_writer.specs.Planned.{plannedIn};
-ghost use Rattle.store_writer.specs.Forms.{formBytes};
-ghost use Rattle.store_writer.specs.Writing.{Sized};
-ghost use Rattle.store_writer.proofs.FormLaws.{bareForm};
+ghost use Rattle.store_writer.specs.Writing.{limited};
+ghost use Rattle.planned_rows.specs.Planned.{plannedIn};
+ghost use Rattle.store_laws.specs.Forms.{formBytes};
+ghost use Rattle.planned_rows.specs.Walking.{Sized};
+ghost use Rattle.store_laws.proofs.FormLaws.{bareForm};
 ghost use Rattle.model_edit.specs.Editing.{formEdited, modelLength, Edits};
 
 // How many particles a model of n has after an edit.

@@ -12,8 +12,6 @@ use Rattle.rules.specs.Layout.{particleSize, FlatDefinition, FlatStore, indexOf
 use Rattle.rules.specs.Decode.{readParticle, readMany, readMembers, unflat, definitionCount}
 use Rattle.rules.specs.Change.{definitionAt}
 use Rattle.rules.specs.Passing.{passes}
-use Rattle.rules.proofs.LayoutLaws.{Small}
-use Rattle.rules.proofs.SmallBytes.{encode-small}
 use Rattle.codec.proofs.Strings.{part-there}
 use Rattle.model.specs.Members.{particlesOf}
 use Rattle.model.specs.Places.{Particles}
@@ -31,12 +29,11 @@ use Rattle.store_check.proofs.FormReads.{form-size, form-apart, model-at, membe
 use Rattle.store_check.proofs.Parts.{before, part-cut}
 use Rattle.store_check.proofs.FormLaws.{Laid, fields-fit}
 use Rattle.store_check.proofs.IndexReads.{definition-in, before-in, room-in, index-agrees}
-use Rattle.store_check.proofs.StringChecks.{Headed, laid-in, passes-header, passes-in, same-form}
+use Rattle.store_check.proofs.StringChecks.{Headed, laid-in, passes-in, same-form}
 use Rattle.lookup.specs.Bodies.{bodiesOf}
 use Rattle.layout.specs.Bodies.{widthOf, definitionsIn, particlesIn}
-use Rattle.store_writer.specs.Stores.{storeIn}
-use Rattle.store_writer.proofs.StoreLaws.{Holds, holds}
-use Rattle.store_writer.proofs.StoreFacts.{formIn, byIndex}
+use Rattle.store_laws.specs.Stores.{storeIn}
+use Rattle.store_check.proofs.StoreFacts.{formIn, byIndex, headed-of}
 
 module _ {w n : ℕ} {defs : Bytes} {p : ℕ} {parts : Bytes} {a : ℕ} {attrs : Bytes} (laid : Laid w n defs p parts a attrs) (x : FormPasses w n defs p parts a attrs) where
   abbrev f : FlatStore
@@ -76,8 +73,7 @@ pub own-particles : (bs : Bytes) → passes bs ≡ true → (o : ℕ) → o < de
     → particlesOf (modelPart (definitionsIn bs) (particlesIn bs) o) ≡ spread 0 (rename (λ m. indexOf m (formIn bs)) (members (definitionAt o (formIn bs))))
 unfolding storeIn bodiesOf widthOf
 own-particles bs q o l =
-    let h : Holds bs = holds bs q in
-    let d : Headed bs = record { small = subst Small (h .written) (encode-small (storeIn bs) (h .good)); header = passes-header bs q } in
+    let d : Headed bs = headed-of q in
     let form = passes-in d (byIndex bs) (λ x. index-agrees (laid-in d) (x .passes) _) .0 q .0 in
     subst (λ (z : Form). particlesOf (modelPart (definitionsIn bs) (particlesIn bs) o) ≡ spread 0 (rename (λ m. indexOf m z) (members (definitionAt o z)))) (sym (same-form d))
     (own-in (laid-in d) (form .passes) o l)

@@ -34,7 +34,7 @@ use Rattle.model.proofs.PositionLaws.{spread-plug, length-leading}
 use Rattle.form_index.specs.Reading.{definitionIn, particlesBefore, modelPart}
 use Rattle.layout.specs.Bodies.{shapeOf, particleBody, definitionsIn, particlesIn}
 use Rattle.change_laws.specs.FirstCondition.{Gives}
-use Rattle.store_writer.proofs.Encoded.{encoded}
+use Rattle.store_laws.proofs.Encoded.{encoded}
 use Rattle.model_places.specs.declared.Located.{Located}
 use Rattle.model_places.specs.declared.Picked.{Picked}
 use Rattle.model_places.specs.declared.Picked.the-variants as pick

@@ -32,7 +32,7 @@ use Rattle.model.proofs.FindLaws.{found-placed}
 use Rattle.model.proofs.PositionLaws.{place-spot, spread-plug, length-leading}
 use Rattle.model.proofs.WrittenLaws.{particles-written, members-written}
 use Rattle.model.proofs.NamedPlaces.{renameFound, find-gap-named, find-nth-named}
-use Rattle.store_writer.specs.Stores.{storeIn}
+use Rattle.store_laws.specs.Stores.{storeIn}
 use Rattle.model_places.specs.Placing.{indexOfName, modelIn, partIn, leads, foundBy, Placed}
 use Rattle.model_places.proofs.OwnParts.{own-particles}
 use Rattle.rules.proofs.ConformingLaws.{none-some}

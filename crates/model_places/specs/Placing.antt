@@ -24,7 +24,7 @@ use Rattle.model.specs.Places.{top, placeIn}
 use Rattle.model.specs.Positions.{spread, offset, holder}
 use Rattle.form_index.specs.Reading.{modelPart}
 use Rattle.layout.specs.Bodies.{definitionsIn, particlesIn}
-use Rattle.store_writer.specs.Stores.{storeIn}
+use Rattle.store_laws.specs.Stores.{storeIn}
 use Rattle.model_places.specs.declared.Located.{Located}
 use Rattle.model_places.specs.declared.Picked.{Picked}
 use Rattle.model_places.specs.declared.Picked.the-variants as pick

@@ -9,8 +9,6 @@ use Rattle.rules.specs.Store.{Form}
 use Rattle.rules.specs.Layout.{particleSize}
 use Rattle.rules.specs.Decode.{definitionCount, particleCount}
 use Rattle.rules.specs.Passing.{passes}
-use Rattle.rules.proofs.LayoutLaws.{Small}
-use Rattle.rules.proofs.SmallBytes.{encode-small}
 use Rattle.codec.proofs.Strings.{part-there}
 use Rattle.lookup.specs.Bodies.{bodiesOf}
 use Rattle.layout.specs.Bodies.{widthOf, definitionsIn, particlesIn}
@@ -19,10 +17,10 @@ use Rattle.circle_check.specs.Members as circles
 use Rattle.circle_check.proofs.CircleLaws.{Indexed}
 use Rattle.form_index.specs.Reading.{definitionIn, particlesBefore, modelPart}
 use Rattle.store_check.proofs.FormLaws.{members-indexed, part-room}
-use Rattle.store_check.proofs.StringChecks.{Headed, laid-in, passes-header, passes-in, same-form}
+use Rattle.store_check.proofs.StringChecks.{Headed, laid-in, passes-in, same-form}
 use Rattle.store_check.proofs.IndexReads.{index-agrees}
-use Rattle.store_writer.specs.Stores.{storeIn}
-use Rattle.store_writer.proofs.StoreFacts.{formIn, byIndex, Whole, whole}
+use Rattle.store_laws.specs.Stores.{storeIn}
+use Rattle.store_check.proofs.StoreFacts.{formIn, byIndex, headed-of, Whole, whole}
 
 -- ---- one part of the particles, read in two ways
 module _ (defs : Bytes) where
@@ -50,7 +48,7 @@ pub reads : (bs : Bytes) → passes bs ≡ true → Reads bs
 unfolding storeIn bodiesOf widthOf
 reads bs q =
     let w : Whole bs = whole bs q in
-    let d : Headed bs = record { small = subst Small (w .holds .written) (encode-small (storeIn bs) (w .holds .good)); header = passes-header bs q } in
+    let d : Headed bs = headed-of q in
     let form = passes-in d (byIndex bs) (λ x. index-agrees (laid-in d) (x .passes) _) .0 q .0 in
     record {
       whole = w;

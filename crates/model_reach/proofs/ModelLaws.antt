@@ -22,9 +22,9 @@ use Rattle.circle_check.proofs.CircleLaws.{members-named}
 use Rattle.form_index.specs.Reading.{modelPart}
 use Rattle.store_check.proofs.IndexLaws.{namesOf, lookup-at, name-of}
 use Rattle.store_check.proofs.ElementReads.{same-names}
-use Rattle.store_writer.specs.Stores.{storeIn}
+use Rattle.store_laws.specs.Stores.{storeIn}
 use Rattle.layout.specs.Bodies.{Number, definitionsIn, particlesIn}
-use Rattle.store_writer.proofs.StoreFacts.{formIn, byIndex}
+use Rattle.store_check.proofs.StoreFacts.{formIn, byIndex}
 use Rattle.model_reach.specs.Reach.{standsInModel, comesRound}
 use Rattle.model_reach.proofs.FormFacts.{Reads}
 use Rattle.model_reach.proofs.ReachLaws.{avoided}

@@ -7,7 +7,7 @@ ghost use Rattle.rules.specs.Bytes.{all};
 ghost use Rattle.rules.specs.Decode.{definitionCount};
 ghost use Rattle.rules.specs.Passing.{passes};
 ghost use Rattle.circle_check.specs.Members.{elementsOf};
-ghost use Rattle.store_writer.specs.Stores.{storeIn};
+ghost use Rattle.store_laws.specs.Stores.{storeIn};
 ghost use Rattle.model_reach.specs.Reach.{standsInModel, comesRound};
 
 // Whether no element among the particles has the index i.

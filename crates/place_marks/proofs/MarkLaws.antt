@@ -33,9 +33,9 @@ use Rattle.model.specs.Positions.{groupParticle, spread, count, leading, traili
 use Rattle.model.proofs.ParticleLaws.{length-particles, particles-drop, particles-take}
 use Rattle.model.proofs.PositionLaws.{length-spread, spread-plug, length-leading}
 use Rattle.store_check.proofs.IndexLaws.{namesOf, definition-in, index-same}
-use Rattle.store_writer.specs.Stores.{storeIn}
+use Rattle.store_laws.specs.Stores.{storeIn}
 use Rattle.plans.specs.ModelCalls.{Marked}
-use Rattle.store_writer.proofs.StoreFacts.{formIn, Whole, whole}
+use Rattle.store_check.proofs.StoreFacts.{formIn, Whole, whole}
 use Rattle.model_places.specs.Placing.{indexOfName, modelIn, partIn, Placed}
 use Rattle.model_places.proofs.PlaceLaws.{found-right}
 use Rattle.model_writer.proofs.HeadAfter.{depth-holder}

@@ -39,7 +39,7 @@ use Rattle.row_walk.specs.declared.Which.the-variants.{Elements, Attributes}
 use Rattle.row_walk.specs.declared.Later.the-variants.{Past}
 use Rattle.row_walk.specs.declared.Plan.{Plan}
 use Rattle.row_walk.specs.Walk.{matches, isLater}
-use Rattle.store_writer.specs.Planned.{fillOf, plannedIn}
+use Rattle.planned_rows.specs.Planned.{fillOf, plannedIn}
 use Rattle.plans.specs.Trees.{documentsWalk}
 use Rattle.plans.specs.Bodies.{HoldsForm}
 use Rattle.plans.specs.Following.{RowFollows}

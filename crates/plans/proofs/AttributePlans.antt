@@ -29,7 +29,7 @@ use Rattle.row_walk.specs.declared.Which.the-variants.{Serial, Attributes}
 use Rattle.row_walk.specs.declared.Later.the-variants.{Past}
 use Rattle.row_walk.specs.declared.Plan.{Plan}
 use Rattle.row_walk.specs.Walk.{matches, isLater}
-use Rattle.store_writer.specs.Planned.{fillOf}
+use Rattle.planned_rows.specs.Planned.{fillOf}
 use Rattle.plans.specs.Following.{Does}
 use Rattle.plans.specs.CallPlans.{unmarked, settingPlan, setAttributePlan, destroyAttributeRowPlan}
 use Rattle.plans.proofs.TreePlans.{documents-follow}

@@ -20,7 +20,7 @@ use Rattle.row_walk.specs.declared.Which.the-variants.{Serial}
 use Rattle.row_walk.specs.declared.Later.the-variants.{Past}
 use Rattle.row_walk.specs.declared.Plan.{Plan}
 use Rattle.row_walk.specs.Walk.{matches}
-use Rattle.store_writer.specs.Planned.{planned}
+use Rattle.planned_rows.specs.Planned.{planned}
 use Rattle.plans.specs.Following.{Does}
 use Rattle.plans.specs.CallPlans.{childSerial, attributeSerial, textSerial, fillingPlan, settingPlan, addDocumentPlan, addElementPlan, destroyElementPlan}
 use Rattle.plans.specs.CallPlans.{setAttributePlan, destroyAttributeRowPlan, setTextPlan}

@@ -23,7 +23,7 @@ use Rattle.filling.specs.declared.Filling.the-variants.{Definition}
 use Rattle.row_walk.specs.declared.Which.the-variants.{Everything, Ground, Serial}
 use Rattle.row_walk.specs.declared.Later.the-variants as later
 use Rattle.row_walk.specs.declared.Plan.{Plan}
-use Rattle.store_writer.specs.Planned.{fillOf}
+use Rattle.planned_rows.specs.Planned.{fillOf}
 use Rattle.plans.specs.Following.{Does}
 use Rattle.plans.specs.CallPlans.{settingPlan, childSerial, textSerial, addDocumentPlan, addElementPlan, destroyElementPlan, setTextPlan}
 use Rattle.plans.proofs.Fillings.{filling-index}

@@ -31,7 +31,7 @@ use Rattle.store_check.proofs.FormGood.{form-agrees, good-bodies, good-fields}
 use Rattle.filling.specs.declared.Filling.the-variants.{Definition}
 use Rattle.filling.specs.Fillings.{newElement, newAttributeRow, requiredRows, fillingsOf, contentRows, fillIndex, fillingRows}
 use Rattle.filling.specs.Parts.{valueOf}
-use Rattle.store_writer.specs.Planned.{membersAt}
+use Rattle.planned_rows.specs.Planned.{membersAt}
 
 -- ---- forests side by side
 pub flatten-beside : {A : Type 0} (d : ℕ) (f g : Forest A) → flatten d (f ⧺ g) ≡ flatten d f ++ flatten d g

@@ -10,7 +10,7 @@ use Rattle.rules.specs.Layout.{FlatRow, FlatStore, indexed, flat}
 use Rattle.rules.specs.Change.{Call, formAfter, docsAfter, after}
 use Rattle.row_writer.specs.Written.{newIn, numbered}
 use Rattle.row_walk.specs.declared.Plan.{Plan}
-use Rattle.store_writer.specs.Planned.{fillOf, rowsAfter, plannedIn}
+use Rattle.planned_rows.specs.Planned.{fillOf, rowsAfter, plannedIn}
 use Rattle.plans.specs.Trees.{documentsWalk}
 use Rattle.plans.specs.Bodies.{HoldsForm}
 use Rattle.plans.proofs.Numbered.{new-flat, number-flat}

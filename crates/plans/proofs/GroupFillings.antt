@@ -19,7 +19,7 @@ use Rattle.store_check.specs.Reading.{entryOf, flatIndexForm}
 use Rattle.filling.specs.declared.Filling.the-variants.{Particles}
 use Rattle.filling.specs.Fillings.{fillingsOf, fillIndex, groupFilled, fillingRows}
 use Rattle.filling.specs.Parts.{valueOf}
-use Rattle.store_writer.specs.Planned.{membersAt}
+use Rattle.planned_rows.specs.Planned.{membersAt}
 use Rattle.plans.proofs.Fillings.{flatten-beside, indexed-beside, filling-index}
 use Rattle.plans.proofs.ModelForms.{index-of-name}
 

@@ -25,7 +25,7 @@ use Rattle.model.specs.Places.{Particles}
 use Rattle.model.specs.Positions.{elementParticle, groupParticle, spread, offset, leading, trailing, level}
 use Rattle.model.proofs.PositionLaws.{spread-named, spread-plug, length-leading}
 use Rattle.model_writer.specs.Spliced.{startOf}
-use Rattle.store_writer.specs.Planned.{membersAt}
+use Rattle.planned_rows.specs.Planned.{membersAt}
 use Rattle.rules.proofs.PreorderLaws.{build-same, build-less, build-more}
 use Rattle.rules.proofs.DecodeLaws.{quantifier-code}
 

@@ -26,7 +26,7 @@ use Rattle.change_laws.proofs.Rowwise.{Standing}
 use Rattle.store_check.proofs.AttributeRows.{rowWritten}
 use Rattle.row_walk.specs.declared.Which.the-variants.{Elements}
 use Rattle.row_walk.specs.declared.Plan.{Plan}
-use Rattle.store_writer.specs.Planned.{fillOf}
+use Rattle.planned_rows.specs.Planned.{fillOf}
 use Rattle.plans.specs.Following.{RowFollows}
 use Rattle.plans.specs.ModelCalls.{Marked, removeElementPlan, insertElementPlan, DoesIn}
 use Rattle.plans.proofs.Fillings.{filling-index}

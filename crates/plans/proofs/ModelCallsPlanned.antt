@@ -21,7 +21,7 @@ use Rattle.rules.specs.Change.{insertElement, removeElement, changeQuantifier, 
 use Rattle.rules.proofs.Words.{or-split}
 use Rattle.change_laws.proofs.Conditions.{not-past}
 use Rattle.filling.specs.declared.Filling.the-variants.{Definition, Particles}
-use Rattle.store_writer.specs.Planned.{membersAt, plannedIn}
+use Rattle.planned_rows.specs.Planned.{membersAt, plannedIn}
 use Rattle.plans.specs.Bodies.{HoldsForm}
 use Rattle.plans.specs.ModelCalls.{Marked, insertElementPlan, removeElementPlan, requantifyPlan}
 use Rattle.plans.proofs.FormPlanned.{flat-planned-in}

@@ -8,12 +8,12 @@ use Rattle.rules.specs.Preorder.{flatten}
 use Rattle.rules.specs.Layout.{indexed, flat}
 use Rattle.rules.specs.Change.{Call, formAfter, docsAfter, after}
 use Rattle.row_walk.specs.declared.Plan.{Plan}
-use Rattle.store_writer.specs.Planned.{fillOf, planned}
+use Rattle.planned_rows.specs.Planned.{fillOf, planned}
 use Rattle.plans.specs.Trees.{documentsWalk}
 use Rattle.plans.specs.Bodies.{HoldsForm}
 use Rattle.plans.proofs.TreeWalk.{Clear}
 use Rattle.plans.proofs.FormPlanned.{flat-planned-in}
-use Rattle.store_writer.proofs.FormLaws.{planned-same}
+use Rattle.planned_rows.proofs.PlannedLaws.{planned-same}
 
 pub flat-planned : (c : Call) (s : Store) (p : Plan) (v : Bytes) → formAfter c (s .form) ≡ s .form → Clear p (indexed (s .form) [] (s .docs))
     → documentsWalk p v (fillOf p v (flat s)) (indexed (s .form) [] (s .docs)) ≡ flatten 0 (indexed (s .form) [] (docsAfter c s)) → flat (after c s) ≡ planned p v (flat s)

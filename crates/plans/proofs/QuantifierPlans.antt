@@ -33,7 +33,7 @@ use Rattle.filling.specs.declared.Filling.the-variants.{Definition, Particles}
 use Rattle.filling.specs.Fillings.{fillingRows}
 use Rattle.row_walk.specs.Walk.{owed}
 use Rattle.filling.specs.Parts.{valueOf}
-use Rattle.store_writer.specs.Planned.{membersAt}
+use Rattle.planned_rows.specs.Planned.{membersAt}
 use Rattle.plans.specs.ModelCalls.{Marked, gainFilling, requantifyPlan, DoesIn}
 use Rattle.plans.proofs.Fillings.{filling-index}
 use Rattle.plans.proofs.GroupFillings.{filling-group}

@@ -30,7 +30,7 @@ use Rattle.row_walk.specs.declared.Which.the-variants.{Elements}
 use Rattle.row_walk.specs.declared.Later.the-variants.{Unmarked}
 use Rattle.row_walk.specs.declared.Plan.{Plan}
 use Rattle.row_walk.specs.Walk.{matches, isLater, spared, owed}
-use Rattle.store_writer.specs.Planned.{fillOf}
+use Rattle.planned_rows.specs.Planned.{fillOf}
 use Rattle.plans.specs.Trees.{takenAt, filledAt, documentsWalk}
 use Rattle.plans.specs.Simulation.{planted, Going, Staying}
 use Rattle.plans.specs.ModelCalls.{Marked, cutTakes, requantifyPlan}

@@ -13,7 +13,7 @@ use Rattle.change_laws.proofs.RowEdits.{revalued}
 use Rattle.store_check.proofs.AttributeRows.{rowWritten}
 use Rattle.row_walk.specs.declared.Plan.{Plan}
 use Rattle.row_walk.specs.Walk.{matches, isEverything, namesGround, isLater, movedIndex, valueSet}
-use Rattle.store_writer.specs.Planned.{fillOf}
+use Rattle.planned_rows.specs.Planned.{fillOf}
 use Rattle.plans.specs.Trees.{documentsWalk}
 
 -- no row is kept or spared

@@ -17,9 +17,10 @@ use Rattle.filling.specs.declared.Filling.{Filling}
 use Rattle.filling.specs.Parts.{Indexed}
 use Rattle.row_walk.specs.declared.Plan.{Plan}
 use Rattle.model_writer.specs.declared.Edit.the-variants.{Quantify}
-use Rattle.store_writer.specs.Stores.{storeIn, limited}
-use Rattle.store_writer.specs.Planned.{plannedIn}
-use Rattle.store_writer.specs.Writing.{Sized}
+use Rattle.store_laws.specs.Stores.{storeIn}
+use Rattle.store_writer.specs.Writing.{limited}
+use Rattle.planned_rows.specs.Planned.{plannedIn}
+use Rattle.planned_rows.specs.Walking.{Sized}
 use Rattle.store_writer.proofs.CallLaws.{answers-as}
 use Rattle.plans.specs.ModelCalls.{gainFilling, requantifyPlan}
 use Rattle.model_places.specs.Placing.{Placed}

@@ -18,13 +18,14 @@ use Rattle.lookup.specs.Bodies.{bodiesOf}
 use Rattle.filling.specs.declared.Filling.the-variants.{Definition}
 use Rattle.row_walk.specs.declared.Plan.{Plan}
 use Rattle.model_writer.specs.declared.Edit.the-variants.{Quantify}
-use Rattle.store_writer.specs.Stores.{storeIn, limited}
-use Rattle.store_writer.specs.Planned.{plannedIn}
-use Rattle.store_writer.specs.Writing.{Sized}
-use Rattle.store_writer.proofs.StoreLaws.{holds}
+use Rattle.store_laws.specs.Stores.{storeIn}
+use Rattle.store_writer.specs.Writing.{limited}
+use Rattle.planned_rows.specs.Planned.{plannedIn}
+use Rattle.planned_rows.specs.Walking.{Sized}
+use Rattle.store_laws.proofs.StoreLaws.{holds}
 use Rattle.plans.specs.ModelCalls.{Marked, requantifyPlan}
 use Rattle.plans.proofs.ModelCallsPlanned.{change-quantifier-planned}
-use Rattle.store_writer.proofs.Encoded.{encoded}
+use Rattle.store_laws.proofs.Encoded.{encoded}
 use Rattle.model_places.specs.Placing.{indexOfName, partIn, Placed}
 use Rattle.place_marks.specs.Marking.{marksAt}
 use Rattle.place_marks.proofs.MarkLaws.{element-marked}

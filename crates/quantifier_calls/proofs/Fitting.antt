@@ -20,9 +20,9 @@ use Rattle.rules.specs.Refusal.{badText, past, foundAt, noElementAt, noGroupAt,
 use Rattle.layout.specs.Bodies.{widthOf}
 use Rattle.change_laws.proofs.EditConditions.{element-some, group-some}
 use Rattle.model_writer.specs.PartAfter.{suits}
-use Rattle.store_writer.specs.Stores.{storeIn}
+use Rattle.store_laws.specs.Stores.{storeIn}
 use Rattle.plans.proofs.CallsPlanned.{none-holds}
-use Rattle.store_writer.proofs.StoreFacts.{value-given}
+use Rattle.store_check.proofs.StoreFacts.{value-given}
 use Rattle.model_places.specs.Placing.{modelIn}
 use Rattle.model_places.proofs.PlaceLaws.{found-quantify}
 use Rattle.model_edit.proofs.Fits.{Fits, Element, fits-at}

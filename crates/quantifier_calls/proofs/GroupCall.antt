@@ -23,10 +23,11 @@ use Rattle.filling.specs.declared.Filling.the-variants.{Particles}
 use Rattle.row_walk.specs.declared.Plan.{Plan}
 use Rattle.model_writer.specs.declared.Edit.the-variants.{Quantify}
 use Rattle.model_writer.specs.Spliced.{startOf}
-use Rattle.store_writer.specs.Stores.{storeIn, limited}
-use Rattle.store_writer.specs.Planned.{membersAt, plannedIn}
-use Rattle.store_writer.specs.Writing.{Sized}
-use Rattle.store_writer.proofs.StoreLaws.{holds}
+use Rattle.store_laws.specs.Stores.{storeIn}
+use Rattle.store_writer.specs.Writing.{limited}
+use Rattle.planned_rows.specs.Planned.{membersAt, plannedIn}
+use Rattle.planned_rows.specs.Walking.{Sized}
+use Rattle.store_laws.proofs.StoreLaws.{holds}
 use Rattle.plans.specs.ModelCalls.{Marked, requantifyPlan}
 use Rattle.plans.proofs.GroupPlaces.{group-at}
 use Rattle.plans.proofs.ModelCallsPlanned.{change-group-quantifier-planned}

@@ -21,7 +21,7 @@ use Rattle.model.specs.Places.{Particles, top}
 use Rattle.model.specs.Positions.{spread, offset, trailing, level}
 use Rattle.model_writer.specs.PartAfter.{inserts}
 use Rattle.model_writer.proofs.HeadAfter.{depth-holder}
-use Rattle.store_writer.proofs.Encoded.{encoded}
+use Rattle.store_laws.proofs.Encoded.{encoded}
 use Rattle.model_places.specs.Placing.{indexOfName, partIn, Placed}
 use Rattle.model_places.proofs.PickLaws.{around, from-there, one-there, read-there}
 use Rattle.model_edit.specs.Editing.{startIn}

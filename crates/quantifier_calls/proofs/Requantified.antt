@@ -12,9 +12,10 @@ use Rattle.rules.specs.Outcome.{outcome, Answers}
 use Rattle.model.specs.declared.place.Holder.{Holder}
 use Rattle.lookup.specs.Bodies.{bodiesOf}
 use Rattle.row_walk.specs.declared.Plan.{Plan}
-use Rattle.store_writer.specs.Stores.{storeIn, limited}
-use Rattle.store_writer.specs.Planned.{plannedIn}
-use Rattle.store_writer.specs.Writing.{Sized}
+use Rattle.store_laws.specs.Stores.{storeIn}
+use Rattle.store_writer.specs.Writing.{limited}
+use Rattle.planned_rows.specs.Planned.{plannedIn}
+use Rattle.planned_rows.specs.Walking.{Sized}
 use Rattle.model_places.specs.Placing.{partIn, Placed}
 use Rattle.model_edit.specs.Editing.{startIn, formEdited}
 use Rattle.quantifier_refusals.specs.Requantifying.{requantify}

@@ -21,8 +21,8 @@ use Rattle.rules.specs.Change.{nameAtIndex}
 use Rattle.rules.specs.Refusal.{_if_, Condition, first, conditions, badText, foundAt, noElementAt, noGroupAt, atPlace, onElement, onGroup, instanceExists}
 use Rattle.model.specs.declared.place.Holder.{Holder}
 use Rattle.layout.specs.Bodies.{WidthIn, Number}
-use Rattle.store_writer.specs.Stores.{storeIn}
-use Rattle.store_writer.proofs.StoreFacts.{formIn, Whole, bad-text, fine-text}
+use Rattle.store_laws.specs.Stores.{storeIn}
+use Rattle.store_check.proofs.StoreFacts.{formIn, Whole, bad-text, fine-text}
 use Rattle.change_laws.specs.FirstCondition.{Gives}
 use Rattle.change_laws.proofs.FirstCondition.{gives-hit, gives-next, gives-none}
 use Rattle.instance_search.specs.Instances.{hasInstance}

@@ -9,7 +9,7 @@ use Rattle.rules.specs.Quantifiers.{relaxes, gains, cuts}
 use Rattle.rules.specs.Decode.{definitionCount}
 use Rattle.rules.specs.Change.{Call, changeQuantifier, changeGroupQuantifier}
 use Rattle.rules.specs.Refusal.{Condition, _if_, badText}
-use Rattle.store_writer.specs.Stores.{storeIn}
+use Rattle.store_laws.specs.Stores.{storeIn}
 
 -- row 13 of changes 5 and 8: without an instance
 abbrev pub isOff : Bool → Quantifier → Quantifier → Bool → Bool

@@ -7,7 +7,7 @@ ghost use mathlib.Core.Bool.{true, false};
 ghost use Rattle.rules.specs.Quantifiers.{many, gains, cuts};
 ghost use Rattle.rules.specs.Passing.{passes};
 ghost use Rattle.rules.specs.Refusal.{first, conditions};
-ghost use Rattle.store_writer.specs.Stores.{storeIn};
+ghost use Rattle.store_laws.specs.Stores.{storeIn};
 ghost use Rattle.change_laws.specs.FirstCondition.{Gives};
 ghost use Rattle.instance_search.specs.Instances.{hasInstance};
 ghost use Rattle.model_places.specs.Placing.{Finds};

@@ -22,10 +22,11 @@ use Rattle.lookup.specs.Bodies.{bodiesOf}
 use Rattle.row_walk.specs.declared.Plan.{Plan}
 use Rattle.model_writer.specs.PartAfter.{suits}
 use Rattle.model_writer.specs.declared.Edit.the-variants.{Remove}
-use Rattle.store_writer.specs.Stores.{storeIn, limited}
-use Rattle.store_writer.specs.Planned.{plannedIn}
-use Rattle.store_writer.specs.Writing.{Sized}
-use Rattle.store_writer.proofs.StoreLaws.{holds}
+use Rattle.store_laws.specs.Stores.{storeIn}
+use Rattle.store_writer.specs.Writing.{limited}
+use Rattle.planned_rows.specs.Planned.{plannedIn}
+use Rattle.planned_rows.specs.Walking.{Sized}
+use Rattle.store_laws.proofs.StoreLaws.{holds}
 use Rattle.store_writer.proofs.CallLaws.{answers-as}
 use Rattle.plans.specs.ModelCalls.{removeElementPlan}
 use Rattle.plans.proofs.CallsPlanned.{none-holds}

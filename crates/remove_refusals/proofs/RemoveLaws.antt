@@ -39,8 +39,8 @@ use Rattle.model.proofs.PositionLaws.{spread-plug, length-leading, length-sprea
 use Rattle.model.proofs.MembersLaws.{members-here}
 use Rattle.model.proofs.FactsLaws.{facts-nothing}
 use Rattle.model_writer.proofs.HeadAfter.{depth-holder}
-use Rattle.store_writer.specs.Stores.{storeIn}
-use Rattle.store_writer.proofs.StoreFacts.{formIn, Whole}
+use Rattle.store_laws.specs.Stores.{storeIn}
+use Rattle.store_check.proofs.StoreFacts.{formIn, Whole}
 use Rattle.change_laws.specs.FirstCondition.{Gives}
 use Rattle.change_laws.proofs.FirstCondition.{gives-hit, gives-next, gives-none}
 use Rattle.instance_search.specs.Instances.{hasInstance}

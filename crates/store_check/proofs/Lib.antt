@@ -16,3 +16,5 @@ pub mod StringChecks
 pub mod IndexReads
 pub mod BodiesRead
 pub mod CallLaws
+pub mod StoreFacts
+pub mod AttributeOwners

@@ -1,6 +1,6 @@
 -- What a call answers: refused on a bad store, refused by a condition, or as the store that is left is written.
 use Prim.Native.Nat.{ℕ, zero, suc}
-use mathlib.Core.Path.{_≡_, refl, sym, ap, _∙_, subst}
+use mathlib.Core.Path.{_≡_, refl, sym, _∙_, subst}
 use mathlib.Core.Bool.{Bool, true, false, not, false≢true}
 use borrow.Author.Tests.{not-false}
 use Rattle.rules.specs.Bytes.{Bytes}
@@ -9,8 +9,10 @@ use Rattle.rules.specs.Passing.{passes}
 use Rattle.rules.specs.Change.{Call, after}
 use Rattle.rules.specs.Refusal.{first, conditions}
 use Rattle.rules.specs.Outcome.{Outcome, refused, outcome, Answers}
-use Rattle.store_writer.specs.Stores.{storeIn, limited}
-use Rattle.store_writer.proofs.StoreLaws.{Holds, holds, outcome-bad, outcome-refused, outcome-limited}
+use Rattle.store_laws.specs.Stores.{storeIn}
+use Rattle.store_writer.specs.Writing.{limited}
+use Rattle.store_laws.proofs.StoreLaws.{holds}
+use Rattle.store_writer.proofs.OutcomeLaws.{outcome-bad, outcome-refused, outcome-limited}
 
 -- an answer to one outcome is one to an equal outcome
 pub answers-as : {o o′ : Outcome} {out : Bytes} {number len : ℕ} {left : Bytes} → o ≡ o′ → Answers o′ out number len left → Answers o out number len left

@@ -1,5 +1,5 @@
 -- What an edit answers.
-use Prim.Native.Nat.{ℕ, zero, suc, _+_, _-_, _*_, _<_, _≤_}
+use Prim.Native.Nat.{ℕ, zero, suc, _+_, _-_, _*_, _≤_}
 use native.Mathlib.Omega.{arith}
 use mathlib.Core.Path.{_≡_, refl, ap, _∙_, sym}
 use mathlib.Core.Bool.{Bool, true, false, not}
@@ -23,19 +23,35 @@ use Rattle.row_writer.specs.declared.Cursor.{Cursor}
 use Rattle.row_writer.specs.Written.{newIn, numbered, rowsBytes, Written}
 use Rattle.row_writer.proofs.WrittenLaws.{written-fitting, length-numbered}
 use Rattle.row_walk.specs.declared.Plan.{Plan}
-use Rattle.store_writer.specs.Stores.{limited}
-use Rattle.store_writer.specs.Planned.{rowsAfter, plannedIn}
-use Rattle.store_writer.specs.Forms.{formRead, Forms}
-use Rattle.store_writer.specs.Writing.{walkFrom, limitOf}
-use Rattle.store_writer.proofs.StoreLaws.{Holds, width-of-bodies}
-use Rattle.store_writer.proofs.LimitLaws.{answers-refused, answers-wrote, limited-as, Within, as-limits, limit-within}
+use Rattle.store_writer.specs.Writing.{limited, Heads}
+use Rattle.planned_rows.specs.Planned.{rowsAfter, plannedIn}
+use Rattle.store_laws.specs.Forms.{formRead, Forms}
+use Rattle.planned_rows.specs.Walking.{walkFrom}
+use Rattle.store_limits.specs.Limits.{limitOf}
+use Rattle.store_laws.proofs.StoreLaws.{Holds, width-of-bodies}
+use Rattle.store_writer.proofs.LimitLaws.{answers-refused, answers-wrote, limited-as}
+use Rattle.store_limits.proofs.WithinLaws.{Within, as-limits, limit-within}
 use Rattle.store_writer.proofs.OrderLaws.{laid-before}
-use Rattle.store_writer.proofs.FormBytesLaws.{reformed, whole, ceilings-rows, reformed-length, reformed-bytes}
+use Rattle.store_laws.proofs.FormBytesLaws.{count-definitions, count-particles, count-attributes, Few, few-of, few-definitions, few-particles, few-attributes, form-short}
+use Rattle.store_laws.proofs.FormBytesLaws.{reformed, whole, ceilings-rows, reformed-length, reformed-bytes}
 use Rattle.layout.specs.Fields.{nextAt}
 
 pub next-of : (bs : Bytes) → bodiesOf bs .next ≡ numberAt nextAt 4 bs
 unfolding bodiesOf widthOf
 next-of bs = refl
+
+-- the numbers of the header of a store with such a form
+pub heads-of : {w : ℕ} {form : Bytes} {d p a : ℕ} → Forms w form d p a → {next r : ℕ} → w ≤ 96 → next ≤ 4294967295 → r ≤ 4096 → Heads form next d p a r
+heads-of {w} {form} {d} {p} {a} x h n m =
+    let few : Few (formRead w form d p a) = few-of (formRead w form d p a) (x .ceilings) in
+    record {
+      serial = omega arith;
+      definitions = omega (arith, count-definitions w form d p a, few-definitions few);
+      particles = omega (arith, count-particles w form d p a, few-particles few);
+      attributes = omega (arith, count-attributes w form d p a, few-attributes few);
+      rows = m;
+      short = form-short x h;
+    }
 
 module _ {bs : Bytes} (h : Holds bs) {form : Bytes} {d p a : ℕ} (x : Forms (widthOf bs) form d p a) (plan : Plan) (v : Bytes) where
   abbrev f : FlatStore

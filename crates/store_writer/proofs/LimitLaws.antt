@@ -1,5 +1,5 @@
 -- Refusals 16 to 18 of a store by its bodies, and what is answered.
-use Prim.Native.Nat.{ℕ, _+_, _*_, _<_, _≤_}
+use Prim.Native.Nat.{ℕ, _<_, _≤_}
 use native.Mathlib.Nat.{zero-add}
 use native.Mathlib.Omega.{arith}
 use mathlib.Core.Path.{_≡_, refl, ap, _∙_, sym}
@@ -8,15 +8,14 @@ use mathlib.Core.List.{[], _∷_, _++_}
 use lib.Dec.{ltb}
 use lib.ListN.{length, drop}
 use lib.Seq.{sets-eq}
-use borrow.Author.Tests.{lt-ltb, le-ltb, ltb-false}
+use borrow.Author.Tests.{lt-ltb, le-ltb}
 use Rattle.rules.specs.Bytes.{Bytes}
-use Rattle.rules.specs.Layout.{valueWidth, FlatStore, headerSize, rowSize, flatBytes}
+use Rattle.rules.specs.Layout.{valueWidth, FlatStore, flatBytes}
 use Rattle.rules.specs.WellFormed.{withinCeilings, highestNumber}
 use Rattle.rules.specs.Refusal.{_if_, first}
 use Rattle.rules.specs.Outcome.{Outcome, refused, wrote, unlessRefused, Answers}
 use Rattle.codec.specs.Laid.{Laid}
-use Rattle.store_writer.specs.Stores.{limited}
-use Rattle.store_writer.specs.Writing.{limitOf}
+use Rattle.store_writer.specs.Writing.{limited}
 
 -- ---- answers
 pub answers-refused : {o : Outcome} (n : ℕ) {out : Bytes} → o ≡ refused n → Answers o out n 0 out
@@ -54,42 +53,6 @@ module _ (room : ℕ) (f : FlatStore) where
       → number ≡ first (16 if a ∷ 17 if b ∷ 18 if c ∷ []) → limited room f ≡ unlessRefused number written
   unfolding limited
   limited-as {number} x y z e = (λ i. unlessRefused (first (16 if x i ∷ 17 if y i ∷ 18 if z i ∷ [])) written) ∙ ap (λ (n : ℕ). unlessRefused n written) (sym e)
-
--- ---- what is too much, by the numbers of a store
-pub record Within (w form count next room : ℕ) : Type 0 where
-  pub rows : count ≤ 4096
-  pub serials : next ≤ highestNumber
-  pub bytes : headerSize + form + rowSize w * count ≤ room
-
-module _ (w form count next room : ℕ) where
-  abbrev ofLimits : Bool → Bool → Bool → ℕ
-  ofLimits a b c = first (16 if a ∷ 17 if b ∷ 18 if c ∷ [])
-
-  pub as-limits : {a b c : Bool} → ltb 4096 count ≡ a → ltb highestNumber next ≡ b → ltb room (headerSize + form + rowSize w * count) ≡ c
-      → limitOf w form count next room ≡ first (16 if a ∷ 17 if b ∷ 18 if c ∷ [])
-  unfolding limitOf
-  as-limits x y z = λ i. ofLimits (x i) (y i) (z i)
-
-  pub limit-ceiling : 4096 < count → 16 ≡ limitOf w form count next room
-  limit-ceiling h = sym (as-limits (lt-ltb 4096 count h) refl refl)
-
-  pub limit-serials : count ≤ 4096 → highestNumber < next → 17 ≡ limitOf w form count next room
-  limit-serials h k = sym (as-limits (le-ltb 4096 count h) (lt-ltb highestNumber next k) refl)
-
-  pub limit-buffer : count ≤ 4096 → next ≤ highestNumber → room < headerSize + form + rowSize w * count → 18 ≡ limitOf w form count next room
-  limit-buffer h k l = sym (as-limits (le-ltb 4096 count h) (le-ltb highestNumber next k) (lt-ltb room (headerSize + form + rowSize w * count) l))
-
-  pub limit-none : Within w form count next room → 0 ≡ limitOf w form count next room
-  limit-none x = sym (as-limits (le-ltb 4096 count (x .rows)) (le-ltb highestNumber next (x .serials)) (le-ltb room (headerSize + form + rowSize w * count) (x .bytes)))
-
-  pub limit-within : limitOf w form count next room ≡ 0 → Within w form count next room
-  limit-within e = by (ltb 4096 count) refl (ltb highestNumber next) refl (ltb room (headerSize + form + rowSize w * count)) refl
-    where
-      by : (a : Bool) → ltb 4096 count ≡ a → (b : Bool) → ltb highestNumber next ≡ b → (c : Bool) → ltb room (headerSize + form + rowSize w * count) ≡ c → Within w form count next room
-      by true x b y c z = let n : _≡_ {A = ℕ} 16 0 = sym (as-limits x y z) ∙ e in absurd (omega (arith, n))
-      by false x true y c z = let n : _≡_ {A = ℕ} 17 0 = sym (as-limits x y z) ∙ e in absurd (omega (arith, n))
-      by false x false y true z = let n : _≡_ {A = ℕ} 18 0 = sym (as-limits x y z) ∙ e in absurd (omega (arith, n))
-      by false x false y false z = record { rows = ltb-false 4096 count x; serials = ltb-false highestNumber next y; bytes = ltb-false room (headerSize + form + rowSize w * count) z }
 
 -- in the code's numbers
 pub answers-as : {o : Outcome} {out : Bytes} {n n′ l l′ : ℕ} {left : Bytes} → n ≡ n′ → l ≡ l′ → Answers o out n′ l′ left → Answers o out n l left

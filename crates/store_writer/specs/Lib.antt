@@ -1,4 +1,1 @@
-pub mod Stores
-pub mod Planned
-pub mod Forms
 pub mod Writing

@@ -7,10 +7,10 @@ use Rattle.rules.specs.Passing.{passes}
 use Rattle.rules.specs.Change.{setText}
 use Rattle.rules.specs.Refusal.{first, conditions, noElement}
 use Rattle.row_walk.specs.declared.Plan.{Plan}
-use Rattle.store_writer.specs.Stores.{storeIn}
-use Rattle.store_writer.specs.Writing.{Sized}
+use Rattle.store_laws.specs.Stores.{storeIn}
+use Rattle.planned_rows.specs.Walking.{Sized}
 use Rattle.store_writer.proofs.CallLaws.{passed}
-use Rattle.store_writer.proofs.StoreFacts.{value-given}
+use Rattle.store_check.proofs.StoreFacts.{value-given}
 use Rattle.plans.specs.CallPlans.{textSerial, setTextPlan}
 use Rattle.plans.proofs.CallsPlanned.{none-holds}
 use Rattle.call_laws.proofs.Calls.{unmoved-small, Asks}

@@ -1,7 +1,7 @@
 -- `attribute_form::form_of` meets its contract.
 use native.Mathlib.Omega.{arith}
-use Rattle.store_writer.proofs.StoreLaws.{holds}
-use Rattle.store_writer.proofs.FormLaws.{start-within}
+use Rattle.store_laws.proofs.StoreLaws.{holds}
+use Rattle.store_laws.proofs.FormLaws.{start-within}
 use Rattle.attribute_form.proofs.FormParts.{form-at}
 use borrow.Author.Needs.{needs}
 use Rattle.attribute_form.proofs.form_of.Statement.{statement}

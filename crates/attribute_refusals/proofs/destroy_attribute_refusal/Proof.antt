@@ -1,5 +1,5 @@
 use native.Mathlib.Omega.{arith}
-use Rattle.store_writer.proofs.StoreFacts.{whole}
+use Rattle.store_check.proofs.StoreFacts.{whole}
 use Rattle.attribute_refusals.proofs.AttributeLaws.{destroy-6, destroy-0}
 use borrow.Author.Needs.{needs}
 use Rattle.attribute_refusals.proofs.destroy_attribute_refusal.Statement.{statement}

@@ -5,7 +5,7 @@ use mathlib.Core.Path.{_∙_, ap}
 use Prim.Native.Nat.{ℕ}
 use lib.ListN.{length}
 use Rattle.rules.specs.Change.{setAttribute}
-use Rattle.store_writer.specs.Stores.{storeIn}
+use Rattle.store_laws.specs.Stores.{storeIn}
 use Rattle.plans.specs.CallPlans.{setAttributePlan, attributeSerial}
 use Rattle.plans.proofs.CallsPlanned.{set-attribute-planned}
 use Rattle.attribute_row_calls.proofs.set_attribute.Statement.{statement}

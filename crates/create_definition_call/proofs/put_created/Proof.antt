@@ -1,6 +1,6 @@
 -- `create_definition_call::put_created` meets its contract.
 use Prim.Native.Nat.{_+_}
-use Rattle.store_writer.proofs.Encoded.{encoded}
+use Rattle.store_laws.proofs.Encoded.{encoded}
 use Rattle.definition_writer.specs.Bodies.{newDefinition}
 use Rattle.create_definition_call.proofs.CreatedBytes.{created-laid, after-header, front-short, back-short}
 use Rattle.rules.proofs.LayoutLaws.{length-definition}

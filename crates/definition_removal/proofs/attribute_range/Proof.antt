@@ -1,6 +1,6 @@
 -- `definition_removal::attribute_range` meets its contract.
 use Rattle.definition_removal.proofs.Left.{between, attributes-step}
-use Rattle.store_writer.proofs.Encoded.{encoded}
+use Rattle.store_laws.proofs.Encoded.{encoded}
 use Rattle.definition_removal.specs.Bodies.{attributesUpTo}
 use Rattle.lookup.specs.Bodies.{bodiesOf}
 use Rattle.rules.specs.Decode.{attributeCount}

@@ -1,6 +1,6 @@
 -- `definition_removal::model_start` meets its contract.
 use Rattle.definition_removal.proofs.Left.{model-starts}
-use Rattle.store_writer.proofs.Encoded.{encoded}
+use Rattle.store_laws.proofs.Encoded.{encoded}
 use native.Mathlib.Omega.{arith}
 use borrow.Author.Needs.{needs}
 use Rattle.definition_removal.proofs.model_start.Statement.{statement}

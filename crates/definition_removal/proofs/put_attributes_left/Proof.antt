@@ -1,7 +1,7 @@
 -- `definition_removal::put_attributes_left` meets its contract.
 use Rattle.definition_removal.proofs.LeftBytes.{attributes-laid}
 use Rattle.definition_removal.proofs.Again.{records-short, attribute-short}
-use Rattle.store_writer.proofs.Encoded.{encoded}
+use Rattle.store_laws.proofs.Encoded.{encoded}
 use Rattle.definition_removal.specs.Bodies.{attributeRecord, lowered}
 use Rattle.rules.specs.Layout.{attributeSize}
 use native.Mathlib.Omega.{arith}

@@ -1,6 +1,6 @@
 -- `definition_removal::put_definitions_left` meets its contract.
 use Rattle.definition_removal.proofs.LeftBytes.{definitions-laid, definitions-short}
-use Rattle.store_writer.proofs.Encoded.{encoded}
+use Rattle.store_laws.proofs.Encoded.{encoded}
 use lib.ListN.{length, length-take, length-drop}
 use mathlib.Core.Path.{ap}
 use native.Mathlib.Omega.{arith}

@@ -1,6 +1,6 @@
 -- `definition_removal::put_header_left` meets its contract.
 use Rattle.definition_removal.proofs.Left.{header-left}
-use Rattle.store_writer.proofs.Encoded.{encoded}
+use Rattle.store_laws.proofs.Encoded.{encoded}
 use native.Mathlib.Omega.{arith}
 use borrow.Author.Needs.{needs}
 use Rattle.definition_removal.proofs.put_header_left.Statement.{statement}

@@ -1,7 +1,7 @@
 -- `definition_removal::put_particles_left` meets its contract.
 use Rattle.definition_removal.proofs.LeftBytes.{models-laid}
 use Rattle.definition_removal.proofs.Again.{records-short, particle-short}
-use Rattle.store_writer.proofs.Encoded.{encoded}
+use Rattle.store_laws.proofs.Encoded.{encoded}
 use Rattle.definition_removal.specs.Bodies.{particleRecord, lowered}
 use Rattle.rules.specs.Layout.{particleSize}
 use native.Mathlib.Omega.{arith}

@@ -5,7 +5,7 @@ use native.Mathlib.Omega.{arith}
 use mathlib.Core.Path.{sym, subst}
 use mathlib.Core.List.{[]}
 use Rattle.row_walk.specs.declared.Plan.{Plan}
-use Rattle.store_writer.specs.Writing.{Sized}
+use Rattle.planned_rows.specs.Walking.{Sized}
 use Rattle.definition_removal.proofs.LeftBytes.{rows-laid}
 use borrow.Author.Needs.{needs}
 use Rattle.definition_removal.proofs.put_rows_left.Statement.{statement}

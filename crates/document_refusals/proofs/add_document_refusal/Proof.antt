@@ -1,5 +1,5 @@
 use native.Mathlib.Omega.{arith}
-use Rattle.store_writer.proofs.StoreFacts.{whole}
+use Rattle.store_check.proofs.StoreFacts.{whole}
 use Rattle.document_refusals.proofs.RefusalLaws.{document-3, document-6, document-0}
 use borrow.Author.Needs.{needs}
 use Rattle.document_refusals.proofs.add_document_refusal.Statement.{statement}

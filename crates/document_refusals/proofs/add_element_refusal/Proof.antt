@@ -4,7 +4,7 @@ use native.Mathlib.Numerals.{add-one}
 use borrow.Author.Tests.{not-true, not-false}
 use Prim.Native.Nat.{ℕ, suc}
 use Rattle.document_refusals.specs.Finding.{fitsAt}
-use Rattle.store_writer.proofs.StoreFacts.{Whole, whole}
+use Rattle.store_check.proofs.StoreFacts.{Whole, whole}
 use Rattle.document_refusals.proofs.RefusalLaws.{seen, unseen, row-of}
 use Rattle.document_refusals.proofs.ElementRefusals.{add-early, add-7, add-8, add-15, add-0, other-kind, complex-kind, definition-small}
 use borrow.Author.Needs.{needs}

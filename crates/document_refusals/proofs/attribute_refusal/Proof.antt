@@ -1,6 +1,6 @@
 use mathlib.Core.Path.{sym, _∙_}
 use native.Mathlib.Omega.{arith}
-use Rattle.store_writer.proofs.StoreFacts.{Whole, whole}
+use Rattle.store_check.proofs.StoreFacts.{Whole, whole}
 use Rattle.document_refusals.proofs.RefusalLaws.{seen, unseen}
 use Rattle.document_refusals.proofs.AttributeRefusals.{refused-past, refused-none, refused-other, refused-not}
 use borrow.Author.Needs.{needs}

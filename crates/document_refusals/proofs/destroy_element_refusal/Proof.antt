@@ -1,5 +1,5 @@
 use native.Mathlib.Omega.{arith}
-use Rattle.store_writer.proofs.StoreFacts.{Whole, whole}
+use Rattle.store_check.proofs.StoreFacts.{Whole, whole}
 use Rattle.document_refusals.proofs.RefusalLaws.{seen, unseen, parent-row}
 use Rattle.document_refusals.proofs.ElementRefusals.{destroy-7, destroy-root, destroy-15, destroy-0}
 use borrow.Author.Needs.{needs}

@@ -1,5 +1,5 @@
 use native.Mathlib.Omega.{arith}
-use Rattle.store_writer.proofs.StoreFacts.{whole}
+use Rattle.store_check.proofs.StoreFacts.{whole}
 use Rattle.document_refusals.proofs.ElementFacts.{parent-at-is}
 use borrow.Author.Needs.{needs}
 use Rattle.document_refusals.proofs.find_parent.Statement.{statement}

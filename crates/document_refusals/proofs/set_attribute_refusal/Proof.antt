@@ -1,6 +1,6 @@
 use mathlib.Core.Path.{_∙_}
 use native.Mathlib.Omega.{arith}
-use Rattle.store_writer.proofs.StoreFacts.{Whole, whole}
+use Rattle.store_check.proofs.StoreFacts.{Whole, whole}
 use Rattle.document_refusals.proofs.AttributeRefusals.{allows-in, set-3, set-early, set-last, known-of, inside}
 use borrow.Author.Needs.{needs}
 use Rattle.document_refusals.proofs.set_attribute_refusal.Statement.{statement}

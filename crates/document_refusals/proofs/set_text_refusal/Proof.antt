@@ -1,5 +1,5 @@
 use native.Mathlib.Omega.{arith}
-use Rattle.store_writer.proofs.StoreFacts.{Whole, whole}
+use Rattle.store_check.proofs.StoreFacts.{Whole, whole}
 use Rattle.document_refusals.proofs.RefusalLaws.{text-3, text-7, text-9, text-0, seen, unseen, row-of}
 use borrow.Author.Needs.{needs}
 use Rattle.document_refusals.proofs.set_text_refusal.Statement.{statement}

@@ -3,7 +3,7 @@ use borrow.Author.Needs.{needs}
 use mathlib.Core.List.{[]}
 use lib.ListN.{length}
 use Rattle.rules.specs.Change.{addDocument}
-use Rattle.store_writer.specs.Stores.{storeIn}
+use Rattle.store_laws.specs.Stores.{storeIn}
 use Rattle.plans.specs.CallPlans.{addDocumentPlan}
 use Rattle.plans.proofs.CallsPlanned.{add-document-planned}
 use Rattle.element_calls.proofs.add_document.Statement.{statement}

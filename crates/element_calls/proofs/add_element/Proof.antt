@@ -5,7 +5,7 @@ use mathlib.Core.Path.{_∙_, ap}
 use Prim.Native.Nat.{ℕ}
 use lib.ListN.{length}
 use Rattle.rules.specs.Change.{addElement}
-use Rattle.store_writer.specs.Stores.{storeIn}
+use Rattle.store_laws.specs.Stores.{storeIn}
 use Rattle.plans.specs.CallPlans.{addElementPlan, childSerial}
 use Rattle.plans.proofs.CallsPlanned.{add-element-planned}
 use Rattle.element_calls.proofs.add_element.Statement.{statement}

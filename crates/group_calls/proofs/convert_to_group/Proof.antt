@@ -6,7 +6,7 @@ use Rattle.rules.specs.declared.GroupKind.{GroupKind}
 use Rattle.rules.specs.Edit.{convert}
 use Rattle.rules.specs.Lines.{lines}
 use Rattle.rules.specs.Change.{convertToGroup}
-use Rattle.store_writer.specs.Stores.{storeIn}
+use Rattle.store_laws.specs.Stores.{storeIn}
 use Rattle.model_writer.specs.declared.Edit.the-variants.{Convert}
 use Rattle.store_writer.proofs.CallLaws.{answers-bad, answers-refused}
 use Rattle.store_writer.proofs.LimitLaws.{answers-as}

@@ -4,7 +4,7 @@ use lib.ListN.{length}
 use borrow.Author.Tests.{not-true, not-false}
 use Rattle.rules.specs.Lines.{lines}
 use Rattle.rules.specs.Change.{flattenGroup}
-use Rattle.store_writer.specs.Stores.{storeIn}
+use Rattle.store_laws.specs.Stores.{storeIn}
 use Rattle.model_writer.specs.declared.Edit.the-variants.{Flatten}
 use Rattle.store_writer.proofs.CallLaws.{answers-bad, answers-refused}
 use Rattle.store_writer.proofs.LimitLaws.{answers-as}

@@ -1,6 +1,6 @@
 -- `group_refusals::convert_to_group_refusal` meets its contract.
 use native.Mathlib.Omega.{arith}
-use Rattle.store_writer.proofs.StoreFacts.{whole, past-definitions, within-definitions}
+use Rattle.store_check.proofs.StoreFacts.{whole, past-definitions, within-definitions}
 use Rattle.model_places.proofs.PickLaws.{refused-there, located-there}
 use Rattle.group_refusals.proofs.ConvertLaws.{convert-4, convert-6, convert-none, convert-placed, convert-inside, convert-there}
 use borrow.Author.Needs.{needs}

@@ -1,6 +1,6 @@
 -- `group_refusals::flatten_group_refusal` meets its contract.
 use native.Mathlib.Omega.{arith}
-use Rattle.store_writer.proofs.StoreFacts.{whole, past-definitions, within-definitions}
+use Rattle.store_check.proofs.StoreFacts.{whole, past-definitions, within-definitions}
 use Rattle.model_places.proofs.PickLaws.{as-element, as-group, as-none, refused-there, located-there}
 use Rattle.group_refusals.proofs.GroupLaws.{flatten-6, flatten-none, flatten-element, flatten-group}
 use borrow.Author.Needs.{needs}

@@ -6,7 +6,8 @@ use borrow.Author.Tests.{not-true, not-false}
 use Rattle.layout.specs.Bodies.{mostForm}
 use Rattle.lookup.specs.Bodies.{bodiesOf}
 use Rattle.store_writer.proofs.LimitLaws.{answers-as}
-use Rattle.store_writer.proofs.FormLaws.{forms-of, form-answers, form-ceiling}
+use Rattle.store_laws.proofs.FormLaws.{forms-of}
+use Rattle.store_writer.proofs.FormAnswers.{form-answers, form-ceiling}
 use Rattle.model_edit.proofs.FormWriting.{owner-low, own-low, as-many, form-short, form-of, stored}
 use borrow.Author.Needs.{needs}
 use Rattle.model_edit.proofs.edit_model.Statement.{statement}

@@ -1,6 +1,6 @@
 use Rattle.model_places.proofs.PickLaws.{picked-none, picked-inside, picked-there}
 use native.Mathlib.Omega.{arith}
-use Rattle.store_writer.proofs.StoreFacts.{whole}
+use Rattle.store_check.proofs.StoreFacts.{whole}
 use borrow.Author.Needs.{needs}
 use Rattle.model_places.proofs.pick.Statement.{statement}
 use Rattle.model_places.proofs.pick.Tie as tie

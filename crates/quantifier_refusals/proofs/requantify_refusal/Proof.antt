@@ -1,6 +1,6 @@
 -- `quantifier_refusals::requantify_refusal` meets its contract.
 use native.Mathlib.Omega.{arith}
-use Rattle.store_writer.proofs.StoreFacts.{whole}
+use Rattle.store_check.proofs.StoreFacts.{whole}
 use borrow.Author.Tests.{not-true, not-false}
 use Rattle.model_places.proofs.PickLaws.{as-element, as-group, as-none, refused-there, located-there}
 use Rattle.quantifier_refusals.proofs.QuantifierLaws.{early-code, early-index, requantify-early, requantify-none, element-group, element-there, group-element, group-there}

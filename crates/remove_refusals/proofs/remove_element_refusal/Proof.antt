@@ -1,6 +1,6 @@
 -- `remove_refusals::remove_element_refusal` meets its contract.
 use native.Mathlib.Omega.{arith}
-use Rattle.store_writer.proofs.StoreFacts.{whole, past-definitions}
+use Rattle.store_check.proofs.StoreFacts.{whole, past-definitions}
 use Rattle.model_places.proofs.PickLaws.{as-element, as-group, as-none, refused-there, located-there}
 use Rattle.remove_refusals.proofs.RemoveLaws.{removable, remove-6, remove-none, remove-group, remove-there}
 use borrow.Author.Needs.{needs}

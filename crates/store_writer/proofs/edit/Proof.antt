@@ -1,8 +1,9 @@
 -- `store_writer::edit` meets its contract.
 use native.Mathlib.Omega.{arith}
 use lib.ListN.{length}
-use Rattle.store_writer.proofs.StoreLaws.{holds}
-use Rattle.store_writer.proofs.FormLaws.{forms-of, own-form, own-answers, start-within}
+use Rattle.store_laws.proofs.StoreLaws.{holds}
+use Rattle.store_laws.proofs.FormLaws.{forms-of, own-form, start-within}
+use Rattle.store_writer.proofs.FormAnswers.{own-answers}
 use borrow.Author.Needs.{needs}
 use Rattle.store_writer.proofs.edit.Statement.{statement}
 use Rattle.store_writer.proofs.edit.Tie as tie

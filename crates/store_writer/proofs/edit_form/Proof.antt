@@ -1,8 +1,8 @@
 -- `store_writer::edit_form` meets its contract.
 use Rattle.layout.proofs.LayoutLaws.{width-within}
-use Rattle.store_writer.proofs.StoreLaws.{holds}
+use Rattle.store_laws.proofs.StoreLaws.{holds}
 use Rattle.store_writer.proofs.LimitLaws.{answers-as}
-use Rattle.store_writer.proofs.FormBytesLaws.{form-short}
+use Rattle.store_laws.proofs.FormBytesLaws.{form-short}
 use Rattle.store_writer.proofs.EditLaws.{edit-refused, edit-written}
 use borrow.Author.Needs.{needs}
 use Rattle.store_writer.proofs.edit_form.Statement.{statement}

@@ -1,10 +1,10 @@
 -- `store_writer::put_edited` meets its contract.
 use native.Mathlib.Omega.{arith}
 use Rattle.layout.proofs.LayoutLaws.{width-within}
-use Rattle.store_writer.proofs.StoreLaws.{holds}
-use Rattle.store_writer.proofs.LimitLaws.{limit-within}
-use Rattle.store_writer.proofs.FormBytesLaws.{form-short, heads-of}
-use Rattle.store_writer.proofs.EditLaws.{count-is, serial-is, edited-laid}
+use Rattle.store_laws.proofs.StoreLaws.{holds}
+use Rattle.store_limits.proofs.WithinLaws.{limit-within}
+use Rattle.store_laws.proofs.FormBytesLaws.{form-short}
+use Rattle.store_writer.proofs.EditLaws.{heads-of, count-is, serial-is, edited-laid}
 use borrow.Author.Needs.{needs}
 use Rattle.store_writer.proofs.put_edited.Statement.{statement}
 use Rattle.store_writer.proofs.put_edited.Tie as tie

@@ -5,7 +5,7 @@ use mathlib.Core.Path.{_∙_, ap}
 use Prim.Native.Nat.{ℕ}
 use lib.ListN.{length}
 use Rattle.rules.specs.Change.{setText}
-use Rattle.store_writer.specs.Stores.{storeIn}
+use Rattle.store_laws.specs.Stores.{storeIn}
 use Rattle.plans.specs.CallPlans.{setTextPlan, textSerial}
 use Rattle.plans.proofs.CallsPlanned.{set-text-planned}
 use Rattle.text_call.proofs.set_text.Statement.{statement}

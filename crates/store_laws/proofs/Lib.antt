@@ -1,0 +1,5 @@
+pub mod StoreLaws
+pub mod FormBytesLaws
+pub mod FormLaws
+pub mod Encoded
+pub mod RowBounds

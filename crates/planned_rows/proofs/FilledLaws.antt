@@ -27,7 +27,7 @@ use Rattle.filling.proofs.DepthLaws.{length-filling}
 use Rattle.filling.proofs.NewLaws.{new-filling}
 use Rattle.row_walk.specs.declared.Plan.{Plan}
 use Rattle.row_walk.specs.Walk.{walked, atFirst}
-use Rattle.walk_writer.specs.Step.{refilled}
+use Rattle.plan_numbers.specs.Refilled.{refilled}
 use Rattle.walk_writer.proofs.SettledLaws.{walked-refilled}
 use Rattle.row_bound.specs.Bound.{countedTo}
 use Rattle.row_bound.proofs.BoundLaws.{new-few, product-few}

@@ -17,7 +17,7 @@ ghost use Rattle.layout.specs.Bodies.{widthOf, mostForm};
 ghost use Rattle.lookup.specs.Bodies.{bodiesOf};
 ghost use Rattle.store_limits.specs.Limits.{limitOf};
 ghost use Rattle.row_writer.specs.Written.{Written, newIn};
-ghost use Rattle.walk_writer.specs.Step.{refilled};
+ghost use Rattle.plan_numbers.specs.Refilled.{refilled};
 ghost use Rattle.row_bound.specs.Bound.{countedTo, Bounds};
 ghost use Rattle.planned_rows.specs.Planned.{fillOf, rowsAfter};
 ghost use Rattle.planned_rows.specs.Walking.{walkFrom, Sized};

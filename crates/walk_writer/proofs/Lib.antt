@@ -1,4 +1,3 @@
-pub mod LentLaws
 pub mod StepLaws
 pub mod WalkLaws
 pub mod PlainLaws

@@ -18,7 +18,8 @@ use Rattle.filling.proofs.DepthLaws.{filling-empty}
 use Rattle.row_walk.specs.declared.Plan.{Plan}
 use Rattle.row_walk.specs.declared.Open.{Open}
 use Rattle.row_walk.specs.Walk.{keptRow, gone, closes, closed, owed, rowDepth, emitted, nextOpen, walked, atFirst}
-use Rattle.walk_writer.specs.Step.{fillLent, refilled, Ready, ReadyIn, Settled}
+use Rattle.plan_numbers.specs.Refilled.{refilled}
+use Rattle.walk_writer.specs.Step.{fillLent, ReadyIn, Settled}
 
 -- a filling of which no row was written where one might be has none
 pub settled-nothing : {ks : List ℕ} {fs : List (RefT Bytes)} {v : Bytes} (what : Filling) {w : ℕ} {out : Bytes} {r : Cursor} {out′ : Bytes}

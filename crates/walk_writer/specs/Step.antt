@@ -54,24 +54,7 @@ abbrev pub fillLent : List ℕ → List (RefT Bytes) → Filling → Bytes → �
 fillLent ks fs what text d = fillWith (versionOfFilling ks) (widthIn ks) (sizeIn ks) (defsIn fs) (partsIn fs) (countIn ks) (attrsIn fs) what text d
 
 abbrev pub fillIn : List ℕ → List (RefT Bytes) → Plan → Bytes → ℕ → List (Deep FlatRow)
-fillIn ks fs p text d = planFilling (versionOfFilling ks) (widthIn ks) (sizeIn ks) (defsIn fs) (partsIn fs) (countIn ks) (attrsIn fs) p text d
-
--- a plan with another filling
-abbrev pub refilled : Plan → Filling → Plan
-refilled p what =
-    record {
-      above = p .above;
-      takes = p .takes;
-      fills = p .fills;
-      later = p .later;
-      filling = what;
-      marks = p .marks;
-      keeps = p .keeps;
-      spares = p .spares;
-      set = p .set;
-      definitions = p .definitions;
-      attributes = p .attributes;
-    }
+fillIn ks fs p text d = fillLent ks fs (p .filling) text d
 
 -- a filling that may stand for another: at each depth it has the same rows
 pub record Settled (ks : List ℕ) (fs : List (RefT Bytes)) (text : Bytes) (what settled : Filling) : Type 0 where

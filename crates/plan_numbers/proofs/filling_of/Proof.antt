@@ -1,8 +1,8 @@
--- `walk_writer::filling_of` meets its contract.
-use Rattle.walk_writer.proofs.LentLaws.{filling-choice}
+-- `plan_numbers::filling_of` meets its contract.
+use Rattle.plan_numbers.proofs.LentLaws.{filling-choice}
 use borrow.Author.Needs.{needs}
-use Rattle.walk_writer.proofs.filling_of.Statement.{statement}
-use Rattle.walk_writer.proofs.filling_of.Tie as tie
+use Rattle.plan_numbers.proofs.filling_of.Statement.{statement}
+use Rattle.plan_numbers.proofs.filling_of.Tie as tie
 
 element-copy-out-match : tie.Need-element-copy-out-match
 element-copy-out-match c = search needs

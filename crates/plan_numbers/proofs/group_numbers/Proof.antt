@@ -1,8 +1,7 @@
--- `walk_writer::group_numbers` meets its contract.
-use mathlib.Core.Path.{sym}
+-- `plan_numbers::group_numbers` meets its contract.
 use borrow.Author.Needs.{needs}
-use Rattle.walk_writer.proofs.group_numbers.Statement.{statement}
-use Rattle.walk_writer.proofs.group_numbers.Tie as tie
+use Rattle.plan_numbers.proofs.group_numbers.Statement.{statement}
+use Rattle.plan_numbers.proofs.group_numbers.Tie as tie
 
 enum-told : tie.Need-enum-told
 enum-told c = search needs

@@ -1,16 +1,14 @@
 -- A plan that is lent is the plan.
 use Prim.Native.Nat.{ℕ, zero, suc}
-use mathlib.Core.Path.{_≡_, refl, ap, sym, subst}
-use mathlib.Core.Bool.{Bool}
+use mathlib.Core.Path.{_≡_, refl}
 use mathlib.Core.List.{[], _∷_}
 use lib.Dec.{eqb}
-use lib.ListN.{getD}
 use Rattle.rules.specs.declared.GroupKind.the-variants.{Choice}
 use Rattle.filling.specs.declared.Filling.{Filling}
 use Rattle.filling.specs.declared.Filling.the-variants.{Particles}
 use Rattle.row_walk.specs.declared.Plan.{Plan}
 use Rattle.row_walk.specs.Lent.{whichIn, laterIn, fillingIn, planIn}
-use Rattle.walk_writer.specs.Step.{refilled}
+use Rattle.plan_numbers.specs.Refilled.{refilled}
 
 -- the number of a variant is none of the others'
 pub filling-choice : (k n d : ℕ) → (k ≡ 0 → ⊥) → (k ≡ 1 → ⊥) → (k ≡ 2 → ⊥) → (k ≡ 3 → ⊥) → Particles Choice n d ≡ fillingIn k n d

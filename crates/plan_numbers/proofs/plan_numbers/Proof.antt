@@ -1,9 +1,9 @@
--- `walk_writer::plan_numbers` meets its contract.
+-- `plan_numbers::plan_numbers` meets its contract.
 use lib.ListN.{getD}
-use Rattle.walk_writer.proofs.LentLaws.{plan-lent}
+use Rattle.plan_numbers.proofs.LentLaws.{plan-lent}
 use borrow.Author.Needs.{needs}
-use Rattle.walk_writer.proofs.plan_numbers.Statement.{statement}
-use Rattle.walk_writer.proofs.plan_numbers.Tie as tie
+use Rattle.plan_numbers.proofs.plan_numbers.Statement.{statement}
+use Rattle.plan_numbers.proofs.plan_numbers.Tie as tie
 
 which-numbers-requires : tie.Need-which-numbers-requires
 which-numbers-requires c κs = search needs

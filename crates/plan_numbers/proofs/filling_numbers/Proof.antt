@@ -1,8 +1,8 @@
--- `walk_writer::filling_numbers` meets its contract.
+-- `plan_numbers::filling_numbers` meets its contract.
 use mathlib.Core.Path.{sym, _∙_}
 use borrow.Author.Needs.{needs}
-use Rattle.walk_writer.proofs.filling_numbers.Statement.{statement}
-use Rattle.walk_writer.proofs.filling_numbers.Tie as tie
+use Rattle.plan_numbers.proofs.filling_numbers.Statement.{statement}
+use Rattle.plan_numbers.proofs.filling_numbers.Tie as tie
 
 enum-told : tie.Need-enum-told
 enum-told c = search needs

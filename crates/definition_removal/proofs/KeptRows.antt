@@ -1,38 +1,23 @@
 -- The walk of a plan that keeps all rows and moves their indices.
-use Prim.Native.Nat.{ℕ, _+_, _-_, _≤_}
+use Prim.Native.Nat.{ℕ, _-_}
 use native.Mathlib.Nat.{add-zero}
 use native.Mathlib.Omega.{arith}
-use mathlib.Core.Path.{_≡_, refl, sym, ap, ap₂}
+use mathlib.Core.Path.{_≡_, refl, ap, ap₂}
 use mathlib.Core.Bool.{Bool, true, false}
 use mathlib.Core.List.{List, [], _∷_, map}
 use lib.Dec.{eqb, leb}
 use borrow.Author.Tests.{ne-eqb}
 use Rattle.rules.specs.Bytes.{Bytes}
 use Rattle.rules.specs.Preorder.{Deep}
-use Rattle.rules.specs.Layout.{FlatRow, rowBytes, each}
+use Rattle.rules.specs.Layout.{FlatRow}
 use Rattle.rules.proofs.BooleanLaws.{Every}
-use Rattle.row_writer.specs.Written.{isNewRow, numbered, rowsBytes}
+use Rattle.row_writer.proofs.BlockLaws.{Old}
 use Rattle.row_walk.specs.declared.Plan.{Plan}
 use Rattle.row_walk.specs.Walk.{shifted, keptRow}
 use Rattle.planned_rows.specs.Walking.{Sized}
 use Rattle.definition_writer.specs.Bodies.{movedRow}
 use Rattle.definition_removal.specs.Bodies.{lowered}
 use Rattle.definition_removal.specs.Shifting.{shifting}
-
--- rows that have serials
-abbrev pub Old : Deep FlatRow → Type 0
-Old x = 1 ≤ x .row .serial
-
-pub numbered-old : (n : ℕ) (xs : List (Deep FlatRow)) → Every Old xs → numbered n xs ≡ xs
-numbered-old n [] e = refl
-numbered-old n (x ∷ xs) (a, e) =
-    ap₂ (λ (s : ℕ) (l : List (Deep FlatRow)). record { depth = x .depth; row = record { sort = x .row .sort; index = x .row .index; serial = s; value = x .row .value } } ∷ l)
-    (ap (λ (b : Bool). elim b as (λ z. ℕ) [ true ↦ n | false ↦ x .row .serial ]) (ne-eqb (x .row .serial) 0 (λ q. omega arith)))
-    (numbered-old (n + isNewRow x) xs e)
-
-pub bytes-old : (w n : ℕ) (xs : List (Deep FlatRow)) → Every Old xs → each (rowBytes w) xs ≡ rowsBytes w n xs
-unfolding rowsBytes
-bytes-old w n xs e = ap (each (rowBytes w)) (sym (numbered-old n xs e))
 
 module _ (definition from less : ℕ) where
   abbrev p : Plan

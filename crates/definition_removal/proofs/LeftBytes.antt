@@ -22,6 +22,7 @@ use Rattle.lookup.specs.Bodies.{bodiesOf}
 use Rattle.row_writer.specs.declared.Cursor.{Cursor}
 use Rattle.row_writer.specs.Written.{Written}
 use Rattle.row_writer.proofs.WrittenLaws.{written-as, written-fitting}
+use Rattle.row_writer.proofs.BlockLaws.{Old, bytes-old}
 use Rattle.row_walk.specs.declared.Plan.{Plan}
 use Rattle.store_laws.specs.Stores.{storeIn}
 use Rattle.planned_rows.specs.Planned.{rowsAfter}
@@ -33,7 +34,7 @@ use Rattle.definition_removal.specs.Bodies.{lowered, cutOut, particlesUp
 use Rattle.store_laws.proofs.Encoded.{Encoded, encoded, bytes-are, others, definitions-at, particles-at, attributes-at}
 use Rattle.definition_removal.specs.Shifting.{shifting}
 use Rattle.definition_removal.proofs.Again.{each-drop, each-take, cut-again, particle-again, attribute-again}
-use Rattle.definition_removal.proofs.KeptRows.{Old, bytes-old, kept-rows, moved-old}
+use Rattle.definition_removal.proofs.KeptRows.{kept-rows, moved-old}
 use Rattle.definition_removal.proofs.Left.{definitions-left, rows-left, few-particles, few-attributes}
 use Rattle.planned_rows.proofs.StillLaws.{rows-still}
 use Rattle.layout.specs.Fields.{nextAt}

@@ -7,10 +7,10 @@ use mathlib.Core.Bool.{true}
 use mathlib.Core.List.{List, [], _++_, map, append-nil}
 use lib.ListN.{length, take, drop}
 use Rattle.rules.specs.Bytes.{Bytes}
-use Rattle.rules.specs.Layout.{headerSize, definitionSize, particleSize, attributeSize, FlatStore, flat, flatBytes, definitionBytes, particleBytes, attributeBytes, rowBytes, each}
+use Rattle.rules.specs.Layout.{headerSize, definitionSize, particleSize, attributeSize, FlatStore, flatBytes, definitionBytes, particleBytes, attributeBytes, rowBytes, each}
 use Rattle.rules.specs.Decode.{numberAt, definitionCount, particleCount, attributeCount}
 use Rattle.rules.specs.Passing.{passes}
-use Rattle.rules.proofs.BooleanLaws.{Every, every-map}
+use Rattle.rules.proofs.BooleanLaws.{Every}
 use Rattle.rules.proofs.LayoutLaws.{length-definition, length-particle, length-attribute, length-each, each-append}
 use Rattle.codec.specs.Laid.{Laid}
 use Rattle.codec.proofs.Writers.{laid-then, laid-as}
@@ -24,11 +24,8 @@ use Rattle.row_writer.specs.Written.{Written}
 use Rattle.row_writer.proofs.WrittenLaws.{written-as, written-fitting}
 use Rattle.row_writer.proofs.BlockLaws.{Old, bytes-old}
 use Rattle.row_walk.specs.declared.Plan.{Plan}
-use Rattle.store_laws.specs.Stores.{storeIn}
 use Rattle.planned_rows.specs.Planned.{rowsAfter}
 use Rattle.planned_rows.specs.Walking.{walkFrom}
-use Rattle.store_laws.proofs.StoreLaws.{holds}
-use Rattle.store_laws.proofs.RowBounds.{Bounded, rows-bounded}
 use Rattle.definition_writer.specs.Bodies.{movedParticle, movedRow}
 use Rattle.definition_removal.specs.Bodies.{lowered, cutOut, particlesUpTo, attributesUpTo, eachRecord, particleRecord, attributeRecord, movedAttribute, Between, destroyed, headerLeft}
 use Rattle.store_laws.proofs.Encoded.{Encoded, encoded, bytes-are, others, definitions-at, particles-at, attributes-at}
@@ -36,6 +33,7 @@ use Rattle.definition_removal.specs.Shifting.{shifting}
 use Rattle.definition_removal.proofs.Again.{each-drop, each-take, cut-again, particle-again, attribute-again}
 use Rattle.definition_removal.proofs.KeptRows.{kept-rows, moved-old}
 use Rattle.definition_removal.proofs.Left.{definitions-left, rows-left, few-particles, few-attributes}
+use Rattle.planned_rows.proofs.FilledLaws.{stored-old}
 use Rattle.planned_rows.proofs.StillLaws.{rows-still}
 use Rattle.layout.specs.Fields.{nextAt}
 use Rattle.definition_removal.specs.declared.Range.{Range}
@@ -113,7 +111,7 @@ module _ (bs : Bytes) (p : passes bs ≡ true) (i : ℕ) (h : i < definitionCoun
 
   -- ---- rows
   old : Every Old (f .rows)
-  old = rw (holds bs p .bodies) (every-map Bounded Old (flat (storeIn bs) .rows) (λ y b. b .serial) (rows-bounded (storeIn bs) (holds bs p .good)))
+  old = stored-old bs p
 
   rows-old : Every Old (destroyed i f .rows)
   unfolding destroyed

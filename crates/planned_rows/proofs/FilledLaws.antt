@@ -54,8 +54,9 @@ times-filling p v f d =
     let new = new-filling (flatIndexForm f) (λ j. valueOf (entryOf j (f .attributes))) (λ k e. membersAt f k e) (p .filling) v d in
     record { rows = omega (arith, same); new = omega (arith, same, new) }
 
-rows-old : (bs : Bytes) → passes bs ≡ true → Every Old (bodiesOf bs .rows)
-rows-old bs q =
+-- the rows of a store that passes
+pub stored-old : (bs : Bytes) → passes bs ≡ true → Every Old (bodiesOf bs .rows)
+stored-old bs q =
     every-map Bounded Old (bodiesOf bs .rows) (λ x b. b .serial)
     (subst (λ (f : FlatStore). Every Bounded (f .rows)) (sym (holds bs q .bodies)) (rows-bounded (storeIn bs) (holds bs q .good)))
 
@@ -66,7 +67,7 @@ times-after bs q p v =
     let unit : ℕ → List (Deep FlatRow) = fillOf (oneRow p) v (bodiesOf bs) in
     subst (λ (ys : List (Deep FlatRow)). Times (length (fillOf p v (bodiesOf bs) 0)) (walked p v (fillOf p v (bodiesOf bs)) (atFirst p) (bodiesOf bs .rows)) ys)
     (sym (walked-refilled p (Attribute 0) v unit (atFirst p) (bodiesOf bs .rows)))
-    (times-walked p v (fillOf p v (bodiesOf bs)) unit (length (fillOf p v (bodiesOf bs) 0)) (times-filling p v (bodiesOf bs)) (atFirst p) (bodiesOf bs .rows) (rows-old bs q))
+    (times-walked p v (fillOf p v (bodiesOf bs)) unit (length (fillOf p v (bodiesOf bs) 0)) (times-filling p v (bodiesOf bs)) (atFirst p) (bodiesOf bs .rows) (stored-old bs q))
 
 -- .. of a plan that is made so
 pub sized-of : {p each : Plan} → each ≡ oneRow p → Sized p → Sized each

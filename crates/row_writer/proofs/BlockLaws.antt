@@ -33,7 +33,7 @@ Old x = 1 ≤ x .row .serial
 old-is : (x : Deep FlatRow) → Old x → eqb (x .row .serial) 0 ≡ false
 old-is x h = ne-eqb (x .row .serial) 0 (λ e. omega arith)
 
-pub numbered-old : (n : ℕ) (xs : List (Deep FlatRow)) → Every Old xs → numbered n xs ≡ xs
+numbered-old : (n : ℕ) (xs : List (Deep FlatRow)) → Every Old xs → numbered n xs ≡ xs
 numbered-old n [] e = refl
 numbered-old n (x ∷ xs) (a, e) =
     ap₂ (λ (s : ℕ) (l : List (Deep FlatRow)). record { depth = x .depth; row = record { sort = x .row .sort; index = x .row .index; serial = s; value = x .row .value } } ∷ l)

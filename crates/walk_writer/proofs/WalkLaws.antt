@@ -25,7 +25,7 @@ use Rattle.walk_writer.specs.declared.Stepped.{Stepped}
 use Rattle.walk_writer.specs.declared.PlainRun.{PlainRun}
 use Rattle.walk_writer.specs.declared.Passed.{Passed}
 use Rattle.row_walk.specs.Walk.{gone, closes, closed, owed, rowDepth, emitted, nextOpen, walked, atFirst, namesGround}
-use Rattle.walk_writer.specs.Step.{stepRows, stepOpen, Came, Near, WalkRow, WalkRows, PlainRows, Going, Passes}
+use Rattle.walk_writer.specs.Step.{stepRows, stepOpen, Came, Near, WalkRow, WalkRows, PlainRows, Going, Advances}
 use Rattle.walk_writer.proofs.StepLaws.{near-if, near-step}
 
 -- ---- rows
@@ -144,7 +144,7 @@ module _ {w : ℕ} {p : Plan} {v : Bytes} {fill : ℕ → List (Deep FlatRow)} w
             (stepOpen p v fill o (readRow (take (rowSize w) t))) (readMany readRow (rowSize w) (m - 1) (drop (rowSize w) t))
         after = ap (walked p v fill o) (rows-step w m t h) ∙ walked-cons p v fill o (readRow (take (rowSize w) t)) (readMany readRow (rowSize w) (m - 1) (drop (rowSize w) t))
 
-    module _ {s : Passed} {out₁ : Bytes} (x : Passes w p v fill t m o at out′ s out₁) {size k : ℕ} (es : size ≡ rowSize w) (ek : k ≡ size * s .rows) where
+    module _ {s : Passed} {out₁ : Bytes} (x : Advances w p v fill t m o at out′ s out₁) {size k : ℕ} (es : size ≡ rowSize w) (ek : k ≡ size * s .rows) where
       bytes-passed : k ≡ rowSize w * s .rows
       bytes-passed = ek ∙ ap (λ (i : ℕ). i * s .rows) es
 
@@ -187,7 +187,7 @@ module _ {w : ℕ} {p : Plan} {v : Bytes} {fill : ℕ → List (Deep FlatRow)} {
       }
 
   -- all that may be written stay as they are
-  pub passes-block : 0 < most → most ≤ c .left → run .count ≡ most → Passes w p v fill t m o c out (record { cursor = at; opened = run .opened; rows = most }) out₁
+  pub passes-block : 0 < most → most ≤ c .left → run .count ≡ most → Advances w p v fill t m o c out (record { cursor = at; opened = run .opened; rows = most }) out₁
   passes-block s z e =
       record {
         further = s;
@@ -199,7 +199,7 @@ module _ {w : ℕ} {p : Plan} {v : Bytes} {fill : ℕ → List (Deep FlatRow)} {
   -- the row after the block
   pub passes-row : most ≤ c .left → (run .count ≡ most → ⊥) → {size start : ℕ} {row : Bytes} → size ≡ rowSize w → start ≡ size * run .count → row ≡ take size (drop start t)
       → {s : Stepped} {out₂ : Bytes} → Came w (stepRows p v fill (run .opened) (readRow row)) (stepOpen p v fill (run .opened) (readRow row)) at out₁ s out₂
-      → Passes w p v fill t m o c out (record { cursor = s .cursor; opened = s .opened; rows = run .count + 1 }) out₂
+      → Advances w p v fill t m o c out (record { cursor = s .cursor; opened = s .opened; rows = run .count + 1 }) out₂
   passes-row z e es ea er {s} {out₂} q =
       let is = row-after w (run .count) t es ea er in
       let came = subst (λ (i : Bytes). Came w (stepRows p v fill (run .opened) (readRow i)) (stepOpen p v fill (run .opened) (readRow i)) at out₁ s out₂) is q in

@@ -116,7 +116,7 @@ pub record Going (w : ℕ) (p : Plan) (v : Bytes) (fill : ℕ → List (Deep Fla
   pub long : length out′ ≡ length out
 
 -- what comes of the first rows of m was written, of at least one and of no more than may be written
-pub record Passes (w : ℕ) (p : Plan) (v : Bytes) (fill : ℕ → List (Deep FlatRow)) (t : Bytes) (m : ℕ) (o : Open) (c : Cursor) (out : Bytes) (r : Passed) (out′ : Bytes) : Type 0 where
+pub record Advances (w : ℕ) (p : Plan) (v : Bytes) (fill : ℕ → List (Deep FlatRow)) (t : Bytes) (m : ℕ) (o : Open) (c : Cursor) (out : Bytes) (r : Passed) (out′ : Bytes) : Type 0 where
   pub further : 0 < r .rows
   pub few : r .rows ≤ m
   pub within : r .rows ≤ c .left

@@ -18,7 +18,7 @@ ghost use Rattle.filling.specs.Parts.{widthIn, countIn, sizeIn, Asks, Indexed};
 ghost use Rattle.row_walk.specs.Walk.{isTaken, owed, emitted, nextOpen, walked, atFirst};
 ghost use Rattle.row_walk.specs.Lent.{planIn};
 ghost use Rattle.row_walk.specs.Step.{rowOfHead, bare, Planned};
-ghost use Rattle.walk_writer.specs.Step.{rowRewritten, stepRows, stepOpen, Came, planFilling, fillIn, Settled, Ready, ReadyIn, Near, WalkRow, Seen, WalkRows, PlainRows, Passes};
+ghost use Rattle.walk_writer.specs.Step.{rowRewritten, stepRows, stepOpen, Came, planFilling, fillIn, Settled, Ready, ReadyIn, Near, WalkRow, Seen, WalkRows, PlainRows, Advances};
 
 /// What has been written after a row, and what is open.
 pub struct Stepped {
@@ -275,7 +275,7 @@ fn pass(
 ) -> Passed
     requires { ⌜ ReadyIn (now sizes) (now text) (planIn (now p) (now marks)) × WalkRows (widthIn (now sizes)) count (now rows)
         × (rowSize (widthIn (now sizes)) * count ≤ length (now rows)) × Near o × Room (widthIn (now sizes)) c × (0 < count) × (0 < c .left) ⌝ }
-    ensures { λ r. ⌜ Passes (widthIn (now (sizes .entry))) (planIn (now (p .entry)) (now (marks .entry))) (now (text .entry))
+    ensures { λ r. ⌜ Advances (widthIn (now (sizes .entry))) (planIn (now (p .entry)) (now (marks .entry))) (now (text .entry))
         (fillIn (now (sizes .entry)) (now (form .entry)) (planIn (now (p .entry)) (now (marks .entry))) (now (text .entry))) (now (rows .entry)) count o c (now (out .entry)) r (now (out .exit)) ⌝ }
 {
     let most = count - row_walk::minus(count, c.left);

@@ -33,6 +33,7 @@ use Rattle.form_index.specs.Reading.{definitionIn, attributeIn, particlesBefore
 use Rattle.row_writer.specs.declared.Cursor.{Cursor}
 use Rattle.row_writer.specs.Written.{Written, Room, newRow}
 use Rattle.row_writer.proofs.WrittenLaws.{written-none, written-then, written-as, written-room, written-long}
+use Rattle.filling.proofs.NeededLaws.{unless-none}
 use Rattle.filling.specs.declared.Filling.{Filling}
 use Rattle.filling.specs.declared.Filling.the-variants.{Nothing, Definition, Attribute, Particles}
 use Rattle.filling.specs.Fillings.{newElement, newAttributeRow, requiredRows, fillingsOf, contentRows, fillIndex, groupFilled, fillingRows}
@@ -351,21 +352,28 @@ module _ (d : ℕ) (s : Bytes) (p : Particle) (e : p ≡ particleOf (readParticl
       pub member-element : (i : ℕ) → p .what ≡ Element i → memberFilling d s ≡ i ∷ []
       member-element i w = let z : skips (p .quantifier) ≡ false = sym q ∙ f in told ∙ rw (w, z)
 
-      module _ (k : GroupKind) (n : ℕ) (w : p .what ≡ Group k n) (t : Bytes) (et : t ≡ take (length s - particleSize) (drop particleSize s)) (u : Bool)
-          (eu : u ≡ nothing k (membersFrom (d + 1) t)) where
+      module _ (k : GroupKind) (n : ℕ) (w : p .what ≡ Group k n) (t : Bytes) (et : t ≡ take (length s - particleSize) (drop particleSize s)) where
         at-tail : membersFrom (d + 1) t ≡ membersFrom (suc d) (drop particleSize s)
         at-tail = ap₂ (λ (x : ℕ) (y : Bytes). membersFrom x y) (add-one d) (et ∙ tail-seen s particleSize)
 
-        inside : memberFilling d s ≡ unless u (filling k (membersFrom (d + 1) t))
+        inside : memberFilling d s ≡ groupFilled k (membersFrom (d + 1) t)
+        unfolding groupFilled
         inside =
             let z : skips (p .quantifier) ≡ false = sym q ∙ f in
-            told ∙ rw (w, z, ← at-tail, ← eu)
+            told ∙ rw (w, z, ← at-tail)
 
-        pub member-nothing : u ≡ true → memberFilling d s ≡ []
-        member-nothing h = inside ∙ rw h
+        -- its members fill with nothing
+        pub member-empty : filling k (membersFrom (d + 1) t) ≡ [] → memberFilling d s ≡ []
+        unfolding groupFilled
+        member-empty h = inside ∙ unless-none (nothing k (membersFrom (d + 1) t)) (filling k (membersFrom (d + 1) t)) h
 
-        pub member-group : u ≡ false → memberFilling d s ≡ filling k (membersFrom (d + 1) t)
-        member-group h = inside ∙ rw h
+        -- u: it fills with nothing, whatever its members do
+        module _ (u : Bool) (eu : groupFilled k (membersFrom (d + 1) t) ≡ unless u (filling k (membersFrom (d + 1) t))) where
+          pub member-nothing : u ≡ true → memberFilling d s ≡ []
+          member-nothing h = inside ∙ eu ∙ rw h
+
+          pub member-group : u ≡ false → memberFilling d s ≡ filling k (membersFrom (d + 1) t)
+          member-group h = inside ∙ eu ∙ rw h
 
 -- ---- definitions
 -- the attributes of a form do not depend on its definitions
@@ -473,6 +481,12 @@ module _ (version w : ℕ) (defs parts attrs : Bytes) (a : ℕ) (txt : Bytes) wh
           by zero n m = absurd (n refl)
           by (suc zero) n m = absurd (m refl)
           by (suc (suc k)) n m = refl
+
+      pub below-nothing : (s : Bytes) {c : Cursor} {out : Bytes} → (k ≡ 0 → ⊥) → (k ≡ 1 → ⊥) → s ≡ modelPart defs parts i → filling Sequence (membersFrom 0 s) ≡ []
+          → Written w (belowRows version w defs parts attrs a txt h d i) c out c out
+      unfolding memberRows fillingsOf
+      below-nothing s n m q z =
+          below-group s n m q (written-as (ap (λ (f : List ℕ). memberRows version w defs parts attrs a txt h d f) z) written-none)
 
     -- ---- members; f: the definitions that they fill with
     members-more : (u v : List ℕ) → memberRows version w defs parts attrs a txt h d (u ++ v) ≡ memberRows version w defs parts attrs a txt h d u ++ memberRows version w defs parts attrs a txt h d v

@@ -1,7 +1,7 @@
 -- The filling of what the bytes of a form hold at the width `w` of a value:
 -- of particles, of definitions, of what a change fills with.
 use Prim.Native.Nat.{ℕ, zero, suc, _+_, _*_, _<_, _≤_}
-use mathlib.Core.Bool.{Bool, false, not, _||_}
+use mathlib.Core.Bool.{Bool, true, false, not, _||_}
 use mathlib.Core.List.{List, [], _∷_}
 use lib.Dec.{ltb}
 use lib.ListN.{length, drop, getD}
@@ -12,13 +12,13 @@ use Rattle.rules.specs.declared.Quantifier.{Quantifier}
 use Rattle.rules.specs.Bytes.{Bytes}
 use Rattle.rules.specs.Model.{Members, skips, nothing, unless, filling}
 use Rattle.rules.specs.Preorder.{Deep}
-use Rattle.rules.specs.Layout.{FlatAttribute, FlatRow}
+use Rattle.rules.specs.Layout.{FlatAttribute, FlatParticle, FlatRow}
 use Rattle.rules.specs.Decode.{quantifierOf, groupOf, readParticle, sortOf}
 use Rattle.rules.specs.Filling.{createdValue}
 use Rattle.model.specs.declared.What.{What}
 use Rattle.model.specs.declared.What.the-variants.{Element, Group}
 use Rattle.model.specs.Particle.{particleOf}
-use Rattle.model.specs.Members.{membersFrom, allMembers}
+use Rattle.model.specs.Members.{particlesOf, membersFrom, allMembers}
 use Rattle.layout.specs.Bodies.{Width}
 use Rattle.form_index.specs.Indices.{IndexForm}
 use Rattle.form_index.specs.Reading.{definitionIn, attributeIn, modelPart, attributesOf, indexForm}
@@ -63,6 +63,25 @@ sortNothing q (suc k) below = skips q || nothing (groupOf (suc k)) below
 -- the particle of depth d that s begins with
 unfoldable pub memberNothing : ℕ → Bytes → Bool
 memberNothing d s = sortNothing (quantifierOf (getD s particleQuantifierAt 0)) (getD s particleSortAt 0) (membersFrom (suc d) (drop particleSize s))
+
+-- ---- 'a particle that accepts nothing fills with nothing', told of the particles of a group at one go
+-- a particle by its sort and quantifier is an element that must be there
+abbrev pub elementNeeded : ℕ → Quantifier → Bool
+elementNeeded zero q = not (skips q)
+elementNeeded (suc k) q = false
+
+-- none of the particles is one, up to the first of a depth less than d: of the members of depth d, and below them; and
+-- of those that s holds
+unfoldable pub noneNeeded : ℕ → List (Deep FlatParticle) → Bool
+noneNeeded d [] = true
+noneNeeded d (p ∷ ps) =
+    elim (ltb (p .depth) d) [
+      | true ↦ true
+      | false ↦ elim (elementNeeded (p .row .sort) (quantifierOf (p .row .quantifier))) [ true ↦ false | false ↦ noneNeeded d ps ]
+    ]
+
+unfoldable pub noElementNeeded : ℕ → Bytes → Bool
+noElementNeeded d s = noneNeeded d (particlesOf s)
 
 -- the members of depth e from particle k on
 unfoldable pub membersReadAt : Bytes → ℕ → ℕ → Members ℕ

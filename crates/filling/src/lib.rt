@@ -15,8 +15,9 @@ ghost use Rattle.layout.specs.Bodies.{Width};
 ghost use Rattle.row_writer.specs.Written.{Room, Written, newRow};
 ghost use Rattle.filling.specs.Fillings.{groupFilled, fillingRows};
 ghost use Rattle.filling.specs.Parts.{leftOut, passed, settled, memberNothing, memberFilling, valueIn, requiredAt, requiredIn, membersReadAt, partsIn};
+ghost use Rattle.filling.specs.Parts.{elementNeeded, noElementNeeded};
 ghost use Rattle.filling.specs.Parts.{widthIn, countIn, definitionFilled, membersFilled, belowFilled, changeFilled, cursorIn, Asks, Indexed};
-ghost use Rattle.layout.specs.Fields.{particleQuantifierAt};
+ghost use Rattle.layout.specs.Fields.{particleQuantifierAt, particleSortAt};
 ghost use Rattle.rules.specs.Layout.{particleSize};
 
 /// What a change fills with: nothing, a definition by its index, one row of an attribute by its index, or a group of a
@@ -128,6 +129,35 @@ fn fills_nothing(s: &[u8], d: usize, kind: GroupKind) -> bool
         GroupKind::Sequence => false,
         GroupKind::Choice => accepts_nothing(s, d, GroupKind::Choice),
     }
+}
+
+// Whether the particle that t begins with is an element that must be there.
+fn is_needed(t: &[u8]) -> bool
+    ensures { λ r. ⌜ r ≡ elementNeeded (getD (now (t .entry)) particleSortAt 0) (quantifierOf (getD (now (t .entry)) particleQuantifierAt 0)) ⌝ }
+{
+    match layout::particle_sort(t) {
+        0 => !is_optional(t),
+        _ => false,
+    }
+}
+
+// Whether no element among the members of depth d that s begins with, and below them, must be there: then a group of
+// them fills with nothing, whatever its kind. One scan tells it, with no look at what each group in it accepts.
+fn needs_no_element(s: &[u8], d: usize) -> bool
+    ensures { λ r. ⌜ r ≡ noElementNeeded d (now (s .entry)) ⌝ }
+{
+    let mut t = s;
+    while t.len() >= PARTICLE_SIZE {
+        let own = layout::particle_depth(t) as usize;
+        if own < d {
+            return true;
+        }
+        if is_needed(t) {
+            return false;
+        }
+        t = &t[PARTICLE_SIZE..];
+    }
+    true
 }
 
 // The value that attribute j has in a created row, where it is one that must be present.
@@ -275,7 +305,10 @@ fn put_member(
         What::Element(i) => put_definition(i, form, text, sizes, h, depth, c, out),
         What::Group(k, _) => {
             let t = &s[PARTICLE_SIZE..];
-            if accepts_nothing(t, d + 1, k) {
+            if needs_no_element(t, d + 1) {
+                return;
+            }
+            if fills_nothing(t, d + 1, k) {
                 return;
             }
             put_group(t, d + 1, k, form, text, sizes, h, depth, c, out)
@@ -329,6 +362,9 @@ fn put_below(
         1 => put_row(sizes[0], 3, depth, 0, *text, c, out),
         _ => {
             let s = form_index::model_part(form[0], form[1], i);
+            if needs_no_element(s, 0) {
+                return;
+            }
             put_group(
                 s,
                 0,

@@ -1,13 +1,13 @@
-use mathlib.Core.Path.{refl}
+use mathlib.Core.Path.{refl, sym, _∙_}
 use lib.ListN.{take, drop, length-take, length-drop, length}
-use Rattle.rules.specs.Model.{filling}
-use Rattle.model.specs.Members.{membersFrom}
+use Rattle.rules.specs.declared.GroupKind.the-variants.{Sequence}
 use Rattle.row_writer.proofs.WrittenLaws.{written-stop, written-room, written-long}
 use Rattle.filling.specs.Parts.{defsIn, partsIn, attrsIn, widthIn, countIn, versionOfFilling, cursorIn}
 use Rattle.filling.proofs.FillingLaws.{Rest, rest-starts, rest-past, rest-here, rest-on, rest-first, rest-over, rest-ends, member-skips, member-element}
-use Rattle.filling.proofs.FillingLaws.{member-nothing, member-group, definition-low, definition-written, below-none, below-text, below-group}
+use Rattle.filling.proofs.FillingLaws.{member-empty, member-nothing, member-group, definition-low, definition-written, below-none, below-text, below-group}
 use Rattle.filling.proofs.FillingLaws.{none-written, one-written, same-written, index-small, top, rank, rank-particles, rank-part, rank-height}
-use Rattle.filling.proofs.FillingLaws.{part-short}
+use Rattle.filling.proofs.FillingLaws.{part-short, below-nothing}
+use Rattle.filling.proofs.NeededLaws.{no-element-filled}
 use borrow.Author.Needs.{needs}
 use native.Mathlib.Omega.{arith}
 use Prim.Native.Nat.{ℕ, _<_, _+_, _-_, _*_}
@@ -26,8 +26,9 @@ use Rattle.filling.proofs.put_member.Reads as put-member
 use Rattle.filling.proofs.put_member.Kinds as put-member-kinds
 use Rattle.filling.proofs.+put_below+put_definition+put_group+put_member.Lts-put_member as put-member-lts
 use Rattle.layout.proofs.particle_depth.Reads as particle-depth-reads
-use Rattle.filling.proofs.accepts_nothing.Reads as accepts-nothing-reads
+use Rattle.filling.proofs.fills_nothing.Reads as fills-nothing-reads
 use Rattle.filling.proofs.is_passed.Reads as is-passed-reads
+use Rattle.filling.proofs.needs_no_element.Reads as needs-no-element-reads
 use Rattle.filling.proofs.put_required.Reads as put-required-reads
 use Rattle.filling.proofs.put_row.Reads as put-row-reads
 use Rattle.model.proofs.read_particle.Reads as read-particle-reads
@@ -89,7 +90,18 @@ put-member-below t =
     and 8 put-member-kinds.ps (falls 8 put-member-kinds.ps _<_ μ-put-member t) put-member.Pre
 
 abbrev put-below-calls : ℕ → put-below-lts.Claims
-put-below-calls t = (kind-of-reads.Asked, kind-of-reads.Learnt, put-row-reads.Asked, put-row-reads.Learnt, model-part-reads.Asked, model-part-reads.Learnt, put-group-below t, put-group.Post)
+put-below-calls t = (
+  kind-of-reads.Asked,
+  kind-of-reads.Learnt,
+  put-row-reads.Asked,
+  put-row-reads.Learnt,
+  model-part-reads.Asked,
+  model-part-reads.Learnt,
+  needs-no-element-reads.Asked,
+  needs-no-element-reads.Learnt,
+  put-group-below t,
+  put-group.Post,
+)
 
 abbrev put-definition-calls : ℕ → put-definition-lts.Claims
 put-definition-calls t = (put-row-reads.Asked, put-row-reads.Learnt, put-required-reads.Asked, put-required-reads.Learnt, put-below-below t, put-below.Post)
@@ -105,8 +117,10 @@ put-member-calls t = (
   skips-reads.Learnt,
   put-definition-below t,
   put-definition.Post,
-  accepts-nothing-reads.Asked,
-  accepts-nothing-reads.Learnt,
+  needs-no-element-reads.Asked,
+  needs-no-element-reads.Learnt,
+  fills-nothing-reads.Asked,
+  fills-nothing-reads.Learnt,
   put-group-below t,
   put-group.Post,
 )
@@ -135,9 +149,24 @@ put-below-element-copy-out-model-part-2 t c = search needs
 put-below-model-part-requires : (t : ℕ) → put-below-lts.Need-model-part-requires (put-below-calls t) (put-below-at t) put-below.Post
 put-below-model-part-requires t c κs = search needs
 
+put-below-needs-no-element-requires : (t : ℕ) → put-below-lts.Need-needs-no-element-requires (put-below-calls t) (put-below-at t) put-below.Post
+put-below-needs-no-element-requires t c κs = search needs
+
+put-below-returns : (t : ℕ) → put-below-lts.Need-returns (put-below-calls t) (put-below-at t) put-below.Post
+put-below-returns t c =
+    let at-needs = c .before in
+    let at-model-part = at-needs .before in
+    let at-match = at-model-part .before .before .before in
+    let at-kind-of = at-match .before in
+    let start = at-kind-of .before .before .before in
+    let a = start .args in
+    below-nothing (versionOfFilling (a .sizes .now)) (widthIn (a .sizes .now)) (defsIn (a .form .now)) (partsIn (a .form .now)) (attrsIn (a .form .now))
+    (countIn (a .sizes .now)) (a .text .now .now) (a .h) (a .depth) (a .i) _ (at-kind-of .kind-of .ensures) _ (at-match .match .rest .0 .1) (at-match .match .rest .1)
+    (at-model-part .model-part .ensures) (no-element-filled Sequence 0 _ (sym (at-needs .needs-no-element .ensures) ∙ c .if1 .taken))
+
 put-below-put-group-requires : (t : ℕ) → put-below-lts.Need-put-group-requires (put-below-calls t) (put-below-at t) put-below.Post
 put-below-put-group-requires t c κs =
-    let at-model-part = c .before .before in
+    let at-model-part = c .before .before .before .before in
     let start = at-model-part .before .before .before .before .before .before .before in
     let a = start .args in
     let q = start .pre .1 .1 in
@@ -145,8 +174,8 @@ put-below-put-group-requires t c κs =
     part-short (defsIn (a .form .now)) (partsIn (a .form .now)) (a .i) (at-model-part .model-part .result .now) (at-model-part .model-part .ensures) in
     (omega (arith, rank-part (a .h) (length (at-model-part .model-part .result .now)) (omega arith)), (omega arith, q))
 
-put-below-returns : (t : ℕ) → put-below-lts.Need-returns (put-below-calls t) (put-below-at t) put-below.Post
-put-below-returns t c =
+put-below-returns-2 : (t : ℕ) → put-below-lts.Need-returns-2 (put-below-calls t) (put-below-at t) put-below.Post
+put-below-returns-2 t c =
     let start = c .before .before .before .before in
     let a = start .args in
     below-none (versionOfFilling (a .sizes .now)) (widthIn (a .sizes .now)) (defsIn (a .form .now)) (partsIn (a .form .now)) (attrsIn (a .form .now))
@@ -155,8 +184,8 @@ put-below-returns t c =
 put-below-same-length : (t : ℕ) → put-below-lts.Need-same-length (put-below-calls t) (put-below-at t) put-below.Post
 put-below-same-length t c = search needs
 
-put-below-returns-2 : (t : ℕ) → put-below-lts.Need-returns-2 (put-below-calls t) (put-below-at t) put-below.Post
-put-below-returns-2 t c =
+put-below-returns-3 : (t : ℕ) → put-below-lts.Need-returns-3 (put-below-calls t) (put-below-at t) put-below.Post
+put-below-returns-3 t c =
     let put-row = c .before .before .put-row in
     let kind-of = c .before .before .before .before .before .before .before .before .kind-of in
     let a = c .before .before .before .before .before .before .before .before .before .before .before .args in
@@ -166,15 +195,17 @@ put-below-returns-2 t c =
 put-below-same-length-2 : (t : ℕ) → put-below-lts.Need-same-length-2 (put-below-calls t) (put-below-at t) put-below.Post
 put-below-same-length-2 t c = search needs
 
-put-below-returns-3 : (t : ℕ) → put-below-lts.Need-returns-3 (put-below-calls t) (put-below-at t) put-below.Post
-put-below-returns-3 t c =
-    let the-put-group = c .before .before .put-group in
-    let model-part = c .before .before .before .before .before .model-part in
-    let kind-of = c .before .before .before .before .before .before .before .before .before .kind-of in
-    let a = c .before .before .before .before .before .before .before .before .before .before .before .before .args in
+put-below-returns-4 : (t : ℕ) → put-below-lts.Need-returns-4 (put-below-calls t) (put-below-at t) put-below.Post
+put-below-returns-4 t c =
+    let at-put-group = c .before .before in
+    let at-model-part = at-put-group .before .before .before .before .before in
+    let at-match = at-model-part .before .before .before in
+    let at-kind-of = at-match .before in
+    let start = at-kind-of .before .before .before in
+    let a = start .args in
     below-group (versionOfFilling (a .sizes .now)) (widthIn (a .sizes .now)) (defsIn (a .form .now)) (partsIn (a .form .now)) (attrsIn (a .form .now))
-    (countIn (a .sizes .now)) (a .text .now .now) (a .h) (a .depth) (a .i) _ (kind-of .ensures) _ (λ e. omega arith) (λ e. omega arith)
-    (model-part .ensures) (the-put-group .ensures)
+    (countIn (a .sizes .now)) (a .text .now .now) (a .h) (a .depth) (a .i) _ (at-kind-of .kind-of .ensures) _ (at-match .match .rest .0 .1) (at-match .match .rest .1)
+    (at-model-part .model-part .ensures) (at-put-group .put-group .ensures)
 
 put-definition-returns : (t : ℕ) → put-definition-lts.Need-returns (put-definition-calls t) (put-definition-at t) put-definition.Post
 put-definition-returns t c =
@@ -436,11 +467,11 @@ put-member-part-t-start t c = search needs
 put-member-part-t-end : (t : ℕ) → put-member-lts.Need-part-t-end (put-member-calls t) (put-member-at t) put-member.Post
 put-member-part-t-end t c = search needs
 
-put-member-add-accepts-nothing : (t : ℕ) → put-member-lts.Need-add-accepts-nothing (put-member-calls t) (put-member-at t) put-member.Post
-put-member-add-accepts-nothing t c = search needs
+put-member-add-needs-no-element : (t : ℕ) → put-member-lts.Need-add-needs-no-element (put-member-calls t) (put-member-at t) put-member.Post
+put-member-add-needs-no-element t c = search needs
 
-put-member-accepts-nothing-requires : (t : ℕ) → put-member-lts.Need-accepts-nothing-requires (put-member-calls t) (put-member-at t) put-member.Post
-put-member-accepts-nothing-requires t c κs = search needs
+put-member-needs-no-element-requires : (t : ℕ) → put-member-lts.Need-needs-no-element-requires (put-member-calls t) (put-member-at t) put-member.Post
+put-member-needs-no-element-requires t c κs = search needs
 
 put-member-returns-2 : (t : ℕ) → put-member-lts.Need-returns-2 (put-member-calls t) (put-member-at t) put-member.Post
 put-member-returns-2 t c =
@@ -452,15 +483,36 @@ put-member-returns-2 t c =
     let a = start .args in
     none-written (versionOfFilling (a .sizes .now)) (widthIn (a .sizes .now)) (defsIn (a .form .now)) (partsIn (a .form .now)) (attrsIn (a .form .now))
     (countIn (a .sizes .now)) (a .text .now .now) (a .h) (a .depth) _
+    (member-empty (a .d) (a .s .now) _ (at-read-particle .read-particle .ensures) _ (at-skips .skips .ensures) (at-if1 .if1 .left) _ _
+    (at-what2 .what2 .given .1) _ refl (no-element-filled _ (a .d + 1) _ (sym (c .before .needs-no-element .ensures) ∙ c .if2 .taken)))
+
+put-member-add-fills-nothing : (t : ℕ) → put-member-lts.Need-add-fills-nothing (put-member-calls t) (put-member-at t) put-member.Post
+put-member-add-fills-nothing t c = search needs
+
+put-member-fills-nothing-requires : (t : ℕ) → put-member-lts.Need-fills-nothing-requires (put-member-calls t) (put-member-at t) put-member.Post
+put-member-fills-nothing-requires t c κs = search needs
+
+put-member-returns-3 : (t : ℕ) → put-member-lts.Need-returns-3 (put-member-calls t) (put-member-at t) put-member.Post
+put-member-returns-3 t c =
+    let at-fills-nothing = c .before in
+    let at-what2 = at-fills-nothing .before .before .before .before .before in
+    let at-if1 = at-what2 .before .before in
+    let at-skips = at-if1 .before in
+    let at-read-particle = at-skips .before in
+    let start = at-read-particle .before .before .before in
+    let a = start .args in
+    none-written (versionOfFilling (a .sizes .now)) (widthIn (a .sizes .now)) (defsIn (a .form .now)) (partsIn (a .form .now)) (attrsIn (a .form .now))
+    (countIn (a .sizes .now)) (a .text .now .now) (a .h) (a .depth) _
     (member-nothing (a .d) (a .s .now) _ (at-read-particle .read-particle .ensures) _ (at-skips .skips .ensures) (at-if1 .if1 .left) _ _
-    (at-what2 .what2 .given .1) _ refl _ (c .before .accepts-nothing .ensures) (c .if2 .taken))
+    (at-what2 .what2 .given .1) _ refl _ (at-fills-nothing .fills-nothing .ensures) (c .if3 .taken))
 
 put-member-add-put-group : (t : ℕ) → put-member-lts.Need-add-put-group (put-member-calls t) (put-member-at t) put-member.Post
 put-member-add-put-group t c = search needs
 
 put-member-put-group-requires : (t : ℕ) → put-member-lts.Need-put-group-requires (put-member-calls t) (put-member-at t) put-member.Post
 put-member-put-group-requires t c κs =
-    let start = c .before .before .before .before .before .before .before .before .before .before .before .before .before in
+    let at-what2 = c .before .before .before .before .before .before .before .before in
+    let start = at-what2 .before .before .before .before .before .before .before in
     let a = start .args in
     let q = start .pre .1 .2 in (
       omega (
@@ -474,8 +526,8 @@ put-member-put-group-requires t c κs =
 put-member-same-length : (t : ℕ) → put-member-lts.Need-same-length (put-member-calls t) (put-member-at t) put-member.Post
 put-member-same-length t c = search needs
 
-put-member-returns-3 : (t : ℕ) → put-member-lts.Need-returns-3 (put-member-calls t) (put-member-at t) put-member.Post
-put-member-returns-3 t c =
+put-member-returns-4 : (t : ℕ) → put-member-lts.Need-returns-4 (put-member-calls t) (put-member-at t) put-member.Post
+put-member-returns-4 t c =
     let at-put-definition = c .before .before in
     let at-what = at-put-definition .before .before .before .before in
     let at-if1 = at-what .before .before in
@@ -492,12 +544,12 @@ put-member-returns-3 t c =
 put-member-same-length-2 : (t : ℕ) → put-member-lts.Need-same-length-2 (put-member-calls t) (put-member-at t) put-member.Post
 put-member-same-length-2 t c = search needs
 
-put-member-returns-4 : (t : ℕ) → put-member-lts.Need-returns-4 (put-member-calls t) (put-member-at t) put-member.Post
-put-member-returns-4 t c =
+put-member-returns-5 : (t : ℕ) → put-member-lts.Need-returns-5 (put-member-calls t) (put-member-at t) put-member.Post
+put-member-returns-5 t c =
     let at-put-group = c .before .before in
-    let at-if2 = at-put-group .before .before .before in
-    let at-accepts-nothing = at-if2 .before in
-    let at-what2 = at-accepts-nothing .before .before .before in
+    let at-if3 = at-put-group .before .before .before in
+    let at-fills-nothing = at-if3 .before in
+    let at-what2 = at-fills-nothing .before .before .before .before .before in
     let at-if1 = at-what2 .before .before in
     let at-skips = at-if1 .before in
     let at-read-particle = at-skips .before in
@@ -506,7 +558,7 @@ put-member-returns-4 t c =
     same-written (versionOfFilling (a .sizes .now)) (widthIn (a .sizes .now)) (defsIn (a .form .now)) (partsIn (a .form .now)) (attrsIn (a .form .now))
     (countIn (a .sizes .now)) (a .text .now .now) (a .h) (a .depth) _ _
     (member-group (a .d) (a .s .now) _ (at-read-particle .read-particle .ensures) _ (at-skips .skips .ensures) (at-if1 .if1 .left) _ _
-    (at-what2 .what2 .given .1) _ refl _ (at-accepts-nothing .accepts-nothing .ensures) (at-if2 .if2 .left))
+    (at-what2 .what2 .given .1) _ refl _ (at-fills-nothing .fills-nothing .ensures) (at-if3 .if3 .left))
     (at-put-group .put-group .ensures)
 
 pub +put-below+put-definition+put-group+put-member-spec : {M : Type 1} → statement M
@@ -521,12 +573,14 @@ pub +put-below+put-definition+put-group+put-member-spec : {M : Type 1} → state
     (put-below-element-copy-out-model-part t)
     (put-below-element-copy-out-model-part-2 t)
     (put-below-model-part-requires t)
-    (put-below-put-group-requires t)
+    (put-below-needs-no-element-requires t)
     (put-below-returns t)
-    (put-below-same-length t)
+    (put-below-put-group-requires t)
     (put-below-returns-2 t)
+    (put-below-same-length t)
+    (put-below-returns-3 t)
     (put-below-same-length-2 t)
-    (put-below-returns-3 t))
+    (put-below-returns-4 t))
     (λ t. put-definition-lts.spec (put-definition-calls t)
     (put-definition-at t)
     put-definition.Post
@@ -587,12 +641,15 @@ pub +put-below+put-definition+put-group+put-member-spec : {M : Type 1} → state
     (put-member-sub-t t)
     (put-member-part-t-start t)
     (put-member-part-t-end t)
-    (put-member-add-accepts-nothing t)
-    (put-member-accepts-nothing-requires t)
+    (put-member-add-needs-no-element t)
+    (put-member-needs-no-element-requires t)
     (put-member-returns-2 t)
+    (put-member-add-fills-nothing t)
+    (put-member-fills-nothing-requires t)
+    (put-member-returns-3 t)
     (put-member-add-put-group t)
     (put-member-put-group-requires t)
     (put-member-same-length t)
-    (put-member-returns-3 t)
-    (put-member-same-length-2 t)
     (put-member-returns-4 t)
+    (put-member-same-length-2 t)
+    (put-member-returns-5 t)

@@ -27,7 +27,7 @@ const AT_THE_LAST: &[&str] = &[
     "set_text LAST x2d",
 ];
 
-pub const CASES: [Case; 22] = [
+pub const CASES: [Case; 24] = [
     Case {
         name: "children of one root",
         store: texts,
@@ -228,6 +228,18 @@ pub const CASES: [Case; 22] = [
             "add_document 1 x2d",
             "add_element LAST 0 1 x2d",
         ],
+    },
+    Case {
+        name: "2,047 empty models in a filling",
+        store: doubling_of_none,
+        rows: [1, 2, 2],
+        changes: &["add_document 1 x2d"],
+    },
+    Case {
+        name: "1,023 long models in a filling",
+        store: doubling_of_one,
+        rows: [1, 2, 2],
+        changes: &["add_document 1 x2d"],
     },
     Case {
         name: "all ceilings",

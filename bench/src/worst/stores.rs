@@ -226,3 +226,27 @@ pub fn exploding(rows: usize) -> Store {
     store.form.definitions[0].model = model;
     with_documents(store, rows)
 }
+
+/// A definition with the next two below it, each with the next two, so many times; below each of these an element with a long model, of whose members so
+/// many are needed.
+fn doubling(levels: usize, needed: usize, rows: usize) -> Store {
+    let long = 2 * levels;
+    let mut store = nested_form(MAX_DEFINITIONS, 0);
+    for index in 1..long {
+        let next = 2 * (index / 2) + 2;
+        let below = [next, next + 1].into_iter().filter(|&next| next < long);
+        let model = below.chain([long]).map(member).collect();
+        store.form.definitions[index].model = model;
+    }
+    let model = packed(long + 1..=LAST, needed, Quantifier::None);
+    store.form.definitions[long].model = vec![model];
+    with_documents(store, rows)
+}
+
+pub fn doubling_of_none(rows: usize) -> Store {
+    doubling(11, 0, rows)
+}
+
+pub fn doubling_of_one(rows: usize) -> Store {
+    doubling(10, 1, rows)
+}

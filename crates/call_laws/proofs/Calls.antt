@@ -1,17 +1,19 @@
 -- What a call answers whose change is a plan over the rows, and what the writer asks of the plan.
-use Prim.Native.Nat.{ℕ}
+use Prim.Native.Nat.{ℕ, _≤_}
 use native.Mathlib.Omega.{arith}
 use mathlib.Core.Path.{_≡_, refl, sym, ap, _∙_, subst}
 use mathlib.Core.Bool.{Bool, true, false, not}
 use mathlib.Core.List.{[]}
-use lib.ListN.{length}
+use lib.ListN.{length, length-map}
 use Rattle.rules.specs.Bytes.{Bytes}
-use Rattle.rules.specs.Layout.{FlatStore, flat}
+use Rattle.rules.specs.Store.{Store}
+use Rattle.rules.specs.Layout.{FlatStore, flat, flatDefinition}
 use Rattle.rules.specs.WellFormed.{isValue}
 use Rattle.rules.specs.Passing.{good, passes}
 use Rattle.rules.specs.Change.{Call, after}
 use Rattle.rules.specs.Refusal.{first, conditions}
 use Rattle.rules.specs.Outcome.{outcome, Answers}
+use Rattle.rules.proofs.DecodeLaws.{good-parts}
 use Rattle.layout.specs.Bodies.{widthOf}
 use Rattle.lookup.specs.Bodies.{bodiesOf}
 use Rattle.row_walk.specs.Step.{Planned}
@@ -46,6 +48,9 @@ module _ (c : Call) (bs : Bytes) (room : ℕ) (out : Bytes) where
 -- ---- what the writer asks of a plan and its text
 pub unmoved-small : (p : Plan) → p .definitions .more ≡ 0 → p .attributes .more ≡ 0 → Planned p
 unmoved-small p d a = record { definitions = record { more = omega (arith, d) }; attributes = record { more = omega (arith, a) } }
+
+pub few-definitions : (s : Store) → good s ≡ true → length (s .form) ≤ 64
+few-definitions s g = omega (arith, length-map (s .form) (flatDefinition (s .form)), good-parts s g .definitionCount)
 
 abbrev pub Asks : Bytes → Bytes → Plan → Type 0
 Asks bs v p = (passes bs ≡ true) × (isValue (widthOf bs) v ≡ true) × Sized p

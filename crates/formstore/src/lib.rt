@@ -184,7 +184,7 @@ pub fn convert_to_group(
 ) -> Answer
     ensures { λ r. ⌜ Promise (convertToGroup owner (now (place .entry)) count sort) (now (store .entry)) (now (out .entry)) (r .number) (r .length) (now (out .exit)) ⌝ }
 {
-    group_calls::convert_to_group(store, owner, place, count, sort, out)
+    convert_call::convert_to_group(store, owner, place, count, sort, out)
 }
 
 #[no_mangle]
@@ -198,14 +198,14 @@ pub extern "C" fn formstore_convert_to_group(
 ) -> Answer
     ensures { λ r. ⌜ Promise (convertToGroup owner (now (place .entry)) count sort) (now (store .entry)) (now (out .entry)) (r .number) (r .length) (now (out .exit)) ⌝ }
 {
-    group_calls::convert_to_group(store, owner, place, count, sort, out)
+    convert_call::convert_to_group(store, owner, place, count, sort, out)
 }
 
 /// 7: flattens a group into its list.
 pub fn flatten_group(store: &[u8], owner: u32, place: &[u32], out: &mut [u8]) -> Answer
     ensures { λ r. ⌜ Promise (flattenGroup owner (now (place .entry))) (now (store .entry)) (now (out .entry)) (r .number) (r .length) (now (out .exit)) ⌝ }
 {
-    group_calls::flatten_group(store, owner, place, out)
+    flatten_call::flatten_group(store, owner, place, out)
 }
 
 #[no_mangle]
@@ -217,7 +217,7 @@ pub extern "C" fn formstore_flatten_group(
 ) -> Answer
     ensures { λ r. ⌜ Promise (flattenGroup owner (now (place .entry))) (now (store .entry)) (now (out .entry)) (r .number) (r .length) (now (out .exit)) ⌝ }
 {
-    group_calls::flatten_group(store, owner, place, out)
+    flatten_call::flatten_group(store, owner, place, out)
 }
 
 /// 8: changes a group's quantifier.
@@ -298,7 +298,7 @@ pub extern "C" fn formstore_destroy_attribute(
 pub fn add_document(store: &[u8], definition: u32, text: &[u8], out: &mut [u8]) -> Answer
     ensures { λ r. ⌜ Promise (addDocument definition (now (text .entry))) (now (store .entry)) (now (out .entry)) (r .number) (r .length) (now (out .exit)) ⌝ }
 {
-    element_calls::add_document(store, definition, text, out)
+    document_call::add_document(store, definition, text, out)
 }
 
 #[no_mangle]
@@ -310,7 +310,7 @@ pub extern "C" fn formstore_add_document(
 ) -> Answer
     ensures { λ r. ⌜ Promise (addDocument definition (now (text .entry))) (now (store .entry)) (now (out .entry)) (r .number) (r .length) (now (out .exit)) ⌝ }
 {
-    element_calls::add_document(store, definition, text, out)
+    document_call::add_document(store, definition, text, out)
 }
 
 /// 12: adds the filling of a definition as child number `child` of an element.

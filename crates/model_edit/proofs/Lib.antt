@@ -3,3 +3,4 @@ pub mod Small
 pub mod Edits
 pub mod FormWriting
 pub mod Fits
+pub mod Keeping

@@ -1,4 +1,4 @@
--- `group_calls::flatten_group` meets its contract.
+-- `flatten_call::flatten_group` meets its contract.
 use mathlib.Core.Path.{refl, sym, _∙_}
 use lib.ListN.{length}
 use borrow.Author.Tests.{not-true, not-false}
@@ -9,10 +9,11 @@ use Rattle.model_writer.specs.declared.Edit.the-variants.{Flatten}
 use Rattle.store_writer.proofs.CallLaws.{answers-bad, answers-refused}
 use Rattle.store_writer.proofs.LimitLaws.{answers-as}
 use Rattle.model_edit.proofs.Fits.{asks}
-use Rattle.group_calls.proofs.Keeping.{flatten-fits, kept-answers, keeping-sized, flatten-form, flatten-plan}
+use Rattle.model_edit.proofs.Keeping.{kept-answers, keeping-sized}
+use Rattle.flatten_call.proofs.Laws.{flatten-fits, flatten-form, flatten-plan}
 use borrow.Author.Needs.{needs}
-use Rattle.group_calls.proofs.flatten_group.Statement.{statement}
-use Rattle.group_calls.proofs.flatten_group.Tie as tie
+use Rattle.flatten_call.proofs.flatten_group.Statement.{statement}
+use Rattle.flatten_call.proofs.flatten_group.Tie as tie
 use Rattle.rules.proofs.WellFormedLaws.{none-value}
 use Rattle.layout.specs.Bodies.{widthOf}
 

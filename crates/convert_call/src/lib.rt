@@ -1,10 +1,10 @@
-//! Changes 6 and 7: members converted into a group, and a group flattened. Each call is the check, the first refusal
-//! that applies or the place, and an edit of the owner's model there; all rows stay.
+//! Change 6: members converted into a group. The call is the check, the first refusal that applies or the place, and an
+//! edit of the owner's model there; all rows stay.
 use model_writer::Edit;
 use store_writer::Answer;
 ghost use mathlib.Core.Path.{_≡_};
 ghost use lib.ListN.{length};
-ghost use Rattle.rules.specs.Change.{convertToGroup, flattenGroup};
+ghost use Rattle.rules.specs.Change.{convertToGroup};
 ghost use Rattle.rules.specs.Outcome.{outcome, Answers};
 
 /// 6: converts `count` members from a place on into a group.
@@ -33,23 +33,4 @@ pub fn convert_to_group(
     let h = members.holder;
     let p = members.particle;
     model_edit::edit_model(store, o, edit, h, p, plan, &store[..0], out)
-}
-
-/// 7: flattens a group into its list.
-pub fn flatten_group(store: &[u8], owner: u32, place: &[u32], out: &mut [u8]) -> Answer
-    ensures { λ r. ⌜ Answers (outcome (flattenGroup owner (now (place .entry))) (now (store .entry)) (length (now (out .entry)))) (now (out .entry)) (r .number) (r .length) (now (out .exit)) ⌝ }
-{
-    if !store_check::passes(store) {
-        return store_writer::refused(1);
-    }
-    let group = group_refusals::flatten_group_refusal(store, owner, place);
-    let number = group.number;
-    if number != 0 {
-        return store_writer::refused(number);
-    }
-    let o = owner as usize;
-    let plan = plans::setting_plan(0);
-    let h = group.holder;
-    let p = group.particle;
-    model_edit::edit_model(store, o, Edit::Flatten, h, p, plan, &store[..0], out)
 }

@@ -1,4 +1,4 @@
--- `element_calls::add_document` meets its contract.
+-- `document_call::add_document` meets its contract.
 use borrow.Author.Needs.{needs}
 use mathlib.Core.List.{[]}
 use lib.ListN.{length}
@@ -6,11 +6,11 @@ use Rattle.rules.specs.Change.{addDocument}
 use Rattle.store_laws.specs.Stores.{storeIn}
 use Rattle.plans.specs.CallPlans.{addDocumentPlan}
 use Rattle.plans.proofs.CallsPlanned.{add-document-planned}
-use Rattle.element_calls.proofs.add_document.Statement.{statement}
-use Rattle.element_calls.proofs.add_document.Tie as tie
+use Rattle.document_call.proofs.add_document.Statement.{statement}
+use Rattle.document_call.proofs.add_document.Tie as tie
 use Rattle.store_writer.proofs.CallLaws.{passed, bad, turned-away}
 use Rattle.call_laws.proofs.Calls.{made-planned}
-use Rattle.element_calls.proofs.Laws.{add-document-asks}
+use Rattle.document_call.proofs.Laws.{add-document-asks}
 
 passes-requires : tie.Need-passes-requires
 passes-requires c κs = search needs

@@ -1,4 +1,4 @@
--- `group_calls::convert_to_group` meets its contract.
+-- `convert_call::convert_to_group` meets its contract.
 use mathlib.Core.Path.{sym, ap, _∙_}
 use lib.ListN.{length}
 use borrow.Author.Tests.{not-true, not-false}
@@ -11,10 +11,11 @@ use Rattle.model_writer.specs.declared.Edit.the-variants.{Convert}
 use Rattle.store_writer.proofs.CallLaws.{answers-bad, answers-refused}
 use Rattle.store_writer.proofs.LimitLaws.{answers-as}
 use Rattle.model_edit.proofs.Fits.{asks}
-use Rattle.group_calls.proofs.Keeping.{convert-fits, kept-answers, keeping-sized, convert-form, convert-plan}
+use Rattle.model_edit.proofs.Keeping.{kept-answers, keeping-sized}
+use Rattle.convert_call.proofs.Laws.{convert-fits, convert-form, convert-plan}
 use borrow.Author.Needs.{needs}
-use Rattle.group_calls.proofs.convert_to_group.Statement.{statement}
-use Rattle.group_calls.proofs.convert_to_group.Tie as tie
+use Rattle.convert_call.proofs.convert_to_group.Statement.{statement}
+use Rattle.convert_call.proofs.convert_to_group.Tie as tie
 use Rattle.rules.proofs.WellFormedLaws.{none-value}
 use Rattle.layout.specs.Bodies.{widthOf}
 

@@ -1,0 +1,28 @@
+-- What the writer asks of change 11.
+use Prim.Native.Nat.{ℕ, _≤_}
+use native.Mathlib.Omega.{arith}
+use mathlib.Core.Path.{_≡_, refl, sym, _∙_, subst}
+use mathlib.Core.Bool.{Bool, false, not}
+use Rattle.rules.specs.Bytes.{Bytes}
+use Rattle.rules.specs.Passing.{good, passes}
+use Rattle.rules.specs.Change.{addDocument}
+use Rattle.rules.specs.Refusal.{first, conditions}
+use Rattle.change_laws.proofs.Conditions.{not-past}
+use Rattle.row_walk.specs.declared.Plan.{Plan}
+use Rattle.store_laws.specs.Stores.{storeIn}
+use Rattle.planned_rows.specs.Walking.{Sized}
+use Rattle.store_laws.proofs.StoreLaws.{Holds, holds}
+use Rattle.store_writer.proofs.CallLaws.{passed}
+use Rattle.store_check.proofs.StoreFacts.{value-given}
+use Rattle.plans.specs.CallPlans.{addDocumentPlan}
+use Rattle.plans.proofs.CallsPlanned.{none-holds}
+use Rattle.call_laws.proofs.Calls.{few-definitions, unmoved-small, Asks}
+
+module _ (bs : Bytes) {b : Bool} {m : ℕ} (h : not b ≡ false) (e : b ≡ passes bs) where
+  pub add-document-asks : (i : ℕ) (t : Bytes) {q : Plan} → m ≡ first (conditions (addDocument i t) (storeIn bs)) → m ≡ 0 → q ≡ addDocumentPlan i → Asks bs t q
+  unfolding conditions
+  add-document-asks i t {q} f z same =
+      let kept : Holds bs = holds bs (passed bs h e) in
+      let (text, (index, end)) = none-holds (addDocument i t) (storeIn bs) (sym f ∙ z) in
+      let i-few : i ≤ 256 = omega (arith, not-past i (storeIn bs .form) index, few-definitions (storeIn bs) (kept .good)) in
+      (passed bs h e, value-given bs t text, subst Sized (sym same) (record { moves = unmoved-small (addDocumentPlan i) refl refl; filling = i-few }))

@@ -26,11 +26,11 @@ comes-none (last n) e = omega arith
 comes-none (later c) e = omega arith
 
 -- a walk from a row meets it, and what is met further on
-met-cases : {below : List ℕ} {i h q : ℕ} (j : ℕ) → Met below i h q → h ≡ suc j → (i ≡ j) ⊎ Met below i (getD below (placeBelow j q) 0) (q / 2)
+met-cases : {below : List ℕ} {i h q : ℕ} (j : ℕ) → Met below i h q → h ≡ suc j → (i ≡ j) ⊎ Met below i (getD below (placeBelow j q) 0) (q / 4)
 met-cases j here e = inl (omega arith)
 met-cases {below} {i} j (there {j = k} {q = q} m) e =
     let g : k ≡ j = omega arith in
-    inr (subst (λ (n : ℕ). Met below i (getD below (placeBelow n q) 0) (q / 2)) g m)
+    inr (subst (λ (n : ℕ). Met below i (getD below (placeBelow n q) 0) (q / 4)) g m)
 
 -- whom a walk meets is one of the first k rows
 met-low : {below : List ℕ} {i h q : ℕ} (k : ℕ) → Rising below k → h ≤ k → Met below i h q → i < k
@@ -38,7 +38,7 @@ met-low k r l here = omega arith
 met-low k r l (there {j} {q} m) = met-low k r (r .low (placeBelow j q)) m
 
 -- the place that a walk comes to is below one of the first k rows
-comes-low : {below : List ℕ} {p h q : ℕ} (k : ℕ) → Rising below k → h ≤ k → Comes below p h q → p / 2 < k
+comes-low : {below : List ℕ} {p h q : ℕ} (k : ℕ) → Rising below k → h ≤ k → Comes below p h q → p / 4 < k
 comes-low k r l (last e) = omega arith
 comes-low k r l (later {j} {q} c) = comes-low k r (r .low (placeBelow j q)) c
 
@@ -73,15 +73,15 @@ seek-row {w} {rows} {below} {from} {s} {h} {q} l k = let e : h ≡ suc (h - 1) =
 pub seek-starts : (w : ℕ) (rows : Bytes) (below : List ℕ) (from s : ℕ) → 0 < from → from ≤ 4096 → Seek w rows below from s (suc (from - 1)) (s / 4096)
 seek-starts w rows below from s l m = seek-row l (record { on = λ i o. o; comes = λ p o. o; rest = λ i o e. o; low = m })
 
-pub seek-meets : {w : ℕ} {rows : Bytes} {below : List ℕ} {from s j q : ℕ} → Seek w rows below from s (suc j) q → serialAtRow w rows j ≡ s → Sought w rows below from s 8192
+pub seek-meets : {w : ℕ} {rows : Bytes} {below : List ℕ} {from s j q : ℕ} → Seek w rows below from s (suc j) q → serialAtRow w rows j ≡ s → Sought w rows below from s 16384
 seek-meets {j = j} k e = record { met = λ l. (j, k .on j here, e); free = λ l. absurd (omega arith) }
 
 module _ {w : ℕ} {rows : Bytes} {below : List ℕ} {from s j q : ℕ} (k : Seek w rows below from s (suc j) q) (n : serialAtRow w rows j ≡ s → ⊥) where
   -- who has the serial and was not passed is met further on
-  further : (i : ℕ) → Met below i from (s / 4096) → serialAtRow w rows i ≡ s → Met below i (getD below (placeBelow j q) 0) (q / 2)
+  further : (i : ℕ) → Met below i from (s / 4096) → serialAtRow w rows i ≡ s → Met below i (getD below (placeBelow j q) 0) (q / 4)
   further i m e = by (met-cases j (k .rest i m e) refl)
     where
-      by : (i ≡ j) ⊎ Met below i (getD below (placeBelow j q) 0) (q / 2) → Met below i (getD below (placeBelow j q) 0) (q / 2)
+      by : (i ≡ j) ⊎ Met below i (getD below (placeBelow j q) 0) (q / 4) → Met below i (getD below (placeBelow j q) 0) (q / 4)
       by (inl g) = absurd (n (ap (serialAtRow w rows) (sym g) ∙ e))
       by (inr o) = o
 
@@ -92,21 +92,21 @@ module _ {w : ℕ} {rows : Bytes} {below : List ℕ} {from s j q : ℕ} (k : See
         free = λ g. record { comes = k .comes (placeBelow j q) (last refl); empty = z; none = λ i m e. met-none (further i m e) z };
       }
 
-  pub seek-on : Rising below 4096 → (getD below (placeBelow j q) 0 ≡ 0 → ⊥) → Seek w rows below from s (suc (getD below (placeBelow j q) 0 - 1)) (q / 2)
+  pub seek-on : Rising below 4096 → (getD below (placeBelow j q) 0 ≡ 0 → ⊥) → Seek w rows below from s (suc (getD below (placeBelow j q) 0 - 1)) (q / 4)
   seek-on r z =
       seek-row (omega arith)
       (record { on = λ i m. k .on i (there m); comes = λ p c. k .comes p (later c); rest = further; low = r .low (placeBelow j q) })
 
 -- ---- the rows passed
-pub trees-start : (w : ℕ) (rows : Bytes) → Trees w rows (replicate 4096 0) (replicate 8192 0) 0
+pub trees-start : (w : ℕ) (rows : Bytes) → Trees w rows (replicate 4096 0) (replicate 16384 0) 0
 trees-start w rows =
     record {
       distinct = record { apart = λ i k h g. absurd (not-suc-le-zero g) };
-      rising = record { low = λ p. omega (arith, zeros-read 8192 p); up = λ p h. absurd (omega (arith, zeros-read 8192 p)) };
+      rising = record { low = λ p. omega (arith, zeros-read 16384 p); up = λ p h. absurd (omega (arith, zeros-read 16384 p)) };
       low = λ b. omega (arith, zeros-read 4096 b);
       covers = λ j h. absurd (not-suc-le-zero h);
       many = length-replicate {A = ℕ} 4096 0;
-      long = length-replicate {A = ℕ} 8192 0;
+      long = length-replicate {A = ℕ} 16384 0;
     }
 
 -- a row more, whose serial none before it has
@@ -133,10 +133,10 @@ low-set l k i f h p = by (eqb p i) refl
     by true q = let y : p ≡ i = eqb-true p i q in rw (y, getD-set-same l i (suc k) 0 h) (omega arith)
     by false q = rw (getD-set-other l i p (suc k) 0 (eqb-false p i q)) (omega (arith, f p))
 
-rising-set : {below : List ℕ} (k i : ℕ) → Rising below k → i < length below → i / 2 < k → Rising (set below i (suc k)) (suc k)
+rising-set : {below : List ℕ} (k i : ℕ) → Rising below k → i < length below → i / 4 < k → Rising (set below i (suc k)) (suc k)
 rising-set {below} k i r h l = record { low = low-set below k i (r .low) h; up = λ p. by p (eqb p i) refl }
   where
-    by : (p : ℕ) (x : Bool) → eqb p i ≡ x → 0 < getD (set below i (suc k)) p 0 → p / 2 + 1 < getD (set below i (suc k)) p 0
+    by : (p : ℕ) (x : Bool) → eqb p i ≡ x → 0 < getD (set below i (suc k)) p 0 → p / 4 + 1 < getD (set below i (suc k)) p 0
     by p true q = let y : p ≡ i = eqb-true p i q in rw (y, getD-set-same below i (suc k) 0 h) (λ g. omega arith)
     by p false q = rw (getD-set-other below i p (suc k) 0 (eqb-false p i q)) (r .up p)
 
@@ -170,7 +170,7 @@ module _ {w : ℕ} {rows : Bytes} {heads below : List ℕ} {k : ℕ} (t : Trees 
           (t .covers j h)
 
   -- the walk for s comes to an empty place
-  pub put-below : {p : ℕ} → Sought w rows below (getD heads (s % 4096) 0) s p → p < 8192 → Put w rows heads (set below p (k + 1)) k true
+  pub put-below : {p : ℕ} → Sought w rows below (getD heads (s % 4096) 0) s p → p < 16384 → Put w rows heads (set below p (k + 1)) k true
   put-below {p} f l =
       let g = f .free l in
       let b : p < length below = omega (arith, t .long) in
@@ -189,7 +189,7 @@ module _ {w : ℕ} {rows : Bytes} {heads below : List ℕ} {k : ℕ} (t : Trees 
       })
 
   -- the walk for s meets a row with that serial
-  pub put-twice : {p : ℕ} → Sought w rows below (getD heads (s % 4096) 0) s p → 8192 ≤ p → Put w rows heads below k false
+  pub put-twice : {p : ℕ} → Sought w rows below (getD heads (s % 4096) 0) s p → 16384 ≤ p → Put w rows heads below k false
   put-twice {p} f l =
       let (j, m, e) = f .met l in
       record {
@@ -204,7 +204,7 @@ pub record Passed (w : ℕ) (rows : Bytes) (next count : ℕ) (heads below : Lis
   pub range : Ranged w rows next k
   pub within : k ≤ count
 
-pub passed-none : (w : ℕ) (rows : Bytes) (next count : ℕ) → Passed w rows next count (replicate 4096 0) (replicate 8192 0) 0
+pub passed-none : (w : ℕ) (rows : Bytes) (next count : ℕ) → Passed w rows next count (replicate 4096 0) (replicate 16384 0) 0
 passed-none w rows next count = record { trees = trees-start w rows; range = record { ranged = λ k h. absurd (not-suc-le-zero h) }; within = omega arith }
 
 -- row k, whose serial is s

@@ -7,8 +7,8 @@ ghost use Rattle.serial_check.specs.Trees.{Rising, Sought, Trees, Put};
 
 const MAX_ROWS: usize = 4096;
 
-// Two for each row.
-const PLACES: usize = 8192;
+// Four for each row.
+const PLACES: usize = 16384;
 
 fn serial_at(w: usize, rows: &[u8], k: usize) -> u32
     requires { ⌜ Width w × (k < 4096) ⌝ }
@@ -30,12 +30,12 @@ fn sought(w: usize, rows: &[u8], below: &[u16; PLACES], from: u16, s: u32) -> us
         if serial_at(w, rows, j) == s {
             return PLACES;
         }
-        let at = 2 * j + (rest % 2) as usize;
+        let at = 4 * j + (rest % 4) as usize;
         let h = below[at];
         if h == 0 {
             return at;
         }
-        rest = rest / 2;
+        rest = rest / 4;
         j = (h - 1) as usize;
     }
 }
@@ -68,7 +68,7 @@ fn put(
 
 /// Whether the serials of the first `count` rows fit: each from 1 and below `next`, no two alike.
 // Rows whose serials have the same remainder by 4096 are in one tree, below its root by the other bits of their
-// serials: a row is compared only with those on its way, at most 21.
+// serials, two at a time: a row is compared only with those on its way, at most 11.
 pub fn serials_fit(w: usize, rows: &[u8], count: usize, next: u32) -> bool
     requires { ⌜ Width w × (count ≤ 4096) ⌝ }
     ensures { λ r. ⌜ r ≡ fitting next (serialsOf w count (now (rows .entry))) ⌝ }

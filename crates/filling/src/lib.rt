@@ -308,8 +308,14 @@ fn put_member(
             if needs_no_element(t, d + 1) {
                 return;
             }
-            if fills_nothing(t, d + 1, k) {
-                return;
+            // Only a CHOICE is asked, as in `fills_nothing`, which would be called here but for the frame on the stack.
+            match k {
+                GroupKind::Sequence => {}
+                GroupKind::Choice => {
+                    if accepts_nothing(t, d + 1, GroupKind::Choice) {
+                        return;
+                    }
+                }
             }
             put_group(t, d + 1, k, form, text, sizes, h, depth, c, out)
         }

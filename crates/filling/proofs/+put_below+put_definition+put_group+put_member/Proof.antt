@@ -1,4 +1,6 @@
 use mathlib.Core.Path.{refl, sym, _∙_}
+use mathlib.Core.Logic.{⊎-elim}
+use mathlib.Core.Bool.{false}
 use lib.ListN.{take, drop, length-take, length-drop, length}
 use Rattle.rules.specs.declared.GroupKind.the-variants.{Sequence}
 use Rattle.row_writer.proofs.WrittenLaws.{written-stop, written-room, written-long}
@@ -6,7 +8,7 @@ use Rattle.filling.specs.Parts.{defsIn, partsIn, attrsIn, widthIn, count
 use Rattle.filling.proofs.FillingLaws.{Rest, rest-starts, rest-past, rest-here, rest-on, rest-first, rest-over, rest-ends, member-skips, member-element}
 use Rattle.filling.proofs.FillingLaws.{member-empty, member-nothing, member-group, definition-low, definition-written, below-none, below-text, below-group}
 use Rattle.filling.proofs.FillingLaws.{none-written, one-written, same-written, index-small, top, rank, rank-particles, rank-part, rank-height}
-use Rattle.filling.proofs.FillingLaws.{part-short, below-nothing}
+use Rattle.filling.proofs.FillingLaws.{part-short, below-nothing, filled-list, filled-choice}
 use Rattle.filling.proofs.NeededLaws.{no-element-filled}
 use borrow.Author.Needs.{needs}
 use native.Mathlib.Omega.{arith}
@@ -26,7 +28,7 @@ use Rattle.filling.proofs.put_member.Reads as put-member
 use Rattle.filling.proofs.put_member.Kinds as put-member-kinds
 use Rattle.filling.proofs.+put_below+put_definition+put_group+put_member.Lts-put_member as put-member-lts
 use Rattle.layout.proofs.particle_depth.Reads as particle-depth-reads
-use Rattle.filling.proofs.fills_nothing.Reads as fills-nothing-reads
+use Rattle.filling.proofs.accepts_nothing.Reads as accepts-nothing-reads
 use Rattle.filling.proofs.is_passed.Reads as is-passed-reads
 use Rattle.filling.proofs.needs_no_element.Reads as needs-no-element-reads
 use Rattle.filling.proofs.put_required.Reads as put-required-reads
@@ -119,8 +121,8 @@ put-member-calls t = (
   put-definition.Post,
   needs-no-element-reads.Asked,
   needs-no-element-reads.Learnt,
-  fills-nothing-reads.Asked,
-  fills-nothing-reads.Learnt,
+  accepts-nothing-reads.Asked,
+  accepts-nothing-reads.Learnt,
   put-group-below t,
   put-group.Post,
 )
@@ -486,16 +488,23 @@ put-member-returns-2 t c =
     (member-empty (a .d) (a .s .now) _ (at-read-particle .read-particle .ensures) _ (at-skips .skips .ensures) (at-if1 .if1 .left) _ _
     (at-what2 .what2 .given .1) _ refl (no-element-filled _ (a .d + 1) _ (sym (c .before .needs-no-element .ensures) ∙ c .if2 .taken)))
 
-put-member-add-fills-nothing : (t : ℕ) → put-member-lts.Need-add-fills-nothing (put-member-calls t) (put-member-at t) put-member.Post
-put-member-add-fills-nothing t c = search needs
+put-member-enum-told : (t : ℕ) → put-member-lts.Need-enum-told (put-member-calls t) (put-member-at t) put-member.Post
+put-member-enum-told t c = search needs
 
-put-member-fills-nothing-requires : (t : ℕ) → put-member-lts.Need-fills-nothing-requires (put-member-calls t) (put-member-at t) put-member.Post
-put-member-fills-nothing-requires t c κs = search needs
+put-member-enum-told-2 : (t : ℕ) → put-member-lts.Need-enum-told-2 (put-member-calls t) (put-member-at t) put-member.Post
+put-member-enum-told-2 t c = search needs
+
+put-member-add-accepts-nothing : (t : ℕ) → put-member-lts.Need-add-accepts-nothing (put-member-calls t) (put-member-at t) put-member.Post
+put-member-add-accepts-nothing t c = search needs
+
+put-member-accepts-nothing-requires : (t : ℕ) → put-member-lts.Need-accepts-nothing-requires (put-member-calls t) (put-member-at t) put-member.Post
+put-member-accepts-nothing-requires t c κs = search needs
 
 put-member-returns-3 : (t : ℕ) → put-member-lts.Need-returns-3 (put-member-calls t) (put-member-at t) put-member.Post
 put-member-returns-3 t c =
-    let at-fills-nothing = c .before in
-    let at-what2 = at-fills-nothing .before .before .before .before .before in
+    let at-accepts-nothing = c .before in
+    let at-choice = at-accepts-nothing .before in
+    let at-what2 = at-choice .before .before .before .before .before .before in
     let at-if1 = at-what2 .before .before in
     let at-skips = at-if1 .before in
     let at-read-particle = at-skips .before in
@@ -504,14 +513,14 @@ put-member-returns-3 t c =
     none-written (versionOfFilling (a .sizes .now)) (widthIn (a .sizes .now)) (defsIn (a .form .now)) (partsIn (a .form .now)) (attrsIn (a .form .now))
     (countIn (a .sizes .now)) (a .text .now .now) (a .h) (a .depth) _
     (member-nothing (a .d) (a .s .now) _ (at-read-particle .read-particle .ensures) _ (at-skips .skips .ensures) (at-if1 .if1 .left) _ _
-    (at-what2 .what2 .given .1) _ refl _ (at-fills-nothing .fills-nothing .ensures) (c .if3 .taken))
+    (at-what2 .what2 .given .1) _ refl _ (filled-choice _ _ (at-choice .enum-told2 .given .1) (at-accepts-nothing .accepts-nothing .ensures)) (c .if3 .taken))
 
 put-member-add-put-group : (t : ℕ) → put-member-lts.Need-add-put-group (put-member-calls t) (put-member-at t) put-member.Post
 put-member-add-put-group t c = search needs
 
 put-member-put-group-requires : (t : ℕ) → put-member-lts.Need-put-group-requires (put-member-calls t) (put-member-at t) put-member.Post
 put-member-put-group-requires t c κs =
-    let at-what2 = c .before .before .before .before .before .before .before .before in
+    let at-what2 = c .before .before .before .before .before .before .before in
     let start = at-what2 .before .before .before .before .before .before .before in
     let a = start .args in
     let q = start .pre .1 .2 in (
@@ -544,12 +553,12 @@ put-member-returns-4 t c =
 put-member-same-length-2 : (t : ℕ) → put-member-lts.Need-same-length-2 (put-member-calls t) (put-member-at t) put-member.Post
 put-member-same-length-2 t c = search needs
 
+-- the group is a LIST, or a CHOICE that does not accept nothing
 put-member-returns-5 : (t : ℕ) → put-member-lts.Need-returns-5 (put-member-calls t) (put-member-at t) put-member.Post
 put-member-returns-5 t c =
     let at-put-group = c .before .before in
-    let at-if3 = at-put-group .before .before .before in
-    let at-fills-nothing = at-if3 .before in
-    let at-what2 = at-fills-nothing .before .before .before .before .before in
+    let at-match2 = at-put-group .before .before .before in
+    let at-what2 = at-match2 .before .before .before .before .before in
     let at-if1 = at-what2 .before .before in
     let at-skips = at-if1 .before in
     let at-read-particle = at-skips .before in
@@ -557,8 +566,12 @@ put-member-returns-5 t c =
     let a = start .args in
     same-written (versionOfFilling (a .sizes .now)) (widthIn (a .sizes .now)) (defsIn (a .form .now)) (partsIn (a .form .now)) (attrsIn (a .form .now))
     (countIn (a .sizes .now)) (a .text .now .now) (a .h) (a .depth) _ _
-    (member-group (a .d) (a .s .now) _ (at-read-particle .read-particle .ensures) _ (at-skips .skips .ensures) (at-if1 .if1 .left) _ _
-    (at-what2 .what2 .given .1) _ refl _ (at-fills-nothing .fills-nothing .ensures) (at-if3 .if3 .left))
+    (⊎-elim
+    (λ w. member-group (a .d) (a .s .now) _ (at-read-particle .read-particle .ensures) _ (at-skips .skips .ensures) (at-if1 .if1 .left) _ _
+    (at-what2 .what2 .given .1) _ refl false (filled-list _ _ (w .1 .given .1)) refl)
+    (λ w. member-group (a .d) (a .s .now) _ (at-read-particle .read-particle .ensures) _ (at-skips .skips .ensures) (at-if1 .if1 .left) _ _
+    (at-what2 .what2 .given .1) _ refl _ (filled-choice _ _ (w .1 .given .1) (w .2 .ensures)) (w .3 .left))
+    (at-match2 .match2 .came))
     (at-put-group .put-group .ensures)
 
 pub +put-below+put-definition+put-group+put-member-spec : {M : Type 1} → statement M
@@ -644,8 +657,10 @@ pub +put-below+put-definition+put-group+put-member-spec : {M : Type 1} → state
     (put-member-add-needs-no-element t)
     (put-member-needs-no-element-requires t)
     (put-member-returns-2 t)
-    (put-member-add-fills-nothing t)
-    (put-member-fills-nothing-requires t)
+    (put-member-enum-told t)
+    (put-member-enum-told-2 t)
+    (put-member-add-accepts-nothing t)
+    (put-member-accepts-nothing-requires t)
     (put-member-returns-3 t)
     (put-member-add-put-group t)
     (put-member-put-group-requires t)

@@ -278,7 +278,8 @@ fn put_group(
     }
 }
 
-// Writes the filling of the particle of depth d that s begins with.
+// Writes the filling of the particle of depth d that s begins with. Of the groups only a CHOICE is asked whether it
+// accepts nothing, as in `fills_nothing`, which would be called here but for the frame on the stack.
 fn put_member(
     s: &[u8],
     d: usize,
@@ -291,8 +292,7 @@ fn put_member(
     out: &mut [u8],
 )
     requires { ⌜ (d < 256) × (particleSize ≤ length (now s)) × Asks (widthIn (now sizes)) (cursorIn (now c)) (now (now text)) (countIn (now sizes)) h depth ⌝ }
-    ensures { λ _. ⌜ Written (widthIn (now (sizes .entry)))
-        (membersFilled (now (sizes .entry)) (now (form .entry)) (now (now (text .entry))) h depth (memberFilling d (now (s .entry))))
+    ensures { λ _. ⌜ Written (widthIn (now (sizes .entry))) (membersFilled (now (sizes .entry)) (now (form .entry)) (now (now (text .entry))) h depth (memberFilling d (now (s .entry))))
         (cursorIn (now (c .entry))) (now (out .entry)) (cursorIn (now (c .exit))) (now (out .exit)) ⌝ }
 {
     let p = model::read_particle(s, 0);
@@ -308,7 +308,6 @@ fn put_member(
             if needs_no_element(t, d + 1) {
                 return;
             }
-            // Only a CHOICE is asked, as in `fills_nothing`, which would be called here but for the frame on the stack.
             match k {
                 GroupKind::Sequence => {}
                 GroupKind::Choice => {

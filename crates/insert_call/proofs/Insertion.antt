@@ -44,7 +44,7 @@ use Rattle.store_check.proofs.StoreFacts.{value-given}
 use Rattle.model_places.proofs.PlaceLaws.{found-insert}
 use Rattle.place_marks.specs.Marking.{marksAt}
 use Rattle.place_marks.proofs.MarkLaws.{gap-marked}
-use Rattle.model_edit.specs.Editing.{formEdited}
+use Rattle.model_form.specs.Editing.{formEdited}
 use Rattle.model_edit.proofs.Fits.{Fits, inside, edited-answers, bodies-hold}
 use Rattle.model_reach.proofs.FormFacts.{reads}
 use Rattle.model_reach.proofs.ModelLaws.{size}

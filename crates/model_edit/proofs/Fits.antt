@@ -40,9 +40,9 @@ use Rattle.plans.specs.Bodies as plans
 use Rattle.store_laws.proofs.Encoded.{encoded}
 use Rattle.model_places.specs.Placing.{indexOfName, modelIn, partIn, foundBy, Placed}
 use Rattle.model_places.proofs.PickLaws.{around, from-there, read-there}
-use Rattle.model_edit.specs.Editing.{formEdited, Edits}
-use Rattle.model_edit.proofs.OwnParts.{form-size}
-use Rattle.model_edit.proofs.Edits.{edits, edited-flat}
+use Rattle.model_form.specs.Editing.{formEdited, Edits}
+use Rattle.model_form.proofs.OwnParts.{form-size}
+use Rattle.model_form.proofs.Edits.{edits, edited-flat}
 
 -- the edit e of definition o fits at the place p
 pub record Fits (bs : Bytes) (o : ℕ) (p : List ℕ) (e : Edit Bytes) : Type 0 where

@@ -28,7 +28,7 @@ use Rattle.plans.proofs.DocumentPlans.{set-value-does}
 use Rattle.plans.proofs.FormPlanned.{flat-planned-in}
 use Rattle.plans.proofs.TreeWalk.{apart, none-of, none-apart}
 use Rattle.model_places.specs.Placing.{indexOfName, Placed}
-use Rattle.model_edit.specs.Editing.{formEdited}
+use Rattle.model_form.specs.Editing.{formEdited}
 use Rattle.model_edit.proofs.Fits.{Fits, bodies-hold, edited-answers}
 use Rattle.model_writer.proofs.FormAfter.{rows-kept}
 

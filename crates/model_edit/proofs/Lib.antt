@@ -1,6 +1,2 @@
-pub mod OwnParts
-pub mod Small
-pub mod Edits
-pub mod FormWriting
 pub mod Fits
 pub mod Keeping

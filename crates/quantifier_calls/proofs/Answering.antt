@@ -24,7 +24,7 @@ use Rattle.planned_rows.specs.Walking.{Sized}
 use Rattle.store_writer.proofs.CallLaws.{answers-as}
 use Rattle.plans.specs.ModelCalls.{gainFilling, requantifyPlan}
 use Rattle.model_places.specs.Placing.{Placed}
-use Rattle.model_edit.specs.Editing.{formEdited, Edits}
+use Rattle.model_form.specs.Editing.{formEdited, Edits}
 use Rattle.model_edit.proofs.Fits.{Fits, asks, edited-answers}
 
 -- ---- numbers small enough for the walk

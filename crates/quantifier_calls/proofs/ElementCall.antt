@@ -29,8 +29,8 @@ use Rattle.store_laws.proofs.Encoded.{encoded}
 use Rattle.model_places.specs.Placing.{indexOfName, partIn, Placed}
 use Rattle.place_marks.specs.Marking.{marksAt}
 use Rattle.place_marks.proofs.MarkLaws.{element-marked}
-use Rattle.model_edit.specs.Editing.{formEdited}
-use Rattle.model_edit.proofs.OwnParts.{form-size}
+use Rattle.model_form.specs.Editing.{formEdited}
+use Rattle.model_form.proofs.OwnParts.{form-size}
 use Rattle.model_edit.proofs.Fits.{same-found, bodies-hold, Element, picked-at, index-there}
 use Rattle.quantifier_plans.specs.Quantifying.{elementPlan}
 use Rattle.quantifier_calls.proofs.Places.{spine-there, element-quantifier}

@@ -35,8 +35,8 @@ use Rattle.model_places.specs.Placing.{indexOfName, partIn, Placed}
 use Rattle.model_places.proofs.PickLaws.{around}
 use Rattle.place_marks.specs.Marking.{marksAt}
 use Rattle.place_marks.proofs.MarkLaws.{group-marked}
-use Rattle.model_edit.specs.Editing.{startIn, formEdited}
-use Rattle.model_edit.proofs.OwnParts.{start-is, form-size}
+use Rattle.model_form.specs.Editing.{startIn, formEdited}
+use Rattle.model_form.proofs.OwnParts.{start-is, form-size}
 use Rattle.model_edit.proofs.Fits.{same-found, bodies-hold}
 use Rattle.quantifier_plans.specs.Quantifying.{groupSpan, Stands, groupPlan}
 use Rattle.quantifier_calls.proofs.Places.{spine-there, level-there, member-stands, group-number, group-quantifier, group-kind}

@@ -24,8 +24,8 @@ use Rattle.model_writer.proofs.HeadAfter.{depth-holder}
 use Rattle.store_laws.proofs.Encoded.{encoded}
 use Rattle.model_places.specs.Placing.{indexOfName, partIn, Placed}
 use Rattle.model_places.proofs.PickLaws.{around, from-there, one-there, read-there}
-use Rattle.model_edit.specs.Editing.{startIn}
-use Rattle.model_edit.proofs.OwnParts.{own-length, own-inside}
+use Rattle.model_form.specs.Editing.{startIn}
+use Rattle.model_form.proofs.OwnParts.{own-length, own-inside}
 use Rattle.model_edit.proofs.Fits.{Fits, same-found}
 use Rattle.quantifier_plans.specs.Quantifying.{particleAt, Stands}
 use Rattle.rules.proofs.DecodeLaws.{quantifier-code}

@@ -17,7 +17,7 @@ use Rattle.store_writer.specs.Writing.{limited}
 use Rattle.planned_rows.specs.Planned.{plannedIn}
 use Rattle.planned_rows.specs.Walking.{Sized}
 use Rattle.model_places.specs.Placing.{partIn, Placed}
-use Rattle.model_edit.specs.Editing.{startIn, formEdited}
+use Rattle.model_form.specs.Editing.{startIn, formEdited}
 use Rattle.quantifier_refusals.specs.Requantifying.{requantify}
 use Rattle.quantifier_plans.specs.Quantifying.{Stands, newPlan}
 use Rattle.quantifier_calls.proofs.Places.{member-stands}

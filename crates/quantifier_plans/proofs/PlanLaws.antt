@@ -22,7 +22,7 @@ use Rattle.filling.specs.declared.Filling.the-variants.{Definition, Particles}
 use Rattle.row_walk.specs.declared.Plan.{Plan}
 use Rattle.plans.specs.ModelCalls.{requantifyPlan}
 use Rattle.place_marks.specs.Marking.{marksAt}
-use Rattle.model_edit.specs.Editing.{startIn}
+use Rattle.model_form.specs.Editing.{startIn}
 use Rattle.quantifier_plans.specs.Quantifying.{Stands, groupSpan, elementPlan, groupPlan, newPlan}
 
 module _ {part : Bytes} {h : Holder} {p : ℕ} {s : Bytes} {n : ℕ} (y : Stands part h p) (e : s ≡ drop (particleSize * (p + 1)) part) (f : n ≡ spanOf (h .depth) (particlesOf s)) where

@@ -5,7 +5,7 @@ use row_walk::Plan;
 use rules::Quantifier;
 ghost use mathlib.Core.Path.{_≡_};
 ghost use Prim.Native.Nat.{_≤_};
-ghost use Rattle.model_edit.specs.Editing.{startIn};
+ghost use Rattle.model_form.specs.Editing.{startIn};
 ghost use Rattle.quantifier_plans.specs.Quantifying.{Stands, groupSpan, elementPlan, groupPlan, newPlan};
 
 // The plan of change 5 for the element at particle p of the list h in the owner's part.

@@ -33,7 +33,7 @@ use Rattle.plans.proofs.CallsPlanned.{none-holds}
 use Rattle.plans.proofs.ModelCallsPlanned.{remove-element-planned}
 use Rattle.model_places.specs.Placing.{indexOfName, partIn, Placed}
 use Rattle.model_places.proofs.PlaceLaws.{found-remove}
-use Rattle.model_edit.specs.Editing.{formEdited}
+use Rattle.model_form.specs.Editing.{formEdited}
 use Rattle.model_edit.proofs.Fits.{Fits, Element, picked-at, index-there, fits-at, edited-answers, bodies-hold}
 
 element-suits : (t : Members Bytes) → onElement true (λ q. false) t ≡ false → suits {A = Bytes} remove t ≡ true

@@ -8,7 +8,7 @@ use Rattle.lookup.specs.Bodies.{bodiesOf}
 use Rattle.store_writer.proofs.LimitLaws.{answers-as}
 use Rattle.store_laws.proofs.FormLaws.{forms-of}
 use Rattle.store_writer.proofs.FormAnswers.{form-answers, form-ceiling}
-use Rattle.model_edit.proofs.FormWriting.{owner-low, own-low, as-many, form-short, form-of, stored}
+use Rattle.model_form.proofs.FormWriting.{owner-low, own-low, as-many, form-short, form-of, stored}
 use borrow.Author.Needs.{needs}
 use Rattle.model_edit.proofs.edit_model.Statement.{statement}
 use Rattle.model_edit.proofs.edit_model.Tie as tie

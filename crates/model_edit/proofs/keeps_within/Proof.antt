@@ -1,6 +1,6 @@
 -- `model_edit::keeps_within` meets its contract.
 use native.Mathlib.Omega.{arith}
-use Rattle.model_edit.proofs.FormWriting.{owner-low, keeps-not, keeps, still-within}
+use Rattle.model_form.proofs.FormWriting.{owner-low, keeps-not, keeps, still-within}
 use Rattle.model_edit.proofs.keeps_within.Statement.{statement}
 use Rattle.model_edit.proofs.keeps_within.Tie as tie
 use Rattle.model_places.proofs.own_part.Reads as own-part-reads

@@ -42,8 +42,8 @@ use Rattle.store_laws.proofs.FormBytesLaws as bytes
 use Rattle.plans.proofs.FormsAfter.{spliced-form, counted-length}
 use Rattle.store_laws.proofs.Encoded.{Encoded, encoded, definitions-at, attributes-at}
 use Rattle.model_places.specs.Placing.{partIn}
-use Rattle.model_edit.specs.Editing.{startIn, modelLength, partEdited, formEdited, Edits}
-use Rattle.model_edit.proofs.OwnParts.{start-is, count-is, own-is, parts-are, particles-are}
+use Rattle.model_form.specs.Editing.{startIn, modelLength, partEdited, formEdited, Edits}
+use Rattle.model_form.proofs.OwnParts.{start-is, count-is, own-is, parts-are, particles-are}
 use Rattle.model_writer.proofs.BodyWriting.{one-more}
 
 -- ---- tests

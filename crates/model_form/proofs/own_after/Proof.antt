@@ -1,8 +1,8 @@
--- `model_edit::own_after` meets its contract.
-use Rattle.model_edit.proofs.FormWriting.{after-in}
+-- `model_form::own_after` meets its contract.
+use Rattle.model_form.proofs.FormWriting.{after-in}
 use borrow.Author.Needs.{needs}
-use Rattle.model_edit.proofs.own_after.Statement.{statement}
-use Rattle.model_edit.proofs.own_after.Tie as tie
+use Rattle.model_form.proofs.own_after.Statement.{statement}
+use Rattle.model_form.proofs.own_after.Tie as tie
 
 definitions-of-requires : tie.Need-definitions-of-requires
 definitions-of-requires c κs = search needs

@@ -1,11 +1,11 @@
--- `model_edit::all_after` meets its contract.
+-- `model_form::all_after` meets its contract.
 use native.Mathlib.Omega.{arith}
 use mathlib.Core.Path.{ap₂}
 use Prim.Native.Nat.{ℕ, _+_, _-_}
-use Rattle.model_edit.proofs.FormWriting.{many-in, after-in, few-more}
+use Rattle.model_form.proofs.FormWriting.{many-in, after-in, few-more}
 use borrow.Author.Needs.{needs}
-use Rattle.model_edit.proofs.all_after.Statement.{statement}
-use Rattle.model_edit.proofs.all_after.Tie as tie
+use Rattle.model_form.proofs.all_after.Statement.{statement}
+use Rattle.model_form.proofs.all_after.Tie as tie
 
 definitions-of-requires : tie.Need-definitions-of-requires
 definitions-of-requires c κs = search needs

@@ -1,9 +1,9 @@
--- `model_edit::length_after` meets its contract.
+-- `model_form::length_after` meets its contract.
 use native.Mathlib.Omega.{arith}
-use Rattle.model_edit.proofs.FormWriting.{length-case}
+use Rattle.model_form.proofs.FormWriting.{length-case}
 use borrow.Author.Needs.{needs}
-use Rattle.model_edit.proofs.length_after.Statement.{statement}
-use Rattle.model_edit.proofs.length_after.Tie as tie
+use Rattle.model_form.proofs.length_after.Statement.{statement}
+use Rattle.model_form.proofs.length_after.Tie as tie
 
 enum-told : tie.Need-enum-told
 enum-told c = search needs

@@ -26,7 +26,7 @@ use Rattle.store_laws.specs.Stores.{storeIn}
 use Rattle.store_laws.proofs.StoreLaws.{holds}
 use Rattle.store_laws.proofs.Encoded.{Encoded, encoded}
 use Rattle.model_places.specs.Placing.{partIn}
-use Rattle.model_edit.specs.Editing.{startIn, modelLength}
+use Rattle.model_form.specs.Editing.{startIn, modelLength}
 use Rattle.model_writer.proofs.EditedStore.{own-inside as within-all}
 
 pub own-length : (bs : Bytes) (o : ℕ) → length (partIn bs o) ≤ particleSize * modelLength bs o

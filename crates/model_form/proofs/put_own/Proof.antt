@@ -1,9 +1,9 @@
--- `model_edit::put_own` meets its contract.
+-- `model_form::put_own` meets its contract.
 use native.Mathlib.Omega.{arith}
-use Rattle.model_edit.proofs.FormWriting.{owner-low, first-in, many-in, own-laid, body-in}
+use Rattle.model_form.proofs.FormWriting.{owner-low, first-in, many-in, own-laid, body-in}
 use borrow.Author.Needs.{needs}
-use Rattle.model_edit.proofs.put_own.Statement.{statement}
-use Rattle.model_edit.proofs.put_own.Tie as tie
+use Rattle.model_form.proofs.put_own.Statement.{statement}
+use Rattle.model_form.proofs.put_own.Tie as tie
 
 definitions-of-requires : tie.Need-definitions-of-requires
 definitions-of-requires c κs = search needs

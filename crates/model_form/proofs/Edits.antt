@@ -38,9 +38,9 @@ use Rattle.store_laws.proofs.FormBytesLaws.{Few, few-of, few-particles}
 use Rattle.store_laws.proofs.Encoded.{encoded}
 use Rattle.model_places.specs.Placing.{indexOfName, modelIn, partIn}
 use Rattle.model_places.proofs.PlaceLaws.{present-at}
-use Rattle.model_edit.specs.Editing.{startIn, modelLength, partEdited, formEdited, Edits}
-use Rattle.model_edit.proofs.OwnParts.{own-length, start-is, count-is, own-is, own-inside, parts-are, form-size}
-use Rattle.model_edit.proofs.Small.{small-particles, update-length}
+use Rattle.model_form.specs.Editing.{startIn, modelLength, partEdited, formEdited, Edits}
+use Rattle.model_form.proofs.OwnParts.{own-length, start-is, count-is, own-is, own-inside, parts-are, form-size}
+use Rattle.model_form.proofs.Small.{small-particles, update-length}
 
 module _ (bs : Bytes) (q : passes bs ≡ true) (o : ℕ) (l : o < definitionCount bs) (p : List ℕ) (e : Edit Bytes) (x : Spot Bytes)
     (c : definitionAt o (storeIn bs .form) .content ≡ complex (modelIn bs o))

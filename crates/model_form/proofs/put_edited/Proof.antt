@@ -1,9 +1,9 @@
--- `model_edit::put_edited` meets its contract.
+-- `model_form::put_edited` meets its contract.
 use native.Mathlib.Omega.{arith}
-use Rattle.model_edit.proofs.FormWriting.{owner-low, own-short, table-short, particles-short, counted-short, attrs-short, form-laid}
+use Rattle.model_form.proofs.FormWriting.{owner-low, own-short, table-short, particles-short, counted-short, attrs-short, form-laid}
 use borrow.Author.Needs.{needs}
-use Rattle.model_edit.proofs.put_edited.Statement.{statement}
-use Rattle.model_edit.proofs.put_edited.Tie as tie
+use Rattle.model_form.proofs.put_edited.Statement.{statement}
+use Rattle.model_form.proofs.put_edited.Tie as tie
 
 own-after-requires : tie.Need-own-after-requires
 own-after-requires c κs =

@@ -1,0 +1,4 @@
+pub mod OwnParts
+pub mod Small
+pub mod Edits
+pub mod FormWriting

@@ -1,4 +1,4 @@
--- What the writer asks of change 14, and its plan.
+-- What the writer asks of change 14.
 use Prim.Native.Nat.{ℕ, _≤_, _<_}
 use native.Mathlib.Omega.{arith}
 use mathlib.Core.Path.{_≡_, refl, sym, ap, _∙_, subst}
@@ -6,7 +6,6 @@ use mathlib.Core.Bool.{Bool, true, false, not, false≢true}
 use mathlib.Core.Option.{Option}
 use mathlib.Core.Logic.{⊎-elim}
 use lib.Dec.{eqb}
-use borrow.Author.Tests.{ne-eqb}
 use Rattle.rules.specs.Bytes.{Bytes}
 use Rattle.rules.specs.Passing.{passes}
 use Rattle.rules.specs.Change.{setAttribute, Owned}
@@ -59,10 +58,3 @@ module _ (bs : Bytes) {b : Bool} {m : ℕ} (h : not b ≡ false) (e : b ≡ pass
   set-attribute-asks k a v {q} f z same =
       let (value, (known, more)) = none-holds (setAttribute k a v) (storeIn bs) (sym f ∙ z) in
       (passed bs h e, value-given bs v value, subst Sized (sym same) (set-sized k a (attributeSerial k a (storeIn bs)) (attribute-few bs k a (passed bs h e) known)))
-
--- ---- the plan of change 14
-pub set-plan-none : (k a m : ℕ) → m ≡ 0 → fillingPlan (Serial k) (Past a) (Attribute a) ≡ setAttributePlan k a m
-set-plan-none k a m z = rw z
-
-pub set-plan-some : (k a m : ℕ) → (m ≡ 0 → ⊥) → settingPlan m ≡ setAttributePlan k a m
-set-plan-some k a m z = ap (λ (t : Bool). elim t [ true ↦ fillingPlan (Serial k) (Past a) (Attribute a) | false ↦ settingPlan m ]) (sym (ne-eqb m 0 z))

@@ -1,29 +1,11 @@
 //! Changes 14 and 15: the row of an attribute set, and one destroyed. Each call is the check, the first refusal that
 //! applies, and the plan of the change.
-use filling::Filling;
-use row_walk::Later;
-use row_walk::Plan;
 use row_walk::Which;
 use store_writer::Answer;
 ghost use mathlib.Core.Path.{_≡_};
 ghost use lib.ListN.{length};
 ghost use Rattle.rules.specs.Change.{setAttribute, destroyAttributeRow};
 ghost use Rattle.rules.specs.Outcome.{outcome, Answers};
-ghost use Rattle.plans.specs.CallPlans.{setAttributePlan};
-
-// The attribute's row with serial `row` gets the value; where there is none (0), one is made.
-fn set_attribute_plan(element: u32, attribute: usize, row: u32) -> Plan
-    ensures { λ r. ⌜ r ≡ setAttributePlan element attribute row ⌝ }
-{
-    if row == 0 {
-        return plans::filling_plan(
-            Which::Serial(element),
-            Later::Past(attribute),
-            Filling::Attribute(attribute),
-        );
-    }
-    plans::setting_plan(row)
-}
 
 /// 14: sets an attribute of an element; a row that is there keeps its serial.
 pub fn set_attribute(
@@ -44,7 +26,7 @@ pub fn set_attribute(
         return store_writer::refused(number);
     }
     let row = document_refusals::attribute_serial(store, element, attribute);
-    let plan = set_attribute_plan(element, attribute as usize, row);
+    let plan = plans::set_attribute_plan(element, attribute as usize, row);
     store_writer::edit(store, plan, value, out)
 }
 

@@ -156,7 +156,7 @@ pub fn change_quantifier(
 ) -> Answer
     ensures { λ r. ⌜ Promise (changeQuantifier owner (now (place .entry)) quantifier (now (text .entry))) (now (store .entry)) (now (out .entry)) (r .number) (r .length) (now (out .exit)) ⌝ }
 {
-    quantifier_calls::change_quantifier(store, owner, place, quantifier, text, out)
+    quantifier_calls::requantify(store, owner, place, quantifier, text, false, out)
 }
 
 #[no_mangle]
@@ -170,7 +170,7 @@ pub extern "C" fn formstore_change_quantifier(
 ) -> Answer
     ensures { λ r. ⌜ Promise (changeQuantifier owner (now (place .entry)) quantifier (now (text .entry))) (now (store .entry)) (now (out .entry)) (r .number) (r .length) (now (out .exit)) ⌝ }
 {
-    quantifier_calls::change_quantifier(store, owner, place, quantifier, text, out)
+    quantifier_calls::requantify(store, owner, place, quantifier, text, false, out)
 }
 
 /// 6: converts `count` members from a place on into a group.
@@ -231,7 +231,7 @@ pub fn change_group_quantifier(
 ) -> Answer
     ensures { λ r. ⌜ Promise (changeGroupQuantifier owner (now (place .entry)) quantifier (now (text .entry))) (now (store .entry)) (now (out .entry)) (r .number) (r .length) (now (out .exit)) ⌝ }
 {
-    quantifier_calls::change_group_quantifier(store, owner, place, quantifier, text, out)
+    quantifier_calls::requantify(store, owner, place, quantifier, text, true, out)
 }
 
 #[no_mangle]
@@ -245,7 +245,7 @@ pub extern "C" fn formstore_change_group_quantifier(
 ) -> Answer
     ensures { λ r. ⌜ Promise (changeGroupQuantifier owner (now (place .entry)) quantifier (now (text .entry))) (now (store .entry)) (now (out .entry)) (r .number) (r .length) (now (out .exit)) ⌝ }
 {
-    quantifier_calls::change_group_quantifier(store, owner, place, quantifier, text, out)
+    quantifier_calls::requantify(store, owner, place, quantifier, text, true, out)
 }
 
 /// 9: adds an attribute; a REQUIRED one adds a row to each instance.

@@ -1,34 +1,11 @@
 //! Change 3, which inserts an element into a model. The call is the check, the first refusal that applies or the place,
 //! and an edit of the owner's model there with the plan of the change.
 use model_writer::Edit;
-use row_walk::Plan;
 use store_writer::Answer;
 ghost use mathlib.Core.Path.{_≡_};
-ghost use mathlib.Core.Bool.{not, _&&_};
-ghost use Prim.Native.Nat.{_≤_};
 ghost use lib.ListN.{length};
-ghost use Rattle.rules.specs.Model.{skips};
-ghost use Rattle.rules.specs.Decode.{quantifierOf};
 ghost use Rattle.rules.specs.Change.{insertElement};
 ghost use Rattle.rules.specs.Outcome.{outcome, Answers};
-ghost use Rattle.plans.specs.ModelCalls.{insertElementPlan};
-ghost use Rattle.place_marks.specs.Marking.{marksAt};
-
-// The plan of the change for the gap before particle p of the owner's part, which is on the spine or not.
-fn inserting_plan(
-    part: &[u8],
-    owner: usize,
-    p: usize,
-    spine: bool,
-    definition: usize,
-    quantifier: u32,
-) -> Plan
-    requires { ⌜ (p ≤ 256) × (quantifier ≤ 3) ⌝ }
-    ensures { λ r. ⌜ r ≡ insertElementPlan owner (marksAt 0 p (now (part .entry))) definition (not (skips (quantifierOf quantifier)) && spine) ⌝ }
-{
-    let needs = insert_refusals::needs_filling(quantifier) & spine;
-    plans::insert_element_plan(owner, place_marks::marks(part, p, 0), definition, needs)
-}
 
 /// 3: inserts an element into a model; on the spine each instance gets a filling if the quantifier needs one.
 pub fn insert_element(
@@ -64,7 +41,7 @@ pub fn insert_element(
     let h = gap.holder;
     let p = gap.particle;
     let part = model_places::own_part(store, o);
-    let plan = inserting_plan(part, o, p, h.spine, i, quantifier);
+    let plan = insert_plan::inserting_plan(part, o, p, h.spine, i, quantifier);
     let edit = Edit::Insert(model::read_quantifier(quantifier as u8), i);
     model_edit::edit_model(store, o, edit, h, p, plan, text, out)
 }

@@ -7,7 +7,7 @@ use row_walk::Shift;
 use row_walk::Which;
 ghost use mathlib.Core.Path.{_≡_};
 ghost use mathlib.Core.Bool.{_||_};
-ghost use Rattle.plans.specs.CallPlans.{unmarked, fillingPlan, takingPlan, settingPlan};
+ghost use Rattle.plans.specs.CallPlans.{unmarked, fillingPlan, takingPlan, settingPlan, setAttributePlan};
 ghost use Rattle.plans.specs.AttributeCalls.{addAttributePlan, destroyAttributePlan};
 ghost use Rattle.plans.specs.ModelCalls.{cutTakes, gainFilling, insertElementPlan, requantifyPlan};
 
@@ -126,6 +126,20 @@ pub fn destroy_attribute_plan(owner: usize, attribute: usize) -> Plan
             less: 1,
         },
     }
+}
+
+/// 14: the attribute's row with serial `row` gets the value; where there is none (0), one is made.
+pub fn set_attribute_plan(element: u32, attribute: usize, row: u32) -> Plan
+    ensures { λ r. ⌜ r ≡ setAttributePlan element attribute row ⌝ }
+{
+    if row == 0 {
+        return filling_plan(
+            Which::Serial(element),
+            Later::Past(attribute),
+            Filling::Attribute(attribute),
+        );
+    }
+    setting_plan(row)
 }
 
 // ---- models

@@ -4,12 +4,11 @@ use model_writer::Edit;
 use store_writer::Answer;
 ghost use mathlib.Core.Path.{_≡_};
 ghost use lib.ListN.{length};
-ghost use Rattle.rules.specs.Change.{changeQuantifier, changeGroupQuantifier};
 ghost use Rattle.rules.specs.Outcome.{outcome, Answers};
 ghost use Rattle.quantifier_refusals.specs.Requantifying.{requantify};
 
-// Changes the quantifier of a group, or else of an element.
-fn requantify(
+/// 5 and 8: changes the quantifier of an element, or of a group.
+pub fn requantify(
     store: &[u8],
     owner: u32,
     place: &[u32],
@@ -44,36 +43,4 @@ fn requantify(
     let p = found.particle;
     let plan = quantifier_plans::new_plan(store, part, o, h, p, new, group);
     model_edit::edit_model(store, o, Edit::Quantify(new), h, p, plan, text, out)
-}
-
-/// 5: changes an element's quantifier.
-pub fn change_quantifier(
-    store: &[u8],
-    owner: u32,
-    place: &[u32],
-    quantifier: u32,
-    text: &[u8],
-    out: &mut [u8],
-) -> Answer
-    ensures { λ r. ⌜ Answers
-        (outcome (changeQuantifier owner (now (place .entry)) quantifier (now (text .entry))) (now (store .entry)) (length (now (out .entry))))
-        (now (out .entry)) (r .number) (r .length) (now (out .exit)) ⌝ }
-{
-    requantify(store, owner, place, quantifier, text, false, out)
-}
-
-/// 8: changes a group's quantifier.
-pub fn change_group_quantifier(
-    store: &[u8],
-    owner: u32,
-    place: &[u32],
-    quantifier: u32,
-    text: &[u8],
-    out: &mut [u8],
-) -> Answer
-    ensures { λ r. ⌜ Answers
-        (outcome (changeGroupQuantifier owner (now (place .entry)) quantifier (now (text .entry))) (now (store .entry)) (length (now (out .entry))))
-        (now (out .entry)) (r .number) (r .length) (now (out .exit)) ⌝ }
-{
-    requantify(store, owner, place, quantifier, text, true, out)
 }

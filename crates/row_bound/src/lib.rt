@@ -4,6 +4,7 @@ use row_walk::Head;
 use row_walk::Plan;
 use row_walk::Which;
 use row_writer::Cursor;
+use store_limits::MOST_ROWS;
 ghost use mathlib.Core.Path.{_≡_};
 ghost use Prim.Native.Nat.{_+_, _*_, _≤_};
 ghost use lib.ListN.{length};
@@ -21,9 +22,6 @@ pub struct Most {
     pub one: usize,
     pub all: usize,
 }
-
-/// The ceiling of tree rows, and one more: a filling is counted so far.
-const MOST_ROWS: usize = 4097;
 
 // n, and one more if b.
 fn more(n: usize, b: bool) -> usize

@@ -41,7 +41,7 @@ pub fn insert_element(
     let h = gap.holder;
     let p = gap.particle;
     let part = model_places::own_part(store, o);
-    let plan = insert_plan::inserting_plan(part, o, p, h.spine, i, quantifier);
+    let plan = member_plans::inserting_plan(part, o, p, h.spine, i, quantifier);
     let edit = Edit::Insert(model::read_quantifier(quantifier as u8), i);
     model_edit::edit_model(store, o, edit, h, p, plan, text, out)
 }

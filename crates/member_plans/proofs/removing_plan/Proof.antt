@@ -1,12 +1,12 @@
--- `remove_call::removing_plan` meets its contract.
+-- `member_plans::removing_plan` meets its contract.
 use mathlib.Core.Path.{ap, _∙_}
 use Prim.Native.Nat.{ℕ}
 use Rattle.rules.specs.Bytes.{Bytes}
 use Rattle.rules.specs.Decode.{readParticle}
 use Rattle.plans.specs.ModelCalls.{removeElementPlan}
 use borrow.Author.Needs.{needs}
-use Rattle.remove_call.proofs.removing_plan.Statement.{statement}
-use Rattle.remove_call.proofs.removing_plan.Tie as tie
+use Rattle.member_plans.proofs.removing_plan.Statement.{statement}
+use Rattle.member_plans.proofs.removing_plan.Tie as tie
 
 particles-from-requires : tie.Need-particles-from-requires
 particles-from-requires c κs = search needs

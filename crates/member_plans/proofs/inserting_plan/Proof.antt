@@ -1,11 +1,11 @@
--- `insert_plan::inserting_plan` meets its contract.
+-- `member_plans::inserting_plan` meets its contract.
 use mathlib.Core.Path.{ap₂, _∙_}
 use mathlib.Core.Bool.{Bool, _&&_}
 use Rattle.rules.specs.Bytes.{Bytes}
 use Rattle.plans.specs.ModelCalls.{insertElementPlan}
 use borrow.Author.Needs.{needs}
-use Rattle.insert_plan.proofs.inserting_plan.Statement.{statement}
-use Rattle.insert_plan.proofs.inserting_plan.Tie as tie
+use Rattle.member_plans.proofs.inserting_plan.Statement.{statement}
+use Rattle.member_plans.proofs.inserting_plan.Tie as tie
 
 needs-filling-requires : tie.Need-needs-filling-requires
 needs-filling-requires c κs = search needs

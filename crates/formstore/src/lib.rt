@@ -1,6 +1,6 @@
 //! The public calls, forwarded to the crates that hold them. Each stands beside an exported function of the same
 //! promise; include/formstore.h declares those.
-pub use reading_calls::Found;
+pub use look_up_calls::Found;
 pub use store_writer::Answer;
 ghost use mathlib.Core.Path.{_≡_};
 ghost use Rattle.rules.specs.Passing.{passes};
@@ -12,20 +12,20 @@ ghost use Rattle.rules.specs.Outcome.{Promise, Answers};
 ghost use Rattle.rules.specs.Print.{printOutcome};
 ghost use lib.ListN.{length};
 ghost use Rattle.lookup.specs.Finding.{Looks, Hands};
-ghost use Rattle.reading_calls.specs.Calls.{checkAnswer};
+ghost use Rattle.look_up_calls.specs.Calls.{checkAnswer};
 
 /// 0 if the store passes the check, 1 if it does not.
 pub fn check(store: &[u8]) -> u32
     ensures { λ r. ⌜ r ≡ checkAnswer (passes (now (store .entry))) ⌝ }
 {
-    reading_calls::check(store)
+    look_up_calls::check(store)
 }
 
 #[no_mangle]
 pub extern "C" fn formstore_check(store: &[u8]) -> u32
     ensures { λ r. ⌜ r ≡ checkAnswer (passes (now (store .entry))) ⌝ }
 {
-    reading_calls::check(store)
+    look_up_calls::check(store)
 }
 
 /// The part of the store that is the value of the attribute or text row with a serial, and 0; on a bad store 1, on any
@@ -33,28 +33,28 @@ pub extern "C" fn formstore_check(store: &[u8]) -> u32
 pub fn look_up<'a>(store: &'a [u8], serial: u32, number: &mut u32) -> &'a [u8]
     ensures { λ r. ⌜ Hands (lookUp (now (store .entry)) serial) (now (store .entry)) (now r) (now (number .exit)) ⌝ }
 {
-    reading_calls::look_up(store, serial, number)
+    look_up_calls::look_up(store, serial, number)
 }
 
 #[no_mangle]
 pub extern "C" fn formstore_look_up(store: &[u8], serial: u32) -> Found
     ensures { λ r. ⌜ Looks (lookUp (now (store .entry)) serial) (r .number) (r .start) (r .length) ⌝ }
 {
-    reading_calls::look_up_place(store, serial)
+    look_up_calls::look_up_place(store, serial)
 }
 
 /// Prints the store.
 pub fn print(store: &[u8], out: &mut [u8]) -> Answer
     ensures { λ r. ⌜ Answers (printOutcome (now (store .entry)) (length (now (out .entry)))) (now (out .entry)) (r .number) (r .length) (now (out .exit)) ⌝ }
 {
-    reading_calls::print(store, out)
+    print_call::print(store, out)
 }
 
 #[no_mangle]
 pub extern "C" fn formstore_print(store: &[u8], out: &mut [u8]) -> Answer
     ensures { λ r. ⌜ Answers (printOutcome (now (store .entry)) (length (now (out .entry)))) (now (out .entry)) (r .number) (r .length) (now (out .exit)) ⌝ }
 {
-    reading_calls::print(store, out)
+    print_call::print(store, out)
 }
 
 // ---- the changes, by their numbers

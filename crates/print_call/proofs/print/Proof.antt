@@ -1,17 +1,24 @@
--- `reading_calls::print` meets its contract.
+-- `print_call::print` meets its contract.
 use native.Mathlib.Omega.{arith}
+use Rattle.store_writer.proofs.LimitLaws.{answers-as}
 use borrow.Author.Needs.{needs}
-use Rattle.reading_calls.proofs.print.Statement.{statement}
-use Rattle.reading_calls.proofs.print.Tie as tie
-use Rattle.reading_calls.proofs.Laws.{within-counts, prints-bad, prints-short, prints-all}
+use Rattle.print_call.proofs.print.Statement.{statement}
+use Rattle.print_call.proofs.print.Tie as tie
+use Rattle.print_call.proofs.Laws.{within-counts, prints-bad, prints-short, prints-all}
 
 passes-requires : tie.Need-passes-requires
 passes-requires c κs = search needs
 
+refused-requires : tie.Need-refused-requires
+refused-requires c κs = search needs
+
 returns : tie.Need-returns
 returns c =
-    let start = c .before .before .before .before in
-    prints-bad (start .args .store .now) (start .args .out .now) (c .if1 .taken) (c .before .passes .ensures)
+    let at-if1 = c .before in
+    let at-passes = at-if1 .before in
+    let start = at-passes .before .before .before in
+    answers-as (c .refused .ensures .0) (c .refused .ensures .1)
+    (prints-bad (start .args .store .now) (start .args .out .now) (at-if1 .if1 .taken) (at-passes .passes .ensures))
 
 slice-aggregate-print-store : tie.Need-slice-aggregate-print-store
 slice-aggregate-print-store c = search needs
@@ -22,13 +29,18 @@ print-store-requires c κs =
     let start = at-passes .before .before .before in
     within-counts (start .args .store .now) (c .before .if1 .left) (at-passes .passes .ensures)
 
+refused-requires-2 : tie.Need-refused-requires-2
+refused-requires-2 c κs = search needs
+
 returns-2 : tie.Need-returns-2
 returns-2 c =
-    let at-print-store = c .before .before in
+    let at-if2 = c .before in
+    let at-print-store = at-if2 .before .before in
     let at-if1 = at-print-store .before .before in
     let at-passes = at-if1 .before in
     let start = at-passes .before .before .before in
-    prints-short (start .args .store .now) (start .args .out .now) (at-if1 .if1 .left) (at-passes .passes .ensures) (at-print-store .print-store .ensures) (omega (arith, (c .if2 .taken)))
+    answers-as (c .refused2 .ensures .0) (c .refused2 .ensures .1)
+    (prints-short (start .args .store .now) (start .args .out .now) (at-if1 .if1 .left) (at-passes .passes .ensures) (at-print-store .print-store .ensures) (omega (arith, at-if2 .if2 .taken)))
 
 print-store-requires-2 : tie.Need-print-store-requires-2
 print-store-requires-2 c κs =
@@ -56,9 +68,11 @@ print-spec =
     tie.close
     (tie.spec
     passes-requires
+    refused-requires
     returns
     slice-aggregate-print-store
     print-store-requires
+    refused-requires-2
     returns-2
     print-store-requires-2
     same-length

@@ -1,8 +1,8 @@
--- `reading_calls::look_up_place` meets its contract.
+-- `look_up_calls::look_up_place` meets its contract.
 use borrow.Author.Needs.{needs}
-use Rattle.reading_calls.proofs.look_up_place.Statement.{statement}
-use Rattle.reading_calls.proofs.look_up_place.Tie as tie
-use Rattle.reading_calls.proofs.Laws.{looks-bad, looks-good}
+use Rattle.look_up_calls.proofs.look_up_place.Statement.{statement}
+use Rattle.look_up_calls.proofs.look_up_place.Tie as tie
+use Rattle.look_up_calls.proofs.Laws.{looks-bad, looks-good}
 
 passes-requires : tie.Need-passes-requires
 passes-requires c κs = search needs

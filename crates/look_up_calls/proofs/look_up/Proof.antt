@@ -1,8 +1,8 @@
--- `reading_calls::look_up` meets its contract.
+-- `look_up_calls::look_up` meets its contract.
 use borrow.Author.Needs.{needs}
-use Rattle.reading_calls.proofs.look_up.Statement.{statement}
-use Rattle.reading_calls.proofs.look_up.Tie as tie
-use Rattle.reading_calls.proofs.Laws.{hands-bad, hands-good}
+use Rattle.look_up_calls.proofs.look_up.Statement.{statement}
+use Rattle.look_up_calls.proofs.look_up.Tie as tie
+use Rattle.look_up_calls.proofs.Laws.{hands-bad, hands-good}
 
 passes-requires : tie.Need-passes-requires
 passes-requires c κs = search needs

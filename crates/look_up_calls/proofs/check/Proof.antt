@@ -1,8 +1,8 @@
--- `reading_calls::check` meets its contract.
+-- `look_up_calls::check` meets its contract.
 use borrow.Author.Needs.{needs}
-use Rattle.reading_calls.proofs.check.Statement.{statement}
-use Rattle.reading_calls.proofs.check.Tie as tie
-use Rattle.reading_calls.proofs.Laws.{check-yes, check-no}
+use Rattle.look_up_calls.proofs.check.Statement.{statement}
+use Rattle.look_up_calls.proofs.check.Tie as tie
+use Rattle.look_up_calls.proofs.Laws.{check-yes, check-no}
 
 passes-requires : tie.Need-passes-requires
 passes-requires c κs = search needs

@@ -1,13 +1,9 @@
-//! The calls that change nothing: the check of a store, the look-up of a value, the print.
-use store_writer::Answer;
+//! The calls that write nothing: the check of a store, and the look-up of a value.
 ghost use mathlib.Core.Path.{_≡_};
 ghost use Rattle.rules.specs.Passing.{passes};
 ghost use Rattle.rules.specs.LookUp.{lookUp};
-ghost use Rattle.rules.specs.Outcome.{Answers};
-ghost use Rattle.rules.specs.Print.{printOutcome};
-ghost use lib.ListN.{length};
 ghost use Rattle.lookup.specs.Finding.{Looks, Hands};
-ghost use Rattle.reading_calls.specs.Calls.{checkAnswer};
+ghost use Rattle.look_up_calls.specs.Calls.{checkAnswer};
 
 /// 0 if the store passes the check, 1 if it does not.
 pub fn check(store: &[u8]) -> u32
@@ -53,26 +49,4 @@ pub fn look_up_place(store: &[u8], serial: u32) -> Found
         start: found.start,
         length: found.length,
     }
-}
-
-/// Prints the store. A first print into a buffer of one byte, which clips it, tells the length.
-pub fn print(store: &[u8], out: &mut [u8]) -> Answer
-    ensures { λ r. ⌜ Answers (printOutcome (now (store .entry)) (length (now (out .entry)))) (now (out .entry)) (r .number) (r .length) (now (out .exit)) ⌝ }
-{
-    if !store_check::passes(store) {
-        return Answer {
-            number: 1,
-            length: 0,
-        };
-    }
-    let mut clipped = [0; 1];
-    let length = printing::print_store(store, &mut clipped);
-    if length > out.len() {
-        return Answer {
-            number: 18,
-            length: 0,
-        };
-    }
-    printing::print_store(store, out);
-    Answer { number: 0, length }
 }

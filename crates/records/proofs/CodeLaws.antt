@@ -86,7 +86,8 @@ attribute-of w n bs owner sort l value o s u v a b c =
     (λ i. ltb owner n && (a i && (leb sort 2 && (b i && c i))))
     ∙ (λ i. ltb (o i) n && (nameFits bs attributeNameAt && (leb (s i) 2 && (valueFits w bs attributeValueAt (u i) && isFill (sortOf (s i)) (v i)))))
 
--- ---- a row's tests, in the code's order: by its sort, its value's length and its index; whether its value fits, and its unused bytes do
+-- ---- a row's tests, in the code's order: by its sort, its value's length and its index; whether its value fits, and
+-- its unused bytes do
 abbrev rowTests : ℕ → ℕ → ℕ → Bool → Bool → Bool
 rowTests s l i v u = (leb 1 s && leb s 3) && (v && ((not (eqb s 1) || eqb l 0) && ((not (eqb s 3) || eqb i 0) && u)))
 

@@ -17,7 +17,8 @@ ghost use Rattle.walk_writer.specs.Step.{fillWith, planFilling, Ready, WalkRows
 ghost use Rattle.filling.specs.Parts.{Asks, Indexed};
 ghost use Rattle.row_bound.specs.Bound.{onlyIf, matchingIn, placesIn, countedTo, Bounds};
 
-/// The rows of one filling, counted up to one past the ceiling, or 0 if none is put in; and the most rows of all of them.
+/// The rows of one filling, counted up to one past the ceiling, or 0 if none is put in; and the most rows of all of
+/// them.
 pub struct Most {
     pub one: usize,
     pub all: usize,

@@ -36,8 +36,8 @@ keptWith p due o x =
 abbrev pub endsDue : Plan → Open → Deep FlatRow → Bool
 endsDue p o x = (o .due && isBelow o x) && isLater (p .marks) (p .later) (x .row)
 
--- a row that stays as it is, and nothing comes before it: it stands below no row taken, what is due stays due, it is not
--- taken, and it keeps its index and its value
+-- a row that stays as it is, and nothing comes before it: it stands below no row taken, what is due stays due, it is
+-- not taken, and it keeps its index and its value
 unfoldable pub isPlain : Plan → Open → Deep FlatRow → Bool
 isPlain p o x =
     (not (gone o x) && not ((closes o x && o .due) || endsDue p (closed o x) x))

@@ -33,8 +33,10 @@ module _ {w : ℕ} (room : ℕ) (f : FlatStore) (wide : valueWidth (f .version) 
 -- n: the first condition, 0; f: the bodies of the store that the call leaves; r: the first of the limits, or 0
 module _ (c : Call) (bs out : Bytes) (p : passes bs ≡ true) (n : ℕ) (e : n ≡ first (conditions c (storeIn bs))) (z : n ≡ 0) (f : FlatStore) (g : flat (after c (storeIn bs)) ≡ f) (w r : ℕ)
     (l : Limit w (length out) f r) where
-  pub answers-limit : (r ≡ 0 → ⊥) → Answers (outcome c bs (length out)) out r 0 out
-  answers-limit h = answers-written c bs (length out) p n e z f g (by r (l .outcome) h)
+  pub answers-limit : (r ≡ 0 → ⊥) → {number len : ℕ} → (number ≡ r) × (len ≡ 0) → Answers (outcome c bs (length out)) out number len out
+  answers-limit h (number-is, length-is) =
+      let a : Answers (outcome c bs (length out)) out r 0 out = answers-written c bs (length out) p n e z f g (by r (l .outcome) h) in
+      record { number-is = number-is ∙ a .number-is; length-is = length-is ∙ a .length-is; buffer-is = a .buffer-is }
     where
       by : (m : ℕ) → limited (length out) f ≡ unlessRefused m (flatBytes w f) → (m ≡ 0 → ⊥) → Answers (limited (length out) f) out m 0 out
       by zero q k = absurd (k refl)

@@ -1,2 +1,1 @@
-pub mod DestroyLimits
 pub mod DestroyCall

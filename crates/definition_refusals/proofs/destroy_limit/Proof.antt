@@ -1,9 +1,9 @@
--- `destroy_definition_call::destroy_limit` meets its contract.
-use Rattle.destroy_definition_call.proofs.DestroyLimits.{short-room, enough-room}
+-- `definition_refusals::destroy_limit` meets its contract.
+use Rattle.definition_refusals.proofs.DestroyLimits.{short-room, enough-room}
 use native.Mathlib.Omega.{arith}
 use borrow.Author.Needs.{needs}
-use Rattle.destroy_definition_call.proofs.destroy_limit.Statement.{statement}
-use Rattle.destroy_definition_call.proofs.destroy_limit.Tie as tie
+use Rattle.definition_refusals.proofs.destroy_limit.Statement.{statement}
+use Rattle.definition_refusals.proofs.destroy_limit.Tie as tie
 
 width-in-requires : tie.Need-width-in-requires
 width-in-requires c κs = search needs

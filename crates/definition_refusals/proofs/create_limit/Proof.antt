@@ -1,9 +1,9 @@
--- `create_definition_call::create_limit` meets its contract.
-use Rattle.create_definition_call.proofs.CreateCall.{at-ceiling, no-room, no-limit}
+-- `definition_refusals::create_limit` meets its contract.
+use Rattle.definition_refusals.proofs.CreateLimits.{at-ceiling, no-room, no-limit}
 use native.Mathlib.Omega.{arith}
 use borrow.Author.Needs.{needs}
-use Rattle.create_definition_call.proofs.create_limit.Statement.{statement}
-use Rattle.create_definition_call.proofs.create_limit.Tie as tie
+use Rattle.definition_refusals.proofs.create_limit.Statement.{statement}
+use Rattle.definition_refusals.proofs.create_limit.Tie as tie
 
 definition-count-requires : tie.Need-definition-count-requires
 definition-count-requires c κs = search needs

@@ -1,9 +1,9 @@
--- `destroy_definition_call::destroy_condition` meets its contract.
-use Rattle.destroy_definition_call.proofs.DestroyCall.{unknown, used, unused}
+-- `definition_refusals::destroy_condition` meets its contract.
+use Rattle.definition_refusals.proofs.DestroyConditions.{unknown, used, unused}
 use native.Mathlib.Omega.{arith}
 use borrow.Author.Needs.{needs}
-use Rattle.destroy_definition_call.proofs.destroy_condition.Statement.{statement}
-use Rattle.destroy_definition_call.proofs.destroy_condition.Tie as tie
+use Rattle.definition_refusals.proofs.destroy_condition.Statement.{statement}
+use Rattle.definition_refusals.proofs.destroy_condition.Tie as tie
 
 definition-count-requires : tie.Need-definition-count-requires
 definition-count-requires c κs = search needs

@@ -2,7 +2,7 @@
 use Prim.Native.Nat.{ℕ, zero, suc, _+_, _≤_}
 use native.Mathlib.Omega.{arith}
 use mathlib.Core.Path.{_≡_, refl, ap, ap₂, _∙_}
-use mathlib.Core.Bool.{Bool, true, false, _||_, false≢true}
+use mathlib.Core.Bool.{Bool, true, false, false≢true}
 use mathlib.Core.List.{List, [], _∷_, _++_, map, append-nil, List·Memᴰ}
 use lib.Dec.{eqb}
 use lib.ListN.{length}
@@ -18,8 +18,8 @@ use Rattle.rules.specs.Passing.{good}
 use Rattle.rules.specs.Change.{createDefinition, formAfter, plan, after}
 use Rattle.rules.proofs.BooleanLaws.{Every, every-map, all-in}
 use Rattle.rules.proofs.DecodeLaws.{GoodParts, good-parts, good-known}
-use Rattle.definition_writer.specs.Bodies.{newDefinition, movedRow, movedParticle, named}
-use Rattle.create_definition_call.specs.Bodies.{created}
+use Rattle.definition_writer.specs.Bodies.{newDefinition, movedRow, movedParticle}
+use Rattle.definition_creation.specs.Bodies.{created}
 use Rattle.definition_writer.proofs.Kept.{after-kept}
 use Rattle.definition_writer.proofs.FittingRows.{element-known, others-bare, every-row-map, roots-elements}
 use Rattle.definition_writer.proofs.Renumbered.{OkRow, moved-models, moved-definitions, moved-rows}
@@ -78,7 +78,8 @@ attribute-old : (o n : Bytes) (form more : Form) → known form o ≡ true → a
 attribute-old o n [] more k = absurd (false≢true k)
 attribute-old o n (d ∷ form) more k = by (same o (d .name)) refl (attribute-old o n form more)
   where
-    by : (b : Bool) → same o (d .name) ≡ b → (known form o ≡ true → attributeIndex o n (form ++ more) ≡ attributeIndex o n form) → attributeIndex o n (d ∷ form ++ more) ≡ attributeIndex o n (d ∷ form)
+    by : (b : Bool) → same o (d .name) ≡ b → (known form o ≡ true → attributeIndex o n (form ++ more) ≡ attributeIndex o n form)
+        → attributeIndex o n (d ∷ form ++ more) ≡ attributeIndex o n (d ∷ form)
     by true q f = rw (q, attributeIndex) refl
     by false q f = rw (q, attributeIndex) (ap (λ (i : ℕ). length (d .attributes) + i) (f (rw (q, lookup) at k)))
 
@@ -155,12 +156,3 @@ module _ (n : Bytes) (k : ℕ) (low : k ≤ 2) where
           attributes = attributes-more 0 form added refl i;
           rows = rows-are i;
         })
-
--- ---- known names, by the definitions' records
-pub known-named : (F : Form) (n : Bytes) (form : Form) → named n (map (flatDefinition F) form) ≡ known form n
-known-named F n [] = refl
-known-named F n (d ∷ form) = by (same n (d .name)) refl (known-named F n form)
-  where
-    by : (b : Bool) → same n (d .name) ≡ b → named n (map (flatDefinition F) form) ≡ known form n → (same n (d .name) || named n (map (flatDefinition F) form)) ≡ known (d ∷ form) n
-    by true q e = rw (q, lookup) refl
-    by false q e = rw (q, lookup) e

@@ -1,10 +1,10 @@
--- `create_definition_call::create_condition` meets its contract.
-use Rattle.create_definition_call.proofs.CreateCall.{bad-name, bad-code, name-taken, name-free}
+-- `definition_refusals::create_condition` meets its contract.
+use Rattle.definition_refusals.proofs.CreateConditions.{bad-name, bad-code, name-taken, name-free}
 use borrow.Author.Tests.{not-true, not-false}
 use native.Mathlib.Omega.{arith}
 use borrow.Author.Needs.{needs}
-use Rattle.create_definition_call.proofs.create_condition.Statement.{statement}
-use Rattle.create_definition_call.proofs.create_condition.Tie as tie
+use Rattle.definition_refusals.proofs.create_condition.Statement.{statement}
+use Rattle.definition_refusals.proofs.create_condition.Tie as tie
 
 stored-name-requires : tie.Need-stored-name-requires
 stored-name-requires c κs = search needs

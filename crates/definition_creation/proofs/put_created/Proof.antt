@@ -1,13 +1,13 @@
--- `create_definition_call::put_created` meets its contract.
+-- `definition_creation::put_created` meets its contract.
 use Prim.Native.Nat.{_+_}
 use Rattle.store_laws.proofs.Encoded.{encoded}
 use Rattle.definition_writer.specs.Bodies.{newDefinition}
-use Rattle.create_definition_call.proofs.CreatedBytes.{created-laid, after-header, front-short, back-short}
+use Rattle.definition_creation.proofs.CreatedBytes.{created-laid, after-header, front-short, back-short}
 use Rattle.rules.proofs.LayoutLaws.{length-definition}
 use native.Mathlib.Omega.{arith}
 use borrow.Author.Needs.{needs}
-use Rattle.create_definition_call.proofs.put_created.Statement.{statement}
-use Rattle.create_definition_call.proofs.put_created.Tie as tie
+use Rattle.definition_creation.proofs.put_created.Statement.{statement}
+use Rattle.definition_creation.proofs.put_created.Tie as tie
 
 definition-count-requires : tie.Need-definition-count-requires
 definition-count-requires c κs = search needs

@@ -17,7 +17,7 @@ use Rattle.layout.proofs.LayoutLaws.{width-small}
 use Rattle.layout.proofs.HeaderLaws.{attributes-few, headed-short, definition-table-short}
 use Rattle.definition_writer.specs.Bodies.{newDefinition}
 use Rattle.store_laws.proofs.Encoded.{Encoded, length-is, bytes-are, others, definitions-at, others-at}
-use Rattle.create_definition_call.specs.Bodies.{created}
+use Rattle.definition_creation.specs.Bodies.{created}
 use Rattle.layout.specs.Fields.{nextAt}
 
 module _ {bs : Bytes} {f : FlatStore} (n : Bytes) (k : ℕ) (x : Encoded bs f) where

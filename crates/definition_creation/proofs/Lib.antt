@@ -1,0 +1,2 @@
+pub mod Created
+pub mod CreatedBytes

@@ -1,0 +1,4 @@
+pub mod CreateConditions
+pub mod CreateLimits
+pub mod DestroyConditions
+pub mod DestroyLimits

@@ -1,4 +1,4 @@
-//! Which refusal of the changes 1 and 2 applies to a store that passes.
+//! Which refusal of changes 1 and 2 applies to a store that passes.
 ghost use mathlib.Core.Path.{_≡_};
 ghost use mathlib.Core.Bool.{true};
 ghost use Rattle.rules.specs.Passing.{passes};

@@ -1,3 +1,6 @@
+-- `attribute_refusals::add_attribute_refusal` meets its contract: the tests decide the six conditions of `addAttribute`
+-- in their order, and each return is the number of the first that holds, 0 where none does (`add-2` to `add-12`,
+-- `add-0` of AttributeLaws).
 use native.Mathlib.Omega.{arith}
 use Rattle.store_check.proofs.StoreFacts.{whole, bad-text, fine-text, past-definitions, within-definitions}
 use Rattle.instance_search.proofs.TestLaws.{test-is, not-is}

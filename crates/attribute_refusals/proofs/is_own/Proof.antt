@@ -1,3 +1,5 @@
+-- `attribute_refusals::is_own` meets its contract: the owner and the name read from the record are those that
+-- `ownNamed` tests (`own-read` of AttributeLaws).
 use Rattle.attribute_refusals.proofs.AttributeLaws.{own-read}
 use borrow.Author.Needs.{needs}
 use Rattle.attribute_refusals.proofs.is_own.Statement.{statement}

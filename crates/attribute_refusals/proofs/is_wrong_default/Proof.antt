@@ -1,3 +1,5 @@
+-- `attribute_refusals::is_wrong_default` meets its contract: each return is the clause of `wrongDefault` for its sort,
+-- 0, 1 or any other (`default-0`, `default-1`, `default-2` of AttributeLaws).
 use Rattle.attribute_refusals.proofs.AttributeLaws.{default-0, default-1, default-2}
 use Rattle.attribute_refusals.proofs.is_wrong_default.Statement.{statement}
 use Rattle.attribute_refusals.proofs.is_wrong_default.Tie as tie

@@ -1,3 +1,5 @@
+-- `byte_check::eight_printable` meets its contract: by the contract of `printable` each test is `between 0x20 0x7E` of
+-- one byte, and the eight tests are `all` of the eight bytes (`eight-of` of TestLaws).
 use mathlib.Core.Path.{_∙_}
 use mathlib.Core.Bool.{_&&_}
 use native.Mathlib.Omega.{arith}

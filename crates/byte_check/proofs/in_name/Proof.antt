@@ -1,3 +1,5 @@
+-- `byte_check::in_name` meets its contract: the return is `inName` but for the answer of `starts_name`, which by its
+-- contract is `startsName`.
 use mathlib.Core.Path.{ap}
 use mathlib.Core.Bool.{Bool, _&&_, _||_}
 use lib.Dec.{eqb, leb}

@@ -1,3 +1,5 @@
+-- `declaration_printing::put_content` meets its contract: each return has its law in LineLaws, by the kind and by
+-- whether there are members (`content-empty-laid`, `content-pcdata-laid`, `content-none-laid`, `content-some-laid`).
 use borrow.Author.Tests.{not-true, not-false}
 use Rattle.rules.specs.Preorder.{build}
 use Rattle.printing_parts.specs.Parts.{particlesFrom, namesOf}

@@ -1,3 +1,7 @@
+-- `declaration_printing::put_default` meets its contract: in each case of the sort its default is written
+-- (`default-implied`, `default-required`, `default-fixed` of LineLaws), and the places are in range since a fixed value
+-- has at most 255 bytes (`default-short` of LineLaws) and escaped at most six times as many (`escape-length` of
+-- escaping's Laws).
 use native.Mathlib.Omega.{arith}
 use Rattle.declaration_printing.proofs.LineLaws.{default-implied, default-required, default-fixed, default-short}
 use Rattle.escaping.proofs.Laws.{escape-length}

@@ -1,3 +1,5 @@
+-- `declaration_printing::put_mark` meets its contract: in each case of the match what is written, nothing for 0, is the
+-- mark of the quantifier with that code, and every code above 2 is that of `Plus` (`plus-last` of SignLaws).
 use mathlib.Core.Path.{ap}
 use Prim.Native.Nat.{ℕ}
 use Rattle.rules.specs.Decode.{quantifierOf}

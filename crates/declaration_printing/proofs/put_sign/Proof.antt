@@ -1,3 +1,6 @@
+-- `declaration_printing::put_sign` meets its contract: nothing stands before the first member, and before another
+-- stands the separator of its group, a sequence if the kind is below 2 and else a choice (`group-list`, `group-choice`
+-- of SignLaws).
 use mathlib.Core.Path.{ap, ap₂}
 use mathlib.Core.Bool.{Bool}
 use native.Mathlib.Omega.{arith}

@@ -1,3 +1,5 @@
+-- `definition_removal::lower` meets its contract: an index from `from` on falls by `less` (`lower-high` of Moving), and
+-- one below `from` stays (`lower-low`).
 use Rattle.definition_removal.proofs.Moving.{lower-high, lower-low}
 use native.Mathlib.Omega.{arith}
 use borrow.Author.Needs.{needs}

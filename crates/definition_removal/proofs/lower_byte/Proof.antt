@@ -1,3 +1,5 @@
+-- `definition_removal::lower_byte` meets its contract: the answer of `lower` at `definition + 1` is `lowered` at
+-- `suc definition` (`lower-next` of Moving).
 use Rattle.definition_removal.proofs.Moving.{lower-next}
 use borrow.Author.Needs.{needs}
 use Rattle.definition_removal.proofs.lower_byte.Statement.{statement}

@@ -1,3 +1,5 @@
+-- `definition_removal::moved_member` meets its contract: the index of an element, sort 0, is moved as `lower_byte` says
+-- (`member-moved` of Moving), and that of a group stays (`member-stays`).
 use Rattle.definition_removal.proofs.Moving.{member-moved, member-stays}
 use Rattle.definition_removal.specs.Bodies.{lowered}
 use Prim.Native.Nat.{suc}

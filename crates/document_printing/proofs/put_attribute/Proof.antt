@@ -1,3 +1,6 @@
+-- `document_printing::put_attribute` meets its contract: the five texts that are laid one after the other are
+-- `attributeText` (`laid-then` of Writers), and an escaped value is at most six times as long (`escape-length` of
+-- escaping's Laws), so that the last byte's place is in range.
 use native.Mathlib.Omega.{arith}
 use Rattle.codec.proofs.Writers.{laid-none, laid-then}
 use Rattle.escaping.proofs.Laws.{escape-length}

@@ -1,3 +1,5 @@
+-- `document_printing::put_document` meets its contract: what `put_element` writes under the name of row i, and the end
+-- of the line after it, are `documentText` of that row (`document-stepped` of RowLaws).
 use Rattle.document_printing.proofs.RowLaws.{document-stepped}
 use borrow.Author.Needs.{needs}
 use Rattle.document_printing.proofs.put_document.Statement.{statement}

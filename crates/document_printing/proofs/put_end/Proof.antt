@@ -1,3 +1,5 @@
+-- `document_printing::put_end` meets its contract: the two cases of `opened` are the two clauses of `endText`, the byte
+-- that `put_u8` lays or no byte (`laid-none` of Writers).
 use mathlib.Core.Path.{ap}
 use Rattle.codec.proofs.Writers.{laid-as, laid-none}
 use Rattle.document_printing.specs.Documents.{endText}

@@ -1,3 +1,5 @@
+-- `document_printing::stays_open` meets its contract: for sort 2 the return is the clause of `stays` for attributes,
+-- and for any other sort `stays` is false (`stays-not` of RowLaws).
 use Rattle.document_printing.proofs.RowLaws.{stays-not}
 use borrow.Author.Needs.{needs}
 use Rattle.document_printing.proofs.stays_open.Statement.{statement}

@@ -1,3 +1,5 @@
+-- `document_refusals::add_document_refusal` meets its contract: the tests of the text and of the definition's index
+-- decide the two conditions of `addDocument` in their order (`document-3`, `document-6`, `document-0` of RefusalLaws).
 use native.Mathlib.Omega.{arith}
 use Rattle.store_check.proofs.StoreFacts.{whole}
 use Rattle.document_refusals.proofs.RefusalLaws.{document-3, document-6, document-0}

@@ -1,3 +1,5 @@
+-- `document_refusals::attribute_at` meets its contract: the reads of the store's parts make the answer of
+-- `indexed_serial` the store's (`indexed-read` of ReaderLaws).
 use Rattle.document_refusals.proofs.ReaderLaws.{indexed-read}
 use borrow.Author.Needs.{needs}
 use Rattle.document_refusals.proofs.attribute_at.Statement.{statement}

@@ -1,3 +1,6 @@
+-- `document_refusals::attribute_refusal` meets its contract by a law of AttributeRefusals for each return: the
+-- attribute is not there (`refused-past`), the element is not (`refused-none`), the attribute is of another definition
+-- (`refused-other`), or none of these (`refused-not`).
 use mathlib.Core.Path.{sym, _∙_}
 use native.Mathlib.Omega.{arith}
 use Rattle.store_check.proofs.StoreFacts.{Whole, whole}

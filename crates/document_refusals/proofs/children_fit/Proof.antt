@@ -1,3 +1,5 @@
+-- `document_refusals::children_fit` meets its contract: the line that `next_children::fill` writes is the one that
+-- `line_fits` requires, and the contract of `line_fits` is this one.
 use borrow.Author.Needs.{needs}
 use Rattle.document_refusals.proofs.children_fit.Statement.{statement}
 use Rattle.document_refusals.proofs.children_fit.Tie as tie

@@ -1,3 +1,5 @@
+-- `document_refusals::depth_below` meets its contract: the equations of the readers of row i and of its depth, joined,
+-- with `+ 1` for `suc` (`add-one` of Numerals).
 use mathlib.Core.Path.{ap, _∙_}
 use mathlib.Core.List.{List}
 use Prim.Native.Nat.{ℕ, suc}

@@ -1,3 +1,6 @@
+-- `document_refusals::destroy_element_refusal` meets its contract by a law of ElementRefusals for each return: there is
+-- no such element (`destroy-7`), it has no parent (`destroy-root`), or the parent's model does not take the other
+-- children (`destroy-15`) or does (`destroy-0`).
 use native.Mathlib.Omega.{arith}
 use Rattle.store_check.proofs.StoreFacts.{Whole, whole}
 use Rattle.document_refusals.proofs.RefusalLaws.{seen, unseen, parent-row}

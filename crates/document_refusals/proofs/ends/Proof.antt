@@ -1,3 +1,6 @@
+-- `document_refusals::ends` meets its contract: for `last` 0, and for `last` from 1 to 64, a set of the model's line
+-- has what `finishes` says (`end-none`, `end-child` of StepLaws), and above 64 the return is the answer of
+-- `automaton::finishes`.
 use native.Mathlib.Omega.{arith}
 use Rattle.model.specs.Members.{allMembers}
 use Rattle.document_refusals.proofs.StepLaws.{end-none, end-child}

@@ -1,3 +1,5 @@
+-- `document_refusals::fits_at` meets its contract: the answer of `children_fit` is `fitsAt`, as the parts and the model
+-- that are read are the store's (`fits-read` of ReaderLaws).
 use Rattle.document_refusals.proofs.ReaderLaws.{fits-read}
 use borrow.Author.Needs.{needs}
 use Rattle.document_refusals.proofs.fits_at.Statement.{statement}

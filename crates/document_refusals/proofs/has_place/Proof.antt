@@ -1,3 +1,5 @@
+-- `document_refusals::has_place` meets its contract: a row has at least 0 children (`place-none` of ReaderLaws), and it
+-- has at least `child` of them where the serial of number `child - 1` is not 0 (`place-some`).
 use Rattle.document_refusals.proofs.ReaderLaws.{place-none, place-some}
 use borrow.Author.Needs.{needs}
 use Rattle.document_refusals.proofs.has_place.Statement.{statement}

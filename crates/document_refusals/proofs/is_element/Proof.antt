@@ -1,3 +1,5 @@
+-- `document_refusals::is_element` meets its contract: the sort and the serial that are read are those that
+-- `elementRowWith` tests.
 use mathlib.Core.Path.{ap₂}
 use mathlib.Core.Bool.{_&&_}
 use Prim.Native.Nat.{ℕ}

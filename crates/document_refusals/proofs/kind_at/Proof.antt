@@ -1,3 +1,5 @@
+-- `document_refusals::kind_at` meets its contract: the equations of the three readers, of the definitions, of row i's
+-- index and of the kind, joined.
 use mathlib.Core.Path.{ap₂, _∙_}
 use mathlib.Core.List.{List}
 use Prim.Native.Nat.{ℕ}

@@ -1,3 +1,5 @@
+-- `document_refusals::model_at` meets its contract: the equations of the four readers, of the definitions, the
+-- particles, row i's index and the model's part, joined.
 use mathlib.Core.Path.{ap, _∙_}
 use Rattle.model.specs.Members.{allMembers}
 use Rattle.form_index.specs.Reading.{modelPart}

@@ -1,3 +1,5 @@
+-- `document_refusals::nth_at` meets its contract: the reads of the store's parts make the answer of `nth_serial` the
+-- store's (`nth-read` of ReaderLaws).
 use Rattle.document_refusals.proofs.ReaderLaws.{nth-read}
 use borrow.Author.Needs.{needs}
 use Rattle.document_refusals.proofs.nth_at.Statement.{statement}

@@ -1,3 +1,5 @@
+-- `document_refusals::owner_of` meets its contract: the equations of the four readers, of the width, the attributes,
+-- the record and its owner, joined.
 use mathlib.Core.Path.{_∙_}
 use Rattle.rules.specs.Layout.{attributeSize}
 use Rattle.rules.specs.Decode.{readAttribute}

@@ -1,3 +1,5 @@
+-- `document_refusals::set_text_refusal` meets its contract: the tests of the text, of the element's row and of its kind
+-- decide the three conditions of `setText` in their order (`text-3`, `text-7`, `text-9`, `text-0` of RefusalLaws).
 use native.Mathlib.Omega.{arith}
 use Rattle.store_check.proofs.StoreFacts.{Whole, whole}
 use Rattle.document_refusals.proofs.RefusalLaws.{text-3, text-7, text-9, text-0, seen, unseen, row-of}

@@ -1,3 +1,5 @@
+-- `document_refusals::step_child` meets its contract: the child with serial `skip` gives no name to step over
+-- (`kept-none` of StepLaws), and any other gives its index, which `follows` tests (`kept-step`).
 use mathlib.Core.Path.{sym, _∙_}
 use Rattle.rules.specs.Decode.{readRow}
 use Rattle.document_refusals.proofs.StepLaws.{kept-step, kept-none}

@@ -1,3 +1,5 @@
+-- `document_refusals::step_new` meets its contract: at place 1 there is one name to step over, which `follows` tests
+-- (`new-step` of StepLaws), and at any other place there is none (`new-none`).
 use Rattle.document_refusals.proofs.StepLaws.{new-step, new-none}
 use borrow.Author.Needs.{needs}
 use Rattle.document_refusals.proofs.step_new.Statement.{statement}

@@ -1,3 +1,5 @@
+-- `filling::created_value` meets its contract: the record, sort and value that are read are those of attribute j, so
+-- that the result is `valueIn` and no longer than w (`created-told` of FillingLaws).
 use Rattle.filling.proofs.FillingLaws.{created-told}
 use borrow.Author.Needs.{needs}
 use Rattle.filling.proofs.created_value.Statement.{statement}

@@ -1,3 +1,5 @@
+-- `filling::is_left_out` meets its contract: in each case of the match the return is the clause of `leftOut` for the
+-- kind, for a sequence by the contract of `is_optional`.
 use borrow.Author.Needs.{needs}
 use Rattle.filling.proofs.is_left_out.Statement.{statement}
 use Rattle.filling.proofs.is_left_out.Tie as tie

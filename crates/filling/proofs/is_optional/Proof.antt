@@ -1,3 +1,5 @@
+-- `filling::is_optional` meets its contract: `skips` is true of the quantifiers with the codes 1 and 2
+-- (`optional-code`, `optional-code-2` of FillingLaws) and of no other (`needed-code`).
 use Rattle.filling.proofs.FillingLaws.{optional-code, optional-code-2, needed-code}
 use borrow.Author.Needs.{needs}
 use Rattle.filling.proofs.is_optional.Statement.{statement}

@@ -1,3 +1,5 @@
+-- `filling::put_any` meets its contract: in each case of `what` the rows that are written are those of `changeFilled`
+-- (`nothing-filled`, `definition-filled`, `attribute-filled`, `particles-filled` of FillingLaws).
 use native.Mathlib.Omega.{arith}
 use Rattle.filling.specs.Parts.{defsIn, partsIn, attrsIn, widthIn, countIn, versionOfFilling}
 use Rattle.filling.proofs.FillingLaws.{nothing-filled, definition-filled, attribute-filled, particles-filled, filled-definition, filled-attribute, filled-particles}

@@ -1,3 +1,5 @@
+-- `filling::put_attribute` meets its contract: `requiredAt` is the one row that is written where definition i needs
+-- attribute j (`needed-written` of FillingLaws), and no row where it does not (`spare-written`).
 use Rattle.filling.proofs.FillingLaws.{spare-written, needed-written}
 use borrow.Author.Needs.{needs}
 use Rattle.filling.proofs.put_attribute.Statement.{statement}

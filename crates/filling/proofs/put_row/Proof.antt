@@ -1,3 +1,5 @@
+-- `filling::put_row` meets its contract: what it ensures is what `row_writer::put_new` ensures, with the cursor taken
+-- from and put into an array.
 use borrow.Author.Needs.{needs}
 use Rattle.filling.proofs.put_row.Statement.{statement}
 use Rattle.filling.proofs.put_row.Tie as tie

@@ -1,3 +1,5 @@
+-- `form_index::kind_of` meets its contract: the kind read from record i is that of `definitionIn` (`kind-read` of
+-- ReadingLaws).
 use Rattle.form_index.proofs.ReadingLaws.{kind-read}
 use borrow.Author.Needs.{needs}
 use Rattle.form_index.proofs.kind_of.Statement.{statement}

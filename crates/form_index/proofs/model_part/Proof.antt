@@ -1,3 +1,5 @@
+-- `form_index::model_part` meets its contract: the window that leaves out the particles before definition i's and is as
+-- long as its own is `modelPart` (`model-read` of ReadingLaws).
 use mathlib.Core.Path.{_∙_}
 use Rattle.form_index.proofs.ReadingLaws.{model-read}
 use borrow.Author.Needs.{needs}

@@ -1,3 +1,5 @@
+-- `form_index::needs` meets its contract: the owner and the sort read from record j are those of `attributeIn`, and
+-- `must_be_present` tests the sort (`needs-read` of ReadingLaws).
 use Rattle.form_index.proofs.ReadingLaws.{needs-read}
 use borrow.Author.Needs.{needs}
 use Rattle.form_index.proofs.needs.Statement.{statement}

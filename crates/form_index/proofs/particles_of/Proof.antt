@@ -1,3 +1,5 @@
+-- `form_index::particles_of` meets its contract: the number read from record i is that of `definitionIn`
+-- (`particles-read` of ReadingLaws), and it is below 4294967296 as a `u32`.
 use Rattle.form_index.proofs.ReadingLaws.{particles-read}
 use native.Mathlib.Omega.{arith}
 use borrow.Author.Needs.{needs}

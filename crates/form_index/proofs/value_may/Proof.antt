@@ -1,3 +1,5 @@
+-- `form_index::value_may` meets its contract: the sort and the value read from record j are those of `attributeIn`, and
+-- `value_allowed` tests v by them (`value-allowed` of ReadingLaws).
 use Rattle.form_index.proofs.ReadingLaws.{value-allowed}
 use borrow.Author.Needs.{needs}
 use Rattle.form_index.proofs.value_may.Statement.{statement}

@@ -1,3 +1,5 @@
+-- `form_table::fill_table` meets its contract: `lay_needs` leaves the models' sets of `lay_models` as they are and
+-- fills the sets of attributes, which were 0, so that together they are the table (`table-filled` of TableLaws).
 use native.Mathlib.Omega.{arith}
 use Rattle.form_table.proofs.TableLaws.{table-filled}
 use borrow.Author.Needs.{needs}

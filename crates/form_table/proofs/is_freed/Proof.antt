@@ -1,3 +1,5 @@
+-- `form_table::is_freed` meets its contract: for `seen` 0 `freedOf` is true, and else it is the answer of `spares` from
+-- `seen - 1` on (`freed-from` of TableLaws).
 use Rattle.form_table.proofs.TableLaws.{freed-from}
 use borrow.Author.Needs.{needs}
 use Rattle.form_table.proofs.is_freed.Statement.{statement}

@@ -1,3 +1,6 @@
+-- `form_table::lay_need` meets its contract by a law of TableLaws for each return: no row of the attribute must be
+-- there (`need-other`), its owner is no definition of the form (`need-past`), or it is put into its owner's set
+-- (`need-put`).
 use native.Mathlib.Omega.{arith}
 use Rattle.form_index.proofs.ReadingLaws.{needs-read}
 use Rattle.form_table.proofs.TableLaws.{need-other, need-past, need-put}

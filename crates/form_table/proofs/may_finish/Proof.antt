@@ -1,3 +1,6 @@
+-- `form_table::may_finish` meets its contract: for `last` 0, and for `last` from 1 to n, a set of the table has what
+-- `finishes` says (`finish-none`, `finish-child` of TableLaws), and above n the return is the answer of
+-- `automaton::finishes` for the model's part.
 use mathlib.Core.Path.{ap, _∙_}
 use native.Mathlib.Omega.{arith}
 use Rattle.rules.specs.Bytes.{Bytes}

@@ -1,3 +1,5 @@
+-- `form_table::spares` meets its contract: `sets::none_between` is true if and only if no number of the range is in the
+-- set, and so is `every` of the contract (`none-spares` of TableLaws).
 use Rattle.form_table.proofs.TableLaws.{none-spares}
 use borrow.Author.Needs.{needs}
 use Rattle.form_table.proofs.spares.Statement.{statement}

@@ -1,3 +1,6 @@
+-- `group_refusals::flatten_at` meets its contract: the code's test has the value of the one condition (`flat-read` of
+-- GroupLaws), so that 14 is returned if and only if it holds (`gives-hit`, `gives-next`, `gives-none` of
+-- FirstCondition).
 use Rattle.change_laws.proofs.FirstCondition.{gives-hit, gives-next, gives-none}
 use Rattle.group_refusals.proofs.GroupLaws.{flat-read}
 use borrow.Author.Needs.{needs}

@@ -1,3 +1,5 @@
+-- `group_refusals::group_kind` meets its contract: for 0 and 1 the return is the clause of `groupOf`, and every other
+-- code is that of a choice (`kind-2` of ConvertLaws).
 use Rattle.group_refusals.proofs.ConvertLaws.{kind-2}
 use borrow.Author.Needs.{needs}
 use Rattle.group_refusals.proofs.group_kind.Statement.{statement}

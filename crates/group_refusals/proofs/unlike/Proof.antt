@@ -1,3 +1,5 @@
+-- `group_refusals::unlike` meets its contract: the return is `unlikeKind` but for the answer of `same_kind`, which by
+-- its contract is `sameKind` (`unlike-read` of GroupLaws).
 use Rattle.group_refusals.proofs.GroupLaws.{unlike-read}
 use borrow.Author.Needs.{needs}
 use Rattle.group_refusals.proofs.unlike.Statement.{statement}

@@ -1,3 +1,5 @@
+-- `header_check::counts_fit` meets its contract: the four counts that are read are the string's, so the test is
+-- `countsFit` (`counts-of` of CodeLaws in `records`).
 use Rattle.records.proofs.CodeLaws.{counts-of}
 use borrow.Author.Needs.{needs}
 use Rattle.header_check.proofs.counts_fit.Statement.{statement}

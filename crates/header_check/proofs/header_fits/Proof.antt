@@ -1,3 +1,5 @@
+-- `header_check::header_fits` meets its contract: size, version, next serial and the answers of the three tests are, by
+-- the contracts of the calls, those that `headerFits` joins (`header-of` of CodeLaws in `records`).
 use Rattle.records.proofs.CodeLaws.{header-of}
 use borrow.Author.Needs.{needs}
 use Rattle.header_check.proofs.header_fits.Statement.{statement}

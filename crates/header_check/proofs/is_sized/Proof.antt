@@ -1,3 +1,5 @@
+-- `header_check::is_sized` meets its contract: the counts that are read are the string's, so `through_rows` gives the
+-- length that `sized` asks for (`sized-of` of CodeLaws in `records`).
 use Rattle.records.proofs.CodeLaws.{sized-of}
 use borrow.Author.Needs.{needs}
 use Rattle.header_check.proofs.is_sized.Statement.{statement}

@@ -1,3 +1,5 @@
+-- `header_check::offsets_fit` meets its contract: the four offsets are compared with the places that the string's
+-- counts give (`offsets-of` of CodeLaws in `records`).
 use Rattle.records.proofs.CodeLaws.{offsets-of}
 use borrow.Author.Needs.{needs}
 use Rattle.header_check.proofs.offsets_fit.Statement.{statement}

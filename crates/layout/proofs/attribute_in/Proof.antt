@@ -1,3 +1,5 @@
+-- `layout::attribute_in` meets its contract: the place and the length of the window are by the width, the counts and
+-- the product that the calls gave, which are the store's (`attribute-window` of LayoutLaws).
 use Rattle.layout.proofs.LayoutLaws.{attribute-window}
 use borrow.Author.Needs.{needs}
 use Rattle.layout.proofs.attribute_in.Statement.{statement}

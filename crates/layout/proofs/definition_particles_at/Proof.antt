@@ -1,3 +1,5 @@
+-- `layout::definition_particles_at` meets its contract: the two bytes at `20 * i + 18` of the body are the field of
+-- record i (`particles-at` of LayoutLaws).
 use mathlib.Core.Path.{_∙_}
 use Rattle.layout.proofs.LayoutLaws.{particles-at}
 use borrow.Author.Needs.{needs}

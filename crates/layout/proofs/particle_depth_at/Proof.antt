@@ -1,3 +1,5 @@
+-- `layout::particle_depth_at` meets its contract: byte `4 * i + 3` of the body is byte 3 of record i (`field-by` of
+-- LayoutLaws).
 use native.Mathlib.Omega.{arith}
 use Rattle.rules.specs.Layout.{particleSize}
 use Rattle.layout.proofs.LayoutLaws.{field-by}

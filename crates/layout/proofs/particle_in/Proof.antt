@@ -1,3 +1,5 @@
+-- `layout::particle_in` meets its contract: it is the contract of `window` with the store's `definitionCount` put in
+-- for the count that was read.
 use mathlib.Core.Path.{ap, _∙_}
 use Prim.Native.Nat.{ℕ, _+_, _*_}
 use Rattle.layout.specs.Bodies.{windowOf}

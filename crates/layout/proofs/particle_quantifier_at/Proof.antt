@@ -1,3 +1,5 @@
+-- `layout::particle_quantifier_at` meets its contract: byte `4 * i + 1` of the body is byte 1 of record i (`field-by`
+-- of LayoutLaws).
 use native.Mathlib.Omega.{arith}
 use Rattle.rules.specs.Layout.{particleSize}
 use Rattle.layout.proofs.LayoutLaws.{field-by}

@@ -1,3 +1,5 @@
+-- `layout::particle_sort_at` meets its contract: byte `4 * i` of the body is byte 0 of record i (`first-field-by` of
+-- LayoutLaws).
 use native.Mathlib.Omega.{arith}
 use Rattle.rules.specs.Layout.{particleSize}
 use Rattle.layout.proofs.LayoutLaws.{first-field-by}

@@ -1,3 +1,5 @@
+-- `layout::through_attributes` meets its contract: the place where the attributes begin and the product for their bytes
+-- add up to the place where they end (`attributes-through` of LayoutLaws).
 use native.Mathlib.Omega.{arith}
 use Rattle.layout.proofs.LayoutLaws.{attributes-through}
 use borrow.Author.Needs.{needs}

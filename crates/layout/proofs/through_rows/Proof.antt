@@ -1,3 +1,5 @@
+-- `layout::through_rows` meets its contract: the place where the rows begin and the product for their bytes add up to
+-- the length (`rows-through` of LayoutLaws).
 use Rattle.layout.proofs.LayoutLaws.{rows-through}
 use borrow.Author.Needs.{needs}
 use Rattle.layout.proofs.through_rows.Statement.{statement}

@@ -1,3 +1,5 @@
+-- `layout::unused_fit` meets its contract: the three bytes that are read are those that `unusedFit` tests (`unused-of`
+-- of LayoutLaws).
 use Rattle.layout.proofs.LayoutLaws.{unused-of}
 use borrow.Author.Needs.{needs}
 use Rattle.layout.proofs.unused_fit.Statement.{statement}

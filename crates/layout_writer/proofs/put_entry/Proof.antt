@@ -1,3 +1,5 @@
+-- `layout_writer::put_entry` meets its contract: the four bytes of the offset, then the four of the count, are the
+-- entry (`laid-then` of Writers in `codec`).
 use Rattle.codec.proofs.Writers.{laid-then}
 use borrow.Author.Needs.{needs}
 use Rattle.layout_writer.proofs.put_entry.Statement.{statement}

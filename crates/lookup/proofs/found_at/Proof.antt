@@ -1,3 +1,6 @@
+-- `lookup::found_at` meets its contract: the case split is on the row's sort: an element is answered with 7
+-- (`found-element` of Laws), another row with the place and the length of its value (`found-value`, `looks-as` of
+-- Laws).
 use mathlib.Core.Path.{_≡_, sym, ap, _∙_}
 use mathlib.Core.List.{List}
 use Prim.Native.Nat.{ℕ, _+_}

@@ -1,3 +1,5 @@
+-- `lookup::rows_of` meets its contract: the window from the first row on, as long as the string, is all that stands
+-- from there on (`rows-from` of Laws).
 use Rattle.lookup.proofs.Laws.{rows-from}
 use borrow.Author.Needs.{needs}
 use Rattle.lookup.proofs.rows_of.Statement.{statement}

@@ -1,3 +1,5 @@
+-- `lookup::value_of` meets its contract: the window has the place and the length that `find` gave, by its contract
+-- those of `foundOn`.
 use mathlib.Core.Path.{ap₂, _∙_}
 use Prim.Native.Nat.{ℕ}
 use lib.ListN.{take, drop}

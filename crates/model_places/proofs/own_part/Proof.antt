@@ -1,3 +1,5 @@
+-- `model_places::own_part` meets its contract: the two bodies that are read are the store's, so the part is `partIn`
+-- (`own-model` of PickLaws).
 use Rattle.model_places.proofs.PickLaws.{own-model}
 use borrow.Author.Needs.{needs}
 use Rattle.model_places.proofs.own_part.Statement.{statement}

@@ -1,3 +1,5 @@
+-- `model_places::pick_at` meets its contract: the case split is on the particle that is read, an element
+-- (`pick-element` of PickLaws) or a group (`pick-group`).
 use Rattle.model_places.proofs.PickLaws.{pick-element, pick-group}
 use borrow.Author.Needs.{needs}
 use Rattle.model_places.proofs.pick_at.Statement.{statement}

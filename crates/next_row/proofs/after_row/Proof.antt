@@ -1,3 +1,5 @@
+-- `next_row::after_row` meets its contract: the case split is on the row's sort, that of an attribute
+-- (`after-attribute` of RowLaws) or another (`after-child`).
 use Rattle.next_row.proofs.RowLaws.{after-attribute, after-child}
 use borrow.Author.Needs.{needs}
 use Rattle.next_row.proofs.after_row.Statement.{statement}

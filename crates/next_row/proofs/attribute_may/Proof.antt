@@ -1,3 +1,7 @@
+-- `next_row::attribute_may` meets its contract: each return is a case of `attributeMay`: no more may come (by its
+-- definition), the index is too low (`attribute-late` of RowLaws) or too high (`attribute-past`), or its owner, its
+-- value and the attributes passed over decide (`attribute-comes`, by `owner-read` of ReadingLaws in `form_index`,
+-- `value-read` and `spares-read` of RowLaws).
 use Rattle.form_index.specs.Reading.{attributesOf}
 use Rattle.rules.specs.Decode.{readRow}
 use Rattle.form_index.proofs.ReadingLaws.{owner-read}

@@ -1,3 +1,5 @@
+-- `next_row::below_row` meets its contract: the case split is on the row's sort, that of an element (`below-element` of
+-- RowLaws) or another (`below-other`).
 use Rattle.next_row.proofs.RowLaws.{below-element, below-other}
 use borrow.Author.Needs.{needs}
 use Rattle.next_row.proofs.below_row.Statement.{statement}

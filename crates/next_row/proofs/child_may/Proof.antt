@@ -1,3 +1,5 @@
+-- `next_row::child_may` meets its contract: each arm is the clause of `childMay` for its kind: 0 (`child-none` of
+-- RowLaws), 1 (`child-text`), any other (`child-word`, with what `may_follow` answers).
 use Rattle.next_row.proofs.RowLaws.{child-none, child-text, child-word}
 use borrow.Author.Needs.{needs}
 use Rattle.next_row.proofs.child_may.Statement.{statement}

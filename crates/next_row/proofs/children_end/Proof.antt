@@ -1,3 +1,5 @@
+-- `next_row::children_end` meets its contract: each arm is the clause of `childrenEnd` for its kind: 0 (`end-empty` of
+-- RowLaws), 1 (`end-text`), any other (`end-word`, with what `may_finish` answers).
 use Rattle.next_row.proofs.RowLaws.{end-empty, end-text, end-word}
 use borrow.Author.Needs.{needs}
 use Rattle.next_row.proofs.children_end.Statement.{statement}

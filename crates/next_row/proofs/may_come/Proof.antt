@@ -1,3 +1,6 @@
+-- `next_row::may_come` meets its contract: the case split is on what the level holds: documents (`may-root` of
+-- RowLaws), nothing (`may-none`), the rows below an element whose definition is not there (`may-unknown`) or is there
+-- (`may-known`, with what `row_may` answers).
 use Rattle.form_index.specs.Reading.{indexForm}
 use Rattle.rules.specs.Decode.{readRow}
 use Rattle.next_row.proofs.RowLaws.{may-root, may-none, may-unknown, may-known}

@@ -1,3 +1,6 @@
+-- `next_row::may_end` meets its contract: each return is a case of `ends`: the level holds no rows below an element
+-- (`ends-other` of RowLaws), its definition is not there (`ends-unknown`), an attribute is owed (`ends-owed`), or the
+-- children decide (`ends-known`); the entry of the table says which attributes are needed (`freed-read`).
 use native.Mathlib.Omega.{arith}
 use Rattle.form_index.specs.Reading.{indexForm}
 use Rattle.next_row.proofs.RowLaws.{ends-other, ends-unknown, ends-owed, ends-known, freed-read}

@@ -1,3 +1,5 @@
+-- `next_row::row_index` meets its contract: a number of two bytes is below 65536, so the cast keeps it (`number-small`
+-- of RowLaws).
 use Rattle.next_row.proofs.RowLaws.{number-small}
 use native.Mathlib.Omega.{arith}
 use borrow.Author.Needs.{needs}

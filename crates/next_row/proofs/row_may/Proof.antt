@@ -1,3 +1,6 @@
+-- `next_row::row_may` meets its contract: each return is a case of `rowMay`: an attribute's row (`row-attribute` of
+-- RowLaws), an attribute is owed (`row-owed`), or a child (`row-child`); the entry of the table says which attributes
+-- are needed (`freed-read`).
 use Rattle.rules.specs.Decode.{readRow}
 use Rattle.form_index.specs.Reading.{indexForm}
 use Rattle.next_row.proofs.RowLaws.{row-attribute, row-owed, row-child, freed-read}

@@ -1,3 +1,5 @@
+-- `printing::print_store` meets its contract: the text of the form, then that of the documents, is the text of the
+-- store (`text-parts` of FormLaws; `laid-then` and `laid-as` of Writers in `codec`).
 use Rattle.lookup.specs.Bodies.{RowsOf}
 use Rattle.codec.proofs.Writers.{laid-then, laid-as}
 use Rattle.printing.proofs.FormLaws.{text-parts}

@@ -1,3 +1,5 @@
+-- `printing::put_declarations` meets its contract: the line of the definition, then those of its attributes, are its
+-- declarations, with the particles up to the end that `model_end` gives (`declarations-laid` of FormLaws).
 use Rattle.printing.proofs.FormLaws.{declarations-laid}
 use borrow.Author.Needs.{needs}
 use Rattle.printing.proofs.put_declarations.Statement.{statement}

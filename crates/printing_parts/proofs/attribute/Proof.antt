@@ -1,3 +1,5 @@
+-- `printing_parts::attribute` meets its contract: what `attribute_in` reads is record i of the attribute body
+-- (`attribute-place` of PartLaws).
 use mathlib.Core.Path.{_∙_}
 use Rattle.printing_parts.proofs.PartLaws.{attribute-place}
 use borrow.Author.Needs.{needs}

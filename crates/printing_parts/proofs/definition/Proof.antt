@@ -1,3 +1,5 @@
+-- `printing_parts::definition` meets its contract: what `definition_in` reads is record i of the definition body
+-- (`definition-place` of PartLaws).
 use mathlib.Core.Path.{_∙_}
 use Rattle.printing_parts.proofs.PartLaws.{definition-place}
 use borrow.Author.Needs.{needs}

@@ -1,3 +1,5 @@
+-- `printing_parts::particle` meets its contract: what `particle_in` reads is record i of the particle body
+-- (`particle-place` of PartLaws).
 use mathlib.Core.Path.{_∙_}
 use Rattle.printing_parts.proofs.PartLaws.{particle-place}
 use borrow.Author.Needs.{needs}

@@ -1,3 +1,5 @@
+-- `quantifier_refusals::cuts` meets its contract: the two answers of `many` make up `cuts` (`cuts-read` of
+-- QuantifierLaws).
 use Rattle.quantifier_refusals.proofs.QuantifierLaws.{cuts-read}
 use borrow.Author.Needs.{needs}
 use Rattle.quantifier_refusals.proofs.cuts.Statement.{statement}

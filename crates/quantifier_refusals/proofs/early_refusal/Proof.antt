@@ -1,3 +1,5 @@
+-- `quantifier_refusals::early_refusal` meets its contract: each return is the first of the refusals 3, 4 and 6 that
+-- applies, or 0 (`early-3`, `early-4`, `early-6`, `early-0` of QuantifierLaws).
 use native.Mathlib.Omega.{arith}
 use Rattle.quantifier_refusals.proofs.QuantifierLaws.{early-3, early-4, early-6, early-0}
 use borrow.Author.Needs.{needs}

@@ -1,3 +1,5 @@
+-- `quantifier_refusals::gains` meets its contract: the two answers of `skips` make up `gains` (`gains-read` of
+-- QuantifierLaws).
 use Rattle.quantifier_refusals.proofs.QuantifierLaws.{gains-read}
 use borrow.Author.Needs.{needs}
 use Rattle.quantifier_refusals.proofs.gains.Statement.{statement}

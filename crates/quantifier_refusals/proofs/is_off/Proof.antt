@@ -1,3 +1,5 @@
+-- `quantifier_refusals::is_off` meets its contract: the answers of `relaxes` and `cuts` make up `isOff` (`off-read` of
+-- QuantifierLaws).
 use Rattle.quantifier_refusals.proofs.QuantifierLaws.{off-read}
 use borrow.Author.Needs.{needs}
 use Rattle.quantifier_refusals.proofs.is_off.Statement.{statement}

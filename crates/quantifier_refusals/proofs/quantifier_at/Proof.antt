@@ -1,3 +1,5 @@
+-- `quantifier_refusals::quantifier_at` meets its contract: refusal 12 applies (`at-12` of QuantifierLaws), or none does
+-- as the quantifier goes with instances (`at-fine`), or 13 applies if there is an instance (`at-exists`).
 use Rattle.instance_search.specs.Instances.{hasInstance}
 use Rattle.quantifier_refusals.proofs.QuantifierLaws.{at-12, at-fine, at-exists}
 use borrow.Author.Needs.{needs}

@@ -1,3 +1,5 @@
+-- `records::after` meets its contract: below the length the part from n on is `drop n` (`tail-seen` of Writers in
+-- `codec`), from there on `drop n` is empty (`drop-of-length-le` of lib.ListN).
 use mathlib.Core.Path.{sym}
 use lib.ListN.{drop-of-length-le}
 use Rattle.codec.proofs.Writers.{tail-seen}

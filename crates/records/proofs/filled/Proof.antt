@@ -1,3 +1,5 @@
+-- `records::filled` meets its contract: more used bytes than the field has do not fit (`filled-wide` of CodeLaws); else
+-- the bytes tested for zeros are those of the field after the used ones (`filled-of`).
 use mathlib.Core.Path.{sym}
 use native.Mathlib.Omega.{arith}
 use Rattle.records.proofs.CodeLaws.{filled-wide, filled-of}

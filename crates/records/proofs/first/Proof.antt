@@ -1,3 +1,5 @@
+-- `records::first` meets its contract: below the length the first n bytes are n (`length-take-le` of lib.Seq), else
+-- they are all (`take-all`).
 use mathlib.Core.Path.{sym}
 use native.Mathlib.Omega.{arith}
 use lib.Seq.{take-all, length-take-le}

@@ -1,3 +1,5 @@
+-- `records::is_fill` meets its contract: each return is the clause of `isFill` for its sort (`none-length`, `fill-any`
+-- of CodeLaws).
 use mathlib.Core.Path.{sym, ap, _∙_}
 use Prim.Native.Nat.{ℕ}
 use mathlib.Core.Bool.{not}

@@ -1,3 +1,5 @@
+-- `records::is_value` meets its contract: it is the definition of `isValue`, with what `all_printable` answers by its
+-- contract.
 use mathlib.Core.Path.{ap}
 use mathlib.Core.Bool.{Bool, _&&_}
 use lib.Dec.{leb}

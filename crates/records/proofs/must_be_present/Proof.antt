@@ -1,3 +1,5 @@
+-- `records::must_be_present` meets its contract: only the code 1 is that of a sort that must be present (`is-required`
+-- of SortLaws).
 use Rattle.records.proofs.SortLaws.{is-required}
 use Rattle.records.proofs.must_be_present.Statement.{statement}
 use Rattle.records.proofs.must_be_present.Tie as tie

@@ -1,3 +1,5 @@
+-- `records::name_fits` meets its contract: past the end there is no name (`name-past` of CodeLaws); else the bytes read
+-- are those used after the length, so the two tests are `nameFits` (`name-fits-of`).
 use mathlib.Core.Path.{sym, _∙_}
 use Rattle.records.proofs.CodeLaws.{name-past, name-fits-of}
 use borrow.Author.Needs.{needs}

@@ -1,3 +1,5 @@
+-- `records::stored_name` meets its contract: no bytes are no name (`name-none` of CodeLaws); else the three tests are
+-- those of `storedName` (`name-of`).
 use mathlib.Core.Path.{sym}
 use Rattle.records.proofs.CodeLaws.{name-none, name-of}
 use borrow.Author.Needs.{needs}

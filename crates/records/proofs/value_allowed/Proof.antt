@@ -1,3 +1,5 @@
+-- `records::value_allowed` meets its contract: a sort below 2 allows every value (`allows-any` of SortLaws), another
+-- only its fill (`allows-fixed`).
 use mathlib.Core.Path.{_∙_}
 use native.Mathlib.Omega.{arith}
 use borrow.Author.Needs.{needs}

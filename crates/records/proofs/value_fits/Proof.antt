@@ -1,3 +1,5 @@
+-- `records::value_fits` meets its contract: the bytes read are those used at `at`, so the two tests are `valueFits`
+-- (`value-fits-of` of CodeLaws).
 use Rattle.records.proofs.CodeLaws.{value-fits-of}
 use borrow.Author.Needs.{needs}
 use Rattle.records.proofs.value_fits.Statement.{statement}

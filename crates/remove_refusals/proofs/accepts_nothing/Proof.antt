@@ -1,3 +1,5 @@
+-- `remove_refusals::accepts_nothing` meets its contract: of the facts that `facts_from` gives, `nothing` is whether the
+-- CHOICE accepts nothing (`nothing-read` of RemoveLaws).
 use Rattle.remove_refusals.proofs.RemoveLaws.{nothing-read}
 use borrow.Author.Needs.{needs}
 use Rattle.remove_refusals.proofs.accepts_nothing.Statement.{statement}

@@ -1,3 +1,5 @@
+-- `remove_refusals::choice_left` meets its contract: the three answers, of the CHOICE's own quantifier, of the members
+-- before the element and of those after it, make up `choiceLeft` (`left-read` of RemoveLaws).
 use Rattle.remove_refusals.proofs.RemoveLaws.{left-read}
 use native.Mathlib.Omega.{arith}
 use borrow.Author.Needs.{needs}

@@ -1,3 +1,5 @@
+-- `row_check::rows_pass` meets its contract: `pass` answers `verdict` by the table that `fill_table` made, and where no
+-- model names an element twice that is what is asked of the rows (`verdict-says` of PassLaws).
 use Rattle.form_index.specs.Reading.{indexForm}
 use Rattle.row_check.proofs.PassLaws.{verdict-says}
 use borrow.Author.Needs.{needs}

@@ -1,3 +1,4 @@
+-- `row_step::level_at` meets its contract: the three words from `3 * k` on are level k (`level-here` of LevelLaws).
 use Rattle.row_step.proofs.LevelLaws.{level-here}
 use borrow.Author.Needs.{needs}
 use Rattle.row_step.proofs.level_at.Statement.{statement}

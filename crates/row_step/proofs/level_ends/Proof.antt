@@ -1,3 +1,4 @@
+-- `row_step::level_ends` meets its contract: it is the contract of `may_end` at the level that `level_at` read.
 use mathlib.Core.Path.{ap, _∙_}
 use borrow.Author.Needs.{needs}
 use Rattle.form_index.specs.Reading.{indexForm}

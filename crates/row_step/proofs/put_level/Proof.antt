@@ -1,3 +1,5 @@
+-- `row_step::put_level` meets its contract: the three words set from `3 * k` on are level k, `holds` and `index` the
+-- halves of the first (`level-put` of LevelLaws).
 use Rattle.row_step.proofs.LevelLaws.{level-put}
 use borrow.Author.Needs.{needs}
 use Rattle.row_step.proofs.put_level.Statement.{statement}

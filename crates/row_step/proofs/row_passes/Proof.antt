@@ -1,3 +1,5 @@
+-- `row_step::row_passes` meets its contract: the case split is on what `row_fits` answers, the first part of the
+-- conjunction; `may_come` answers the second.
 use mathlib.Core.Bool.{Bool, _&&_}
 use mathlib.Core.Path.{ap, sym, _∙_}
 use borrow.Author.Tests.{not-true, not-false}

@@ -1,3 +1,6 @@
+-- `row_step::step` meets its contract: each return is a case of `mayStep`: no level of this depth is open (`step-deep`
+-- of StepLaws), a deeper level is owed something (`step-owes`), the row does not fit or may not come next (`step-not`),
+-- or the step is made (`step-goes`).
 use native.Mathlib.Omega.{arith}
 use borrow.Author.Tests.{not-true, not-false}
 use borrow.Author.Needs.{needs}

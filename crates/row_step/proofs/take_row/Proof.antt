@@ -1,3 +1,5 @@
+-- `row_step::take_row` meets its contract: the level after the row and the level that it opens are set one after the
+-- other (`row-taken` of LevelLaws).
 use Rattle.rules.specs.Decode.{readRow}
 use Rattle.row_step.specs.Steps.{levelsOf}
 use Rattle.row_step.proofs.LevelLaws.{row-taken}

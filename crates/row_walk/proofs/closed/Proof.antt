@@ -1,3 +1,5 @@
+-- `row_walk::closed` meets its contract: the case split is on what `closes` answers (`closed-all`, `closed-not` of
+-- RowLaws).
 use Rattle.row_walk.proofs.RowLaws.{closed-all, closed-not}
 use borrow.Author.Needs.{needs}
 use Rattle.row_walk.proofs.closed.Statement.{statement}

@@ -1,3 +1,5 @@
+-- `row_walk::closes` meets its contract: the test is the definition of `closes`, with `depth + 1` for `suc depth`
+-- (`add-one` of native.Mathlib.Numerals).
 use Prim.Native.Nat.{ℕ}
 use native.Mathlib.Numerals.{add-one}
 use mathlib.Core.Path.{ap}

@@ -1,3 +1,5 @@
+-- `row_walk::shifted` meets its contract: the case split is on whether the index is moved (`shifted-on` of RowLaws) or
+-- not (`shifted-not`); both also bound the result by 2000.
 use Rattle.row_walk.proofs.RowLaws.{shifted-on, shifted-not}
 use mathlib.Core.Path.{refl}
 use borrow.Author.Needs.{needs}

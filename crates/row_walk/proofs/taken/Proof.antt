@@ -1,3 +1,5 @@
+-- `row_walk::taken` meets its contract: the fields are those of `taken`, with `depth + 1` for `suc depth` (`taken-is`
+-- of RowLaws).
 use Rattle.row_walk.proofs.RowLaws.{taken-is}
 use borrow.Author.Needs.{needs}
 use Rattle.row_walk.proofs.taken.Statement.{statement}

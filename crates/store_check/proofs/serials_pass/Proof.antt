@@ -1,3 +1,6 @@
+-- `store_check::serials_pass` meets its contract: width, count, next serial and rows are the store's own, so
+-- `serials_fit` answers whether `SerialsIn` holds (`serials-in` of CallLaws, by `rows-counted`, `width-is` and
+-- `rows-of`); the header bounds the count (`headed`, `serials-asked`).
 use borrow.Author.Needs.{needs}
 use Rattle.store_check.proofs.CallLaws.{headed, rows-counted, rows-of, width-is, serials-asked, serials-in}
 use Rattle.store_check.proofs.serials_pass.Statement.{statement}

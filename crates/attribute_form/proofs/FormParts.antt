@@ -1,9 +1,9 @@
 -- The bytes of a form, cut before an attribute.
-use Prim.Native.Nat.{ℕ, suc, _+_, _-_, _*_, _<_, _≤_}
+use Prim.Native.Nat.{ℕ, _+_, _-_, _*_, _≤_}
 use native.Mathlib.Omega.{arith}
 use mathlib.Core.Bool.{true}
 use mathlib.Core.Path.{_≡_, refl, sym, ap, _∙_}
-use mathlib.Core.List.{List, [], _∷_, _++_, append-assoc}
+use mathlib.Core.List.{List, [], _++_, append-assoc}
 use lib.ListN.{length, take, drop, length-append, length-take, length-drop, take-append-drop, replicate, length-replicate}
 use lib.Seq.{sets-eq, length-sets, take-at, drop-at, length-take-le}
 use Rattle.rules.specs.Bytes.{Bytes}

@@ -2,7 +2,6 @@
 //! applies, and the plan of the change.
 use row_walk::Which;
 use store_writer::Answer;
-ghost use mathlib.Core.Path.{_≡_};
 ghost use lib.ListN.{length};
 ghost use Rattle.rules.specs.Change.{setAttribute, destroyAttributeRow};
 ghost use Rattle.rules.specs.Outcome.{outcome, Answers};

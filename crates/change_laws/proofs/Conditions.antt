@@ -1,6 +1,5 @@
 -- What an accepted call says: none of its conditions holds.
-use Prim.Native.Nat.{ℕ, suc, _≤_, _<_}
-use native.Mathlib.Omega.{arith}
+use Prim.Native.Nat.{ℕ, _≤_, _<_}
 use mathlib.Core.Path.{_≡_, refl, sym, ap, _∙_}
 use mathlib.Core.Bool.{Bool, true, false, false≢true}
 use mathlib.Core.List.{List, [], _∷_, _++_}
@@ -9,12 +8,12 @@ use lib.ListN.{length}
 use borrow.Author.Tests.{ltb-true, ltb-false, not-false}
 use Rattle.rules.specs.Bytes.{all}
 use Rattle.rules.specs.Store.{Store}
-use Rattle.rules.specs.Layout.{flat, encode}
+use Rattle.rules.specs.Layout.{flat}
 use Rattle.rules.specs.WellFormed.{withinCeilings, highestNumber}
 use Rattle.rules.specs.Change.{Call, createDefinition, destroyDefinition, insertElement, removeElement, changeQuantifier, convertToGroup, flattenGroup}
 use Rattle.rules.specs.Change.{changeGroupQuantifier, addAttribute, destroyAttribute, addDocument, addElement, destroyElement, setAttribute}
 use Rattle.rules.specs.Change.{destroyAttributeRow, setText, after}
-use Rattle.rules.specs.Refusal.{Condition, _if_, first, past, conditions, limits, refusal}
+use Rattle.rules.specs.Refusal.{Condition, first, past, conditions, limits, refusal}
 use Rattle.rules.proofs.Words.{and-split}
 
 -- ---- tests that are false
@@ -23,14 +22,6 @@ pub not-past : {A : Type 0} (i : ℕ) (xs : List A) → past i xs ≡ false → 
 not-past i xs e = ltb-true i (length xs) (not-false (ltb i (length xs)) e)
 
 -- ---- the first that holds is 0: none does
-pub first-no : (n : ℕ) (b : Bool) (cs : List Condition) → first ((suc n if b) ∷ cs) ≡ 0 → b ≡ false
-first-no n true cs e = absurd (omega arith)
-first-no n false cs e = refl
-
-pub first-rest : (n : ℕ) (b : Bool) (cs : List Condition) → first ((suc n if b) ∷ cs) ≡ 0 → first cs ≡ 0
-first-rest n true cs e = absurd (omega arith)
-first-rest n false cs e = e
-
 -- no condition of the list holds
 abbrev pub Unmet : List Condition → Type 0
 Unmet [] = Unit {0}
@@ -86,6 +77,3 @@ module _ (room : ℕ) (c : Call) (s : Store) (accepted : refusal room c s ≡ 0)
 
   pub next-after : after c s .next ≤ highestNumber
   next-after = ltb-false highestNumber (after c s .next) (limits-unmet .1 .0)
-
-  pub room-after : length (encode (after c s)) ≤ room
-  room-after = ltb-false room (length (encode (after c s))) (limits-unmet .1 .1 .0)

@@ -1,9 +1,8 @@
 -- Changes 3 to 8: an accepted call leaves documents that conform.
 use Prim.Native.Nat.{ℕ}
 use mathlib.Core.Path.{_≡_, refl, sym, ap, _∙_}
-use mathlib.Core.Bool.{Bool, true, false, _&&_, not, and-false, false≢true}
-use mathlib.Core.List.{List, []}
-use Rattle.rules.specs.declared.Quantifier.{Quantifier}
+use mathlib.Core.Bool.{true, false, _&&_, not, and-false, false≢true}
+use mathlib.Core.List.{List}
 use Rattle.rules.specs.Bytes.{Bytes}
 use Rattle.rules.specs.Model.{Members, done, el, group, skips}
 use Rattle.rules.specs.Quantifiers.{gains}

@@ -7,30 +7,24 @@ use mathlib.Core.Option.{Option, some}
 use mathlib.Core.List.{List, [], _∷_, _++_, map, List·Memᴰ, List·Memᴰ·not-nil, List·Memᴰ·append-cases, List·Memᴰ·eq-of-singleton, Memᴰ·map, Memᴰ·cast}
 use Rattle.rules.specs.declared.GroupKind.the-variants.{Sequence}
 use Rattle.rules.specs.Bytes.{Bytes, bytes, all, any}
-use Rattle.rules.specs.Model.{Members, names, member}
-use Rattle.rules.specs.Automaton.{accepts}
-use Rattle.rules.specs.Place.{Context, Found}
-use Rattle.rules.specs.Edit.{Edit, convert, flatten, modelAfter}
+use Rattle.rules.specs.Model.{names, member}
 use Rattle.rules.specs.Store.{Content, empty, pcdata, complex, Definition, Form, RowSort, element, attribute, text, Row, Forest, bare, tree, Store, modelOf, members, heads}
-use Rattle.rules.specs.WellFormed.{lookup, isThere, known, attributeName, GoodDefinition, wellFormed}
+use Rattle.rules.specs.WellFormed.{lookup, isThere, known, attributeName, wellFormed}
 use Rattle.rules.specs.Conforming.{nameOf, ContentRows, ElementRows, RowConforms, isElement, isAttribute, everyRow, mustBePresent, fitsDefinition, fitsRow, conforming}
 use Rattle.rules.specs.Filling.{attributeRow}
 use Rattle.rules.specs.Lines.{elementNamed, attributeNamed}
-use Rattle.rules.specs.Decode.{groupOf, sortOf}
-use Rattle.rules.specs.Change.{createDefinition, destroyDefinition, convertToGroup, flattenGroup, addAttribute, destroyAttribute, definitionAt, nameAtIndex}
-use Rattle.rules.specs.Change.{Owned, attributeAt, inModel, withAttributes, editFound, editAt, lacking, newAttribute, formAfter, Plan, keeping, taking, making}
+use Rattle.rules.specs.Decode.{sortOf}
+use Rattle.rules.specs.Change.{createDefinition, destroyDefinition, addAttribute, destroyAttribute, definitionAt, nameAtIndex}
+use Rattle.rules.specs.Change.{Owned, attributeAt, withAttributes, lacking, newAttribute, formAfter, Plan, keeping, taking, making}
 use Rattle.rules.specs.Change.{dropPlan, plan, changed, docsAfter}
 use Rattle.rules.specs.Passing.{GoodSerials}
 use Rattle.rules.proofs.Words.{and-both, and-split}
 use Rattle.rules.proofs.Letters.{letters}
-use Rattle.rules.proofs.Children.{unfit, children}
-use Rattle.rules.proofs.Whole.{change-accepts}
 use Rattle.rules.proofs.TestLaws.{any-test, member-test}
 use Rattle.rules.proofs.WellFormedLaws.{lookup-member, definition-good}
 use Rattle.rules.proofs.SerialLaws.{every-row}
 use Rattle.rules.proofs.ConformingLaws.{row-is}
 use Rattle.change_laws.proofs.RowEdits.{keep, plantRows, revalued, childrenAfter}
-use Rattle.change_laws.proofs.ModelAfter.{Placed, place-of}
 use Rattle.change_laws.proofs.Rowwise.{Standing}
 use Rattle.change_laws.proofs.StandingLaws.{standing-every, standing-parent}
 use Rattle.change_laws.proofs.Untouched.{keep-in, keep-alike, map-same, children-left, children-cut, same-row, same-child, children-kept}

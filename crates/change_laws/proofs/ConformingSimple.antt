@@ -1,9 +1,9 @@
 -- An accepted call leaves rows that can be laid, and, if it is none of 3 to 8, documents that conform.
 use Prim.Native.Nat.{ℕ}
 use mathlib.Core.Path.{_≡_, refl, sym, ap, subst}
-use mathlib.Core.Bool.{Bool, true, false, false≢true}
+use mathlib.Core.Bool.{true, false, false≢true}
 use mathlib.Core.Option.{Option, none, some}
-use mathlib.Core.List.{List, [], _∷_, _++_, map}
+use mathlib.Core.List.{[], _∷_, _++_, map}
 use Rattle.rules.specs.Bytes.{Bytes, bytes, any}
 use Rattle.rules.specs.Model.{names, Distinct, member}
 use Rattle.rules.specs.Store.{Definition, Store, members, heads}
@@ -13,7 +13,7 @@ use Rattle.rules.specs.Conforming.{everyRow, conforming}
 use Rattle.rules.specs.Lines.{elementNamed}
 use Rattle.rules.specs.Change.{Call, createDefinition, destroyDefinition, insertElement, removeElement, changeQuantifier, convertToGroup, flattenGroup}
 use Rattle.rules.specs.Change.{changeGroupQuantifier, addAttribute, destroyAttribute, addDocument, addElement, destroyElement, setAttribute}
-use Rattle.rules.specs.Change.{destroyAttributeRow, setText, nameAtIndex, Owned, attributeAt, update, inModel, withAttributes, editAt, lacking, newAttribute}
+use Rattle.rules.specs.Change.{destroyAttributeRow, setText, nameAtIndex, Owned, attributeAt, update, withAttributes, lacking, newAttribute}
 use Rattle.rules.specs.Change.{formAfter, docsAfter, after}
 use Rattle.rules.specs.Passing.{knownVersion, laidRow, GoodSerials, goodSerials, good}
 use Rattle.rules.specs.Refusal.{isOther, conditions, refusal}

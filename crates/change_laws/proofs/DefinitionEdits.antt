@@ -5,16 +5,14 @@ use mathlib.Core.Path.{_≡_, refl, ap, _∙_}
 use mathlib.Core.Bool.{true, false, not, false≢true}
 use mathlib.Core.Option.{Option, none, some}
 use mathlib.Core.List.{List, [], _∷_, _++_, map, List·Memᴰ}
-use Rattle.rules.specs.Bytes.{Bytes, bytes, all}
-use Rattle.rules.specs.Model.{Members, Distinct}
-use Rattle.rules.specs.Automaton.{accepts}
-use Rattle.rules.specs.Store.{Content, empty, pcdata, complex, Attribute, Definition, Row, modelOf, members, heads}
+use Rattle.rules.specs.Bytes.{Bytes, all}
+use Rattle.rules.specs.Model.{Distinct}
+use Rattle.rules.specs.Store.{Attribute, Definition, Row, heads}
 use Rattle.rules.specs.WellFormed.{attributeName}
-use Rattle.rules.specs.Conforming.{nameOf, isElement, mustBePresent, strip, fits, fitsStripped, fitsDefinition}
+use Rattle.rules.specs.Conforming.{mustBePresent, strip, fits, fitsStripped, fitsDefinition}
 use Rattle.rules.specs.Filling.{attributeRow}
 use Rattle.rules.specs.Lines.{attributeNamed}
-use Rattle.rules.specs.Change.{inContent, inModel, withAttributes, lacking, Plan}
-use Rattle.rules.proofs.Words.{and-both, and-split}
+use Rattle.rules.specs.Change.{withAttributes, lacking, Plan}
 use Rattle.rules.proofs.ConformingLaws.{begins-this, strip-take}
 use Rattle.rules.proofs.FillingLaws.{created-allows}
 use Rattle.change_laws.proofs.RowEdits.{keep, plantRows}

@@ -1,27 +1,24 @@
 -- Changes 3 to 8: the rows that an edit fills with are neither the owner's nor of
 -- definitions that reach it, and conform before and after it.
-use Prim.Native.Nat.{ℕ, zero, suc, _<_}
-use native.Mathlib.Omega.{arith}
+use Prim.Native.Nat.{ℕ}
 use mathlib.Core.Path.{_≡_, refl, sym, ap, _∙_}
 use mathlib.Core.Logic.{_⊎_, inl, inr, ⊎-elim}
 use mathlib.Core.Bool.{Bool, true, false, _||_, false≢true}
-use mathlib.Core.Option.{Option, none, some}
-use mathlib.Core.List.{List, [], _∷_, _++_, map, List·Memᴰ, List·Memᴰ·head, List·Memᴰ·tail, List·Memᴰ·not-nil, List·Memᴰ·eq-of-singleton, Memᴰ·append-left, Memᴰ·append-right, Memᴰ·cast, Memᴰ·map}
-use lib.Dec.{leb}
+use mathlib.Core.Option.{Option, some}
+use mathlib.Core.List.{List, _++_, List·Memᴰ, List·Memᴰ·head, List·Memᴰ·not-nil, List·Memᴰ·eq-of-singleton, Memᴰ·append-left, Memᴰ·append-right, Memᴰ·cast}
 use lib.ListN.{length}
-use Rattle.rules.specs.Bytes.{Bytes, same, bytes, isNone}
-use Rattle.rules.specs.Model.{Members, done, el, group, Distinct, names, skips, nothing, unless, filling}
-use Rattle.rules.specs.Place.{Context, plug, beforePlace, afterPlace, Found}
-use Rattle.rules.specs.Edit.{Edit, insert, remove, quantify, convert, flatten, place, placeOf}
+use Rattle.rules.specs.Bytes.{Bytes, isNone}
+use Rattle.rules.specs.Model.{Members, done, el, group, names, skips, nothing, unless, filling}
+use Rattle.rules.specs.Place.{Context, beforePlace, afterPlace, Found}
+use Rattle.rules.specs.Edit.{Edit, insert, remove, quantify, convert, flatten, placeOf}
 use Rattle.rules.specs.Store.{Content, complex, Definition, Form, RowSort, element, attribute, text, Row, Forest, bare, tree, modelOf, members}
-use Rattle.rules.specs.WellFormed.{definitionName, lookup, known, membersOf, Reaches, directly, through, GoodDefinition, wellFormed}
+use Rattle.rules.specs.WellFormed.{lookup, known, membersOf, Reaches, directly, through, GoodDefinition, wellFormed}
 use Rattle.rules.specs.Conforming.{EveryRow, isElement, everyRow, fitsDefinition, fitsRow}
 use Rattle.rules.specs.Filling.{fillWithin, fillDefinition}
 use Rattle.rules.specs.Lines.{Line}
-use Rattle.rules.specs.Change.{groupFilling, definitionAt, nameAtIndex, update, inModel, editAt, editModel}
-use Rattle.rules.proofs.Apart.{differs, names-plug}
+use Rattle.rules.specs.Change.{groupFilling, nameAtIndex, inModel, editAt, editModel}
+use Rattle.rules.proofs.Apart.{names-plug}
 use Rattle.rules.proofs.Height.{reaches-then}
-use Rattle.rules.proofs.Places.{found-gap, found-nth}
 use Rattle.rules.proofs.SerialLaws.{every-row}
 use Rattle.rules.proofs.WellFormedLaws.{definition-good, no-circle, definition-deep}
 use Rattle.rules.proofs.FillingLaws.{in-filling, every-each, every-filled, filling-fits}

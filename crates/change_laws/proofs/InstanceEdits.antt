@@ -19,7 +19,7 @@ use Rattle.rules.specs.Conforming.{nameOf, Sorted, isElement}
 use Rattle.rules.specs.Filling.{elementRow}
 use Rattle.rules.specs.Lines.{Line, elementNamed, elementAmong, childrenOf, serialAt}
 use Rattle.rules.specs.Change.{Plan, keeping, laterThan, insertPlan, removePlan, groupFilling, quantifyPlan}
-use Rattle.rules.proofs.Words.{and-off}
+use Rattle.rules.proofs.Words.{and-off, and-held}
 use Rattle.rules.proofs.Apart.{differs}
 use Rattle.rules.proofs.Letters.{member-in}
 use Rattle.rules.proofs.Children.{anyOf}
@@ -55,10 +55,6 @@ pub record Below (ls : List Line) (u : Row) (rows : List Row) : Type 0 where
   pub seen : (test : Row → Bool) → childrenOf test (u .serial) ls ≡ map rowSerial (keep test rows)
 
 -- ---- tests
-and-named : (a b : Bool) → b ≡ true → (a && b) ≡ a
-and-named true b e = e
-and-named false b e = refl
-
 not-element : (s : RowSort) (b : Bool) → s ≡ attribute → (isElement s && b) ≡ false
 not-element s b e = ap (λ (z : RowSort). isElement z && b) e
 
@@ -139,7 +135,7 @@ module _ (version : ℕ) (form : Form) (ls : List Line) (owner txt : Bytes) (u :
         after-split (editPlan version form ls owner txt (insert q n) c t) u (beforePlace c) front back refl (below .given) (λ x m. refl)
         (λ e. (front-later (beforePlace c) u, back-later (beforePlace c) u))
         ∙ ap (λ (z : List Row). front ++ z) (due-same _ (not (skips q) && spine c) (beforePlace c) _ (elementRow n ∷ []) _ back
-        (and-named (not (skips q) && spine c) (elementNamed owner u) named) (filling-heads version (length form) form txt n d) (keep-all (λ r. true) back (λ x m. refl)))
+        (and-held (not (skips q) && spine c) (elementNamed owner u) named) (filling-heads version (length form) form txt n d) (keep-all (λ r. true) back (λ x m. refl)))
 
     remove-rows : (q : Quantifier) (x : Bytes) (t : Members Bytes)
         → childrenAfter (editPlan version form ls owner txt remove c (el q x t)) u (front ++ back) ≡ front ++ childRows bytes nameOf (map elementRow) remove c (el q x t) back

@@ -167,12 +167,3 @@ module _ (version w : ℕ) (form : Form) (ok : wellFormed w form ≡ true) (d : 
           ∙ edit-rows version form ls (d .name) txt u (x .front) (x .back) named (rw (x .split) below) (x .attributes .sorts) (elements x) (f .context) e (f .picked)
           (λ m k. definition-deep w form ok m (filled-outside w form ok d at ms is e p f found i m k .known)))
           ∙ element-fits rows x
-
-  -- without a plan: 6 and 7 leave the rows as they are
-  pub instance-still-fits : leavesRows e ≡ true → (rows : List Row) → fitsDefinition version (some d) rows ≡ true → fitsDefinition version (some (editedDefinition d e f)) rows ≡ true
-  instance-still-fits l rows h = by (rows-of rows h)
-    where
-      by : ElementRows version d rows → fitsDefinition version (some (editedDefinition d e f)) rows ≡ true
-      by x =
-          ap (fitsDefinition version (some (editedDefinition d e f))) (sym (x .split) ∙ ap (λ (z : List Row). x .front ++ z) (sym (rows-left e (f .context) (f .picked) l (x .back))))
-          ∙ element-fits rows x

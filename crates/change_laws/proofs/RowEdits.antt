@@ -1,9 +1,7 @@
 -- What a plan does to the rows right below one row.
-use Prim.Native.Nat.{ℕ}
 use mathlib.Core.Bool.{Bool, true, false, _&&_, not}
 use mathlib.Core.List.{List, [], _∷_, _++_, map}
-use Rattle.rules.specs.Bytes.{Bytes}
-use Rattle.rules.specs.Store.{Row, Forest, bare, tree, heads}
+use Rattle.rules.specs.Store.{Row, heads}
 use Rattle.rules.specs.Change.{Plan, revalue}
 
 -- the rows that pass a test

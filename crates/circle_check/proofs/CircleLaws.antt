@@ -1,5 +1,5 @@
 -- Heights of definitions as indices are those of the form, by name; a form whose heights fit has no circle.
-use Prim.Native.Nat.{ℕ, zero, suc, _+_, _≤_, _<_}
+use Prim.Native.Nat.{ℕ, zero, suc, _+_, _<_}
 use native.Mathlib.Omega.{arith}
 use native.Mathlib.Nat.{not-suc-le-zero, le-of-suc-le-suc}
 use mathlib.Core.Path.{_≡_, refl, ap, ap₂, _∙_, sym, subst}
@@ -7,15 +7,13 @@ use mathlib.Core.Logic.{_↔_}
 use mathlib.Core.Bool.{Bool, true, false, _&&_, false≢true}
 use mathlib.Core.Option.{Option, none, some}
 use mathlib.Core.List.{List, [], _∷_, map, List·Memᴰ, List·Memᴰ·head, List·Memᴰ·tail, Memᴰ·of-map}
-use lib.Dec.{leb}
-use lib.ListN.{length, getD}
-use borrow.Author.Tests.{lt-ltb, le-leb, leb-true}
-use Rattle.rules.specs.Bytes.{Bytes, same, same-eq, all, between}
+use lib.ListN.{length}
+use borrow.Author.Tests.{lt-ltb}
+use Rattle.rules.specs.Bytes.{Bytes, same, same-eq, all}
 use Rattle.rules.specs.Model.{names, Distinct}
 use Rattle.rules.specs.Store.{Definition, Form, members}
 use Rattle.rules.specs.Decode.{nameAt}
 use Rattle.rules.specs.WellFormed.{definitionName, lookup, isThere, known, namesIn, membersOf, Reaches}
-use Rattle.rules.proofs.Words.{and-both, and-split}
 use Rattle.rules.proofs.Height.{deep, member-known, height}
 use Rattle.rules.proofs.WellFormedLaws.{lookup-here, lookup-there}
 use Rattle.circle_check.specs.declared.Heights.{Heights}
@@ -27,32 +25,6 @@ use Rattle.circle_check.proofs.RoundLaws.{deep-index-member, deep-index
 pub fit-within : (n : ℕ) (indices : ℕ → List ℕ) → ((i : ℕ) → i < n → deepIndex indices n n i ≡ true) → (i : ℕ) → i < n → (j : ℕ) → List·Memᴰ j (indices i) → j < n
 fit-within zero indices f i l j m = absurd (not-suc-le-zero l)
 fit-within (suc n) indices f i l j m = deep-index-known indices (suc n) n j (deep-index-member indices (suc n) n (f i l) m)
-
-between-bounds : (x h : ℕ) → between 1 h x ≡ true → (1 ≤ x) × (x ≤ h)
-between-bounds x h e = let (a, b) = and-split (leb 1 x) (leb x h) e in (leb-true 1 x a, leb-true x h b)
-
-module _ {n : ℕ} {indices : ℕ → List ℕ} {r : Heights} (w : Ranked n indices r) (fit : r .fit ≡ true) where
-  -- a height is from 1 to n
-  pub heights-within : (i : ℕ) → i < n → (1 ≤ getD (r .of) i 0) × (getD (r .of) i 0 ≤ n)
-  heights-within i l = between-bounds (getD (r .of) i 0) n (sym (w .height i n (omega arith)) ∙ w .fit .0 fit i l)
-
-  -- all chains end within it
-  pub heights-deep : (i : ℕ) → i < n → deepIndex indices n (getD (r .of) i 0) i ≡ true
-  heights-deep i l =
-      let (a, b) = heights-within i l in
-      w .height i (getD (r .of) i 0) b ∙ and-both (le-leb 1 (getD (r .of) i 0) a) (le-leb (getD (r .of) i 0) (getD (r .of) i 0) (omega arith))
-
-  -- a member is a definition, and less high
-  pub heights-fall : (i : ℕ) → i < n → (j : ℕ) → List·Memᴰ j (indices i) → (j < n) × (getD (r .of) j 0 < getD (r .of) i 0)
-  heights-fall i l j m = by (getD (r .of) i 0) refl
-    where
-      by : (x : ℕ) → getD (r .of) i 0 ≡ x → (j < n) × (getD (r .of) j 0 < x)
-      by zero e = absurd (omega (arith, heights-within i l .0))
-      by (suc x) e =
-          let d : deepIndex indices n (suc x) i ≡ true = subst (λ (y : ℕ). deepIndex indices n y i ≡ true) e (heights-deep i l) in
-          let q : deepIndex indices n x j ≡ true = deep-index-member indices n x d m in
-          let k : x ≤ n = omega (arith, heights-within i l .1) in
-          (deep-index-known indices n x j q, omega (arith, between-bounds (getD (r .of) j 0) x (sym (w .height j x k) ∙ q) .1))
 
 -- ---- a form by indices
 -- of definitions numbered from i on: the names in each model are those of its members' indices

@@ -64,7 +64,3 @@ laid-then {a} {b} {out} {at} p q =
 
 pub laid-as : {w w′ out : List ℕ} {at r : ℕ} {out′ : List ℕ} → w ≡ w′ → Laid w′ out at r out′ → Laid w out at r out′
 laid-as e p = rw e p
-
--- one byte
-pub laid-byte : {x : ℕ} {out : List ℕ} {at : ℕ} {out′ : List ℕ} → out′ ≡ set out at x → Laid (x ∷ []) out at (at + 1) out′
-laid-byte e = record { next = refl; stored = e }

@@ -15,7 +15,6 @@ use Rattle.rules.specs.Change.{convertToGroup, editModel, keeping, plan, formAf
 use Rattle.rules.specs.Refusal.{past, foundAt, noPlace, atPlace, first, conditions}
 use Rattle.change_laws.proofs.EditConditions.{has-some}
 use Rattle.store_laws.specs.Stores.{storeIn}
-use Rattle.store_laws.proofs.StoreLaws.{holds}
 use Rattle.plans.proofs.CallsPlanned.{none-holds}
 use Rattle.model_places.proofs.PlaceLaws.{found-convert}
 use Rattle.model_edit.proofs.Fits.{Fits, fits-at}

@@ -2,18 +2,18 @@
 use Prim.Native.Nat.{ℕ, suc, _<_}
 use native.Mathlib.Omega.{arith}
 use mathlib.Core.Path.{_≡_, refl, sym, ap, ap₂, _∙_}
-use mathlib.Core.Bool.{Bool, true, false, _&&_, _||_, false≢true}
+use mathlib.Core.Bool.{Bool, true, false, _&&_, _||_}
 use mathlib.Core.List.{List, [], _∷_, _++_, map}
 use lib.Dec.{eqb}
 use lib.ListN.{length}
-use borrow.Author.Tests.{eq-eqb, ne-eqb}
+use borrow.Author.Tests.{ne-eqb}
 use Rattle.rules.specs.declared.GroupKind.{GroupKind}
 use Rattle.rules.specs.declared.GroupKind.the-variants.{Sequence, Choice}
 use Rattle.rules.specs.Bytes.{Bytes, same, bytes, any, all}
 use Rattle.rules.specs.Model.{Members, done, el, group, names, member, Distinct}
 use Rattle.rules.specs.Store.{Content, empty, pcdata, complex, Definition, Form, RowSort, element, attribute, text, Row, Forest, bare, tree, Store, modelOf, members, heads}
 use Rattle.rules.specs.Preorder.{flatten}
-use Rattle.rules.specs.Layout.{indexOf, particles, contentParticles, allParticles, indexed, flat, rowCode, rowIndex, quantifierCode, groupCode, howMany, valueWidth}
+use Rattle.rules.specs.Layout.{particles, contentParticles, allParticles, indexed, flat, rowCode, rowIndex, quantifierCode, groupCode, howMany, valueWidth}
 use Rattle.rules.specs.WellFormed.{known, definitionName}
 use Rattle.rules.specs.Conforming.{EveryRow, fitsRow}
 use Rattle.rules.specs.Lines.{elementNamed}

@@ -104,11 +104,6 @@ below-one i a = by (ltb (a .owner) i)
     by true = omega arith
     by false = omega arith
 
-pub attributes-most : (i : ℕ) (cs : List FlatAttribute) → attributesUpTo i cs ≤ length cs
-unfolding attributesUpTo
-attributes-most i [] = omega arith
-attributes-most i (a ∷ cs) = omega (arith, below-one i a, attributes-most i cs)
-
 pub attribute-starts : (bs : Bytes) (i : ℕ) {w count : ℕ} {body : Bytes} {r : ℕ} → WidthIn bs w → Number (attributeCount bs) count → body ≡ attributesIn bs
     → CountWithin (attributesUpTo i (readMany readAttribute (attributeSize w) count body)) count r
     → CountWithin (attributesUpTo i (bodiesOf bs .attributes)) (attributeCount bs) r

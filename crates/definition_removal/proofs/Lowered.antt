@@ -10,7 +10,7 @@ use lib.ListN.{length, drop}
 use lib.Seq.{drop-append-seam}
 use borrow.Author.Tests.{le-leb, lt-leb, leb-true, leb-false, lt-ltb, le-ltb}
 use Rattle.rules.specs.Bytes.{Bytes, same, bytes}
-use Rattle.rules.specs.Store.{Attribute, Definition, Form}
+use Rattle.rules.specs.Store.{Attribute, Form}
 use Rattle.rules.specs.Preorder.{Deep}
 use Rattle.rules.specs.Layout.{FlatDefinition, FlatParticle, FlatAttribute, indexOf, indexIn, attributeIndex, contentParticles, flatDefinition, allParticles, ownAttributes, allAttributes, sortCode}
 use Rattle.rules.specs.Change.{without, nameAtIndex}
@@ -86,9 +86,6 @@ index-lowered m (suc i) (d ∷ form) h o = by (same m (d .name)) refl (index-low
 module _ (F : Form) where
   abbrev records : Form → List FlatDefinition
   records ds = map (flatDefinition F) ds
-
-  model-size : (d : Definition) → flatDefinition F d .particles ≡ length (contentParticles F (d .content))
-  model-size d = refl
 
   pub particles-cut : (i : ℕ) (ds : Form) → i < length ds
       → allParticles F (without i ds) ≡ cutOut (particlesUpTo i (records ds)) (particlesUpTo (suc i) (records ds) - particlesUpTo i (records ds)) (allParticles F ds)

@@ -1,7 +1,7 @@
 -- 'Filling' by indices: the rows, with their depths and without serials,
 -- that the form of the rules' `fillWithin` has names for.
 use Prim.Native.Nat.{ℕ, zero, suc}
-use mathlib.Core.Bool.{Bool, true, false, _&&_}
+use mathlib.Core.Bool.{true, false, _&&_}
 use mathlib.Core.List.{List, [], _∷_, _++_}
 use lib.Dec.{eqb}
 use Rattle.rules.specs.declared.GroupKind.{GroupKind}

@@ -16,7 +16,6 @@ use Rattle.rules.specs.Refusal.{past, foundAt, noGroupAt, onGroup, first, condi
 use Rattle.change_laws.proofs.EditConditions.{group-some}
 use Rattle.model_writer.specs.PartAfter.{suits}
 use Rattle.store_laws.specs.Stores.{storeIn}
-use Rattle.store_laws.proofs.StoreLaws.{holds}
 use Rattle.plans.proofs.CallsPlanned.{none-holds}
 use Rattle.model_places.proofs.PlaceLaws.{found-flatten}
 use Rattle.model_edit.proofs.Fits.{Fits, fits-at}

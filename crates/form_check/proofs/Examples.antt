@@ -1,7 +1,7 @@
 -- The tests, computed on a small form: they accept it, and refuse it after one change.
 use Prim.Native.Nat.{ℕ}
 use mathlib.Core.Path.{_≡_, refl}
-use mathlib.Core.Bool.{Bool, true, false}
+use mathlib.Core.Bool.{true, false}
 use mathlib.Core.List.{List, [], _∷_}
 use Rattle.rules.specs.Bytes.{Bytes, ascii}
 use Rattle.rules.specs.Model.{member, distinct}

@@ -1,10 +1,10 @@
 -- The tests of the definition, particle and attribute bodies that look at more than one record.
-use Prim.Native.Nat.{ℕ, zero, suc}
-use mathlib.Core.Bool.{Bool, true, false, _&&_, _||_, not}
-use mathlib.Core.List.{List, [], _∷_, _++_, map}
+use Prim.Native.Nat.{ℕ}
+use mathlib.Core.Bool.{Bool, true, false, _&&_, not}
+use mathlib.Core.List.{List, [], _∷_, map}
 use lib.Dec.{eqb, leb, ltb}
 use lib.ListN.{length, take, drop}
-use Rattle.rules.specs.Bytes.{Bytes, same, bytes, numbers, all, any, isNone}
+use Rattle.rules.specs.Bytes.{same, bytes, numbers, all, any, isNone}
 use Rattle.rules.specs.Model.{distinct}
 use Rattle.rules.specs.Store.{Forest, bare, tree, heads}
 use Rattle.rules.specs.Preorder.{Deep, build}

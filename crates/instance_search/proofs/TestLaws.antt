@@ -2,22 +2,18 @@
 use native.Mathlib.Omega.{arith}
 use borrow.Author.Tests.{ne-eqb}
 use mathlib.Core.Path.{_≡_, refl, sym, ap, _∙_}
-use mathlib.Core.Bool.{Bool, true, false, _&&_, not, false≢true}
+use mathlib.Core.Bool.{Bool, not}
 use mathlib.Core.List.{[], _∷_}
 use lib.Dec.{eqb}
 use lib.ListN.{length}
 use Rattle.rules.specs.Bytes.{Bytes, isNone}
-pub use Rattle.rules.proofs.Words.{and-off}
+pub use Rattle.rules.proofs.Words.{and-off, and-held}
 
 pub test-is : {a b c : Bool} → a ≡ b → a ≡ c → b ≡ c
 test-is e h = sym e ∙ h
 
 pub not-is : {a b c : Bool} → a ≡ b → not a ≡ c → not b ≡ c
 not-is e h = ap not (sym e) ∙ h
-
-pub and-held : (a b : Bool) → b ≡ true → (a && b) ≡ a
-and-held true b f = f
-and-held false b f = refl
 
 -- an empty text
 pub none-long : (v : Bytes) → eqb (length v) 0 ≡ isNone v

@@ -9,14 +9,14 @@ use native.Mathlib.Nat.{mul-suc, mul-zero, add-zero, zero-add}
 use native.Mathlib.Numerals.{add-one}
 use borrow.Author.Tests.{eq-eqb, ne-eqb, eqb-true}
 use lib.Dec.{eqb}
-use lib.ListN.{length, take, drop, getD, length-drop}
+use lib.ListN.{length, take, drop, length-drop}
 use lib.Seq.{take-nil, take-all, drop-drop}
 use Rattle.rules.specs.Bytes.{Bytes}
 use Rattle.rules.specs.Preorder.{Deep}
-use Rattle.rules.specs.Layout.{valueWidth, headerSize, definitionSize, particleSize, attributeSize, rowSize, FlatRow, FlatStore, flat, encode}
+use Rattle.rules.specs.Layout.{valueWidth, headerSize, definitionSize, particleSize, attributeSize, rowSize, FlatRow, FlatStore, flat}
 use Rattle.rules.specs.Decode.{readDefinition, readParticle, readAttribute, readRow, readMany, definitionCount, particleCount, attributeCount, rowCount, readFlat}
 use Rattle.rules.specs.Store.{Store}
-use Rattle.rules.specs.Passing.{good, readStore}
+use Rattle.rules.specs.Passing.{readStore}
 use Rattle.rules.specs.LookUp.{ValueFound, Numbered, rowWith, foundRow, valueStart, partFound, notFound, lookUpIn, lookUp}
 use Rattle.rules.proofs.LayoutLaws.{read-bytes}
 use Rattle.rules.proofs.DecodeLaws.{good-flat, read-good}

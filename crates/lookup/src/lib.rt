@@ -1,6 +1,6 @@
 // The value of the attribute or text row with a serial, as a part of the store.
 ghost use mathlib.Core.Path.{_≡_};
-ghost use Prim.Native.Nat.{_+_, _*_, _<_};
+ghost use Prim.Native.Nat.{_+_, _<_};
 ghost use lib.ListN.{length};
 ghost use Rattle.lookup.specs.Bodies.{RowsBegin, RowPlace, fromRows, rowPart};
 ghost use Rattle.lookup.specs.Finding.{Looks, Hands, foundOn, foundRowAt};

@@ -49,17 +49,9 @@ module _ (h : Holder) (r w : Reached) (e : r ≡ w) where
   member-few m = rw (← e, m)
 
 module _ (h : Holder) (xs : Particles) where
-  pub last-none : (n : ℕ) → n ≡ 0 → Absent ≡ lastOf false n h xs
-  last-none zero z = refl
-  last-none (suc n) z = absurd (omega arith)
-
   pub last-member : (n : ℕ) (f : Found) → (n ≡ 0 → ⊥) → f ≡ atMember h (reach (h .depth) (n - 1) xs) → f ≡ lastOf false n h xs
   last-member zero f z e = absurd (z refl)
   last-member (suc n) f z e = let m : suc n - 1 ≡ n = omega arith in e ∙ ap (λ (i : ℕ). atMember h (reach (h .depth) i xs)) m
-
-  pub enter-none : (n : ℕ) → n ≡ 0 → Outside ≡ enteredOf n h xs
-  enter-none zero z = refl
-  enter-none (suc n) z = absurd (omega arith)
 
   pub enter-some : (n : ℕ) (f : Entered) (r : Reached) → (n ≡ 0 → ⊥) → r ≡ reach (h .depth) (n - 1) xs → f ≡ enteredAt h xs r → f ≡ enteredOf n h xs
   enter-some zero f r z e g = absurd (z refl)

@@ -1,13 +1,14 @@
 -- The members that a part of the particle body holds, one particle on; and under names.
-use mathlib.Core.Path.{_≡_, refl, ap, _∙_}
+use mathlib.Core.Path.{_≡_, refl, sym, ap, _∙_}
 use mathlib.Core.Bool.{Bool, true, false}
 use mathlib.Core.List.{List, [], _∷_}
-use Prim.Native.Nat.{ℕ, zero, suc, _/_, _<_, _≤_}
+use Prim.Native.Nat.{ℕ, zero, suc, _+_, _*_, _/_, _<_, _≤_}
 use native.Mathlib.Omega.{arith}
-use borrow.Author.Tests.{lt-ltb, le-ltb, eq-eqb, ne-eqb}
-use lib.Dec.{ltb, eqb}
-use lib.ListN.{length, drop}
-use Rattle.rules.specs.Bytes.{Bytes}
+use borrow.Author.Tests.{lt-ltb, le-ltb, eq-eqb, ne-eqb, leb-false}
+use lib.Dec.{ltb, eqb, leb, leb→le}
+use lib.ListN.{length, drop, length-drop}
+use lib.Seq.{drop-drop}
+use Rattle.rules.specs.Bytes.{Bytes, to-T}
 use Rattle.rules.specs.Model.{done, rename}
 use Rattle.rules.specs.Store.{Forest, bare, tree}
 use Rattle.rules.specs.Preorder.{Deep, build}
@@ -41,6 +42,28 @@ particles-more (a ∷ b ∷ c ∷ []) h = absurd (omega arith)
 particles-more (a ∷ b ∷ c ∷ e ∷ s) h =
     let n : length (a ∷ b ∷ c ∷ e ∷ s) / particleSize ≡ suc (length s / particleSize) = omega arith in
     ap (λ (k : ℕ). readMany readParticle particleSize k (a ∷ b ∷ c ∷ e ∷ s)) n
+
+-- .. and n particles on
+pub particles-rest : (s : Bytes) → particlesOf (drop particleSize s) ≡ drop 1 (particlesOf s)
+particles-rest s = by (leb particleSize (length s)) refl
+  where
+    by : (b : Bool) → leb particleSize (length s) ≡ b → particlesOf (drop particleSize s) ≡ drop 1 (particlesOf s)
+    by true e = sym (ap (drop 1) (particles-more s (leb→le particleSize (length s) (to-T e))))
+    by false e =
+        let l : length s < particleSize = leb-false particleSize (length s) e in
+        particles-few (drop particleSize s) (omega (arith, length-drop particleSize s)) ∙ sym (ap (drop 1) (particles-few s l))
+
+pub particles-past : (n : ℕ) (s : Bytes) → particlesOf (drop (particleSize * n) s) ≡ drop n (particlesOf s)
+particles-past zero s = refl
+particles-past (suc n) s =
+    let z : particleSize * suc n ≡ particleSize + particleSize * n = omega arith in
+    let y : 1 + n ≡ suc n = omega arith in
+    ap (λ (k : ℕ). particlesOf (drop k s)) z
+    ∙ ap particlesOf (sym (drop-drop (particleSize * n) particleSize s))
+    ∙ particles-past n (drop particleSize s)
+    ∙ ap (drop n) (particles-rest s)
+    ∙ drop-drop n 1 (particlesOf s)
+    ∙ ap (λ (k : ℕ). drop k (particlesOf s)) y
 
 -- the four cases: too short, the first too deep, not deep enough, at d
 module _ (d : ℕ) (s : Bytes) where

@@ -1,12 +1,12 @@
 -- A place in a model under other names: it leads to the same place.
-use mathlib.Core.Path.{_≡_, refl, sym, ap, _∙_}
+use mathlib.Core.Path.{_≡_, refl, ap, _∙_}
 use mathlib.Core.Option.{Option, none, some}
 use mathlib.Core.List.{List, [], _∷_}
 use Prim.Native.Nat.{ℕ, zero, suc}
 use Rattle.rules.specs.declared.Quantifier.{Quantifier}
 use Rattle.rules.specs.declared.GroupKind.{GroupKind}
 use Rattle.rules.specs.Model.{Members, done, el, group, rename}
-use Rattle.rules.specs.Place.{Found, Context, past, over, into, within, afterMembers, inGroup, right, present, gap, nth, find, renameAround}
+use Rattle.rules.specs.Place.{Found, past, over, into, within, afterMembers, inGroup, right, present, gap, nth, find, renameAround}
 
 abbrev pub renameFound : {A B : Type 0} → (A → B) → Option (Found A) → Option (Found B)
 renameFound f none = none

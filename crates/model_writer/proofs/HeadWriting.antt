@@ -16,11 +16,11 @@ use Rattle.codec.specs.Laid.{Laid}
 use Rattle.model.specs.declared.place.Holder.{Holder}
 use Rattle.model.specs.Members.{particlesOf}
 use Rattle.model.specs.Places.{Particles, noParticle}
-use Rattle.model.proofs.MembersLaws.{particles-few, particles-more}
+use Rattle.model.proofs.MembersLaws.{particles-few, particles-more, particles-past}
 use Rattle.model_writer.specs.declared.Edit.{Edit as EditCode}
 use Rattle.model_writer.specs.PartAfter.{recount, countAfter, recounted, tailAfter, partAfter}
 use Rattle.model_writer.specs.Writing.{editOf, Fitting, Tail, Head, Part}
-use Rattle.model_writer.proofs.WritingLaws.{whole, particles-past}
+use Rattle.model_writer.proofs.WritingLaws.{whole}
 use Rattle.model_writer.proofs.HeadAfter.{recounted-none}
 
 -- ---- counts

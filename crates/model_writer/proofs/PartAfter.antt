@@ -2,18 +2,17 @@
 use Prim.Native.Nat.{ℕ, zero, suc, _+_, _≤_}
 use native.Mathlib.Omega.{arith}
 use mathlib.Core.Path.{_≡_, refl, sym, ap, ap₂, _∙_}
-use mathlib.Core.Bool.{Bool, true, false, not, _||_, false≢true}
+use mathlib.Core.Bool.{Bool, true, false, false≢true}
 use mathlib.Core.Option.{none, some}
 use mathlib.Core.List.{List, _++_}
 use lib.Dec.{leb}
 use lib.ListN.{length, take, drop}
 use lib.Seq.{take-at, drop-at}
-use Rattle.rules.specs.Bytes.{Bytes, bytes}
+use Rattle.rules.specs.Bytes.{Bytes}
 use Rattle.rules.specs.Model.{Members, done, el, group, rename}
 use Rattle.rules.specs.Layout.{particleBytes, each}
 use Rattle.rules.specs.Place.{Context, here, past, over, into, plug, Found as Spot, renameAround, find}
-use Rattle.rules.specs.Edit.{Edit, insert, remove, quantify, convert, flatten, firstMembers, laterMembers, hasMembers, groupUnlike, edited, place, placeOf as placed, modelAfter, _⊕_}
-use Rattle.rules.proofs.Children.{misplaced}
+use Rattle.rules.specs.Edit.{Edit, insert, remove, quantify, convert, flatten, firstMembers, laterMembers, hasMembers, edited, place, placeOf as placed, modelAfter, _⊕_}
 use Rattle.rules.proofs.RenamingPlaces.{plug-rename}
 use Rattle.change_laws.proofs.ModelAfter.{place-of, place-right}
 use Rattle.model.specs.declared.place.Holder.{Holder}
@@ -142,25 +141,6 @@ module _ (f : Bytes → ℕ) where
           let z : none ≡ some x = rw (q, placed) at at in
           let y : false ≡ true = cc z in
           absurd (false≢true y)
-
--- what is not misplaced suits
-pub suits-placed : (e : Edit Bytes) (c : Context Bytes) (t : Members Bytes) → misplaced bytes e c t ≡ false → suits e t ≡ true
-unfolding misplaced
-suits-placed (insert q n) c t h = refl
-suits-placed remove c done h = absurd (false≢true (sym h))
-suits-placed remove c (el q x t) h = refl
-suits-placed remove c (group q k ms t) h = absurd (false≢true (sym h))
-suits-placed (quantify r) c done h = absurd (false≢true (sym h))
-suits-placed (quantify r) c (el q x t) h = refl
-suits-placed (quantify r) c (group q k ms t) h = refl
-suits-placed (convert j n) c t h = by (hasMembers n t) (groupUnlike c j (firstMembers n t)) h
-  where
-    by : (a b : Bool) → (not a || b) ≡ false → a ≡ true
-    by true b h = refl
-    by false b h = absurd (false≢true (sym h))
-suits-placed flatten c done h = absurd (false≢true (sym h))
-suits-placed flatten c (el q x t) h = absurd (false≢true (sym h))
-suits-placed flatten c (group q k ms t) h = refl
 
 -- THE PART AFTER AN EDIT: from the bytes of the part before it and the place found in them
 pub edited-part : (f : Bytes → ℕ) (e : Edit Bytes) (p : List ℕ) (ms : Members Bytes) (x : Spot Bytes) (bs : Bytes) (h : Holder) (at : ℕ)

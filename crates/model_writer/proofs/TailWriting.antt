@@ -15,11 +15,11 @@ use Rattle.rules.specs.Edit.{insert, remove, quantify, convert, flatten}
 use Rattle.model.specs.Members.{particlesOf}
 use Rattle.model.specs.Places.{Particles}
 use Rattle.model.specs.Positions.{elementParticle, groupParticle}
-use Rattle.model.proofs.MembersLaws.{particles-few, particles-more}
+use Rattle.model.proofs.MembersLaws.{particles-few, particles-more, particles-rest}
 use Rattle.model_writer.specs.declared.Edit.{Edit as EditCode}
 use Rattle.model_writer.specs.PartAfter.{lower, requantified, moved, tailAfter}
 use Rattle.model_writer.specs.Writing.{editOf, shift, Fitting, Tail}
-use Rattle.model_writer.proofs.WritingLaws.{whole, particles-rest}
+use Rattle.model_writer.proofs.WritingLaws.{whole}
 
 rest-whole : (s : Bytes) → length s % particleSize ≡ 0 → length (drop particleSize s) % particleSize ≡ 0
 rest-whole s h = omega (arith, length-drop particleSize s)

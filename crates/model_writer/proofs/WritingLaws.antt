@@ -1,14 +1,13 @@
 -- Particle bytes, particle by particle; and a loop that writes moved particles.
-use Prim.Native.Nat.{ℕ, zero, suc, _+_, _-_, _*_, _%_, _<_, _≤_}
+use Prim.Native.Nat.{ℕ, zero, suc, _+_, _-_, _%_, _<_, _≤_}
 use native.Mathlib.Omega.{arith}
 use mathlib.Core.Path.{_≡_, refl, sym, ap, _∙_}
 use mathlib.Core.Bool.{Bool, true, false, not, _&&_, false≢true}
 use mathlib.Core.List.{[], _∷_}
-use borrow.Author.Tests.{leb-false, ne-eqb}
-use lib.Dec.{ltb, eqb, leb, leb→le}
+use borrow.Author.Tests.{ne-eqb}
+use lib.Dec.{ltb, eqb}
 use lib.ListN.{length, take, drop, length-drop}
-use lib.Seq.{drop-drop}
-use Rattle.rules.specs.Bytes.{Bytes, to-T}
+use Rattle.rules.specs.Bytes.{Bytes}
 use Rattle.rules.specs.Layout.{particleBytes, each, particleSize}
 use Rattle.rules.specs.Decode.{readParticle}
 use Rattle.codec.specs.Laid.{Laid}
@@ -28,27 +27,6 @@ whole (a ∷ b ∷ c ∷ []) h = absurd (omega arith)
 whole (a ∷ b ∷ c ∷ e ∷ s) h =
     ap (each particleBytes) (particles-more (a ∷ b ∷ c ∷ e ∷ s) (omega arith)) ∙ ap (λ (r : Bytes). a ∷ b ∷ c ∷ e ∷ r) (whole s (omega arith))
 
-pub particles-rest : (s : Bytes) → particlesOf (drop particleSize s) ≡ drop 1 (particlesOf s)
-particles-rest s = by (leb particleSize (length s)) refl
-  where
-    by : (b : Bool) → leb particleSize (length s) ≡ b → particlesOf (drop particleSize s) ≡ drop 1 (particlesOf s)
-    by true e = sym (ap (drop 1) (particles-more s (leb→le particleSize (length s) (to-T e))))
-    by false e =
-        let l : length s < particleSize = leb-false particleSize (length s) e in
-        particles-few (drop particleSize s) (omega (arith, length-drop particleSize s)) ∙ sym (ap (drop 1) (particles-few s l))
-
-pub particles-past : (n : ℕ) (s : Bytes) → particlesOf (drop (particleSize * n) s) ≡ drop n (particlesOf s)
-particles-past zero s = refl
-particles-past (suc n) s =
-    let z : particleSize * suc n ≡ particleSize + particleSize * n = omega arith in
-    let y : 1 + n ≡ suc n = omega arith in
-    ap (λ (k : ℕ). particlesOf (drop k s)) z
-    ∙ ap particlesOf (sym (drop-drop (particleSize * n) particleSize s))
-    ∙ particles-past n (drop particleSize s)
-    ∙ ap (drop n) (particles-rest s)
-    ∙ drop-drop n 1 (particlesOf s)
-    ∙ ap (λ (k : ℕ). drop k (particlesOf s)) y
-
 -- ---- the four bytes of a particle
 pub particle-same : {a b c d a′ b′ c′ d′ : ℕ} → a ≡ a′ → b ≡ b′ → c ≡ c′ → d ≡ d′ → a′ ∷ b′ ∷ c′ ∷ d′ ∷ [] ≡ a ∷ b ∷ c ∷ d ∷ []
 particle-same p q r s = λ i. sym p i ∷ sym q i ∷ sym r i ∷ sym s i ∷ []
@@ -61,10 +39,6 @@ shift-deeper false n e = absurd (false≢true e)
 pub shift-raised : (b : Bool) (n : ℕ) → b ≡ false → shift b n ≡ n - 1
 shift-raised true n e = absurd (false≢true (sym e))
 shift-raised false n e = refl
-
-pub passing-inner : (b : Bool) (n : ℕ) → b ≡ true → passing b n ≡ n
-passing-inner true n e = refl
-passing-inner false n e = absurd (false≢true e)
 
 pub passing-member : (b : Bool) (n : ℕ) → b ≡ false → passing b n ≡ n - 1
 passing-member true n e = absurd (false≢true (sym e))

@@ -24,7 +24,7 @@ use Rattle.model.proofs.FactsLaws.{facts-nothing, or-never}
 use Rattle.next_children.specs.declared.Nexts.{Nexts}
 use Rattle.next_children.specs.Nexts.{Told}
 use Rattle.next_children.specs.Names.{After}
-use Rattle.next_children.specs.Line.{NextsLine, Kept, Filled, NextsLaid}
+use Rattle.next_children.specs.Line.{Filled, NextsLaid}
 
 -- ---- what a word's first can be does not depend on x
 record Alike (f g : Facts) : Type 0 where

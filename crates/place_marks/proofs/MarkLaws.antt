@@ -2,8 +2,7 @@
 use Prim.Native.Nat.{ℕ, suc, _+_, _*_, _<_, _≤_}
 use native.Mathlib.Omega.{arith}
 use mathlib.Core.Path.{_≡_, refl, sym, ap, ap₂, _∙_, subst}
-use mathlib.Core.Bool.{Bool, true, false, _||_, false≢true}
-use mathlib.Core.Option.{Option, none, some}
+use mathlib.Core.Bool.{Bool, true, false, _||_}
 use mathlib.Core.List.{List, [], _∷_, _++_, map, append-assoc, append-nil, List·Memᴰ, List·Memᴰ·head, List·Memᴰ·tail, Memᴰ·append-left, Memᴰ·append-right}
 use lib.Dec.{eqb}
 use lib.ListN.{length, take, drop, getD, length-append}
@@ -12,12 +11,12 @@ use Rattle.rules.specs.declared.Quantifier.{Quantifier}
 use Rattle.rules.specs.declared.GroupKind.{GroupKind}
 use Rattle.rules.specs.Bytes.{Bytes, same, bytes}
 use Rattle.rules.specs.Model.{Members, done, el, group, names, member, rename, Distinct}
-use Rattle.rules.specs.Store.{Form, members}
+use Rattle.rules.specs.Store.{Form}
 use Rattle.rules.specs.Preorder.{Deep}
 use Rattle.rules.specs.Layout.{particleSize, FlatParticle, indexOf, howMany}
 use Rattle.rules.specs.Decode.{definitionCount}
 use Rattle.rules.specs.WellFormed.{known}
-use Rattle.rules.specs.Place.{Context, Found as Spot, plug, beforePlace, afterPlace}
+use Rattle.rules.specs.Place.{Context, beforePlace, afterPlace}
 use Rattle.rules.specs.Change.{definitionAt, nameAtIndex}
 use Rattle.rules.specs.Passing.{passes}
 use Rattle.rules.proofs.Apart.{names-plug}

@@ -36,11 +36,6 @@ element-code element = refl
 element-code attribute = refl
 element-code text = refl
 
-pub attribute-code : (s : RowSort) → eqb (rowCode s) 2 ≡ isAttribute s
-attribute-code element = refl
-attribute-code attribute = refl
-attribute-code text = refl
-
 pub serial-test : (form : Form) (owner : Bytes) (k : ℕ) (r : Row) → matches (Serial k) (rowWritten form owner r) ≡ elementWith k r
 serial-test form owner k r = ap (λ (c : Bool). c && eqb (r .serial) k) (element-code (r .sort))
 

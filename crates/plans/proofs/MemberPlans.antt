@@ -1,7 +1,7 @@
 -- Changes 3 and 4 on the documents of a store that passes: the plan by indices does what the plan of the rules does.
 use Prim.Native.Nat.{ℕ, _<_}
 use mathlib.Core.Path.{_≡_, refl, sym, ap, ap₂, _∙_}
-use mathlib.Core.Bool.{Bool, true, false, _&&_, not, and-false, false≢true}
+use mathlib.Core.Bool.{Bool, true, _&&_, not, and-false, false≢true}
 use mathlib.Core.Option.{Option, some}
 use mathlib.Core.List.{List, [], map, List·Memᴰ·head}
 use lib.ListN.{length}

@@ -11,7 +11,7 @@ use Rattle.rules.specs.Preorder.{Deep, flatten}
 use Rattle.rules.specs.Layout.{FlatRow, rowCode, rowIndex, indexed}
 use Rattle.rules.specs.Change
 use Rattle.rules.specs.Change.{newRows, given, number}
-use Rattle.row_writer.specs.Written.{isNewRow, newIn, withSerial, numbered}
+use Rattle.row_writer.specs.Written.{newIn, withSerial, numbered}
 use Rattle.row_writer.proofs.WrittenLaws.{new-append, numbered-append}
 
 module _ (form : Form) where

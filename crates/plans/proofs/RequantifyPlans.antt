@@ -29,7 +29,7 @@ use Rattle.filling.specs.declared.Filling.{Filling}
 use Rattle.row_walk.specs.declared.Which.the-variants.{Elements}
 use Rattle.row_walk.specs.declared.Later.the-variants.{Unmarked}
 use Rattle.row_walk.specs.declared.Plan.{Plan}
-use Rattle.row_walk.specs.Walk.{matches, isLater, spared, owed}
+use Rattle.row_walk.specs.Walk.{matches, isLater, owed}
 use Rattle.planned_rows.specs.Planned.{fillOf}
 use Rattle.plans.specs.Trees.{takenAt, filledAt, documentsWalk}
 use Rattle.plans.specs.Simulation.{planted, Going, Staying}

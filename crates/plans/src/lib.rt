@@ -6,7 +6,6 @@ use row_walk::Plan;
 use row_walk::Shift;
 use row_walk::Which;
 ghost use mathlib.Core.Path.{_≡_};
-ghost use mathlib.Core.Bool.{_||_};
 ghost use Rattle.plans.specs.CallPlans.{unmarked, fillingPlan, takingPlan, settingPlan, setAttributePlan};
 ghost use Rattle.plans.specs.AttributeCalls.{addAttributePlan, destroyAttributePlan};
 ghost use Rattle.plans.specs.ModelCalls.{cutTakes, gainFilling, insertElementPlan, requantifyPlan};

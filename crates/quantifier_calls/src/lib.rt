@@ -2,7 +2,6 @@
 //! applies or the place, and an edit of the owner's model there with the plan of the change.
 use model_writer::Edit;
 use store_writer::Answer;
-ghost use mathlib.Core.Path.{_≡_};
 ghost use lib.ListN.{length};
 ghost use Rattle.rules.specs.Outcome.{outcome, Answers};
 ghost use Rattle.quantifier_refusals.specs.Requantifying.{requantify};

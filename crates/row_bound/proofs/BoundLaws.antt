@@ -2,9 +2,9 @@
 use Prim.Native.Nat.{ℕ, zero, suc, _+_, _-_, _*_, _≤_}
 use native.Mathlib.Nat.{zero-mul, mul-add, mul-le-mul}
 use native.Mathlib.Omega.{arith}
-use mathlib.Core.Path.{_≡_, refl, sym, ap, ap₂, _∙_}
+use mathlib.Core.Path.{_≡_, refl, sym, ap, _∙_}
 use mathlib.Core.Bool.{Bool, true, false}
-use mathlib.Core.List.{List, [], _∷_, _++_}
+use mathlib.Core.List.{List, [], _∷_}
 use lib.ListN.{length, length-append}
 use lib.Dec.{eqb}
 use borrow.Author.Tests.{ne-eqb}
@@ -19,7 +19,6 @@ use Rattle.filling.proofs.DepthLaws.{length-filling}
 use Rattle.row_writer.specs.Written.{isNewRow, newIn}
 use Rattle.row_writer.proofs.WrittenLaws.{new-append}
 use Rattle.row_writer.proofs.BlockLaws.{Old, each-old}
-use Rattle.row_walk.specs.declared.Which.{Which}
 use Rattle.row_walk.specs.declared.Plan.{Plan}
 use Rattle.row_walk.specs.declared.Open.{Open}
 use Rattle.row_walk.specs.Walk.{matches, namesGround, keptRow, walked, atFirst}

@@ -1,12 +1,11 @@
 -- The walk with a filling of one row counts the places: so many times the rows of another filling come of it.
-use Prim.Native.Nat.{ℕ, _+_, _*_, _≤_}
+use Prim.Native.Nat.{ℕ, _+_, _*_}
 use native.Mathlib.Nat.{mul-add}
 use native.Mathlib.Omega.{arith}
-use mathlib.Core.Path.{_≡_, refl, ap}
+use mathlib.Core.Path.{_≡_, ap}
 use mathlib.Core.Bool.{Bool, true, false, _&&_}
 use mathlib.Core.List.{List, [], _∷_, _++_}
 use lib.ListN.{length, length-append}
-use lib.Dec.{eqb}
 use borrow.Author.Tests.{ne-eqb}
 use Rattle.rules.specs.Bytes.{Bytes}
 use Rattle.rules.specs.Preorder.{Deep}
@@ -17,7 +16,7 @@ use Rattle.row_writer.proofs.WrittenLaws.{new-append}
 use Rattle.row_writer.proofs.BlockLaws.{Old}
 use Rattle.row_walk.specs.declared.Plan.{Plan}
 use Rattle.row_walk.specs.declared.Open.{Open}
-use Rattle.row_walk.specs.Walk.{keptRow, gone, closes, closed, isTaken, isFilled, taken, kept, owed, rowDepth, emitted, nextOpen, walked}
+use Rattle.row_walk.specs.Walk.{keptRow, gone, closes, closed, isTaken, isFilled, owed, rowDepth, emitted, nextOpen, walked}
 
 -- for each new row of ys, xs has F new ones; the others are as many
 pub record Times (F : ℕ) (xs ys : List (Deep FlatRow)) : Type 0 where

@@ -14,7 +14,7 @@ ghost use Rattle.layout.specs.Bodies.{Width};
 ghost use Rattle.row_walk.specs.Walk.{matches, namesGround, walked, atFirst};
 ghost use Rattle.row_walk.specs.Step.{bare};
 ghost use Rattle.walk_writer.specs.Step.{fillWith, planFilling, Ready, WalkRows};
-ghost use Rattle.filling.specs.Parts.{Asks, Indexed};
+ghost use Rattle.filling.specs.Parts.{Indexed};
 ghost use Rattle.row_bound.specs.Bound.{onlyIf, matchingIn, placesIn, countedTo, Bounds};
 
 /// The rows of one filling, counted up to one past the ceiling, or 0 if none is put in; and the most rows of all of

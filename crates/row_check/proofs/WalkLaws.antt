@@ -16,7 +16,7 @@ use Rattle.form_index.specs.Indices.{IndexForm}
 use Rattle.row_step.specs.Machine.{levelsEnd, machine}
 use Rattle.next_row.specs.Judge.{judge, groundLevel}
 use Rattle.row_check.specs.Verdict.{rowsRead, fieldsFit, judged, verdict}
-use Rattle.row_step.specs.Steps.{State, startState, mayStep, stepped, rowStep, end, walk, stateEnds}
+use Rattle.row_step.specs.Steps.{State, startState, mayStep, stepped, end, walk, stateEnds}
 
 -- the tests of the first row, and those of the others
 first-apart : (x a b c xs ys : Bool) → ((x && xs) && (a && (b && (c && ys)))) ≡ ((x && (a && (b && c))) && (xs && ys))

@@ -1,5 +1,5 @@
 -- What the code reads of a row, and how large the numbers are that its tests meet.
-use Prim.Native.Nat.{ℕ, suc, _≤_}
+use Prim.Native.Nat.{suc, _≤_}
 use mathlib.Core.Bool.{Bool, true, false, not, _&&_, _||_}
 use mathlib.Core.List.{[]}
 use lib.Dec.{eqb}

@@ -2,7 +2,7 @@
 use mathlib.Core.Path.{_≡_, refl, sym, ap, _∙_}
 use mathlib.Core.Bool.{Bool, true, false}
 use mathlib.Core.List.{List, [], _∷_, _++_, append-nil}
-use Prim.Native.Nat.{ℕ, suc, _+_, _-_, _*_, _<_, _≤_}
+use Prim.Native.Nat.{ℕ, suc, _+_, _-_, _<_, _≤_}
 use native.Mathlib.Nat.{add-zero}
 use native.Mathlib.Omega.{arith}
 use borrow.Author.Tests.{ne-eqb}
@@ -88,14 +88,6 @@ module _ {w : ℕ} where
   written-room p m = p .room m
 
   -- ---- how far it went
-  -- rows are left to write: all of xs were written
-  pub written-all : {xs : List (Deep FlatRow)} {c r : Cursor} {out out′ : Bytes} → Written w xs c out r out′ → (r .left ≡ 0 → ⊥) → (c .left ≡ r .left + length xs) × Fitted w xs c out r out′
-  written-all p more = (omega (arith, p .left), p .fitted (omega (arith, p .left)))
-
-  -- none are left: there are as many rows as could be written
-  pub written-full : {xs : List (Deep FlatRow)} {c r : Cursor} {out out′ : Bytes} → Written w xs c out r out′ → r .left ≡ 0 → c .left ≤ length xs
-  written-full p e = omega (arith, p .left)
-
   -- all were known to fit
   pub written-fitting : {xs : List (Deep FlatRow)} {c r : Cursor} {out out′ : Bytes} → Written w xs c out r out′ → length xs ≤ c .left → Laid (rowsBytes w (c .serial) xs) out (c .at) (r .at) out′
   written-fitting p h = p .fitted h .laid

@@ -1,11 +1,10 @@
 -- Names that stand once: a name at a place stands nowhere else.
 use mathlib.Core.Path.{_≡_, refl, sym, ap, _∙_}
-use mathlib.Core.Logic.{_⊎_, inl, inr, ⊎-elim}
-use mathlib.Core.Bool.{Bool, true, false, true≢false}
-use mathlib.Core.List.{List, [], _∷_, _++_, append-assoc, List·Memᴰ, List·Memᴰ·head, List·Memᴰ·tail, Memᴰ·append-left, Memᴰ·append-right}
-use Rattle.rules.specs.Model.{Members, done, el, group, names, Distinct, Equality}
+use mathlib.Core.Bool.{Bool, true, false}
+use mathlib.Core.List.{List, [], _∷_, _++_, append-assoc, List·Memᴰ, List·Memᴰ·head, Memᴰ·append-left, Memᴰ·append-right}
+use Rattle.rules.specs.Model.{Members, names, Distinct, Equality}
 use Rattle.rules.specs.Place.{Context, here, past, over, into, plug, beforePlace, afterPlace}
-use Rattle.rules.proofs.Correct.{distinct-left, distinct-right, distinct-apart}
+use Rattle.rules.proofs.Correct.{distinct-right, distinct-apart}
 
 module _ {A : Type 0} where
   pub names-plug : (c : Context A) (t : Members A) → names (plug c t) ≡ beforePlace c ++ (names t ++ afterPlace c)

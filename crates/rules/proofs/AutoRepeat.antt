@@ -1,13 +1,13 @@
 -- A language under a quantifier.
-use Prim.Native.Nat.{ℕ, zero, suc, _≤_}
+use Prim.Native.Nat.{ℕ, zero, suc}
 use native.Mathlib.Omega.{arith}
 use mathlib.Core.Path.{_≡_, refl}
 use mathlib.Core.Logic.{_⊎_, inl, inr, ⊎-elim}
-use mathlib.Core.Bool.{Bool, true, false, _&&_, _||_}
-use mathlib.Core.List.{List, [], _∷_, _++_, append-nil, cons≢nil}
+use mathlib.Core.Bool.{Bool, true, _&&_, _||_}
+use mathlib.Core.List.{List, [], _∷_, append-nil, cons≢nil}
 use Rattle.rules.specs.declared.Quantifier.{Quantifier}
 use Rattle.rules.specs.declared.Quantifier.the-variants.{None, Qmark, Star, Plus}
-use Rattle.rules.specs.Language.{Language, Then, Times, Allowed, Repeated}
+use Rattle.rules.specs.Language.{Language, Then, Times, Repeated}
 use Rattle.rules.specs.declared.Facts.{Facts}
 use Rattle.rules.specs.Automaton.{quantify}
 use Rattle.rules.proofs.Auto.{Auto, auto-map}

@@ -1,20 +1,19 @@
 -- Changes 3 to 8: what is not refused leaves the children of each instance a word of the new model.
-use mathlib.Core.Path.{_≡_, refl, sym, ap, _∙_}
-use mathlib.Core.Logic.{_⊎_, inl, inr, ⊎-elim}
+use mathlib.Core.Path.{_≡_, refl, sym, _∙_}
 use mathlib.Core.Bool.{Bool, true, false, _&&_, _||_, false≢true}
-use mathlib.Core.List.{List, [], _∷_, _++_}
+use mathlib.Core.List.{List}
 use Rattle.rules.specs.declared.Quantifier.{Quantifier}
-use Rattle.rules.specs.declared.Quantifier.the-variants.{None, Qmark, Star, Plus}
+use Rattle.rules.specs.declared.Quantifier.the-variants.{None}
 use Rattle.rules.specs.declared.GroupKind.{GroupKind}
 use Rattle.rules.specs.declared.GroupKind.the-variants.{Sequence, Choice}
-use Rattle.rules.specs.Model.{Members, done, el, group, Equality, names, Distinct, skips, Some, Full}
+use Rattle.rules.specs.Model.{Members, el, group, Equality, names, Distinct, skips, Some, Full}
 use Rattle.rules.specs.Language.{Conforms}
-use Rattle.rules.specs.Place.{Context, here, past, over, into, plug, kindAt, spine, beforePlace}
+use Rattle.rules.specs.Place.{Context, plug, kindAt, spine}
 use Rattle.rules.specs.Edit.{lone, sameKind, _⊕_, insertOff, removeUnmatched, quantifyOff, quantifyGroupOff, groupUnlike}
 use Rattle.rules.proofs.AroundLaws.{leaves, unmatched-is}
-use Rattle.rules.proofs.Children.{erase, placed, refit, refitGroup, inserted, requantified, groupRequantified}
-use Rattle.rules.specs.Quantifiers.{gains, cuts, relaxes}
-use Rattle.rules.proofs.Carry.{Carries, relax-element, relax-group}
+use Rattle.rules.proofs.Children.{erase, inserted, requantified, groupRequantified}
+use Rattle.rules.specs.Quantifiers.{cuts, relaxes}
+use Rattle.rules.proofs.Carry.{relax-element, relax-group}
 use Rattle.rules.proofs.Pairs.{relaxes→}
 use Rattle.rules.proofs.Inserting.{insert-kept}
 use Rattle.rules.proofs.Removing.{remove-element}

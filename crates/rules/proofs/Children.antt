@@ -1,18 +1,12 @@
 -- What changes 3 to 8 do to the names of one instance's children.
-use Prim.Native.Nat.{ℕ, zero, suc}
-use mathlib.Core.Path.{_≡_}
-use mathlib.Core.Logic.{_⊎_}
 use mathlib.Core.Bool.{Bool, true, false, _&&_, _||_, not}
-use mathlib.Core.Option.{Option, none, some}
 use mathlib.Core.List.{List, [], _∷_, _++_}
 use Rattle.rules.specs.declared.Quantifier.{Quantifier}
-use Rattle.rules.specs.declared.Quantifier.the-variants.{None, Qmark, Star, Plus}
 use Rattle.rules.specs.declared.GroupKind.{GroupKind}
-use Rattle.rules.specs.declared.GroupKind.the-variants.{Sequence, Choice}
 use Rattle.rules.specs.Model.{Members, done, el, group, Equality, names, Distinct, Full, skips, nothing, unless, filling, member, full, distinct}
-use Rattle.rules.specs.Quantifiers.{many, gains, cuts, relaxes}
-use Rattle.rules.specs.Place.{Context, here, past, over, into, plug, kindAt, spine, beforePlace}
-use Rattle.rules.specs.Edit.{_⊕_, lone, sameKind, Edit, insert, remove, quantify, convert, flatten, firstMembers, hasMembers, isOne, insertOff}
+use Rattle.rules.specs.Quantifiers.{gains, cuts}
+use Rattle.rules.specs.Place.{Context, here, past, over, into, plug, spine, beforePlace}
+use Rattle.rules.specs.Edit.{_⊕_, Edit, insert, remove, quantify, convert, flatten, firstMembers, hasMembers, isOne, insertOff}
 use Rattle.rules.specs.Edit.{removeLast, removeUnmatched, quantifyOff, quantifyGroupOff, groupUnlike}
 
 -- a word without a name

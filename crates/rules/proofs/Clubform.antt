@@ -1,5 +1,4 @@
 -- The clubform history of paper 01, computed through the byte strings, with its book.
-use Prim.Native.Nat.{ℕ}
 use mathlib.Core.Path.{_≡_, refl}
 use mathlib.Core.Bool.{Bool, true, false, _&&_, false≢true}
 use mathlib.Core.Option.{Option, none, some}
@@ -22,9 +21,9 @@ use Rattle.rules.specs.Lines.{Line, lines, findRow, childrenOf}
 use Rattle.rules.specs.Change.{Call, createDefinition, insertElement, changeQuantifier, addDocument, addElement, setText, attributeAt, formAfter, plan}
 use Rattle.rules.specs.Change.{prune, eachRow, plant, newRows, given, number, after}
 use Rattle.rules.specs.Refusal.{conditions, refusal}
-use Rattle.rules.specs.Outcome.{Outcome, wrote, outcome}
+use Rattle.rules.specs.Outcome.{wrote, outcome}
 use Rattle.rules.specs.Print.{printed, printOutcome}
-use Rattle.rules.specs.Book.{Book, untaken, rowBySerial, falls, mark, putSpot, spots, expand, spotCount, note}
+use Rattle.rules.specs.Book.{untaken, rowBySerial, falls, mark, putSpot, spots, expand, spotCount, note}
 use Rattle.rules.specs.Run.{Asked, Moment, start, step, run}
 use Rattle.rules.proofs.Words.{and-split}
 

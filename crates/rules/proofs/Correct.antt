@@ -1,12 +1,11 @@
 -- The one-pass test accepts exactly the words of a model in which no name stands twice.
-use mathlib.Core.Path.{_≡_, refl, sym}
-use mathlib.Core.Logic.{_⊎_, inl, inr, ⊎-elim, _↔_}
-use mathlib.Core.Bool.{Bool, true, false, _&&_, _||_}
+use mathlib.Core.Path.{_≡_, sym}
+use mathlib.Core.Logic.{_⊎_, ⊎-elim, _↔_}
+use mathlib.Core.Bool.{true}
 use mathlib.Core.List.{List, [], _∷_, _++_, List·Memᴰ, List·Memᴰ·head, List·Memᴰ·tail, List·Memᴰ·not-nil, List·Memᴰ·cases-cons, Memᴰ·cast, Memᴰ·append-left, Memᴰ·append-right}
-use Rattle.rules.specs.declared.Quantifier.{Quantifier}
 use Rattle.rules.specs.declared.GroupKind.{GroupKind}
 use Rattle.rules.specs.declared.GroupKind.the-variants.{Sequence, Choice}
-use Rattle.rules.specs.Model.{Members, done, el, group, names, Distinct, Equality, nothing}
+use Rattle.rules.specs.Model.{Members, done, el, group, names, Distinct, Equality}
 use Rattle.rules.specs.Language.{Language, Joined, Matches, Conforms}
 use Rattle.rules.specs.declared.Facts.{Facts}
 use Rattle.rules.specs.Automaton.{facts, join, continues, accepts}

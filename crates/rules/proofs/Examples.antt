@@ -1,22 +1,21 @@
 -- The examples of paper 01 as one table, its 'plausible and false' list, each shown false, and a few more.
-use Prim.Native.Nat.{ℕ, zero, suc, _+_}
+use Prim.Native.Nat.{ℕ, suc, _+_}
 use Prim.Native.String.{String}
 use mathlib.Core.Path.{_≡_, refl}
-use mathlib.Core.Bool.{Bool, true, false, false≢true}
-use mathlib.Core.List.{List, [], _∷_, _++_, map}
+use mathlib.Core.Bool.{true, false, false≢true}
+use mathlib.Core.List.{List, [], _∷_}
 use lib.ListN.{length}
-use Rattle.rules.specs.declared.Quantifier.{Quantifier}
 use Rattle.rules.specs.declared.Quantifier.the-variants.{None, Qmark, Star, Plus}
 use Rattle.rules.specs.declared.GroupKind.the-variants.{Sequence, Choice}
 use Rattle.rules.specs.Bytes.{Bytes, same, ascii, concat, bytes, numbers}
 use Rattle.rules.specs.Model.{Members, done, el, group, names, nothing, filling, member, full, distinct}
 use Rattle.rules.specs.Language.{Conforms}
 use Rattle.rules.specs.Automaton.{accepts, continues, facts}
-use Rattle.rules.specs.Store.{Content, empty, pcdata, complex, implied, required, fixed, Attribute, Definition, Form, element, attribute, text, Row, Forest, bare, tree, Store, members, heads}
+use Rattle.rules.specs.Store.{Content, empty, pcdata, complex, implied, required, fixed, Definition, Form, element, attribute, text, Row, Forest, bare, tree, Store, members}
 use Rattle.rules.specs.Decode.{confirm}
 use Rattle.rules.specs.Layout.{baseVersion, valueWidth, flat, encode, each, rowBytes}
 use Rattle.rules.specs.WellFormed.{reaches, goodDefinition, wellFormed}
-use Rattle.rules.specs.Conforming.{strip, fitsRow, conforming, nameOf}
+use Rattle.rules.specs.Conforming.{strip, fitsRow, conforming}
 use Rattle.rules.specs.Passing.{serials, good, goodSerials}
 use Rattle.rules.specs.Filling.{fillAttributes, fillEach, fillContent, fillWithin}
 use Rattle.rules.specs.Place.{plug, kindAt, spine, beforePlace, around, afterMembers, find}

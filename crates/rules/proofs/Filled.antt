@@ -1,16 +1,15 @@
 -- A filling is a word of its model.
-use Prim.Native.Nat.{ℕ, zero, suc, _≤_}
 use native.Mathlib.Omega.{arith}
 use mathlib.Core.Path.{_≡_, refl}
-use mathlib.Core.Logic.{_⊎_, inl, inr}
-use mathlib.Core.Bool.{Bool, true, false, _&&_, _||_}
-use mathlib.Core.List.{List, [], _∷_, _++_, append-nil}
+use mathlib.Core.Logic.{inl}
+use mathlib.Core.Bool.{Bool, true, false, _||_}
+use mathlib.Core.List.{List, [], _∷_, append-nil}
 use Rattle.rules.specs.declared.Quantifier.{Quantifier}
 use Rattle.rules.specs.declared.Quantifier.the-variants.{None, Qmark, Star, Plus}
 use Rattle.rules.specs.declared.GroupKind.{GroupKind}
 use Rattle.rules.specs.declared.GroupKind.the-variants.{Sequence, Choice}
 use Rattle.rules.specs.Model.{Members, done, el, group, skips, nothing, unless, beside, filling, Some, Full}
-use Rattle.rules.specs.Language.{Language, Then, Times, Repeated, Joined, Ended, Matches, Conforms}
+use Rattle.rules.specs.Language.{Language, Repeated, Joined, Matches, Conforms}
 use Rattle.rules.proofs.Nothing.{nothing→}
 
 -- a CHOICE has a member

@@ -1,22 +1,19 @@
 -- Changes 3, 5 and 8 on the spine: the children after the change are a word of the new model.
-use Prim.Native.Nat.{ℕ, zero, suc, _≤_}
-use native.Mathlib.Omega.{arith}
+use Prim.Native.Nat.{ℕ, zero, suc}
 use mathlib.Core.Path.{_≡_, refl, sym, ap, _∙_}
-use mathlib.Core.Logic.{_⊎_, inl, inr, ⊎-elim}
-use mathlib.Core.Bool.{Bool, true, false, not, _&&_, _||_, false≢true}
-use mathlib.Core.List.{List, [], _∷_, _++_, append-assoc, List·Memᴰ, List·Memᴰ·head, List·Memᴰ·tail, List·Memᴰ·not-nil, List·Memᴰ·append-cases, Memᴰ·append-left, Memᴰ·append-right}
+use mathlib.Core.Logic.{inl, ⊎-elim}
+use mathlib.Core.Bool.{Bool, true, false, _||_, false≢true}
+use mathlib.Core.List.{List, [], _∷_, _++_, append-assoc, List·Memᴰ, List·Memᴰ·head, List·Memᴰ·tail, List·Memᴰ·append-cases, Memᴰ·append-left, Memᴰ·append-right}
 use Rattle.rules.specs.declared.Quantifier.{Quantifier}
-use Rattle.rules.specs.declared.Quantifier.the-variants.{None, Qmark, Star, Plus}
 use Rattle.rules.specs.declared.GroupKind.{GroupKind}
-use Rattle.rules.specs.declared.GroupKind.the-variants.{Sequence, Choice}
-use Rattle.rules.specs.Model.{Members, done, el, group, names, Distinct, Equality, skips, nothing, unless, filling, Some, Full, member}
-use Rattle.rules.specs.Language.{Language, Then, Times, Allowed, Repeated, Joined, Ended, Matches, Conforms}
+use Rattle.rules.specs.declared.GroupKind.the-variants.{Sequence}
+use Rattle.rules.specs.Model.{Members, el, group, names, Distinct, Equality, skips, nothing, unless, filling, Some, Full, member}
+use Rattle.rules.specs.Language.{Then, Times, Allowed, Repeated, Matches, Conforms}
 use Rattle.rules.specs.Place.{Context, plug, spine, beforePlace, afterPlace}
 use Rattle.rules.proofs.Children.{ahead, behind, placed, keepFirst, erase, refit, anyOf, refitGroup}
 use Rattle.rules.specs.Quantifiers.{gains, cuts}
-use Rattle.rules.proofs.Words.{and-split}
 use Rattle.rules.proofs.Spine.{Split, split, put, later}
-use Rattle.rules.proofs.Letters.{Over, letters, letters-repeated, placed-at, member-in, member-out, any-in, any-out, keep-past, keep-here, erase-none}
+use Rattle.rules.proofs.Letters.{letters, letters-repeated, placed-at, member-in, member-out, any-in, any-out, keep-past, keep-here, erase-none}
 use Rattle.rules.proofs.Removing.{erase-append, erase-times}
 use Rattle.rules.proofs.Pairs.{allowed-one, stays-none, stays-some}
 use Rattle.rules.proofs.Filled.{fill-group}

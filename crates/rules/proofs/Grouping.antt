@@ -1,20 +1,16 @@
 -- Members made a group, and a group made members: the language stays.
-use Prim.Native.Nat.{ℕ, zero, suc, _≤_}
-use native.Mathlib.Omega.{arith}
 use mathlib.Core.Path.{_≡_, refl, sym, ap, _∙_}
-use mathlib.Core.Logic.{_⊎_, inl, inr, ⊎-elim}
-use mathlib.Core.Bool.{Bool, true, false, _||_, false≢true}
-use mathlib.Core.List.{List, [], _∷_, _++_, append-nil, append-assoc}
-use Rattle.rules.specs.declared.Quantifier.{Quantifier}
-use Rattle.rules.specs.declared.Quantifier.the-variants.{None, Qmark, Star, Plus}
+use mathlib.Core.Logic.{inl, inr, ⊎-elim}
+use mathlib.Core.Bool.{true, _||_, false≢true}
+use mathlib.Core.List.{List, [], _++_, append-nil, append-assoc}
+use Rattle.rules.specs.declared.Quantifier.the-variants.{None}
 use Rattle.rules.specs.declared.GroupKind.{GroupKind}
 use Rattle.rules.specs.declared.GroupKind.the-variants.{Sequence, Choice}
-use Rattle.rules.specs.Model.{Members, done, el, group, isDone}
-use Rattle.rules.specs.Language.{Language, Then, Times, Repeated, Joined, Ended, Matches}
+use Rattle.rules.specs.Model.{Members, done, el, group}
+use Rattle.rules.specs.Language.{Language, Then, Repeated, Joined, Ended, Matches}
 use Rattle.rules.specs.Place.{Context, plug, kindAt}
 use Rattle.rules.specs.Edit.{_⊕_, lone, sameKind}
-use Rattle.rules.proofs.Words.{or-cases}
-use Rattle.rules.proofs.Carry.{Carries, _⊑_, unchanged, carry-joined, enlarge, within-self}
+use Rattle.rules.proofs.Carry.{_⊑_, unchanged, carry-joined, enlarge, within-self}
 use Rattle.rules.proofs.AutoRepeat.{once, one←}
 
 -- the same words

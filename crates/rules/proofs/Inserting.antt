@@ -1,20 +1,18 @@
 -- Change 3, where no row changes.
-use Prim.Native.Nat.{ℕ, zero, suc, _≤_}
 use mathlib.Core.Path.{_≡_, refl}
 use mathlib.Core.Logic.{_⊎_, inl, inr}
-use mathlib.Core.Bool.{Bool, true, false, _||_, false≢true}
-use mathlib.Core.List.{List, [], _∷_, _++_}
+use mathlib.Core.Bool.{true, false, _||_, false≢true}
+use mathlib.Core.List.{List, []}
 use Rattle.rules.specs.declared.Quantifier.{Quantifier}
-use Rattle.rules.specs.declared.Quantifier.the-variants.{None, Qmark, Star, Plus}
 use Rattle.rules.specs.declared.GroupKind.{GroupKind}
 use Rattle.rules.specs.declared.GroupKind.the-variants.{Sequence, Choice}
-use Rattle.rules.specs.Model.{Members, done, el, group, skips}
-use Rattle.rules.specs.Language.{Language, Matches}
+use Rattle.rules.specs.Model.{Members, el, skips}
+use Rattle.rules.specs.Language.{Matches}
 use Rattle.rules.specs.Place.{Context, plug, kindAt}
 use Rattle.rules.specs.Edit.{sameKind}
 use Rattle.rules.proofs.Words.{or-cases}
 use Rattle.rules.proofs.Pairs.{allowed-none}
-use Rattle.rules.proofs.Carry.{Carries, _⊑_, enlarge}
+use Rattle.rules.proofs.Carry.{_⊑_, enlarge}
 
 module _ {A : Type 0} where
   here-inserted : (i : GroupKind) (q : Quantifier) (n : A) (t : Members A) → (skips q || sameKind i Choice) ≡ true → Matches i t ⊑ Matches i (el q n t)

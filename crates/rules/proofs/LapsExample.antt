@@ -2,7 +2,6 @@
 -- byte strings, with its book; and how new lines find their places.
 use Prim.Native.Nat.{ℕ}
 use mathlib.Core.Path.{_≡_, refl}
-use mathlib.Core.Bool.{Bool, true, false}
 use mathlib.Core.Option.{Option, none, some}
 use mathlib.Core.List.{List, [], _∷_, _++_, map}
 use Rattle.rules.specs.Bytes.{Bytes, ascii}
@@ -23,7 +22,7 @@ use Rattle.rules.specs.Change.{Call, createDefinition, insertElement, ch
 use Rattle.rules.specs.Change.{setAttribute, setText, attributeAt, formAfter, Plan, plan, prune, eachRow, plant, newRows, given, number, after}
 use Rattle.rules.specs.Refusal.{conditions, refusal}
 use Rattle.rules.specs.Outcome.{outcome}
-use Rattle.rules.specs.Book.{Entry, stands, taken, Book, untaken, rowBySerial, falls, mark, old, spot, putSpot, spots, expand, spotCount, marks, note}
+use Rattle.rules.specs.Book.{Entry, stands, taken, untaken, rowBySerial, falls, mark, old, spot, putSpot, spots, expand, spotCount, marks, note}
 use Rattle.rules.specs.Run.{Asked, Moment, start, step, run}
 
 abbrev asked : Call → Asked

@@ -1,16 +1,16 @@
 -- Members accept nothing just where the empty word is in their language.
-use Prim.Native.Nat.{ℕ, zero, suc, _≤_}
+use Prim.Native.Nat.{zero, suc}
 use native.Mathlib.Omega.{arith}
 use mathlib.Core.Path.{_≡_, refl}
-use mathlib.Core.Logic.{_⊎_, inl, inr, ⊎-elim, _↔_}
-use mathlib.Core.Bool.{Bool, true, false, _&&_, _||_, false≢true}
-use mathlib.Core.List.{List, [], _∷_, nil≢cons}
+use mathlib.Core.Logic.{inl, inr, ⊎-elim, _↔_}
+use mathlib.Core.Bool.{Bool, true, false, _||_, false≢true}
+use mathlib.Core.List.{[], nil≢cons}
 use Rattle.rules.specs.declared.Quantifier.{Quantifier}
 use Rattle.rules.specs.declared.Quantifier.the-variants.{None, Qmark, Star, Plus}
 use Rattle.rules.specs.declared.GroupKind.{GroupKind}
 use Rattle.rules.specs.declared.GroupKind.the-variants.{Sequence, Choice}
-use Rattle.rules.specs.Model.{Members, done, el, group, skips, both, neutral, nothing}
-use Rattle.rules.specs.Language.{Language, Times, Repeated, Joined, Ended, Matches}
+use Rattle.rules.specs.Model.{Members, done, el, group, skips, both, nothing}
+use Rattle.rules.specs.Language.{Language, Repeated, Joined, Matches}
 use Rattle.rules.proofs.Words.{here, then-nil, either, or-left, or-right, or-cases, and-both, and-split}
 
 module _ {A : Type 0} {L : Language A} {b : Bool} where

@@ -1,15 +1,15 @@
 -- The tests of the check decide what passes: `good` is `Good`, and `passes` is `Passes`.
 use Prim.Native.Nat.{ℕ}
-use mathlib.Core.Path.{_≡_, refl}
+use mathlib.Core.Path.{_≡_}
 use mathlib.Core.Logic.{_↔_}
-use mathlib.Core.Bool.{Bool, true, false, _&&_}
-use mathlib.Core.Option.{Option, none, some}
+use mathlib.Core.Bool.{Bool, true}
+use mathlib.Core.Option.{some}
 use mathlib.Core.List.{List, map}
 use Rattle.rules.specs.Bytes.{Bytes}
 use Rattle.rules.specs.Model.{Distinct, names}
 use Rattle.rules.specs.Store.{Definition, Form, Row, Forest, Store, members}
 use Rattle.rules.specs.Layout.{valueWidth, flat}
-use Rattle.rules.specs.WellFormed.{withinCeilings, wellFormed, WellFormed, lookup, attributeName}
+use Rattle.rules.specs.WellFormed.{withinCeilings, wellFormed, lookup, attributeName}
 use Rattle.rules.specs.Conforming.{everyRow, conforming, Conforming}
 use Rattle.rules.specs.Passing.{knownVersion, laidRow, goodSerials, good, Good, passes, Passes}
 use Rattle.rules.proofs.Words.{and-split, and-both}

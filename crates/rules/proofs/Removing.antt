@@ -9,15 +9,15 @@ use Rattle.rules.specs.declared.Quantifier.{Quantifier}
 use Rattle.rules.specs.declared.Quantifier.the-variants.{None, Qmark, Star, Plus}
 use Rattle.rules.specs.declared.GroupKind.{GroupKind}
 use Rattle.rules.specs.declared.GroupKind.the-variants.{Sequence, Choice}
-use Rattle.rules.specs.Model.{Members, done, el, group, names, Distinct, Equality, skips, nothing}
-use Rattle.rules.specs.Language.{Language, Then, Times, Allowed, Repeated, Joined, Ended, Matches, Conforms}
+use Rattle.rules.specs.Model.{Members, el, names, Distinct, Equality, skips, nothing}
+use Rattle.rules.specs.Language.{Language, Times, Allowed, Repeated, Joined, Matches, Conforms}
 use Rattle.rules.specs.Place.{Context, here, past, over, into, plug, beforePlace, afterPlace}
 use Rattle.rules.proofs.AroundLaws.{leaves}
 use Rattle.rules.proofs.Children.{erase}
 use Rattle.rules.proofs.Words.{or-cases}
 use Rattle.rules.proofs.Nothing.{nothing→}
 use Rattle.rules.proofs.Apart.{Only, only, differs}
-use Rattle.rules.proofs.Carry.{Spread, Carries, Kept, relaxes-same, carry-then, carry-joined, carry-repeated, carry-kept, carry-single}
+use Rattle.rules.proofs.Carry.{Spread, Carries, Kept, relaxes-same, carry-joined, carry-repeated, carry-kept, carry-single}
 
 module _ {A : Type 0} (E : Equality A) (x : A) where
   pub erase-append : (u v : List A) → erase E x (u ++ v) ≡ erase E x u ++ erase E x v

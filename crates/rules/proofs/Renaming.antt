@@ -1,14 +1,12 @@
 -- Names for indices: the one-pass test says the same.
-use mathlib.Core.Path.{_≡_, refl, sym, ap, ap₂, _∙_}
-use mathlib.Core.Bool.{Bool, true, false, _&&_, _||_}
-use mathlib.Core.List.{List, [], _∷_, _++_, map, List·Memᴰ, List·Memᴰ·head, List·Memᴰ·tail, Memᴰ·append-left, Memᴰ·append-right}
-use Rattle.rules.specs.declared.Quantifier.{Quantifier}
-use Rattle.rules.specs.declared.Quantifier.the-variants.{None, Qmark, Star, Plus}
+use mathlib.Core.Path.{_≡_, refl, ap, ap₂}
+use mathlib.Core.Bool.{Bool, _&&_}
+use mathlib.Core.List.{List, [], _∷_, map, List·Memᴰ, List·Memᴰ·head, List·Memᴰ·tail, Memᴰ·append-left, Memᴰ·append-right}
 use Rattle.rules.specs.declared.GroupKind.{GroupKind}
-use Rattle.rules.specs.declared.GroupKind.the-variants.{Sequence, Choice}
-use Rattle.rules.specs.Model.{Members, done, el, group, names, Equality, nothing, rename, filling}
+use Rattle.rules.specs.declared.GroupKind.the-variants.{Sequence}
+use Rattle.rules.specs.Model.{Members, done, el, group, names, Equality, rename}
 use Rattle.rules.specs.declared.Facts.{Facts}
-use Rattle.rules.specs.Automaton.{single, empty, join, quantify, facts, continues, accepts}
+use Rattle.rules.specs.Automaton.{facts, continues, accepts}
 use Rattle.rules.proofs.RenamingPlaces.{nothing-rename}
 
 module _ {A B : Type 0} (E : Equality A) (F : Equality B) (f : A → B) (P : A → Type 0)

@@ -1,12 +1,11 @@
 -- Names for indices: places, fillings and what is asked of them stay.
-use mathlib.Core.Path.{_≡_, refl, sym, ap, ap₂, _∙_}
-use mathlib.Core.Bool.{Bool, true, false, _&&_, _||_}
+use mathlib.Core.Path.{_≡_, refl, sym, ap, _∙_}
+use mathlib.Core.Bool.{Bool, true, false, _||_}
 use mathlib.Core.List.{List, [], _∷_, _++_, map}
-use Rattle.rules.specs.declared.Quantifier.{Quantifier}
 use Rattle.rules.specs.declared.GroupKind.{GroupKind}
 use Rattle.rules.specs.declared.GroupKind.the-variants.{Sequence, Choice}
 use Rattle.rules.specs.Model.{Members, done, el, group, names, nothing, rename, filling, beside, unless, skips}
-use Rattle.rules.specs.Place.{Context, here, past, over, into, plug, kindAt, spine, beforePlace, renameAround, plain}
+use Rattle.rules.specs.Place.{Context, here, past, over, into, plug, spine, beforePlace, renameAround}
 use Rattle.rules.proofs.AroundLaws.{leaves}
 
 module _ {A B : Type 0} (f : A → B) where

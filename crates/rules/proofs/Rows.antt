@@ -1,12 +1,12 @@
 -- The names of the edited rows are the edited names.
-use mathlib.Core.Path.{_≡_, refl, sym, ap, _∙_}
+use mathlib.Core.Path.{_≡_, refl, ap, _∙_}
 use mathlib.Core.Bool.{Bool, true, false, not, _&&_, _||_}
 use mathlib.Core.List.{List, [], _∷_, _++_, map}
 use Rattle.rules.specs.declared.Quantifier.{Quantifier}
 use Rattle.rules.specs.declared.GroupKind.{GroupKind}
 use Rattle.rules.specs.Model.{Members, done, el, group, Equality, names, skips, nothing, unless, filling, member}
 use Rattle.rules.specs.Place.{Context, spine, beforePlace}
-use Rattle.rules.proofs.Children.{anyOf, erase, placed, keepFirst, refit, refitGroup, inserted, requantified, groupRequantified, children}
+use Rattle.rules.proofs.Children.{anyOf, erase, placed, keepFirst, refit, refitGroup, children}
 use Rattle.rules.specs.Quantifiers.{gains, cuts}
 use Rattle.rules.specs.Edit.{Edit, insert, remove, quantify, convert, flatten}
 use Rattle.rules.proofs.ChildRows.{eraseRows, placeRows, firstRows, refitRows, refitGroupRows, childRows}

@@ -1,18 +1,17 @@
 -- The tests on every row of a forest and on serials: each is true just where what it tests holds.
 use Prim.Native.Nat.{ℕ, _<_, _≤_}
-use mathlib.Core.Path.{_≡_, refl, sym, _∙_}
+use mathlib.Core.Path.{_≡_, refl}
 use mathlib.Core.Logic.{⊎-elim, _↔_, Iff·rfl}
-use mathlib.Core.Bool.{Bool, true, false, not, _&&_, false≢true}
-use mathlib.Core.List.{List, [], _∷_, List·Memᴰ, List·Memᴰ·head, List·Memᴰ·tail, List·Memᴰ·not-nil, List·Memᴰ·cases-cons, List·Memᴰ·append-cases, Memᴰ·append-left, Memᴰ·append-right}
+use mathlib.Core.Bool.{Bool, true, _&&_}
+use mathlib.Core.List.{List, List·Memᴰ, List·Memᴰ·head, List·Memᴰ·tail, List·Memᴰ·not-nil, List·Memᴰ·cases-cons, List·Memᴰ·append-cases, Memᴰ·append-left, Memᴰ·append-right}
 use lib.Dec.{leb, ltb, leb→le, le→leb, ltb→lt}
 use Rattle.rules.specs.Bytes.{numbers, all, of-T, to-T}
-use Rattle.rules.specs.Model.{Equality, Distinct, member, distinct}
+use Rattle.rules.specs.Model.{distinct}
 use Rattle.rules.specs.Store.{Row, Forest, bare, tree, heads}
 use Rattle.rules.specs.WellFormed.{highestNumber}
 use Rattle.rules.specs.Conforming.{EveryRow, everyRow}
 use Rattle.rules.specs.Passing.{serials, GoodSerials, goodSerials}
 use Rattle.rules.proofs.Words.{and-both, and-split}
-use Rattle.rules.proofs.Letters.{member-in, member-out}
 use Rattle.rules.proofs.TestLaws.{all-test, distinct-test}
 use borrow.Author.Tests.{lt-ltb}
 

@@ -24,7 +24,7 @@ use Rattle.rules.specs.Layout.{valueWidth, nameWidth, FlatParticle, quan
 use Rattle.rules.specs.Layout.{flatDefinition, allParticles, ownAttributes, allAttributes, indexed, flat, encode, howMany, groupCode, FlatRow}
 use Rattle.rules.specs.WellFormed.{startsName, inName, isName, storedName, isValue, withinCeilings, lookup, known, isFill, isAttributeOf, wellFormed}
 use Rattle.rules.specs.Conforming.{nameOf, EveryRow, isElement, isText, fits, fitsDefinition, fitsRow}
-use Rattle.rules.specs.Passing.{knownVersion, laidRow, good, passes}
+use Rattle.rules.specs.Passing.{knownVersion, laidRow, good}
 use Rattle.rules.proofs.Words.{and-split, or-cases}
 use Rattle.rules.proofs.Children.{Sound}
 use Rattle.rules.proofs.Correct.{accepts-conforms}

@@ -1,14 +1,10 @@
 -- The test for a sound model.
-use mathlib.Core.Path.{_≡_, refl, sym, _∙_}
-use mathlib.Core.Logic.{_⊎_, inl, inr, ⊎-elim, _↔_}
-use mathlib.Core.Bool.{Bool, true, false, not, _&&_, false≢true}
-use mathlib.Core.List.{List, [], _∷_, _++_, List·Memᴰ, List·Memᴰ·head, List·Memᴰ·tail}
-use Rattle.rules.specs.declared.Quantifier.{Quantifier}
-use Rattle.rules.specs.declared.GroupKind.{GroupKind}
-use Rattle.rules.specs.Model.{Members, done, el, group, names, Equality, Distinct, Some, Full, member, isDone, isSome, full, distinct}
+use mathlib.Core.Path.{_≡_, refl}
+use mathlib.Core.Logic.{_↔_}
+use mathlib.Core.Bool.{true, _&&_, false≢true}
+use Rattle.rules.specs.Model.{Members, done, el, group, names, Equality, Some, Full, isSome, full, distinct}
 use Rattle.rules.proofs.Children.{Sound, sound}
 use Rattle.rules.proofs.Words.{and-both, and-split}
-use Rattle.rules.proofs.Letters.{member-in, member-out}
 use Rattle.rules.proofs.TestLaws.{distinct-test}
 
 module _ {A : Type 0} (E : Equality A) where

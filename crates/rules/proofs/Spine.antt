@@ -2,22 +2,19 @@
 -- names before the place, those there, and those after.
 use mathlib.Core.Path.{_≡_, refl, sym, ap, _∙_}
 use mathlib.Core.Logic.{_⊎_, inl, inr, ⊎-elim}
-use mathlib.Core.Bool.{Bool, true, false, _&&_, false≢true}
-use mathlib.Core.List.{List, [], _∷_, _++_, append-assoc, List·Memᴰ, List·Memᴰ·append-cases, Memᴰ·append-left, Memᴰ·append-right}
-use Rattle.rules.specs.declared.Quantifier.{Quantifier}
+use mathlib.Core.Bool.{true, false≢true}
+use mathlib.Core.List.{List, _∷_, _++_, append-assoc, List·Memᴰ, List·Memᴰ·append-cases, Memᴰ·append-left, Memᴰ·append-right}
 use Rattle.rules.specs.declared.Quantifier.the-variants.{None, Qmark, Star, Plus}
-use Rattle.rules.specs.declared.GroupKind.{GroupKind}
 use Rattle.rules.specs.declared.GroupKind.the-variants.{Sequence, Choice}
-use Rattle.rules.specs.Model.{Members, done, el, group, names, Distinct, Equality}
-use Rattle.rules.specs.Language.{Language, Then, Times, Repeated, Joined, Ended, Matches, Conforms}
-use Rattle.rules.specs.Place.{Context, here, past, over, into, plug, spine, plain, beforePlace, afterPlace}
+use Rattle.rules.specs.Model.{Members, done, el, group, names, Distinct}
+use Rattle.rules.specs.Language.{Language, Then, Matches, Conforms}
+use Rattle.rules.specs.Place.{Context, here, past, over, into, plug, spine, beforePlace, afterPlace}
 use Rattle.rules.specs.Edit.{_⊕_}
-use Rattle.rules.proofs.Children.{ahead, behind, placed}
-use Rattle.rules.proofs.Words.{and-split}
+use Rattle.rules.proofs.Children.{ahead, behind}
 use Rattle.rules.proofs.Grouping.{Alike, alike-self, alike-sym, alike-then, alike-joined, joined-done, joined-end, joined-assoc, repeated-once, append-alike}
 use Rattle.rules.proofs.Apart.{names-plug}
-use Rattle.rules.proofs.Correct.{distinct-left, distinct-right, distinct-apart}
-use Rattle.rules.proofs.Letters.{Over, letters, placed-at}
+use Rattle.rules.proofs.Correct.{distinct-right, distinct-apart}
+use Rattle.rules.proofs.Letters.{letters}
 
 module _ {A : Type 0} where
   -- what stands around the place: the words before it, and after the members there

@@ -1,13 +1,12 @@
 -- The split of a word at a place on the spine is the only one; the test of the check in place of the language.
-use mathlib.Core.Path.{_≡_, refl, sym, ap, _∙_}
-use mathlib.Core.Logic.{_⊎_, inl, inr, ⊎-elim, _↔_}
-use mathlib.Core.Bool.{Bool, true, false}
-use mathlib.Core.List.{List, [], _∷_, _++_, List·Memᴰ, List·Memᴰ·head, List·Memᴰ·tail, List·Memᴰ·append-cases, Memᴰ·append-left, Memᴰ·append-right, Memᴰ·cast}
-use mathlib.Core.List.{head-eq-of-cons-eq, tail-eq-of-cons-eq, cons≢nil, nil≢cons}
+use mathlib.Core.Path.{_≡_, refl, sym, _∙_}
+use mathlib.Core.Bool.{true}
+use mathlib.Core.List.{List, [], _∷_, _++_, List·Memᴰ, List·Memᴰ·head, List·Memᴰ·tail}
+use mathlib.Core.List.{head-eq-of-cons-eq, tail-eq-of-cons-eq}
 use Rattle.rules.specs.Model.{Members, names, Distinct, Equality}
 use Rattle.rules.specs.Language.{Conforms}
 use Rattle.rules.specs.Automaton.{accepts}
-use Rattle.rules.specs.Place.{Context, beforePlace, afterPlace}
+use Rattle.rules.specs.Place.{Context, beforePlace}
 use Rattle.rules.proofs.Spine.{Split, later}
 use Rattle.rules.proofs.Correct.{accepts-conforms}
 

@@ -81,9 +81,6 @@ lookup-distinct (c ∷ form) (n, u) d m = by (List·Memᴰ·cases-cons m) (looku
     by (inr i) f = lookup-there (d .name) c form (λ q. n (Memᴰ·cast (sym q) (Memᴰ·map definitionName i))) ∙ f i
 
 module _ (w : ℕ) (form : Form) (ok : wellFormed w form ≡ true) where
-  pub lookup-of : (d : Definition) → List·Memᴰ d form → lookup (d .name) form ≡ some d
-  lookup-of = lookup-distinct form (well-formed w form .0 ok .names)
-
   pub definition-good : (n : Bytes) (d : Definition) → lookup n form ≡ some d → GoodDefinition w form d
   definition-good n d e = well-formed w form .0 ok .definitions d (lookup-member n form d e .0)
 

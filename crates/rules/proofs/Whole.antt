@@ -1,24 +1,21 @@
 -- CHANGES 3 TO 8: a sound model stays sound, and each instance's children become a word of the model after.
 use Prim.Native.Nat.{ℕ, zero, suc}
 use mathlib.Core.Path.{_≡_, refl, sym, ap, _∙_}
-use mathlib.Core.Option.{Option, none, some}
+use mathlib.Core.Option.{some}
 use mathlib.Core.Bool.{true, false, not, false≢true, and-false}
-use mathlib.Core.List.{List, [], _∷_, _++_, List·Memᴰ}
+use mathlib.Core.List.{List}
 use Rattle.rules.specs.declared.Quantifier.{Quantifier}
 use Rattle.rules.specs.declared.Quantifier.the-variants.{None, Qmark, Star, Plus}
 use Rattle.rules.specs.declared.GroupKind.{GroupKind}
-use Rattle.rules.specs.declared.GroupKind.the-variants.{Sequence, Choice}
-use Rattle.rules.specs.Model.{Members, done, el, group, Equality, names, Distinct, skips, Some, Full, member, isDone}
+use Rattle.rules.specs.Model.{Members, done, el, group, Equality, names, Some, Full, isDone}
 use Rattle.rules.specs.Language.{Conforms}
 use Rattle.rules.specs.Automaton.{accepts}
 use Rattle.rules.proofs.AroundLaws.{opens, last-is}
 use Rattle.rules.proofs.Unique.{accepts-carried}
 use Rattle.rules.specs.Place.{Context, here, past, over, into, plug, Found}
-use Rattle.rules.proofs.Children.{erase, misplaced, unfit, children, Sound}
-use Rattle.rules.specs.Edit.{_⊕_, removeLast, groupUnlike, Edit, insert, remove, quantify, convert, flatten, firstMembers, laterMembers, hasMembers, isOne, edited, place, modelAfter}
-use Rattle.rules.proofs.Carry.{Carries}
+use Rattle.rules.proofs.Children.{misplaced, unfit, children, Sound}
+use Rattle.rules.specs.Edit.{_⊕_, groupUnlike, Edit, insert, remove, quantify, convert, flatten, firstMembers, laterMembers, hasMembers, isOne, edited, place, modelAfter}
 use Rattle.rules.proofs.Letters.{member-in}
-use Rattle.rules.proofs.Grouping.{Alike}
 use Rattle.rules.proofs.Places.{insert-distinct, remove-distinct, same-names, convert-names, full-plug, found-gap, found-nth}
 use Rattle.rules.proofs.Change.{insert-conforms, remove-conforms, quantify-conforms, group-conforms, convert-conforms}
 use Rattle.rules.proofs.Words.{or-split}

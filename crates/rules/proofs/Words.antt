@@ -1,8 +1,9 @@
 -- A word that is one of L and then one of M, by its first letter; and facts on tests.
-use mathlib.Core.Path.{_≡_, refl, sym, ap, subst}
+use mathlib.Core.Path.{_≡_, refl, sym, ap}
 use mathlib.Core.Logic.{_⊎_, inl, inr}
 use mathlib.Core.Bool.{Bool, true, false, _&&_, _||_, false≢true}
-use mathlib.Core.List.{List, [], _∷_, _++_, cons≢nil, head-eq-of-cons-eq, tail-eq-of-cons-eq}
+use mathlib.Core.List.{List, [], _∷_, cons≢nil, head-eq-of-cons-eq, tail-eq-of-cons-eq}
+pub use Rattle.rules.specs.Bytes.{and-both}
 use Rattle.rules.specs.Language.{Language, Then}
 
 module _ {A : Type 0} {L M : Language A} where
@@ -31,8 +32,9 @@ pub or-cases : (a b : Bool) → (a || b) ≡ true → (a ≡ true) ⊎ (b ≡ tr
 or-cases true b e = inl refl
 or-cases false b e = inr e
 
-pub and-both : {a b : Bool} → a ≡ true → b ≡ true → (a && b) ≡ true
-and-both e h = rw (e, h)
+pub and-held : (a b : Bool) → b ≡ true → (a && b) ≡ a
+and-held true b e = e
+and-held false b e = refl
 
 pub and-split : (a b : Bool) → (a && b) ≡ true → (a ≡ true) × (b ≡ true)
 and-split true b e = (refl, e)

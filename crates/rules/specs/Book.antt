@@ -1,11 +1,11 @@
 -- 'The book': it is fed each call and whether it was accepted, and reads no store.
-use Prim.Native.Nat.{ℕ, zero, suc, _+_, _*_}
-use mathlib.Core.Bool.{Bool, true, false, _&&_, _||_, not}
+use Prim.Native.Nat.{ℕ, suc, _+_, _*_}
+use mathlib.Core.Bool.{Bool, true, false, _&&_, not}
 use mathlib.Core.Option.{Option, none, some}
 use mathlib.Core.List.{List, [], _∷_, _++_, map}
 use lib.Dec.{eqb}
 use Rattle.rules.specs.Bytes.{Bytes, any}
-use Rattle.rules.specs.Store.{Form, Row, Forest, bare, tree}
+use Rattle.rules.specs.Store.{Form, Row, Forest}
 use Rattle.rules.specs.Layout.{baseVersion}
 use Rattle.rules.specs.Lines.{Line, lines, ground}
 use Rattle.rules.specs.Change.{Call, formAfter, Plan, plan, revalue, newRows, number}

@@ -1,9 +1,9 @@
 -- Byte strings, as lists of numbers, and words on lists.
-use Prim.Native.Nat.{ℕ, zero, suc, _+_, _*_}
+use Prim.Native.Nat.{ℕ}
 use Prim.Native.String.{String}
 use Prim.Native.Char.{code}
 use mathlib.Core.Path.{_≡_, refl, ap, ap₂, _∙_, sym}
-use mathlib.Core.Bool.{Bool, true, false, _&&_, _||_, not, false≢true}
+use mathlib.Core.Bool.{Bool, true, false, _&&_, _||_, false≢true}
 use mathlib.Core.List.{List, [], _∷_, _++_}
 use lib.Dec.{eqb, leb, T, eqb→eq, eqb-refl}
 use Rattle.rules.specs.Model.{Equality}
@@ -60,9 +60,9 @@ pub and-right : (a b : Bool) → (a && b) ≡ true → b ≡ true
 and-right true b h = h
 and-right false b h = absurd (false≢true h)
 
-pub both-true : (a b : Bool) → a ≡ true → b ≡ true → (a && b) ≡ true
-both-true true b x y = y
-both-true false b x y = x
+pub and-both : {a b : Bool} → a ≡ true → b ≡ true → (a && b) ≡ true
+and-both {a = true} x y = y
+and-both {a = false} x y = x
 
 pub eqb-eq : (m n : ℕ) → eqb m n ≡ true → m ≡ n
 eqb-eq m n h = eqb→eq m n (to-T h)
@@ -75,7 +75,7 @@ same-eq (x ∷ xs) (y ∷ ys) h = ap₂ (λ (a : ℕ) (b : Bytes). a ∷ b) (eqb
 
 pub same-refl : (n : Bytes) → same n n ≡ true
 same-refl [] = refl
-same-refl (x ∷ xs) = both-true (eqb x x) (same xs xs) (of-T (eqb-refl x)) (same-refl xs)
+same-refl (x ∷ xs) = and-both (of-T (eqb-refl x)) (same-refl xs)
 
 abbrev pub bytes : Equality Bytes
 bytes = record { same = same; same→ = same-eq; same← = λ x y e. ap (λ (z : Bytes). same x z) (sym e) ∙ same-refl x }

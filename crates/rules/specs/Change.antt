@@ -3,7 +3,7 @@ use Prim.Native.Nat.{ℕ, zero, suc, _+_, _-_}
 use mathlib.Core.Bool.{Bool, true, false, _&&_, _||_, not}
 use mathlib.Core.Option.{Option, none, some}
 use mathlib.Core.List.{List, [], _∷_, _++_, map}
-use lib.Dec.{eqb, leb, ltb}
+use lib.Dec.{eqb, leb}
 use lib.ListN.{length}
 use Rattle.rules.specs.declared.Quantifier.{Quantifier}
 use Rattle.rules.specs.declared.GroupKind.{GroupKind}
@@ -12,7 +12,7 @@ use Rattle.rules.specs.Model.{Members, done, el, group, names, skips, no
 use Rattle.rules.specs.Quantifiers.{gains, cuts}
 use Rattle.rules.specs.Place.{Context, Found, spine, beforePlace}
 use Rattle.rules.specs.Edit.{Edit, insert, remove, quantify, convert, flatten, placeOf, modelAfter}
-use Rattle.rules.specs.Store.{Content, empty, pcdata, complex, AttributeSort, Attribute, Definition, Form, attribute, Row, Forest, bare, tree, Store, members, _⧺_}
+use Rattle.rules.specs.Store.{Content, empty, pcdata, complex, Attribute, Definition, Form, attribute, Row, Forest, bare, tree, Store, members, _⧺_}
 use Rattle.rules.specs.Layout.{indexOf}
 use Rattle.rules.specs.Decode.{quantifierOf, groupOf, contentOf, sortOf}
 use Rattle.rules.specs.WellFormed.{attributeName}

@@ -1,13 +1,11 @@
 -- 'Conforming', in the paper's words, and as a test in one pass over the rows right below each element.
-use Prim.Native.Nat.{ℕ, zero, suc, _<_, _≤_}
+use Prim.Native.Nat.{ℕ}
 use mathlib.Core.Path.{_≡_}
 use mathlib.Core.Logic.{_⊎_}
-use mathlib.Core.Bool.{Bool, true, false, _&&_, _||_, not}
-use mathlib.Core.Option.{Option, none, some, Option·map}
+use mathlib.Core.Bool.{Bool, true, false, _&&_}
+use mathlib.Core.Option.{Option, none, some}
 use mathlib.Core.List.{List, [], _∷_, _++_, map, List·Memᴰ}
-use lib.Dec.{eqb, leb, ltb}
 use Rattle.rules.specs.Bytes.{Bytes, same, bytes, all, isNone}
-use Rattle.rules.specs.Model.{Members, Distinct}
 use Rattle.rules.specs.Language.{Conforms}
 use Rattle.rules.specs.Automaton.{accepts}
 use Rattle.rules.specs.Store.{Content, empty, pcdata, complex, AttributeSort, implied, required, fixed, Attribute, Definition, Form, RowSort, element}

@@ -1,10 +1,8 @@
 -- The changes 3 to 8 of a model at a place.
 use Prim.Native.Nat.{ℕ, zero, suc}
-use mathlib.Core.Path.{_≡_}
-use mathlib.Core.Logic.{_⊎_}
 use mathlib.Core.Bool.{Bool, true, false, _&&_, _||_, not}
 use mathlib.Core.Option.{Option, none, some}
-use mathlib.Core.List.{List, [], _∷_, _++_}
+use mathlib.Core.List.{List}
 use lib.Dec.{leb}
 use lib.ListN.{length}
 use Rattle.rules.specs.declared.Quantifier.{Quantifier}
@@ -12,7 +10,7 @@ use Rattle.rules.specs.declared.Quantifier.the-variants.{None, Qmark, St
 use Rattle.rules.specs.declared.GroupKind.{GroupKind}
 use Rattle.rules.specs.declared.GroupKind.the-variants.{Sequence, Choice}
 use Rattle.rules.specs.Model.{Members, done, el, group, skips, nothing, isDone}
-use Rattle.rules.specs.Quantifiers.{gains, cuts, relaxes}
+use Rattle.rules.specs.Quantifiers.{cuts, relaxes}
 use Rattle.rules.specs.Place.{Context, plug, kindAt, spine, around, Found, find, gap, nth}
 
 infixr 66 _⊕_

@@ -1,13 +1,13 @@
 -- 'Filling': the rows that a change makes for a definition, without serials.
 use Prim.Native.Nat.{ℕ, zero, suc}
-use mathlib.Core.Bool.{Bool, true, false}
-use mathlib.Core.Option.{Option, none, some}
+use mathlib.Core.Bool.{true, false}
+use mathlib.Core.Option.{none, some}
 use mathlib.Core.List.{List, [], _∷_}
 use lib.ListN.{length}
-use Rattle.rules.specs.declared.GroupKind.the-variants.{Sequence, Choice}
+use Rattle.rules.specs.declared.GroupKind.the-variants.{Sequence}
 use Rattle.rules.specs.Bytes.{Bytes}
-use Rattle.rules.specs.Model.{Members, filling}
-use Rattle.rules.specs.Store.{Content, empty, pcdata, complex, AttributeSort, implied, required, fixed, Attribute, Definition, Form, element, attribute, text, Row, Forest, bare, tree, _⧺_}
+use Rattle.rules.specs.Model.{filling}
+use Rattle.rules.specs.Store.{Content, empty, pcdata, complex, AttributeSort, Attribute, Form, element, attribute, text, Row, Forest, bare, tree, _⧺_}
 use Rattle.rules.specs.WellFormed.{lookup}
 use Rattle.rules.specs.Conforming.{mustBePresent}
 

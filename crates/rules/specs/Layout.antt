@@ -1,13 +1,13 @@
 -- 'The store': the byte string. `w` is the width of a value field.
 use Prim.Native.Nat.{ℕ, zero, suc, _+_, _*_, _/_, _%_}
-use mathlib.Core.Bool.{Bool, true, false}
+use mathlib.Core.Bool.{true, false}
 use mathlib.Core.List.{List, [], _∷_, _++_, map}
 use lib.ListN.{length}
 use Rattle.rules.specs.declared.Quantifier.{Quantifier}
 use Rattle.rules.specs.declared.Quantifier.the-variants.{None, Qmark, Star, Plus}
 use Rattle.rules.specs.declared.GroupKind.{GroupKind}
 use Rattle.rules.specs.declared.GroupKind.the-variants.{Sequence, Choice}
-use Rattle.rules.specs.Bytes.{Bytes, same, concat}
+use Rattle.rules.specs.Bytes.{Bytes, same}
 use Rattle.rules.specs.Model.{Members, done, el, group}
 use Rattle.rules.specs.Store.{Content, empty, pcdata, complex, AttributeSort, implied, required, fixed, Attribute, Definition, Form, RowSort, element}
 use Rattle.rules.specs.Store.{attribute, text, Row, Forest, bare, tree, Store}

@@ -1,12 +1,12 @@
 -- Rows as lines: each with its parent's serial, in document order.
 use Prim.Native.Nat.{ℕ, zero, suc}
-use mathlib.Core.Bool.{Bool, true, false, _&&_, _||_, not}
+use mathlib.Core.Bool.{Bool, true, false, _&&_}
 use mathlib.Core.Option.{Option, none, some}
 use mathlib.Core.List.{List, [], _∷_, _++_}
 use lib.Dec.{eqb}
 use Rattle.rules.specs.Bytes.{Bytes, same, bytes}
 use Rattle.rules.specs.Model.{member}
-use Rattle.rules.specs.Store.{RowSort, element, attribute, text, Row, Forest, bare, tree}
+use Rattle.rules.specs.Store.{text, Row, Forest, bare, tree}
 use Rattle.rules.specs.Conforming.{isElement, isAttribute, isText}
 
 -- root: parent 0

@@ -1,12 +1,12 @@
 -- 'The look-up hands back the part of the store that is the value of the attribute or text row with a given serial.'
-use Prim.Native.Nat.{ℕ, zero, suc, _+_, _*_}
-use mathlib.Core.Bool.{Bool, true, false, _&&_, _||_, not}
+use Prim.Native.Nat.{ℕ, suc, _+_, _*_}
+use mathlib.Core.Bool.{true, false}
 use mathlib.Core.Option.{Option, none, some}
 use mathlib.Core.List.{List, [], _∷_}
 use lib.Dec.{eqb}
 use lib.ListN.{length, take, drop}
 use Rattle.rules.specs.Bytes.{Bytes}
-use Rattle.rules.specs.Store.{element, attribute, text, Store}
+use Rattle.rules.specs.Store.{element, Store}
 use Rattle.rules.specs.Preorder.{Deep}
 use Rattle.rules.specs.Layout.{valueWidth, headerSize, definitionSize, particleSize, attributeSize, rowSize, rowCode, FlatRow, FlatStore, flat}
 use Rattle.rules.specs.Passing.{readStore}

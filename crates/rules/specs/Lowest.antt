@@ -1,6 +1,6 @@
 -- 'The lowest number that applies is given, never another': said of `refusal`
 -- over one list of the table's numbers. No promise cites this.
-use Prim.Native.Nat.{ℕ, zero, suc, _≤_}
+use Prim.Native.Nat.{ℕ, suc, _≤_}
 use mathlib.Core.Path.{_≡_}
 use mathlib.Core.Bool.{Bool, true, false}
 use mathlib.Core.List.{List, [], _∷_, _++_, map, List·Memᴰ}

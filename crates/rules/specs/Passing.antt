@@ -1,13 +1,13 @@
 -- The check: which byte strings pass.
-use Prim.Native.Nat.{ℕ, zero, suc, _<_, _≤_}
+use Prim.Native.Nat.{ℕ, _<_, _≤_}
 use mathlib.Core.Path.{_≡_}
-use mathlib.Core.Bool.{Bool, true, false, _&&_, _||_, not}
+use mathlib.Core.Bool.{Bool, true, false, _&&_}
 use mathlib.Core.Option.{Option, none, some}
 use mathlib.Core.List.{List, [], _∷_, _++_, List·Memᴰ}
 use lib.Dec.{eqb, leb, ltb}
 use Rattle.rules.specs.Bytes.{Bytes, numbers, all, isNone}
 use Rattle.rules.specs.Model.{Distinct, distinct}
-use Rattle.rules.specs.Store.{RowSort, element, attribute, text, Row, Forest, bare, tree, Store}
+use Rattle.rules.specs.Store.{element, attribute, text, Row, Forest, bare, tree, Store}
 use Rattle.rules.specs.Layout.{baseVersion, valueWidth, flat, encode}
 use Rattle.rules.specs.Decode.{decode}
 use Rattle.rules.specs.WellFormed.{isValue, highestNumber, withinCeilings, WellFormed, wellFormed}

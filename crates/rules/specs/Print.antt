@@ -1,7 +1,6 @@
 -- 'Printing': a text is a list of lines, a line a list of tokens.
-use Prim.Native.Nat.{ℕ, zero, suc}
-use mathlib.Core.Bool.{Bool, true, false}
-use mathlib.Core.Option.{Option, none, some}
+use Prim.Native.Nat.{ℕ}
+use mathlib.Core.Bool.{true, false}
 use mathlib.Core.List.{List, [], _∷_, _++_, map}
 use lib.Dec.{eqb, ltb}
 use lib.ListN.{length}
@@ -13,7 +12,7 @@ use Rattle.rules.specs.Bytes.{Bytes, ascii, concat}
 use Rattle.rules.specs.Model.{Members, done, el, group}
 use Rattle.rules.specs.Store.{Content, empty, pcdata, complex, implied, required, fixed, Attribute, Definition, Form, element, attribute, text, Row, Forest, bare, tree, Store}
 use Rattle.rules.specs.Passing.{readStore}
-use Rattle.rules.specs.Outcome.{Outcome, refused, wrote, unlessRefused, onStore}
+use Rattle.rules.specs.Outcome.{Outcome, unlessRefused, onStore}
 
 abbrev pub Tokens : Type 0
 Tokens = List Bytes

@@ -6,7 +6,7 @@ use Prim.Native.Nat.{ℕ, zero, suc}
 use mathlib.Core.Bool.{Bool, true, false, _&&_, _||_, not}
 use mathlib.Core.Option.{Option, none, some}
 use mathlib.Core.List.{List, [], _∷_, _++_, map}
-use lib.Dec.{eqb, leb, ltb}
+use lib.Dec.{eqb, ltb}
 use lib.ListN.{length}
 use Rattle.rules.specs.declared.Quantifier.{Quantifier}
 use Rattle.rules.specs.Bytes.{Bytes, same, bytes, any, isNone}
@@ -15,11 +15,11 @@ use Rattle.rules.specs.Quantifiers.{gains}
 use Rattle.rules.specs.Place.{Context, Found}
 use Rattle.rules.specs.Edit.{Edit, insert, remove, quantify, convert, flatten, placeOf, firstMembers, hasMembers, isOne, insertOff, removeLast}
 use Rattle.rules.specs.Edit.{removeUnmatched, quantifyOff, quantifyGroupOff, groupUnlike}
-use Rattle.rules.specs.Store.{Content, empty, pcdata, complex, Attribute, Definition, Form, Row, Store, members, heads}
+use Rattle.rules.specs.Store.{Content, empty, pcdata, complex, Definition, Row, Store, members, heads}
 use Rattle.rules.specs.Layout.{valueWidth, flat, encode}
-use Rattle.rules.specs.Decode.{quantifierOf, groupOf, sortOf}
+use Rattle.rules.specs.Decode.{quantifierOf, groupOf}
 use Rattle.rules.specs.WellFormed.{givenName, isValue, highestNumber, withinCeilings, lookup, known, reachesIn, attributeName}
-use Rattle.rules.specs.Conforming.{isElement, mustBePresent, conforming}
+use Rattle.rules.specs.Conforming.{conforming}
 use Rattle.rules.specs.Lines.{Line, lines, isElementRow, elementNamed, attributeNamed, elementWith, findRow, childrenOf}
 use Rattle.rules.specs.Change.{Call, createDefinition, destroyDefinition, insertElement, removeElement, changeQuantifier, convertToGroup, flattenGroup}
 use Rattle.rules.specs.Change.{changeGroupQuantifier, addAttribute, destroyAttribute, addDocument, addElement, destroyElement, setAttribute}

@@ -3,14 +3,14 @@ use Prim.Native.Nat.{ℕ, zero, suc}
 use mathlib.Core.Path.{_≡_}
 use mathlib.Core.Bool.{Bool, true, false, _&&_, _||_, not}
 use mathlib.Core.Option.{Option, none, some}
-use mathlib.Core.List.{List, [], _∷_, _++_, map, List·Memᴰ}
+use mathlib.Core.List.{List, [], _∷_, map, List·Memᴰ}
 use lib.Dec.{eqb, leb}
 use lib.ListN.{length}
 use Rattle.rules.specs.Bytes.{Bytes, same, bytes, all, any, between, isNone}
-use Rattle.rules.specs.Model.{Members, names, Distinct, Full, distinct, full}
-use Rattle.rules.specs.Store.{AttributeSort, implied, required, fixed, Attribute, Definition, Form, Store, members}
+use Rattle.rules.specs.Model.{names, Distinct, Full, distinct, full}
+use Rattle.rules.specs.Store.{AttributeSort, implied, required, fixed, Attribute, Definition, Form, members}
 use Rattle.rules.specs.Preorder.{Deep}
-use Rattle.rules.specs.Layout.{nameWidth, FlatParticle, FlatStore, flat}
+use Rattle.rules.specs.Layout.{nameWidth, FlatParticle, FlatStore}
 
 -- ---- names and values
 abbrev pub startsName : ℕ → Bool

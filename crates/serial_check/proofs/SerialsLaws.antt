@@ -12,14 +12,13 @@ use Rattle.layout.proofs.LayoutLaws.{record-first, record-after}
 use Rattle.rules.specs.Bytes.{Bytes, numbers, all}
 use Rattle.rules.specs.Model.{Distinct, distinct}
 use Rattle.rules.specs.Store.{Form, Row, Forest, bare, tree}
-use Rattle.rules.specs.Preorder.{Deep, flatten, build}
+use Rattle.rules.specs.Preorder.{flatten}
 use Rattle.rules.specs.Layout.{rowSize, FlatRow, indexed}
-use Rattle.rules.specs.Decode.{readRow, readMany, readRows}
+use Rattle.rules.specs.Decode.{readRow, readRows}
 use Rattle.rules.specs.WellFormed.{highestNumber}
 use Rattle.rules.specs.Passing.{serials, goodSerials}
 use Rattle.rules.proofs.Words.{and-both, and-split}
 use Rattle.rules.proofs.TestLaws.{all-test, distinct-test}
-use Rattle.rules.proofs.PreorderLaws.{rising, flatten-build}
 use Rattle.serial_check.specs.Serials.{serialOfDeep, serialsOf, fitting, serialAtRow, Ranged, Apart}
 
 -- ---- the serials of documents
@@ -37,14 +36,6 @@ serials-read d ns cs bare = refl
 serials-read d ns cs (tree x b t) =
     ap (λ (l : List ℕ). x .serial ∷ l)
     (ap₂ (λ (x y : List ℕ). x ++ y) (serials-read (suc d) ns cs b) (serials-read d ns cs t) ∙ sym (map-append serialOfDeep (flatten (suc d) b) (flatten d t)))
-
--- the rows of a body whose depths rise by one at most
-pub serials-body : (w : ℕ) (ns cs : List Bytes) (count : ℕ) (rows : Bytes) → rising 0 (readMany readRow (rowSize w) count rows) ≡ true
-    → serials (readRows ns cs (build (readMany readRow (rowSize w) count rows) 0)) ≡ serialsOf w count rows
-unfolding serialsOf
-serials-body w ns cs count rows h =
-    let xs : List (Deep FlatRow) = readMany readRow (rowSize w) count rows in
-    serials-read 0 ns cs (build xs 0) ∙ ap (λ (l : List (Deep FlatRow)). map serialOfDeep l) (flatten-build xs h)
 
 -- the test of the check, of serials and of the next one
 pub good-serials-fit : (next : ℕ) (docs : Forest Row) → goodSerials next docs ≡ (fitting next (serials docs) && (leb 1 next && leb next highestNumber))

@@ -1,7 +1,7 @@
 -- The walk over the rows: what a walk through a tree finds, and what the trees of the rows passed hold.
 use mathlib.Core.Path.{_≡_, refl, ap, _∙_, sym, subst}
 use mathlib.Core.Logic.{_⊎_, inl, inr}
-use Prim.Native.Nat.{ℕ, suc, _+_, _*_, _/_, _%_, _-_, _≤_, _<_}
+use Prim.Native.Nat.{ℕ, suc, _+_, _/_, _%_, _-_, _≤_, _<_}
 use native.Mathlib.Omega.{arith}
 use native.Mathlib.Numerals.{add-one}
 use native.Mathlib.Nat.{not-suc-le-zero}
@@ -14,7 +14,7 @@ use borrow.Author.Tests.{ltb-true, ltb-false, eqb-true, eqb-false}
 use Rattle.rules.specs.Bytes.{Bytes}
 use Rattle.codec.proofs.Numbers.{zeros-read}
 use Rattle.serial_check.specs.Serials.{serialAtRow, Ranged, Apart}
-use Rattle.serial_check.specs.Trees.{placeBelow, Met, here, there, Comes, last, later, Rising, Free, Sought, Trees, Put}
+use Rattle.serial_check.specs.Trees.{placeBelow, Met, here, there, Comes, last, later, Rising, Sought, Trees, Put}
 
 -- ---- walks
 met-none : {below : List ℕ} {i h q : ℕ} → Met below i h q → h ≡ 0 → ⊥

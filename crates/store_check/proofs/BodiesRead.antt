@@ -1,6 +1,6 @@
 -- The form by index that is read off the bytes of a store that passes
 -- is the form by index of its bodies, for all indices.
-use Prim.Native.Nat.{ℕ, zero, suc, _+_, _*_, _<_, _≤_}
+use Prim.Native.Nat.{ℕ, zero, suc, _*_, _<_, _≤_}
 use native.Mathlib.Nat.{mul-le-mul}
 use native.Mathlib.Omega.{arith}
 use mathlib.Core.Path.{_≡_, refl, ap, _∙_, sym}
@@ -11,17 +11,15 @@ use lib.ListN.{length, take, drop, getD, drop-of-length-le, List·getD-eq-defaul
 use lib.Seq.{take-nil}
 use borrow.Author.Tests.{ltb-true, ltb-false}
 use Rattle.rules.specs.Bytes.{Bytes}
-use Rattle.rules.specs.Model.{Members, done}
 use Rattle.rules.specs.Preorder.{Deep, build}
-use Rattle.rules.specs.Layout.{definitionSize, particleSize, attributeSize, rowSize, FlatDefinition, FlatParticle, FlatAttribute, FlatRow, FlatStore}
-use Rattle.rules.specs.Decode.{numberAt, readRow, readMany, readDefinition, readAttribute, sortOf, definitionCount, particleCount, attributeCount, rowCount}
+use Rattle.rules.specs.Layout.{definitionSize, particleSize, attributeSize, rowSize, FlatDefinition, FlatParticle}
+use Rattle.rules.specs.Decode.{numberAt, readRow, readMany, readDefinition, readAttribute, sortOf, definitionCount, attributeCount, rowCount}
 use Rattle.rules.specs.Conforming.{mustBePresent, allows}
 use Rattle.rules.specs.Passing.{passes}
 use Rattle.model.specs.Members.{indexMembers, particlesOf, membersFrom, allMembers}
 use Rattle.records.specs.Records.{rowFits, eachFits}
 use Rattle.form_check.specs.Bodies.{definitions, particlesRead, attributes, formOfBodies}
 use Rattle.form_check.proofs.Reading.{definitions-length, attributes-length}
-use Rattle.form_index.specs.Indices.{IndexForm}
 use Rattle.layout.specs.Bodies.{recordAt, widthOf, definitionsIn, particlesIn, attributesIn, treeRowsIn}
 use Rattle.form_index.specs.Reading.{definitionIn, attributeIn, modelPart}
 use Rattle.form_index.specs.Reading as bytes
@@ -29,7 +27,7 @@ use Rattle.store_check.specs.Reading.{partAt, noFlatDefinition, noAttrib
 use Rattle.store_check.specs.Check.{FormPasses, FormIn, RowsPass, SerialsIn}
 use Rattle.store_check.proofs.FormLaws.{Laid}
 use Rattle.store_check.proofs.IndexReads.{definition-in, attribute-in, model-in, index-agrees}
-use Rattle.store_check.proofs.StringChecks.{Headed, laid-in, formIn, same-definitions, same-particles, same-attributes, same-rows, passes-in}
+use Rattle.store_check.proofs.StringChecks.{Headed, laid-in, same-definitions, same-particles, same-attributes, same-rows, passes-in}
 use Rattle.store_check.proofs.StoreReads.{flatOf}
 use Rattle.layout.specs.Fields.{versionAt}
 

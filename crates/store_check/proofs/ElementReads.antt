@@ -14,7 +14,7 @@ use Rattle.rules.specs.Bytes.{Bytes, same, bytes, numbers}
 use Rattle.rules.specs.Model.{Members, names, Distinct}
 use Rattle.rules.specs.Language.{Conforms}
 use Rattle.rules.specs.Automaton.{accepts}
-use Rattle.rules.specs.Store.{Content, empty, pcdata, complex, Form, element, attribute, Row, modelOf, members}
+use Rattle.rules.specs.Store.{Content, empty, pcdata, complex, Form, element, Row, modelOf, members}
 use Rattle.rules.specs.Layout.{FlatRow, kindCode, rowCode, indexOf, attributeIndex, rowIndex}
 use Rattle.rules.specs.Decode.{nameAt, rowSortOf, rowName}
 use Rattle.rules.specs.WellFormed.{known, GoodDefinition, wellFormed}

@@ -11,7 +11,7 @@ use lib.ListN.{length, take, drop, getD, length-map, take-append-drop}
 use lib.Seq.{length-take-le}
 use borrow.Author.Tests.{leb-true}
 use Rattle.rules.specs.Bytes.{Bytes, bytes}
-use Rattle.rules.specs.Model.{Members, names, rename, Distinct, distinct}
+use Rattle.rules.specs.Model.{names, rename, Distinct, distinct}
 use Rattle.rules.specs.Store.{Definition, Form, members}
 use Rattle.rules.specs.Preorder.{Deep, build}
 use Rattle.rules.specs.Layout.{FlatDefinition, FlatParticle, FlatAttribute, FlatStore, kindCode, contentParticles, flatDefinition, allParticles, allAttributes}
@@ -21,10 +21,9 @@ use Rattle.rules.specs.Change.{definitionAt}
 use Rattle.rules.proofs.Words.{and-split}
 use Rattle.rules.proofs.BooleanLaws.{Every, every-map, none-nil}
 use Rattle.rules.proofs.TestLaws.{distinct-test}
-use Rattle.rules.proofs.RenamingPlaces.{names-rename}
 use Rattle.model.specs.Members.{indexMembers}
 use Rattle.model.proofs.MembersLaws.{members-named}
-use Rattle.form_check.specs.FormTests.{definitionsApart, elementsIn, modelFits, modelsFit, ownersRise, attributesApart, bodiesFit}
+use Rattle.form_check.specs.FormTests.{definitionsApart, modelFits, modelsFit, ownersRise, attributesApart, bodiesFit}
 use Rattle.store_check.specs.Reading.{DefinitionFits, AttributeFits, FieldsFit, partAt, noFlatDefinition}
 use Rattle.store_check.proofs.IndexLaws.{namesOf}
 use Rattle.store_check.proofs.ModelReads.{Fills, ModelRead, model-read, members-read, kind-back}
@@ -214,10 +213,3 @@ module _ (w : ℕ) (f : FlatStore) (fit : FieldsFit w f) (bodies : bodiesFit f �
     -- the model is the one over indices, with names for the indices
     pub model-renamed : members (definitionAt i (formOf f)) ≡ rename (λ j. nameAt j (namesOf (formOf f))) (indexMembers (build (partAt i (f .definitions) (f .particles)) 0))
     model-renamed = members-at ∙ members-named (namesOf (formOf f)) (build (partAt i (f .definitions) (f .particles)) 0)
-
-    -- and so are its names
-    pub names-at : names (members (definitionAt i (formOf f))) ≡ map (λ j. nameAt j (namesOf (formOf f))) (elementsIn (partAt i (f .definitions) (f .particles)))
-    names-at =
-        ap (λ (z : Members Bytes). names z) model-renamed
-        ∙ names-rename (λ j. nameAt j (namesOf (formOf f))) (indexMembers (build (partAt i (f .definitions) (f .particles)) 0))
-        ∙ ap (λ (z : List ℕ). map (λ j. nameAt j (namesOf (formOf f))) z) (model-at .indices)

@@ -1,9 +1,9 @@
 -- What is tested of a byte string whose header fits: its form, its rows, its serials.
-use Prim.Native.Nat.{ℕ, _+_, _*_}
+use Prim.Native.Nat.{ℕ}
 use mathlib.Core.Path.{_≡_}
 use mathlib.Core.Bool.{true}
 use Rattle.rules.specs.Bytes.{Bytes}
-use Rattle.rules.specs.Layout.{definitionSize, particleSize, attributeSize, rowSize}
+use Rattle.rules.specs.Layout.{definitionSize, attributeSize, rowSize}
 use Rattle.rules.specs.Decode.{numberAt, readRow, readMany, definitionCount, particleCount, attributeCount, rowCount, unflat}
 use Rattle.rules.specs.WellFormed.{Reaches}
 use Rattle.layout.specs.Bodies.{widthOf, definitionsIn, particlesIn, attributesIn, treeRowsIn}

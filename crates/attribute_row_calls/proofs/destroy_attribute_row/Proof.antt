@@ -1,14 +1,12 @@
 -- `attribute_row_calls::destroy_attribute_row` meets its contract.
 use borrow.Author.Needs.{needs}
 use mathlib.Core.List.{[]}
-use mathlib.Core.Path.{_∙_, ap}
-use Prim.Native.Nat.{ℕ}
 use lib.ListN.{length}
 use Rattle.rules.specs.Change.{destroyAttributeRow}
 use Rattle.store_laws.specs.Stores.{storeIn}
 use Rattle.plans.specs.CallPlans.{destroyAttributeRowPlan}
 use Rattle.plans.proofs.CallsPlanned.{destroy-attribute-row-planned}
-use Rattle.row_walk.specs.declared.Which.the-variants.{Everything, Serial, Attributes}
+use Rattle.row_walk.specs.declared.Which.the-variants.{Serial, Attributes}
 use Rattle.attribute_row_calls.proofs.destroy_attribute_row.Statement.{statement}
 use Rattle.attribute_row_calls.proofs.destroy_attribute_row.Tie as tie
 use Rattle.store_writer.proofs.CallLaws.{passed, bad, turned-away}

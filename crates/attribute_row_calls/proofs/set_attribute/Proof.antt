@@ -1,6 +1,5 @@
 -- `attribute_row_calls::set_attribute` meets its contract.
 use borrow.Author.Needs.{needs}
-use mathlib.Core.List.{[]}
 use mathlib.Core.Path.{_∙_, ap}
 use Prim.Native.Nat.{ℕ}
 use lib.ListN.{length}

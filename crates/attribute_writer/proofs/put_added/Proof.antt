@@ -1,5 +1,4 @@
 -- `attribute_writer::put_added` meets its contract.
-use Rattle.layout.specs.Bodies.{widthOf}
 use native.Mathlib.Omega.{arith}
 use Rattle.rules.proofs.LayoutLaws.{length-attribute}
 use Rattle.lookup.specs.Bodies.{bodiesOf}

@@ -7,7 +7,7 @@ use Rattle.model.specs.Members.{particlesOf}
 use Rattle.model.specs.Places.{Particles}
 use Rattle.model_writer.specs.PartAfter.{moved}
 use Rattle.model_writer.specs.Writing.{shift, depthsWithin}
-use Rattle.model_writer.proofs.WritingLaws.{particles-past}
+use Rattle.model.proofs.MembersLaws.{particles-past}
 use Rattle.model_writer.proofs.Ceiling.{within-drop, inserted-within, removed-within, requantified-within, grouped-within, flattened-within, within-case}
 use borrow.Author.Needs.{needs}
 use Rattle.depth_check.proofs.is_within.Statement.{statement}

@@ -1,6 +1,5 @@
 -- `document_call::add_document` meets its contract.
 use borrow.Author.Needs.{needs}
-use mathlib.Core.List.{[]}
 use lib.ListN.{length}
 use Rattle.rules.specs.Change.{addDocument}
 use Rattle.store_laws.specs.Stores.{storeIn}

@@ -1,14 +1,12 @@
 -- `element_calls::destroy_element` meets its contract.
 use borrow.Author.Needs.{needs}
 use mathlib.Core.List.{[]}
-use mathlib.Core.Path.{_∙_, ap}
-use Prim.Native.Nat.{ℕ}
 use lib.ListN.{length}
 use Rattle.rules.specs.Change.{destroyElement}
 use Rattle.store_laws.specs.Stores.{storeIn}
 use Rattle.plans.specs.CallPlans.{destroyElementPlan}
 use Rattle.plans.proofs.CallsPlanned.{destroy-element-planned}
-use Rattle.row_walk.specs.declared.Which.the-variants.{Everything, Serial, Attributes}
+use Rattle.row_walk.specs.declared.Which.the-variants.{Everything, Serial}
 use Rattle.element_calls.proofs.destroy_element.Statement.{statement}
 use Rattle.element_calls.proofs.destroy_element.Tie as tie
 use Rattle.store_writer.proofs.CallLaws.{passed, bad, turned-away}

@@ -1,5 +1,4 @@
 -- `form_check::attribute_name` meets its contract. The name field of an attribute, where the code reads it.
-use mathlib.Core.Path.{_∙_}
 use Rattle.form_check.proofs.Reading.{attribute-name}
 use borrow.Author.Needs.{needs}
 use Rattle.form_check.proofs.attribute_name.Statement.{statement}

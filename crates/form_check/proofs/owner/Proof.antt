@@ -1,5 +1,4 @@
 -- `form_check::owner` meets its contract. The owner field of an attribute, where the code reads it.
-use mathlib.Core.Path.{_∙_}
 use Rattle.form_check.proofs.Reading.{attribute-owner}
 use borrow.Author.Needs.{needs}
 use Rattle.form_check.proofs.owner.Statement.{statement}

@@ -1,5 +1,4 @@
 -- `model_form::put_own` meets its contract.
-use native.Mathlib.Omega.{arith}
 use Rattle.model_form.proofs.FormWriting.{owner-low, first-in, many-in, own-laid, body-in}
 use borrow.Author.Needs.{needs}
 use Rattle.model_form.proofs.put_own.Statement.{statement}

@@ -1,5 +1,4 @@
 -- `next_children::after_child` meets its contract.
-use borrow.Author.Tests.{not-false}
 use Rattle.next_children.proofs.NamesLaws.{after-named, after-other}
 use borrow.Author.Needs.{needs}
 use Rattle.next_children.proofs.after_child.Statement.{statement}

@@ -1,6 +1,6 @@
 -- `serial_check::sought` meets its contract.
 use mathlib.Core.Path.{sym, _∙_}
-use Prim.Native.Nat.{suc, _+_, _*_, _%_, _-_}
+use Prim.Native.Nat.{suc, _-_}
 use borrow.Author.Needs.{needs}
 use native.Mathlib.Omega.{arith}
 use Rattle.serial_check.specs.Trees.{placeBelow}

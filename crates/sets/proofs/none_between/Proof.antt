@@ -1,6 +1,5 @@
 -- `sets::none_between` meets its contract.
 use Rattle.sets.proofs.Laws.{none-between, none-past}
-use native.Mathlib.Omega.{arith}
 use borrow.Author.Needs.{needs}
 use Rattle.sets.proofs.none_between.Statement.{statement}
 use Rattle.sets.proofs.none_between.Tie as tie

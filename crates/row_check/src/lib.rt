@@ -1,4 +1,5 @@
 // One pass over the tree rows: the fields of each, their depths, and whether they are those of documents that conform.
+use row_step::step;
 ghost use mathlib.Core.Path.{_≡_};
 ghost use mathlib.Core.Logic.{_↔_};
 ghost use mathlib.Core.Bool.{true};
@@ -37,7 +38,7 @@ fn pass(
     let mut m = count;
     while 0 < m {
         let row = &t[..size];
-        if !row_step::step(
+        if !step(
             version,
             w,
             n,

@@ -7,7 +7,7 @@ pub mod header;
 pub mod histories;
 pub mod hostile;
 pub mod marks;
-pub mod reading;
+pub mod reading_out;
 pub mod stack;
 pub mod threads;
 pub mod worst;

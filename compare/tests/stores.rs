@@ -1,6 +1,6 @@
 //! Random stores, damaged stores and random bytes: the library and the second implementation read them alike.
 
-use compare::reading::Readings;
+use compare::reading_out::Readings;
 use second::random::history::seed;
 
 const STRINGS: usize = 200_000;

@@ -3,7 +3,7 @@
 //! difference.
 
 use compare::histories::Comparison;
-use compare::reading::Readings;
+use compare::reading_out::Readings;
 use compare::threads::in_threads;
 use second::random::history::Counts;
 use std::panic::{catch_unwind, AssertUnwindSafe};

@@ -1,4 +1,4 @@
-// The one-pass test of a row's children against a model: what a part of the model lets follow what.
+//! The one-pass test of a row's children against a model: what a part of the model lets follow what.
 use layout::PARTICLE_SIZE;
 use model::What;
 use model::read_particle;

@@ -1,4 +1,4 @@
-// Tests of each byte of a byte string: zeros, the bytes of names, printable ones.
+//! Tests of each byte of a byte string: zeros, the bytes of names, printable ones.
 ghost use mathlib.Core.Path.{_≡_};
 ghost use Prim.Native.Nat.{_+_, _≤_};
 ghost use lib.ListN.{length, take, drop};

@@ -1,4 +1,4 @@
-// Copies of bytes from one byte string to the front of another.
+//! Copies of bytes from one byte string to the front of another.
 ghost use mathlib.Core.Path.{_≡_};
 ghost use mathlib.Core.List.{_++_};
 ghost use Prim.Native.Nat.{_+_, _≤_};

@@ -1,1 +1,1 @@
-// What several calls ask and answer, as definitions and laws only: see specs/ and proofs/.
+//! What several calls ask and answer, as definitions and laws only: see specs/ and proofs/.

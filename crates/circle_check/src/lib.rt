@@ -1,4 +1,4 @@
-// Circles of definitions: whether a definition reaches itself through models, and the height of each that does not.
+//! Circles of definitions: whether a definition reaches itself through models, and the height of each that does not.
 ghost use mathlib.Core.Path.{_≡_};
 ghost use mathlib.Core.Logic.{_↔_};
 ghost use mathlib.Core.Bool.{true};

@@ -1,4 +1,4 @@
-// The thirteen calls, in their order: each is accepted, and leaves the next store.
+//! The thirteen calls, in their order: each is accepted, and leaves the next store.
 ghost use Rattle.clubform.specs.History.{stage, Reads, BufferHolds};
 
 const PCDATA: u32 = 1;

@@ -1,5 +1,5 @@
-// The club's race, by the public calls: every number that they answer
-// is checked, and the text of the last store is printed.
+//! The club's race, by the public calls: every number that they answer
+//! is checked, and the text of the last store is printed.
 ghost use mathlib.Core.Path.{_≡_};
 ghost use lib.ListN.{length};
 ghost use Rattle.clubform.specs.History.{stage, lastText, Reads, BufferHolds};

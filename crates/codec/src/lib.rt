@@ -1,4 +1,4 @@
-// Bytes and little-endian numbers in a byte string: read, written, compared.
+//! Bytes and little-endian numbers in a byte string: read, written, compared.
 ghost use mathlib.Core.Path.{_≡_};
 ghost use mathlib.Core.List.{[], _∷_};
 ghost use Prim.Native.Nat.{_+_, _<_, _^_};

@@ -1,4 +1,4 @@
--- The record of a new definition, and indices that move.
+-- The record of a new definition (change 1), and indices that move (change 2).
 use Prim.Native.Nat.{ℕ}
 use mathlib.Core.Bool.{Bool, true, false}
 use mathlib.Core.List.{List}

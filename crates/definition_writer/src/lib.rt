@@ -1,4 +1,4 @@
-//! What changes 1 and 2 share: the header with other counts, and whether a name is taken.
+//! The header with other counts, which changes 1 and 2 write, and whether a name is taken, which change 1 asks.
 ghost use mathlib.Core.Path.{_≡_};
 ghost use Prim.Native.Nat.{_≤_};
 ghost use Rattle.rules.specs.Decode.{numberAt, rowCount};

@@ -1,4 +1,4 @@
-// The ceiling of depth: whether a model keeps to it after an edit.
+//! The ceiling of depth: whether a model keeps to it after an edit.
 use layout::PARTICLE_SIZE;
 use model_writer::Edit;
 ghost use mathlib.Core.Path.{_≡_};

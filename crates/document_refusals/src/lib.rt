@@ -1,4 +1,4 @@
-// Which row of a store a change is about, and which refusal applies.
+//! Which row of a store a change is about, and which refusal applies.
 ghost use mathlib.Core.Path.{_≡_};
 ghost use mathlib.Core.Bool.{true, false};
 ghost use mathlib.Core.List.{[], _∷_, map};

@@ -1,5 +1,5 @@
-// Checks the store that clubform leaves and one with groups and attributes, each with every kind of fault in turn, and
-// prints each answer: 0 passes, 1 does not.
+//! Checks the store that clubform leaves and one with groups and attributes, each with every kind of fault in turn, and
+//! prints each answer: 0 passes, 1 does not.
 ghost use Prim.Native.Nat.{_<_};
 
 mod stores;

@@ -1,4 +1,4 @@
-// The store that clubform leaves.
+//! The store that clubform leaves.
 pub const CLUB: [u8; 508] = [
     1,
     0,

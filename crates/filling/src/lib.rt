@@ -1,4 +1,4 @@
-// The filling of a definition, and of an attribute: the rows that a change makes.
+//! The filling of a definition, and of an attribute: the rows that a change makes.
 use layout::PARTICLE_SIZE;
 use model::What;
 use row_writer::Cursor;

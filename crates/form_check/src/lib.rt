@@ -1,4 +1,4 @@
-// The tests of a form's bodies that look at more than one record. Every loop is bounded by a count of records.
+//! The tests of a form's bodies that look at more than one record. Every loop is bounded by a count of records.
 ghost use mathlib.Core.Path.{_≡_};
 ghost use Prim.Native.Nat.{_+_, _<_, _≤_};
 ghost use lib.ListN.{drop};

@@ -1,5 +1,5 @@
-// A form by indices: definition i's kind and its part of the particles,
-// which attributes it needs, which values they may have.
+//! A form by indices: definition i's kind and its part of the particles,
+//! which attributes it needs, which values they may have.
 use layout::PARTICLE_SIZE;
 ghost use mathlib.Core.Path.{_≡_};
 ghost use mathlib.Core.Bool.{_&&_};

@@ -1,5 +1,5 @@
-// The table of a form: a line of 68 sets for each definition, what
-// next_children::fill writes and the attributes that it needs.
+//! The table of a form: a line of 68 sets for each definition, what
+//! next_children::fill writes and the attributes that it needs.
 ghost use mathlib.Core.Path.{_≡_};
 ghost use mathlib.Core.Bool.{not};
 ghost use Prim.Native.Nat.{_<_, _≤_};

@@ -1,4 +1,4 @@
-// The test of the header: version, next serial, counts, offsets and the length that they give.
+//! The test of the header: version, next serial, counts, offsets and the length that they give.
 ghost use mathlib.Core.Path.{_≡_};
 ghost use Rattle.rules.specs.Decode.{sized};
 ghost use Rattle.layout.specs.Bodies.{Width};

@@ -1,1 +1,1 @@
-// Demand 3, as definitions and proofs only: see specs/History.antt.
+//! Demand 3, as definitions and proofs only: see specs/History.antt.

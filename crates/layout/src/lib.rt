@@ -1,5 +1,5 @@
-// The layout of a store, said once for every width of a value: its shape,
-// its bodies, the records of a body, the fields of a record.
+//! The layout of a store, said once for every width of a value: its shape,
+//! its bodies, the records of a body, the fields of a record.
 ghost use mathlib.Core.Path.{_≡_};
 ghost use Prim.Native.Nat.{_+_, _*_, _<_};
 ghost use lib.ListN.{take, drop};

@@ -1,4 +1,4 @@
-// The header and the records of a form, written: as far as the buffer goes, each saying where the next bytes go.
+//! The header and the records of a form, written: as far as the buffer goes, each saying where the next bytes go.
 ghost use mathlib.Core.List.{_∷_};
 ghost use Prim.Native.Nat.{_+_, _<_, _≤_};
 ghost use lib.ListN.{length};

@@ -1,4 +1,4 @@
-// Numbers from their bytes, the lowest first.
+//! Numbers from their bytes, the lowest first.
 ghost use mathlib.Core.Path.{_≡_};
 ghost use Prim.Native.Nat.{_+_, _*_};
 

@@ -1,4 +1,4 @@
--- What the public calls that write no buffer answer.
+-- What the check answers.
 use Prim.Native.Nat.{ℕ}
 use mathlib.Core.Bool.{Bool, true, false}
 

@@ -1,4 +1,4 @@
--- The tree rows of a byte string, by their numbers.
+-- The bodies that a byte string is read as, whether it passes or not, and its tree rows by their numbers.
 use Prim.Native.Nat.{ℕ, _+_, _-_, _*_, _<_}
 use mathlib.Core.Path.{_≡_}
 use mathlib.Core.List.{List}

@@ -1,4 +1,4 @@
-// The value of the attribute or text row with a serial, as a part of the store.
+//! The value of the attribute or text row with a serial, as a part of the store.
 ghost use mathlib.Core.Path.{_≡_};
 ghost use Prim.Native.Nat.{_+_, _<_};
 ghost use lib.ListN.{length};

@@ -1,4 +1,4 @@
-// Content models: a definition's part of the particle body.
+//! Content models: a definition's part of the particle body.
 pub mod place;
 
 use rules::GroupKind;

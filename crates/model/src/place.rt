@@ -1,4 +1,4 @@
-// Places in a model. Positions are counted in particles.
+//! Places in a model. Positions are counted in particles.
 use rules::GroupKind;
 
 /// A list of a model: the particle that its members start at, their depth, its kind, and whether it is a spine list.

@@ -1,4 +1,4 @@
-// The particles of a form after an edit of one model: changes 3 to 8.
+//! The particles of a form after an edit of one model: changes 3 to 8.
 use layout::PARTICLE_SIZE;
 use rules::GroupKind;
 use rules::Quantifier;

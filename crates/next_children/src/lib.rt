@@ -1,6 +1,6 @@
-// What may come after a child, for all children at once: the facts of a model and a last child x, with a set of
-// definition indices where `automaton` has the truth of one. And a table of these
-// sets, so that a model is folded once and looked up afterwards.
+//! What may come after a child, for all children at once: the facts of a model and a last child x, with a set of
+//! definition indices where `automaton` has the truth of one. And a table of these
+//! sets, so that a model is folded once and looked up afterwards.
 use layout::PARTICLE_SIZE;
 use model::What;
 use model::read_particle;

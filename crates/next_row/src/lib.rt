@@ -1,4 +1,4 @@
-// Whether a row may come next at a level, whether a level may end, and the levels that a row makes.
+//! Whether a row may come next at a level, whether a level may end, and the levels that a row makes.
 ghost use mathlib.Core.Path.{_≡_};
 ghost use Prim.Native.Nat.{_<_, _≤_};
 ghost use lib.Dec.{eqb};

@@ -1,4 +1,4 @@
-// What a place of a model leads to. Positions are counted in particles.
+//! What a place of a model leads to. Positions are counted in particles.
 use layout::PARTICLE_SIZE;
 use model::What;
 use model::place::Entered;

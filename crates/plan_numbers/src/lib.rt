@@ -1,4 +1,4 @@
-// A plan as the numbers that it is lent as (see `row_walk`).
+//! A plan as the numbers that it is lent as (see `row_walk`).
 use filling::Filling;
 use row_walk::Later;
 use row_walk::Plan;

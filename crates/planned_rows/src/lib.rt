@@ -1,5 +1,5 @@
-// The rows of a store after a plan: the walk that writes them, how many they are at most, and whether the store with
-// them is within the limits.
+//! The rows of a store after a plan: the walk that writes them, how many they are at most, and whether the store with
+//! them is within the limits.
 use filling::Filling;
 use row_bound::Most;
 use row_walk::Plan;

@@ -1,4 +1,4 @@
--- The plans by indices of changes 11 to 16.
+-- The plans by indices of changes 11 to 16; `settingPlan` of no row serves 6 and 7 too, `takingPlan` 4.
 use Prim.Native.Nat.{ℕ}
 use mathlib.Core.Bool.{true, false}
 use mathlib.Core.Option.{none, some}

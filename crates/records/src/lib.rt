@@ -1,4 +1,4 @@
-// The tests of single records, on their bytes. All are total: a byte past the end counts 0.
+//! The tests of single records, on their bytes. All are total: a byte past the end counts 0.
 ghost use mathlib.Core.Path.{_≡_};
 ghost use Prim.Native.Nat.{min};
 ghost use lib.ListN.{take, drop};

@@ -1,4 +1,4 @@
-// One pass over the tree rows: the fields of each, their depths, and whether they are those of documents that conform.
+//! One pass over the tree rows: the fields of each, their depths, and whether they are those of documents that conform.
 use row_step::step;
 ghost use mathlib.Core.Path.{_≡_};
 ghost use mathlib.Core.Logic.{_↔_};

@@ -1,5 +1,5 @@
-// The check of the tree rows, a row at a time: the state between two rows,
-// the step that a row makes, and whether the rows may end.
+//! The check of the tree rows, a row at a time: the state between two rows,
+//! the step that a row makes, and whether the rows may end.
 use next_row::Level;
 ghost use mathlib.Core.Path.{_≡_};
 ghost use mathlib.Core.Bool.{_&&_};

@@ -1,5 +1,5 @@
-// What a change does to the tree rows: the plan that all changes share, and the
-// tests of one row that the walk over the rows makes by it.
+//! What a change does to the tree rows: the plan that changes 2 to 16 share, and the tests of one row that the walk
+//! over the rows makes by it.
 use filling::Filling;
 ghost use mathlib.Core.Path.{_≡_};
 ghost use mathlib.Core.List.{[]};

@@ -1,4 +1,4 @@
-// Tree rows written one after the other: new ones, and old ones that are kept.
+//! Tree rows written one after the other: new ones, and old ones that are kept.
 ghost use mathlib.Core.List.{[], _∷_};
 ghost use Prim.Native.Nat.{_*_, _<_, _≤_};
 ghost use lib.ListN.{length};

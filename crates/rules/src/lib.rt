@@ -1,4 +1,4 @@
-// The types that the definitions of specs/ and the code of the crates above share.
+//! The types that the definitions of specs/ and the code of the crates above share.
 
 /// How often a particle may stand.
 pub enum Quantifier {

@@ -1,4 +1,4 @@
-// The serials of the tree rows of a store: from 1, below the next serial, no two alike.
+//! The serials of the tree rows of a store: from 1, below the next serial, no two alike.
 ghost use mathlib.Core.Path.{_≡_};
 ghost use Prim.Native.Nat.{_<_, _≤_};
 ghost use Rattle.layout.specs.Bodies.{Width};

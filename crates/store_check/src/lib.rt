@@ -1,4 +1,4 @@
-// The check: whether a byte string is a store.
+//! The check: whether a byte string is a store.
 use layout::Shape;
 ghost use mathlib.Core.Path.{_≡_};
 ghost use mathlib.Core.Logic.{_↔_};

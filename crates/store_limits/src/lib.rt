@@ -1,4 +1,4 @@
-// Whether a store is too large, by its numbers: the ceiling of its rows, its serials, the room for its bytes.
+//! Whether a store is too large, by its numbers: the ceiling of its rows, its serials, the room for its bytes.
 ghost use mathlib.Core.Path.{_≡_};
 ghost use Prim.Native.Nat.{_≤_};
 ghost use Rattle.layout.specs.Bodies.{Width, mostForm};

@@ -1,5 +1,5 @@
-// The store that a change leaves, written whole: the ceilings, the
-// serials and the room first, then header, bodies and rows.
+//! The store that a change leaves, written whole: the ceilings, the
+//! serials and the room first, then header, bodies and rows.
 use row_walk::Plan;
 use store_limits::MOST_ROWS;
 ghost use mathlib.Core.Path.{_≡_};

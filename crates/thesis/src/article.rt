@@ -1,5 +1,5 @@
-// Article.dtd and its sample document, made by calls. `id` is CDATA and
-// REQUIRED; related is a LIST of one, starred, as in the thesis.
+//! Article.dtd and its sample document, made by calls. `id` is CDATA and
+//! REQUIRED; related is a LIST of one, starred, as in the thesis.
 use play::Play;
 
 pub const NONE: u32 = 0;

@@ -1,4 +1,4 @@
-// The fourteen examples, each with its number and the text after it. Each function starts from the article.
+//! The fourteen examples, each with its number and the text after it. Each function starts from the article.
 use super::article;
 use play::Play;
 

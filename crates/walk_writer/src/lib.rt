@@ -1,5 +1,5 @@
-// The one walk over the tree rows that all changes share: it keeps, takes with all
-// below, gives a value, puts fillings in and renumbers, as a plan says.
+//! The one walk over the tree rows that changes 2 to 16 share: it keeps, takes with all below, gives a value, puts
+//! fillings in and renumbers, as a plan says.
 use filling::Filling;
 use row_walk::Head;
 use row_walk::Open;

@@ -1,4 +1,4 @@
-//! Reading: show, print and diff.
+//! What is shown: show, print and diff.
 
 mod common;
 

@@ -1,3 +1,6 @@
+-- `attribute_refusals::has_attribute` meets its contract: by the search of Searching in `lookup`: an attribute of the
+-- owner with the name ends it with true (`searching-hit`), any other is passed (`searching-on`), and past the last it
+-- is false (`searching-end`). What is read is the store's (`own-at`, `attributes-any` of AttributeLaws).
 use Rattle.lookup.proofs.Searching.{Searching, searching-start, searching-hit, searching-on, searching-end}
 use Rattle.attribute_refusals.proofs.AttributeLaws.{attributes-any, own-at}
 use Rattle.attribute_refusals.specs.OwnAttributes.{ownNamed}

@@ -1,3 +1,5 @@
+-- `byte_check::single_printable` meets its contract: a byte that is not printable makes the answer false (`all-off` of
+-- TestLaws), any other keeps the invariant (`all-on`), and past the last byte the answer is true (`all-end`).
 use borrow.Author.Tests.{not-true, not-false}
 use Prim.Native.Nat.{_-_}
 use mathlib.Core.Path.{_≡_, sym, _∙_}

@@ -1,3 +1,5 @@
+-- `byte_check::single_zeros` meets its contract: a byte other than 0 makes the answer false (`all-off` of TestLaws), a
+-- 0 keeps the invariant (`all-on`), and past the last byte the answer is true (`all-end`).
 use Prim.Native.Nat.{ℕ, _-_}
 use mathlib.Core.Path.{_≡_}
 use lib.Dec.{eqb}

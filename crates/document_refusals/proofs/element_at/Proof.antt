@@ -1,3 +1,5 @@
+-- `document_refusals::element_at` meets its contract: the first row for which `is_element` is true is the one asked for
+-- (`seek-hit` of SuffixLaws), any before it is passed (`seek-past`), and past the last row there is none (`seek-none`).
 use borrow.Author.Needs.{needs}
 use mathlib.Core.Path.{sym, ap, _∙_}
 use mathlib.Core.List.{List}

@@ -1,3 +1,6 @@
+-- `document_refusals::next_child` meets its contract: a row less deep ends the search (`step-less` of SuffixLaws), one
+-- of the depth and the sort is the next child (`step-hit`), any other is passed (`step-past`), and past the last row
+-- there is none (`step-none`). The row where the search ends is the `Child` asked for (`child-of`).
 use borrow.Author.Needs.{needs}
 use mathlib.Core.Path.{_≡_, sym, ap, ap₂, _∙_}
 use mathlib.Core.Bool.{_&&_}

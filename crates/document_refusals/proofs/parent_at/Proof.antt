@@ -1,3 +1,6 @@
+-- `document_refusals::parent_at` meets its contract: the first row for which `has_child` is true is the one asked for
+-- (`seek-hit` of SuffixLaws), any before it is passed (`seek-past`), and past the last row there is none (`seek-none`).
+-- The depth of the children is the row's, with `+ 1` for `suc` (`add-one` of native.Mathlib.Numerals).
 use borrow.Author.Needs.{needs}
 use mathlib.Core.Path.{_≡_, sym, ap, _∙_}
 use mathlib.Core.List.{List}

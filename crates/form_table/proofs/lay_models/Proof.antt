@@ -1,3 +1,6 @@
+-- `form_table::lay_models` meets its contract: the invariant holds before the first definition (`lining-starts` of
+-- TableLaws) and after each, whose line is the model's sets from `fill` and an empty set of attributes (`lining-on`);
+-- past the last it is the contract (`lining-ends`). The table keeps its length, so that each line is in range.
 use Prim.Native.Nat.{_-_}
 use native.Mathlib.Omega.{arith}
 use borrow.Author.Needs.{needs}

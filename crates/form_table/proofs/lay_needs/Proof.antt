@@ -1,3 +1,6 @@
+-- `form_table::lay_needs` meets its contract: the invariant holds before the first attribute (`needing-starts` of
+-- TableLaws) and after each, by the contract of `lay_need` (`needing-on`), and past the last it is the contract
+-- (`needing-ends`).
 use Prim.Native.Nat.{_-_}
 use native.Mathlib.Omega.{arith}
 use borrow.Author.Needs.{needs}

@@ -1,3 +1,6 @@
+-- `instance_search::instance_exists` meets its contract: by the search of Searching in `lookup`: an element row of the
+-- definition ends it with true (`searching-hit`), any other row is passed (`searching-on`), and past the last it is
+-- false (`searching-end`). What is read is the store's (`instance-row`, `instances-any` of InstanceLaws).
 use Rattle.lookup.proofs.Searching.{Searching, searching-start, searching-hit, searching-on, searching-end}
 use Rattle.instance_search.proofs.InstanceLaws.{instance-row, instances-any}
 use Rattle.instance_search.specs.Instances.{instanceRow}

@@ -1,3 +1,5 @@
+-- `layout::attribute_body` meets its contract: the window begins where `attributes_start` says and is as long as the
+-- product of `times` says, and so is `attributeBody` (`attributes-window` of LayoutLaws).
 use Rattle.layout.proofs.LayoutLaws.{attributes-window}
 use borrow.Author.Needs.{needs}
 use Rattle.layout.proofs.attribute_body.Statement.{statement}

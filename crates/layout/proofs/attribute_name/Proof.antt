@@ -1,3 +1,5 @@
+-- `layout::attribute_name` meets its contract: the window from byte 2 on is as long as byte 1 says, and so is the name
+-- that `readAttribute` reads (`window-by` of LayoutLaws).
 use lib.ListN.{getD}
 use Rattle.layout.proofs.LayoutLaws.{window-by}
 use borrow.Author.Needs.{needs}

@@ -1,3 +1,5 @@
+-- `layout::attribute_sort` meets its contract: the first byte of what follows 18 bytes, as `readAttribute` reads the
+-- sort, is byte 18 (`get-after` of LayoutLaws).
 use mathlib.Core.Path.{_∙_, sym}
 use Rattle.layout.proofs.LayoutLaws.{get-after}
 use borrow.Author.Needs.{needs}

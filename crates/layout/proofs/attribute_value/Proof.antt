@@ -1,3 +1,5 @@
+-- `layout::attribute_value` meets its contract: the window from byte 20 on is as long as byte 19 says, and so is the
+-- value that `readAttribute` reads in what follows 18 bytes (`attribute-value-by` of LayoutLaws).
 use Rattle.layout.proofs.LayoutLaws.{attribute-value-by}
 use borrow.Author.Needs.{needs}
 use Rattle.layout.proofs.attribute_value.Statement.{statement}

@@ -1,3 +1,5 @@
+-- `layout::attributes_of` meets its contract: `shape_of` gives the shape by the store's own header, so that what
+-- `attribute_body` gives by that shape is the store's attributes (`by-shape` of LayoutLaws).
 use Rattle.layout.proofs.LayoutLaws.{by-shape}
 use Rattle.layout.specs.Bodies.{attributeBody}
 use borrow.Author.Needs.{needs}

@@ -1,3 +1,5 @@
+-- `layout::definition_body` meets its contract: the window from the end of the header on, 20 bytes for each definition,
+-- is the definition of `definitionBody` (`definitions-window` of LayoutLaws).
 use Rattle.layout.proofs.LayoutLaws.{definitions-window}
 use borrow.Author.Needs.{needs}
 use Rattle.layout.proofs.definition_body.Statement.{statement}

@@ -1,3 +1,5 @@
+-- `layout::definition_kind` meets its contract: the first byte of what follows 17 bytes, as `readDefinition` reads the
+-- kind, is byte 17 (`get-after` of LayoutLaws).
 use mathlib.Core.Path.{_∙_, sym}
 use Rattle.layout.proofs.LayoutLaws.{get-after}
 use borrow.Author.Needs.{needs}

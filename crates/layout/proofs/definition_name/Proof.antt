@@ -1,3 +1,5 @@
+-- `layout::definition_name` meets its contract: the window from byte 1 on is as long as byte 0 says, and so is the name
+-- that `readDefinition` reads (`window-by` of LayoutLaws).
 use lib.ListN.{getD}
 use Rattle.layout.proofs.LayoutLaws.{window-by}
 use borrow.Author.Needs.{needs}

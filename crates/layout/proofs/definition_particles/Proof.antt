@@ -1,3 +1,5 @@
+-- `layout::definition_particles` meets its contract: the number at place 1 of what follows 17 bytes, as
+-- `readDefinition` reads it, is that at place 18 (`number-after` of LayoutLaws).
 use mathlib.Core.Path.{_∙_, sym}
 use Rattle.layout.proofs.LayoutLaws.{number-after}
 use borrow.Author.Needs.{needs}

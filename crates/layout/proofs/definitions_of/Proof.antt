@@ -1,3 +1,5 @@
+-- `layout::definitions_of` meets its contract: `shape_of` gives the shape by the store's own header, so that what
+-- `definition_body` gives by that shape is the store's definitions (`by-shape` of LayoutLaws).
 use Rattle.layout.proofs.LayoutLaws.{by-shape}
 use Rattle.layout.specs.Bodies.{definitionBody}
 use borrow.Author.Needs.{needs}

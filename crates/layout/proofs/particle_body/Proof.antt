@@ -1,3 +1,5 @@
+-- `layout::particle_body` meets its contract: the window from the end of the definitions on, 4 bytes for each particle,
+-- is the definition of `particleBody` (`particles-window` of LayoutLaws).
 use Rattle.layout.proofs.LayoutLaws.{particles-window}
 use borrow.Author.Needs.{needs}
 use Rattle.layout.proofs.particle_body.Statement.{statement}

@@ -1,3 +1,5 @@
+-- `layout::record_at` meets its contract: the window begins at the product of `times`, which is `size * i`, and has the
+-- size of a record (`record-window` of LayoutLaws).
 use Rattle.layout.proofs.LayoutLaws.{record-window}
 use borrow.Author.Needs.{needs}
 use Rattle.layout.proofs.record_at.Statement.{statement}

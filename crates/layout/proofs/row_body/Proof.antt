@@ -1,3 +1,5 @@
+-- `layout::row_body` meets its contract: the window begins where `rows_start` says and is as long as the product of
+-- `times` says, and so is `rowBody` (`rows-window` of LayoutLaws).
 use Rattle.layout.proofs.LayoutLaws.{rows-window}
 use borrow.Author.Needs.{needs}
 use Rattle.layout.proofs.row_body.Statement.{statement}

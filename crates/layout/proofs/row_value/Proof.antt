@@ -1,3 +1,5 @@
+-- `layout::row_value` meets its contract: the window from byte 10 on is as long as byte 8 says, and so is the value
+-- that `readRow` reads (`window-by` of LayoutLaws).
 use lib.ListN.{getD}
 use Rattle.layout.proofs.LayoutLaws.{window-by}
 use borrow.Author.Needs.{needs}

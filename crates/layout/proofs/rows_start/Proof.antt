@@ -1,3 +1,5 @@
+-- `layout::rows_start` meets its contract: the place where the attributes begin and the product for their bytes add up
+-- to the place where the rows begin, which is in range (`rows-place` of LayoutLaws).
 use Rattle.layout.proofs.LayoutLaws.{rows-place}
 use borrow.Author.Needs.{needs}
 use Rattle.layout.proofs.rows_start.Statement.{statement}

@@ -1,3 +1,5 @@
+-- `layout::shape_of` meets its contract: the version, the width by it and the four counts are what the header says, and
+-- each fits its field (`shaped` of LayoutLaws).
 use Rattle.layout.proofs.LayoutLaws.{shaped}
 use borrow.Author.Needs.{needs}
 use Rattle.layout.proofs.shape_of.Statement.{statement}

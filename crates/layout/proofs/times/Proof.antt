@@ -1,3 +1,5 @@
+-- `layout::times` meets its contract: a size below 2^16 and a number below 2^32 have a product below 2^48, so that it
+-- is in range (`product` of LayoutLaws).
 use native.Mathlib.Omega.{arith}
 use Rattle.layout.proofs.LayoutLaws.{product}
 use Rattle.layout.proofs.times.Statement.{statement}

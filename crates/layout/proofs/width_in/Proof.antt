@@ -1,3 +1,5 @@
+-- `layout::width_in` meets its contract: the width for the version that is read is that of the store, and it is below
+-- 256 (`width-in` of LayoutLaws).
 use Rattle.layout.proofs.LayoutLaws.{width-in}
 use borrow.Author.Needs.{needs}
 use Rattle.layout.proofs.width_in.Statement.{statement}

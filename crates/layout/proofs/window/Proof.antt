@@ -1,3 +1,5 @@
+-- `layout::window` meets its contract: the case split is on where s ends: before `at` (`window-past` of LayoutLaws),
+-- less than n bytes after it (`window-short`), or later, so that all n bytes are there (`window-whole`).
 use native.Mathlib.Omega.{arith}
 use Rattle.layout.proofs.LayoutLaws.{window-past, window-short, window-whole}
 use borrow.Author.Needs.{needs}

@@ -1,3 +1,5 @@
+-- `lookup::row` meets its contract: the window begins at the place of row i and has the size of a row at the store's
+-- width (`row-window` of Laws).
 use Rattle.lookup.proofs.Laws.{row-window}
 use borrow.Author.Needs.{needs}
 use Rattle.lookup.proofs.row.Statement.{statement}

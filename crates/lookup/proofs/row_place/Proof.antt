@@ -1,3 +1,5 @@
+-- `lookup::row_place` meets its contract: the place where the rows begin and the product for the rows before row i add
+-- up to its place, which is in range (`row-placed` of Laws).
 use Rattle.lookup.proofs.Laws.{row-placed}
 use borrow.Author.Needs.{needs}
 use Rattle.lookup.proofs.row_place.Statement.{statement}

@@ -1,3 +1,5 @@
+-- `lookup::row_start` meets its contract: `shape_of` gives the shape of the store, so that `rows_start` gives the place
+-- where its rows begin (`begins` of Laws).
 use Rattle.lookup.proofs.Laws.{begins}
 use borrow.Author.Needs.{needs}
 use Rattle.lookup.proofs.row_start.Statement.{statement}

@@ -1,3 +1,6 @@
+-- `records::attributes_fit` meets its contract: a record for which `attribute_fits` is false makes the answer false
+-- (`each-off` of CodeLaws), any other leaves it to those after it (`each-on`), and with no record left it is true
+-- (`each-end`).
 use Prim.Native.Nat.{ℕ, min}
 use mathlib.Core.Path.{_≡_, ap, _∙_}
 use lib.ListN.{length, take}

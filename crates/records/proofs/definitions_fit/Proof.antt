@@ -1,3 +1,6 @@
+-- `records::definitions_fit` meets its contract: a record for which `definition_fits` is false makes the answer false
+-- (`each-off` of CodeLaws), any other leaves it to those after it (`each-on`), and with no record left it is true
+-- (`each-end`).
 use mathlib.Core.Path.{_≡_}
 use Rattle.records.proofs.CodeLaws.{each-on, each-off, each-end}
 use Rattle.records.specs.Records.{definitionFits, eachFits}

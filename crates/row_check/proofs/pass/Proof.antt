@@ -1,3 +1,6 @@
+-- `row_check::pass` meets its contract: a row that may not make its step gives the verdict false (`pass-refuses` of
+-- PassLaws), any other keeps the invariant (`pass-on`), and with no row left `end` gives the verdict (`pass-ends`).
+-- Room for the rows left is room for the first (`room-first` of LayoutLaws in `layout`), so the slices are in range.
 use native.Mathlib.Omega.{arith}
 use mathlib.Core.Path.{_≡_, sym}
 use lib.ListN.{length}

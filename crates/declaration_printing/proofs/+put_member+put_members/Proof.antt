@@ -1,9 +1,9 @@
 -- `declaration_printing::put_member` and `declaration_printing::put_members` meet their contracts: what `put_member`
 -- writes is `memberText`, for an element, sort 0 (`element-stepped` of MemberLaws), and for a group (`group-stepped`);
 -- the sign has at most one byte (`sign-short`), so that the places are in range. In `put_members` a deeper particle is
--- passed (`walk-deeper` of WalkLaws in `printing_parts`), one of this depth is written (`walk-here`, `members-tree` of
--- MemberTexts), and one less deep or the end of the particles ends the text (`walk-stops`, `walk-ends`). Twice the
--- number of particles left, plus 1 for `put_members`, falls with each call.
+-- passed (`walk-deeper` of WalkLaws in `printing_parts`), one less deep or the end of the particles ends the text
+-- (`walk-stops`, `walk-ends`), and one of this depth is written (`walk-here`, with `members-tree` of MemberTexts).
+-- Twice the number of particles left, plus 1 for `put_members`, falls with each call.
 use borrow.Author.Needs.{needs}
 use mathlib.Core.Path.{_≡_, ap, _∙_}
 use mathlib.Core.Bool.{true, false}

@@ -1,6 +1,6 @@
--- `document_printing::put_documents` meets its contract: a row of depth 0 is a document, whose line is written
--- (`walk-here` of WalkLaws in `printing_parts`, `documents-step` of RowLaws), a deeper row is passed (`walk-deeper`),
--- and past the last row all documents are written (`walk-all`, `documents-bare` of RowTexts).
+-- `document_printing::put_documents` meets its contract: a deeper row is passed (`walk-deeper` of WalkLaws in
+-- `printing_parts`), past the last row all documents are written (`walk-all`), and a row of depth 0 is a document,
+-- whose line is written (`walk-here`, with `documents-step` of RowLaws).
 use borrow.Author.Needs.{needs}
 use mathlib.Core.Path.{_≡_, sym, ap, _∙_}
 use mathlib.Core.Bool.{Bool, true}

@@ -1,6 +1,6 @@
 -- `document_refusals::has_child` meets its contract: `next_child` gives one child after the other (`look-start`,
--- `look-past` of SuffixLaws). One that is the element makes the answer true (`look-here`, `any-this` of SerialLaws),
--- any other leaves it to those after it (`any-next`), and with no child left it is false (`look-none`).
+-- `look-past` of SuffixLaws), and with none left the answer is false (`look-none`). One that is the element makes it
+-- true (`any-this` of SerialLaws), any other leaves it to those after it (`any-next`).
 use borrow.Author.Needs.{needs}
 use mathlib.Core.Path.{sym, ap, _∙_}
 use mathlib.Core.List.{List}

@@ -1,6 +1,6 @@
 -- `document_refusals::indexed_serial` meets its contract: `next_child` gives one child after the other (`look-start`,
--- `look-past` of SuffixLaws). One with the index gives its serial (`look-here`, `indexed-this` of SerialLaws), any
--- other leaves the answer to those after it (`indexed-next`), and with no child left it is 0 (`look-none`).
+-- `look-past` of SuffixLaws), and with none left the answer is 0 (`look-none`). One with the index gives its serial
+-- (`indexed-this` of SerialLaws), any other leaves the answer to those after it (`indexed-next`).
 use borrow.Author.Needs.{needs}
 use mathlib.Core.Path.{sym, ap, _∙_}
 use mathlib.Core.List.{List}

@@ -1,7 +1,6 @@
 -- `document_refusals::line_fits` meets its contract: `next_child` gives one child after the other (`look-start`,
 -- `look-past` of SuffixLaws). If it or the new one before it may not follow, the answer is false (`word-fails` of
--- StepLaws), else it is left to those after it (`word-past`). With none left a last new one and the end decide
--- (`word-ends`).
+-- StepLaws). Else those after it decide (`word-past`), and with none left a last new one and the end (`word-ends`).
 use borrow.Author.Needs.{needs}
 use mathlib.Core.Path.{_∙_}
 use Prim.Native.Nat.{_+_, _-_}

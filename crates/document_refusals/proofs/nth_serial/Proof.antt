@@ -1,6 +1,6 @@
--- `document_refusals::nth_serial` meets its contract: each step passes one child, by the contract of `next_child`
--- (`look-past` of SuffixLaws, `nth-next` of SerialLaws). Where none is left, in the loop or after it, the answer is 0
--- (`look-none`, `nth-nil`); else row i is the child asked for, and the answer is its serial (`look-here`, `nth-this`).
+-- `document_refusals::nth_serial` meets its contract: `next_child` gives one child after the other (`look-start`,
+-- `look-past` of SuffixLaws), and each step passes one (`nth-next` of SerialLaws). Where none is left, in the loop or
+-- after it, the answer is 0 (`nth-nil`); else row i is the child asked for, and the answer is its serial (`nth-this`).
 use borrow.Author.Needs.{needs}
 use mathlib.Core.Path.{sym, ap, _∙_}
 use mathlib.Core.List.{List}

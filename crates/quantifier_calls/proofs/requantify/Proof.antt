@@ -1,4 +1,6 @@
--- `quantifier_calls::requantify` meets its contract.
+-- `quantifier_calls::requantify` meets its contract: the returns are for a bad store (`answers-bad` of CallLaws), a
+-- condition (`answers-refused`) and the answer of `edit_model` (`given-answers` of Requantified); what the calls
+-- require is by `given` of Fitting, `owner-fits` of Fits, `edits-there` of Answering, `given-stands` and `given-sized`.
 use native.Mathlib.Omega.{arith}
 use mathlib.Core.Path.{sym, _∙_}
 use lib.ListN.{length}

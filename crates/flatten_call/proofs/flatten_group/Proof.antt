@@ -1,7 +1,6 @@
 -- `flatten_call::flatten_group` meets its contract: a store that does not pass is refused with 1 (`answers-bad` of
--- CallLaws), a condition that holds gives its number (`answers-refused`); else the edit fits the place found
--- (`flatten-fits` of Laws; `asks` of Fits), and all rows are kept (`kept-answers` of Keeping, by `flatten-form`,
--- `flatten-plan`).
+-- CallLaws), a condition that holds gives its number (`answers-refused`); else the edit fits its place (`flatten-fits`
+-- of Laws; `asks` of Fits) and keeps all rows (`kept-answers` of Keeping, by `flatten-form`, `flatten-plan`).
 use mathlib.Core.Path.{refl, sym, _∙_}
 use lib.ListN.{length}
 use borrow.Author.Tests.{not-true, not-false}

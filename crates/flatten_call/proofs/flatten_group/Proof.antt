@@ -1,4 +1,6 @@
--- `flatten_call::flatten_group` meets its contract.
+-- `flatten_call::flatten_group` meets its contract: a store that does not pass is refused with 1 (`answers-bad` of
+-- CallLaws), a condition that holds gives its number (`answers-refused`); else the edit fits its place (`flatten-fits`
+-- of Laws; `asks` of Fits) and keeps all rows (`kept-answers` of Keeping, by `flatten-form`, `flatten-plan`).
 use mathlib.Core.Path.{refl, sym, _∙_}
 use lib.ListN.{length}
 use borrow.Author.Tests.{not-true, not-false}

@@ -1,4 +1,6 @@
--- `serial_check::sought` meets its contract.
+-- `serial_check::sought` meets its contract: the walk meets a row with the serial (`seek-meets` of TreeLaws), or comes
+-- to an empty place (`seek-ends`), or goes on with the row that stands there (`seek-starts`, `seek-on`), whose number
+-- `Rising` bounds.
 use mathlib.Core.Path.{sym, _∙_}
 use Prim.Native.Nat.{suc, _-_}
 use borrow.Author.Needs.{needs}

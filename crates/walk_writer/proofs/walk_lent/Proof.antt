@@ -1,4 +1,6 @@
--- `walk_writer::walk_lent` meets its contract.
+-- `walk_writer::walk_lent` meets its contract: the invariant holds before the first row (`going-start` of WalkLaws) and
+-- after each pass (`going-pass`), whose bytes are there and few (`pass-long`, `pass-small`); it gives the contract
+-- where no row may be written any more (`going-stop`), and past the last row by the filling still due (`going-end`).
 use mathlib.Core.Path.{refl, _∙_}
 use native.Mathlib.Omega.{arith}
 use Rattle.rules.specs.Layout.{rowSize}

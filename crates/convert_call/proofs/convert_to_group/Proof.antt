@@ -1,4 +1,6 @@
--- `convert_call::convert_to_group` meets its contract.
+-- `convert_call::convert_to_group` meets its contract: the call is refused on a bad store and by a condition
+-- (`answers-bad`, `answers-refused` of CallLaws). Else the edit fits at the place (`convert-fits` of Laws), and
+-- `edit_model` writes what the change leaves (`kept-answers` of Keeping).
 use mathlib.Core.Path.{sym, ap, _∙_}
 use lib.ListN.{length}
 use borrow.Author.Tests.{not-true, not-false}

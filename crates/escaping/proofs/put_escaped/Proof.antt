@@ -1,4 +1,6 @@
--- `escaping::put_escaped` meets its contract.
+-- `escaping::put_escaped` meets its contract: a plain value is its own escape by the contract of `is_plain`, so that it
+-- is written as it is (`laid-as` of Writers). Else each byte that is written, escaped, keeps the invariant
+-- (`escaping-on` of Laws), and at the end no byte is left to write (`escaping-done`).
 use mathlib.Core.Path.{refl}
 use Prim.Native.Nat.{_-_}
 use native.Mathlib.Omega.{arith}

@@ -1,4 +1,6 @@
--- `insert_call::insert_element` meets its contract.
+-- `insert_call::insert_element` meets its contract: the call is refused on a bad store and by a condition
+-- (`answers-bad`, `answers-refused` of CallLaws). Else what its calls require holds, as no condition does (`insertion`
+-- of Insertion), and `edit_model` writes what the change leaves (`inserted-answers`).
 use native.Mathlib.Omega.{arith}
 use mathlib.Core.Path.{refl, sym, _∙_}
 use lib.ListN.{length}

@@ -1,4 +1,6 @@
--- `remove_call::remove_element` meets its contract.
+-- `remove_call::remove_element` meets its contract: the call is refused on a bad store and by a condition
+-- (`answers-bad`, `answers-refused` of CallLaws). Else an element stands at the place (`remove-fits` of Removing), and
+-- `edit_model` writes what the change leaves (`removed-answers`).
 use mathlib.Core.Path.{refl, sym, _∙_}
 use lib.ListN.{length}
 use borrow.Author.Tests.{not-true, not-false}

@@ -11,7 +11,7 @@ use Rattle.escaping.proofs.Laws.{laid-long, Escaping, escaping-on, esca
 use Rattle.escaping.proofs.put_escaped.Statement.{statement}
 use Rattle.escaping.proofs.put_escaped.Tie as tie
 
--- whoever writes the rest of the value, escaped, has written all of it
+-- once the rest of the value is written, escaped, all of it is
 abbrev Inv-loop : tie.InvT-loop
 Inv-loop value out₀ start at₀ i₀ out at i = Escaping value out₀ start out at i
 

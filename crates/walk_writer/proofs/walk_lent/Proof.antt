@@ -15,7 +15,7 @@ use borrow.Author.Needs.{needs}
 use Rattle.walk_writer.proofs.walk_lent.Statement.{statement}
 use Rattle.walk_writer.proofs.walk_lent.Tie as tie
 
--- whoever writes what comes of the rows that are left has written all
+-- once what comes of the rows that are left is written, all is
 abbrev Inv-loop : tie.InvT-loop
 Inv-loop form sizes p marks rows count text out₀ size t₀ m₀ at₀ o₀ out t m at o =
     let plan = planIn p marks in

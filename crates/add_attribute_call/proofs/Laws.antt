@@ -26,7 +26,7 @@ use Rattle.planned_rows.specs.Planned.{plannedIn}
 use Rattle.store_laws.specs.Forms.{formBytes, formRead, Forms}
 use Rattle.planned_rows.specs.Walking.{Sized}
 use Rattle.store_laws.proofs.StoreLaws.{Holds, holds}
-use Rattle.store_writer.proofs.CallLaws.{answers-as, passed}
+use Rattle.store_writer.proofs.CallLaws.{answers-equal, passed}
 use Rattle.store_laws.proofs.FormBytesLaws.{form-short}
 use Rattle.store_laws.proofs.FormLaws.{bareForm, FormOf, forms-of, within, good-bodies}
 use Rattle.store_writer.proofs.FormAnswers.{form-answers, form-ceiling}
@@ -128,7 +128,7 @@ module _ (bs : Bytes) (o : ℕ) (n : Bytes) (k : ℕ) (v : Bytes) (x : Addable b
     added-answers room z =
         let f : FlatStore = bodiesOf bs in
         let e : version ≡ f .version = at .value ∙ version-of bs in
-        answers-as
+        answers-equal
         (ap (limited room)
         ((λ j. plannedIn (attributeAdded (sym (to .is) j) (newEntry o n k v) f) (addAttributePlan (sym e j) o (sym (to .is) j) k) v f)
         ∙ ap (λ (s : Plan). plannedIn (attributeAdded i (newEntry o n k v) f) s v f) (sym same)))

@@ -24,7 +24,7 @@ use Rattle.store_writer.specs.Writing.{limited}
 use Rattle.planned_rows.specs.Planned.{planned}
 use Rattle.planned_rows.specs.Walking.{Sized}
 use Rattle.store_laws.proofs.StoreLaws.{Holds, holds}
-use Rattle.store_writer.proofs.CallLaws.{answers-as, answers-written, passed}
+use Rattle.store_writer.proofs.CallLaws.{answers-equal, answers-written, passed}
 use Rattle.plans.specs.CallPlans.{takingPlan}
 use Rattle.rules.proofs.WellFormedLaws.{none-value}
 
@@ -43,7 +43,7 @@ module _ (c : Call) (bs : Bytes) (room : ℕ) (out : Bytes) where
   made-planned p q v h e f z same does a =
       let kept : Holds bs = holds bs (passed bs h e) in
       made (planned p v (flat (storeIn bs))) h e f z (λ x y. does (kept .good) y)
-      (answers-as (ap (λ (x : FlatStore). limited room (planned p v x)) (sym (kept .bodies)) ∙ ap (λ (x : Plan). limited room (planned x v (bodiesOf bs))) (sym same)) a)
+      (answers-equal (ap (λ (x : FlatStore). limited room (planned p v x)) (sym (kept .bodies)) ∙ ap (λ (x : Plan). limited room (planned x v (bodiesOf bs))) (sym same)) a)
 
 -- ---- what the writer asks of a plan and its text
 pub unmoved-small : (p : Plan) → p .definitions .more ≡ 0 → p .attributes .more ≡ 0 → Planned p

@@ -94,7 +94,7 @@ attribute-line bs i owner w h short n a b c d e f g =
     x = readAttribute (attributePart bs i)
 
 -- ---- the lines of a definition's attributes
--- whoever writes the lines of those that are left has written all
+-- once the lines of those that are left are written, all are
 pub record Listing (bs owner : Bytes) (o count : ℕ) (goal out₀ : Bytes) (at₀ : ℕ) (out : Bytes) (at i : ℕ) : Type 0 where
   pub counts : count ≡ attributeCount bs
   pub upto : i ≤ count

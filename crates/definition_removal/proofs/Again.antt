@@ -26,7 +26,7 @@ abbrev pub longest : ℕ
 longest = attributeSize 256
 
 -- ---- the loop
--- whoever writes what is left has written all
+-- once what is left is written, all is
 pub record Going (g : Bytes → Bytes) (size : ℕ) (body : Bytes) (count : ℕ) (out₀ : Bytes) (at₀ : ℕ) (out : Bytes) (at i : ℕ) : Type 0 where
   pub goes : (r : ℕ) (out″ : Bytes) → Laid (eachRecord g size (count - i) (drop (size * i) body)) out at r out″ → Laid (eachRecord g size count body) out₀ at₀ r out″
   pub small : at ≤ at₀ + longest * i

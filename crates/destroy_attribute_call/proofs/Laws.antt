@@ -27,7 +27,7 @@ use Rattle.planned_rows.specs.Planned.{plannedIn}
 use Rattle.store_laws.specs.Forms.{formBytes, formRead, Forms}
 use Rattle.planned_rows.specs.Walking.{Sized}
 use Rattle.store_laws.proofs.StoreLaws.{Holds, holds}
-use Rattle.store_writer.proofs.CallLaws.{answers-as, passed}
+use Rattle.store_writer.proofs.CallLaws.{answers-equal, passed}
 use Rattle.store_laws.proofs.FormBytesLaws.{form-short}
 use Rattle.store_laws.proofs.FormLaws.{FormOf, forms-of, within, good-bodies, counted-attributes}
 use Rattle.store_writer.proofs.FormAnswers.{form-answers}
@@ -100,7 +100,7 @@ module _ (bs : Bytes) (a : ℕ) (x : Droppable bs a) where
     unfolding dropped
     dropped-answers room z =
         let f : FlatStore = bodiesOf bs in
-        answers-as
+        answers-equal
         (ap (limited room)
         (ap (λ (j : ℕ). plannedIn (attributeDropped a f) (destroyAttributePlan j a) [] f) (sym own) ∙ ap (λ (s : Plan). plannedIn (attributeDropped a f) s [] f) (sym same)))
         (form-answers without q [] f room z)

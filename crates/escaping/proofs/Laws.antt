@@ -61,7 +61,7 @@ plain-on v i h e inv p =
 pub plain-end : (v : Bytes) (i : ℕ) → length v ≤ i → (escape (drop i v) ≡ drop i v → escape v ≡ v) → escape v ≡ v
 plain-end v i h inv = inv (ap escape (drop-of-length-le v {i = i} h) ∙ sym (drop-of-length-le v {i = i} h))
 
--- the loop over a value's bytes: whoever writes what is left has written all
+-- the loop over a value's bytes: once what is left is written, all is
 pub record Escaping (v out₀ : Bytes) (at₀ : ℕ) (out : Bytes) (at i : ℕ) : Type 0 where
   pub goes : (r : ℕ) (out″ : Bytes) → Laid (escape (drop i v)) out at r out″ → Laid (escape v) out₀ at₀ r out″
   pub small : at ≤ at₀ + 6 * i

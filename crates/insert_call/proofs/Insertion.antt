@@ -35,7 +35,7 @@ use Rattle.store_writer.specs.Writing.{limited}
 use Rattle.planned_rows.specs.Planned.{plannedIn}
 use Rattle.planned_rows.specs.Walking.{Sized}
 use Rattle.store_laws.proofs.StoreLaws.{holds}
-use Rattle.store_writer.proofs.CallLaws.{answers-as}
+use Rattle.store_writer.proofs.CallLaws.{answers-equal}
 use Rattle.plans.specs.ModelCalls.{insertElementPlan}
 use Rattle.plans.proofs.CallsPlanned.{none-holds}
 use Rattle.plans.proofs.ModelCallsPlanned.{insert-element-planned}
@@ -123,4 +123,4 @@ module _ {bs : Bytes} {o : ℕ} {p : List ℕ} {i k : ℕ} {t : Bytes} (x : Inse
       edited-answers (x .fits) (Insert r i) (edit-same e) y (insertElement o p i k t) room (insertElementPlan o marks i needs) t 0 (sym (x .none)) refl
       (insert-element-planned (storeIn bs) (holds bs (x .fits .good) .good) o p (y .found .context) (formEdited bs o (insert r i) h n) i k t (y .found .picked) marks (x .none) at
       (λ b. gap-marked (x .fits .good) (x .fits .there) y) (bodies-hold (x .fits) (Insert r i) (edit-same e) y (insertElement o p i k t) refl))
-      (answers-as (ap (λ (s : Plan). limited room (plannedIn (formEdited bs o (insert r i) h n) s t (bodiesOf bs))) (sym same)) a)
+      (answers-equal (ap (λ (s : Plan). limited room (plannedIn (formEdited bs o (insert r i) h n) s t (bodiesOf bs))) (sym same)) a)

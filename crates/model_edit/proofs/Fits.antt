@@ -35,7 +35,7 @@ use Rattle.store_laws.specs.Stores.{storeIn}
 use Rattle.store_writer.specs.Writing.{limited}
 use Rattle.planned_rows.specs.Planned.{plannedIn}
 use Rattle.store_laws.proofs.StoreLaws.{holds}
-use Rattle.store_writer.proofs.CallLaws.{answers-as, answers-written}
+use Rattle.store_writer.proofs.CallLaws.{answers-equal, answers-written}
 use Rattle.plans.specs.Bodies as plans
 use Rattle.store_laws.proofs.Encoded.{encoded}
 use Rattle.model_places.specs.Placing.{indexOfName, modelIn, partIn, foundBy, Placed}
@@ -89,7 +89,7 @@ module _ {bs : Bytes} {o : ℕ} {p : List ℕ} {e : Edit Bytes} (x : Fits bs o p
       → Answers (outcome c bs room) out number len left
   edited-answers c room q v m w z g a =
       answers-written c bs room (x .good) m w z (plannedIn (formEdited bs o (editOf E) h n) q v (flat (storeIn bs))) g
-      (answers-as (ap (λ (y : FlatStore). limited room (plannedIn (formEdited bs o (editOf E) h n) q v y)) (sym (holds bs (x .good) .bodies))) a)
+      (answers-equal (ap (λ (y : FlatStore). limited room (plannedIn (formEdited bs o (editOf E) h n) q v y)) (sym (holds bs (x .good) .bodies))) a)
 
 -- the particle at the place has a number in range
 pub place-low : {bs : Bytes} {o : ℕ} {e : Edit ℕ} {h : Holder} {n : ℕ} → Edits bs o e h n → n ≤ 256

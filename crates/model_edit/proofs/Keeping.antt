@@ -22,7 +22,7 @@ use Rattle.store_writer.specs.Writing.{limited}
 use Rattle.planned_rows.specs.Planned.{plannedIn}
 use Rattle.planned_rows.specs.Walking.{Sized}
 use Rattle.store_laws.proofs.StoreLaws.{holds}
-use Rattle.store_writer.proofs.CallLaws.{answers-as}
+use Rattle.store_writer.proofs.CallLaws.{answers-equal}
 use Rattle.plans.specs.CallPlans.{settingPlan}
 use Rattle.plans.proofs.DocumentPlans.{set-value-does}
 use Rattle.plans.proofs.FormPlanned.{flat-planned-in}
@@ -48,7 +48,7 @@ module _ {bs : Bytes} {o : ℕ} {p : List ℕ} {e : Edit Bytes} (x : Fits bs o p
       → Answers (outcome c bs room) out number len left
   kept-answers c room m s w z g k a =
       edited-answers x E same y c room (settingPlan 0) [] m w z (kept-planned c g k)
-      (answers-as (ap (λ (y : Plan). limited room (plannedIn (formEdited bs o (editOf E) h n) y [] (bodiesOf bs))) (sym s)) a)
+      (answers-equal (ap (λ (y : Plan). limited room (plannedIn (formEdited bs o (editOf E) h n) y [] (bodiesOf bs))) (sym s)) a)
 
 pub keeping-sized : {q : Plan} → q ≡ settingPlan 0 → Sized q
 keeping-sized e = subst Sized (sym e) (record { moves = record { definitions = record { more = omega arith }; attributes = record { more = omega arith } }; filling = tt })

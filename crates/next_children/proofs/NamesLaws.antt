@@ -81,14 +81,11 @@ absent-on x s h differs rest k d y = by (ltb d (readParticle s .depth)) refl (eq
         never-as _ _ (facts-stop d k x y s h (omega (arith, ltb-false d (readParticle s .depth) e, z))) (never-empty k)
 
 -- ---- the set of the first particle
-pub first-none : (s : Bytes) (b : ℕ) → b ≡ readParticle s .row .sort → (b ≡ 0 → ⊥) → FirstName s 0
-first-none s b e n = record { other = λ x h f z q. n (e ∙ z) }
-
 pub first-some : (s : Bytes) (i r : ℕ) → i ≡ readParticle s .row .index → r ≡ bit i → FirstName s r
 first-some s i r e er =
     record { other = λ x h f z q. false≢true (sym f ∙ ap (λ (n : ℕ). has n x) er ∙ has-bit i x h ∙ eq-eqb x i (sym q ∙ sym e)) }
 
--- ---- the loop over the particles: who is absent from what is left, and not in the set, is absent from all
+-- ---- the loop over the particles: an index that is absent from what is left, and not in the set, is absent from all
 pub record Naming (s t : Bytes) (r : ℕ) : Type 0 where
   pub absent : (x : ℕ) → x < 64 → has r x ≡ false → Absent x t → Absent x s
 

@@ -12,7 +12,7 @@ use Rattle.model.proofs.PositionLaws.{span-skip}
 use Rattle.model_writer.proofs.PartAfter.{deep-level}
 
 -- ---- the depth of a place
--- ---- members of depth e, no deeper than d
+-- members of depth e, no deeper than d
 span-other : (d e : ℕ) (ms : Members ℕ) (ys : Particles) → e ≤ d → spanOf d ys ≡ 0 → spanOf d (spread e ms ++ ys) ≡ 0
 unfolding spanOf
 span-other d e done ys l z = z

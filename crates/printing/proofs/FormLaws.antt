@@ -104,7 +104,7 @@ declarations-laid bs o from p at-o h n end n-is e {w} d m a =
     particles-here : (bs : Bytes) (o : ℕ) (p : Bytes) → p ≡ definitionPart bs o → (n : ℕ) → n ≡ readDefinition p .particles → readDefinition (definitionPart bs o) .particles ≡ n
     particles-here bs o p at-o n n-is = sym (n-is ∙ ap (λ (l : Bytes). readDefinition l .particles) at-o)
 
--- the loop over the definitions: whoever writes the rest of the form has written all
+-- the loop over the definitions: once the rest of the form is written, all is
 pub record Declaring (bs : Bytes) (count : ℕ) (goal out₀ : Bytes) (at₀ : ℕ) (out : Bytes) (at o from : ℕ) : Type 0 where
   pub counts : count ≡ definitionCount bs
   pub upto : o ≤ count

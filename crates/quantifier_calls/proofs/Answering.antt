@@ -21,7 +21,7 @@ use Rattle.store_laws.specs.Stores.{storeIn}
 use Rattle.store_writer.specs.Writing.{limited}
 use Rattle.planned_rows.specs.Planned.{plannedIn}
 use Rattle.planned_rows.specs.Walking.{Sized}
-use Rattle.store_writer.proofs.CallLaws.{answers-as}
+use Rattle.store_writer.proofs.CallLaws.{answers-equal}
 use Rattle.plans.specs.ModelCalls.{gainFilling, requantifyPlan}
 use Rattle.model_places.specs.Placing.{Placed}
 use Rattle.model_form.specs.Editing.{formEdited, Edits}
@@ -50,4 +50,4 @@ module _ {bs : Bytes} {o : ℕ} {p : List ℕ} {to : Quantifier} (x : Fits bs o 
       → Answers (outcome c bs room) out number len left
   answered c room t plan m w f e g a =
       edited-answers x (Quantify new) same-edit y c room plan t m f e g
-      (answers-as (ap (λ (y : Plan). limited room (plannedIn (formEdited bs o (quantify new) h n) y t (bodiesOf bs))) (sym w)) a)
+      (answers-equal (ap (λ (y : Plan). limited room (plannedIn (formEdited bs o (quantify new) h n) y t (bodiesOf bs))) (sym w)) a)

@@ -27,7 +27,7 @@ use Rattle.store_writer.specs.Writing.{limited}
 use Rattle.planned_rows.specs.Planned.{plannedIn}
 use Rattle.planned_rows.specs.Walking.{Sized}
 use Rattle.store_laws.proofs.StoreLaws.{holds}
-use Rattle.store_writer.proofs.CallLaws.{answers-as}
+use Rattle.store_writer.proofs.CallLaws.{answers-equal}
 use Rattle.plans.specs.ModelCalls.{removeElementPlan}
 use Rattle.plans.proofs.CallsPlanned.{none-holds}
 use Rattle.plans.proofs.ModelCallsPlanned.{remove-element-planned}
@@ -69,7 +69,7 @@ removed-answers {bs} {o} {p} x {h} {n} y own room m w f e a =
     edited-answers (x .fits) Remove refl y (removeElement o p) room (removeElementPlan o (indexOfName bs (x .name))) [] m f e
     (remove-element-planned (storeIn bs) (holds bs (x .fits .good) .good) o p (x .fits .found .context) (formEdited bs o remove h n) (x .quantifier) (x .name) (x .rest) [] (sym f ∙ e)
     (picked-at x) (bodies-hold (x .fits) Remove refl y (removeElement o p) refl))
-    (answers-as (ap (λ (y : Plan). limited room (plannedIn (formEdited bs o remove h n) y [] (bodiesOf bs))) (sym (w ∙ ap (removeElementPlan o) there))) a)
+    (answers-equal (ap (λ (y : Plan). limited room (plannedIn (formEdited bs o remove h n) y [] (bodiesOf bs))) (sym (w ∙ ap (removeElementPlan o) there))) a)
 
 pub removing-sized : {q : Plan} (o i : ℕ) → q ≡ removeElementPlan o i → Sized q
 removing-sized o i e = subst Sized (sym e) (record { moves = record { definitions = record { more = omega arith }; attributes = record { more = omega arith } }; filling = tt })

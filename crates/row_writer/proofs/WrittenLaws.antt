@@ -21,7 +21,6 @@ use Rattle.row_writer.specs.declared.Cursor.{Cursor}
 use Rattle.row_writer.specs.Written.{isNewRow, newIn, withSerial, numbered, rowsBytes, Room, Fitted, Written, newRow, OldRow}
 use Rattle.rules.proofs.LayoutLaws.{each-append}
 
--- ---- lists
 -- ---- serials
 pub new-append : (xs ys : List (Deep FlatRow)) → newIn (xs ++ ys) ≡ newIn xs + newIn ys
 new-append [] ys = omega arith
@@ -50,7 +49,7 @@ module _ {w : ℕ} where
   pub written-none : {c : Cursor} {out : Bytes} → Written w [] c out c out
   written-none = record { left = omega arith; fitted = λ h. fitted-none; room = λ m. m; long = refl }
 
-  -- more rows than may be written: whoever says so may stop
+  -- more rows than may be written: a writer that has come so far may stop
   pub written-past : {xs : List (Deep FlatRow)} {c r : Cursor} {out out′ : Bytes} → c .left < length xs → r .left ≡ 0 → (Room w c → Room w r) → length out′ ≡ length out → Written w xs c out r out′
   written-past h e m l = record { left = omega arith; fitted = λ k. absurd (omega arith); room = m; long = l }
 

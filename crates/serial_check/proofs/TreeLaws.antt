@@ -48,7 +48,7 @@ met-set p v z here = here
 met-set {below} {i} p v z (there {j} {q} m) =
     there {j = j} {q = q} (rw (getD-set-other below p (placeBelow j q) v 0 (λ e. met-none m (ap (λ (n : ℕ). getD below n 0) e ∙ z))) (met-set p v z m))
 
--- .. and who is stored there is met by the walk that comes there
+-- .. and a row stored there is met by the walk that comes there
 comes-set : {below : List ℕ} {p h q : ℕ} (k : ℕ) → getD below p 0 ≡ 0 → p < length below → Comes below p h q → Met (set below p (suc k)) k h q
 comes-set {below} {p} k z l (last {j} {q} e) =
     there {j = j} {q = q} (rw (← e, getD-set-same below p (suc k) 0 l) here)
@@ -59,7 +59,7 @@ pub rising-more : {below : List ℕ} (k m : ℕ) → k ≤ m → Rising below k 
 rising-more k m l r = record { low = λ p. omega (arith, r .low p); up = r .up }
 
 -- ---- the walk for the serial s
--- from h on the walk goes the way that it goes from its start, and nobody with the serial was passed
+-- from h on the walk goes the way that it goes from its start, and no row with the serial was passed
 pub record Seek (w : ℕ) (rows : Bytes) (below : List ℕ) (from s h q : ℕ) : Type 0 where
   pub on : (i : ℕ) → Met below i h q → Met below i from (s / 4096)
   pub comes : (p : ℕ) → Comes below p h q → Comes below p from (s / 4096)
@@ -77,7 +77,7 @@ pub seek-meets : {w : ℕ} {rows : Bytes} {below : List ℕ} {from s j q : ℕ} 
 seek-meets {j = j} k e = record { met = λ l. (j, k .on j here, e); free = λ l. absurd (omega arith) }
 
 module _ {w : ℕ} {rows : Bytes} {below : List ℕ} {from s j q : ℕ} (k : Seek w rows below from s (suc j) q) (n : serialAtRow w rows j ≡ s → ⊥) where
-  -- who has the serial and was not passed is met further on
+  -- a row that has the serial and was not passed is met further on
   further : (i : ℕ) → Met below i from (s / 4096) → serialAtRow w rows i ≡ s → Met below i (getD below (placeBelow j q) 0) (q / 4)
   further i m e = by (met-cases j (k .rest i m e) refl)
     where

@@ -15,24 +15,24 @@ use Rattle.store_laws.proofs.StoreLaws.{holds}
 use Rattle.store_writer.proofs.OutcomeLaws.{outcome-bad, outcome-refused, outcome-limited}
 
 -- an answer to one outcome is one to an equal outcome
-pub answers-as : {o o′ : Outcome} {out : Bytes} {number len : ℕ} {left : Bytes} → o ≡ o′ → Answers o′ out number len left → Answers o out number len left
-answers-as {out = out} {number = n} {len = l} {left = left} e a = subst (λ (x : Outcome). Answers x out n l left) (sym e) a
+pub answers-equal : {o o′ : Outcome} {out : Bytes} {number len : ℕ} {left : Bytes} → o ≡ o′ → Answers o′ out number len left → Answers o out number len left
+answers-equal {out = out} {number = n} {len = l} {left = left} e a = subst (λ (x : Outcome). Answers x out n l left) (sym e) a
 
 refused-is : (n : ℕ) (out : Bytes) → Answers (refused n) out n 0 out
 refused-is n out = record { number-is = refl; length-is = refl; buffer-is = refl }
 
 module _ (c : Call) (bs : Bytes) (room : ℕ) {out : Bytes} where
-  pub answers-bad : passes bs ≡ false → Answers (outcome c bs room) out 1 0 out
-  answers-bad h = answers-as (outcome-bad c bs room h) (refused-is 1 out)
+  answers-bad : passes bs ≡ false → Answers (outcome c bs room) out 1 0 out
+  answers-bad h = answers-equal (outcome-bad c bs room h) (refused-is 1 out)
 
-  pub answers-refused : passes bs ≡ true → (n : ℕ) → n ≡ first (conditions c (storeIn bs)) → (n ≡ 0 → ⊥) → Answers (outcome c bs room) out n 0 out
-  answers-refused h zero e f = absurd (f refl)
-  answers-refused h (suc n) e f = answers-as (outcome-refused c bs room (holds bs h) n (sym e)) (refused-is (suc n) out)
+  answers-condition : passes bs ≡ true → (n : ℕ) → n ≡ first (conditions c (storeIn bs)) → (n ≡ 0 → ⊥) → Answers (outcome c bs room) out n 0 out
+  answers-condition h zero e f = absurd (f refl)
+  answers-condition h (suc n) e f = answers-equal (outcome-refused c bs room (holds bs h) n (sym e)) (refused-is (suc n) out)
 
   -- f: the bodies of the store that is left
   pub answers-written : passes bs ≡ true → (n : ℕ) → n ≡ first (conditions c (storeIn bs)) → n ≡ 0 → (f : FlatStore) → flat (after c (storeIn bs)) ≡ f
       → {number len : ℕ} {left : Bytes} → Answers (limited room f) out number len left → Answers (outcome c bs room) out number len left
-  answers-written h n e z f g a = answers-as (outcome-limited c bs room (holds bs h) (sym e ∙ z) f g) a
+  answers-written h n e z f g a = answers-equal (outcome-limited c bs room (holds bs h) (sym e ∙ z) f g) a
 
 -- ---- in the words of the code: b is what the check gave, m the number of the first condition
 pub passed : {b : Bool} (bs : Bytes) → not b ≡ false → b ≡ passes bs → passes bs ≡ true
@@ -50,5 +50,5 @@ module _ (c : Call) (bs : Bytes) (room : ℕ) (out : Bytes) where
 
   pub turned-away : {b : Bool} {m n l : ℕ} → not b ≡ false → b ≡ passes bs → m ≡ first (conditions c (storeIn bs)) → (m ≡ 0 → ⊥) → (n ≡ m) × (l ≡ 0) → Answers (outcome c bs room) out n l out
   turned-away {m = m} h e f z (n-is, l-is) =
-      let a : Answers (outcome c bs room) out m 0 out = answers-refused c bs room (passed bs h e) m f z in
+      let a : Answers (outcome c bs room) out m 0 out = answers-condition c bs room (passed bs h e) m f z in
       record { number-is = n-is ∙ a .number-is; length-is = l-is ∙ a .length-is; buffer-is = a .buffer-is }

@@ -16,7 +16,7 @@ use Rattle.store_laws.specs.Forms.{formRead}
 use Rattle.store_laws.proofs.FormLaws.{bareForm, FormOf, read-form}
 use Rattle.planned_rows.proofs.PlannedLaws.{planned-same}
 use Rattle.store_writer.proofs.LimitLaws.{answers-refused, limited-ceiling}
-use Rattle.store_writer.proofs.CallLaws.{answers-as}
+use Rattle.store_writer.proofs.CallLaws.{answers-equal}
 
 module _ {w : ℕ} {g : FlatStore} {form : Bytes} {d p a : ℕ} (x : FormOf w g form d p a) where
   -- the store after a plan, by the form itself
@@ -27,7 +27,7 @@ module _ {w : ℕ} {g : FlatStore} {form : Bytes} {d p a : ℕ} (x : FormOf w g 
   pub form-answers : (plan : Plan) (v : Bytes) (f : FlatStore) (room : ℕ) {out : Bytes} {number len : ℕ} {left : Bytes}
       → Answers (limited room (plannedIn (formRead w form d p a) plan v f)) out number len left
       → Answers (limited room (plannedIn g plan v f)) out number len left
-  form-answers plan v f room r = answers-as (ap (limited room) (sym (planned-of plan v f))) r
+  form-answers plan v f room r = answers-equal (ap (limited room) (sym (planned-of plan v f))) r
 
 -- ---- a form past the ceilings
 without-rows : (a b c d e : Bool) → (a && (b && (c && (d && true)))) ≡ false → (a && (b && (c && (d && e)))) ≡ false
@@ -50,4 +50,4 @@ pub own-answers : {w : ℕ} {f : FlatStore} {form : Bytes} {d p a : ℕ} → For
     → (plan : Plan) (v : Bytes) (room : ℕ) {out : Bytes} {number len : ℕ} {left : Bytes}
     → Answers (limited room (plannedIn (formRead w form d p a) plan v f)) out number len left
     → Answers (limited room (planned plan v f)) out number len left
-own-answers {f} x plan v room r = answers-as (ap (limited room) (sym (planned-of x plan v f ∙ planned-same plan v f))) r
+own-answers {f} x plan v room r = answers-equal (ap (limited room) (sym (planned-of x plan v f ∙ planned-same plan v f))) r

@@ -1,4 +1,4 @@
--- The walk from row to row: whoever writes what is left has written all.
+-- The walk from row to row: once what is left is written, all is.
 use Prim.Native.Nat.{ℕ, zero, suc, _+_, _*_, _-_, _≤_, _<_}
 use native.Mathlib.Omega.{arith}
 use native.Mathlib.Nat.{mul-zero, mul-suc}

@@ -1,4 +1,6 @@
--- `add_attribute_call::write_added` meets its contract.
+-- `add_attribute_call::write_added` meets its contract: from 64 attributes on one more is past the ceiling, 16
+-- (`added-full` of Laws); else what `put_added` lays fits its buffer (`added-fits`, `added-long`), `edit_form` may be
+-- called (`added-asks`), and its answer is that for `added` (`added-answers`).
 use native.Mathlib.Omega.{arith}
 use lib.ListN.{length}
 use Rattle.attribute_form.proofs.CountLaws.{count-attributes}

@@ -1,4 +1,6 @@
--- `attribute_form::attributes_to` meets its contract.
+-- `attribute_form::attributes_to` meets its contract: the invariant holds before the first attribute (`counting-start`
+-- of CountLaws) and after each, by what `is_up_to` answers of it (`counting-on`); past the last, `sum` counts all
+-- attributes of the store (`counting-end`).
 use native.Mathlib.Omega.{arith}
 use Prim.Native.Nat.{_-_}
 use Rattle.attribute_form.proofs.CountLaws.{Counting, counting-start, counting-on, counting-end}

@@ -1,4 +1,5 @@
--- `attribute_form::is_up_to` meets its contract.
+-- `attribute_form::is_up_to` meets its contract: the case split is on the owner that is read: up to `owner` the
+-- attribute counts 1 (`up-to` of CountLaws), above it 0 (`past-it`).
 use native.Mathlib.Omega.{arith}
 use Rattle.attribute_form.proofs.CountLaws.{up-to, past-it}
 use borrow.Author.Needs.{needs}

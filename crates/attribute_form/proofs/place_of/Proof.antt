@@ -1,4 +1,6 @@
--- `attribute_form::place_of` meets its contract.
+-- `attribute_form::place_of` meets its contract: the width and the counts that are read are the store's, so that the
+-- place where attribute i begins, less the header, is its place in the form (`stands` of CountLaws); by the contract of
+-- `through_attributes` that place is not below the header's size.
 use native.Mathlib.Omega.{arith}
 use Rattle.attribute_form.proofs.CountLaws.{stands}
 use borrow.Author.Needs.{needs}

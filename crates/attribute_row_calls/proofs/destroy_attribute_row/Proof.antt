@@ -1,4 +1,6 @@
--- `attribute_row_calls::destroy_attribute_row` meets its contract.
+-- `attribute_row_calls::destroy_attribute_row` meets its contract: the call is refused on a bad store and by a
+-- condition (`bad`, `turned-away` of CallLaws). Else what `edit` requires holds (`takes-asks` of Calls), and the plan
+-- does what the change does (`destroy-attribute-row-planned` of CallsPlanned, `made-planned` of Calls).
 use borrow.Author.Needs.{needs}
 use mathlib.Core.List.{[]}
 use lib.ListN.{length}

@@ -1,4 +1,6 @@
--- `attribute_row_calls::set_attribute` meets its contract.
+-- `attribute_row_calls::set_attribute` meets its contract: the call is refused on a bad store and by a condition
+-- (`bad`, `turned-away` of CallLaws). Else what its calls require holds (`set-attribute-there`, `set-attribute-asks` of
+-- Laws), and the plan does what the change does (`set-attribute-planned` of CallsPlanned, `made-planned` of Calls).
 use borrow.Author.Needs.{needs}
 use mathlib.Core.Path.{_∙_, ap}
 use Prim.Native.Nat.{ℕ}

@@ -1,4 +1,6 @@
--- `attribute_writer::put_dropped` meets its contract.
+-- `attribute_writer::put_dropped` meets its contract: the form up to attribute i and the form from attribute i + 1 on,
+-- laid one after the other, are the form without attribute i (`dropped-laid` of Laws); the places are in range by their
+-- lengths (`before-small`, `rest-small` of FormParts).
 use native.Mathlib.Omega.{arith}
 use Rattle.lookup.specs.Bodies.{bodiesOf}
 use Rattle.attribute_form.proofs.FormParts.{before-small, rest-small}

@@ -1,4 +1,5 @@
--- `automaton::finishes` meets its contract.
+-- `automaton::finishes` meets its contract: before the first child the return is whether the model accepts nothing
+-- (`finish-none` of FactsLaws in `model`), and after a child whether that child may be the last (`finish-last`).
 use Rattle.model.proofs.FactsLaws.{finish-none, finish-last}
 use borrow.Author.Needs.{needs}
 use Rattle.automaton.proofs.finishes.Statement.{statement}

@@ -1,4 +1,5 @@
--- `automaton::joined` meets its contract.
+-- `automaton::joined` meets its contract: each arm returns what `in_sequence` or `in_choice` ensures, the clause of
+-- `join` for the kind of that arm.
 use borrow.Author.Needs.{needs}
 use Rattle.automaton.proofs.joined.Statement.{statement}
 use Rattle.automaton.proofs.joined.Tie as tie

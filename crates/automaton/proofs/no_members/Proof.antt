@@ -1,4 +1,5 @@
--- `automaton::no_members` meets its contract.
+-- `automaton::no_members` meets its contract: in each arm the four fields are those of `empty` for the kind of that
+-- arm.
 use borrow.Author.Needs.{needs}
 use Rattle.automaton.proofs.no_members.Statement.{statement}
 use Rattle.automaton.proofs.no_members.Tie as tie

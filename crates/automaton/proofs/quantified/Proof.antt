@@ -1,4 +1,5 @@
--- `automaton::quantified` meets its contract.
+-- `automaton::quantified` meets its contract: in each arm the return is the clause of `quantify` for the quantifier of
+-- that arm: f itself for `None`, and for `Star` and `Plus` a record whose `follow` is `again`.
 use borrow.Author.Needs.{needs}
 use Rattle.automaton.proofs.quantified.Statement.{statement}
 use Rattle.automaton.proofs.quantified.Tie as tie

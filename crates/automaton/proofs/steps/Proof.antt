@@ -1,4 +1,5 @@
--- `automaton::steps` meets its contract.
+-- `automaton::steps` meets its contract: before the first child the return is whether y may be the first (`step-first`
+-- of FactsLaws in `model`), and after a child whether y may follow it (`step-follow`).
 use Rattle.model.proofs.FactsLaws.{step-first, step-follow}
 use borrow.Author.Needs.{needs}
 use Rattle.automaton.proofs.steps.Statement.{statement}

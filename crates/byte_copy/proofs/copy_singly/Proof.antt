@@ -1,4 +1,5 @@
--- `byte_copy::copy_singly` meets its contract.
+-- `byte_copy::copy_singly` meets its contract: each step copies one byte more (`copy-more` of CopyLaws), and the loop
+-- ends where i is the length of `src`, so that all of it is copied (`take-length` of Seq).
 use mathlib.Core.Path.{_≡_, refl, _∙_}
 use mathlib.Core.List.{_++_}
 use Prim.Native.Nat.{_≤_, _<_, _-_, zero-le}

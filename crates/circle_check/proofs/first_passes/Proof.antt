@@ -1,4 +1,5 @@
--- `circle_check::first_passes` meets its contract.
+-- `circle_check::first_passes` meets its contract: a particle of a sort other than 0 is a group, which passes
+-- (`first-group` of MemberLaws), and an element passes if and only if the byte at its index is not 0 (`first-element`).
 use Rattle.circle_check.proofs.MemberLaws.{first-group, first-element}
 use borrow.Author.Needs.{needs}
 use Rattle.circle_check.proofs.first_passes.Statement.{statement}

@@ -1,4 +1,6 @@
--- `circle_check::heights_avoiding` meets its contract.
+-- `circle_check::heights_avoiding` meets its contract: the invariant holds before the first round (`avoiding-starts` of
+-- AvoidLaws) and after each, the target's height set to 0 (`avoiding-on`, by the contract of `round`); after n rounds
+-- it is the contract (`avoiding-ends`).
 use borrow.Author.Needs.{needs}
 use Prim.Native.Nat.{_-_}
 use native.Mathlib.Omega.{arith}

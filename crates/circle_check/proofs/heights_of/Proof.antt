@@ -1,4 +1,6 @@
--- `circle_check::heights_of` meets its contract.
+-- `circle_check::heights_of` meets its contract: the invariant holds before the first round (`rounds-start` of
+-- RoundLaws) and after each (`rounds-on`, by the contract of `round`); after n rounds it gives the heights, and with
+-- the answer of `whole` whether every chain ends (`rounds-end`).
 use borrow.Author.Needs.{needs}
 use Prim.Native.Nat.{_-_}
 use native.Mathlib.Omega.{arith}

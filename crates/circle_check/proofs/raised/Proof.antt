@@ -1,4 +1,5 @@
--- `circle_check::raised` meets its contract.
+-- `circle_check::raised` meets its contract: a height other than 0 stays (`raised-was` of RoundLaws); else the answer
+-- of `settled` decides between h (`raised-new`) and 0 (`raised-none`).
 use Rattle.rules.specs.Bytes.{all}
 use Rattle.circle_check.specs.Members.{elementsOf}
 use Rattle.circle_check.specs.Deep.{hasHeight}

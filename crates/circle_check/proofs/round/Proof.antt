@@ -1,4 +1,6 @@
--- `circle_check::round` meets its contract.
+-- `circle_check::round` meets its contract: the invariant holds before the first definition (`rounding-starts` of
+-- RoundLaws) and after each, by what `particles_part` reads and `raised` answers (`rounding-on`); past the last it is
+-- `Round` (`rounding-ends`).
 use borrow.Author.Needs.{needs}
 use Prim.Native.Nat.{_-_}
 use native.Mathlib.Omega.{arith}

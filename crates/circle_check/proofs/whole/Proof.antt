@@ -1,4 +1,5 @@
--- `circle_check::whole` meets its contract.
+-- `circle_check::whole` meets its contract: a height of 0 makes the answer false (`passed-no` of RoundLaws); any other
+-- keeps the invariant (`passed-starts`, `passed-on`), and past the last definition the answer is true (`passed-ends`).
 use borrow.Author.Needs.{needs}
 use native.Mathlib.Omega.{arith}
 use Prim.Native.Nat.{_-_}

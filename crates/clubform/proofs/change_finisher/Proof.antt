@@ -1,4 +1,6 @@
--- `clubform::change_finisher` meets its contract.
+-- `clubform::change_finisher` meets its contract: each call reads the stage that is required or that the call before it
+-- leaves, in a part of the buffer as long as that store (`front` of Laws); what the last call leaves, stage 13, is the
+-- contract.
 use borrow.Author.Needs.{needs}
 use Rattle.clubform.proofs.Laws.{front}
 use Rattle.clubform.proofs.change_finisher.Statement.{statement}

@@ -1,4 +1,6 @@
--- `clubform::create_definitions` meets its contract.
+-- `clubform::create_definitions` meets its contract: `fresh` gives stage 0, and each later call reads the stage that
+-- the call before it leaves, in a part of the buffer as long as that store (`front` of Laws); what the last call
+-- leaves, stage 4, is the contract.
 use borrow.Author.Needs.{needs}
 use Rattle.clubform.proofs.Laws.{front}
 use Rattle.clubform.proofs.create_definitions.Statement.{statement}

@@ -1,4 +1,5 @@
--- `clubform::fresh` meets its contract.
+-- `clubform::fresh` meets its contract: the 40 bytes, zeros but for the six that are set, are those to which `stage` 0
+-- computes.
 use borrow.Author.Needs.{needs}
 use Rattle.rules.specs.Layout.{valueWidth}
 use mathlib.Core.Path.{refl}

@@ -1,4 +1,6 @@
--- `clubform::insert_members` meets its contract.
+-- `clubform::insert_members` meets its contract: each call reads the stage that is required or that the call before it
+-- leaves, in a part of the buffer as long as that store (`front` of Laws); what the last call leaves, stage 7, is the
+-- contract.
 use borrow.Author.Needs.{needs}
 use Rattle.clubform.proofs.Laws.{front}
 use Rattle.clubform.proofs.insert_members.Statement.{statement}

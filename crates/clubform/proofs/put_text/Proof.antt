@@ -1,4 +1,5 @@
--- `clubform::put_text` meets its contract.
+-- `clubform::put_text` meets its contract: the rules, computed, say that stage 13 is printed as `lastText` (`print` of
+-- `accepted` in Stages); so the number is 0, as `expect` requires, and the buffer holds that text (`answered` of Laws).
 use borrow.Author.Needs.{needs}
 use Rattle.clubform.proofs.Stages.{accepted}
 use Rattle.clubform.proofs.Laws.{answered}

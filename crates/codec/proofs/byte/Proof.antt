@@ -1,4 +1,5 @@
--- `codec::byte` meets its contract.
+-- `codec::byte` meets its contract: inside s the byte read is `getD` of s, which the search finds. Past the end `getD`
+-- is its default, 0 (`List·getD-eq-default` of ListN).
 use mathlib.Core.Path.{sym}
 use lib.ListN.{List·getD-eq-default}
 use borrow.Author.Needs.{needs}

@@ -1,4 +1,6 @@
--- `codec::equal` meets its contract.
+-- `codec::equal` meets its contract: strings of two lengths differ (`same-lengths` of Strings). Two bytes that differ
+-- settle it (`same-off`), equal ones keep the invariant (`same-on`), and at the end nothing is left to compare
+-- (`same-end`).
 use mathlib.Core.Path.{_≡_, sym, _∙_}
 use Prim.Native.Nat.{_-_}
 use native.Mathlib.Omega.{arith}

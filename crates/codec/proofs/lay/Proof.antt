@@ -1,4 +1,5 @@
--- `codec::lay` meets its contract.
+-- `codec::lay` meets its contract: each step stores the byte at i and so keeps the invariant (`lay-step` of Writers).
+-- At the end no byte is left to lay (`drop-of-length-le` of ListN), so that the invariant is the contract.
 use Rattle.codec.proofs.Writers.{lay-step}
 use borrow.Author.Needs.{needs}
 use mathlib.Core.Path.{_≡_, _∙_}

@@ -1,4 +1,5 @@
--- `codec::part` meets its contract.
+-- `codec::part` meets its contract: the first two returns are those where s is too short for n bytes from `at` on
+-- (`part-short` of Strings), and the last is the one where it is not (`part-there`).
 use mathlib.Core.Path.{_≡_, sym, ap, _∙_}
 use Prim.Native.Nat.{ℕ, _+_, _-_}
 use native.Mathlib.Omega.{arith}

@@ -1,4 +1,6 @@
--- `codec::put` meets its contract.
+-- `codec::put` meets its contract: where all of `src` has room it is copied into the tail that is lent (`tail-copied`
+-- of Writers), where only `at` lies within `out` it is laid there as far as `out` goes (`tail-sets`), and past the end
+-- nothing is stored (`sets-past`).
 use mathlib.Core.Path.{refl, sym}
 use Rattle.codec.proofs.Writers.{tail-copied, tail-sets, sets-past}
 use native.Mathlib.Omega.{arith}

@@ -1,4 +1,5 @@
--- `codec::store` meets its contract.
+-- `codec::store` meets its contract: inside `out` the write is `set`, which the search finds. Past the end `set`
+-- changes nothing (`set-out` of Seq).
 use mathlib.Core.Path.{sym}
 use lib.Seq.{set-out}
 use borrow.Author.Needs.{needs}

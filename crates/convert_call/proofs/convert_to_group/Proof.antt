@@ -1,15 +1,15 @@
--- `convert_call::convert_to_group` meets its contract.
+-- `convert_call::convert_to_group` meets its contract: the call is refused on a bad store and by a condition
+-- (`bad`, `turned-away` of CallLaws). Else the edit fits at the place (`convert-fits` of Laws), and
+-- `edit_model` writes what the change leaves (`kept-answers` of Keeping).
 use mathlib.Core.Path.{sym, ap, _∙_}
 use lib.ListN.{length}
-use borrow.Author.Tests.{not-true, not-false}
 use Rattle.rules.specs.declared.GroupKind.{GroupKind}
 use Rattle.rules.specs.Edit.{convert}
 use Rattle.rules.specs.Lines.{lines}
 use Rattle.rules.specs.Change.{convertToGroup}
 use Rattle.store_laws.specs.Stores.{storeIn}
 use Rattle.model_writer.specs.declared.Edit.the-variants.{Convert}
-use Rattle.store_writer.proofs.CallLaws.{answers-bad, answers-refused}
-use Rattle.store_writer.proofs.LimitLaws.{answers-as}
+use Rattle.store_writer.proofs.CallLaws.{passed, bad, turned-away}
 use Rattle.model_edit.proofs.Fits.{asks}
 use Rattle.model_edit.proofs.Keeping.{kept-answers, keeping-sized}
 use Rattle.convert_call.proofs.Laws.{convert-fits, convert-form, convert-plan}
@@ -31,14 +31,14 @@ returns c =
     let at-passes = at-if1 .before in
     let start = at-passes .before .before .before .before in
     let a = start .args in
-    answers-as (c .refused .ensures .0) (c .refused .ensures .1)
-    (answers-bad (convertToGroup (a .owner) (a .place .now) (a .count) (a .sort)) (a .store .now) (length (a .out .now))
-    (sym (at-passes .passes .ensures) ∙ not-true _ (at-if1 .if1 .taken)))
+    bad (convertToGroup (a .owner) (a .place .now) (a .count) (a .sort)) (a .store .now) (length (a .out .now)) (a .out .now)
+    (at-if1 .if1 .taken) (at-passes .passes .ensures) (c .refused .ensures)
 
 convert-to-group-refusal-requires : tie.Need-convert-to-group-refusal-requires
 convert-to-group-refusal-requires c κs =
     let at-passes = c .before in
-    sym (at-passes .passes .ensures) ∙ not-false _ (c .if1 .left)
+    let start = at-passes .before .before .before .before in
+    passed (start .args .store .now) (c .if1 .left) (at-passes .passes .ensures)
 
 refused-requires-2 : tie.Need-refused-requires-2
 refused-requires-2 c κs = search needs
@@ -51,9 +51,8 @@ returns-2 c =
     let at-passes = at-if1 .before in
     let start = at-passes .before .before .before .before in
     let a = start .args in
-    answers-as (c .refused2 .ensures .0) (c .refused2 .ensures .1)
-    (answers-refused (convertToGroup (a .owner) (a .place .now) (a .count) (a .sort)) (a .store .now) (length (a .out .now))
-    (sym (at-passes .passes .ensures) ∙ not-false _ (at-if1 .if1 .left)) _ (at-convert-to-group-refusal .convert-to-group-refusal .ensures .0) (at-if2 .if2 .taken))
+    turned-away (convertToGroup (a .owner) (a .place .now) (a .count) (a .sort)) (a .store .now) (length (a .out .now)) (a .out .now)
+    (at-if1 .if1 .left) (at-passes .passes .ensures) (at-convert-to-group-refusal .convert-to-group-refusal .ensures .0) (at-if2 .if2 .taken) (c .refused2 .ensures)
 
 group-kind-requires : tie.Need-group-kind-requires
 group-kind-requires c κs = search needs
@@ -75,7 +74,7 @@ edit-model-requires c κs =
     let start = at-passes .before .before .before .before in
     let a = start .args in
     let none = sym (at-convert-to-group-refusal .convert-to-group-refusal .ensures .0) ∙ at-if2 .if2 .left in
-    let fits = convert-fits (a .store .now) (sym (at-passes .passes .ensures) ∙ not-false _ (at-if1 .if1 .left)) (a .owner) (a .place .now) (a .count) (a .sort) none in
+    let fits = convert-fits (a .store .now) (passed (a .store .now) (at-if1 .if1 .left) (at-passes .passes .ensures)) (a .owner) (a .place .now) (a .count) (a .sort) none in
     let place = at-convert-to-group-refusal .convert-to-group-refusal .ensures .1 .found (at-if2 .if2 .left) in
     let edit = Convert (at-group-kind .group-kind .result) (a .count) in
     let same = ap (λ (k : GroupKind). convert k (a .count)) (at-group-kind .group-kind .ensures) in
@@ -96,7 +95,7 @@ returns-3 c =
     let start = at-passes .before .before .before .before in
     let a = start .args in
     let none = sym (at-convert-to-group-refusal .convert-to-group-refusal .ensures .0) ∙ at-if2 .if2 .left in
-    let fits = convert-fits (a .store .now) (sym (at-passes .passes .ensures) ∙ not-false _ (at-if1 .if1 .left)) (a .owner) (a .place .now) (a .count) (a .sort) none in
+    let fits = convert-fits (a .store .now) (passed (a .store .now) (at-if1 .if1 .left) (at-passes .passes .ensures)) (a .owner) (a .place .now) (a .count) (a .sort) none in
     let place = at-convert-to-group-refusal .convert-to-group-refusal .ensures .1 .found (at-if2 .if2 .left) in
     let edit = Convert (at-group-kind .group-kind .result) (a .count) in
     let same = ap (λ (k : GroupKind). convert k (a .count)) (at-group-kind .group-kind .ensures) in

@@ -1,4 +1,6 @@
--- `create_definition_call::create_definition` meets its contract.
+-- `create_definition_call::create_definition` meets its contract: the returns are for a bad store (`bad` of CallLaws),
+-- a condition (`turned-away`), a limit (`answers-limit` of Limits) and none of these (`answers-all`); the bodies after
+-- the change are `created` (`flat-after-create` of CreateCall), name and kind fit (`fresh` of CreateConditions).
 use Rattle.create_definition_call.proofs.CreateCall.{flat-after-create}
 use Rattle.definition_refusals.proofs.CreateConditions.{fresh}
 use Rattle.store_writer.proofs.CallLaws.{passed, bad, turned-away}

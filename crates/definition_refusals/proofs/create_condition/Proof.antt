@@ -1,4 +1,6 @@
--- `definition_refusals::create_condition` meets its contract.
+-- `definition_refusals::create_condition` meets its contract: the tests decide the three conditions of
+-- `createDefinition` in their order, and each return is the number of the first that holds, 0 where none does
+-- (`bad-name`, `bad-code`, `name-taken`, `name-free` of CreateConditions).
 use Rattle.definition_refusals.proofs.CreateConditions.{bad-name, bad-code, name-taken, name-free}
 use borrow.Author.Tests.{not-true, not-false}
 use native.Mathlib.Omega.{arith}

@@ -1,4 +1,6 @@
--- `definition_refusals::create_limit` meets its contract.
+-- `definition_refusals::create_limit` meets its contract: from 64 definitions on one more is too many (`at-ceiling` of
+-- CreateLimits); below that the store grows by the size of a definition, for which there is no room (`no-room`) or
+-- there is (`no-limit`).
 use Rattle.definition_refusals.proofs.CreateLimits.{at-ceiling, no-room, no-limit}
 use native.Mathlib.Omega.{arith}
 use borrow.Author.Needs.{needs}

@@ -1,4 +1,5 @@
--- `definition_refusals::destroy_limit` meets its contract.
+-- `definition_refusals::destroy_limit` meets its contract: the counts that are left give the length of the store
+-- without definition i, which is above the room (`short-room` of DestroyLimits) or not (`enough-room`).
 use Rattle.definition_refusals.proofs.DestroyLimits.{short-room, enough-room}
 use native.Mathlib.Omega.{arith}
 use borrow.Author.Needs.{needs}

@@ -1,4 +1,5 @@
--- `definition_removal::attribute_start` meets its contract.
+-- `definition_removal::attribute_start` meets its contract: the width, the count and the body that are read are the
+-- store's, so the answer of `attributes_below` is the number for the store's attributes (`attribute-starts` of Left).
 use Rattle.definition_removal.proofs.Left.{attribute-starts}
 use borrow.Author.Needs.{needs}
 use Rattle.definition_removal.proofs.attribute_start.Statement.{statement}

@@ -1,4 +1,6 @@
--- `definition_removal::attributes_below` meets its contract.
+-- `definition_removal::attributes_below` meets its contract: the loop's invariant holds at first (`counting-start` of
+-- Moving) and after each attribute (`counting-on`), and where none is left `sum` is the number asked for
+-- (`counting-end`); by the invariant `sum` is at most j, so that it is in range.
 use Rattle.definition_removal.proofs.Moving.{Counting, counting-start, counting-on, counting-end}
 use borrow.Author.Needs.{needs}
 use native.Mathlib.Omega.{arith}

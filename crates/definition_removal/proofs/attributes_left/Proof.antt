@@ -1,4 +1,6 @@
--- `definition_removal::attributes_left` meets its contract.
+-- `definition_removal::attributes_left` meets its contract: the range of definition i lies within the count, as
+-- `without` requires, and the count less that range is the number of attributes that `destroyed` leaves, at most 64
+-- (`attributes-left` of Left).
 use Rattle.definition_removal.proofs.Left.{attributes-left}
 use native.Mathlib.Omega.{arith}
 use borrow.Author.Needs.{needs}

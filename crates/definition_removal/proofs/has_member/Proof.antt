@@ -1,4 +1,6 @@
--- `definition_removal::has_member` meets its contract.
+-- `definition_removal::has_member` meets its contract: the loop is the search of Searching in `lookup`: it begins with
+-- all particles (`searching-start`), an element with the definition's index ends it with true (`searching-hit`), any
+-- other particle is passed (`searching-on`), and past the last the answer is false (`searching-end`).
 use Rattle.lookup.proofs.Searching.{Searching, searching-start, searching-hit, searching-on, searching-end}
 use Rattle.definition_removal.specs.Bodies.{isMember}
 use Rattle.rules.specs.Layout.{particleSize}

@@ -1,4 +1,6 @@
--- `definition_removal::has_root` meets its contract.
+-- `definition_removal::has_root` meets its contract: the loop is the search of Searching in `lookup`: it begins with
+-- all rows (`searching-start`), a document of the definition ends it with true (`searching-hit`), any other row is
+-- passed (`searching-on`), and past the last the answer is false (`searching-end`).
 use Rattle.lookup.proofs.Searching.{Searching, searching-start, searching-hit, searching-on, searching-end}
 use Rattle.definition_removal.specs.Bodies.{isRoot}
 use Rattle.rules.specs.Layout.{rowSize}

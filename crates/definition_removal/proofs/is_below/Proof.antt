@@ -1,4 +1,5 @@
--- `definition_removal::is_below` meets its contract.
+-- `definition_removal::is_below` meets its contract: the return is 1 where the owner that is read is below i
+-- (`below-yes` of Moving), and 0 where it is not (`below-no`).
 use Rattle.definition_removal.proofs.Moving.{below-yes, below-no}
 use native.Mathlib.Omega.{arith}
 use borrow.Author.Needs.{needs}

@@ -1,4 +1,5 @@
--- `definition_removal::is_root` meets its contract.
+-- `definition_removal::is_root` meets its contract: the test is the definition of `isRoot`, with the depth, the sort
+-- and the index that the three readers give by their contracts.
 use lib.Dec.{eqb}
 use mathlib.Core.Bool.{_&&_}
 use borrow.Author.Needs.{needs}

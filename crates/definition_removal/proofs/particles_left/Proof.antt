@@ -1,4 +1,6 @@
--- `definition_removal::particles_left` meets its contract.
+-- `definition_removal::particles_left` meets its contract: the range of definition i lies within the count, as
+-- `without` requires, and the count less that range is the number of particles that `destroyed` leaves, at most 256
+-- (`models-left` of Left).
 use Rattle.definition_removal.proofs.Left.{models-left}
 use native.Mathlib.Omega.{arith}
 use borrow.Author.Needs.{needs}

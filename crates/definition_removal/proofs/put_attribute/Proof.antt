@@ -1,4 +1,5 @@
--- `definition_removal::put_attribute` meets its contract.
+-- `definition_removal::put_attribute` meets its contract: the record is written with the owner that `lower_byte` gives
+-- for the owner that is read, which is `attributeRecord` (`attribute-laid` of Moving).
 use Rattle.definition_removal.proofs.Moving.{attribute-laid}
 use Rattle.definition_removal.specs.Bodies.{lowered}
 use Prim.Native.Nat.{suc}

@@ -1,4 +1,6 @@
--- `definition_removal::put_attributes_left` meets its contract.
+-- `definition_removal::put_attributes_left` meets its contract: the attributes before those of definition i and those
+-- after them are what `destroyed` leaves (`attributes-laid` of LeftBytes); counts and places are in range by `encoded`
+-- of Encoded in `store_laws` and by the length of a record (`records-short`, `attribute-short` of Again).
 use Rattle.definition_removal.proofs.LeftBytes.{attributes-laid}
 use Rattle.definition_removal.proofs.Again.{records-short, attribute-short}
 use Rattle.store_laws.proofs.Encoded.{encoded}

@@ -1,4 +1,6 @@
--- `definition_removal::put_destroyed` meets its contract.
+-- `definition_removal::put_destroyed` meets its contract: the header and the four bodies that are left, laid one after
+-- the other, are the store without definition i (`destroyed-laid` of LeftBytes); the places are bounded by the ceilings
+-- (`after-header`, `after-definitions`, `after-particles`, `after-attributes`).
 use native.Mathlib.Omega.{arith}
 use Rattle.definition_removal.proofs.LeftBytes.{destroyed-laid, after-header, after-definitions, after-particles, after-attributes}
 use borrow.Author.Needs.{needs}

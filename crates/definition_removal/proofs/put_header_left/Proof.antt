@@ -1,4 +1,6 @@
--- `definition_removal::put_header_left` meets its contract.
+-- `definition_removal::put_header_left` meets its contract: the three counts are those of `destroyed`, so the header
+-- written with them is `headerLeft` (`header-left` of Left); that of the definitions is in range by `encoded` of
+-- Encoded in `store_laws`, the others by their contracts.
 use Rattle.definition_removal.proofs.Left.{header-left}
 use Rattle.store_laws.proofs.Encoded.{encoded}
 use native.Mathlib.Omega.{arith}

@@ -1,4 +1,6 @@
--- `definition_removal::put_rows_left` meets its contract.
+-- `definition_removal::put_rows_left` meets its contract: the rows that `walk_rows` writes by the plan `shifting` are
+-- what `destroyed` leaves (`rows-laid` of LeftBytes); the walk may be made as the plan's numbers are small (`sized` of
+-- KeptRows) and the empty text is a value (`none-value` of WellFormedLaws in `rules`).
 use Rattle.layout.specs.Bodies.{widthOf}
 use Rattle.definition_removal.proofs.KeptRows.{sized}
 use native.Mathlib.Omega.{arith}

@@ -1,4 +1,5 @@
--- `definition_removal::shifting` meets its contract.
+-- `definition_removal::shifting` meets its contract: the return is the definition of `shifting`, with the 64 zeros of
+-- `marks` for `unmarked`.
 use mathlib.Core.Path.{refl}
 use Rattle.plans.specs.CallPlans.{unmarked}
 use Rattle.definition_removal.proofs.shifting.Statement.{statement}

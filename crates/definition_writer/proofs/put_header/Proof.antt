@@ -1,4 +1,5 @@
--- `definition_writer::put_header` meets its contract.
+-- `definition_writer::put_header` meets its contract: it is the contract of `layout_writer::put_header` with the
+-- store's width, next serial and number of rows put in for those that were read (`laid-as` of Writers in `codec`).
 use mathlib.Core.Path.{sym}
 use Rattle.codec.proofs.Writers.{laid-as}
 use Rattle.layout.specs.Header.{headed}

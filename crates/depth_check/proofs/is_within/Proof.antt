@@ -1,4 +1,6 @@
--- `depth_check::is_within` meets its contract.
+-- `depth_check::is_within` meets its contract: each arm has the law of its edit in Ceiling (`inserted-within`,
+-- `removed-within`, `requantified-within`, `grouped-within`, `flattened-within`). The particles from n on are within
+-- the ceiling, as `moved_within` requires (`within-drop`).
 use mathlib.Core.Path.{ap, _∙_}
 use mathlib.Core.Bool.{Bool, true, _&&_}
 use lib.Dec.{leb}

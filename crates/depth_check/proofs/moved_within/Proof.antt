@@ -1,4 +1,6 @@
--- `depth_check::moved_within` meets its contract.
+-- `depth_check::moved_within` meets its contract: the answer is true where no further particle moves (`deep-stop` of
+-- Ceiling), false where one of depth 4 or more moves (`deep-over`), and true where no particle is left (`deep-done`).
+-- Any other particle keeps the invariant (`deep-step`).
 use mathlib.Core.Path.{sym, ap}
 use mathlib.Core.Bool.{true}
 use Prim.Native.Nat.{ℕ, _-_}

@@ -1,4 +1,6 @@
--- `destroy_attribute_call::destroy_attribute` meets its contract.
+-- `destroy_attribute_call::destroy_attribute` meets its contract: a store that does not pass is refused with 1 (`bad`
+-- of CallLaws), a condition that holds gives its number (`turned-away`); else `write_dropped` may be called
+-- (`droppable` of Laws), and it answers the outcome (`made` of Calls), as `dropped` is what is left (`destroy-leaves`).
 use mathlib.Core.List.{[]}
 use lib.ListN.{length}
 use Rattle.rules.specs.Change.{destroyAttribute}

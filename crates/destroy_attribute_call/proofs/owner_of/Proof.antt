@@ -1,4 +1,5 @@
--- `destroy_attribute_call::owner_of` meets its contract.
+-- `destroy_attribute_call::owner_of` meets its contract: the attribute is one of the store's, as is required, so that
+-- the record that is read is its own and the owner in it is `ownerAt` (`owner-is` of CountLaws in `attribute_form`).
 use native.Mathlib.Omega.{arith}
 use Rattle.attribute_form.proofs.CountLaws.{owner-is}
 use borrow.Author.Needs.{needs}

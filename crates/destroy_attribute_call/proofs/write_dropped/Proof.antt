@@ -1,4 +1,6 @@
--- `destroy_attribute_call::write_dropped` meets its contract.
+-- `destroy_attribute_call::write_dropped` meets its contract: what `put_dropped` lays fits its buffer (`dropped-fits`,
+-- `dropped-long` of Laws), `edit_form` may be called (`dropped-asks`), and its answer is that for `dropped`
+-- (`dropped-answers`); there is an attribute, so the count less 1 is in range (`count-attributes` of CountLaws).
 use native.Mathlib.Omega.{arith}
 use lib.ListN.{length}
 use Rattle.attribute_form.proofs.CountLaws.{count-attributes}

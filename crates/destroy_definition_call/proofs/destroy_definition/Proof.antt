@@ -1,4 +1,6 @@
--- `destroy_definition_call::destroy_definition` meets its contract.
+-- `destroy_definition_call::destroy_definition` meets its contract: the call is refused on a bad store, by a condition
+-- (`bad`, `turned-away` of CallLaws) and by a limit (`answers-limit` of Limits). Else the store is written
+-- (`answers-all`), and its bodies are those that the change leaves (`flat-after-destroy` of DestroyCall).
 use Rattle.destroy_definition_call.proofs.DestroyCall.{flat-after-destroy}
 use Rattle.definition_refusals.proofs.DestroyConditions.{stands}
 use Rattle.store_writer.proofs.CallLaws.{passed, bad, turned-away}

@@ -1,4 +1,6 @@
--- `document_call::add_document` meets its contract.
+-- `document_call::add_document` meets its contract: the returns are for a bad store (`bad` of CallLaws), a condition
+-- (`turned-away`) and the answer of `edit` (`made-planned` of Calls, `add-document-planned` of CallsPlanned); what
+-- `edit` requires is `add-document-asks` of Laws.
 use borrow.Author.Needs.{needs}
 use lib.ListN.{length}
 use Rattle.rules.specs.Change.{addDocument}

@@ -1,4 +1,6 @@
--- `element_calls::add_element` meets its contract.
+-- `element_calls::add_element` meets its contract: the returns are for a bad store (`bad` of CallLaws), a condition
+-- (`turned-away`) and the answer of `edit` (`made-planned` of Calls, `add-element-planned` of CallsPlanned); what
+-- `child_serial` and `edit` require is `add-element-there` and `add-element-asks` of Laws.
 use borrow.Author.Needs.{needs}
 use mathlib.Core.Path.{_∙_, ap}
 use Prim.Native.Nat.{ℕ}

@@ -1,4 +1,5 @@
--- `escaping::is_plain` meets its contract.
+-- `escaping::is_plain` meets its contract: of false nothing is promised. A byte that is none of the four keeps the
+-- invariant (`plain-on` of Laws), and at the end no byte is left to escape (`plain-end`).
 use mathlib.Core.Path.{_≡_}
 use mathlib.Core.Bool.{false≢true}
 use Prim.Native.Nat.{_-_}

@@ -1,4 +1,6 @@
--- `escaping::put_escaped` meets its contract.
+-- `escaping::put_escaped` meets its contract: a plain value is its own escape by the contract of `is_plain`, so that it
+-- is written as it is (`laid-as` of Writers). Else each byte that is written, escaped, keeps the invariant
+-- (`escaping-on` of Laws), and at the end no byte is left to write (`escaping-done`).
 use mathlib.Core.Path.{refl}
 use Prim.Native.Nat.{_-_}
 use native.Mathlib.Omega.{arith}
@@ -9,7 +11,7 @@ use Rattle.escaping.proofs.Laws.{laid-long, Escaping, escaping-on, esca
 use Rattle.escaping.proofs.put_escaped.Statement.{statement}
 use Rattle.escaping.proofs.put_escaped.Tie as tie
 
--- whoever writes the rest of the value, escaped, has written all of it
+-- once the rest of the value is written, escaped, all of it is
 abbrev Inv-loop : tie.InvT-loop
 Inv-loop value out₀ start at₀ i₀ out at i = Escaping value out₀ start out at i
 

@@ -1,4 +1,5 @@
--- `escaping::put_escaped_byte` meets its contract.
+-- `escaping::put_escaped_byte` meets its contract: each of the first four arms writes the escape of its byte, and the
+-- last arm a byte that is none of the four and so its own escape (`escape-other` of Laws).
 use mathlib.Core.Path.{ap}
 use Rattle.rules.specs.Print.{escapeByte}
 use Rattle.codec.proofs.Writers.{laid-as}

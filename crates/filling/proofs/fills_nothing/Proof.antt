@@ -1,4 +1,5 @@
--- `filling::fills_nothing` meets its contract.
+-- `filling::fills_nothing` meets its contract: a sequence fills as its members do, so that no test is needed
+-- (`filled-list` of FillingLaws), and a choice fills with nothing where it accepts nothing (`filled-choice`).
 use Rattle.model.specs.Members.{membersFrom}
 use Rattle.filling.proofs.FillingLaws.{filled-list, filled-choice}
 use borrow.Author.Needs.{needs}

@@ -1,4 +1,5 @@
--- `filling::is_needed` meets its contract.
+-- `filling::is_needed` meets its contract: an element, sort 0, must be there unless its quantifier lets it be absent
+-- (`needed-element` of NeededLaws), and a group is no element (`needed-group`).
 use Rattle.filling.proofs.NeededLaws.{needed-element, needed-group}
 use borrow.Author.Needs.{needs}
 use Rattle.filling.proofs.is_needed.Statement.{statement}

@@ -1,4 +1,6 @@
--- `filling::needs_no_element` meets its contract.
+-- `filling::needs_no_element` meets its contract: a particle less deep than d ends the members (`no-element-over` of
+-- NeededLaws), an element that must be there settles it (`no-element-stop`), and any other keeps the invariant
+-- (`no-element-on`). Where no particle is left none must be there (`no-element-few`).
 use mathlib.Core.Path.{_≡_, refl, sym, _∙_}
 use native.Mathlib.Omega.{arith}
 use lib.ListN.{length}

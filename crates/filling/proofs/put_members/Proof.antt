@@ -1,4 +1,6 @@
--- `filling::put_members` meets its contract.
+-- `filling::put_members` meets its contract: where `fills_nothing` is true the filling of the group is empty and
+-- nothing is written (`group-empty`, `none-written` of FillingLaws), else it is the one that `put_group` writes
+-- (`group-full`, `same-written`).
 use Rattle.filling.specs.Fillings.{groupFilled}
 use Rattle.filling.specs.Parts.{defsIn, partsIn, attrsIn, widthIn, countIn, versionOfFilling, membersReadAt}
 use Rattle.filling.proofs.FillingLaws.{none-written, same-written, group-empty, group-full}

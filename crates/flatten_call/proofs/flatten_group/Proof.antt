@@ -1,13 +1,13 @@
--- `flatten_call::flatten_group` meets its contract.
+-- `flatten_call::flatten_group` meets its contract: a store that does not pass is refused with 1 (`bad` of
+-- CallLaws), a condition that holds gives its number (`turned-away`); else the edit fits its place (`flatten-fits`
+-- of Laws; `asks` of Fits) and keeps all rows (`kept-answers` of Keeping, by `flatten-form`, `flatten-plan`).
 use mathlib.Core.Path.{refl, sym, _∙_}
 use lib.ListN.{length}
-use borrow.Author.Tests.{not-true, not-false}
 use Rattle.rules.specs.Lines.{lines}
 use Rattle.rules.specs.Change.{flattenGroup}
 use Rattle.store_laws.specs.Stores.{storeIn}
 use Rattle.model_writer.specs.declared.Edit.the-variants.{Flatten}
-use Rattle.store_writer.proofs.CallLaws.{answers-bad, answers-refused}
-use Rattle.store_writer.proofs.LimitLaws.{answers-as}
+use Rattle.store_writer.proofs.CallLaws.{passed, bad, turned-away}
 use Rattle.model_edit.proofs.Fits.{asks}
 use Rattle.model_edit.proofs.Keeping.{kept-answers, keeping-sized}
 use Rattle.flatten_call.proofs.Laws.{flatten-fits, flatten-form, flatten-plan}
@@ -29,14 +29,14 @@ returns c =
     let at-passes = at-if1 .before in
     let start = at-passes .before .before .before .before in
     let a = start .args in
-    answers-as (c .refused .ensures .0) (c .refused .ensures .1)
-    (answers-bad (flattenGroup (a .owner) (a .place .now)) (a .store .now) (length (a .out .now))
-    (sym (at-passes .passes .ensures) ∙ not-true _ (at-if1 .if1 .taken)))
+    bad (flattenGroup (a .owner) (a .place .now)) (a .store .now) (length (a .out .now)) (a .out .now)
+    (at-if1 .if1 .taken) (at-passes .passes .ensures) (c .refused .ensures)
 
 flatten-group-refusal-requires : tie.Need-flatten-group-refusal-requires
 flatten-group-refusal-requires c κs =
     let at-passes = c .before in
-    sym (at-passes .passes .ensures) ∙ not-false _ (c .if1 .left)
+    let start = at-passes .before .before .before .before in
+    passed (start .args .store .now) (c .if1 .left) (at-passes .passes .ensures)
 
 refused-requires-2 : tie.Need-refused-requires-2
 refused-requires-2 c κs = search needs
@@ -49,9 +49,8 @@ returns-2 c =
     let at-passes = at-if1 .before in
     let start = at-passes .before .before .before .before in
     let a = start .args in
-    answers-as (c .refused2 .ensures .0) (c .refused2 .ensures .1)
-    (answers-refused (flattenGroup (a .owner) (a .place .now)) (a .store .now) (length (a .out .now))
-    (sym (at-passes .passes .ensures) ∙ not-false _ (at-if1 .if1 .left)) _ (at-flatten-group-refusal .flatten-group-refusal .ensures .0) (at-if2 .if2 .taken))
+    turned-away (flattenGroup (a .owner) (a .place .now)) (a .store .now) (length (a .out .now)) (a .out .now)
+    (at-if1 .if1 .left) (at-passes .passes .ensures) (at-flatten-group-refusal .flatten-group-refusal .ensures .0) (at-if2 .if2 .taken) (c .refused2 .ensures)
 
 setting-plan-requires : tie.Need-setting-plan-requires
 setting-plan-requires c κs = search needs
@@ -69,7 +68,7 @@ edit-model-requires c κs =
     let start = at-passes .before .before .before .before in
     let a = start .args in
     let none = sym (at-flatten-group-refusal .flatten-group-refusal .ensures .0) ∙ at-if2 .if2 .left in
-    let fits = flatten-fits (a .store .now) (sym (at-passes .passes .ensures) ∙ not-false _ (at-if1 .if1 .left)) (a .owner) (a .place .now) none in
+    let fits = flatten-fits (a .store .now) (passed (a .store .now) (at-if1 .if1 .left) (at-passes .passes .ensures)) (a .owner) (a .place .now) none in
     let place = at-flatten-group-refusal .flatten-group-refusal .ensures .1 .found (at-if2 .if2 .left) in
     (asks fits Flatten refl place, none-value (widthOf (a .store .now)), keeping-sized (at-setting-plan .setting-plan .ensures))
 
@@ -87,7 +86,7 @@ returns-3 c =
     let start = at-passes .before .before .before .before in
     let a = start .args in
     let none = sym (at-flatten-group-refusal .flatten-group-refusal .ensures .0) ∙ at-if2 .if2 .left in
-    let fits = flatten-fits (a .store .now) (sym (at-passes .passes .ensures) ∙ not-false _ (at-if1 .if1 .left)) (a .owner) (a .place .now) none in
+    let fits = flatten-fits (a .store .now) (passed (a .store .now) (at-if1 .if1 .left) (at-passes .passes .ensures)) (a .owner) (a .place .now) none in
     let place = at-flatten-group-refusal .flatten-group-refusal .ensures .1 .found (at-if2 .if2 .left) in
     kept-answers fits Flatten refl place (flattenGroup (a .owner) (a .place .now)) (length (a .out .now)) _ (at-setting-plan .setting-plan .ensures)
     (at-flatten-group-refusal .flatten-group-refusal .ensures .0) (at-if2 .if2 .left) (flatten-form (a .owner) (a .place .now) (storeIn (a .store .now) .form))

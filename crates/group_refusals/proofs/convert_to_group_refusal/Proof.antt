@@ -1,4 +1,6 @@
--- `group_refusals::convert_to_group_refusal` meets its contract.
+-- `group_refusals::convert_to_group_refusal` meets its contract: each return gives the first condition of change 6 that
+-- holds: 4 (`convert-4` of ConvertLaws), 6 (`convert-6`), 8 at a place that is absent (`convert-none`), else what
+-- `convert_at` gives (`convert-there`), with the place found (`convert-placed`) and in range (`convert-inside`).
 use native.Mathlib.Omega.{arith}
 use Rattle.store_check.proofs.StoreFacts.{whole, past-definitions, within-definitions}
 use Rattle.model_places.proofs.PickLaws.{refused-there, located-there}

@@ -1,13 +1,13 @@
--- `insert_call::insert_element` meets its contract.
+-- `insert_call::insert_element` meets its contract: the call is refused on a bad store and by a condition
+-- (`bad`, `turned-away` of CallLaws). Else what its calls require holds, as no condition does (`insertion`
+-- of Insertion), and `edit_model` writes what the change leaves (`inserted-answers`).
 use native.Mathlib.Omega.{arith}
 use mathlib.Core.Path.{refl, sym, _∙_}
 use lib.ListN.{length}
-use borrow.Author.Tests.{not-true, not-false}
 use Rattle.rules.specs.Decode.{quantifierOf}
 use Rattle.rules.specs.Change.{insertElement}
 use Rattle.model_writer.specs.declared.Edit.the-variants.{Insert}
-use Rattle.store_writer.proofs.CallLaws.{answers-bad, answers-refused}
-use Rattle.store_writer.proofs.LimitLaws.{answers-as}
+use Rattle.store_writer.proofs.CallLaws.{passed, bad, turned-away}
 use Rattle.model_edit.proofs.Fits.{asks, owner-fits, place-low}
 use Rattle.insert_call.proofs.Insertion.{insertion, edit-same, inserting-sized, inserted-answers}
 use borrow.Author.Needs.{needs}
@@ -26,14 +26,14 @@ returns c =
     let at-passes = at-if1 .before in
     let start = at-passes .before .before .before .before .before in
     let a = start .args in
-    answers-as (c .refused .ensures .0) (c .refused .ensures .1)
-    (answers-bad (insertElement (a .owner) (a .place .now) (a .definition) (a .quantifier) (a .text .now)) (a .store .now) (length (a .out .now))
-    (sym (at-passes .passes .ensures) ∙ not-true _ (at-if1 .if1 .taken)))
+    bad (insertElement (a .owner) (a .place .now) (a .definition) (a .quantifier) (a .text .now)) (a .store .now) (length (a .out .now)) (a .out .now)
+    (at-if1 .if1 .taken) (at-passes .passes .ensures) (c .refused .ensures)
 
 insert-element-refusal-requires : tie.Need-insert-element-refusal-requires
 insert-element-refusal-requires c κs =
     let at-passes = c .before in
-    sym (at-passes .passes .ensures) ∙ not-false _ (c .if1 .left)
+    let start = at-passes .before .before .before .before .before in
+    passed (start .args .store .now) (c .if1 .left) (at-passes .passes .ensures)
 
 refused-requires-2 : tie.Need-refused-requires-2
 refused-requires-2 c κs = search needs
@@ -46,9 +46,8 @@ returns-2 c =
     let at-passes = at-if1 .before in
     let start = at-passes .before .before .before .before .before in
     let a = start .args in
-    answers-as (c .refused2 .ensures .0) (c .refused2 .ensures .1)
-    (answers-refused (insertElement (a .owner) (a .place .now) (a .definition) (a .quantifier) (a .text .now)) (a .store .now) (length (a .out .now))
-    (sym (at-passes .passes .ensures) ∙ not-false _ (at-if1 .if1 .left)) _ (at-insert-element-refusal .insert-element-refusal .ensures .0) (at-if2 .if2 .taken))
+    turned-away (insertElement (a .owner) (a .place .now) (a .definition) (a .quantifier) (a .text .now)) (a .store .now) (length (a .out .now)) (a .out .now)
+    (at-if1 .if1 .left) (at-passes .passes .ensures) (at-insert-element-refusal .insert-element-refusal .ensures .0) (at-if2 .if2 .taken) (c .refused2 .ensures)
 
 own-part-requires : tie.Need-own-part-requires
 own-part-requires c κs =
@@ -59,7 +58,7 @@ own-part-requires c κs =
     let start = at-passes .before .before .before .before .before in
     let a = start .args in
     let none = sym (at-insert-element-refusal .insert-element-refusal .ensures .0) ∙ at-if2 .if2 .left in
-    let inserted = insertion (a .store .now) (sym (at-passes .passes .ensures) ∙ not-false _ (at-if1 .if1 .left)) (a .owner) (a .place .now) (a .definition) (a .quantifier) (a .text .now) none in
+    let inserted = insertion (a .store .now) (passed (a .store .now) (at-if1 .if1 .left) (at-passes .passes .ensures)) (a .owner) (a .place .now) (a .definition) (a .quantifier) (a .text .now) none in
     owner-fits (inserted .fits)
 
 inserting-plan-requires : tie.Need-inserting-plan-requires
@@ -71,7 +70,7 @@ inserting-plan-requires c κs =
     let start = at-passes .before .before .before .before .before in
     let a = start .args in
     let none = sym (at-insert-element-refusal .insert-element-refusal .ensures .0) ∙ at-if2 .if2 .left in
-    let inserted = insertion (a .store .now) (sym (at-passes .passes .ensures) ∙ not-false _ (at-if1 .if1 .left)) (a .owner) (a .place .now) (a .definition) (a .quantifier) (a .text .now) none in
+    let inserted = insertion (a .store .now) (passed (a .store .now) (at-if1 .if1 .left) (at-passes .passes .ensures)) (a .owner) (a .place .now) (a .definition) (a .quantifier) (a .text .now) none in
     let place = at-insert-element-refusal .insert-element-refusal .ensures .1 .found (at-if2 .if2 .left) in
     let edit = Insert (quantifierOf (a .quantifier)) (a .definition) in
     (place-low (asks (inserted .fits) edit (edit-same inserted refl) place), inserted .code)
@@ -85,7 +84,7 @@ cast-read-quantifier c =
     let start = at-passes .before .before .before .before .before in
     let a = start .args in
     let none = sym (at-insert-element-refusal .insert-element-refusal .ensures .0) ∙ at-if2 .if2 .left in
-    let inserted = insertion (a .store .now) (sym (at-passes .passes .ensures) ∙ not-false _ (at-if1 .if1 .left)) (a .owner) (a .place .now) (a .definition) (a .quantifier) (a .text .now) none in
+    let inserted = insertion (a .store .now) (passed (a .store .now) (at-if1 .if1 .left) (at-passes .passes .ensures)) (a .owner) (a .place .now) (a .definition) (a .quantifier) (a .text .now) none in
     record { fits = omega (arith, inserted .code) }
 
 read-quantifier-requires : tie.Need-read-quantifier-requires
@@ -102,7 +101,7 @@ edit-model-requires c κs =
     let start = at-passes .before .before .before .before .before in
     let a = start .args in
     let none = sym (at-insert-element-refusal .insert-element-refusal .ensures .0) ∙ at-if2 .if2 .left in
-    let inserted = insertion (a .store .now) (sym (at-passes .passes .ensures) ∙ not-false _ (at-if1 .if1 .left)) (a .owner) (a .place .now) (a .definition) (a .quantifier) (a .text .now) none in
+    let inserted = insertion (a .store .now) (passed (a .store .now) (at-if1 .if1 .left) (at-passes .passes .ensures)) (a .owner) (a .place .now) (a .definition) (a .quantifier) (a .text .now) none in
     let place = at-insert-element-refusal .insert-element-refusal .ensures .1 .found (at-if2 .if2 .left) in (
       asks (inserted .fits) (Insert _ (a .definition)) (edit-same inserted (at-read-quantifier .read-quantifier .ensures)) place,
       inserted .text,
@@ -125,7 +124,7 @@ returns-3 c =
     let start = at-passes .before .before .before .before .before in
     let a = start .args in
     let none = sym (at-insert-element-refusal .insert-element-refusal .ensures .0) ∙ at-if2 .if2 .left in
-    let inserted = insertion (a .store .now) (sym (at-passes .passes .ensures) ∙ not-false _ (at-if1 .if1 .left)) (a .owner) (a .place .now) (a .definition) (a .quantifier) (a .text .now) none in
+    let inserted = insertion (a .store .now) (passed (a .store .now) (at-if1 .if1 .left) (at-passes .passes .ensures)) (a .owner) (a .place .now) (a .definition) (a .quantifier) (a .text .now) none in
     let place = at-insert-element-refusal .insert-element-refusal .ensures .1 .found (at-if2 .if2 .left) in
     inserted-answers inserted (at-read-quantifier .read-quantifier .ensures) place (at-own-part .own-part .ensures) (length (a .out .now))
     (at-inserting-plan .inserting-plan .ensures) (at-edit-model .edit-model .ensures)

@@ -1,4 +1,6 @@
--- `insert_refusals::insert_element_refusal` meets its contract.
+-- `insert_refusals::insert_element_refusal` meets its contract: each return gives the first condition of change 3 that
+-- holds: 3 (`insert-3` of RefusalLaws), 4 (`insert-4`), 6 for the owner or the definition (`insert-6`, `insert-6-too`),
+-- else what `place_refusal` gives from condition 8 on, with the place (`insert-on`).
 use native.Mathlib.Omega.{arith}
 use Rattle.model_places.proofs.PickLaws.{refused-there}
 use Rattle.model_reach.proofs.FormFacts.{reads}

@@ -1,4 +1,6 @@
--- `insert_refusals::model_refusal` meets its contract.
+-- `insert_refusals::model_refusal` meets its contract: each return gives the first condition from 9 on that holds: 9 to
+-- 12 (`model-9`, `model-10`, `model-11`, `model-12` of RefusalLaws), 0 where the element is not needed or the place not
+-- off the spine (`model-on`), 13 if there is an instance (`model-13`), else 0 (`model-none`).
 use native.Mathlib.Omega.{arith}
 use Rattle.model_reach.proofs.FormFacts.{reads}
 use Rattle.insert_refusals.proofs.RefusalLaws.{model-9, model-10, model-11, model-12, model-on, model-13, model-none}

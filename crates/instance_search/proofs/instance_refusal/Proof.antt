@@ -1,4 +1,5 @@
--- `instance_search::instance_refusal` meets its contract.
+-- `instance_search::instance_refusal` meets its contract: the two returns are the two values that `first` has for one
+-- condition, by what `instance_exists` answers.
 use mathlib.Core.Path.{sym, ap, _∙_}
 use mathlib.Core.Bool.{Bool}
 use mathlib.Core.List.{[], _∷_}

@@ -1,4 +1,5 @@
--- `layout::records_from` meets its contract.
+-- `layout::records_from` meets its contract: the window from the product of `times` on, as long as s, is all that
+-- stands from there on (`records-rest` of RecordLaws).
 use Rattle.layout.proofs.RecordLaws.{records-rest}
 use borrow.Author.Needs.{needs}
 use Rattle.layout.proofs.records_from.Statement.{statement}

@@ -1,4 +1,5 @@
--- `layout::row_serial_at` meets its contract.
+-- `layout::row_serial_at` meets its contract: the four bytes read, 4 past the product of `times`, are the serial of
+-- record i (`serial-placed` of LayoutLaws).
 use Rattle.layout.proofs.LayoutLaws.{serial-placed}
 use borrow.Author.Needs.{needs}
 use Rattle.layout.proofs.row_serial_at.Statement.{statement}

@@ -1,4 +1,5 @@
--- `layout_row_writer::put_row` meets its contract.
+-- `layout_row_writer::put_row` meets its contract: what `put_row_start` writes, eight bytes long (`after-start` of
+-- RowLaws in `layout`), and what `put_row_end` writes after it are the bytes of the row (`row-laid`).
 use native.Mathlib.Omega.{arith}
 use Rattle.layout.proofs.RowLaws.{after-start, row-laid}
 use borrow.Author.Needs.{needs}

@@ -1,4 +1,6 @@
--- `layout_row_writer::put_row_end` meets its contract.
+-- `layout_row_writer::put_row_end` meets its contract: the value's length, a zero, the value and the zeros up to the
+-- end, laid one after the other (`laid-then`, `laid-as` of Writers in `codec`), are `rowEnd` (`end-is` of RowLaws in
+-- `layout`).
 use Rattle.layout.proofs.RowLaws.{end-is}
 use native.Mathlib.Omega.{arith}
 use Rattle.codec.proofs.Writers.{laid-as, laid-then}

@@ -1,4 +1,6 @@
--- `layout_row_writer::put_row_index` meets its contract.
+-- `layout_row_writer::put_row_index` meets its contract: the first two bytes of the row, then the two of the index, are
+-- what is to be laid (`laid-then` of Writers in `codec`); the row has at least two bytes, so that the first part has
+-- two (`length-take-le` of lib.Seq).
 use mathlib.Core.Path.{sym}
 use native.Mathlib.Omega.{arith}
 use Rattle.codec.proofs.Writers.{laid-then}

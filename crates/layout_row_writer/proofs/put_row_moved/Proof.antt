@@ -1,4 +1,6 @@
--- `layout_row_writer::put_row_moved` meets its contract.
+-- `layout_row_writer::put_row_moved` meets its contract: with its own index the row is written whole (`kept-laid` of
+-- RowLaws in `layout`); with another, what `put_row_index` writes and the row from byte 4 on are the row with that
+-- index (`moved-laid`); the lengths are by `row-length`, `after-index` and `part-length`.
 use mathlib.Core.Path.{sym, _∙_}
 use native.Mathlib.Omega.{arith}
 use Rattle.layout.proofs.RowLaws.{row-length, after-index, part-length, kept-laid, moved-laid}

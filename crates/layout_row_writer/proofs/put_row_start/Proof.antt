@@ -1,4 +1,6 @@
--- `layout_row_writer::put_row_start` meets its contract.
+-- `layout_row_writer::put_row_start` meets its contract: the sort, the depth, the index and the serial's low four
+-- bytes, laid one after the other (`laid-then`, `laid-as` of Writers in `codec`), are `rowStart` (`start-is` of RowLaws
+-- in `layout`).
 use Rattle.layout.proofs.RowLaws.{start-is}
 use Rattle.codec.proofs.Writers.{laid-as, laid-then}
 use borrow.Author.Needs.{needs}

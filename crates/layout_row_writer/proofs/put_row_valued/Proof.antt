@@ -1,4 +1,6 @@
--- `layout_row_writer::put_row_valued` meets its contract.
+-- `layout_row_writer::put_row_valued` meets its contract: what `put_row_index` writes, the four bytes of the serial and
+-- what `put_row_end` writes are the row with the index and the value (`valued-laid` of RowLaws in `layout`); the
+-- lengths are by `row-length`, `after-index` and `part-length`.
 use native.Mathlib.Omega.{arith}
 use Rattle.layout.proofs.RowLaws.{row-length, after-index, part-length, valued-laid}
 use borrow.Author.Needs.{needs}

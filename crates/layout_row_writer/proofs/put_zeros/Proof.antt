@@ -1,4 +1,6 @@
--- `layout_row_writer::put_zeros` meets its contract.
+-- `layout_row_writer::put_zeros` meets its contract: the loop's invariant is kept where a zero is stored at i
+-- (`zeros-step` of RowLaws in `layout`), and at the end of the zeros, or of `out`, nothing is left to store
+-- (`zeros-laid`).
 use mathlib.Core.Path.{_≡_, refl}
 use Prim.Native.Nat.{_-_}
 use native.Mathlib.Omega.{arith}

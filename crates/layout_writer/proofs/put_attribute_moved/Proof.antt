@@ -1,4 +1,6 @@
--- `layout_writer::put_attribute_moved` meets its contract.
+-- `layout_writer::put_attribute_moved` meets its contract: the owner's byte, then the bytes of the record after its
+-- first, are `ownedBytes`, as the record is no longer than that of an attribute (`owned-laid` of RecordLaws in
+-- `layout`).
 use native.Mathlib.Omega.{arith}
 use Rattle.layout.proofs.RecordLaws.{owned-laid}
 use borrow.Author.Needs.{needs}

@@ -1,4 +1,6 @@
--- `layout_writer::put_contents` meets its contract.
+-- `layout_writer::put_contents` meets its contract: each entry has the place that the counts before it give (`place-as`
+-- of HeaderLaws in `layout`), and the four, laid one after the other, are `contents` (`contents-laid`); the place of
+-- the rows fits in four bytes (`place-low`).
 use native.Mathlib.Omega.{arith}
 use Rattle.layout.proofs.HeaderLaws.{place-low, place-as, contents-laid}
 use borrow.Author.Needs.{needs}

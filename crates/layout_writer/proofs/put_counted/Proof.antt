@@ -1,4 +1,6 @@
--- `layout_writer::put_counted` meets its contract.
+-- `layout_writer::put_counted` meets its contract: the definitions up to the count of number o, the count n and the
+-- rest, laid one after the other (`laid-then`, `laid-as` of Writers in `codec`), are `countedBytes` (`rest-counted` of
+-- RecordLaws in `layout`); neither part is longer than all definitions (`length-cut` of LayoutLaws in `layout`).
 use mathlib.Core.Path.{sym}
 use Prim.Native.Nat.{_+_, _*_}
 use native.Mathlib.Omega.{arith}

@@ -1,4 +1,5 @@
--- `layout_writer::put_field` meets its contract.
+-- `layout_writer::put_field` meets its contract: the value, then the zeros up to the width (`laid-then`, `laid-as` of
+-- Writers in `codec`), are `field` (`field-is` of RecordLaws in `layout`).
 use Rattle.codec.proofs.Writers.{laid-as, laid-then}
 use Rattle.layout.proofs.RecordLaws.{field-is}
 use native.Mathlib.Omega.{arith}

@@ -1,4 +1,5 @@
--- `layout_writer::put_particle` meets its contract.
+-- `layout_writer::put_particle` meets its contract: the four bytes, laid one after the other, are `particleBytes`
+-- (`laid-then` of Writers in `codec`).
 use Rattle.codec.proofs.Writers.{laid-then}
 use borrow.Author.Needs.{needs}
 use Rattle.layout_writer.proofs.put_particle.Statement.{statement}

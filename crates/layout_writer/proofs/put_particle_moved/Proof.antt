@@ -1,4 +1,5 @@
--- `layout_writer::put_particle_moved` meets its contract.
+-- `layout_writer::put_particle_moved` meets its contract: the record's first two bytes, the index and the depth that is
+-- read, laid one after the other, are `indexedBytes` (`indexed-laid` of RecordLaws in `layout`).
 use Rattle.layout.proofs.RecordLaws.{indexed-laid}
 use borrow.Author.Needs.{needs}
 use Rattle.layout_writer.proofs.put_particle_moved.Statement.{statement}

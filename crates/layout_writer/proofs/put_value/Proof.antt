@@ -1,4 +1,5 @@
--- `layout_writer::put_value` meets its contract.
+-- `layout_writer::put_value` meets its contract: the byte of the length, then the field, are what is to be laid
+-- (`value-laid` of RecordLaws in `layout`); the length fits in a byte as the width is below 256.
 use Rattle.layout.proofs.RecordLaws.{value-laid}
 use borrow.Author.Needs.{needs}
 use Rattle.layout_writer.proofs.put_value.Statement.{statement}

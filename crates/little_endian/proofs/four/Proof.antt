@@ -1,4 +1,6 @@
--- `little_endian::four` meets its contract.
+-- `little_endian::four` meets its contract: by the contract of `wide` each byte keeps its value, so the return is the
+-- sum that is ensured; bytes are below 256, so each product and each sum is below 4294967296, and arithmetic finds
+-- every need.
 use native.Mathlib.Omega.{arith}
 use borrow.Author.Needs.{needs}
 use Rattle.little_endian.proofs.four.Statement.{statement}

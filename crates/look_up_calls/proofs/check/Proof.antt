@@ -1,4 +1,5 @@
--- `look_up_calls::check` meets its contract.
+-- `look_up_calls::check` meets its contract: the two cases of what `passes` answers are the two clauses of
+-- `checkAnswer` (`check-yes`, `check-no` of Laws).
 use borrow.Author.Needs.{needs}
 use Rattle.look_up_calls.proofs.check.Statement.{statement}
 use Rattle.look_up_calls.proofs.check.Tie as tie

@@ -1,4 +1,5 @@
--- `look_up_calls::look_up` meets its contract.
+-- `look_up_calls::look_up` meets its contract: the case split is on what `passes` answers: a bad store gives the empty
+-- part and 1 (`hands-bad` of Laws), a good one what `value_of` gives (`hands-good`).
 use borrow.Author.Needs.{needs}
 use Rattle.look_up_calls.proofs.look_up.Statement.{statement}
 use Rattle.look_up_calls.proofs.look_up.Tie as tie

@@ -1,4 +1,5 @@
--- `look_up_calls::look_up_place` meets its contract.
+-- `look_up_calls::look_up_place` meets its contract: the case split is on what `passes` answers: a bad store gives 1,
+-- with place and length 0 (`looks-bad` of Laws), a good one what `find` gives (`looks-good`).
 use borrow.Author.Needs.{needs}
 use Rattle.look_up_calls.proofs.look_up_place.Statement.{statement}
 use Rattle.look_up_calls.proofs.look_up_place.Tie as tie

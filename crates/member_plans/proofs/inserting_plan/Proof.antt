@@ -1,4 +1,5 @@
--- `member_plans::inserting_plan` meets its contract.
+-- `member_plans::inserting_plan` meets its contract: the plan is that of `insert_element_plan`, with `marksAt` and
+-- `skips` put in for what `marks` and `needs_filling` gave.
 use mathlib.Core.Path.{ap₂, _∙_}
 use mathlib.Core.Bool.{Bool, _&&_}
 use Rattle.rules.specs.Bytes.{Bytes}

@@ -1,4 +1,5 @@
--- `member_plans::removing_plan` meets its contract.
+-- `member_plans::removing_plan` meets its contract: the plan is that of `taking_plan`, which is `removeElementPlan`,
+-- with the index of particle p put in for the one that was read.
 use mathlib.Core.Path.{ap, _∙_}
 use Prim.Native.Nat.{ℕ}
 use Rattle.rules.specs.Bytes.{Bytes}

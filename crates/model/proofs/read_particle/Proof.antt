@@ -1,4 +1,5 @@
--- `model::read_particle` meets its contract.
+-- `model::read_particle` meets its contract: the sort, the index and the quantifier's code are read from the bytes at
+-- `at`, and what `read_what` and `read_quantifier` make of them is `particleOf` (`particle-read` of Codes).
 use Rattle.model.proofs.Codes.{particle-read}
 use borrow.Author.Needs.{needs}
 use Rattle.model.proofs.read_particle.Statement.{statement}

@@ -1,4 +1,5 @@
--- `model::read_quantifier` meets its contract.
+-- `model::read_quantifier` meets its contract: the arms for 0, 1 and 2 are the clauses of `quantifierOf`, and every
+-- other code is that of `Plus` (`plus-of` of Codes).
 use Rattle.model.proofs.Codes.{plus-of}
 use borrow.Author.Needs.{needs}
 use Rattle.model.proofs.read_quantifier.Statement.{statement}

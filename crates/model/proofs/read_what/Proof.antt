@@ -1,4 +1,5 @@
--- `model::read_what` meets its contract.
+-- `model::read_what` meets its contract: the arms for 0 and 1 are `whatOf` at these sorts, and every other sort is that
+-- of a choice (`choice-of` of Codes).
 use Rattle.model.proofs.Codes.{choice-of}
 use Rattle.model.proofs.read_what.Statement.{statement}
 use Rattle.model.proofs.read_what.Tie as tie

@@ -1,4 +1,6 @@
--- `model::relaxes` meets its contract.
+-- `model::relaxes` meets its contract: for each pair of the four quantifiers the entry of the table is `relaxes`
+-- (`right`, by `each-quantifier` of Codes), and both codes are below 4, so that the entry is within the table
+-- (`code-small`).
 use mathlib.Core.Path.{_≡_, refl}
 use mathlib.Core.Bool.{Bool, true, false}
 use mathlib.Core.List.{List, [], _∷_}

@@ -1,4 +1,6 @@
--- `model_edit::keeps_within` meets its contract.
+-- `model_edit::keeps_within` meets its contract: a form with more than 256 particles is past its ceilings (`keeps-not`
+-- of FormWriting); else the depths after the edit decide, which `is_within` tests (`keeps`); what it and `own_part`
+-- require is `still-within` and `owner-low`.
 use native.Mathlib.Omega.{arith}
 use Rattle.model_form.proofs.FormWriting.{owner-low, keeps-not, keeps, still-within}
 use Rattle.model_edit.proofs.keeps_within.Statement.{statement}

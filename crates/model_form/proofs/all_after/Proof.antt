@@ -1,4 +1,6 @@
--- `model_form::all_after` meets its contract.
+-- `model_form::all_after` meets its contract: the two counts that are read are the store's (`many-in` of FormWriting),
+-- and the answer of `length_after` is the length of the model after the edit (`after-in`), at most one more than
+-- before, so that the sum is in range (`few-more`).
 use native.Mathlib.Omega.{arith}
 use mathlib.Core.Path.{ap₂}
 use Prim.Native.Nat.{ℕ, _+_, _-_}

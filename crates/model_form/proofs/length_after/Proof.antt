@@ -1,4 +1,5 @@
--- `model_form::length_after` meets its contract.
+-- `model_form::length_after` meets its contract: each arm is the clause of `lengthAfter` for its edit (`length-case` of
+-- FormWriting); for `Remove` and `Flatten` that is n - 1, which is 0 where n is 0.
 use native.Mathlib.Omega.{arith}
 use Rattle.model_form.proofs.FormWriting.{length-case}
 use borrow.Author.Needs.{needs}

@@ -1,4 +1,5 @@
--- `model_form::own_after` meets its contract.
+-- `model_form::own_after` meets its contract: the number of particles that is read is the length of the owner's model,
+-- so the answer of `length_after` is its length after the edit (`after-in` of FormWriting).
 use Rattle.model_form.proofs.FormWriting.{after-in}
 use borrow.Author.Needs.{needs}
 use Rattle.model_form.proofs.own_after.Statement.{statement}

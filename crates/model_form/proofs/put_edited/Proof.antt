@@ -1,4 +1,6 @@
--- `model_form::put_edited` meets its contract.
+-- `model_form::put_edited` meets its contract: the definitions with the owner's new count, the particles and the
+-- attributes, laid one after the other, are the form after the edit (`form-laid` of FormWriting); numbers and places
+-- are in range by `owner-low`, `own-short`, `table-short`, `counted-short`, `particles-short` and `attrs-short`.
 use native.Mathlib.Omega.{arith}
 use Rattle.model_form.proofs.FormWriting.{owner-low, own-short, table-short, particles-short, counted-short, attrs-short, form-laid}
 use borrow.Author.Needs.{needs}

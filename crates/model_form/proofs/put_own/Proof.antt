@@ -1,4 +1,6 @@
--- `model_form::put_own` meets its contract.
+-- `model_form::put_own` meets its contract: the first particle and the length that are read are those of the owner's
+-- model (`first-in`, `many-in` of FormWriting), so what `put_particles` writes are the form's particles after the edit
+-- (`own-laid`); what it requires is `body-in`, and the owner is in range by `owner-low`.
 use Rattle.model_form.proofs.FormWriting.{owner-low, first-in, many-in, own-laid, body-in}
 use borrow.Author.Needs.{needs}
 use Rattle.model_form.proofs.put_own.Statement.{statement}

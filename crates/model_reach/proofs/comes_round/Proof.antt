@@ -1,4 +1,6 @@
--- `model_reach::comes_round` meets its contract.
+-- `model_reach::comes_round` meets its contract: definition i has no height among those that avoid o if and only if it
+-- is o or reaches it (`round-is` of ModelLaws); `heights_avoiding` may be called as a store that passes has at most 64
+-- definitions (`reads` of FormFacts).
 use native.Mathlib.Omega.{arith}
 use Rattle.model_reach.proofs.FormFacts.{reads}
 use Rattle.model_reach.proofs.ModelLaws.{round-is}

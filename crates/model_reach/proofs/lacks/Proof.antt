@@ -1,4 +1,6 @@
--- `model_reach::lacks` meets its contract.
+-- `model_reach::lacks` meets its contract: the test of the first particle is that of `other-first` of ModelLaws: an
+-- element with index i makes the answer false (`settle-no` of MemberLaws in `circle_check`), another particle leaves it
+-- to those after it (`settle-on`), and with none left it is true (`settle-ends`).
 use borrow.Author.Needs.{needs}
 use mathlib.Core.Path.{_≡_, refl, ap}
 use mathlib.Core.Bool.{not}

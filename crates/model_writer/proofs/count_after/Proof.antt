@@ -1,4 +1,6 @@
--- `model_writer::count_after` meets its contract.
+-- `model_writer::count_after` meets its contract: in each case of the match the return is the clause of `countAfter`
+-- for the edit (`count-case` of HeadWriting), where the count of a group to be flattened is read from its particle
+-- (`first-index`).
 use mathlib.Core.Path.{sym, ap, _∙_}
 use Prim.Native.Nat.{ℕ, _+_, _-_}
 use Rattle.model_writer.proofs.HeadWriting.{count-case, first-index}

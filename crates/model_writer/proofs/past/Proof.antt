@@ -1,4 +1,5 @@
--- `model_writer::past` meets its contract.
+-- `model_writer::past` meets its contract: the window from particle n on, as long as s, is all that stands from there
+-- on (`cut-past` of LayoutLaws).
 use mathlib.Core.Path.{_∙_}
 use Prim.Native.Nat.{_*_}
 use Rattle.layout.proofs.LayoutLaws.{cut-past}

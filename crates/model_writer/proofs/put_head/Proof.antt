@@ -1,4 +1,6 @@
--- `model_writer::put_head` meets its contract.
+-- `model_writer::put_head` meets its contract: in the top list the first n particles stay (`head-top` of HeadWriting).
+-- Else they are those before the group that holds the place, the group and those after it (`head-split`), the group
+-- with its count after the edit (`head-group`), which is a byte (`head-fits`).
 use mathlib.Core.Path.{sym, _∙_}
 use Prim.Native.Nat.{_+_, _-_, _*_}
 use native.Mathlib.Omega.{arith}

@@ -1,4 +1,6 @@
--- `model_writer::put_inserted` meets its contract.
+-- `model_writer::put_inserted` meets its contract: the particle of the element and then `ys` are the bytes after the
+-- edit (`laid-then` of Writers, `inserted-bytes` of TailWriting). Its index, its depth (`inserted-index`,
+-- `inserted-depth`) and its quantifier's code (`code-small` of Codes) are bytes.
 use mathlib.Core.Path.{refl}
 use native.Mathlib.Omega.{arith}
 use Rattle.codec.proofs.Writers.{laid-as, laid-then}

@@ -1,4 +1,6 @@
--- `model_writer::put_moved` meets its contract.
+-- `model_writer::put_moved` meets its contract: where no further particle moves the rest is copied (`going-rest` of
+-- WritingLaws). Else the first gets another depth, which is a byte (`going-fits`), and the invariant is kept
+-- (`going-step`). At the end nothing is left to write (`going-done`).
 use mathlib.Core.Path.{sym, ap, _∙_}
 use Prim.Native.Nat.{ℕ, _-_}
 use native.Mathlib.Omega.{arith}

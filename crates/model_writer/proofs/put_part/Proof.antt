@@ -1,4 +1,6 @@
--- `model_writer::put_part` meets its contract.
+-- `model_writer::put_part` meets its contract: the head and then the tail are the bytes of the part after the edit
+-- (`laid-then` of Writers, `part-bytes` of HeadWriting), and `Part` has what their writers require (`part-head`,
+-- `part-tail`).
 use native.Mathlib.Omega.{arith}
 use Rattle.codec.proofs.Writers.{laid-as, laid-then}
 use Rattle.model_writer.proofs.HeadWriting.{part-head, part-tail, part-bytes}

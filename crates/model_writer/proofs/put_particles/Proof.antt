@@ -1,4 +1,6 @@
--- `model_writer::put_particles` meets its contract.
+-- `model_writer::put_particles` meets its contract: the particles before the definition's own, its own after the edit
+-- and those after them are the bytes of all (`laid-then` of Writers, `body-bytes` of BodyWriting). Its own are a part
+-- to edit (`body-part`), which the edit makes longer by at most one particle (`length-few`).
 use mathlib.Core.Path.{sym, ap}
 use Prim.Native.Nat.{_+_, _*_}
 use native.Mathlib.Omega.{arith}

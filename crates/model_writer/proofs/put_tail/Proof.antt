@@ -1,4 +1,6 @@
--- `model_writer::put_tail` meets its contract.
+-- `model_writer::put_tail` meets its contract: each arm writes the bytes of `tailAfter` for its edit (`tail-bytes` of
+-- TailWriting): three by the contract of their call, a removal by `removed-bytes` and a flattening by
+-- `flattened-bytes`. What a call requires is `Tail` of that edit (`tail-as`).
 use mathlib.Core.Path.{sym, ap, _∙_}
 use native.Mathlib.Omega.{arith}
 use lib.ListN.{length, length-drop}

@@ -1,4 +1,6 @@
--- `next_children::fill` meets its contract.
+-- `next_children::fill` meets its contract: the entries of `fill_after`, and those written after it at 0, 65 and 66,
+-- are the line of the model (`line-filled` of LineLaws). A write keeps the length of `t` (`length-set` of ListN), so
+-- that each place is in range.
 use Rattle.model.specs.Members.{allMembers}
 use Rattle.next_children.proofs.LineLaws.{line-filled}
 use native.Mathlib.Omega.{arith}

@@ -1,4 +1,6 @@
--- `next_children::fill_after` meets its contract.
+-- `next_children::fill_after` meets its contract: each step writes the entry of the child x, and x into `ends` if no
+-- child is owed after it, which keeps the invariant (`filling-on` of LineLaws). It holds at first for no child
+-- (`filling-starts`), and at the end for all n (`filling-ends`).
 use Prim.Native.Nat.{_-_}
 use native.Mathlib.Omega.{arith}
 use borrow.Author.Needs.{needs}

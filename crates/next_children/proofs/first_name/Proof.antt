@@ -1,4 +1,5 @@
--- `next_children::first_name` meets its contract.
+-- `next_children::first_name` meets its contract: the set with the index of an element has that index (`first-some` of
+-- NamesLaws), and of a group the contract says nothing.
 use Rattle.next_children.proofs.NamesLaws.{first-some}
 use borrow.Author.Needs.{needs}
 use Rattle.next_children.proofs.first_name.Statement.{statement}

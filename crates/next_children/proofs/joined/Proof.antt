@@ -1,4 +1,5 @@
--- `next_children::joined` meets its contract.
+-- `next_children::joined` meets its contract: in each case of the match the contract of the call, `in_sequence` or
+-- `in_choice`, is this one for that kind.
 use borrow.Author.Needs.{needs}
 use Rattle.next_children.proofs.joined.Statement.{statement}
 use Rattle.next_children.proofs.joined.Tie as tie

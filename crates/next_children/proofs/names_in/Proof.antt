@@ -1,4 +1,5 @@
--- `next_children::names_in` meets its contract.
+-- `next_children::names_in` meets its contract: each step adds the name of the first particle that is left, and so
+-- keeps the invariant (`naming-on` of NamesLaws). At the end no particle is left to name an element (`naming-ends`).
 use Prim.Native.Nat.{_-_}
 use native.Mathlib.Omega.{arith}
 use borrow.Author.Needs.{needs}

@@ -1,4 +1,5 @@
--- `next_children::no_members` meets its contract.
+-- `next_children::no_members` meets its contract: in each case of the match the return is the clause of `nextsEmpty`
+-- for that kind, by a rewrite of the kind.
 use borrow.Author.Needs.{needs}
 use Rattle.next_children.proofs.no_members.Statement.{statement}
 use Rattle.next_children.proofs.no_members.Tie as tie

@@ -1,4 +1,5 @@
--- `next_children::one_element` meets its contract.
+-- `next_children::one_element` meets its contract: the return is `nextsSingle` but for the field `first`, which is
+-- `bit` of i by the contract of `sets::bit`.
 use borrow.Author.Needs.{needs}
 use Rattle.next_children.proofs.one_element.Statement.{statement}
 use Rattle.next_children.proofs.one_element.Tie as tie

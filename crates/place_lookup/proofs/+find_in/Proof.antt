@@ -1,4 +1,6 @@
--- `place_lookup::find_in` meets its contract.
+-- `place_lookup::find_in` meets its contract: an empty place leads nowhere (`place-none` of EnteringLaws), a last
+-- number to a member or a gap (`place-last`), and another into a group (`place-in`) or nowhere (`place-out`). The call
+-- is for a place shorter by one number and a part within s (`entered-part`).
 use mathlib.Core.Path.{ap, _∙_}
 use native.Mathlib.Omega.{arith}
 use borrow.Author.Needs.{needs}

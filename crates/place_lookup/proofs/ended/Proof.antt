@@ -1,4 +1,5 @@
--- `place_lookup::ended` meets its contract.
+-- `place_lookup::ended` meets its contract: with no member left to pass the answer is the end of the list (`ended-all`
+-- of PlacesLaws), else the list has too few (`ended-few`).
 use Rattle.model.proofs.PlacesLaws.{ended-all, ended-few}
 use Rattle.place_lookup.proofs.ended.Statement.{statement}
 use Rattle.place_lookup.proofs.ended.Tie as tie

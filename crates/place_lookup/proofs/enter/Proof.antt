@@ -1,4 +1,6 @@
--- `place_lookup::enter` meets its contract.
+-- `place_lookup::enter` meets its contract: 0 enters no group, which the search finds. For another n the answer of
+-- `reach` for `n - 1` gives the clause of `enteredAt` (`enter-some` of EnteringLaws), at a member by `enter_at`, as the
+-- member lies within s (`member-bounded` of ParticleLaws).
 use Rattle.model.specs.Members.{particlesOf}
 use Rattle.model.proofs.ParticleLaws.{member-bounded}
 use Rattle.model.proofs.EnteringLaws.{enter-some}

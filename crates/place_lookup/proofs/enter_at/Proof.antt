@@ -1,4 +1,6 @@
--- `place_lookup::enter_at` meets its contract.
+-- `place_lookup::enter_at` meets its contract: an element is not entered (`enter-element` of EnteringLaws). A group is,
+-- with the part that `span` measures after its particle, and on the spine if the list is and `plain` holds
+-- (`enter-group`).
 use native.Mathlib.Omega.{arith}
 use Rattle.model.proofs.EnteringLaws.{enter-element, enter-group}
 use borrow.Author.Needs.{needs}

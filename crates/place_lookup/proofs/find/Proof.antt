@@ -1,4 +1,5 @@
--- `place_lookup::find` meets its contract.
+-- `place_lookup::find` meets its contract: a place of more than five numbers leads nowhere (`place-long` of
+-- EnteringLaws), and any other where `find_in` finds it from the top list on (`place-short`).
 use native.Mathlib.Omega.{arith}
 use Rattle.model.proofs.EnteringLaws.{place-long, place-short}
 use borrow.Author.Needs.{needs}

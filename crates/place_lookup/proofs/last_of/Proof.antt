@@ -1,4 +1,5 @@
--- `place_lookup::last_of` meets its contract.
+-- `place_lookup::last_of` meets its contract: with `insert` it is the contract of `gap_after`. Else 0 leads to no
+-- member, which the search finds, and another n to the one after the first `n - 1` (`last-member` of EnteringLaws).
 use Rattle.model.proofs.EnteringLaws.{last-member}
 use borrow.Author.Needs.{needs}
 use Rattle.place_lookup.proofs.last_of.Statement.{statement}

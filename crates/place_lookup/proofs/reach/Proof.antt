@@ -1,4 +1,6 @@
--- `place_lookup::reach` meets its contract.
+-- `place_lookup::reach` meets its contract: a particle less deep than d, or none, ends the list (`left-stop`,
+-- `left-few` of PlacesLaws). One of depth d is the member where m is 0 (`left-member`), else it is passed and counted
+-- (`left-pass`). A deeper one is passed (`left-deeper`).
 use mathlib.Core.Path.{_∙_}
 use mathlib.Core.Logic.{⊎-elim}
 use Prim.Native.Nat.{_-_}

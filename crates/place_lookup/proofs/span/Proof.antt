@@ -1,4 +1,5 @@
--- `place_lookup::span` meets its contract.
+-- `place_lookup::span` meets its contract: a particle no deeper than d, or none, ends the span (`deeper-stop`,
+-- `deeper-few` of PlacesLaws), and a deeper one is counted (`deeper-on`).
 use Prim.Native.Nat.{_-_}
 use native.Mathlib.Omega.{arith}
 use borrow.Author.Needs.{needs}

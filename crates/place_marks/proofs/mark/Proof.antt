@@ -1,4 +1,5 @@
--- `place_marks::mark` meets its contract.
+-- `place_marks::mark` meets its contract: each step marks the first particle that is left, if it is an element, and so
+-- keeps the invariant (`marking-on` of WriteLaws). At the end no particle is left to mark (`marking-ends`).
 use borrow.Author.Needs.{needs}
 use native.Mathlib.Omega.{arith}
 use Prim.Native.Nat.{_-_}

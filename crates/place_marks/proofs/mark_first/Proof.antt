@@ -1,4 +1,5 @@
--- `place_marks::mark_first` meets its contract.
+-- `place_marks::mark_first` meets its contract: an element, sort 0, has the value stored at its index (`first-element`
+-- of WriteLaws), and a group changes nothing (`first-group`).
 use Rattle.place_marks.proofs.WriteLaws.{first-element, first-group}
 use borrow.Author.Needs.{needs}
 use mathlib.Core.Path.{refl}

@@ -1,4 +1,5 @@
--- `place_marks::marks` meets its contract.
+-- `place_marks::marks` meets its contract: the two windows are the first p particles and the next n, and the two calls
+-- mark their elements with 1 and then with 2 in 64 zeros, as `marksAt` does (`marks-laid` of WriteLaws).
 use Rattle.place_marks.proofs.WriteLaws.{marks-laid}
 use native.Mathlib.Omega.{arith}
 use borrow.Author.Needs.{needs}

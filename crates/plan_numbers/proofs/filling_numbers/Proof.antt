@@ -1,4 +1,5 @@
--- `plan_numbers::filling_numbers` meets its contract.
+-- `plan_numbers::filling_numbers` meets its contract: in each case of the match `fillingIn` of the three numbers is
+-- that filling. The search finds it for the first three, and for a group it is the contract of `group_numbers`.
 use mathlib.Core.Path.{sym, _∙_}
 use borrow.Author.Needs.{needs}
 use Rattle.plan_numbers.proofs.filling_numbers.Statement.{statement}

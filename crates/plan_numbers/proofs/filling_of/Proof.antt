@@ -1,4 +1,5 @@
--- `plan_numbers::filling_of` meets its contract.
+-- `plan_numbers::filling_of` meets its contract: for 0 to 3 the return is the clause of `fillingIn`, and every other
+-- number is that of a choice (`filling-choice` of LentLaws).
 use Rattle.plan_numbers.proofs.LentLaws.{filling-choice}
 use borrow.Author.Needs.{needs}
 use Rattle.plan_numbers.proofs.filling_of.Statement.{statement}

@@ -1,4 +1,5 @@
--- `plan_numbers::plan_numbers` meets its contract.
+-- `plan_numbers::plan_numbers` meets its contract: `planIn` reads each field back, those that a call turned into
+-- numbers by the contract of that call and the others as they are (`plan-lent` of LentLaws).
 use lib.ListN.{getD}
 use Rattle.plan_numbers.proofs.LentLaws.{plan-lent}
 use borrow.Author.Needs.{needs}

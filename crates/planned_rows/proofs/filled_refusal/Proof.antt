@@ -1,4 +1,6 @@
--- `planned_rows::filled_refusal` meets its contract.
+-- `planned_rows::filled_refusal` meets its contract: the walk with one row for each filling counts the places
+-- (`times-of`, `places-are` of FilledLaws): if it passes the ceiling, so do the rows (`filled-past`); else `one` rows
+-- at each place give the limit (`filled-counted`), from numbers in range (`places-within`, `new-small`).
 use native.Mathlib.Omega.{arith}
 use Rattle.lookup.specs.Bodies.{bodiesOf}
 use Rattle.planned_rows.specs.Planned.{fillOf}

@@ -1,4 +1,6 @@
--- `planned_rows::most_added` meets its contract.
+-- `planned_rows::most_added` meets its contract: what is read is the store's (`reads-of` of WalkLaws), so that
+-- `row_bound::most_added` may be called (`walk-ready`, `walk-asked`, `walk-whole`, `rows-few`), and the rows that it
+-- bounds are those after the plan (`rows-added`).
 use Rattle.planned_rows.proofs.WalkLaws.{reads-of, walk-ready, walk-asked, walk-whole, rows-few, rows-added}
 use borrow.Author.Needs.{needs}
 use Rattle.planned_rows.proofs.most_added.Statement.{statement}

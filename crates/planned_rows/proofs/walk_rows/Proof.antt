@@ -1,4 +1,6 @@
--- `planned_rows::walk_rows` meets its contract.
+-- `planned_rows::walk_rows` meets its contract: what is read is the store's (`reads-of` of WalkLaws), so that `walk`
+-- may be called (`walk-ready`, `walk-asked`, `walk-whole`, `walk-room`), and the rows that it writes are those after
+-- the plan (`walk-from`).
 use Rattle.planned_rows.proofs.WalkLaws.{reads-of, walk-ready, walk-asked, walk-whole, walk-room, walk-from}
 use borrow.Author.Needs.{needs}
 use Rattle.planned_rows.proofs.walk_rows.Statement.{statement}

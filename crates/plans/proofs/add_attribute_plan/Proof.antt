@@ -1,4 +1,5 @@
--- `plans::add_attribute_plan` meets its contract.
+-- `plans::add_attribute_plan` meets its contract: the return is `addAttributePlan` but for the fields `fills` and
+-- `marks`, which are equal by the contracts of `must_be_present` and `unmarked`.
 use borrow.Author.Needs.{needs}
 use Rattle.plans.proofs.add_attribute_plan.Statement.{statement}
 use Rattle.plans.proofs.add_attribute_plan.Tie as tie

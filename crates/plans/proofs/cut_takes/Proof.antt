@@ -1,4 +1,5 @@
--- `plans::cut_takes` meets its contract.
+-- `plans::cut_takes` meets its contract: the two returns are the two clauses of `cutTakes`, by a rewrite of `cut` and
+-- by the search.
 use borrow.Author.Needs.{needs}
 use Rattle.plans.proofs.cut_takes.Statement.{statement}
 use Rattle.plans.proofs.cut_takes.Tie as tie

@@ -1,4 +1,5 @@
--- `plans::destroy_attribute_plan` meets its contract.
+-- `plans::destroy_attribute_plan` meets its contract: the return is `destroyAttributePlan` but for the field `marks`,
+-- which is equal by the contract of `unmarked`.
 use borrow.Author.Needs.{needs}
 use Rattle.plans.proofs.destroy_attribute_plan.Statement.{statement}
 use Rattle.plans.proofs.destroy_attribute_plan.Tie as tie

@@ -1,4 +1,5 @@
--- `plans::filling_plan` meets its contract.
+-- `plans::filling_plan` meets its contract: the return is `fillingPlan` but for the field `marks`, which is equal by
+-- the contract of `unmarked`.
 use borrow.Author.Needs.{needs}
 use Rattle.plans.proofs.filling_plan.Statement.{statement}
 use Rattle.plans.proofs.filling_plan.Tie as tie

@@ -1,4 +1,5 @@
--- `plans::requantify_plan` meets its contract.
+-- `plans::requantify_plan` meets its contract: the return is `requantifyPlan` but for the fields `takes` and `filling`,
+-- which are equal by the contracts of `cut_takes` and `gain_filling`.
 use borrow.Author.Needs.{needs}
 use Rattle.plans.proofs.requantify_plan.Statement.{statement}
 use Rattle.plans.proofs.requantify_plan.Tie as tie

@@ -1,4 +1,5 @@
--- `plans::set_attribute_plan` meets its contract.
+-- `plans::set_attribute_plan` meets its contract: by the contracts of the calls the two returns are the two clauses of
+-- `setAttributePlan`, where `row` is 0 (`set-plan-none`) and where it is not (`set-plan-some`).
 use Prim.Native.Nat.{ℕ}
 use mathlib.Core.Path.{_≡_, sym, ap, _∙_}
 use mathlib.Core.Bool.{Bool, true, false}

@@ -1,4 +1,5 @@
--- `plans::setting_plan` meets its contract.
+-- `plans::setting_plan` meets its contract: the return is `settingPlan` but for the field `marks`, which is equal by
+-- the contract of `unmarked`.
 use borrow.Author.Needs.{needs}
 use Rattle.plans.proofs.setting_plan.Statement.{statement}
 use Rattle.plans.proofs.setting_plan.Tie as tie

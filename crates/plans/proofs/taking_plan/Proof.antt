@@ -1,4 +1,5 @@
--- `plans::taking_plan` meets its contract.
+-- `plans::taking_plan` meets its contract: the return is `takingPlan` but for the field `marks`, which is equal by the
+-- contract of `unmarked`.
 use borrow.Author.Needs.{needs}
 use Rattle.plans.proofs.taking_plan.Statement.{statement}
 use Rattle.plans.proofs.taking_plan.Tie as tie

@@ -1,4 +1,4 @@
--- `plans::unmarked` meets its contract.
+-- `plans::unmarked` meets its contract: the array of 64 zeros is what `unmarked` of CallPlans unfolds to.
 use mathlib.Core.Path.{refl}
 use Rattle.plans.specs.CallPlans.{unmarked}
 use Rattle.plans.proofs.unmarked.Statement.{statement}

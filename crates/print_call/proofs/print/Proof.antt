@@ -1,4 +1,6 @@
--- `print_call::print` meets its contract.
+-- `print_call::print` meets its contract: the call is refused with 1 on a bad store (`prints-bad` of Laws). The first
+-- print tells the length of the text, so that one longer than `out` is refused with 18 (`prints-short`) and any other
+-- is written whole (`prints-all`). A store that passes has what `print_store` requires (`within-counts`).
 use native.Mathlib.Omega.{arith}
 use Rattle.store_writer.proofs.LimitLaws.{answers-as}
 use borrow.Author.Needs.{needs}

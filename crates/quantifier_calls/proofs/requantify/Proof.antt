@@ -1,11 +1,11 @@
--- `quantifier_calls::requantify` meets its contract.
+-- `quantifier_calls::requantify` meets its contract: the returns are for a bad store (`bad` of CallLaws), a
+-- condition (`turned-away`) and the answer of `edit_model` (`given-answers` of Requantified); what the calls
+-- require is by `given` of Fitting, `owner-fits` of Fits, `edits-there` of Answering, `given-stands` and `given-sized`.
 use native.Mathlib.Omega.{arith}
 use mathlib.Core.Path.{sym, _∙_}
 use lib.ListN.{length}
-use borrow.Author.Tests.{not-true, not-false}
 use Rattle.quantifier_refusals.specs.Requantifying.{requantify}
-use Rattle.store_writer.proofs.CallLaws.{answers-bad, answers-refused}
-use Rattle.store_writer.proofs.LimitLaws.{answers-as}
+use Rattle.store_writer.proofs.CallLaws.{passed, bad, turned-away}
 use Rattle.model_edit.proofs.Fits.{owner-fits}
 use Rattle.quantifier_calls.proofs.Fitting.{given as conditions-given}
 use Rattle.quantifier_calls.proofs.Answering.{edits-there}
@@ -26,14 +26,14 @@ returns c =
     let at-passes = at-if1 .before in
     let start = at-passes .before .before .before .before .before in
     let a = start .args in
-    answers-as (c .refused .ensures .0) (c .refused .ensures .1)
-    (answers-bad (requantify (a .group) (a .owner) (a .place .now) (a .quantifier) (a .text .now)) (a .store .now) (length (a .out .now))
-    (sym (at-passes .passes .ensures) ∙ not-true _ (at-if1 .if1 .taken)))
+    bad (requantify (a .group) (a .owner) (a .place .now) (a .quantifier) (a .text .now)) (a .store .now) (length (a .out .now)) (a .out .now)
+    (at-if1 .if1 .taken) (at-passes .passes .ensures) (c .refused .ensures)
 
 requantify-refusal-requires : tie.Need-requantify-refusal-requires
 requantify-refusal-requires c κs =
     let at-passes = c .before in
-    sym (at-passes .passes .ensures) ∙ not-false _ (c .if1 .left)
+    let start = at-passes .before .before .before .before .before in
+    passed (start .args .store .now) (c .if1 .left) (at-passes .passes .ensures)
 
 refused-requires-2 : tie.Need-refused-requires-2
 refused-requires-2 c κs = search needs
@@ -46,9 +46,8 @@ returns-2 c =
     let at-passes = at-if1 .before in
     let start = at-passes .before .before .before .before .before in
     let a = start .args in
-    answers-as (c .refused2 .ensures .0) (c .refused2 .ensures .1)
-    (answers-refused (requantify (a .group) (a .owner) (a .place .now) (a .quantifier) (a .text .now)) (a .store .now) (length (a .out .now))
-    (sym (at-passes .passes .ensures) ∙ not-false _ (at-if1 .if1 .left)) _ (at-requantify-refusal .requantify-refusal .ensures .0) (at-if2 .if2 .taken))
+    turned-away (requantify (a .group) (a .owner) (a .place .now) (a .quantifier) (a .text .now)) (a .store .now) (length (a .out .now)) (a .out .now)
+    (at-if1 .if1 .left) (at-passes .passes .ensures) (at-requantify-refusal .requantify-refusal .ensures .0) (at-if2 .if2 .taken) (c .refused2 .ensures)
 
 cast-read-quantifier : tie.Need-cast-read-quantifier
 cast-read-quantifier c =
@@ -59,7 +58,7 @@ cast-read-quantifier c =
     let start = at-passes .before .before .before .before .before in
     let a = start .args in
     let none = sym (at-requantify-refusal .requantify-refusal .ensures .0) ∙ at-if2 .if2 .left in
-    let given = conditions-given (a .store .now) (sym (at-passes .passes .ensures) ∙ not-false _ (at-if1 .if1 .left)) (a .owner) (a .place .now) (a .quantifier) (a .text .now) (a .group) none in
+    let given = conditions-given (a .store .now) (passed (a .store .now) (at-if1 .if1 .left) (at-passes .passes .ensures)) (a .owner) (a .place .now) (a .quantifier) (a .text .now) (a .group) none in
     omega (arith, given .code)
 
 read-quantifier-requires : tie.Need-read-quantifier-requires
@@ -74,7 +73,7 @@ own-part-requires c κs =
     let start = at-passes .before .before .before .before .before in
     let a = start .args in
     let none = sym (at-requantify-refusal .requantify-refusal .ensures .0) ∙ at-if2 .if2 .left in
-    let given = conditions-given (a .store .now) (sym (at-passes .passes .ensures) ∙ not-false _ (at-if1 .if1 .left)) (a .owner) (a .place .now) (a .quantifier) (a .text .now) (a .group) none in
+    let given = conditions-given (a .store .now) (passed (a .store .now) (at-if1 .if1 .left) (at-passes .passes .ensures)) (a .owner) (a .place .now) (a .quantifier) (a .text .now) (a .group) none in
     owner-fits (given .fits)
 
 new-plan-requires : tie.Need-new-plan-requires
@@ -87,7 +86,7 @@ new-plan-requires c κs =
     let start = at-passes .before .before .before .before .before in
     let a = start .args in
     let none = sym (at-requantify-refusal .requantify-refusal .ensures .0) ∙ at-if2 .if2 .left in
-    let given = conditions-given (a .store .now) (sym (at-passes .passes .ensures) ∙ not-false _ (at-if1 .if1 .left)) (a .owner) (a .place .now) (a .quantifier) (a .text .now) (a .group) none in
+    let given = conditions-given (a .store .now) (passed (a .store .now) (at-if1 .if1 .left) (at-passes .passes .ensures)) (a .owner) (a .place .now) (a .quantifier) (a .text .now) (a .group) none in
     let place = at-requantify-refusal .requantify-refusal .ensures .1 .found (at-if2 .if2 .left) in
     (given-stands place (at-own-part .own-part .ensures) given, owner-fits (given .fits))
 
@@ -103,7 +102,7 @@ edit-model-requires c κs =
     let start = at-passes .before .before .before .before .before in
     let a = start .args in
     let none = sym (at-requantify-refusal .requantify-refusal .ensures .0) ∙ at-if2 .if2 .left in
-    let given = conditions-given (a .store .now) (sym (at-passes .passes .ensures) ∙ not-false _ (at-if1 .if1 .left)) (a .owner) (a .place .now) (a .quantifier) (a .text .now) (a .group) none in
+    let given = conditions-given (a .store .now) (passed (a .store .now) (at-if1 .if1 .left) (at-passes .passes .ensures)) (a .owner) (a .place .now) (a .quantifier) (a .text .now) (a .group) none in
     let place = at-requantify-refusal .requantify-refusal .ensures .1 .found (at-if2 .if2 .left) in
     let new = at-read-quantifier .read-quantifier .ensures in (
       edits-there (given .fits) place new,
@@ -127,7 +126,7 @@ returns-3 c =
     let start = at-passes .before .before .before .before .before in
     let a = start .args in
     let none = sym (at-requantify-refusal .requantify-refusal .ensures .0) ∙ at-if2 .if2 .left in
-    let given = conditions-given (a .store .now) (sym (at-passes .passes .ensures) ∙ not-false _ (at-if1 .if1 .left)) (a .owner) (a .place .now) (a .quantifier) (a .text .now) (a .group) none in
+    let given = conditions-given (a .store .now) (passed (a .store .now) (at-if1 .if1 .left) (at-passes .passes .ensures)) (a .owner) (a .place .now) (a .quantifier) (a .text .now) (a .group) none in
     let place = at-requantify-refusal .requantify-refusal .ensures .1 .found (at-if2 .if2 .left) in
     given-answers place (at-own-part .own-part .ensures) (at-read-quantifier .read-quantifier .ensures) (a .group) given (at-new-plan .new-plan .ensures)
     (length (a .out .now)) _ (at-requantify-refusal .requantify-refusal .ensures .0) (at-if2 .if2 .left) (at-edit-model .edit-model .ensures)

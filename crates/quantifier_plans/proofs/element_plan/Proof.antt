@@ -1,4 +1,5 @@
--- `quantifier_plans::element_plan` meets its contract.
+-- `quantifier_plans::element_plan` meets its contract: `requantify_plan`, given the index, the marks and the answers of
+-- `cuts` and `gains` for the particle that is read, makes `elementPlan` (`element-planned` of PlanLaws).
 use Rattle.quantifier_plans.proofs.PlanLaws.{element-planned}
 use borrow.Author.Needs.{needs}
 use Rattle.quantifier_plans.proofs.element_plan.Statement.{statement}

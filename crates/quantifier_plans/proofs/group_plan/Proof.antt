@@ -1,4 +1,5 @@
--- `quantifier_plans::group_plan` meets its contract.
+-- `quantifier_plans::group_plan` meets its contract: `requantify_plan`, given the marks of the group's span, the answer
+-- of `gains` and the group's particles as filling, makes `groupPlan` (`group-planned` of PlanLaws).
 use Rattle.quantifier_plans.proofs.PlanLaws.{group-planned}
 use borrow.Author.Needs.{needs}
 use Rattle.quantifier_plans.proofs.group_plan.Statement.{statement}

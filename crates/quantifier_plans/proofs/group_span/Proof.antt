@@ -1,4 +1,5 @@
--- `quantifier_plans::group_span` meets its contract.
+-- `quantifier_plans::group_span` meets its contract: the particle itself and the deeper ones right after it, which
+-- `span` counts, are `groupSpan` (`span-is` of PlanLaws); those are at most 255 (`span-low`).
 use native.Mathlib.Omega.{arith}
 use Rattle.quantifier_plans.proofs.PlanLaws.{span-low, span-is}
 use borrow.Author.Needs.{needs}

@@ -1,4 +1,5 @@
--- `quantifier_plans::new_plan` meets its contract.
+-- `quantifier_plans::new_plan` meets its contract: the two cases of `group` are the two clauses of `newPlan`
+-- (`new-planned` of PlanLaws).
 use Rattle.quantifier_plans.proofs.PlanLaws.{new-planned}
 use borrow.Author.Needs.{needs}
 use Rattle.quantifier_plans.proofs.new_plan.Statement.{statement}

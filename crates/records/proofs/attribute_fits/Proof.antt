@@ -1,4 +1,5 @@
--- `records::attribute_fits` meets its contract.
+-- `records::attribute_fits` meets its contract: the owner, the sort, the length and the value that are read are the
+-- record's, so the five tests are those of `attributeFits` (`attribute-of` of CodeLaws).
 use Rattle.records.proofs.CodeLaws.{attribute-of}
 use borrow.Author.Needs.{needs}
 use Rattle.records.proofs.attribute_fits.Statement.{statement}

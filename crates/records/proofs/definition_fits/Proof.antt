@@ -1,4 +1,5 @@
--- `records::definition_fits` meets its contract.
+-- `records::definition_fits` meets its contract: the kind and the number of particles that are read are the record's,
+-- so the tests are those of `definitionFits` (`definition-of` of CodeLaws).
 use Rattle.records.proofs.CodeLaws.{definition-of}
 use borrow.Author.Needs.{needs}
 use Rattle.records.proofs.definition_fits.Statement.{statement}

@@ -1,4 +1,6 @@
--- `records::row_fits` meets its contract.
+-- `records::row_fits` meets its contract: each return is a case of `rowFits`: unused bytes are not zeros (`row-used` of
+-- CodeLaws), an element has a value (`row-valued`) or none (`row-bare`), the row is neither an attribute nor a text
+-- with index 0 (`row-neither`), its bytes are no value (`row-no-value`) or are one (`row-value`).
 use Rattle.records.proofs.CodeLaws.{row-used, row-valued, row-bare, row-neither, row-no-value, row-value}
 use borrow.Author.Tests.{not-true, not-false}
 use borrow.Author.Needs.{needs}

@@ -1,11 +1,11 @@
--- `remove_call::remove_element` meets its contract.
+-- `remove_call::remove_element` meets its contract: the call is refused on a bad store and by a condition
+-- (`bad`, `turned-away` of CallLaws). Else an element stands at the place (`remove-fits` of Removing), and
+-- `edit_model` writes what the change leaves (`removed-answers`).
 use mathlib.Core.Path.{refl, sym, _∙_}
 use lib.ListN.{length}
-use borrow.Author.Tests.{not-true, not-false}
 use Rattle.rules.specs.Change.{removeElement}
 use Rattle.model_writer.specs.declared.Edit.the-variants.{Remove}
-use Rattle.store_writer.proofs.CallLaws.{answers-bad, answers-refused}
-use Rattle.store_writer.proofs.LimitLaws.{answers-as}
+use Rattle.store_writer.proofs.CallLaws.{passed, bad, turned-away}
 use Rattle.model_edit.proofs.Fits.{asks, owner-fits, place-low}
 use Rattle.remove_call.proofs.Removing.{remove-fits, removed-answers, removing-sized}
 use borrow.Author.Needs.{needs}
@@ -26,14 +26,14 @@ returns c =
     let at-passes = at-if1 .before in
     let start = at-passes .before .before .before .before in
     let a = start .args in
-    answers-as (c .refused .ensures .0) (c .refused .ensures .1)
-    (answers-bad (removeElement (a .owner) (a .place .now)) (a .store .now) (length (a .out .now))
-    (sym (at-passes .passes .ensures) ∙ not-true _ (at-if1 .if1 .taken)))
+    bad (removeElement (a .owner) (a .place .now)) (a .store .now) (length (a .out .now)) (a .out .now)
+    (at-if1 .if1 .taken) (at-passes .passes .ensures) (c .refused .ensures)
 
 remove-element-refusal-requires : tie.Need-remove-element-refusal-requires
 remove-element-refusal-requires c κs =
     let at-passes = c .before in
-    sym (at-passes .passes .ensures) ∙ not-false _ (c .if1 .left)
+    let start = at-passes .before .before .before .before in
+    passed (start .args .store .now) (c .if1 .left) (at-passes .passes .ensures)
 
 refused-requires-2 : tie.Need-refused-requires-2
 refused-requires-2 c κs = search needs
@@ -46,9 +46,8 @@ returns-2 c =
     let at-passes = at-if1 .before in
     let start = at-passes .before .before .before .before in
     let a = start .args in
-    answers-as (c .refused2 .ensures .0) (c .refused2 .ensures .1)
-    (answers-refused (removeElement (a .owner) (a .place .now)) (a .store .now) (length (a .out .now))
-    (sym (at-passes .passes .ensures) ∙ not-false _ (at-if1 .if1 .left)) _ (at-remove-element-refusal .remove-element-refusal .ensures .0) (at-if2 .if2 .taken))
+    turned-away (removeElement (a .owner) (a .place .now)) (a .store .now) (length (a .out .now)) (a .out .now)
+    (at-if1 .if1 .left) (at-passes .passes .ensures) (at-remove-element-refusal .remove-element-refusal .ensures .0) (at-if2 .if2 .taken) (c .refused2 .ensures)
 
 own-part-requires : tie.Need-own-part-requires
 own-part-requires c κs =
@@ -58,7 +57,7 @@ own-part-requires c κs =
     let start = at-passes .before .before .before .before in
     let a = start .args in
     let none = sym (at-remove-element-refusal .remove-element-refusal .ensures .0) ∙ c .if2 .left in
-    let element = remove-fits (a .store .now) (sym (at-passes .passes .ensures) ∙ not-false _ (at-if1 .if1 .left)) (a .owner) (a .place .now) none in
+    let element = remove-fits (a .store .now) (passed (a .store .now) (at-if1 .if1 .left) (at-passes .passes .ensures)) (a .owner) (a .place .now) none in
     owner-fits (element .fits)
 
 removing-plan-requires : tie.Need-removing-plan-requires
@@ -70,7 +69,7 @@ removing-plan-requires c κs =
     let start = at-passes .before .before .before .before in
     let a = start .args in
     let none = sym (at-remove-element-refusal .remove-element-refusal .ensures .0) ∙ at-if2 .if2 .left in
-    let element = remove-fits (a .store .now) (sym (at-passes .passes .ensures) ∙ not-false _ (at-if1 .if1 .left)) (a .owner) (a .place .now) none in
+    let element = remove-fits (a .store .now) (passed (a .store .now) (at-if1 .if1 .left) (at-passes .passes .ensures)) (a .owner) (a .place .now) none in
     let place = at-remove-element-refusal .remove-element-refusal .ensures .1 .found (at-if2 .if2 .left) in
     place-low (asks (element .fits) Remove refl place)
 
@@ -87,7 +86,7 @@ edit-model-requires c κs =
     let start = at-passes .before .before .before .before in
     let a = start .args in
     let none = sym (at-remove-element-refusal .remove-element-refusal .ensures .0) ∙ at-if2 .if2 .left in
-    let element = remove-fits (a .store .now) (sym (at-passes .passes .ensures) ∙ not-false _ (at-if1 .if1 .left)) (a .owner) (a .place .now) none in
+    let element = remove-fits (a .store .now) (passed (a .store .now) (at-if1 .if1 .left) (at-passes .passes .ensures)) (a .owner) (a .place .now) none in
     let place = at-remove-element-refusal .remove-element-refusal .ensures .1 .found (at-if2 .if2 .left) in
     (asks (element .fits) Remove refl place, none-value (widthOf (a .store .now)), removing-sized _ _ (at-removing-plan .removing-plan .ensures))
 
@@ -106,7 +105,7 @@ returns-3 c =
     let start = at-passes .before .before .before .before in
     let a = start .args in
     let none = sym (at-remove-element-refusal .remove-element-refusal .ensures .0) ∙ at-if2 .if2 .left in
-    let element = remove-fits (a .store .now) (sym (at-passes .passes .ensures) ∙ not-false _ (at-if1 .if1 .left)) (a .owner) (a .place .now) none in
+    let element = remove-fits (a .store .now) (passed (a .store .now) (at-if1 .if1 .left) (at-passes .passes .ensures)) (a .owner) (a .place .now) none in
     let place = at-remove-element-refusal .remove-element-refusal .ensures .1 .found (at-if2 .if2 .left) in
     removed-answers element place (at-own-part .own-part .ensures) (length (a .out .now)) _ (at-removing-plan .removing-plan .ensures)
     (at-remove-element-refusal .remove-element-refusal .ensures .0) (at-if2 .if2 .left) (at-edit-model .edit-model .ensures)

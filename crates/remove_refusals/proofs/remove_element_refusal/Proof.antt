@@ -1,4 +1,6 @@
--- `remove_refusals::remove_element_refusal` meets its contract.
+-- `remove_refusals::remove_element_refusal` meets its contract: each return is the first condition of `removeElement`
+-- that holds: 6 (`remove-6` of RemoveLaws), 8 where nothing or a group is picked (`remove-none`, `remove-group`), else
+-- that of `remove_at` (`removable`, `remove-there`), with its place (`refused-there`, `located-there` of PickLaws).
 use native.Mathlib.Omega.{arith}
 use Rattle.store_check.proofs.StoreFacts.{whole, past-definitions}
 use Rattle.model_places.proofs.PickLaws.{as-element, as-group, as-none, refused-there, located-there}

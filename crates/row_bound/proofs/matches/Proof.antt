@@ -1,4 +1,5 @@
--- `row_bound::matches` meets its contract.
+-- `row_bound::matches` meets its contract: in each case of the match the return is the clause of `matches` in Walk for
+-- that variant, which the search finds or a rewrite of `w` gives.
 use borrow.Author.Needs.{needs}
 use Rattle.row_bound.proofs.matches.Statement.{statement}
 use Rattle.row_bound.proofs.matches.Tie as tie

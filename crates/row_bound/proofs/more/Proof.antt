@@ -1,4 +1,5 @@
--- `row_bound::more` meets its contract.
+-- `row_bound::more` meets its contract: `onlyIf` is 1 where b is true (`one-more` of CountLaws) and 0 where it is false
+-- (`none-more`).
 use borrow.Author.Needs.{needs}
 use Rattle.row_bound.proofs.CountLaws.{one-more, none-more}
 use Rattle.row_bound.proofs.more.Statement.{statement}

@@ -1,4 +1,6 @@
--- `row_bound::most_added` meets its contract.
+-- `row_bound::most_added` meets its contract: nothing is added where the plan fills nothing (`bounds-none` of
+-- BoundLaws) or a filling has no row (`bounds-empty`), else at most the rows of one filling at each place
+-- (`bounds-places`), a product in range (`product-few`).
 use native.Mathlib.Omega.{arith}
 use borrow.Author.Tests.{not-true}
 use borrow.Author.Needs.{needs}

@@ -1,4 +1,5 @@
--- `row_bound::places` meets its contract.
+-- `row_bound::places` meets its contract: the rows that match, and one place more for the ground, are `placesIn`, at
+-- most 4097 (`places-of` of CountLaws).
 use Rattle.rules.specs.Layout.{rowSize}
 use Rattle.rules.specs.Decode.{readRow, readMany}
 use borrow.Author.Needs.{needs}

@@ -1,4 +1,5 @@
--- `row_walk::at_first` meets its contract.
+-- `row_walk::at_first` meets its contract: the case split is on the variant of `above`, that of `Ground`
+-- (`first-ground` of RowLaws) or another (`first-other`).
 use Rattle.row_walk.proofs.RowLaws.{first-ground, first-other}
 use mathlib.Core.Path.{refl}
 use mathlib.Core.List.{[]}

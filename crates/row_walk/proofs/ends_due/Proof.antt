@@ -1,4 +1,5 @@
--- `row_walk::ends_due` meets its contract.
+-- `row_walk::ends_due` meets its contract: right below the open row, if its filling is due, the return is the answer of
+-- `is_later` (`ends-at` of RowLaws), and else `endsDue` is false (`ends-not`).
 use Rattle.row_walk.proofs.RowLaws.{ends-at, ends-not}
 use Rattle.row_walk.specs.Lent.{planIn}
 use borrow.Author.Needs.{needs}

@@ -1,4 +1,5 @@
--- `row_walk::is_filled` meets its contract.
+-- `row_walk::is_filled` meets its contract: the return is `isFilled` but for the answers of `is_below`, `is_later` and
+-- `spared`, which by their contracts are those that it joins (`filled-by` of RowLaws).
 use Rattle.row_walk.proofs.RowLaws.{filled-by}
 use Rattle.row_walk.specs.Lent.{planIn}
 use borrow.Author.Needs.{needs}

@@ -1,4 +1,6 @@
--- `row_walk::is_later` meets its contract.
+-- `row_walk::is_later` meets its contract: in the arms 0, 1 and 2 the return is the clause of `isLater` for that
+-- variant, and every other number is that of `Unmarked` (`later-unmarked` of RowLaws), whose clause tests the mark that
+-- `codec::byte` reads.
 use Rattle.row_walk.proofs.RowLaws.{later-unmarked}
 use borrow.Author.Needs.{needs}
 use Rattle.row_walk.proofs.is_later.Statement.{statement}

@@ -1,4 +1,6 @@
--- `row_walk::is_plain` meets its contract.
+-- `row_walk::is_plain` meets its contract: the return is `isPlain` but for the answers of the six functions that are
+-- called, which by their contracts are those that it joins, `ends_due` and `is_taken` at what `closed` leaves open
+-- (`plain-by` of RowLaws).
 use Rattle.row_walk.proofs.RowLaws.{plain-by}
 use Rattle.row_walk.specs.Lent.{planIn}
 use borrow.Author.Needs.{needs}

@@ -1,4 +1,5 @@
--- `row_walk::is_taken` meets its contract.
+-- `row_walk::is_taken` meets its contract: the return is `isTaken` but for the test of variant 1, which is
+-- `isEverything` (`everything-is` of RowLaws), and for the answers of `is_below` and `matches` (`taken-by`).
 use lib.ListN.{getD}
 use Rattle.row_walk.proofs.RowLaws.{everything-is, taken-by}
 use mathlib.Core.List.{[]}

@@ -1,4 +1,5 @@
--- `row_walk::matches` meets its contract.
+-- `row_walk::matches` meets its contract: in the arms 0 to 4 the return is the clause of `matches` for that variant,
+-- and every other number is that of `Serial` (`which-serial` of RowLaws).
 use Rattle.row_walk.proofs.RowLaws.{which-serial}
 use borrow.Author.Needs.{needs}
 use Rattle.row_walk.proofs.matches.Statement.{statement}

@@ -1,4 +1,5 @@
--- `row_walk::spared` meets its contract.
+-- `row_walk::spared` meets its contract: the return is `spared` but for the mark, which by the contract of
+-- `codec::byte` is the one that `spared` tests.
 use borrow.Author.Needs.{needs}
 use Rattle.row_walk.proofs.spared.Statement.{statement}
 use Rattle.row_walk.proofs.spared.Tie as tie

@@ -1,4 +1,5 @@
--- `row_writer::put_kept` meets its contract.
+-- `row_writer::put_kept` meets its contract: where no row may be written any more the cursor stays (`written-stop` of
+-- WrittenLaws), else the row that `put_row_moved` lays is written and keeps its serial (`old-written`).
 use Rattle.row_writer.proofs.WrittenLaws.{written-stop, old-written}
 use borrow.Author.Needs.{needs}
 use Rattle.row_writer.proofs.put_kept.Statement.{statement}

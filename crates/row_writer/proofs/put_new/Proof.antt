@@ -1,4 +1,5 @@
--- `row_writer::put_new` meets its contract.
+-- `row_writer::put_new` meets its contract: where no row may be written any more the cursor stays (`written-stop` of
+-- WrittenLaws), else the row that `put_row` lays is written with the cursor's serial (`new-written`).
 use Rattle.row_writer.proofs.WrittenLaws.{written-stop, new-written}
 use borrow.Author.Needs.{needs}
 use Rattle.row_writer.proofs.put_new.Statement.{statement}

@@ -1,4 +1,6 @@
--- `serial_check::put` meets its contract.
+-- `serial_check::put` meets its contract: each return has its law in TreeLaws: the tree is empty, and row k is its root
+-- (`put-root`); the walk meets a row with the serial (`put-twice`); or it comes to an empty place, where row k is put
+-- (`put-below`). What stands below a row is of the first 4096, as `sought` requires (`rising-more`).
 use Prim.Native.Nat.{_%_}
 use borrow.Author.Needs.{needs}
 use native.Mathlib.Omega.{arith}

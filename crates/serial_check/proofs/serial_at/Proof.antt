@@ -1,4 +1,5 @@
--- `serial_check::serial_at` meets its contract.
+-- `serial_check::serial_at` meets its contract: the contract of `layout::row_serial_at` is this one, with `serialAtRow`
+-- unfolded.
 use borrow.Author.Needs.{needs}
 use Rattle.serial_check.specs.Serials.{serialAtRow}
 use Rattle.serial_check.proofs.serial_at.Statement.{statement}

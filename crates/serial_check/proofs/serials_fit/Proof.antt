@@ -1,4 +1,6 @@
--- `serial_check::serials_fit` meets its contract.
+-- `serial_check::serials_fit` meets its contract: a serial 0, from `next` on or met before refutes the contract's test
+-- (`passed-zero`, `passed-past`, `passed-twice` of TreeLaws; `refuses` of SerialsLaws), another keeps the invariant
+-- (`passed-none`, `passed-more`), and past the last row the test holds (`passed-ranged`, `passed-apart`; `accepts`).
 use Prim.Native.Nat.{_-_}
 use borrow.Author.Needs.{needs}
 use borrow.Author.Tests.{not-true, not-false}

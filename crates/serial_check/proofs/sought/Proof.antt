@@ -1,4 +1,6 @@
--- `serial_check::sought` meets its contract.
+-- `serial_check::sought` meets its contract: the walk meets a row with the serial (`seek-meets` of TreeLaws), or comes
+-- to an empty place (`seek-ends`), or goes on with the row that stands there (`seek-starts`, `seek-on`), whose number
+-- `Rising` bounds.
 use mathlib.Core.Path.{sym, _∙_}
 use Prim.Native.Nat.{suc, _-_}
 use borrow.Author.Needs.{needs}
@@ -8,7 +10,7 @@ use Rattle.serial_check.proofs.TreeLaws.{Seek, seek-starts, seek-meets,
 use Rattle.serial_check.proofs.sought.Statement.{statement}
 use Rattle.serial_check.proofs.sought.Tie as tie
 
--- the walk has come to row j with the bits `rest` to go, and has passed nobody with the serial
+-- the walk has come to row j with the bits `rest` to go, and no row before it on its way has the serial
 abbrev Inv-loop : tie.InvT-loop
 Inv-loop w rows below from s j₀ rest₀ j rest = Seek w rows below from s (suc j) rest
 

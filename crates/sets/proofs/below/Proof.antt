@@ -1,4 +1,5 @@
--- `sets::below` meets its contract.
+-- `sets::below` meets its contract: for `to` 64 all numbers of s are below it (`below-all` of Laws); else `bit` gives
+-- `2 ^ to` (`bit-is`), and the divisor is not 0 (`bit-pos`).
 use mathlib.Core.Path.{ap, _∙_}
 use Prim.Native.Nat.{ℕ, _%_}
 use Rattle.sets.proofs.Laws.{bit-is, bit-pos, below-all}

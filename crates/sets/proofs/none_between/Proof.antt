@@ -1,4 +1,5 @@
--- `sets::none_between` meets its contract.
+-- `sets::none_between` meets its contract: for `from` from 64 on no number is in the range (`none-past` of Laws); else
+-- what `below` leaves, shifted by `from`, is 0 if and only if s has none of the range (`none-between`).
 use Rattle.sets.proofs.Laws.{none-between, none-past}
 use borrow.Author.Needs.{needs}
 use Rattle.sets.proofs.none_between.Statement.{statement}

@@ -1,4 +1,6 @@
--- `store_writer::put_edited` meets its contract.
+-- `store_writer::put_edited` meets its contract: the rows are written behind the place of header and form, then these
+-- (`edited-laid` of EditLaws); the place is in range by `form-short` of FormBytesLaws, the count and the next serial,
+-- those of the rows (`count-is`, `serial-is`), by `limit-within` of WithinLaws.
 use native.Mathlib.Omega.{arith}
 use Rattle.layout.proofs.LayoutLaws.{width-within}
 use Rattle.store_laws.proofs.StoreLaws.{holds}

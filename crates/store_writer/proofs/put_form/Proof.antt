@@ -1,4 +1,6 @@
--- `store_writer::put_form` meets its contract.
+-- `store_writer::put_form` meets its contract: the header, then the form, are what is to be laid (`laid-then` of
+-- Writers in `codec`); the header is no longer than its size, so that the form's place is in range (`headed-short` of
+-- HeaderLaws in `layout`).
 use native.Mathlib.Omega.{arith}
 use Rattle.codec.proofs.Writers.{laid-then}
 use Rattle.layout.proofs.HeaderLaws.{headed-short}

@@ -1,4 +1,6 @@
--- `text_call::set_text` meets its contract.
+-- `text_call::set_text` meets its contract: the call is refused on a bad store and by a condition (`bad`, `turned-away`
+-- of CallLaws). Else what its calls require holds (`set-text-there`, `set-text-asks` of Laws), and the plan does what
+-- the change does (`set-text-planned` of CallsPlanned, `made-planned` of Calls).
 use borrow.Author.Needs.{needs}
 use mathlib.Core.Path.{_∙_, ap}
 use Prim.Native.Nat.{ℕ}

@@ -1,4 +1,6 @@
--- `walk_writer::come` meets its contract.
+-- `walk_writer::come` meets its contract: a row that is taken gives no row (`came-taken` of StepLaws); where a filling
+-- may come before it, the contract of `come_due` is this one; else the row alone is written (`row-kept`, `came-still`),
+-- and what is due stays due (`due-still`, `kept-due`).
 use mathlib.Core.Path.{ap, sym, _∙_}
 use mathlib.Core.Bool.{Bool, _&&_}
 use Rattle.walk_writer.specs.Step.{fillIn}

@@ -1,4 +1,6 @@
--- `walk_writer::put_owed` meets its contract.
+-- `walk_writer::put_owed` meets its contract: if the filling is due, `put_any` writes the rows of the plan's own, which
+-- `filling_of` reads from its numbers (`owed-put` of StepLaws; `written-as` of WrittenLaws in `row_writer`), and else
+-- no row is written (`owed-none`).
 use Rattle.walk_writer.proofs.StepLaws.{owed-put, owed-none}
 use mathlib.Core.Path.{ap, sym, subst}
 use Rattle.filling.specs.declared.Filling.{Filling}

@@ -1,4 +1,5 @@
--- `walk_writer::put_row` meets its contract.
+-- `walk_writer::put_row` meets its contract: the case split is on `valued`: the row is written with the text
+-- (`with-value` of StepLaws) or with its own value (`with-own`).
 use Rattle.walk_writer.proofs.StepLaws.{with-value, with-own}
 use borrow.Author.Needs.{needs}
 use Rattle.walk_writer.proofs.put_row.Statement.{statement}

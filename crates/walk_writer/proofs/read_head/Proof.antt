@@ -1,4 +1,5 @@
--- `walk_writer::read_head` meets its contract.
+-- `walk_writer::read_head` meets its contract: the depth, the sort, the index and the serial that are read are those of
+-- `readRow`, so that with its value they make up the row (`head-read` of StepLaws).
 use Rattle.walk_writer.proofs.StepLaws.{head-read}
 use borrow.Author.Needs.{needs}
 use Rattle.walk_writer.proofs.read_head.Statement.{statement}

@@ -1,4 +1,6 @@
--- `walk_writer::walk_lent` meets its contract.
+-- `walk_writer::walk_lent` meets its contract: the invariant holds before the first row (`going-start` of WalkLaws) and
+-- after each pass (`going-pass`), whose bytes are there and few (`pass-long`, `pass-small`); it gives the contract
+-- where no row may be written any more (`going-stop`), and past the last row by the filling still due (`going-end`).
 use mathlib.Core.Path.{refl, _∙_}
 use native.Mathlib.Omega.{arith}
 use Rattle.rules.specs.Layout.{rowSize}
@@ -13,7 +15,7 @@ use borrow.Author.Needs.{needs}
 use Rattle.walk_writer.proofs.walk_lent.Statement.{statement}
 use Rattle.walk_writer.proofs.walk_lent.Tie as tie
 
--- whoever writes what comes of the rows that are left has written all
+-- once what comes of the rows that are left is written, all is
 abbrev Inv-loop : tie.InvT-loop
 Inv-loop form sizes p marks rows count text out₀ size t₀ m₀ at₀ o₀ out t m at o =
     let plan = planIn p marks in

@@ -1,4 +1,6 @@
--- `clubform::calls::create_club` meets its contract.
+-- `clubform::calls::create_club` meets its contract: the rules, computed, say that this call on stage 10 writes stage
+-- 11 (`create-club` of `accepted` in Stages); so its number is 0, as `expect` requires, and the buffer holds stage 11
+-- (`answered` of Laws).
 use borrow.Author.Needs.{needs}
 use Rattle.clubform.proofs.Stages.{accepted}
 use Rattle.clubform.proofs.Laws.{answered}

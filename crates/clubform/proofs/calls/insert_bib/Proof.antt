@@ -1,4 +1,6 @@
--- `clubform::calls::insert_bib` meets its contract.
+-- `clubform::calls::insert_bib` meets its contract: the rules, computed, say that this call on stage 5 writes stage 6
+-- (`insert-bib` of `accepted` in Stages); so its number is 0, as `expect` requires, and the buffer holds stage 6
+-- (`answered` of Laws).
 use borrow.Author.Needs.{needs}
 use Rattle.clubform.proofs.Stages.{accepted}
 use Rattle.clubform.proofs.Laws.{answered}

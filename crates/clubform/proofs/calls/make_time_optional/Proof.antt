@@ -1,4 +1,6 @@
--- `clubform::calls::make_time_optional` meets its contract.
+-- `clubform::calls::make_time_optional` meets its contract: the rules, computed, say that this call on stage 12 writes
+-- stage 13 (`make-time-optional` of `accepted` in Stages); so its number is 0, as `expect` requires, and the buffer
+-- holds stage 13 (`answered` of Laws).
 use borrow.Author.Needs.{needs}
 use Rattle.clubform.proofs.Stages.{accepted}
 use Rattle.clubform.proofs.Laws.{answered}

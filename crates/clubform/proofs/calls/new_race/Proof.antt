@@ -1,4 +1,6 @@
--- `clubform::calls::new_race` meets its contract.
+-- `clubform::calls::new_race` meets its contract: the rules, computed, say that this call on stage 7 writes stage 8
+-- (`new-race` of `accepted` in Stages); so its number is 0, as `expect` requires, and the buffer holds stage 8
+-- (`answered` of Laws).
 use borrow.Author.Needs.{needs}
 use Rattle.clubform.proofs.Stages.{accepted}
 use Rattle.clubform.proofs.Laws.{answered}

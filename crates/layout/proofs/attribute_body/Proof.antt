@@ -10,23 +10,18 @@ use Rattle.layout.proofs.attributes_start.Reads as attributes-start-rea
 use Rattle.layout.proofs.times.Reads as times-reads
 use Rattle.layout.proofs.window.Reads as window-reads
 
--- src/lib.rt:197:9
 attributes-start-requires : tie.Need-attributes-start-requires
 attributes-start-requires c κs = search needs
 
--- src/lib.rt:198:32
 add-times : tie.Need-add-times
 add-times c = search needs
 
--- src/lib.rt:198:26
 times-requires : tie.Need-times-requires
 times-requires c κs = search needs
 
--- src/lib.rt:198:5
 window-requires : tie.Need-window-requires
 window-requires c κs = search needs
 
--- src/lib.rt:193:1
 returns : tie.Need-returns
 returns c =
     let at-attributes-start = c .before .before .before in

@@ -9,11 +9,9 @@ use Rattle.layout.proofs.attribute_sort.Reads as reads
 use Rattle.layout.proofs.attribute_sort.Lts as lts
 use Rattle.codec.proofs.byte.Reads as byte-reads
 
--- src/lib.rt:120:5
 byte-requires : tie.Need-byte-requires
 byte-requires c κs = search needs
 
--- src/lib.rt:117:1
 returns : tie.Need-returns
 returns c =
     let start = c .before .before in

@@ -10,15 +10,12 @@ use Rattle.layout.proofs.attributes_of.Lts as lts
 use Rattle.layout.proofs.attribute_body.Reads as attribute-body-reads
 use Rattle.layout.proofs.shape_of.Reads as shape-of-reads
 
--- src/lib.rt:434:9
 shape-of-requires : tie.Need-shape-of-requires
 shape-of-requires c κs = search needs
 
--- src/lib.rt:435:5
 attribute-body-requires : tie.Need-attribute-body-requires
 attribute-body-requires c κs = search needs
 
--- src/lib.rt:431:1
 returns : tie.Need-returns
 returns c = by-shape attributeBody _ (c .before .shape-of .ensures) (c .attribute-body .ensures)
 

@@ -7,23 +7,18 @@ use Rattle.layout.proofs.attributes_start.Tie as tie
 use Rattle.layout.proofs.attributes_start.Reads as reads
 use Rattle.layout.proofs.attributes_start.Lts as lts
 
--- src/lib.rt:172:11
 mul-result : tie.Need-mul-result
 mul-result c = search needs
 
--- src/lib.rt:172:32
 mul-result-2 : tie.Need-mul-result-2
 mul-result-2 c = search needs
 
--- src/lib.rt:172:11
 add-result : tie.Need-add-result
 add-result c = search needs
 
--- src/lib.rt:172:5
 add-result-2 : tie.Need-add-result-2
 add-result-2 c = search needs
 
--- src/lib.rt:168:1
 returns : tie.Need-returns
 returns c =
     let start = c .before .before in

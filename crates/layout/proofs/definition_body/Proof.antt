@@ -8,15 +8,12 @@ use Rattle.layout.proofs.definition_body.Reads as reads
 use Rattle.layout.proofs.definition_body.Lts as lts
 use Rattle.layout.proofs.window.Reads as window-reads
 
--- src/lib.rt:250:23
 mul-window : tie.Need-mul-window
 mul-window c = search needs
 
--- src/lib.rt:250:5
 window-requires : tie.Need-window-requires
 window-requires c κs = search needs
 
--- src/lib.rt:246:1
 returns : tie.Need-returns
 returns c = definitions-window _ _ _ (c .window .ensures)
 

@@ -9,11 +9,9 @@ use Rattle.layout.proofs.definition_kind.Reads as reads
 use Rattle.layout.proofs.definition_kind.Lts as lts
 use Rattle.codec.proofs.byte.Reads as byte-reads
 
--- src/lib.rt:76:5
 byte-requires : tie.Need-byte-requires
 byte-requires c κs = search needs
 
--- src/lib.rt:73:1
 returns : tie.Need-returns
 returns c =
     let start = c .before .before in

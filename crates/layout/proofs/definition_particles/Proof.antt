@@ -9,11 +9,9 @@ use Rattle.layout.proofs.definition_particles.Reads as reads
 use Rattle.layout.proofs.definition_particles.Lts as lts
 use Rattle.codec.proofs.get_u16.Reads as get-u16-reads
 
--- src/lib.rt:82:5
 get-u16-requires : tie.Need-get-u16-requires
 get-u16-requires c κs = search needs
 
--- src/lib.rt:79:1
 returns : tie.Need-returns
 returns c =
     let start = c .before .before in

@@ -10,15 +10,12 @@ use Rattle.layout.proofs.definitions_of.Lts as lts
 use Rattle.layout.proofs.definition_body.Reads as definition-body-reads
 use Rattle.layout.proofs.shape_of.Reads as shape-of-reads
 
--- src/lib.rt:418:9
 shape-of-requires : tie.Need-shape-of-requires
 shape-of-requires c κs = search needs
 
--- src/lib.rt:419:5
 definition-body-requires : tie.Need-definition-body-requires
 definition-body-requires c κs = search needs
 
--- src/lib.rt:415:1
 returns : tie.Need-returns
 returns c = by-shape definitionBody _ (c .before .shape-of .ensures) (c .definition-body .ensures)
 

@@ -8,23 +8,18 @@ use Rattle.layout.proofs.particle_body.Reads as reads
 use Rattle.layout.proofs.particle_body.Lts as lts
 use Rattle.layout.proofs.window.Reads as window-reads
 
--- src/lib.rt:258:24
 mul-window : tie.Need-mul-window
 mul-window c = search needs
 
--- src/lib.rt:258:19
 add-window : tie.Need-add-window
 add-window c = search needs
 
--- src/lib.rt:258:44
 mul-window-2 : tie.Need-mul-window-2
 mul-window-2 c = search needs
 
--- src/lib.rt:258:5
 window-requires : tie.Need-window-requires
 window-requires c κs = search needs
 
--- src/lib.rt:254:1
 returns : tie.Need-returns
 returns c = particles-window _ _ _ (c .window .ensures)
 

@@ -10,15 +10,12 @@ use Rattle.layout.proofs.particles_of.Lts as lts
 use Rattle.layout.proofs.particle_body.Reads as particle-body-reads
 use Rattle.layout.proofs.shape_of.Reads as shape-of-reads
 
--- src/lib.rt:426:9
 shape-of-requires : tie.Need-shape-of-requires
 shape-of-requires c κs = search needs
 
--- src/lib.rt:427:5
 particle-body-requires : tie.Need-particle-body-requires
 particle-body-requires c κs = search needs
 
--- src/lib.rt:423:1
 returns : tie.Need-returns
 returns c = by-shape particleBody _ (c .before .shape-of .ensures) (c .particle-body .ensures)
 

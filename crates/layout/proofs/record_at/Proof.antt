@@ -9,15 +9,12 @@ use Rattle.layout.proofs.record_at.Lts as lts
 use Rattle.layout.proofs.times.Reads as times-reads
 use Rattle.layout.proofs.window.Reads as window-reads
 
--- src/lib.rt:38:15
 times-requires : tie.Need-times-requires
 times-requires c κs = search needs
 
--- src/lib.rt:38:5
 window-requires : tie.Need-window-requires
 window-requires c κs = search needs
 
--- src/lib.rt:34:1
 returns : tie.Need-returns
 returns c = record-window _ _ _ _ _ (c .before .times .ensures) (c .window .ensures)
 

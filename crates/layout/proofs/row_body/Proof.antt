@@ -10,23 +10,18 @@ use Rattle.layout.proofs.rows_start.Reads as rows-start-reads
 use Rattle.layout.proofs.times.Reads as times-reads
 use Rattle.layout.proofs.window.Reads as window-reads
 
--- src/lib.rt:206:9
 rows-start-requires : tie.Need-rows-start-requires
 rows-start-requires c κs = search needs
 
--- src/lib.rt:207:32
 add-times : tie.Need-add-times
 add-times c = search needs
 
--- src/lib.rt:207:26
 times-requires : tie.Need-times-requires
 times-requires c κs = search needs
 
--- src/lib.rt:207:5
 window-requires : tie.Need-window-requires
 window-requires c κs = search needs
 
--- src/lib.rt:202:1
 returns : tie.Need-returns
 returns c =
     let at-rows-start = c .before .before .before in

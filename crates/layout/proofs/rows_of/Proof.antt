@@ -10,15 +10,12 @@ use Rattle.layout.proofs.rows_of.Lts as lts
 use Rattle.layout.proofs.row_body.Reads as row-body-reads
 use Rattle.layout.proofs.shape_of.Reads as shape-of-reads
 
--- src/lib.rt:442:9
 shape-of-requires : tie.Need-shape-of-requires
 shape-of-requires c κs = search needs
 
--- src/lib.rt:443:5
 row-body-requires : tie.Need-row-body-requires
 row-body-requires c κs = search needs
 
--- src/lib.rt:439:1
 returns : tie.Need-returns
 returns c = by-shape rowBody _ (c .before .shape-of .ensures) (c .row-body .ensures)
 

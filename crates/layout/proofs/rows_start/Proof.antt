@@ -9,23 +9,18 @@ use Rattle.layout.proofs.rows_start.Lts as lts
 use Rattle.layout.proofs.attributes_start.Reads as attributes-start-reads
 use Rattle.layout.proofs.times.Reads as times-reads
 
--- src/lib.rt:188:9
 attributes-start-requires : tie.Need-attributes-start-requires
 attributes-start-requires c κs = search needs
 
--- src/lib.rt:189:19
 add-times : tie.Need-add-times
 add-times c = search needs
 
--- src/lib.rt:189:13
 times-requires : tie.Need-times-requires
 times-requires c κs = search needs
 
--- src/lib.rt:189:5
 add-result : tie.Need-add-result
 add-result c = search needs
 
--- src/lib.rt:184:1
 returns : tie.Need-returns
 returns c =
     let at-attributes-start = c .before .before in

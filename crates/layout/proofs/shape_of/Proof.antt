@@ -13,31 +13,24 @@ use Rattle.layout.proofs.attribute_count.Reads as attribute-count-reads
 use Rattle.layout.proofs.row_count.Reads as row-count-reads
 use Rattle.layout.proofs.width_of.Reads as width-of-reads
 
--- src/lib.rt:158:9
 get-u32-requires : tie.Need-get-u32-requires
 get-u32-requires c κs = search needs
 
--- src/lib.rt:159:9
 width-of-requires : tie.Need-width-of-requires
 width-of-requires c κs = search needs
 
--- src/lib.rt:160:9
 definition-count-requires : tie.Need-definition-count-requires
 definition-count-requires c κs = search needs
 
--- src/lib.rt:161:9
 particle-count-requires : tie.Need-particle-count-requires
 particle-count-requires c κs = search needs
 
--- src/lib.rt:162:9
 attribute-count-requires : tie.Need-attribute-count-requires
 attribute-count-requires c κs = search needs
 
--- src/lib.rt:163:9
 row-count-requires : tie.Need-row-count-requires
 row-count-requires c κs = search needs
 
--- src/lib.rt:155:1
 returns : tie.Need-returns
 returns c =
     let at-particle-count = c .before .before in

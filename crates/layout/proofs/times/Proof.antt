@@ -7,11 +7,9 @@ use Rattle.layout.proofs.times.Tie as tie
 use Rattle.layout.proofs.times.Reads as reads
 use Rattle.layout.proofs.times.Lts as lts
 
--- src/lib.rt:28:5
 mul-result : tie.Need-mul-result
 mul-result c = let p = product (c .args .size) (c .args .n) (c .pre .0) (c .pre .1) in record { fits = omega (arith, p .small) }
 
--- src/lib.rt:24:1
 returns : tie.Need-returns
 returns c = product (c .args .size) (c .args .n) (c .pre .0) (c .pre .1)
 

@@ -9,15 +9,12 @@ use Rattle.layout.proofs.width_in.Lts as lts
 use Rattle.codec.proofs.get_u32.Reads as get-u32-reads
 use Rattle.layout.proofs.width_of.Reads as width-of-reads
 
--- src/lib.rt:160:14
 get-u32-requires : tie.Need-get-u32-requires
 get-u32-requires c κs = search needs
 
--- src/lib.rt:160:5
 width-of-requires : tie.Need-width-of-requires
 width-of-requires c κs = search needs
 
--- src/lib.rt:157:1
 returns : tie.Need-returns
 returns c = width-in (c .before .get-u32 .ensures) (c .width-of .ensures)
 

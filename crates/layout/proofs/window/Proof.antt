@@ -8,57 +8,45 @@ use Rattle.layout.proofs.window.Tie as tie
 use Rattle.layout.proofs.window.Reads as reads
 use Rattle.layout.proofs.window.Lts as lts
 
--- src/lib.rt:14:9
 slice-aggregate-result : tie.Need-slice-aggregate-result
 slice-aggregate-result c = search needs
 
--- src/lib.rt:14:9
 returns : tie.Need-returns
 returns c =
     let start = c .before .before in
     let a = start .args in
     window-past (a .s .now) (a .at) (a .n) (omega arith)
 
--- src/lib.rt:16:8
 sub-if2 : tie.Need-sub-if2
 sub-if2 c = search needs
 
--- src/lib.rt:17:16
 sub-result : tie.Need-sub-result
 sub-result c = search needs
 
--- src/lib.rt:17:16
 part-result-start : tie.Need-part-result-start
 part-result-start c = search needs
 
--- src/lib.rt:17:16
 part-result-end : tie.Need-part-result-end
 part-result-end c = search needs
 
--- src/lib.rt:17:9
 returns-2 : tie.Need-returns-2
 returns-2 c =
     let start = c .before .before .before in
     let a = start .args in
     window-short (a .s .now) (a .at) (a .n) (omega arith)
 
--- src/lib.rt:19:15
 add-end : tie.Need-add-end
 add-end c = search needs
 
--- src/lib.rt:20:5
 sub-result-2 : tie.Need-sub-result-2
 sub-result-2 c = search needs
 
--- src/lib.rt:20:5
 part-result-start-2 : tie.Need-part-result-start-2
 part-result-start-2 c = search needs
 
--- src/lib.rt:20:5
 part-result-end-2 : tie.Need-part-result-end-2
 part-result-end-2 c = search needs
 
--- src/lib.rt:10:1
 returns-3 : tie.Need-returns-3
 returns-3 c =
     let start = c .before .before .before in

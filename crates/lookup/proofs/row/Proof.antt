@@ -10,23 +10,18 @@ use Rattle.layout.proofs.width_in.Reads as width-in-reads
 use Rattle.lookup.proofs.row_place.Reads as row-place-reads
 use Rattle.layout.proofs.window.Reads as window-reads
 
--- src/lib.rt:44:9
 width-in-requires : tie.Need-width-in-requires
 width-in-requires c κs = search needs
 
--- src/lib.rt:45:9
 row-place-requires : tie.Need-row-place-requires
 row-place-requires c κs = search needs
 
--- src/lib.rt:46:26
 row-size-requires : tie.Need-row-size-requires
 row-size-requires c κs = search needs
 
--- src/lib.rt:46:5
 window-requires : tie.Need-window-requires
 window-requires c κs = search needs
 
--- src/lib.rt:40:1
 returns : tie.Need-returns
 returns c =
     let at-row-place = c .before .before in

@@ -10,27 +10,21 @@ use Rattle.layout.proofs.times.Reads as times-reads
 use Rattle.layout.proofs.width_in.Reads as width-in-reads
 use Rattle.lookup.proofs.row_start.Reads as row-start-reads
 
--- src/lib.rt:34:9
 width-in-requires : tie.Need-width-in-requires
 width-in-requires c κs = search needs
 
--- src/lib.rt:35:32
 row-size-requires : tie.Need-row-size-requires
 row-size-requires c κs = search needs
 
--- src/lib.rt:35:9
 times-requires : tie.Need-times-requires
 times-requires c κs = search needs
 
--- src/lib.rt:36:5
 row-start-requires : tie.Need-row-start-requires
 row-start-requires c κs = search needs
 
--- src/lib.rt:36:5
 add-result : tie.Need-add-result
 add-result c = search needs
 
--- src/lib.rt:30:1
 returns : tie.Need-returns
 returns c =
     let at-row-size = c .before .before in

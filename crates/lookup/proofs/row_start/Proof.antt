@@ -9,15 +9,12 @@ use Rattle.lookup.proofs.row_start.Lts as lts
 use Rattle.layout.proofs.rows_start.Reads as rows-start-reads
 use Rattle.layout.proofs.shape_of.Reads as shape-of-reads
 
--- src/lib.rt:26:24
 shape-of-requires : tie.Need-shape-of-requires
 shape-of-requires c κs = search needs
 
--- src/lib.rt:26:5
 rows-start-requires : tie.Need-rows-start-requires
 rows-start-requires c κs = search needs
 
--- src/lib.rt:23:1
 returns : tie.Need-returns
 returns c = begins _ _ _ (c .before .shape-of .ensures) (c .rows-start .ensures)
 

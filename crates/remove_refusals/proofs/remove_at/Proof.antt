@@ -1,5 +1,5 @@
 -- `remove_refusals::remove_at` meets its contract: refusal 14 applies (`at-14` of RemoveLaws), or none does, in a
--- SEQUENCE (`at-list`) or where the CHOICE that is left accepts nothing (`at-left`), or 15 applies if there is an
+-- LIST (`at-list`) or where the CHOICE that is left accepts nothing (`at-left`), or 15 applies if there is an
 -- instance (`at-exists`).
 use Rattle.remove_refusals.proofs.RemoveLaws.{at-14, at-list, at-left, at-exists}
 use Rattle.instance_search.specs.Instances.{hasInstance}

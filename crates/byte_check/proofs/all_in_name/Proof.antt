@@ -11,9 +11,6 @@ use Rattle.rules.specs.WellFormed.{inName}
 use borrow.Author.Needs.{needs}
 use Rattle.byte_check.proofs.all_in_name.Statement.{statement}
 use Rattle.byte_check.proofs.all_in_name.Tie as tie
-use Rattle.byte_check.proofs.all_in_name.Reads as reads
-use Rattle.byte_check.proofs.all_in_name.Lts as lts
-use Rattle.byte_check.proofs.in_name.Reads as in-name-reads
 
 -- The loop's invariant: all bytes are those of a name if and only if those from i on are.
 abbrev Inv-loop : tie.InvT-loop

@@ -12,10 +12,6 @@ use Rattle.rules.specs.Bytes.{all, between}
 use Rattle.byte_check.proofs.TestLaws.{part-on, part-off, part-end}
 use Rattle.byte_check.proofs.all_printable.Statement.{statement}
 use Rattle.byte_check.proofs.all_printable.Tie as tie
-use Rattle.byte_check.proofs.all_printable.Reads as reads
-use Rattle.byte_check.proofs.all_printable.Lts as lts
-use Rattle.byte_check.proofs.eight_printable.Reads as eight-printable-reads
-use Rattle.byte_check.proofs.single_printable.Reads as single-printable-reads
 
 -- the first i bytes are printable
 abbrev Inv-loop : tie.InvT-loop

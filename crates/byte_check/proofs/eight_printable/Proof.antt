@@ -8,9 +8,6 @@ use Rattle.byte_check.proofs.TestLaws.{eight-of}
 use borrow.Author.Needs.{needs}
 use Rattle.byte_check.proofs.eight_printable.Statement.{statement}
 use Rattle.byte_check.proofs.eight_printable.Tie as tie
-use Rattle.byte_check.proofs.eight_printable.Reads as reads
-use Rattle.byte_check.proofs.eight_printable.Lts as lts
-use Rattle.byte_check.proofs.printable.Reads as printable-reads
 
 shared-slice-read-printable : tie.Need-shared-slice-read-printable
 shared-slice-read-printable c = search needs

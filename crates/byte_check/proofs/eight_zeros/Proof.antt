@@ -7,8 +7,6 @@ use Rattle.byte_check.proofs.TestLaws.{eight-of}
 use borrow.Author.Needs.{needs}
 use Rattle.byte_check.proofs.eight_zeros.Statement.{statement}
 use Rattle.byte_check.proofs.eight_zeros.Tie as tie
-use Rattle.byte_check.proofs.eight_zeros.Reads as reads
-use Rattle.byte_check.proofs.eight_zeros.Lts as lts
 
 shared-slice-read-a : tie.Need-shared-slice-read-a
 shared-slice-read-a c = search needs

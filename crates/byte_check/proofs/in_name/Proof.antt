@@ -6,9 +6,6 @@ use lib.Dec.{eqb, leb}
 use borrow.Author.Needs.{needs}
 use Rattle.byte_check.proofs.in_name.Statement.{statement}
 use Rattle.byte_check.proofs.in_name.Tie as tie
-use Rattle.byte_check.proofs.in_name.Reads as reads
-use Rattle.byte_check.proofs.in_name.Lts as lts
-use Rattle.byte_check.proofs.starts_name.Reads as starts-name-reads
 
 starts-name-requires : tie.Need-starts-name-requires
 starts-name-requires c κs = search needs

@@ -10,9 +10,6 @@ use Rattle.byte_check.proofs.TestLaws.{all-on, all-off, all-end}
 use borrow.Author.Needs.{needs}
 use Rattle.byte_check.proofs.single_printable.Statement.{statement}
 use Rattle.byte_check.proofs.single_printable.Tie as tie
-use Rattle.byte_check.proofs.single_printable.Reads as reads
-use Rattle.byte_check.proofs.single_printable.Lts as lts
-use Rattle.byte_check.proofs.printable.Reads as printable-reads
 
 -- The loop's invariant: all bytes are printable if and only if those from i on are.
 abbrev Inv-loop : tie.InvT-loop

@@ -11,8 +11,6 @@ use Rattle.byte_check.proofs.TestLaws.{all-on, all-off, all-end}
 use borrow.Author.Needs.{needs}
 use Rattle.byte_check.proofs.single_zeros.Statement.{statement}
 use Rattle.byte_check.proofs.single_zeros.Tie as tie
-use Rattle.byte_check.proofs.single_zeros.Reads as reads
-use Rattle.byte_check.proofs.single_zeros.Lts as lts
 
 -- The loop's invariant: all bytes are zeros if and only if those from i on are.
 abbrev Inv-loop : tie.InvT-loop

@@ -13,10 +13,6 @@ use Rattle.byte_check.specs.Zeros.{zeros}
 use Rattle.byte_check.proofs.TestLaws.{part-on, part-off, part-end}
 use Rattle.byte_check.proofs.zeros.Statement.{statement}
 use Rattle.byte_check.proofs.zeros.Tie as tie
-use Rattle.byte_check.proofs.zeros.Reads as reads
-use Rattle.byte_check.proofs.zeros.Lts as lts
-use Rattle.byte_check.proofs.eight_zeros.Reads as eight-zeros-reads
-use Rattle.byte_check.proofs.single_zeros.Reads as single-zeros-reads
 
 -- the first i bytes are zeros
 abbrev Inv-loop : tie.InvT-loop

@@ -11,10 +11,6 @@ use borrow.Author.Needs.{needs}
 use Rattle.byte_copy.proofs.CopyLaws.{copy-part}
 use Rattle.byte_copy.proofs.copy.Statement.{statement}
 use Rattle.byte_copy.proofs.copy.Tie as tie
-use Rattle.byte_copy.proofs.copy.Reads as reads
-use Rattle.byte_copy.proofs.copy.Lts as lts
-use Rattle.byte_copy.proofs.copy_eight.Reads as copy-eight-reads
-use Rattle.byte_copy.proofs.copy_singly.Reads as copy-singly-reads
 
 -- The loop's invariant: the first i bytes of `out` are those of `src`; the others are as they were.
 abbrev Inv-loop : tie.InvT-loop

@@ -8,8 +8,6 @@ use Rattle.byte_copy.proofs.CopyLaws.{eight-stored}
 use borrow.Author.Needs.{needs}
 use Rattle.byte_copy.proofs.copy_eight.Statement.{statement}
 use Rattle.byte_copy.proofs.copy_eight.Tie as tie
-use Rattle.byte_copy.proofs.copy_eight.Reads as reads
-use Rattle.byte_copy.proofs.copy_eight.Lts as lts
 
 shared-slice-read-a : tie.Need-shared-slice-read-a
 shared-slice-read-a c = search needs

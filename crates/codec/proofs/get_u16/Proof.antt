@@ -7,8 +7,6 @@ use Rattle.codec.proofs.Numbers.{number-two, number-past}
 use borrow.Author.Needs.{needs}
 use Rattle.codec.proofs.get_u16.Statement.{statement}
 use Rattle.codec.proofs.get_u16.Tie as tie
-use Rattle.codec.proofs.get_u16.Reads as reads
-use Rattle.codec.proofs.get_u16.Lts as lts
 
 returns : tie.Need-returns
 returns c =

@@ -5,9 +5,6 @@ use Rattle.codec.proofs.Numbers.{number-four, number-past}
 use borrow.Author.Needs.{needs}
 use Rattle.codec.proofs.get_u32.Statement.{statement}
 use Rattle.codec.proofs.get_u32.Tie as tie
-use Rattle.codec.proofs.get_u32.Reads as reads
-use Rattle.codec.proofs.get_u32.Lts as lts
-use Rattle.codec.proofs.byte.Reads as byte-reads
 
 returns : tie.Need-returns
 returns c =

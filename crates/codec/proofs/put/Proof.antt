@@ -7,10 +7,6 @@ use native.Mathlib.Omega.{arith}
 use borrow.Author.Needs.{needs}
 use Rattle.codec.proofs.put.Statement.{statement}
 use Rattle.codec.proofs.put.Tie as tie
-use Rattle.codec.proofs.put.Reads as reads
-use Rattle.codec.proofs.put.Lts as lts
-use Rattle.byte_copy.proofs.copy.Reads as copy-reads
-use Rattle.codec.proofs.lay.Reads as lay-reads
 
 add-next : tie.Need-add-next
 add-next c = search needs

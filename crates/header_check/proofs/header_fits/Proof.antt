@@ -4,11 +4,6 @@ use Rattle.records.proofs.CodeLaws.{header-of}
 use borrow.Author.Needs.{needs}
 use Rattle.header_check.proofs.header_fits.Statement.{statement}
 use Rattle.header_check.proofs.header_fits.Tie as tie
-use Rattle.header_check.proofs.header_fits.Reads as reads
-use Rattle.header_check.proofs.header_fits.Lts as lts
-use Rattle.header_check.proofs.counts_fit.Reads as counts-fit-reads
-use Rattle.header_check.proofs.is_sized.Reads as is-sized-reads
-use Rattle.header_check.proofs.offsets_fit.Reads as offsets-fit-reads
 
 version-in-requires : tie.Need-version-in-requires
 version-in-requires c κs = search needs

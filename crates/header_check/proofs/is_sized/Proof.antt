@@ -4,8 +4,6 @@ use Rattle.records.proofs.CodeLaws.{sized-of}
 use borrow.Author.Needs.{needs}
 use Rattle.header_check.proofs.is_sized.Statement.{statement}
 use Rattle.header_check.proofs.is_sized.Tie as tie
-use Rattle.header_check.proofs.is_sized.Reads as reads
-use Rattle.header_check.proofs.is_sized.Lts as lts
 
 definition-count-requires : tie.Need-definition-count-requires
 definition-count-requires c κs = search needs

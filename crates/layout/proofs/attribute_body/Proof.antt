@@ -4,11 +4,6 @@ use Rattle.layout.proofs.LayoutLaws.{attributes-window}
 use borrow.Author.Needs.{needs}
 use Rattle.layout.proofs.attribute_body.Statement.{statement}
 use Rattle.layout.proofs.attribute_body.Tie as tie
-use Rattle.layout.proofs.attribute_body.Reads as reads
-use Rattle.layout.proofs.attribute_body.Lts as lts
-use Rattle.layout.proofs.attributes_start.Reads as attributes-start-reads
-use Rattle.layout.proofs.times.Reads as times-reads
-use Rattle.layout.proofs.window.Reads as window-reads
 
 attributes-start-requires : tie.Need-attributes-start-requires
 attributes-start-requires c κs = search needs

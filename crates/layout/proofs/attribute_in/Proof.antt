@@ -4,13 +4,6 @@ use Rattle.layout.proofs.LayoutLaws.{attribute-window}
 use borrow.Author.Needs.{needs}
 use Rattle.layout.proofs.attribute_in.Statement.{statement}
 use Rattle.layout.proofs.attribute_in.Tie as tie
-use Rattle.layout.proofs.attribute_in.Reads as reads
-use Rattle.layout.proofs.attribute_in.Lts as lts
-use Rattle.layout.proofs.definition_count.Reads as definition-count-reads
-use Rattle.layout.proofs.particle_count.Reads as particle-count-reads
-use Rattle.layout.proofs.times.Reads as times-reads
-use Rattle.layout.proofs.width_in.Reads as width-in-reads
-use Rattle.layout.proofs.window.Reads as window-reads
 
 width-in-requires : tie.Need-width-in-requires
 width-in-requires c κs = search needs

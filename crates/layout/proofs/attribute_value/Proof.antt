@@ -4,11 +4,6 @@ use Rattle.layout.proofs.LayoutLaws.{attribute-value-by}
 use borrow.Author.Needs.{needs}
 use Rattle.layout.proofs.attribute_value.Statement.{statement}
 use Rattle.layout.proofs.attribute_value.Tie as tie
-use Rattle.layout.proofs.attribute_value.Reads as reads
-use Rattle.layout.proofs.attribute_value.Lts as lts
-use Rattle.codec.proofs.byte.Reads as byte-reads
-use Rattle.layout.proofs.wide.Reads as wide-reads
-use Rattle.layout.proofs.window.Reads as window-reads
 
 byte-requires : tie.Need-byte-requires
 byte-requires c κs = search needs

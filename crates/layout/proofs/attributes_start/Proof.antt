@@ -4,8 +4,6 @@ use Rattle.layout.proofs.LayoutLaws.{attributes-place}
 use borrow.Author.Needs.{needs}
 use Rattle.layout.proofs.attributes_start.Statement.{statement}
 use Rattle.layout.proofs.attributes_start.Tie as tie
-use Rattle.layout.proofs.attributes_start.Reads as reads
-use Rattle.layout.proofs.attributes_start.Lts as lts
 
 mul-result : tie.Need-mul-result
 mul-result c = search needs

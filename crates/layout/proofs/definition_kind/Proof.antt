@@ -5,9 +5,6 @@ use Rattle.layout.proofs.LayoutLaws.{get-after}
 use borrow.Author.Needs.{needs}
 use Rattle.layout.proofs.definition_kind.Statement.{statement}
 use Rattle.layout.proofs.definition_kind.Tie as tie
-use Rattle.layout.proofs.definition_kind.Reads as reads
-use Rattle.layout.proofs.definition_kind.Lts as lts
-use Rattle.codec.proofs.byte.Reads as byte-reads
 
 byte-requires : tie.Need-byte-requires
 byte-requires c κs = search needs

@@ -5,9 +5,6 @@ use Rattle.layout.proofs.LayoutLaws.{number-after}
 use borrow.Author.Needs.{needs}
 use Rattle.layout.proofs.definition_particles.Statement.{statement}
 use Rattle.layout.proofs.definition_particles.Tie as tie
-use Rattle.layout.proofs.definition_particles.Reads as reads
-use Rattle.layout.proofs.definition_particles.Lts as lts
-use Rattle.codec.proofs.get_u16.Reads as get-u16-reads
 
 get-u16-requires : tie.Need-get-u16-requires
 get-u16-requires c κs = search needs

@@ -5,9 +5,6 @@ use Rattle.layout.proofs.LayoutLaws.{particles-at}
 use borrow.Author.Needs.{needs}
 use Rattle.layout.proofs.definition_particles_at.Statement.{statement}
 use Rattle.layout.proofs.definition_particles_at.Tie as tie
-use Rattle.layout.proofs.definition_particles_at.Reads as reads
-use Rattle.layout.proofs.definition_particles_at.Lts as lts
-use Rattle.codec.proofs.get_u16.Reads as get-u16-reads
 
 mul-get-u16 : tie.Need-mul-get-u16
 mul-get-u16 c = search needs

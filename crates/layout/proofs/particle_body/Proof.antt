@@ -4,9 +4,6 @@ use Rattle.layout.proofs.LayoutLaws.{particles-window}
 use borrow.Author.Needs.{needs}
 use Rattle.layout.proofs.particle_body.Statement.{statement}
 use Rattle.layout.proofs.particle_body.Tie as tie
-use Rattle.layout.proofs.particle_body.Reads as reads
-use Rattle.layout.proofs.particle_body.Lts as lts
-use Rattle.layout.proofs.window.Reads as window-reads
 
 mul-window : tie.Need-mul-window
 mul-window c = search needs

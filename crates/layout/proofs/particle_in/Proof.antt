@@ -6,10 +6,6 @@ use Rattle.layout.specs.Bodies.{windowOf}
 use borrow.Author.Needs.{needs}
 use Rattle.layout.proofs.particle_in.Statement.{statement}
 use Rattle.layout.proofs.particle_in.Tie as tie
-use Rattle.layout.proofs.particle_in.Reads as reads
-use Rattle.layout.proofs.particle_in.Lts as lts
-use Rattle.layout.proofs.definition_count.Reads as definition-count-reads
-use Rattle.layout.proofs.window.Reads as window-reads
 
 definition-count-requires : tie.Need-definition-count-requires
 definition-count-requires c κs = search needs

@@ -4,10 +4,6 @@ use Rattle.layout.proofs.LayoutLaws.{record-window}
 use borrow.Author.Needs.{needs}
 use Rattle.layout.proofs.record_at.Statement.{statement}
 use Rattle.layout.proofs.record_at.Tie as tie
-use Rattle.layout.proofs.record_at.Reads as reads
-use Rattle.layout.proofs.record_at.Lts as lts
-use Rattle.layout.proofs.times.Reads as times-reads
-use Rattle.layout.proofs.window.Reads as window-reads
 
 times-requires : tie.Need-times-requires
 times-requires c κs = search needs

@@ -4,11 +4,6 @@ use Rattle.layout.proofs.LayoutLaws.{rows-window}
 use borrow.Author.Needs.{needs}
 use Rattle.layout.proofs.row_body.Statement.{statement}
 use Rattle.layout.proofs.row_body.Tie as tie
-use Rattle.layout.proofs.row_body.Reads as reads
-use Rattle.layout.proofs.row_body.Lts as lts
-use Rattle.layout.proofs.rows_start.Reads as rows-start-reads
-use Rattle.layout.proofs.times.Reads as times-reads
-use Rattle.layout.proofs.window.Reads as window-reads
 
 rows-start-requires : tie.Need-rows-start-requires
 rows-start-requires c κs = search needs

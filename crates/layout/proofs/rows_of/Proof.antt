@@ -5,10 +5,6 @@ use Rattle.layout.specs.Bodies.{rowBody}
 use borrow.Author.Needs.{needs}
 use Rattle.layout.proofs.rows_of.Statement.{statement}
 use Rattle.layout.proofs.rows_of.Tie as tie
-use Rattle.layout.proofs.rows_of.Reads as reads
-use Rattle.layout.proofs.rows_of.Lts as lts
-use Rattle.layout.proofs.row_body.Reads as row-body-reads
-use Rattle.layout.proofs.shape_of.Reads as shape-of-reads
 
 shape-of-requires : tie.Need-shape-of-requires
 shape-of-requires c κs = search needs

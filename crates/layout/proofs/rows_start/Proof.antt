@@ -4,10 +4,6 @@ use Rattle.layout.proofs.LayoutLaws.{rows-place}
 use borrow.Author.Needs.{needs}
 use Rattle.layout.proofs.rows_start.Statement.{statement}
 use Rattle.layout.proofs.rows_start.Tie as tie
-use Rattle.layout.proofs.rows_start.Reads as reads
-use Rattle.layout.proofs.rows_start.Lts as lts
-use Rattle.layout.proofs.attributes_start.Reads as attributes-start-reads
-use Rattle.layout.proofs.times.Reads as times-reads
 
 attributes-start-requires : tie.Need-attributes-start-requires
 attributes-start-requires c κs = search needs

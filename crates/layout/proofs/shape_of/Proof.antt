@@ -4,14 +4,6 @@ use Rattle.layout.proofs.LayoutLaws.{shaped}
 use borrow.Author.Needs.{needs}
 use Rattle.layout.proofs.shape_of.Statement.{statement}
 use Rattle.layout.proofs.shape_of.Tie as tie
-use Rattle.layout.proofs.shape_of.Reads as reads
-use Rattle.layout.proofs.shape_of.Lts as lts
-use Rattle.codec.proofs.get_u32.Reads as get-u32-reads
-use Rattle.layout.proofs.definition_count.Reads as definition-count-reads
-use Rattle.layout.proofs.particle_count.Reads as particle-count-reads
-use Rattle.layout.proofs.attribute_count.Reads as attribute-count-reads
-use Rattle.layout.proofs.row_count.Reads as row-count-reads
-use Rattle.layout.proofs.width_of.Reads as width-of-reads
 
 get-u32-requires : tie.Need-get-u32-requires
 get-u32-requires c κs = search needs

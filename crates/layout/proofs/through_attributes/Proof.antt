@@ -5,11 +5,6 @@ use Rattle.layout.proofs.LayoutLaws.{attributes-through}
 use borrow.Author.Needs.{needs}
 use Rattle.layout.proofs.through_attributes.Statement.{statement}
 use Rattle.layout.proofs.through_attributes.Tie as tie
-use Rattle.layout.proofs.through_attributes.Reads as reads
-use Rattle.layout.proofs.through_attributes.Lts as lts
-use Rattle.layout.proofs.attribute_size.Reads as attribute-size-reads
-use Rattle.layout.proofs.through_particles.Reads as through-particles-reads
-use Rattle.layout.proofs.times.Reads as times-reads
 
 through-particles-requires : tie.Need-through-particles-requires
 through-particles-requires c κs = search needs

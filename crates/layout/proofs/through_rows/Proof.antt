@@ -4,11 +4,6 @@ use Rattle.layout.proofs.LayoutLaws.{rows-through}
 use borrow.Author.Needs.{needs}
 use Rattle.layout.proofs.through_rows.Statement.{statement}
 use Rattle.layout.proofs.through_rows.Tie as tie
-use Rattle.layout.proofs.through_rows.Reads as reads
-use Rattle.layout.proofs.through_rows.Lts as lts
-use Rattle.layout.proofs.row_size.Reads as row-size-reads
-use Rattle.layout.proofs.through_attributes.Reads as through-attributes-reads
-use Rattle.layout.proofs.times.Reads as times-reads
 
 through-attributes-requires : tie.Need-through-attributes-requires
 through-attributes-requires c κs = search needs

@@ -4,8 +4,6 @@ use native.Mathlib.Omega.{arith}
 use Rattle.layout.proofs.LayoutLaws.{product}
 use Rattle.layout.proofs.times.Statement.{statement}
 use Rattle.layout.proofs.times.Tie as tie
-use Rattle.layout.proofs.times.Reads as reads
-use Rattle.layout.proofs.times.Lts as lts
 
 mul-result : tie.Need-mul-result
 mul-result c = let p = product (c .args .size) (c .args .n) (c .pre .0) (c .pre .1) in record { fits = omega (arith, p .small) }

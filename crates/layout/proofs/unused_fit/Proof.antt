@@ -4,9 +4,6 @@ use Rattle.layout.proofs.LayoutLaws.{unused-of}
 use borrow.Author.Needs.{needs}
 use Rattle.layout.proofs.unused_fit.Statement.{statement}
 use Rattle.layout.proofs.unused_fit.Tie as tie
-use Rattle.layout.proofs.unused_fit.Reads as reads
-use Rattle.layout.proofs.unused_fit.Lts as lts
-use Rattle.codec.proofs.byte.Reads as byte-reads
 
 byte-requires : tie.Need-byte-requires
 byte-requires c κs = search needs

@@ -4,10 +4,6 @@ use Rattle.layout.proofs.LayoutLaws.{width-in}
 use borrow.Author.Needs.{needs}
 use Rattle.layout.proofs.width_in.Statement.{statement}
 use Rattle.layout.proofs.width_in.Tie as tie
-use Rattle.layout.proofs.width_in.Reads as reads
-use Rattle.layout.proofs.width_in.Lts as lts
-use Rattle.codec.proofs.get_u32.Reads as get-u32-reads
-use Rattle.layout.proofs.width_of.Reads as width-of-reads
 
 get-u32-requires : tie.Need-get-u32-requires
 get-u32-requires c κs = search needs

@@ -5,8 +5,6 @@ use Rattle.layout.proofs.LayoutLaws.{window-past, window-short, window-
 use borrow.Author.Needs.{needs}
 use Rattle.layout.proofs.window.Statement.{statement}
 use Rattle.layout.proofs.window.Tie as tie
-use Rattle.layout.proofs.window.Reads as reads
-use Rattle.layout.proofs.window.Lts as lts
 
 slice-aggregate-result : tie.Need-slice-aggregate-result
 slice-aggregate-result c = search needs

@@ -8,11 +8,6 @@ use Prim.Native.Nat.{_+_, _-_}
 use borrow.Author.Needs.{needs}
 use Rattle.layout_row_writer.proofs.put_row_moved.Statement.{statement}
 use Rattle.layout_row_writer.proofs.put_row_moved.Tie as tie
-use Rattle.layout_row_writer.proofs.put_row_moved.Reads as reads
-use Rattle.layout_row_writer.proofs.put_row_moved.Lts as lts
-use Rattle.codec.proofs.put.Reads as put-reads
-use Rattle.layout_row_writer.proofs.put_row_index.Reads as put-row-index-reads
-use Rattle.layout.proofs.row_index.Reads as row-index-reads
 
 row-index-requires : tie.Need-row-index-requires
 row-index-requires c κs = search needs

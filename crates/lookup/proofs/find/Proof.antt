@@ -13,14 +13,6 @@ use Rattle.lookup.specs.Finding.{Looks}
 use Rattle.lookup.proofs.Laws.{Seeking, seek-start, seek-past, seek-hit, seek-none, row-of}
 use Rattle.lookup.proofs.find.Statement.{statement}
 use Rattle.lookup.proofs.find.Tie as tie
-use Rattle.lookup.proofs.find.Reads as reads
-use Rattle.lookup.proofs.find.Lts as lts
-use Rattle.layout.proofs.row_at.Reads as row-at-reads
-use Rattle.layout.proofs.row_count.Reads as row-count-reads
-use Rattle.layout.proofs.row_serial.Reads as row-serial-reads
-use Rattle.layout.proofs.width_in.Reads as width-in-reads
-use Rattle.lookup.proofs.found_at.Reads as found-at-reads
-use Rattle.lookup.proofs.rows_of.Reads as rows-of-reads
 
 -- the rows from i on give what all give; the rows and their width are the store's
 abbrev Inv-loop : tie.InvT-loop

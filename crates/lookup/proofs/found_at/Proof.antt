@@ -13,12 +13,6 @@ use Rattle.lookup.proofs.Laws.{looks-as, found-element, found-value}
 use borrow.Author.Needs.{needs}
 use Rattle.lookup.proofs.found_at.Statement.{statement}
 use Rattle.lookup.proofs.found_at.Tie as tie
-use Rattle.lookup.proofs.found_at.Reads as reads
-use Rattle.lookup.proofs.found_at.Lts as lts
-use Rattle.layout.proofs.row_sort.Reads as row-sort-reads
-use Rattle.layout.proofs.row_value.Reads as row-value-reads
-use Rattle.lookup.proofs.row.Reads as row-reads
-use Rattle.lookup.proofs.row_place.Reads as row-place-reads
 
 row-requires : tie.Need-row-requires
 row-requires c κs = search needs

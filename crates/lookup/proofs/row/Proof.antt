@@ -4,11 +4,6 @@ use Rattle.lookup.proofs.Laws.{row-window}
 use borrow.Author.Needs.{needs}
 use Rattle.lookup.proofs.row.Statement.{statement}
 use Rattle.lookup.proofs.row.Tie as tie
-use Rattle.lookup.proofs.row.Reads as reads
-use Rattle.lookup.proofs.row.Lts as lts
-use Rattle.layout.proofs.width_in.Reads as width-in-reads
-use Rattle.lookup.proofs.row_place.Reads as row-place-reads
-use Rattle.layout.proofs.window.Reads as window-reads
 
 width-in-requires : tie.Need-width-in-requires
 width-in-requires c κs = search needs

@@ -4,11 +4,6 @@ use Rattle.lookup.proofs.Laws.{row-placed}
 use borrow.Author.Needs.{needs}
 use Rattle.lookup.proofs.row_place.Statement.{statement}
 use Rattle.lookup.proofs.row_place.Tie as tie
-use Rattle.lookup.proofs.row_place.Reads as reads
-use Rattle.lookup.proofs.row_place.Lts as lts
-use Rattle.layout.proofs.times.Reads as times-reads
-use Rattle.layout.proofs.width_in.Reads as width-in-reads
-use Rattle.lookup.proofs.row_start.Reads as row-start-reads
 
 width-in-requires : tie.Need-width-in-requires
 width-in-requires c κs = search needs

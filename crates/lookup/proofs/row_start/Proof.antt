@@ -4,10 +4,6 @@ use Rattle.lookup.proofs.Laws.{begins}
 use borrow.Author.Needs.{needs}
 use Rattle.lookup.proofs.row_start.Statement.{statement}
 use Rattle.lookup.proofs.row_start.Tie as tie
-use Rattle.lookup.proofs.row_start.Reads as reads
-use Rattle.lookup.proofs.row_start.Lts as lts
-use Rattle.layout.proofs.rows_start.Reads as rows-start-reads
-use Rattle.layout.proofs.shape_of.Reads as shape-of-reads
 
 shape-of-requires : tie.Need-shape-of-requires
 shape-of-requires c κs = search needs

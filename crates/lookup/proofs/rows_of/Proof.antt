@@ -4,10 +4,6 @@ use Rattle.lookup.proofs.Laws.{rows-from}
 use borrow.Author.Needs.{needs}
 use Rattle.lookup.proofs.rows_of.Statement.{statement}
 use Rattle.lookup.proofs.rows_of.Tie as tie
-use Rattle.lookup.proofs.rows_of.Reads as reads
-use Rattle.lookup.proofs.rows_of.Lts as lts
-use Rattle.layout.proofs.window.Reads as window-reads
-use Rattle.lookup.proofs.row_start.Reads as row-start-reads
 
 row-start-requires : tie.Need-row-start-requires
 row-start-requires c κs = search needs

@@ -5,8 +5,6 @@ use native.Mathlib.Omega.{arith}
 use Rattle.model_form.proofs.FormWriting.{owner-low, keeps-not, keeps, still-within}
 use Rattle.model_edit.proofs.keeps_within.Statement.{statement}
 use Rattle.model_edit.proofs.keeps_within.Tie as tie
-use Rattle.model_places.proofs.own_part.Reads as own-part-reads
-use Rattle.depth_check.proofs.is_within.Reads as is-within-reads
 
 returns : tie.Need-returns
 returns c =

@@ -4,13 +4,6 @@ use Rattle.quantifier_plans.proofs.PlanLaws.{element-planned}
 use borrow.Author.Needs.{needs}
 use Rattle.quantifier_plans.proofs.element_plan.Statement.{statement}
 use Rattle.quantifier_plans.proofs.element_plan.Tie as tie
-use Rattle.layout.proofs.particles_from.Reads as particles-from-reads
-use Rattle.layout.proofs.particle_index.Reads as particle-index-reads
-use Rattle.place_marks.proofs.marks.Reads as marks-reads
-use Rattle.model.proofs.read_particle.Reads as read-particle-reads
-use Rattle.quantifier_refusals.proofs.cuts.Reads as cuts-reads
-use Rattle.quantifier_refusals.proofs.gains.Reads as gains-reads
-use Rattle.plans.proofs.requantify_plan.Reads as requantify-plan-reads
 
 particles-from-requires : tie.Need-particles-from-requires
 particles-from-requires c κs = search needs

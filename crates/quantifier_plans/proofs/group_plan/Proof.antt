@@ -4,15 +4,6 @@ use Rattle.quantifier_plans.proofs.PlanLaws.{group-planned}
 use borrow.Author.Needs.{needs}
 use Rattle.quantifier_plans.proofs.group_plan.Statement.{statement}
 use Rattle.quantifier_plans.proofs.group_plan.Tie as tie
-use Rattle.place_marks.proofs.marks.Reads as marks-reads
-use Rattle.layout.proofs.particles_from.Reads as particles-from-reads
-use Rattle.model.proofs.read_particle.Reads as read-particle-reads
-use Rattle.quantifier_refusals.proofs.gains.Reads as gains-reads
-use Rattle.plans.proofs.requantify_plan.Reads as requantify-plan-reads
-use Rattle.quantifier_plans.proofs.group_span.Reads as group-span-reads
-use Rattle.model.proofs.kind_in.Reads as kind-in-reads
-use Rattle.form_index.proofs.particles_before.Reads as particles-before-reads
-use Rattle.layout.proofs.definitions_of.Reads as definitions-of-reads
 
 particles-from-requires : tie.Need-particles-from-requires
 particles-from-requires c κs = search needs

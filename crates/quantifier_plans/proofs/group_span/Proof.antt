@@ -5,8 +5,6 @@ use Rattle.quantifier_plans.proofs.PlanLaws.{span-low, span-is}
 use borrow.Author.Needs.{needs}
 use Rattle.quantifier_plans.proofs.group_span.Statement.{statement}
 use Rattle.quantifier_plans.proofs.group_span.Tie as tie
-use Rattle.place_lookup.proofs.span.Reads as span-reads
-use Rattle.layout.proofs.particles_from.Reads as particles-from-reads
 
 add-particles-from : tie.Need-add-particles-from
 add-particles-from c = search needs

@@ -6,8 +6,6 @@ use Rattle.codec.proofs.Writers.{tail-seen}
 use borrow.Author.Needs.{needs}
 use Rattle.records.proofs.after.Statement.{statement}
 use Rattle.records.proofs.after.Tie as tie
-use Rattle.records.proofs.after.Reads as reads
-use Rattle.records.proofs.after.Lts as lts
 
 sub-result : tie.Need-sub-result
 sub-result c = search needs

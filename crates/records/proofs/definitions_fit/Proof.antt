@@ -10,11 +10,6 @@ use borrow.Author.Tests.{not-true, not-false}
 use borrow.Author.Needs.{needs}
 use Rattle.records.proofs.definitions_fit.Statement.{statement}
 use Rattle.records.proofs.definitions_fit.Tie as tie
-use Rattle.records.proofs.definitions_fit.Reads as reads
-use Rattle.records.proofs.definitions_fit.Lts as lts
-use Rattle.records.proofs.definition_fits.Reads as definition-fits-reads
-use Rattle.records.proofs.first.Reads as first-reads
-use Rattle.records.proofs.least.Reads as least-reads
 
 -- The loop's invariant: all definition records fit if and only if the `left` ones at the front of `rest` do.
 abbrev Inv-loop : tie.InvT-loop

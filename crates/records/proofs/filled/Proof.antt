@@ -6,11 +6,6 @@ use Rattle.records.proofs.CodeLaws.{filled-wide, filled-of}
 use borrow.Author.Needs.{needs}
 use Rattle.records.proofs.filled.Statement.{statement}
 use Rattle.records.proofs.filled.Tie as tie
-use Rattle.records.proofs.filled.Reads as reads
-use Rattle.records.proofs.filled.Lts as lts
-use Rattle.records.proofs.after.Reads as after-reads
-use Rattle.records.proofs.first.Reads as first-reads
-use Rattle.byte_check.proofs.zeros.Reads as zeros-reads
 
 returns : tie.Need-returns
 returns c =

@@ -6,8 +6,6 @@ use lib.Seq.{take-all, length-take-le}
 use borrow.Author.Needs.{needs}
 use Rattle.records.proofs.first.Statement.{statement}
 use Rattle.records.proofs.first.Tie as tie
-use Rattle.records.proofs.first.Reads as reads
-use Rattle.records.proofs.first.Lts as lts
 
 slice-aggregate-result : tie.Need-slice-aggregate-result
 slice-aggregate-result c =

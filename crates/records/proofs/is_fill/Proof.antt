@@ -8,8 +8,6 @@ use Rattle.rules.specs.WellFormed.{isFill}
 use Rattle.records.proofs.CodeLaws.{none-length, fill-any}
 use Rattle.records.proofs.is_fill.Statement.{statement}
 use Rattle.records.proofs.is_fill.Tie as tie
-use Rattle.records.proofs.is_fill.Reads as reads
-use Rattle.records.proofs.is_fill.Lts as lts
 
 returns : tie.Need-returns
 returns c = let v = c .before .args .value .now in sym (ap (λ (k : ℕ). isFill (sortOf k) v) (c .if1 .taken) ∙ none-length v)

@@ -7,9 +7,6 @@ use lib.ListN.{length}
 use borrow.Author.Needs.{needs}
 use Rattle.records.proofs.is_value.Statement.{statement}
 use Rattle.records.proofs.is_value.Tie as tie
-use Rattle.records.proofs.is_value.Reads as reads
-use Rattle.records.proofs.is_value.Lts as lts
-use Rattle.byte_check.proofs.all_printable.Reads as all-printable-reads
 
 all-printable-requires : tie.Need-all-printable-requires
 all-printable-requires c κs = search needs

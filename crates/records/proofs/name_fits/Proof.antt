@@ -5,14 +5,6 @@ use Rattle.records.proofs.CodeLaws.{name-past, name-fits-of}
 use borrow.Author.Needs.{needs}
 use Rattle.records.proofs.name_fits.Statement.{statement}
 use Rattle.records.proofs.name_fits.Tie as tie
-use Rattle.records.proofs.name_fits.Reads as reads
-use Rattle.records.proofs.name_fits.Lts as lts
-use Rattle.codec.proofs.byte.Reads as byte-reads
-use Rattle.records.proofs.after.Reads as after-reads
-use Rattle.records.proofs.filled.Reads as filled-reads
-use Rattle.records.proofs.first.Reads as first-reads
-use Rattle.records.proofs.stored_name.Reads as stored-name-reads
-use Rattle.records.proofs.wide.Reads as wide-reads
 
 returns : tie.Need-returns
 returns c =

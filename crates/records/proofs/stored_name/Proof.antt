@@ -5,11 +5,6 @@ use Rattle.records.proofs.CodeLaws.{name-none, name-of}
 use borrow.Author.Needs.{needs}
 use Rattle.records.proofs.stored_name.Statement.{statement}
 use Rattle.records.proofs.stored_name.Tie as tie
-use Rattle.records.proofs.stored_name.Reads as reads
-use Rattle.records.proofs.stored_name.Lts as lts
-use Rattle.records.proofs.after.Reads as after-reads
-use Rattle.byte_check.proofs.all_in_name.Reads as all-in-name-reads
-use Rattle.byte_check.proofs.starts_name.Reads as starts-name-reads
 
 returns : tie.Need-returns
 returns c =

@@ -4,12 +4,6 @@ use Rattle.records.proofs.CodeLaws.{value-fits-of}
 use borrow.Author.Needs.{needs}
 use Rattle.records.proofs.value_fits.Statement.{statement}
 use Rattle.records.proofs.value_fits.Tie as tie
-use Rattle.records.proofs.value_fits.Reads as reads
-use Rattle.records.proofs.value_fits.Lts as lts
-use Rattle.records.proofs.after.Reads as after-reads
-use Rattle.records.proofs.filled.Reads as filled-reads
-use Rattle.records.proofs.first.Reads as first-reads
-use Rattle.records.proofs.is_value.Reads as is-value-reads
 
 after-requires : tie.Need-after-requires
 after-requires c κs = search needs

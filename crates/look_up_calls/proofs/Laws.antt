@@ -6,7 +6,8 @@ use mathlib.Core.Option.{Option, none, some}
 use mathlib.Core.List.{[]}
 use Rattle.rules.specs.Bytes.{Bytes}
 use Rattle.rules.specs.Store.{Store}
-use Rattle.rules.specs.Passing.{readStore, isRead, passes}
+use Rattle.rules.specs.WellFormed.{isThere}
+use Rattle.rules.specs.Passing.{readStore, passes}
 use Rattle.rules.specs.LookUp.{notFound, lookUpIn, lookUp}
 use Rattle.lookup.specs.Finding.{foundOn, Looks, Hands}
 use Rattle.lookup.proofs.Laws.{look-up-is}
@@ -26,13 +27,13 @@ look-bad bs k e = by (readStore bs) refl
   where
     by : (o : Option Store) → readStore bs ≡ o → lookUp bs k ≡ notFound 1
     by none q = ap (lookUpIn k) q
-    by (some s) q = absurd (false≢true (sym e ∙ ap isRead q))
+    by (some s) q = absurd (false≢true (sym e ∙ ap isThere q))
 
 look-good : (bs : Bytes) (k : ℕ) → passes bs ≡ true → lookUp bs k ≡ foundOn bs k
 look-good bs k e = by (readStore bs) refl
   where
     by : (o : Option Store) → readStore bs ≡ o → lookUp bs k ≡ foundOn bs k
-    by none q = absurd (false≢true (sym (ap isRead q) ∙ e))
+    by none q = absurd (false≢true (sym (ap isThere q) ∙ e))
     by (some s) q = look-up-is bs s k q
 
 -- ---- the look-up

@@ -10,7 +10,8 @@ use lib.ListN.{length, drop}
 use lib.Seq.{sets-eq}
 use Rattle.rules.specs.Bytes.{Bytes}
 use Rattle.rules.specs.Store.{Store}
-use Rattle.rules.specs.Passing.{readStore, isRead, passes}
+use Rattle.rules.specs.WellFormed.{isThere}
+use Rattle.rules.specs.Passing.{readStore, passes}
 use Rattle.rules.specs.Outcome.{refused, wrote, unlessRefused, onStore, Answers}
 use Rattle.rules.specs.Print.{printed, tooLong, printOutcome}
 use Rattle.codec.specs.Laid.{Laid}
@@ -24,14 +25,14 @@ print-bad bs room e = by (readStore bs) refl
   where
     by : (o : Option Store) → readStore bs ≡ o → printOutcome bs room ≡ refused 1
     by none q = ap (onStore (λ s. unlessRefused (tooLong room (printed s)) (printed s))) q
-    by (some s) q = absurd (false≢true (sym e ∙ ap isRead q))
+    by (some s) q = absurd (false≢true (sym e ∙ ap isThere q))
 
 print-good : (bs : Bytes) (room : ℕ) → passes bs ≡ true → printOutcome bs room ≡ unlessRefused (tooLong room (textOf bs)) (textOf bs)
 unfolding printOutcome
 print-good bs room e = by (readStore bs) refl
   where
     by : (o : Option Store) → readStore bs ≡ o → printOutcome bs room ≡ unlessRefused (tooLong room (textOf bs)) (textOf bs)
-    by none q = absurd (false≢true (sym (ap isRead q) ∙ e))
+    by none q = absurd (false≢true (sym (ap isThere q) ∙ e))
     by (some s) q =
         ap (onStore (λ s. unlessRefused (tooLong room (printed s)) (printed s))) q
         ∙ ap (λ (w : Bytes). unlessRefused (tooLong room w) w) (sym (text-is bs s q))
@@ -40,7 +41,7 @@ pub within-counts : (bs : Bytes) {r : Bool} → not r ≡ false → r ≡ passes
 within-counts bs left e = by (readStore bs) refl
   where
     by : (o : Option Store) → readStore bs ≡ o → Within bs
-    by none q = absurd (false≢true (sym (ap isRead q) ∙ sym e ∙ not-false _ left))
+    by none q = absurd (false≢true (sym (ap isThere q) ∙ sym e ∙ not-false _ left))
     by (some s) q = passing-within bs s q
 
 pub prints-bad : (bs : Bytes) (out : Bytes) {r : Bool} → not r ≡ true → r ≡ passes bs → Answers (printOutcome bs (length out)) out 1 0 out

@@ -27,10 +27,10 @@ use Rattle.rules.specs.Layout.{rowSize, indexOf, indexIn, attributeIndex
 use Rattle.rules.specs.Layout.{flatDefinition, allParticles, ownAttributes, allAttributes, rowIndex, indexed, flat, encode}
 use Rattle.rules.specs.Decode.{versionIn, readFlat, sized, nameAt, quantifierOf, contentOf, sortOf, rowSortOf, readMembers, ofOwner, readForm, rowName}
 use Rattle.rules.specs.Decode.{readRows, flatName, flatAttributeName, unflat, confirm, decode}
-use Rattle.rules.specs.WellFormed.{startsName, inName, isName, storedName, isValue, highestNumber, withinCeilings, definitionName, attributeName, lookup}
+use Rattle.rules.specs.WellFormed.{startsName, inName, isName, storedName, isValue, highestNumber, withinCeilings, definitionName, attributeName, lookup, isThere}
 use Rattle.rules.specs.WellFormed.{isThere, known, reachesIn, isFill, isAttributeOf, goodDefinition, wellFormed}
 use Rattle.rules.specs.Conforming.{nameOf, EveryRow, isElement, isAttribute, isText, everyRow, mustBePresent, allows, strip, fits, fitsStripped, fitsDefinition, fitsRow, conforming}
-use Rattle.rules.specs.Passing.{knownVersion, laidRow, serials, goodSerials, good, goodRead, readStore, isRead, passes}
+use Rattle.rules.specs.Passing.{knownVersion, laidRow, serials, goodSerials, good, goodRead, readStore, passes}
 use Rattle.rules.proofs.Words.{or-left, or-right, and-split, and-both}
 use Rattle.rules.proofs.Children.{Sound, sound}
 use Rattle.rules.proofs.Sound.{sound-test}
@@ -548,8 +548,8 @@ read-good bs s h =
     (encode-decode bs s d, g)
 
 pub passes-tests : (bs : Bytes) → (passes bs ≡ true) ↔ ((s : Store) × (encode s ≡ bs) × (good s ≡ true))
-passes-tests bs = (λ h. from (readStore bs) refl h, λ t. ap passes (sym (t .1)) ∙ ap isRead (read-encode (t .0) (t .2)))
+passes-tests bs = (λ h. from (readStore bs) refl h, λ t. ap passes (sym (t .1)) ∙ ap isThere (read-encode (t .0) (t .2)))
   where
-    from : (o : Option Store) → readStore bs ≡ o → isRead o ≡ true → (s : Store) × (encode s ≡ bs) × (good s ≡ true)
+    from : (o : Option Store) → readStore bs ≡ o → isThere o ≡ true → (s : Store) × (encode s ≡ bs) × (good s ≡ true)
     from none q h = absurd (false≢true h)
     from (some s) q h = let (e, g) = read-good bs s q in (s, e, g)

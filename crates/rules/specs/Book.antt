@@ -15,6 +15,7 @@ pub data Entry : Type 0 where
   stands : Line → Entry
   taken : Line → Entry
 
+-- 'The book': it holds the next serial, the form, and a line per row made; and the version, for the rules that differ
 pub record Book : Type 0 where
   pub version : ℕ
   pub next : ℕ
@@ -24,6 +25,7 @@ pub record Book : Type 0 where
 abbrev pub freshBook : Book
 freshBook = record { version = baseVersion; next = 1; form = []; entries = [] }
 
+-- 'Untaken lines stand in document order'
 unfoldable pub untaken : List Entry → List Line
 untaken [] = []
 untaken (stands l ∷ es) = l ∷ untaken es

@@ -68,6 +68,7 @@ pub record ElementRows (version : ℕ) (d : Definition) (below : List Row) : Typ
 abbrev pub RowConforms : ℕ → Form → Row → List Row → Type 0
 RowConforms version form r below = elim (r .sort) [ element ↦ (d : Definition) × (lookup (r .name) form ≡ some d) × ElementRows version d below | attribute ↦ below ≡ [] | text ↦ below ≡ [] ]
 
+-- 'Conforming', of all documents: each root is an element, and every row conforms with the rows right below it
 pub record Conforming (version : ℕ) (form : Form) (docs : Forest Row) : Type 0 where
   pub roots : Sorted element (heads docs)
   pub rows : EveryRow (λ r below. RowConforms version form r below) docs

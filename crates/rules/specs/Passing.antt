@@ -10,7 +10,7 @@ use Rattle.rules.specs.Model.{Distinct, distinct}
 use Rattle.rules.specs.Store.{element, attribute, text, Row, Forest, bare, tree, Store}
 use Rattle.rules.specs.Layout.{baseVersion, valueWidth, flat, encode}
 use Rattle.rules.specs.Decode.{decode}
-use Rattle.rules.specs.WellFormed.{isValue, highestNumber, withinCeilings, WellFormed, wellFormed}
+use Rattle.rules.specs.WellFormed.{isValue, highestNumber, withinCeilings, isThere, WellFormed, wellFormed}
 use Rattle.rules.specs.Conforming.{EveryRow, everyRow, Conforming, conforming}
 
 abbrev pub knownVersion : ℕ → Bool
@@ -65,9 +65,6 @@ goodRead (some s) = elim (good s) [ true ↦ some s | false ↦ none ]
 abbrev pub readStore : Bytes → Option Store
 readStore bs = goodRead (decode bs)
 
-abbrev pub isRead : Option Store → Bool
-isRead none = false
-isRead (some s) = true
-
+-- the check, as a test: it is `Passes`
 abbrev pub passes : Bytes → Bool
-passes bs = isRead (readStore bs)
+passes bs = isThere (readStore bs)

@@ -46,12 +46,15 @@ past i xs = not (ltb i (length xs))
 abbrev pub rowsOf : Store → List Line
 rowsOf s = lines 0 (s .docs)
 
+-- row 3: a text or value given that is none
 abbrev pub badText : Store → Bytes → Bool
 badText s v = not (isValue (valueWidth (s .version)) v)
 
+-- row 13, 'an instance exists': an element row of the definition
 abbrev pub instanceExists : Bytes → Store → Bool
 instanceExists n s = any (λ (l : Line). elementNamed n (l .row)) (rowsOf s)
 
+-- row 7, 'serial absent or not an element'
 abbrev pub noElement : ℕ → Store → Bool
 noElement k s = not (any (λ (l : Line). elementWith k (l .row)) (rowsOf s))
 
@@ -258,5 +261,6 @@ limits room s =
     ∷ 18 if ltb room (length (encode s))
     ∷ []
 
+-- 'The lowest number that applies is given, never another': the first condition or limit that holds, 0 if none does
 unfoldable pub refusal : ℕ → Call → Store → ℕ
 refusal room c s = first (conditions c s ++ limits room (after c s))

@@ -38,11 +38,13 @@ pub record Moment : Type 0 where
 abbrev pub start : Moment
 start = record { store = freshStore; book = freshBook }
 
+-- one call: it reads the store that the last accepted one left, and the book is told whether it was accepted
 unfoldable pub step : Asked → Moment → Moment
 step a m =
     let o : Outcome = outcome (a .call) (m .store) (a .room) in
     record { store = leaves o (m .store); book = follow (isAccepted o) (a .call) (m .book) }
 
+-- 'History: calls of the sixteen changes in any order, refused ones included'
 unfoldable pub run : List Asked → Moment → Moment
 run [] m = m
 run (a ∷ history) m = run history (step a m)

@@ -104,6 +104,7 @@ pub record GoodDefinition (w : ℕ) (form : Form) (d : Definition) : Type 0 wher
   pub attributeNames : Distinct (map attributeName (d .attributes))
   pub attributes : (a : Attribute) → List·Memᴰ a (d .attributes) → isAttributeOf w a ≡ true
 
+-- 'Well-formed', but for layout and ceilings: names distinct, and every definition good
 pub record WellFormed (w : ℕ) (form : Form) : Type 0 where
   pub names : Distinct (map definitionName form)
   pub definitions : (d : Definition) → List·Memᴰ d form → GoodDefinition w form d

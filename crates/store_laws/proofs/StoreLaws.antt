@@ -6,7 +6,8 @@ use Rattle.rules.specs.Bytes.{Bytes}
 use Rattle.rules.specs.Store.{Store}
 use Rattle.rules.specs.Layout.{valueWidth, flat, encode}
 use Rattle.rules.specs.Decode.{unflat}
-use Rattle.rules.specs.Passing.{good, readStore, isRead, passes}
+use Rattle.rules.specs.WellFormed.{isThere}
+use Rattle.rules.specs.Passing.{good, readStore, passes}
 use Rattle.rules.proofs.DecodeLaws.{read-good, unflat-flat, good-known, good-found}
 use Rattle.layout.specs.Bodies.{widthOf}
 use Rattle.lookup.specs.Bodies.{bodiesOf}
@@ -30,7 +31,7 @@ module _ (bs : Bytes) where
   unfolding storeIn
   holds h = from (readStore bs) refl h
     where
-      from : (o : Option Store) → readStore bs ≡ o → isRead o ≡ true → Holds bs
+      from : (o : Option Store) → readStore bs ≡ o → isThere o ≡ true → Holds bs
       from none q h = absurd (false≢true h)
       from (some s) q h =
           let (e, g) = read-good bs s q in

@@ -9,7 +9,8 @@ use mathlib.Core.List.{List, [], _∷_, _++_}
 use Rattle.rules.specs.Bytes.{Bytes}
 use Rattle.rules.specs.Store.{Store}
 use Rattle.rules.specs.Layout.{FlatStore, flat, encode}
-use Rattle.rules.specs.Passing.{readStore, isRead, passes}
+use Rattle.rules.specs.WellFormed.{isThere}
+use Rattle.rules.specs.Passing.{readStore, passes}
 use Rattle.rules.specs.Change.{Call, after}
 use Rattle.rules.specs.Refusal.{Condition, first, conditions, limits, refusal}
 use Rattle.rules.specs.Outcome.{Outcome, refused, unlessRefused, onStore, outcome}
@@ -44,7 +45,7 @@ module _ (c : Call) (bs : Bytes) (room : ℕ) where
   unfolding outcome acts
   outcome-bad h = from (readStore bs) refl h
     where
-      from : (o : Option Store) → readStore bs ≡ o → isRead o ≡ false → outcome c bs room ≡ refused 1
+      from : (o : Option Store) → readStore bs ≡ o → isThere o ≡ false → outcome c bs room ≡ refused 1
       from none q h = ap (onStore acts) q
       from (some s) q h = absurd (false≢true (sym h))
 

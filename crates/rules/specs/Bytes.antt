@@ -75,7 +75,7 @@ same-eq (x ∷ xs) (y ∷ ys) h = ap₂ (λ (a : ℕ) (b : Bytes). a ∷ b) (eqb
 
 pub same-refl : (n : Bytes) → same n n ≡ true
 same-refl [] = refl
-same-refl (x ∷ xs) = and-both (of-T (eqb-refl x)) (same-refl xs)
+same-refl (x ∷ xs) = and-both {a = eqb x x} (of-T (eqb-refl x)) (same-refl xs)
 
 abbrev pub bytes : Equality Bytes
 bytes = record { same = same; same→ = same-eq; same← = λ x y e. ap (λ (z : Bytes). same x z) (sym e) ∙ same-refl x }

@@ -164,9 +164,16 @@ put-member-put-members-requires t c κs =
 
 put-member-put-u8-requires-2 : (t : ℕ) → put-member-lts.Need-put-u8-requires-2 (put-member-calls t) (put-member-at t) put-member.Post
 put-member-put-u8-requires-2 t c κs =
-    let at-put-members = c .before .before .before in
-    let start = at-put-members .before .before .before .before .before .before .before .before .before .before .before .before .before .before .before .before in
-    omega (arith, sign-short (groupOf (start .args .kind)) (start .args .first), at-put-members .put-members .ensures .small)
+    omega (
+      arith,
+      sign-short
+          (groupOf
+          (c .before .before .before .before .before .before .before .before .before .before .before .before .before .before .before .before .before .before
+          .before .args .kind))
+          (c .before .before .before .before .before .before .before .before .before .before .before .before .before .before .before .before .before .before
+          .before .args .first),
+      c .before .before .before .put-members .ensures .small,
+    )
 
 put-member-put-mark-requires-2 : (t : ℕ) → put-member-lts.Need-put-mark-requires-2 (put-member-calls t) (put-member-at t) put-member.Post
 put-member-put-mark-requires-2 t c κs =

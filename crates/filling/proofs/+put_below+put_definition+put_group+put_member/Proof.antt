@@ -273,17 +273,19 @@ put-definition-add-put-below t c =
 
 put-definition-put-below-requires : (t : ℕ) → put-definition-lts.Need-put-below-requires (put-definition-calls t) (put-definition-at t) put-definition.Post
 put-definition-put-below-requires t c κs =
-    let at-put-required = c .before .before .before .before in
-    let at-put-row = at-put-required .before .before .before .before .before .before .before .before in
-    let start = at-put-row .before .before .before .before .before .before .before .before in
-    let a = start .args in
-    let q = start .pre .1 .1 in (
+    let a =
+    c .before .before .before .before .before .before .before .before .before .before .before .before .before .before .before .before .before .before .before
+    .before .args in
+    let q = c .before .before .before .before .before .before .before .before .before .before .before .before .before .before .before .before .before .before
+    .before .before .pre .1 .1 in (
       omega (arith, rank-height (a .h) (λ e. omega arith)),
       (
         omega arith,
         record {
           width = q .width;
-          room = written-room (at-put-required .put-required .ensures) (written-room (at-put-row .put-row .ensures) (q .room));
+          room = written-room (c .before .before .before .before .put-required .ensures)
+              (written-room (c .before .before .before .before .before .before .before .before .before .before .before .before .put-row .ensures)
+              (q .room));
           text = q .text;
           attributes = q .attributes;
           deep = omega (arith, q .deep);
@@ -296,14 +298,13 @@ put-definition-same-length t c = search needs
 
 put-definition-returns-2 : (t : ℕ) → put-definition-lts.Need-returns-2 (put-definition-calls t) (put-definition-at t) put-definition.Post
 put-definition-returns-2 t c =
-    let at-put-below = c .before .before in
-    let at-put-required = at-put-below .before .before .before .before .before in
-    let at-put-row = at-put-required .before .before .before .before .before .before .before .before in
-    let start = at-put-row .before .before .before .before .before .before .before .before in
-    let a = start .args in
+    let a =
+    c .before .before .before .before .before .before .before .before .before .before .before .before .before .before .before .before .before .before .before
+    .before .before .before .before .args in
     definition-written (versionOfFilling (a .sizes .now)) (widthIn (a .sizes .now)) (defsIn (a .form .now)) (partsIn (a .form .now)) (attrsIn (a .form .now))
     (countIn (a .sizes .now)) (a .text .now .now) (a .h) (a .depth) (a .i) (λ e. omega arith)
-    (at-put-row .put-row .ensures) (at-put-required .put-required .ensures) (at-put-below .put-below .ensures)
+    (c .before .before .before .before .before .before .before .before .before .before .before .before .before .before .before .put-row .ensures)
+    (c .before .before .before .before .before .before .before .put-required .ensures) (c .before .before .put-below .ensures)
 
 -- the members from t on are still to be written
 abbrev put-group-Inv-loop : put-group-lts.InvT-loop

@@ -86,15 +86,15 @@ add-fits-at c = search needs
 
 fits-at-requires : tie.Need-fits-at-requires
 fits-at-requires c κs =
-    let at-row-count = c .before .before .before .before .before in
-    let at-find-element = at-row-count .before in
-    let at-if1 = at-find-element .before in
-    let at-add-document-refusal = at-if1 .before in
-    let start = at-add-document-refusal .before .before .before in
-    let a = start .args in
-    let w : Whole (a .store .now) = whole _ (start .pre) in (
-      row-of _ w (at-find-element .find-element .ensures) (omega (arith, at-row-count .row-count .ensures .value)),
-      definition-small (a .store .now) w (a .parent) (a .child) (a .definition) (a .text .now) (at-add-document-refusal .add-document-refusal .ensures) (at-if1 .if1 .left),
+    let row-count = c .before .before .before .before .before .row-count in
+    let find-element = c .before .before .before .before .before .before .find-element in
+    let if1 = c .before .before .before .before .before .before .before .if1 in
+    let add-document-refusal = c .before .before .before .before .before .before .before .before .add-document-refusal in
+    let a = c .before .before .before .before .before .before .before .before .before .before .before .args in
+    let asked = c .before .before .before .before .before .before .before .before .before .before .before .pre in
+    let w : Whole (a .store .now) = whole _ asked in (
+      row-of _ w (find-element .ensures) (omega (arith, row-count .ensures .value)),
+      definition-small (a .store .now) w (a .parent) (a .child) (a .definition) (a .text .now) (add-document-refusal .ensures) (if1 .left),
     )
 
 returns-5 : tie.Need-returns-5

@@ -30,7 +30,7 @@ fn row_place(store: &[u8], i: usize) -> usize
     row_start(store) + before
 }
 
-/// The bytes of tree row i, counted from 0.
+// The bytes of tree row i, counted from 0.
 fn row(store: &[u8], i: usize) -> &[u8]
     requires { ⌜ i < 4294967296 ⌝ }
     ensures { λ r. ⌜ now r ≡ rowPart (now (store .entry)) i ⌝ }

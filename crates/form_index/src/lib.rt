@@ -20,7 +20,7 @@ pub fn kind_of(defs: &[u8], i: usize) -> u8
 }
 
 /// How many particles definition i has.
-pub fn particles_of(defs: &[u8], i: usize) -> usize
+pub fn model_length(defs: &[u8], i: usize) -> usize
     requires { ⌜ i ≤ 256 ⌝ }
     ensures { λ r. ⌜ (r ≡ definitionIn (now (defs .entry)) i .particles) × (r < 4294967296) ⌝ }
 {
@@ -35,7 +35,7 @@ pub fn particles_before(defs: &[u8], i: usize) -> usize
     let mut sum = 0;
     let mut j = 0;
     while j < i {
-        sum += particles_of(defs, j);
+        sum += model_length(defs, j);
         j += 1;
     }
     sum
@@ -49,7 +49,7 @@ pub fn model_part<'a>(defs: &[u8], parts: &'a [u8], i: usize) -> &'a [u8]
     layout::window(
         parts,
         PARTICLE_SIZE * particles_before(defs, i),
-        PARTICLE_SIZE * particles_of(defs, i),
+        PARTICLE_SIZE * model_length(defs, i),
     )
 }
 

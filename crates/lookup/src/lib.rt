@@ -13,7 +13,7 @@ pub fn row_start(store: &[u8]) -> usize
 }
 
 /// The bytes from the tree rows on.
-pub fn rows_of(store: &[u8]) -> &[u8]
+pub fn from_rows(store: &[u8]) -> &[u8]
     ensures { λ r. ⌜ now r ≡ fromRows (now (store .entry)) ⌝ }
 {
     let start = row_start(store);
@@ -74,7 +74,7 @@ pub fn find(store: &[u8], serial: u32) -> Found
     ensures { λ r. ⌜ Looks (foundOn (now (store .entry)) serial) (r .number) (r .start) (r .length) ⌝ }
 {
     let w = layout::width_in(store);
-    let rows = rows_of(store);
+    let rows = from_rows(store);
     let count = layout::row_count(store);
     let mut i = 0;
     while i < count {

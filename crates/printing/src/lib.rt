@@ -58,7 +58,7 @@ pub fn print_store(store: &[u8], out: &mut [u8]) -> usize
     ensures { λ r. ⌜ Laid (textOf (now (store .entry))) (now (out .entry)) 0 r (now (out .exit)) ⌝ }
 {
     let w = layout::width_in(store);
-    let rows = lookup::rows_of(store);
+    let rows = lookup::from_rows(store);
     let count = layout::row_count(store);
     let formed = put_form(store, out, 0);
     document_printing::put_documents(w, store, rows, count, out, formed)

@@ -17,7 +17,7 @@ use Rattle.layout.proofs.row_count.Reads as row-count-reads
 use Rattle.layout.proofs.row_serial.Reads as row-serial-reads
 use Rattle.layout.proofs.width_in.Reads as width-in-reads
 use Rattle.lookup.proofs.found_at.Reads as found-at-reads
-use Rattle.lookup.proofs.rows_of.Reads as rows-of-reads
+use Rattle.lookup.proofs.from_rows.Reads as from-rows-reads
 
 -- the rows from i on give what all give; the rows and their width are the store's
 abbrev Inv-loop : tie.InvT-loop
@@ -29,8 +29,8 @@ abbrev μ-loop : tie.MeasureT-loop
 width-in-requires : tie.Need-width-in-requires Inv-loop μ-loop
 width-in-requires c κs = search needs
 
-rows-of-requires : tie.Need-rows-of-requires Inv-loop μ-loop
-rows-of-requires c κs = search needs
+from-rows-requires : tie.Need-from-rows-requires Inv-loop μ-loop
+from-rows-requires c κs = search needs
 
 row-count-requires : tie.Need-row-count-requires Inv-loop μ-loop
 row-count-requires c κs = search needs
@@ -38,7 +38,7 @@ row-count-requires c κs = search needs
 loop-holds : tie.Need-loop-holds Inv-loop μ-loop
 loop-holds c =
     let at-width-in = c .before .before in
-    (seek-start _ _ _ (c .row-count .ensures .value), record { width = at-width-in .width-in .ensures; body = c .before .rows-of .ensures }, c .row-count .ensures .small)
+    (seek-start _ _ _ (c .row-count .ensures .value), record { width = at-width-in .width-in .ensures; body = c .before .from-rows .ensures }, c .row-count .ensures .small)
 
 row-at-requires : tie.Need-row-at-requires Inv-loop μ-loop
 row-at-requires c κs = let at-loop = c .before in (at-loop .loop .inv .1 .width .small, omega (arith, at-loop .loop .inv .2))
@@ -89,7 +89,7 @@ find-spec =
     Inv-loop
     μ-loop
     width-in-requires
-    rows-of-requires
+    from-rows-requires
     row-count-requires
     loop-holds
     row-at-requires

@@ -1,11 +1,11 @@
--- `lookup::rows_of` meets its contract: the window from the first row on, as long as the string, is all that stands
+-- `lookup::from_rows` meets its contract: the window from the first row on, as long as the string, is all that stands
 -- from there on (`rows-from` of Laws).
 use Rattle.lookup.proofs.Laws.{rows-from}
 use borrow.Author.Needs.{needs}
-use Rattle.lookup.proofs.rows_of.Statement.{statement}
-use Rattle.lookup.proofs.rows_of.Tie as tie
-use Rattle.lookup.proofs.rows_of.Reads as reads
-use Rattle.lookup.proofs.rows_of.Lts as lts
+use Rattle.lookup.proofs.from_rows.Statement.{statement}
+use Rattle.lookup.proofs.from_rows.Tie as tie
+use Rattle.lookup.proofs.from_rows.Reads as reads
+use Rattle.lookup.proofs.from_rows.Lts as lts
 use Rattle.layout.proofs.window.Reads as window-reads
 use Rattle.lookup.proofs.row_start.Reads as row-start-reads
 
@@ -18,5 +18,5 @@ window-requires c κs = search needs
 returns : tie.Need-returns
 returns c = rows-from _ _ _ (c .before .row-start .ensures) (c .window .ensures)
 
-pub rows-of-spec : {M : Type 1} → statement M
-rows-of-spec = tie.close (tie.spec row-start-requires window-requires returns)
+pub from-rows-spec : {M : Type 1} → statement M
+from-rows-spec = tie.close (tie.spec row-start-requires window-requires returns)

@@ -28,7 +28,7 @@ fn put_mark(quantifier: u8, out: &mut [u8], at: usize) -> usize
 }
 
 // Writes what stands before a member of a group of this kind.
-fn put_sign(kind: u8, first: bool, out: &mut [u8], at: usize) -> usize
+fn put_separator(kind: u8, first: bool, out: &mut [u8], at: usize) -> usize
     requires { ⌜ at < 9223372036854775808 ⌝ }
     ensures { λ r. ⌜ Laid (signText (groupOf kind) first) (now (out .entry)) at r (now (out .exit)) ⌝ }
 {
@@ -63,7 +63,7 @@ fn put_member(
     let bytes = printing_parts::particle(store, i);
     let sort = layout::particle_sort(bytes);
     let quantifier = layout::particle_quantifier(bytes);
-    let signed = put_sign(kind, first, out, at);
+    let signed = put_separator(kind, first, out, at);
     if sort == 0 {
         let index = layout::particle_index(bytes) as usize;
         let named = codec::put(printing_parts::name_of(store, index), out, signed);
@@ -174,7 +174,7 @@ pub fn put_attributes(store: &[u8], o: usize, owner: &[u8], out: &mut [u8], star
 // ---- the line of a definition
 
 // Whether a content model has members.
-fn has_member(store: &[u8], from: usize, end: usize) -> bool
+fn has_members(store: &[u8], from: usize, end: usize) -> bool
     requires { ⌜ end < 4294967296 ⌝ }
     ensures { λ r. ⌜ r ≡ isTree (build (particlesFrom (now (store .entry)) end from) 0) ⌝ }
 {
@@ -199,7 +199,7 @@ fn put_content(store: &[u8], kind: u8, from: usize, end: usize, out: &mut [u8], 
     if kind == 1 {
         return codec::put(b"(#PCDATA)", out, at);
     }
-    if !has_member(store, from, end) {
+    if !has_members(store, from, end) {
         return codec::put(b"EMPTY", out, at);
     }
     let opened = codec::put_u8(out, at, b'(');

@@ -293,7 +293,7 @@ fn find_element(store: &[u8], element: u32) -> usize
 }
 
 // The definition index of row i.
-fn definition_at(store: &[u8], i: usize) -> usize
+fn row_definition(store: &[u8], i: usize) -> usize
     requires { ⌜ i ≤ 4096 ⌝ }
     ensures { λ r. ⌜ r ≡ readRow (recordAt (rowSize (widthOf (now (store .entry)))) i (treeRowsIn (now (store .entry)))) .row .index ⌝ }
 {
@@ -336,7 +336,7 @@ fn model_at(store: &[u8], i: usize) -> &[u8]
     form_index::model_part(
         layout::definitions_of(store),
         layout::particles_of(store),
-        definition_at(store, i),
+        row_definition(store, i),
     )
 }
 
@@ -365,7 +365,7 @@ fn kind_at(store: &[u8], i: usize) -> u8
     requires { ⌜ RowOf (now store) i ⌝ }
     ensures { λ r. ⌜ r ≡ rowDefinitionKind (now (store .entry)) i ⌝ }
 {
-    form_index::kind_of(layout::definitions_of(store), definition_at(store, i))
+    form_index::kind_of(layout::definitions_of(store), row_definition(store, i))
 }
 
 /// Refusals 3 and 6 of the change that adds a document.
@@ -501,7 +501,7 @@ fn owner_of(store: &[u8], attribute: usize) -> usize
 }
 
 // The serial of the row of an attribute right below row i; 0 if there is none.
-fn attribute_at(store: &[u8], i: usize, attribute: usize) -> u32
+fn attribute_row_serial(store: &[u8], i: usize, attribute: usize) -> u32
     requires { ⌜ RowOf (now store) i ⌝ }
     ensures { λ r. ⌜ r ≡ serialOfIndex attribute (childrenAt (now (store .entry)) 2 i) ⌝ }
 {
@@ -529,7 +529,7 @@ fn attribute_refusal(store: &[u8], element: u32, attribute: u32) -> u32
     if i >= layout::row_count(store) {
         return 7;
     }
-    if owner_of(store, attribute as usize) != definition_at(store, i) {
+    if owner_of(store, attribute as usize) != row_definition(store, i) {
         return 6;
     }
     0
@@ -570,13 +570,13 @@ pub fn destroy_attribute_row_refusal(store: &[u8], element: u32, attribute: u32)
         return refusal;
     }
     let i = find_element(store, element);
-    if attribute_at(store, i, attribute as usize) == 0 {
+    if attribute_row_serial(store, i, attribute as usize) == 0 {
         return 7;
     }
     let version = layout::version_in(store);
     let w = layout::width_in(store);
     let attrs = layout::attributes_of(store);
-    let d = definition_at(store, i);
+    let d = row_definition(store, i);
     let needed = form_index::needs(version, w, attrs, d, attribute as usize);
     number_if(needed, 15)
 }
@@ -586,5 +586,5 @@ pub fn attribute_serial(store: &[u8], element: u32, attribute: u32) -> u32
     requires { ⌜ (passes (now store) ≡ true) × AttributeRefused element attribute (storeIn (now store)) 0 ⌝ }
     ensures { λ r. ⌜ r ≡ attributeSerial element attribute (storeIn (now (store .entry))) ⌝ }
 {
-    attribute_at(store, find_element(store, element), attribute as usize)
+    attribute_row_serial(store, find_element(store, element), attribute as usize)
 }

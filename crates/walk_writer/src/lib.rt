@@ -77,7 +77,7 @@ fn put_row(
 
 // The filling that the walk goes with: nothing, if that of the plan has no rows, so that the members of a group are not
 // gone through again at each place. It is written up to its first row, into a buffer of one byte.
-fn settled(form: &[&[u8]; 3], sizes: &[usize; 4], what: Filling, text: &[u8]) -> Filling
+fn filling_with_rows(form: &[&[u8]; 3], sizes: &[usize; 4], what: Filling, text: &[u8]) -> Filling
     requires { ⌜ Indexed what × Asks (widthIn (now sizes)) (record { at = 0; left = 1; serial = 0 }) (now text) (countIn (now sizes)) (sizeIn (now sizes)) 0 ⌝ }
     ensures { λ r. ⌜ Settled (now (sizes .entry)) (now (form .entry)) (now (text .entry)) what r ⌝ }
 {
@@ -365,7 +365,7 @@ pub fn walk<'a>(
 {
     let form = [defs, parts, attrs];
     let sizes = [w, a, version, n];
-    let what = settled(&form, &sizes, plan.filling, text);
+    let what = filling_with_rows(&form, &sizes, plan.filling, text);
     let p = plan_numbers::plan_numbers(plan, what);
     walk_lent(&form, &sizes, &p, &plan.marks, rows, count, text, c, out)
 }

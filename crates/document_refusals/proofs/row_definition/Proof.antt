@@ -1,12 +1,12 @@
--- `document_refusals::definition_at` meets its contract: the equations of the four readers, of the width, the rows, row
+-- `document_refusals::row_definition` meets its contract: the equations of the four readers, of the width, the rows, row
 -- i and its index, joined.
 use mathlib.Core.Path.{_∙_}
 use Rattle.rules.specs.Layout.{rowSize}
 use Rattle.rules.specs.Decode.{readRow}
 use Rattle.layout.specs.Bodies.{recordAt}
 use borrow.Author.Needs.{needs}
-use Rattle.document_refusals.proofs.definition_at.Statement.{statement}
-use Rattle.document_refusals.proofs.definition_at.Tie as tie
+use Rattle.document_refusals.proofs.row_definition.Statement.{statement}
+use Rattle.document_refusals.proofs.row_definition.Tie as tie
 
 width-in-requires : tie.Need-width-in-requires
 width-in-requires c κs = search needs
@@ -33,8 +33,8 @@ returns c =
     c .row-index .ensures
     ∙ (λ j. readRow ((row .row-at .ensures ∙ (λ k. recordAt (rowSize (width .width-in .ensures .value k)) (a .i) (rows .rows-of .ensures k))) j) .row .index)
 
-pub definition-at-spec : {M : Type 1} → statement M
-definition-at-spec =
+pub row-definition-spec : {M : Type 1} → statement M
+row-definition-spec =
     tie.close
     (tie.spec
     width-in-requires

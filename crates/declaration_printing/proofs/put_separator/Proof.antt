@@ -1,4 +1,4 @@
--- `declaration_printing::put_sign` meets its contract: nothing stands before the first member, and before another
+-- `declaration_printing::put_separator` meets its contract: nothing stands before the first member, and before another
 -- stands the separator of its group, a sequence if the kind is below 2 and else a choice (`group-list`, `group-choice`
 -- of SignLaws).
 use mathlib.Core.Path.{ap, ap₂}
@@ -10,8 +10,8 @@ use Rattle.codec.proofs.Writers.{laid-as, laid-none}
 use Rattle.declaration_printing.specs.Declarations.{signText}
 use Rattle.declaration_printing.proofs.SignLaws.{group-list, group-choice}
 use borrow.Author.Needs.{needs}
-use Rattle.declaration_printing.proofs.put_sign.Statement.{statement}
-use Rattle.declaration_printing.proofs.put_sign.Tie as tie
+use Rattle.declaration_printing.proofs.put_separator.Statement.{statement}
+use Rattle.declaration_printing.proofs.put_separator.Tie as tie
 
 returns : tie.Need-returns
 returns c =
@@ -47,8 +47,8 @@ returns-3 c =
     let a = start .args in
     laid-as (ap₂ (λ (k : GroupKind) (b : Bool). signText k b) (group-choice (a .kind) (omega arith)) (at-if1 .if1 .left)) (at-put-u82 .put-u82 .ensures)
 
-pub put-sign-spec : {M : Type 1} → statement M
-put-sign-spec =
+pub put-separator-spec : {M : Type 1} → statement M
+put-separator-spec =
     tie.close
     (tie.spec
     returns

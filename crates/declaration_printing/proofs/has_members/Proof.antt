@@ -11,8 +11,8 @@ use Rattle.printing_parts.specs.Parts.{particlesFrom, particlePart}
 use Rattle.declaration_printing.specs.Declarations.{isTree}
 use Rattle.printing_parts.proofs.PartLaws.{particle-step}
 use Rattle.rules.proofs.PreorderLaws.{build-same, build-less}
-use Rattle.declaration_printing.proofs.has_member.Statement.{statement}
-use Rattle.declaration_printing.proofs.has_member.Tie as tie
+use Rattle.declaration_printing.proofs.has_members.Statement.{statement}
+use Rattle.declaration_printing.proofs.has_members.Tie as tie
 
 -- The loop's invariant: there is a member among the particles from i on if and only if there is one among those from
 -- `from` on.
@@ -74,8 +74,8 @@ returns-2 c =
     let a = start .args in
     sym (ap (λ (xs : List (Deep FlatParticle)). isTree (build xs 0)) (from-none readParticle particleSize _ (a .end) (at-loop .loop .i) (omega arith))) ∙ at-loop .loop .inv
 
-pub has-member-spec : {M : Type 1} → statement M
-has-member-spec =
+pub has-members-spec : {M : Type 1} → statement M
+has-members-spec =
     tie.close
     (tie.spec
     Inv-loop

@@ -1,9 +1,9 @@
--- `document_refusals::attribute_at` meets its contract: the reads of the store's parts make the answer of
+-- `document_refusals::attribute_row_serial` meets its contract: the reads of the store's parts make the answer of
 -- `indexed_serial` the store's (`indexed-read` of ReaderLaws).
 use Rattle.document_refusals.proofs.ReaderLaws.{indexed-read}
 use borrow.Author.Needs.{needs}
-use Rattle.document_refusals.proofs.attribute_at.Statement.{statement}
-use Rattle.document_refusals.proofs.attribute_at.Tie as tie
+use Rattle.document_refusals.proofs.attribute_row_serial.Statement.{statement}
+use Rattle.document_refusals.proofs.attribute_row_serial.Tie as tie
 
 width-in-requires : tie.Need-width-in-requires
 width-in-requires c κs = search needs
@@ -33,8 +33,8 @@ returns c =
     indexed-read (a .store .now) (a .i) 2 (at-width-in .width-in .ensures .value) (at-rows-of .rows-of .ensures) (at-row-count .row-count .ensures .value)
     (c .before .depth-below .ensures) (a .attribute) (c .indexed-serial .ensures)
 
-pub attribute-at-spec : {M : Type 1} → statement M
-attribute-at-spec =
+pub attribute-row-serial-spec : {M : Type 1} → statement M
+attribute-row-serial-spec =
     tie.close
     (tie.spec
     width-in-requires

@@ -1,9 +1,9 @@
--- `walk_writer::settled` meets its contract: a filling may stand for itself; `Nothing` stands for it where no row of it
+-- `walk_writer::filling_with_rows` meets its contract: a filling may stand for itself; `Nothing` stands for it where no row of it
 -- was written though one might be, as it then has no rows (`settled-nothing` of SettledLaws).
 use borrow.Author.Needs.{needs}
 use Rattle.walk_writer.proofs.SettledLaws.{settled-nothing}
-use Rattle.walk_writer.proofs.settled.Statement.{statement}
-use Rattle.walk_writer.proofs.settled.Tie as tie
+use Rattle.walk_writer.proofs.filling_with_rows.Statement.{statement}
+use Rattle.walk_writer.proofs.filling_with_rows.Tie as tie
 
 element-copy-out-put-any : tie.Need-element-copy-out-put-any
 element-copy-out-put-any c = search needs
@@ -26,8 +26,8 @@ returns-2 c =
     let start = at-put-any .before .before .before .before .before .before in
     settled-nothing (start .args .what) (at-put-any .put-any .ensures) (c .if1 .left)
 
-pub settled-spec : {M : Type 1} → statement M
-settled-spec =
+pub filling-with-rows-spec : {M : Type 1} → statement M
+filling-with-rows-spec =
     tie.close
     (tie.spec
     element-copy-out-put-any

@@ -1,4 +1,4 @@
--- `circle_check::settled` meets its contract: a first particle that does not pass makes the answer false (`settle-no`
+-- `circle_check::members_have_heights` meets its contract: a first particle that does not pass makes the answer false (`settle-no`
 -- of MemberLaws), one that passes leaves it to the particles after it (`settle-on`), and with no particle left it is
 -- true (`settle-ends`).
 use borrow.Author.Needs.{needs}
@@ -11,8 +11,8 @@ use Rattle.circle_check.specs.Deep.{hasHeight}
 use Rattle.circle_check.specs.Members.{elementsOf}
 use Rattle.rules.specs.Bytes.{all}
 use Rattle.circle_check.proofs.MemberLaws.{settle-on, settle-no, settle-ends}
-use Rattle.circle_check.proofs.settled.Statement.{statement}
-use Rattle.circle_check.proofs.settled.Tie as tie
+use Rattle.circle_check.proofs.members_have_heights.Statement.{statement}
+use Rattle.circle_check.proofs.members_have_heights.Tie as tie
 
 -- The loop's invariant: every element of the model has a height if and only if every element of what is left, t, has
 -- one.
@@ -74,8 +74,8 @@ returns-2 c =
     let a = start .args in
     settle-ends (hasHeight (a .old .now)) _ (at-loop .loop .t .now) _ (at-particle-size .particle-size .ensures) (at-loop .loop .inv) (omega arith)
 
-pub settled-spec : {M : Type 1} → statement M
-settled-spec =
+pub members-have-heights-spec : {M : Type 1} → statement M
+members-have-heights-spec =
     tie.close
     (tie.spec
     Inv-loop

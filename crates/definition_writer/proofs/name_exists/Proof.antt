@@ -1,4 +1,4 @@
--- `definition_writer::is_taken` meets its contract: if record i has the name (`record-named` of Naming), the answer is
+-- `definition_writer::name_exists` meets its contract: if record i has the name (`record-named` of Naming), the answer is
 -- true (`searching-hit` of Searching), else the records after it decide (`searching-start`, `searching-on`), and past
 -- the last it is false (`searching-end`); the records are the store's (`definitions-named`).
 use Prim.Native.Nat.{_-_}
@@ -8,8 +8,8 @@ use Rattle.rules.specs.Decode.{readDefinition}
 use Rattle.lookup.proofs.Searching.{Searching, searching-start, searching-hit, searching-on, searching-end}
 use Rattle.definition_writer.proofs.Naming.{hasName, definitions-named, record-named}
 use borrow.Author.Needs.{needs}
-use Rattle.definition_writer.proofs.is_taken.Statement.{statement}
-use Rattle.definition_writer.proofs.is_taken.Tie as tie
+use Rattle.definition_writer.proofs.name_exists.Statement.{statement}
+use Rattle.definition_writer.proofs.name_exists.Tie as tie
 
 -- the definitions from number i on are left
 abbrev Inv-loop : tie.InvT-loop
@@ -84,8 +84,8 @@ returns-2 c =
     definitions-named (start .args .store .now) n (at-definition-count .definition-count .ensures) (at-definitions-of .definitions-of .ensures)
     (searching-end readDefinition definitionSize (hasName n) _ _ (l .i) (l .inv) (omega arith))
 
-pub is-taken-spec : {M : Type 1} → statement M
-is-taken-spec =
+pub name-exists-spec : {M : Type 1} → statement M
+name-exists-spec =
     tie.close
     (tie.spec
     Inv-loop

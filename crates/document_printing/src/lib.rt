@@ -24,8 +24,8 @@ fn put_end(opened: bool, out: &mut [u8], at: usize) -> usize
     at
 }
 
-// The value of a row.
-fn value_of(row: &[u8]) -> &[u8]
+// The value of a row, which is short: at most 300 bytes.
+fn short_value(row: &[u8]) -> &[u8]
     requires { ⌜ length (now row) ≤ 300 ⌝ }
     ensures { λ r. ⌜ Named (readRow (now (row .entry)) .row .value) (now r) ⌝ }
 {
@@ -117,7 +117,7 @@ fn put_row(
     if sort == 2 {
         let written = put_attribute(
             printing_parts::attribute_name_of(store, index),
-            value_of(bytes),
+            short_value(bytes),
             out,
             at,
         );
@@ -130,7 +130,7 @@ fn put_row(
         return put_element(w, store, rows, count, i, depth, name, out, ended);
     }
     Walked {
-        at: escaping::put_escaped(value_of(bytes), out, ended),
+        at: escaping::put_escaped(short_value(bytes), out, ended),
         next: i + 1,
     }
 }

@@ -43,7 +43,7 @@ pub fn look_up_place(store: &[u8], serial: u32) -> Found
             length: 0,
         };
     }
-    let found = lookup::find(store, serial);
+    let found = lookup::find_value(store, serial);
     Found {
         number: found.number,
         start: found.start,

@@ -70,7 +70,7 @@ fn found_at(store: &[u8], i: usize) -> Found
 }
 
 /// Finds the row with a serial in one walk over the tree rows.
-pub fn find(store: &[u8], serial: u32) -> Found
+pub fn find_value(store: &[u8], serial: u32) -> Found
     ensures { λ r. ⌜ Looks (foundOn (now (store .entry)) serial) (r .number) (r .start) (r .length) ⌝ }
 {
     let w = layout::width_in(store);
@@ -94,7 +94,7 @@ pub fn find(store: &[u8], serial: u32) -> Found
 pub fn value_of<'a>(store: &'a [u8], serial: u32, number: &mut u32) -> &'a [u8]
     ensures { λ r. ⌜ Hands (foundOn (now (store .entry)) serial) (now (store .entry)) (now r) (now (number .exit)) ⌝ }
 {
-    let found = find(store, serial);
+    let found = find_value(store, serial);
     *number = found.number;
     layout::window(store, found.start, found.length)
 }

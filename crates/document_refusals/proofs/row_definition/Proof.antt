@@ -1,5 +1,5 @@
--- `document_refusals::row_definition` meets its contract: the equations of the four readers, of the width, the rows, row
--- i and its index, joined.
+-- `document_refusals::row_definition` meets its contract: the equations of the four readers, of the width, the rows,
+-- row i and its index, joined.
 use mathlib.Core.Path.{_∙_}
 use Rattle.rules.specs.Layout.{rowSize}
 use Rattle.rules.specs.Decode.{readRow}

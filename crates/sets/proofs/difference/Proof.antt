@@ -1,4 +1,5 @@
--- `sets::difference` meets its contract: what `^` and `&` give is `bitXor` of a and `bitAnd`, the definition of `difference`.
+-- `sets::difference` meets its contract: what `^` and `&` give is `bitXor` of a and `bitAnd`, the definition of
+-- `difference`.
 use mathlib.Core.Path.{refl}
 use Rattle.sets.specs.Sets.{difference}
 use Rattle.sets.proofs.difference.Statement.{statement}

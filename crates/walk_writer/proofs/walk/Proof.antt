@@ -1,6 +1,7 @@
--- `walk_writer::walk` meets its contract: the filling of `filling_with_rows` stands for that of the plan (`walked-settled` of
--- SettledLaws), and the walk may go with it (`ready-settled`); by `plan_numbers` its numbers are that plan, so that
--- `walk_lent` writes its rows (`written-as` of WrittenLaws); `filling_with_rows` may be called by `asks-of` of StepLaws.
+-- `walk_writer::walk` meets its contract: the filling of `filling_with_rows` stands for that of the plan
+-- (`walked-settled` of SettledLaws), and the walk may go with it (`ready-settled`); by `plan_numbers` its numbers are
+-- that plan, so that `walk_lent` writes its rows (`written-as` of WrittenLaws); `filling_with_rows` may be called by
+-- `asks-of` of StepLaws.
 use native.Mathlib.Omega.{arith}
 use mathlib.Core.Path.{ap, sym, subst, _∙_}
 use Rattle.rules.specs.Layout.{rowSize}

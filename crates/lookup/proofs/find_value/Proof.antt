@@ -8,10 +8,10 @@ use Rattle.rules.specs.LookUp.{ValueFound}
 use Rattle.lookup.specs.Bodies.{RowsOf}
 use Rattle.lookup.specs.Finding.{Looks}
 use Rattle.lookup.proofs.Laws.{Seeking, seek-start, seek-past, seek-hit, seek-none, row-of}
-use Rattle.lookup.proofs.find.Statement.{statement}
-use Rattle.lookup.proofs.find.Tie as tie
-use Rattle.lookup.proofs.find.Reads as reads
-use Rattle.lookup.proofs.find.Lts as lts
+use Rattle.lookup.proofs.find_value.Statement.{statement}
+use Rattle.lookup.proofs.find_value.Tie as tie
+use Rattle.lookup.proofs.find_value.Reads as reads
+use Rattle.lookup.proofs.find_value.Lts as lts
 use Rattle.layout.proofs.row_at.Reads as row-at-reads
 use Rattle.layout.proofs.row_count.Reads as row-count-reads
 use Rattle.layout.proofs.row_serial.Reads as row-serial-reads
@@ -82,8 +82,8 @@ loop-again c =
 returns-2 : tie.Need-returns-2 Inv-loop μ-loop
 returns-2 c = seek-none _ _ _ _ (c .before .loop .inv .0) (omega arith)
 
-pub find-spec : {M : Type 1} → statement M
-find-spec =
+pub find-value-spec : {M : Type 1} → statement M
+find-value-spec =
     tie.close
     (tie.spec
     Inv-loop

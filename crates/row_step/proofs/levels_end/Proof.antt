@@ -4,8 +4,8 @@ use borrow.Author.Tests.{not-true, not-false}
 use borrow.Author.Needs.{needs}
 use Rattle.form_index.specs.Reading.{indexForm}
 use Rattle.row_step.proofs.LevelLaws.{Closing, closing-on, closing-no, closing-ends}
-use Rattle.row_step.proofs.closes.Statement.{statement}
-use Rattle.row_step.proofs.closes.Tie as tie
+use Rattle.row_step.proofs.levels_end.Statement.{statement}
+use Rattle.row_step.proofs.levels_end.Tie as tie
 
 -- of the levels from keep on those below k are left to be tested
 abbrev Inv-loop : tie.InvT-loop
@@ -56,8 +56,8 @@ returns-2 c =
     let at = c .before .loop in
     closing-ends form (a .levels .now) (a .keep) (a .live) (at .k) (at .inv) (omega arith)
 
-pub closes-spec : {M : Type 1} → statement M
-closes-spec =
+pub levels-end-spec : {M : Type 1} → statement M
+levels-end-spec =
     tie.close
     (tie.spec
     Inv-loop

@@ -1,12 +1,12 @@
--- `serial_check::put` meets its contract: each return has its law in TreeLaws: the tree is empty, and row k is its root
--- (`put-root`); the walk meets a row with the serial (`put-twice`); or it comes to an empty place, where row k is put
--- (`put-below`). What stands below a row is of the first 4096, as `sought` requires (`rising-more`).
+-- `serial_check::put_in_tree` meets its contract: each return has its law in TreeLaws: the tree is empty, and row k is
+-- its root (`put-root`); the walk meets a row with the serial (`put-twice`); or it comes to an empty place, where row k
+-- is put (`put-below`). What stands below a row is of the first 4096, as `sought` requires (`rising-more`).
 use Prim.Native.Nat.{_%_}
 use borrow.Author.Needs.{needs}
 use native.Mathlib.Omega.{arith}
 use Rattle.serial_check.proofs.TreeLaws.{rising-more, put-root, put-below, put-twice}
-use Rattle.serial_check.proofs.put.Statement.{statement}
-use Rattle.serial_check.proofs.put.Tie as tie
+use Rattle.serial_check.proofs.put_in_tree.Statement.{statement}
+use Rattle.serial_check.proofs.put_in_tree.Tie as tie
 
 cast-b : tie.Need-cast-b
 cast-b c = search needs
@@ -61,8 +61,8 @@ returns-3 c =
     let start = c .before .before .before .before .before .before in
     put-below (start .pre .3) _ (start .pre .2) (c .before .sought .ensures) (omega arith)
 
-pub put-spec : {M : Type 1} → statement M
-put-spec =
+pub put-in-tree-spec : {M : Type 1} → statement M
+put-in-tree-spec =
     tie.close
     (tie.spec
     cast-b

@@ -1,7 +1,7 @@
 //! The layout of a store, said once for every width of a value: its shape,
 //! its bodies, the records of a body, the fields of a record.
 ghost use mathlib.Core.Path.{_≡_};
-ghost use Prim.Native.Nat.{_+_, _*_, _<_};
+ghost use Prim.Native.Nat.{min, _+_, _*_, _<_};
 ghost use lib.ListN.{take, drop};
 ghost use Rattle.rules.specs.Layout.{valueWidth, headerSize, definitionSize, particleSize, attributeSize, rowSize};
 ghost use Rattle.rules.specs.Decode.{numberAt, versionIn, nextSerial, readDefinition, readParticle, readAttribute, readRow, definitionCount, particleCount, attributeCount, rowCount};
@@ -55,6 +55,20 @@ pub fn times(size: usize, n: usize) -> usize
     ensures { λ r. ⌜ Product size n r ⌝ }
 {
     size * n
+}
+
+/// The smaller of two numbers.
+pub fn least(a: usize, b: usize) -> usize
+    ensures { λ r. ⌜ r ≡ min a b ⌝ }
+{
+    if a < b { a } else { b }
+}
+
+/// The number that a byte is.
+pub fn wide(x: u8) -> usize
+    ensures { λ r. ⌜ r ≡ x ⌝ }
+{
+    x as usize
 }
 
 // ---- sizes
@@ -137,12 +151,6 @@ pub fn definition_particles(rec: &[u8]) -> u32
 }
 
 // ---- the fields of a row
-
-fn wide(x: u8) -> usize
-    ensures { λ r. ⌜ r ≡ x ⌝ }
-{
-    x as usize
-}
 
 pub fn row_sort(row: &[u8]) -> u8
     ensures { λ r. ⌜ r ≡ readRow (now (row .entry)) .row .sort ⌝ }

@@ -11,7 +11,7 @@ use Rattle.records.proofs.definitions_fit.Reads as reads
 use Rattle.records.proofs.definitions_fit.Lts as lts
 use Rattle.records.proofs.definition_fits.Reads as definition-fits-reads
 use Rattle.records.proofs.first.Reads as first-reads
-use Rattle.records.proofs.least.Reads as least-reads
+use Rattle.layout.proofs.least.Reads as least-reads
 
 -- The loop's invariant: all definition records fit if and only if the `left` ones at the front of `rest` do.
 abbrev Inv-loop : tie.InvT-loop

@@ -12,7 +12,7 @@ use Rattle.records.proofs.after.Reads as after-reads
 use Rattle.records.proofs.filled.Reads as filled-reads
 use Rattle.records.proofs.first.Reads as first-reads
 use Rattle.records.proofs.stored_name.Reads as stored-name-reads
-use Rattle.records.proofs.wide.Reads as wide-reads
+use Rattle.layout.proofs.wide.Reads as wide-reads
 
 returns : tie.Need-returns
 returns c =

@@ -3,7 +3,7 @@ ghost use mathlib.Core.Path.{_≡_};
 ghost use mathlib.Core.Bool.{true, false};
 ghost use mathlib.Core.List.{[], _∷_, map};
 ghost use lib.ListN.{length};
-ghost use Prim.Native.Nat.{suc, _+_, _-_, _<_, _≤_};
+ghost use Prim.Native.Nat.{suc, _+_, _<_, _≤_};
 ghost use Rattle.rules.specs.Bytes.{any};
 ghost use Rattle.rules.specs.Lines.{serialAt, childrenOf, isElementRow, isTextRow};
 ghost use Rattle.rules.specs.Passing.{passes};
@@ -245,7 +245,7 @@ fn line_fits(
             return false;
         }
         last = old.last;
-        left = less(left);
+        left = layout::minus(left, 1);
         i = next_child(w, rows, count, i + 1, depth, 1);
     }
     let fresh = step_new(part, line, last, left, new);
@@ -270,15 +270,6 @@ pub fn children_fit(
     let mut line: [u64; LINE] = [0; LINE];
     next_children::fill(part, 64, 0, &mut line);
     line_fits(w, part, &line, rows, count, start, depth, place, new, skip)
-}
-
-fn less(n: usize) -> usize
-    ensures { λ r. ⌜ r ≡ n - 1 ⌝ }
-{
-    if n == 0 {
-        return 0;
-    }
-    n - 1
 }
 
 // ---- in a store

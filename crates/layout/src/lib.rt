@@ -1,7 +1,7 @@
 //! The layout of a store, said once for every width of a value: its shape,
 //! its bodies, the records of a body, the fields of a record.
 ghost use mathlib.Core.Path.{_≡_};
-ghost use Prim.Native.Nat.{min, _+_, _*_, _<_};
+ghost use Prim.Native.Nat.{min, _+_, _-_, _*_, _<_};
 ghost use lib.ListN.{take, drop};
 ghost use Rattle.rules.specs.Layout.{valueWidth, headerSize, definitionSize, particleSize, attributeSize, rowSize};
 ghost use Rattle.rules.specs.Decode.{numberAt, versionIn, nextSerial, readDefinition, readParticle, readAttribute, readRow, definitionCount, particleCount, attributeCount, rowCount};
@@ -62,6 +62,13 @@ pub fn least(a: usize, b: usize) -> usize
     ensures { λ r. ⌜ r ≡ min a b ⌝ }
 {
     if a < b { a } else { b }
+}
+
+/// a - b, or 0.
+pub fn minus(a: usize, b: usize) -> usize
+    ensures { λ r. ⌜ r ≡ a - b ⌝ }
+{
+    if b < a { a - b } else { 0 }
 }
 
 /// The number that a byte is.

@@ -218,7 +218,7 @@ fn step(
         };
     }
     let due = row_walk::closes(o, h) & o.due;
-    let depth = row_walk::minus(o.below, 1);
+    let depth = layout::minus(o.below, 1);
     let at = put_owed(form, sizes, p, text, due, depth, c, out);
     let q = row_walk::closed(o, h);
     come(form, sizes, p, marks, text, h, row, q, at, out)
@@ -278,7 +278,7 @@ fn pass(
     ensures { λ r. ⌜ Advances (widthIn (now (sizes .entry))) (planIn (now (p .entry)) (now (marks .entry))) (now (text .entry))
         (fillIn (now (sizes .entry)) (now (form .entry)) (planIn (now (p .entry)) (now (marks .entry))) (now (text .entry))) (now (rows .entry)) count o c (now (out .entry)) r (now (out .exit)) ⌝ }
 {
-    let most = count - row_walk::minus(count, c.left);
+    let most = count - layout::minus(count, c.left);
     let run = plain_rows(sizes[0], p, marks, rows, most, o);
     let q = run.opened;
     let at = row_writer::put_block(sizes[0], rows, run.count, c, out);
@@ -337,7 +337,7 @@ fn walk_lent(
         t = &t[long..];
         m -= s.rows;
     }
-    let depth = row_walk::minus(o.below, 1);
+    let depth = layout::minus(o.below, 1);
     put_owed(form, sizes, p, text, o.due, depth, at, out)
 }
 

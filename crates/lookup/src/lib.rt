@@ -40,7 +40,8 @@ fn row(store: &[u8], i: usize) -> &[u8]
     layout::window(store, start, layout::row_size(w))
 }
 
-/// A look-up's answer: 0 and the place of the value, or 7.
+/// A look-up's answer: 0, and where the value stands in the store; or a refusal's number, 0 and 0.
+#[repr(C)]
 pub struct Found {
     pub number: u32,
     pub start: usize,

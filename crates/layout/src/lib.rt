@@ -229,6 +229,14 @@ pub fn attribute_owner(rec: &[u8]) -> usize
     wide(codec::byte(rec, 0))
 }
 
+/// The owner of attribute j.
+pub fn attribute_owner_at(w: usize, attrs: &[u8], j: usize) -> usize
+    requires { ⌜ Width w × (j < 4294967296) ⌝ }
+    ensures { λ r. ⌜ r ≡ readAttribute (recordAt (attributeSize w) j (now (attrs .entry))) .owner ⌝ }
+{
+    attribute_owner(attribute_at(w, attrs, j))
+}
+
 pub fn attribute_name(rec: &[u8]) -> &[u8]
     ensures { λ r. ⌜ now r ≡ readAttribute (now (rec .entry)) .name ⌝ }
 {

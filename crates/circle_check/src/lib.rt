@@ -29,7 +29,7 @@ fn first_passes(t: &[u8], old: &[u8; MAX_DEFINITIONS]) -> bool
 }
 
 // Whether all elements that the particles name have a height.
-fn settled(model: &[u8], old: &[u8; MAX_DEFINITIONS]) -> bool
+fn members_have_heights(model: &[u8], old: &[u8; MAX_DEFINITIONS]) -> bool
     ensures { λ r. ⌜ r ≡ all (hasHeight (now (old .entry))) (elementsOf (now (model .entry))) ⌝ }
 {
     let size = layout::particle_size();
@@ -50,7 +50,11 @@ fn raised(model: &[u8], old: &[u8; MAX_DEFINITIONS], was: u8, h: u8) -> u8
     if was != 0 {
         return was;
     }
-    if settled(model, old) { h } else { 0 }
+    if members_have_heights(model, old) {
+        h
+    } else {
+        0
+    }
 }
 
 // Round h: height h for the definitions without one whose members all have one. The particles of a definition stand

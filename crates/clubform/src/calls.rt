@@ -94,7 +94,7 @@ pub fn new_race(store: &[u8], out: &mut [u8]) -> usize
     answer.length
 }
 
-// Serial 1 is the race.
+/// Serial 1 is the race.
 pub fn add_finisher(store: &[u8], out: &mut [u8]) -> usize
     requires { ⌜ Reads (stage 8) (now store) (now out) ⌝ }
     ensures { λ r. ⌜ BufferHolds (stage 9) r (now (out .exit)) ⌝ }
@@ -104,7 +104,7 @@ pub fn add_finisher(store: &[u8], out: &mut [u8]) -> usize
     answer.length
 }
 
-// Serial 5 is the time.
+/// Serial 5 is the time.
 pub fn set_time(store: &[u8], out: &mut [u8]) -> usize
     requires { ⌜ Reads (stage 9) (now store) (now out) ⌝ }
     ensures { λ r. ⌜ BufferHolds (stage 10) r (now (out .exit)) ⌝ }

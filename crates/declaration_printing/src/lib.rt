@@ -14,7 +14,7 @@ use printing_parts::Walked;
 
 // ---- marks, separators
 
-/// Writes the mark of a quantifier.
+// Writes the mark of a quantifier.
 fn put_mark(quantifier: u8, out: &mut [u8], at: usize) -> usize
     requires { ⌜ at < 9223372036854775808 ⌝ }
     ensures { λ r. ⌜ Laid (markOf (quantifierOf quantifier)) (now (out .entry)) at r (now (out .exit)) ⌝ }
@@ -27,8 +27,8 @@ fn put_mark(quantifier: u8, out: &mut [u8], at: usize) -> usize
     }
 }
 
-/// Writes what stands before a member of a group of this kind.
-fn put_sign(kind: u8, first: bool, out: &mut [u8], at: usize) -> usize
+// Writes what stands before a member of a group of this kind.
+fn put_separator(kind: u8, first: bool, out: &mut [u8], at: usize) -> usize
     requires { ⌜ at < 9223372036854775808 ⌝ }
     ensures { λ r. ⌜ Laid (signText (groupOf kind) first) (now (out .entry)) at r (now (out .exit)) ⌝ }
 {
@@ -43,7 +43,7 @@ fn put_sign(kind: u8, first: bool, out: &mut [u8], at: usize) -> usize
 
 // ---- content models
 
-/// Writes one member and what is below it.
+// Writes one member and what is below it.
 fn put_member(
     store: &[u8],
     end: usize,
@@ -63,7 +63,7 @@ fn put_member(
     let bytes = printing_parts::particle(store, i);
     let sort = layout::particle_sort(bytes);
     let quantifier = layout::particle_quantifier(bytes);
-    let signed = put_sign(kind, first, out, at);
+    let signed = put_separator(kind, first, out, at);
     if sort == 0 {
         let index = layout::particle_index(bytes) as usize;
         let named = codec::put(printing_parts::name_of(store, index), out, signed);
@@ -81,7 +81,7 @@ fn put_member(
     }
 }
 
-/// Writes the members of one depth that stand beside one another, in a group of this kind.
+// Writes the members of one depth that stand beside one another, in a group of this kind.
 fn put_members(
     store: &[u8],
     end: usize,
@@ -117,7 +117,7 @@ fn put_members(
 
 // ---- the lines of attributes
 
-/// Writes the default of attribute i.
+// Writes the default of attribute i.
 fn put_default(store: &[u8], i: usize, out: &mut [u8], at: usize) -> usize
     requires { ⌜ (i < 4294967296) × (at < 4611686018427387904) ⌝ }
     ensures { λ r. ⌜ LaidWithin 2000 (defaultText (readAttribute (attributePart (now (store .entry)) i))) (now (out .entry)) at r (now (out .exit)) ⌝ }
@@ -136,7 +136,7 @@ fn put_default(store: &[u8], i: usize, out: &mut [u8], at: usize) -> usize
     codec::put_u8(out, valued, b'"')
 }
 
-/// Writes the line of attribute i of a definition of this name.
+// Writes the line of attribute i of a definition of this name.
 fn put_attribute_line(store: &[u8], i: usize, owner: &[u8], out: &mut [u8], at: usize) -> usize
     requires { ⌜ (i < attributeCount (now store)) × (at < 2305843009213693952) × (length (now owner) ≤ 300) × (attributeCount (now store) ≤ 64) ⌝ }
     ensures { λ r. ⌜ LaidWithin 3000 (attributeLineText (now (owner .entry)) (readAttribute (attributePart (now (store .entry)) i))) (now (out .entry)) at r (now (out .exit)) ⌝ }
@@ -173,8 +173,8 @@ pub fn put_attributes(store: &[u8], o: usize, owner: &[u8], out: &mut [u8], star
 
 // ---- the line of a definition
 
-/// Whether a content model has members.
-fn has_member(store: &[u8], from: usize, end: usize) -> bool
+// Whether a content model has members.
+fn has_members(store: &[u8], from: usize, end: usize) -> bool
     requires { ⌜ end < 4294967296 ⌝ }
     ensures { λ r. ⌜ r ≡ isTree (build (particlesFrom (now (store .entry)) end from) 0) ⌝ }
 {
@@ -188,7 +188,7 @@ fn has_member(store: &[u8], from: usize, end: usize) -> bool
     false
 }
 
-/// Writes a content model of the particles from number `from` to `end`.
+// Writes a content model of the particles from number `from` to `end`.
 fn put_content(store: &[u8], kind: u8, from: usize, end: usize, out: &mut [u8], at: usize) -> usize
     requires { ⌜ (end ≤ 256) × (at < 2305843009213693952) ⌝ }
     ensures { λ r. ⌜ LaidWithin 640100 (contentText (namesOf (now (store .entry))) kind (build (particlesFrom (now (store .entry)) end from) 0)) (now (out .entry)) at r (now (out .exit)) ⌝ }
@@ -199,7 +199,7 @@ fn put_content(store: &[u8], kind: u8, from: usize, end: usize, out: &mut [u8], 
     if kind == 1 {
         return codec::put(b"(#PCDATA)", out, at);
     }
-    if !has_member(store, from, end) {
+    if !has_members(store, from, end) {
         return codec::put(b"EMPTY", out, at);
     }
     let opened = codec::put_u8(out, at, b'(');

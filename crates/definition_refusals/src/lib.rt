@@ -22,7 +22,7 @@ pub fn create_condition(store: &[u8], name: &[u8], kind: u32) -> u32
     if kind > 2 {
         return 4;
     }
-    if definition_writer::is_taken(store, name) {
+    if definition_writer::name_exists(store, name) {
         return 5;
     }
     0

@@ -155,7 +155,7 @@ pub fn has_root(w: usize, body: &[u8], count: usize, definition: u32) -> bool
 }
 
 // 1 if an attribute is of one of the first i definitions.
-fn is_below(rec: &[u8], i: u32) -> usize
+fn one_below(rec: &[u8], i: u32) -> usize
     ensures { λ r. ⌜ CountWithin (oneBelow i (readAttribute (now (rec .entry)))) 1 r ⌝ }
 {
     let owner = layout::owner_byte(rec) as u32;
@@ -170,7 +170,7 @@ fn attributes_below(w: usize, body: &[u8], count: usize, i: u32) -> usize
     let mut sum = 0;
     let mut j = 0;
     while j < count {
-        sum += is_below(layout::attribute_at(w, body, j), i);
+        sum += one_below(layout::attribute_at(w, body, j), i);
         j += 1;
     }
     sum
@@ -222,7 +222,7 @@ fn attribute_range(store: &[u8], i: u32) -> Range
 }
 
 // How many of `all` records are left without those of a range.
-fn without(all: usize, range: Range) -> usize
+fn count_left(all: usize, range: Range) -> usize
     requires { ⌜ (range .start ≤ range .end) × (range .end ≤ all) ⌝ }
     ensures { λ r. ⌜ r ≡ all - (range .end - range .start) ⌝ }
 {
@@ -235,7 +235,7 @@ pub fn particles_left(store: &[u8], i: u32) -> usize
     ensures { λ r. ⌜ CountWithin (length (destroyed i (bodiesOf (now (store .entry))) .particles)) 256 r ⌝ }
 {
     let own = model_range(store, i);
-    without(layout::particle_count(store), own)
+    count_left(layout::particle_count(store), own)
 }
 
 /// How many attributes are left without definition i.
@@ -244,7 +244,7 @@ pub fn attributes_left(store: &[u8], i: u32) -> usize
     ensures { λ r. ⌜ CountWithin (length (destroyed i (bodiesOf (now (store .entry))) .attributes)) 64 r ⌝ }
 {
     let own = attribute_range(store, i);
-    without(layout::attribute_count(store), own)
+    count_left(layout::attribute_count(store), own)
 }
 
 // ---- what is left of a store without definition i

@@ -22,7 +22,7 @@ pub fn put_header(store: &[u8], d: usize, p: usize, a: usize, out: &mut [u8]) ->
 }
 
 /// Whether a definition has the name.
-pub fn is_taken(store: &[u8], name: &[u8]) -> bool
+pub fn name_exists(store: &[u8], name: &[u8]) -> bool
     ensures { λ r. ⌜ r ≡ named (now (name .entry)) (bodiesOf (now (store .entry)) .definitions) ⌝ }
 {
     let count = layout::definition_count(store);

@@ -18,7 +18,7 @@ fn owner_of(store: &[u8], attribute: usize) -> usize
 {
     let w = layout::width_in(store);
     let attrs = layout::attributes_of(store);
-    layout::attribute_owner(layout::attribute_at(w, attrs, attribute))
+    layout::attribute_owner_at(w, attrs, attribute)
 }
 
 // The store without an attribute and its rows.

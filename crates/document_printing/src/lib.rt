@@ -13,7 +13,7 @@ ghost use Rattle.document_printing.specs.Documents.{Enclosed, endText, s
 ghost use Rattle.lookup.specs.Bodies.{rowsFrom};
 use printing_parts::Walked;
 
-/// Ends a start tag that is still open.
+// Ends a start tag that is still open.
 fn put_end(opened: bool, out: &mut [u8], at: usize) -> usize
     requires { ⌜ at < 9223372036854775808 ⌝ }
     ensures { λ r. ⌜ Laid (endText opened) (now (out .entry)) at r (now (out .exit)) ⌝ }
@@ -24,15 +24,15 @@ fn put_end(opened: bool, out: &mut [u8], at: usize) -> usize
     at
 }
 
-/// The value of a row.
-fn value_of(row: &[u8]) -> &[u8]
+// The value of a row, which is short: at most 300 bytes.
+fn short_value(row: &[u8]) -> &[u8]
     requires { ⌜ length (now row) ≤ 300 ⌝ }
     ensures { λ r. ⌜ Named (readRow (now (row .entry)) .row .value) (now r) ⌝ }
 {
     layout::row_value(row)
 }
 
-/// The name of a row of this sort and index.
+// The name of a row of this sort and index.
 fn row_name_of(store: &[u8], sort: u8, index: usize) -> &[u8]
     ensures { λ r. ⌜ Named (rowName (namesOf (now (store .entry))) (attributeNamesOf (now (store .entry))) (rowSortOf sort) index) (now r) ⌝ }
 {
@@ -45,14 +45,14 @@ fn row_name_of(store: &[u8], sort: u8, index: usize) -> &[u8]
     &store[..0]
 }
 
-/// Whether a start tag that is open stays so behind a row of this sort.
+// Whether a start tag that is open stays so behind a row of this sort.
 fn stays_open(sort: u8, opened: bool) -> bool
     ensures { λ r. ⌜ r ≡ stays (rowSortOf sort) opened ⌝ }
 {
     if sort == 2 { opened } else { false }
 }
 
-/// Writes an attribute row.
+// Writes an attribute row.
 fn put_attribute(name: &[u8], value: &[u8], out: &mut [u8], at: usize) -> usize
     requires { ⌜ (at < 4611686018427387904) × (length (now name) ≤ 300) × (length (now value) ≤ 300) ⌝ }
     ensures { λ r. ⌜ Laid (attributeText (now (name .entry)) (now (value .entry))) (now (out .entry)) at r (now (out .exit)) ⌝ }
@@ -64,7 +64,7 @@ fn put_attribute(name: &[u8], value: &[u8], out: &mut [u8], at: usize) -> usize
     codec::put_u8(out, valued, b'"')
 }
 
-/// Writes element row i with this name, and what is below it.
+// Writes element row i with this name, and what is below it.
 fn put_element(
     w: usize,
     store: &[u8],
@@ -93,7 +93,7 @@ fn put_element(
     }
 }
 
-/// Writes row i and what is below it, behind a start tag that is open or not.
+// Writes row i and what is below it, behind a start tag that is open or not.
 fn put_row(
     w: usize,
     store: &[u8],
@@ -117,7 +117,7 @@ fn put_row(
     if sort == 2 {
         let written = put_attribute(
             printing_parts::attribute_name_of(store, index),
-            value_of(bytes),
+            short_value(bytes),
             out,
             at,
         );
@@ -130,12 +130,12 @@ fn put_row(
         return put_element(w, store, rows, count, i, depth, name, out, ended);
     }
     Walked {
-        at: escaping::put_escaped(value_of(bytes), out, ended),
+        at: escaping::put_escaped(short_value(bytes), out, ended),
         next: i + 1,
     }
 }
 
-/// Writes the rows of one depth that stand beside one another; the first stands behind a start tag that is open or not.
+// Writes the rows of one depth that stand beside one another; the first stands behind a start tag that is open or not.
 fn put_rows(
     w: usize,
     store: &[u8],
@@ -174,7 +174,7 @@ fn put_rows(
     Walked { at: end, next: i }
 }
 
-/// Writes the line of the document whose root is row i.
+// Writes the line of the document whose root is row i.
 fn put_document(
     w: usize,
     store: &[u8],

@@ -3,7 +3,7 @@ ghost use mathlib.Core.Path.{_≡_};
 ghost use mathlib.Core.Bool.{true, false};
 ghost use mathlib.Core.List.{[], _∷_, map};
 ghost use lib.ListN.{length};
-ghost use Prim.Native.Nat.{suc, _+_, _-_, _<_, _≤_};
+ghost use Prim.Native.Nat.{suc, _+_, _<_, _≤_};
 ghost use Rattle.rules.specs.Bytes.{any};
 ghost use Rattle.rules.specs.Lines.{serialAt, childrenOf, isElementRow, isTextRow};
 ghost use Rattle.rules.specs.Passing.{passes};
@@ -245,7 +245,7 @@ fn line_fits(
             return false;
         }
         last = old.last;
-        left = less(left);
+        left = layout::minus(left, 1);
         i = next_child(w, rows, count, i + 1, depth, 1);
     }
     let fresh = step_new(part, line, last, left, new);
@@ -272,15 +272,6 @@ pub fn children_fit(
     line_fits(w, part, &line, rows, count, start, depth, place, new, skip)
 }
 
-fn less(n: usize) -> usize
-    ensures { λ r. ⌜ r ≡ n - 1 ⌝ }
-{
-    if n == 0 {
-        return 0;
-    }
-    n - 1
-}
-
 // ---- in a store
 // The number of an element row in a store; the number of rows if there is none.
 fn find_element(store: &[u8], element: u32) -> usize
@@ -293,7 +284,7 @@ fn find_element(store: &[u8], element: u32) -> usize
 }
 
 // The definition index of row i.
-fn definition_at(store: &[u8], i: usize) -> usize
+fn row_definition(store: &[u8], i: usize) -> usize
     requires { ⌜ i ≤ 4096 ⌝ }
     ensures { λ r. ⌜ r ≡ readRow (recordAt (rowSize (widthOf (now (store .entry)))) i (treeRowsIn (now (store .entry)))) .row .index ⌝ }
 {
@@ -336,7 +327,7 @@ fn model_at(store: &[u8], i: usize) -> &[u8]
     form_index::model_part(
         layout::definitions_of(store),
         layout::particles_of(store),
-        definition_at(store, i),
+        row_definition(store, i),
     )
 }
 
@@ -365,7 +356,7 @@ fn kind_at(store: &[u8], i: usize) -> u8
     requires { ⌜ RowOf (now store) i ⌝ }
     ensures { λ r. ⌜ r ≡ rowDefinitionKind (now (store .entry)) i ⌝ }
 {
-    form_index::kind_of(layout::definitions_of(store), definition_at(store, i))
+    form_index::kind_of(layout::definitions_of(store), row_definition(store, i))
 }
 
 /// Refusals 3 and 6 of the change that adds a document.
@@ -497,11 +488,11 @@ fn owner_of(store: &[u8], attribute: usize) -> usize
 {
     let w = layout::width_in(store);
     let attrs = layout::attributes_of(store);
-    layout::attribute_owner(layout::attribute_at(w, attrs, attribute))
+    layout::attribute_owner_at(w, attrs, attribute)
 }
 
 // The serial of the row of an attribute right below row i; 0 if there is none.
-fn attribute_at(store: &[u8], i: usize, attribute: usize) -> u32
+fn attribute_row_serial(store: &[u8], i: usize, attribute: usize) -> u32
     requires { ⌜ RowOf (now store) i ⌝ }
     ensures { λ r. ⌜ r ≡ serialOfIndex attribute (childrenAt (now (store .entry)) 2 i) ⌝ }
 {
@@ -529,7 +520,7 @@ fn attribute_refusal(store: &[u8], element: u32, attribute: u32) -> u32
     if i >= layout::row_count(store) {
         return 7;
     }
-    if owner_of(store, attribute as usize) != definition_at(store, i) {
+    if owner_of(store, attribute as usize) != row_definition(store, i) {
         return 6;
     }
     0
@@ -570,13 +561,13 @@ pub fn destroy_attribute_row_refusal(store: &[u8], element: u32, attribute: u32)
         return refusal;
     }
     let i = find_element(store, element);
-    if attribute_at(store, i, attribute as usize) == 0 {
+    if attribute_row_serial(store, i, attribute as usize) == 0 {
         return 7;
     }
     let version = layout::version_in(store);
     let w = layout::width_in(store);
     let attrs = layout::attributes_of(store);
-    let d = definition_at(store, i);
+    let d = row_definition(store, i);
     let needed = form_index::needs(version, w, attrs, d, attribute as usize);
     number_if(needed, 15)
 }
@@ -586,5 +577,5 @@ pub fn attribute_serial(store: &[u8], element: u32, attribute: u32) -> u32
     requires { ⌜ (passes (now store) ≡ true) × AttributeRefused element attribute (storeIn (now store)) 0 ⌝ }
     ensures { λ r. ⌜ r ≡ attributeSerial element attribute (storeIn (now (store .entry))) ⌝ }
 {
-    attribute_at(store, find_element(store, element), attribute as usize)
+    attribute_row_serial(store, find_element(store, element), attribute as usize)
 }

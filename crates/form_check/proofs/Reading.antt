@@ -74,9 +74,6 @@ module _ (w i : ℕ) (s : Bytes) {rec : Bytes} (e : rec ≡ recordAt (attributeS
   pub attribute-name : {r : Bytes} → r ≡ readAttribute rec .name → r ≡ attributeRecordAt w i s .name
   attribute-name h = h ∙ ap (λ (t : Bytes). readAttribute t .name) e
 
-  pub attribute-owner : {r : ℕ} → r ≡ readAttribute rec .owner → r ≡ attributeRecordAt w i s .owner
-  attribute-owner h = h ∙ ap (λ (t : Bytes). readAttribute t .owner) e
-
 -- .. and the name of a definition's
 pub definition-name : (i : ℕ) (s : Bytes) {rec r : Bytes} → rec ≡ recordAt definitionSize i s → r ≡ readDefinition rec .name → r ≡ definitionRecordAt i s .name
 definition-name i s e h = h ∙ ap (λ (t : Bytes). readDefinition t .name) e

@@ -54,13 +54,6 @@ pub fn definitions_apart(n: usize, defs: &[u8]) -> bool
     true
 }
 
-fn owner(w: usize, attrs: &[u8], i: usize) -> usize
-    requires { ⌜ Width w × (i < 64) ⌝ }
-    ensures { λ r. ⌜ r ≡ attributeRecordAt w i (now (attrs .entry)) .owner ⌝ }
-{
-    layout::attribute_owner(layout::attribute_at(w, attrs, i))
-}
-
 fn attribute_name(w: usize, attrs: &[u8], i: usize) -> &[u8]
     requires { ⌜ Width w × (i < 64) ⌝ }
     ensures { λ r. ⌜ now r ≡ attributeRecordAt w i (now (attrs .entry)) .name ⌝ }
@@ -74,7 +67,7 @@ fn same_attribute(w: usize, attrs: &[u8], i: usize, j: usize) -> bool
     ensures { λ r. ⌜ r ≡ clashes (attributeRecordAt w i (now (attrs .entry))) (attributeRecordAt w j (now (attrs .entry))) ⌝ }
 {
     let named = codec::equal(attribute_name(w, attrs, i), attribute_name(w, attrs, j));
-    (owner(w, attrs, i) == owner(w, attrs, j)) & named
+    (layout::attribute_owner_at(w, attrs, i) == layout::attribute_owner_at(w, attrs, j)) & named
 }
 
 // Whether a later attribute has the owner and the name of attribute i.
@@ -115,7 +108,7 @@ pub fn owners_rise(w: usize, a: usize, attrs: &[u8]) -> bool
     let mut least: usize = 0;
     let mut i = 0;
     while i < a {
-        let o = owner(w, attrs, i);
+        let o = layout::attribute_owner_at(w, attrs, i);
         if o < least {
             return false;
         }

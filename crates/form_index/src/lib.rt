@@ -11,7 +11,7 @@ ghost use Rattle.layout.specs.Bodies.{Width};
 ghost use Rattle.form_index.specs.Reading.{definitionIn, attributeIn, particlesBefore, modelPart};
 
 // ---- definitions
-// The code of definition i's kind.
+/// The code of definition i's kind.
 pub fn kind_of(defs: &[u8], i: usize) -> u8
     requires { ⌜ i ≤ 256 ⌝ }
     ensures { λ r. ⌜ r ≡ definitionIn (now (defs .entry)) i .kind ⌝ }
@@ -19,15 +19,15 @@ pub fn kind_of(defs: &[u8], i: usize) -> u8
     layout::definition_kind(layout::definition_at(defs, i))
 }
 
-// How many particles definition i has.
-pub fn particles_of(defs: &[u8], i: usize) -> usize
+/// How many particles definition i has.
+pub fn model_length(defs: &[u8], i: usize) -> usize
     requires { ⌜ i ≤ 256 ⌝ }
     ensures { λ r. ⌜ (r ≡ definitionIn (now (defs .entry)) i .particles) × (r < 4294967296) ⌝ }
 {
     layout::definition_particles(layout::definition_at(defs, i)) as usize
 }
 
-// How many particles stand before definition i's.
+/// How many particles stand before definition i's.
 pub fn particles_before(defs: &[u8], i: usize) -> usize
     requires { ⌜ i ≤ 256 ⌝ }
     ensures { λ r. ⌜ (r ≡ particlesBefore (now (defs .entry)) i) × (r ≤ 4294967296 * 256) ⌝ }
@@ -35,13 +35,13 @@ pub fn particles_before(defs: &[u8], i: usize) -> usize
     let mut sum = 0;
     let mut j = 0;
     while j < i {
-        sum += particles_of(defs, j);
+        sum += model_length(defs, j);
         j += 1;
     }
     sum
 }
 
-// Definition i's part of the particles.
+/// Definition i's part of the particles.
 pub fn model_part<'a>(defs: &[u8], parts: &'a [u8], i: usize) -> &'a [u8]
     requires { ⌜ i ≤ 256 ⌝ }
     ensures { λ r. ⌜ now r ≡ modelPart (now (defs .entry)) (now (parts .entry)) i ⌝ }
@@ -49,12 +49,12 @@ pub fn model_part<'a>(defs: &[u8], parts: &'a [u8], i: usize) -> &'a [u8]
     layout::window(
         parts,
         PARTICLE_SIZE * particles_before(defs, i),
-        PARTICLE_SIZE * particles_of(defs, i),
+        PARTICLE_SIZE * model_length(defs, i),
     )
 }
 
 // ---- attributes
-// Whether attribute j may have the value v.
+/// Whether attribute j may have the value v.
 pub fn value_may(w: usize, attrs: &[u8], j: usize, v: &[u8]) -> bool
     requires { ⌜ Width w × (j ≤ 64) ⌝ }
     ensures { λ r. ⌜ r ≡ allows (sortOf (attributeIn w (now (attrs .entry)) j .sort)) (attributeIn w (now (attrs .entry)) j .value) (now (v .entry)) ⌝ }
@@ -64,7 +64,7 @@ pub fn value_may(w: usize, attrs: &[u8], j: usize, v: &[u8]) -> bool
     records::value_allowed(sort, layout::attribute_value(record), v)
 }
 
-// Whether attribute j is one that definition i needs.
+/// Whether attribute j is one that definition i needs.
 pub fn needs(version: usize, w: usize, attrs: &[u8], i: usize, j: usize) -> bool
     requires { ⌜ Width w × (j ≤ 64) ⌝ }
     ensures { λ r. ⌜ r ≡ (eqb (attributeIn w (now (attrs .entry)) j .owner) i && mustBePresent version (sortOf (attributeIn w (now (attrs .entry)) j .sort))) ⌝ }

@@ -74,7 +74,7 @@ pub fn fill_table(
 }
 
 // ---- children, looked up
-// Whether the child `index` may come after `last`; what the table does not have is looked up in the model.
+/// Whether the child `index` may come after `last`; what the table does not have is looked up in the model.
 pub fn may_follow(
     n: usize,
     defs: &[u8],
@@ -93,7 +93,7 @@ pub fn may_follow(
     automaton::steps(form_index::model_part(defs, parts, i), last, index)
 }
 
-// Whether no child is owed after `last`.
+/// Whether no child is owed after `last`.
 pub fn may_finish(n: usize, defs: &[u8], parts: &[u8], table: &[u64], i: usize, last: usize) -> bool
     requires { ⌜ (n ≤ 64) × (i < n) × (4352 ≤ length (now table)) × Modelled n (now defs) (now parts) n (now table) ⌝ }
     ensures { λ r. ⌜ r ≡ finishes (allMembers (modelPart (now (defs .entry)) (now (parts .entry)) i)) last ⌝ }
@@ -108,7 +108,7 @@ pub fn may_finish(n: usize, defs: &[u8], parts: &[u8], table: &[u64], i: usize, 
 }
 
 // ---- attributes, looked up
-// Whether none of the attributes from `from` up to `to` is needed.
+/// Whether none of the attributes from `from` up to `to` is needed.
 pub fn spares(needed: u64, from: usize, to: usize) -> bool
     requires { ⌜ to ≤ 64 ⌝ }
     ensures { λ r. ⌜ r ≡ every (λ j. not (has needed j)) to from ⌝ }
@@ -116,7 +116,7 @@ pub fn spares(needed: u64, from: usize, to: usize) -> bool
     sets::none_between(needed, from, to)
 }
 
-// Whether no attribute that is needed is owed any more.
+/// Whether no attribute that is needed is owed any more.
 pub fn is_freed(needed: u64, a: usize, seen: usize) -> bool
     requires { ⌜ a ≤ 64 ⌝ }
     ensures { λ r. ⌜ r ≡ freedOf needed a seen ⌝ }

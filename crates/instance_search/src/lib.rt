@@ -4,7 +4,7 @@ ghost use mathlib.Core.List.{[], _∷_};
 ghost use Rattle.rules.specs.Refusal.{_if_, first};
 ghost use Rattle.instance_search.specs.Instances.{hasInstance};
 
-// Whether an instance of a definition exists.
+/// Whether an instance of a definition exists.
 pub fn instance_exists(store: &[u8], definition: u32) -> bool
     ensures { λ r. ⌜ r ≡ hasInstance (now (store .entry)) definition ⌝ }
 {

@@ -1,7 +1,7 @@
 //! The layout of a store, said once for every width of a value: its shape,
 //! its bodies, the records of a body, the fields of a record.
 ghost use mathlib.Core.Path.{_≡_};
-ghost use Prim.Native.Nat.{_+_, _*_, _<_};
+ghost use Prim.Native.Nat.{min, _+_, _-_, _*_, _<_};
 ghost use lib.ListN.{take, drop};
 ghost use Rattle.rules.specs.Layout.{valueWidth, headerSize, definitionSize, particleSize, attributeSize, rowSize};
 ghost use Rattle.rules.specs.Decode.{numberAt, versionIn, nextSerial, readDefinition, readParticle, readAttribute, readRow, definitionCount, particleCount, attributeCount, rowCount};
@@ -55,6 +55,27 @@ pub fn times(size: usize, n: usize) -> usize
     ensures { λ r. ⌜ Product size n r ⌝ }
 {
     size * n
+}
+
+/// The smaller of two numbers.
+pub fn least(a: usize, b: usize) -> usize
+    ensures { λ r. ⌜ r ≡ min a b ⌝ }
+{
+    if a < b { a } else { b }
+}
+
+/// a - b, or 0.
+pub fn minus(a: usize, b: usize) -> usize
+    ensures { λ r. ⌜ r ≡ a - b ⌝ }
+{
+    if b < a { a - b } else { 0 }
+}
+
+/// The number that a byte is.
+pub fn wide(x: u8) -> usize
+    ensures { λ r. ⌜ r ≡ x ⌝ }
+{
+    x as usize
 }
 
 // ---- sizes
@@ -138,12 +159,6 @@ pub fn definition_particles(rec: &[u8]) -> u32
 
 // ---- the fields of a row
 
-fn wide(x: u8) -> usize
-    ensures { λ r. ⌜ r ≡ x ⌝ }
-{
-    x as usize
-}
-
 pub fn row_sort(row: &[u8]) -> u8
     ensures { λ r. ⌜ r ≡ readRow (now (row .entry)) .row .sort ⌝ }
 {
@@ -212,6 +227,14 @@ pub fn attribute_owner(rec: &[u8]) -> usize
     ensures { λ r. ⌜ r ≡ readAttribute (now (rec .entry)) .owner ⌝ }
 {
     wide(codec::byte(rec, 0))
+}
+
+/// The owner of attribute j.
+pub fn attribute_owner_at(w: usize, attrs: &[u8], j: usize) -> usize
+    requires { ⌜ Width w × (j < 4294967296) ⌝ }
+    ensures { λ r. ⌜ r ≡ readAttribute (recordAt (attributeSize w) j (now (attrs .entry))) .owner ⌝ }
+{
+    attribute_owner(attribute_at(w, attrs, j))
 }
 
 pub fn attribute_name(rec: &[u8]) -> &[u8]

@@ -1,18 +1,12 @@
 //! The row of a store, written: as far as the buffer goes, saying where the next bytes go.
 ghost use mathlib.Core.Path.{_≡_};
 ghost use mathlib.Core.List.{_++_};
-ghost use Prim.Native.Nat.{min, _+_, _<_, _≤_, _^_};
+ghost use Prim.Native.Nat.{_+_, _<_, _≤_, _^_};
 ghost use lib.ListN.{length, take, replicate};
 ghost use Rattle.rules.specs.Layout.{rowSize, le};
 ghost use Rattle.codec.specs.Laid.{Laid};
 ghost use Rattle.layout.specs.Bodies.{Width};
 ghost use Rattle.layout.specs.RowBytes.{rowOf, rowStart, rowEnd, reindexedRow, valuedRow, WholeRow, RowLaid};
-
-fn least(a: usize, b: usize) -> usize
-    ensures { λ r. ⌜ r ≡ min a b ⌝ }
-{
-    if a < b { a } else { b }
-}
 
 /// Writes n zero bytes from `at` on, as far as out goes.
 pub fn put_zeros(n: usize, out: &mut [u8], at: usize) -> usize
@@ -20,7 +14,7 @@ pub fn put_zeros(n: usize, out: &mut [u8], at: usize) -> usize
     ensures { λ r. ⌜ Laid (replicate n 0) (now (out .entry)) at r (now (out .exit)) ⌝ }
 {
     let next = at + n;
-    let end = least(next, out.len());
+    let end = layout::least(next, out.len());
     let mut i = at;
     while i < end {
         out[i] = 0;

@@ -1,4 +1,5 @@
 //! The calls that write nothing: the check of a store, and the look-up of a value.
+pub use lookup::Found;
 ghost use mathlib.Core.Path.{_≡_};
 ghost use Rattle.rules.specs.Passing.{passes};
 ghost use Rattle.rules.specs.LookUp.{lookUp};
@@ -24,14 +25,6 @@ pub fn look_up<'a>(store: &'a [u8], serial: u32, number: &mut u32) -> &'a [u8]
     lookup::value_of(store, serial, number)
 }
 
-/// The number, and where the value stands in the store; 0 and 0 where nothing is found.
-#[repr(C)]
-pub struct Found {
-    pub number: u32,
-    pub start: usize,
-    pub length: usize,
-}
-
 /// The look-up by places: what C callers get.
 pub fn look_up_place(store: &[u8], serial: u32) -> Found
     ensures { λ r. ⌜ Looks (lookUp (now (store .entry)) serial) (r .number) (r .start) (r .length) ⌝ }
@@ -43,10 +36,5 @@ pub fn look_up_place(store: &[u8], serial: u32) -> Found
             length: 0,
         };
     }
-    let found = lookup::find(store, serial);
-    Found {
-        number: found.number,
-        start: found.start,
-        length: found.length,
-    }
+    lookup::find_value(store, serial)
 }

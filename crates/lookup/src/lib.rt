@@ -13,7 +13,7 @@ pub fn row_start(store: &[u8]) -> usize
 }
 
 /// The bytes from the tree rows on.
-pub fn rows_of(store: &[u8]) -> &[u8]
+pub fn from_rows(store: &[u8]) -> &[u8]
     ensures { λ r. ⌜ now r ≡ fromRows (now (store .entry)) ⌝ }
 {
     let start = row_start(store);
@@ -30,7 +30,7 @@ fn row_place(store: &[u8], i: usize) -> usize
     row_start(store) + before
 }
 
-/// The bytes of tree row i, counted from 0.
+// The bytes of tree row i, counted from 0.
 fn row(store: &[u8], i: usize) -> &[u8]
     requires { ⌜ i < 4294967296 ⌝ }
     ensures { λ r. ⌜ now r ≡ rowPart (now (store .entry)) i ⌝ }
@@ -40,7 +40,8 @@ fn row(store: &[u8], i: usize) -> &[u8]
     layout::window(store, start, layout::row_size(w))
 }
 
-/// A look-up's answer: 0 and the place of the value, or 7.
+/// A look-up's answer: 0, and where the value stands in the store; or a refusal's number, 0 and 0.
+#[repr(C)]
 pub struct Found {
     pub number: u32,
     pub start: usize,
@@ -70,11 +71,11 @@ fn found_at(store: &[u8], i: usize) -> Found
 }
 
 /// Finds the row with a serial in one walk over the tree rows.
-pub fn find(store: &[u8], serial: u32) -> Found
+pub fn find_value(store: &[u8], serial: u32) -> Found
     ensures { λ r. ⌜ Looks (foundOn (now (store .entry)) serial) (r .number) (r .start) (r .length) ⌝ }
 {
     let w = layout::width_in(store);
-    let rows = rows_of(store);
+    let rows = from_rows(store);
     let count = layout::row_count(store);
     let mut i = 0;
     while i < count {
@@ -94,7 +95,7 @@ pub fn find(store: &[u8], serial: u32) -> Found
 pub fn value_of<'a>(store: &'a [u8], serial: u32, number: &mut u32) -> &'a [u8]
     ensures { λ r. ⌜ Hands (foundOn (now (store .entry)) serial) (now (store .entry)) (now r) (now (number .exit)) ⌝ }
 {
-    let found = find(store, serial);
+    let found = find_value(store, serial);
     *number = found.number;
     layout::window(store, found.start, found.length)
 }

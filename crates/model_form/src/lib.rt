@@ -35,7 +35,7 @@ fn own_after(store: &[u8], owner: usize, edit: Edit) -> usize
     ensures { λ r. ⌜ r ≡ lengthAfter (editOf edit) (modelLength (now (store .entry)) owner) ⌝ }
 {
     let definitions = layout::definitions_of(store);
-    length_after(edit, form_index::particles_of(definitions, owner))
+    length_after(edit, form_index::model_length(definitions, owner))
 }
 
 /// How many particles a form has after an edit of a model.
@@ -44,7 +44,7 @@ pub fn all_after(store: &[u8], owner: usize, edit: Edit) -> usize
     ensures { λ r. ⌜ r ≡ particleCount (now (store .entry)) - modelLength (now (store .entry)) owner + lengthAfter (editOf edit) (modelLength (now (store .entry)) owner) ⌝ }
 {
     let definitions = layout::definitions_of(store);
-    let own = form_index::particles_of(definitions, owner);
+    let own = form_index::model_length(definitions, owner);
     layout::particle_count(store) - own + length_after(edit, own)
 }
 
@@ -64,7 +64,7 @@ fn put_own(
     let definitions = layout::definitions_of(store);
     let particles = layout::particles_of(store);
     let first = form_index::particles_before(definitions, owner);
-    let k = form_index::particles_of(definitions, owner);
+    let k = form_index::model_length(definitions, owner);
     model_writer::put_particles(particles, first, k, edit, holder, at, out, from)
 }
 

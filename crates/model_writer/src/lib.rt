@@ -3,7 +3,7 @@ use layout::PARTICLE_SIZE;
 use rules::GroupKind;
 use rules::Quantifier;
 ghost use mathlib.Core.Path.{_≡_};
-ghost use Prim.Native.Nat.{_+_, _-_, _*_, _%_, _<_};
+ghost use Prim.Native.Nat.{_+_, _*_, _%_, _<_};
 ghost use lib.ListN.{length, take, drop};
 ghost use Rattle.rules.specs.Layout.{particleSize, each, particleBytes, groupCode};
 ghost use Rattle.rules.specs.Edit.{insert, quantify, convert};
@@ -165,15 +165,6 @@ fn put_tail(ys: &[u8], edit: Edit, d: usize, out: &mut [u8], at: usize) -> usize
 
 // ---- before the place
 
-fn less(a: usize, b: usize) -> usize
-    ensures { λ r. ⌜ r ≡ a - b ⌝ }
-{
-    if a < b {
-        return 0;
-    }
-    a - b
-}
-
 // How many members the list around the place has after the edit, of n before; ys: the particles from the place on.
 fn count_after(ys: &[u8], edit: Edit, n: usize) -> usize
     requires { ⌜ (length (now ys) % particleSize ≡ 0) × (n < 256) ⌝ }
@@ -181,10 +172,10 @@ fn count_after(ys: &[u8], edit: Edit, n: usize) -> usize
 {
     match edit {
         Edit::Insert(_, _) => n + 1,
-        Edit::Remove => less(n, 1),
+        Edit::Remove => layout::minus(n, 1),
         Edit::Quantify(_) => n,
-        Edit::Convert(_, m) => less(n + 1, m),
-        Edit::Flatten => less(n + layout::particle_index(ys) as usize, 1),
+        Edit::Convert(_, m) => layout::minus(n + 1, m),
+        Edit::Flatten => layout::minus(n + layout::particle_index(ys) as usize, 1),
     }
 }
 

@@ -120,7 +120,7 @@ fn row_may(
     child_may(n, defs, parts, table, i, last, sort, index)
 }
 
-// Whether a row may come next at a level.
+/// Whether a row may come next at a level.
 pub fn may_come(
     version: usize,
     w: usize,
@@ -149,7 +149,7 @@ pub fn may_come(
     row_may(version, w, n, defs, parts, a, attrs, table, l, row)
 }
 
-// Whether nothing more is owed at a level.
+/// Whether nothing more is owed at a level.
 pub fn may_end(
     version: usize,
     w: usize,
@@ -178,7 +178,7 @@ pub fn may_end(
     children_end(n, defs, parts, table, i, l.last as usize)
 }
 
-// The level after a row.
+/// The level after a row.
 pub fn after_row(l: Level, row: &[u8]) -> Level
     ensures { λ r. ⌜ r ≡ levelAfter (eqb (readRow (now (row .entry)) .row .sort) 2) l (readRow (now (row .entry)) .row .index) ⌝ }
 {
@@ -199,7 +199,7 @@ pub fn after_row(l: Level, row: &[u8]) -> Level
     }
 }
 
-// The level that a row opens.
+/// The level that a row opens.
 pub fn below_row(row: &[u8]) -> Level
     ensures { λ r. ⌜ r ≡ entered (eqb (readRow (now (row .entry)) .row .sort) 1) (readRow (now (row .entry)) .row .index) ⌝ }
 {

@@ -4,7 +4,7 @@ use filling::Filling;
 use row_bound::Most;
 use row_walk::Plan;
 use row_writer::Cursor;
-use store_limits::MOST_ROWS;
+use store_limits::ROWS_PAST_CEILING;
 ghost use mathlib.Core.Path.{_≡_};
 ghost use mathlib.Core.Bool.{true};
 ghost use Prim.Native.Nat.{_+_, _<_, _≤_};
@@ -35,7 +35,7 @@ pub fn walk_rows(store: &[u8], plan: Plan, text: &[u8], at: usize, out: &mut [u8
     let rows = layout::row_body(store, s);
     let c = Cursor {
         at,
-        left: MOST_ROWS,
+        left: ROWS_PAST_CEILING,
         serial: layout::next_serial(store),
     };
     walk_writer::walk(
@@ -135,7 +135,7 @@ fn filled_refusal(
     store_limits::limit(
         w,
         form,
-        MOST_ROWS - counted.left - places + new,
+        ROWS_PAST_CEILING - counted.left - places + new,
         next + new,
         room,
     )
@@ -162,5 +162,11 @@ pub fn refusal(store: &[u8], form: usize, plan: Plan, text: &[u8], room: usize) 
     }
     let mut clipped = [0; 1];
     let counted = walk_rows(store, plan, text, 0, &mut clipped);
-    store_limits::limit(w, form, MOST_ROWS - counted.left, counted.serial, room)
+    store_limits::limit(
+        w,
+        form,
+        ROWS_PAST_CEILING - counted.left,
+        counted.serial,
+        room,
+    )
 }

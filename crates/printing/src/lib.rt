@@ -6,7 +6,7 @@ ghost use Rattle.printing.specs.Texts.{Within, Ends, declarationsText, f
 ghost use Rattle.printing_parts.specs.Parts.{definitionPart, namesOf, definitionsFrom, particlesFrom, attributesFrom};
 ghost use Rattle.declaration_printing.specs.Declarations.{LaidWithin};
 
-/// The number past n particles from number `from` on, or past the last particle.
+// The number past n particles from number `from` on, or past the last particle.
 fn model_end(store: &[u8], from: usize, n: usize) -> usize
     requires { ⌜ (from < 1099511627776) × (n < 4294967296) ⌝ }
     ensures { λ r. ⌜ Ends (now (store .entry)) from n r ⌝ }
@@ -16,7 +16,7 @@ fn model_end(store: &[u8], from: usize, n: usize) -> usize
     if end < count { end } else { count }
 }
 
-/// Writes the lines of definition o and of its attributes; its particles begin at number `from`.
+// Writes the lines of definition o and of its attributes; its particles begin at number `from`.
 fn put_declarations(store: &[u8], o: usize, from: usize, out: &mut [u8], at: usize) -> usize
     requires { ⌜ Within (now store) × (o < definitionCount (now store)) × (from < 1099511627776) × (at < 576460752303423488) ⌝ }
     ensures { λ r. ⌜ LaidWithin 840000
@@ -31,7 +31,7 @@ fn put_declarations(store: &[u8], o: usize, from: usize, out: &mut [u8], at: usi
     declaration_printing::put_attributes(store, o, printing_parts::name_of(store, o), out, defined)
 }
 
-/// Writes the declarations of the form.
+// Writes the declarations of the form.
 fn put_form(store: &[u8], out: &mut [u8], start: usize) -> usize
     requires { ⌜ Within (now store) × (start < 288230376151711744) ⌝ }
     ensures { λ r. ⌜ LaidWithin 53760000
@@ -58,7 +58,7 @@ pub fn print_store(store: &[u8], out: &mut [u8]) -> usize
     ensures { λ r. ⌜ Laid (textOf (now (store .entry))) (now (out .entry)) 0 r (now (out .exit)) ⌝ }
 {
     let w = layout::width_in(store);
-    let rows = lookup::rows_of(store);
+    let rows = lookup::from_rows(store);
     let count = layout::row_count(store);
     let formed = put_form(store, out, 0);
     document_printing::put_documents(w, store, rows, count, out, formed)

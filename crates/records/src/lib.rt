@@ -1,6 +1,5 @@
 //! The tests of single records, on their bytes. All are total: a byte past the end counts 0.
 ghost use mathlib.Core.Path.{_≡_};
-ghost use Prim.Native.Nat.{min};
 ghost use lib.ListN.{take, drop};
 ghost use Rattle.rules.specs.Layout.{definitionSize, attributeSize};
 ghost use Rattle.rules.specs.Decode.{sortOf};
@@ -30,12 +29,6 @@ pub fn first(s: &[u8], n: usize) -> &[u8]
         return &s[..n];
     }
     s
-}
-
-fn wide(x: u8) -> usize
-    ensures { λ r. ⌜ r ≡ x ⌝ }
-{
-    x as usize
 }
 
 // ---- names and values
@@ -93,7 +86,7 @@ fn name_fits(rec: &[u8], at: usize) -> bool
         return false;
     }
     let start = at + 1;
-    let used = wide(codec::byte(rec, at));
+    let used = layout::wide(codec::byte(rec, at));
     stored_name(first(after(rec, start), used)) & filled(rec, start, used, layout::NAME_WIDTH)
 }
 
@@ -159,11 +152,6 @@ pub fn row_fits(w: usize, rec: &[u8]) -> bool
 // ---- bodies
 
 // A body that is too short is read as far as it goes.
-fn least(a: usize, b: usize) -> usize
-    ensures { λ r. ⌜ r ≡ min a b ⌝ }
-{
-    if a < b { a } else { b }
-}
 
 /// Whether the first `count` records of a body are definitions'.
 pub fn definitions_fit(body: &[u8], count: usize) -> bool
@@ -175,7 +163,7 @@ pub fn definitions_fit(body: &[u8], count: usize) -> bool
         if !definition_fits(first(rest, layout::DEFINITION_SIZE)) {
             return false;
         }
-        let read = least(layout::DEFINITION_SIZE, rest.len());
+        let read = layout::least(layout::DEFINITION_SIZE, rest.len());
         rest = &rest[read..];
         left -= 1;
     }
@@ -194,7 +182,7 @@ pub fn attributes_fit(w: usize, body: &[u8], count: usize, n: usize) -> bool
         if !attribute_fits(w, first(rest, size), n) {
             return false;
         }
-        let read = least(size, rest.len());
+        let read = layout::least(size, rest.len());
         rest = &rest[read..];
         left -= 1;
     }

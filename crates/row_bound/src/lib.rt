@@ -4,7 +4,7 @@ use row_walk::Head;
 use row_walk::Plan;
 use row_walk::Which;
 use row_writer::Cursor;
-use store_limits::MOST_ROWS;
+use store_limits::ROWS_PAST_CEILING;
 ghost use mathlib.Core.Path.{_≡_};
 ghost use Prim.Native.Nat.{_+_, _*_, _≤_};
 ghost use lib.ListN.{length};
@@ -105,7 +105,7 @@ fn filling_rows<'a>(
     let mut clipped = [0; 1];
     let c = Cursor {
         at: 0,
-        left: MOST_ROWS,
+        left: ROWS_PAST_CEILING,
         serial: 0,
     };
     let r = filling::put_filling(
@@ -122,7 +122,7 @@ fn filling_rows<'a>(
         c,
         &mut clipped,
     );
-    MOST_ROWS - r.left
+    ROWS_PAST_CEILING - r.left
 }
 
 /// The most rows that the walk over `count` rows with a plan adds.

@@ -89,7 +89,7 @@ fn level_ends(
 
 // Whether of the open levels those from `keep` on are owed nothing.
 // Called for each row and nowhere else, so that it is compiled into the pass over the rows.
-fn closes(
+fn levels_end(
     version: usize,
     w: usize,
     n: usize,
@@ -149,7 +149,7 @@ pub fn step(
         return false;
     }
     let k = d + 1;
-    if !closes(version, w, n, defs, parts, a, attrs, table, levels, open, k) {
+    if !levels_end(version, w, n, defs, parts, a, attrs, table, levels, open, k) {
         return false;
     }
     let l = level_at(levels, d);

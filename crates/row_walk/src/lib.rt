@@ -3,7 +3,7 @@
 use filling::Filling;
 ghost use mathlib.Core.Path.{_≡_};
 ghost use mathlib.Core.List.{[]};
-ghost use Prim.Native.Nat.{_+_, _-_, _≤_};
+ghost use Prim.Native.Nat.{_+_, _≤_};
 ghost use Rattle.row_walk.specs.Walk.{matches, isLater, spared, shifted, movedIndex, gone, closes, closed, isBelow, isTaken, isFilled, taken, atFirst};
 ghost use Rattle.row_walk.specs.Lent.{whichIn, planIn};
 ghost use Rattle.row_walk.specs.Step.{bare, keptWith, endsDue, isPlain, Moves, Fair};
@@ -110,19 +110,12 @@ fn spared(p: &[usize; 19], marks: &[u8], h: Head) -> bool
 
 // ---- renumbering
 
-/// a - b, or 0.
-pub fn minus(a: usize, b: usize) -> usize
-    ensures { λ r. ⌜ r ≡ a - b ⌝ }
-{
-    if b < a { a - b } else { 0 }
-}
-
 fn shifted(s: Shift, i: usize) -> usize
     requires { ⌜ (i ≤ 1000) × Moves s ⌝ }
     ensures { λ r. ⌜ (r ≡ shifted s i) × (r ≤ 2000) ⌝ }
 {
     if s.from <= i {
-        return minus(i + s.more, s.less);
+        return layout::minus(i + s.more, s.less);
     }
     i
 }

@@ -41,7 +41,7 @@ fn sought(w: usize, rows: &[u8], below: &[u16; PLACES], from: u16, s: u32) -> us
 }
 
 // Puts row k, whose serial is s, into the tree of its remainder; false where a row with that serial is there.
-fn put(
+fn put_in_tree(
     w: usize,
     rows: &[u8],
     heads: &mut [u16; MAX_ROWS],
@@ -84,7 +84,7 @@ pub fn serials_fit(w: usize, rows: &[u8], count: usize, next: u32) -> bool
         if s >= next {
             return false;
         }
-        if !put(w, rows, &mut heads, &mut below, k, s) {
+        if !put_in_tree(w, rows, &mut heads, &mut below, k, s) {
             return false;
         }
         k += 1;

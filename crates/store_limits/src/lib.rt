@@ -5,7 +5,7 @@ ghost use Rattle.layout.specs.Bodies.{Width, mostForm};
 ghost use Rattle.store_limits.specs.Limits.{limitOf};
 
 /// The ceiling of tree rows, and one more: a walk that has so many to write and leaves none passes the ceiling.
-pub const MOST_ROWS: usize = 4097;
+pub const ROWS_PAST_CEILING: usize = 4097;
 
 /// 16, 17 or 18 if a store of so many rows, with a form of so many bytes and a next serial, is past the ceiling, out of
 /// serials or too long for the room; else 0.
@@ -13,7 +13,7 @@ pub fn limit(w: usize, form: usize, count: usize, next: usize, room: usize) -> u
     requires { ⌜ Width w × (form ≤ mostForm) ⌝ }
     ensures { λ r. ⌜ r ≡ limitOf w form count next room ⌝ }
 {
-    if count >= MOST_ROWS {
+    if count >= ROWS_PAST_CEILING {
         return 16;
     }
     if next > 4294967295 {

@@ -1,7 +1,7 @@
 //! The store that a change leaves, written whole: the ceilings, the
 //! serials and the room first, then header, bodies and rows.
 use row_walk::Plan;
-use store_limits::MOST_ROWS;
+use store_limits::ROWS_PAST_CEILING;
 ghost use mathlib.Core.Path.{_≡_};
 ghost use mathlib.Core.Bool.{true};
 ghost use mathlib.Core.List.{_++_};
@@ -81,7 +81,7 @@ fn put_edited(
     let w = layout::width_in(store);
     let start = layout::header_size() + form.len();
     let written = planned_rows::walk_rows(store, plan, text, start, out);
-    let count = MOST_ROWS - written.left;
+    let count = ROWS_PAST_CEILING - written.left;
     put_form(w, store, form, written.serial, d, p, a, count, out);
     written.at
 }

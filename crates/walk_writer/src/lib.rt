@@ -77,7 +77,7 @@ fn put_row(
 
 // The filling that the walk goes with: nothing, if that of the plan has no rows, so that the members of a group are not
 // gone through again at each place. It is written up to its first row, into a buffer of one byte.
-fn settled(form: &[&[u8]; 3], sizes: &[usize; 4], what: Filling, text: &[u8]) -> Filling
+fn filling_with_rows(form: &[&[u8]; 3], sizes: &[usize; 4], what: Filling, text: &[u8]) -> Filling
     requires { ⌜ Indexed what × Asks (widthIn (now sizes)) (record { at = 0; left = 1; serial = 0 }) (now text) (countIn (now sizes)) (sizeIn (now sizes)) 0 ⌝ }
     ensures { λ r. ⌜ Settled (now (sizes .entry)) (now (form .entry)) (now (text .entry)) what r ⌝ }
 {
@@ -218,7 +218,7 @@ fn step(
         };
     }
     let due = row_walk::closes(o, h) & o.due;
-    let depth = row_walk::minus(o.below, 1);
+    let depth = layout::minus(o.below, 1);
     let at = put_owed(form, sizes, p, text, due, depth, c, out);
     let q = row_walk::closed(o, h);
     come(form, sizes, p, marks, text, h, row, q, at, out)
@@ -278,7 +278,7 @@ fn pass(
     ensures { λ r. ⌜ Advances (widthIn (now (sizes .entry))) (planIn (now (p .entry)) (now (marks .entry))) (now (text .entry))
         (fillIn (now (sizes .entry)) (now (form .entry)) (planIn (now (p .entry)) (now (marks .entry))) (now (text .entry))) (now (rows .entry)) count o c (now (out .entry)) r (now (out .exit)) ⌝ }
 {
-    let most = count - row_walk::minus(count, c.left);
+    let most = count - layout::minus(count, c.left);
     let run = plain_rows(sizes[0], p, marks, rows, most, o);
     let q = run.opened;
     let at = row_writer::put_block(sizes[0], rows, run.count, c, out);
@@ -337,7 +337,7 @@ fn walk_lent(
         t = &t[long..];
         m -= s.rows;
     }
-    let depth = row_walk::minus(o.below, 1);
+    let depth = layout::minus(o.below, 1);
     put_owed(form, sizes, p, text, o.due, depth, at, out)
 }
 
@@ -365,7 +365,7 @@ pub fn walk<'a>(
 {
     let form = [defs, parts, attrs];
     let sizes = [w, a, version, n];
-    let what = settled(&form, &sizes, plan.filling, text);
+    let what = filling_with_rows(&form, &sizes, plan.filling, text);
     let p = plan_numbers::plan_numbers(plan, what);
     walk_lent(&form, &sizes, &p, &plan.marks, rows, count, text, c, out)
 }

@@ -1,5 +1,5 @@
 -- `circle_check::raised` meets its contract: a height other than 0 stays (`raised-was` of RoundLaws); else the answer
--- of `settled` decides between h (`raised-new`) and 0 (`raised-none`).
+-- of `members_have_heights` decides between h (`raised-new`) and 0 (`raised-none`).
 use Rattle.rules.specs.Bytes.{all}
 use Rattle.circle_check.specs.Members.{elementsOf}
 use Rattle.circle_check.specs.Deep.{hasHeight}
@@ -14,18 +14,18 @@ returns c =
     let a = start .args in
     raised-was (a .h) (a .was) (all (hasHeight (a .old .now)) (elementsOf (a .model .now))) (c .if1 .taken)
 
-settled-requires : tie.Need-settled-requires
-settled-requires c κs = search needs
+members-have-heights-requires : tie.Need-members-have-heights-requires
+members-have-heights-requires c κs = search needs
 
 returns-2 : tie.Need-returns-2
 returns-2 c =
     let at-if1 = c .before .before in
-    raised-new _ _ _ _ (at-if1 .if1 .left) (c .before .settled .ensures) (c .if2 .taken)
+    raised-new _ _ _ _ (at-if1 .if1 .left) (c .before .members-have-heights .ensures) (c .if2 .taken)
 
 returns-3 : tie.Need-returns-3
 returns-3 c =
     let at-if1 = c .before .before in
-    raised-none _ _ _ _ (at-if1 .if1 .left) (c .before .settled .ensures) (c .if2 .left)
+    raised-none _ _ _ _ (at-if1 .if1 .left) (c .before .members-have-heights .ensures) (c .if2 .left)
 
 pub raised-spec : {M : Type 1} → statement M
-raised-spec = tie.close (tie.spec returns settled-requires returns-2 returns-3)
+raised-spec = tie.close (tie.spec returns members-have-heights-requires returns-2 returns-3)

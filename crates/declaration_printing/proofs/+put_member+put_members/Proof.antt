@@ -39,7 +39,7 @@ use Rattle.codec.proofs.put_u8.Reads as put-u8-reads
 use Rattle.printing_parts.proofs.name_of.Reads as name-of-reads
 use Rattle.printing_parts.proofs.particle.Reads as particle-reads
 use Rattle.declaration_printing.proofs.put_mark.Reads as put-mark-reads
-use Rattle.declaration_printing.proofs.put_sign.Reads as put-sign-reads
+use Rattle.declaration_printing.proofs.put_separator.Reads as put-separator-reads
 use Rattle.declaration_printing.proofs.+put_member+put_members.{statement}
 use Rattle.declaration_printing.proofs.+put_member+put_members.Tie.{close}
 
@@ -73,8 +73,8 @@ put-member-calls t = (
   particle-sort-reads.Learnt,
   particle-quantifier-reads.Asked,
   particle-quantifier-reads.Learnt,
-  put-sign-reads.Asked,
-  put-sign-reads.Learnt,
+  put-separator-reads.Asked,
+  put-separator-reads.Learnt,
   particle-index-reads.Asked,
   particle-index-reads.Learnt,
   name-of-reads.Asked,
@@ -101,8 +101,8 @@ put-member-particle-sort-requires t c κs = search needs
 put-member-particle-quantifier-requires : (t : ℕ) → put-member-lts.Need-particle-quantifier-requires (put-member-calls t) (put-member-at t) put-member.Post
 put-member-particle-quantifier-requires t c κs = search needs
 
-put-member-put-sign-requires : (t : ℕ) → put-member-lts.Need-put-sign-requires (put-member-calls t) (put-member-at t) put-member.Post
-put-member-put-sign-requires t c κs = search needs
+put-member-put-separator-requires : (t : ℕ) → put-member-lts.Need-put-separator-requires (put-member-calls t) (put-member-at t) put-member.Post
+put-member-put-separator-requires t c κs = search needs
 
 put-member-particle-index-requires : (t : ℕ) → put-member-lts.Need-particle-index-requires (put-member-calls t) (put-member-at t) put-member.Post
 put-member-particle-index-requires t c κs = search needs
@@ -136,14 +136,14 @@ put-member-returns t c =
     let at-name-of = at-put .before .before in
     let at-particle-index = at-name-of .before in
     let at-if1 = at-particle-index .before in
-    let at-put-sign = at-if1 .before .before .before in
-    let at-particle-quantifier = at-put-sign .before .before in
+    let at-put-separator = at-if1 .before .before .before in
+    let at-particle-quantifier = at-put-separator .before .before in
     let at-particle-sort = at-particle-quantifier .before in
     let at-particle = at-particle-sort .before in
     let start = at-particle .before .before .before in
     let a = start .args in
     element-stepped (a .store .now) (a .end) (a .i) (a .depth) (a .kind) (a .first) _ (at-particle .particle .ensures) (omega arith)
-    (at-particle-sort .particle-sort .ensures) (at-particle-quantifier .particle-quantifier .ensures) (at-put-sign .put-sign .ensures) _
+    (at-particle-sort .particle-sort .ensures) (at-particle-quantifier .particle-quantifier .ensures) (at-put-separator .put-separator .ensures) _
     (at-if1 .if1 .taken) (at-particle-index .particle-index .ensures) (at-name-of .name-of .ensures) (at-put .put .ensures) (at-put-mark .put-mark .ensures)
 
 put-member-put-u8-requires : (t : ℕ) → put-member-lts.Need-put-u8-requires (put-member-calls t) (put-member-at t) put-member.Post
@@ -180,15 +180,15 @@ put-member-put-mark-requires-2 t c κs =
     let at-put-u82 = c .before .before .before in
     let at-put-members = at-put-u82 .before .before .before .before in
     let at-put-u8 = at-put-members .before .before .before .before in
-    let at-put-sign = at-put-u8 .before .before .before .before .before in
-    let start = at-put-sign .before .before .before .before .before .before .before in
+    let at-put-separator = at-put-u8 .before .before .before .before .before in
+    let start = at-put-separator .before .before .before .before .before .before .before in
     omega (
       arith,
       sign-short (groupOf (start .args .kind)) (start .args .first),
       at-put-members .put-members .ensures .small,
       at-put-u82 .put-u82 .ensures .next,
       at-put-u8 .put-u8 .ensures .next,
-      at-put-sign .put-sign .ensures .next,
+      at-put-separator .put-separator .ensures .next,
       start .pre .1 .0 .room,
       start .pre .1 .1,
     )
@@ -203,14 +203,14 @@ put-member-returns-2 t c =
     let at-put-members = at-put-u82 .before .before .before .before in
     let at-put-u8 = at-put-members .before .before .before .before in
     let at-if1 = at-put-u8 .before .before in
-    let at-put-sign = at-if1 .before .before .before in
-    let at-particle-quantifier = at-put-sign .before .before in
+    let at-put-separator = at-if1 .before .before .before in
+    let at-particle-quantifier = at-put-separator .before .before in
     let at-particle-sort = at-particle-quantifier .before in
     let at-particle = at-particle-sort .before in
     let start = at-particle .before .before .before in
     let a = start .args in
     group-stepped (a .store .now) (a .end) (a .i) (a .depth) (a .kind) (a .first) _ (at-particle .particle .ensures) (start .pre .1 .1)
-    (at-particle-sort .particle-sort .ensures) (at-particle-quantifier .particle-quantifier .ensures) (at-put-sign .put-sign .ensures) (at-if1 .if1 .left)
+    (at-particle-sort .particle-sort .ensures) (at-particle-quantifier .particle-quantifier .ensures) (at-put-separator .put-separator .ensures) (at-if1 .if1 .left)
     (at-put-u8 .put-u8 .ensures) (at-put-members .put-members .ensures) (at-put-u82 .put-u82 .ensures) (at-put-mark2 .put-mark2 .ensures)
 
 -- The loop's invariant: the text of the members from particle i on, written from `at` on, completes that of those from
@@ -314,7 +314,7 @@ pub +put-member+put-members-spec : {M : Type 1} → statement M
     (put-member-particle-requires t)
     (put-member-particle-sort-requires t)
     (put-member-particle-quantifier-requires t)
-    (put-member-put-sign-requires t)
+    (put-member-put-separator-requires t)
     (put-member-particle-index-requires t)
     (put-member-cast-index t)
     (put-member-name-of-requires t)

@@ -42,8 +42,8 @@ returns-2 c =
     let a = start .args in
     content-pcdata-laid (namesOf (a .store .now)) (a .kind) (build (particlesFrom (a .store .now) (a .end) (a .from)) 0) (at-if2 .if2 .taken) (at-put2 .put2 .ensures)
 
-has-member-requires : tie.Need-has-member-requires
-has-member-requires c κs = search needs
+has-members-requires : tie.Need-has-members-requires
+has-members-requires c κs = search needs
 
 slice-aggregate-put-3 : tie.Need-slice-aggregate-put-3
 slice-aggregate-put-3 c = search needs
@@ -58,13 +58,13 @@ returns-3 : tie.Need-returns-3
 returns-3 c =
     let at-put3 = c .before .before in
     let at-if3 = at-put3 .before .before .before in
-    let at-has-member = at-if3 .before in
-    let at-if2 = at-has-member .before in
+    let at-has-members = at-if3 .before in
+    let at-if2 = at-has-members .before in
     let at-if1 = at-if2 .before in
     let start = at-if1 .before .before .before in
     let a = start .args in
     content-none-laid (namesOf (a .store .now)) (a .kind) (build (particlesFrom (a .store .now) (a .end) (a .from)) 0) _ (at-if1 .if1 .left) (at-if2 .if2 .left)
-    (at-has-member .has-member .ensures) (not-true _ (at-if3 .if3 .taken)) (at-put3 .put3 .ensures)
+    (at-has-members .has-members .ensures) (not-true _ (at-if3 .if3 .taken)) (at-put3 .put3 .ensures)
 
 put-u8-requires : tie.Need-put-u8-requires
 put-u8-requires c κs = search needs
@@ -84,13 +84,13 @@ returns-4 c =
     let at-put-members = at-put-u82 .before .before .before .before in
     let at-put-u8 = at-put-members .before .before .before .before in
     let at-if3 = at-put-u8 .before .before in
-    let at-has-member = at-if3 .before in
-    let at-if2 = at-has-member .before in
+    let at-has-members = at-if3 .before in
+    let at-if2 = at-has-members .before in
     let at-if1 = at-if2 .before in
     let start = at-if1 .before .before .before in
     let a = start .args in
     content-some-laid (a .store .now) (a .kind) (a .end) (a .from) _ (start .pre .0) (at-if1 .if1 .left) (at-if2 .if2 .left)
-    (at-has-member .has-member .ensures) (not-false _ (at-if3 .if3 .left)) (at-put-u8 .put-u8 .ensures) (at-put-members .put-members .ensures)
+    (at-has-members .has-members .ensures) (not-false _ (at-if3 .if3 .left)) (at-put-u8 .put-u8 .ensures) (at-put-members .put-members .ensures)
     (at-put-u82 .put-u82 .ensures)
 
 pub put-content-spec : {M : Type 1} → statement M
@@ -105,7 +105,7 @@ put-content-spec =
     put-requires-2
     same-length-2
     returns-2
-    has-member-requires
+    has-members-requires
     slice-aggregate-put-3
     put-requires-3
     same-length-3

@@ -22,8 +22,8 @@ returns-2 c =
     let start = at-stored-name .before .before .before in
     bad-code (start .args .store .now) (start .args .name .now) (start .args .kind) (start .pre) (at-stored-name .stored-name .ensures) (not-false _ (c .before .if1 .left)) (omega arith)
 
-is-taken-requires : tie.Need-is-taken-requires
-is-taken-requires c κs = search needs
+name-exists-requires : tie.Need-name-exists-requires
+name-exists-requires c κs = search needs
 
 returns-3 : tie.Need-returns-3
 returns-3 c =
@@ -31,7 +31,7 @@ returns-3 c =
     let at-stored-name = at-if1 .before in
     let start = at-stored-name .before .before .before in
     name-taken (start .args .store .now) (start .args .name .now) (start .args .kind) (start .pre) (at-stored-name .stored-name .ensures)
-    (not-false _ (at-if1 .if1 .left)) (omega arith) (c .before .is-taken .ensures) (c .if3 .taken)
+    (not-false _ (at-if1 .if1 .left)) (omega arith) (c .before .name-exists .ensures) (c .if3 .taken)
 
 returns-4 : tie.Need-returns-4
 returns-4 c =
@@ -39,9 +39,9 @@ returns-4 c =
     let at-stored-name = at-if1 .before in
     let start = at-stored-name .before .before .before in
     name-free (start .args .store .now) (start .args .name .now) (start .args .kind) (start .pre) (at-stored-name .stored-name .ensures)
-    (not-false _ (at-if1 .if1 .left)) (omega arith) (c .before .is-taken .ensures) (c .if3 .left)
+    (not-false _ (at-if1 .if1 .left)) (omega arith) (c .before .name-exists .ensures) (c .if3 .left)
 
 pub create-condition-spec : {M : Type 1} → statement M
 create-condition-spec =
     tie.close
-    (tie.spec stored-name-requires returns returns-2 is-taken-requires returns-3 returns-4)
+    (tie.spec stored-name-requires returns returns-2 name-exists-requires returns-3 returns-4)

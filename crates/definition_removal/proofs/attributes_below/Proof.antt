@@ -22,13 +22,13 @@ loop-holds c = counting-start (c .before .args .w) (c .before .args .i) (c .befo
 attribute-at-requires : tie.Need-attribute-at-requires Inv-loop μ-loop
 attribute-at-requires c κs = search needs
 
-is-below-requires : tie.Need-is-below-requires Inv-loop μ-loop
-is-below-requires c κs = search needs
+one-below-requires : tie.Need-one-below-requires Inv-loop μ-loop
+one-below-requires c κs = search needs
 
 add-sum : tie.Need-add-sum Inv-loop μ-loop
 add-sum c =
     let at-loop = c .before .before .before in
-    omega (arith, at-loop .loop .inv .small, c .is-below .ensures .most)
+    omega (arith, at-loop .loop .inv .small, c .one-below .ensures .most)
 
 add-j : tie.Need-add-j Inv-loop μ-loop
 add-j c = search needs
@@ -42,7 +42,7 @@ loop-again c =
     let at-loop = at-attribute-at .before .before in
     let start = at-loop .before .before in
     counting-on (start .args .w) (start .args .i) (start .args .body .now) (start .args .count) (at-loop .loop .inv) (omega arith) _ _ (at-attribute-at .attribute-at .ensures)
-    (c .is-below .ensures)
+    (c .one-below .ensures)
 
 returns : tie.Need-returns Inv-loop μ-loop
 returns c =
@@ -58,7 +58,7 @@ attributes-below-spec =
     μ-loop
     loop-holds
     attribute-at-requires
-    is-below-requires
+    one-below-requires
     add-sum
     add-j
     loop-less

@@ -1,5 +1,5 @@
 -- `definition_removal::particles_left` meets its contract: the range of definition i lies within the count, as
--- `without` requires, and the count less that range is the number of particles that `destroyed` leaves, at most 256
+-- `count_left` requires, and the count less that range is the number of particles that `destroyed` leaves, at most 256
 -- (`models-left` of Left).
 use Rattle.definition_removal.proofs.Left.{models-left}
 use native.Mathlib.Omega.{arith}
@@ -13,8 +13,8 @@ model-range-requires c κs = search needs
 particle-count-requires : tie.Need-particle-count-requires
 particle-count-requires c κs = search needs
 
-without-requires : tie.Need-without-requires
-without-requires c κs = let own = c .before .model-range .ensures in (own .order, omega (arith, own .past .most, c .particle-count .ensures .value))
+count-left-requires : tie.Need-count-left-requires
+count-left-requires c κs = let own = c .before .model-range .ensures in (own .order, omega (arith, own .past .most, c .particle-count .ensures .value))
 
 returns : tie.Need-returns
 returns c =
@@ -22,7 +22,7 @@ returns c =
     let at-model-range = at-particle-count .before in
     let start = at-model-range .before .before in
     let a = start .args in
-    models-left (a .store .now) (start .pre .good) (a .i) (start .pre .there) (at-particle-count .particle-count .ensures) (at-model-range .model-range .ensures) (c .without .ensures)
+    models-left (a .store .now) (start .pre .good) (a .i) (start .pre .there) (at-particle-count .particle-count .ensures) (at-model-range .model-range .ensures) (c .count-left .ensures)
 
 pub particles-left-spec : {M : Type 1} → statement M
-particles-left-spec = tie.close (tie.spec model-range-requires particle-count-requires without-requires returns)
+particles-left-spec = tie.close (tie.spec model-range-requires particle-count-requires count-left-requires returns)

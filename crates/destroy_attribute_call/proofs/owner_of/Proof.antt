@@ -1,5 +1,6 @@
 -- `destroy_attribute_call::owner_of` meets its contract: the attribute is one of the store's, as is required, so that
 -- the record that is read is its own and the owner in it is `ownerAt` (`owner-is` of CountLaws in `attribute_form`).
+use mathlib.Core.Path.{refl}
 use native.Mathlib.Omega.{arith}
 use Rattle.attribute_form.proofs.CountLaws.{owner-is}
 use borrow.Author.Needs.{needs}
@@ -12,22 +13,18 @@ width-in-requires c κs = search needs
 attributes-of-requires : tie.Need-attributes-of-requires
 attributes-of-requires c κs = search needs
 
-attribute-at-requires : tie.Need-attribute-at-requires
-attribute-at-requires c κs =
+attribute-owner-at-requires : tie.Need-attribute-owner-at-requires
+attribute-owner-at-requires c κs =
     let start = c .before .before .before in
     (c .before .width-in .ensures .small, omega (arith, start .pre .small))
 
-attribute-owner-requires : tie.Need-attribute-owner-requires
-attribute-owner-requires c κs = search needs
-
 returns : tie.Need-returns
 returns c =
-    let at-attribute-at = c .before in
-    let at-attributes-of = at-attribute-at .before in
+    let at-attributes-of = c .before in
     let at-width-in = at-attributes-of .before in
     let start = at-width-in .before .before in
     owner-is (start .args .store .now) (at-width-in .width-in .ensures) (at-attributes-of .attributes-of .ensures) (start .args .attribute) (start .pre .inside)
-    (at-attribute-at .attribute-at .ensures) (c .attribute-owner .ensures)
+    refl (c .attribute-owner-at .ensures)
 
 pub owner-of-spec : {M : Type 1} → statement M
 owner-of-spec =
@@ -35,6 +32,5 @@ owner-of-spec =
     (tie.spec
     width-in-requires
     attributes-of-requires
-    attribute-at-requires
-    attribute-owner-requires
+    attribute-owner-at-requires
     returns)

@@ -47,7 +47,7 @@ use Rattle.document_printing.proofs.put_attribute.Reads as put-attribut
 use Rattle.document_printing.proofs.put_end.Reads as put-end-reads
 use Rattle.escaping.proofs.put_escaped.Reads as put-escaped-reads
 use Rattle.document_printing.proofs.stays_open.Reads as stays-open-reads
-use Rattle.document_printing.proofs.value_of.Reads as value-of-reads
+use Rattle.document_printing.proofs.short_value.Reads as short-value-reads
 use Rattle.document_printing.proofs.+put_element+put_row+put_rows.{statement}
 use Rattle.document_printing.proofs.+put_element+put_row+put_rows.Tie.{close}
 use Rattle.lookup.specs.Bodies.{rowsFrom}
@@ -95,8 +95,8 @@ put-row-calls t = (
   row-index-reads.Learnt,
   attribute-name-of-reads.Asked,
   attribute-name-of-reads.Learnt,
-  value-of-reads.Asked,
-  value-of-reads.Learnt,
+  short-value-reads.Asked,
+  short-value-reads.Learnt,
   put-attribute-reads.Asked,
   put-attribute-reads.Learnt,
   put-end-reads.Asked,
@@ -261,8 +261,8 @@ put-row-cast-index t c = search needs
 put-row-attribute-name-of-requires : (t : ℕ) → put-row-lts.Need-attribute-name-of-requires (put-row-calls t) (put-row-at t) put-row.Post
 put-row-attribute-name-of-requires t c κs = search needs
 
-put-row-value-of-requires : (t : ℕ) → put-row-lts.Need-value-of-requires (put-row-calls t) (put-row-at t) put-row.Post
-put-row-value-of-requires t c κs =
+put-row-short-value-requires : (t : ℕ) → put-row-lts.Need-short-value-requires (put-row-calls t) (put-row-at t) put-row.Post
+put-row-short-value-requires t c κs =
     let at-row = c .before .before .before .before in
     let start = at-row .before .before .before .before in
     row-short _ _ _ _ (start .pre .1 .3) (at-row .row-at .ensures)
@@ -271,7 +271,7 @@ put-row-put-attribute-requires : (t : ℕ) → put-row-lts.Need-put-attribute-re
 put-row-put-attribute-requires t c κs =
     let at-attribute-name-of = c .before .before in
     let start = at-attribute-name-of .before .before .before .before .before .before .before .before in
-    (omega (arith, start .pre .1 .0 .room, start .pre .1 .0 .few, start .pre .1 .1, start .pre .1 .2), at-attribute-name-of .attribute-name-of .ensures .short, c .before .value-of .ensures .short)
+    (omega (arith, start .pre .1 .0 .room, start .pre .1 .0 .few, start .pre .1 .1, start .pre .1 .2), at-attribute-name-of .attribute-name-of .ensures .short, c .before .short-value .ensures .short)
 
 put-row-add-next : (t : ℕ) → put-row-lts.Need-add-next (put-row-calls t) (put-row-at t) put-row.Post
 put-row-add-next t c = search needs
@@ -282,8 +282,8 @@ put-row-same-length t c = search needs
 put-row-returns : (t : ℕ) → put-row-lts.Need-returns (put-row-calls t) (put-row-at t) put-row.Post
 put-row-returns t c =
     let at-put-attribute = c .before .before in
-    let at-value-of = at-put-attribute .before .before in
-    let at-attribute-name-of = at-value-of .before in
+    let at-short-value = at-put-attribute .before .before in
+    let at-attribute-name-of = at-short-value .before in
     let at-if1 = at-attribute-name-of .before in
     let at-row-index = at-if1 .before in
     let at-row-sort = at-row-index .before in
@@ -292,7 +292,7 @@ put-row-returns t c =
     let a = start .args in
     attribute-stepped (a .store .now) (a .rows .now) (a .w) (a .count) (a .i) (a .depth) (a .opened) _ (at-row-at .row-at .ensures) (start .pre .1 .1)
     (at-row-sort .row-sort .ensures) (at-row-index .row-index .ensures) (at-if1 .if1 .taken) (at-attribute-name-of .attribute-name-of .ensures)
-    (at-value-of .value-of .ensures) (at-put-attribute .put-attribute .ensures)
+    (at-short-value .short-value .ensures) (at-put-attribute .put-attribute .ensures)
 
 put-row-put-end-requires : (t : ℕ) → put-row-lts.Need-put-end-requires (put-row-calls t) (put-row-at t) put-row.Post
 put-row-put-end-requires t c κs = search needs
@@ -344,8 +344,8 @@ put-row-returns-2 t c =
     (at-row-sort .row-sort .ensures) (at-row-index .row-index .ensures) (at-if2 .if2 .taken) (at-put-end .put-end .ensures) (at-name-of .name-of .ensures)
     (at-put-element .put-element .ensures)
 
-put-row-value-of-requires-2 : (t : ℕ) → put-row-lts.Need-value-of-requires-2 (put-row-calls t) (put-row-at t) put-row.Post
-put-row-value-of-requires-2 t c κs =
+put-row-short-value-requires-2 : (t : ℕ) → put-row-lts.Need-short-value-requires-2 (put-row-calls t) (put-row-at t) put-row.Post
+put-row-short-value-requires-2 t c κs =
     let at-row = c .before .before .before .before .before .before .before .before in
     let start = at-row .before .before .before .before in
     row-short _ _ _ _ (start .pre .1 .3) (at-row .row-at .ensures)
@@ -362,7 +362,7 @@ put-row-put-escaped-requires t c κs =
       start .pre .1 .2,
       at-put-end .put-end .ensures .next,
       end-short (start .args .opened),
-      c .before .value-of2 .ensures .short,
+      c .before .short-value2 .ensures .short,
     )
 
 put-row-add-t31 : (t : ℕ) → put-row-lts.Need-add-t31 (put-row-calls t) (put-row-at t) put-row.Post
@@ -374,8 +374,8 @@ put-row-same-length-3 t c = search needs
 put-row-returns-3 : (t : ℕ) → put-row-lts.Need-returns-3 (put-row-calls t) (put-row-at t) put-row.Post
 put-row-returns-3 t c =
     let at-put-escaped = c .before .before in
-    let at-value-of2 = at-put-escaped .before .before in
-    let at-if2 = at-value-of2 .before in
+    let at-short-value2 = at-put-escaped .before .before in
+    let at-if2 = at-short-value2 .before in
     let at-put-end = at-if2 .before .before .before in
     let at-if1 = at-put-end .before .before in
     let at-row-index = at-if1 .before in
@@ -385,7 +385,7 @@ put-row-returns-3 t c =
     let a = start .args in
     text-stepped (a .store .now) (a .rows .now) (a .w) (a .count) (a .i) (a .depth) (a .opened) _ (at-row-at .row-at .ensures) (start .pre .1 .1)
     (at-row-sort .row-sort .ensures) (at-row-index .row-index .ensures) (at-if2 .if2 .left) (at-if1 .if1 .left) (at-put-end .put-end .ensures)
-    (at-value-of2 .value-of2 .ensures) (at-put-escaped .put-escaped .ensures)
+    (at-short-value2 .short-value2 .ensures) (at-put-escaped .put-escaped .ensures)
 
 -- The loop's invariant: the text of the rows of this depth from i on, written from `at` on, completes that of those
 -- from `from` on; `opened` says whether the start tag is still open.
@@ -549,7 +549,7 @@ pub +put-element+put-row+put-rows-spec : {M : Type 1} → statement M
     (put-row-row-index-requires t)
     (put-row-cast-index t)
     (put-row-attribute-name-of-requires t)
-    (put-row-value-of-requires t)
+    (put-row-short-value-requires t)
     (put-row-put-attribute-requires t)
     (put-row-add-next t)
     (put-row-same-length t)
@@ -559,7 +559,7 @@ pub +put-element+put-row+put-rows-spec : {M : Type 1} → statement M
     (put-row-put-element-requires t)
     (put-row-same-length-2 t)
     (put-row-returns-2 t)
-    (put-row-value-of-requires-2 t)
+    (put-row-short-value-requires-2 t)
     (put-row-put-escaped-requires t)
     (put-row-add-t31 t)
     (put-row-same-length-3 t)

@@ -41,8 +41,8 @@ owner-of-requires c κs =
     let w : Whole (start .args .store .now) = whole _ (start .pre) in
     omega (arith, w .fewAttributes, at-attribute-count .attribute-count .ensures .value)
 
-definition-at-requires : tie.Need-definition-at-requires
-definition-at-requires c κs = search needs
+row-definition-requires : tie.Need-row-definition-requires
+row-definition-requires c κs = search needs
 
 returns-3 : tie.Need-returns-3
 returns-3 c =
@@ -54,7 +54,7 @@ returns-3 c =
     let w : Whole (start .args .store .now) = whole _ (start .pre) in
     refused-other _ w (start .args .attribute) (omega (arith, at-attribute-count .attribute-count .ensures .value))
     (seen _ w (at-find-element .find-element .ensures) (at-row-count .row-count .ensures) (omega arith))
-    (λ e. c .if3 .taken (at-owner-of .owner-of .ensures ∙ e ∙ sym (c .before .definition-at .ensures)))
+    (λ e. c .if3 .taken (at-owner-of .owner-of .ensures ∙ e ∙ sym (c .before .row-definition .ensures)))
 
 returns-4 : tie.Need-returns-4
 returns-4 c =
@@ -66,7 +66,7 @@ returns-4 c =
     let w : Whole (start .args .store .now) = whole _ (start .pre) in
     refused-not _ w (start .args .attribute) (omega (arith, at-attribute-count .attribute-count .ensures .value))
     (seen _ w (at-find-element .find-element .ensures) (at-row-count .row-count .ensures) (omega arith))
-    (sym (at-owner-of .owner-of .ensures) ∙ c .if3 .left ∙ c .before .definition-at .ensures)
+    (sym (at-owner-of .owner-of .ensures) ∙ c .if3 .left ∙ c .before .row-definition .ensures)
 
 pub attribute-refusal-spec : {M : Type 1} → statement M
 attribute-refusal-spec =
@@ -78,6 +78,6 @@ attribute-refusal-spec =
     row-count-requires
     returns-2
     owner-of-requires
-    definition-at-requires
+    row-definition-requires
     returns-3
     returns-4)

@@ -14,8 +14,8 @@ use Rattle.document_refusals.proofs.attribute_serial.Tie as tie
 find-element-requires : tie.Need-find-element-requires
 find-element-requires c κs = search needs
 
-attribute-at-requires : tie.Need-attribute-at-requires
-attribute-at-requires c κs =
+attribute-row-serial-requires : tie.Need-attribute-row-serial-requires
+attribute-row-serial-requires c κs =
     let start = c .before .before in
     let a = start .args in
     let w : Whole (a .store .now) = whole _ (start .pre .0) in
@@ -28,7 +28,7 @@ returns c =
     let w : Whole (a .store .now) = whole _ (start .pre .0) in
     let y = known-of _ w (a .attribute) (start .pre .1) refl in
     let f = element-there _ w _ _ (c .before .find-element .ensures .begins) (there _ w (c .before .find-element .ensures) (both _ w (a .attribute) (start .pre .1) refl .1)) in
-    serial-is _ w (a .attribute) (y .owned) (y .at) f (same-row _ w (a .attribute) y f) (c .attribute-at .ensures)
+    serial-is _ w (a .attribute) (y .owned) (y .at) f (same-row _ w (a .attribute) y f) (c .attribute-row-serial .ensures)
 
 pub attribute-serial-spec : {M : Type 1} → statement M
-attribute-serial-spec = tie.close (tie.spec find-element-requires attribute-at-requires returns)
+attribute-serial-spec = tie.close (tie.spec find-element-requires attribute-row-serial-requires returns)

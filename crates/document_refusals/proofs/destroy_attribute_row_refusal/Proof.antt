@@ -24,8 +24,8 @@ returns c =
 find-element-requires : tie.Need-find-element-requires
 find-element-requires c κs = search needs
 
-attribute-at-requires : tie.Need-attribute-at-requires
-attribute-at-requires c κs =
+attribute-row-serial-requires : tie.Need-attribute-row-serial-requires
+attribute-row-serial-requires c κs =
     let at-attribute-refusal = c .before .before in
     let start = at-attribute-refusal .before .before in
     let a = start .args in
@@ -43,7 +43,7 @@ returns-2 c =
     let z = both _ w (a .attribute) (at-attribute-refusal .attribute-refusal .ensures) (at-if1 .if1 .left) .1 in
     drop-7 (a .store .now) w (a .attribute) (a .element) (at-attribute-refusal .attribute-refusal .ensures) (at-if1 .if1 .left)
     (element-there _ w _ _ (at-find-element .find-element .ensures .begins) (there _ w (at-find-element .find-element .ensures) z))
-    (c .before .attribute-at .ensures) (c .if2 .taken) .is
+    (c .before .attribute-row-serial .ensures) (c .if2 .taken) .is
 
 version-in-requires : tie.Need-version-in-requires
 version-in-requires c κs = search needs
@@ -54,8 +54,8 @@ width-in-requires c κs = search needs
 attributes-of-requires : tie.Need-attributes-of-requires
 attributes-of-requires c κs = search needs
 
-definition-at-requires : tie.Need-definition-at-requires
-definition-at-requires c κs = search needs
+row-definition-requires : tie.Need-row-definition-requires
+row-definition-requires c κs = search needs
 
 needs-requires : tie.Need-needs-requires
 needs-requires c κs =
@@ -79,13 +79,13 @@ number-if-requires c κs = search needs
 returns-3 : tie.Need-returns-3
 returns-3 c =
     let at-needs = c .before in
-    let at-definition-at = at-needs .before in
-    let at-attributes-of = at-definition-at .before in
+    let at-row-definition = at-needs .before in
+    let at-attributes-of = at-row-definition .before in
     let at-width-in = at-attributes-of .before in
     let at-version-in = at-width-in .before in
     let at-if2 = at-version-in .before in
-    let at-attribute-at = at-if2 .before in
-    let at-find-element = at-attribute-at .before in
+    let at-attribute-row-serial = at-if2 .before in
+    let at-find-element = at-attribute-row-serial .before in
     let at-if1 = at-find-element .before in
     let at-attribute-refusal = at-if1 .before in
     let start = at-attribute-refusal .before .before in
@@ -94,10 +94,10 @@ returns-3 c =
     let z = both _ w (a .attribute) (at-attribute-refusal .attribute-refusal .ensures) (at-if1 .if1 .left) .1 in
     drop-last (a .store .now) w (a .attribute) (a .element) (at-attribute-refusal .attribute-refusal .ensures) (at-if1 .if1 .left)
     (element-there _ w _ _ (at-find-element .find-element .ensures .begins) (there _ w (at-find-element .find-element .ensures) z))
-    (at-attribute-at .attribute-at .ensures) (at-if2 .if2 .left) (at-definition-at .definition-at .ensures)
+    (at-attribute-row-serial .attribute-row-serial .ensures) (at-if2 .if2 .left) (at-row-definition .row-definition .ensures)
     (at-needs .needs .ensures
     ∙ needs-in (a .store .now) (at-width-in .width-in .ensures .value) (at-attributes-of .attributes-of .ensures) (a .attribute)
-    (at-version-in .version-in .ensures .value) (at-definition-at .definition-at .result))
+    (at-version-in .version-in .ensures .value) (at-row-definition .row-definition .result))
     (c .number-if .ensures) .is
 
 pub destroy-attribute-row-refusal-spec : {M : Type 1} → statement M
@@ -107,12 +107,12 @@ destroy-attribute-row-refusal-spec =
     attribute-refusal-requires
     returns
     find-element-requires
-    attribute-at-requires
+    attribute-row-serial-requires
     returns-2
     version-in-requires
     width-in-requires
     attributes-of-requires
-    definition-at-requires
+    row-definition-requires
     needs-requires
     number-if-requires
     returns-3)

@@ -11,8 +11,8 @@ use Rattle.document_refusals.proofs.kind_at.Tie as tie
 definitions-of-requires : tie.Need-definitions-of-requires
 definitions-of-requires c κs = search needs
 
-definition-at-requires : tie.Need-definition-at-requires
-definition-at-requires c κs = search needs
+row-definition-requires : tie.Need-row-definition-requires
+row-definition-requires c κs = search needs
 
 kind-of-requires : tie.Need-kind-of-requires
 kind-of-requires c κs = search needs
@@ -20,7 +20,7 @@ kind-of-requires c κs = search needs
 returns : tie.Need-returns
 returns c =
     let at-definitions-of = c .before .before in
-    c .kind-of .ensures ∙ ap₂ (λ (b : List ℕ) (n : ℕ). definitionIn b n .kind) (at-definitions-of .definitions-of .ensures) (c .before .definition-at .ensures)
+    c .kind-of .ensures ∙ ap₂ (λ (b : List ℕ) (n : ℕ). definitionIn b n .kind) (at-definitions-of .definitions-of .ensures) (c .before .row-definition .ensures)
 
 pub kind-at-spec : {M : Type 1} → statement M
-kind-at-spec = tie.close (tie.spec definitions-of-requires definition-at-requires kind-of-requires returns)
+kind-at-spec = tie.close (tie.spec definitions-of-requires row-definition-requires kind-of-requires returns)

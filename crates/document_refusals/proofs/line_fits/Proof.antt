@@ -53,8 +53,8 @@ returns c =
     (accepted (allMembers (a .part .now)) (a .new) (a .skip) (at-loop .loop .last) (at-loop .loop .left)) _ (at-loop .loop .i) (at-loop .loop .inv)
     (omega arith)
 
-less-requires : tie.Need-less-requires Inv-loop μ-loop
-less-requires c κs = search needs
+minus-requires : tie.Need-minus-requires Inv-loop μ-loop
+minus-requires c κs = search needs
 
 add-next-child : tie.Need-add-next-child Inv-loop μ-loop
 add-next-child c = search needs
@@ -76,12 +76,12 @@ loop-again c =
     let a = start .args in
     look-past (a .w) 1 (a .depth) (a .rows .now) (a .count) (accepted (allMembers (a .part .now)) (a .new) (a .skip) (at-loop .loop .last) (at-loop .loop .left))
     _ (at-loop .loop .i) (at-loop .loop .inv)
-    (accepted (allMembers (a .part .now)) (a .new) (a .skip) (at-step-child .step-child .result .last) (c .before .less .result)) (omega arith)
+    (accepted (allMembers (a .part .now)) (a .new) (a .skip) (at-step-child .step-child .result .last) (c .before .minus .result)) (omega arith)
     (word-past (allMembers (a .part .now)) (a .new) (a .skip) (at-loop .loop .last) (at-loop .loop .left) (rowAt (a .w) (a .rows .now) (at-loop .loop .i) .row)
     (children 1 (a .depth) (rowsFrom (a .w) (a .rows .now) (a .count) (at-loop .loop .i + 1))) (at-step-new .step-new .ensures)
     (step-at (a .skip) (at-row-at .row-at .ensures) (at-step-child .step-child .ensures)) (at-if1 .if1 .left)
     ∙ less-as (allMembers (a .part .now)) (a .new) (a .skip) (at-step-child .step-child .result .last)
-    (children 1 (a .depth) (rowsFrom (a .w) (a .rows .now) (a .count) (at-loop .loop .i + 1))) (c .before .less .ensures)) (c .next-child2 .ensures)
+    (children 1 (a .depth) (rowsFrom (a .w) (a .rows .now) (a .count) (at-loop .loop .i + 1))) (c .before .minus .ensures)) (c .next-child2 .ensures)
 
 step-new-requires-2 : tie.Need-step-new-requires-2 Inv-loop μ-loop
 step-new-requires-2 c κs = search needs
@@ -112,7 +112,7 @@ line-fits-spec =
     row-at-requires
     step-child-requires
     returns
-    less-requires
+    minus-requires
     add-next-child
     next-child-requires-2
     loop-less

@@ -13,8 +13,8 @@ definitions-of-requires c κs = search needs
 particles-of-requires : tie.Need-particles-of-requires
 particles-of-requires c κs = search needs
 
-definition-at-requires : tie.Need-definition-at-requires
-definition-at-requires c κs = search needs
+row-definition-requires : tie.Need-row-definition-requires
+row-definition-requires c κs = search needs
 
 model-part-requires : tie.Need-model-part-requires
 model-part-requires c κs = search needs
@@ -23,9 +23,9 @@ returns : tie.Need-returns
 returns c =
     let at-particles-of = c .before .before in
     let at-definitions-of = at-particles-of .before in
-    ap allMembers (c .model-part .ensures ∙ (λ i. modelPart (at-definitions-of .definitions-of .ensures i) (at-particles-of .particles-of .ensures i) (c .before .definition-at .ensures i)))
+    ap allMembers (c .model-part .ensures ∙ (λ i. modelPart (at-definitions-of .definitions-of .ensures i) (at-particles-of .particles-of .ensures i) (c .before .row-definition .ensures i)))
 
 pub model-at-spec : {M : Type 1} → statement M
 model-at-spec =
     tie.close
-    (tie.spec definitions-of-requires particles-of-requires definition-at-requires model-part-requires returns)
+    (tie.spec definitions-of-requires particles-of-requires row-definition-requires model-part-requires returns)

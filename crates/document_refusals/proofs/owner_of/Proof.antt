@@ -1,5 +1,5 @@
--- `document_refusals::owner_of` meets its contract: the equations of the four readers, of the width, the attributes,
--- the record and its owner, joined.
+-- `document_refusals::owner_of` meets its contract: the equations of the three readers, of the width, the attributes
+-- and the owner, joined.
 use mathlib.Core.Path.{_∙_}
 use Rattle.rules.specs.Layout.{attributeSize}
 use Rattle.rules.specs.Decode.{readAttribute}
@@ -14,21 +14,17 @@ width-in-requires c κs = search needs
 attributes-of-requires : tie.Need-attributes-of-requires
 attributes-of-requires c κs = search needs
 
-attribute-at-requires : tie.Need-attribute-at-requires
-attribute-at-requires c κs = search needs
-
-attribute-owner-requires : tie.Need-attribute-owner-requires
-attribute-owner-requires c κs = search needs
+attribute-owner-at-requires : tie.Need-attribute-owner-at-requires
+attribute-owner-at-requires c κs = search needs
 
 returns : tie.Need-returns
 returns c =
-    let record-of = c .before in
-    let attrs = record-of .before in
+    let attrs = c .before in
     let width = attrs .before in
     let start = width .before .before in
     let a = start .args in
-    c .attribute-owner .ensures
-    ∙ (λ j. readAttribute ((record-of .attribute-at .ensures ∙ (λ k. recordAt (attributeSize (width .width-in .ensures .value k)) (a .attribute) (attrs .attributes-of .ensures k))) j) .owner)
+    c .attribute-owner-at .ensures
+    ∙ (λ k. readAttribute (recordAt (attributeSize (width .width-in .ensures .value k)) (a .attribute) (attrs .attributes-of .ensures k)) .owner)
 
 pub owner-of-spec : {M : Type 1} → statement M
 owner-of-spec =
@@ -36,6 +32,5 @@ owner-of-spec =
     (tie.spec
     width-in-requires
     attributes-of-requires
-    attribute-at-requires
-    attribute-owner-requires
+    attribute-owner-at-requires
     returns)

@@ -21,15 +21,15 @@ abbrev μ-loop : tie.MeasureT-loop
 loop-holds : tie.Need-loop-holds Inv-loop μ-loop
 loop-holds c = refl
 
-owner-requires : tie.Need-owner-requires Inv-loop μ-loop
-owner-requires c κs = search needs
+attribute-owner-at-requires : tie.Need-attribute-owner-at-requires Inv-loop μ-loop
+attribute-owner-at-requires c κs = search needs
 
 returns : tie.Need-returns Inv-loop μ-loop
 returns c =
     let at-loop = c .before .before .before in
     let start = at-loop .before .before in
     let a = start .args in
-    sym (owners-off (at-loop .loop .least) (attributes-from (a .w) (at-loop .loop .i) (a .a) (a .attrs .now) (omega arith)) (c .before .owner .ensures) (c .if1 .taken)) ∙ at-loop .loop .inv
+    sym (owners-off (at-loop .loop .least) (attributes-from (a .w) (at-loop .loop .i) (a .a) (a .attrs .now) (omega arith)) (c .before .attribute-owner-at .ensures) (c .if1 .taken)) ∙ at-loop .loop .inv
 
 add-i : tie.Need-add-i Inv-loop μ-loop
 add-i c = omega arith
@@ -42,7 +42,7 @@ loop-again c =
     let at-loop = c .before .before .before in
     let start = at-loop .before .before in
     let a = start .args in
-    owners-on (at-loop .loop .least) (attributes-from (a .w) (at-loop .loop .i) (a .a) (a .attrs .now) (omega arith)) (c .before .owner .ensures) (c .if1 .left) ∙ at-loop .loop .inv
+    owners-on (at-loop .loop .least) (attributes-from (a .w) (at-loop .loop .i) (a .a) (a .attrs .now) (omega arith)) (c .before .attribute-owner-at .ensures) (c .if1 .left) ∙ at-loop .loop .inv
 
 returns-2 : tie.Need-returns-2 Inv-loop μ-loop
 returns-2 c =
@@ -57,7 +57,7 @@ owners-rise-spec =
     Inv-loop
     μ-loop
     loop-holds
-    owner-requires
+    attribute-owner-at-requires
     returns
     add-i
     loop-less

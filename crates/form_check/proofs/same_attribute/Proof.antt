@@ -17,18 +17,18 @@ attribute-name-requires-2 c κs = search needs
 equal-requires : tie.Need-equal-requires
 equal-requires c κs = search needs
 
-owner-requires : tie.Need-owner-requires
-owner-requires c κs = search needs
+attribute-owner-at-requires : tie.Need-attribute-owner-at-requires
+attribute-owner-at-requires c κs = search needs
 
-owner-requires-2 : tie.Need-owner-requires-2
-owner-requires-2 c κs = search needs
+attribute-owner-at-requires-2 : tie.Need-attribute-owner-at-requires-2
+attribute-owner-at-requires-2 c κs = search needs
 
 returns : tie.Need-returns
 returns c =
     let at-equal = c .before .before in
     let at-attribute-name2 = at-equal .before in
     let at-attribute-name = at-attribute-name2 .before in
-    ap₂ (λ (a b : Bool). a && b) (ap₂ (λ (a b : ℕ). eqb a b) (c .before .owner .ensures) (c .owner2 .ensures))
+    ap₂ (λ (a b : Bool). a && b) (ap₂ (λ (a b : ℕ). eqb a b) (c .before .attribute-owner-at .ensures) (c .attribute-owner-at2 .ensures))
     (at-equal .equal .ensures ∙ ap₂ (λ (a b : Bytes). same a b) (at-attribute-name .attribute-name .ensures) (at-attribute-name2 .attribute-name2 .ensures))
 
 pub same-attribute-spec : {M : Type 1} → statement M
@@ -38,6 +38,6 @@ same-attribute-spec =
     attribute-name-requires
     attribute-name-requires-2
     equal-requires
-    owner-requires
-    owner-requires-2
+    attribute-owner-at-requires
+    attribute-owner-at-requires-2
     returns)

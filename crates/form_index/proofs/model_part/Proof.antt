@@ -12,8 +12,8 @@ particles-before-requires c κs = search needs
 mul-window : tie.Need-mul-window
 mul-window c = search needs
 
-particles-of-requires : tie.Need-particles-of-requires
-particles-of-requires c κs = search needs
+model-length-requires : tie.Need-model-length-requires
+model-length-requires c κs = search needs
 
 mul-window-2 : tie.Need-mul-window-2
 mul-window-2 c = search needs
@@ -26,7 +26,7 @@ returns c =
     let at-particles-before = c .before .before in
     let start = at-particles-before .before .before .before in
     let a = start .args in
-    c .window .ensures ∙ model-read (a .defs .now) (a .parts .now) (a .i) _ _ (at-particles-before .particles-before .ensures .0) (c .before .particles-of .ensures .0)
+    c .window .ensures ∙ model-read (a .defs .now) (a .parts .now) (a .i) _ _ (at-particles-before .particles-before .ensures .0) (c .before .model-length .ensures .0)
 
 pub model-part-spec : {M : Type 1} → statement M
 model-part-spec =
@@ -34,7 +34,7 @@ model-part-spec =
     (tie.spec
     particles-before-requires
     mul-window
-    particles-of-requires
+    model-length-requires
     mul-window-2
     window-requires
     returns)

@@ -18,13 +18,13 @@ abbrev μ-loop : tie.MeasureT-loop
 loop-holds : tie.Need-loop-holds Inv-loop μ-loop
 loop-holds c = summed-none (c .before .args .defs .now) (c .before .args .i)
 
-particles-of-requires : tie.Need-particles-of-requires Inv-loop μ-loop
-particles-of-requires c κs = search needs
+model-length-requires : tie.Need-model-length-requires Inv-loop μ-loop
+model-length-requires c κs = search needs
 
 add-sum : tie.Need-add-sum Inv-loop μ-loop
 add-sum c =
     let at-loop = c .before .before in
-    omega (arith, at-loop .loop .inv .small, at-loop .loop .inv .low, c .particles-of .ensures .1)
+    omega (arith, at-loop .loop .inv .small, at-loop .loop .inv .low, c .model-length .ensures .1)
 
 add-j : tie.Need-add-j Inv-loop μ-loop
 add-j c = search needs
@@ -37,7 +37,7 @@ loop-again c =
     let at-loop = c .before .before in
     let start = at-loop .before .before in
     let summed = at-loop .loop .inv in
-    let more = c .particles-of in
+    let more = c .model-length in
     record {
       is = before-more (start .args .defs .now) _ _ _ (summed .is) (more .ensures .0);
       low = omega arith;
@@ -56,7 +56,7 @@ particles-before-spec =
     Inv-loop
     μ-loop
     loop-holds
-    particles-of-requires
+    model-length-requires
     add-sum
     add-j
     loop-less

@@ -17,21 +17,21 @@ particles-before-requires c κs =
     let start = c .before .before .before .before in
     owner-low (start .pre .0)
 
-particles-of-requires-2 : tie.Need-particles-of-requires-2
-particles-of-requires-2 c κs =
+model-length-requires : tie.Need-model-length-requires
+model-length-requires c κs =
     let start = c .before .before .before .before .before in
     owner-low (start .pre .0)
 
 put-particles-requires : tie.Need-put-particles-requires
 put-particles-requires c κs =
-    let at-particles-of2 = c .before in
-    let at-particles-before = at-particles-of2 .before in
+    let at-model-length = c .before in
+    let at-particles-before = at-model-length .before in
     let at-particles-of = at-particles-before .before in
     let at-definitions-of = at-particles-of .before in
     let start = at-definitions-of .before .before .before in
     body-in (start .pre .0) (start .pre .1)
     (first-in (start .args .store .now) (start .args .owner) (at-definitions-of .definitions-of .ensures) (at-particles-before .particles-before .ensures .0))
-    (many-in (start .args .store .now) (start .args .owner) (at-definitions-of .definitions-of .ensures) (at-particles-of2 .particles-of2 .ensures .0))
+    (many-in (start .args .store .now) (start .args .owner) (at-definitions-of .definitions-of .ensures) (at-model-length .model-length .ensures .0))
     (at-particles-of .particles-of .ensures) (start .pre .2)
 
 same-length : tie.Need-same-length
@@ -40,14 +40,14 @@ same-length c = search needs
 returns : tie.Need-returns
 returns c =
     let at-put-particles = c .before .before in
-    let at-particles-of2 = at-put-particles .before .before in
-    let at-particles-before = at-particles-of2 .before in
+    let at-model-length = at-put-particles .before .before in
+    let at-particles-before = at-model-length .before in
     let at-particles-of = at-particles-before .before in
     let at-definitions-of = at-particles-of .before in
     let start = at-definitions-of .before .before .before in
     own-laid (start .pre .0)
     (first-in (start .args .store .now) (start .args .owner) (at-definitions-of .definitions-of .ensures) (at-particles-before .particles-before .ensures .0))
-    (many-in (start .args .store .now) (start .args .owner) (at-definitions-of .definitions-of .ensures) (at-particles-of2 .particles-of2 .ensures .0))
+    (many-in (start .args .store .now) (start .args .owner) (at-definitions-of .definitions-of .ensures) (at-model-length .model-length .ensures .0))
     (at-particles-of .particles-of .ensures) (at-put-particles .put-particles .ensures)
 
 pub put-own-spec : {M : Type 1} → statement M
@@ -57,7 +57,7 @@ put-own-spec =
     definitions-of-requires
     particles-of-requires
     particles-before-requires
-    particles-of-requires-2
+    model-length-requires
     put-particles-requires
     same-length
     returns)

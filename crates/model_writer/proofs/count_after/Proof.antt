@@ -17,8 +17,8 @@ add-result c = search needs
 enum-told-2 : tie.Need-enum-told-2
 enum-told-2 c = search needs
 
-less-requires : tie.Need-less-requires
-less-requires c κs = search needs
+minus-requires : tie.Need-minus-requires
+minus-requires c κs = search needs
 
 enum-told-3 : tie.Need-enum-told-3
 enum-told-3 c = search needs
@@ -26,11 +26,11 @@ enum-told-3 c = search needs
 enum-known-edit : tie.Need-enum-known-edit
 enum-known-edit c = search needs
 
-add-less : tie.Need-add-less
-add-less c = search needs
+add-minus : tie.Need-add-minus
+add-minus c = search needs
 
-less-requires-2 : tie.Need-less-requires-2
-less-requires-2 c κs = search needs
+minus-requires-2 : tie.Need-minus-requires-2
+minus-requires-2 c κs = search needs
 
 enum-told-4 : tie.Need-enum-told-4
 enum-told-4 c = search needs
@@ -38,14 +38,14 @@ enum-told-4 c = search needs
 particle-index-requires : tie.Need-particle-index-requires
 particle-index-requires c κs = search needs
 
-cast-less : tie.Need-cast-less
-cast-less c = search needs
+cast-minus : tie.Need-cast-minus
+cast-minus c = search needs
 
-add-less-2 : tie.Need-add-less-2
-add-less-2 c = search needs
+add-minus-2 : tie.Need-add-minus-2
+add-minus-2 c = search needs
 
-less-requires-3 : tie.Need-less-requires-3
-less-requires-3 c κs = search needs
+minus-requires-3 : tie.Need-minus-requires-3
+minus-requires-3 c κs = search needs
 
 returns : tie.Need-returns
 returns c =
@@ -55,7 +55,7 @@ returns c =
 returns-2 : tie.Need-returns-2
 returns-2 c =
     let start = c .before .before .before .before in
-    c .less .ensures ∙ count-case _ (start .args .n) (c .before .enum-told2 .given .1)
+    c .minus .ensures ∙ count-case _ (start .args .n) (c .before .enum-told2 .given .1)
 
 returns-3 : tie.Need-returns-3
 returns-3 c =
@@ -66,13 +66,13 @@ returns-4 : tie.Need-returns-4
 returns-4 c =
     let at-edit = c .before .before in
     let start = at-edit .before .before .before in
-    c .less2 .ensures ∙ count-case _ (start .args .n) (at-edit .edit .given .1)
+    c .minus2 .ensures ∙ count-case _ (start .args .n) (at-edit .edit .given .1)
 
 returns-5 : tie.Need-returns-5
 returns-5 c =
     let at-enum-told4 = c .before .before in
     let start = at-enum-told4 .before .before .before in
-    c .less3 .ensures ∙ ap (λ (k : ℕ). start .args .n + k - 1) (c .before .particle-index .ensures ∙ sym (first-index (start .args .ys .now) (start .pre .0)))
+    c .minus3 .ensures ∙ ap (λ (k : ℕ). start .args .n + k - 1) (c .before .particle-index .ensures ∙ sym (first-index (start .args .ys .now) (start .pre .0)))
     ∙ count-case _ (start .args .n) (at-enum-told4 .enum-told4 .given .1)
 
 pub count-after-spec : {M : Type 1} → statement M
@@ -82,16 +82,16 @@ count-after-spec =
     enum-told
     add-result
     enum-told-2
-    less-requires
+    minus-requires
     enum-told-3
     enum-known-edit
-    add-less
-    less-requires-2
+    add-minus
+    minus-requires-2
     enum-told-4
     particle-index-requires
-    cast-less
-    add-less-2
-    less-requires-3
+    cast-minus
+    add-minus-2
+    minus-requires-3
     returns
     returns-2
     returns-3

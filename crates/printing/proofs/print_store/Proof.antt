@@ -10,8 +10,8 @@ use Rattle.printing.proofs.print_store.Tie as tie
 width-in-requires : tie.Need-width-in-requires
 width-in-requires c κs = search needs
 
-rows-of-requires : tie.Need-rows-of-requires
-rows-of-requires c κs = search needs
+from-rows-requires : tie.Need-from-rows-requires
+from-rows-requires c κs = search needs
 
 row-count-requires : tie.Need-row-count-requires
 row-count-requires c κs = search needs
@@ -30,11 +30,11 @@ returns c =
     let at-documents = c .before .before in
     let at-form = at-documents .before .before .before .before in
     let at-count = at-form .before .before in
-    let at-rows-of = at-count .before in
-    let at-width-in = at-rows-of .before in
+    let at-from-rows = at-count .before in
+    let at-width-in = at-from-rows .before in
     let start = at-width-in .before .before .before in
-    let store-rows : RowsOf (start .args .store .now) (at-width-in .width-in .result) (at-rows-of .rows-of .result .now) =
-    record { width = at-width-in .width-in .ensures; body = at-rows-of .rows-of .ensures } in
+    let store-rows : RowsOf (start .args .store .now) (at-width-in .width-in .result) (at-from-rows .from-rows .result .now) =
+    record { width = at-width-in .width-in .ensures; body = at-from-rows .from-rows .ensures } in
     laid-as (text-parts store-rows (at-count .row-count .ensures .value)) (laid-then (at-form .put-form .ensures .laid) (at-documents .put-documents .ensures))
 
 pub print-store-spec : {M : Type 1} → statement M
@@ -42,7 +42,7 @@ print-store-spec =
     tie.close
     (tie.spec
     width-in-requires
-    rows-of-requires
+    from-rows-requires
     row-count-requires
     put-form-requires
     put-documents-requires

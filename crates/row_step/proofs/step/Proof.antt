@@ -28,8 +28,8 @@ returns c =
 add-k : tie.Need-add-k
 add-k c = search needs
 
-closes-requires : tie.Need-closes-requires
-closes-requires c κs = search needs
+levels-end-requires : tie.Need-levels-end-requires
+levels-end-requires c κs = search needs
 
 returns-2 : tie.Need-returns-2
 returns-2 c =
@@ -38,7 +38,7 @@ returns-2 c =
     let a = start .args in
     let form = indexForm (a .version) (a .w) (a .n) (a .defs .now) (a .parts .now) (a .attrs .now) (a .a) in
     let depth = at-row-depth .row-depth in
-    let closed = c .before .closes in
+    let closed = c .before .levels-end in
     step-owes (a .w) form (a .levels .now) (a .live .now) (a .row .now) (start .pre .4) (start .pre .5)
     (depth .result) (depth .ensures) (closed .result) (closed .ensures) (not-true _ (c .if2 .taken))
 
@@ -51,13 +51,13 @@ row-passes-requires c κs = search needs
 returns-3 : tie.Need-returns-3
 returns-3 c =
     let at-level-at = c .before .before in
-    let at-closes = at-level-at .before .before .before in
-    let at-row-depth = at-closes .before .before .before .before in
+    let at-levels-end = at-level-at .before .before .before in
+    let at-row-depth = at-levels-end .before .before .before .before in
     let start = at-row-depth .before .before .before .before .before .before in
     let a = start .args in
     let form = indexForm (a .version) (a .w) (a .n) (a .defs .now) (a .parts .now) (a .attrs .now) (a .a) in
     let depth = at-row-depth .row-depth in
-    let closed = at-closes .closes in
+    let closed = at-levels-end .levels-end in
     let level = at-level-at .level-at in
     let passed = c .before .row-passes in
     step-not (a .w) form (a .levels .now) (a .live .now) (a .row .now) (start .pre .4) (start .pre .5)
@@ -76,14 +76,14 @@ returns-4 c =
     let at-row-passes = at-if3 .before in
     let at-level-at = at-row-passes .before in
     let at-if2 = at-level-at .before .before in
-    let at-closes = at-if2 .before in
-    let at-if1 = at-closes .before .before in
+    let at-levels-end = at-if2 .before in
+    let at-if1 = at-levels-end .before .before in
     let at-row-depth = at-if1 .before .before in
     let start = at-row-depth .before .before .before .before .before .before in
     let a = start .args in
     let form = indexForm (a .version) (a .w) (a .n) (a .defs .now) (a .parts .now) (a .attrs .now) (a .a) in
     let depth = at-row-depth .row-depth in
-    let closed = at-closes .closes in
+    let closed = at-levels-end .levels-end in
     let level = at-level-at .level-at in
     let passed = at-row-passes .row-passes in
     let opened = c .take-row in
@@ -100,7 +100,7 @@ step-spec =
     cast-d
     returns
     add-k
-    closes-requires
+    levels-end-requires
     returns-2
     level-at-requires
     row-passes-requires

@@ -34,8 +34,8 @@ returns-2 c =
     let at-loop = at-serial-at .before .before in
     refuses (passed-past (at-loop .loop .inv) (omega arith) _ (at-serial-at .serial-at .ensures) (omega arith))
 
-put-requires : tie.Need-put-requires Inv-loop μ-loop
-put-requires c κs =
+put-in-tree-requires : tie.Need-put-in-tree-requires Inv-loop μ-loop
+put-in-tree-requires c κs =
     let read = c .before .before .before .before in
     let at-loop = read .before .before in
     let start = at-loop .before .before in
@@ -45,7 +45,7 @@ returns-3 : tie.Need-returns-3 Inv-loop μ-loop
 returns-3 c =
     let read = c .before .before .before .before .before .before in
     let at-loop = read .before .before in
-    refuses (passed-twice (at-loop .loop .inv) (omega arith) _ (read .serial-at .ensures) (c .before .put .ensures) (not-true _ (c .if3 .taken)))
+    refuses (passed-twice (at-loop .loop .inv) (omega arith) _ (read .serial-at .ensures) (c .before .put-in-tree .ensures) (not-true _ (c .if3 .taken)))
 
 add-k : tie.Need-add-k Inv-loop μ-loop
 add-k c = search needs
@@ -58,7 +58,7 @@ loop-again c =
     let from-one = c .before .before .before .before .before in
     let read = from-one .before in
     let at-loop = read .before .before in
-    passed-more (at-loop .loop .inv) (omega arith) _ (read .serial-at .ensures) (from-one .if1 .left) (omega arith) (c .before .put .ensures) (not-false _ (c .if3 .left))
+    passed-more (at-loop .loop .inv) (omega arith) _ (read .serial-at .ensures) (from-one .if1 .left) (omega arith) (c .before .put-in-tree .ensures) (not-false _ (c .if3 .left))
 
 returns-4 : tie.Need-returns-4 Inv-loop μ-loop
 returns-4 c = accepts (passed-ranged (c .before .loop .inv) (omega arith)) (passed-apart (c .before .loop .inv) (omega arith))
@@ -73,7 +73,7 @@ serials-fit-spec =
     serial-at-requires
     returns
     returns-2
-    put-requires
+    put-in-tree-requires
     returns-3
     add-k
     loop-less

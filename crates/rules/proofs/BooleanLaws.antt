@@ -1,12 +1,15 @@
 -- Facts on tests over lists: entry by entry, by membership, and of a value behind a test.
-use Prim.Native.Nat.{ℕ}
+use Prim.Native.Nat.{ℕ, suc}
 use native.Mathlib.Omega.{arith}
 use mathlib.Core.Path.{_≡_, refl, ap, sym, _∙_}
 use mathlib.Core.Logic.{⊎-elim}
-use mathlib.Core.Bool.{Bool, true, false, _||_, false≢true}
+use mathlib.Core.Bool.{Bool, true, false, _&&_, _||_, false≢true}
 use mathlib.Core.Option.{Option, none, some}
-use mathlib.Core.List.{List, [], _∷_, _++_, List·Memᴰ, List·Memᴰ·head, List·Memᴰ·tail, List·Memᴰ·not-nil, List·Memᴰ·cases-cons}
-use Rattle.rules.specs.Bytes.{Bytes, same, bytes, all, any, isNone, and-left, and-right}
+use mathlib.Core.List.{List, [], _∷_, _++_, map, append-assoc, map-append, List·Memᴰ, List·Memᴰ·head, List·Memᴰ·tail, List·Memᴰ·not-nil, List·Memᴰ·cases-cons}
+use lib.Dec.{eqb}
+use lib.ListN.{length}
+use borrow.Author.Tests.{ne-eqb}
+use Rattle.rules.specs.Bytes.{Bytes, same, bytes, all, any, concat, isNone, and-left, and-right}
 use Rattle.rules.specs.Model.{member}
 use Rattle.rules.proofs.Words.{and-both, and-split, or-left, or-right, or-cases}
 
@@ -70,9 +73,21 @@ pub any-more : {A : Type 0} (p q : A → Bool) (xs : List A) → ((x : A) → p 
 any-more p q [] f h = h
 any-more p q (x ∷ xs) f h = ⊎-elim (λ e. or-left (any q xs) (f x e)) (λ k. or-right (q x) (any-more p q xs f k)) (or-cases (p x) (any p xs) h)
 
+pub all-map : {A B : Type 0} (p : B → Bool) (f : A → B) (xs : List A) → all p (map f xs) ≡ all (λ x. p (f x)) xs
+all-map p f [] = refl
+all-map p f (x ∷ xs) = ap (λ (b : Bool). p (f x) && b) (all-map p f xs)
+
+pub any-map : {A B : Type 0} (p : B → Bool) (f : A → B) (xs : List A) → any p (map f xs) ≡ any (λ x. p (f x)) xs
+any-map p f [] = refl
+any-map p f (x ∷ xs) = ap (λ (b : Bool). p (f x) || b) (any-map p f xs)
+
 pub none-nil : {A : Type 0} (xs : List A) → isNone xs ≡ true → xs ≡ []
 none-nil [] h = refl
 none-nil (x ∷ xs) h = absurd (false≢true h)
+
+pub none-long : {A : Type 0} (xs : List A) → eqb (length xs) 0 ≡ isNone xs
+none-long [] = refl
+none-long (x ∷ xs) = ne-eqb (suc (length xs)) 0 (λ e. omega arith)
 
 -- a value behind a test is there if and only if the test holds
 pub guard-true : {A : Type 0} (b : Bool) (o : Option A) → b ≡ true → elim b [ true ↦ o | false ↦ none ] ≡ o
@@ -101,3 +116,11 @@ member-append n (x ∷ xs) ys = by (same n x) (member-append n xs ys)
         → elim b as (λ z. Bool) [ true ↦ true | false ↦ member bytes n (xs ++ ys) ] ≡ (elim b as (λ z. Bool) [ true ↦ true | false ↦ member bytes n xs ] || member bytes n ys)
     by true e = refl
     by false e = e
+
+-- ---- of many lists, one after the other
+pub concat-append : {A : Type 0} (xs ys : List (List A)) → concat (xs ++ ys) ≡ concat xs ++ concat ys
+concat-append [] ys = refl
+concat-append (x ∷ xs) ys = ap (λ (l : List _). x ++ l) (concat-append xs ys) ∙ sym (append-assoc x (concat xs) (concat ys))
+
+pub lines-append : (xs ys : List (List Bytes)) → concat (map concat (xs ++ ys)) ≡ concat (map concat xs) ++ concat (map concat ys)
+lines-append xs ys = ap concat (map-append concat xs ys) ∙ concat-append (map concat xs) (map concat ys)

@@ -1,5 +1,5 @@
 -- Facts on tests over lists: entry by entry, by membership, and of a value behind a test.
-use Prim.Native.Nat.{ℕ, suc}
+use Prim.Native.Nat.{ℕ, zero, suc}
 use native.Mathlib.Omega.{arith}
 use mathlib.Core.Path.{_≡_, refl, ap, sym, _∙_}
 use mathlib.Core.Logic.{⊎-elim}
@@ -7,7 +7,7 @@ use mathlib.Core.Bool.{Bool, true, false, _&&_, _||_, false≢true, and-assoc}
 use mathlib.Core.Option.{Option, none, some}
 use mathlib.Core.List.{List, [], _∷_, _++_, map, append-assoc, map-append, List·Memᴰ, List·Memᴰ·head, List·Memᴰ·tail, List·Memᴰ·not-nil, List·Memᴰ·cases-cons}
 use lib.Dec.{eqb}
-use lib.ListN.{length}
+use lib.ListN.{length, take, drop}
 use borrow.Author.Tests.{ne-eqb}
 use Rattle.rules.specs.Bytes.{Bytes, same, bytes, all, any, concat, isNone, and-left, and-right}
 use Rattle.rules.specs.Model.{member}
@@ -29,6 +29,24 @@ every-map P Q (x ∷ xs) f a = (f x (a .0), every-map P Q xs f (a .1))
 pub every-append : {A : Type 0} (P : A → Type 0) (xs ys : List A) → Every P xs → Every P ys → Every P (xs ++ ys)
 every-append P [] ys a b = b
 every-append P (x ∷ xs) ys a b = (a .0, every-append P xs ys (a .1) b)
+
+pub every-left : {A : Type 0} (P : A → Type 0) (xs ys : List A) → Every P (xs ++ ys) → Every P xs
+every-left P [] ys a = tt
+every-left P (x ∷ xs) ys a = (a .0, every-left P xs ys (a .1))
+
+pub every-right : {A : Type 0} (P : A → Type 0) (xs ys : List A) → Every P (xs ++ ys) → Every P ys
+every-right P [] ys a = a
+every-right P (x ∷ xs) ys a = every-right P xs ys (a .1)
+
+pub every-take : {A : Type 0} (P : A → Type 0) (k : ℕ) (xs : List A) → Every P xs → Every P (take k xs)
+every-take P zero xs a = tt
+every-take P (suc k) [] a = tt
+every-take P (suc k) (x ∷ xs) a = (a .0, every-take P k xs (a .1))
+
+pub every-drop : {A : Type 0} (P : A → Type 0) (k : ℕ) (xs : List A) → Every P xs → Every P (drop k xs)
+every-drop P zero xs a = a
+every-drop P (suc k) [] a = tt
+every-drop P (suc k) (x ∷ xs) a = every-drop P k xs (a .1)
 
 pub every-zip : {A : Type 0} (P Q R : A → Type 0) (xs : List A) → ((x : A) → P x → Q x → R x) → Every P xs → Every Q xs → Every R xs
 every-zip P Q R [] f a b = tt
